@@ -1,0 +1,2 @@
+//! The program's edge: from a JSON document to lines.
+#![tactic(auto)]

@@ -1,0 +1,2 @@
+//! Keyed elements, chunks, and the records of what was handed out.
+#![tactic(auto)]

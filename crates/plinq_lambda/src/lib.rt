@@ -1,0 +1,2 @@
+//! Lambdas: what a query does to one element.
+#![tactic(auto)]

@@ -1,0 +1,2 @@
+//! Queries: operators over traces, and the answer on one thread.
+#![tactic(auto)]

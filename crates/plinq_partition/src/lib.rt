@@ -1,0 +1,2 @@
+//! Orderable partitioners: keyed elements cut into partitions.
+#![tactic(auto)]

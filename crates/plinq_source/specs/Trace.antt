@@ -1,0 +1,60 @@
+-- Traces: what a source or a query gives, item by item, and how it ends.
+use Rattle.std.specs.Prelude.{◌≡◌, ℕ, zero, suc, ◌+◌, ◌≤◌, List, [], ◌∷◌, ◌++◌, length, drop, take, min, Option, Some, None, ⊤}
+use Rattle.plinq_source.specs.declared.ending.Ending.{Ending}
+use Rattle.plinq_source.specs.declared.ending.Ending.TheVariants.{End, Refused, Fault}
+use Rattle.plinq_source.specs.declared.step.Step.{Step}
+use Rattle.plinq_source.specs.declared.step.Step.TheVariants.{Item, End as StepEnd, Refused as StepRefused}
+
+-- a list of items and how it ends; with no ending yet, more may come
+pub record Trace (T : Type 0) : Type 0 where
+  pub items : List T
+  pub ending : Option Ending
+
+-- the items, with more to come
+abbrev pub open_trace : {T : Type 0} → List T → Trace T
+open_trace xs = record { items = xs; ending = None }
+
+-- the items, and then that ending
+abbrev pub ended : {T : Type 0} → List T → Ending → Trace T
+ended xs e = record { items = xs; ending = Some e }
+
+-- the items, and where there is no ending yet all of what comes after
+abbrev pub continued : {T : Type 0} → List T → Option Ending → Trace T → Trace T
+continued xs None after = record { items = xs ++ after.items; ending = after.ending }
+continued xs (Some e) after = ended xs e
+
+-- the first trace, and where it is open the second behind it
+abbrev pub followed : {T : Type 0} → Trace T → Trace T → Trace T
+followed before after = continued before.items before.ending after
+
+-- a source ends or refuses; it has no faults and doesn't stay open
+abbrev pub IsSourceEnding : Option Ending → Type 0
+IsSourceEnding None = ⊥
+IsSourceEnding (Some End) = ⊤
+IsSourceEnding (Some (Refused c)) = ⊤
+IsSourceEnding (Some (Fault c)) = ⊥
+
+-- what a source says that has these items left and then this ending
+abbrev pub step_of : {T : Type 0} → List T → Option Ending → Step T
+step_of (x ∷ xs) e = Item x
+step_of [] None = StepEnd
+step_of [] (Some End) = StepEnd
+step_of [] (Some (Refused c)) = StepRefused c
+step_of [] (Some (Fault c)) = StepEnd
+
+-- the answer when the first n items were handed out: item number n, else the ending
+abbrev pub step_at : {T : Type 0} → Trace T → ℕ → Step T
+step_at t n = step_of (drop n t.items) t.ending
+
+-- how many items are handed out then: one more, but never more than there are
+abbrev pub given_after : {T : Type 0} → Trace T → ℕ → ℕ
+given_after t n = min (n + 1) (length t.items)
+
+-- how a list ends: with a refusal, if it has one
+abbrev pub list_ending : Option ℕ → Ending
+list_ending None = End
+list_ending (Some c) = Refused c
+
+pub list_ending-ends : (refusal : Option ℕ) → IsSourceEnding (Some (list_ending refusal))
+list_ending-ends None = tt
+list_ending-ends (Some c) = tt

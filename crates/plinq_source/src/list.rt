@@ -1,0 +1,72 @@
+ghost use Rattle.std.specs.Prelude.{◌≡◌, ◌≤◌, ◌^◌, vec_len, Some, None};
+ghost use Rattle.std.proofs.Common.{arith};
+ghost use Rattle.plinq_source.specs.Trace.{Trace, ended, list_ending, list_ending-ends};
+
+use crate::source::Source;
+use crate::step::Step;
+use std::alloc::Global;
+
+/// A list as a source: its items, then the end or a refusal.
+#[derive(Drop)]
+pub struct ListSource<T: Copy + Send> {
+    items: Vec<T>,
+    refusal: Option<u32>,
+    next: usize,
+    ghost few: { vec_len items ≤ 2 ^ 40 },
+    ghost within: { next ≤ vec_len items },
+}
+
+impl<T: Copy + Send> ListSource<T> {
+    /// The items of the list, then [`Step::End`].
+    pub fn new(_alloc: Global, items: Vec<T>) -> ListSource<T>
+        requires { vec_len items ≤ 2 ^ 40 }
+        ensures whole { ⟦<ListSource<T> as Source>⟧.whole result ≡ ended items.items (list_ending None) }
+        ensures fresh { ⟦<ListSource<T> as Source>⟧.given result ≡ 0 }
+    {
+        ListSource {
+            items,
+            refusal: None,
+            next: 0,
+        }
+    }
+
+    /// The items of the list, then [`Step::Refused`] with this code.
+    pub fn refusing(_alloc: Global, items: Vec<T>, code: u32) -> ListSource<T>
+        requires { vec_len items ≤ 2 ^ 40 }
+        ensures whole { ⟦<ListSource<T> as Source>⟧.whole result ≡ ended items.items (list_ending (Some code)) }
+        ensures fresh { ⟦<ListSource<T> as Source>⟧.given result ≡ 0 }
+    {
+        ListSource {
+            items,
+            refusal: Some(code),
+            next: 0,
+        }
+    }
+}
+
+impl<T: Copy + Send> Source for ListSource<T> {
+    type Item = T;
+
+    ghost whole = { λ s. ended s.items.items (list_ending s.refusal) };
+
+    ghost given = { λ s. s.next };
+
+    ghost few = { λ s. Prim.omega (arith, s.few, s.items.ok.0) };
+
+    ghost ends = { λ s. list_ending-ends s.refusal };
+
+    ghost within = { λ s. Prim.omega (arith, s.within, s.items.ok.0) };
+
+    fn next(&mut self) -> Step<T> {
+        if self.next < self.items.len() {
+            let item = self.items[self.next];
+            self.next += 1;
+            Step::Item(item)
+        } else {
+            match self.refusal {
+                None => Step::End,
+                Some(code) => Step::Refused(code),
+            }
+        }
+    }
+}
