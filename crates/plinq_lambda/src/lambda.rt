@@ -1,0 +1,31 @@
+ghost use Rattle.std.specs.Prelude.{◌≡◌, ◌≤◌, length, Ok, IfOk, IfErr};
+ghost use Rattle.plinq_lambda.specs.Meaning.{Meaning, IfCode};
+
+use crate::expand_fault::ExpandFault;
+use std::alloc::Global;
+
+/// What a query's operators do to one element: `Select` maps it, `Where` and `TakeWhile` test it, `SelectMany`
+/// expands it. Each answers a value, or faults with a code of the lambda's own.
+///
+/// A lambda is shared by the workers of a query, so its answers depend on the element alone.
+pub trait Lambda: Send + Sync + Drop {
+    type Item: Copy + Send;
+
+    // The three functions that the methods compute.
+    ghost meaning: { Self → Meaning Self.Item };
+
+    /// The element that stands in the place of this one.
+    fn map(&self, x: Self::Item) -> Result<Self::Item, u32>
+        ensures { result ≡ (meaning self.now).map x };
+
+    /// Whether the element passes.
+    fn test(&self, x: Self::Item) -> Result<bool, u32>
+        ensures { result ≡ (meaning self.now).test x };
+
+    /// The elements that stand in the place of this one, at most 65,536.
+    fn expand(&self, alloc: Global, x: Self::Item) -> Result<Vec<Self::Item>, ExpandFault>
+        ensures items { IfOk result (λ ys. (meaning self.now).expand x ≡ Ok ys.items) }
+        ensures fault { IfErr result (IfCode ((meaning self.now).expand x)) };
+
+    ghost short: { (f : Self) (x : Self.Item) → IfOk ((meaning f).expand x) (λ ys. length ys ≤ 65536) };
+}
