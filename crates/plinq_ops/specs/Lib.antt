@@ -1,0 +1,4 @@
+pub mod Stage
+pub mod Operator
+pub mod Query
+pub mod Batches

@@ -1,0 +1,48 @@
+-- The operators of a query, by what they do to a trace.
+use Rattle.std.specs.Prelude.{ℕ, ℤ, pos, negsuc, List, [], ◌∷◌, Bool, true, false, Result, Ok, Err, map}
+use Rattle.plinq_source.specs.declared.ending.Ending.TheVariants.{End, Fault}
+use Rattle.plinq_source.specs.Trace.{Trace, open_trace, ended}
+use Rattle.plinq_lambda.specs.Meaning.{Meaning}
+use Rattle.plinq_ops.specs.declared.op.Op.{Op}
+use Rattle.plinq_ops.specs.declared.op.Op.TheVariants.{Select, Filter, SelectMany, Take, Skip, TakeWhile, AsUnordered}
+use Rattle.plinq_ops.specs.Stage.{Stage, pieces, taking, skipping, unchanged}
+
+-- Select: the mapped item; a fault ends the answer
+abbrev pub selected : {T : Type 0} → Result T ℕ → Trace T
+selected (Ok y) = open_trace (y ∷ [])
+selected (Err code) = ended [] (Fault code)
+
+-- Where: the item if it passes; a fault ends the answer
+abbrev pub filtered : {T : Type 0} → Result Bool ℕ → T → Trace T
+filtered (Ok true) x = open_trace (x ∷ [])
+filtered (Ok false) x = open_trace []
+filtered (Err code) x = ended [] (Fault code)
+
+-- SelectMany: the expansion; one that faults adds nothing and ends the answer
+abbrev pub expanded : {T : Type 0} → Result (List T) ℕ → Trace T
+expanded (Ok ys) = open_trace ys
+expanded (Err code) = ended [] (Fault code)
+
+-- TakeWhile: the item if it passes; one that fails ends the answer, and so does a fault
+abbrev pub taken_while : {T : Type 0} → Result Bool ℕ → T → Trace T
+taken_while (Ok true) x = open_trace (x ∷ [])
+taken_while (Ok false) x = ended [] End
+taken_while (Err code) x = ended [] (Fault code)
+
+-- how many items a Take or a Skip speaks of: a negative number is none
+abbrev pub item_count : ℤ → ℕ
+item_count (pos n) = n
+item_count (negsuc n) = 0
+
+-- what an operator does, given what its lambda means
+abbrev pub stage_of : {L T : Type 0} → (L → Meaning T) → Op L → Stage T
+stage_of meaning (Select f) = pieces (λ x. selected ((meaning f).map x))
+stage_of meaning (Filter f) = pieces (λ x. filtered ((meaning f).test x) x)
+stage_of meaning (SelectMany f) = pieces (λ x. expanded ((meaning f).expand x))
+stage_of meaning (Take n) = taking (item_count n)
+stage_of meaning (Skip n) = skipping (item_count n)
+stage_of meaning (TakeWhile f) = pieces (λ x. taken_while ((meaning f).test x) x)
+stage_of meaning AsUnordered = unchanged
+
+abbrev pub stages_of : {L T : Type 0} → (L → Meaning T) → List (Op L) → List (Stage T)
+stages_of meaning ops = map (stage_of meaning) ops

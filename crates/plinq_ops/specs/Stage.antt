@@ -1,0 +1,49 @@
+-- Operators on whole traces.
+use Rattle.std.specs.Prelude.{ℕ, ◌-◌, List, [], ◌∷◌, length, take, drop, nat_le, if◌then◌else◌, Option, Some, None}
+use Rattle.plinq_source.specs.declared.ending.Ending.{Ending}
+use Rattle.plinq_source.specs.declared.ending.Ending.TheVariants.{End}
+use Rattle.plinq_source.specs.Trace.{Trace, open_trace, ended, followed}
+
+-- what an operator does: each item gives a piece of the answer, or so many items are taken or skipped
+pub data Stage (T : Type 0) : Type 0 where
+  pieces : (T → Trace T) → Stage T
+  taking : ℕ → Stage T
+  skipping : ℕ → Stage T
+  unchanged : Stage T
+
+-- the pieces of the items, one followed by another, and then the old ending
+abbrev pub joined : {T : Type 0} → (T → Trace T) → List T → Option Ending → Trace T
+joined piece [] e = record { items = []; ending = e }
+joined piece (x ∷ xs) e = followed (piece x) (joined piece xs e)
+
+-- Take: where there are at least n items the first n and End, else all as it is
+abbrev pub taken : {T : Type 0} → ℕ → Trace T → Trace T
+taken n t = if nat_le n (length t.items) then ended (take n t.items) End else t
+
+-- Skip: the items without the first n, the same ending
+abbrev pub skipped : {T : Type 0} → ℕ → Trace T → Trace T
+skipped n t = record { items = drop n t.items; ending = t.ending }
+
+-- one operator on a trace
+abbrev pub apply : {T : Type 0} → Stage T → Trace T → Trace T
+apply (pieces piece) t = joined piece t.items t.ending
+apply (taking n) t = taken n t
+apply (skipping n) t = skipped n t
+apply unchanged t = t
+
+-- the operators one after another: the sequential answer
+abbrev pub seq : {T : Type 0} → List (Stage T) → Trace T → Trace T
+seq [] t = t
+seq (s ∷ ss) t = seq ss (apply s t)
+
+-- what is left of an operator once n items have reached it
+abbrev pub behind : {T : Type 0} → Stage T → ℕ → Stage T
+behind (pieces piece) n = pieces piece
+behind (taking k) n = taking (k - n)
+behind (skipping k) n = skipping (k - n)
+behind unchanged n = unchanged
+
+-- what is left of the operators once this trace has gone through them
+abbrev pub seq_behind : {T : Type 0} → List (Stage T) → Trace T → List (Stage T)
+seq_behind [] t = []
+seq_behind (s ∷ ss) t = behind s (length t.items) ∷ seq_behind ss (apply s t)

@@ -1,0 +1,21 @@
+use thiserror::Error;
+
+/// Why a builder call of a query is refused; the query comes back unchanged.
+#[derive(Clone, Copy, Debug, PartialEq, Eq, Error)]
+pub enum BuildFault {
+    /// `as_ordered` elsewhere than directly at the source.
+    #[error("not at source")]
+    NotAtSource,
+    /// A second merge option.
+    #[error("merge twice")]
+    MergeTwice,
+    /// A second degree of parallelism.
+    #[error("degree twice")]
+    DegreeTwice,
+    /// A degree of parallelism outside 1 to 64.
+    #[error("degree out of range")]
+    DegreeOutOfRange,
+    /// Memory ran out.
+    #[error("out of memory")]
+    Memory,
+}
