@@ -1,2 +1,12 @@
 //! The program's edge: from a JSON document to lines.
 #![tactic(auto)]
+
+mod any_source;
+mod doc_fault;
+mod job;
+mod settings;
+
+pub use any_source::AnySource;
+pub use doc_fault::{DocFault, StepFault};
+pub use job::Job;
+pub use settings::Settings;

@@ -2,3 +2,4 @@ pub mod Stage
 pub mod Operator
 pub mod Query
 pub mod Batches
+pub mod Sequential

@@ -1,0 +1,12 @@
+use crate::any_source::AnySource;
+use plinq_lambda::Formula;
+use plinq_ops::Query;
+
+/// What a document asks for.
+#[derive(Drop)]
+pub struct Job {
+    /// The operators and settings.
+    pub query: Query<Formula>,
+    /// Where the elements come from, with nothing given yet.
+    pub source: AnySource,
+}
