@@ -1,1 +1,4 @@
+pub mod Codes
+pub mod Formula
 pub mod Meaning
+pub mod Short
