@@ -1,4 +1,3 @@
-pub mod Codes
 pub mod Formula
 pub mod Meaning
 pub mod Short

@@ -1,10 +1,10 @@
 -- No expansion of a formula has more than 65,536 items.
-use Rattle.std.proofs.Common.{◌≡◌, ℕ, zero, suc, ◌+◌, ◌≤◌, nat_le, true, false, List, [], ◌∷◌, ◌++◌, length, replicate, Result, Ok, Err, IfOk, ℤ, pos, negsuc, refl, arith, length-append}
+use Rattle.std.proofs.Common.{◌≡◌, ℕ, zero, suc, ◌≤◌, List, [], ◌∷◌, length, replicate, Result, Ok, Err, IfOk, ℤ, pos, negsuc, refl, arith, length-append}
 use Rattle.std.proofs.lemmas.List.{length-replicate}
 use Rattle.std.proofs.lemmas.Bool.Decides.{nat_tests}
-use Rattle.plinq_lambda.specs.Formula.{Outcome, Number, Answer, Items, outcome, alone, expanded, counted, item_count, counting, mapped, formula_meaning}
+use Rattle.plinq_lambda.specs.Formula.{outcome, alone, counted, item_count, counting, mapped, formula_meaning}
 use Rattle.plinq_lambda.specs.declared.formula.Formula.{Formula}
-use Rattle.plinq_lambda.specs.declared.formula.Formula.TheVariants.{Add, Mul, Mod, Into, Below, Above, Equal, Even, Repeat, UpTo}
+use Rattle.plinq_lambda.specs.declared.formula.Formula.TheVariants.{Repeat, UpTo}
 
 abbrev pub IsShort : Result (List ℤ) ℕ → Type 0
 IsShort r = IfOk r (λ ys. length ys ≤ 65536)

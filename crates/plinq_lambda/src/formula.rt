@@ -6,7 +6,7 @@ use crate::expand_fault::ExpandFault;
 use crate::lambda::Lambda;
 use std::alloc::{AllocError, Global};
 
-/// The most items that an expansion gives.
+// The most items that an expansion gives.
 const MOST_ITEMS: i64 = 65_536;
 
 /// A lambda over `i64` that a document can name.

@@ -1,8 +1,8 @@
 -- What a formula's faults are: no other code comes from one.
-use Rattle.std.proofs.Common.{◌≡◌, ℕ, ◌≤◌, ◌&&◌, Bool, true, false, if◌then◌else◌, List, Result, Ok, Err, ℤ, pos, negsuc, nat_le, refl, arith, IfErr}
+use Rattle.std.proofs.Common.{ℕ, ◌≤◌, ◌&&◌, Bool, true, false, if◌then◌else◌, List, Result, Ok, Err, ℤ, pos, negsuc, nat_le, arith, IfErr}
 use Rattle.std.specs.Ordering.{int_eq}
 use Rattle.std.specs.Prelude.{int_le, int_div, int_rem, ◌+ℤ◌, ◌*ℤ◌}
-use Rattle.plinq_lambda.specs.Formula.{Outcome, Number, Answer, Items, outcome, overflow, divide_by_zero, too_many, least, greatest, fits, quotient, remainder, mapped, tested, expanded, is_not_zero, alone, counted, item_count, formula_meaning}
+use Rattle.plinq_lambda.specs.Formula.{outcome, overflow, divide_by_zero, too_many, least, greatest, fits, mapped, is_not_zero, alone, counted, item_count, formula_meaning}
 use Rattle.plinq_lambda.specs.declared.formula.Formula.{Formula}
 use Rattle.plinq_lambda.specs.declared.formula.Formula.TheVariants.{Add, Mul, Mod, Into, Below, Above, Equal, Even, Repeat, UpTo}
 
