@@ -37,6 +37,7 @@ alone-code : (r : Result ℤ ℕ) → IfErr r IsFormulaCode → IfErr (alone r) 
 alone-code (Ok y) h = tt
 alone-code (Err code) h = h
 
+-- whatever a formula is asked for, a fault of it has one of the three codes
 pub map-code : (f : Formula) (x : ℤ) → IfErr ((formula_meaning f).map x) IsFormulaCode
 map-code (Add c) x = fits-code (x +ℤ c)
 map-code (Mul c) x = fits-code (x *ℤ c)

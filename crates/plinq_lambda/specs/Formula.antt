@@ -5,20 +5,23 @@ use Rattle.plinq_lambda.specs.Meaning.{Meaning}
 use Rattle.plinq_lambda.specs.declared.formula.Formula.{Formula}
 use Rattle.plinq_lambda.specs.declared.formula.Formula.TheVariants.{Add, Mul, Mod, Into, Below, Above, Equal, Even, Repeat, UpTo}
 
--- the codes of the faults
+-- the code of a result that is no i64
 abbrev pub overflow : ℕ
 overflow = 1
 
+-- the code of a division by zero
 abbrev pub divide_by_zero : ℕ
 divide_by_zero = 2
 
+-- the code of an expansion that is too long
 abbrev pub too_many : ℕ
 too_many = 3
 
--- the least and the greatest i64
+-- the least i64
 abbrev pub least : ℤ
 least = negsuc (2 ^ 63 - 1)
 
+-- the greatest i64
 abbrev pub greatest : ℤ
 greatest = pos (2 ^ 63 - 1)
 
@@ -53,12 +56,13 @@ abbrev pub counted : (ℕ → List ℤ) → Result ℕ ℕ → Result (List ℤ)
 counted items (Ok n) = Ok (items n)
 counted items (Err code) = Err code
 
--- what a formula makes of an element, by its kind: arithmetic a number, a test an answer, an expansion a list
+-- what is made of an element, by the formula's kind: arithmetic makes a number, a test an answer, an expansion a list
 pub data Outcome : Type 0 where
   Number : Result ℤ ℕ → Outcome
   Answer : Bool → Outcome
   Items : Result (List ℤ) ℕ → Outcome
 
+-- what each formula makes of x
 abbrev pub outcome : Formula → ℤ → Outcome
 outcome (Add c) x = Number (fits (x +ℤ c))
 outcome (Mul c) x = Number (fits (x *ℤ c))
