@@ -54,14 +54,16 @@ pub returns-in-End-clause-fed : goal.returns-in-End-clause-fed
 returns-in-End-clause-fed g c =
     let t = g.S.Source.whole c.args.source.now in
     let n = g.S.Source.given c.loop-item.source in
-    let ending : IsAtEnding t n End = at_end t n (search rules) (search (rules, c.loop-item.invariant.0)) (search (rules, c.loop-item.invariant.0)) in
+    let law = g.met.S.Source g.world.𝓛 g.world.𝓜 g.world.𝓡 (λ s a. a, λ a. a, λ a. a, λ a. a) in
+    let ending : IsAtEnding t n End = at_end t n (law.ends c.args.source.now) (rw c.loop-item.invariant.0 at (law.within c.loop-item.source)) (search (rules, c.loop-item.invariant.0)) in
     fed-at_ending _ _ _ t n _ _ _ ending c.loop-item.invariant.1
 
 pub returns-in-End-clause-least : goal.returns-in-End-clause-least
 returns-in-End-clause-least g c =
     let t = g.S.Source.whole c.args.source.now in
     let n = g.S.Source.given c.loop-item.source in
-    let ending : IsAtEnding t n End = at_end t n (search rules) (search (rules, c.loop-item.invariant.0)) (search (rules, c.loop-item.invariant.0)) in
+    let law = g.met.S.Source g.world.𝓛 g.world.𝓜 g.world.𝓡 (λ s a. a, λ a. a, λ a. a, λ a. a) in
+    let ending : IsAtEnding t n End = at_end t n (law.ends c.args.source.now) (rw c.loop-item.invariant.0 at (law.within c.loop-item.source)) (search (rules, c.loop-item.invariant.0)) in
     let moved : g.S.Source.given c.next.new.self ≡ n = c.next.ensures.moved ∙ ap (λ u. given_after u n) c.loop-item.invariant.0 ∙ ending.moved in
     rw moved (least-at_ending _ _ t n _ _ _ ending c.loop-item.invariant.1)
 
@@ -69,13 +71,15 @@ pub returns-in-Refused-clause-fed : goal.returns-in-Refused-clause-fed
 returns-in-Refused-clause-fed g c =
     let t = g.S.Source.whole c.args.source.now in
     let n = g.S.Source.given c.loop-item.source in
-    let ending : IsAtEnding t n (Refused c.in-Refused.code) = at_refusal t n c.in-Refused.code (search (rules, c.loop-item.invariant.0)) (search (rules, c.loop-item.invariant.0)) in
+    let law = g.met.S.Source g.world.𝓛 g.world.𝓜 g.world.𝓡 (λ s a. a, λ a. a, λ a. a, λ a. a) in
+    let ending : IsAtEnding t n (Refused c.in-Refused.code) = at_refusal t n c.in-Refused.code (rw c.loop-item.invariant.0 at (law.within c.loop-item.source)) (search (rules, c.loop-item.invariant.0)) in
     fed-at_ending _ _ _ t n _ _ _ ending c.loop-item.invariant.1
 
 pub returns-in-Refused-clause-least : goal.returns-in-Refused-clause-least
 returns-in-Refused-clause-least g c =
     let t = g.S.Source.whole c.args.source.now in
     let n = g.S.Source.given c.loop-item.source in
-    let ending : IsAtEnding t n (Refused c.in-Refused.code) = at_refusal t n c.in-Refused.code (search (rules, c.loop-item.invariant.0)) (search (rules, c.loop-item.invariant.0)) in
+    let law = g.met.S.Source g.world.𝓛 g.world.𝓜 g.world.𝓡 (λ s a. a, λ a. a, λ a. a, λ a. a) in
+    let ending : IsAtEnding t n (Refused c.in-Refused.code) = at_refusal t n c.in-Refused.code (rw c.loop-item.invariant.0 at (law.within c.loop-item.source)) (search (rules, c.loop-item.invariant.0)) in
     let moved : g.S.Source.given c.next.new.self ≡ n = c.next.ensures.moved ∙ ap (λ u. given_after u n) c.loop-item.invariant.0 ∙ ending.moved in
     rw moved (least-at_ending _ _ t n _ _ _ ending c.loop-item.invariant.1)
