@@ -1,1 +1,4 @@
+pub mod Digits
+pub mod Reading
+pub mod Tokens
 pub mod Walks

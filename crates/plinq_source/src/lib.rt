@@ -14,6 +14,7 @@ mod range;
 mod repeat;
 mod source;
 mod step;
+mod text;
 
 pub use ending::Ending;
 pub use fault::SourceFault;
@@ -23,3 +24,4 @@ pub use range::RangeSource;
 pub use repeat::RepeatSource;
 pub use source::Source;
 pub use step::Step;
+pub use text::TextSource;
