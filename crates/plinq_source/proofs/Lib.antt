@@ -1,4 +1,4 @@
-pub mod Digits
+pub mod Numerals
 pub mod Reading
 pub mod Tokens
 pub mod Walks

@@ -1,5 +1,5 @@
 -- Texts: whole numbers in decimal digits, parted by spaces and line feeds.
-use Rattle.std.specs.Prelude.{◌≡◌, ℕ, ◌+◌, ◌-◌, ◌*◌, ◌^◌, ◌==◌, ◌||◌, ◌&&◌, ℤ, pos, negsuc, neg_ℤ, int_le, int_lt, Bool, true, false, not, if◌then◌else◌, List, [], ◌∷◌, length, drop, filter, fold, Option, Some, None, Result, Ok, Err, refl}
+use Rattle.std.specs.Prelude.{◌≡◌, ℕ, ◌+◌, ◌-◌, ◌*◌, ◌^◌, ◌==◌, ◌||◌, ◌&&◌, ℤ, pos, negsuc, neg_ℤ, int_le, int_lt, Bool, true, false, not, if◌then◌else◌, List, [], ◌∷◌, length, drop, filter, fold, Option, Some, None, Result, Ok, Err, codes, refl}
 use Rattle.std.specs.Char.{is_ascii_digit}
 use Rattle.std.specs.List.{slice_split, list_all}
 use Rattle.plinq_source.specs.Trace.{Trace, ended, list_ending}
@@ -82,3 +82,20 @@ given_at text at = length (values (tokens text)) - length (values (tokens (drop 
 -- `7 x 9`
 pub text_trace-malformed : text_trace (55 ∷ 32 ∷ 120 ∷ 32 ∷ 57 ∷ []) ≡ ended (pos 7 ∷ []) (Refused 1)
 text_trace-malformed = refl
+
+-- `12345678901234567890`
+pub text_trace-out_of_range : text_trace (codes "12345678901234567890") ≡ ended [] (Refused 2)
+text_trace-out_of_range = refl
+
+-- `-9223372036854775808 007 -0`
+pub text_trace-signs : text_trace (codes "-9223372036854775808 007 -0") ≡ ended (negsuc (2 ^ 63 - 1) ∷ pos 7 ∷ pos 0 ∷ []) End
+text_trace-signs = refl
+
+pub text_trace-plus : text_trace (codes "+1") ≡ ended [] (Refused 1)
+text_trace-plus = refl
+
+pub text_trace-minus : text_trace (codes "-") ≡ ended [] (Refused 1)
+text_trace-minus = refl
+
+pub text_trace-space : text_trace (codes " ") ≡ ended [] End
+text_trace-space = refl

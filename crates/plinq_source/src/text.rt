@@ -1,47 +1,57 @@
-ghost use Rattle.std.specs.Prelude.{◌≡◌, ◌≤◌, ◌<◌, ◌+◌, ◌-◌, ◌^◌, pos, neg_ℤ, vec_len, length, drop, min, IfSome, IfOk, is_some};
+ghost use Rattle.std.specs.Prelude.{◌≡◌, ◌≤◌, ◌^◌, vec_len, length, drop};
 ghost use Rattle.std.proofs.Common.{arith};
-ghost use Rattle.std.proofs.Props.{props};
-ghost use Rattle.std.specs.List.{list_all};
-ghost use Rattle.std.specs.Result.{result_map_both};
-ghost use Rattle.std.specs.Char.{is_ascii_digit};
 ghost use Rattle.plinq_source.specs.Trace.{list_ending-ends};
+ghost use Rattle.plinq_source.specs.Text.{is_some_bytes, tokens, values, refusal, text_trace, token_ahead, given_at};
 ghost use Rattle.plinq_source.specs.Values.{few-values};
-ghost use Rattle.plinq_source.specs.Text.{is_separator, is_some_bytes, tokens, values, refusal, text_trace, token_ahead, token_value, signed_value, number_of, given_at};
 
+use crate::number::read_number;
 use crate::source::Source;
 use crate::step::Step;
 use std::alloc::Global;
 
-/// The numbers of a text as a source.
+/// The whole numbers of a text, in decimal digits, parted by spaces and line feeds.
+///
+/// A token is a longest run of bytes other than space and line feed. A number is an optional `-` and one or more
+/// ASCII digits; leading zeros are allowed, a `+` isn't. The text is read as it is asked for: each call of `next`
+/// reads one token, and takes no memory.
+///
+/// It ends with
+/// - [`Step::End`] where the text is at its end,
+/// - [`Step::Refused`] with 1 at a token that is no number,
+/// - [`Step::Refused`] with 2 at a number that is no `i64`.
+///
+/// A refusing token stays where it is, and what stands behind it is never read.
+///
+/// ```text
+/// 7 -007      7, -7, then Step::End
+/// 7 x 9       7, then Step::Refused(1)
+/// ```
 #[derive(Drop)]
 pub struct TextSource {
     text: Vec<u8>,
     at: usize,
     ghost few: { vec_len text ≤ 2 ^ 40 },
     ghost within: { at ≤ vec_len text },
+    // What stands ahead is what is left of the whole text's meaning.
     ghost items: { drop (given_at text.items at) (values (tokens text.items)) ≡ values (tokens (drop at text.items)) },
     ghost ending: { refusal (tokens text.items) ≡ refusal (tokens (drop at text.items)) },
 }
 
-const MALFORMED: u32 = 1;
-
-const OUT_OF_RANGE: u32 = 2;
-
-/// A number that was read, and how many bytes it took.
-#[derive(Clone, Copy)]
-struct Number {
-    value: i64,
-    length: usize,
+impl TextSource {
+    /// The numbers of this text, of at most 2^40 bytes.
+    ///
+    /// `_alloc` is the house's convention for types that hold a collection: no memory is taken.
+    pub fn new(_alloc: Global, text: Vec<u8>) -> TextSource
+        requires { vec_len text ≤ 2 ^ 40 }
+        ensures whole { ⟦<TextSource as Source>⟧.whole result ≡ text_trace text.items }
+        ensures fresh { ⟦<TextSource as Source>⟧.given result ≡ 0 }
+    {
+        TextSource { text, at: 0 }
+    }
 }
 
-/// Digits that were read: their number, or `u64::MAX` where that is less, and how many they are.
-#[derive(Clone, Copy)]
-struct Digits {
-    value: u64,
-    length: usize,
-}
-
-fn separators(text: &[u8]) -> usize
+/// How many separators stand at the head of a text.
+fn count_separators(text: &[u8]) -> usize
     ensures within { result ≤ length text.now }
     ensures same { tokens (drop result text.now) ≡ tokens text.now }
     ensures ahead { is_some_bytes (token_ahead (drop result text.now)) ≡ is_some_bytes (drop result text.now) }
@@ -52,83 +62,6 @@ fn separators(text: &[u8]) -> usize
         }
     }
     text.len()
-}
-
-fn read_digits(text: &[u8]) -> Option<Digits>
-    ensures digits { is_some result ≡ list_all is_ascii_digit (token_ahead text.now) }
-    ensures value { IfSome result (λ d. d.value ≡ min (number_of (token_ahead text.now)) (2 ^ 64 - 1)) }
-    ensures length { IfSome result (λ d. d.length ≡ length (token_ahead text.now)) }
-{
-    let mut value: u64 = 0;
-    for (n, byte) in text.iter().enumerate() {
-        match *byte {
-            b' ' | b'\n' => return Some(Digits { value, length: n }),
-            b'0'..=b'9' => value = value.saturating_mul(10).saturating_add((*byte - b'0') as u64),
-            _ => return None,
-        }
-    }
-    Some(Digits {
-        value,
-        length: text.len(),
-    })
-}
-
-fn read_negative(digits: &[u8]) -> Result<Number, u32>
-    ensures value { result_map_both (λ n. n.value) (λ code. code) result ≡ signed_value (λ n. neg_ℤ (pos n)) (token_ahead digits.now) }
-    ensures length { IfOk result (λ n. n.length ≡ length (token_ahead digits.now) + 1) }
-{
-    match read_digits(digits) {
-        Some(d) if d.length > 0 => match 0i64.checked_sub_unsigned(d.value) {
-            Some(value) => Ok(Number {
-                value,
-                length: d.length + 1,
-            }),
-            None => Err(OUT_OF_RANGE),
-        },
-        _ => Err(MALFORMED),
-    }
-}
-
-fn read_positive(digits: &[u8]) -> Result<Number, u32>
-    ensures value { result_map_both (λ n. n.value) (λ code. code) result ≡ signed_value pos (token_ahead digits.now) }
-    ensures length { IfOk result (λ n. n.length ≡ length (token_ahead digits.now)) }
-{
-    match read_digits(digits) {
-        Some(d) if d.length > 0 => match 0i64.checked_add_unsigned(d.value) {
-            Some(value) => Ok(Number {
-                value,
-                length: d.length,
-            }),
-            None => Err(OUT_OF_RANGE),
-        },
-        _ => Err(MALFORMED),
-    }
-}
-
-fn read_token(text: &[u8]) -> Result<Number, u32>
-    ensures value { result_map_both (λ n. n.value) (λ code. code) result ≡ token_value (token_ahead text.now) }
-    ensures length { IfOk result (λ n. n.length ≡ length (token_ahead text.now)) }
-{
-    match text.split_first() {
-        None => Err(MALFORMED),
-        Some((first, digits)) => {
-            if *first == b'-' {
-                read_negative(digits)
-            } else {
-                read_positive(text)
-            }
-        }
-    }
-}
-
-impl TextSource {
-    pub fn new(_alloc: Global, text: Vec<u8>) -> TextSource
-        requires { vec_len text ≤ 2 ^ 40 }
-        ensures whole { ⟦<TextSource as Source>⟧.whole result ≡ text_trace text.items }
-        ensures fresh { ⟦<TextSource as Source>⟧.given result ≡ 0 }
-    {
-        TextSource { text, at: 0 }
-    }
 }
 
 impl Source for TextSource {
@@ -146,13 +79,13 @@ impl Source for TextSource {
 
     fn next(&mut self) -> Step<i64> {
         let (_, left) = self.text.as_slice().split_at(self.at);
-        let skipped = separators(left);
-        let (_, left) = left.split_at(skipped);
-        self.at += skipped;
-        if left.is_empty() {
+        let blank = count_separators(left);
+        let (_, ahead) = left.split_at(blank);
+        self.at += blank;
+        if ahead.is_empty() {
             return Step::End;
         }
-        match read_token(left) {
+        match read_number(ahead) {
             Ok(number) => {
                 self.at += number.length;
                 Step::Item(number.value)
