@@ -1,2 +1,6 @@
 pub mod Followed
 pub mod Steps
+pub mod Numerals
+pub mod Reading
+pub mod Tokens
+pub mod Walks
