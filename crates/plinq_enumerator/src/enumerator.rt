@@ -71,8 +71,10 @@ impl<S: Source> Enumerator<S> {
         requires most { n ≤ 65536 }
         requires rising { tickets_below ticket (⟦<Enumerator<S> as Guarded>⟧.history self.old) ≡ true }
         ensures origin { ⟦<Enumerator<S> as Guarded>⟧.origin self.new ≡ ⟦<Enumerator<S> as Guarded>⟧.origin self.old }
-        ensures recorded { OnOk result (⟦<Enumerator<S> as Guarded>⟧.history self.new ≡ ⟦<Enumerator<S> as Guarded>⟧.history self.old ++ next_record (⟦<Enumerator<S> as Guarded>⟧.origin self.old) (⟦<Enumerator<S> as Guarded>⟧.history self.old) ticket (Ask n) ∷ []) }
-        ensures chunk { IfOk result (IsChunkOf (⟦<Enumerator<S> as Guarded>⟧.origin self.old) (next_record (⟦<Enumerator<S> as Guarded>⟧.origin self.old) (⟦<Enumerator<S> as Guarded>⟧.history self.old) ticket (Ask n))) }
+        ensures recorded { let past = ⟦<Enumerator<S> as Guarded>⟧.history self.old in let next = next_record (⟦<Enumerator<S> as Guarded>⟧.origin self.old) past ticket (Ask n) in
+            OnOk result (⟦<Enumerator<S> as Guarded>⟧.history self.new ≡ past ++ next ∷ []) }
+        ensures chunk { let origin = ⟦<Enumerator<S> as Guarded>⟧.origin self.old in let next = next_record origin (⟦<Enumerator<S> as Guarded>⟧.history self.old) ticket (Ask n) in
+            IfOk result (λ chunk. IsChunkOf origin next chunk) }
         ensures unchanged { OnErr result (⟦<Enumerator<S> as Guarded>⟧.history self.new ≡ ⟦<Enumerator<S> as Guarded>⟧.history self.old) }
     {
         if self.closed {
@@ -114,7 +116,8 @@ impl<S: Source> Enumerator<S> {
     pub fn close(&mut self, ticket: u64) -> Result<(), OutOfMemory>
         requires rising { tickets_below ticket (⟦<Enumerator<S> as Guarded>⟧.history self.old) ≡ true }
         ensures origin { ⟦<Enumerator<S> as Guarded>⟧.origin self.new ≡ ⟦<Enumerator<S> as Guarded>⟧.origin self.old }
-        ensures recorded { OnOk result (⟦<Enumerator<S> as Guarded>⟧.history self.new ≡ ⟦<Enumerator<S> as Guarded>⟧.history self.old ++ next_record (⟦<Enumerator<S> as Guarded>⟧.origin self.old) (⟦<Enumerator<S> as Guarded>⟧.history self.old) ticket Close ∷ []) }
+        ensures recorded { let past = ⟦<Enumerator<S> as Guarded>⟧.history self.old in let next = next_record (⟦<Enumerator<S> as Guarded>⟧.origin self.old) past ticket Close in
+            OnOk result (⟦<Enumerator<S> as Guarded>⟧.history self.new ≡ past ++ next ∷ []) }
         ensures unchanged { OnErr result (⟦<Enumerator<S> as Guarded>⟧.history self.new ≡ ⟦<Enumerator<S> as Guarded>⟧.history self.old) }
     {
         self.records.push(Record {

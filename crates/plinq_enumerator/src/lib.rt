@@ -9,8 +9,11 @@
 mod enumerator;
 mod growth;
 mod growth_fault;
+mod replaying;
+mod standing;
 mod taking;
 
 pub use enumerator::Enumerator;
 pub use growth::Growth;
 pub use growth_fault::GrowthFault;
+pub use replaying::replays;
