@@ -7,3 +7,4 @@ pub mod Parts
 pub mod Worker
 pub mod Glue
 pub mod Chunks
+pub mod Runs

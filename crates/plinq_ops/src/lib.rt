@@ -12,6 +12,7 @@ mod cutting;
 mod decided;
 mod feeding;
 mod fragments;
+pub mod laws;
 mod merge_option;
 mod op;
 mod order;
