@@ -1,7 +1,7 @@
 -- The counts with which the operators begin.
-use Rattle.std.specs.Prelude.{◌≡◌, ℕ, zero, suc, ℤ, pos, negsuc, List, [], ◌∷◌, Bool, true, false, ◌||◌, map, refl}
+use Rattle.std.specs.Prelude.{◌≡◌, ℕ, zero, suc, pos, negsuc, List, [], ◌∷◌, map, refl}
 use Rattle.std.specs.List.{list_any}
-use Rattle.std.proofs.Common.{ap, arith}
+use Rattle.std.proofs.Common.{arith}
 use Rattle.std.proofs.lemmas.Bool.Decides.{nat_tests}
 use Rattle.plinq_lambda.specs.Meaning.{Meaning}
 use Rattle.plinq_ops.specs.declared.op.Op.{Op}
@@ -26,6 +26,9 @@ stages_left-counts meaning (op ∷ ops) =
     let first = stage_left-count_of meaning op in
     let others = stages_left-counts meaning ops in
     cc
+
+pub stages_left-begun : {L T : Type 0} (meaning : L → Meaning T) (ops : List (Op L)) (counts : List ℕ) → counts ≡ map count_of ops → stages_left meaning ops counts ≡ stages_of meaning ops
+stages_left-begun meaning ops counts begun = rw begun (stages_left-counts meaning ops)
 
 takes_none-stage_of : {L T : Type 0} (meaning : L → Meaning T) (op : Op L) → is_empty_take op ≡ takes_none (stage_of meaning op)
 takes_none-stage_of meaning (Select f) = refl

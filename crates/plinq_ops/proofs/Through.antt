@@ -11,28 +11,30 @@ use Rattle.plinq_lambda.specs.Meaning.{Meaning}
 use Rattle.plinq_ops.specs.declared.op.Op.{Op}
 use Rattle.plinq_ops.specs.Stage.{apply, behind, takes_none, some_takes_none}
 use Rattle.plinq_ops.specs.Feeding.{stage_left, stages_left, IsFed}
-use Rattle.plinq_ops.proofs.Fed.{fed-through, fed-last}
+use Rattle.plinq_ops.proofs.Fed.{fed-through, fed-last, fed-none, fed-ending}
 
--- an item that has come through the operators before these, whose counts are done: whatever the rest makes of what it
--- has become, all make of the item, unless a Take before had its last item
+-- an item x that has become y on its way through the first i operators: whatever the rest makes of y, all make of x,
+-- unless a Take before had its last item
 pub record IsThrough {L T : Type 0} (meaning : L → Meaning T) (ops : List (Op L)) (counts : List ℕ) (x : T) (before out : List T)
-    (done : List ℕ) (rest : List (Op L)) (here : List ℕ) (y : T) (last : Option Ending) : Type 0 where
+    (i : ℕ) (left : List ℕ) (y : T) (last : Option Ending) : Type 0 where
   pub same : out ≡ before
-  pub undecided : some_takes_none (stages_left meaning rest here) ≡ false
-  pub goes_on : (left : List ℕ) (after : List T) (e : Option Ending)
-      → IsFed (stages_left meaning rest here) (open_trace (y ∷ [])) out after (stages_left meaning rest left) e
-      → IsFed (stages_left meaning ops counts) (open_trace (x ∷ [])) before after (stages_left meaning ops (done ++ left)) (option_or e last)
+  pub undecided : some_takes_none (stages_left meaning (drop i ops) (drop i left)) ≡ false
+  pub goes_on : (rest : List ℕ) (after : List T) (e : Option Ending)
+      → IsFed (stages_left meaning (drop i ops) (drop i left)) (open_trace (y ∷ [])) out after (stages_left meaning (drop i ops) rest) e
+      → IsFed (stages_left meaning ops counts) (open_trace (x ∷ [])) before after (stages_left meaning ops (take i left ++ rest)) (option_or e last)
 
--- the same at one operator: whatever those behind it make of what it gives, all make of the item
+-- y before operator i: whatever the operators behind it make of what it gives for y, all make of x
 pub record IsAt {L T : Type 0} (meaning : L → Meaning T) (ops : List (Op L)) (counts : List ℕ) (x : T) (before out : List T)
-    (done : List ℕ) (op : Op L) (rest : List (Op L)) (count : ℕ) (here : List ℕ) (y : T) (last : Option Ending) : Type 0 where
+    (i : ℕ) (op : Op L) (left : List ℕ) (y : T) (last : Option Ending) : Type 0 where
   pub same : out ≡ before
-  pub takes_some : takes_none (stage_left meaning op count) ≡ false
-  pub undecided : some_takes_none (stages_left meaning rest here) ≡ false
-  pub passed : (t : Trace T) (count' : ℕ) (left : List ℕ) (after : List T) (e : Option Ending)
-      → t ≡ apply (stage_left meaning op count) (open_trace (y ∷ [])) → stage_left meaning op count' ≡ behind (stage_left meaning op count) 1
-      → IsFed (stages_left meaning rest here) t out after (stages_left meaning rest left) e
-      → IsFed (stages_left meaning ops counts) (open_trace (x ∷ [])) before after (stages_left meaning ops (done ++ count' ∷ left)) (option_or e last)
+  pub within : i < length left
+  pub takes_some : takes_none (stage_left meaning op (get_or left i 0)) ≡ false
+  pub undecided : some_takes_none (stages_left meaning (drop (i + 1) ops) (drop (i + 1) left)) ≡ false
+  pub passed : (t : Trace T) (count : ℕ) (rest : List ℕ) (after : List T) (e : Option Ending)
+      → t ≡ apply (stage_left meaning op (get_or left i 0)) (open_trace (y ∷ []))
+      → stage_left meaning op count ≡ behind (stage_left meaning op (get_or left i 0)) 1
+      → IsFed (stages_left meaning (drop (i + 1) ops) (drop (i + 1) left)) t out after (stages_left meaning (drop (i + 1) ops) rest) e
+      → IsFed (stages_left meaning ops counts) (open_trace (x ∷ [])) before after (stages_left meaning ops (take i left ++ count ∷ rest)) (option_or e last)
 
 or_none : {A : Type 0} (o : Option A) → option_or o None ≡ o
 or_none None = refl
@@ -50,82 +52,116 @@ second_false : (a b : Bool) → (a || b) ≡ false → b ≡ false
 second_false true b none = absurd (cc)
 second_false false b none = none
 
--- at the first operator
+-- before the first operator
 pub through-none : {L T : Type 0} (meaning : L → Meaning T) (ops : List (Op L)) (counts : List ℕ) (x : T) (before : List T)
-    → some_takes_none (stages_left meaning ops counts) ≡ false → IsThrough meaning ops counts x before before [] ops counts x None
+    → some_takes_none (stages_left meaning ops counts) ≡ false → IsThrough meaning ops counts x before before 0 counts x None
 through-none meaning ops counts x before undecided =
     record {
       same = refl;
       undecided = undecided;
-      goes_on = λ left after e fed. rw (or_none e) fed;
+      goes_on = λ rest after e fed. rw (or_none e) fed;
     }
-
-at-op : {L T : Type 0} (meaning : L → Meaning T) (ops : List (Op L)) (counts : List ℕ) (x : T) (before out : List T)
-    (done : List ℕ) (op : Op L) (rest : List (Op L)) (count : ℕ) (here : List ℕ) (y : T) (last : Option Ending)
-    → IsThrough meaning ops counts x before out done (op ∷ rest) (count ∷ here) y last
-    → IsAt meaning ops counts x before out done op rest count here y last
-at-op meaning ops counts x before out done op rest count here y last through =
-    record {
-      same = through.same;
-      takes_some = first_false _ _ through.undecided;
-      undecided = second_false _ _ through.undecided;
-      passed = λ t count' left after e is behind fed.
-          through.goes_on (count' ∷ left) after e
-          (fed-through (stage_left meaning op count) (stage_left meaning op count') y t (stages_left meaning rest here) (stages_left meaning rest left) out after e (sym is) (sym behind) fed);
-    }
-
--- at the operator of this number
-pub at-index : {L T : Type 0} (meaning : L → Meaning T) (ops : List (Op L)) (counts : List ℕ) (x : T) (before out : List T)
-    (i : ℕ) (op : Op L) (left : List ℕ) (y : T) (last : Option Ending) → i < length ops → length left ≡ length ops → op ≡ get_or ops i op
-    → IsThrough meaning ops counts x before out (take i left) (drop i ops) (drop i left) y last
-    → IsAt meaning ops counts x before out (take i left) op (drop (i + 1) ops) (get_or left i 0) (drop (i + 1) left) y last
-at-index meaning ops counts x before out i op left y last within long is through =
-    let here_op : drop i ops ≡ op ∷ drop (i + 1) ops = drop_more ops i op within ∙ ap (λ o. o ∷ drop (i + 1) ops) (sym is) in
-    let here_left : drop i left ≡ get_or left i 0 ∷ drop (i + 1) left = drop_more left i 0 (omega arith) in
-    at-op meaning ops counts x before out (take i left) op (drop (i + 1) ops) (get_or left i 0) (drop (i + 1) left) y last (rw (here_op, here_left) at through)
-
--- the counts behind an operator that has one of its own
-pub set-parts : (left : List ℕ) (i count : ℕ) → i < length left → set left i count ≡ take i left ++ count ∷ drop (i + 1) left
-set-parts left i count within = rw add-one (set_split left i count within)
-
--- the operator gives one item
-pub through-item : {L T : Type 0} (meaning : L → Meaning T) (ops : List (Op L)) (counts : List ℕ) (x : T) (before out : List T)
-    (i : ℕ) (op : Op L) (left : List ℕ) (y : T) (last : Option Ending) (y' : T) (count' : ℕ) → i < length left
-    → IsAt meaning ops counts x before out (take i left) op (drop (i + 1) ops) (get_or left i 0) (drop (i + 1) left) y last
-    → open_trace (y' ∷ []) ≡ apply (stage_left meaning op (get_or left i 0)) (open_trace (y ∷ [])) → stage_left meaning op count' ≡ behind (stage_left meaning op (get_or left i 0)) 1
-    → IsThrough meaning ops counts x before out (take (i + 1) (set left i count')) (drop (i + 1) ops) (drop (i + 1) (set left i count')) y' last
-through-item meaning ops counts x before out i op left y last y' count' within here is behind =
-    rw (take_more_set left i count' within, drop-set-lt (i + 1) left i count' (omega arith))
-    (record {
-      same = here.same;
-      undecided = here.undecided;
-      goes_on = λ counts' after e fed. rw (append_assoc (take i left) (count' ∷ []) counts') (here.passed (open_trace (y' ∷ [])) count' counts' after e is behind fed);
-    })
-
--- the operator gives its last item
-pub through-last : {L T : Type 0} (meaning : L → Meaning T) (ops : List (Op L)) (counts : List ℕ) (x : T) (before out : List T)
-    (i : ℕ) (op : Op L) (left : List ℕ) (y : T) (last : Option Ending) (y' : T) (count' : ℕ) → i < length left
-    → IsAt meaning ops counts x before out (take i left) op (drop (i + 1) ops) (get_or left i 0) (drop (i + 1) left) y last
-    → ended (y' ∷ []) End ≡ apply (stage_left meaning op (get_or left i 0)) (open_trace (y ∷ [])) → stage_left meaning op count' ≡ behind (stage_left meaning op (get_or left i 0)) 1
-    → IsThrough meaning ops counts x before out (take (i + 1) (set left i count')) (drop (i + 1) ops) (drop (i + 1) (set left i count')) y' (Some End)
-through-last meaning ops counts x before out i op left y last y' count' within here is behind =
-    rw (take_more_set left i count' within, drop-set-lt (i + 1) left i count' (omega arith))
-    (record {
-      same = here.same;
-      undecided = here.undecided;
-      goes_on = λ counts' after e fed.
-          rw (append_assoc (take i left) (count' ∷ []) counts', ← or_some e End last)
-          (here.passed (ended (y' ∷ []) End) count' counts' after (option_or e (Some End)) is behind
-          (fed-last y' (stages_left meaning (drop (i + 1) ops) (drop (i + 1) left)) _ (stages_left meaning (drop (i + 1) ops) counts') out after e fed));
-    })
 
 -- all operators have let the item through
-pub through-all : {L T : Type 0} (meaning : L → Meaning T) (ops : List (Op L)) (counts : List ℕ) (x : T) (before out : List T)
-    (i : ℕ) (left : List ℕ) (y : T) (last : Option Ending) → length ops ≤ i
-    → IsThrough meaning ops counts x before out (take i left) (drop i ops) (drop i left) y last
+pub through-all : {L T : Type 0} {meaning : L → Meaning T} {ops : List (Op L)} {counts : List ℕ} {x : T} {before out : List T} {i : ℕ} {left : List ℕ} {y : T} {last : Option Ending}
+    → length ops ≤ i → IsThrough meaning ops counts x before out i left y last
     → IsFed (stages_left meaning ops counts) (open_trace (x ∷ [])) before (out ++ y ∷ []) (stages_left meaning ops left) last
-through-all meaning ops counts x before out i left y last past through =
+through-all {L} {T} {meaning} {ops} {counts} {x} {before} {out} {i} {left} {y} past through =
     let none : drop i ops ≡ [] = drop_all i ops past in
     let fed : IsFed (stages_left meaning (drop i ops) (drop i left)) (open_trace (y ∷ [])) out (out ++ y ∷ []) (stages_left meaning (drop i ops) (drop i left)) None =
     rw none (record { items = refl; told = refl; left = λ goes_on. refl }) in
     rw (take-append-drop i left) at (through.goes_on (drop i left) (out ++ y ∷ []) None fed)
+
+-- at the next operator
+pub at-op : {L T : Type 0} {meaning : L → Meaning T} {ops : List (Op L)} {counts : List ℕ} {x : T} {before out : List T} {i : ℕ} {op : Op L} {left : List ℕ} {y : T} {last : Option Ending}
+    → i < length ops → length left ≡ length ops → op ≡ get_or ops i op → IsThrough meaning ops counts x before out i left y last
+    → IsAt meaning ops counts x before out i op left y last
+at-op {L} {T} {meaning} {ops} {counts} {x} {before} {out} {i} {op} {left} {y} {last} within long is through =
+    let count : ℕ = get_or left i 0 in
+    let here_op : drop i ops ≡ op ∷ drop (i + 1) ops = drop_more ops i op within ∙ ap (λ o. o ∷ drop (i + 1) ops) (sym is) in
+    let here_left : drop i left ≡ count ∷ drop (i + 1) left = drop_more left i 0 (omega arith) in
+    let undecided = rw (here_op, here_left) at through.undecided in
+    record {
+      same = through.same;
+      within = omega arith;
+      takes_some = first_false _ _ undecided;
+      undecided = second_false _ _ undecided;
+      passed = λ t count' rest after e gives behind fed.
+          through.goes_on (count' ∷ rest) after e
+          (rw (here_op, here_left)
+          (fed-through (stage_left meaning op count) (stage_left meaning op count') y t (stages_left meaning (drop (i + 1) ops) (drop (i + 1) left))
+          (stages_left meaning (drop (i + 1) ops) rest) out after e (sym gives) (sym behind) fed));
+    }
+
+-- the operator gives one item
+pub through-item : {L T : Type 0} {meaning : L → Meaning T} {ops : List (Op L)} {counts : List ℕ} {x : T} {before out : List T} {i : ℕ} {op : Op L} {left : List ℕ} {y : T} {last : Option Ending}
+    (y' : T) (count : ℕ) → IsAt meaning ops counts x before out i op left y last
+    → open_trace (y' ∷ []) ≡ apply (stage_left meaning op (get_or left i 0)) (open_trace (y ∷ [])) → stage_left meaning op count ≡ behind (stage_left meaning op (get_or left i 0)) 1
+    → IsThrough meaning ops counts x before out (i + 1) (set left i count) y' last
+through-item {L} {T} {meaning} {ops} {counts} {x} {before} {out} {i} {op} {left} y' count here gives behind =
+    let behind_left : drop (i + 1) (set left i count) ≡ drop (i + 1) left = drop-set-lt (i + 1) left i count (omega arith) in
+    record {
+      same = here.same;
+      undecided = rw behind_left here.undecided;
+      goes_on = λ rest after e fed.
+          rw (take_more_set left i count here.within, append_assoc (take i left) (count ∷ []) rest)
+          (here.passed (open_trace (y' ∷ [])) count rest after e gives behind (rw behind_left at fed));
+    }
+
+-- the operator gives its last item
+pub through-last : {L T : Type 0} {meaning : L → Meaning T} {ops : List (Op L)} {counts : List ℕ} {x : T} {before out : List T} {i : ℕ} {op : Op L} {left : List ℕ} {y : T} {last : Option Ending}
+    (y' : T) (count : ℕ) → IsAt meaning ops counts x before out i op left y last
+    → ended (y' ∷ []) End ≡ apply (stage_left meaning op (get_or left i 0)) (open_trace (y ∷ [])) → stage_left meaning op count ≡ behind (stage_left meaning op (get_or left i 0)) 1
+    → IsThrough meaning ops counts x before out (i + 1) (set left i count) y' (Some End)
+through-last {L} {T} {meaning} {ops} {counts} {x} {before} {out} {i} {op} {left} {y} {last} y' count here gives behind =
+    let behind_left : drop (i + 1) (set left i count) ≡ drop (i + 1) left = drop-set-lt (i + 1) left i count (omega arith) in
+    record {
+      same = here.same;
+      undecided = rw behind_left here.undecided;
+      goes_on = λ rest after e fed.
+          rw (take_more_set left i count here.within, append_assoc (take i left) (count ∷ []) rest, ← or_some e End last)
+          (here.passed (ended (y' ∷ []) End) count rest after (option_or e (Some End)) gives behind
+          (fed-last y' (stages_left meaning (drop (i + 1) ops) (drop (i + 1) left)) _ (stages_left meaning (drop (i + 1) ops) rest) out after e (rw behind_left at fed)));
+    }
+
+-- the operator gives a list, which the operators behind it see
+pub through-items : {L T : Type 0} {meaning : L → Meaning T} {ops : List (Op L)} {counts : List ℕ} {x : T} {before out : List T} {i : ℕ} {op : Op L} {left : List ℕ} {y : T} {last : Option Ending}
+    (ys : List T) (count : ℕ) (ops' : List (Op L)) (done left' rest : List ℕ) (after : List T) (e : Option Ending) → IsAt meaning ops counts x before out i op left y last
+    → open_trace ys ≡ apply (stage_left meaning op (get_or left i 0)) (open_trace (y ∷ [])) → stage_left meaning op count ≡ behind (stage_left meaning op (get_or left i 0)) 1
+    → ops' ≡ drop (i + 1) ops → done ≡ take (i + 1) (set left i count) → left' ≡ drop (i + 1) (set left i count)
+    → IsFed (stages_left meaning ops' left') (open_trace ys) out after (stages_left meaning ops' rest) e
+    → IsFed (stages_left meaning ops counts) (open_trace (x ∷ [])) before after (stages_left meaning ops (done ++ rest)) (option_or e last)
+through-items {L} {T} {meaning} {ops} {counts} {x} {before} {out} {i} {op} {left} ys count ops' done left' rest after e here gives behind front back_ops back_left fed =
+    let behind_left : left' ≡ drop (i + 1) left = back_left ∙ drop-set-lt (i + 1) left i count (omega arith) in
+    rw (back_ops, take_more_set left i count here.within, append_assoc (take i left) (count ∷ []) rest)
+    (here.passed (open_trace ys) count rest after e gives behind (rw (front, behind_left) at fed))
+
+-- nor do they see a Take of none
+pub items-undecided : {L T : Type 0} {meaning : L → Meaning T} {ops : List (Op L)} {counts : List ℕ} {x : T} {before out : List T} {i : ℕ} {op : Op L} {left : List ℕ} {y : T} {last : Option Ending}
+    (count : ℕ) (ops' : List (Op L)) (left' : List ℕ) → IsAt meaning ops counts x before out i op left y last → ops' ≡ drop (i + 1) ops → left' ≡ drop (i + 1) (set left i count)
+    → some_takes_none (stages_left meaning ops' left') ≡ false
+items-undecided {L} {T} {meaning} {ops} {counts} {x} {before} {out} {i} {op} {left} count ops' left' here back_ops back_left =
+    rw (back_ops, back_left, drop-set-lt (i + 1) left i count (let after : i < i + 1 = omega arith in after)) here.undecided
+
+-- the counts behind an operator
+set-parts : (left : List ℕ) (i count : ℕ) → i < length left → set left i count ≡ take i left ++ count ∷ drop (i + 1) left
+set-parts left i count within = rw add-one (set_split left i count within)
+
+-- the operator gives nothing
+pub through-nothing : {L T : Type 0} {meaning : L → Meaning T} {ops : List (Op L)} {counts : List ℕ} {x : T} {before out : List T} {i : ℕ} {op : Op L} {left : List ℕ} {y : T} {last : Option Ending}
+    (count : ℕ) → IsAt meaning ops counts x before out i op left y last
+    → open_trace [] ≡ apply (stage_left meaning op (get_or left i 0)) (open_trace (y ∷ [])) → stage_left meaning op count ≡ behind (stage_left meaning op (get_or left i 0)) 1
+    → IsFed (stages_left meaning ops counts) (open_trace (x ∷ [])) before out (stages_left meaning ops (set left i count)) last
+through-nothing {L} {T} {meaning} {ops} {counts} {x} {before} {out} {i} {op} {left} count here gives behind =
+    rw (set-parts left i count here.within)
+    (here.passed (open_trace []) count (drop (i + 1) left) out None gives behind (fed-none (stages_left meaning (drop (i + 1) ops) (drop (i + 1) left)) out here.undecided))
+
+-- the operator ends the run
+pub through-ending : {L T : Type 0} {meaning : L → Meaning T} {ops : List (Op L)} {counts : List ℕ} {x : T} {before out : List T} {i : ℕ} {op : Op L} {left : List ℕ} {y : T} {last : Option Ending}
+    (e : Ending) (count : ℕ) → IsAt meaning ops counts x before out i op left y last
+    → ended [] e ≡ apply (stage_left meaning op (get_or left i 0)) (open_trace (y ∷ [])) → stage_left meaning op count ≡ behind (stage_left meaning op (get_or left i 0)) 1
+    → IsFed (stages_left meaning ops counts) (open_trace (x ∷ [])) before out (stages_left meaning ops (set left i count)) (Some e)
+through-ending {L} {T} {meaning} {ops} {counts} {x} {before} {out} {i} {op} {left} e count here gives behind =
+    let behind_ops = stages_left meaning (drop (i + 1) ops) (drop (i + 1) left) in
+    rw (set-parts left i count here.within)
+    (here.passed (ended [] e) count (drop (i + 1) left) out (Some e) gives behind (fed-ending behind_ops behind_ops out e here.undecided))

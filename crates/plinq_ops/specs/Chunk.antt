@@ -1,16 +1,18 @@
 -- What the worker part gives for a chunk.
-use Rattle.std.specs.Prelude.{◌≡◌, ℕ, ◌+◌, List, [], ◌∷◌, ◌++◌, length, Bool, true, false, nat_lt, if◌then◌else◌, MatchBool, Option, Some, None, ⊤}
+use Rattle.std.specs.Prelude.{◌≡◌, refl, ℕ, ◌+◌, List, [], ◌∷◌, ◌++◌, length, Bool, true, false, nat_lt, if◌then◌else◌, MatchBool, Option, Some, None, ⊤}
 use Rattle.plinq_source.specs.declared.ending.Ending.{Ending}
 use Rattle.plinq_source.specs.declared.ending.Ending.TheVariants.{End, Refused, Fault}
-use Rattle.plinq_source.specs.Trace.{Trace, open_trace}
+use Rattle.plinq_source.specs.Trace.{Trace, open_trace, ended}
 use Rattle.plinq_lambda.specs.Meaning.{Meaning}
 use Rattle.plinq_keyed.specs.declared.chunk.Chunk.{Chunk}
 use Rattle.plinq_ops.specs.declared.op.Op.{Op}
+use Rattle.plinq_ops.specs.declared.op.Op.TheVariants.{Select}
 use Rattle.plinq_ops.specs.declared.fragments.FragEnd.{FragEnd}
 use Rattle.plinq_ops.specs.declared.fragments.FragEnd.TheVariants.{More, End as EndsHere, Fault as Faults, Dropped}
 use Rattle.plinq_ops.specs.declared.fragments.Fragment.{Fragment}
 use Rattle.plinq_ops.specs.declared.results.ChunkResult.{ChunkResult}
 use Rattle.plinq_ops.specs.declared.chunking.Stop.{Stop}
+use Rattle.plinq_ops.specs.Operator.{example}
 use Rattle.plinq_ops.specs.Fragment.{fragment_of}
 
 -- the worker part never refuses
@@ -59,6 +61,13 @@ chunk_answer meaning worker cut key (x ∷ xs) =
     if nat_lt cut key then dropped_at key
     else before_answer key (fragment_of meaning worker key x).items (fragment_of meaning worker key x).ending
     (chunk_answer meaning worker cut (key + 1) xs)
+
+-- a fault at key 8 is the stop of the keys 7, 8, 9, unless the cut comes before it
+stopped_by_a_fault : chunk_answer {L = ℕ} (λ _. example) (Select 0 ∷ []) 8 7 (5 ∷ 0 ∷ 2 ∷ []) ≡ record { trace = ended (4 ∷ []) (Fault 1); dropped = false; stop = Some 8 }
+stopped_by_a_fault = refl
+
+stopped_by_the_cut : chunk_answer {L = ℕ} (λ _. example) (Select 0 ∷ []) 7 7 (5 ∷ 0 ∷ 2 ∷ []) ≡ record { trace = open_trace (4 ∷ []); dropped = true; stop = Some 8 }
+stopped_by_the_cut = refl
 
 -- a result tells the answer of a chunk: its items, its ending and its stop, beside the chunk's first key, number of
 -- items and tail

@@ -1,17 +1,13 @@
 -- Fragments: what the worker part gives for one keyed element, and how fragments glue together.
-use Rattle.std.specs.Prelude.{◌≡◌, ℕ, ◌+◌, ℤ, pos, ◌-ℤ◌, int_lt, List, [], ◌∷◌, ◌++◌, length, Bool, true, false, ◌==◌, nat_lt, if◌then◌else◌, Option, Some, None, Result, Ok, Err, ⊤}
+use Rattle.std.specs.Prelude.{◌≡◌, refl, ℕ, ◌+◌, ℤ, pos, ◌-ℤ◌, int_lt, List, [], ◌∷◌, if◌then◌else◌, Option}
 use Rattle.plinq_source.specs.declared.ending.Ending.{Ending}
 use Rattle.plinq_source.specs.declared.ending.Ending.TheVariants.{End, Refused, Fault}
 use Rattle.plinq_source.specs.Trace.{Trace, open_trace, ended, followed}
 use Rattle.plinq_lambda.specs.Meaning.{Meaning}
-use Rattle.plinq_keyed.specs.declared.chunk.Chunk.{Chunk}
 use Rattle.plinq_ops.specs.declared.op.Op.{Op}
 use Rattle.plinq_ops.specs.declared.op.Op.TheVariants.{Select, Filter, SelectMany, Take, Skip, TakeWhile, AsUnordered}
-use Rattle.plinq_ops.specs.declared.fragments.FragEnd.{FragEnd}
-use Rattle.plinq_ops.specs.declared.fragments.FragEnd.TheVariants.{More, End as FragEndEnd, Fault as FragEndFault, Dropped}
-use Rattle.plinq_ops.specs.declared.fragments.Fragment.{Fragment}
 use Rattle.plinq_ops.specs.Stage.{apply}
-use Rattle.plinq_ops.specs.Operator.{stage_of, item_count}
+use Rattle.plinq_ops.specs.Operator.{stage_of, item_count, example}
 
 -- an open trace that ends here after all
 abbrev pub ended_here : {T : Type 0} → Trace T → Trace T
@@ -63,3 +59,23 @@ glued meaning worker key (x ∷ xs) e = followed (fragment_of meaning worker key
 -- the glued fragments of a whole trace
 abbrev pub glue : {L T : Type 0} → (L → Meaning T) → List (Op L) → Trace T → Trace T
 glue meaning worker t = glued meaning worker 0 t.items t.ending
+
+abbrev example_fragment : List (Op ℕ) → ℕ → ℕ → Trace ℕ
+example_fragment worker key x = fragment_of (λ _. example) worker key x
+
+-- skip 1, take 2: the element of key 0 is passed over, and that of key 2 is the last
+passed_over : example_fragment (Skip (pos 1) ∷ Take (pos 2) ∷ Select 0 ∷ []) 0 4 ≡ open_trace []
+passed_over = refl
+
+first_taken : example_fragment (Skip (pos 1) ∷ Take (pos 2) ∷ Select 0 ∷ []) 1 5 ≡ open_trace (4 ∷ [])
+first_taken = refl
+
+last_taken : example_fragment (Skip (pos 1) ∷ Take (pos 2) ∷ Select 0 ∷ []) 2 6 ≡ ended (5 ∷ []) End
+last_taken = refl
+
+behind_the_last : example_fragment (Skip (pos 1) ∷ Take (pos 2) ∷ Select 0 ∷ []) 3 7 ≡ ended [] End
+behind_the_last = refl
+
+-- the fragments behind a fault are dropped, and so is the ending
+glued_to_a_fault : glue {L = ℕ} (λ _. example) (Select 0 ∷ []) (ended (5 ∷ 0 ∷ 2 ∷ []) (Refused 7)) ≡ ended (4 ∷ []) (Fault 1)
+glued_to_a_fault = refl

@@ -53,7 +53,7 @@ less_one (suc n) = Ok n
 
 -- a lambda on numbers for the rows below: the number less one, which faults with 1 at 0; whether it is below 3; as
 -- many copies of it as it says
-abbrev example : Meaning ℕ
+abbrev pub example : Meaning ℕ
 example = record { map = less_one; test = λ x. Ok (nat_lt x 3); expand = λ x. Ok (replicate x x) }
 
 abbrev example_stage : Op ℕ → Stage ℕ

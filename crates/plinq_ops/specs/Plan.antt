@@ -1,5 +1,5 @@
 -- A plan: which operators a worker applies to its own elements, and which come after the merge.
-use Rattle.std.specs.Prelude.{◌≡◌, List, [], ◌∷◌, Bool, true, false, if◌then◌else◌}
+use Rattle.std.specs.Prelude.{◌≡◌, refl, ℕ, pos, List, [], ◌∷◌, Bool, true, false, if◌then◌else◌}
 use Rattle.std.specs.List.{list_any}
 use Rattle.plinq_ops.specs.declared.op.Op.{Op}
 use Rattle.plinq_ops.specs.declared.op.Op.TheVariants.{Select, Filter, SelectMany, Take, Skip, TakeWhile, AsUnordered}
@@ -28,6 +28,13 @@ worker_part (op ∷ ops) = if is_by_element op then op ∷ worker_part ops else 
 abbrev pub after_part : {L : Type 0} → List (Op L) → List (Op L)
 after_part [] = []
 after_part (op ∷ ops) = if is_by_element op then after_part ops else op ∷ ops
+
+-- the workers take no Take, and nothing behind it
+worker_before_a_take : worker_part {L = ℕ} (Select 0 ∷ Take (pos 5) ∷ Filter 1 ∷ Take (pos 2) ∷ []) ≡ Select 0 ∷ []
+worker_before_a_take = refl
+
+after_from_a_take : after_part {L = ℕ} (Select 0 ∷ Take (pos 5) ∷ Filter 1 ∷ Take (pos 2) ∷ []) ≡ Take (pos 5) ∷ Filter 1 ∷ Take (pos 2) ∷ []
+after_from_a_take = refl
 
 -- an ordered query is merged by key, any other by arrival
 abbrev pub order_of : Bool → Order

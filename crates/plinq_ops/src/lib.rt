@@ -2,7 +2,11 @@
 //!
 //! A [`Query`] is a list of LINQ's operators with its settings; each builder call adds exactly one of them. What
 //! a query answers is `answer_of`, its operators applied one after another to the whole trace of a source
-//! (`sequential`).
+//! ([`sequential`]). Its plan (`IsPlanOf`, by [`Query::split`]) gives the workers those operators that look at each
+//! element alone: they make of a keyed element its `fragment_of` ([`fragment`]), and of a chunk its `chunk_answer`,
+//! the fragments joined by key ([`chunk_result`]). The [`laws`] say that the rest of the operators, on the glued
+//! fragments, give the query's answer, that chunks one behind another glue to the whole, and how answers and their
+//! batches grow.
 #![tactic(auto)]
 
 mod answering;
@@ -21,6 +25,8 @@ mod plan;
 mod query;
 mod results;
 mod splitting;
+#[cfg(test)]
+mod tests;
 
 pub use answering::sequential;
 pub use build_fault::BuildFault;

@@ -1,4 +1,4 @@
-use Rattle.std.proofs.Common.{length, take, drop, ℕ, ◌+◌, ◌*◌, None}
+use Rattle.std.proofs.Common.{length, take, ◌+◌, ◌*◌, None}
 use Rattle.plinq_source.specs.Trace.{open_trace}
 use Rattle.plinq_ops.specs.Feeding.{stages_left, IsFed}
 use Rattle.plinq_ops.proofs.Through.{IsThrough}
@@ -19,4 +19,4 @@ invariant-feed_each-loop-item g l =
 -- the item has gone through the operators before this one
 abbrev pub invariant-feed-loop-at : goal.invariant-feed-loop-at
 invariant-feed-loop-at g l =
-    IsThrough g.L.Lambda.meaning l.ops l.fn.left l.fn.item l.fn.out.items l.out.items (take l.at l.left) (drop l.at l.ops) (drop l.at l.left) l.item l.last
+    IsThrough g.L.Lambda.meaning l.ops l.fn.left l.fn.item l.fn.out.items l.out.items l.at l.left l.item l.last

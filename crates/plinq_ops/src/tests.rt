@@ -1,0 +1,29 @@
+mod answers;
+mod chunks;
+mod queries;
+
+use crate::{BuildFault, Built, Op, Query};
+use plinq_lambda::Formula;
+use std::alloc::Global;
+
+/// The query with the builder call of this operator.
+fn with(query: Query<Formula>, op: Op<Formula>) -> Built<Formula> {
+    match op {
+        Op::Select(f) => query.select(f),
+        Op::Filter(f) => query.filter(f),
+        Op::SelectMany(f) => query.select_many(f),
+        Op::Take(n) => query.take(n),
+        Op::Skip(n) => query.skip(n),
+        Op::TakeWhile(f) => query.take_while(f),
+        Op::AsUnordered => query.as_unordered(),
+    }
+}
+
+/// An ordered query of these operators.
+fn ordered(alloc: Global, ops: &[Op<Formula>]) -> Result<Query<Formula>, BuildFault> {
+    let mut query = Query::new(alloc).as_ordered().map_err(|(_, fault)| fault)?;
+    for op in ops {
+        query = with(query, *op).map_err(|(_, fault)| fault)?;
+    }
+    Ok(query)
+}

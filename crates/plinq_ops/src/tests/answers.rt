@@ -1,0 +1,255 @@
+use super::ordered;
+use crate::{Op, sequential};
+use plinq_lambda::Formula;
+use plinq_source::{Ending, ListSource, RangeSource, Source, Step};
+use std::alloc::Global;
+use std::process::Abort;
+use std::test::Fail;
+
+const DIVISION: Ending = Ending::Fault(2);
+
+/// A list and how it refuses, if it does; operators; the answer's items and its ending; what the source gives next.
+type Row<'a> = (
+    &'a [i64],
+    Option<u32>,
+    &'a [Op<Formula>],
+    &'a [i64],
+    Ending,
+    Step<i64>,
+);
+
+/// Asks for this answer, and that the source was asked for no element behind the one that decides it.
+fn answers(rt: &impl Abort, alloc: Global, row: Row<'_>) -> Result<(), Fail> {
+    let (list, refusal, ops, items, ending, next) = row;
+    let query = ordered(alloc, ops)?;
+    let list = Vec::from_slice(alloc, list)?;
+    assert!(rt; list.len() < 100);
+    let mut source = match refusal {
+        None => ListSource::new(alloc, list),
+        Some(code) => ListSource::refusing(alloc, list, code),
+    };
+    let answer = sequential(alloc, &query, &mut source)?;
+    assert_eq!(rt; answer.0.as_slice(), items, "{ops:?}");
+    assert_eq!(rt; answer.1, ending, "{ops:?}");
+    assert_eq!(rt; source.next(), next, "{ops:?}");
+    Ok(())
+}
+
+#[test]
+fn worked_rows(rt: HostRuntime) -> Result<(), Fail> {
+    let rows: [Row<'_>; 16] = [
+        (&[], None, &[], &[], Ending::End, Step::End),
+        (
+            &[1, 2],
+            Some(7),
+            &[],
+            &[1, 2],
+            Ending::Refused(7),
+            Step::Refused(7),
+        ),
+        (
+            &[1, 2],
+            Some(7),
+            &[Op::Take(2)],
+            &[1, 2],
+            Ending::End,
+            Step::Refused(7),
+        ),
+        (
+            &[1, 2, 3, 4, 5],
+            None,
+            &[Op::Take(2)],
+            &[1, 2],
+            Ending::End,
+            Step::Item(3),
+        ),
+        (
+            &[1],
+            Some(7),
+            &[Op::Take(2)],
+            &[1],
+            Ending::Refused(7),
+            Step::Refused(7),
+        ),
+        (
+            &[4],
+            Some(7),
+            &[Op::Take(0)],
+            &[],
+            Ending::End,
+            Step::Item(4),
+        ),
+        (
+            &[],
+            Some(7),
+            &[Op::Take(-1)],
+            &[],
+            Ending::End,
+            Step::Refused(7),
+        ),
+        (
+            &[4],
+            Some(7),
+            &[Op::Filter(Formula::Even), Op::Take(0)],
+            &[],
+            Ending::End,
+            Step::Item(4),
+        ),
+        (
+            &[5, 0, 2],
+            None,
+            &[Op::Select(Formula::Into(10))],
+            &[2],
+            DIVISION,
+            Step::Item(2),
+        ),
+        (
+            &[5, 0, 2],
+            None,
+            &[Op::Select(Formula::Into(10)), Op::Take(1)],
+            &[2],
+            Ending::End,
+            Step::Item(0),
+        ),
+        (
+            &[2, 3],
+            None,
+            &[Op::SelectMany(Formula::Repeat(2)), Op::Take(3)],
+            &[2, 2, 3],
+            Ending::End,
+            Step::End,
+        ),
+        (
+            &[1, 2, 9, 3, 0],
+            None,
+            &[
+                Op::TakeWhile(Formula::Below(5)),
+                Op::Select(Formula::Into(6)),
+            ],
+            &[6, 3],
+            Ending::End,
+            Step::Item(3),
+        ),
+        (
+            &[1, 2],
+            Some(7),
+            &[Op::Skip(5)],
+            &[],
+            Ending::Refused(7),
+            Step::Refused(7),
+        ),
+        (
+            &[1, 2],
+            None,
+            &[Op::Skip(-1)],
+            &[1, 2],
+            Ending::End,
+            Step::End,
+        ),
+        (
+            &[1, 65537],
+            None,
+            &[Op::SelectMany(Formula::UpTo)],
+            &[1],
+            Ending::Fault(3),
+            Step::End,
+        ),
+        (
+            &[3, 1],
+            None,
+            &[Op::AsUnordered],
+            &[3, 1],
+            Ending::End,
+            Step::End,
+        ),
+    ];
+    for row in rows {
+        answers(&rt, rt.alloc(), row)?;
+    }
+    Ok(())
+}
+
+// What stands behind the last element of a Take still has its say on that element.
+#[test]
+fn behind_a_take(rt: HostRuntime) -> Result<(), Fail> {
+    let rows: [Row<'_>; 5] = [
+        (
+            &[1, 2],
+            None,
+            &[Op::Take(1), Op::Filter(Formula::Even)],
+            &[],
+            Ending::End,
+            Step::Item(2),
+        ),
+        (
+            &[0, 2],
+            None,
+            &[Op::Take(1), Op::Select(Formula::Into(10))],
+            &[],
+            DIVISION,
+            Step::Item(2),
+        ),
+        (
+            &[2, 9],
+            None,
+            &[Op::Take(1), Op::SelectMany(Formula::UpTo), Op::Skip(1)],
+            &[2],
+            Ending::End,
+            Step::Item(9),
+        ),
+        // In one expansion: the first two are passed over, the third goes on, the fourth faults.
+        (
+            &[1, 4, 9],
+            None,
+            &[
+                Op::Skip(1),
+                Op::SelectMany(Formula::UpTo),
+                Op::Skip(2),
+                Op::Select(Formula::Add(-4)),
+                Op::Select(Formula::Into(10)),
+            ],
+            &[-10],
+            DIVISION,
+            Step::Item(9),
+        ),
+        (
+            &[1, 2, 3, 4],
+            Some(7),
+            &[Op::Skip(1), Op::TakeWhile(Formula::Below(4)), Op::Take(3)],
+            &[2, 3],
+            Ending::End,
+            Step::Refused(7),
+        ),
+    ];
+    for row in rows {
+        answers(&rt, rt.alloc(), row)?;
+    }
+    Ok(())
+}
+
+#[test]
+fn range_through_a_filter(rt: HostRuntime) -> Result<(), Fail> {
+    let query = ordered(rt.alloc(), &[Op::Filter(Formula::Even), Op::Take(2)])?;
+    let mut source = RangeSource::new(1, 10)?;
+    let (items, ending) = sequential(rt.alloc(), &query, &mut source)?;
+    assert_eq!(rt; items.as_slice(), [2, 4].as_slice());
+    assert_eq!(rt; ending, Ending::End);
+    assert_eq!(rt; source.next(), Step::Item(5));
+    Ok(())
+}
+
+// Also where an allocation fails: run it with each allocation refused in turn.
+#[test]
+fn answers_or_says_that_memory_ran_out(rt: HostRuntime) {
+    let ops = [Op::SelectMany(Formula::Repeat(2)), Op::Skip(1), Op::Take(4)];
+    let Ok(query) = ordered(rt.alloc(), &ops) else {
+        return;
+    };
+    let Ok(mut source) = RangeSource::new(3, 4) else {
+        panic!(&rt; "a range of four")
+    };
+    if let Ok((items, ending)) = sequential(rt.alloc(), &query, &mut source) {
+        assert_eq!(rt; items.as_slice(), [3, 4, 4, 5].as_slice());
+        assert_eq!(rt; ending, Ending::End);
+    }
+}

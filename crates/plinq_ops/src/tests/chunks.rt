@@ -1,0 +1,115 @@
+use super::ordered;
+use crate::{ChunkResult, FragEnd, Op, chunk_result, fragment};
+use plinq_keyed::{Chunk, Tail};
+use plinq_lambda::Formula;
+use std::process::Abort;
+use std::test::Fail;
+
+#[test]
+fn fragments(rt: HostRuntime) -> Result<(), Fail> {
+    let ops = [
+        Op::Select(Formula::Into(12)),
+        Op::Filter(Formula::Even),
+        Op::SelectMany(Formula::UpTo),
+    ];
+    let query = ordered(rt.alloc(), &ops)?;
+    let plan = query.split();
+    let rows: [(i64, &[i64], FragEnd); 4] = [
+        (3, &[1, 2, 3, 4], FragEnd::More),
+        (4, &[], FragEnd::More),
+        (0, &[], FragEnd::Fault(2)),
+        (-2, &[], FragEnd::More),
+    ];
+    for (x, items, ending) in rows {
+        for key in [0, 5, u64::MAX] {
+            let given = fragment(rt.alloc(), plan.worker, key, x)?;
+            assert_eq!(rt; given.items.as_slice(), items, "{x}");
+            assert_eq!(rt; given.ending, ending, "{x}");
+        }
+    }
+    Ok(())
+}
+
+/// An operator; a chunk's first key and items; the cut; the result's items, its ending and its stop.
+type Row<'a> = (
+    Op<Formula>,
+    u64,
+    &'a [i64],
+    u64,
+    &'a [i64],
+    FragEnd,
+    Option<u64>,
+);
+
+#[test]
+fn chunk_results(rt: HostRuntime) -> Result<(), Fail> {
+    let add = Op::Select(Formula::Add(1));
+    let into = Op::Select(Formula::Into(10));
+    let all = u64::MAX;
+    let rows: [Row<'_>; 9] = [
+        (add, 0, &[3, 1], all, &[4, 2], FragEnd::More, None),
+        (add, 0, &[3, 1], 0, &[4], FragEnd::Dropped, Some(1)),
+        (add, 0, &[3, 1], 1, &[4, 2], FragEnd::More, None),
+        (add, 6, &[3, 1], 5, &[], FragEnd::Dropped, Some(6)),
+        (add, 6, &[], 5, &[], FragEnd::More, None),
+        (into, 7, &[5, 0, 2], all, &[2], FragEnd::Fault(2), Some(8)),
+        (into, 7, &[5, 0, 2], 8, &[2], FragEnd::Fault(2), Some(8)),
+        (into, 7, &[5, 0, 2], 7, &[2], FragEnd::Dropped, Some(8)),
+        (
+            Op::SelectMany(Formula::Repeat(2)),
+            1_099_511_627_774,
+            &[8, 9],
+            all,
+            &[8, 8, 9, 9],
+            FragEnd::More,
+            None,
+        ),
+    ];
+    for (op, first, list, cut, items, ending, stop) in rows {
+        let query = ordered(rt.alloc(), &[op])?;
+        let chunk = Chunk {
+            first,
+            items: Vec::from_slice(rt.alloc(), list)?,
+            tail: Some(Tail::Refused(7)),
+        };
+        assert!(rt; first <= 1_099_511_627_774 && list.len() < 4);
+        assert!(rt; first + chunk.items.len() as u64 <= 1_099_511_627_776);
+        let given = chunk_result(rt.alloc(), &query.split(), &chunk, cut)?;
+        let wanted = ChunkResult {
+            first,
+            count: list.len() as u64,
+            items: Vec::from_slice(rt.alloc(), items)?,
+            ending,
+            stop,
+            tail: Some(Tail::Refused(7)),
+        };
+        assert_eq!(rt; given, wanted, "{op:?} at {first}, cut {cut}");
+    }
+    Ok(())
+}
+
+// Also where an allocation fails: run it with each allocation refused in turn.
+#[test]
+fn results_or_want_of_memory(rt: HostRuntime) {
+    let Ok(query) = ordered(rt.alloc(), &[Op::SelectMany(Formula::Repeat(9))]) else {
+        return;
+    };
+    let Ok(items) = Vec::from_slice(rt.alloc(), &[3, 1]) else {
+        return;
+    };
+    assert!(rt; items.len() == 2);
+    let plan = query.split();
+    let chunk = Chunk {
+        first: 0,
+        items,
+        tail: None,
+    };
+    if let Ok(given) = chunk_result(rt.alloc(), &plan, &chunk, u64::MAX) {
+        assert_eq!(rt; given.items.len(), 18);
+        assert_eq!(rt; given.ending, FragEnd::More);
+    }
+    if let Ok(given) = fragment(rt.alloc(), plan.worker, 0, 3) {
+        assert_eq!(rt; given.items.len(), 9);
+        assert_eq!(rt; given.ending, FragEnd::More);
+    }
+}
