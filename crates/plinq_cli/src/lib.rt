@@ -2,11 +2,16 @@
 #![tactic(auto)]
 
 mod any_source;
+mod bytes;
 mod doc_fault;
 mod job;
+mod lines;
 mod settings;
+mod write_fault;
 
 pub use any_source::AnySource;
 pub use doc_fault::{DocFault, StepFault};
 pub use job::Job;
+pub use lines::{write_answer, write_batch, write_batches, write_ending};
 pub use settings::Settings;
+pub use write_fault::WriteFault;

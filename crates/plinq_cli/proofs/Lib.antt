@@ -1,0 +1,2 @@
+pub mod WrittenBytes
+pub mod Runs
