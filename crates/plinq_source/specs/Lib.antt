@@ -1,1 +1,3 @@
 pub mod Trace
+pub mod Range
+pub mod Repeat

@@ -7,8 +7,11 @@
 
 mod ending;
 mod fault;
+mod limits;
 mod list;
 mod memory;
+mod range;
+mod repeat;
 mod source;
 mod step;
 
@@ -16,5 +19,7 @@ pub use ending::Ending;
 pub use fault::SourceFault;
 pub use list::ListSource;
 pub use memory::OutOfMemory;
+pub use range::RangeSource;
+pub use repeat::RepeatSource;
 pub use source::Source;
 pub use step::Step;
