@@ -3,8 +3,12 @@
 
 mod any_source;
 mod doc_fault;
+mod formulas;
 mod job;
 mod settings;
+mod step_call;
+mod step_name;
+mod values;
 
 pub use any_source::AnySource;
 pub use doc_fault::{DocFault, StepFault};

@@ -1,0 +1,5 @@
+pub mod Words
+pub mod Values
+pub mod Formulas
+pub mod Results
+pub mod Steps
