@@ -8,6 +8,7 @@ mod job;
 mod settings;
 mod step_call;
 mod step_name;
+mod steps;
 mod values;
 
 pub use any_source::AnySource;
