@@ -1,4 +1,4 @@
-ghost use Rattle.std.specs.Prelude.{◌≡◌, ◌≤◌, ◌<◌, ◌^◌, ◌+ℤ◌, ◌≤ℤ◌, pos, IfOk, is_ok};
+ghost use Rattle.std.specs.Prelude.{◌≡◌, ◌≤◌, ◌<◌, ◌^◌, ◌+ℤ◌, ◌≤ℤ◌, pos, IfOk, IfErr, is_ok};
 ghost use Rattle.std.proofs.Common.{arith};
 ghost use Rattle.std.proofs.lemmas.List.FromFn.{length-map-range_with_len};
 ghost use Rattle.plinq_source.specs.Trace.{Trace, ended};
@@ -32,6 +32,7 @@ impl RangeSource {
     /// `i64::MAX`. A range of no numbers may start anywhere.
     pub fn new(start: i64, count: u64) -> Result<RangeSource, SourceFault>
         ensures made { is_ok result ≡ is_range start count }
+        ensures refused { IfErr result (λ e. e ≡ SourceFault.TooLarge) }
         ensures whole { IfOk result (λ s. ⟦<RangeSource as Source>⟧.whole s ≡ ended (range_items start count) End) }
         ensures fresh { IfOk result (λ s. ⟦<RangeSource as Source>⟧.given s ≡ 0) }
     {

@@ -1,4 +1,4 @@
-ghost use Rattle.std.specs.Prelude.{◌≡◌, ◌≤◌, ◌^◌, IfOk, is_ok, replicate};
+ghost use Rattle.std.specs.Prelude.{◌≡◌, ◌≤◌, ◌^◌, IfOk, IfErr, is_ok, replicate};
 ghost use Rattle.std.proofs.Common.{arith};
 ghost use Rattle.std.proofs.Math.ListN.{length-replicate};
 ghost use Rattle.plinq_source.specs.Trace.{Trace, ended};
@@ -28,6 +28,7 @@ impl RepeatSource {
     /// This value, `count` times; [`SourceFault::TooLarge`] where `count` is above 2^40.
     pub fn new(value: i64, count: u64) -> Result<RepeatSource, SourceFault>
         ensures made { is_ok result ≡ is_repeat count }
+        ensures refused { IfErr result (λ e. e ≡ SourceFault.TooLarge) }
         ensures whole { IfOk result (λ s. ⟦<RepeatSource as Source>⟧.whole s ≡ ended (replicate count value) End) }
         ensures fresh { IfOk result (λ s. ⟦<RepeatSource as Source>⟧.given s ≡ 0) }
     {
