@@ -1,2 +1,3 @@
 pub mod WrittenBytes
 pub mod Runs
+pub mod Turns

@@ -1,2 +1,7 @@
 pub mod Text
 pub mod Written
+pub mod Words
+pub mod Values
+pub mod Formulas
+pub mod Results
+pub mod Steps

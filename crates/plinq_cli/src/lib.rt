@@ -4,10 +4,15 @@
 mod any_source;
 mod bytes;
 mod doc_fault;
+mod formulas;
 mod job;
 mod lines;
 mod settings;
 mod write_fault;
+mod step_call;
+mod step_name;
+mod steps;
+mod values;
 
 pub use any_source::AnySource;
 pub use doc_fault::{DocFault, StepFault};

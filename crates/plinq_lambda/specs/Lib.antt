@@ -1,1 +1,3 @@
+pub mod Formula
 pub mod Meaning
+pub mod Short

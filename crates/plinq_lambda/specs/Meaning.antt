@@ -1,5 +1,5 @@
 -- What a lambda does to one element, as three functions.
-use Rattle.std.specs.Prelude.{◌≡◌, ℕ, List, Bool, Result, Ok, Err, ⊤}
+use Rattle.std.specs.Prelude.{◌≡◌, ℕ, List, Bool, Result, Err, ⊤}
 use Rattle.plinq_lambda.specs.declared.expand_fault.ExpandFault.{ExpandFault}
 use Rattle.plinq_lambda.specs.declared.expand_fault.ExpandFault.TheVariants.{Code, Memory}
 

@@ -3,3 +3,4 @@ pub mod Operator
 pub mod Query
 pub mod Batches
 pub mod Sequential
+pub mod Feeding

@@ -1,5 +1,5 @@
 -- Operators on whole traces.
-use Rattle.std.specs.Prelude.{ℕ, ◌-◌, List, [], ◌∷◌, length, take, drop, nat_le, if◌then◌else◌, Option, Some, None}
+use Rattle.std.specs.Prelude.{ℕ, zero, suc, Bool, true, false, ◌||◌, ◌-◌, List, [], ◌∷◌, length, take, drop, nat_le, if◌then◌else◌, Option, Some, None}
 use Rattle.plinq_source.specs.declared.ending.Ending.{Ending}
 use Rattle.plinq_source.specs.declared.ending.Ending.TheVariants.{End}
 use Rattle.plinq_source.specs.Trace.{Trace, open_trace, ended, followed}
@@ -47,3 +47,15 @@ behind unchanged n = unchanged
 abbrev pub seq_behind : {T : Type 0} → List (Stage T) → Trace T → List (Stage T)
 seq_behind [] t = []
 seq_behind (s ∷ ss) t = behind s (length t.items) ∷ seq_behind ss (apply s t)
+
+-- a Take of none decides the answer before any item
+abbrev pub takes_none : {T : Type 0} → Stage T → Bool
+takes_none (pieces piece) = false
+takes_none (taking zero) = true
+takes_none (taking (suc n)) = false
+takes_none (skipping n) = false
+takes_none unchanged = false
+
+abbrev pub some_takes_none : {T : Type 0} → List (Stage T) → Bool
+some_takes_none [] = false
+some_takes_none (s ∷ ss) = takes_none s || some_takes_none ss

@@ -6,6 +6,7 @@
 #![tactic(auto)]
 
 mod build_fault;
+mod feeding;
 mod merge_option;
 mod op;
 mod query;

@@ -1,1 +1,5 @@
 pub mod Trace
+pub mod Range
+pub mod Repeat
+pub mod Text
+pub mod Values

@@ -1,20 +1,34 @@
-//! Sources: what can only be asked for its next element.
+//! Sources: what can only be asked for its next element, as an `IEnumerator` of .NET can.
 //!
-//! A [`Source`] has one meaning, the trace `whole` that it walks: its items in order and how they end. Each
-//! `next` gives item number `given` of `whole`, or the ending again and again (`Source::next`).
-//! The words of traces (`Trace`, `followed`), and the laws on how one follows another, stand here for all layers above.
+//! - A [`Source`] has one meaning for life, the trace `whole`: its items in order and how they end. `next` gives item
+//!   number `given` of it, or the ending again and again (`Source::next`: `same`, `step`, `moved`). It has at most
+//!   2^40 items (`few`) and ends by itself or by a refusal (`ends`).
+//! - Each constructor says what is walked and that nothing was handed out yet (`whole`, `fresh`), and those that refuse
+//!   say exactly when (`made`): [`ListSource`], [`TextSource`], [`RangeSource`], [`RepeatSource`].
+//! - `specs/Trace.antt` has the words of traces for all layers above.
 #![tactic(auto)]
 
+mod digits;
 mod ending;
 mod fault;
+mod limits;
 mod list;
 mod memory;
+mod number;
+mod range;
+mod repeat;
 mod source;
 mod step;
+#[cfg(test)]
+mod tests;
+mod text;
 
 pub use ending::Ending;
 pub use fault::SourceFault;
 pub use list::ListSource;
 pub use memory::OutOfMemory;
+pub use range::RangeSource;
+pub use repeat::RepeatSource;
 pub use source::Source;
 pub use step::Step;
+pub use text::TextSource;

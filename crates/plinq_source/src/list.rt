@@ -6,7 +6,17 @@ use crate::source::Source;
 use crate::step::Step;
 use std::alloc::Global;
 
-/// A list as a source: its items, then the end or a refusal.
+/// A list as a source: its items from the first on, and then the end or a refusal.
+///
+/// It serves where all items are in memory, and in tests, as a source whose every step is known. It ends with
+/// [`Step::End`] where it was made by `new`, and with [`Step::Refused`] where it was made by `refusing`.
+///
+/// ```text
+/// let mut source = ListSource::refusing(alloc, vec![in alloc; 3, 1]?, 7);
+/// source.next()    // Step::Item(3)
+/// source.next()    // Step::Item(1)
+/// source.next()    // Step::Refused(7), and again however often it is asked
+/// ```
 #[derive(Drop)]
 pub struct ListSource<T: Copy + Send> {
     items: Vec<T>,
@@ -18,6 +28,8 @@ pub struct ListSource<T: Copy + Send> {
 
 impl<T: Copy + Send> ListSource<T> {
     /// The items of the list, then [`Step::End`].
+    ///
+    /// `_alloc` is the house's convention for types that hold a collection: no memory is taken.
     pub fn new(_alloc: Global, items: Vec<T>) -> ListSource<T>
         requires { vec_len items ≤ 2 ^ 40 }
         ensures whole { ⟦<ListSource<T> as Source>⟧.whole result ≡ ended items.items (list_ending None) }
@@ -30,7 +42,7 @@ impl<T: Copy + Send> ListSource<T> {
         }
     }
 
-    /// The items of the list, then [`Step::Refused`] with this code.
+    /// The items of the list, then [`Step::Refused`] with this code. `_alloc` is as for `new`.
     pub fn refusing(_alloc: Global, items: Vec<T>, code: u32) -> ListSource<T>
         requires { vec_len items ≤ 2 ^ 40 }
         ensures whole { ⟦<ListSource<T> as Source>⟧.whole result ≡ ended items.items (list_ending (Some code)) }

@@ -1,0 +1,154 @@
+ghost use Rattle.std.specs.Prelude.{◌≡◌, ◌≤◌, IfOk};
+ghost use Rattle.plinq_lambda.specs.Formula.{formula_meaning, quotient, remainder, item_count, counting};
+ghost use Rattle.plinq_lambda.specs.Short.{formula_meaning-short};
+
+use crate::expand_fault::ExpandFault;
+use crate::lambda::Lambda;
+use std::alloc::{AllocError, Global};
+
+// The most items that an expansion gives.
+const MOST_ITEMS: i64 = 65_536;
+
+/// A lambda over `i64` that a document can name.
+///
+/// There are three kinds: arithmetic gives a number, a test an answer, and an expansion a list. Each may still stand
+/// in every operator. Mapped, a test gives 1 or 0, and an expansion the element itself. Tested, what is no test
+/// passes if it maps the element to anything but 0. Expanded, what is no expansion gives the one element that it maps
+/// to. Where the mapping faults, so do these two.
+///
+/// ```text
+/// Formula::Add(1).map(4)               // Ok(5)
+/// Formula::Even.map(4)                 // Ok(1)
+/// Formula::Mod(2).test(4)              // Ok(false)
+/// Formula::UpTo.expand(alloc, 3)       // Ok([1, 2, 3])
+/// Formula::Into(10).expand(alloc, 0)   // Err(ExpandFault::Code(Formula::DIVIDE_BY_ZERO))
+/// ```
+#[derive(Clone, Copy, Debug, PartialEq, Eq)]
+pub enum Formula {
+    /// The element plus this number.
+    Add(i64),
+    /// The element times this number.
+    Mul(i64),
+    /// The remainder of the element by this number, with the element's sign.
+    Mod(i64),
+    /// This number divided by the element, cut toward zero.
+    Into(i64),
+    /// Whether the element is less than this number.
+    Below(i64),
+    /// Whether the element is greater than this number.
+    Above(i64),
+    /// Whether the element is this number.
+    Equal(i64),
+    /// Whether the element is even.
+    Even,
+    /// The element so many times; not at all where the number is below 1.
+    Repeat(i64),
+    /// 1, 2, .. up to the element; nothing where the element is below 1.
+    UpTo,
+}
+
+impl Formula {
+    /// The code of a result that is no `i64`.
+    pub const OVERFLOW: u32 = 1;
+
+    /// The code of a division by zero, also in a remainder.
+    pub const DIVIDE_BY_ZERO: u32 = 2;
+
+    /// The code of an expansion to more than 65,536 items.
+    pub const TOO_MANY: u32 = 3;
+}
+
+impl Lambda for Formula {
+    type Item = i64;
+
+    ghost meaning = { formula_meaning };
+
+    ghost short = { formula_meaning-short };
+
+    fn map(&self, x: i64) -> Result<i64, u32> {
+        match *self {
+            Formula::Add(c) => x.checked_add(c).ok_or(Formula::OVERFLOW),
+            Formula::Mul(c) => x.checked_mul(c).ok_or(Formula::OVERFLOW),
+            Formula::Mod(c) => remainder(x, c),
+            Formula::Into(c) => quotient(c, x),
+            Formula::Below(c) => Ok(i64::from(x < c)),
+            Formula::Above(c) => Ok(i64::from(x > c)),
+            Formula::Equal(c) => Ok(i64::from(x == c)),
+            Formula::Even => Ok(i64::from(x % 2 == 0)),
+            Formula::Repeat(_) | Formula::UpTo => Ok(x),
+        }
+    }
+
+    fn test(&self, x: i64) -> Result<bool, u32> {
+        match *self {
+            Formula::Below(c) => Ok(x < c),
+            Formula::Above(c) => Ok(x > c),
+            Formula::Equal(c) => Ok(x == c),
+            Formula::Even => Ok(x % 2 == 0),
+            _ => Ok(self.map(x)? != 0),
+        }
+    }
+
+    fn expand(&self, alloc: Global, x: i64) -> Result<Vec<i64>, ExpandFault> {
+        match *self {
+            Formula::Repeat(c) => {
+                let count = item_count(c).map_err(ExpandFault::Code)?;
+                Ok(vec![in alloc; x; count]?)
+            }
+            Formula::UpTo => {
+                let count = item_count(x).map_err(ExpandFault::Code)?;
+                Ok(counting(alloc, count)?)
+            }
+            _ => {
+                let y = self.map(x).map_err(ExpandFault::Code)?;
+                Ok(vec![in alloc; y]?)
+            }
+        }
+    }
+}
+
+// x by y, cut toward zero.
+fn quotient(x: i64, y: i64) -> Result<i64, u32>
+    ensures { result ≡ quotient x y }
+{
+    if y == 0 {
+        return Err(Formula::DIVIDE_BY_ZERO);
+    }
+    x.checked_div(y).ok_or(Formula::OVERFLOW)
+}
+
+// What that division leaves over. It always is an `i64`, also where the quotient isn't one.
+fn remainder(x: i64, y: i64) -> Result<i64, u32>
+    ensures { result ≡ remainder x y }
+{
+    if y == 0 {
+        return Err(Formula::DIVIDE_BY_ZERO);
+    }
+    Ok(x.wrapping_rem(y))
+}
+
+// How many items a count asks for.
+fn item_count(count: i64) -> Result<usize, u32>
+    ensures { result ≡ item_count count }
+{
+    match count {
+        ..0 => Ok(0),
+        0..=MOST_ITEMS => Ok(count as usize),
+        _ => Err(Formula::TOO_MANY),
+    }
+}
+
+// 1, 2, .. up to n, in a block of just that size.
+fn counting(alloc: Global, n: usize) -> Result<Vec<i64>, AllocError>
+    requires { n ≤ 65536 }
+    ensures { IfOk result (λ ys. ys.items ≡ counting n) }
+{
+    let mut numbers = Vec::with_capacity(alloc, n)?;
+    for i in 0..n {
+        numbers.push(i as i64 + 1).unwrap();
+    }
+    Ok(numbers)
+}
+
+#[cfg(test)]
+mod tests;

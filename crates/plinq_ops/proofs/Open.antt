@@ -1,0 +1,168 @@
+-- Open answers: an answer stays open only while the trace is, and then what is left of the operators goes on from there.
+use Rattle.std.specs.Prelude.{◌≡◌, ℕ, zero, suc, ◌+◌, ◌-◌, ◌≤◌, List, [], ◌∷◌, ◌++◌, length, take, drop, nat_le, Bool, true, false, cond, ◌||◌, Option, Some, None, is_some, ◌⊎◌, refl}
+use Rattle.std.proofs.Common.{sym, ◌∙◌, ap, subst, inl, inr, arith, length-append, append-nil}
+use Rattle.std.proofs.Math.Nat.{sub-zero}
+use Rattle.std.proofs.Math.Seq.{drop-nil}
+use Rattle.plinq_source.specs.declared.ending.Ending.{Ending}
+use Rattle.plinq_source.specs.declared.ending.Ending.TheVariants.{End}
+use Rattle.plinq_source.specs.Trace.{Trace, open_trace, ended, continued, followed}
+use Rattle.plinq_source.proofs.Followed.{trace_of, followed-open_nil}
+use Rattle.plinq_ops.specs.Stage.{Stage, pieces, taking, skipping, unchanged, joined, taken, skipped, apply, seq, behind, seq_behind, takes_none, some_takes_none}
+use Rattle.plinq_ops.proofs.Stages.{apply-followed, seq-followed, taken-short}
+
+-- what follows decides whether there is an ending, unless there is one already
+pub is_some-continued : {T : Type 0} (xs : List T) (e : Option Ending) (b : Trace T) → is_some b.ending ≡ true → is_some (continued xs e b).ending ≡ true
+is_some-continued xs None b ends = ends
+is_some-continued xs (Some e) b ends = refl
+
+pub is_some-joined : {T : Type 0} (piece : T → Trace T) (xs : List T) (e : Option Ending) → is_some e ≡ true → is_some (joined piece xs e).ending ≡ true
+is_some-joined piece [] e ends = ends
+is_some-joined piece (x ∷ xs) e ends =
+    is_some-continued (piece x).items (piece x).ending (joined piece xs e) (is_some-joined piece xs e ends)
+
+-- an operator leaves a trace that has ended with an ending
+pub is_some-apply : {T : Type 0} (s : Stage T) (t : Trace T) → is_some t.ending ≡ true → is_some (apply s t).ending ≡ true
+is_some-apply (pieces piece) t ends = is_some-joined piece t.items t.ending ends
+is_some-apply (taking n) t ends =
+    elim (nat_le n (length t.items)) as (λ v. is_some (cond v (ended (take n t.items) End) t).ending ≡ true) [ true ↦ refl | false ↦ ends ]
+is_some-apply (skipping n) t ends = ends
+is_some-apply unchanged t ends = ends
+
+pub is_some-seq : {T : Type 0} (ss : List (Stage T)) (t : Trace T) → is_some t.ending ≡ true → is_some (seq ss t).ending ≡ true
+is_some-seq [] t ends = ends
+is_some-seq (s ∷ ss) t ends = is_some-seq ss (apply s t) (is_some-apply s t ends)
+
+none-or_some : (e : Option Ending) → (e ≡ None) ⊎ (is_some e ≡ true)
+none-or_some None = inl refl
+none-or_some (Some e) = inr refl
+
+not_none : {A : Type 0} (e : Option Ending) → is_some e ≡ true → e ≡ None → A
+not_none None is_ended is_open = absurd (let bad : false ≡ true = is_ended in cc)
+not_none (Some e) is_ended is_open = absurd (cc)
+
+-- an open answer comes from an open trace
+pub open-from_seq : {T : Type 0} (ss : List (Stage T)) (t : Trace T) → (seq ss t).ending ≡ None → t.ending ≡ None
+open-from_seq ss t is_open =
+    elim (none-or_some t.ending) [
+      | inl e ↦ e
+      | inr ends ↦ not_none (seq ss t).ending (is_some-seq ss t ends) is_open
+    ]
+
+open-from_continued : {T : Type 0} (xs : List T) (e : Option Ending) (b : Trace T) → (continued xs e b).ending ≡ None → e ≡ None
+open-from_continued xs None b is_open = refl
+open-from_continued xs (Some e) b is_open = is_open
+
+open_behind : {T : Type 0} (xs : List T) (e : Option Ending) (b : Trace T) → e ≡ None → (continued xs e b).ending ≡ None → b.ending ≡ None
+open_behind xs None b first both = both
+open_behind xs (Some e) b first both = absurd (cc)
+
+-- where more items leave the answer open, fewer do
+pub seq-open_before : {T : Type 0} (ss : List (Stage T)) (a b : Trace T) → (seq ss (followed a b)).ending ≡ None → (seq ss a).ending ≡ None
+seq-open_before {T} ss a b is_open =
+    let t : Trace T = seq (seq_behind ss a) b in
+    open-from_continued (seq ss a).items (seq ss a).ending t (sym (ap (λ u. u.ending) (seq-followed ss a b)) ∙ is_open)
+
+pub behind-behind : {T : Type 0} (s : Stage T) (m n : ℕ) → behind (behind s m) n ≡ behind s (m + n)
+behind-behind (pieces piece) m n = refl
+behind-behind (taking k) m n = let e : (k - m) - n ≡ k - (m + n) = omega arith in ap taking e
+behind-behind (skipping k) m n = let e : (k - m) - n ≡ k - (m + n) = omega arith in ap skipping e
+behind-behind unchanged m n = refl
+
+pub behind-zero : {T : Type 0} (s : Stage T) → behind s 0 ≡ s
+behind-zero (pieces piece) = refl
+behind-zero (taking k) = ap taking (sub-zero k)
+behind-zero (skipping k) = ap skipping (sub-zero k)
+behind-zero unchanged = refl
+
+length-continued : {T : Type 0} (xs : List T) (e : Option Ending) (b : Trace T) → e ≡ None → length (continued xs e b).items ≡ length xs + length b.items
+length-continued xs None b is_open = length-append xs b.items
+length-continued xs (Some e) b is_open = absurd (cc)
+
+-- what is left behind two traces is what is left of what was left behind the first
+pub seq_behind-followed : {T : Type 0} (ss : List (Stage T)) (a b : Trace T) → (seq ss a).ending ≡ None
+  → seq_behind ss (followed a b) ≡ seq_behind (seq_behind ss a) b
+seq_behind-followed [] a b is_open = refl
+seq_behind-followed (s ∷ ss) a b is_open =
+    let first_open : a.ending ≡ None = open-from_seq (s ∷ ss) a is_open in
+    let first : behind s (length (followed a b).items) ≡ behind (behind s (length a.items)) (length b.items) =
+        ap (behind s) (length-continued a.items a.ending b first_open) ∙ sym (behind-behind s (length a.items) (length b.items)) in
+    let others : seq_behind ss (apply s (followed a b)) ≡ seq_behind (seq_behind ss (apply s a)) (apply (behind s (length a.items)) b) =
+        ap (seq_behind ss) (apply-followed s a b) ∙ seq_behind-followed ss (apply s a) (apply (behind s (length a.items)) b) is_open in
+    cc
+
+pub apply-nothing : {T : Type 0} (s : Stage T) (e : Option Ending) → takes_none s ≡ false → apply s (trace_of [] e) ≡ trace_of [] e
+apply-nothing (pieces piece) e some = refl
+apply-nothing (taking zero) e some = absurd (cc)
+apply-nothing (taking (suc n)) e some = taken-short (suc n) (trace_of [] e) (omega arith)
+apply-nothing (skipping n) e some = ap (λ zs. trace_of zs e) (drop-nil n)
+apply-nothing unchanged e some = refl
+
+pub apply-ended_nil : {T : Type 0} (s : Stage T) → apply s (ended [] End) ≡ ended [] End
+apply-ended_nil (pieces piece) = refl
+apply-ended_nil (taking zero) = refl
+apply-ended_nil (taking (suc n)) = taken-short (suc n) (ended [] End) (omega arith)
+apply-ended_nil (skipping n) = ap (λ zs. ended zs End) (drop-nil n)
+apply-ended_nil unchanged = refl
+
+-- nothing but the end stays that
+pub seq-ended_nil : {T : Type 0} (ss : List (Stage T)) → seq ss (ended [] End) ≡ ended [] End
+seq-ended_nil [] = refl
+seq-ended_nil (s ∷ ss) = ap (seq ss) (apply-ended_nil s) ∙ seq-ended_nil ss
+
+-- where no operator takes none, nothing goes through the operators as it is
+pub seq-nothing : {T : Type 0} (ss : List (Stage T)) (e : Option Ending) → some_takes_none ss ≡ false → seq ss (trace_of [] e) ≡ trace_of [] e
+seq-nothing [] e some = refl
+seq-nothing (s ∷ ss) e some =
+    elim (takes_none s) as (λ v. v ≡ takes_none s → v || some_takes_none ss ≡ false → seq ss (apply s (trace_of [] e)) ≡ trace_of [] e) [
+      | true ↦ λ is bad. absurd (cc)
+      | false ↦ λ is rest. ap (seq ss) (apply-nothing s e (sym is)) ∙ seq-nothing ss e rest
+    ] refl some
+
+-- a Take of none decides the answer before any item
+pub seq-takes_none : {T : Type 0} (ss : List (Stage T)) → some_takes_none ss ≡ true → seq ss (open_trace []) ≡ ended [] End
+seq-takes_none [] none = absurd (cc)
+seq-takes_none (pieces piece ∷ ss) none = seq-takes_none ss none
+seq-takes_none (taking zero ∷ ss) none = seq-ended_nil ss
+seq-takes_none (taking (suc n) ∷ ss) none = ap (seq ss) (apply-nothing (taking (suc n)) None refl) ∙ seq-takes_none ss none
+seq-takes_none (skipping n ∷ ss) none = ap (seq ss) (apply-nothing (skipping n) None refl) ∙ seq-takes_none ss none
+seq-takes_none (unchanged ∷ ss) none = seq-takes_none ss none
+
+-- what is left of the operators behind nothing is all of them
+pub seq_behind-nothing : {T : Type 0} (ss : List (Stage T)) → some_takes_none ss ≡ false → seq_behind ss (open_trace []) ≡ ss
+seq_behind-nothing [] some = refl
+seq_behind-nothing (s ∷ ss) some =
+    elim (takes_none s) as (λ v. v ≡ takes_none s → v || some_takes_none ss ≡ false → behind s 0 ∷ seq_behind ss (apply s (open_trace [])) ≡ s ∷ ss) [
+      | true ↦ λ is bad. absurd (cc)
+      | false ↦ λ is rest.
+        let same : behind s 0 ≡ s = behind-zero s in
+        let others : seq_behind ss (apply s (open_trace [])) ≡ ss =
+            ap (seq_behind ss) (apply-nothing s None (sym is)) ∙ seq_behind-nothing ss rest in
+        cc
+    ] refl some
+
+-- an answer that is open has no Take of none before it
+pub some-where_open : {T : Type 0} (ss : List (Stage T)) → (seq ss (open_trace [])).ending ≡ None → some_takes_none ss ≡ false
+some-where_open ss is_open =
+    elim (some_takes_none ss) as (λ v. v ≡ some_takes_none ss → v ≡ false) [
+      | true ↦ λ none. let bad : Some End ≡ None = sym (ap (λ t. t.ending) (seq-takes_none ss (sym none))) ∙ is_open in cc
+      | false ↦ λ some. refl
+    ] refl
+
+-- what is left of operators whose answer is open leaves nothing open too
+pub seq_behind-open : {T : Type 0} (ss : List (Stage T)) (a : Trace T) → (seq ss a).ending ≡ None → (seq (seq_behind ss a) (open_trace [])).ending ≡ None
+seq_behind-open {T} ss a is_open =
+    let left : List (Stage T) = seq_behind ss a in
+    let again : followed (seq ss a) (seq left (open_trace [])) ≡ seq ss a =
+        sym (seq-followed ss a (open_trace [])) ∙ ap (seq ss) (followed-open_nil a) in
+    open_behind (seq ss a).items (seq ss a).ending (seq left (open_trace [])) is_open (ap (λ t. t.ending) again ∙ is_open)
+
+-- where the answer is open so far, it ends as the trace does
+pub seq-ending_of_open : {T : Type 0} (ss : List (Stage T)) (a : Trace T) (xs : List T) (e : Ending) → seq ss a ≡ open_trace xs
+  → seq ss (followed a (ended [] e)) ≡ ended xs e
+seq-ending_of_open {T} ss a xs e is =
+    let left : List (Stage T) = seq_behind ss a in
+    let left_open : (seq left (open_trace [])).ending ≡ None = seq_behind-open ss a (ap (λ t. t.ending) is) in
+    seq-followed ss a (ended [] e)
+    ∙ ap (λ t. followed t (seq left (ended [] e))) is
+    ∙ ap (followed (open_trace xs)) (seq-nothing left (Some e) (some-where_open left left_open))
+    ∙ ap (λ ys. ended ys e) (append-nil xs)

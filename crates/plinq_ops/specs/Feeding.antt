@@ -1,0 +1,41 @@
+-- Feeding: items sent through operators that have seen others before.
+use Rattle.std.specs.Prelude.{◌≡◌, ℕ, List, [], ◌∷◌, ◌++◌, Bool, true, false, cond, Option, Some, None, nat_le, map}
+use Rattle.plinq_source.specs.declared.ending.Ending.{Ending}
+use Rattle.plinq_source.specs.Trace.{Trace}
+use Rattle.plinq_lambda.specs.Meaning.{Meaning}
+use Rattle.plinq_ops.specs.declared.op.Op.{Op}
+use Rattle.plinq_ops.specs.declared.op.Op.TheVariants.{Select, Filter, SelectMany, Take, Skip, TakeWhile, AsUnordered}
+use Rattle.plinq_ops.specs.Stage.{Stage, taking, skipping, seq, seq_behind}
+use Rattle.plinq_ops.specs.Operator.{stage_of, item_count}
+
+-- how many items a Take or a Skip counts off; the others count none
+abbrev pub count_of : {L : Type 0} → Op L → ℕ
+count_of (Select f) = 0
+count_of (Filter f) = 0
+count_of (SelectMany f) = 0
+count_of (Take n) = item_count n
+count_of (Skip n) = item_count n
+count_of (TakeWhile f) = 0
+count_of AsUnordered = 0
+
+-- what an operator still does, where a Take or a Skip has so many items left
+abbrev pub stage_left : {L T : Type 0} → (L → Meaning T) → Op L → ℕ → Stage T
+stage_left meaning (Select f) count = stage_of meaning (Select f)
+stage_left meaning (Filter f) count = stage_of meaning (Filter f)
+stage_left meaning (SelectMany f) count = stage_of meaning (SelectMany f)
+stage_left meaning (Take n) count = taking count
+stage_left meaning (Skip n) count = skipping count
+stage_left meaning (TakeWhile f) count = stage_of meaning (TakeWhile f)
+stage_left meaning AsUnordered count = stage_of meaning AsUnordered
+
+abbrev pub stages_left : {L T : Type 0} → (L → Meaning T) → List (Op L) → List ℕ → List (Stage T)
+stages_left meaning [] counts = []
+stages_left meaning (op ∷ ops) [] = []
+stages_left meaning (op ∷ ops) (count ∷ counts) = stage_left meaning op count ∷ stages_left meaning ops counts
+
+-- the answer to a trace that was fed stands behind what was out before, its ending was told, and where there is none
+-- the operators that are left go on
+pub record IsFed {T : Type 0} (ss : List (Stage T)) (t : Trace T) (before after : List T) (ss' : List (Stage T)) (ending : Option Ending) : Type 0 where
+  pub items : after ≡ before ++ (seq ss t).items
+  pub told : ending ≡ (seq ss t).ending
+  pub left : ending ≡ None → ss' ≡ seq_behind ss t

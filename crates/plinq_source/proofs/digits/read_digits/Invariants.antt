@@ -1,0 +1,5 @@
+use Rattle.plinq_source.proofs.Numerals.{ReadsDigits, ReadsDigits_more}
+use Rattle.plinq_source.proofs.digits.read_digits.Given as goal
+
+abbrev pub invariant-loop-n : goal.invariant-loop-n
+invariant-loop-n l = ReadsDigits l.text l.n l.value

@@ -1,0 +1,75 @@
+ghost use Rattle.std.specs.Prelude.{◌≡◌, ◌≤◌, ◌<◌, ◌^◌, ◌+ℤ◌, ◌≤ℤ◌, pos, IfOk, IfErr, is_ok};
+ghost use Rattle.std.proofs.Common.{arith};
+ghost use Rattle.std.proofs.lemmas.List.FromFn.{length-map-range_with_len};
+ghost use Rattle.plinq_source.specs.Trace.{Trace, ended};
+ghost use Rattle.plinq_source.specs.Range.{range_items, is_range};
+ghost use Rattle.plinq_source.specs.declared.ending.Ending.TheVariants.{End};
+
+use crate::fault::SourceFault;
+use crate::limits::MOST_ITEMS;
+use crate::source::Source;
+use crate::step::Step;
+
+/// Whole numbers one behind another, and then the end (`Enumerable.Range` of .NET). It holds no list.
+///
+/// ```text
+/// RangeSource::new(-1, 3)?    // -1, 0, 1, then Step::End
+/// ```
+#[derive(Drop)]
+pub struct RangeSource {
+    start: i64,
+    count: u64,
+    next: u64,
+    ghost few: { count ≤ 2 ^ 40 },
+    ghost last: { 0 < count → (start +ℤ pos count) ≤ℤ pos (2 ^ 63) },
+    ghost within: { next ≤ count },
+}
+
+impl RangeSource {
+    /// The numbers `start`, `start + 1` and so on, `count` of them.
+    ///
+    /// [`SourceFault::TooLarge`] where `count` is above 2^40, or where there is a last number and it is above
+    /// `i64::MAX`. A range of no numbers may start anywhere.
+    pub fn new(start: i64, count: u64) -> Result<RangeSource, SourceFault>
+        ensures made { is_ok result ≡ is_range start count }
+        ensures refused { IfErr result (λ e. e ≡ SourceFault.TooLarge) }
+        ensures whole { IfOk result (λ s. ⟦<RangeSource as Source>⟧.whole s ≡ ended (range_items start count) End) }
+        ensures fresh { IfOk result (λ s. ⟦<RangeSource as Source>⟧.given s ≡ 0) }
+    {
+        if count > MOST_ITEMS {
+            return Err(SourceFault::TooLarge);
+        }
+        if count > 0 && start > i64::MAX - (count as i64 - 1) {
+            return Err(SourceFault::TooLarge);
+        }
+        Ok(RangeSource {
+            start,
+            count,
+            next: 0,
+        })
+    }
+}
+
+impl Source for RangeSource {
+    type Item = i64;
+
+    ghost whole = { λ s. ended (range_items s.start s.count) End };
+
+    ghost given = { λ s. s.next };
+
+    ghost few = { λ s. Prim.omega (arith, s.few, length-map-range_with_len (λ i. s.start +ℤ pos i) 0 s.count) };
+
+    ghost ends = { λ s. tt };
+
+    ghost within = { λ s. Prim.omega (arith, s.within, length-map-range_with_len (λ i. s.start +ℤ pos i) 0 s.count) };
+
+    fn next(&mut self) -> Step<i64> {
+        if self.next < self.count {
+            let item = self.start + self.next as i64;
+            self.next += 1;
+            Step::Item(item)
+        } else {
+            Step::End
+        }
+    }
+}

@@ -1,0 +1,67 @@
+ghost use Rattle.std.specs.Prelude.{◌≡◌, ◌≤◌, ◌^◌, IfOk, IfErr, is_ok, replicate};
+ghost use Rattle.std.proofs.Common.{arith};
+ghost use Rattle.std.proofs.Math.ListN.{length-replicate};
+ghost use Rattle.plinq_source.specs.Trace.{Trace, ended};
+ghost use Rattle.plinq_source.specs.Repeat.{is_repeat};
+ghost use Rattle.plinq_source.specs.declared.ending.Ending.TheVariants.{End};
+
+use crate::fault::SourceFault;
+use crate::limits::MOST_ITEMS;
+use crate::source::Source;
+use crate::step::Step;
+
+/// One value a number of times, and then the end (`Enumerable.Repeat` of .NET). It holds no list.
+///
+/// ```text
+/// RepeatSource::new(5, 2)?    // 5, 5, then Step::End
+/// ```
+#[derive(Drop)]
+pub struct RepeatSource {
+    value: i64,
+    count: u64,
+    next: u64,
+    ghost few: { count ≤ 2 ^ 40 },
+    ghost within: { next ≤ count },
+}
+
+impl RepeatSource {
+    /// This value, `count` times; [`SourceFault::TooLarge`] where `count` is above 2^40.
+    pub fn new(value: i64, count: u64) -> Result<RepeatSource, SourceFault>
+        ensures made { is_ok result ≡ is_repeat count }
+        ensures refused { IfErr result (λ e. e ≡ SourceFault.TooLarge) }
+        ensures whole { IfOk result (λ s. ⟦<RepeatSource as Source>⟧.whole s ≡ ended (replicate count value) End) }
+        ensures fresh { IfOk result (λ s. ⟦<RepeatSource as Source>⟧.given s ≡ 0) }
+    {
+        if count > MOST_ITEMS {
+            return Err(SourceFault::TooLarge);
+        }
+        Ok(RepeatSource {
+            value,
+            count,
+            next: 0,
+        })
+    }
+}
+
+impl Source for RepeatSource {
+    type Item = i64;
+
+    ghost whole = { λ s. ended (replicate s.count s.value) End };
+
+    ghost given = { λ s. s.next };
+
+    ghost few = { λ s. Prim.omega (arith, s.few, length-replicate s.count s.value) };
+
+    ghost ends = { λ s. tt };
+
+    ghost within = { λ s. Prim.omega (arith, s.within, length-replicate s.count s.value) };
+
+    fn next(&mut self) -> Step<i64> {
+        if self.next < self.count {
+            self.next += 1;
+            Step::Item(self.value)
+        } else {
+            Step::End
+        }
+    }
+}

@@ -1,0 +1,107 @@
+use crate::{ListSource, OutOfMemory, RangeSource, RepeatSource, Source, SourceFault, Step, TextSource};
+use std::alloc::{AllocError, Global};
+use std::process::Abort;
+use std::test::Fail;
+
+/// Asks a source for all that is expected of it, and three times for its ending.
+fn walks<S: Source<Item = i64>>(rt: &impl Abort, mut source: S, items: &[i64], ending: Step<i64>) {
+    for item in items {
+        assert_eq!(rt; source.next(), Step::Item(*item));
+    }
+    for _ in 0..3 {
+        assert_eq!(rt; source.next(), ending);
+    }
+}
+
+fn text_source(rt: &impl Abort, alloc: Global, text: &[u8]) -> Result<TextSource, AllocError> {
+    let bytes = Vec::from_slice(alloc, text)?;
+    assert!(rt; bytes.len() < 100);
+    Ok(TextSource::new(alloc, bytes))
+}
+
+#[test]
+fn texts(rt: HostRuntime) -> Result<(), Fail> {
+    let least = i64::MIN;
+    let greatest = i64::MAX;
+    let rows: [(&str, &[i64], Step<i64>); 16] = [
+        ("3 1 4", &[3, 1, 4], Step::End),
+        ("7 x 9", &[7], Step::Refused(1)),
+        ("12345678901234567890", &[], Step::Refused(2)),
+        ("-9223372036854775808 007 -0", &[least, 7, 0], Step::End),
+        ("9223372036854775807 9223372036854775808", &[greatest], Step::Refused(2)),
+        ("-9223372036854775809", &[], Step::Refused(2)),
+        ("99999999999999999999x", &[], Step::Refused(1)),
+        ("00000000000000000000000001", &[1], Step::End),
+        ("+1", &[], Step::Refused(1)),
+        ("-", &[], Step::Refused(1)),
+        ("--1", &[], Step::Refused(1)),
+        ("1-", &[], Step::Refused(1)),
+        ("1\t2", &[], Step::Refused(1)),
+        (" ", &[], Step::End),
+        ("", &[], Step::End),
+        ("\n\n-5 \n 6\n", &[-5, 6], Step::End),
+    ];
+    for (text, items, ending) in rows {
+        walks(&rt, text_source(&rt, rt.alloc(), text.as_bytes())?, items, ending);
+    }
+    Ok(())
+}
+
+#[test]
+fn texts_of_one_byte(rt: HostRuntime) -> Result<(), Fail> {
+    for byte in 0..=255u8 {
+        let source = text_source(&rt, rt.alloc(), &[byte])?;
+        match byte {
+            b'0'..=b'9' => walks(&rt, source, &[(byte - b'0') as i64], Step::End),
+            32 | 10 => walks(&rt, source, &[], Step::End),
+            _ => walks(&rt, source, &[], Step::Refused(1)),
+        }
+    }
+    Ok(())
+}
+
+#[test]
+fn ranges(rt: HostRuntime) -> Result<(), Fail> {
+    walks(&rt, RangeSource::new(-1, 3)?, &[-1, 0, 1], Step::End);
+    walks(&rt, RangeSource::new(i64::MAX, 1)?, &[i64::MAX], Step::End);
+    walks(&rt, RangeSource::new(i64::MAX, 0)?, &[], Step::End);
+    walks(&rt, RangeSource::new(i64::MIN, 2)?, &[i64::MIN, i64::MIN + 1], Step::End);
+    assert!(rt; RangeSource::new(0, 1099511627776).is_ok());
+    for (start, count) in [(i64::MAX, 2), (0, 1099511627777), (0, u64::MAX)] {
+        match RangeSource::new(start, count) {
+            Ok(_) => panic!(&rt; "accepted"),
+            Err(fault) => assert_eq!(rt; fault, SourceFault::TooLarge),
+        }
+    }
+    Ok(())
+}
+
+#[test]
+fn repeats(rt: HostRuntime) -> Result<(), Fail> {
+    walks(&rt, RepeatSource::new(5, 2)?, &[5, 5], Step::End);
+    walks(&rt, RepeatSource::new(5, 0)?, &[], Step::End);
+    assert!(rt; RepeatSource::new(5, 1099511627776).is_ok());
+    match RepeatSource::new(5, 1099511627777) {
+        Ok(_) => panic!(&rt; "accepted"),
+        Err(fault) => assert_eq!(rt; fault, SourceFault::TooLarge),
+    }
+    Ok(())
+}
+
+#[test]
+fn lists(rt: HostRuntime) -> Result<(), Fail> {
+    let items = vec![in rt.alloc(); 3, 1, 4]?;
+    walks(&rt, ListSource::new(rt.alloc(), items), &[3, 1, 4], Step::End);
+    let items = vec![in rt.alloc(); 1, 2]?;
+    walks(&rt, ListSource::refusing(rt.alloc(), items, 7), &[1, 2], Step::Refused(7));
+    walks(&rt, ListSource::refusing(rt.alloc(), Vec::new(rt.alloc()), 0), &[], Step::Refused(0));
+    Ok(())
+}
+
+#[test]
+fn faults_in_words(rt: HostRuntime) -> Result<(), Fail> {
+    let fault = SourceFault::TooLarge;
+    assert_eq!(rt; format!(in rt.alloc(); "{fault}")?.as_str(), "source too large");
+    assert_eq!(rt; format!(in rt.alloc(); "{}", OutOfMemory)?.as_str(), "out of memory");
+    Ok(())
+}
