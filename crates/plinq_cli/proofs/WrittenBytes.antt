@@ -77,3 +77,6 @@ writes-at_err a b r bytes failed h = MatchResult-from_err r _ _ failed (λ _. h)
 
 pub writes-as : {A E : Type 0} (a b : Bytes) (r : Result A E) (x y : List ℕ) → x ≡ y → Writes a b r x → Writes a b r y
 writes-as a b r x y e h = let P : List ℕ → Type 0 = λ s. Writes a b r s in subst P e h
+
+pub begins-nothing : (a : Bytes) (x : List ℕ) → AppendsBeginning a a x
+begins-nothing a x = (0, appends-nothing a)

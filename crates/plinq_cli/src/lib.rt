@@ -3,10 +3,13 @@
 
 mod any_source;
 mod bytes;
+mod command;
 mod doc_fault;
 mod formulas;
 mod job;
 mod lines;
+mod serve_fault;
+mod serving;
 mod settings;
 mod write_fault;
 mod step_call;
@@ -15,8 +18,11 @@ mod steps;
 mod values;
 
 pub use any_source::AnySource;
+pub use command::Command;
 pub use doc_fault::{DocFault, StepFault};
 pub use job::Job;
 pub use lines::{write_answer, write_batch, write_batches, write_ending};
+pub use serve_fault::ServeFault;
+pub use serving::serve;
 pub use settings::Settings;
 pub use write_fault::WriteFault;
