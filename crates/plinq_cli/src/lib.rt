@@ -2,6 +2,7 @@
 #![tactic(auto)]
 
 mod any_source;
+mod arguments;
 mod bytes;
 mod command;
 mod doc_fault;
@@ -18,6 +19,7 @@ mod steps;
 mod values;
 
 pub use any_source::AnySource;
+pub use arguments::{Arguments, read_arguments};
 pub use command::Command;
 pub use doc_fault::{DocFault, StepFault};
 pub use job::Job;
