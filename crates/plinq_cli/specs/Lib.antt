@@ -6,3 +6,4 @@ pub mod Formulas
 pub mod Results
 pub mod Steps
 pub mod Served
+pub mod Plan

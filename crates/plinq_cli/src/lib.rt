@@ -9,6 +9,7 @@ mod doc_fault;
 mod formulas;
 mod job;
 mod lines;
+mod op_words;
 mod serve_fault;
 mod serving;
 mod settings;

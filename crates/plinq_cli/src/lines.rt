@@ -37,7 +37,7 @@ fn write_further_numbers<W: Write>(writer: &mut W, further: &[i64]) -> Result<()
     Ok(())
 }
 
-fn write_further_number<W: Write>(writer: &mut W, x: i64) -> Result<(), WriteFault>
+pub(crate) fn write_further_number<W: Write>(writer: &mut W, x: i64) -> Result<(), WriteFault>
     ensures { Writes (W.contents writer.old) (W.contents writer.new) result (further_number x) }
 {
     write_bytes(writer, b" ")?;
