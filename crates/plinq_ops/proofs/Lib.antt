@@ -1,3 +1,5 @@
 pub mod Stages
 pub mod Open
 pub mod Fed
+pub mod Counts
+pub mod Answered

@@ -5,12 +5,15 @@
 //! (`sequential`).
 #![tactic(auto)]
 
+mod answering;
 mod build_fault;
+mod decided;
 mod feeding;
 mod merge_option;
 mod op;
 mod query;
 
+pub use answering::sequential;
 pub use build_fault::BuildFault;
 pub use merge_option::MergeOption;
 pub use op::Op;
