@@ -3,3 +3,4 @@ pub mod Values
 pub mod Formulas
 pub mod Results
 pub mod Steps
+pub mod Sources

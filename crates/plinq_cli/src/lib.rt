@@ -6,6 +6,8 @@ mod doc_fault;
 mod formulas;
 mod job;
 mod settings;
+mod source_name;
+mod sources;
 mod step_call;
 mod step_name;
 mod steps;
