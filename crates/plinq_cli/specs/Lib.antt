@@ -4,3 +4,4 @@ pub mod Formulas
 pub mod Results
 pub mod Steps
 pub mod Sources
+pub mod Document

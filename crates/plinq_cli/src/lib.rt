@@ -3,6 +3,7 @@
 
 mod any_source;
 mod doc_fault;
+mod document;
 mod formulas;
 mod job;
 mod settings;
@@ -15,5 +16,6 @@ mod values;
 
 pub use any_source::AnySource;
 pub use doc_fault::{DocFault, StepFault};
+pub use document::read_document;
 pub use job::Job;
 pub use settings::Settings;

@@ -8,5 +8,5 @@ abbrev pub invariant-loop-item : goal.invariant-loop-item
 invariant-loop-item l = record {
   same : whole_numbers (items_view l.items) ≡ option_map (λ rest. l.numbers.items ++ rest) (whole_numbers (items_view (drop l.item-index l.items)));
   count : vec_len l.numbers ≡ l.item-index;
-  room : vec_capacity l.numbers ≡ length l.items;
+  room : length l.items ≤ vec_capacity l.numbers;
 }
