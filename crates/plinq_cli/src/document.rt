@@ -1,8 +1,10 @@
 ghost use Rattle.std.specs.Prelude.{◌≡◌, ◌≤◌, MatchResult, IfOk};
 ghost use Rattle.std.specs.Option.{ForSome};
-ghost use Rattle.serde_json.specs.View.{view, items_view};
+ghost use Rattle.serde_json.specs.View.{view, items_view, members_view};
+ghost use Rattle.serde_json.specs.Errors.{IsMemory};
+ghost use Rattle.plinq_cli.specs.declared.doc_fault.DocFault.TheVariants.{Memory, NotJson};
 ghost use Rattle.plinq_cli.specs.Results.{IfMeant};
-ghost use Rattle.plinq_cli.specs.Document.{version_check, is_top_name, names_check, steps_in, new_query, document_meaning, json_of, document_of};
+ghost use Rattle.plinq_cli.specs.Document.{version_check, is_top_name, are_top_names, names_check, steps_in, new_query, document_meaning, json_of, document_of};
 
 use crate::any_source::AnySource;
 use crate::doc_fault::DocFault;
@@ -14,6 +16,7 @@ use plinq_lambda::Formula;
 use plinq_ops::Query;
 use plinq_source::Source;
 use serde_json::Value;
+use serde_json::value::Map;
 use std::alloc::Global;
 
 /// The most bytes of a document.
@@ -52,8 +55,18 @@ fn json_of(alloc: Global, bytes: &[u8]) -> Result<Value, DocFault>
 {
     match Value::from_slice(alloc, bytes) {
         Ok(value) => Ok(value),
-        Err(error) if error.is_memory() => Err(DocFault::Memory),
-        Err(_) => Err(DocFault::NotJson),
+        Err(error) => Err(refusal(&error)),
+    }
+}
+
+fn refusal(error: &serde_json::Error) -> DocFault
+    ensures memory { IsMemory error.now → result ≡ Memory }
+    ensures other { ¬ IsMemory error.now → result ≡ NotJson }
+{
+    if error.is_memory() {
+        DocFault::Memory
+    } else {
+        DocFault::NotJson
     }
 }
 
@@ -87,13 +100,22 @@ fn check_version(value: &Value) -> Result<(), DocFault>
 fn check_names(value: &Value) -> Result<(), DocFault>
     ensures { result ≡ names_check (view value.now) }
 {
-    let members = value.as_object().ok_or(DocFault::Shape)?;
-    for (name, _) in members.iter() {
-        if !is_top_name(name.as_str()) {
-            return Err(DocFault::Shape);
-        }
+    if !are_top_names(value.as_object().ok_or(DocFault::Shape)?) {
+        return Err(DocFault::Shape);
     }
     Ok(())
+}
+
+// Whether a document may have all these names.
+fn are_top_names(members: &Map<String, Value>) -> bool
+    ensures { result ≡ are_top_names (members_view members.now.entries) }
+{
+    for (name, _) in members.iter() {
+        if !is_top_name(name.as_str()) {
+            return false;
+        }
+    }
+    true
 }
 
 // Whether a document may have this name.
