@@ -1,3 +1,4 @@
 pub mod WrittenBytes
 pub mod Runs
 pub mod Turns
+pub mod Reading

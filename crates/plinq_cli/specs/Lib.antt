@@ -7,3 +7,5 @@ pub mod Results
 pub mod Steps
 pub mod Served
 pub mod Plan
+pub mod Sources
+pub mod Document

@@ -2,8 +2,9 @@
 use Rattle.std.specs.Prelude.{ℕ, ◌^◌, ℤ, ◌&&◌, List, [], ◌∷◌, length, Option, Some, None, option_map, option_and_then, nat_le, nat_lt, if◌then◌else◌, replicate, Result, Ok, Err, codes}
 use Rattle.std.specs.Str.{bytes_eq}
 use Rattle.serde_json.specs.Data.{Data, Items, no_items, item, Members, no_members, member}
-use Rattle.serde_json.specs.Find.{as_array, as_object}
+use Rattle.serde_json.specs.Find.{as_str, as_array, as_object}
 use Rattle.plinq_source.specs.Trace.{Trace, ended, list_ending}
+use Rattle.plinq_source.specs.Text.{text_trace}
 use Rattle.plinq_source.specs.Range.{range_items, is_range}
 use Rattle.plinq_source.specs.Repeat.{is_repeat}
 use Rattle.plinq_source.specs.declared.ending.Ending.TheVariants.{End}
@@ -11,13 +12,13 @@ use Rattle.plinq_cli.specs.Words.{beside}
 use Rattle.plinq_cli.specs.Values.{whole_number, count_of, only_count}
 use Rattle.plinq_cli.specs.Results.{ok_then, or_shape}
 use Rattle.plinq_cli.specs.declared.source_name.SourceName.{SourceName}
-use Rattle.plinq_cli.specs.declared.source_name.SourceName.TheVariants.{List as ListName, Range as RangeName, Repeat as RepeatName}
+use Rattle.plinq_cli.specs.declared.source_name.SourceName.TheVariants.{List as ListName, Text as TextName, Range as RangeName, Repeat as RepeatName}
 use Rattle.plinq_cli.specs.declared.doc_fault.DocFault.{DocFault}
 use Rattle.plinq_cli.specs.declared.doc_fault.DocFault.TheVariants.{Shape, Source}
 
 -- the kind of source of this name
 abbrev pub source_name : List ℕ → Option SourceName
-source_name = beside ((codes "list", ListName) ∷ (codes "range", RangeName) ∷ (codes "repeat", RepeatName) ∷ [])
+source_name = beside ((codes "list", ListName) ∷ (codes "text", TextName) ∷ (codes "range", RangeName) ∷ (codes "repeat", RepeatName) ∷ [])
 
 -- the items, all of them whole numbers
 abbrev pub whole_numbers : Items → Option (List ℤ)
@@ -28,13 +29,20 @@ whole_numbers (item d ds) = option_and_then (λ n. option_map (λ ns. n ∷ ns) 
 abbrev pub code_of : Data → Option ℕ
 code_of d = option_and_then (λ n. if nat_lt n (2 ^ 32) then Some n else None) (count_of d)
 
--- a list, and how it ends
-abbrev pub list_trace : Option ℕ → List ℤ → Result (Trace ℤ) DocFault
-list_trace refusal ns = if nat_le (length ns) (2 ^ 40) then Ok (ended ns (list_ending refusal)) else Err Source
+-- the numbers of a list that may be a source
+abbrev pub few_numbers : List ℤ → Result (List ℤ) DocFault
+few_numbers ns = if nat_le (length ns) (2 ^ 40) then Ok ns else Err Source
+
+abbrev pub list_numbers : Data → Result (List ℤ) DocFault
+list_numbers d = ok_then few_numbers (or_shape (option_and_then whole_numbers (as_array d)))
 
 -- a list of whole numbers, and how it ends
 abbrev pub list_source : Option ℕ → Data → Result (Trace ℤ) DocFault
-list_source refusal d = ok_then (list_trace refusal) (or_shape (option_and_then whole_numbers (as_array d)))
+list_source refusal d = ok_then (λ ns. Ok (ended ns (list_ending refusal))) (list_numbers d)
+
+-- the numbers of a text
+abbrev pub text_source : List ℕ → Result (Trace ℤ) DocFault
+text_source text = if nat_le (length text) (2 ^ 40) then Ok (text_trace text) else Err Source
 
 -- the whole numbers from a start on, so many
 abbrev pub range_trace : ℕ → ℤ → Result (Trace ℤ) DocFault
@@ -52,6 +60,7 @@ of_number_and_count f (item d ds) = ok_then (λ n. ok_then (λ count. f count n)
 -- the source of this kind that the value describes
 abbrev pub source_named : Data → SourceName → Result (Trace ℤ) DocFault
 source_named d ListName = list_source None d
+source_named d TextName = ok_then text_source (or_shape (as_str d))
 source_named d RangeName = ok_then (of_number_and_count range_trace) (or_shape (as_array d))
 source_named d RepeatName = ok_then (of_number_and_count repeat_trace) (or_shape (as_array d))
 

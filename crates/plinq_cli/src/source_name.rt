@@ -5,6 +5,7 @@ ghost use Rattle.plinq_cli.specs.Sources.{source_name};
 #[derive(Clone, Copy, Debug, PartialEq, Eq)]
 pub(crate) enum SourceName {
     List,
+    Text,
     Range,
     Repeat,
 }
@@ -15,6 +16,7 @@ pub(crate) fn source_name_of(word: &str) -> Option<SourceName>
 {
     match word {
         "list" => Some(SourceName::List),
+        "text" => Some(SourceName::Text),
         "range" => Some(SourceName::Range),
         "repeat" => Some(SourceName::Repeat),
         _ => None,
