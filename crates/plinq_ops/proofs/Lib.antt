@@ -3,3 +3,4 @@ pub mod Open
 pub mod Fed
 pub mod Counts
 pub mod Answered
+pub mod Parts

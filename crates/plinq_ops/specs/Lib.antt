@@ -4,3 +4,4 @@ pub mod Query
 pub mod Batches
 pub mod Sequential
 pub mod Feeding
+pub mod Plan

@@ -11,10 +11,15 @@ mod decided;
 mod feeding;
 mod merge_option;
 mod op;
+mod order;
+mod plan;
 mod query;
+mod splitting;
 
 pub use answering::sequential;
 pub use build_fault::BuildFault;
 pub use merge_option::MergeOption;
 pub use op::Op;
+pub use order::Order;
+pub use plan::Plan;
 pub use query::{Built, Query};
