@@ -6,6 +6,7 @@ pub mod Formulas
 pub mod Results
 pub mod Steps
 pub mod Served
-pub mod Plan
+pub mod OpWords
+pub mod PlanText
 pub mod Sources
 pub mod Document

@@ -3,8 +3,8 @@ ghost use Rattle.std.specs.Prelude.{◌≤◌, IfOk, IfSome};
 use crate::command::Command;
 use crate::settings::Settings;
 use crate::step_call::merge_word;
-use clap::error::ErrorKind;
 use clap::builder::ValueParser;
+use clap::error::ErrorKind;
 use clap::{Arg, ArgMatches};
 use plinq_ops::MergeOption;
 use std::alloc::{AllocError, Global};
@@ -40,10 +40,15 @@ fn command_line<'a>(alloc: Global) -> Result<clap::Command<'a>, AllocError> {
         .disable_help_subcommand(true)
         .subcommand_required(true)
         .subcommand(subcommand(alloc, "run", "Answers the query")?)?
-        .subcommand(subcommand(alloc, "seq", "Answers the query on one thread")?)
+        .subcommand(subcommand(alloc, "seq", "Answers the query on one thread")?)?
+        .subcommand(subcommand(alloc, "plan", "Shows how the query is shared among workers")?)
 }
 
-fn subcommand<'a>(alloc: Global, name: &'a str, about: &'a str) -> Result<clap::Command<'a>, AllocError> {
+fn subcommand<'a>(
+    alloc: Global,
+    name: &'a str,
+    about: &'a str,
+) -> Result<clap::Command<'a>, AllocError> {
     let workers = Arg::new(alloc, "workers")
         .long("workers")
         .value_name("N")
@@ -54,7 +59,10 @@ fn subcommand<'a>(alloc: Global, name: &'a str, about: &'a str) -> Result<clap::
         .value_name("OPTION")
         .help("How results are handed over")
         .value_parser(MERGE_WORDS.as_slice());
-    clap::Command::new(alloc, name).about(about).arg(workers)?.arg(merge)
+    clap::Command::new(alloc, name)
+        .about(about)
+        .arg(workers)?
+        .arg(merge)
 }
 
 fn chosen(matches: &ArgMatches<'_>) -> Option<Arguments>
@@ -74,6 +82,7 @@ fn command_named(name: &str) -> Option<Command> {
     match name {
         "run" => Some(Command::Run),
         "seq" => Some(Command::Seq),
+        "plan" => Some(Command::Plan),
         _ => None,
     }
 }

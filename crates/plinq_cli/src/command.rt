@@ -5,4 +5,6 @@ pub enum Command {
     Run,
     /// Answers the query on one thread.
     Seq,
+    /// Shows how the query is shared among workers.
+    Plan,
 }

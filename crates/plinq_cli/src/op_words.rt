@@ -1,6 +1,6 @@
 ghost use Rattle.std.specs.Prelude.{◌≡◌, ◌++◌};
 ghost use Rattle.std.specs.List.{flat_map};
-ghost use Rattle.plinq_cli.specs.Plan.{name_words, formula_name, formula_number, formula_words, op_words, further_op, part_words};
+ghost use Rattle.plinq_cli.specs.OpWords.{name_words, formula_name, formula_number, formula_words, op_words, further_op, part_words};
 ghost use Rattle.plinq_cli.specs.Written.{Writes};
 
 use crate::bytes::write_bytes;

@@ -1,6 +1,6 @@
 -- the name, a space, and the words of the formula
 use Rattle.std.proofs.Common.{[], ◌∷◌, ◌++◌, ap, ◌∙◌}
-use Rattle.plinq_cli.specs.Plan.{name_words, formula_name, formula_number}
+use Rattle.plinq_cli.specs.OpWords.{name_words, formula_name, formula_number}
 use Rattle.plinq_cli.proofs.WrittenBytes.{appends-as, appends-appends, begins-as, begins-append, begins-behind, writes-at_err, writes-as, writes-behind}
 use Rattle.plinq_cli.proofs.op_words.write_call.Goals as goal
 

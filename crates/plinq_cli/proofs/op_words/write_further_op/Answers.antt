@@ -1,6 +1,6 @@
 -- a comma and a space, and the operator behind them
 use Rattle.std.proofs.Common.{codes}
-use Rattle.plinq_cli.specs.Plan.{op_words}
+use Rattle.plinq_cli.specs.OpWords.{op_words}
 use Rattle.plinq_cli.proofs.WrittenBytes.{begins-append, writes-at_err, writes-behind}
 use Rattle.plinq_cli.proofs.op_words.write_further_op.Goals as goal
 

@@ -4,7 +4,7 @@ use Rattle.std.proofs.lemmas.Int.{to_z-of_z}
 use mir.Syntax.{w64}
 use mir.Val.{SFits}
 use Rattle.plinq_cli.specs.Text.{further_number}
-use Rattle.plinq_cli.specs.Plan.{name_words}
+use Rattle.plinq_cli.specs.OpWords.{name_words}
 use Rattle.plinq_cli.proofs.WrittenBytes.{appends-as, begins-as, begins-append, writes-at_err, writes-as, writes-behind}
 use Rattle.plinq_cli.proofs.op_words.write_name.Goals as goal
 

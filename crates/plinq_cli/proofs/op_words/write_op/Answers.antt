@@ -1,6 +1,6 @@
 -- the longest of the names, at which the search gives up
 use Rattle.std.proofs.Common.{ap, sym}
-use Rattle.plinq_cli.specs.Plan.{op_words}
+use Rattle.plinq_cli.specs.OpWords.{op_words}
 use Rattle.plinq_cli.proofs.WrittenBytes.{writes-as}
 use Rattle.plinq_cli.proofs.op_words.write_op.Goals as goal
 

@@ -1,7 +1,7 @@
 -- the first operator, and those behind it
 use Rattle.std.proofs.Common.{ap, sym}
 use Rattle.std.specs.List.{flat_map}
-use Rattle.plinq_cli.specs.Plan.{op_words, further_op, part_words}
+use Rattle.plinq_cli.specs.OpWords.{op_words, further_op, part_words}
 use Rattle.plinq_cli.proofs.WrittenBytes.{begins-as, begins-append, writes-at_err, writes-as, writes-behind}
 use Rattle.plinq_cli.proofs.op_words.write_part.Goals as goal
 
