@@ -5,3 +5,4 @@ pub mod Results
 pub mod Steps
 pub mod Sources
 pub mod Document
+pub mod DocumentRows
