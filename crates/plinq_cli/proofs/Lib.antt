@@ -2,3 +2,4 @@ pub mod WrittenBytes
 pub mod Runs
 pub mod Turns
 pub mod Reading
+pub mod Known

@@ -10,3 +10,4 @@ pub mod OpWords
 pub mod PlanText
 pub mod Sources
 pub mod Document
+pub mod DocumentRows

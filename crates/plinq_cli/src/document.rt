@@ -152,3 +152,6 @@ fn new_query(alloc: Global, settings: Settings) -> Query<Formula>
     }
     query
 }
+
+#[cfg(test)]
+mod tests;
