@@ -3,3 +3,4 @@ pub mod Runs
 pub mod Turns
 pub mod Reading
 pub mod Known
+pub mod Answered

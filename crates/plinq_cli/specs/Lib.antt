@@ -11,3 +11,4 @@ pub mod PlanText
 pub mod Sources
 pub mod Document
 pub mod DocumentRows
+pub mod Performed

@@ -24,27 +24,87 @@ const REFUSED: [(&str, DocFault); 28] = [
     ("{}", DocFault::Shape),
     ("[]", DocFault::Shape),
     (r#"{"version":1}"#, DocFault::Shape),
-    (r#"{"version":"1","source":{"list":[]},"query":[]}"#, DocFault::Shape),
-    (r#"{"version":1.0,"source":{"list":[]},"query":[]}"#, DocFault::Shape),
-    (r#"{"version":2,"source":{"list":[]},"query":[]}"#, DocFault::Version),
-    (r#"{"version":3,"source":{"list":[]},"query":[]}"#, DocFault::Version),
+    (
+        r#"{"version":"1","source":{"list":[]},"query":[]}"#,
+        DocFault::Shape,
+    ),
+    (
+        r#"{"version":1.0,"source":{"list":[]},"query":[]}"#,
+        DocFault::Shape,
+    ),
+    (
+        r#"{"version":2,"source":{"list":[]},"query":[]}"#,
+        DocFault::Version,
+    ),
+    (
+        r#"{"version":3,"source":{"list":[]},"query":[]}"#,
+        DocFault::Version,
+    ),
     (r#"{"version":3,"x":0}"#, DocFault::Version),
-    (r#"{"version":1,"source":{"list":[]},"query":[],"x":0}"#, DocFault::Shape),
-    (r#"{"version":1,"source":{"list":[]},"query":["take"]}"#, UNKNOWN),
-    (r#"{"version":1,"source":{"list":[]},"query":"take"}"#, DocFault::Shape),
-    (r#"{"version":1,"source":{"list":[1.5]},"query":[]}"#, DocFault::Shape),
-    (r#"{"version":1,"source":{"list":[9223372036854775808]},"query":[]}"#, DocFault::Shape),
-    (r#"{"version":1,"source":{"list":[],"refuse":4294967296},"query":[]}"#, DocFault::Shape),
-    (r#"{"version":1,"source":{"refuse":1},"query":[]}"#, DocFault::Shape),
-    (r#"{"version":1,"source":{"text":"","refuse":1},"query":[]}"#, DocFault::Shape),
-    (r#"{"version":1,"source":{"list":[],"refuse":1,"text":""},"query":[]}"#, DocFault::Shape),
-    (r#"{"version":1,"source":{"range":[1]},"query":[]}"#, DocFault::Shape),
-    (r#"{"version":1,"source":{"range":[1,-1]},"query":[]}"#, DocFault::Shape),
-    (r#"{"version":1,"source":{"repeat":[1,2,3]},"query":[]}"#, DocFault::Shape),
-    (r#"{"version":1,"source":{"range":[9223372036854775807,2]},"query":["sort"]}"#, DocFault::Source),
-    (r#"{"version":1,"source":{"range":[0,1099511627777]},"query":[]}"#, DocFault::Source),
-    (r#"{"version":1,"source":{"repeat":[0,1099511627777]},"query":[]}"#, DocFault::Source),
-    (r#"{"version":1,"source":{"list":[]},"query":[["sort"]]}"#, UNKNOWN),
+    (
+        r#"{"version":1,"source":{"list":[]},"query":[],"x":0}"#,
+        DocFault::Shape,
+    ),
+    (
+        r#"{"version":1,"source":{"list":[]},"query":["take"]}"#,
+        UNKNOWN,
+    ),
+    (
+        r#"{"version":1,"source":{"list":[]},"query":"take"}"#,
+        DocFault::Shape,
+    ),
+    (
+        r#"{"version":1,"source":{"list":[1.5]},"query":[]}"#,
+        DocFault::Shape,
+    ),
+    (
+        r#"{"version":1,"source":{"list":[9223372036854775808]},"query":[]}"#,
+        DocFault::Shape,
+    ),
+    (
+        r#"{"version":1,"source":{"list":[],"refuse":4294967296},"query":[]}"#,
+        DocFault::Shape,
+    ),
+    (
+        r#"{"version":1,"source":{"refuse":1},"query":[]}"#,
+        DocFault::Shape,
+    ),
+    (
+        r#"{"version":1,"source":{"text":"","refuse":1},"query":[]}"#,
+        DocFault::Shape,
+    ),
+    (
+        r#"{"version":1,"source":{"list":[],"refuse":1,"text":""},"query":[]}"#,
+        DocFault::Shape,
+    ),
+    (
+        r#"{"version":1,"source":{"range":[1]},"query":[]}"#,
+        DocFault::Shape,
+    ),
+    (
+        r#"{"version":1,"source":{"range":[1,-1]},"query":[]}"#,
+        DocFault::Shape,
+    ),
+    (
+        r#"{"version":1,"source":{"repeat":[1,2,3]},"query":[]}"#,
+        DocFault::Shape,
+    ),
+    (
+        r#"{"version":1,"source":{"range":[9223372036854775807,2]},"query":["sort"]}"#,
+        DocFault::Source,
+    ),
+    (
+        r#"{"version":1,"source":{"range":[0,1099511627777]},"query":[]}"#,
+        DocFault::Source,
+    ),
+    (
+        r#"{"version":1,"source":{"repeat":[0,1099511627777]},"query":[]}"#,
+        DocFault::Source,
+    ),
+    (
+        r#"{"version":1,"source":{"list":[]},"query":[["sort"]]}"#,
+        UNKNOWN,
+    ),
     (
         r#"{"version":1,"source":{"list":[]},"query":[["select","add",1],["as_ordered"]]}"#,
         DocFault::Step {
@@ -97,8 +157,14 @@ fn refuses_what_is_no_document(rt: HostRuntime) {
 fn refuses_unknown_steps(rt: HostRuntime) -> Result<(), Fail> {
     let alloc = rt.alloc();
     for step in UNKNOWN_STEPS {
-        let text = format!(in alloc; "{{\"version\":1,\"source\":{{\"list\":[]}},\"query\":[{step}]}}")?;
-        assert_eq!(rt; refusal(alloc, text.as_str(), PLAIN), Some(UNKNOWN), "{step}");
+        let text = format!(in alloc;
+            "{{\"version\":1,\"source\":{{\"list\":[]}},\"query\":[{step}]}}"
+        )?;
+        assert_eq!(rt;
+            refusal(alloc, text.as_str(), PLAIN),
+            Some(UNKNOWN),
+            "{step}"
+        );
     }
     Ok(())
 }
@@ -130,7 +196,8 @@ fn counts_settings_as_calls(rt: HostRuntime) {
 
 #[test]
 fn reads_the_example(rt: HostRuntime) -> Result<(), Fail> {
-    let text = r#"{"version":1,"source":{"list":[3,1,4]},"query":[["as_ordered"],["select","add",1]]}"#;
+    let text =
+        r#"{"version":1,"source":{"list":[3,1,4]},"query":[["as_ordered"],["select","add",1]]}"#;
     let mut job = read_document(rt.alloc(), text.as_bytes(), PLAIN)?;
     assert_eq!(rt; job.query.ops(), [Op::Select(Formula::Add(1))].as_slice());
     assert!(rt; job.query.is_ordered());
@@ -164,7 +231,11 @@ fn reads_each_step(rt: HostRuntime) -> Result<(), Fail> {
 #[test]
 fn reads_each_source(rt: HostRuntime) -> Result<(), Fail> {
     for (source, items, ending) in [
-        (r#"{"list":[1,2],"refuse":4294967295}"#, [1, 2].as_slice(), Step::Refused(u32::MAX)),
+        (
+            r#"{"list":[1,2],"refuse":4294967295}"#,
+            [1, 2].as_slice(),
+            Step::Refused(u32::MAX),
+        ),
         (r#"{"text":"7 x 9"}"#, [7].as_slice(), Step::Refused(1)),
         (r#"{"range":[-1,3]}"#, [-1, 0, 1].as_slice(), Step::End),
         (r#"{"repeat":[5,2]}"#, [5, 5].as_slice(), Step::End),
@@ -190,7 +261,10 @@ fn takes_a_thousand_steps_and_no_more(rt: HostRuntime) -> Result<(), Fail> {
     let job = read_document(rt.alloc(), few.as_bytes(), PLAIN)?;
     assert_eq!(rt; job.query.ops().len(), 1_000);
     let many = with_steps(rt.alloc(), 1_001)?;
-    assert_eq!(rt; refusal(rt.alloc(), many.as_str(), PLAIN), Some(DocFault::Shape));
+    assert_eq!(rt;
+        refusal(rt.alloc(), many.as_str(), PLAIN),
+        Some(DocFault::Shape)
+    );
     Ok(())
 }
 

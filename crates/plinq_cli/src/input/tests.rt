@@ -40,13 +40,19 @@ impl Read for Sevens {
 #[test]
 fn fails_with_its_reader(rt: HostRuntime) {
     let mut reader = FailsAtSecond { has_read: false };
-    assert_eq!(rt; read_input(rt.alloc(), &mut reader).err(), Some(InputFault::Read));
+    assert_eq!(rt;
+        read_input(rt.alloc(), &mut reader).err(),
+        Some(InputFault::Read)
+    );
 }
 
 #[test]
 fn refuses_one_byte_too_many(rt: HostRuntime) {
     let mut reader = Sevens { left: 16_777_217 };
-    assert_eq!(rt; read_input(rt.alloc(), &mut reader).err(), Some(InputFault::TooLong));
+    assert_eq!(rt;
+        read_input(rt.alloc(), &mut reader).err(),
+        Some(InputFault::TooLong)
+    );
 }
 
 #[test]
