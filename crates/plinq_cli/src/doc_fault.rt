@@ -1,4 +1,9 @@
+ghost use Rattle.std.specs.Prelude.{◌≡◌};
+ghost use Rattle.plinq_cli.specs.declared.doc_fault.DocFault.TheVariants.{Source, Memory};
+
 use plinq_ops::BuildFault;
+use plinq_source::SourceFault;
+use std::alloc::AllocError;
 use thiserror::Error;
 
 /// Why a document is refused, in the order in which the causes are looked for; want of memory is answered where a
@@ -42,4 +47,20 @@ pub enum StepFault {
     /// The query refuses the call.
     #[error("{0}")]
     Build(BuildFault),
+}
+
+impl From<SourceFault> for DocFault {
+    ghost from_gives = { λ _ e. e ≡ Source };
+
+    fn from(_: SourceFault) -> DocFault {
+        DocFault::Source
+    }
+}
+
+impl From<AllocError> for DocFault {
+    ghost from_gives = { λ _ e. e ≡ Memory };
+
+    fn from(_: AllocError) -> DocFault {
+        DocFault::Memory
+    }
 }
