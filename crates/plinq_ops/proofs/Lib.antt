@@ -4,3 +4,7 @@ pub mod Fed
 pub mod Counts
 pub mod Answered
 pub mod Parts
+pub mod Worker
+pub mod Glue
+pub mod Chunks
+pub mod Runs

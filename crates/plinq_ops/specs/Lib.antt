@@ -5,3 +5,5 @@ pub mod Batches
 pub mod Sequential
 pub mod Feeding
 pub mod Plan
+pub mod Fragment
+pub mod Chunk
