@@ -13,72 +13,72 @@ use Rattle.plinq_ops.proofs.Open.{seq-nothing, seq_behind-nothing, seq_behind-fo
 
 -- the piece is an ending
 pub fed-ended : {T : Type 0} (piece : T → Trace T) (x : T) (ss ss' : List (Stage T)) (out : List T) (e : Ending)
-  → piece x ≡ ended [] e → some_takes_none ss ≡ false → IsFed (pieces piece ∷ ss) (open_trace (x ∷ [])) out out ss' (Some e)
+    → piece x ≡ ended [] e → some_takes_none ss ≡ false → IsFed (pieces piece ∷ ss) (open_trace (x ∷ [])) out out ss' (Some e)
 fed-ended piece x ss ss' out e is undecided =
     let all : seq ss (followed (piece x) (open_trace [])) ≡ ended [] e =
-        ap (λ t. seq ss (followed t (open_trace []))) is ∙ seq-nothing ss (Some e) undecided in
+    ap (λ t. seq ss (followed t (open_trace []))) is ∙ seq-nothing ss (Some e) undecided in
     record {
-        items = sym (append-nil out) ∙ ap (λ t. out ++ t.items) (sym all);
-        told = ap (λ t. t.ending) (sym all);
-        left = λ bad. absurd (cc)
+      items = sym (append-nil out) ∙ ap (λ t. out ++ t.items) (sym all);
+      told = ap (λ t. t.ending) (sym all);
+      left = λ bad. absurd (cc);
     }
 
 -- the piece is empty
 pub fed-nothing : {T : Type 0} (piece : T → Trace T) (x : T) (ss : List (Stage T)) (out : List T)
-  → piece x ≡ open_trace [] → some_takes_none ss ≡ false → IsFed (pieces piece ∷ ss) (open_trace (x ∷ [])) out out (pieces piece ∷ ss) None
+    → piece x ≡ open_trace [] → some_takes_none ss ≡ false → IsFed (pieces piece ∷ ss) (open_trace (x ∷ [])) out out (pieces piece ∷ ss) None
 fed-nothing piece x ss out is undecided =
     let all : seq ss (followed (piece x) (open_trace [])) ≡ open_trace [] =
-        ap (λ t. seq ss (followed t (open_trace []))) is ∙ seq-nothing ss None undecided in
+    ap (λ t. seq ss (followed t (open_trace []))) is ∙ seq-nothing ss None undecided in
     let left : seq_behind ss (followed (piece x) (open_trace [])) ≡ ss =
-        ap (λ t. seq_behind ss (followed t (open_trace []))) is ∙ seq_behind-nothing ss undecided in
+    ap (λ t. seq_behind ss (followed t (open_trace []))) is ∙ seq_behind-nothing ss undecided in
     record {
-        items = sym (append-nil out) ∙ ap (λ t. out ++ t.items) (sym all);
-        told = ap (λ t. t.ending) (sym all);
-        left = λ e. ap (λ rest. pieces piece ∷ rest) (sym left)
+      items = sym (append-nil out) ∙ ap (λ t. out ++ t.items) (sym all);
+      told = ap (λ t. t.ending) (sym all);
+      left = λ e. ap (λ rest. pieces piece ∷ rest) (sym left);
     }
 
 -- the operators but the first see this trace in the place of the item
 pub fed-through : {T : Type 0} (s s' : Stage T) (x : T) (t : Trace T) (ss ss' : List (Stage T)) (before after : List T) (e : Option Ending)
-  → apply s (open_trace (x ∷ [])) ≡ t → behind s 1 ≡ s' → IsFed ss t before after ss' e
-  → IsFed (s ∷ ss) (open_trace (x ∷ [])) before after (s' ∷ ss') e
+    → apply s (open_trace (x ∷ [])) ≡ t → behind s 1 ≡ s' → IsFed ss t before after ss' e
+    → IsFed (s ∷ ss) (open_trace (x ∷ [])) before after (s' ∷ ss') e
 fed-through s s' x t ss ss' before after e is rest fed =
     record {
-        items = fed.items ∙ ap (λ u. before ++ (seq ss u).items) (sym is);
-        told = fed.told ∙ ap (λ u. (seq ss u).ending) (sym is);
-        left = λ goes_on.
-            let others : ss' ≡ seq_behind ss (apply s (open_trace (x ∷ []))) = fed.left goes_on ∙ ap (seq_behind ss) (sym is) in
-            cc
+      items = fed.items ∙ ap (λ u. before ++ (seq ss u).items) (sym is);
+      told = fed.told ∙ ap (λ u. (seq ss u).ending) (sym is);
+      left = λ goes_on.
+          let others : ss' ≡ seq_behind ss (apply s (open_trace (x ∷ []))) = fed.left goes_on ∙ ap (seq_behind ss) (sym is) in
+          cc;
     }
 
 -- the item is the last that a Take lets through
 pub fed-last : {T : Type 0} (x : T) (ss ss' ss'' : List (Stage T)) (before after : List T) (e : Option Ending)
-  → IsFed ss (open_trace (x ∷ [])) before after ss' e
-  → IsFed (taking 1 ∷ ss) (open_trace (x ∷ [])) before after ss'' (Some (unwrap_or e End))
+    → IsFed ss (open_trace (x ∷ [])) before after ss' e
+    → IsFed (taking 1 ∷ ss) (open_trace (x ∷ [])) before after ss'' (Some (unwrap_or e End))
 fed-last {T} x ss ss' ss'' before after e fed =
     let left : List (Stage T) = seq_behind ss (open_trace (x ∷ [])) in
     let through : seq ss (ended (x ∷ []) End) ≡ followed (seq ss (open_trace (x ∷ []))) (ended [] End) =
-        seq-followed ss (open_trace (x ∷ [])) (ended [] End) ∙ ap (followed (seq ss (open_trace (x ∷ [])))) (seq-ended_nil left) in
+    seq-followed ss (open_trace (x ∷ [])) (ended [] End) ∙ ap (followed (seq ss (open_trace (x ∷ [])))) (seq-ended_nil left) in
     let items : (xs : List T) (o : Option Ending) → (continued xs o (ended [] End)).items ≡ xs = λ xs o. elim o as (λ v. (continued xs v (ended [] End)).items ≡ xs) [ None ↦ append-nil xs | Some f ↦ refl ] in
     let ending : (xs : List T) (o : Option Ending) → (continued xs o (ended [] End)).ending ≡ Some (unwrap_or o End) = λ xs o. elim o as (λ v. (continued xs v (ended [] End)).ending ≡ Some (unwrap_or v End)) [ None ↦ refl | Some f ↦ refl ] in
     record {
-        items = fed.items ∙ ap (λ zs. before ++ zs) (sym (ap (λ u. u.items) through ∙ items _ _));
-        told = ap (λ o. Some (unwrap_or o End)) fed.told ∙ sym (ap (λ u. u.ending) through ∙ ending _ _);
-        left = λ bad. absurd (cc)
+      items = fed.items ∙ ap (λ zs. before ++ zs) (sym (ap (λ u. u.items) through ∙ items _ _));
+      told = ap (λ o. Some (unwrap_or o End)) fed.told ∙ sym (ap (λ u. u.ending) through ∙ ending _ _);
+      left = λ bad. absurd (cc);
     }
 
 -- a Skip that still has items to pass over
 pub fed-skipped : {T : Type 0} (n : ℕ) (x : T) (ss : List (Stage T)) (out : List T) → n ≡ suc (n - 1) → some_takes_none ss ≡ false
-  → IsFed (skipping n ∷ ss) (open_trace (x ∷ [])) out out (skipping (n - 1) ∷ ss) None
+    → IsFed (skipping n ∷ ss) (open_trace (x ∷ [])) out out (skipping (n - 1) ∷ ss) None
 fed-skipped n x ss out some undecided =
     let none : drop n (x ∷ []) ≡ [] = rw some (drop-nil (n - 1)) in
     let all : seq ss (open_trace (drop n (x ∷ []))) ≡ open_trace [] =
-        ap (λ zs. seq ss (open_trace zs)) none ∙ seq-nothing ss None undecided in
+    ap (λ zs. seq ss (open_trace zs)) none ∙ seq-nothing ss None undecided in
     let left : seq_behind ss (open_trace (drop n (x ∷ []))) ≡ ss =
-        ap (λ zs. seq_behind ss (open_trace zs)) none ∙ seq_behind-nothing ss undecided in
+    ap (λ zs. seq_behind ss (open_trace zs)) none ∙ seq_behind-nothing ss undecided in
     record {
-        items = sym (append-nil out) ∙ ap (λ t. out ++ t.items) (sym all);
-        told = ap (λ t. t.ending) (sym all);
-        left = λ e. ap (λ rest. skipping (n - 1) ∷ rest) (sym left)
+      items = sym (append-nil out) ∙ ap (λ t. out ++ t.items) (sym all);
+      told = ap (λ t. t.ending) (sym all);
+      left = λ e. ap (λ rest. skipping (n - 1) ∷ rest) (sym left);
     }
 
 -- a Take that isn't decided still has items to take
@@ -90,24 +90,24 @@ takes_some (suc n) ss undecided = omega arith
 pub fed-none : {T : Type 0} (ss : List (Stage T)) (out : List T) → some_takes_none ss ≡ false → IsFed ss (open_trace []) out out ss None
 fed-none ss out undecided =
     record {
-        items = sym (append-nil out) ∙ ap (λ t. out ++ t.items) (sym (seq-nothing ss None undecided));
-        told = ap (λ t. t.ending) (sym (seq-nothing ss None undecided));
-        left = λ e. sym (seq_behind-nothing ss undecided)
+      items = sym (append-nil out) ∙ ap (λ t. out ++ t.items) (sym (seq-nothing ss None undecided));
+      told = ap (λ t. t.ending) (sym (seq-nothing ss None undecided));
+      left = λ e. sym (seq_behind-nothing ss undecided);
     }
 
 -- what is fed behind a trace that left the run open
 pub fed-followed : {T : Type 0} (ss ss' ss'' : List (Stage T)) (a b : Trace T) (before between after : List T) (e : Option Ending)
-  → IsFed ss a before between ss' None → IsFed ss' b between after ss'' e → IsFed ss (followed a b) before after ss'' e
+    → IsFed ss a before between ss' None → IsFed ss' b between after ss'' e → IsFed ss (followed a b) before after ss'' e
 fed-followed {T} ss ss' ss'' a b before between after e first second =
     let is_open : (seq ss a).ending ≡ None = sym first.told in
     let parts : (xs : List T) (o : Option Ending) (t : Trace T) → o ≡ None → continued xs o t ≡ trace_of (xs ++ t.items) t.ending =
-        λ xs o t. elim o as (λ v. v ≡ None → continued xs v t ≡ trace_of (xs ++ t.items) t.ending) [ None ↦ λ none. refl | Some f ↦ λ bad. absurd (cc) ] in
+    λ xs o t. elim o as (λ v. v ≡ None → continued xs v t ≡ trace_of (xs ++ t.items) t.ending) [ None ↦ λ none. refl | Some f ↦ λ bad. absurd (cc) ] in
     let through : seq ss (followed a b) ≡ trace_of ((seq ss a).items ++ (seq ss' b).items) (seq ss' b).ending =
-        seq-followed ss a b ∙ ap (λ left. followed (seq ss a) (seq left b)) (sym (first.left refl)) ∙ parts _ _ _ is_open in
+    seq-followed ss a b ∙ ap (λ left. followed (seq ss a) (seq left b)) (sym (first.left refl)) ∙ parts _ _ _ is_open in
     record {
-        items = second.items ∙ ap (λ zs. zs ++ (seq ss' b).items) first.items ∙ append_assoc before _ _ ∙ ap (λ t. before ++ t.items) (sym through);
-        told = second.told ∙ ap (λ t. t.ending) (sym through);
-        left = λ goes_on. second.left goes_on ∙ ap (λ left. seq_behind left b) (first.left refl) ∙ sym (seq_behind-followed ss a b is_open)
+      items = second.items ∙ ap (λ zs. zs ++ (seq ss' b).items) first.items ∙ append_assoc before _ _ ∙ ap (λ t. before ++ t.items) (sym through);
+      told = second.told ∙ ap (λ t. t.ending) (sym through);
+      left = λ goes_on. second.left goes_on ∙ ap (λ left. seq_behind left b) (first.left refl) ∙ sym (seq_behind-followed ss a b is_open);
     }
 
 -- operators that left the run open have no Take of none
@@ -117,14 +117,14 @@ undecided-left ss ss' a before after fed =
 
 -- a run that has ended stays as it is, whatever comes behind
 pub fed-ended_before : {T : Type 0} (ss ss' ss'' : List (Stage T)) (a b : Trace T) (before after : List T) (e : Option Ending) → is_some e ≡ true
-  → IsFed ss a before after ss' e → IsFed ss (followed a b) before after ss'' e
+    → IsFed ss a before after ss' e → IsFed ss (followed a b) before after ss'' e
 fed-ended_before {T} ss ss' ss'' a b before after None ends fed = absurd (let bad : false ≡ true = ends in cc)
 fed-ended_before {T} ss ss' ss'' a b before after (Some e) ends fed =
     let same : seq ss (followed a b) ≡ seq ss a = seq-followed ss a b ∙ followed-ended (seq ss a) (seq (seq_behind ss a) b) e (sym fed.told) in
     record {
-        items = fed.items ∙ ap (λ t. before ++ t.items) (sym same);
-        told = fed.told ∙ ap (λ t. t.ending) (sym same);
-        left = λ bad. absurd (cc)
+      items = fed.items ∙ ap (λ t. before ++ t.items) (sym same);
+      told = fed.told ∙ ap (λ t. t.ending) (sym same);
+      left = λ bad. absurd (cc);
     }
 
 pub none-from_is_some : {A : Type 0} (o : Option A) → is_some o ≡ false → o ≡ None

@@ -1,3 +1,9 @@
 pub mod Stages
 pub mod Open
 pub mod Fed
+pub mod Counts
+pub mod Answered
+pub mod Parts
+pub mod Worker
+pub mod Glue
+pub mod Chunks

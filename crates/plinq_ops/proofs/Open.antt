@@ -80,14 +80,14 @@ length-continued xs (Some e) b is_open = absurd (cc)
 
 -- what is left behind two traces is what is left of what was left behind the first
 pub seq_behind-followed : {T : Type 0} (ss : List (Stage T)) (a b : Trace T) → (seq ss a).ending ≡ None
-  → seq_behind ss (followed a b) ≡ seq_behind (seq_behind ss a) b
+    → seq_behind ss (followed a b) ≡ seq_behind (seq_behind ss a) b
 seq_behind-followed [] a b is_open = refl
 seq_behind-followed (s ∷ ss) a b is_open =
     let first_open : a.ending ≡ None = open-from_seq (s ∷ ss) a is_open in
     let first : behind s (length (followed a b).items) ≡ behind (behind s (length a.items)) (length b.items) =
-        ap (behind s) (length-continued a.items a.ending b first_open) ∙ sym (behind-behind s (length a.items) (length b.items)) in
+    ap (behind s) (length-continued a.items a.ending b first_open) ∙ sym (behind-behind s (length a.items) (length b.items)) in
     let others : seq_behind ss (apply s (followed a b)) ≡ seq_behind (seq_behind ss (apply s a)) (apply (behind s (length a.items)) b) =
-        ap (seq_behind ss) (apply-followed s a b) ∙ seq_behind-followed ss (apply s a) (apply (behind s (length a.items)) b) is_open in
+    ap (seq_behind ss) (apply-followed s a b) ∙ seq_behind-followed ss (apply s a) (apply (behind s (length a.items)) b) is_open in
     cc
 
 pub apply-nothing : {T : Type 0} (s : Stage T) (e : Option Ending) → takes_none s ≡ false → apply s (trace_of [] e) ≡ trace_of [] e
@@ -134,10 +134,10 @@ seq_behind-nothing (s ∷ ss) some =
     elim (takes_none s) as (λ v. v ≡ takes_none s → v || some_takes_none ss ≡ false → behind s 0 ∷ seq_behind ss (apply s (open_trace [])) ≡ s ∷ ss) [
       | true ↦ λ is bad. absurd (cc)
       | false ↦ λ is rest.
-        let same : behind s 0 ≡ s = behind-zero s in
-        let others : seq_behind ss (apply s (open_trace [])) ≡ ss =
-            ap (seq_behind ss) (apply-nothing s None (sym is)) ∙ seq_behind-nothing ss rest in
-        cc
+          let same : behind s 0 ≡ s = behind-zero s in
+          let others : seq_behind ss (apply s (open_trace [])) ≡ ss =
+          ap (seq_behind ss) (apply-nothing s None (sym is)) ∙ seq_behind-nothing ss rest in
+          cc
     ] refl some
 
 -- an answer that is open has no Take of none before it
@@ -153,12 +153,12 @@ pub seq_behind-open : {T : Type 0} (ss : List (Stage T)) (a : Trace T) → (seq 
 seq_behind-open {T} ss a is_open =
     let left : List (Stage T) = seq_behind ss a in
     let again : followed (seq ss a) (seq left (open_trace [])) ≡ seq ss a =
-        sym (seq-followed ss a (open_trace [])) ∙ ap (seq ss) (followed-open_nil a) in
+    sym (seq-followed ss a (open_trace [])) ∙ ap (seq ss) (followed-open_nil a) in
     open_behind (seq ss a).items (seq ss a).ending (seq left (open_trace [])) is_open (ap (λ t. t.ending) again ∙ is_open)
 
 -- where the answer is open so far, it ends as the trace does
 pub seq-ending_of_open : {T : Type 0} (ss : List (Stage T)) (a : Trace T) (xs : List T) (e : Ending) → seq ss a ≡ open_trace xs
-  → seq ss (followed a (ended [] e)) ≡ ended xs e
+    → seq ss (followed a (ended [] e)) ≡ ended xs e
 seq-ending_of_open {T} ss a xs e is =
     let left : List (Stage T) = seq_behind ss a in
     let left_open : (seq left (open_trace [])).ending ≡ None = seq_behind-open ss a (ap (λ t. t.ending) is) in

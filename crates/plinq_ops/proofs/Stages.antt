@@ -14,14 +14,14 @@ use Rattle.plinq_ops.specs.Stage.{Stage, pieces, taking, skipping, unchanged, jo
 
 -- the pieces of a list behind another
 pub joined-append : {T : Type 0} (piece : T → Trace T) (xs ys : List T) (e : Option Ending)
-  → joined piece (xs ++ ys) e ≡ followed (joined piece xs None) (joined piece ys e)
+    → joined piece (xs ++ ys) e ≡ followed (joined piece xs None) (joined piece ys e)
 joined-append piece [] ys e = refl
 joined-append piece (x ∷ xs) ys e =
     ap (followed (piece x)) (joined-append piece xs ys e) ∙ sym (followed-followed (piece x) (joined piece xs None) (joined piece ys e))
 
 -- nothing follows the pieces of a trace that has ended
 pub followed-joined : {T : Type 0} (piece : T → Trace T) (xs : List T) (e : Ending) (b : Trace T)
-  → followed (joined piece xs (Some e)) b ≡ joined piece xs (Some e)
+    → followed (joined piece xs (Some e)) b ≡ joined piece xs (Some e)
 followed-joined piece [] e b = refl
 followed-joined piece (x ∷ xs) e b =
     followed-followed (piece x) (joined piece xs (Some e)) b ∙ ap (followed (piece x)) (followed-joined piece xs e b)
@@ -46,39 +46,39 @@ taken-short n t short = rw (lt-leb n (length t.items) short)
 
 -- a Take whose items begin before the trace and end in it, or not at all
 taken-past : {T : Type 0} (n : ℕ) (xs : List T) (b : Trace T) → length xs < n
-  → taken n (followed (open_trace xs) b) ≡ followed (open_trace xs) (taken (n - length xs) b)
+    → taken n (followed (open_trace xs) b) ≡ followed (open_trace xs) (taken (n - length xs) b)
 taken-past n xs b past =
     elim (leb_tells (n - length xs) (length b.items)) [
       | inl w ↦
-        let enough : n ≤ length (xs ++ b.items) = omega (arith, past, w.1, length-append xs b.items) in
-        taken-enough n (followed (open_trace xs) b) enough
-        ∙ ap (λ zs. ended zs End) (take-append_past n xs b.items (omega (arith, past)))
-        ∙ sym (ap (followed (open_trace xs)) (taken-enough (n - length xs) b w.1))
+          let enough : n ≤ length (xs ++ b.items) = omega (arith, past, w.1, length-append xs b.items) in
+          taken-enough n (followed (open_trace xs) b) enough
+          ∙ ap (λ zs. ended zs End) (take-append_past n xs b.items (omega (arith, past)))
+          ∙ sym (ap (followed (open_trace xs)) (taken-enough (n - length xs) b w.1))
       | inr w ↦
-        let short : length (xs ++ b.items) < n = omega (arith, past, w.1, length-append xs b.items) in
-        taken-short n (followed (open_trace xs) b) short ∙ sym (ap (followed (open_trace xs)) (taken-short (n - length xs) b w.1))
+          let short : length (xs ++ b.items) < n = omega (arith, past, w.1, length-append xs b.items) in
+          taken-short n (followed (open_trace xs) b) short ∙ sym (ap (followed (open_trace xs)) (taken-short (n - length xs) b w.1))
     ]
 
 taken-append : {T : Type 0} (n : ℕ) (xs : List T) (b : Trace T)
-  → taken n (followed (open_trace xs) b) ≡ followed (taken n (open_trace xs)) (taken (n - length xs) b)
+    → taken n (followed (open_trace xs) b) ≡ followed (taken n (open_trace xs)) (taken (n - length xs) b)
 taken-append n xs b =
     elim (leb_tells n (length xs)) [
       | inl w ↦
-        let enough : n ≤ length (xs ++ b.items) = omega (arith, w.1, length-append xs b.items) in
-        taken-enough n (followed (open_trace xs) b) enough
-        ∙ ap (λ zs. ended zs End) (take-append-le n xs b.items w.1)
-        ∙ sym (ap (λ t. followed t (taken (n - length xs) b)) (taken-enough n (open_trace xs) w.1))
+          let enough : n ≤ length (xs ++ b.items) = omega (arith, w.1, length-append xs b.items) in
+          taken-enough n (followed (open_trace xs) b) enough
+          ∙ ap (λ zs. ended zs End) (take-append-le n xs b.items w.1)
+          ∙ sym (ap (λ t. followed t (taken (n - length xs) b)) (taken-enough n (open_trace xs) w.1))
       | inr w ↦
-        taken-past n xs b w.1 ∙ sym (ap (λ t. followed t (taken (n - length xs) b)) (taken-short n (open_trace xs) w.1))
+          taken-past n xs b w.1 ∙ sym (ap (λ t. followed t (taken (n - length xs) b)) (taken-short n (open_trace xs) w.1))
     ]
 
 taken-ended : {T : Type 0} (n : ℕ) (xs : List T) (e : Ending) (b : Trace T)
-  → taken n (ended xs e) ≡ followed (taken n (ended xs e)) b
+    → taken n (ended xs e) ≡ followed (taken n (ended xs e)) b
 taken-ended n xs e b = elim (nat_le n (length xs)) as (λ v. cond v (ended (take n xs) End) (ended xs e) ≡ followed (cond v (ended (take n xs) End) (ended xs e)) b) [ true ↦ refl | false ↦ refl ]
 
 -- one operator on a trace behind an open or an ended one
 pub apply-continued : {T : Type 0} (s : Stage T) (xs : List T) (e : Option Ending) (b : Trace T)
-  → apply s (continued xs e b) ≡ followed (apply s (trace_of xs e)) (apply (behind s (length xs)) b)
+    → apply s (continued xs e b) ≡ followed (apply s (trace_of xs e)) (apply (behind s (length xs)) b)
 apply-continued (pieces piece) xs None b = joined-append piece xs b.items b.ending
 apply-continued (pieces piece) xs (Some e) b = sym (followed-joined piece xs e (joined piece b.items b.ending))
 apply-continued (taking n) xs None b = taken-append n xs b
@@ -89,12 +89,12 @@ apply-continued unchanged xs None b = refl
 apply-continued unchanged xs (Some e) b = refl
 
 pub apply-followed : {T : Type 0} (s : Stage T) (a b : Trace T)
-  → apply s (followed a b) ≡ followed (apply s a) (apply (behind s (length a.items)) b)
+    → apply s (followed a b) ≡ followed (apply s a) (apply (behind s (length a.items)) b)
 apply-followed s a b = apply-continued s a.items a.ending b
 
 -- the operators on a trace that follows another
 pub seq-followed : {T : Type 0} (ss : List (Stage T)) (a b : Trace T)
-  → seq ss (followed a b) ≡ followed (seq ss a) (seq (seq_behind ss a) b)
+    → seq ss (followed a b) ≡ followed (seq ss a) (seq (seq_behind ss a) b)
 seq-followed [] a b = refl
 seq-followed (s ∷ ss) a b =
     ap (seq ss) (apply-followed s a b) ∙ seq-followed ss (apply s a) (apply (behind s (length a.items)) b)

@@ -1,5 +1,5 @@
 -- Feeding: items sent through operators that have seen others before.
-use Rattle.std.specs.Prelude.{◌≡◌, ℕ, List, [], ◌∷◌, ◌++◌, Bool, true, false, cond, Option, Some, None, nat_le, map}
+use Rattle.std.specs.Prelude.{◌≡◌, ℕ, List, [], ◌∷◌, ◌++◌, Bool, true, false, cond, Option, Some, None, ◌==◌}
 use Rattle.plinq_source.specs.declared.ending.Ending.{Ending}
 use Rattle.plinq_source.specs.Trace.{Trace}
 use Rattle.plinq_lambda.specs.Meaning.{Meaning}
@@ -39,3 +39,13 @@ pub record IsFed {T : Type 0} (ss : List (Stage T)) (t : Trace T) (before after 
   pub items : after ≡ before ++ (seq ss t).items
   pub told : ending ≡ (seq ss t).ending
   pub left : ending ≡ None → ss' ≡ seq_behind ss t
+
+-- a Take of at most 0
+abbrev pub is_empty_take : {L : Type 0} → Op L → Bool
+is_empty_take (Select f) = false
+is_empty_take (Filter f) = false
+is_empty_take (SelectMany f) = false
+is_empty_take (Take n) = item_count n == 0
+is_empty_take (Skip n) = false
+is_empty_take (TakeWhile f) = false
+is_empty_take AsUnordered = false

@@ -4,3 +4,6 @@ pub mod Query
 pub mod Batches
 pub mod Sequential
 pub mod Feeding
+pub mod Plan
+pub mod Fragment
+pub mod Chunk

@@ -5,13 +5,29 @@
 //! (`sequential`).
 #![tactic(auto)]
 
+mod answering;
 mod build_fault;
+mod chunking;
+mod cutting;
+mod decided;
 mod feeding;
+mod fragments;
 mod merge_option;
 mod op;
+mod order;
+mod plan;
 mod query;
+mod results;
+mod splitting;
 
+pub use answering::sequential;
 pub use build_fault::BuildFault;
+pub use chunking::chunk_result;
+pub use cutting::fragment;
+pub use fragments::{FragEnd, Fragment};
 pub use merge_option::MergeOption;
 pub use op::Op;
+pub use order::Order;
+pub use plan::Plan;
 pub use query::{Built, Query};
+pub use results::ChunkResult;

@@ -1,4 +1,5 @@
 pub mod Followed
+pub mod Steps
 pub mod Numerals
 pub mod Reading
 pub mod Tokens

@@ -1,5 +1,5 @@
 -- Digits one after another, and the numbers that fit.
-use Rattle.std.proofs.Common.{◌≡◌, ℕ, zero, suc, ◌+◌, ◌-◌, ◌*◌, ◌^◌, ◌<◌, ◌≤◌, min, ℤ, pos, negsuc, neg_ℤ, ◌+ℤ◌, ◌-ℤ◌, Bool, true, false, cond, ◌&&◌, List, [], ◌∷◌, length, drop, get_or, fold, Option, Some, None, Result, Ok, Err, refl, sym, ap, ◌∙◌, arith, w64, FitsSigned, is_some}
+use Rattle.std.proofs.Common.{◌≡◌, ℕ, suc, ◌+◌, ◌-◌, ◌*◌, ◌^◌, ◌<◌, ◌≤◌, min, true, false, cond, ◌&&◌, List, [], ◌∷◌, length, drop, get_or, fold, refl, sym, ap, ◌∙◌, arith}
 use Rattle.std.proofs.lemmas.Bool.Decides.{nat_tests}
 use Rattle.std.specs.Char.{is_ascii_digit}
 use Rattle.std.specs.List.{list_all}
@@ -63,5 +63,5 @@ ReadsDigits_more text n value next h low high step r =
       digits = r.digits ∙ ap (list_all is_ascii_digit) ahead ∙ here;
       number = r.number ∙ ap (λ t. min (fold digit_step value t) most) ahead ∙ sym (fold_cut rest (digit_step value b)) ∙ ap (λ k. min (fold digit_step k rest) most) (sym cut);
       long = omega (arith, r.long);
-      small = omega arith
+      small = omega arith;
     }

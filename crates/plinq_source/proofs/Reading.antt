@@ -1,7 +1,7 @@
 -- What one call of `next` does to a text: a value, or a refusal.
-use Rattle.std.proofs.Common.{◌≡◌, ℕ, zero, suc, ◌+◌, ◌-◌, ◌≤◌, ◌==◌, ℤ, Bool, true, false, List, [], ◌∷◌, length, drop, Option, Some, None, Result, Ok, Err, refl, sym, ap, ◌∙◌, arith}
+use Rattle.std.proofs.Common.{◌≡◌, ℕ, suc, ◌+◌, ◌-◌, ◌≤◌, ◌==◌, ℤ, true, false, List, [], ◌∷◌, length, drop, Some, Ok, Err, refl, sym, ap, ◌∙◌, arith}
 use Rattle.std.proofs.lemmas.List.{drop-drop, length-drop}
-use Rattle.plinq_source.specs.Trace.{Trace, ended, step_at, step_of, given_after}
+use Rattle.plinq_source.specs.Trace.{ended, step_at, step_of, given_after}
 use Rattle.plinq_source.specs.Text.{is_some_bytes, tokens, token_ahead, token_value, values, value_before, refusal, refusal_before}
 use Rattle.plinq_source.specs.declared.ending.Ending.{Ending}
 use Rattle.plinq_source.specs.declared.step.Step.TheVariants.{Item}
@@ -50,7 +50,7 @@ reads_value text at skipped left rest n z s long said =
     let first : tokens (drop at text) ≡ token_ahead rest ∷ after = first-token text at skipped left rest s ∙ ap (λ k. token_ahead rest ∷ tokens (drop (at + skipped + k) text)) (sym long) in
     record {
       items = ap values first ∙ ap (λ r. value_before r (values after)) (sym said);
-      ending = ap refusal first ∙ ap (λ r. refusal_before r (refusal after)) (sym said)
+      ending = ap refusal first ∙ ap (λ r. refusal_before r (refusal after)) (sym said);
     }
 
 pub refuses : (text : List ℕ) (at skipped : ℕ) (left rest : List ℕ) (code : ℕ) → StandsAhead text at skipped left rest → Err code ≡ token_value (token_ahead rest) → Refuses text at code
@@ -59,7 +59,7 @@ refuses text at skipped left rest code s said =
     let first : tokens (drop at text) ≡ token_ahead rest ∷ after = first-token text at skipped left rest s in
     record {
       items = ap values first ∙ ap (λ r. value_before r (values after)) (sym said);
-      ending = ap refusal first ∙ ap (λ r. refusal_before r (refusal after)) (sym said)
+      ending = ap refusal first ∙ ap (λ r. refusal_before r (refusal after)) (sym said);
     }
 
 -- what is left of a list is no longer than it

@@ -1,5 +1,5 @@
 -- What a source says at a number, by the item that stands there.
-use Rattle.std.proofs.Common.{◌≡◌, ℕ, zero, suc, ◌<◌, ◌≤◌, ◌+ℤ◌, ℤ, pos, List, [], ◌∷◌, length, get_or, drop, Some, map, replicate, arith, ap, ◌∙◌}
+use Rattle.std.proofs.Common.{◌≡◌, ℕ, ◌<◌, ◌≤◌, ◌+ℤ◌, ℤ, pos, List, [], length, get_or, Some, replicate, arith, ap, ◌∙◌}
 use Rattle.std.proofs.Math.Seq.{drop-cons}
 use Rattle.std.proofs.lemmas.List.{get_or-replicate, drop_all}
 use Rattle.std.proofs.Math.ListN.{length-replicate}

@@ -1,5 +1,5 @@
 -- Texts: whole numbers in decimal digits, parted by spaces and line feeds.
-use Rattle.std.specs.Prelude.{◌≡◌, ℕ, ◌+◌, ◌-◌, ◌*◌, ◌^◌, ◌==◌, ◌||◌, ◌&&◌, ℤ, pos, negsuc, neg_ℤ, int_le, int_lt, Bool, true, false, not, if◌then◌else◌, List, [], ◌∷◌, length, drop, filter, fold, Option, Some, None, Result, Ok, Err, codes, refl}
+use Rattle.std.specs.Prelude.{◌≡◌, ℕ, ◌+◌, ◌-◌, ◌*◌, ◌^◌, ◌==◌, ◌||◌, ◌&&◌, ℤ, pos, negsuc, neg_ℤ, int_le, int_lt, Bool, true, false, if◌then◌else◌, List, [], ◌∷◌, length, drop, filter, fold, Option, Some, None, Result, Ok, Err, codes, refl}
 use Rattle.std.specs.Char.{is_ascii_digit}
 use Rattle.std.specs.List.{slice_split, list_all}
 use Rattle.plinq_source.specs.Trace.{Trace, ended, list_ending}
@@ -79,15 +79,12 @@ token_ahead (b ∷ bs) = if is_separator b then [] else b ∷ token_ahead bs
 abbrev pub given_at : List ℕ → ℕ → ℕ
 given_at text at = length (values (tokens text)) - length (values (tokens (drop at text)))
 
--- `7 x 9`
-pub text_trace-malformed : text_trace (55 ∷ 32 ∷ 120 ∷ 32 ∷ 57 ∷ []) ≡ ended (pos 7 ∷ []) (Refused 1)
+pub text_trace-malformed : text_trace (codes "7 x 9") ≡ ended (pos 7 ∷ []) (Refused 1)
 text_trace-malformed = refl
 
--- `12345678901234567890`
 pub text_trace-out_of_range : text_trace (codes "12345678901234567890") ≡ ended [] (Refused 2)
 text_trace-out_of_range = refl
 
--- `-9223372036854775808 007 -0`
 pub text_trace-signs : text_trace (codes "-9223372036854775808 007 -0") ≡ ended (negsuc (2 ^ 63 - 1) ∷ pos 7 ∷ pos 0 ∷ []) End
 text_trace-signs = refl
 

@@ -9,7 +9,7 @@ use crate::step::Step;
 /// asked. It has at most 2^40 items.
 ///
 /// ```text
-/// let mut source = ListSource::new(numbers);
+/// let mut source = ListSource::new(alloc, numbers);
 /// while let Step::Item(x) = source.next() { .. }
 /// ```
 pub trait Source: Send + Drop {

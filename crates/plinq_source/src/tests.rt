@@ -1,4 +1,6 @@
-use crate::{ListSource, OutOfMemory, RangeSource, RepeatSource, Source, SourceFault, Step, TextSource};
+use crate::{
+    ListSource, OutOfMemory, RangeSource, RepeatSource, Source, SourceFault, Step, TextSource,
+};
 use std::alloc::{AllocError, Global};
 use std::process::Abort;
 use std::test::Fail;
@@ -28,7 +30,11 @@ fn texts(rt: HostRuntime) -> Result<(), Fail> {
         ("7 x 9", &[7], Step::Refused(1)),
         ("12345678901234567890", &[], Step::Refused(2)),
         ("-9223372036854775808 007 -0", &[least, 7, 0], Step::End),
-        ("9223372036854775807 9223372036854775808", &[greatest], Step::Refused(2)),
+        (
+            "9223372036854775807 9223372036854775808",
+            &[greatest],
+            Step::Refused(2),
+        ),
         ("-9223372036854775809", &[], Step::Refused(2)),
         ("99999999999999999999x", &[], Step::Refused(1)),
         ("00000000000000000000000001", &[1], Step::End),
@@ -42,7 +48,12 @@ fn texts(rt: HostRuntime) -> Result<(), Fail> {
         ("\n\n-5 \n 6\n", &[-5, 6], Step::End),
     ];
     for (text, items, ending) in rows {
-        walks(&rt, text_source(&rt, rt.alloc(), text.as_bytes())?, items, ending);
+        walks(
+            &rt,
+            text_source(&rt, rt.alloc(), text.as_bytes())?,
+            items,
+            ending,
+        );
     }
     Ok(())
 }
@@ -65,7 +76,12 @@ fn ranges(rt: HostRuntime) -> Result<(), Fail> {
     walks(&rt, RangeSource::new(-1, 3)?, &[-1, 0, 1], Step::End);
     walks(&rt, RangeSource::new(i64::MAX, 1)?, &[i64::MAX], Step::End);
     walks(&rt, RangeSource::new(i64::MAX, 0)?, &[], Step::End);
-    walks(&rt, RangeSource::new(i64::MIN, 2)?, &[i64::MIN, i64::MIN + 1], Step::End);
+    walks(
+        &rt,
+        RangeSource::new(i64::MIN, 2)?,
+        &[i64::MIN, i64::MIN + 1],
+        Step::End,
+    );
     assert!(rt; RangeSource::new(0, 1099511627776).is_ok());
     for (start, count) in [(i64::MAX, 2), (0, 1099511627777), (0, u64::MAX)] {
         match RangeSource::new(start, count) {
@@ -91,17 +107,38 @@ fn repeats(rt: HostRuntime) -> Result<(), Fail> {
 #[test]
 fn lists(rt: HostRuntime) -> Result<(), Fail> {
     let items = vec![in rt.alloc(); 3, 1, 4]?;
-    walks(&rt, ListSource::new(rt.alloc(), items), &[3, 1, 4], Step::End);
+    walks(
+        &rt,
+        ListSource::new(rt.alloc(), items),
+        &[3, 1, 4],
+        Step::End,
+    );
     let items = vec![in rt.alloc(); 1, 2]?;
-    walks(&rt, ListSource::refusing(rt.alloc(), items, 7), &[1, 2], Step::Refused(7));
-    walks(&rt, ListSource::refusing(rt.alloc(), Vec::new(rt.alloc()), 0), &[], Step::Refused(0));
+    walks(
+        &rt,
+        ListSource::refusing(rt.alloc(), items, 7),
+        &[1, 2],
+        Step::Refused(7),
+    );
+    walks(
+        &rt,
+        ListSource::refusing(rt.alloc(), Vec::new(rt.alloc()), 0),
+        &[],
+        Step::Refused(0),
+    );
     Ok(())
 }
 
 #[test]
 fn faults_in_words(rt: HostRuntime) -> Result<(), Fail> {
     let fault = SourceFault::TooLarge;
-    assert_eq!(rt; format!(in rt.alloc(); "{fault}")?.as_str(), "source too large");
-    assert_eq!(rt; format!(in rt.alloc(); "{}", OutOfMemory)?.as_str(), "out of memory");
+    assert_eq!(rt;
+        format!(in rt.alloc(); "{fault}")?.as_str(),
+        "source too large"
+    );
+    assert_eq!(rt;
+        format!(in rt.alloc(); "{}", OutOfMemory)?.as_str(),
+        "out of memory"
+    );
     Ok(())
 }

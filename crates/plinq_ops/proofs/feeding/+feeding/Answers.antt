@@ -129,7 +129,7 @@ feed_each-loop-item-preserved g t c =
     let items = c.args.items.now in
     let open_still : c.in_ok-ending.ending ≡ None = none-from_is_some _ (search rules) in
     let fed : IsFed (stages_left m c.args.ops.now c.loop-item.left) (open_trace (x ∷ [])) c.loop-item.out.items c.feed.new.out.items (stages_left m c.args.ops.now c.feed.new.left) None =
-        rw open_still at c.in_ok-ending.ensures in
+    rw open_still at c.in_ok-ending.ensures in
     let more : take (i + 1) items ≡ take i items ++ x ∷ [] = take_more items i x c.loop-item-test.true ∙ ap (λ y. take i items ++ y ∷ []) (sym c.item-item.is) in
     rw more (fed-followed _ _ _ _ _ _ _ _ _ c.loop-item.invariant fed)
 
@@ -140,7 +140,7 @@ feed_each-returns-then-is_some g t c =
     let items = c.args.items.now in
     let ends : is_some c.in_ok-ending.ending ≡ true = search rules in
     let all : items ≡ (take i items ++ x ∷ []) ++ drop (i + 1) items =
-        sym (take-append-drop (i + 1) items)
-        ∙ ap (λ ys. ys ++ drop (i + 1) items) (take_more items i x c.loop-item-test.true ∙ ap (λ y. take i items ++ y ∷ []) (sym c.item-item.is)) in
+    sym (take-append-drop (i + 1) items)
+    ∙ ap (λ ys. ys ++ drop (i + 1) items) (take_more items i x c.loop-item-test.true ∙ ap (λ y. take i items ++ y ∷ []) (sym c.item-item.is)) in
     rw all (fed-ended_before _ (stages_left g.L.Lambda.meaning c.args.ops.now c.feed.new.left) _ _ (open_trace (drop (i + 1) items)) _ _ _ ends
     (fed-followed _ _ _ _ _ _ _ _ _ c.loop-item.invariant c.in_ok-ending.ensures))

@@ -1,4 +1,4 @@
-use Rattle.plinq_source.proofs.Numerals.{ReadsDigits, ReadsDigits_more}
+use Rattle.plinq_source.proofs.Numerals.{ReadsDigits}
 use Rattle.plinq_source.proofs.digits.read_digits.Given as goal
 
 abbrev pub invariant-loop-n : goal.invariant-loop-n

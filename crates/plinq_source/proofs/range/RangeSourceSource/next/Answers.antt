@@ -1,5 +1,5 @@
 -- A range's item is its start and the place added; its list is as long as its count.
-use Rattle.std.proofs.Common.{◌≡◌, ◌+ℤ◌, ℤ, pos, w64, to_z, of_z, arith, sym, ap, ◌∙◌}
+use Rattle.std.proofs.Common.{◌≡◌, ◌+ℤ◌, pos, w64, to_z, of_z, arith, sym, ap, ◌∙◌}
 use Rattle.std.proofs.lemmas.Int.{ints}
 use Rattle.plinq_source.specs.Range.{range_items}
 use Rattle.plinq_source.specs.declared.ending.Ending.TheVariants.{End}

@@ -1,5 +1,5 @@
 -- A repeat's item is its value.
-use Rattle.std.proofs.Common.{◌≡◌, ℤ, w64, to_z, of_z, arith, sym, ap, ◌∙◌}
+use Rattle.std.proofs.Common.{◌≡◌, w64, to_z, of_z, arith, sym, ap, ◌∙◌}
 use Rattle.std.proofs.lemmas.Int.{ints}
 use Rattle.plinq_source.specs.declared.step.Step.TheVariants.{Item}
 use Rattle.plinq_source.proofs.Walks.{step_at-replicate}

@@ -1,0 +1,133 @@
+ghost use Rattle.std.specs.Prelude.{◌≡◌, ◌≤◌, ◌<◌, [], ◌∷◌, ◌++◌, true, vec_capacity, length, OnOk, OnErr, IfOk};
+ghost use Rattle.plinq_source.specs.Trace.{Trace};
+ghost use Rattle.plinq_keyed.specs.declared.event.Event.TheVariants.{Ask, Close};
+ghost use Rattle.plinq_keyed.specs.History.{is_legal_history, place_after, start, next_record, tickets_below, IsChunkOf};
+
+use plinq_keyed::{Chunk, Event, Guarded, Record, Tail};
+use plinq_source::{OutOfMemory, Source};
+use std::alloc::Global;
+
+use crate::taking::take_items;
+
+/// A source that is handed out in chunks, with the history of all requests.
+///
+/// Each request comes under a ticket, above those of all requests before it; a lock that draws them in turn lets
+/// several threads share one enumerator. Once it is closed it hands out nothing more.
+///
+/// ```text
+/// let mut numbers = Enumerator::new(alloc, ListSource::new(alloc, list));
+/// let chunk = numbers.ask(0, 8)?;   // the first 8 items, or all where there are fewer
+/// numbers.close(1)?;
+/// ```
+#[derive(Drop)]
+pub struct Enumerator<S: Source> {
+    alloc: Global,
+    source: S,
+    given: u64,
+    closed: bool,
+    records: Vec<Record>,
+    ghost walked: { S.given source ≡ given },
+    ghost at: { (place_after (S.whole source) start records.items).given ≡ given },
+    ghost shut: { (place_after (S.whole source) start records.items).closed ≡ closed },
+    ghost legal: { is_legal_history (S.whole source) records.items ≡ true },
+}
+
+impl<S: Source> Guarded for Enumerator<S> {
+    type Item = S::Item;
+
+    ghost origin = { λ e. S.whole e.source };
+
+    ghost history = { λ e. e.records.items };
+
+    fn records(&self) -> &[Record] {
+        &self.records
+    }
+}
+
+impl<S: Source> Enumerator<S> {
+    /// The enumerator of a source that has given nothing yet. Takes no memory.
+    pub fn new(alloc: Global, source: S) -> Enumerator<S>
+        requires { S.given source ≡ 0 }
+        ensures origin { ⟦<Enumerator<S> as Guarded>⟧.origin result ≡ S.whole source }
+        ensures history { ⟦<Enumerator<S> as Guarded>⟧.history result ≡ [] }
+    {
+        Enumerator {
+            alloc,
+            source,
+            given: 0,
+            closed: false,
+            records: Vec::new(alloc),
+        }
+    }
+
+    /// Hands out the next `n` items, or what is left of them, and records it.
+    ///
+    /// # Errors
+    ///
+    /// [`OutOfMemory`] where there is no room for the chunk, or else for the record. Nothing has changed then: the
+    /// source wasn't asked.
+    pub fn ask(&mut self, ticket: u64, n: u64) -> Result<Chunk<S::Item>, OutOfMemory>
+        requires least { 1 ≤ n }
+        requires most { n ≤ 65536 }
+        requires rising { tickets_below ticket (⟦<Enumerator<S> as Guarded>⟧.history self.old) ≡ true }
+        ensures origin { ⟦<Enumerator<S> as Guarded>⟧.origin self.new ≡ ⟦<Enumerator<S> as Guarded>⟧.origin self.old }
+        ensures recorded { let past = ⟦<Enumerator<S> as Guarded>⟧.history self.old in let next = next_record (⟦<Enumerator<S> as Guarded>⟧.origin self.old) past ticket (Ask n) in
+            OnOk result (⟦<Enumerator<S> as Guarded>⟧.history self.new ≡ past ++ next ∷ []) }
+        ensures chunk { let origin = ⟦<Enumerator<S> as Guarded>⟧.origin self.old in let next = next_record origin (⟦<Enumerator<S> as Guarded>⟧.history self.old) ticket (Ask n) in
+            IfOk result (λ chunk. IsChunkOf origin next chunk) }
+        ensures unchanged { OnErr result (⟦<Enumerator<S> as Guarded>⟧.history self.new ≡ ⟦<Enumerator<S> as Guarded>⟧.history self.old) }
+    {
+        if self.closed {
+            self.records.reserve(1)?;
+            self.records.push_reserved(Record {
+                ticket,
+                asked: Event::Ask(n),
+                first: self.given,
+                count: 0,
+                tail: Some(Tail::Closed),
+            });
+            return Ok(Chunk {
+                first: self.given,
+                items: Vec::new(self.alloc),
+                tail: Some(Tail::Closed),
+            });
+        }
+        let mut items = Vec::with_capacity(self.alloc, n as usize)?;
+        self.records.reserve(1)?;
+        let first = self.given;
+        let tail = take_items(&mut self.source, &mut items, n);
+        let count = items.len() as u64;
+        self.records.push_reserved(Record {
+            ticket,
+            asked: Event::Ask(n),
+            first,
+            count,
+            tail,
+        });
+        self.given = first + count;
+        Ok(Chunk { first, items, tail })
+    }
+
+    /// Closes the enumerator, also where it is closed already, and records it.
+    ///
+    /// # Errors
+    ///
+    /// [`OutOfMemory`] where there is no room for the record. Nothing has changed then.
+    pub fn close(&mut self, ticket: u64) -> Result<(), OutOfMemory>
+        requires rising { tickets_below ticket (⟦<Enumerator<S> as Guarded>⟧.history self.old) ≡ true }
+        ensures origin { ⟦<Enumerator<S> as Guarded>⟧.origin self.new ≡ ⟦<Enumerator<S> as Guarded>⟧.origin self.old }
+        ensures recorded { let past = ⟦<Enumerator<S> as Guarded>⟧.history self.old in let next = next_record (⟦<Enumerator<S> as Guarded>⟧.origin self.old) past ticket Close in
+            OnOk result (⟦<Enumerator<S> as Guarded>⟧.history self.new ≡ past ++ next ∷ []) }
+        ensures unchanged { OnErr result (⟦<Enumerator<S> as Guarded>⟧.history self.new ≡ ⟦<Enumerator<S> as Guarded>⟧.history self.old) }
+    {
+        self.records.push(Record {
+            ticket,
+            asked: Event::Close,
+            first: self.given,
+            count: 0,
+            tail: Some(Tail::Closed),
+        })?;
+        self.closed = true;
+        Ok(())
+    }
+}

@@ -1,0 +1,29 @@
+ghost use Rattle.std.specs.Prelude.{◌≡◌, ◌≤◌, Some, length};
+ghost use Rattle.plinq_source.specs.Trace.{IsSourceEnding};
+ghost use Rattle.plinq_keyed.specs.History.{is_legal_history, some_source};
+
+use plinq_keyed::Record;
+use plinq_source::Ending;
+
+use crate::standing::Standing;
+
+/// Whether records are a legal history of a source of `len` items that ends so.
+///
+/// They are where each tells the answer to its request, one behind another from the first item on, under tickets
+/// that rise. Takes no memory.
+pub fn replays(records: &[Record], len: u64, ending: Ending) -> bool
+    requires { IsSourceEnding (Some ending) }
+    ensures { result ≡ is_legal_history (some_source len (Some ending)) records.now }
+{
+    let mut standing = Standing::START;
+    let mut least: u128 = 0;
+    for entry in records {
+        let ticket = u128::from(entry.ticket);
+        if ticket < least || !standing.answers(entry, len, ending) {
+            return false;
+        }
+        least = ticket + 1;
+        standing = standing.behind(entry);
+    }
+    true
+}

@@ -1,0 +1,26 @@
+ghost use Rattle.std.specs.Prelude.{◌≡◌, ◌≤◌, ◌+◌, ◌-◌, [], length, vec_capacity, drop, None, nat_lt, if◌then◌else◌};
+ghost use Rattle.plinq_source.specs.Trace.{Trace};
+ghost use Rattle.plinq_keyed.specs.History.{items_from, ending_tail};
+
+use plinq_keyed::Tail;
+use plinq_source::{Source, Step};
+
+// Takes the next `n` items, or what is left of them, into an empty list with that much room; the source's tail where
+// there are fewer.
+pub fn take_items<S: Source>(source: &mut S, items: &mut Vec<S::Item>, n: u64) -> Option<Tail>
+    requires empty { items.old.items ≡ [] }
+    requires room { n ≤ vec_capacity items.old }
+    ensures same { S.whole source.new ≡ S.whole source.old }
+    ensures taken { items.new.items ≡ items_from (S.whole source.old) (S.given source.old) n }
+    ensures moved { S.given source.new ≡ S.given source.old + length items.new.items }
+    ensures tail { result ≡ (if nat_lt (length (S.whole source.old).items - S.given source.old) n then ending_tail (S.whole source.old).ending else None) }
+{
+    for _taken in 0..n {
+        match source.next() {
+            Step::Item(item) => items.push_reserved(item),
+            Step::End => return Some(Tail::Ended),
+            Step::Refused(code) => return Some(Tail::Refused(code)),
+        }
+    }
+    None
+}

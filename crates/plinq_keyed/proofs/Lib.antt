@@ -1,0 +1,4 @@
+pub mod Across
+pub mod Distinct
+pub mod Legal
+pub mod Steps

@@ -1,0 +1,8 @@
+use Rattle.std.proofs.Common.{◌≡◌, ◌+◌, ◌-◌, ◌*◌, ◌^◌, ◌≤◌, ◌&&◌, drop, length, true}
+use Rattle.std.specs.List.{concat}
+use Rattle.plinq_keyed.specs.Keys.{element_lists, key_lists, keys, is_among, distinct, rises, ordered_in_each}
+use Rattle.plinq_keyed.specs.Sweeps.{all_below, apart}
+use Rattle.plinq_keyed.proofs.normalized.some_has_key.Given as goal
+
+abbrev pub invariant-loop-part : goal.invariant-loop-part
+invariant-loop-part g l = is_among (concat (key_lists (element_lists (drop l.part-index l.parts)))) l.key ≡ is_among (concat (key_lists (element_lists l.parts))) l.key

@@ -1,0 +1,21 @@
+/// How the run of a fragment, or of a chunk's fragments, goes on.
+#[derive(Clone, Copy, Debug, PartialEq, Eq)]
+pub enum FragEnd {
+    /// More elements may follow.
+    More,
+    /// An operator ended the run.
+    End,
+    /// A lambda faulted, with its code.
+    Fault(u32),
+    /// The rest was dropped, since the run has ended at an earlier key.
+    Dropped,
+}
+
+/// What the worker part of a plan gives for one keyed element.
+#[derive(Debug, Drop, PartialEq, Eq)]
+pub struct Fragment<T> {
+    /// The items in order.
+    pub items: Vec<T>,
+    /// How the run goes on.
+    pub ending: FragEnd,
+}
