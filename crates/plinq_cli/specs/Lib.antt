@@ -12,3 +12,4 @@ pub mod Sources
 pub mod Document
 pub mod DocumentRows
 pub mod Performed
+pub mod PartsText

@@ -14,6 +14,7 @@ mod input_fault;
 mod job;
 mod lines;
 mod op_words;
+mod parts_lines;
 mod performing;
 mod plan_lines;
 mod serve_fault;
