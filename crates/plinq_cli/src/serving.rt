@@ -57,3 +57,6 @@ fn serve_plan<W: Write>(job: &Job, writer: &mut W) -> Result<Ending, ServeFault>
     write_plan(writer, &job.query)?;
     Ok(Ending::End)
 }
+
+#[cfg(test)]
+mod tests;
