@@ -102,3 +102,6 @@ fn workers_of(options: &ArgMatches<'_>) -> Option<u64>
 fn merge_of(options: &ArgMatches<'_>) -> Option<MergeOption> {
     merge_word(options.get_str("merge")?)
 }
+
+#[cfg(test)]
+mod tests;

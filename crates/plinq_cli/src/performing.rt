@@ -118,3 +118,6 @@ fn show_help<W: Write>(help: &clap::Error, out: &mut W) -> std::io::Result<()> {
     write!(out, "{help}")?;
     out.flush()
 }
+
+#[cfg(test)]
+mod tests;
