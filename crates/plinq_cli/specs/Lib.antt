@@ -4,5 +4,6 @@ pub mod Formulas
 pub mod Results
 pub mod Steps
 pub mod Sources
+pub mod Growths
 pub mod Document
 pub mod DocumentRows

@@ -5,6 +5,7 @@ mod any_source;
 mod doc_fault;
 mod document;
 mod formulas;
+mod growth_counts;
 mod input;
 mod input_fault;
 mod job;
