@@ -27,7 +27,7 @@ pub whole_numbers-turn : (ns : List ℤ) (n : ℤ) (i : ℕ) (vs : List Value) (
 whole_numbers-turn ns n i vs v within is number =
     let left = whole_numbers (items_view (drop (i + 1) vs)) in
     ap (option_map (λ rest. ns ++ rest))
-      (at_drop_more (λ ws. whole_numbers (items_view ws)) vs i v within
-        ∙ ap (λ w. option_and_then (λ m. option_map (λ rest. m ∷ rest) left) (whole_number (view w))) (sym is)
-        ∙ ap (option_and_then (λ m. option_map (λ rest. m ∷ rest) left)) number)
+    (at_drop_more (λ ws. whole_numbers (items_view ws)) vs i v within
+    ∙ ap (λ w. option_and_then (λ m. option_map (λ rest. m ∷ rest) left) (whole_number (view w))) (sym is)
+    ∙ ap (option_and_then (λ m. option_map (λ rest. m ∷ rest) left)) number)
     ∙ before-one ns n left

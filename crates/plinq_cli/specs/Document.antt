@@ -1,5 +1,5 @@
 -- What a document asks for.
-use Rattle.std.specs.Prelude.{◌≡◌, ℕ, ◌+◌, ◌^◌, ℤ, pos, ◌||◌, ◌&&◌, Bool, true, false, List, [], length, nat_le, nat_lt, if◌then◌else◌, Option, Some, None, option_and_then, ok_or, Result, Ok, Err, codes, ⊤}
+use Rattle.std.specs.Prelude.{ℕ, ◌+◌, ◌^◌, ℤ, pos, ◌||◌, ◌&&◌, Bool, true, false, List, [], length, nat_le, nat_lt, if◌then◌else◌, option_and_then, ok_or, Result, Ok, Err, codes, ⊤}
 use Rattle.std.specs.Str.{bytes_eq, is_utf8}
 use Rattle.std.specs.Ordering.{int_eq}
 use Rattle.serde_json.specs.Data.{Data, Items, no_items, item, Members, no_members, member}

@@ -26,34 +26,39 @@ impl Source for AnySource {
     type Item = i64;
 
     ghost whole = { elim [
-        List s ↦ ⟦<ListSource<i64> as Source>⟧.whole s
-        | Text s ↦ ⟦<TextSource as Source>⟧.whole s
-        | Range s ↦ ⟦<RangeSource as Source>⟧.whole s
-        | Repeat s ↦ ⟦<RepeatSource as Source>⟧.whole s ] };
+      | List s ↦ ⟦<ListSource<i64> as Source>⟧.whole s
+      | Text s ↦ ⟦<TextSource as Source>⟧.whole s
+      | Range s ↦ ⟦<RangeSource as Source>⟧.whole s
+      | Repeat s ↦ ⟦<RepeatSource as Source>⟧.whole s
+    ] };
 
     ghost given = { elim [
-        List s ↦ ⟦<ListSource<i64> as Source>⟧.given s
-        | Text s ↦ ⟦<TextSource as Source>⟧.given s
-        | Range s ↦ ⟦<RangeSource as Source>⟧.given s
-        | Repeat s ↦ ⟦<RepeatSource as Source>⟧.given s ] };
+      | List s ↦ ⟦<ListSource<i64> as Source>⟧.given s
+      | Text s ↦ ⟦<TextSource as Source>⟧.given s
+      | Range s ↦ ⟦<RangeSource as Source>⟧.given s
+      | Repeat s ↦ ⟦<RepeatSource as Source>⟧.given s
+    ] };
 
     ghost few = { elim [
-        List s ↦ Prim.omega (arith, s.few, s.items.ok.0)
-        | Text s ↦ Prim.omega (arith, s.few, s.text.ok.0, few-values s.text.items)
-        | Range s ↦ Prim.omega (arith, s.few, length-map-range_with_len (λ i. s.start +ℤ pos i) 0 s.count)
-        | Repeat s ↦ Prim.omega (arith, s.few, length-replicate s.count s.value) ] };
+      | List s ↦ Prim.omega (arith, s.few, s.items.ok.0)
+      | Text s ↦ Prim.omega (arith, s.few, s.text.ok.0, few-values s.text.items)
+      | Range s ↦ Prim.omega (arith, s.few, length-map-range_with_len (λ i. s.start +ℤ pos i) 0 s.count)
+      | Repeat s ↦ Prim.omega (arith, s.few, length-replicate s.count s.value)
+    ] };
 
     ghost ends = { elim [
-        List s ↦ list_ending-ends s.refusal
-        | Text s ↦ list_ending-ends (refusal (tokens s.text.items))
-        | Range s ↦ tt
-        | Repeat s ↦ tt ] };
+      | List s ↦ list_ending-ends s.refusal
+      | Text s ↦ list_ending-ends (refusal (tokens s.text.items))
+      | Range s ↦ tt
+      | Repeat s ↦ tt
+    ] };
 
     ghost within = { elim [
-        List s ↦ Prim.omega (arith, s.within, s.items.ok.0)
-        | Text s ↦ Prim.omega arith
-        | Range s ↦ Prim.omega (arith, s.within, length-map-range_with_len (λ i. s.start +ℤ pos i) 0 s.count)
-        | Repeat s ↦ Prim.omega (arith, s.within, length-replicate s.count s.value) ] };
+      | List s ↦ Prim.omega (arith, s.within, s.items.ok.0)
+      | Text s ↦ Prim.omega arith
+      | Range s ↦ Prim.omega (arith, s.within, length-map-range_with_len (λ i. s.start +ℤ pos i) 0 s.count)
+      | Repeat s ↦ Prim.omega (arith, s.within, length-replicate s.count s.value)
+    ] };
 
     fn next(&mut self) -> Step<i64> {
         match self {

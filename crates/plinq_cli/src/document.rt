@@ -39,7 +39,7 @@ pub fn read_document(alloc: Global, bytes: &[u8], settings: Settings) -> Result<
     requires { ForSome settings.workers (λ n. (1 ≤ n) × (n ≤ 64)) }
     ensures meant { MatchResult result
         (λ job. document_of settings bytes.now
-            ≡ Ok (record { query = job.query; source = ⟦<AnySource as Source>⟧.whole job.source; growth = job.growth }))
+        ≡ Ok (record { query = job.query; source = ⟦<AnySource as Source>⟧.whole job.source; growth = job.growth }))
         (IfMeant (document_of settings bytes.now)) }
     ensures fresh { IfOk result (λ job. ⟦<AnySource as Source>⟧.given job.source ≡ 0) }
 {
@@ -75,7 +75,7 @@ fn job_of(alloc: Global, value: &Value, settings: Settings) -> Result<Job, DocFa
     requires { ForSome settings.workers (λ n. (1 ≤ n) × (n ≤ 64)) }
     ensures meant { MatchResult result
         (λ job. document_meaning settings (view value.now)
-            ≡ Ok (record { query = job.query; source = ⟦<AnySource as Source>⟧.whole job.source; growth = job.growth }))
+        ≡ Ok (record { query = job.query; source = ⟦<AnySource as Source>⟧.whole job.source; growth = job.growth }))
         (IfMeant (document_meaning settings (view value.now))) }
     ensures fresh { IfOk result (λ job. ⟦<AnySource as Source>⟧.given job.source ≡ 0) }
 {

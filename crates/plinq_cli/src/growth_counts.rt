@@ -38,7 +38,9 @@ pub(crate) fn growth_counts(document: &Value) -> Result<GrowthCounts, DocFault>
             repeat: 3,
             max: 512,
         }),
-        Some(counts) => three_counts(counts.as_array().ok_or(DocFault::Shape)?).ok_or(DocFault::Shape),
+        Some(counts) => three_counts(counts.as_array().ok_or(DocFault::Shape)?).ok_or(
+            DocFault::Shape,
+        ),
     }
 }
 

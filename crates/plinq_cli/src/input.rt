@@ -36,7 +36,11 @@ fn zeros(alloc: Global, count: usize) -> Result<Vec<u8>, AllocError>
 }
 
 // Reads by way of the piece, as much at once as it holds.
-fn read_pieces<R: Read>(alloc: Global, reader: &mut R, piece: &mut [u8]) -> Result<Vec<u8>, InputFault>
+fn read_pieces<R: Read>(
+    alloc: Global,
+    reader: &mut R,
+    piece: &mut [u8],
+) -> Result<Vec<u8>, InputFault>
     requires { 0 < length piece.old }
     ensures bytes { IfOk result (λ v. IfSome (R.remaining reader.old) (λ told. v.items ≡ told)) }
     ensures end { OnOk result (IsAtEnd (R.remaining reader.new)) }

@@ -68,7 +68,7 @@ fn text_source(alloc: Global, text: &str) -> Result<AnySource, DocFault>
 fn range_source(start_and_count: &[Value]) -> Result<AnySource, DocFault>
     ensures whole { MatchResult result
         (λ s. of_number_and_count range_trace (items_view start_and_count.now)
-            ≡ Ok (⟦<AnySource as Source>⟧.whole s))
+        ≡ Ok (⟦<AnySource as Source>⟧.whole s))
         (λ e. of_number_and_count range_trace (items_view start_and_count.now) ≡ Err e) }
     ensures fresh { IfOk result (λ s. ⟦<AnySource as Source>⟧.given s ≡ 0) }
 {
@@ -81,7 +81,7 @@ fn range_source(start_and_count: &[Value]) -> Result<AnySource, DocFault>
 fn repeat_source(value_and_count: &[Value]) -> Result<AnySource, DocFault>
     ensures whole { MatchResult result
         (λ s. of_number_and_count repeat_trace (items_view value_and_count.now)
-            ≡ Ok (⟦<AnySource as Source>⟧.whole s))
+        ≡ Ok (⟦<AnySource as Source>⟧.whole s))
         (λ e. of_number_and_count repeat_trace (items_view value_and_count.now) ≡ Err e) }
     ensures fresh { IfOk result (λ s. ⟦<AnySource as Source>⟧.given s ≡ 0) }
 {

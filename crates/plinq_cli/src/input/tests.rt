@@ -40,13 +40,19 @@ impl Read for Sevens {
 #[test]
 fn fails_with_its_reader(rt: HostRuntime) {
     let mut reader = FailsAtSecond { has_read: false };
-    assert_eq!(rt; read_input(rt.alloc(), &mut reader).err(), Some(InputFault::Read));
+    assert_eq!(rt;
+        read_input(rt.alloc(), &mut reader).err(),
+        Some(InputFault::Read)
+    );
 }
 
 #[test]
 fn refuses_one_byte_too_many(rt: HostRuntime) {
     let mut reader = Sevens { left: 16_777_217 };
-    assert_eq!(rt; read_input(rt.alloc(), &mut reader).err(), Some(InputFault::TooLong));
+    assert_eq!(rt;
+        read_input(rt.alloc(), &mut reader).err(),
+        Some(InputFault::TooLong)
+    );
 }
 
 #[test]
@@ -63,5 +69,23 @@ fn reads_known_bytes(rt: HostRuntime) -> Result<(), Fail> {
     let mut reader = b"3 1 4".as_slice();
     let bytes = read_input(rt.alloc(), &mut reader)?;
     assert_eq!(rt; bytes.as_slice(), b"3 1 4".as_slice());
+    Ok(())
+}
+
+#[test]
+fn tells_its_faults(rt: HostRuntime) -> Result<(), Fail> {
+    let alloc = rt.alloc();
+    assert_eq!(rt;
+        format!(in alloc; "{}", InputFault::Read)?.as_str(),
+        "read failed"
+    );
+    assert_eq!(rt;
+        format!(in alloc; "{}", InputFault::TooLong)?.as_str(),
+        "too long"
+    );
+    assert_eq!(rt;
+        format!(in alloc; "{}", InputFault::Memory)?.as_str(),
+        "out of memory"
+    );
     Ok(())
 }

@@ -1,7 +1,7 @@
-use Rattle.std.proofs.Common.{◌≡◌, ◌<◌, ◌≤◌, ◌+◌, ℕ, List, [], ◌++◌, length, take, vec_len, ap, sym, subst, arith}
+use Rattle.std.proofs.Common.{◌≡◌, ◌<◌, ℕ, List, length, take, ap, sym, subst, arith}
 use Rattle.std.proofs.lemmas.List.{length-take-le}
-use Rattle.std.specs.Io.KnownBytes.{Consumes, IsAtEnd}
-use Rattle.plinq_cli.proofs.Known.{Consumes-none, Consumes-append, Consumes-append-none, Consumes-end, Consumes-length}
+use Rattle.std.specs.Io.KnownBytes.{Consumes}
+use Rattle.plinq_cli.proofs.Known.{Consumes-none, Consumes-append, Consumes-append-none, Consumes-end}
 use Rattle.plinq_cli.proofs.input.read_pieces.Goals as goal
 
 pub loop-init : goal.loop-init
@@ -29,8 +29,8 @@ pub returns-then-count-eq0-clause-bytes : goal.returns-then-count-eq0-clause-byt
 returns-then-count-eq0-clause-bytes g c =
     let room : 0 < length c.read_piece.new.piece = omega arith in
     Consumes-end _ _ _
-      (Consumes-append-none _ _ _ _ _ c.loop.invariant.read c.in_ok-count.ensures.consumed (ap (λ n. take n c.read_piece.new.piece) c.if-count-eq0.true))
-      (c.in_ok-count.ensures.ended (c.if-count-eq0.true, room))
+    (Consumes-append-none _ _ _ _ _ c.loop.invariant.read c.in_ok-count.ensures.consumed (ap (λ n. take n c.read_piece.new.piece) c.if-count-eq0.true))
+    (c.in_ok-count.ensures.ended (c.if-count-eq0.true, room))
 
 pub returns-then-count-eq0-clause-end : goal.returns-then-count-eq0-clause-end
 returns-then-count-eq0-clause-end g c = let room : 0 < length c.read_piece.new.piece = omega arith in c.in_ok-count.ensures.ended (c.if-count-eq0.true, room)
