@@ -9,6 +9,7 @@ mod doc_fault;
 mod document;
 mod failure;
 mod formulas;
+mod growth_counts;
 mod input;
 mod input_fault;
 mod job;
