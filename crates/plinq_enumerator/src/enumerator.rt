@@ -3,11 +3,10 @@ ghost use Rattle.plinq_source.specs.Trace.{Trace};
 ghost use Rattle.plinq_keyed.specs.declared.event.Event.TheVariants.{Ask, Close};
 ghost use Rattle.plinq_keyed.specs.History.{is_legal_history, place_after, start, next_record, tickets_below, IsChunkOf};
 
+use crate::taking::take_items;
 use plinq_keyed::{Chunk, Event, Guarded, Record, Tail};
 use plinq_source::{OutOfMemory, Source};
 use std::alloc::Global;
-
-use crate::taking::take_items;
 
 /// A source that is handed out in chunks, with the history of all requests.
 ///

@@ -33,7 +33,9 @@ impl Standing {
         ensures { result ≡ tells entry.now (reply (some_source len (Some ending)) (place_of self) entry.now.asked) }
     {
         let answer = self.answer(entry.asked, len, ending);
-        entry.first == self.given && entry.count == answer.count && is_same_tail(entry.tail, answer.tail)
+        entry.first == self.given
+            && entry.count == answer.count
+            && is_same_tail(entry.tail, answer.tail)
     }
 
     // What a source of `len` items with that ending answers here.

@@ -1,5 +1,4 @@
 ghost use Rattle.std.specs.Prelude.{◌≡◌, ℕ, ◌+◌, ◌<◌, ◌^◌, length};
-
 ghost use Rattle.plinq_keyed.specs.Keys.{element_lists, key_lists, keys, ordered_in_each, ordered_across, normalized, rises};
 ghost use Rattle.plinq_keyed.specs.Sweeps.{all_from, least_behind};
 

@@ -8,7 +8,7 @@ abbrev pub invariant-loop-at : goal.invariant-loop-at
 invariant-loop-at g l = record {
   rest : apart (keys (drop l.at l.left)) (keys (drop l.by l.right)) ≡ apart (keys l.left) (keys l.right);
   left : rises (keys (drop l.at l.left)) ≡ true;
-  right : rises (keys (drop l.by l.right)) ≡ true
+  right : rises (keys (drop l.by l.right)) ≡ true;
 }
 
 abbrev pub decreases-loop-at : goal.decreases-loop-at

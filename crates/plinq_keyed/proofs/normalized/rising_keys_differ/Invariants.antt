@@ -7,5 +7,5 @@ use Rattle.plinq_keyed.proofs.normalized.rising_keys_differ.Given as goal
 abbrev pub invariant-loop-place : goal.invariant-loop-place
 invariant-loop-place g l = record {
   rest : distinct (concat (key_lists (element_lists (drop l.place l.parts)))) ≡ distinct (concat (key_lists (element_lists l.parts)));
-  rising : ordered_in_each (key_lists (element_lists (drop l.place l.parts))) ≡ true
+  rising : ordered_in_each (key_lists (element_lists (drop l.place l.parts))) ≡ true;
 }
