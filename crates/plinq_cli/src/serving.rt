@@ -73,7 +73,11 @@ fn serve_parts<W: Write>(alloc: Global, job: Job, writer: &mut W) -> Result<Endi
         Writes (W.contents writer.old) (W.contents writer.new) result (parts_text (degree_in_force job.query.degree) u) }
     ensures ending { IfOk result (λ e. (⟦<AnySource as Source>⟧.whole job.source).ending ≡ Some e) }
 {
-    let Job { query, mut source } = job;
+    let Job {
+        query,
+        mut source,
+        ..
+    } = job;
     let (items, ending) = all_of(alloc, &mut source)?;
     let parts = RangeParts::new(alloc, items);
     let partitions = cut(&parts, query.degree())?;
