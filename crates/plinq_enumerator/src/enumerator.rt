@@ -1,5 +1,4 @@
-ghost use Rattle.std.specs.Prelude.{◌≡◌, ◌≤◌, ◌<◌, [], ◌∷◌, ◌++◌, true, vec_capacity, length, OnOk, OnErr, IfOk};
-ghost use Rattle.plinq_source.specs.Trace.{Trace};
+ghost use Rattle.std.specs.Prelude.{◌≡◌, ◌≤◌, [], true, OnOk, OnErr, IfOk};
 ghost use Rattle.plinq_keyed.specs.declared.event.Event.TheVariants.{Ask, Close};
 ghost use Rattle.plinq_keyed.specs.History.{is_legal_history, IsLegalHistory, place_after, start, next_record, with_next, tickets_below, IsChunkOf};
 
