@@ -1,4 +1,4 @@
-ghost use Rattle.std.specs.Prelude.{◌≡◌, ◌≤◌, Some, length};
+ghost use Rattle.std.specs.Prelude.{◌≡◌};
 ghost use Rattle.plinq_source.specs.Trace.{IsSourceEnding};
 ghost use Rattle.plinq_keyed.specs.History.{is_legal_history, some_source};
 

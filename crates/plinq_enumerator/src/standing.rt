@@ -1,6 +1,6 @@
-ghost use Rattle.std.specs.Prelude.{◌≡◌, ◌≤◌, ◌+◌, ◌<◌, ◌^◌, ◌||◌, Some, length};
+ghost use Rattle.std.specs.Prelude.{◌≡◌, ◌≤◌, ◌+◌, ◌<◌, ◌^◌, ◌||◌, length};
 ghost use Rattle.plinq_source.specs.Trace.{IsSourceEnding};
-ghost use Rattle.plinq_keyed.specs.History.{some_source, reply, place_behind, tells, same_tail, ending_tail};
+ghost use Rattle.plinq_keyed.specs.History.{some_source, reply, tells, same_tail, ending_tail};
 ghost use Rattle.plinq_enumerator.specs.Standings.{place_of, is_close};
 
 use plinq_keyed::{Event, Record, Tail};

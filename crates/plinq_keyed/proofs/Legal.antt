@@ -1,21 +1,17 @@
 -- How a history grows by a record, what it then hands out, and that its items don't matter.
-use Rattle.std.proofs.Common.{◌≡◌, ℕ, suc, ◌+◌, ◌-◌, ◌<◌, ◌≤◌, ◌==◌, min, Bool, true, false, ◌&&◌, cond, ltb, leb, eqb, List, [], ◌∷◌, ◌++◌, length, take, drop, map, Option, Some, None, refl, sym, ap, ◌∙◌, arith, append_assoc, add-zero, length-append, length-drop, add-one, add-suc}
-use Rattle.std.specs.List.{list_all}
+use Rattle.std.proofs.Common.{◌≡◌, ℕ, suc, ◌+◌, ◌-◌, ◌<◌, ◌≤◌, ◌==◌, min, true, false, ◌&&◌, cond, ltb, leb, List, [], ◌∷◌, ◌++◌, length, take, drop, map, Option, Some, None, refl, sym, ap, ◌∙◌, arith, append_assoc, add-zero, length-drop}
 use Rattle.std.proofs.Math.Bool.{and_assoc, and-true}
-use Rattle.std.proofs.lemmas.Bool.{and_parts, and_from, ltb-true, le-leb, eqb-true, eq-eqb, leb-true}
+use Rattle.std.proofs.lemmas.Bool.{and_parts, and_from, ltb-true, lt-ltb, le-leb, eqb-true, eq-eqb}
 use Rattle.std.proofs.lemmas.List.{length-take, length-take-le, length-replicate, append-nil, map-append}
 use Rattle.std.proofs.Math.Seq.{take-add}
-use Rattle.std.proofs.lemmas.Grind.{common_steps}
 use Rattle.plinq_source.specs.Trace.{Trace}
-use Rattle.plinq_source.specs.declared.ending.Ending.{Ending}
-use Rattle.plinq_keyed.specs.declared.keyed.Keyed.{Keyed}
 use Rattle.plinq_keyed.specs.declared.tail.Tail.{Tail}
 use Rattle.plinq_keyed.specs.declared.tail.Tail.TheVariants.{Ended, Refused, Closed}
 use Rattle.plinq_keyed.specs.declared.event.Event.{Event}
 use Rattle.plinq_keyed.specs.declared.event.Event.TheVariants.{Ask, Close}
 use Rattle.plinq_keyed.specs.declared.record.Record.{Record}
 use Rattle.plinq_keyed.specs.Keys.{keyed_from, rises_from, rises}
-use Rattle.plinq_keyed.specs.History.{Place, start, Reply, reply, no_items, next_items, items_from, place_behind, place_after, recorded, same_way, same_tail, tells, is_run, is_legal_history, IsLegalHistory, next_record, tickets_below, handed_out, given_by, IsPrefix, some_source, ending_tail, record_items}
+use Rattle.plinq_keyed.specs.History.{Place, start, Reply, reply, no_items, next_items, items_from, place_behind, place_after, recorded, same_way, same_tail, tells, is_run, is_legal_history, IsLegalHistory, next_record, with_next, tickets_below, handed_out, IsPrefix, some_source, ending_tail, record_items}
 
 pub place_after-append : {T : Type 0} (t : Trace T) (p : Place) (h : List Record) (r : Record) → place_after t p (h ++ r ∷ []) ≡ place_behind t (place_after t p h) r.asked
 place_after-append t p [] r = refl
@@ -75,6 +71,13 @@ IsLegalHistory-append t h k e legal below =
 pub tickets_below-append : (k : ℕ) (h : List Record) (r : Record) → tickets_below k (h ++ r ∷ []) ≡ (tickets_below k h && ltb r.ticket k)
 tickets_below-append k [] r = and-true (ltb r.ticket k)
 tickets_below-append k (x ∷ h) r = ap (λ b. ltb x.ticket k && b) (tickets_below-append k h r) ∙ sym (and_assoc (ltb x.ticket k) _ _)
+
+pub tickets_below-less : (k l : ℕ) (h : List Record) → k ≤ l → tickets_below k h ≡ true → tickets_below l h ≡ true
+tickets_below-less k l [] few below = refl
+tickets_below-less k l (r ∷ h) few below =
+    let p = and_parts (ltb r.ticket k) _ below in
+    let less : r.ticket < k = ltb-true r.ticket k p.0 in
+    and_from _ _ (lt-ltb r.ticket l (omega arith)) (tickets_below-less k l h few p.1)
 
 -- what a record tells: the answer's first, count and tail
 pub record Told {T : Type 0} (r : Record) (a : Reply T) : Type 0 where
@@ -187,3 +190,8 @@ is_legal_history-alike t u h l e = ap (λ b. b && rises (map (λ r. r.ticket) h)
 
 pub is_legal_history-some : {T : Type 0} (t : Trace T) (h : List Record) → is_legal_history t h ≡ is_legal_history (some_source (length t.items) t.ending) h
 is_legal_history-some t h = is_legal_history-alike t (some_source (length t.items) t.ending) h (sym (length-replicate (length t.items) tt)) refl
+
+-- tickets below k, and then one that is k, are below k + 1
+pub tickets_below-next : {T : Type 0} (t : Trace T) (h : List Record) (k : ℕ) (e : Event) → tickets_below k h ≡ true → tickets_below (k + 1) (with_next t h k e) ≡ true
+tickets_below-next t h k e below =
+    tickets_below-append (k + 1) h (next_record t h k e) ∙ and_from _ _ (tickets_below-less k (k + 1) h (omega arith) below) (lt-ltb k (k + 1) (omega arith))

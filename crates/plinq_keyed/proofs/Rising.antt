@@ -1,11 +1,15 @@
 -- Keys that rise all along the partitions rise in each and across them; keys that count up are normalized.
-use Rattle.std.proofs.Common.{◌≡◌, ℕ, zero, suc, ◌+◌, ◌<◌, ◌≤◌, Bool, true, false, ◌&&◌, ltb, leb, List, [], ◌∷◌, ◌++◌, length, refl, sym, ap, ◌∙◌, arith}
+use Rattle.std.proofs.Common.{◌≡◌, ℕ, zero, suc, ◌+◌, ◌<◌, ◌≤◌, true, leb, List, [], ◌∷◌, ◌++◌, length, take, refl, ap, ◌∙◌, arith}
 use Rattle.std.specs.List.{list_all, concat, range_with_len}
 use Rattle.std.proofs.lemmas.Bool.{and_parts, and_from, leb-true, le-leb, lt-ltb}
+use Rattle.std.proofs.lemmas.List.{length-take-le}
 use Rattle.std.proofs.lemmas.List.FromFn.{length-range_with_len}
-use Rattle.plinq_keyed.specs.declared.keyed.Keyed.{Keyed}
-use Rattle.plinq_keyed.specs.Keys.{keys, keyed_from, rises_from, rises, is_below, ordered_in_each, ordered_across, counts_up, distinct}
+use Rattle.plinq_keyed.specs.Keys.{keys, keyed_from, rises_from, is_below, ordered_in_each, ordered_across, counts_up}
 use Rattle.plinq_keyed.specs.Sweeps.{all_below}
+use Rattle.plinq_source.specs.Trace.{Trace}
+use Rattle.plinq_keyed.specs.declared.record.Record.{Record}
+use Rattle.plinq_keyed.specs.History.{IsLegalHistory, handed_out, given_by}
+use Rattle.plinq_keyed.proofs.Legal.{IsPrefix-from_legal}
 use Rattle.plinq_keyed.proofs.Distinct.{rises_from-less, distinct-rising, counts_up-from}
 
 pub is_below-rising : (least k : ℕ) (js : List ℕ) → rises_from least js ≡ true → k < least → is_below js k ≡ true
@@ -52,3 +56,9 @@ counts_up-range n =
     ∙ and_from _ _
     (ap (λ m. all_below m (range_with_len 0 n)) (length-range_with_len 0 n) ∙ all_below-range n 0 n (omega arith))
     (distinct-rising 0 (range_with_len 0 n) (rises_from-range 0 0 n (omega arith)))
+
+-- the keys of what a legal history hands out count up from 0
+pub keys-handed_out : {T : Type 0} (t : Trace T) (h : List Record) → IsLegalHistory t h → keys (handed_out t h) ≡ range_with_len 0 (given_by t h)
+keys-handed_out t h legal =
+    let p = IsPrefix-from_legal t h legal in
+    ap keys p.prefix ∙ keys-keyed_from 0 (take (given_by t h) t.items) ∙ ap (range_with_len 0) (length-take-le (given_by t h) t.items p.within)

@@ -1,13 +1,13 @@
 -- One step of each loop over partitions: what holds from a place on is what holds there, and from the next place on.
-use Rattle.std.proofs.Common.{◌≡◌, ℕ, ◌+◌, ◌<◌, ◌≤◌, true, false, ◌&&◌, leb, List, [], ◌∷◌, ◌++◌, length, drop, get_or, refl, sym, ap, ◌∙◌, Vec}
+use Rattle.std.proofs.Common.{◌≡◌, ℕ, ◌+◌, ◌<◌, true, ◌&&◌, List, ◌∷◌, length, drop, get_or, sym, ap, ◌∙◌, Vec}
 use Rattle.std.specs.List.{concat}
 use Rattle.std.specs.declared.alloc.Global.{Global}
 use Rattle.std.proofs.lemmas.Bool.{and_parts}
-use Rattle.std.proofs.lemmas.List.{drop_more, drop_all}
+use Rattle.std.proofs.lemmas.List.{drop_more}
 use Rattle.plinq_keyed.specs.declared.keyed.Keyed.{Keyed}
 use Rattle.plinq_keyed.specs.Keys.{keys, key_lists, element_lists, distinct, rises, ordered_in_each}
 use Rattle.plinq_keyed.specs.Sweeps.{apart}
-use Rattle.plinq_keyed.proofs.Distinct.{apart-append, apart-nil, apart-lower_left, apart-lower_right, distinct-append, distinct-rising, rises-tail}
+use Rattle.plinq_keyed.proofs.Distinct.{apart-append, apart-lower_left, apart-lower_right, distinct-append, distinct-rising, rises-tail}
 
 abbrev pub all_keys : {T : Type 0} → List (Vec (Keyed T) Global) → List ℕ
 all_keys parts = concat (key_lists (element_lists parts))

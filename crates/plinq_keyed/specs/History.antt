@@ -1,5 +1,5 @@
 -- What an enumerator answers, and which histories of requests and answers are legal.
-use Rattle.std.specs.Prelude.{◌≡◌, ℕ, ◌+◌, ◌-◌, ◌≤◌, ◌==◌, List, [], ◌∷◌, ◌++◌, length, drop, take, map, replicate, Option, Some, None, Bool, true, false, ◌&&◌, nat_lt, nat_le, if◌then◌else◌, IsTrue, refl}
+use Rattle.std.specs.Prelude.{◌≡◌, ℕ, ◌+◌, ◌-◌, ◌≤◌, ◌==◌, List, [], ◌∷◌, ◌++◌, length, drop, take, map, replicate, Option, Some, None, Bool, true, false, ◌&&◌, nat_lt, if◌then◌else◌, refl}
 use Rattle.std.specs.List.{list_all}
 use Rattle.plinq_source.specs.Trace.{Trace, ended}
 use Rattle.plinq_source.specs.declared.ending.Ending.{Ending}
@@ -111,6 +111,10 @@ IsLegalHistory t h = is_legal_history t h ≡ true
 -- what is recorded next, when behind this history a request comes under that ticket
 abbrev pub next_record : {T : Type 0} → Trace T → List Record → ℕ → Event → Record
 next_record t h ticket e = recorded ticket e (reply t (place_after t start h) e)
+
+-- a history with the record of one more request behind it
+abbrev pub with_next : {T : Type 0} → Trace T → List Record → ℕ → Event → List Record
+with_next t h ticket e = h ++ next_record t h ticket e ∷ []
 
 -- whether each record's ticket is below that number
 abbrev pub tickets_below : ℕ → List Record → Bool

@@ -1,10 +1,9 @@
 -- What the partitioners promise of their partitions' keys, these have.
-use Rattle.std.proofs.Common.{◌≡◌, ℕ, ◌≤◌, true, false, List, refl, sym, ap, ◌∙◌, Result, Ok, Err, Vec}
+use Rattle.std.proofs.Common.{◌≡◌, ℕ, ◌≤◌, true, false, List, ap, ◌∙◌, Result, Ok, Err, Vec}
 use Rattle.std.specs.Prelude.{IfOk, OnOk}
 use Rattle.std.specs.declared.alloc.Global.{Global}
 use Rattle.std.proofs.lemmas.Bool.{false≢true}
 use Rattle.plinq_keyed.specs.declared.keyed.Keyed.{Keyed}
-use Rattle.plinq_keyed.specs.declared.properties.KeyProperties.{KeyProperties}
 use Rattle.plinq_keyed.specs.Keys.{keys, key_lists, keyed_from, element_lists, rises, ordered_in_each, ordered_across, normalized, Keeps}
 use Rattle.plinq_partition.specs.Cuts.{cuts}
 use Rattle.plinq_partition.specs.declared.fault.PartFault.{PartFault}

@@ -1,13 +1,12 @@
 -- The partitions joined are the whole list, and so they have the key properties that it has.
-use Rattle.std.proofs.Common.{◌≡◌, ℕ, zero, suc, ◌+◌, ◌*◌, ◌/◌, ◌<◌, ◌≤◌, true, List, [], ◌∷◌, ◌++◌, length, take, drop, map, refl, sym, ap, ◌∙◌, arith, length-append}
+use Rattle.std.proofs.Common.{◌≡◌, ℕ, zero, suc, ◌+◌, ◌*◌, ◌≤◌, true, List, [], ◌∷◌, ◌++◌, length, take, map, sym, ap, ◌∙◌, arith}
 use Rattle.std.specs.List.{range_with_len, concat}
 use Rattle.std.proofs.Math.Nat.{mul-div_cancel_left, div-mul-le_self, div-le_self}
 use Rattle.std.proofs.lemmas.Nat.{le-div}
-use Rattle.std.proofs.lemmas.List.{map-append, append-nil, take-append-drop, take-take, take_all, length-take-le}
+use Rattle.std.proofs.lemmas.List.{map-append, append-nil, take-append-drop, take-take, take_all}
 use Rattle.std.proofs.lemmas.List.Folds.{concat-append}
 use Rattle.plinq_keyed.specs.declared.keyed.Keyed.{Keyed}
-use Rattle.plinq_keyed.specs.declared.properties.KeyProperties.{KeyProperties}
-use Rattle.plinq_keyed.specs.Keys.{keys, key_lists, keyed_from, rises, ordered_in_each, ordered_across, normalized, counts_up, Keeps}
+use Rattle.plinq_keyed.specs.Keys.{keys, key_lists, keyed_from, rises, ordered_in_each, ordered_across, normalized, counts_up}
 use Rattle.plinq_keyed.proofs.Rising.{ordered-rising, counts_up-range, keys-keyed_from, rises_from-range}
 use Rattle.plinq_partition.specs.Cuts.{between, cut_place, cut, cuts}
 

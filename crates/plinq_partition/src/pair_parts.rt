@@ -1,4 +1,4 @@
-ghost use Rattle.std.specs.Prelude.{◌≡◌, ◌==◌, List, length, true, false, if◌then◌else◌, IfOk, IfErr};
+ghost use Rattle.std.specs.Prelude.{◌≡◌, ◌==◌, true, false, if◌then◌else◌, IfOk, IfErr};
 ghost use Rattle.plinq_keyed.specs.Keys.{keys, rises, element_lists, Keeps};
 ghost use Rattle.plinq_partition.specs.Cuts.{cuts};
 ghost use Rattle.plinq_partition.specs.declared.fault.PartFault.TheVariants.{NoPartitions, NotSupported, KeysNotRising, Memory};

@@ -1,7 +1,6 @@
-use Rattle.std.proofs.Common.{◌≡◌, ◌∙◌, ◌+◌, ◌<◌, length, ap, sym, arith, List, ◌++◌, ◌∷◌, []}
+use Rattle.std.proofs.Common.{◌≡◌, ◌∙◌, ◌+◌, length, ap, sym, arith, ◌++◌, ◌∷◌, []}
 use Rattle.plinq_source.specs.Trace.{step_at}
 use Rattle.plinq_source.specs.declared.step.Step.TheVariants.{Item}
-use Rattle.plinq_keyed.specs.History.{items_from}
 use Rattle.plinq_enumerator.proofs.ItemSteps.{items_from-more, step_at-within}
 use Rattle.plinq_enumerator.proofs.taking.take_items.Goals as goal
 

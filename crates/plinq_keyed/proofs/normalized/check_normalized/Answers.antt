@@ -1,4 +1,4 @@
-use Rattle.std.proofs.Common.{◌≡◌, ◌∙◌, ◌&&◌, true, false, length, sym, ap}
+use Rattle.std.proofs.Common.{◌≡◌, ◌∙◌, ◌&&◌, true, length, sym, ap}
 use Rattle.plinq_keyed.specs.Keys.{distinct}
 use Rattle.plinq_keyed.specs.Sweeps.{all_below}
 use Rattle.plinq_keyed.proofs.Distinct.{counts_up-from}

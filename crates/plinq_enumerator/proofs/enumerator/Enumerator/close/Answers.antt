@@ -1,4 +1,4 @@
-use Rattle.std.proofs.Common.{◌≡◌, ◌∙◌, ◌++◌, ◌∷◌, [], ap}
+use Rattle.std.proofs.Common.{◌∙◌, ap}
 use Rattle.plinq_keyed.specs.declared.event.Event.TheVariants.{Close}
 use Rattle.plinq_keyed.specs.History.{Place}
 use Rattle.plinq_enumerator.proofs.Next.{Grown-from_next, next_record-close}

@@ -1,4 +1,4 @@
-use Rattle.std.proofs.Common.{◌≡◌, ◌/◌, ◌*◌, ◌^◌, ◌∙◌, min, ap, sym, arith}
+use Rattle.std.proofs.Common.{◌/◌, ◌*◌, ◌^◌, ◌∙◌, min, ap}
 use Rattle.plinq_enumerator.specs.Growing.{size_at}
 use Rattle.plinq_enumerator.proofs.Sizes.{doublings-capped}
 use Rattle.plinq_enumerator.proofs.growth.Growth.size.Goals as goal

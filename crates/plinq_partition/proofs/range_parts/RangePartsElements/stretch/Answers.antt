@@ -1,5 +1,4 @@
-use Rattle.std.proofs.Common.{◌≡◌, ◌<◌, ◌∙◌, ◌∷◌, ◌++◌, [], length, get_or, ap, sym, arith, vec_len}
-use Rattle.plinq_keyed.specs.Keys.{keyed_from}
+use Rattle.std.proofs.Common.{◌≡◌, ◌<◌, ◌∙◌, ◌∷◌, ◌++◌, [], length, get_or, ap, sym, arith}
 use Rattle.plinq_partition.proofs.Indexes.{keyed, length-keyed_from, between-indexes}
 use Rattle.plinq_partition.proofs.range_parts.RangePartsElements.stretch.Goals as goal
 
