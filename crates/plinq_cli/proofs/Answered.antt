@@ -5,7 +5,7 @@ use Rattle.plinq_source.specs.declared.ending.Ending.{Ending}
 use Rattle.plinq_cli.specs.declared.command.Command.{Command}
 use Rattle.plinq_cli.specs.declared.settings.Settings.{Settings}
 use Rattle.plinq_cli.specs.declared.doc_fault.DocFault.{DocFault}
-use Rattle.plinq_cli.specs.declared.doc_fault.DocFault.TheVariants.{TooLong, NotJson, Shape, Version, Source, Step, Memory as DocMemory}
+use Rattle.plinq_cli.specs.declared.doc_fault.DocFault.TheVariants.{TooLong, NotJson, Shape, Version, Source, Step, Memory as DocMemory, Growth}
 use Rattle.plinq_cli.specs.declared.failure.Failure.{Failure}
 use Rattle.plinq_cli.specs.declared.failure.Failure.TheVariants.{Document, Memory, Write}
 use Rattle.plinq_cli.specs.Document.{JobView, document_of}
@@ -43,6 +43,7 @@ unwritten command meaning a NotJson h = unwritten-refused command meaning a NotJ
 unwritten command meaning a Shape h = unwritten-refused command meaning a Shape (h (λ is. cc))
 unwritten command meaning a Version h = unwritten-refused command meaning a Version (h (λ is. cc))
 unwritten command meaning a Source h = unwritten-refused command meaning a Source (h (λ is. cc))
+unwritten command meaning a (Growth why) h = unwritten-refused command meaning a (Growth why) (h (λ is. cc))
 unwritten command meaning a (Step at why) h = unwritten-refused command meaning a (Step at why) (h (λ is. cc))
 
 -- a document that is refused

@@ -1,5 +1,5 @@
 -- What a document asks for.
-use Rattle.std.specs.Prelude.{◌≡◌, ℕ, ◌+◌, ◌^◌, ℤ, pos, ◌||◌, ◌&&◌, Bool, true, false, List, [], length, nat_le, nat_lt, if◌then◌else◌, Option, Some, None, option_and_then, ok_or, Result, Ok, Err, codes, ⊤}
+use Rattle.std.specs.Prelude.{ℕ, ◌+◌, ◌^◌, ℤ, pos, ◌||◌, ◌&&◌, Bool, true, false, List, [], length, nat_le, nat_lt, if◌then◌else◌, option_and_then, ok_or, Result, Ok, Err, codes, ⊤}
 use Rattle.std.specs.Str.{bytes_eq, is_utf8}
 use Rattle.std.specs.Ordering.{int_eq}
 use Rattle.serde_json.specs.Data.{Data, Items, no_items, item, Members, no_members, member}
@@ -8,18 +8,22 @@ use Rattle.serde_json.specs.Read.{read}
 use Rattle.plinq_source.specs.Trace.{Trace}
 use Rattle.plinq_lambda.specs.declared.formula.Formula.{Formula}
 use Rattle.plinq_ops.specs.Query.{QueryView}
+use Rattle.plinq_enumerator.specs.Growing.{GrowthRule}
 use Rattle.plinq_cli.specs.Values.{whole_number}
 use Rattle.plinq_cli.specs.Results.{ok_then, or_shape}
 use Rattle.plinq_cli.specs.Steps.{with_steps_of}
 use Rattle.plinq_cli.specs.Sources.{source_of}
+use Rattle.plinq_cli.specs.Growths.{growth_counts, growth_of}
+use Rattle.plinq_cli.specs.declared.growth_counts.GrowthCounts.{GrowthCounts}
 use Rattle.plinq_cli.specs.declared.settings.Settings.{Settings}
 use Rattle.plinq_cli.specs.declared.doc_fault.DocFault.{DocFault}
 use Rattle.plinq_cli.specs.declared.doc_fault.DocFault.TheVariants.{TooLong, NotJson, Shape, Version}
 
--- a query, and the trace of its source
+-- a query, the trace of its source, and how its chunks grow
 pub record JobView : Type 0 where
   pub query : QueryView Formula
   pub source : Trace ℤ
+  pub growth : GrowthRule
 
 -- the only version there is
 abbrev pub version_one : ℤ → Result ⊤ DocFault
@@ -31,7 +35,7 @@ version_check d = ok_then version_one (or_shape (option_and_then whole_number (g
 
 -- a name that a document may have
 abbrev pub is_top_name : List ℕ → Bool
-is_top_name name = bytes_eq name (codes "version") || bytes_eq name (codes "source") || bytes_eq name (codes "query")
+is_top_name name = bytes_eq name (codes "version") || bytes_eq name (codes "source") || bytes_eq name (codes "query") || bytes_eq name (codes "growth")
 
 -- all the names are such
 abbrev pub are_top_names : Members → Bool
@@ -63,14 +67,22 @@ source_in d = ok_then source_of (or_shape (get (codes "source") d))
 abbrev pub new_query : Settings → QueryView Formula
 new_query settings = record { ops = []; ordered = false; merge = settings.merge; degree = settings.workers }
 
--- the source, and the query with the steps called on it
-abbrev pub job_of : Settings → Items → Trace ℤ → Result JobView DocFault
-job_of settings steps source = ok_then (λ q. Ok (record { query = q; source = source })) (with_steps_of 0 (new_query settings) steps)
+-- the source, the growth, and the query with the steps called on it
+abbrev pub job_of : Settings → Items → Trace ℤ → GrowthRule → Result JobView DocFault
+job_of settings steps source growth =
+    ok_then (λ q. Ok (record { query = q; source = source; growth = growth })) (with_steps_of 0 (new_query settings) steps)
 
--- what a value asks for under the command line's settings, or the first thing that is wrong with it: its version, its shape, its source, its steps
+-- the job of a document whose steps and counts of growth have their shape: the source comes before the growth, and both before the steps
+abbrev pub shaped_job : Settings → Data → Items → GrowthCounts → Result JobView DocFault
+shaped_job settings d steps counts = ok_then (λ source. ok_then (job_of settings steps source) (growth_of counts)) (source_in d)
+
+-- the job of a document of the version and the names that there are
+abbrev pub named_job : Settings → Data → Result JobView DocFault
+named_job settings d = ok_then (λ steps. ok_then (shaped_job settings d steps) (growth_counts d)) (steps_in d)
+
+-- what a value asks for under the command line's settings, or the first thing that is wrong with it: its version, its shape, its source, its growth, its steps
 abbrev pub document_meaning : Settings → Data → Result JobView DocFault
-document_meaning settings d =
-    ok_then (λ _. ok_then (λ _. ok_then (λ steps. ok_then (job_of settings steps) (source_in d)) (steps_in d)) (names_check d)) (version_check d)
+document_meaning settings d = ok_then (λ _. ok_then (λ _. named_job settings d) (names_check d)) (version_check d)
 
 -- the value that a JSON text is
 abbrev pub json_of : List ℕ → Result Data DocFault

@@ -1,5 +1,5 @@
 -- Documents, as values, and what they ask for.
-use Rattle.std.specs.Prelude.{◌≡◌, ℕ, ℤ, pos, negsuc, List, [], ◌∷◌, Some, None, Ok, Err, true, codes, refl}
+use Rattle.std.specs.Prelude.{◌≡◌, ℕ, pos, negsuc, List, [], ◌∷◌, Some, None, Ok, Err, true, codes, refl}
 use Rattle.serde_json.specs.Data.{Data, unsigned, negative, number, string, array, object, no_members, member}
 use Rattle.serde_json.specs.View.{items_of}
 use Rattle.plinq_source.specs.Trace.{ended}
@@ -8,10 +8,11 @@ use Rattle.plinq_lambda.specs.declared.formula.Formula.TheVariants.{Add}
 use Rattle.plinq_ops.specs.declared.op.Op.TheVariants.{Select}
 use Rattle.plinq_ops.specs.declared.merge_option.MergeOption.TheVariants.{NotBuffered}
 use Rattle.plinq_ops.specs.declared.build_fault.BuildFault.TheVariants.{NotAtSource, MergeTwice, DegreeTwice, DegreeOutOfRange}
+use Rattle.plinq_enumerator.specs.declared.growth_fault.GrowthFault.TheVariants.{Zero}
 use Rattle.plinq_cli.specs.Document.{document_meaning}
 use Rattle.plinq_cli.specs.declared.settings.Settings.{Settings}
 use Rattle.plinq_cli.specs.declared.doc_fault.StepFault.TheVariants.{Unknown, Build}
-use Rattle.plinq_cli.specs.declared.doc_fault.DocFault.TheVariants.{Shape, Version, Source, Step}
+use Rattle.plinq_cli.specs.declared.doc_fault.DocFault.TheVariants.{Shape, Version, Source, Growth, Step}
 
 abbrev whole : ℕ → Data
 whole n = number (unsigned n)
@@ -47,7 +48,7 @@ select_add_one = row (word (codes "select") ∷ word (codes "add") ∷ whole 1 �
 
 -- {"version":1,"source":{"list":[3,1,4]},"query":[["as_ordered"],["select","add",1]]}
 pub meaning-example : document_meaning plain (document (as_ordered ∷ select_add_one ∷ []) (list_of (whole 3 ∷ whole 1 ∷ whole 4 ∷ [])) (whole 1))
-    ≡ Ok (record { query = record { ops = Select (Add (pos 1)) ∷ []; ordered = true; merge = None; degree = None }; source = ended (pos 3 ∷ pos 1 ∷ pos 4 ∷ []) End })
+    ≡ Ok (record { query = record { ops = Select (Add (pos 1)) ∷ []; ordered = true; merge = None; degree = None }; source = ended (pos 3 ∷ pos 1 ∷ pos 4 ∷ []) End; growth = record { first = 1; repeat = 3; max = 512 } })
 meaning-example = refl
 
 -- {}
@@ -65,6 +66,10 @@ meaning-large = refl
 -- {"range":[1,-1]}
 pub meaning-negative : document_meaning plain (document [] (range_of (whole 1) (number (negative (negsuc 0)))) (whole 1)) ≡ Err Shape
 meaning-negative = refl
+
+-- the growth [0,3,512], and [["sort"]]
+pub meaning-growth : document_meaning plain (object (member (codes "growth") (row (whole 0 ∷ whole 3 ∷ whole 512 ∷ [])) (member (codes "query") (row (row (word (codes "sort") ∷ []) ∷ [])) (member (codes "source") (list_of []) (member (codes "version") (whole 1) no_members))))) ≡ Err (Growth Zero)
+meaning-growth = refl
 
 -- [["sort"]]
 pub meaning-unknown : document_meaning plain (stepping (row (word (codes "sort") ∷ []) ∷ [])) ≡ Err (Step 0 Unknown)

@@ -9,6 +9,8 @@ pub mod Served
 pub mod OpWords
 pub mod PlanText
 pub mod Sources
+pub mod Growths
 pub mod Document
 pub mod DocumentRows
 pub mod Performed
+pub mod PartsText

@@ -1,5 +1,5 @@
 -- Answers that may be a fault.
-use Rattle.std.specs.Prelude.{◌≡◌, ◌≢◌, Option, Some, None, Result, Ok, Err, ok_or}
+use Rattle.std.specs.Prelude.{◌≡◌, ◌≢◌, Option, Result, Ok, Err, ok_or}
 use Rattle.plinq_cli.specs.declared.doc_fault.DocFault.{DocFault}
 use Rattle.plinq_cli.specs.declared.doc_fault.DocFault.TheVariants.{Shape, Memory}
 

@@ -1,5 +1,5 @@
 -- The steps of a document's query.
-use Rattle.std.specs.Prelude.{◌≡◌, ◌≢◌, ℕ, ◌+◌, List, [], ◌∷◌, ◌++◌, Option, Some, None, Result, Ok, Err, MatchResult, option_map, option_and_then, codes}
+use Rattle.std.specs.Prelude.{ℕ, ◌+◌, List, [], ◌∷◌, ◌++◌, Option, Some, None, Result, Ok, Err, option_map, option_and_then, codes}
 use Rattle.serde_json.specs.Data.{Data, Items, no_items, item}
 use Rattle.serde_json.specs.Find.{as_str, as_array}
 use Rattle.plinq_lambda.specs.declared.formula.Formula.{Formula}
@@ -7,8 +7,6 @@ use Rattle.plinq_ops.specs.declared.op.Op.{Op}
 use Rattle.plinq_ops.specs.declared.op.Op.TheVariants.{Select as SelectOp, Filter as FilterOp, SelectMany as SelectManyOp, Take as TakeOp, Skip as SkipOp, TakeWhile as TakeWhileOp, AsUnordered as AsUnorderedOp}
 use Rattle.plinq_ops.specs.declared.merge_option.MergeOption.{MergeOption}
 use Rattle.plinq_ops.specs.declared.merge_option.MergeOption.TheVariants.{Default, NotBuffered, AutoBuffered, FullyBuffered}
-use Rattle.plinq_ops.specs.declared.build_fault.BuildFault.{BuildFault}
-use Rattle.plinq_ops.specs.declared.build_fault.BuildFault.TheVariants.{Memory as BuildMemory}
 use Rattle.plinq_ops.specs.Query.{QueryView, Built, with_order, with_option, with_degree_of}
 use Rattle.plinq_cli.specs.Words.{beside}
 use Rattle.plinq_cli.specs.Values.{only_whole_number, only_count, only_text}

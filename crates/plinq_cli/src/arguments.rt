@@ -41,7 +41,8 @@ fn command_line<'a>(alloc: Global) -> Result<clap::Command<'a>, AllocError> {
         .subcommand_required(true)
         .subcommand(subcommand(alloc, "run", "Answers the query")?)?
         .subcommand(subcommand(alloc, "seq", "Answers the query on one thread")?)?
-        .subcommand(subcommand(alloc, "plan", "Shows how the query is shared among workers")?)
+        .subcommand(subcommand(alloc, "plan", "Shows how the query is shared among workers")?)?
+        .subcommand(subcommand(alloc, "parts", "Shows the source cut into partitions")?)
 }
 
 fn subcommand<'a>(
@@ -83,6 +84,7 @@ fn command_named(name: &str) -> Option<Command> {
         "run" => Some(Command::Run),
         "seq" => Some(Command::Seq),
         "plan" => Some(Command::Plan),
+        "parts" => Some(Command::Parts),
         _ => None,
     }
 }

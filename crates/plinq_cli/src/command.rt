@@ -7,4 +7,6 @@ pub enum Command {
     Seq,
     /// Shows how the query is shared among workers.
     Plan,
+    /// Shows the source cut into partitions.
+    Parts,
 }

@@ -8,6 +8,7 @@ ghost use Rattle.plinq_cli.specs.Document.{version_check, is_top_name, are_top_n
 
 use crate::any_source::AnySource;
 use crate::doc_fault::DocFault;
+use crate::growth_counts::growth_counts;
 use crate::job::Job;
 use crate::settings::Settings;
 use crate::sources::source_of;
@@ -38,7 +39,7 @@ pub fn read_document(alloc: Global, bytes: &[u8], settings: Settings) -> Result<
     requires { ForSome settings.workers (λ n. (1 ≤ n) × (n ≤ 64)) }
     ensures meant { MatchResult result
         (λ job. document_of settings bytes.now
-        ≡ Ok (record { query = job.query; source = ⟦<AnySource as Source>⟧.whole job.source }))
+        ≡ Ok (record { query = job.query; source = ⟦<AnySource as Source>⟧.whole job.source; growth = job.growth }))
         (IfMeant (document_of settings bytes.now)) }
     ensures fresh { IfOk result (λ job. ⟦<AnySource as Source>⟧.given job.source ≡ 0) }
 {
@@ -74,16 +75,22 @@ fn job_of(alloc: Global, value: &Value, settings: Settings) -> Result<Job, DocFa
     requires { ForSome settings.workers (λ n. (1 ≤ n) × (n ≤ 64)) }
     ensures meant { MatchResult result
         (λ job. document_meaning settings (view value.now)
-        ≡ Ok (record { query = job.query; source = ⟦<AnySource as Source>⟧.whole job.source }))
+        ≡ Ok (record { query = job.query; source = ⟦<AnySource as Source>⟧.whole job.source; growth = job.growth }))
         (IfMeant (document_meaning settings (view value.now))) }
     ensures fresh { IfOk result (λ job. ⟦<AnySource as Source>⟧.given job.source ≡ 0) }
 {
     check_version(value)?;
     check_names(value)?;
     let steps = steps_in(value)?;
+    let counts = growth_counts(value)?;
     let source = source_of(alloc, value.get("source").ok_or(DocFault::Shape)?)?;
+    let growth = counts.growth()?;
     let query = with_steps(new_query(alloc, settings), steps)?;
-    Ok(Job { query, source })
+    Ok(Job {
+        query,
+        source,
+        growth,
+    })
 }
 
 fn check_version(value: &Value) -> Result<(), DocFault>
@@ -122,7 +129,7 @@ fn are_top_names(members: &Map<String, Value>) -> bool
 fn is_top_name(name: &str) -> bool
     ensures { result ≡ is_top_name name.now }
 {
-    name == "version" || name == "source" || name == "query"
+    name == "version" || name == "source" || name == "query" || name == "growth"
 }
 
 fn steps_in(value: &Value) -> Result<&[Value], DocFault>

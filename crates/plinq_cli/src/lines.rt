@@ -44,7 +44,7 @@ pub(crate) fn write_further_number<W: Write>(writer: &mut W, x: i64) -> Result<(
     write_number(writer, x)
 }
 
-fn write_number<W: Write>(writer: &mut W, x: i64) -> Result<(), WriteFault>
+pub(crate) fn write_number<W: Write>(writer: &mut W, x: i64) -> Result<(), WriteFault>
     ensures { Writes (W.contents writer.old) (W.contents writer.new) result (signed_decimal x) }
 {
     let mut digits = Buffer::new();

@@ -1,6 +1,7 @@
 pub mod Stages
 pub mod Open
 pub mod Fed
+pub mod Through
 pub mod Counts
 pub mod Answered
 pub mod Parts

@@ -16,6 +16,7 @@ pub mod laws;
 mod merge_option;
 mod op;
 mod order;
+mod passing;
 mod plan;
 mod query;
 mod results;

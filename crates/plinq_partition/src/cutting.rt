@@ -3,14 +3,17 @@ ghost use Rattle.plinq_keyed.specs.Keys.{element_lists};
 ghost use Rattle.plinq_partition.specs.Cuts.{cuts, cut_place};
 ghost use Rattle.plinq_partition.specs.declared.fault.PartFault.TheVariants.{NoPartitions, Memory};
 
+use crate::elements::Elements;
+use crate::fault::PartFault;
 use plinq_keyed::Keyed;
 use std::alloc::Global;
 
-use crate::elements::Elements;
-use crate::fault::PartFault;
-
 // The elements in `n` partitions, one allocation for each and one for all.
-pub fn cut_elements<E: Elements>(alloc: Global, elements: &E, n: u64) -> Result<Vec<Vec<Keyed<E::Item>>>, PartFault>
+pub fn cut_elements<E: Elements>(
+    alloc: Global,
+    elements: &E,
+    n: u64,
+) -> Result<Vec<Vec<Keyed<E::Item>>>, PartFault>
     ensures none { n ≡ 0 → result ≡ Err NoPartitions }
     ensures some { OnOk result (1 ≤ n) }
     ensures fault { IfErr result (λ fault. fault ≡ (if n == 0 then NoPartitions else Memory)) }

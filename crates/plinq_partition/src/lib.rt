@@ -15,3 +15,6 @@ pub use fault::PartFault;
 pub use pair_parts::PairParts;
 pub use partitioner::OrderablePartitioner;
 pub use range_parts::RangeParts;
+
+#[cfg(test)]
+mod tests;

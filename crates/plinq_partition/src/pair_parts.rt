@@ -1,17 +1,16 @@
-ghost use Rattle.std.specs.Prelude.{◌≡◌, ◌==◌, List, length, true, false, if◌then◌else◌, IfOk, IfErr};
+ghost use Rattle.std.specs.Prelude.{◌≡◌, ◌==◌, true, false, if◌then◌else◌, IfOk, IfErr};
 ghost use Rattle.plinq_keyed.specs.Keys.{keys, rises, element_lists, Keeps};
 ghost use Rattle.plinq_partition.specs.Cuts.{cuts};
 ghost use Rattle.plinq_partition.specs.declared.fault.PartFault.TheVariants.{NoPartitions, NotSupported, KeysNotRising, Memory};
-
-use plinq_keyed::{KeyProperties, Keyed, check_in_each};
-use std::alloc::{AllocError, Global};
-use std::marker::Model;
-use std::slice;
 
 use crate::cutting::cut_elements;
 use crate::elements::Elements;
 use crate::fault::PartFault;
 use crate::partitioner::OrderablePartitioner;
+use plinq_keyed::{KeyProperties, Keyed, check_in_each};
+use std::alloc::{AllocError, Global};
+use std::marker::Model;
+use std::slice;
 
 /// Elements under keys of the caller's own, which rise, cut into stretches.
 ///
@@ -78,7 +77,7 @@ impl<T: Copy> PairParts<T> {
 impl<T: Copy> OrderablePartitioner for PairParts<T> {
     ghost promised = { λ _. record { in_each = true; across = true; normalized = false } };
 
-    ghost dynamic = { λ _. false };
+    ghost on_demand = { λ _. false };
 
     fn properties(&self) -> KeyProperties {
         KeyProperties {

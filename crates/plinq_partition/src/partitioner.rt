@@ -9,7 +9,7 @@ pub trait OrderablePartitioner {
     ghost promised: { Self → KeyProperties };
 
     // Whether it makes partitions on demand.
-    ghost dynamic: { Self → Bool };
+    ghost on_demand: { Self → Bool };
 
     /// What it promises of its partitions' keys. Takes no memory.
     fn properties(&self) -> KeyProperties
@@ -17,5 +17,5 @@ pub trait OrderablePartitioner {
 
     /// Whether it makes partitions on demand (`SupportsDynamicPartitions`). Takes no memory.
     fn supports_dynamic(&self) -> bool
-        ensures { result ≡ dynamic self.now };
+        ensures { result ≡ on_demand self.now };
 }

@@ -1,16 +1,15 @@
-ghost use Rattle.std.specs.Prelude.{◌≡◌, ◌==◌, List, length, true, false, if◌then◌else◌, IfOk, IfErr, vec_len};
+ghost use Rattle.std.specs.Prelude.{◌≡◌, ◌==◌, true, false, if◌then◌else◌, IfOk, IfErr};
 ghost use Rattle.plinq_keyed.specs.Keys.{keyed_from, element_lists, Keeps};
 ghost use Rattle.plinq_partition.specs.Cuts.{cuts};
 ghost use Rattle.plinq_partition.specs.declared.fault.PartFault.TheVariants.{NoPartitions, NotSupported, Memory};
-
-use plinq_keyed::{KeyProperties, Keyed};
-use std::alloc::{AllocError, Global};
-use std::marker::Model;
 
 use crate::cutting::cut_elements;
 use crate::elements::Elements;
 use crate::fault::PartFault;
 use crate::partitioner::OrderablePartitioner;
+use plinq_keyed::{KeyProperties, Keyed};
+use std::alloc::{AllocError, Global};
+use std::marker::Model;
 
 /// A list whose elements have their indexes as keys, cut into stretches.
 ///
@@ -65,7 +64,7 @@ impl<T: Copy> RangeParts<T> {
 impl<T: Copy> OrderablePartitioner for RangeParts<T> {
     ghost promised = { λ _. record { in_each = true; across = true; normalized = true } };
 
-    ghost dynamic = { λ _. false };
+    ghost on_demand = { λ _. false };
 
     fn properties(&self) -> KeyProperties {
         KeyProperties {

@@ -5,6 +5,7 @@ use super::read_document;
 use crate::any_source::AnySource;
 use crate::doc_fault::{DocFault, StepFault};
 use crate::settings::Settings;
+use plinq_enumerator::{Growth, GrowthFault};
 use plinq_lambda::Formula;
 use plinq_ops::{BuildFault, MergeOption, Op};
 use plinq_source::{Source, Step};
@@ -18,7 +19,7 @@ const PLAIN: Settings = Settings {
 };
 
 // Documents, and why each is refused.
-const REFUSED: [(&str, DocFault); 28] = [
+const REFUSED: [(&str, DocFault); 34] = [
     ("[", DocFault::NotJson),
     ("{} {}", DocFault::NotJson),
     ("{}", DocFault::Shape),
@@ -102,6 +103,30 @@ const REFUSED: [(&str, DocFault); 28] = [
         DocFault::Source,
     ),
     (
+        r#"{"version":1,"source":{"list":[]},"query":[],"growth":[1,3]}"#,
+        DocFault::Shape,
+    ),
+    (
+        r#"{"version":1,"source":{"list":[]},"query":[],"growth":[-1,3,512]}"#,
+        DocFault::Shape,
+    ),
+    (
+        r#"{"version":1,"source":{"range":[0,1099511627777]},"query":[],"growth":[0,3,512]}"#,
+        DocFault::Source,
+    ),
+    (
+        r#"{"version":1,"source":{"list":[]},"query":[["sort"]],"growth":[0,3,512]}"#,
+        DocFault::Growth(GrowthFault::Zero),
+    ),
+    (
+        r#"{"version":1,"source":{"list":[]},"query":[],"growth":[4,1,2]}"#,
+        DocFault::Growth(GrowthFault::FirstAboveMax),
+    ),
+    (
+        r#"{"version":1,"source":{"list":[]},"query":[],"growth":[1,1,65537]}"#,
+        DocFault::Growth(GrowthFault::MaxTooLarge),
+    ),
+    (
         r#"{"version":1,"source":{"list":[]},"query":[["sort"]]}"#,
         UNKNOWN,
     ),
@@ -151,6 +176,35 @@ fn refuses_what_is_no_document(rt: HostRuntime) {
     for (text, fault) in REFUSED {
         assert_eq!(rt; refusal(rt.alloc(), text, PLAIN), Some(fault), "{text}");
     }
+}
+
+// What is said of each fault.
+#[test]
+fn tells_its_faults(rt: HostRuntime) -> Result<(), Fail> {
+    let late = StepFault::Build(BuildFault::NotAtSource);
+    for (fault, text) in [
+        (DocFault::TooLong, "too long"),
+        (DocFault::NotJson, "not JSON"),
+        (DocFault::Shape, "wrong shape"),
+        (DocFault::Version, "unknown version"),
+        (DocFault::Source, "source too large"),
+        (DocFault::Growth(GrowthFault::Zero), "growth: zero"),
+        (
+            DocFault::Growth(GrowthFault::FirstAboveMax),
+            "growth: first above max",
+        ),
+        (
+            DocFault::Growth(GrowthFault::MaxTooLarge),
+            "growth: max too large",
+        ),
+        (UNKNOWN, "step 0: unknown"),
+        (DocFault::Step { at: 1, why: late }, "step 1: not at source"),
+        (DocFault::Memory, "out of memory"),
+    ] {
+        let alloc = rt.alloc();
+        assert_eq!(rt; format!(in alloc; "{fault}")?.as_str(), text);
+    }
+    Ok(())
 }
 
 #[test]
@@ -203,7 +257,16 @@ fn reads_the_example(rt: HostRuntime) -> Result<(), Fail> {
     assert!(rt; job.query.is_ordered());
     assert_eq!(rt; job.query.merge_option(), MergeOption::AutoBuffered);
     assert_eq!(rt; job.query.degree(), 4);
+    assert_eq!(rt; job.growth, Growth::DEFAULT);
     gives(&rt, &mut job.source, &[3, 1, 4], Step::End);
+    Ok(())
+}
+
+#[test]
+fn reads_a_growth(rt: HostRuntime) -> Result<(), Fail> {
+    let text = r#"{"version":1,"source":{"list":[]},"query":[],"growth":[2,5,9]}"#;
+    let job = read_document(rt.alloc(), text.as_bytes(), PLAIN)?;
+    assert_eq!(rt; job.growth, Growth::new(2, 5, 9)?);
     Ok(())
 }
 

@@ -71,3 +71,21 @@ fn reads_known_bytes(rt: HostRuntime) -> Result<(), Fail> {
     assert_eq!(rt; bytes.as_slice(), b"3 1 4".as_slice());
     Ok(())
 }
+
+#[test]
+fn tells_its_faults(rt: HostRuntime) -> Result<(), Fail> {
+    let alloc = rt.alloc();
+    assert_eq!(rt;
+        format!(in alloc; "{}", InputFault::Read)?.as_str(),
+        "read failed"
+    );
+    assert_eq!(rt;
+        format!(in alloc; "{}", InputFault::TooLong)?.as_str(),
+        "too long"
+    );
+    assert_eq!(rt;
+        format!(in alloc; "{}", InputFault::Memory)?.as_str(),
+        "out of memory"
+    );
+    Ok(())
+}

@@ -1,7 +1,7 @@
-use Rattle.std.proofs.Common.{◌≡◌, ◌<◌, ◌≤◌, ◌+◌, ℕ, List, [], ◌++◌, length, take, vec_len, ap, sym, subst, arith}
+use Rattle.std.proofs.Common.{◌≡◌, ◌<◌, ℕ, List, length, take, ap, sym, subst, arith}
 use Rattle.std.proofs.lemmas.List.{length-take-le}
-use Rattle.std.specs.Io.KnownBytes.{Consumes, IsAtEnd}
-use Rattle.plinq_cli.proofs.Known.{Consumes-none, Consumes-append, Consumes-append-none, Consumes-end, Consumes-length}
+use Rattle.std.specs.Io.KnownBytes.{Consumes}
+use Rattle.plinq_cli.proofs.Known.{Consumes-none, Consumes-append, Consumes-append-none, Consumes-end}
 use Rattle.plinq_cli.proofs.input.read_pieces.Goals as goal
 
 pub loop-init : goal.loop-init

@@ -1,4 +1,4 @@
-use Rattle.std.proofs.Common.{◌≡◌, ◌∷◌, ◌++◌, [], ◌+◌, List, ℤ, drop, option_map, Some, refl, ap, sym, ◌∙◌, rules}
+use Rattle.std.proofs.Common.{◌≡◌, ◌∷◌, ◌++◌, [], ◌+◌, List, ℤ, drop, option_map, Some, ap, sym, ◌∙◌, rules}
 use Rattle.serde_json.specs.View.{view, items_view}
 use Rattle.plinq_cli.specs.Values.{whole_number}
 use Rattle.plinq_cli.specs.Sources.{whole_numbers}

@@ -1,5 +1,5 @@
 -- The items so far are numbers, and there is room for those that are left.
-use Rattle.std.proofs.Common.{◌≡◌, ◌+◌, ◌++◌, ◌≤◌, length, drop, option_map, vec_len, vec_capacity}
+use Rattle.std.proofs.Common.{◌≡◌, ◌++◌, ◌≤◌, length, drop, option_map, vec_len, vec_capacity}
 use Rattle.serde_json.specs.View.{items_view}
 use Rattle.plinq_cli.specs.Sources.{whole_numbers}
 use Rattle.plinq_cli.proofs.sources.whole_numbers.Given as goal

@@ -10,5 +10,5 @@ invariant-loop-part g l = record {
   counted : vec_len l.parts ≡ l.part;
   room : l.n ≤ vec_capacity l.parts;
   from : l.from ≡ cut_place l.part (length (g.E.Elements.elements l.elements)) l.n;
-  within : l.from ≤ length (g.E.Elements.elements l.elements)
+  within : l.from ≤ length (g.E.Elements.elements l.elements);
 }

@@ -7,5 +7,5 @@ abbrev pub invariant-loop-key : goal.invariant-loop-key
 invariant-loop-key g l = record {
   made : l.part.items ≡ between l.from l.key (keyed_from 0 l.self);
   counted : vec_len l.part + l.from ≡ l.key;
-  room : l.to ≤ vec_capacity l.part + l.from
+  room : l.to ≤ vec_capacity l.part + l.from;
 }
