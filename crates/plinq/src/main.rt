@@ -2,10 +2,9 @@
 #![tactic(auto)]
 
 use plinq_cli::perform;
-use std::env;
-use std::io;
 use std::io::{BufWriter, ErrorKind};
 use std::process::ExitCode;
+use std::{env, io};
 
 fn main(rt: HostRuntime) -> ExitCode {
     match run(&rt) {

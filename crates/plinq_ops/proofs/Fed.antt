@@ -1,15 +1,14 @@
 -- One operator's part in feeding an item, by what it gives for the item.
-use Rattle.std.specs.Prelude.{◌≡◌, ℕ, zero, suc, ◌+◌, ◌-◌, ◌<◌, ◌≤◌, List, [], ◌∷◌, ◌++◌, length, take, drop, Bool, true, false, Option, Some, None, is_some, refl}
+use Rattle.std.specs.Prelude.{◌≡◌, List, [], ◌∷◌, ◌++◌, true, false, Option, Some, None, is_some, refl}
 use Rattle.std.specs.Option.{option_or}
-use Rattle.std.proofs.Common.{sym, ◌∙◌, ap, arith, append-nil, append_assoc}
-use Rattle.std.proofs.Math.Seq.{drop-nil}
+use Rattle.std.proofs.Common.{sym, ◌∙◌, ap, append-nil, append_assoc}
 use Rattle.plinq_source.specs.declared.ending.Ending.{Ending}
 use Rattle.plinq_source.specs.declared.ending.Ending.TheVariants.{End}
 use Rattle.plinq_source.specs.Trace.{Trace, open_trace, ended, continued, followed}
 use Rattle.plinq_source.proofs.Followed.{trace_of, followed-ended}
-use Rattle.plinq_ops.specs.Stage.{Stage, pieces, taking, skipping, unchanged, joined, taken, skipped, apply, seq, behind, seq_behind, takes_none, some_takes_none}
+use Rattle.plinq_ops.specs.Stage.{Stage, apply, seq, behind, seq_behind, some_takes_none}
 use Rattle.plinq_ops.specs.Feeding.{IsFed}
-use Rattle.plinq_ops.proofs.Stages.{seq-followed, taken-short, taken-enough}
+use Rattle.plinq_ops.proofs.Stages.{seq-followed}
 use Rattle.plinq_ops.proofs.Open.{seq-nothing, seq_behind-nothing, seq_behind-followed, seq-ended_nil, some-where_open, seq_behind-open}
 
 -- a trace that ends with no item

@@ -1,6 +1,6 @@
 -- The batches of a trace that grows.
-use Rattle.std.specs.Prelude.{◌≡◌, ℕ, ◌+◌, List, [], ◌∷◌, ◌++◌, length, Bool, true, false, cond, Option, refl}
-use Rattle.std.proofs.Common.{sym, ◌∙◌, ap, append_assoc}
+use Rattle.std.specs.Prelude.{◌≡◌, ℕ, ◌+◌, List, [], ◌∷◌, ◌++◌, length, true, false, cond, Option, refl}
+use Rattle.std.proofs.Common.{◌∙◌, ap, append_assoc}
 use Rattle.plinq_source.specs.Trace.{Trace, open_trace, followed}
 use Rattle.plinq_ops.specs.Batches.{is_full, full_batches, held_back, last_batch, batches_from}
 

@@ -127,5 +127,5 @@ pub through-all : {L T : Type 0} (meaning : L → Meaning T) (ops : List (Op L))
 through-all meaning ops counts x before out i left y last past through =
     let none : drop i ops ≡ [] = drop_all i ops past in
     let fed : IsFed (stages_left meaning (drop i ops) (drop i left)) (open_trace (y ∷ [])) out (out ++ y ∷ []) (stages_left meaning (drop i ops) (drop i left)) None =
-    rw none (record { items = refl; told = refl; left = λ goes_on. refl; }) in
+    rw none (record { items = refl; told = refl; left = λ goes_on. refl }) in
     rw (take-append-drop i left) at (through.goes_on (drop i left) (out ++ y ∷ []) None fed)

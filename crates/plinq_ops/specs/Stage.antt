@@ -1,5 +1,5 @@
 -- Operators on whole traces.
-use Rattle.std.specs.Prelude.{◌≡◌, refl, ℕ, zero, suc, Bool, true, false, ◌||◌, ◌-◌, List, [], ◌∷◌, length, take, drop, nat_le, if◌then◌else◌, Option, Some, None}
+use Rattle.std.specs.Prelude.{◌≡◌, refl, ℕ, zero, suc, Bool, true, false, ◌||◌, ◌-◌, List, [], ◌∷◌, length, take, drop, nat_le, if◌then◌else◌, Option}
 use Rattle.plinq_source.specs.declared.ending.Ending.{Ending}
 use Rattle.plinq_source.specs.declared.ending.Ending.TheVariants.{End, Refused}
 use Rattle.plinq_source.specs.Trace.{Trace, open_trace, ended, followed}

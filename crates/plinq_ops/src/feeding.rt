@@ -4,7 +4,7 @@ ghost use Rattle.plinq_ops.specs.Stage.{some_takes_none};
 ghost use Rattle.plinq_ops.specs.Feeding.{stages_left, IsFed};
 
 use crate::op::Op;
-use crate::passing::{pass, Passed};
+use crate::passing::{Passed, pass};
 use plinq_lambda::Lambda;
 use plinq_source::{Ending, OutOfMemory};
 use std::alloc::Global;

@@ -1,7 +1,7 @@
-use Rattle.std.proofs.Common.{rules, ◌≡◌, ◌∷◌, ◌-◌, [], zero, suc, ℕ, length, Ok, Err, Some, None, false, true, take, ◌+◌, ◌<◌, ◌++◌, is_some, drop, ◌∙◌, sym, ap, arith, append_assoc}
+use Rattle.std.proofs.Common.{rules, ◌≡◌, ◌∷◌, [], length, Some, None, true, take, ◌+◌, ◌<◌, ◌++◌, is_some, drop, ◌∙◌, sym, ap, arith, append_assoc}
 use Rattle.std.specs.Option.{option_or}
 use Rattle.std.proofs.lemmas.List.{take_more, take-append-drop, take_more_set, drop-set-lt}
-use Rattle.plinq_source.specs.Trace.{Trace, open_trace, ended}
+use Rattle.plinq_source.specs.Trace.{open_trace, ended}
 use Rattle.plinq_ops.specs.Feeding.{stages_left, IsFed}
 use Rattle.plinq_ops.proofs.Fed.{fed-ending, fed-none, fed-followed, undecided-left, fed-ended_before, none-from_is_some}
 use Rattle.plinq_ops.proofs.Through.{through-none, at-index, set-parts, through-item, through-last, through-all}

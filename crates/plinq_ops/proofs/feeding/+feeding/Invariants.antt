@@ -1,4 +1,4 @@
-use Rattle.std.proofs.Common.{length, take, drop, ℕ, ◌+◌, ◌*◌, None}
+use Rattle.std.proofs.Common.{length, take, drop, ◌+◌, ◌*◌, None}
 use Rattle.plinq_source.specs.Trace.{open_trace}
 use Rattle.plinq_ops.specs.Feeding.{stages_left, IsFed}
 use Rattle.plinq_ops.proofs.Through.{IsThrough}

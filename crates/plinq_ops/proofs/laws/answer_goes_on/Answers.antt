@@ -1,5 +1,4 @@
 use Rattle.plinq_ops.specs.Operator.{stages_of}
-use Rattle.plinq_ops.specs.Plan.{worker_part}
 use Rattle.plinq_ops.proofs.Stages.{seq-followed}
 use Rattle.plinq_ops.proofs.laws.answer_goes_on.Goals as goal
 

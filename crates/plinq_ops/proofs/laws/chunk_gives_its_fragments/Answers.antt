@@ -1,4 +1,3 @@
-use Rattle.plinq_ops.specs.Operator.{stages_of}
 use Rattle.plinq_ops.specs.Plan.{worker_part}
 use Rattle.plinq_ops.proofs.Glue.{chunk_answer-uncut}
 use Rattle.plinq_ops.proofs.laws.chunk_gives_its_fragments.Goals as goal

@@ -1,4 +1,3 @@
-use Rattle.plinq_ops.specs.Operator.{stages_of}
 use Rattle.plinq_ops.specs.Plan.{worker_part}
 use Rattle.plinq_ops.proofs.Glue.{glued-append}
 use Rattle.plinq_ops.proofs.laws.chunks_glue.Goals as goal

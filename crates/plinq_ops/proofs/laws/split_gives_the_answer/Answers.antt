@@ -1,5 +1,3 @@
-use Rattle.plinq_ops.specs.Operator.{stages_of}
-use Rattle.plinq_ops.specs.Plan.{worker_part}
 use Rattle.plinq_ops.proofs.Glue.{answer_of-split}
 use Rattle.plinq_ops.proofs.laws.split_gives_the_answer.Goals as goal
 

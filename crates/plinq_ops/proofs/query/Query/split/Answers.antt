@@ -1,4 +1,4 @@
-use Rattle.std.proofs.Common.{rules, ◌∙◌, ap, take, drop}
+use Rattle.std.proofs.Common.{rules, ◌∙◌}
 use Rattle.plinq_ops.proofs.Parts.{length-worker-le, take-worker, drop-worker, worker_part-by_element}
 use Rattle.plinq_ops.proofs.query.Query.split.Goals as goal
 
