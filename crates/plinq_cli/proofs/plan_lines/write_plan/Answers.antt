@@ -49,7 +49,7 @@ returns-in_err-write_named-3 g c =
     let q = c.args.query.now in
     let workers = ap (named_line (codes "workers ")) (c.format.ensures.text ∙ ap decimal c.degree.ensures.value) in
     let merge = ap (named_line (codes "merge ")) (c.merge_name.ensures ∙ ap merge_name c.merge_option.ensures) in
-    let order = ap (named_line (codes "order ")) (c.order_name.ensures ∙ ap order_name c.split-plan.ensures.order) in
+    let order = ap (named_line (codes "order ")) (c.order_name.ensures ∙ ap order_name c.split-plan.ensures.plan.order) in
     writes-at_err _ _ _ _ c.from_residual-in_err-write_named-3.ensures.0
     (begins-behind _ _ _ (workers_line q) (merge_line q ++ (order_line q ++ (worker_line q ++ after_line q)))
     (appends-as _ _ _ _ workers c.in_ok-write_named.ensures)
@@ -63,8 +63,8 @@ returns-in_err-write_named_part g c =
     let q = c.args.query.now in
     let workers = ap (named_line (codes "workers ")) (c.format.ensures.text ∙ ap decimal c.degree.ensures.value) in
     let merge = ap (named_line (codes "merge ")) (c.merge_name.ensures ∙ ap merge_name c.merge_option.ensures) in
-    let order = ap (named_line (codes "order ")) (c.order_name.ensures ∙ ap order_name c.split-plan.ensures.order) in
-    let worker = ap (λ ops. named_line (codes "worker ") (part_words ops)) c.split-plan.ensures.worker in
+    let order = ap (named_line (codes "order ")) (c.order_name.ensures ∙ ap order_name c.split-plan.ensures.plan.order) in
+    let worker = ap (λ ops. named_line (codes "worker ") (part_words ops)) c.split-plan.ensures.plan.worker in
     writes-at_err _ _ _ _ c.from_residual-in_err-write_named_part.ensures.0
     (begins-behind _ _ _ (workers_line q) (merge_line q ++ (order_line q ++ (worker_line q ++ after_line q)))
     (appends-as _ _ _ _ workers c.in_ok-write_named.ensures)
@@ -80,9 +80,9 @@ returns g c =
     let q = c.args.query.now in
     let workers = ap (named_line (codes "workers ")) (c.format.ensures.text ∙ ap decimal c.degree.ensures.value) in
     let merge = ap (named_line (codes "merge ")) (c.merge_name.ensures ∙ ap merge_name c.merge_option.ensures) in
-    let order = ap (named_line (codes "order ")) (c.order_name.ensures ∙ ap order_name c.split-plan.ensures.order) in
-    let worker = ap (λ ops. named_line (codes "worker ") (part_words ops)) c.split-plan.ensures.worker in
-    let after = ap (λ ops. named_line (codes "after ") (part_words ops)) c.split-plan.ensures.after in
+    let order = ap (named_line (codes "order ")) (c.order_name.ensures ∙ ap order_name c.split-plan.ensures.plan.order) in
+    let worker = ap (λ ops. named_line (codes "worker ") (part_words ops)) c.split-plan.ensures.plan.worker in
+    let after = ap (λ ops. named_line (codes "after ") (part_words ops)) c.split-plan.ensures.plan.after in
     writes-behind _ _ _ _ (workers_line q) (merge_line q ++ (order_line q ++ (worker_line q ++ after_line q)))
     (appends-as _ _ _ _ workers c.in_ok-write_named.ensures)
     (writes-behind _ _ _ _ (merge_line q) (order_line q ++ (worker_line q ++ after_line q))
