@@ -36,12 +36,26 @@ pub fn perform<R: AllocGlobal, I: Read, W: Write, E: Write>(
 {
     let alloc = rt.alloc();
     match read_arguments(alloc, words.as_slice()) {
-        Ok(arguments) => {
-            let answered = answer(alloc, arguments, reader, out);
-            report(&answered, err)
-        }
+        Ok(arguments) => perform_with(alloc, arguments, reader, out, err),
         Err(refusal) => show(&refusal, out, err),
     }
+}
+
+// What the program does once its arguments are known.
+fn perform_with<I: Read, W: Write, E: Write>(
+    alloc: Global,
+    arguments: Arguments,
+    reader: &mut I,
+    out: &mut W,
+    err: &mut E,
+) -> u8
+    requires { ForSome arguments.settings.workers (λ n. (1 ≤ n) × (n ≤ 64)) }
+    ensures status { result ≤ 5 }
+    ensures written { IfSome (I.remaining reader.old) (λ bytes.
+        Performs arguments bytes (W.contents out.old) (W.contents out.new) result) }
+{
+    let answered = answer(alloc, arguments, reader, out);
+    report(&answered, err)
 }
 
 // The answer of the document, flushed.
