@@ -80,7 +80,7 @@ fn call_alone(call: StepCall, items: &[Value]) -> Option<StepCall>
     }
 }
 
-fn merge_word(word: &str) -> Option<MergeOption>
+pub(crate) fn merge_word(word: &str) -> Option<MergeOption>
     ensures { result ≡ merge_word word.now }
 {
     match word {

@@ -1,5 +1,5 @@
 -- From the items that were fed to the answer to the whole trace.
-use Rattle.std.specs.Prelude.{◌≡◌, ℕ, zero, suc, ◌+◌, ◌<◌, ◌≤◌, List, [], ◌∷◌, ◌++◌, length, take, drop, true, Option, Some, None, IsSome, is_some, refl}
+use Rattle.std.specs.Prelude.{◌≡◌, ℕ, ◌+◌, ◌≤◌, List, [], ◌∷◌, ◌++◌, take, drop, true, Option, Some, None, refl}
 use Rattle.std.proofs.Common.{sym, ◌∙◌, ap, arith, append-nil}
 use Rattle.std.proofs.lemmas.List.{take-append-drop, take-take}
 use Rattle.std.proofs.Math.Seq.{take-length}
@@ -8,7 +8,7 @@ use Rattle.plinq_source.specs.declared.ending.Ending.TheVariants.{End}
 use Rattle.plinq_source.specs.Trace.{Trace, open_trace, ended, followed}
 use Rattle.plinq_source.proofs.Followed.{trace_of, followed-ended}
 use Rattle.plinq_source.proofs.Steps.{IsNextItem, IsAtEnding}
-use Rattle.plinq_ops.specs.Stage.{Stage, seq, seq_behind, some_takes_none}
+use Rattle.plinq_ops.specs.Stage.{Stage, seq, some_takes_none}
 use Rattle.plinq_ops.specs.Feeding.{IsFed}
 use Rattle.plinq_ops.specs.Sequential.{first_items, IsLeastDeciding}
 use Rattle.plinq_ops.proofs.Stages.{seq-followed}

@@ -1,5 +1,5 @@
 -- From the items that a worker fed to the answer of its chunk.
-use Rattle.std.specs.Prelude.{◌≡◌, ℕ, suc, ◌+◌, ◌≤◌, ◌<◌, pos, List, [], ◌∷◌, ◌++◌, Bool, true, false, cond, nat_lt, Option, Some, None, is_some, MatchBool, refl}
+use Rattle.std.specs.Prelude.{◌≡◌, ℕ, suc, ◌+◌, ◌≤◌, pos, List, [], ◌∷◌, ◌++◌, true, false, Option, Some, None, is_some, MatchBool}
 use Rattle.std.specs.List.{list_all}
 use Rattle.std.proofs.Common.{sym, ◌∙◌, ap, arith, append_assoc}
 use Rattle.std.proofs.lemmas.Bool.{lt-leb}
@@ -14,7 +14,7 @@ use Rattle.plinq_ops.specs.Operator.{stages_of}
 use Rattle.plinq_ops.specs.Feeding.{IsFed}
 use Rattle.plinq_ops.specs.Plan.{is_by_element}
 use Rattle.plinq_ops.specs.Fragment.{fragment_of}
-use Rattle.plinq_ops.specs.Chunk.{IsWorkerEnding, IsToldBy, ChunkAnswer, dropped_at, before_answer, chunk_answer, BehindItems}
+use Rattle.plinq_ops.specs.Chunk.{IsWorkerEnding, IsToldBy, ChunkAnswer, before_answer, chunk_answer, BehindItems}
 use Rattle.plinq_ops.proofs.Worker.{worker-undecided, seq_behind-worker, fragment_at-worker, seq-ending}
 
 -- an item that was fed to a worker part gives its fragment, and leaves the worker part as it was

@@ -1,40 +1,23 @@
 -- One operator's part in feeding an item, by what it gives for the item.
-use Rattle.std.specs.Prelude.{◌≡◌, ℕ, zero, suc, ◌+◌, ◌-◌, ◌<◌, ◌≤◌, List, [], ◌∷◌, ◌++◌, length, take, drop, Bool, true, false, Option, Some, None, unwrap_or, is_some, refl}
-use Rattle.std.proofs.Common.{sym, ◌∙◌, ap, arith, append-nil, append_assoc}
-use Rattle.std.proofs.Math.Seq.{drop-nil}
+use Rattle.std.specs.Prelude.{◌≡◌, List, [], ◌∷◌, ◌++◌, true, false, Option, Some, None, is_some, refl}
+use Rattle.std.specs.Option.{option_or}
+use Rattle.std.proofs.Common.{sym, ◌∙◌, ap, append-nil, append_assoc}
 use Rattle.plinq_source.specs.declared.ending.Ending.{Ending}
 use Rattle.plinq_source.specs.declared.ending.Ending.TheVariants.{End}
 use Rattle.plinq_source.specs.Trace.{Trace, open_trace, ended, continued, followed}
 use Rattle.plinq_source.proofs.Followed.{trace_of, followed-ended}
-use Rattle.plinq_ops.specs.Stage.{Stage, pieces, taking, skipping, unchanged, joined, taken, skipped, apply, seq, behind, seq_behind, takes_none, some_takes_none}
+use Rattle.plinq_ops.specs.Stage.{Stage, apply, seq, behind, seq_behind, some_takes_none}
 use Rattle.plinq_ops.specs.Feeding.{IsFed}
-use Rattle.plinq_ops.proofs.Stages.{seq-followed, taken-short, taken-enough}
+use Rattle.plinq_ops.proofs.Stages.{seq-followed}
 use Rattle.plinq_ops.proofs.Open.{seq-nothing, seq_behind-nothing, seq_behind-followed, seq-ended_nil, some-where_open, seq_behind-open}
 
--- the piece is an ending
-pub fed-ended : {T : Type 0} (piece : T → Trace T) (x : T) (ss ss' : List (Stage T)) (out : List T) (e : Ending)
-    → piece x ≡ ended [] e → some_takes_none ss ≡ false → IsFed (pieces piece ∷ ss) (open_trace (x ∷ [])) out out ss' (Some e)
-fed-ended piece x ss ss' out e is undecided =
-    let all : seq ss (followed (piece x) (open_trace [])) ≡ ended [] e =
-    ap (λ t. seq ss (followed t (open_trace []))) is ∙ seq-nothing ss (Some e) undecided in
+-- a trace that ends with no item
+pub fed-ending : {T : Type 0} (ss ss' : List (Stage T)) (out : List T) (e : Ending) → some_takes_none ss ≡ false → IsFed ss (ended [] e) out out ss' (Some e)
+fed-ending ss ss' out e undecided =
     record {
-      items = sym (append-nil out) ∙ ap (λ t. out ++ t.items) (sym all);
-      told = ap (λ t. t.ending) (sym all);
+      items = sym (append-nil out) ∙ ap (λ t. out ++ t.items) (sym (seq-nothing ss (Some e) undecided));
+      told = ap (λ t. t.ending) (sym (seq-nothing ss (Some e) undecided));
       left = λ bad. absurd (cc);
-    }
-
--- the piece is empty
-pub fed-nothing : {T : Type 0} (piece : T → Trace T) (x : T) (ss : List (Stage T)) (out : List T)
-    → piece x ≡ open_trace [] → some_takes_none ss ≡ false → IsFed (pieces piece ∷ ss) (open_trace (x ∷ [])) out out (pieces piece ∷ ss) None
-fed-nothing piece x ss out is undecided =
-    let all : seq ss (followed (piece x) (open_trace [])) ≡ open_trace [] =
-    ap (λ t. seq ss (followed t (open_trace []))) is ∙ seq-nothing ss None undecided in
-    let left : seq_behind ss (followed (piece x) (open_trace [])) ≡ ss =
-    ap (λ t. seq_behind ss (followed t (open_trace []))) is ∙ seq_behind-nothing ss undecided in
-    record {
-      items = sym (append-nil out) ∙ ap (λ t. out ++ t.items) (sym all);
-      told = ap (λ t. t.ending) (sym all);
-      left = λ e. ap (λ rest. pieces piece ∷ rest) (sym left);
     }
 
 -- the operators but the first see this trace in the place of the item
@@ -50,41 +33,22 @@ fed-through s s' x t ss ss' before after e is rest fed =
           cc;
     }
 
--- the item is the last that a Take lets through
+-- the run ends behind this item
 pub fed-last : {T : Type 0} (x : T) (ss ss' ss'' : List (Stage T)) (before after : List T) (e : Option Ending)
-    → IsFed ss (open_trace (x ∷ [])) before after ss' e
-    → IsFed (taking 1 ∷ ss) (open_trace (x ∷ [])) before after ss'' (Some (unwrap_or e End))
+    → IsFed ss (open_trace (x ∷ [])) before after ss' e → IsFed ss (ended (x ∷ []) End) before after ss'' (option_or e (Some End))
 fed-last {T} x ss ss' ss'' before after e fed =
     let left : List (Stage T) = seq_behind ss (open_trace (x ∷ [])) in
     let through : seq ss (ended (x ∷ []) End) ≡ followed (seq ss (open_trace (x ∷ []))) (ended [] End) =
     seq-followed ss (open_trace (x ∷ [])) (ended [] End) ∙ ap (followed (seq ss (open_trace (x ∷ [])))) (seq-ended_nil left) in
     let items : (xs : List T) (o : Option Ending) → (continued xs o (ended [] End)).items ≡ xs = λ xs o. elim o as (λ v. (continued xs v (ended [] End)).items ≡ xs) [ None ↦ append-nil xs | Some f ↦ refl ] in
-    let ending : (xs : List T) (o : Option Ending) → (continued xs o (ended [] End)).ending ≡ Some (unwrap_or o End) = λ xs o. elim o as (λ v. (continued xs v (ended [] End)).ending ≡ Some (unwrap_or v End)) [ None ↦ refl | Some f ↦ refl ] in
+    let ending : (xs : List T) (o : Option Ending) → (continued xs o (ended [] End)).ending ≡ option_or o (Some End) = λ xs o. elim o as (λ v. (continued xs v (ended [] End)).ending ≡ option_or v (Some End)) [ None ↦ refl | Some f ↦ refl ] in
+    let told : option_or e (Some End) ≡ (seq ss (ended (x ∷ []) End)).ending = ap (λ o. option_or o (Some End)) fed.told ∙ sym (ap (λ u. u.ending) through ∙ ending _ _) in
+    let ends : (o : Option Ending) → option_or o (Some End) ≡ None → ss'' ≡ seq_behind ss (ended (x ∷ []) End) = λ o. elim o as (λ v. option_or v (Some End) ≡ None → ss'' ≡ seq_behind ss (ended (x ∷ []) End)) [ None ↦ λ bad. absurd (cc) | Some f ↦ λ bad. absurd (cc) ] in
     record {
       items = fed.items ∙ ap (λ zs. before ++ zs) (sym (ap (λ u. u.items) through ∙ items _ _));
-      told = ap (λ o. Some (unwrap_or o End)) fed.told ∙ sym (ap (λ u. u.ending) through ∙ ending _ _);
-      left = λ bad. absurd (cc);
+      told = told;
+      left = ends e;
     }
-
--- a Skip that still has items to pass over
-pub fed-skipped : {T : Type 0} (n : ℕ) (x : T) (ss : List (Stage T)) (out : List T) → n ≡ suc (n - 1) → some_takes_none ss ≡ false
-    → IsFed (skipping n ∷ ss) (open_trace (x ∷ [])) out out (skipping (n - 1) ∷ ss) None
-fed-skipped n x ss out some undecided =
-    let none : drop n (x ∷ []) ≡ [] = rw some (drop-nil (n - 1)) in
-    let all : seq ss (open_trace (drop n (x ∷ []))) ≡ open_trace [] =
-    ap (λ zs. seq ss (open_trace zs)) none ∙ seq-nothing ss None undecided in
-    let left : seq_behind ss (open_trace (drop n (x ∷ []))) ≡ ss =
-    ap (λ zs. seq_behind ss (open_trace zs)) none ∙ seq_behind-nothing ss undecided in
-    record {
-      items = sym (append-nil out) ∙ ap (λ t. out ++ t.items) (sym all);
-      told = ap (λ t. t.ending) (sym all);
-      left = λ e. ap (λ rest. skipping (n - 1) ∷ rest) (sym left);
-    }
-
--- a Take that isn't decided still has items to take
-pub takes_some : {T : Type 0} (n : ℕ) (ss : List (Stage T)) → some_takes_none (taking n ∷ ss) ≡ false → 0 < n
-takes_some zero ss undecided = absurd (cc)
-takes_some (suc n) ss undecided = omega arith
 
 -- nothing was fed yet
 pub fed-none : {T : Type 0} (ss : List (Stage T)) (out : List T) → some_takes_none ss ≡ false → IsFed ss (open_trace []) out out ss None

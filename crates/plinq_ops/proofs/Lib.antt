@@ -1,9 +1,11 @@
 pub mod Stages
 pub mod Open
 pub mod Fed
+pub mod Through
 pub mod Counts
 pub mod Answered
 pub mod Parts
 pub mod Worker
 pub mod Glue
 pub mod Chunks
+pub mod Runs

@@ -1,13 +1,13 @@
 -- Open answers: an answer stays open only while the trace is, and then what is left of the operators goes on from there.
-use Rattle.std.specs.Prelude.{◌≡◌, ℕ, zero, suc, ◌+◌, ◌-◌, ◌≤◌, List, [], ◌∷◌, ◌++◌, length, take, drop, nat_le, Bool, true, false, cond, ◌||◌, Option, Some, None, is_some, ◌⊎◌, refl}
-use Rattle.std.proofs.Common.{sym, ◌∙◌, ap, subst, inl, inr, arith, length-append, append-nil}
+use Rattle.std.specs.Prelude.{◌≡◌, ℕ, zero, suc, ◌+◌, ◌-◌, List, [], ◌∷◌, length, take, nat_le, true, false, cond, ◌||◌, Option, Some, None, is_some, ◌⊎◌, refl}
+use Rattle.std.proofs.Common.{sym, ◌∙◌, ap, inl, inr, arith, length-append, append-nil}
 use Rattle.std.proofs.Math.Nat.{sub-zero}
 use Rattle.std.proofs.Math.Seq.{drop-nil}
 use Rattle.plinq_source.specs.declared.ending.Ending.{Ending}
 use Rattle.plinq_source.specs.declared.ending.Ending.TheVariants.{End}
 use Rattle.plinq_source.specs.Trace.{Trace, open_trace, ended, continued, followed}
 use Rattle.plinq_source.proofs.Followed.{trace_of, followed-open_nil}
-use Rattle.plinq_ops.specs.Stage.{Stage, pieces, taking, skipping, unchanged, joined, taken, skipped, apply, seq, behind, seq_behind, takes_none, some_takes_none}
+use Rattle.plinq_ops.specs.Stage.{Stage, pieces, taking, skipping, unchanged, joined, apply, seq, behind, seq_behind, takes_none, some_takes_none}
 use Rattle.plinq_ops.proofs.Stages.{apply-followed, seq-followed, taken-short}
 
 -- what follows decides whether there is an ending, unless there is one already

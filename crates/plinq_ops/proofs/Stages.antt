@@ -1,6 +1,6 @@
 -- Laws of the operators on traces: a trace that follows another goes through what is left of the operators.
-use Rattle.std.specs.Prelude.{◌≡◌, ℕ, zero, suc, ◌+◌, ◌-◌, ◌<◌, ◌≤◌, List, [], ◌∷◌, ◌++◌, length, take, drop, nat_le, Bool, true, false, cond, Option, Some, None, is_some, ◌⊎◌, refl}
-use Rattle.std.proofs.Common.{sym, ◌∙◌, ap, inl, inr, arith, append-nil, length-append}
+use Rattle.std.specs.Prelude.{◌≡◌, ℕ, zero, suc, ◌-◌, ◌<◌, ◌≤◌, List, [], ◌∷◌, ◌++◌, length, take, drop, nat_le, true, false, cond, Option, Some, None, refl}
+use Rattle.std.proofs.Common.{sym, ◌∙◌, ap, inl, inr, arith, length-append}
 use Rattle.std.proofs.lemmas.List.{take-append-le}
 use Rattle.std.proofs.lemmas.Bool.{le-leb, lt-leb}
 use Rattle.std.proofs.lemmas.Bool.Decides.{leb_tells}
@@ -9,8 +9,8 @@ use Rattle.std.proofs.Math.Seq.{drop-nil}
 use Rattle.plinq_source.specs.declared.ending.Ending.{Ending}
 use Rattle.plinq_source.specs.declared.ending.Ending.TheVariants.{End}
 use Rattle.plinq_source.specs.Trace.{Trace, open_trace, ended, continued, followed}
-use Rattle.plinq_source.proofs.Followed.{trace_of, followed-followed, followed-open_nil}
-use Rattle.plinq_ops.specs.Stage.{Stage, pieces, taking, skipping, unchanged, joined, taken, skipped, apply, seq, behind, seq_behind}
+use Rattle.plinq_source.proofs.Followed.{trace_of, followed-followed}
+use Rattle.plinq_ops.specs.Stage.{Stage, pieces, taking, skipping, unchanged, joined, taken, apply, seq, behind, seq_behind}
 
 -- the pieces of a list behind another
 pub joined-append : {T : Type 0} (piece : T → Trace T) (xs ys : List T) (e : Option Ending)

@@ -1,15 +1,15 @@
 -- The worker part: operators that look at each element alone.
-use Rattle.std.specs.Prelude.{◌≡◌, ℕ, ℤ, List, [], ◌∷◌, ◌++◌, length, Bool, true, false, cond, ◌&&◌, Option, Some, None, Result, Ok, Err, ⊤, refl}
+use Rattle.std.specs.Prelude.{◌≡◌, ℕ, ℤ, List, [], ◌∷◌, Bool, true, false, cond, Option, Some, None, Result, Ok, Err, refl}
 use Rattle.std.specs.List.{list_all}
-use Rattle.std.proofs.Common.{sym, ◌∙◌, ap, map}
+use Rattle.std.proofs.Common.{ap}
 use Rattle.plinq_source.specs.declared.ending.Ending.{Ending}
-use Rattle.plinq_source.specs.declared.ending.Ending.TheVariants.{End, Refused, Fault}
-use Rattle.plinq_source.specs.Trace.{Trace, open_trace, ended, continued, followed}
+use Rattle.plinq_source.specs.declared.ending.Ending.TheVariants.{End}
+use Rattle.plinq_source.specs.Trace.{Trace, ended, continued}
 use Rattle.plinq_lambda.specs.Meaning.{Meaning}
 use Rattle.plinq_ops.specs.declared.op.Op.{Op}
 use Rattle.plinq_ops.specs.declared.op.Op.TheVariants.{Select, Filter, SelectMany, Take, Skip, TakeWhile, AsUnordered}
-use Rattle.plinq_ops.specs.Stage.{Stage, pieces, taking, skipping, unchanged, joined, taken, apply, seq, behind, seq_behind, takes_none, some_takes_none}
-use Rattle.plinq_ops.specs.Operator.{selected, filtered, expanded, taken_while, item_count, stage_of, stages_of}
+use Rattle.plinq_ops.specs.Stage.{joined, apply, seq, seq_behind, some_takes_none}
+use Rattle.plinq_ops.specs.Operator.{selected, filtered, expanded, taken_while, stage_of, stages_of}
 use Rattle.plinq_ops.specs.Plan.{is_by_element}
 use Rattle.plinq_ops.specs.Fragment.{fragment_at}
 use Rattle.plinq_ops.specs.Chunk.{IsWorkerEnding}

@@ -1,8 +1,9 @@
 -- Batches: how the items of an answer are handed over.
-use Rattle.std.specs.Prelude.{ℕ, Bool, false, ◌+◌, List, [], ◌∷◌, ◌++◌, length, ◌==◌, if◌then◌else◌, Option, Some, None}
+use Rattle.std.specs.Prelude.{◌≡◌, refl, ℕ, Bool, false, ◌+◌, List, [], ◌∷◌, ◌++◌, length, ◌==◌, if◌then◌else◌, Option, Some, None}
 use Rattle.plinq_source.specs.declared.ending.Ending.{Ending}
 use Rattle.plinq_source.specs.declared.ending.Ending.TheVariants.{End, Refused, Fault}
-use Rattle.plinq_source.specs.Trace.{Trace}
+use Rattle.std.specs.List.{range_with_len}
+use Rattle.plinq_source.specs.Trace.{Trace, open_trace, ended}
 use Rattle.plinq_ops.specs.declared.merge_option.MergeOption.{MergeOption}
 use Rattle.plinq_ops.specs.declared.merge_option.MergeOption.TheVariants.{Default, NotBuffered, AutoBuffered, FullyBuffered}
 
@@ -47,3 +48,27 @@ batches_from size held t = full_batches size held t.items ++ last_batch size (he
 -- the batches of a trace: one an item, runs of 16, or all at once where the ending is End
 abbrev pub batches : {T : Type 0} → MergeOption → Trace T → List (List T)
 batches option t = batches_from (batch_size option) [] t
+
+-- seventeen items in buffers of sixteen
+seventeen : length (batches AutoBuffered (ended (range_with_len 1 17) End)) ≡ 2
+seventeen = refl
+
+last_of_seventeen : batches AutoBuffered (ended (range_with_len 1 17) End) ≡ range_with_len 1 16 ∷ (17 ∷ []) ∷ []
+last_of_seventeen = refl
+
+-- a trace that is still open gives its full batches alone
+seventeen_open : batches AutoBuffered (open_trace (range_with_len 1 17)) ≡ range_with_len 1 16 ∷ []
+seventeen_open = refl
+
+one_by_one : batches {T = ℕ} NotBuffered (ended (4 ∷ 2 ∷ []) (Refused 7)) ≡ (4 ∷ []) ∷ (2 ∷ []) ∷ []
+one_by_one = refl
+
+-- a fully buffered answer that doesn't end well gives nothing
+refused_full : batches {T = ℕ} FullyBuffered (ended (4 ∷ 2 ∷ []) (Refused 7)) ≡ []
+refused_full = refl
+
+ended_full : batches {T = ℕ} FullyBuffered (ended (4 ∷ 2 ∷ []) End) ≡ (4 ∷ 2 ∷ []) ∷ []
+ended_full = refl
+
+nothing_full : batches {T = ℕ} FullyBuffered (ended [] End) ≡ []
+nothing_full = refl

@@ -1,5 +1,5 @@
 -- Feeding: items sent through operators that have seen others before.
-use Rattle.std.specs.Prelude.{◌≡◌, ℕ, List, [], ◌∷◌, ◌++◌, Bool, true, false, cond, Option, Some, None, ◌==◌}
+use Rattle.std.specs.Prelude.{◌≡◌, ℕ, List, [], ◌∷◌, ◌++◌, Bool, false, Option, None, ◌==◌}
 use Rattle.plinq_source.specs.declared.ending.Ending.{Ending}
 use Rattle.plinq_source.specs.Trace.{Trace}
 use Rattle.plinq_lambda.specs.Meaning.{Meaning}

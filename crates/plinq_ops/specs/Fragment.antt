@@ -1,15 +1,11 @@
 -- Fragments: what the worker part gives for one keyed element, and how fragments glue together.
-use Rattle.std.specs.Prelude.{◌≡◌, ℕ, ◌+◌, ℤ, pos, ◌-ℤ◌, int_lt, List, [], ◌∷◌, ◌++◌, length, Bool, true, false, ◌==◌, nat_lt, if◌then◌else◌, Option, Some, None, Result, Ok, Err, ⊤}
+use Rattle.std.specs.Prelude.{ℕ, ◌+◌, ℤ, pos, ◌-ℤ◌, int_lt, List, [], ◌∷◌, if◌then◌else◌, Option}
 use Rattle.plinq_source.specs.declared.ending.Ending.{Ending}
-use Rattle.plinq_source.specs.declared.ending.Ending.TheVariants.{End, Refused, Fault}
+use Rattle.plinq_source.specs.declared.ending.Ending.TheVariants.{End}
 use Rattle.plinq_source.specs.Trace.{Trace, open_trace, ended, followed}
 use Rattle.plinq_lambda.specs.Meaning.{Meaning}
-use Rattle.plinq_keyed.specs.declared.chunk.Chunk.{Chunk}
 use Rattle.plinq_ops.specs.declared.op.Op.{Op}
 use Rattle.plinq_ops.specs.declared.op.Op.TheVariants.{Select, Filter, SelectMany, Take, Skip, TakeWhile, AsUnordered}
-use Rattle.plinq_ops.specs.declared.fragments.FragEnd.{FragEnd}
-use Rattle.plinq_ops.specs.declared.fragments.FragEnd.TheVariants.{More, End as FragEndEnd, Fault as FragEndFault, Dropped}
-use Rattle.plinq_ops.specs.declared.fragments.Fragment.{Fragment}
 use Rattle.plinq_ops.specs.Stage.{apply}
 use Rattle.plinq_ops.specs.Operator.{stage_of, item_count}
 

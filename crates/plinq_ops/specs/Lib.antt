@@ -4,6 +4,7 @@ pub mod Query
 pub mod Batches
 pub mod Sequential
 pub mod Feeding
+pub mod Passing
 pub mod Plan
 pub mod Fragment
 pub mod Chunk

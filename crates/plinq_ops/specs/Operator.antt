@@ -1,11 +1,11 @@
 -- The operators of a query, by what they do to a trace.
-use Rattle.std.specs.Prelude.{ℕ, ℤ, pos, negsuc, List, [], ◌∷◌, Bool, true, false, Result, Ok, Err, map}
-use Rattle.plinq_source.specs.declared.ending.Ending.TheVariants.{End, Fault}
+use Rattle.std.specs.Prelude.{◌≡◌, refl, zero, suc, nat_lt, replicate, ℕ, ℤ, pos, negsuc, List, [], ◌∷◌, Bool, true, false, Result, Ok, Err, map}
+use Rattle.plinq_source.specs.declared.ending.Ending.TheVariants.{End, Refused, Fault}
 use Rattle.plinq_source.specs.Trace.{Trace, open_trace, ended}
 use Rattle.plinq_lambda.specs.Meaning.{Meaning}
 use Rattle.plinq_ops.specs.declared.op.Op.{Op}
 use Rattle.plinq_ops.specs.declared.op.Op.TheVariants.{Select, Filter, SelectMany, Take, Skip, TakeWhile, AsUnordered}
-use Rattle.plinq_ops.specs.Stage.{Stage, pieces, taking, skipping, unchanged}
+use Rattle.plinq_ops.specs.Stage.{Stage, pieces, taking, skipping, unchanged, apply}
 
 -- Select: the mapped item; a fault ends the answer
 abbrev pub selected : {T : Type 0} → Result T ℕ → Trace T
@@ -46,3 +46,32 @@ stage_of meaning AsUnordered = unchanged
 
 abbrev pub stages_of : {L T : Type 0} → (L → Meaning T) → List (Op L) → List (Stage T)
 stages_of meaning ops = map (stage_of meaning) ops
+
+abbrev less_one : ℕ → Result ℕ ℕ
+less_one zero = Err 1
+less_one (suc n) = Ok n
+
+-- a lambda on numbers for the rows below: the number less one, which faults with 1 at 0; whether it is below 3; as
+-- many copies of it as it says
+abbrev example : Meaning ℕ
+example = record { map = less_one; test = λ x. Ok (nat_lt x 3); expand = λ x. Ok (replicate x x) }
+
+abbrev example_stage : Op ℕ → Stage ℕ
+example_stage op = stage_of (λ _. example) op
+
+-- a mapping that faults ends the answer there
+select_faults : apply (example_stage (Select 0)) (ended (5 ∷ 0 ∷ 2 ∷ []) End) ≡ ended (4 ∷ []) (Fault 1)
+select_faults = refl
+
+filter_keeps : apply (example_stage (Filter 0)) (ended (5 ∷ 0 ∷ 2 ∷ []) (Refused 7)) ≡ ended (0 ∷ 2 ∷ []) (Refused 7)
+filter_keeps = refl
+
+select_many_joins : apply (example_stage (SelectMany 0)) (ended (2 ∷ 0 ∷ 1 ∷ []) End) ≡ ended (2 ∷ 2 ∷ 1 ∷ []) End
+select_many_joins = refl
+
+-- TakeWhile keeps nothing behind the first that fails
+take_while_stops : apply (example_stage (TakeWhile 0)) (ended (1 ∷ 2 ∷ 9 ∷ 1 ∷ []) (Refused 7)) ≡ ended (1 ∷ 2 ∷ []) End
+take_while_stops = refl
+
+negative_take : example_stage (Take (negsuc 0)) ≡ taking 0
+negative_take = refl

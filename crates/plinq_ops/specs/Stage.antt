@@ -1,7 +1,7 @@
 -- Operators on whole traces.
-use Rattle.std.specs.Prelude.{ℕ, zero, suc, Bool, true, false, ◌||◌, ◌-◌, List, [], ◌∷◌, length, take, drop, nat_le, if◌then◌else◌, Option, Some, None}
+use Rattle.std.specs.Prelude.{◌≡◌, refl, ℕ, zero, suc, Bool, true, false, ◌||◌, ◌-◌, List, [], ◌∷◌, length, take, drop, nat_le, if◌then◌else◌, Option}
 use Rattle.plinq_source.specs.declared.ending.Ending.{Ending}
-use Rattle.plinq_source.specs.declared.ending.Ending.TheVariants.{End}
+use Rattle.plinq_source.specs.declared.ending.Ending.TheVariants.{End, Refused}
 use Rattle.plinq_source.specs.Trace.{Trace, open_trace, ended, followed}
 
 -- what an operator does: each item gives a piece of the answer, or so many items are taken or skipped
@@ -59,3 +59,21 @@ takes_none unchanged = false
 abbrev pub some_takes_none : {T : Type 0} → List (Stage T) → Bool
 some_takes_none [] = false
 some_takes_none (s ∷ ss) = takes_none s || some_takes_none ss
+
+-- two of two items taken: End, whatever comes behind them
+take_two_of_two : taken {T = ℕ} 2 (ended (1 ∷ 2 ∷ []) (Refused 7)) ≡ ended (1 ∷ 2 ∷ []) End
+take_two_of_two = refl
+
+take_three_of_two : taken {T = ℕ} 3 (ended (1 ∷ 2 ∷ []) (Refused 7)) ≡ ended (1 ∷ 2 ∷ []) (Refused 7)
+take_three_of_two = refl
+
+take_none : taken {T = ℕ} 0 (ended [] (Refused 7)) ≡ ended [] End
+take_none = refl
+
+-- more skipped than there are: the ending stays
+skip_five_of_two : skipped {T = ℕ} 5 (ended (1 ∷ 2 ∷ []) (Refused 7)) ≡ ended [] (Refused 7)
+skip_five_of_two = refl
+
+-- of an open trace one more can be taken behind two of three
+behind_two : seq_behind {T = ℕ} (taking 3 ∷ skipping 1 ∷ []) (open_trace (5 ∷ 6 ∷ [])) ≡ taking 1 ∷ skipping (1 - 2) ∷ []
+behind_two = refl

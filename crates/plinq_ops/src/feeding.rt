@@ -4,7 +4,8 @@ ghost use Rattle.plinq_ops.specs.Stage.{some_takes_none};
 ghost use Rattle.plinq_ops.specs.Feeding.{stages_left, IsFed};
 
 use crate::op::Op;
-use plinq_lambda::{ExpandFault, Lambda};
+use crate::passing::{Passed, pass};
+use plinq_lambda::Lambda;
 use plinq_source::{Ending, OutOfMemory};
 use std::alloc::Global;
 
@@ -27,52 +28,27 @@ pub(crate) fn feed<L: Lambda>(
         out.old.items out.new.items
         (stages_left L.meaning ops.now left.new)) }
 {
-    let Some((op, ops)) = ops.split_first() else {
-        out.push(item)?;
-        return Ok(None);
-    };
-    let Some((count, left)) = left.split_first_mut() else {
-        unreachable!()
-    };
-    match op {
-        Op::Select(f) => match f.map(item) {
-            Ok(mapped) => feed(alloc, ops, left, mapped, out),
-            Err(code) => Ok(Some(Ending::Fault(code))),
-        },
-        Op::Filter(f) => match f.test(item) {
-            Ok(true) => feed(alloc, ops, left, item, out),
-            Ok(false) => Ok(None),
-            Err(code) => Ok(Some(Ending::Fault(code))),
-        },
-        Op::SelectMany(f) => match f.expand(alloc, item) {
-            Ok(items) => feed_each(alloc, ops, left, items.as_slice(), out),
-            Err(fault) => match fault {
-                ExpandFault::Code(code) => Ok(Some(Ending::Fault(code))),
-                ExpandFault::Memory => Err(OutOfMemory),
-            },
-        },
-        Op::Take(_) => {
-            *count -= 1;
-            let ending = feed(alloc, ops, left, item, out)?;
-            if *count == 0 {
-                return Ok(Some(ending.unwrap_or(Ending::End)));
+    let mut item = item;
+    let mut last = None;
+    for (at, op) in ops.iter().enumerate() {
+        match pass(alloc, op, &mut left[at], item)? {
+            Passed::Nothing => return Ok(last),
+            Passed::Item(passed) => item = passed,
+            Passed::Last(passed) => {
+                item = passed;
+                last = Some(Ending::End);
             }
-            Ok(ending)
-        }
-        Op::Skip(_) => {
-            if *count == 0 {
-                return feed(alloc, ops, left, item, out);
+            Passed::Items(items) => {
+                let (_, ops) = ops.split_at(at + 1);
+                let (_, left) = left.split_at_mut(at + 1);
+                let ending = feed_each(alloc, ops, left, items.as_slice(), out)?;
+                return Ok(ending.or(last));
             }
-            *count -= 1;
-            Ok(None)
+            Passed::Ends(ending) => return Ok(Some(ending)),
         }
-        Op::TakeWhile(f) => match f.test(item) {
-            Ok(true) => feed(alloc, ops, left, item, out),
-            Ok(false) => Ok(Some(Ending::End)),
-            Err(code) => Ok(Some(Ending::Fault(code))),
-        },
-        Op::AsUnordered => feed(alloc, ops, left, item, out),
     }
+    out.push(item)?;
+    Ok(last)
 }
 
 /// Sends items through the operators one after another, up to the first that ends the run.

@@ -1,4 +1,5 @@
-ghost use Rattle.std.specs.Prelude.{◌≡◌, length};
+ghost use Rattle.std.specs.Prelude.{◌≡◌, length, true};
+ghost use Rattle.std.specs.List.{list_all};
 ghost use Rattle.plinq_ops.specs.Plan.{is_by_element, worker_part, order_of, IsPlanOf};
 
 use crate::decided::is_decided;
@@ -11,7 +12,8 @@ impl<L> Query<L> {
     /// How the query is shared among workers: the longest prefix of Select, Where and SelectMany goes to them, since
     /// these look at each element alone. Takes no memory.
     pub fn split(&self) -> Plan<'_, L>
-        ensures { IsPlanOf self.now result }
+        ensures plan { IsPlanOf self.now result }
+        ensures by_element { list_all is_by_element result.worker.now ≡ true }
     {
         let ops = self.ops();
         let (worker, after) = ops.split_at(worker_len(ops));

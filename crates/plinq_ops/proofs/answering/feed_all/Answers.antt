@@ -1,9 +1,8 @@
-use Rattle.std.proofs.Common.{rules, ◌≡◌, ◌+◌, ◌≤◌, [], ◌∷◌, List, length, None, Some, sym, ◌∙◌, ap, arith, refl}
+use Rattle.std.proofs.Common.{rules, ◌≡◌, ◌+◌, [], ◌∷◌, None, Some, ◌∙◌, ap, refl}
 use Rattle.plinq_source.specs.declared.ending.Ending.TheVariants.{End, Refused}
-use Rattle.plinq_source.specs.Trace.{Trace, open_trace, step_at, given_after}
+use Rattle.plinq_source.specs.Trace.{open_trace, given_after}
 use Rattle.plinq_source.proofs.Steps.{IsNextItem, IsAtEnding, next_item, at_end, at_refusal}
 use Rattle.plinq_ops.specs.Feeding.{stages_left, IsFed}
-use Rattle.plinq_ops.specs.Sequential.{first_items, IsLeastDeciding}
 use Rattle.plinq_ops.proofs.Fed.{fed-none, undecided-left}
 use Rattle.plinq_ops.proofs.Answered.{fed-next, fed-decided, fed-at_ending, least-decided, least-at_ending}
 use Rattle.plinq_ops.proofs.answering.feed_all.Goals as goal

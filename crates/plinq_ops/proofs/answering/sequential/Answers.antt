@@ -1,12 +1,8 @@
-use Rattle.std.proofs.Common.{rules, ◌≡◌, ℕ, [], List, true, false, map, Some, sym, ◌∙◌, ap}
+use Rattle.std.proofs.Common.{rules, ◌≡◌, true, false, map, sym, ◌∙◌}
 use Rattle.std.specs.List.{list_any}
-use Rattle.plinq_source.specs.declared.ending.Ending.TheVariants.{End}
-use Rattle.plinq_source.specs.Trace.{Trace, ended}
-use Rattle.plinq_source.proofs.Followed.{trace_of}
-use Rattle.plinq_ops.specs.Stage.{Stage, seq, some_takes_none}
+use Rattle.plinq_ops.specs.Stage.{some_takes_none}
 use Rattle.plinq_ops.specs.Operator.{stages_of}
-use Rattle.plinq_ops.specs.Feeding.{count_of, is_empty_take, stages_left, IsFed}
-use Rattle.plinq_ops.specs.Sequential.{IsLeastDeciding}
+use Rattle.plinq_ops.specs.Feeding.{count_of, is_empty_take}
 use Rattle.plinq_ops.proofs.Answered.{answer-of_none, least-of_none, answer-fed}
 use Rattle.plinq_ops.proofs.Counts.{stages_left-counts, some_takes_none-stages_of}
 use Rattle.plinq_ops.proofs.answering.sequential.Goals as goal

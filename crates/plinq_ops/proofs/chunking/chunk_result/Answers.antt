@@ -1,4 +1,4 @@
-use Rattle.std.proofs.Common.{rules, ◌≡◌, map, ◌∙◌, sym, ap}
+use Rattle.std.proofs.Common.{rules, ◌≡◌, map}
 use Rattle.plinq_ops.specs.Feeding.{count_of}
 use Rattle.plinq_ops.proofs.Counts.{stages_left-counts}
 use Rattle.plinq_ops.proofs.chunking.chunk_result.Goals as goal

@@ -1,9 +1,7 @@
-use Rattle.std.proofs.Common.{rules, ◌≡◌, ◌+◌, ◌≤◌, ◌∷◌, List, drop, None, is_some, true, sym, ◌∙◌, ap, arith, refl}
+use Rattle.std.proofs.Common.{rules, ◌≡◌, ◌+◌, ◌≤◌, ◌∷◌, drop, None, is_some, true, sym, ◌∙◌, ap, arith, refl}
 use Rattle.std.proofs.lemmas.List.{drop_more}
-use Rattle.plinq_ops.specs.Feeding.{stages_left}
-use Rattle.plinq_ops.specs.Chunk.{ChunkAnswer, chunk_answer, BehindItems}
 use Rattle.plinq_ops.proofs.Fed.{none-from_is_some}
-use Rattle.plinq_ops.proofs.Chunks.{IsFragmentFed, fed-fragment, undecided-worker, behind-more, IsStoppedBy, behind-stop, told-stop}
+use Rattle.plinq_ops.proofs.Chunks.{fed-fragment, undecided-worker, behind-more, behind-stop, told-stop}
 use Rattle.plinq_ops.proofs.chunking.work.Goals as goal
 
 pub feed-requires-clause-undecided : goal.feed-requires-clause-undecided

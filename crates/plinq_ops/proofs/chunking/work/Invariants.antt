@@ -1,7 +1,7 @@
-use Rattle.std.proofs.Common.{◌≡◌, ◌+◌, drop, length, None}
+use Rattle.std.proofs.Common.{◌≡◌, ◌+◌, drop}
 use Rattle.plinq_ops.specs.Operator.{stages_of}
 use Rattle.plinq_ops.specs.Feeding.{stages_left}
-use Rattle.plinq_ops.specs.Chunk.{chunk_answer, before_answer, BehindItems}
+use Rattle.plinq_ops.specs.Chunk.{chunk_answer, BehindItems}
 use Rattle.plinq_ops.proofs.chunking.work.Given as goal
 
 -- what is out, and behind it what the rest gives, is what the chunk gives

@@ -1,4 +1,4 @@
-use Rattle.std.proofs.Common.{rules, ◌≡◌, map, ◌∙◌, sym, ap, refl}
+use Rattle.std.proofs.Common.{rules, ◌≡◌, map, ◌∙◌, refl}
 use Rattle.plinq_ops.specs.Operator.{stages_of}
 use Rattle.plinq_ops.specs.Feeding.{count_of, stages_left}
 use Rattle.plinq_ops.proofs.Counts.{stages_left-counts}

@@ -1,119 +1,109 @@
-use Rattle.std.proofs.Common.{rules, ◌≡◌, ◌∷◌, ◌-◌, [], zero, suc, ℕ, Ok, Err, Some, None, false, true, take, ◌+◌, ◌<◌, ◌++◌, unwrap_or, is_some, drop, ◌∙◌, sym, ap, arith}
-use Rattle.std.proofs.lemmas.List.{take_more, take-append-drop}
-use Rattle.plinq_source.specs.declared.ending.Ending.TheVariants.{End, Fault}
-use Rattle.plinq_source.specs.Trace.{Trace, open_trace, ended}
-use Rattle.plinq_ops.specs.declared.op.Op.TheVariants.{Select, Filter, SelectMany, Take, Skip, TakeWhile}
-use Rattle.plinq_ops.specs.Stage.{some_takes_none}
-use Rattle.plinq_ops.specs.Operator.{selected, filtered, expanded, taken_while}
+use Rattle.std.proofs.Common.{rules, ◌≡◌, ◌∷◌, [], length, Some, None, true, take, ◌+◌, ◌<◌, ◌++◌, is_some, drop, ◌∙◌, sym, ap, arith, append_assoc}
+use Rattle.std.specs.Option.{option_or}
+use Rattle.std.proofs.lemmas.List.{take_more, take-append-drop, take_more_set, drop-set-lt}
+use Rattle.plinq_source.specs.Trace.{open_trace, ended}
 use Rattle.plinq_ops.specs.Feeding.{stages_left, IsFed}
-use Rattle.plinq_ops.proofs.Fed.{fed-ended, fed-nothing, fed-last, fed-skipped, fed-none, fed-followed, undecided-left, takes_some, fed-ended_before, none-from_is_some}
+use Rattle.plinq_ops.proofs.Fed.{fed-ending, fed-none, fed-followed, undecided-left, fed-ended_before, none-from_is_some}
+use Rattle.plinq_ops.proofs.Through.{through-none, at-index, set-parts, through-item, through-last, through-all}
+use Rattle.plinq_ops.proofs.feeding.+feeding.Goals.{feed-in-Item, feed-in-Last}
 use Rattle.plinq_ops.proofs.feeding.+feeding.Goals as goal
 
--- a mapping that faults
-pub feed-returns-in-Err : goal.feed-returns-in-Err
-feed-returns-in-Err g t c =
-    let m = g.L.Lambda.meaning in
-    let f = c.in-Select.f in
-    let rest = c.in-Some.ops.now in
-    let left = c.in-Some-split_first_mut.left.now in
-    let ops : c.args.ops.now ≡ Select f ∷ rest = search rules in
-    let counts : c.args.left.now ≡ c.in-Some-split_first_mut.count.now ∷ left = search rules in
-    let given : (m f).map c.args.item ≡ Err c.in-Err.code = search rules in
-    let undecided : some_takes_none (stages_left m rest left) ≡ false = search rules in
-    rw (ops, counts) (fed-ended (λ x. selected ((m f).map x)) c.args.item (stages_left m rest left) _ c.args.out.now.items _ (rw given) undecided)
+pub feed-loop-at-init : goal.feed-loop-at-init
+feed-loop-at-init g t c = through-none _ _ _ _ _ c.requires.undecided
 
--- an item that does not pass
-pub feed-returns-in-Ok-false : goal.feed-returns-in-Ok-false
-feed-returns-in-Ok-false g t c =
+pub feed-pass-requires : goal.feed-pass-requires
+feed-pass-requires g t c =
     let m = g.L.Lambda.meaning in
-    let f = c.in-Filter.f in
-    let rest = c.in-Some.ops.now in
-    let left = c.in-Some-split_first_mut.left.now in
-    let ops : c.args.ops.now ≡ Filter f ∷ rest = search rules in
-    let counts : c.args.left.now ≡ c.in-Some-split_first_mut.count.now ∷ left = search rules in
-    let given : (m f).test c.args.item ≡ Ok false = search rules in
-    let undecided : some_takes_none (stages_left m rest left) ≡ false = search rules in
-    rw (ops, counts) (fed-nothing (λ x. filtered ((m f).test x) x) c.args.item (stages_left m rest left) c.args.out.now.items (rw given) undecided)
+    let i = c.loop-at.at in
+    let op = c.index-ops-at.result in
+    let left = c.loop-at.left in
+    let long : length left ≡ length c.args.ops.now = c.loop-at.auto.left ∙ c.requires.counted in
+    let here = at-index m c.args.ops.now c.args.left.now c.args.item c.args.out.now.items c.loop-at.out.items i op left c.loop-at.item c.loop-at.last c.loop-at-test.true long c.index-ops-at.is c.loop-at.invariant in
+    (search rules, (search rules, (search rules, here.takes_some)))
 
--- a test that faults
-pub feed-returns-in-Err-test : goal.feed-returns-in-Err-test
-feed-returns-in-Err-test g t c =
+-- the operator gives nothing
+pub feed-returns-in-Nothing : goal.feed-returns-in-Nothing
+feed-returns-in-Nothing g t c =
     let m = g.L.Lambda.meaning in
-    let f = c.in-Filter.f in
-    let rest = c.in-Some.ops.now in
-    let left = c.in-Some-split_first_mut.left.now in
-    let ops : c.args.ops.now ≡ Filter f ∷ rest = search rules in
-    let counts : c.args.left.now ≡ c.in-Some-split_first_mut.count.now ∷ left = search rules in
-    let given : (m f).test c.args.item ≡ Err c.in-Err-test.code = search rules in
-    let undecided : some_takes_none (stages_left m rest left) ≡ false = search rules in
-    rw (ops, counts) (fed-ended (λ x. filtered ((m f).test x) x) c.args.item (stages_left m rest left) _ c.args.out.now.items _ (rw given) undecided)
+    let i = c.loop-at.at in
+    let op = c.index-ops-at.result in
+    let left = c.loop-at.left in
+    let long : length left ≡ length c.args.ops.now = c.loop-at.auto.left ∙ c.requires.counted in
+    let here = at-index m c.args.ops.now c.args.left.now c.args.item c.args.out.now.items c.loop-at.out.items i op left c.loop-at.item c.loop-at.last c.loop-at-test.true long c.index-ops-at.is c.loop-at.invariant in
+    let within : i < length left = omega arith in
+    rw (set-parts left i c.pass.new.left within)
+    (here.passed (open_trace []) c.pass.new.left (drop (i + 1) left) _ None (rw c.in-Nothing.is at c.in_ok-pass.ensures.passed) c.in_ok-pass.ensures.left (fed-none _ _ here.undecided))
 
--- an expansion that faults
-pub feed-returns-in-Code : goal.feed-returns-in-Code
-feed-returns-in-Code g t c =
+-- the operator ends the run
+pub feed-returns-in-Ends : goal.feed-returns-in-Ends
+feed-returns-in-Ends g t c =
     let m = g.L.Lambda.meaning in
-    let f = c.in-SelectMany.f in
-    let rest = c.in-Some.ops.now in
-    let left = c.in-Some-split_first_mut.left.now in
-    let ops : c.args.ops.now ≡ SelectMany f ∷ rest = search rules in
-    let counts : c.args.left.now ≡ c.in-Some-split_first_mut.count.now ∷ left = search rules in
-    let given : (m f).expand c.args.item ≡ Err c.in-Code.code = search rules in
-    let undecided : some_takes_none (stages_left m rest left) ≡ false = search rules in
-    rw (ops, counts) (fed-ended (λ x. expanded ((m f).expand x)) c.args.item (stages_left m rest left) _ c.args.out.now.items _ (rw given) undecided)
+    let i = c.loop-at.at in
+    let op = c.index-ops-at.result in
+    let left = c.loop-at.left in
+    let long : length left ≡ length c.args.ops.now = c.loop-at.auto.left ∙ c.requires.counted in
+    let here = at-index m c.args.ops.now c.args.left.now c.args.item c.args.out.now.items c.loop-at.out.items i op left c.loop-at.item c.loop-at.last c.loop-at-test.true long c.index-ops-at.is c.loop-at.invariant in
+    let within : i < length left = omega arith in
+    rw (set-parts left i c.pass.new.left within)
+    (here.passed (ended [] c.in-Ends.ending) c.pass.new.left (drop (i + 1) left) _ (Some c.in-Ends.ending) (rw c.in-Ends.is at c.in_ok-pass.ensures.passed) c.in_ok-pass.ensures.left (fed-ending _ _ _ _ here.undecided))
 
--- the item at which a TakeWhile ends
-pub feed-returns-in-Ok-false-test : goal.feed-returns-in-Ok-false-test
-feed-returns-in-Ok-false-test g t c =
+pub feed-feed_each-requires-clause-undecided : goal.feed-feed_each-requires-clause-undecided
+feed-feed_each-requires-clause-undecided g t c = λ lives outlive.
     let m = g.L.Lambda.meaning in
-    let f = c.in-TakeWhile.f in
-    let rest = c.in-Some.ops.now in
-    let left = c.in-Some-split_first_mut.left.now in
-    let ops : c.args.ops.now ≡ TakeWhile f ∷ rest = search rules in
-    let counts : c.args.left.now ≡ c.in-Some-split_first_mut.count.now ∷ left = search rules in
-    let given : (m f).test c.args.item ≡ Ok false = search rules in
-    let undecided : some_takes_none (stages_left m rest left) ≡ false = search rules in
-    rw (ops, counts) (fed-ended (λ x. taken_while ((m f).test x) x) c.args.item (stages_left m rest left) _ c.args.out.now.items _ (rw given) undecided)
+    let i = c.loop-at.at in
+    let op = c.index-ops-at.result in
+    let left = c.loop-at.left in
+    let long : length left ≡ length c.args.ops.now = c.loop-at.auto.left ∙ c.requires.counted in
+    let here = at-index m c.args.ops.now c.args.left.now c.args.item c.args.out.now.items c.loop-at.out.items i op left c.loop-at.item c.loop-at.last c.loop-at-test.true long c.index-ops-at.is c.loop-at.invariant in
+    let behind_ops : c.split_at.result.1.now ≡ drop (i + 1) c.args.ops.now = c.split_at.ensures.back in
+    let behind_left : c.split_at_mut-left.result.1.now ≡ drop (i + 1) left = c.split_at_mut-left.ensures.back ∙ drop-set-lt (i + 1) left i c.pass.new.left (omega arith) in
+    rw (behind_ops, behind_left) here.undecided
 
--- a TakeWhile whose test faults
-pub feed-returns-in-Err-test-2 : goal.feed-returns-in-Err-test-2
-feed-returns-in-Err-test-2 g t c =
+-- the operator gives a list
+pub feed-returns-in-Items : goal.feed-returns-in-Items
+feed-returns-in-Items g t c =
     let m = g.L.Lambda.meaning in
-    let f = c.in-TakeWhile.f in
-    let rest = c.in-Some.ops.now in
-    let left = c.in-Some-split_first_mut.left.now in
-    let ops : c.args.ops.now ≡ TakeWhile f ∷ rest = search rules in
-    let counts : c.args.left.now ≡ c.in-Some-split_first_mut.count.now ∷ left = search rules in
-    let given : (m f).test c.args.item ≡ Err c.in-Err-test-2.code = search rules in
-    let undecided : some_takes_none (stages_left m rest left) ≡ false = search rules in
-    rw (ops, counts) (fed-ended (λ x. taken_while ((m f).test x) x) c.args.item (stages_left m rest left) _ c.args.out.now.items _ (rw given) undecided)
+    let i = c.loop-at.at in
+    let op = c.index-ops-at.result in
+    let left = c.loop-at.left in
+    let long : length left ≡ length c.args.ops.now = c.loop-at.auto.left ∙ c.requires.counted in
+    let here = at-index m c.args.ops.now c.args.left.now c.args.item c.args.out.now.items c.loop-at.out.items i op left c.loop-at.item c.loop-at.last c.loop-at-test.true long c.index-ops-at.is c.loop-at.invariant in
+    let within : i < length left = omega arith in
+    let count = c.pass.new.left in
+    let behind_ops : c.split_at.result.1.now ≡ drop (i + 1) c.args.ops.now = c.split_at.ensures.back in
+    let behind_left : c.split_at_mut-left.result.1.now ≡ drop (i + 1) left = c.split_at_mut-left.ensures.back ∙ drop-set-lt (i + 1) left i count (omega arith) in
+    let done : c.split_at_mut-left.result.0.now ≡ take i left ++ count ∷ [] = c.split_at_mut-left.ensures.front ∙ take_more_set left i count within in
+    let ending : c.or.result ≡ option_or c.in_ok-ending-in-Items.ending c.loop-at.last = search rules in
+    rw (ending, done, append_assoc (take i left) (count ∷ []) c.feed_each.new.left)
+    (here.passed (open_trace c.in-Items.items.items) count c.feed_each.new.left _ c.in_ok-ending-in-Items.ending (rw c.in-Items.is at c.in_ok-pass.ensures.passed) c.in_ok-pass.ensures.left
+    (rw (behind_ops, behind_left, c.as_slice.ensures.value) at c.in_ok-ending-in-Items.ensures))
 
--- the last item of a Take
-pub feed-returns-then-count-eq0 : goal.feed-returns-then-count-eq0
-feed-returns-then-count-eq0 g t c =
+-- the operator gives one item
+pub feed-loop-at-preserved : goal.feed-loop-at-preserved
+feed-loop-at-preserved g t c =
     let m = g.L.Lambda.meaning in
-    let rest = c.in-Some.ops.now in
-    let left = c.in-Some-split_first_mut.left.now in
-    let count = c.in-Some-split_first_mut.count.now in
-    let ops : c.args.ops.now ≡ Take c.in-Take.field-0 ∷ rest = search rules in
-    let counts : c.args.left.now ≡ count ∷ left = search rules in
-    let some : 0 < count = takes_some count (stages_left m rest left) (search rules) in
-    let one : count ≡ 1 = omega arith in
-    let fed : IsFed (stages_left m rest left) (open_trace (c.args.item ∷ [])) c.args.out.now.items c.feed-in-Take.new.out.items (stages_left m rest c.feed-in-Take.new.left) c.in_ok-ending-in-Take.ending = search rules in
-    let told : c.unwrap_or.result ≡ unwrap_or c.in_ok-ending-in-Take.ending End = search rules in
-    rw (ops, counts, one, told) (fed-last c.args.item (stages_left m rest left) _ _ _ _ _ fed)
+    let i = c.loop-at.at in
+    let op = c.index-ops-at.result in
+    let left = c.loop-at.left in
+    let long : length left ≡ length c.args.ops.now = c.loop-at.auto.left ∙ c.requires.counted in
+    let here = at-index m c.args.ops.now c.args.left.now c.args.item c.args.out.now.items c.loop-at.out.items i op left c.loop-at.item c.loop-at.last c.loop-at-test.true long c.index-ops-at.is c.loop-at.invariant in
+    let within : i < length left = omega arith in
+    elim c.match-branch-2.branch [
+      | feed-in-Item w ↦
+          rw (w.item-is, w.last-is)
+          (through-item m c.args.ops.now c.args.left.now c.args.item c.args.out.now.items c.loop-at.out.items i op left c.loop-at.item c.loop-at.last w.in-Item.passed c.pass.new.left within here
+          (rw w.in-Item.is at c.in_ok-pass.ensures.passed) c.in_ok-pass.ensures.left)
+      | feed-in-Last w ↦
+          rw (w.item-is, w.last-is)
+          (through-last m c.args.ops.now c.args.left.now c.args.item c.args.out.now.items c.loop-at.out.items i op left c.loop-at.item c.loop-at.last w.in-Last.passed c.pass.new.left within here
+          (rw w.in-Last.is at c.in_ok-pass.ensures.passed) c.in_ok-pass.ensures.left)
+    ]
 
--- an item that a Skip passes over
-pub feed-returns-else-count-eq0-2 : goal.feed-returns-else-count-eq0-2
-feed-returns-else-count-eq0-2 g t c =
-    let m = g.L.Lambda.meaning in
-    let rest = c.in-Some.ops.now in
-    let left = c.in-Some-split_first_mut.left.now in
-    let count = c.in-Some-split_first_mut.count.now in
-    let ops : c.args.ops.now ≡ Skip c.in-Skip.field-0 ∷ rest = search rules in
-    let counts : c.args.left.now ≡ count ∷ left = search rules in
-    let undecided : some_takes_none (stages_left m rest left) ≡ false = search rules in
-    let some : count ≡ suc (count - 1) = omega arith in
-    rw (ops, counts) (fed-skipped count c.args.item (stages_left m rest left) c.args.out.now.items some undecided)
+-- all operators have let it through
+pub feed-returns : goal.feed-returns
+feed-returns g t c =
+    let pushed : c.push.new.self.items ≡ c.loop-at.out.items ++ c.loop-at.item ∷ [] = search rules in
+    rw pushed (through-all _ _ _ _ _ _ _ _ _ _ c.loop-at-test.false c.loop-at.invariant)
 
 pub feed_each-loop-item-init : goal.feed_each-loop-item-init
 feed_each-loop-item-init g t c = fed-none _ _ c.requires.undecided

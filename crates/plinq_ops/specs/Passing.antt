@@ -1,0 +1,14 @@
+-- Passing: what one operator makes of one item.
+use Rattle.std.specs.Prelude.{[], ◌∷◌}
+use Rattle.plinq_source.specs.declared.ending.Ending.TheVariants.{End}
+use Rattle.plinq_source.specs.Trace.{Trace, open_trace, ended}
+use Rattle.plinq_ops.specs.declared.passing.Passed.{Passed}
+use Rattle.plinq_ops.specs.declared.passing.Passed.TheVariants.{Nothing, Item, Last, Items, Ends}
+
+-- the trace that an operator gives for an item
+abbrev pub passed_trace : {T : Type 0} → Passed T → Trace T
+passed_trace Nothing = open_trace []
+passed_trace (Item x) = open_trace (x ∷ [])
+passed_trace (Last x) = ended (x ∷ []) End
+passed_trace (Items xs) = open_trace xs.items
+passed_trace (Ends e) = ended [] e
