@@ -1,12 +1,10 @@
 -- the five lines, one behind another
-use Rattle.std.proofs.Common.{◌≡◌, ℕ, List, ◌++◌, ap, ◌∙◌, codes, decimal}
-use Rattle.std.specs.Io.KnownBytes.{Appends}
+use Rattle.std.proofs.Common.{ℕ, List, ◌++◌, ap, ◌∙◌, codes, decimal}
 use Rattle.plinq_lambda.specs.declared.formula.Formula.{Formula}
 use Rattle.plinq_ops.specs.Query.{QueryView, merge_in_force, degree_in_force}
 use Rattle.plinq_ops.specs.Plan.{worker_part, after_part, order_of}
 use Rattle.plinq_cli.specs.OpWords.{part_words}
 use Rattle.plinq_cli.specs.PlanText.{merge_name, order_name, named_line}
-use Rattle.plinq_cli.specs.Written.{Writes, AppendsBeginning}
 use Rattle.plinq_cli.proofs.WrittenBytes.{appends-as, begins-as, begins-append, begins-behind, writes-at_err, writes-as, writes-behind}
 use Rattle.plinq_cli.proofs.plan_lines.write_plan.Goals as goal
 
