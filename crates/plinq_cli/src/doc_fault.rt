@@ -1,4 +1,10 @@
+ghost use Rattle.std.specs.Prelude.{◌≡◌};
+ghost use Rattle.plinq_cli.specs.declared.doc_fault.DocFault.TheVariants.{Source, Growth, Memory};
+
+use plinq_enumerator::GrowthFault;
 use plinq_ops::BuildFault;
+use plinq_source::SourceFault;
+use std::alloc::AllocError;
 use thiserror::Error;
 
 /// Why a document is refused, in the order in which the causes are looked for; want of memory is answered where a
@@ -20,6 +26,9 @@ pub enum DocFault {
     /// A source of more than 2^40 items, or with an item that is no `i64`.
     #[error("source too large")]
     Source,
+    /// Three counts that are no growth of chunks.
+    #[error("{0}")]
+    Growth(GrowthFault),
     /// A step that isn't known, or that the query refuses.
     #[error("step {at}: {why}")]
     Step {
@@ -42,4 +51,28 @@ pub enum StepFault {
     /// The query refuses the call.
     #[error("{0}")]
     Build(BuildFault),
+}
+
+impl From<SourceFault> for DocFault {
+    ghost from_gives = { λ _ e. e ≡ Source };
+
+    fn from(_: SourceFault) -> DocFault {
+        DocFault::Source
+    }
+}
+
+impl From<GrowthFault> for DocFault {
+    ghost from_gives = { λ why e. e ≡ Growth why };
+
+    fn from(why: GrowthFault) -> DocFault {
+        DocFault::Growth(why)
+    }
+}
+
+impl From<AllocError> for DocFault {
+    ghost from_gives = { λ _ e. e ≡ Memory };
+
+    fn from(_: AllocError) -> DocFault {
+        DocFault::Memory
+    }
 }

@@ -1,4 +1,5 @@
 use crate::any_source::AnySource;
+use plinq_enumerator::Growth;
 use plinq_lambda::Formula;
 use plinq_ops::Query;
 
@@ -9,4 +10,6 @@ pub struct Job {
     pub query: Query<Formula>,
     /// Where the elements come from, with nothing given yet.
     pub source: AnySource,
+    /// How the chunks grow that partitions take from the source.
+    pub growth: Growth,
 }

@@ -1,5 +1,5 @@
 -- The records that the enumerator writes are those of the answers that it gives.
-use Rattle.std.proofs.Common.{◌≡◌, ℕ, ◌+◌, ◌-◌, Bool, true, false, cond, ltb, List, [], ◌∷◌, ◌++◌, length, take, drop, Option, Some, None, refl, sym, ap, ◌∙◌, arith, length-drop, add-zero}
+use Rattle.std.proofs.Common.{◌≡◌, ℕ, ◌+◌, ◌-◌, true, false, cond, ltb, List, [], ◌∷◌, ◌++◌, length, take, drop, Option, Some, None, sym, ap, ◌∙◌, add-zero}
 use Rattle.std.proofs.lemmas.List.{length-take, take_min}
 use Rattle.plinq_source.specs.Trace.{Trace}
 use Rattle.plinq_keyed.specs.declared.tail.Tail.{Tail}
@@ -7,7 +7,7 @@ use Rattle.plinq_keyed.specs.declared.tail.Tail.TheVariants.{Closed}
 use Rattle.plinq_keyed.specs.declared.event.Event.{Event}
 use Rattle.plinq_keyed.specs.declared.event.Event.TheVariants.{Ask, Close}
 use Rattle.plinq_keyed.specs.declared.record.Record.{Record}
-use Rattle.plinq_keyed.specs.History.{Place, start, Reply, reply, no_items, next_items, items_from, place_behind, place_after, recorded, is_legal_history, IsLegalHistory, next_record, tickets_below, ending_tail}
+use Rattle.plinq_keyed.specs.History.{Place, start, reply, no_items, next_items, items_from, place_behind, place_after, recorded, is_legal_history, next_record, tickets_below, ending_tail}
 use Rattle.plinq_keyed.proofs.Legal.{place_after-append, IsLegalHistory-append}
 
 abbrev pub record_of : ℕ → Event → ℕ → ℕ → Option Tail → Record
@@ -20,11 +20,11 @@ pub record Grown {T : Type 0} (t : Trace T) (h grown : List Record) (e : Event) 
 
 pub Grown-from_next : {T : Type 0} (t : Trace T) (h grown : List Record) (k : ℕ) (e : Event) (r : Record) → grown ≡ h ++ r ∷ [] → r ≡ next_record t h k e → is_legal_history t h ≡ true → tickets_below k h ≡ true → Grown t h grown e
 Grown-from_next t h grown k e r added next legal below =
-  let whole : grown ≡ h ++ next_record t h k e ∷ [] = added ∙ ap (λ x. h ++ x ∷ []) next in
-  record {
-    place = ap (place_after t start) whole ∙ place_after-append t start h (next_record t h k e);
-    legal = ap (is_legal_history t) whole ∙ IsLegalHistory-append t h k e legal below
-  }
+    let whole : grown ≡ h ++ next_record t h k e ∷ [] = added ∙ ap (λ x. h ++ x ∷ []) next in
+    record {
+      place = ap (place_after t start) whole ∙ place_after-append t start h (next_record t h k e);
+      legal = ap (is_legal_history t) whole ∙ IsLegalHistory-append t h k e legal below;
+    }
 
 -- the record of a Close at place g
 pub next_record-close : {T : Type 0} (t : Trace T) (h : List Record) (k g : ℕ) → (place_after t start h).given ≡ g → record_of k Close g 0 (Some Closed) ≡ next_record t h k Close
@@ -39,22 +39,22 @@ open_reply t p n shut = ap (λ c. cond c (no_items p.given) (next_items t p.give
 -- the record of an Ask that comes after a Close, at place g
 pub next_record-closed : {T : Type 0} (t : Trace T) (h : List Record) (k n g : ℕ) → (place_after t start h).given ≡ g → (place_after t start h).closed ≡ true → record_of k (Ask n) g 0 (Some Closed) ≡ next_record t h k (Ask n)
 next_record-closed t h k n g at shut =
-  ap (λ f. record_of k (Ask n) f 0 (Some Closed)) (sym at)
+    ap (λ f. record_of k (Ask n) f 0 (Some Closed)) (sym at)
     ∙ ap (recorded k (Ask n)) (sym (closed_reply t (place_after t start h) n shut))
 
 -- the record of an Ask at place g, where nothing is closed
 pub next_record-open : {T : Type 0} (t : Trace T) (h : List Record) (k n g m : ℕ) (tail : Option Tail) → (place_after t start h).given ≡ g → (place_after t start h).closed ≡ false →
-  m ≡ length (items_from t g n) → tail ≡ cond (ltb (length t.items - g) n) (ending_tail t.ending) None → record_of k (Ask n) g m tail ≡ next_record t h k (Ask n)
+    m ≡ length (items_from t g n) → tail ≡ cond (ltb (length t.items - g) n) (ending_tail t.ending) None → record_of k (Ask n) g m tail ≡ next_record t h k (Ask n)
 next_record-open t h k n g m tail at shut counted tailed =
-  ap (λ c. record_of k (Ask n) g c tail) counted
+    ap (λ c. record_of k (Ask n) g c tail) counted
     ∙ ap (λ o. record_of k (Ask n) g (length (items_from t g n)) o) tailed
     ∙ ap (λ f. recorded k (Ask n) (next_items t f n)) (sym at)
     ∙ ap (recorded k (Ask n)) (sym (open_reply t (place_after t start h) n shut))
 
 pub place_behind-closed : {T : Type 0} (t : Trace T) (p : Place) (n : ℕ) → p.closed ≡ true → place_behind t p (Ask n) ≡ p
 place_behind-closed t p n shut =
-  let none : p.given + length (reply t p (Ask n)).items ≡ p.given = ap (λ a. p.given + length a.items) (closed_reply t p n shut) ∙ add-zero p.given in
-  ap (λ (g : ℕ). let q : Place = record { given = g; closed = p.closed } in q) none
+    let none : p.given + length (reply t p (Ask n)).items ≡ p.given = ap (λ a. p.given + length a.items) (closed_reply t p n shut) ∙ add-zero p.given in
+    ap (λ (g : ℕ). let q : Place = record { given = g; closed = p.closed } in q) none
 
 pub place_behind-open : {T : Type 0} (t : Trace T) (p : Place) (n : ℕ) → p.closed ≡ false → (place_behind t p (Ask n)).given ≡ p.given + length (items_from t p.given n)
 place_behind-open t p n shut = ap (λ a. p.given + length a.items) (open_reply t p n shut)

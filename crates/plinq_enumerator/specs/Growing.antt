@@ -19,10 +19,10 @@ pub record IsGrowth (first repeat max : ℕ) : Type 0 where
 -- the rule of three numbers, or the first of its faults
 abbrev pub growth_rule : ℕ → ℕ → ℕ → Result GrowthRule GrowthFault
 growth_rule first repeat max =
-  if (first == 0) || (repeat == 0) || (max == 0) then Err Zero
-  else if nat_lt max first then Err FirstAboveMax
-  else if nat_lt 65536 max then Err MaxTooLarge
-  else Ok (record { first = first; repeat = repeat; max = max })
+    if (first == 0) || (repeat == 0) || (max == 0) then Err Zero
+    else if nat_lt max first then Err FirstAboveMax
+    else if nat_lt 65536 max then Err MaxTooLarge
+    else Ok (record { first = first; repeat = repeat; max = max })
 
 -- the size of chunk number i, the first being number 0
 abbrev pub size_at : GrowthRule → ℕ → ℕ

@@ -1,13 +1,11 @@
-ghost use Rattle.std.specs.Prelude.{◌≡◌, ◌≤◌, ◌<◌, [], ◌∷◌, ◌++◌, true, vec_capacity, length, OnOk, OnErr, IfOk};
-ghost use Rattle.plinq_source.specs.Trace.{Trace};
+ghost use Rattle.std.specs.Prelude.{◌≡◌, ◌≤◌, [], true, OnOk, OnErr, IfOk};
 ghost use Rattle.plinq_keyed.specs.declared.event.Event.TheVariants.{Ask, Close};
-ghost use Rattle.plinq_keyed.specs.History.{is_legal_history, place_after, start, next_record, tickets_below, IsChunkOf};
+ghost use Rattle.plinq_keyed.specs.History.{is_legal_history, IsLegalHistory, place_after, start, next_record, with_next, tickets_below, IsChunkOf};
 
+use crate::taking::take_items;
 use plinq_keyed::{Chunk, Event, Guarded, Record, Tail};
 use plinq_source::{OutOfMemory, Source};
 use std::alloc::Global;
-
-use crate::taking::take_items;
 
 /// A source that is handed out in chunks, with the history of all requests.
 ///
@@ -71,10 +69,11 @@ impl<S: Source> Enumerator<S> {
         requires most { n ≤ 65536 }
         requires rising { tickets_below ticket (⟦<Enumerator<S> as Guarded>⟧.history self.old) ≡ true }
         ensures origin { ⟦<Enumerator<S> as Guarded>⟧.origin self.new ≡ ⟦<Enumerator<S> as Guarded>⟧.origin self.old }
-        ensures recorded { let past = ⟦<Enumerator<S> as Guarded>⟧.history self.old in let next = next_record (⟦<Enumerator<S> as Guarded>⟧.origin self.old) past ticket (Ask n) in
-            OnOk result (⟦<Enumerator<S> as Guarded>⟧.history self.new ≡ past ++ next ∷ []) }
-        ensures chunk { let origin = ⟦<Enumerator<S> as Guarded>⟧.origin self.old in let next = next_record origin (⟦<Enumerator<S> as Guarded>⟧.history self.old) ticket (Ask n) in
-            IfOk result (λ chunk. IsChunkOf origin next chunk) }
+        ensures legal { let held = ⟦<Enumerator<S> as Guarded>⟧ in IsLegalHistory (held.origin self.new) (held.history self.new) }
+        ensures recorded { let held = ⟦<Enumerator<S> as Guarded>⟧ in
+            OnOk result (held.history self.new ≡ with_next (held.origin self.old) (held.history self.old) ticket (Ask n)) }
+        ensures chunk { let held = ⟦<Enumerator<S> as Guarded>⟧ in
+            IfOk result (IsChunkOf (held.origin self.old) (next_record (held.origin self.old) (held.history self.old) ticket (Ask n))) }
         ensures unchanged { OnErr result (⟦<Enumerator<S> as Guarded>⟧.history self.new ≡ ⟦<Enumerator<S> as Guarded>⟧.history self.old) }
     {
         if self.closed {
@@ -116,8 +115,9 @@ impl<S: Source> Enumerator<S> {
     pub fn close(&mut self, ticket: u64) -> Result<(), OutOfMemory>
         requires rising { tickets_below ticket (⟦<Enumerator<S> as Guarded>⟧.history self.old) ≡ true }
         ensures origin { ⟦<Enumerator<S> as Guarded>⟧.origin self.new ≡ ⟦<Enumerator<S> as Guarded>⟧.origin self.old }
-        ensures recorded { let past = ⟦<Enumerator<S> as Guarded>⟧.history self.old in let next = next_record (⟦<Enumerator<S> as Guarded>⟧.origin self.old) past ticket Close in
-            OnOk result (⟦<Enumerator<S> as Guarded>⟧.history self.new ≡ past ++ next ∷ []) }
+        ensures legal { let held = ⟦<Enumerator<S> as Guarded>⟧ in IsLegalHistory (held.origin self.new) (held.history self.new) }
+        ensures recorded { let held = ⟦<Enumerator<S> as Guarded>⟧ in
+            OnOk result (held.history self.new ≡ with_next (held.origin self.old) (held.history self.old) ticket Close) }
         ensures unchanged { OnErr result (⟦<Enumerator<S> as Guarded>⟧.history self.new ≡ ⟦<Enumerator<S> as Guarded>⟧.history self.old) }
     {
         self.records.push(Record {

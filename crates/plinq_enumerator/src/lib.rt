@@ -17,3 +17,6 @@ pub use enumerator::Enumerator;
 pub use growth::Growth;
 pub use growth_fault::GrowthFault;
 pub use replaying::replays;
+
+#[cfg(test)]
+mod tests;

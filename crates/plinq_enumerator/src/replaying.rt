@@ -1,11 +1,10 @@
-ghost use Rattle.std.specs.Prelude.{◌≡◌, ◌≤◌, Some, length};
+ghost use Rattle.std.specs.Prelude.{◌≡◌};
 ghost use Rattle.plinq_source.specs.Trace.{IsSourceEnding};
 ghost use Rattle.plinq_keyed.specs.History.{is_legal_history, some_source};
 
+use crate::standing::Standing;
 use plinq_keyed::Record;
 use plinq_source::Ending;
-
-use crate::standing::Standing;
 
 /// Whether records are a legal history of a source of `len` items that ends so.
 ///

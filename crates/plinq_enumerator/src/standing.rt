@@ -1,6 +1,6 @@
-ghost use Rattle.std.specs.Prelude.{◌≡◌, ◌≤◌, ◌+◌, ◌<◌, ◌^◌, ◌||◌, Some, length};
+ghost use Rattle.std.specs.Prelude.{◌≡◌, ◌≤◌, ◌+◌, ◌<◌, ◌^◌, ◌||◌, length};
 ghost use Rattle.plinq_source.specs.Trace.{IsSourceEnding};
-ghost use Rattle.plinq_keyed.specs.History.{some_source, reply, place_behind, tells, same_tail, ending_tail};
+ghost use Rattle.plinq_keyed.specs.History.{some_source, reply, tells, same_tail, ending_tail};
 ghost use Rattle.plinq_enumerator.specs.Standings.{place_of, is_close};
 
 use plinq_keyed::{Event, Record, Tail};
@@ -33,7 +33,9 @@ impl Standing {
         ensures { result ≡ tells entry.now (reply (some_source len (Some ending)) (place_of self) entry.now.asked) }
     {
         let answer = self.answer(entry.asked, len, ending);
-        entry.first == self.given && entry.count == answer.count && is_same_tail(entry.tail, answer.tail)
+        entry.first == self.given
+            && entry.count == answer.count
+            && is_same_tail(entry.tail, answer.tail)
     }
 
     // What a source of `len` items with that ending answers here.

@@ -1,5 +1,4 @@
-ghost use Rattle.std.specs.Prelude.{◌≡◌, ◌≤◌, ◌+◌, ◌-◌, [], length, vec_capacity, drop, None, nat_lt, if◌then◌else◌};
-ghost use Rattle.plinq_source.specs.Trace.{Trace};
+ghost use Rattle.std.specs.Prelude.{◌≡◌, ◌≤◌, ◌+◌, ◌-◌, [], length, vec_capacity, nat_lt, if◌then◌else◌};
 ghost use Rattle.plinq_keyed.specs.History.{items_from, ending_tail};
 
 use plinq_keyed::Tail;

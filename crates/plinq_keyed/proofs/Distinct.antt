@@ -1,10 +1,8 @@
 -- Numbers of which none comes twice: joined lists, lists that rise, and that n such numbers below n are all of them.
-use Rattle.std.proofs.Common.{◌≡◌, ◌⊎◌, ℕ, zero, suc, ◌+◌, ◌<◌, ◌≤◌, Bool, true, false, not, ◌&&◌, ◌||◌, ltb, leb, eqb, List, [], ◌∷◌, ◌++◌, length, refl, sym, ap, ◌∙◌, arith, inl, inr}
-use Rattle.std.specs.List.{list_all, list_any, concat, range_with_len, IsDistinct, AllByRecursion}
-use Rattle.std.proofs.Math.Bool.{and_assoc, and-true}
-use Rattle.std.proofs.lemmas.Bool.{and_parts, and_from, or_parts, or_from, or_cases, ltb-true, lt-ltb, leb-true, le-leb, eqb-true, eqb-false, eq-eqb, ne_eqb, not-true, not_from_false, cases_Bool, or_left, false≢true}
-use Rattle.std.proofs.lemmas.Bool.Decides.{nat_tests}
-use Rattle.std.proofs.lemmas.List.Folds.{list_all-append, list_any-append}
+use Rattle.std.proofs.Common.{◌≡◌, ℕ, zero, suc, ◌+◌, ◌<◌, ◌≤◌, Bool, true, false, not, ◌&&◌, ◌||◌, ltb, leb, eqb, List, [], ◌∷◌, ◌++◌, length, refl, sym, ap, ◌∙◌, arith, inl, inr}
+use Rattle.std.specs.List.{list_all, range_with_len, IsDistinct, AllByRecursion}
+use Rattle.std.proofs.lemmas.Bool.{and_parts, and_from, or_parts, or_from, or_cases, ltb-true, lt-ltb, leb-true, le-leb, eqb-true, eq-eqb, ne_eqb, not-true, not_from_false, cases_Bool, false≢true}
+use Rattle.std.proofs.lemmas.List.Folds.{list_any-append}
 use Rattle.std.proofs.lemmas.Map.Steps.{length-le_from_distinct_below}
 use Rattle.plinq_keyed.specs.Keys.{is_among, distinct, rises_from, rises, counts_up}
 use Rattle.plinq_keyed.specs.Sweeps.{apart, all_below}
@@ -22,7 +20,7 @@ and_regroup false b c d = refl
 pub apart-append : (ks js is : List ℕ) → apart ks (js ++ is) ≡ (apart ks js && apart ks is)
 apart-append [] js is = refl
 apart-append (k ∷ ks) js is =
-  ap (λ b. not b && apart ks (js ++ is)) (list_any-append (λ j. eqb k j) js is)
+    ap (λ b. not b && apart ks (js ++ is)) (list_any-append (λ j. eqb k j) js is)
     ∙ ap (λ b. b && apart ks (js ++ is)) (not_or (is_among js k) (is_among is k))
     ∙ ap (λ b. not (is_among js k) && not (is_among is k) && b) (apart-append ks js is)
     ∙ and_regroup (not (is_among js k)) (not (is_among is k)) (apart ks js) (apart ks is)
@@ -40,7 +38,7 @@ and_four false b c d e = refl
 pub distinct-append : (ks js : List ℕ) → distinct (ks ++ js) ≡ (distinct ks && apart ks js && distinct js)
 distinct-append [] js = refl
 distinct-append (k ∷ ks) js =
-  ap (λ b. not b && distinct (ks ++ js)) (list_any-append (λ j. eqb k j) ks js)
+    ap (λ b. not b && distinct (ks ++ js)) (list_any-append (λ j. eqb k j) ks js)
     ∙ ap (λ b. b && distinct (ks ++ js)) (not_or (is_among ks k) (is_among js k))
     ∙ ap (λ b. (not (is_among ks k) && not (is_among js k)) && b) (distinct-append ks js)
     ∙ and_four (not (is_among ks k)) (not (is_among js k)) (distinct ks) (apart ks js) (distinct js)
@@ -48,23 +46,23 @@ distinct-append (k ∷ ks) js =
 pub is_among-rising : (least k : ℕ) (ks : List ℕ) → rises_from least ks ≡ true → k < least → is_among ks k ≡ false
 is_among-rising least k [] h b = refl
 is_among-rising least k (j ∷ ks) h b =
-  let p = and_parts (leb least j) _ h in
-  let above : least ≤ j = leb-true least j p.0 in
-  or_from _ _ (ne_eqb k j (λ e. omega arith)) (is_among-rising (j + 1) k ks p.1 (omega arith))
+    let p = and_parts (leb least j) _ h in
+    let above : least ≤ j = leb-true least j p.0 in
+    or_from _ _ (ne_eqb k j (λ e. omega arith)) (is_among-rising (j + 1) k ks p.1 (omega arith))
 
 pub distinct-rising : (least : ℕ) (ks : List ℕ) → rises_from least ks ≡ true → distinct ks ≡ true
 distinct-rising least [] h = refl
 distinct-rising least (k ∷ ks) h =
-  let p = and_parts (leb least k) _ h in
-  let none : is_among ks k ≡ false = is_among-rising (k + 1) k ks p.1 (omega arith) in
-  and_from _ _ (not_from_false _ none) (distinct-rising (k + 1) ks p.1)
+    let p = and_parts (leb least k) _ h in
+    let none : is_among ks k ≡ false = is_among-rising (k + 1) k ks p.1 (omega arith) in
+    and_from _ _ (not_from_false _ none) (distinct-rising (k + 1) ks p.1)
 
 pub rises_from-less : (least less : ℕ) (ks : List ℕ) → less ≤ least → rises_from least ks ≡ true → rises_from less ks ≡ true
 rises_from-less least less [] b h = refl
 rises_from-less least less (k ∷ ks) b h =
-  let p = and_parts (leb least k) _ h in
-  let above : least ≤ k = leb-true least k p.0 in
-  and_from _ _ (le-leb less k (omega arith)) p.1
+    let p = and_parts (leb least k) _ h in
+    let above : least ≤ k = leb-true least k p.0 in
+    and_from _ _ (le-leb less k (omega arith)) p.1
 
 pub rises-tail : (k : ℕ) (ks : List ℕ) → rises (k ∷ ks) ≡ true → rises ks ≡ true
 rises-tail k ks h = rises_from-less (k + 1) 0 ks (omega arith) (and_parts (leb 0 k) _ h).1
@@ -72,22 +70,22 @@ rises-tail k ks h = rises_from-less (k + 1) 0 ks (omega arith) (and_parts (leb 0
 -- the lower of two first keys is in no list that rises from the other on
 pub apart-lower_left : (k j : ℕ) (ks js : List ℕ) → k < j → rises (j ∷ js) ≡ true → apart (k ∷ ks) (j ∷ js) ≡ apart ks (j ∷ js)
 apart-lower_left k j ks js b h =
-  let up : rises_from (k + 1) (j ∷ js) ≡ true = and_from _ _ (le-leb (k + 1) j (omega arith)) (and_parts (leb 0 j) _ h).1 in
-  let none : is_among (j ∷ js) k ≡ false = is_among-rising (k + 1) k (j ∷ js) up (omega arith) in
-  ap (λ b. not b && apart ks (j ∷ js)) none
+    let up : rises_from (k + 1) (j ∷ js) ≡ true = and_from _ _ (le-leb (k + 1) j (omega arith)) (and_parts (leb 0 j) _ h).1 in
+    let none : is_among (j ∷ js) k ≡ false = is_among-rising (k + 1) k (j ∷ js) up (omega arith) in
+    ap (λ b. not b && apart ks (j ∷ js)) none
 
 apart-without : (least j : ℕ) (ks js : List ℕ) → rises_from least ks ≡ true → j < least → apart ks (j ∷ js) ≡ apart ks js
 apart-without least j [] js h b = refl
 apart-without least j (k ∷ ks) js h b =
-  let p = and_parts (leb least k) _ h in
-  let above : least ≤ k = leb-true least k p.0 in
-  let ne : eqb k j ≡ false = ne_eqb k j (λ e. omega arith) in
-  ap (λ b. not (b || is_among js k) && apart ks (j ∷ js)) ne
+    let p = and_parts (leb least k) _ h in
+    let above : least ≤ k = leb-true least k p.0 in
+    let ne : eqb k j ≡ false = ne_eqb k j (λ e. omega arith) in
+    ap (λ b. not (b || is_among js k) && apart ks (j ∷ js)) ne
     ∙ ap (λ b. not (is_among js k) && b) (apart-without (k + 1) j ks js p.1 (omega arith))
 
 pub apart-lower_right : (k j : ℕ) (ks js : List ℕ) → j < k → rises (k ∷ ks) ≡ true → apart (k ∷ ks) (j ∷ js) ≡ apart (k ∷ ks) js
 apart-lower_right k j ks js b h =
-  apart-without (j + 1) j (k ∷ ks) js (and_from _ _ (le-leb (j + 1) k (omega arith)) (and_parts (leb 0 k) _ h).1) (omega arith)
+    apart-without (j + 1) j (k ∷ ks) js (and_from _ _ (le-leb (j + 1) k (omega arith)) (and_parts (leb 0 k) _ h).1) (omega arith)
 
 pub apart-same : (k j : ℕ) (ks js : List ℕ) → k ≡ j → apart (k ∷ ks) (j ∷ js) ≡ false
 apart-same k j ks js e = ap (λ b. not (b || is_among js k) && apart ks (j ∷ js)) (eq-eqb k j e)
@@ -100,26 +98,27 @@ IsDistinct-from_distinct : (ks : List ℕ) → distinct ks ≡ true → IsDistin
 unfolding IsDistinct
 IsDistinct-from_distinct [] h = tt
 IsDistinct-from_distinct (k ∷ ks) h =
-  let p = and_parts (not (is_among ks k)) _ h in
-  (all_differ k ks (not-true _ p.0), IsDistinct-from_distinct ks p.1)
+    let p = and_parts (not (is_among ks k)) _ h in
+    (all_differ k ks (not-true _ p.0), IsDistinct-from_distinct ks p.1)
 
 below-at : (n q : ℕ) (ks : List ℕ) → all_below n ks ≡ true → is_among ks q ≡ true → q < n
 below-at n q [] h m = absurd (false≢true m)
 below-at n q (k ∷ ks) h m =
-  let p = and_parts (ltb k n) _ h in
-  let below : k < n = ltb-true k n p.0 in
-  elim (or_cases (eqb q k) _ m) [ inl e ↦ (let same : q ≡ k = eqb-true q k e in omega arith) | inr r ↦ below-at n q ks p.1 r ]
+    let p = and_parts (ltb k n) _ h in
+    let below : k < n = ltb-true k n p.0 in
+    elim (or_cases (eqb q k) _ m) [ inl e ↦ (let same : q ≡ k = eqb-true q k e in omega arith) | inr r ↦ below-at n q ks p.1 r ]
 
 -- as many numbers below n as n, none twice, are all of them
 is_among-full : (ks : List ℕ) (q : ℕ) → all_below (length ks) ks ≡ true → distinct ks ≡ true → q < length ks → is_among ks q ≡ true
 is_among-full ks q below once h =
-  elim (cases_Bool (is_among ks q))
-  [ inl e ↦ e
-  | inr none ↦
-      let more : distinct (q ∷ ks) ≡ true = and_from _ _ (not_from_false _ none) once in
-      let all : all_below (length ks) (q ∷ ks) ≡ true = and_from _ _ (lt-ltb q (length ks) h) below in
-      let few = length-le_from_distinct_below (q ∷ ks) (length ks) (IsDistinct-from_distinct (q ∷ ks) more) (λ j m. below-at (length ks) j (q ∷ ks) all m) in
-      absurd (omega arith) ]
+    elim (cases_Bool (is_among ks q)) [
+      | inl e ↦ e
+      | inr none ↦
+          let more : distinct (q ∷ ks) ≡ true = and_from _ _ (not_from_false _ none) once in
+          let all : all_below (length ks) (q ∷ ks) ≡ true = and_from _ _ (lt-ltb q (length ks) h) below in
+          let few = length-le_from_distinct_below (q ∷ ks) (length ks) (IsDistinct-from_distinct (q ∷ ks) more) (λ j m. below-at (length ks) j (q ∷ ks) all m) in
+          absurd (omega arith)
+    ]
 
 list_all-range : (p : ℕ → Bool) (a n : ℕ) → ((q : ℕ) → q < a + n → p q ≡ true) → list_all p (range_with_len a n) ≡ true
 list_all-range p a zero h = refl
@@ -127,10 +126,11 @@ list_all-range p a (suc n) h = and_from _ _ (h a (omega arith)) (list_all-range 
 
 pub counts_up-from : (ks : List ℕ) → counts_up ks ≡ (all_below (length ks) ks && distinct ks)
 counts_up-from ks =
-  elim (cases_Bool (all_below (length ks) ks && distinct ks))
-  [ inl e ↦
-      let p = and_parts (all_below (length ks) ks) _ e in
-      ap (λ b. b && list_all (is_among ks) (range_with_len 0 (length ks))) e
-        ∙ list_all-range (is_among ks) 0 (length ks) (λ q b. is_among-full ks q p.0 p.1 (omega arith))
-        ∙ sym e
-  | inr e ↦ ap (λ b. b && list_all (is_among ks) (range_with_len 0 (length ks))) e ∙ sym e ]
+    elim (cases_Bool (all_below (length ks) ks && distinct ks)) [
+      | inl e ↦
+          let p = and_parts (all_below (length ks) ks) _ e in
+          ap (λ b. b && list_all (is_among ks) (range_with_len 0 (length ks))) e
+          ∙ list_all-range (is_among ks) 0 (length ks) (λ q b. is_among-full ks q p.0 p.1 (omega arith))
+          ∙ sym e
+      | inr e ↦ ap (λ b. b && list_all (is_among ks) (range_with_len 0 (length ks))) e ∙ sym e
+    ]

@@ -1,4 +1,5 @@
 pub mod Across
 pub mod Distinct
 pub mod Legal
+pub mod Rising
 pub mod Steps

@@ -1,13 +1,13 @@
 -- One step of each loop over partitions: what holds from a place on is what holds there, and from the next place on.
-use Rattle.std.proofs.Common.{◌≡◌, ℕ, ◌+◌, ◌<◌, ◌≤◌, true, false, ◌&&◌, leb, List, [], ◌∷◌, ◌++◌, length, drop, get_or, refl, sym, ap, ◌∙◌, Vec}
+use Rattle.std.proofs.Common.{◌≡◌, ℕ, ◌+◌, ◌<◌, true, ◌&&◌, List, ◌∷◌, length, drop, get_or, sym, ap, ◌∙◌, Vec}
 use Rattle.std.specs.List.{concat}
 use Rattle.std.specs.declared.alloc.Global.{Global}
 use Rattle.std.proofs.lemmas.Bool.{and_parts}
-use Rattle.std.proofs.lemmas.List.{drop_more, drop_all}
+use Rattle.std.proofs.lemmas.List.{drop_more}
 use Rattle.plinq_keyed.specs.declared.keyed.Keyed.{Keyed}
 use Rattle.plinq_keyed.specs.Keys.{keys, key_lists, element_lists, distinct, rises, ordered_in_each}
 use Rattle.plinq_keyed.specs.Sweeps.{apart}
-use Rattle.plinq_keyed.proofs.Distinct.{apart-append, apart-nil, apart-lower_left, apart-lower_right, distinct-append, distinct-rising, rises-tail}
+use Rattle.plinq_keyed.proofs.Distinct.{apart-append, apart-lower_left, apart-lower_right, distinct-append, distinct-rising, rises-tail}
 
 abbrev pub all_keys : {T : Type 0} → List (Vec (Keyed T) Global) → List ℕ
 all_keys parts = concat (key_lists (element_lists parts))
@@ -20,37 +20,37 @@ pub rises-next : {T : Type 0} (xs : List (Keyed T)) (i : ℕ) (x : Keyed T) → 
 rises-next xs i x e h = rises-tail x.key (keys (drop (i + 1) xs)) (sym (ap (λ ys. rises (keys ys)) e) ∙ h)
 
 pub apart-left : {T : Type 0} (xs ys : List (Keyed T)) (i j : ℕ) (x y : Keyed T) → drop i xs ≡ x ∷ drop (i + 1) xs → drop j ys ≡ y ∷ drop (j + 1) ys → x.key < y.key → rises (keys (drop j ys)) ≡ true →
-  apart (keys (drop (i + 1) xs)) (keys (drop j ys)) ≡ apart (keys (drop i xs)) (keys (drop j ys))
+    apart (keys (drop (i + 1) xs)) (keys (drop j ys)) ≡ apart (keys (drop i xs)) (keys (drop j ys))
 apart-left xs ys i j x y ex ey below h =
-  ap (λ zs. apart (keys (drop (i + 1) xs)) (keys zs)) ey
+    ap (λ zs. apart (keys (drop (i + 1) xs)) (keys zs)) ey
     ∙ sym (apart-lower_left x.key y.key (keys (drop (i + 1) xs)) (keys (drop (j + 1) ys)) below (sym (ap (λ zs. rises (keys zs)) ey) ∙ h))
     ∙ sym (ap (λ zs. apart (keys (x ∷ drop (i + 1) xs)) (keys zs)) ey)
     ∙ sym (ap (λ zs. apart (keys zs) (keys (drop j ys))) ex)
 
 pub apart-right : {T : Type 0} (xs ys : List (Keyed T)) (i j : ℕ) (x y : Keyed T) → drop i xs ≡ x ∷ drop (i + 1) xs → drop j ys ≡ y ∷ drop (j + 1) ys → y.key < x.key → rises (keys (drop i xs)) ≡ true →
-  apart (keys (drop i xs)) (keys (drop (j + 1) ys)) ≡ apart (keys (drop i xs)) (keys (drop j ys))
+    apart (keys (drop i xs)) (keys (drop (j + 1) ys)) ≡ apart (keys (drop i xs)) (keys (drop j ys))
 apart-right xs ys i j x y ex ey below h =
-  ap (λ zs. apart (keys zs) (keys (drop (j + 1) ys))) ex
+    ap (λ zs. apart (keys zs) (keys (drop (j + 1) ys))) ex
     ∙ sym (apart-lower_right x.key y.key (keys (drop (i + 1) xs)) (keys (drop (j + 1) ys)) below (sym (ap (λ zs. rises (keys zs)) ex) ∙ h))
     ∙ sym (ap (λ zs. apart (keys zs) (keys (y ∷ drop (j + 1) ys))) ex)
     ∙ sym (ap (λ zs. apart (keys (drop i xs)) (keys zs)) ey)
 
 pub apart-next : {T : Type 0} (ks : List ℕ) (parts : List (Vec (Keyed T) Global)) (i : ℕ) (part : Vec (Keyed T) Global) → drop i parts ≡ part ∷ drop (i + 1) parts →
-  apart ks (all_keys (drop i parts)) ≡ (apart ks (keys part.items) && apart ks (all_keys (drop (i + 1) parts)))
+    apart ks (all_keys (drop i parts)) ≡ (apart ks (keys part.items) && apart ks (all_keys (drop (i + 1) parts)))
 apart-next ks parts i part e =
-  ap (λ ps. apart ks (all_keys ps)) e ∙ apart-append ks (keys part.items) (all_keys (drop (i + 1) parts))
+    ap (λ ps. apart ks (all_keys ps)) e ∙ apart-append ks (keys part.items) (all_keys (drop (i + 1) parts))
 
 pub ordered-next : {T : Type 0} (parts : List (Vec (Keyed T) Global)) (i : ℕ) (part : Vec (Keyed T) Global) → drop i parts ≡ part ∷ drop (i + 1) parts → ordered_in_each (key_lists (element_lists (drop i parts))) ≡ true →
-  (rises (keys part.items) ≡ true) × (ordered_in_each (key_lists (element_lists (drop (i + 1) parts))) ≡ true)
+    (rises (keys part.items) ≡ true) × (ordered_in_each (key_lists (element_lists (drop (i + 1) parts))) ≡ true)
 ordered-next parts i part e h = and_parts (rises (keys part.items)) _ (sym (ap (λ ps. ordered_in_each (key_lists (element_lists ps))) e) ∙ h)
 
 pub distinct-next : {T : Type 0} (parts : List (Vec (Keyed T) Global)) (i : ℕ) (part : Vec (Keyed T) Global) → drop i parts ≡ part ∷ drop (i + 1) parts →
-  distinct (all_keys (drop i parts)) ≡ (distinct (keys part.items) && apart (keys part.items) (all_keys (drop (i + 1) parts)) && distinct (all_keys (drop (i + 1) parts)))
+    distinct (all_keys (drop i parts)) ≡ (distinct (keys part.items) && apart (keys part.items) (all_keys (drop (i + 1) parts)) && distinct (all_keys (drop (i + 1) parts)))
 distinct-next parts i part e =
-  ap (λ ps. distinct (all_keys ps)) e ∙ distinct-append (keys part.items) (all_keys (drop (i + 1) parts))
+    ap (λ ps. distinct (all_keys ps)) e ∙ distinct-append (keys part.items) (all_keys (drop (i + 1) parts))
 
 pub distinct-next_rising : {T : Type 0} (parts : List (Vec (Keyed T) Global)) (i : ℕ) (part : Vec (Keyed T) Global) → drop i parts ≡ part ∷ drop (i + 1) parts → rises (keys part.items) ≡ true →
-  distinct (all_keys (drop i parts)) ≡ (apart (keys part.items) (all_keys (drop (i + 1) parts)) && distinct (all_keys (drop (i + 1) parts)))
+    distinct (all_keys (drop i parts)) ≡ (apart (keys part.items) (all_keys (drop (i + 1) parts)) && distinct (all_keys (drop (i + 1) parts)))
 distinct-next_rising parts i part e h =
-  distinct-next parts i part e
+    distinct-next parts i part e
     ∙ ap (λ b. b && apart (keys part.items) (all_keys (drop (i + 1) parts)) && distinct (all_keys (drop (i + 1) parts))) (distinct-rising 0 (keys part.items) h)

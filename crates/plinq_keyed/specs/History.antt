@@ -1,5 +1,5 @@
 -- What an enumerator answers, and which histories of requests and answers are legal.
-use Rattle.std.specs.Prelude.{◌≡◌, ℕ, ◌+◌, ◌-◌, ◌≤◌, ◌==◌, List, [], ◌∷◌, ◌++◌, length, drop, take, map, replicate, Option, Some, None, Bool, true, false, ◌&&◌, nat_lt, nat_le, if◌then◌else◌, IsTrue, refl}
+use Rattle.std.specs.Prelude.{◌≡◌, ℕ, ◌+◌, ◌-◌, ◌≤◌, ◌==◌, List, [], ◌∷◌, ◌++◌, length, drop, take, map, replicate, Option, Some, None, Bool, true, false, ◌&&◌, nat_lt, if◌then◌else◌, refl}
 use Rattle.std.specs.List.{list_all}
 use Rattle.plinq_source.specs.Trace.{Trace, ended}
 use Rattle.plinq_source.specs.declared.ending.Ending.{Ending}
@@ -44,7 +44,7 @@ abbrev pub next_items : {T : Type 0} → Trace T → ℕ → ℕ → Reply T
 next_items t g n = record {
   first = g;
   items = items_from t g n;
-  tail = (if nat_lt (length t.items - g) n then ending_tail t.ending else None)
+  tail = (if nat_lt (length t.items - g) n then ending_tail t.ending else None);
 }
 
 -- no items: it is closed
@@ -60,7 +60,7 @@ reply t p Close = no_items p.given
 abbrev pub place_behind : {T : Type 0} → Trace T → Place → Event → Place
 place_behind t p (Ask n) = record {
   given = p.given + length (reply t p (Ask n)).items;
-  closed = p.closed
+  closed = p.closed;
 }
 place_behind t p Close = record { given = p.given; closed = true }
 
@@ -76,7 +76,7 @@ recorded ticket e a = record {
   asked = e;
   first = a.first;
   count = length a.items;
-  tail = a.tail
+  tail = a.tail;
 }
 
 -- whether two ways to be the last are the same
@@ -111,6 +111,10 @@ IsLegalHistory t h = is_legal_history t h ≡ true
 -- what is recorded next, when behind this history a request comes under that ticket
 abbrev pub next_record : {T : Type 0} → Trace T → List Record → ℕ → Event → Record
 next_record t h ticket e = recorded ticket e (reply t (place_after t start h) e)
+
+-- a history with the record of one more request behind it
+abbrev pub with_next : {T : Type 0} → Trace T → List Record → ℕ → Event → List Record
+with_next t h ticket e = h ++ next_record t h ticket e ∷ []
 
 -- whether each record's ticket is below that number
 abbrev pub tickets_below : ℕ → List Record → Bool
@@ -147,7 +151,7 @@ pub record IsChunkOf {T : Type 0} (t : Trace T) (r : Record) (c : Chunk T) : Typ
 -- three records of a source of one item: asked for one, closed, asked again
 abbrev example : ℕ → List Record
 example closed_at =
-  record { ticket = 0; asked = Ask 1; first = 0; count = 1; tail = None }
+    record { ticket = 0; asked = Ask 1; first = 0; count = 1; tail = None }
     ∷ record { ticket = 1; asked = Close; first = closed_at; count = 0; tail = Some Closed }
     ∷ record { ticket = 2; asked = Ask 1; first = 1; count = 0; tail = Some Closed }
     ∷ []

@@ -1,5 +1,5 @@
 -- Keys, and the three properties of them that a partitioner may promise.
-use Rattle.std.specs.Prelude.{◌≡◌, ℕ, ◌+◌, List, [], ◌∷◌, ◌++◌, length, map, Bool, true, false, not, ◌&&◌, ◌==◌, nat_lt, nat_le, Vec, refl}
+use Rattle.std.specs.Prelude.{◌≡◌, ℕ, ◌+◌, List, [], ◌∷◌, length, map, Bool, true, false, not, ◌&&◌, ◌==◌, nat_lt, nat_le, Vec, refl}
 use Rattle.std.specs.List.{list_all, list_any, concat, range_with_len}
 use Rattle.std.specs.declared.alloc.Global.{Global}
 use Rattle.plinq_keyed.specs.declared.keyed.Keyed.{Keyed}

@@ -1,6 +1,5 @@
-ghost use Rattle.std.specs.Prelude.{◌≡◌, ℕ, ◌+◌, ◌<◌, ◌^◌, length};
-
-ghost use Rattle.plinq_keyed.specs.Keys.{element_lists, key_lists, keys, ordered_in_each, ordered_across, normalized, rises};
+ghost use Rattle.std.specs.Prelude.{◌≡◌, ◌<◌, ◌^◌};
+ghost use Rattle.plinq_keyed.specs.Keys.{element_lists, key_lists, keys, ordered_in_each, ordered_across, rises};
 ghost use Rattle.plinq_keyed.specs.Sweeps.{all_from, least_behind};
 
 use crate::keyed::Keyed;

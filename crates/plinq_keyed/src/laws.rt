@@ -8,13 +8,11 @@ ghost use Rattle.plinq_keyed.specs.History.{IsLegalHistory, is_legal_history, Is
 /// This function does nothing: it is there for the law in its contract.
 pub fn handed_out_is_a_prefix<T>()
     ensures { (t : Trace T) (h : List Record) → IsLegalHistory t h → IsPrefix t h }
-{
-}
+{}
 
 /// Whether a history is legal depends on how many items its source has and how they end, not on the items.
 ///
 /// This function does nothing: it is there for the law in its contract.
 pub fn legality_counts_items<T>()
     ensures { (t : Trace T) (h : List Record) → is_legal_history t h ≡ is_legal_history (some_source (length t.items) t.ending) h }
-{
-}
+{}

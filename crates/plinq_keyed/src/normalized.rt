@@ -1,5 +1,5 @@
-ghost use Rattle.std.specs.Prelude.{◌≡◌, ℕ, ◌+◌, ◌<◌, ◌^◌, ◌&&◌, length, true, nat_lt};
-ghost use Rattle.std.specs.List.{concat, list_all};
+ghost use Rattle.std.specs.Prelude.{◌≡◌, ◌&&◌, length, true};
+ghost use Rattle.std.specs.List.{concat};
 ghost use Rattle.plinq_keyed.specs.Keys.{element_lists, key_lists, keys, ordered_in_each, normalized, rises, is_among, distinct};
 ghost use Rattle.plinq_keyed.specs.Sweeps.{all_below, apart};
 
@@ -8,8 +8,9 @@ use crate::keyed::Keyed;
 
 /// Whether the keys of all partitions are the numbers from 0 on, each once (`KeysNormalized`).
 ///
-/// Takes no memory. Where the keys of each partition rise, as those of every partitioner here do, it takes at most
-/// one step an element and partition; for keys in no order it compares each with each.
+/// Takes no memory. Where the keys of each partition rise, as those of every partitioner here do, each two partitions
+/// are walked once, so the steps are at most the elements times the partitions. For keys in no order each is compared
+/// with each, so the steps may be the square of the elements.
 pub fn check_normalized<T>(parts: &[Vec<Keyed<T>>]) -> bool
     ensures { result ≡ normalized (key_lists (element_lists parts.now)) }
 {

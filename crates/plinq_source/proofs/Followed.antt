@@ -1,8 +1,8 @@
 -- Laws on how one trace follows another.
-use Rattle.std.specs.Prelude.{◌≡◌, List, [], ◌∷◌, ◌++◌, Option, Some, None, refl}
+use Rattle.std.specs.Prelude.{◌≡◌, List, [], Option, Some, None, refl}
 use Rattle.std.proofs.Common.{ap, sym, ◌∙◌, append_assoc, append-nil}
 use Rattle.plinq_source.specs.declared.ending.Ending.{Ending}
-use Rattle.plinq_source.specs.Trace.{Trace, open_trace, ended, continued, followed}
+use Rattle.plinq_source.specs.Trace.{Trace, open_trace, continued, followed}
 
 -- a trace by its parts
 abbrev pub trace_of : {T : Type 0} → List T → Option Ending → Trace T
@@ -17,7 +17,7 @@ pub followed-open_nil : {T : Type 0} (t : Trace T) → followed t (open_trace []
 followed-open_nil t = continued-open_nil t.items t.ending
 
 pub continued-continued : {T : Type 0} (xs : List T) (e : Option Ending) (ys : List T) (f : Option Ending) (c : Trace T)
-  → followed (continued xs e (trace_of ys f)) c ≡ continued xs e (continued ys f c)
+    → followed (continued xs e (trace_of ys f)) c ≡ continued xs e (continued ys f c)
 continued-continued xs None ys None c = ap (λ zs. trace_of zs c.ending) (append_assoc xs ys c.items)
 continued-continued xs None ys (Some f) c = refl
 continued-continued xs (Some e) ys f c = refl

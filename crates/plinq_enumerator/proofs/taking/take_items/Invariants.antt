@@ -9,5 +9,5 @@ invariant-loop-taken g l = record {
   counted : vec_len l.items ≡ l._taken;
   room : l.n ≤ vec_capacity l.items;
   moved : g.S.Source.given l.source ≡ g.S.Source.given l.initial.source + l._taken;
-  within : g.S.Source.given l.initial.source + l._taken ≤ length (g.S.Source.whole l.initial.source).items
+  within : g.S.Source.given l.initial.source + l._taken ≤ length (g.S.Source.whole l.initial.source).items;
 }

@@ -6,5 +6,5 @@ use Rattle.plinq_keyed.proofs.checks.least_above.Given as goal
 abbrev pub invariant-loop-element : goal.invariant-loop-element
 invariant-loop-element g l = record {
   rest : least_behind l.least (keys (drop l.element-index l.part)) ≡ least_behind l.given (keys l.part);
-  small : l.least < 2 ^ 65
+  small : l.least < 2 ^ 65;
 }

@@ -1,14 +1,13 @@
-use Rattle.std.proofs.Common.{◌≡◌, ◌+◌, ◌-◌, ◌*◌, ◌^◌, ◌≤◌, ◌&&◌, drop, length, true}
-use Rattle.std.specs.List.{concat}
-use Rattle.plinq_keyed.specs.Keys.{element_lists, key_lists, keys, is_among, distinct, rises, ordered_in_each}
-use Rattle.plinq_keyed.specs.Sweeps.{all_below, apart}
+use Rattle.std.proofs.Common.{◌≡◌, ◌+◌, ◌-◌, drop, length, true}
+use Rattle.plinq_keyed.specs.Keys.{keys, rises}
+use Rattle.plinq_keyed.specs.Sweeps.{apart}
 use Rattle.plinq_keyed.proofs.normalized.are_apart.Given as goal
 
 abbrev pub invariant-loop-at : goal.invariant-loop-at
 invariant-loop-at g l = record {
   rest : apart (keys (drop l.at l.left)) (keys (drop l.by l.right)) ≡ apart (keys l.left) (keys l.right);
   left : rises (keys (drop l.at l.left)) ≡ true;
-  right : rises (keys (drop l.by l.right)) ≡ true
+  right : rises (keys (drop l.by l.right)) ≡ true;
 }
 
 abbrev pub decreases-loop-at : goal.decreases-loop-at

@@ -1,7 +1,5 @@
-use Rattle.std.proofs.Common.{◌≡◌, ◌+◌, ◌-◌, ◌*◌, ◌^◌, ◌≤◌, ◌&&◌, drop, length, true}
-use Rattle.std.specs.List.{concat}
-use Rattle.plinq_keyed.specs.Keys.{element_lists, key_lists, keys, is_among, distinct, rises, ordered_in_each}
-use Rattle.plinq_keyed.specs.Sweeps.{all_below, apart}
+use Rattle.std.proofs.Common.{◌≡◌, drop}
+use Rattle.plinq_keyed.specs.Keys.{keys, is_among}
 use Rattle.plinq_keyed.proofs.normalized.has_key.Given as goal
 
 abbrev pub invariant-loop-element : goal.invariant-loop-element

@@ -1,23 +1,23 @@
-use Rattle.std.proofs.Common.{◌≡◌, ◌<◌, ◌+◌, ◌∷◌, ◌∙◌, ◌&&◌, [], true, false, drop, length, sym, ap, arith}
-use Rattle.plinq_keyed.specs.Keys.{keys, distinct, rises}
+use Rattle.std.proofs.Common.{◌≡◌, ◌+◌, ◌∙◌, ◌&&◌, true, false, drop, sym, ap}
+use Rattle.plinq_keyed.specs.Keys.{keys, distinct}
 use Rattle.plinq_keyed.specs.Sweeps.{apart}
 use Rattle.plinq_keyed.proofs.Steps.{drop-at, all_keys, distinct-next}
 use Rattle.plinq_keyed.proofs.normalized.keys_differ.Goals as goal
 
 pub returns-then-not-are_found_once : goal.returns-then-not-are_found_once
 returns-then-not-are_found_once g c =
-  let parts = c.args.parts.now in
-  let i = c.loop-place.place in
-  let part = c.index-parts-place.result in
-  let here = drop-at parts i part c.loop-place-test.true c.index-parts-place.is in
-  let met : (distinct (keys part.items) && apart (keys part.items) (all_keys (drop (i + 1) parts))) ≡ false = cc in
-  sym (sym c.loop-place.invariant ∙ distinct-next parts i part here ∙ ap (λ b. b && distinct (all_keys (drop (i + 1) parts))) met)
+    let parts = c.args.parts.now in
+    let i = c.loop-place.place in
+    let part = c.index-parts-place.result in
+    let here = drop-at parts i part c.loop-place-test.true c.index-parts-place.is in
+    let met : (distinct (keys part.items) && apart (keys part.items) (all_keys (drop (i + 1) parts))) ≡ false = cc in
+    sym (sym c.loop-place.invariant ∙ distinct-next parts i part here ∙ ap (λ b. b && distinct (all_keys (drop (i + 1) parts))) met)
 
 pub loop-place-preserved : goal.loop-place-preserved
 loop-place-preserved g c =
-  let parts = c.args.parts.now in
-  let i = c.loop-place.place in
-  let part = c.index-parts-place.result in
-  let here = drop-at parts i part c.loop-place-test.true c.index-parts-place.is in
-  let met : (distinct (keys part.items) && apart (keys part.items) (all_keys (drop (i + 1) parts))) ≡ true = cc in
-  sym (distinct-next parts i part here ∙ ap (λ b. b && distinct (all_keys (drop (i + 1) parts))) met) ∙ c.loop-place.invariant
+    let parts = c.args.parts.now in
+    let i = c.loop-place.place in
+    let part = c.index-parts-place.result in
+    let here = drop-at parts i part c.loop-place-test.true c.index-parts-place.is in
+    let met : (distinct (keys part.items) && apart (keys part.items) (all_keys (drop (i + 1) parts))) ≡ true = cc in
+    sym (distinct-next parts i part here ∙ ap (λ b. b && distinct (all_keys (drop (i + 1) parts))) met) ∙ c.loop-place.invariant

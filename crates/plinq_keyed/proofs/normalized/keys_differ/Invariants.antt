@@ -1,7 +1,6 @@
-use Rattle.std.proofs.Common.{◌≡◌, ◌+◌, ◌-◌, ◌*◌, ◌^◌, ◌≤◌, ◌&&◌, drop, length, true}
+use Rattle.std.proofs.Common.{◌≡◌, drop}
 use Rattle.std.specs.List.{concat}
-use Rattle.plinq_keyed.specs.Keys.{element_lists, key_lists, keys, is_among, distinct, rises, ordered_in_each}
-use Rattle.plinq_keyed.specs.Sweeps.{all_below, apart}
+use Rattle.plinq_keyed.specs.Keys.{element_lists, key_lists, distinct}
 use Rattle.plinq_keyed.proofs.normalized.keys_differ.Given as goal
 
 abbrev pub invariant-loop-place : goal.invariant-loop-place

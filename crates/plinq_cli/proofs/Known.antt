@@ -1,0 +1,34 @@
+-- What reads do to the bytes that a reader tells.
+use Rattle.std.proofs.Common.{◌≡◌, ℕ, ◌<◌, List, [], ◌++◌, length, Option, Some, None, refl, ap, sym, subst, ◌∙◌, arith, append_assoc, append-nil, length-append}
+use Rattle.std.specs.Prelude.{IfSome}
+use Rattle.std.specs.Io.KnownBytes.{Consumes, IsAtEnd}
+
+-- reading nothing consumes nothing
+pub Consumes-none : (a : Option (List ℕ)) → Consumes a a []
+Consumes-none None = tt
+Consumes-none (Some xs) = refl
+
+-- one read behind another
+pub Consumes-append : (a b d : Option (List ℕ)) (xs ys : List ℕ) → Consumes a b xs → Consumes b d ys → Consumes a d (xs ++ ys)
+Consumes-append None b d xs ys first second = tt
+Consumes-append (Some x) None d xs ys first second = absurd first
+Consumes-append (Some x) (Some y) None xs ys first second = absurd second
+Consumes-append (Some x) (Some y) (Some z) xs ys first second = first ∙ ap (λ w. xs ++ w) second ∙ sym (append_assoc xs ys z)
+
+-- a read of nothing leaves what was read before
+pub Consumes-append-none : (a b d : Option (List ℕ)) (xs ys : List ℕ) → Consumes a b xs → Consumes b d ys → ys ≡ [] → Consumes a d xs
+Consumes-append-none a b d xs ys first second none =
+    let P : List ℕ → Type 0 = λ w. Consumes a d w in
+    subst P (ap (λ w. xs ++ w) none ∙ append-nil xs) (Consumes-append a b d xs ys first second)
+
+-- at the end all the bytes were read
+pub Consumes-end : (a b : Option (List ℕ)) (xs : List ℕ) → Consumes a b xs → IsAtEnd b → IfSome a (λ told. xs ≡ told)
+Consumes-end None b xs read end = tt
+Consumes-end (Some x) None xs read end = absurd read
+Consumes-end (Some x) (Some y) xs read end = sym (read ∙ ap (λ w. xs ++ w) end ∙ append-nil xs)
+
+-- there are as many bytes as were read
+pub Consumes-length : (a b : Option (List ℕ)) (xs : List ℕ) (n : ℕ) → Consumes a b xs → n < length xs → IfSome a (λ told. n < length told)
+Consumes-length None b xs n read many = tt
+Consumes-length (Some x) None xs n read many = absurd read
+Consumes-length (Some x) (Some y) xs n read many = omega (arith, ap length read, length-append xs y)

@@ -1,0 +1,16 @@
+pub mod Text
+pub mod Written
+pub mod Words
+pub mod Values
+pub mod Formulas
+pub mod Results
+pub mod Steps
+pub mod Served
+pub mod OpWords
+pub mod PlanText
+pub mod Sources
+pub mod Growths
+pub mod Document
+pub mod DocumentRows
+pub mod Performed
+pub mod PartsText

@@ -1,0 +1,58 @@
+ghost use Rattle.std.specs.Prelude.{◌≡◌};
+ghost use Rattle.plinq_cli.specs.Performed.{failure_of_document, failure_of_input, failure_of_serve};
+
+use crate::doc_fault::DocFault;
+use crate::input_fault::InputFault;
+use crate::serve_fault::ServeFault;
+use thiserror::Error;
+
+/// Why the program has no answer. Its text is the line on standard error, behind the program's name.
+#[derive(Clone, Copy, Debug, PartialEq, Eq, Error)]
+pub enum Failure {
+    /// The document is refused.
+    #[error("document: {0}")]
+    Document(DocFault),
+    /// Memory ran out.
+    #[error("out of memory")]
+    Memory,
+    /// The input couldn't be read.
+    #[error("read failed")]
+    Read,
+    /// The output couldn't be written.
+    #[error("write failed")]
+    Write,
+}
+
+impl From<DocFault> for Failure {
+    ghost from_gives = { λ fault e. e ≡ failure_of_document fault };
+
+    fn from(fault: DocFault) -> Failure {
+        match fault {
+            DocFault::Memory => Failure::Memory,
+            _ => Failure::Document(fault),
+        }
+    }
+}
+
+impl From<InputFault> for Failure {
+    ghost from_gives = { λ fault e. e ≡ failure_of_input fault };
+
+    fn from(fault: InputFault) -> Failure {
+        match fault {
+            InputFault::Read => Failure::Read,
+            InputFault::TooLong => Failure::Document(DocFault::TooLong),
+            InputFault::Memory => Failure::Memory,
+        }
+    }
+}
+
+impl From<ServeFault> for Failure {
+    ghost from_gives = { λ fault e. e ≡ failure_of_serve fault };
+
+    fn from(fault: ServeFault) -> Failure {
+        match fault {
+            ServeFault::Memory => Failure::Memory,
+            ServeFault::Write => Failure::Write,
+        }
+    }
+}

@@ -1,0 +1,143 @@
+ghost use Rattle.std.specs.Prelude.{◌≡◌, ◌≤◌, ◌⊎◌, IfSome};
+ghost use Rattle.std.specs.Option.{ForSome};
+ghost use Rattle.plinq_cli.specs.Document.{document_of};
+ghost use Rattle.plinq_cli.specs.declared.arguments.Arguments.{Arguments};
+ghost use Rattle.plinq_cli.specs.Performed.{AnswersDocument, Performs, ShowsOnly, status_of, failure_status};
+
+use crate::arguments::{Arguments, read_arguments};
+use crate::document::read_document;
+use crate::failure::Failure;
+use crate::input::read_input;
+use crate::serving::serve;
+use clap::error::ErrorKind;
+use plinq_source::Ending;
+use std::alloc::Global;
+use std::io::{Read, Write};
+
+/// Does what the program does: reads the command line, of which the first word is the program's name, and the
+/// document from `reader`, writes the answer to `out` and what is wrong to `err`, and answers the exit status.
+///
+/// The status is 0 at the end of an answer and for help, 2 for refused arguments and documents, 3 where the source
+/// refused, 4 at a fault, and 5 where anything else failed. `out` is flushed before the status is answered, and a
+/// flush that fails is a failing write. What fails in writing to `err` changes nothing.
+pub fn perform<R: AllocGlobal, I: Read, W: Write, E: Write>(
+    rt: &R,
+    words: Vec<String>,
+    reader: &mut I,
+    out: &mut W,
+    err: &mut E,
+) -> u8
+    ensures status { result ≤ 5 }
+
+    // Where the reader tells its bytes: the answer of these for some arguments, or nothing but what `clap` shows.
+    ensures written { IfSome (I.remaining reader.old) (λ bytes.
+        ((a : Arguments) × Performs a bytes (W.contents out.old) (W.contents out.new) result)
+        ⊎ ShowsOnly (W.contents out.old) (W.contents out.new) result) }
+{
+    let alloc = rt.alloc();
+    match read_arguments(alloc, words.as_slice()) {
+        Ok(arguments) => perform_with(alloc, arguments, reader, out, err),
+        Err(refusal) => show(&refusal, out, err),
+    }
+}
+
+// What the program does once its arguments are known.
+fn perform_with<I: Read, W: Write, E: Write>(
+    alloc: Global,
+    arguments: Arguments,
+    reader: &mut I,
+    out: &mut W,
+    err: &mut E,
+) -> u8
+    requires { ForSome arguments.settings.workers (λ n. (1 ≤ n) × (n ≤ 64)) }
+    ensures status { result ≤ 5 }
+    ensures written { IfSome (I.remaining reader.old) (λ bytes.
+        Performs arguments bytes (W.contents out.old) (W.contents out.new) result) }
+{
+    let answered = answer(alloc, arguments, reader, out);
+    report(&answered, err)
+}
+
+// The answer of the document, flushed.
+fn answer<I: Read, W: Write>(
+    alloc: Global,
+    arguments: Arguments,
+    reader: &mut I,
+    out: &mut W,
+) -> Result<Ending, Failure>
+    requires { ForSome arguments.settings.workers (λ n. (1 ≤ n) × (n ≤ 64)) }
+    ensures { IfSome (I.remaining reader.old) (λ bytes. AnswersDocument arguments.command
+        (document_of arguments.settings bytes) (W.contents out.old) (W.contents out.new) result) }
+{
+    let answered = answer_unflushed(alloc, arguments, reader, out);
+    let flushed = out.flush();
+    let ending = answered?;
+    match flushed {
+        Ok(()) => Ok(ending),
+        Err(_) => Err(Failure::Write),
+    }
+}
+
+fn answer_unflushed<I: Read, W: Write>(
+    alloc: Global,
+    arguments: Arguments,
+    reader: &mut I,
+    out: &mut W,
+) -> Result<Ending, Failure>
+    requires { ForSome arguments.settings.workers (λ n. (1 ≤ n) × (n ≤ 64)) }
+    ensures { IfSome (I.remaining reader.old) (λ bytes. AnswersDocument arguments.command
+        (document_of arguments.settings bytes) (W.contents out.old) (W.contents out.new) result) }
+{
+    let bytes = read_input(alloc, reader)?;
+    let job = read_document(alloc, bytes.as_slice(), arguments.settings)?;
+    Ok(serve(alloc, arguments.command, job, out)?)
+}
+
+// The status of an answer, and the line of a failure.
+fn report<E: Write>(answered: &Result<Ending, Failure>, err: &mut E) -> u8
+    ensures { result ≡ status_of answered.now }
+{
+    match answered {
+        Ok(Ending::End) => 0,
+        Ok(Ending::Refused(_)) => 3,
+        Ok(Ending::Fault(_)) => 4,
+        Err(failure) => report_failure(*failure, err),
+    }
+}
+
+fn report_failure<E: Write>(failure: Failure, err: &mut E) -> u8
+    ensures { result ≡ failure_status failure }
+{
+    let _ = writeln!(err, "plinq: {failure}");
+    let _ = err.flush();
+    match failure {
+        Failure::Document(_) => 2,
+        Failure::Memory | Failure::Read | Failure::Write => 5,
+    }
+}
+
+// Help goes to `out`, and what `clap` says of a refused command line to `err`.
+fn show<W: Write, E: Write>(refusal: &clap::Error, out: &mut W, err: &mut E) -> u8
+    ensures { ShowsOnly (W.contents out.old) (W.contents out.new) result }
+{
+    if refusal.kind() == ErrorKind::OutOfMemory {
+        return report_failure(Failure::Memory, err);
+    }
+    if refusal.use_stderr() {
+        let _ = write!(err, "{refusal}");
+        let _ = err.flush();
+        return 2;
+    }
+    match show_help(refusal, out) {
+        Ok(()) => 0,
+        Err(_) => report_failure(Failure::Write, err),
+    }
+}
+
+fn show_help<W: Write>(help: &clap::Error, out: &mut W) -> std::io::Result<()> {
+    write!(out, "{help}")?;
+    out.flush()
+}
+
+#[cfg(test)]
+mod tests;

@@ -1,0 +1,33 @@
+ghost use Rattle.std.specs.Prelude.{◌≡◌};
+ghost use Rattle.plinq_cli.specs.declared.serve_fault.ServeFault.TheVariants.{Memory, Write};
+
+use crate::write_fault::WriteFault;
+use plinq_source::OutOfMemory;
+use thiserror::Error;
+
+/// Why a command has no answer.
+#[derive(Clone, Copy, Debug, PartialEq, Eq, Error)]
+pub enum ServeFault {
+    /// Memory ran out.
+    #[error("out of memory")]
+    Memory,
+    /// The writer took no more.
+    #[error("write failed")]
+    Write,
+}
+
+impl From<OutOfMemory> for ServeFault {
+    ghost from_gives = { λ _ e. e ≡ Memory };
+
+    fn from(_: OutOfMemory) -> ServeFault {
+        ServeFault::Memory
+    }
+}
+
+impl From<WriteFault> for ServeFault {
+    ghost from_gives = { λ _ e. e ≡ Write };
+
+    fn from(_: WriteFault) -> ServeFault {
+        ServeFault::Write
+    }
+}

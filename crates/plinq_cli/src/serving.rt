@@ -1,0 +1,110 @@
+ghost use Rattle.std.specs.Prelude.{◌≡◌, ◌≤◌, IfOk, IfErr, Some};
+ghost use Rattle.plinq_ops.specs.Query.{degree_in_force};
+ghost use Rattle.plinq_keyed.specs.Keys.{keyed_from, element_lists};
+ghost use Rattle.plinq_partition.specs.Cuts.{cuts};
+ghost use Rattle.plinq_source.specs.Trace.{ended};
+ghost use Rattle.plinq_cli.specs.PartsText.{parts_text};
+ghost use Rattle.plinq_source.specs.declared.ending.Ending.TheVariants.{End};
+ghost use Rattle.plinq_cli.specs.PlanText.{plan_text};
+ghost use Rattle.plinq_cli.specs.Served.{answer_for, text};
+ghost use Rattle.plinq_cli.specs.Written.{Writes};
+
+use crate::any_source::AnySource;
+use crate::command::Command;
+use crate::job::Job;
+use crate::lines::write_answer;
+use crate::parts_lines::write_parts;
+use crate::plan_lines::write_plan;
+use crate::serve_fault::ServeFault;
+use plinq_keyed::Keyed;
+use plinq_lambda::Formula;
+use plinq_ops::{Query, sequential};
+use plinq_partition::{OrderablePartitioner, RangeParts};
+use plinq_source::{Ending, OutOfMemory, Source};
+use std::alloc::Global;
+use std::io::Write;
+
+/// Answers a document's job as the command asks, and writes the lines of the answer.
+///
+/// After a fault what was written is a beginning of these lines: after [`ServeFault::Write`] it has those of the
+/// batches that the writer took, and how much of the next one isn't said.
+pub fn serve<W: Write>(
+    alloc: Global,
+    command: Command,
+    job: Job,
+    writer: &mut W,
+) -> Result<Ending, ServeFault>
+    requires { ⟦<AnySource as Source>⟧.given job.source ≡ 0 }
+    ensures written { let u = answer_for command job.query (⟦<AnySource as Source>⟧.whole job.source) in
+        Writes (W.contents writer.old) (W.contents writer.new) result (text command job.query u) }
+    ensures ending { IfOk result (λ e. (answer_for command job.query (⟦<AnySource as Source>⟧.whole job.source)).ending ≡ Some e) }
+{
+    match command {
+        Command::Run => serve_sequential(alloc, job, writer),
+        Command::Seq => serve_sequential(alloc, job, writer),
+        Command::Plan => serve_plan(&job, writer),
+        Command::Parts => serve_parts(alloc, job, writer),
+    }
+}
+
+fn serve_sequential<W: Write>(alloc: Global, job: Job, writer: &mut W) -> Result<Ending, ServeFault>
+    requires { ⟦<AnySource as Source>⟧.given job.source ≡ 0 }
+    ensures written { let u = answer_for Command.Seq job.query (⟦<AnySource as Source>⟧.whole job.source) in
+        Writes (W.contents writer.old) (W.contents writer.new) result (text Command.Seq job.query u) }
+    ensures ending { IfOk result (λ e. (answer_for Command.Seq job.query (⟦<AnySource as Source>⟧.whole job.source)).ending ≡ Some e) }
+{
+    let mut job = job;
+    let (items, ending) = sequential(alloc, &job.query, &mut job.source)?;
+    write_answer(writer, job.query.merge_option(), items.as_slice(), ending)?;
+    Ok(ending)
+}
+
+fn serve_plan<W: Write>(job: &Job, writer: &mut W) -> Result<Ending, ServeFault>
+    ensures written { Writes (W.contents writer.old) (W.contents writer.new) result (plan_text job.now.query) }
+    ensures ending { IfOk result (λ e. e ≡ End) }
+{
+    write_plan(writer, &job.query)?;
+    Ok(Ending::End)
+}
+
+fn serve_parts<W: Write>(alloc: Global, job: Job, writer: &mut W) -> Result<Ending, ServeFault>
+    requires { ⟦<AnySource as Source>⟧.given job.source ≡ 0 }
+    ensures written { let u = ⟦<AnySource as Source>⟧.whole job.source in
+        Writes (W.contents writer.old) (W.contents writer.new) result (parts_text (degree_in_force job.query.degree) u) }
+    ensures ending { IfOk result (λ e. (⟦<AnySource as Source>⟧.whole job.source).ending ≡ Some e) }
+{
+    let Job {
+        query,
+        mut source,
+        ..
+    } = job;
+    let (items, ending) = all_of(alloc, &mut source)?;
+    let parts = RangeParts::new(alloc, items);
+    let partitions = cut(&parts, query.degree())?;
+    write_parts(writer, parts.properties(), partitions.as_slice(), ending)?;
+    Ok(ending)
+}
+
+// All items of a source, and how it ends: the answer of a query with no operator.
+fn all_of(alloc: Global, source: &mut AnySource) -> Result<(Vec<i64>, Ending), OutOfMemory>
+    requires { ⟦<AnySource as Source>⟧.given source.old ≡ 0 }
+    ensures { IfOk result (λ r. ended r.0.items r.1 ≡ ⟦<AnySource as Source>⟧.whole source.old) }
+{
+    let query: Query<Formula> = Query::new(alloc);
+    sequential(alloc, &query, source)
+}
+
+// A query's degree is at least 1, so only memory can be wanting.
+fn cut(parts: &RangeParts<i64>, n: u64) -> Result<Vec<Vec<Keyed<i64>>>, ServeFault>
+    requires { 1 ≤ n }
+    ensures partitions { IfOk result (λ ps. element_lists ps.items ≡ cuts (keyed_from 0 parts.now) n) }
+    ensures fault { IfErr result (λ e. e ≡ ServeFault.Memory) }
+{
+    match parts.partitions(n) {
+        Ok(partitions) => Ok(partitions),
+        Err(_) => Err(ServeFault::Memory),
+    }
+}
+
+#[cfg(test)]
+mod tests;
