@@ -1,6 +1,6 @@
 -- What was written for a document, once a step behind it has failed or the output is flushed.
-use Rattle.std.proofs.Common.{◌≡◌, ◌≢◌, ℕ, List, Option, Some, None, Result, Ok, Err, IfSome, refl, ap, sym, ◌∙◌, subst}
-use Rattle.std.specs.Io.KnownBytes.{Keeps, Appends}
+use Rattle.std.proofs.Common.{◌≡◌, ℕ, List, Some, None, Result, Ok, Err, IfSome, refl, ap, sym, ◌∙◌, subst}
+use Rattle.std.specs.Io.KnownBytes.{Keeps}
 use Rattle.plinq_source.specs.declared.ending.Ending.{Ending}
 use Rattle.plinq_cli.specs.declared.command.Command.{Command}
 use Rattle.plinq_cli.specs.declared.settings.Settings.{Settings}
@@ -11,7 +11,6 @@ use Rattle.plinq_cli.specs.declared.failure.Failure.TheVariants.{Document, Memor
 use Rattle.plinq_cli.specs.Document.{JobView, document_of}
 use Rattle.plinq_cli.specs.Performed.{failure_of_document, AnswersDocument}
 use Rattle.plinq_cli.specs.Results.{IfMeant}
-use Rattle.plinq_cli.specs.Written.{AppendsBeginning}
 use Rattle.plinq_cli.proofs.WrittenBytes.{Bytes, appends-kept, begins-all, begins-nothing}
 
 keeps-same : (a : Bytes) → Keeps a a

@@ -1,11 +1,11 @@
 -- The batches of a whole answer: runs of one size, or all at once.
-use Rattle.std.proofs.Common.{◌≡◌, ℕ, zero, suc, ◌+◌, ◌<◌, ◌==◌, Bool, true, false, if◌then◌else◌, List, [], ◌∷◌, ◌++◌, length, take, drop, min, Option, Some, None, refl, arith, ap, sym, ◌∙◌, append_assoc, append-nil, length-append, eq-eqb}
+use Rattle.std.proofs.Common.{◌≡◌, ℕ, zero, suc, ◌+◌, ◌<◌, ◌==◌, Bool, true, false, if◌then◌else◌, List, [], ◌∷◌, ◌++◌, length, take, drop, min, Some, None, refl, arith, ap, sym, ◌∙◌, append_assoc, append-nil, length-append, eq-eqb}
 use Rattle.std.proofs.lemmas.Bool.{eqb-true, false_from_ne_true}
 use Rattle.std.proofs.lemmas.List.{take_min, drop_min}
 use Rattle.plinq_source.specs.declared.ending.Ending.{Ending}
 use Rattle.plinq_source.specs.declared.ending.Ending.TheVariants.{End, Refused, Fault}
 use Rattle.plinq_source.specs.Trace.{ended}
-use Rattle.plinq_ops.specs.Batches.{is_full, full_batches, held_back, last_batch, batches_from}
+use Rattle.plinq_ops.specs.Batches.{full_batches, held_back, last_batch, batches_from}
 
 -- with a size, what is held back goes out however the answer ends
 pub last_batch-cons : {T : Type 0} (size : ℕ) (x : T) (xs : List T) (e : Ending) → last_batch (Some size) (x ∷ xs) (Some e) ≡ (x ∷ xs) ∷ []

@@ -1,6 +1,6 @@
 -- Writes one behind another.
-use Rattle.std.proofs.Common.{◌≡◌, ℕ, ◌+◌, ◌-◌, ◌≤◌, min, List, [], ◌++◌, length, take, drop, Option, Some, None, Result, Ok, Err, MatchResult, arith, ap, sym, subst, ◌∙◌, append_assoc, append-nil, length-drop}
-use Rattle.std.specs.Io.KnownBytes.{Keeps, Appends, WriteAppends}
+use Rattle.std.proofs.Common.{◌≡◌, ℕ, ◌+◌, ◌-◌, ◌≤◌, min, List, [], ◌++◌, length, take, drop, Option, Some, None, Result, Ok, Err, arith, ap, sym, subst, ◌∙◌, append_assoc, append-nil, length-drop}
+use Rattle.std.specs.Io.KnownBytes.{Keeps, Appends}
 use Rattle.std.specs.Result.{IsErr}
 use Rattle.std.proofs.lemmas.Result.{MatchResult-from_err}
 use Rattle.std.proofs.Math.Seq.{take-append-add, take-length, take-add}

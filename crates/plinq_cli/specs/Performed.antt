@@ -1,5 +1,5 @@
 -- What the program does with a document, and the status that it ends with.
-use Rattle.std.specs.Prelude.{◌≡◌, ℕ, List, Option, Some, Result, Ok, Err, ⊤}
+use Rattle.std.specs.Prelude.{◌≡◌, ℕ, List, Option, Some, Result, Ok, Err, ⊤, ◌⊎◌}
 use Rattle.std.specs.Io.KnownBytes.{Keeps, Appends}
 use Rattle.plinq_source.specs.declared.ending.Ending.{Ending}
 use Rattle.plinq_source.specs.declared.ending.Ending.TheVariants.{End, Refused, Fault}
@@ -12,7 +12,8 @@ use Rattle.plinq_cli.specs.declared.serve_fault.ServeFault.{ServeFault}
 use Rattle.plinq_cli.specs.declared.serve_fault.ServeFault.TheVariants.{Memory as ServeMemory, Write as ServeWrite}
 use Rattle.plinq_cli.specs.declared.failure.Failure.{Failure}
 use Rattle.plinq_cli.specs.declared.failure.Failure.TheVariants.{Document, Memory, Read, Write}
-use Rattle.plinq_cli.specs.Document.{JobView}
+use Rattle.plinq_cli.specs.Document.{JobView, document_of}
+use Rattle.plinq_cli.specs.declared.arguments.Arguments.{Arguments}
 use Rattle.plinq_cli.specs.Served.{answer_for, text}
 use Rattle.plinq_cli.specs.Written.{AppendsBeginning}
 
@@ -69,3 +70,13 @@ ending_status (Fault code) = 4
 abbrev pub status_of : Result Ending Failure → ℕ
 status_of (Ok e) = ending_status e
 status_of (Err failure) = failure_status failure
+
+-- what was written and the status, where the words are these arguments: those of an answer of the document
+pub record Performs (arguments : Arguments) (bytes : List ℕ) (old new : Option (List ℕ)) (status : ℕ) : Type 0 where
+  pub answered : Result Ending Failure
+  pub meant : AnswersDocument arguments.command (document_of arguments.settings bytes) old new answered
+  pub status_is : status ≡ status_of answered
+
+-- where the words are no arguments: they are refused and nothing is written, or help is, or one of these failed
+abbrev pub ShowsOnly : Option (List ℕ) → Option (List ℕ) → ℕ → Type 0
+ShowsOnly old new status = ((status ≡ 2) × Keeps old new) ⊎ ((status ≡ 0) ⊎ (status ≡ 5))

@@ -29,7 +29,8 @@ const MOST_STEPS: usize = 1_000;
 /// Reads a document: one JSON text, of version 1.
 ///
 /// The settings of the command line count as calls at the head of the query, the workers before the merge option.
-/// Each refusal says the first thing that is wrong, in the order of [`DocFault`]'s variants; want of memory is
+/// Each refusal says the first thing that is wrong: the length, the JSON, whether there is a version, which version
+/// it is, the shape of everything else, the source, the growth, and then the steps in order. Want of memory is
 /// answered at the growth that was refused, whatever stands later.
 ///
 /// ```text

@@ -1,7 +1,8 @@
-ghost use Rattle.std.specs.Prelude.{◌≡◌, ◌≤◌, IfSome};
+ghost use Rattle.std.specs.Prelude.{◌≡◌, ◌≤◌, ◌⊎◌, IfSome};
 ghost use Rattle.std.specs.Option.{ForSome};
 ghost use Rattle.plinq_cli.specs.Document.{document_of};
-ghost use Rattle.plinq_cli.specs.Performed.{AnswersDocument, status_of, failure_status};
+ghost use Rattle.plinq_cli.specs.declared.arguments.Arguments.{Arguments};
+ghost use Rattle.plinq_cli.specs.Performed.{AnswersDocument, Performs, ShowsOnly, status_of, failure_status};
 
 use crate::arguments::{Arguments, read_arguments};
 use crate::document::read_document;
@@ -26,16 +27,35 @@ pub fn perform<R: AllocGlobal, I: Read, W: Write, E: Write>(
     out: &mut W,
     err: &mut E,
 ) -> u8
-    ensures { result ≤ 5 }
+    ensures status { result ≤ 5 }
+
+    // Where the reader tells its bytes: the answer of these for some arguments, or nothing but what `clap` shows.
+    ensures written { IfSome (I.remaining reader.old) (λ bytes.
+        ((a : Arguments) × Performs a bytes (W.contents out.old) (W.contents out.new) result)
+        ⊎ ShowsOnly (W.contents out.old) (W.contents out.new) result) }
 {
     let alloc = rt.alloc();
     match read_arguments(alloc, words.as_slice()) {
-        Ok(arguments) => {
-            let answered = answer(alloc, arguments, reader, out);
-            report(&answered, err)
-        }
+        Ok(arguments) => perform_with(alloc, arguments, reader, out, err),
         Err(refusal) => show(&refusal, out, err),
     }
+}
+
+// What the program does once its arguments are known.
+fn perform_with<I: Read, W: Write, E: Write>(
+    alloc: Global,
+    arguments: Arguments,
+    reader: &mut I,
+    out: &mut W,
+    err: &mut E,
+) -> u8
+    requires { ForSome arguments.settings.workers (λ n. (1 ≤ n) × (n ≤ 64)) }
+    ensures status { result ≤ 5 }
+    ensures written { IfSome (I.remaining reader.old) (λ bytes.
+        Performs arguments bytes (W.contents out.old) (W.contents out.new) result) }
+{
+    let answered = answer(alloc, arguments, reader, out);
+    report(&answered, err)
 }
 
 // The answer of the document, flushed.
@@ -98,7 +118,7 @@ fn report_failure<E: Write>(failure: Failure, err: &mut E) -> u8
 
 // Help goes to `out`, and what `clap` says of a refused command line to `err`.
 fn show<W: Write, E: Write>(refusal: &clap::Error, out: &mut W, err: &mut E) -> u8
-    ensures { result ≤ 5 }
+    ensures { ShowsOnly (W.contents out.old) (W.contents out.new) result }
 {
     if refusal.kind() == ErrorKind::OutOfMemory {
         return report_failure(Failure::Memory, err);

@@ -32,19 +32,19 @@ pub(crate) fn feed<L: Lambda>(
     let mut last = None;
     for (at, op) in ops.iter().enumerate() {
         match pass(alloc, op, &mut left[at], item)? {
-            Passed::Nothing => return Ok(last),
             Passed::Item(passed) => item = passed,
             Passed::Last(passed) => {
                 item = passed;
                 last = Some(Ending::End);
             }
+            Passed::Nothing => return Ok(last),
+            Passed::Ends(ending) => return Ok(Some(ending)),
             Passed::Items(items) => {
                 let (_, ops) = ops.split_at(at + 1);
                 let (_, left) = left.split_at_mut(at + 1);
                 let ending = feed_each(alloc, ops, left, items.as_slice(), out)?;
                 return Ok(ending.or(last));
             }
-            Passed::Ends(ending) => return Ok(Some(ending)),
         }
     }
     out.push(item)?;

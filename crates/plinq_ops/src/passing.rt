@@ -12,16 +12,16 @@ use std::alloc::Global;
 /// What an operator makes of one item.
 #[derive(Drop)]
 pub(crate) enum Passed<T> {
-    /// Nothing.
-    Nothing,
     /// One item.
     Item(T),
     /// One item, behind which the operator takes no other.
     Last(T),
-    /// So many items.
-    Items(Vec<T>),
+    /// Nothing.
+    Nothing,
     /// Nothing, and the run ends.
     Ends(Ending),
+    /// So many items.
+    Items(Vec<T>),
 }
 
 /// Sends one item through one operator, where a Take or a Skip has so many items left.
@@ -57,16 +57,18 @@ pub(crate) fn pass<L: Lambda>(
         Op::Take(_) => {
             *left -= 1;
             if *left == 0 {
-                return Ok(Passed::Last(item));
+                Ok(Passed::Last(item))
+            } else {
+                Ok(Passed::Item(item))
             }
-            Ok(Passed::Item(item))
         }
         Op::Skip(_) => {
             if *left == 0 {
-                return Ok(Passed::Item(item));
+                Ok(Passed::Item(item))
+            } else {
+                *left -= 1;
+                Ok(Passed::Nothing)
             }
-            *left -= 1;
-            Ok(Passed::Nothing)
         }
         Op::TakeWhile(f) => match f.test(item) {
             Ok(true) => Ok(Passed::Item(item)),

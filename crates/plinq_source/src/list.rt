@@ -29,7 +29,7 @@ pub struct ListSource<T: Copy + Send> {
 impl<T: Copy + Send> ListSource<T> {
     /// The items of the list, then [`Step::End`].
     ///
-    /// `_alloc` is the house's convention for types that hold a collection: no memory is taken.
+    /// `_alloc` goes unused, since the list has an allocator of its own. Takes no memory.
     pub fn new(_alloc: Global, items: Vec<T>) -> ListSource<T>
         requires { vec_len items ≤ 2 ^ 40 }
         ensures whole { ⟦<ListSource<T> as Source>⟧.whole result ≡ ended items.items (list_ending None) }

@@ -40,7 +40,7 @@ pub struct TextSource {
 impl TextSource {
     /// The numbers of this text, of at most 2^40 bytes.
     ///
-    /// `_alloc` is the house's convention for types that hold a collection: no memory is taken.
+    /// `_alloc` goes unused, since the text has an allocator of its own. Takes no memory.
     pub fn new(_alloc: Global, text: Vec<u8>) -> TextSource
         requires { vec_len text ≤ 2 ^ 40 }
         ensures whole { ⟦<TextSource as Source>⟧.whole result ≡ text_trace text.items }

@@ -334,10 +334,39 @@ fn plans(rt: HostRuntime) -> Result<(), Fail> {
     Ok(())
 }
 
+#[test]
+fn parts(rt: HostRuntime) -> Result<(), Fail> {
+    check(
+        &rt,
+        &["plinq", "parts", "--workers", "2"],
+        r#"{"version":1,"source":{"list":[5,6,7,8,9]},"query":[["take",1]]}"#,
+        "properties true true true\n0: 0=5 1=6\n1: 2=7 3=8 4=9\nend\n",
+        "",
+        0,
+    )?;
+    check(
+        &rt,
+        &["plinq", "parts", "--workers", "2"],
+        r#"{"version":1,"source":{"list":[]},"query":[]}"#,
+        "properties true true true\n0:\n1:\nend\n",
+        "",
+        0,
+    )?;
+    check(
+        &rt,
+        &["plinq", "parts"],
+        r#"{"version":1,"source":{"list":[-1],"refuse":7},"query":[["with_degree",1]]}"#,
+        "properties true true true\n0: 0=-1\nrefused 7\n",
+        "",
+        3,
+    )?;
+    Ok(())
+}
+
 // Words, a document, and the line on standard error behind the program's name.
 type Refused = (&'static [&'static str], &'static str, &'static str);
 
-const REFUSED: [Refused; 12] = [
+const REFUSED: [Refused; 15] = [
     (
         &["plinq", "run", "--merge", "not"],
         "[",
@@ -368,6 +397,21 @@ const REFUSED: [Refused; 12] = [
         &["plinq", "run"],
         r#"{"version":1,"source":{"range":[1,-1]},"query":[]}"#,
         "document: wrong shape",
+    ),
+    (
+        &["plinq", "parts"],
+        r#"{"version":1,"source":{"list":[]},"query":[["sort"]],"growth":[0,3,512]}"#,
+        "document: growth: zero",
+    ),
+    (
+        &["plinq", "run"],
+        r#"{"version":1,"source":{"list":[]},"query":[],"growth":[4,1,2]}"#,
+        "document: growth: first above max",
+    ),
+    (
+        &["plinq", "run"],
+        r#"{"version":1,"source":{"list":[]},"query":[],"growth":[1,1,65537]}"#,
+        "document: growth: max too large",
     ),
     (
         &["plinq", "run"],

@@ -1,5 +1,5 @@
 -- some items, and so they are one batch
-use Rattle.std.proofs.Common.{◌≡◌, ◌<◌, length, ap, sym, ◌∙◌, append-nil, rules}
+use Rattle.std.proofs.Common.{◌<◌, length, ap, sym, ◌∙◌, append-nil, rules}
 use Rattle.std.specs.List.{flat_map}
 use Rattle.plinq_cli.specs.Text.{batch_line}
 use Rattle.plinq_cli.proofs.Runs.{batches_from-end}

@@ -1,5 +1,5 @@
 -- the first number, those behind it, and the line feed
-use Rattle.std.proofs.Common.{◌≡◌, List, [], ◌∷◌, ◌++◌, ap, sym, rules}
+use Rattle.std.proofs.Common.{[], ◌∷◌, ◌++◌, ap, sym, rules}
 use Rattle.std.specs.List.{flat_map}
 use Rattle.std.specs.Fmt.{signed_decimal}
 use Rattle.std.proofs.lemmas.Int.{to_z-of_z}

@@ -1,5 +1,5 @@
 -- what was written before, then this batch, then those of the items that are left
-use Rattle.std.proofs.Common.{◌≡◌, ◌<◌, List, [], ◌∷◌, ◌++◌, Some, length, ap, sym, ◌∙◌, append_assoc, rules}
+use Rattle.std.proofs.Common.{◌<◌, [], ◌++◌, Some, length, ap, sym, ◌∙◌, append_assoc, rules}
 use Rattle.std.specs.List.{flat_map}
 use Rattle.plinq_source.specs.Trace.{ended}
 use Rattle.plinq_source.specs.declared.ending.Ending.TheVariants.{End}

@@ -1,7 +1,7 @@
 -- the name, a space, and the words of the formula
-use Rattle.std.proofs.Common.{[], ◌∷◌, ◌++◌, ap, ◌∙◌}
+use Rattle.std.proofs.Common.{[], ◌∷◌, ap, ◌∙◌}
 use Rattle.plinq_cli.specs.OpWords.{name_words, formula_name, formula_number}
-use Rattle.plinq_cli.proofs.WrittenBytes.{appends-as, appends-appends, begins-as, begins-append, begins-behind, writes-at_err, writes-as, writes-behind}
+use Rattle.plinq_cli.proofs.WrittenBytes.{appends-as, begins-as, begins-append, begins-behind, writes-at_err, writes-as, writes-behind}
 use Rattle.plinq_cli.proofs.op_words.write_call.Goals as goal
 
 pub returns-in_err-write_bytes : goal.returns-in_err-write_bytes

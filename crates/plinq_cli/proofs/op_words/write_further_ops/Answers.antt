@@ -1,5 +1,5 @@
 -- what was written before, then this operator, then those that are left
-use Rattle.std.proofs.Common.{◌≡◌, List, ◌++◌, ap, sym, ◌∙◌, append_assoc}
+use Rattle.std.proofs.Common.{◌≡◌, ◌++◌, ap, sym, ◌∙◌, append_assoc}
 use Rattle.std.specs.List.{flat_map}
 use Rattle.plinq_cli.specs.OpWords.{further_op}
 use Rattle.plinq_cli.proofs.WrittenBytes.{appends-appends, begins-as, begins-append, begins-behind, writes-at_err}

@@ -1,5 +1,5 @@
 -- what was written before, then this partition, then those that are left
-use Rattle.std.proofs.Common.{◌≡◌, List, ◌+◌, ◌++◌, length, ap, sym, ◌∙◌, append_assoc, arith}
+use Rattle.std.proofs.Common.{◌≡◌, ◌+◌, ◌++◌, length, ap, sym, ◌∙◌, append_assoc, arith}
 use Rattle.plinq_keyed.specs.Keys.{element_lists}
 use Rattle.plinq_cli.specs.PartsText.{part_line, part_lines}
 use Rattle.plinq_cli.proofs.WrittenBytes.{appends-appends, appends-as, begins-as, begins-append, begins-behind, writes-at_err}

@@ -1,6 +1,4 @@
 use Rattle.std.proofs.lemmas.Result.{err_from_is_err_and}
-use Rattle.plinq_cli.specs.Document.{document_of}
-use Rattle.plinq_cli.specs.Results.{IfMeant}
 use Rattle.plinq_cli.proofs.Answered.{refused}
 use Rattle.plinq_cli.proofs.performing.answer_unflushed.Goals as goal
 

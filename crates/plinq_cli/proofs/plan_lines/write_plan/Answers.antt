@@ -1,12 +1,10 @@
 -- the five lines, one behind another
-use Rattle.std.proofs.Common.{◌≡◌, ℕ, List, ◌++◌, ap, ◌∙◌, codes, decimal}
-use Rattle.std.specs.Io.KnownBytes.{Appends}
+use Rattle.std.proofs.Common.{ℕ, List, ◌++◌, ap, ◌∙◌, codes, decimal}
 use Rattle.plinq_lambda.specs.declared.formula.Formula.{Formula}
 use Rattle.plinq_ops.specs.Query.{QueryView, merge_in_force, degree_in_force}
 use Rattle.plinq_ops.specs.Plan.{worker_part, after_part, order_of}
 use Rattle.plinq_cli.specs.OpWords.{part_words}
 use Rattle.plinq_cli.specs.PlanText.{merge_name, order_name, named_line}
-use Rattle.plinq_cli.specs.Written.{Writes, AppendsBeginning}
 use Rattle.plinq_cli.proofs.WrittenBytes.{appends-as, begins-as, begins-append, begins-behind, writes-at_err, writes-as, writes-behind}
 use Rattle.plinq_cli.proofs.plan_lines.write_plan.Goals as goal
 
@@ -49,7 +47,7 @@ returns-in_err-write_named-3 g c =
     let q = c.args.query.now in
     let workers = ap (named_line (codes "workers ")) (c.format.ensures.text ∙ ap decimal c.degree.ensures.value) in
     let merge = ap (named_line (codes "merge ")) (c.merge_name.ensures ∙ ap merge_name c.merge_option.ensures) in
-    let order = ap (named_line (codes "order ")) (c.order_name.ensures ∙ ap order_name c.split-plan.ensures.order) in
+    let order = ap (named_line (codes "order ")) (c.order_name.ensures ∙ ap order_name c.split-plan.ensures.plan.order) in
     writes-at_err _ _ _ _ c.from_residual-in_err-write_named-3.ensures.0
     (begins-behind _ _ _ (workers_line q) (merge_line q ++ (order_line q ++ (worker_line q ++ after_line q)))
     (appends-as _ _ _ _ workers c.in_ok-write_named.ensures)
@@ -63,8 +61,8 @@ returns-in_err-write_named_part g c =
     let q = c.args.query.now in
     let workers = ap (named_line (codes "workers ")) (c.format.ensures.text ∙ ap decimal c.degree.ensures.value) in
     let merge = ap (named_line (codes "merge ")) (c.merge_name.ensures ∙ ap merge_name c.merge_option.ensures) in
-    let order = ap (named_line (codes "order ")) (c.order_name.ensures ∙ ap order_name c.split-plan.ensures.order) in
-    let worker = ap (λ ops. named_line (codes "worker ") (part_words ops)) c.split-plan.ensures.worker in
+    let order = ap (named_line (codes "order ")) (c.order_name.ensures ∙ ap order_name c.split-plan.ensures.plan.order) in
+    let worker = ap (λ ops. named_line (codes "worker ") (part_words ops)) c.split-plan.ensures.plan.worker in
     writes-at_err _ _ _ _ c.from_residual-in_err-write_named_part.ensures.0
     (begins-behind _ _ _ (workers_line q) (merge_line q ++ (order_line q ++ (worker_line q ++ after_line q)))
     (appends-as _ _ _ _ workers c.in_ok-write_named.ensures)
@@ -80,9 +78,9 @@ returns g c =
     let q = c.args.query.now in
     let workers = ap (named_line (codes "workers ")) (c.format.ensures.text ∙ ap decimal c.degree.ensures.value) in
     let merge = ap (named_line (codes "merge ")) (c.merge_name.ensures ∙ ap merge_name c.merge_option.ensures) in
-    let order = ap (named_line (codes "order ")) (c.order_name.ensures ∙ ap order_name c.split-plan.ensures.order) in
-    let worker = ap (λ ops. named_line (codes "worker ") (part_words ops)) c.split-plan.ensures.worker in
-    let after = ap (λ ops. named_line (codes "after ") (part_words ops)) c.split-plan.ensures.after in
+    let order = ap (named_line (codes "order ")) (c.order_name.ensures ∙ ap order_name c.split-plan.ensures.plan.order) in
+    let worker = ap (λ ops. named_line (codes "worker ") (part_words ops)) c.split-plan.ensures.plan.worker in
+    let after = ap (λ ops. named_line (codes "after ") (part_words ops)) c.split-plan.ensures.plan.after in
     writes-behind _ _ _ _ (workers_line q) (merge_line q ++ (order_line q ++ (worker_line q ++ after_line q)))
     (appends-as _ _ _ _ workers c.in_ok-write_named.ensures)
     (writes-behind _ _ _ _ (merge_line q) (order_line q ++ (worker_line q ++ after_line q))

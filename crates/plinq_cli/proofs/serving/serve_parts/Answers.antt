@@ -1,5 +1,5 @@
 -- nothing is written before the partitions are there, and then their lines
-use Rattle.std.proofs.Common.{◌≡◌, ℕ, ℤ, List, ◌++◌, true, ap, sym, ◌∙◌, rules}
+use Rattle.std.proofs.Common.{◌≡◌, ℕ, ℤ, List, ◌++◌, ap, ◌∙◌, rules}
 use Rattle.plinq_source.specs.declared.ending.Ending.{Ending}
 use Rattle.plinq_source.specs.Trace.{Trace, ended}
 use Rattle.plinq_keyed.specs.declared.keyed.Keyed.{Keyed}

@@ -32,7 +32,7 @@ feed-returns-in-Nothing g t c =
     let here = at-index m c.args.ops.now c.args.left.now c.args.item c.args.out.now.items c.loop-at.out.items i op left c.loop-at.item c.loop-at.last c.loop-at-test.true long c.index-ops-at.is c.loop-at.invariant in
     let within : i < length left = omega arith in
     rw (set-parts left i c.pass.new.left within)
-    (here.passed (open_trace []) c.pass.new.left (drop (i + 1) left) _ None (rw c.in-Nothing.is at c.in_ok-pass.ensures.passed) c.in_ok-pass.ensures.left (fed-none _ _ here.undecided))
+    (here.passed (open_trace []) c.pass.new.left (drop (i + 1) left) _ None (rw c.in-Nothing.is at c.in_ok-passed.ensures.passed) c.in_ok-passed.ensures.left (fed-none _ _ here.undecided))
 
 -- the operator ends the run
 pub feed-returns-in-Ends : goal.feed-returns-in-Ends
@@ -45,7 +45,7 @@ feed-returns-in-Ends g t c =
     let here = at-index m c.args.ops.now c.args.left.now c.args.item c.args.out.now.items c.loop-at.out.items i op left c.loop-at.item c.loop-at.last c.loop-at-test.true long c.index-ops-at.is c.loop-at.invariant in
     let within : i < length left = omega arith in
     rw (set-parts left i c.pass.new.left within)
-    (here.passed (ended [] c.in-Ends.ending) c.pass.new.left (drop (i + 1) left) _ (Some c.in-Ends.ending) (rw c.in-Ends.is at c.in_ok-pass.ensures.passed) c.in_ok-pass.ensures.left (fed-ending _ _ _ _ here.undecided))
+    (here.passed (ended [] c.in-Ends.ending) c.pass.new.left (drop (i + 1) left) _ (Some c.in-Ends.ending) (rw c.in-Ends.is at c.in_ok-passed.ensures.passed) c.in_ok-passed.ensures.left (fed-ending _ _ _ _ here.undecided))
 
 pub feed-feed_each-requires-clause-undecided : goal.feed-feed_each-requires-clause-undecided
 feed-feed_each-requires-clause-undecided g t c = λ lives outlive.
@@ -75,7 +75,7 @@ feed-returns-in-Items g t c =
     let done : c.split_at_mut-left.result.0.now ≡ take i left ++ count ∷ [] = c.split_at_mut-left.ensures.front ∙ take_more_set left i count within in
     let ending : c.or.result ≡ option_or c.in_ok-ending-in-Items.ending c.loop-at.last = search rules in
     rw (ending, done, append_assoc (take i left) (count ∷ []) c.feed_each.new.left)
-    (here.passed (open_trace c.in-Items.items.items) count c.feed_each.new.left _ c.in_ok-ending-in-Items.ending (rw c.in-Items.is at c.in_ok-pass.ensures.passed) c.in_ok-pass.ensures.left
+    (here.passed (open_trace c.in-Items.items.items) count c.feed_each.new.left _ c.in_ok-ending-in-Items.ending (rw c.in-Items.is at c.in_ok-passed.ensures.passed) c.in_ok-passed.ensures.left
     (rw (behind_ops, behind_left, c.as_slice.ensures.value) at c.in_ok-ending-in-Items.ensures))
 
 -- the operator gives one item
@@ -92,11 +92,11 @@ feed-loop-at-preserved g t c =
       | feed-in-Item w ↦
           rw (w.item-is, w.last-is)
           (through-item m c.args.ops.now c.args.left.now c.args.item c.args.out.now.items c.loop-at.out.items i op left c.loop-at.item c.loop-at.last w.in-Item.passed c.pass.new.left within here
-          (rw w.in-Item.is at c.in_ok-pass.ensures.passed) c.in_ok-pass.ensures.left)
+          (rw w.in-Item.is at c.in_ok-passed.ensures.passed) c.in_ok-passed.ensures.left)
       | feed-in-Last w ↦
           rw (w.item-is, w.last-is)
           (through-last m c.args.ops.now c.args.left.now c.args.item c.args.out.now.items c.loop-at.out.items i op left c.loop-at.item c.loop-at.last w.in-Last.passed c.pass.new.left within here
-          (rw w.in-Last.is at c.in_ok-pass.ensures.passed) c.in_ok-pass.ensures.left)
+          (rw w.in-Last.is at c.in_ok-passed.ensures.passed) c.in_ok-passed.ensures.left)
     ]
 
 -- all operators have let it through
