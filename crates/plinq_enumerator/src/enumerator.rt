@@ -10,7 +10,8 @@ use std::alloc::Global;
 /// A source that is handed out in chunks, with the history of all requests.
 ///
 /// Each request comes under a ticket, above those of all requests before it; a lock that draws them in turn lets
-/// several threads share one enumerator. Once it is closed it hands out nothing more.
+/// several threads share one enumerator. Once it is closed it hands out nothing more. What was asked so far, and what was
+/// handed out for it, is read by [`Guarded::records`].
 ///
 /// ```text
 /// let mut numbers = Enumerator::new(alloc, ListSource::new(alloc, list));
@@ -58,7 +59,7 @@ impl<S: Source> Enumerator<S> {
         }
     }
 
-    /// Hands out the next `n` items, or what is left of them, and records it.
+    /// Hands out the next `n` items, 1 to 65,536 of them, or what is left, and records it.
     ///
     /// # Errors
     ///

@@ -31,7 +31,7 @@ impl Model for Growth {
 }
 
 impl Growth {
-    /// Chunks of one item.
+    /// Chunks of one item (.NET's `EnumerablePartitionerOptions.NoBuffering`).
     pub const ONE: Growth = Growth {
         first: 1,
         repeat: 1,

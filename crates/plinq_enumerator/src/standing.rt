@@ -8,9 +8,9 @@ use plinq_source::Ending;
 
 // Where an enumerator stands: how many items it has handed out, and whether it was closed.
 #[derive(Clone, Copy)]
-pub struct Standing {
-    pub given: u64,
-    pub closed: bool,
+pub(crate) struct Standing {
+    pub(crate) given: u64,
+    pub(crate) closed: bool,
 }
 
 // The answer to a request, without its items: how many there are, and the tail.
@@ -21,13 +21,13 @@ struct Answer {
 }
 
 impl Standing {
-    pub const START: Standing = Standing {
+    pub(crate) const START: Standing = Standing {
         given: 0,
         closed: false,
     };
 
     // Whether a record tells the answer that it would get here, from a source of `len` items with that ending.
-    pub fn answers(self, entry: &Record, len: u64, ending: Ending) -> bool
+    pub(crate) fn answers(self, entry: &Record, len: u64, ending: Ending) -> bool
         requires within { self.given ≤ len }
         requires ends { IsSourceEnding (Some ending) }
         ensures { result ≡ tells entry.now (reply (some_source len (Some ending)) (place_of self) entry.now.asked) }
@@ -68,7 +68,7 @@ impl Standing {
     }
 
     // Where it stands behind a request that was answered as the record tells.
-    pub fn behind(self, entry: &Record) -> Standing
+    pub(crate) fn behind(self, entry: &Record) -> Standing
         requires { self.given + entry.now.count < 2 ^ 64 }
         ensures given { result.given ≡ self.given + entry.now.count }
         ensures closed { result.closed ≡ self.closed || is_close entry.now.asked }

@@ -6,7 +6,11 @@ use plinq_source::{Source, Step};
 
 // Takes the next `n` items, or what is left of them, into an empty list with that much room; the source's tail where
 // there are fewer.
-pub fn take_items<S: Source>(source: &mut S, items: &mut Vec<S::Item>, n: u64) -> Option<Tail>
+pub(crate) fn take_items<S: Source>(
+    source: &mut S,
+    items: &mut Vec<S::Item>,
+    n: u64,
+) -> Option<Tail>
     requires empty { items.old.items ≡ [] }
     requires room { n ≤ vec_capacity items.old }
     ensures same { S.whole source.new ≡ S.whole source.old }

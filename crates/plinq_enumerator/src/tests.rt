@@ -51,6 +51,18 @@ fn growth_is_refused_in_order(rt: HostRuntime) {
 }
 
 #[test]
+fn growth_faults_in_words(rt: HostRuntime) -> Result<(), Fail> {
+    for (fault, text) in [
+        (GrowthFault::Zero, "growth: zero"),
+        (GrowthFault::FirstAboveMax, "growth: first above max"),
+        (GrowthFault::MaxTooLarge, "growth: max too large"),
+    ] {
+        assert_eq!(rt; format!(in rt.alloc(); "{fault}")?.as_str(), text);
+    }
+    Ok(())
+}
+
+#[test]
 fn sizes_double_up_to_the_largest(rt: HostRuntime) {
     for (i, size) in [
         (0, 1),

@@ -4,7 +4,7 @@ ghost use Rattle.plinq_keyed.specs.Sweeps.{all_from, least_behind};
 
 use crate::keyed::Keyed;
 
-/// Whether each partition yields its elements by strictly rising keys (`KeysOrderedInEachPartition`).
+/// Whether each partition yields its elements by strictly rising keys (.NET's `KeysOrderedInEachPartition`).
 ///
 /// Takes no memory, and one step an element.
 pub fn check_in_each<T>(parts: &[Vec<Keyed<T>>]) -> bool
@@ -18,7 +18,8 @@ pub fn check_in_each<T>(parts: &[Vec<Keyed<T>>]) -> bool
     true
 }
 
-/// Whether each key of an earlier partition is below each key of a later one (`KeysOrderedAcrossPartitions`).
+/// Whether each key of an earlier partition is below each key of a later one (.NET's
+/// `KeysOrderedAcrossPartitions`).
 ///
 /// Takes no memory, and two steps an element.
 pub fn check_across<T>(parts: &[Vec<Keyed<T>>]) -> bool

@@ -7,6 +7,8 @@ use crate::tail::Tail;
 pub struct Chunk<T> {
     /// The key of the first item, also where there are none.
     pub first: u64,
+    /// The elements, in the source's order.
     pub items: Vec<T>,
+    /// Why nothing comes behind them; none where more may come.
     pub tail: Option<Tail>,
 }

@@ -9,7 +9,8 @@ use crate::record::Record;
 ///
 /// It is what a lock guards: whoever holds it reads in `records` all that was ever handed out.
 pub trait Guarded: Send + Drop {
-    type Item: Copy + Send;
+    /// What it hands out.
+    type Item: Copy;
 
     // What the value hands out, for life.
     ghost origin: { Self → Trace Self.Item };

@@ -6,7 +6,7 @@ ghost use Rattle.plinq_keyed.specs.Sweeps.{all_below, apart};
 use crate::checks::check_in_each;
 use crate::keyed::Keyed;
 
-/// Whether the keys of all partitions are the numbers from 0 on, each once (`KeysNormalized`).
+/// Whether the keys of all partitions are the numbers from 0 on, each once (.NET's `KeysNormalized`).
 ///
 /// Takes no memory. Where the keys of each partition rise, as those of every partitioner here do, each two partitions
 /// are walked once, so the steps are at most the elements times the partitions. For keys in no order each is compared
@@ -23,7 +23,7 @@ pub fn check_normalized<T>(parts: &[Vec<Keyed<T>>]) -> bool
     }
 }
 
-// How many elements there are; it may be more than 2^64, where they take no memory.
+// How many elements there are, in 128 bits: nothing bounds what all partitions hold together.
 fn count_elements<T>(parts: &[Vec<Keyed<T>>]) -> u128
     ensures { result ≡ length (concat (key_lists (element_lists parts.now))) }
 {

@@ -6,10 +6,12 @@ use crate::tail::Tail;
 pub struct Record {
     /// The ticket under which the request came; tickets rise strictly.
     pub ticket: u64,
+    /// The request.
     pub asked: Event,
-    /// The key of the first item that was handed out.
+    /// The key of the first item that was handed out, or that would have come next.
     pub first: u64,
     /// How many items were handed out.
     pub count: u64,
+    /// The tail of the chunk that was handed out. A request to close has [`Tail::Closed`].
     pub tail: Option<Tail>,
 }

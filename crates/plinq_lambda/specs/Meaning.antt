@@ -1,5 +1,5 @@
 -- What a lambda does to one element, as three functions.
-use Rattle.std.specs.Prelude.{◌≡◌, ℕ, List, Bool, Result, Err, ⊤}
+use Rattle.std.specs.Prelude.{◌≡◌, ℕ, List, Bool, Result, Err, IsOk}
 use Rattle.plinq_lambda.specs.declared.expand_fault.ExpandFault.{ExpandFault}
 use Rattle.plinq_lambda.specs.declared.expand_fault.ExpandFault.TheVariants.{Code, Memory}
 
@@ -9,7 +9,7 @@ pub record Meaning (T : Type 0) : Type 0 where
   pub test : T → Result Bool ℕ
   pub expand : T → Result (List T) ℕ
 
--- a fault that isn't want of memory is the meaning's
-abbrev pub IfCode : {T : Type 0} → Result (List T) ℕ → ExpandFault → Type 0
-IfCode m (Code c) = m ≡ Err c
-IfCode m Memory = ⊤
+-- why an expansion has no items: the meaning's fault, or else want of memory for the meaning's items
+abbrev pub IsFaultOf : {T : Type 0} → Result (List T) ℕ → ExpandFault → Type 0
+IsFaultOf m (Code c) = m ≡ Err c
+IsFaultOf m Memory = IsOk m

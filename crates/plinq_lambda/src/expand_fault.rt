@@ -10,7 +10,7 @@ pub enum ExpandFault {
     /// The lambda faulted, with its code.
     #[error("fault {0}")]
     Code(u32),
-    /// Memory ran out.
+    /// A growth was refused.
     #[error("out of memory")]
     Memory,
 }

@@ -14,7 +14,7 @@ const MOST_ITEMS: i64 = 65_536;
 /// There are three kinds: arithmetic gives a number, a test an answer, and an expansion a list. Each may still stand
 /// in every operator. Mapped, a test gives 1 or 0, and an expansion the element itself. Tested, what is no test
 /// passes if it maps the element to anything but 0. Expanded, what is no expansion gives the one element that it maps
-/// to. Where the mapping faults, so do these two.
+/// to. Where the mapping faults, so do these two. Mapping and testing take no memory.
 ///
 /// ```text
 /// Formula::Add(1).map(4)               // Ok(5)

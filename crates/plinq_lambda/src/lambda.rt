@@ -1,5 +1,5 @@
 ghost use Rattle.std.specs.Prelude.{◌≡◌, ◌≤◌, length, Ok, IfOk, IfErr};
-ghost use Rattle.plinq_lambda.specs.Meaning.{Meaning, IfCode};
+ghost use Rattle.plinq_lambda.specs.Meaning.{Meaning, IsFaultOf};
 
 use crate::expand_fault::ExpandFault;
 use std::alloc::Global;
@@ -9,23 +9,29 @@ use std::alloc::Global;
 ///
 /// A lambda is shared by the workers of a query, so its answers depend on the element alone.
 pub trait Lambda: Send + Sync + Drop {
+    /// The elements that it takes and gives.
     type Item: Copy + Send;
 
     // The three functions that the methods compute.
     ghost meaning: { Self → Meaning Self.Item };
 
-    /// The element that stands in the place of this one.
+    /// The element that stands in the place of this one, or the code of a fault.
     fn map(&self, x: Self::Item) -> Result<Self::Item, u32>
         ensures { result ≡ (meaning self.now).map x };
 
-    /// Whether the element passes.
+    /// Whether the element passes, or the code of a fault.
     fn test(&self, x: Self::Item) -> Result<bool, u32>
         ensures { result ≡ (meaning self.now).test x };
 
     /// The elements that stand in the place of this one, at most 65,536.
+    ///
+    /// # Errors
+    ///
+    /// [`ExpandFault::Code`] where the lambda faults, also where memory is short; else [`ExpandFault::Memory`] where there
+    /// is no room for them.
     fn expand(&self, alloc: Global, x: Self::Item) -> Result<Vec<Self::Item>, ExpandFault>
         ensures items { IfOk result (λ ys. (meaning self.now).expand x ≡ Ok ys.items) }
-        ensures fault { IfErr result (IfCode ((meaning self.now).expand x)) };
+        ensures fault { IfErr result (IsFaultOf ((meaning self.now).expand x)) };
 
     ghost short: { (f : Self) (x : Self.Item) → IfOk ((meaning f).expand x) (λ ys. length ys ≤ 65536) };
 }

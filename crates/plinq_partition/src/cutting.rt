@@ -9,7 +9,7 @@ use plinq_keyed::Keyed;
 use std::alloc::Global;
 
 // The elements in `n` partitions, one allocation for each and one for all.
-pub fn cut_elements<E: Elements>(
+pub(crate) fn cut_elements<E: Elements>(
     alloc: Global,
     elements: &E,
     n: u64,

@@ -6,7 +6,7 @@ use plinq_keyed::Keyed;
 use std::alloc::AllocError;
 
 // Keyed elements that can be copied out a stretch at a time.
-pub trait Elements {
+pub(crate) trait Elements {
     type Item: Copy;
 
     ghost elements: { Self → List (Keyed Self.Item) };

@@ -39,7 +39,7 @@ impl<T: Copy> RangeParts<T> {
     }
 
     /// The elements in `n` partitions: partition `p` of `L` elements has those from `p * L / n` up to, not including,
-    /// `(p + 1) * L / n`.
+    /// `(p + 1) * L / n`, both cut off to whole numbers (.NET's `GetOrderablePartitions`).
     ///
     /// # Errors
     ///
@@ -53,7 +53,11 @@ impl<T: Copy> RangeParts<T> {
         cut_elements(self.alloc, self, n)
     }
 
-    /// Always [`PartFault::NotSupported`]: there are no partitions on demand. Takes no memory.
+    /// Partitions on demand (.NET's `GetOrderableDynamicPartitions`), of which there are none here. Takes no memory.
+    ///
+    /// # Errors
+    ///
+    /// Always [`PartFault::NotSupported`].
     pub fn dynamic(&self) -> Result<Vec<Keyed<T>>, PartFault>
         ensures { result ≡ Err NotSupported }
     {

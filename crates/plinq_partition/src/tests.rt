@@ -84,6 +84,19 @@ fn ranges_are_cut_by_place(rt: HostRuntime) -> Result<(), Fail> {
 }
 
 #[test]
+fn faults_in_words(rt: HostRuntime) -> Result<(), Fail> {
+    for (fault, text) in [
+        (PartFault::NoPartitions, "no partitions"),
+        (PartFault::NotSupported, "no dynamic partitions"),
+        (PartFault::KeysNotRising, "keys not rising"),
+        (PartFault::Memory, "out of memory"),
+    ] {
+        assert_eq!(rt; format!(in rt.alloc(); "{fault}")?.as_str(), text);
+    }
+    Ok(())
+}
+
+#[test]
 fn too_many_partitions_are_refused(rt: HostRuntime) -> Result<(), Fail> {
     let two = RangeParts::new(rt.alloc(), vec![in rt.alloc(); 0u64, 1]?);
     assert!(rt; matches!(two.partitions(u64::MAX), Err(PartFault::Memory)));

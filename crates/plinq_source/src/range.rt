@@ -10,7 +10,7 @@ use crate::limits::MOST_ITEMS;
 use crate::source::Source;
 use crate::step::Step;
 
-/// Whole numbers one behind another, and then the end (`Enumerable.Range` of .NET). It holds no list.
+/// Whole numbers one behind another, and then the end (.NET's `Enumerable.Range`). It holds no list.
 ///
 /// ```text
 /// RangeSource::new(-1, 3)?    // -1, 0, 1, then Step::End
@@ -27,6 +27,8 @@ pub struct RangeSource {
 
 impl RangeSource {
     /// The numbers `start`, `start + 1` and so on, `count` of them.
+    ///
+    /// # Errors
     ///
     /// [`SourceFault::TooLarge`] where `count` is above 2^40, or where there is a last number and it is above
     /// `i64::MAX`. A range of no numbers may start anywhere.

@@ -10,7 +10,7 @@ use crate::limits::MOST_ITEMS;
 use crate::source::Source;
 use crate::step::Step;
 
-/// One value a number of times, and then the end (`Enumerable.Repeat` of .NET). It holds no list.
+/// One value a number of times, and then the end (.NET's `Enumerable.Repeat`). It holds no list.
 ///
 /// ```text
 /// RepeatSource::new(5, 2)?    // 5, 5, then Step::End
@@ -25,7 +25,11 @@ pub struct RepeatSource {
 }
 
 impl RepeatSource {
-    /// This value, `count` times; [`SourceFault::TooLarge`] where `count` is above 2^40.
+    /// This value, `count` times.
+    ///
+    /// # Errors
+    ///
+    /// [`SourceFault::TooLarge`] where `count` is above 2^40.
     pub fn new(value: i64, count: u64) -> Result<RepeatSource, SourceFault>
         ensures made { is_ok result ≡ is_repeat count }
         ensures refused { IfErr result (λ e. e ≡ SourceFault.TooLarge) }

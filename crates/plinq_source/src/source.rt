@@ -6,13 +6,15 @@ use crate::step::Step;
 /// What can only be asked for its next element, as an `IEnumerator` of .NET can.
 ///
 /// A source gives its items in order, each once, and then its ending, which it gives again however often it is
-/// asked. It has at most 2^40 items.
+/// asked. It has at most 2^40 items. A source that was never asked has given nothing, which is what each call wants that
+/// takes a source as an argument.
 ///
 /// ```text
 /// let mut source = ListSource::new(alloc, numbers);
 /// while let Step::Item(x) = source.next() { .. }
 /// ```
 pub trait Source: Send + Drop {
+    /// What it gives.
     type Item: Copy + Send;
 
     // All items and the ending, for life.

@@ -228,3 +228,14 @@ fn expands_or_says_that_memory_ran_out(rt: HostRuntime) {
         }
     }
 }
+
+#[test]
+fn faults_in_words(rt: HostRuntime) -> Result<(), Fail> {
+    for (fault, text) in [
+        (ExpandFault::Code(3), "fault 3"),
+        (ExpandFault::Memory, "out of memory"),
+    ] {
+        assert_eq!(rt; format!(in rt.alloc(); "{fault}")?.as_str(), text);
+    }
+    Ok(())
+}
