@@ -5,3 +5,4 @@ pub mod Reading
 pub mod Known
 pub mod Answered
 pub mod Asked
+mod ArgumentRows
