@@ -1,5 +1,5 @@
 -- What was written for a document, once a step behind it has failed or the output is flushed.
-use Rattle.std.proofs.Common.{◌≡◌, ℕ, List, Some, None, Result, Ok, Err, IfSome, refl, ap, sym, ◌∙◌, subst}
+use Rattle.std.proofs.Common.{◌≡◌, ℕ, List, Option, Some, None, Result, Ok, Err, IfSome, refl, ap, sym, ◌∙◌, subst, inr}
 use Rattle.std.specs.Io.KnownBytes.{Keeps}
 use Rattle.plinq_source.specs.declared.ending.Ending.{Ending}
 use Rattle.plinq_cli.specs.declared.command.Command.{Command}
@@ -9,7 +9,9 @@ use Rattle.plinq_cli.specs.declared.doc_fault.DocFault.TheVariants.{TooLong, Not
 use Rattle.plinq_cli.specs.declared.failure.Failure.{Failure}
 use Rattle.plinq_cli.specs.declared.failure.Failure.TheVariants.{Document, Memory, Write}
 use Rattle.plinq_cli.specs.Document.{JobView, document_of}
-use Rattle.plinq_cli.specs.Performed.{failure_of_document, AnswersDocument}
+use Rattle.plinq_cli.specs.Performed.{failure_of_document, AnswersDocument, PerformsWords, Shows}
+use Rattle.plinq_cli.specs.Arguments.{Refuses}
+use Rattle.clap.specs.declared.error.kind.ErrorKind.{ErrorKind}
 use Rattle.plinq_cli.specs.Results.{IfMeant}
 use Rattle.plinq_cli.proofs.WrittenBytes.{Bytes, appends-kept, begins-all, begins-nothing}
 
@@ -88,3 +90,9 @@ pub flushed-failed : (command : Command) (settings : Settings) (told a b c : Byt
 flushed-failed command settings told a b c r x failure is from h k =
     let P : Result Ending Failure → Type 0 = λ s. IfSome told (λ bytes. AnswersDocument command (document_of settings bytes) a c s) in
     subst P (sym (is ∙ ap Err from)) (flushed command settings told a b c (Err failure) h k)
+
+-- what is said of words that aren't taken
+pub shown : (told : Option (List ℕ)) (words : List (List ℕ)) (kind : ErrorKind) (old new : Bytes) (status : ℕ) → Refuses words kind → Shows kind old new status
+    → IfSome told (λ bytes. PerformsWords words bytes old new status)
+shown None words kind old new status refuses shows = tt
+shown (Some bytes) words kind old new status refuses shows = inr (kind, refuses, shows)

@@ -4,3 +4,5 @@ pub mod Turns
 pub mod Reading
 pub mod Known
 pub mod Answered
+pub mod Asked
+mod ArgumentRows

@@ -12,5 +12,6 @@ pub mod Sources
 pub mod Growths
 pub mod Document
 pub mod DocumentRows
+pub mod Arguments
 pub mod Performed
 pub mod PartsText

@@ -1,6 +1,8 @@
 -- What the program does with a document, and the status that it ends with.
 use Rattle.std.specs.Prelude.{◌≡◌, ℕ, List, Option, Some, Result, Ok, Err, ⊤, ◌⊎◌}
 use Rattle.std.specs.Io.KnownBytes.{Keeps, Appends}
+use Rattle.clap.specs.declared.error.kind.ErrorKind.{ErrorKind}
+use Rattle.clap.specs.declared.error.kind.ErrorKind.TheVariants.{DisplayHelp, DisplayVersion, OutOfMemory}
 use Rattle.plinq_source.specs.declared.ending.Ending.{Ending}
 use Rattle.plinq_source.specs.declared.ending.Ending.TheVariants.{End, Refused, Fault}
 use Rattle.plinq_cli.specs.declared.command.Command.{Command}
@@ -14,6 +16,7 @@ use Rattle.plinq_cli.specs.declared.failure.Failure.{Failure}
 use Rattle.plinq_cli.specs.declared.failure.Failure.TheVariants.{Document, Memory, Read, Write}
 use Rattle.plinq_cli.specs.Document.{JobView, document_of}
 use Rattle.plinq_cli.specs.declared.arguments.Arguments.{Arguments}
+use Rattle.plinq_cli.specs.Arguments.{IsAsked, Refuses}
 use Rattle.plinq_cli.specs.Served.{answer_for, text}
 use Rattle.plinq_cli.specs.Written.{AppendsBeginning}
 
@@ -77,6 +80,15 @@ pub record Performs (arguments : Arguments) (bytes : List ℕ) (old new : Option
   pub meant : AnswersDocument arguments.command (document_of arguments.settings bytes) old new answered
   pub status_is : status ≡ status_of answered
 
--- where the words are no arguments: they are refused and nothing is written, or help is, or one of these failed
-abbrev pub ShowsOnly : Option (List ℕ) → Option (List ℕ) → ℕ → Type 0
-ShowsOnly old new status = ((status ≡ 2) × Keeps old new) ⊎ ((status ≡ 0) ⊎ (status ≡ 5))
+-- what `clap` has to say: memory ran out, help is written, or the words are refused and nothing is written
+abbrev pub Shows : ErrorKind → Option (List ℕ) → Option (List ℕ) → ℕ → Type 0
+Shows OutOfMemory old new status = (status ≡ 5) × Keeps old new
+Shows DisplayHelp old new status = (status ≡ 0) ⊎ (status ≡ 5)
+Shows DisplayVersion old new status = (status ≡ 0) ⊎ (status ≡ 5)
+Shows _ old new status = (status ≡ 2) × Keeps old new
+
+-- what the program does on these words and bytes: the answer of the document for what the words ask for, or what `clap` has to say of the words
+abbrev pub PerformsWords : List (List ℕ) → List ℕ → Option (List ℕ) → Option (List ℕ) → ℕ → Type 0
+PerformsWords words bytes old new status =
+    ((arguments : Arguments) × IsAsked words arguments × Performs arguments bytes old new status)
+    ⊎ ((kind : ErrorKind) × Refuses words kind × Shows kind old new status)

@@ -1,4 +1,8 @@
-ghost use Rattle.std.specs.Prelude.{◌≤◌, IfOk, IfSome};
+ghost use Rattle.std.specs.Prelude.{◌≡◌, map, option_and_then, IfOk, MatchResult};
+ghost use Rattle.std.specs.String.{string_bytes};
+ghost use Rattle.clap.specs.Words.{app_of, found_of, kind_of, rows_of, subcommand_rows_of};
+ghost use Rattle.plinq_cli.specs.Words.{beside};
+ghost use Rattle.plinq_cli.specs.Arguments.{AddsItsShape, IsAsked, IsPlinq, Refuses, arguments_in, command_names, merge_of, subcommand_app, workers_of};
 
 use crate::command::Command;
 use crate::settings::Settings;
@@ -24,7 +28,7 @@ pub struct Arguments {
 ///
 /// `clap` words the refusals and the help, both of which are its errors.
 pub fn read_arguments(alloc: Global, words: &[String]) -> Result<Arguments, clap::Error>
-    ensures { IfOk result (λ a. IfSome a.settings.workers (λ n. (1 ≤ n) × (n ≤ 64))) }
+    ensures { MatchResult result (IsAsked (map string_bytes words.now)) (λ e. Refuses (map string_bytes words.now) (kind_of e)) }
 {
     let mut line = command_line(alloc)?;
     let matches = line.try_get_matches_from_mut(words)?;
@@ -34,22 +38,39 @@ pub fn read_arguments(alloc: Global, words: &[String]) -> Result<Arguments, clap
     }
 }
 
-fn command_line<'a>(alloc: Global) -> Result<clap::Command<'a>, AllocError> {
+fn command_line<'a>(alloc: Global) -> Result<clap::Command<'a>, AllocError>
+    ensures { IfOk result (λ line. IsPlinq (app_of line)) }
+{
+    let merge = ValueParser::from(MERGE_WORDS.as_slice());
     clap::Command::new(alloc, "plinq")
         .about("Answers the query of a JSON document, which it reads from standard input")
         .disable_help_subcommand(true)
         .subcommand_required(true)
-        .subcommand(subcommand(alloc, "run", "Answers the query")?)?
-        .subcommand(subcommand(alloc, "seq", "Answers the query on one thread")?)?
-        .subcommand(subcommand(alloc, "plan", "Shows how the query is shared among workers")?)?
-        .subcommand(subcommand(alloc, "parts", "Shows the source cut into partitions")?)
+        .subcommand(subcommand(alloc, "run", "Answers the query", merge)?)?
+        .subcommand(subcommand(alloc, "seq", "Answers the query on one thread", merge)?)?
+        .subcommand(subcommand(
+            alloc,
+            "plan",
+            "Shows how the query is shared among workers",
+            merge,
+        )?)?
+        .subcommand(subcommand(
+            alloc,
+            "parts",
+            "Shows the source cut into partitions",
+            merge,
+        )?)
 }
 
 fn subcommand<'a>(
     alloc: Global,
     name: &'a str,
     about: &'a str,
-) -> Result<clap::Command<'a>, AllocError> {
+    merge_words: ValueParser<'a>,
+) -> Result<clap::Command<'a>, AllocError>
+    ensures { IfOk result (λ s. AddsItsShape s
+        × (app_of s ≡ subcommand_app merge_words.entry name.entry.now)) }
+{
     let workers = Arg::new(alloc, "workers")
         .long("workers")
         .value_name("N")
@@ -59,7 +80,7 @@ fn subcommand<'a>(
         .long("merge")
         .value_name("OPTION")
         .help("How results are handed over")
-        .value_parser(MERGE_WORDS.as_slice());
+        .value_parser(merge_words);
     clap::Command::new(alloc, name)
         .about(about)
         .arg(workers)?
@@ -67,11 +88,12 @@ fn subcommand<'a>(
 }
 
 fn chosen(matches: &ArgMatches<'_>) -> Option<Arguments>
-    ensures { IfSome result (λ a. IfSome a.settings.workers (λ n. (1 ≤ n) × (n ≤ 64))) }
+    ensures { result ≡ option_and_then arguments_in (subcommand_rows_of matches.now) }
 {
     let (name, options) = matches.subcommand()?;
+    let command = command_named(name)?;
     Some(Arguments {
-        command: command_named(name)?,
+        command,
         settings: Settings {
             workers: workers_of(options),
             merge: merge_of(options),
@@ -79,7 +101,9 @@ fn chosen(matches: &ArgMatches<'_>) -> Option<Arguments>
     })
 }
 
-fn command_named(name: &str) -> Option<Command> {
+fn command_named(name: &str) -> Option<Command>
+    ensures { result ≡ beside command_names name.now }
+{
     match name {
         "run" => Some(Command::Run),
         "seq" => Some(Command::Seq),
@@ -91,7 +115,7 @@ fn command_named(name: &str) -> Option<Command> {
 
 // `clap` has refused any number that isn't from 1 to 64.
 fn workers_of(options: &ArgMatches<'_>) -> Option<u64>
-    ensures { IfSome result (λ n. (1 ≤ n) × (n ≤ 64)) }
+    ensures { result ≡ workers_of (rows_of (found_of options.now)) }
 {
     match options.get_one::<u64>("workers") {
         Some(n) if n >= 1 && n <= 64 => Some(n),
@@ -99,7 +123,9 @@ fn workers_of(options: &ArgMatches<'_>) -> Option<u64>
     }
 }
 
-fn merge_of(options: &ArgMatches<'_>) -> Option<MergeOption> {
+fn merge_of(options: &ArgMatches<'_>) -> Option<MergeOption>
+    ensures { result ≡ merge_of (rows_of (found_of options.now)) }
+{
     merge_word(options.get_str("merge")?)
 }
 

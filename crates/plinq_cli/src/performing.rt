@@ -1,8 +1,9 @@
-ghost use Rattle.std.specs.Prelude.{◌≡◌, ◌≤◌, ◌⊎◌, IfSome};
+ghost use Rattle.std.specs.Prelude.{◌≡◌, ◌≤◌, map, IfSome};
+ghost use Rattle.std.specs.String.{string_bytes};
 ghost use Rattle.std.specs.Option.{ForSome};
 ghost use Rattle.plinq_cli.specs.Document.{document_of};
-ghost use Rattle.plinq_cli.specs.declared.arguments.Arguments.{Arguments};
-ghost use Rattle.plinq_cli.specs.Performed.{AnswersDocument, Performs, ShowsOnly, status_of, failure_status};
+ghost use Rattle.clap.specs.Words.{kind_of};
+ghost use Rattle.plinq_cli.specs.Performed.{AnswersDocument, Performs, PerformsWords, Shows, status_of, failure_status};
 
 use crate::arguments::{Arguments, read_arguments};
 use crate::document::read_document;
@@ -29,10 +30,10 @@ pub fn perform<R: AllocGlobal, I: Read, W: Write, E: Write>(
 ) -> u8
     ensures status { result ≤ 5 }
 
-    // Where the reader tells its bytes: the answer of these for some arguments, or nothing but what `clap` shows.
+    // Where the reader tells its bytes: the answer of these for what the words ask for, or what `clap` shows of words
+    // that it doesn't take.
     ensures written { IfSome (I.remaining reader.old) (λ bytes.
-        ((a : Arguments) × Performs a bytes (W.contents out.old) (W.contents out.new) result)
-        ⊎ ShowsOnly (W.contents out.old) (W.contents out.new) result) }
+        PerformsWords (map string_bytes words.items) bytes (W.contents out.old) (W.contents out.new) result) }
 {
     let alloc = rt.alloc();
     match read_arguments(alloc, words.as_slice()) {
@@ -118,7 +119,7 @@ fn report_failure<E: Write>(failure: Failure, err: &mut E) -> u8
 
 // Help goes to `out`, and what `clap` says of a refused command line to `err`.
 fn show<W: Write, E: Write>(refusal: &clap::Error, out: &mut W, err: &mut E) -> u8
-    ensures { ShowsOnly (W.contents out.old) (W.contents out.new) result }
+    ensures { Shows (kind_of refusal.now) (W.contents out.old) (W.contents out.new) result }
 {
     if refusal.kind() == ErrorKind::OutOfMemory {
         return report_failure(Failure::Memory, err);

@@ -1,0 +1,38 @@
+-- What some command lines ask for.
+use Rattle.std.proofs.Common.{◌≡◌, List, [], ◌∷◌, Some, None, refl, codes}
+use Rattle.clap.specs.declared.builder.value_parser.ValueParser.{ValueParser}
+use Rattle.clap.specs.declared.error.kind.ErrorKind.TheVariants.{DisplayHelp, MissingSubcommand, UnknownArgument, ValueValidation, InvalidSubcommand}
+use Rattle.clap.proofs.OnLiterals.{clap_on_literals}
+use Rattle.plinq_ops.specs.declared.merge_option.MergeOption.TheVariants.{FullyBuffered}
+use Rattle.plinq_cli.specs.Arguments.{arguments_of, kinds_of}
+use Rattle.plinq_cli.specs.declared.command.Command.TheVariants.{Run, Plan}
+
+plain_run : (q : ValueParser) → arguments_of q (codes "plinq" ∷ codes "run" ∷ []) ≡ Some (record { command = Run; settings = record { workers = None; merge = None } })
+unfolding clap_on_literals
+plain_run q = refl
+
+both_options : (q : ValueParser)
+    → arguments_of q (codes "plinq" ∷ codes "plan" ∷ codes "--workers=3" ∷ codes "--merge" ∷ codes "full" ∷ [])
+    ≡ Some (record { command = Plan; settings = record { workers = Some 3; merge = Some FullyBuffered } })
+unfolding clap_on_literals
+both_options q = refl
+
+taken : (q : ValueParser) → kinds_of q (codes "plinq" ∷ codes "seq" ∷ codes "--workers" ∷ codes "64" ∷ []) ≡ []
+unfolding clap_on_literals
+taken q = refl
+
+too_many_workers : (q : ValueParser) → kinds_of q (codes "plinq" ∷ codes "seq" ∷ codes "--workers" ∷ codes "65" ∷ []) ≡ ValueValidation ∷ []
+unfolding clap_on_literals
+too_many_workers q = refl
+
+no_command : (q : ValueParser) → kinds_of q (codes "plinq" ∷ []) ≡ MissingSubcommand ∷ []
+unfolding clap_on_literals
+no_command q = refl
+
+wants_help : (q : ValueParser) → kinds_of q (codes "plinq" ∷ codes "--help" ∷ []) ≡ DisplayHelp ∷ []
+unfolding clap_on_literals
+wants_help q = refl
+
+unknown_command : (q : ValueParser) → kinds_of q (codes "plinq" ∷ codes "walk" ∷ []) ≡ UnknownArgument ∷ InvalidSubcommand ∷ []
+unfolding clap_on_literals
+unknown_command q = refl

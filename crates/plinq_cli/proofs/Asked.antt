@@ -1,0 +1,233 @@
+-- What the words of a command line ask for, from what `clap` found in them.
+use Rattle.std.proofs.Common.{◌≡◌, ◌∙◌, ℕ, ◌≤◌, List, [], ◌∷◌, Bool, true, false, Option, Some, None, Result, Ok, Err, is_some, map, refl, sym, ap, ap₂, subst, codes, inl, inr}
+use Rattle.std.specs.Borrow.{Bor}
+use Rattle.std.specs.Prelude.{MatchResult, option_map, option_and_then, find, if◌then◌else◌}
+use Rattle.std.specs.List.{list_all}
+use Rattle.std.specs.Str.Parse.{ParsesUnsigned, digits_value, without_leading_plus}
+use Rattle.clap.specs.Words.{AddsSubcommand, App, HasKind, HasMatchesOf, IsAmong, Row, Shape, Text, app_of, fault_of, first_value, found_of, is_simple_and_free, is_simple, kind_of, one_of, one_text, rows_of, ReadsOne, subcommand_of, subcommand_rows_of, with_subcommand}
+use Rattle.clap.specs.Kinds.{Kinds, check_kinds, or_else}
+use Rattle.clap.specs.Simple.{argument_words, built, rows_at, entered, label_of, names_of}
+use Rattle.clap.specs.Walk.{Held, Names, answers_to, finished, nothing_held, settled, stop_after, walk, walk_from}
+use Rattle.clap.specs.Faults.{check_fault, defaults_fault, entered_fault, level_fault, settle_fault, walk_fault}
+use Rattle.clap.specs.ValueTests.{is_unsigned_in}
+use Rattle.clap.specs.declared.builder.value_parser.ValueParser.{ValueParser}
+use Rattle.clap.specs.declared.builder.value_parser.ValueParser.TheVariants as parser
+use Rattle.clap.specs.declared.builder.command.Command.{Command as ClapCommand}
+use Rattle.clap.specs.declared.error.Error.{Error}
+use Rattle.clap.specs.declared.parser.matches.ArgMatches.{ArgMatches}
+use Rattle.clap.proofs.WalkLemmas.{both, first_value-rows, one_text-rows}
+use Rattle.clap.proofs.ValueTestLemmas.{accepts-Accepts, Accepts-accepts}
+use Rattle.plinq_cli.specs.Words.{beside}
+use Rattle.plinq_cli.specs.Steps.{merge_word}
+use Rattle.plinq_cli.specs.Arguments.{AddsItsShape, IsAsked, Refuses, TakesOnly, arguments_in, arguments_of, arguments_with, command_names, kinds_of, merge_of, merge_words, plinq_app, subcommand_app, with_command, workers_in, workers_of}
+use Rattle.plinq_cli.specs.declared.arguments.Arguments.{Arguments}
+use Rattle.plinq_cli.specs.declared.command.Command.{Command}
+
+-- the program's command line is one of which `clap` tells the matches and the faults
+pub is_plain : (q : ValueParser) → is_simple_and_free (plinq_app q) ≡ true
+is_plain q = refl
+
+pub is_simple_line : (q : ValueParser) → is_simple (plinq_app q) ≡ true
+is_simple_line q = refl
+
+-- the merge option of the text that was found
+pub merge_read : (m : ArgMatches) (o : Option Text) → o ≡ first_value (found_of m) (codes "merge")
+    → option_and_then merge_word o ≡ merge_of (rows_of (found_of m))
+merge_read m o is = ap (option_and_then merge_word) (is ∙ first_value-rows (found_of m) (codes "merge"))
+
+text_read : (m : ArgMatches) (o : Option Text) → one_text (found_of m) (codes "workers") ≡ o → workers_of (rows_of (found_of m)) ≡ option_and_then workers_in o
+text_read m o is = ap (option_and_then workers_in) (sym (one_text-rows (found_of m) (codes "workers")) ∙ is)
+
+in_range : (E : Type 0) (t : Text) (n : ℕ) → ParsesUnsigned {E = E} 64 10 t (Ok n) → 1 ≤ n → n ≤ 64 → workers_in t ≡ Some n
+in_range E t n h low high =
+    let value : digits_value 10 (without_leading_plus t) ≡ n = sym h.1 in
+    let accepted : is_unsigned_in 1 64 t ≡ true = Accepts-accepts false (parser.Unsigned 1 64) t (h.0.0, h.0.1, rw value low, rw value high) in
+    rw (accepted, value) refl
+
+out_of_range : (E : Type 0) (t : Text) (n : ℕ) → ParsesUnsigned {E = E} 64 10 t (Ok n) → (1 ≤ n → n ≤ 64 → ⊥) → workers_in t ≡ None
+out_of_range E t n h not_in = go (is_unsigned_in 1 64 t) refl
+  where
+    go : (b : Bool) → is_unsigned_in 1 64 t ≡ b → (if b then Some (digits_value 10 (without_leading_plus t)) else None) ≡ None
+    go true e =
+        let a = accepts-Accepts false (parser.Unsigned 1 64) t e in
+        absurd (not_in (rw h.1 a.2) (rw h.1 a.3))
+    go false e = refl
+
+no_number : (E : Type 0) (t : Text) (e : E) → ParsesUnsigned {E = E} 64 10 t (Err e) → workers_in t ≡ None
+no_number E t e h = go (is_unsigned_in 1 64 t) refl
+  where
+    go : (b : Bool) → is_unsigned_in 1 64 t ≡ b → (if b then Some (digits_value 10 (without_leading_plus t)) else None) ≡ None
+    go true is =
+        let a = accepts-Accepts false (parser.Unsigned 1 64) t is in
+        absurd (h (a.0, a.1))
+    go false is = refl
+
+-- the number that was read is in the range, so it is the degree
+pub workers_some : (m : ArgMatches) (E : Type 0) (G : Text → Result ℕ E → Type 0) (r : Option ℕ) (n : ℕ)
+    → ((t : Text) (x : Result ℕ E) → G t x → ParsesUnsigned 64 10 t x)
+    → (one_text (found_of m) (codes "workers") ≡ None → r ≡ None)
+    → ((t : Text) → one_text (found_of m) (codes "workers") ≡ Some t → ReadsOne G t r)
+    → r ≡ Some n → 1 ≤ n → n ≤ 64 → workers_of (rows_of (found_of m)) ≡ Some n
+workers_some m E G r n parses none value is low high = go (one_text (found_of m) (codes "workers")) refl
+  where
+    go : (o : Option Text) → one_text (found_of m) (codes "workers") ≡ o → workers_of (rows_of (found_of m)) ≡ Some n
+    go None e =
+        let bad : Some n ≡ None = sym is ∙ none e in
+        cc
+    go (Some t) e =
+        let read : ReadsOne G t (Some n) = subst (λ (x : Option ℕ). ReadsOne G t x) is (value t e) in
+        text_read m (Some t) e ∙ in_range E t n (parses t (Ok n) read) low high
+
+-- none was read, or one out of the range, so there is no degree
+pub workers_none : (m : ArgMatches) (E : Type 0) (G : Text → Result ℕ E → Type 0) (r : Option ℕ)
+    → ((t : Text) (x : Result ℕ E) → G t x → ParsesUnsigned 64 10 t x)
+    → ((t : Text) → one_text (found_of m) (codes "workers") ≡ Some t → ReadsOne G t r)
+    → ((n : ℕ) → r ≡ Some n → 1 ≤ n → n ≤ 64 → ⊥) → workers_of (rows_of (found_of m)) ≡ None
+workers_none m E G r parses value not_in = go (one_text (found_of m) (codes "workers")) refl
+  where
+    at : (t : Text) → one_text (found_of m) (codes "workers") ≡ Some t → (x : Option ℕ) → r ≡ x → ReadsOne G t x → workers_in t ≡ None
+    at t e None is h = no_number E t h.0 (parses t (Err h.0) h.1)
+    at t e (Some n) is h = out_of_range E t n (parses t (Ok n) h) (not_in n is)
+
+    go : (o : Option Text) → one_text (found_of m) (codes "workers") ≡ o → workers_of (rows_of (found_of m)) ≡ None
+    go None e = text_read m None e
+    go (Some t) e = text_read m (Some t) e ∙ at t e r refl (value t e)
+
+-- ---- where `clap` takes the words, they ask for something
+
+last_empty : (a b : Kinds) → or_else a b ≡ [] → b ≡ []
+last_empty [] b e = e
+last_empty (k ∷ ks) b e = cc
+
+wants_subcommand : (help needed wants : Bool) → needed ≡ true → check_kinds help needed wants ≡ [] → false ≡ true
+wants_subcommand true needed wants is e = cc
+wants_subcommand false true wants is e = cc
+wants_subcommand false false wants is e = is
+
+has_subcommand : (s : Shape) (rows : List Row) (has : Bool) → s.subcommand_required ≡ true → check_fault s rows has ≡ [] → has ≡ true
+has_subcommand s rows true needed e = refl
+has_subcommand s rows false needed e = wants_subcommand _ s.subcommand_required _ needed e
+
+map_some : {A B : Type 0} (f : A → B) (o : Option A) → is_some o ≡ true → is_some (option_map f o) ≡ true
+map_some f None is = is
+map_some f (Some x) is = refl
+
+abbrev has_name : Shape → Bool
+has_name s = is_some (beside command_names s.name)
+
+abbrev Named : Option Shape → List Text → Type 0
+Named found words = is_some (option_map (λ s. rows_at s words) found) ≡ true
+    → is_some (option_and_then arguments_in (option_map (λ s. rows_at s words) found)) ≡ true
+
+named_here : (s : Shape) (words : List Text) → has_name s ≡ true → Named (Some s) words
+named_here s words known is = map_some (arguments_with (rows_at s words).1) (beside command_names s.name) known
+
+named : (subs : List Shape) (p : Shape → Bool) (words : List Text) → list_all has_name subs ≡ true → Named (find p subs) words
+named [] p words all = λ is. is
+named (s ∷ subs) p words all = go (p s) (named_here s words (both _ _ all).0) (named subs p words (both _ _ all).1)
+  where
+    go : (b : Bool) → Named (Some s) words → Named (find p subs) words → Named (if b then Some s else find p subs) words
+    go true here rest = here
+    go false here rest = rest
+
+entered_named : (q : ValueParser) (stop : Option (Text × List Text)) → is_some (entered (built (plinq_app q)) stop) ≡ true
+    → is_some (option_and_then arguments_in (entered (built (plinq_app q)) stop)) ≡ true
+entered_named q None is = is
+entered_named q (Some met) is = named (built (plinq_app q)).subs (λ s. answers_to met.0 (label_of s)) met.1 refl is
+
+level_enters : (s : Shape) (names : Names) (h : Held) (words : List Text) (has : Bool) (below : Kinds) → s.subcommand_required ≡ true
+    → level_fault s names h words has below ≡ [] → has ≡ true
+level_enters s names h words has below needed none =
+    let end = (walk s.rules names h words).held in
+    let checks = check_fault s (finished s.rules end) has in
+    let defaults = defaults_fault (settled s.rules end).rows s.rules in
+    let settling = settle_fault s.rules s.args_override_self end in
+    let behind_walk : or_else below (or_else settling (or_else defaults checks)) ≡ [] =
+    last_empty (walk_fault s names (walk_from h) words) (or_else below (or_else settling (or_else defaults checks))) none in
+    let behind_level : or_else settling (or_else defaults checks) ≡ [] = last_empty below (or_else settling (or_else defaults checks)) behind_walk in
+    let behind_settling : or_else defaults checks ≡ [] = last_empty settling (or_else defaults checks) behind_level in
+    has_subcommand s (finished s.rules end) has needed (last_empty defaults checks behind_settling)
+
+pub asks : (q : ValueParser) (words : List Text) → kinds_of q words ≡ [] → is_some (arguments_of q words) ≡ true
+asks q words none =
+    let app = built (plinq_app q) in
+    let stop = stop_after app.top.rules (names_of app) (argument_words (plinq_app q) words) in
+    entered_named q stop
+    (level_enters app.top (names_of app) nothing_held (argument_words (plinq_app q) words) (is_some (entered app stop)) (entered_fault app stop) refl none)
+
+-- ---- the program's command line
+
+-- just these words are taken
+pub takes_only : (q : ValueParser) (names : Bor (List (Bor (List ℕ)))) → q ≡ parser.Names names → map (λ name. name.now) names.now ≡ merge_words → TakesOnly merge_words q
+takes_only q names is words = subst (TakesOnly merge_words) (sym is) words
+
+-- one more subcommand
+pub added : (q : ValueParser) (old sub new : ClapCommand) (app : App) (name : Text) → AddsItsShape sub × (app_of sub ≡ subcommand_app q name)
+    → AddsSubcommand old sub new → app_of old ≡ app → app_of new ≡ with_command q app name
+added q old sub new app name has adds was = has.0 old new adds ∙ ap₂ with_subcommand was (ap (λ (a : App). a.top) has.1)
+
+-- ---- the words, from a parse that succeeds and from one that fails
+
+-- what the subcommand asks for is what the words ask for
+pub asked : (q : ValueParser) (app : App) (words : List Text) (m : ArgMatches) (r : Option Arguments) → app ≡ plinq_app q → HasMatchesOf app words m
+    → r ≡ option_and_then arguments_in (subcommand_rows_of m) → arguments_of q words ≡ r
+asked q app words m r is has chosen =
+    sym (ap (λ (a : App). option_and_then arguments_in (subcommand_of a words)) is)
+    ∙ (ap (option_and_then arguments_in) (sym (has (ap is_simple is ∙ is_simple_line q)).1) ∙ sym chosen)
+
+-- no fault in the words
+pub no_fault : (q : ValueParser) (app : App) (words : List Text) → app ≡ plinq_app q → (is_simple_and_free app ≡ true → fault_of app words ≡ [])
+    → kinds_of q words ≡ []
+no_fault q app words is none = sym (ap (λ (a : App). fault_of a words) is) ∙ none (ap is_simple_and_free is ∙ is_plain q)
+
+-- words without a fault ask for something
+pub never_nothing : (q : ValueParser) (words : List Text) (r : Option Arguments) → arguments_of q words ≡ r → r ≡ None → kinds_of q words ≡ [] → ⊥
+never_nothing q words r is nothing none =
+    let bad : false ≡ true = sym (ap is_some (is ∙ nothing)) ∙ asks q words none in
+    cc
+
+-- an error of the parse
+pub refused : (q : ValueParser) (app : App) (words : List Text) (r : Result Arguments Error) (x e : Error) → TakesOnly merge_words q → app ≡ plinq_app q
+    → (is_simple_and_free app ≡ true → HasKind (fault_of app words) e) → r ≡ Err x → x ≡ e
+    → MatchResult r (IsAsked words) (λ f. Refuses words (kind_of f))
+refused q app words r x e takes is fails err from =
+    subst (λ (y : Result Arguments Error). MatchResult y (IsAsked words) (λ f. Refuses words (kind_of f))) (sym (err ∙ ap Err from)) (go (fails (ap is_simple_and_free is ∙ is_plain q)))
+  where
+    go : HasKind (fault_of app words) e → Refuses words (kind_of e)
+    go h = elim h [
+      | inl memory ↦ inl memory
+      | inr among ↦ inr (q, takes, subst (λ (a : App). IsAmong (kind_of e) (fault_of a words)) is among)
+    ]
+
+-- ---- the degree that is asked for
+
+workers_fit : (text : Text) (n : ℕ) → workers_in text ≡ Some n → (1 ≤ n) × (n ≤ 64)
+workers_fit text n is = go (is_unsigned_in 1 64 text) refl is
+  where
+    go : (b : Bool) → is_unsigned_in 1 64 text ≡ b → (if b then Some (digits_value 10 (without_leading_plus text)) else None) ≡ Some n → (1 ≤ n) × (n ≤ 64)
+    go true e h =
+        let a = accepts-Accepts false (parser.Unsigned 1 64) text e in
+        let same : digits_value 10 (without_leading_plus text) ≡ n = cc in
+        (rw same at a.2, rw same at a.3)
+    go false e h = cc
+
+rows_fit : (rows : List Row) (n : ℕ) → workers_of rows ≡ Some n → (1 ≤ n) × (n ≤ 64)
+rows_fit rows n is = go (one_of (codes "workers") rows) is
+  where
+    go : (o : Option Text) → option_and_then workers_in o ≡ Some n → (1 ≤ n) × (n ≤ 64)
+    go None h = cc
+    go (Some text) h = workers_fit text n h
+
+-- it is from 1 to 64
+pub asked_fits : (words : List Text) (a : Arguments) → IsAsked words a → (n : ℕ) → a.settings.workers ≡ Some n → (1 ≤ n) × (n ≤ 64)
+asked_fits words a asked n is = met_fits (subcommand_of (plinq_app asked.0) words) asked.3
+  where
+    found_fits : (rows : List Row) (o : Option Command) → option_map (arguments_with rows) o ≡ Some a → (1 ≤ n) × (n ≤ 64)
+    found_fits rows None h = cc
+    found_fits rows (Some command) h =
+        let same : arguments_with rows command ≡ a = cc in
+        rows_fit rows n (ap (λ (x : Arguments). x.settings.workers) same ∙ is)
+
+    met_fits : (o : Option (Text × List Row)) → option_and_then arguments_in o ≡ Some a → (1 ≤ n) × (n ≤ 64)
+    met_fits None h = cc
+    met_fits (Some met) h = found_fits met.1 (beside command_names met.0) h

@@ -1,0 +1,114 @@
+-- What a command line asks for, in the words of `clap`.
+use Rattle.std.specs.Prelude.{◌≡◌, ◌⊎◌, ℕ, List, [], ◌∷◌, Option, Some, None, map, codes, option_map, option_and_then, if◌then◌else◌, true}
+use Rattle.std.specs.Str.Parse.{digits_value, without_leading_plus}
+use Rattle.clap.specs.Words.{AddsSubcommand, App, IsAmong, Row, Rule, Text, app_of, fault_of, first_of, new_app, new_rule, one_of, shape_of, subcommand_of, with_rule, with_subcommand}
+use Rattle.clap.specs.Kinds.{Kinds}
+use Rattle.clap.specs.Simple.{on_top}
+use Rattle.clap.specs.ValueTests.{is_unsigned_in}
+use Rattle.clap.specs.declared.builder.command.Command.{Command as ClapCommand}
+use Rattle.clap.specs.declared.builder.value_parser.ValueParser.{ValueParser}
+use Rattle.clap.specs.declared.builder.value_parser.ValueParser.TheVariants as parser
+use Rattle.clap.specs.declared.error.kind.ErrorKind.{ErrorKind}
+use Rattle.clap.specs.declared.error.kind.ErrorKind.TheVariants.{OutOfMemory}
+use Rattle.plinq_ops.specs.declared.merge_option.MergeOption.{MergeOption}
+use Rattle.plinq_cli.specs.Words.{beside}
+use Rattle.plinq_cli.specs.Steps.{merge_word}
+use Rattle.plinq_cli.specs.declared.arguments.Arguments.{Arguments}
+use Rattle.plinq_cli.specs.declared.command.Command.{Command}
+use Rattle.plinq_cli.specs.declared.command.Command.TheVariants.{Run, Seq, Plan, Parts}
+
+-- the words of the merge option
+abbrev pub merge_words : List Text
+merge_words = codes "not" ∷ codes "auto" ∷ codes "full" ∷ codes "default" ∷ []
+
+-- the option takes just these words
+abbrev pub TakesOnly : List Text → ValueParser → Type 0
+TakesOnly words (parser.Names names) = map (λ name. name.now) names.now ≡ words
+TakesOnly words _ = ⊥
+
+-- `--workers`, a number from 1 to 64
+abbrev pub workers_rule : Rule
+workers_rule = record (new_rule (codes "workers")) {
+  long = Some (codes "workers");
+  value_names = 1;
+  parser = Some (parser.Unsigned 1 64);
+}
+
+-- `--merge`, of which the words pass this parser
+abbrev pub merge_rule : ValueParser → Rule
+merge_rule words = record (new_rule (codes "merge")) {
+  long = Some (codes "merge");
+  value_names = 1;
+  parser = Some words;
+}
+
+-- a subcommand, which has the two options
+abbrev pub subcommand_app : ValueParser → Text → App
+subcommand_app words name = with_rule (with_rule (new_app name) workers_rule) (merge_rule words)
+
+-- a command that adds all that it has as a subcommand of another
+abbrev pub AddsItsShape : ClapCommand → Type 0
+AddsItsShape sub = (old new : ClapCommand) → AddsSubcommand old sub new → app_of new ≡ with_subcommand (app_of old) (shape_of sub)
+
+-- the program, of which the words need a subcommand, and `help` isn't one
+abbrev pub bare_app : App
+bare_app = on_top (λ s. record s { disable_help_subcommand = true; subcommand_required = true }) (new_app (codes "plinq"))
+
+-- the program with one more subcommand
+abbrev pub with_command : ValueParser → App → Text → App
+with_command words app name = with_subcommand app (subcommand_app words name).top
+
+-- the program with its four subcommands
+abbrev pub plinq_app : ValueParser → App
+plinq_app words =
+    with_command words (with_command words (with_command words (with_command words bare_app
+    (codes "run")) (codes "seq")) (codes "plan")) (codes "parts")
+
+-- the commands by the names of the subcommands
+abbrev pub command_names : List (Text × Command)
+command_names = (codes "run", Run) ∷ (codes "seq", Seq) ∷ (codes "plan", Plan) ∷ (codes "parts", Parts) ∷ []
+
+-- the number from 1 to 64 that a text writes
+abbrev pub workers_in : Text → Option ℕ
+workers_in text = if is_unsigned_in 1 64 text then Some (digits_value 10 (without_leading_plus text)) else None
+
+-- the degree that the matches of a subcommand ask for
+abbrev pub workers_of : List Row → Option ℕ
+workers_of rows = option_and_then workers_in (one_of (codes "workers") rows)
+
+-- the merge option that they ask for
+abbrev pub merge_of : List Row → Option MergeOption
+merge_of rows = option_and_then merge_word (first_of (codes "merge") rows)
+
+-- a command with the settings of its subcommand's matches
+abbrev pub arguments_with : List Row → Command → Arguments
+arguments_with rows command = record { command = command; settings = record { workers = workers_of rows; merge = merge_of rows } }
+
+-- what a subcommand and its matches ask for
+abbrev pub arguments_in : Text × List Row → Option Arguments
+arguments_in met = option_map (arguments_with met.1) (beside command_names met.0)
+
+-- what the words ask for
+abbrev pub arguments_of : ValueParser → List Text → Option Arguments
+arguments_of parser words = option_and_then arguments_in (subcommand_of (plinq_app parser) words)
+
+-- the kinds of what `clap` shows where the words ask for nothing
+abbrev pub kinds_of : ValueParser → List Text → Kinds
+kinds_of parser words = fault_of (plinq_app parser) words
+
+-- the command line is the program's
+abbrev pub IsPlinq : App → Type 0
+IsPlinq app = (parser : ValueParser) × TakesOnly merge_words parser × (app ≡ plinq_app parser)
+
+-- `clap` takes the words, and this is what they ask for
+abbrev pub IsAsked : List Text → Arguments → Type 0
+IsAsked words arguments = (parser : ValueParser) × TakesOnly merge_words parser
+    × (kinds_of parser words ≡ []) × (arguments_of parser words ≡ Some arguments)
+
+-- it doesn't take them, and shows something of this kind
+abbrev pub IsRefused : List Text → ErrorKind → Type 0
+IsRefused words kind = (parser : ValueParser) × TakesOnly merge_words parser × IsAmong kind (kinds_of parser words)
+
+-- memory ran out, or the words are refused
+abbrev pub Refuses : List Text → ErrorKind → Type 0
+Refuses words kind = (kind ≡ OutOfMemory) ⊎ IsRefused words kind
