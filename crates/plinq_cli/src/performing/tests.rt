@@ -26,8 +26,16 @@ fn performed<R: AllocGlobal>(
     words: &[&str],
     document: &str,
 ) -> Result<Outcome, AllocError> {
+    performed_on(rt, words, document.as_bytes())
+}
+
+fn performed_on<R: AllocGlobal>(
+    rt: &R,
+    words: &[&str],
+    document: &[u8],
+) -> Result<Outcome, AllocError> {
     let alloc = rt.alloc();
-    let mut reader = document.as_bytes();
+    let mut reader = document;
     let mut out = Vec::new(alloc);
     let mut err = Vec::new(alloc);
     let words = words_of(alloc, words)?;
@@ -446,6 +454,63 @@ fn refused_documents(rt: HostRuntime) -> Result<(), Fail> {
         let line = format!(in rt.alloc(); "plinq: {line}\n")?;
         check(&rt, words, document, "", line.as_str(), 2)?;
     }
+    Ok(())
+}
+
+fn check_not_json<R: AllocGlobal + Abort>(rt: &R, document: &[u8]) -> Result<(), AllocError> {
+    let outcome = performed_on(rt, &["plinq", "run", "--merge", "not"], document)?;
+    assert_eq!(rt;
+        outcome.err.as_slice(),
+        b"plinq: document: not JSON\n".as_slice(),
+        "at {document:?}"
+    );
+    assert_eq!(rt; outcome.status, 2, "at {document:?}");
+    assert!(rt; outcome.out.is_empty(), "at {document:?}");
+    Ok(())
+}
+
+#[test]
+fn documents_that_are_no_json(rt: HostRuntime) -> Result<(), Fail> {
+    let document = ADD_ONE.as_bytes();
+    for end in 0..document.len() {
+        check_not_json(&rt, &document[..end])?;
+    }
+    check_not_json(&rt, &[255])?;
+    let mut nested = Vec::new(rt.alloc());
+    for bracket in [b'[', b']'] {
+        for _ in 0..200 {
+            nested.push(bracket)?;
+        }
+    }
+    check_not_json(&rt, nested.as_slice())?;
+    Ok(())
+}
+
+#[test]
+fn documents_at_their_limits(rt: HostRuntime) -> Result<(), Fail> {
+    check(
+        &rt,
+        &["plinq", "run"],
+        r#"{"version":1,"source":{"list":[1],"refuse":4294967295},"query":[]}"#,
+        "1\nrefused 4294967295\n",
+        "",
+        3,
+    )?;
+    let mut steps = String::from_str(rt.alloc(), r#"["select","add",1]"#)?;
+    for _ in 1..1_000 {
+        steps.push_str(r#",["select","add",1]"#)?;
+    }
+    let document = format!(in rt.alloc();
+        r#"{{"version":1,"source":{{"list":[0]}},"query":[{steps}]}}"#
+    )?;
+    check(
+        &rt,
+        &["plinq", "run"],
+        document.as_str(),
+        "1000\nend\n",
+        "",
+        0,
+    )?;
     Ok(())
 }
 
