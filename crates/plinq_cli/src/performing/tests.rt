@@ -302,6 +302,7 @@ fn answers(rt: HostRuntime) -> Result<(), Fail> {
     check_answers(&rt, MORE.as_slice())?;
     let unordered = r#"{"version":1,"source":{"list":[1,2,3]},"query":[["take",2]]}"#;
     check(&rt, &["plinq", "seq"], unordered, "1 2\nend\n", "", 0)?;
+    check(&rt, &["plinq", "run"], unordered, "1 2\nend\n", "", 0)?;
     Ok(())
 }
 
