@@ -1,0 +1,5 @@
+use Rattle.plinq_aggregate.specs.Lawful.{folded-count}
+use Rattle.plinq_aggregate.proofs.laws.count_is_the_length.Goals as goal
+
+pub returns : goal.returns
+returns c = λ xs. folded-count xs

@@ -1,0 +1,20 @@
+ghost use Rattle.std.specs.Prelude.{◌≡◌};
+ghost use Rattle.plinq_aggregate.specs.Folding.{aggregated};
+
+use crate::aggregator::Aggregator;
+
+/// The aggregate of a list on one thread (.NET's `Enumerable.Aggregate` with a seed and a result selector).
+///
+/// ```text
+/// fold_sequential(&Count, &[5, 5])    // 2
+/// fold_sequential(&Min, &[])          // None
+/// ```
+pub fn fold_sequential<A: Aggregator>(aggregator: &A, items: &[A::Item]) -> A::Out
+    ensures { result ≡ aggregated (A.folding aggregator.now) items.now }
+{
+    let mut acc = aggregator.seed();
+    for item in items {
+        acc = aggregator.update(acc, *item);
+    }
+    aggregator.result(acc)
+}
