@@ -1,6 +1,5 @@
 -- The records that the enumerator writes are those of the answers that it gives.
-use Rattle.std.proofs.Common.{◌≡◌, ℕ, ◌+◌, ◌-◌, true, false, cond, ltb, List, [], ◌∷◌, ◌++◌, length, take, drop, Option, Some, None, sym, ap, ◌∙◌, add-zero}
-use Rattle.std.proofs.lemmas.List.{length-take, take_min}
+use Rattle.std.proofs.Common.{◌≡◌, ℕ, ◌+◌, ◌-◌, true, false, cond, ltb, List, [], ◌∷◌, ◌++◌, length, Option, Some, None, sym, ap, ◌∙◌, add-zero}
 use Rattle.plinq_source.specs.Trace.{Trace}
 use Rattle.plinq_keyed.specs.declared.tail.Tail.{Tail}
 use Rattle.plinq_keyed.specs.declared.tail.Tail.TheVariants.{Closed}
@@ -58,7 +57,3 @@ place_behind-closed t p n shut =
 
 pub place_behind-open : {T : Type 0} (t : Trace T) (p : Place) (n : ℕ) → p.closed ≡ false → (place_behind t p (Ask n)).given ≡ p.given + length (items_from t p.given n)
 place_behind-open t p n shut = ap (λ a. p.given + length a.items) (open_reply t p n shut)
-
--- as many items as were taken, from that place on, are the items taken
-pub items_from-count : {T : Type 0} (t : Trace T) (g n : ℕ) → items_from t g (length (items_from t g n)) ≡ items_from t g n
-items_from-count t g n = ap (λ m. take m (drop g t.items)) (length-take n (drop g t.items)) ∙ take_min n (drop g t.items)

@@ -1,2 +1,3 @@
 pub mod Growing
 pub mod Standings
+pub mod Held

@@ -32,11 +32,13 @@ pub struct Enumerator<S: Source> {
 }
 
 impl<S: Source> Guarded for Enumerator<S> {
+    ghost use Rattle.plinq_enumerator.specs.Held.{held_source, held_records};
+
     type Item = S::Item;
 
-    ghost origin = { λ e. S.whole e.source };
+    ghost origin = { λ e. S.whole (held_source e) };
 
-    ghost history = { λ e. e.records.items };
+    ghost history = { held_records };
 
     fn records(&self) -> &[Record] {
         &self.records

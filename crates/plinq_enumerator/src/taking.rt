@@ -1,4 +1,4 @@
-ghost use Rattle.std.specs.Prelude.{◌≡◌, ◌≤◌, ◌+◌, ◌-◌, [], length, vec_capacity, nat_lt, if◌then◌else◌};
+ghost use Rattle.std.specs.Prelude.{◌≡◌, ◌≤◌, ◌+◌, ◌-◌, [], length, vec_capacity, vec_len, nat_lt, if◌then◌else◌};
 ghost use Rattle.plinq_keyed.specs.History.{items_from, ending_tail};
 
 use plinq_keyed::Tail;
@@ -15,6 +15,7 @@ pub(crate) fn take_items<S: Source>(
     requires room { n ≤ vec_capacity items.old }
     ensures same { S.whole source.new ≡ S.whole source.old }
     ensures taken { items.new.items ≡ items_from (S.whole source.old) (S.given source.old) n }
+    ensures counted { vec_len items.new ≡ length items.new.items }
     ensures moved { S.given source.new ≡ S.given source.old + length items.new.items }
     ensures tail { result ≡ (if nat_lt (length (S.whole source.old).items - S.given source.old) n then ending_tail (S.whole source.old).ending else None) }
 {

@@ -25,7 +25,7 @@ fn numbers(
     for number in 0..count {
         list.push(number)?;
     }
-    assert!(rt; list.len() <= 1000);
+    assert!(rt; list.len() <= 10_000);
     Ok(Enumerator::new(alloc, ListSource::new(alloc, list)))
 }
 
@@ -135,6 +135,68 @@ fn nothing_is_handed_out_behind_a_close(rt: HostRuntime) -> Result<(), Fail> {
     assert_eq!(rt; records.len(), 3);
     records[1].first = 0;
     assert!(rt; !replays(&records, 1, Ending::End));
+    Ok(())
+}
+
+// A history of many records and a chunk of many items take no other path than short ones.
+#[test]
+fn many_are_handed_out_behind_many_records(rt: HostRuntime) -> Result<(), Fail> {
+    let mut many = numbers(&rt, rt.alloc(), 10_000)?;
+    for ticket in 0..101 {
+        let chunk = ask(&rt, &mut many, ticket, 1)?;
+        assert_eq!(rt; chunk.items.as_slice(), [ticket].as_slice());
+    }
+    let chunk = ask(&rt, &mut many, 101, 4097)?;
+    assert_eq!(rt;
+        (chunk.first, chunk.items.len(), chunk.tail),
+        (101, 4097, None)
+    );
+    assert_eq!(rt;
+        (chunk.items.first(), chunk.items.last()),
+        (Some(&101), Some(&4197))
+    );
+    let rest = ask(&rt, &mut many, 102, 65_536)?;
+    assert_eq!(rt;
+        (rest.first, rest.items.len(), rest.tail),
+        (4198, 5802, Some(Tail::Ended))
+    );
+    assert_eq!(rt; count_records(&many), 103);
+    assert!(rt; replays(many.records(), 10_000, Ending::End));
+    Ok(())
+}
+
+#[test]
+fn an_ask_of_one_at_the_end_has_its_tail(rt: HostRuntime) -> Result<(), Fail> {
+    let mut one = numbers(&rt, rt.alloc(), 1)?;
+    assert_eq!(rt; ask(&rt, &mut one, 0, 1)?.tail, None);
+    for ticket in 1..3 {
+        let behind = ask(&rt, &mut one, ticket, 1)?;
+        assert_eq!(rt;
+            (behind.first, behind.items.len(), behind.tail),
+            (1, 0, Some(Tail::Ended))
+        );
+    }
+    assert!(rt; replays(one.records(), 1, Ending::End));
+    Ok(())
+}
+
+#[test]
+fn a_second_close_is_recorded_as_the_first(rt: HostRuntime) -> Result<(), Fail> {
+    let mut two = numbers(&rt, rt.alloc(), 2)?;
+    assert_eq!(rt; ask(&rt, &mut two, 0, 1)?.tail, None);
+    for ticket in 1..3 {
+        assert!(rt; is_new_ticket(two.records(), ticket));
+        two.close(ticket)?;
+    }
+    assert_eq!(rt; count_records(&two), 3);
+    for record in two.records().iter().skip(1) {
+        assert_eq!(rt; record.asked, Event::Close);
+        assert_eq!(rt;
+            (record.first, record.count, record.tail),
+            (1, 0, Some(Tail::Closed))
+        );
+    }
+    assert!(rt; replays(two.records(), 2, Ending::End));
     Ok(())
 }
 

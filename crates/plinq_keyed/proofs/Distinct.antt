@@ -1,7 +1,7 @@
 -- Numbers of which none comes twice: joined lists, lists that rise, and that n such numbers below n are all of them.
 use Rattle.std.proofs.Common.{◌≡◌, ℕ, zero, suc, ◌+◌, ◌<◌, ◌≤◌, Bool, true, false, not, ◌&&◌, ◌||◌, ltb, leb, eqb, List, [], ◌∷◌, ◌++◌, length, refl, sym, ap, ◌∙◌, arith, inl, inr}
 use Rattle.std.specs.List.{list_all, range_with_len, IsDistinct, AllByRecursion}
-use Rattle.std.proofs.lemmas.Bool.{and_parts, and_from, or_parts, or_from, or_cases, ltb-true, lt-ltb, leb-true, le-leb, eqb-true, eq-eqb, ne_eqb, not-true, not_from_false, cases_Bool, false≢true}
+use Rattle.std.proofs.lemmas.Bool.{and_parts, and_from, or_parts, or_from, or_cases, ltb-true, lt-ltb, leb-true, le-leb, eqb-true, ne_eqb, not-true, not_from_false, cases_Bool, false≢true}
 use Rattle.std.proofs.lemmas.List.Folds.{list_any-append}
 use Rattle.std.proofs.lemmas.Map.Steps.{length-le_from_distinct_below}
 use Rattle.plinq_keyed.specs.Keys.{is_among, distinct, rises_from, rises, counts_up}
@@ -86,9 +86,6 @@ apart-without least j (k ∷ ks) js h b =
 pub apart-lower_right : (k j : ℕ) (ks js : List ℕ) → j < k → rises (k ∷ ks) ≡ true → apart (k ∷ ks) (j ∷ js) ≡ apart (k ∷ ks) js
 apart-lower_right k j ks js b h =
     apart-without (j + 1) j (k ∷ ks) js (and_from _ _ (le-leb (j + 1) k (omega arith)) (and_parts (leb 0 k) _ h).1) (omega arith)
-
-pub apart-same : (k j : ℕ) (ks js : List ℕ) → k ≡ j → apart (k ∷ ks) (j ∷ js) ≡ false
-apart-same k j ks js e = ap (λ b. not (b || is_among js k) && apart ks (j ∷ js)) (eq-eqb k j e)
 
 all_differ : (k : ℕ) (ks : List ℕ) → is_among ks k ≡ false → AllByRecursion (λ y. eqb k y ≡ false) ks
 all_differ k [] h = tt

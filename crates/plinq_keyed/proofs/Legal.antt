@@ -91,11 +91,11 @@ Told-from_tells r a e =
     let q = and_parts (r.first == a.first) _ p.0 in
     record { first = eqb-true _ _ q.0; count = eqb-true _ _ q.1; tail = same_tail-true _ _ p.1 }
 
-reply-first : {T : Type 0} (t : Trace T) (p : Place) (e : Event) → (reply t p e).first ≡ p.given
+pub reply-first : {T : Type 0} (t : Trace T) (p : Place) (e : Event) → (reply t p e).first ≡ p.given
 reply-first t p (Ask n) = elim p.closed as (λ c. (cond c (no_items p.given) (next_items t p.given n)).first ≡ p.given) [ true ↦ refl | false ↦ refl ]
 reply-first t p Close = refl
 
-place_behind-given : {T : Type 0} (t : Trace T) (p : Place) (e : Event) → (place_behind t p e).given ≡ p.given + length (reply t p e).items
+pub place_behind-given : {T : Type 0} (t : Trace T) (p : Place) (e : Event) → (place_behind t p e).given ≡ p.given + length (reply t p e).items
 place_behind-given t p (Ask n) = refl
 place_behind-given t p Close = sym (add-zero p.given)
 

@@ -167,3 +167,31 @@ example_with_another_first = refl
 
 example_handed_out : handed_out one_item (example 1) ≡ keyed_from 0 (5 ∷ [])
 example_handed_out = refl
+
+-- the tickets of three requests; they rise strictly
+abbrev with_tickets : ℕ → ℕ → ℕ → List Record
+with_tickets i j k =
+    record { ticket = i; asked = Close; first = 0; count = 0; tail = Some Closed }
+    ∷ record { ticket = j; asked = Close; first = 0; count = 0; tail = Some Closed }
+    ∷ record { ticket = k; asked = Ask 1; first = 0; count = 0; tail = Some Closed }
+    ∷ []
+
+-- a second Close is answered as the first was, and so is an Ask behind them
+two_closes : is_legal_history one_item (with_tickets 3 4 9) ≡ true
+two_closes = refl
+
+equal_tickets : is_legal_history one_item (with_tickets 3 3 9) ≡ false
+equal_tickets = refl
+
+falling_tickets : is_legal_history one_item (with_tickets 3 9 4) ≡ false
+falling_tickets = refl
+
+-- a source refuses with its own code and no other
+abbrev refused_with : ℕ → List Record
+refused_with code = record { ticket = 0; asked = Ask 2; first = 0; count = 1; tail = Some (TailRefused code) } ∷ []
+
+refused_with_its_code : is_legal_history {T = ℕ} (ended (5 ∷ []) (Refused 7)) (refused_with 7) ≡ true
+refused_with_its_code = refl
+
+refused_with_another : is_legal_history {T = ℕ} (ended (5 ∷ []) (Refused 7)) (refused_with 8) ≡ false
+refused_with_another = refl

@@ -1,6 +1,6 @@
 use crate::{
     Keyed, check_across, check_in_each, check_normalized, handed_out_is_a_prefix,
-    legality_counts_items,
+    handed_out_keys_count_up, legality_counts_items,
 };
 use std::alloc::{AllocError, Global};
 use std::test::Fail;
@@ -50,5 +50,6 @@ fn checks_tell_the_key_properties(rt: HostRuntime) -> Result<(), Fail> {
 #[test]
 fn laws_can_be_called() {
     handed_out_is_a_prefix::<u8>();
+    handed_out_keys_count_up::<u8>();
     legality_counts_items::<u8>();
 }

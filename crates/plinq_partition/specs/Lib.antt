@@ -1,1 +1,6 @@
 pub mod Cuts
+pub mod Faults
+pub mod GivenBack
+pub mod Inside
+pub mod Partitions
+pub mod Shares

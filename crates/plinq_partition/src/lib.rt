@@ -1,20 +1,34 @@
 //! Partitioners: what splits keyed elements for several readers.
 //!
 //! - [`RangeParts`] and [`PairParts`] cut a list into a given number of partitions that differ by one element at most.
-//! - What an [`OrderablePartitioner`] calls true in `properties`, its partitions have (`partitions`).
+//! - [`Chunked`] hands a source out in chunks to partitions that are made on demand, from several threads. A chunk that
+//!   [`Partition::take`] answers is that of the one record that it adds to the partition's share (`IsTaken`), and the
+//!   shares of all partitions are the history of the enumerator, which `Chunked::give_back` hands back (`IsGivenBack`).
+//! - What an [`OrderablePartitioner`] calls true in `properties`, its partitions have: static ones by `partitions`,
+//!   dynamic ones by `keys_of_a_partition_rise` and `keys_of_all_partitions_are_normalized`.
 #![tactic(auto)]
 
+mod chunked;
 mod cutting;
 mod elements;
 mod fault;
+mod laws;
 mod pair_parts;
+mod partition;
 mod partitioner;
 mod range_parts;
+mod sharing;
+mod take_fault;
+mod taking;
 
+pub use chunked::Chunked;
 pub use fault::PartFault;
+pub use laws::{keys_of_a_partition_rise, keys_of_all_partitions_are_normalized};
 pub use pair_parts::PairParts;
+pub use partition::Partition;
 pub use partitioner::OrderablePartitioner;
 pub use range_parts::RangeParts;
+pub use take_fault::TakeFault;
 
 #[cfg(test)]
 mod tests;

@@ -1,3 +1,5 @@
+mod chunked;
+
 use crate::{OrderablePartitioner, PairParts, PartFault, RangeParts};
 use plinq_keyed::{KeyProperties, Keyed, check_across, check_in_each, check_normalized};
 use std::alloc::{AllocError, Global};
@@ -80,6 +82,30 @@ fn ranges_are_cut_by_place(rt: HostRuntime) -> Result<(), Fail> {
     );
     assert!(rt; matches!(two.partitions(0), Err(PartFault::NoPartitions)));
     assert!(rt; matches!(two.dynamic(), Err(PartFault::NotSupported)));
+    Ok(())
+}
+
+// As many partitions as a query may have workers, over more elements than that and over fewer.
+#[test]
+fn sixty_four_partitions(rt: HostRuntime) -> Result<(), Fail> {
+    for count in [1000, 3] {
+        let mut list = Vec::new(rt.alloc());
+        for number in 0..count {
+            list.push(number)?;
+        }
+        let numbers = RangeParts::new(rt.alloc(), list);
+        let parts = numbers.partitions(64)?;
+        assert_eq!(rt; parts.len(), 64);
+        expect_promised(&rt, &numbers, &parts);
+        let mut next: u64 = 0;
+        for part in &parts {
+            for element in part {
+                assert_eq!(rt; (element.key, element.value), (next, next));
+                next = next.wrapping_add(1);
+            }
+        }
+        assert_eq!(rt; next, count);
+    }
     Ok(())
 }
 

@@ -3,7 +3,7 @@ use Rattle.std.proofs.Common.{◌≡◌, ℕ, suc, ◌+◌, ◌-◌, ◌*◌, �
 use Rattle.std.proofs.lemmas.Bool.Decides.{nat_tests}
 use Rattle.std.specs.Char.{is_ascii_digit}
 use Rattle.std.specs.List.{list_all}
-use Rattle.std.proofs.lemmas.List.{drop_more, drop_all}
+use Rattle.std.proofs.lemmas.List.{drop_more}
 use Rattle.plinq_source.specs.Text.{is_separator, token_ahead, number_of}
 
 -- a digit behind a number
@@ -27,25 +27,12 @@ token_ahead_more text n b h e s =
     ap token_ahead (drop_more text n 0 h ∙ ap (λ x. x ∷ drop (n + 1) text) e)
     ∙ ap (λ k. cond k [] (b ∷ token_ahead (drop (n + 1) text))) s
 
--- a separator ends it
-pub token_ahead_stop : (text : List ℕ) (n b : ℕ) → n < length text → get_or text n 0 ≡ b → is_separator b ≡ true → token_ahead (drop n text) ≡ []
-token_ahead_stop text n b h e s =
-    ap token_ahead (drop_more text n 0 h ∙ ap (λ x. x ∷ drop (n + 1) text) e)
-    ∙ ap (λ k. cond k [] (b ∷ token_ahead (drop (n + 1) text))) s
-
--- and so does the text's end
-pub token_ahead_end : (text : List ℕ) (n : ℕ) → length text ≤ n → token_ahead (drop n text) ≡ []
-token_ahead_end text n h = ap token_ahead (drop_all n text h)
-
 -- what a reader of digits keeps: n digits were read, of this number or the greatest that is kept
 pub record ReadsDigits (text : List ℕ) (n value : ℕ) : Type 0 where
   pub digits : list_all is_ascii_digit (token_ahead text) ≡ list_all is_ascii_digit (token_ahead (drop n text))
   pub number : min (number_of (token_ahead text)) most ≡ min (fold digit_step value (token_ahead (drop n text))) most
   pub long : length (token_ahead text) ≡ n + length (token_ahead (drop n text))
   pub small : value ≤ most
-
-pub ReadsDigits_none : (text : List ℕ) → ReadsDigits text 0 0
-ReadsDigits_none text = record { digits = refl; number = refl; long = omega arith; small = omega arith }
 
 digit-tests : (b : ℕ) → 48 ≤ b → b ≤ 57 → (is_separator b ≡ false) × (is_ascii_digit b ≡ true)
 digit-tests b low high = (grind (arith, nat_tests), grind (arith, nat_tests))

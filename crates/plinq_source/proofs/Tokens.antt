@@ -1,18 +1,12 @@
 -- A text token by token: what stands ahead, and what is left behind it.
-use Rattle.std.proofs.Common.{◌≡◌, ℕ, suc, ◌+◌, ◌<◌, ◌≤◌, Bool, true, false, cond, List, [], ◌∷◌, length, drop, get_or, filter, refl, sym, ap, ◌∙◌, arith}
+use Rattle.std.proofs.Common.{◌≡◌, ℕ, suc, ◌≤◌, Bool, true, false, cond, List, [], ◌∷◌, length, drop, filter, refl, sym, ap, ◌∙◌, arith}
 use Rattle.std.specs.List.{slice_split, onto_first}
-use Rattle.std.proofs.lemmas.List.{drop_more}
 use Rattle.std.proofs.lemmas.List.Splits.{slice_split-cons_yes}
 use Rattle.plinq_source.specs.Text.{is_separator, is_some_bytes, tokens, token_ahead}
 
 -- a separator at the head of a text is in no token
 pub tokens-separator : (b : ℕ) (bs : List ℕ) → is_separator b ≡ true → tokens (b ∷ bs) ≡ tokens bs
 tokens-separator b bs h = ap (filter is_some_bytes) (slice_split-cons_yes is_separator b bs h)
-
--- one separator more is passed over
-pub tokens_more : (text : List ℕ) (n b : ℕ) → n < length text → get_or text n 0 ≡ b → is_separator b ≡ true → tokens (drop (n + 1) text) ≡ tokens (drop n text)
-tokens_more text n b h e s =
-    sym (ap tokens (drop_more text n 0 h ∙ ap (λ x. x ∷ drop (n + 1) text) e) ∙ tokens-separator b (drop (n + 1) text) s)
 
 -- the parts of a text behind the token that stands ahead
 parts_behind : List ℕ → List (List ℕ)

@@ -3,3 +3,4 @@ pub mod Range
 pub mod Repeat
 pub mod Text
 pub mod Values
+pub mod Walked

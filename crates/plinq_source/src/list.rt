@@ -1,6 +1,5 @@
-ghost use Rattle.std.specs.Prelude.{◌≡◌, ◌≤◌, ◌^◌, vec_len, Some, None};
-ghost use Rattle.std.proofs.Common.{arith};
-ghost use Rattle.plinq_source.specs.Trace.{Trace, ended, list_ending, list_ending-ends};
+ghost use Rattle.std.specs.Prelude.{◌≡◌, ◌≤◌, ◌^◌, vec_len, length, Some, None};
+ghost use Rattle.plinq_source.specs.Trace.{ended, list_ending};
 
 use crate::source::Source;
 use crate::step::Step;
@@ -22,8 +21,8 @@ pub struct ListSource<T: Copy + Send> {
     items: Vec<T>,
     refusal: Option<u32>,
     next: usize,
-    ghost few: { vec_len items ≤ 2 ^ 40 },
-    ghost within: { next ≤ vec_len items },
+    ghost few: { length items.items ≤ 2 ^ 40 },
+    ghost within: { next ≤ length items.items },
 }
 
 impl<T: Copy + Send> ListSource<T> {
@@ -57,17 +56,19 @@ impl<T: Copy + Send> ListSource<T> {
 }
 
 impl<T: Copy + Send> Source for ListSource<T> {
+    ghost use Rattle.plinq_source.specs.Walked.{list_whole, list_given, list_walked};
+
     type Item = T;
 
-    ghost whole = { λ s. ended s.items.items (list_ending s.refusal) };
+    ghost whole = { list_whole };
 
-    ghost given = { λ s. s.next };
+    ghost given = { list_given };
 
-    ghost few = { λ s. Prim.omega (arith, s.few, s.items.ok.0) };
+    ghost few = { λ s. (list_walked s).few };
 
-    ghost ends = { λ s. list_ending-ends s.refusal };
+    ghost ends = { λ s. (list_walked s).ends };
 
-    ghost within = { λ s. Prim.omega (arith, s.within, s.items.ok.0) };
+    ghost within = { λ s. (list_walked s).within };
 
     fn next(&mut self) -> Step<T> {
         if self.next < self.items.len() {

@@ -1,7 +1,5 @@
 ghost use Rattle.std.specs.Prelude.{◌≡◌, ◌≤◌, ◌<◌, ◌^◌, ◌+ℤ◌, ◌≤ℤ◌, pos, IfOk, IfErr, is_ok};
-ghost use Rattle.std.proofs.Common.{arith};
-ghost use Rattle.std.proofs.lemmas.List.FromFn.{length-map-range_with_len};
-ghost use Rattle.plinq_source.specs.Trace.{Trace, ended};
+ghost use Rattle.plinq_source.specs.Trace.{ended};
 ghost use Rattle.plinq_source.specs.Range.{range_items, is_range};
 ghost use Rattle.plinq_source.specs.declared.ending.Ending.TheVariants.{End};
 
@@ -53,17 +51,19 @@ impl RangeSource {
 }
 
 impl Source for RangeSource {
+    ghost use Rattle.plinq_source.specs.Walked.{range_whole, range_given, range_walked};
+
     type Item = i64;
 
-    ghost whole = { λ s. ended (range_items s.start s.count) End };
+    ghost whole = { range_whole };
 
-    ghost given = { λ s. s.next };
+    ghost given = { range_given };
 
-    ghost few = { λ s. Prim.omega (arith, s.few, length-map-range_with_len (λ i. s.start +ℤ pos i) 0 s.count) };
+    ghost few = { λ s. (range_walked s).few };
 
-    ghost ends = { λ s. tt };
+    ghost ends = { λ s. (range_walked s).ends };
 
-    ghost within = { λ s. Prim.omega (arith, s.within, length-map-range_with_len (λ i. s.start +ℤ pos i) 0 s.count) };
+    ghost within = { λ s. (range_walked s).within };
 
     fn next(&mut self) -> Step<i64> {
         if self.next < self.count {

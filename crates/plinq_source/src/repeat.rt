@@ -1,7 +1,5 @@
 ghost use Rattle.std.specs.Prelude.{◌≡◌, ◌≤◌, ◌^◌, IfOk, IfErr, is_ok, replicate};
-ghost use Rattle.std.proofs.Common.{arith};
-ghost use Rattle.std.proofs.Math.ListN.{length-replicate};
-ghost use Rattle.plinq_source.specs.Trace.{Trace, ended};
+ghost use Rattle.plinq_source.specs.Trace.{ended};
 ghost use Rattle.plinq_source.specs.Repeat.{is_repeat};
 ghost use Rattle.plinq_source.specs.declared.ending.Ending.TheVariants.{End};
 
@@ -48,17 +46,19 @@ impl RepeatSource {
 }
 
 impl Source for RepeatSource {
+    ghost use Rattle.plinq_source.specs.Walked.{repeat_whole, repeat_given, repeat_walked};
+
     type Item = i64;
 
-    ghost whole = { λ s. ended (replicate s.count s.value) End };
+    ghost whole = { repeat_whole };
 
-    ghost given = { λ s. s.next };
+    ghost given = { repeat_given };
 
-    ghost few = { λ s. Prim.omega (arith, s.few, length-replicate s.count s.value) };
+    ghost few = { λ s. (repeat_walked s).few };
 
-    ghost ends = { λ s. tt };
+    ghost ends = { λ s. (repeat_walked s).ends };
 
-    ghost within = { λ s. Prim.omega (arith, s.within, length-replicate s.count s.value) };
+    ghost within = { λ s. (repeat_walked s).within };
 
     fn next(&mut self) -> Step<i64> {
         if self.next < self.count {

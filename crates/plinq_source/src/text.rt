@@ -1,8 +1,5 @@
 ghost use Rattle.std.specs.Prelude.{◌≡◌, ◌≤◌, ◌^◌, vec_len, length, drop};
-ghost use Rattle.std.proofs.Common.{arith};
-ghost use Rattle.plinq_source.specs.Trace.{list_ending-ends};
 ghost use Rattle.plinq_source.specs.Text.{is_some_bytes, tokens, values, refusal, text_trace, token_ahead, given_at};
-ghost use Rattle.plinq_source.specs.Values.{few-values};
 
 use crate::number::read_number;
 use crate::source::Source;
@@ -30,8 +27,8 @@ use std::alloc::Global;
 pub struct TextSource {
     text: Vec<u8>,
     at: usize,
-    ghost few: { vec_len text ≤ 2 ^ 40 },
-    ghost within: { at ≤ vec_len text },
+    ghost few: { length text.items ≤ 2 ^ 40 },
+    ghost within: { at ≤ length text.items },
     // What stands ahead is what is left of the whole text's meaning.
     ghost items: { drop (given_at text.items at) (values (tokens text.items)) ≡ values (tokens (drop at text.items)) },
     ghost ending: { refusal (tokens text.items) ≡ refusal (tokens (drop at text.items)) },
@@ -65,17 +62,19 @@ fn count_separators(text: &[u8]) -> usize
 }
 
 impl Source for TextSource {
+    ghost use Rattle.plinq_source.specs.Walked.{text_whole, text_given, text_walked};
+
     type Item = i64;
 
-    ghost whole = { λ s. text_trace s.text.items };
+    ghost whole = { text_whole };
 
-    ghost given = { λ s. given_at s.text.items s.at };
+    ghost given = { text_given };
 
-    ghost few = { λ s. Prim.omega (arith, s.few, s.text.ok.0, few-values s.text.items) };
+    ghost few = { λ s. (text_walked s).few };
 
-    ghost ends = { λ s. list_ending-ends (refusal (tokens s.text.items)) };
+    ghost ends = { λ s. (text_walked s).ends };
 
-    ghost within = { λ s. Prim.omega arith };
+    ghost within = { λ s. (text_walked s).within };
 
     fn next(&mut self) -> Step<i64> {
         let (_, left) = self.text.as_slice().split_at(self.at);

@@ -1,0 +1,12 @@
+-- A lock's faults, as a partition tells them.
+use Rattle.plinq_ticket.specs.declared.lock_fault.LockFault.{LockFault}
+use Rattle.plinq_ticket.specs.declared.lock_fault.LockFault.TheVariants.{Spent, Busy, Incomplete, Memory, Away}
+use Rattle.plinq_partition.specs.declared.take_fault.TakeFault.{TakeFault}
+use Rattle.plinq_partition.specs.declared.take_fault.TakeFault.TheVariants.{Memory as NoMemory, Spent as TicketsSpent, Busy as OthersFirst, Incomplete as RecordsMissing, Away as NotThere}
+
+abbrev pub take_fault_of : LockFault → TakeFault
+take_fault_of Spent = TicketsSpent
+take_fault_of (Busy served drawn) = OthersFirst served drawn
+take_fault_of (Incomplete have all) = RecordsMissing have all
+take_fault_of Memory = NoMemory
+take_fault_of Away = NotThere

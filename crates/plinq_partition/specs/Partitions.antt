@@ -1,0 +1,93 @@
+-- What a clause says of a chunked source and its partitions.
+use Rattle.std.specs.Prelude.{◌≡◌, ℕ, ◌+◌, ◌≤◌, ◌<◌, ◌^◌, List, [], ◌∷◌, ◌++◌, length, ⊤, ◌⊎◌}
+use Rattle.plinq_source.specs.declared.source.Source.{Ghosts}
+use Rattle.plinq_source.specs.Trace.{Trace}
+use Rattle.plinq_keyed.specs.declared.chunk.Chunk.{Chunk}
+use Rattle.plinq_keyed.specs.declared.event.Event.{Event}
+use Rattle.plinq_keyed.specs.declared.event.Event.TheVariants.{Ask, Close}
+use Rattle.plinq_keyed.specs.declared.record.Record.{Record}
+use Rattle.plinq_keyed.specs.History.{IsChunkOf}
+use Rattle.plinq_enumerator.specs.Growing.{GrowthRule, size_at}
+use Rattle.plinq_partition.specs.declared.chunked.Chunked.{Chunked}
+use Rattle.plinq_partition.specs.declared.partition.Partition.{Partition}
+use Rattle.plinq_partition.specs.declared.take_fault.TakeFault.{TakeFault}
+use Rattle.plinq_partition.specs.declared.take_fault.TakeFault.TheVariants.{Memory, Spent, Busy, Incomplete, Away}
+use Rattle.plinq_partition.specs.Shares.{IsAt, origin_at, share_at, drawn_at, served_at}
+
+-- what a partition has: what its source hands out, the records that are its own, and how many chunks it was given
+pub record Holding (T : Type 0) : Type 0 where
+  pub origin : Trace T
+  pub share : List Record
+  pub requests : ℕ
+
+-- one record came behind a share
+pub record Adds {T : Type 0} (a b : Holding T) (asked : Event) (entry : Record) : Type 0 where
+  pub origin : b.origin ≡ a.origin
+  pub share : b.share ≡ a.share ++ entry ∷ []
+  pub asked_is : entry.asked ≡ asked
+
+-- a chunk was taken: it is that of one record more, which asked for as many items as the growth says
+pub record IsTaken {T : Type 0} (growth : GrowthRule) (a b : Holding T) (chunk : Chunk T) : Type 0 where
+  pub entry : Record
+  pub adds : Adds a b (Ask (size_at growth a.requests)) entry
+  pub of : IsChunkOf a.origin entry chunk
+  pub within : chunk.first + length chunk.items.items ≤ length a.origin.items
+  pub requests : b.requests ≡ a.requests + 1
+
+-- the source was closed: there is one Close more
+pub record IsStopped {T : Type 0} (a b : Holding T) : Type 0 where
+  pub entry : Record
+  pub adds : Adds a b Close entry
+  pub requests : b.requests ≡ a.requests
+
+-- a new partition beside another was given nothing
+abbrev pub new_beside : {T : Type 0} → Holding T → Holding T
+new_beside a = record { origin = a.origin; share = []; requests = 0 }
+
+module _ {S T : Type 0} {source : Ghosts S T} where
+  abbrev pub holding_of : Partition S T source → Holding T
+  holding_of p = record { origin = origin_at p.pass; share = share_at p.pass; requests = p.requests }
+
+  -- a partition of that source
+  abbrev pub IsPartitionOf : Chunked S T source → Partition S T source → Type 0
+  IsPartitionOf chunked p = IsAt chunked.lock p.requests p.pass
+
+  -- how the chunks of its partitions grow
+  abbrev pub growth_of : Chunked S T source → GrowthRule
+  growth_of chunked = chunked.growth
+
+  -- a fault is told only for its cause, which the partition has now seen
+  abbrev pub IsCauseOf : Partition S T source → TakeFault → Type 0
+  IsCauseOf q Memory = ⊤
+  IsCauseOf q Spent = (drawn_at q.pass ≡ 2 ^ 62) ⊎ (served_at q.pass ≡ 2 ^ 62)
+  IsCauseOf q (Busy served drawn) = (served < drawn) × (served_at q.pass ≡ served) × (drawn_at q.pass ≡ drawn)
+  IsCauseOf q (Incomplete have all) = ⊥
+  IsCauseOf q Away = ⊥
+
+  -- nothing was taken, and the partition is as it was
+  pub record IsRefused (p q : Partition S T source) (fault : TakeFault) : Type 0 where
+    pub same : holding_of q ≡ holding_of p
+    pub cause : IsCauseOf q fault
+
+  -- new partitions beside one
+  abbrev pub AreNew : Holding T → List (Partition S T source) → Type 0
+  AreNew a [] = ⊤
+  AreNew a (q ∷ qs) = (holding_of q ≡ new_beside a) × AreNew a qs
+
+  -- the one that was given, and new ones beside it
+  abbrev pub AreMadeFrom : Holding T → List (Partition S T source) → Type 0
+  AreMadeFrom a [] = ⊥
+  AreMadeFrom a (q ∷ qs) = (holding_of q ≡ a) × AreNew a qs
+
+  -- the records of several partitions, together
+  abbrev pub all_shares : List (Partition S T source) → List Record
+  all_shares [] = []
+  all_shares (p ∷ ps) = share_at p.pass ++ all_shares ps
+
+-- those that may wait are never told that others came before
+abbrev pub IsNotBusy : TakeFault → Type 0
+IsNotBusy Memory = ⊤
+IsNotBusy Spent = ⊤
+IsNotBusy (Busy served drawn) = ⊥
+IsNotBusy (Incomplete have all) = ⊥
+IsNotBusy Away = ⊥

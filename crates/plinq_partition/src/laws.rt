@@ -1,0 +1,20 @@
+ghost use Rattle.std.specs.Prelude.{◌≡◌, List, [], ◌∷◌, true};
+ghost use Rattle.plinq_source.specs.Trace.{Trace};
+ghost use Rattle.plinq_keyed.specs.declared.record.Record.{Record};
+ghost use Rattle.plinq_keyed.specs.History.{IsLegalHistory, handed_out};
+ghost use Rattle.plinq_keyed.specs.Keys.{keys, ordered_in_each, normalized};
+ghost use Rattle.plinq_partition.specs.Shares.{keys_rise_from};
+
+/// The keys that a partition was handed rise.
+///
+/// This function does nothing: it is there for the law in its contract.
+pub fn keys_of_a_partition_rise<T>()
+    ensures { (t : Trace T) (share : List Record) → keys_rise_from 0 share ≡ true → ordered_in_each (keys (handed_out t share) ∷ []) ≡ true }
+{}
+
+/// What all partitions together were handed has the keys 0, 1, 2 and so on, each once.
+///
+/// This function does nothing: it is there for the law in its contract.
+pub fn keys_of_all_partitions_are_normalized<T>()
+    ensures { (t : Trace T) (h : List Record) → IsLegalHistory t h → normalized (keys (handed_out t h) ∷ []) ≡ true }
+{}

@@ -1,0 +1,158 @@
+ghost use Rattle.std.specs.Prelude.{◌≡◌, Some, IsSome, IfOk, IfErr, OnOk, OnErr};
+ghost use Rattle.plinq_partition.specs.Faults.{take_fault_of};
+ghost use Rattle.plinq_partition.specs.Inside.{IsInside, holding_inside};
+ghost use Rattle.plinq_partition.specs.Partitions.{IsPartitionOf, IsTaken, IsStopped, IsRefused, IsNotBusy, growth_of, holding_of};
+
+use crate::chunked::Chunked;
+use crate::partition::Partition;
+use crate::take_fault::TakeFault;
+use plinq_enumerator::Enumerator;
+use plinq_keyed::Chunk;
+use plinq_source::Source;
+use plinq_ticket::{Held, LockFault, Pass};
+use std::sync::Wait;
+
+impl<S: Source> Partition<S> {
+    /// How many chunks it was given. Takes no memory.
+    pub fn requests(&self) -> u64
+        ensures { result ≡ (holding_of self.now).requests }
+    {
+        self.requests
+    }
+
+    /// The next chunk of the source, of as many items as the growth says for this request; the last one may be shorter
+    /// and has the source's tail. Waits until the partitions before it have taken theirs.
+    ///
+    /// # Errors
+    ///
+    /// [`TakeFault::Spent`] where all tickets were drawn, else [`TakeFault::Memory`] where there is no room for the
+    /// chunk, or else for its record. The partition is as it was, and the source wasn't asked.
+    pub fn take<R: Wait>(
+        &mut self,
+        rt: &R,
+        chunked: &Chunked<S>,
+    ) -> Result<Chunk<S::Item>, TakeFault>
+        requires { IsPartitionOf chunked.now self.old }
+        ensures of { IsPartitionOf chunked.now self.new }
+        ensures taken { IfOk result (IsTaken (growth_of chunked.now) (holding_of self.old) (holding_of self.new)) }
+        ensures refused { IfErr result (IsRefused self.old self.new) }
+        ensures waited { IfErr result IsNotBusy }
+    {
+        let pass = self.lend_pass();
+        match chunked.lock.enter(rt, pass) {
+            Ok(held) => self.ask(chunked, held),
+            Err(refusal) => Err(self.have_back(refusal)),
+        }
+    }
+
+    /// The next chunk, as [`Partition::take`] gives it, but only where no other partition is before this one.
+    ///
+    /// # Errors
+    ///
+    /// [`TakeFault::Spent`] where all tickets were drawn; [`TakeFault::Busy`] where another partition waits or is
+    /// inside; else [`TakeFault::Memory`] as for `take`. The partition is as it was, and the source wasn't asked.
+    pub fn try_take(&mut self, chunked: &Chunked<S>) -> Result<Chunk<S::Item>, TakeFault>
+        requires { IsPartitionOf chunked.now self.old }
+        ensures of { IsPartitionOf chunked.now self.new }
+        ensures taken { IfOk result (IsTaken (growth_of chunked.now) (holding_of self.old) (holding_of self.new)) }
+        ensures refused { IfErr result (IsRefused self.old self.new) }
+    {
+        let pass = self.lend_pass();
+        match chunked.lock.try_enter(pass) {
+            Ok(held) => self.ask(chunked, held),
+            Err(refusal) => Err(self.have_back(refusal)),
+        }
+    }
+
+    /// Closes the source for all partitions: what they take from now on is empty, and has the tail
+    /// [`Tail::Closed`](plinq_keyed::Tail::Closed). It is no request for a chunk.
+    ///
+    /// # Errors
+    ///
+    /// [`TakeFault::Spent`] where all tickets were drawn, else [`TakeFault::Memory`] where there is no room for the
+    /// record. The partition is as it was.
+    pub fn stop<R: Wait>(&mut self, rt: &R, chunked: &Chunked<S>) -> Result<(), TakeFault>
+        requires { IsPartitionOf chunked.now self.old }
+        ensures of { IsPartitionOf chunked.now self.new }
+        ensures stopped { OnOk result (IsStopped (holding_of self.old) (holding_of self.new)) }
+        ensures refused { IfErr result (IsRefused self.old self.new) }
+        ensures waited { IfErr result IsNotBusy }
+    {
+        let pass = self.lend_pass();
+        match chunked.lock.enter(rt, pass) {
+            Ok(held) => self.close(chunked, held),
+            Err(refusal) => Err(self.have_back(refusal)),
+        }
+    }
+
+    // The pass, for good.
+    pub(crate) fn into_pass(self) -> Pass<Enumerator<S>>
+        requires there { IsSome self.pass }
+        ensures { self.pass ≡ Some result }
+    {
+        match self.pass {
+            Some(pass) => pass,
+            None => unreachable!(),
+        }
+    }
+
+    // The pass, for a way through the lock.
+    pub(crate) fn lend_pass(&mut self) -> Pass<Enumerator<S>>
+        requires { IsSome self.old.pass }
+        ensures pass { self.old.pass ≡ Some result }
+        ensures requests { self.new.requests ≡ self.old.requests }
+    {
+        match self.pass.take() {
+            Some(pass) => pass,
+            None => unreachable!(),
+        }
+    }
+
+    // The pass comes back, and the lock's fault is told.
+    fn have_back(&mut self, refusal: (Pass<Enumerator<S>>, LockFault)) -> TakeFault
+        ensures pass { self.new.pass ≡ Some refusal.0 }
+        ensures requests { self.new.requests ≡ self.old.requests }
+        ensures fault { result ≡ take_fault_of refusal.1 }
+    {
+        let (pass, fault) = refusal;
+        self.pass = Some(pass);
+        TakeFault::from(fault)
+    }
+
+    // Takes the chunk of the next request while inside, and leaves.
+    fn ask(
+        &mut self,
+        chunked: &Chunked<S>,
+        held: Held<Enumerator<S>>,
+    ) -> Result<Chunk<S::Item>, TakeFault>
+        requires { IsInside chunked.now self.old.requests held }
+        ensures of { IsPartitionOf chunked.now self.new }
+        ensures taken { IfOk result (IsTaken (growth_of chunked.now) (holding_inside self.old.requests held) (holding_of self.new)) }
+        ensures same { OnErr result (holding_of self.new ≡ holding_inside self.old.requests held) }
+        ensures memory { IfErr result (λ fault. fault ≡ TakeFault.Memory) }
+    {
+        let mut held = held;
+        let ticket = held.ticket();
+        let n = chunked.growth.size(self.requests);
+        let asked = held.value_mut().ask(ticket, n);
+        self.pass = Some(chunked.lock.leave(held));
+        let chunk = asked?;
+        self.requests += 1;
+        Ok(chunk)
+    }
+
+    // Closes the enumerator while inside, and leaves.
+    fn close(&mut self, chunked: &Chunked<S>, held: Held<Enumerator<S>>) -> Result<(), TakeFault>
+        requires { IsInside chunked.now self.old.requests held }
+        ensures of { IsPartitionOf chunked.now self.new }
+        ensures stopped { OnOk result (IsStopped (holding_inside self.old.requests held) (holding_of self.new)) }
+        ensures same { OnErr result (holding_of self.new ≡ holding_inside self.old.requests held) }
+        ensures memory { IfErr result (λ fault. fault ≡ TakeFault.Memory) }
+    {
+        let mut held = held;
+        let ticket = held.ticket();
+        let closed = held.value_mut().close(ticket);
+        self.pass = Some(chunked.lock.leave(held));
+        Ok(closed?)
+    }
+}

@@ -1,0 +1,80 @@
+-- What a value of each source stands for: all that it gives, and how many items of that it has given.
+use Rattle.std.specs.Prelude.{ℕ, ◌≤◌, ◌^◌, ◌+ℤ◌, ℤ, pos, length, replicate}
+use Rattle.std.proofs.Common.{arith}
+use Rattle.std.proofs.Math.ListN.{length-replicate}
+use Rattle.std.proofs.lemmas.List.FromFn.{length-map-range_with_len}
+use Rattle.plinq_source.specs.Trace.{Trace, ended, list_ending, list_ending-ends, IsSourceEnding}
+use Rattle.plinq_source.specs.Text.{tokens, refusal, text_trace, given_at}
+use Rattle.plinq_source.specs.Range.{range_items}
+use Rattle.plinq_source.specs.Values.{few-values}
+use Rattle.plinq_source.specs.declared.ending.Ending.TheVariants.{End}
+use Rattle.plinq_source.specs.declared.list.ListSource.{ListSource}
+use Rattle.plinq_source.specs.declared.text.TextSource.{TextSource}
+use Rattle.plinq_source.specs.declared.range.RangeSource.{RangeSource}
+use Rattle.plinq_source.specs.declared.repeat.RepeatSource.{RepeatSource}
+
+-- a source has few items, it ends or refuses, and has given no more items than it has
+pub record IsSource {T : Type 0} (whole : Trace T) (given : ℕ) : Type 0 where
+  pub few : length whole.items ≤ 2 ^ 40
+  pub ends : IsSourceEnding whole.ending
+  pub within : given ≤ length whole.items
+
+-- a list: its items, and the end or its refusal
+abbrev pub list_whole : {T : Type 0} → ListSource T → Trace T
+list_whole s = ended s.items.items (list_ending s.refusal)
+
+abbrev pub list_given : {T : Type 0} → ListSource T → ℕ
+list_given s = s.next
+
+pub list_walked : {T : Type 0} (s : ListSource T) → IsSource (list_whole s) (list_given s)
+list_walked s = record {
+  few = s.few;
+  ends = list_ending-ends s.refusal;
+  within = s.within;
+}
+
+-- a text: its numbers, and the end or the refusal of a token
+abbrev pub text_whole : TextSource → Trace ℤ
+text_whole s = text_trace s.text.items
+
+abbrev pub text_given : TextSource → ℕ
+text_given s = given_at s.text.items s.at
+
+pub text_walked : (s : TextSource) → IsSource (text_whole s) (text_given s)
+text_walked s = record {
+  few = omega (arith, s.few, few-values s.text.items);
+  ends = list_ending-ends (refusal (tokens s.text.items));
+  within = omega arith;
+}
+
+-- a range: its numbers, and the end
+abbrev pub range_whole : RangeSource → Trace ℤ
+range_whole s = ended (range_items s.start s.count) End
+
+abbrev pub range_given : RangeSource → ℕ
+range_given s = s.next
+
+pub range_walked : (s : RangeSource) → IsSource (range_whole s) (range_given s)
+range_walked s =
+    let as_many = length-map-range_with_len (λ i. s.start +ℤ pos i) 0 s.count in
+    record {
+      few = omega (arith, s.few, as_many);
+      ends = tt;
+      within = omega (arith, s.within, as_many);
+    }
+
+-- a repeat: its value as often as it says, and the end
+abbrev pub repeat_whole : RepeatSource → Trace ℤ
+repeat_whole s = ended (replicate s.count s.value) End
+
+abbrev pub repeat_given : RepeatSource → ℕ
+repeat_given s = s.next
+
+pub repeat_walked : (s : RepeatSource) → IsSource (repeat_whole s) (repeat_given s)
+repeat_walked s =
+    let as_many = length-replicate s.count s.value in
+    record {
+      few = omega (arith, s.few, as_many);
+      ends = tt;
+      within = omega (arith, s.within, as_many);
+    }

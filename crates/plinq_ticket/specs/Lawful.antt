@@ -1,0 +1,78 @@
+-- The lock between any two steps: tickets in turn, the value home or out, and a history that is the records of all passes.
+use Rattle.std.specs.Prelude.{◌≡◌, ℕ, List, [], ◌∷◌, ◌++◌, Option, Some, true, ◌⊎◌}
+use mathlib.Core.Option.{some, none}
+use mathlib.Core.Option as maybe
+use lib.ListN.{get_elem?}
+use Rattle.plinq_source.specs.Trace.{Trace}
+use Rattle.plinq_keyed.specs.declared.record.Record.{Record}
+use Rattle.plinq_keyed.specs.History.{IsLegalHistory, IsPrefix, tickets_below}
+use Rattle.plinq_ticket.specs.declared.phase.Phase.{Phase}
+use Rattle.plinq_ticket.specs.declared.phase.Phase.TheVariants.{Idle, Waiting, Inside, Joined}
+use Rattle.plinq_ticket.specs.declared.standing.Standing.{Standing}
+use Rattle.plinq_ticket.specs.declared.view.View.{View}
+use Rattle.plinq_ticket.specs.Weights.{total}
+use Rattle.plinq_ticket.specs.Turns.{InTurn, is_inside, newcomer}
+use Rattle.plinq_ticket.specs.Shares.{in_ticket_order}
+
+module _ {T : Type 0} where
+  abbrev pub standing_of : View T → Standing
+  standing_of v = v.standing
+
+  -- what the value hands out, as a pass knows it
+  abbrev pub origin_in : View T → Trace T
+  origin_in v = record { items = v.items; ending = v.ending }
+
+  -- the records of all passes
+  abbrev pub all_shares : List (View T) → List Record
+  all_shares [] = []
+  all_shares (v ∷ vs) = v.share ++ all_shares vs
+
+  -- the history is the records of all passes, in the order of their tickets
+  abbrev pub history_of : List (View T) → List Record
+  history_of views = in_ticket_order (all_shares views)
+
+  -- how many passes are inside
+  abbrev pub inside_of : List (View T) → ℕ
+  inside_of views = total (λ v. is_inside v.standing.phase) views
+
+  -- What a pass knows is so: its trace is the lock's, and inside it found the history. A joined one has no share left
+  abbrev pub Knows : Trace T → List Record → View T → Phase → Type 0
+  Knows t h v Idle = origin_in v ≡ t
+  Knows t h v (Waiting k) = origin_in v ≡ t
+  Knows t h v (Inside k) = (origin_in v ≡ t) × (v.found ≡ h)
+  Knows t h v Joined = v.share ≡ []
+
+  -- the first pass has the records that the value came with
+  abbrev pub first_view : Trace T → List Record → View T
+  first_view t h = record { standing = newcomer; items = t.items; ending = t.ending; found = []; share = h }
+
+  module _ {V : Type 0} (origin : V → Trace T) (history : V → List Record) where
+    -- where no pass is inside, the value is home, with that trace and history; else it is out
+    abbrev pub Stands : Trace T → List Record → List (maybe.Option (Option V)) → ℕ → Type 0
+    Stands t h homes inside =
+        ((value : V) × (homes ≡ some (Some value) ∷ []) × (origin value ≡ t) × (history value ≡ h) × (inside ≡ 0))
+        ⊎ ((homes ≡ none ∷ []) × (inside ≡ 1))
+
+    pub record Lawful (t : Trace T) (next serving : ℕ) (homes : List (maybe.Option (Option V))) (views : List (View T)) : Type 0 where
+      pub turns : InTurn standing_of next serving views
+      pub legal : IsLegalHistory t (history_of views)
+      pub below : tickets_below serving (history_of views) ≡ true
+      pub stands : Stands t (history_of views) homes (inside_of views)
+      pub knows : (i : ℕ) (v : View T) → get_elem? views i ≡ some v → Knows t (history_of views) v v.standing.phase
+
+    -- While the value is home its history is the records of all passes, in the order of their tickets: one legal history, which has handed out a prefix of what the value hands out
+    pub record IsFree (value : V) (views : List (View T)) : Type 0 where
+      pub whole : history value ≡ history_of views
+      pub legal : IsLegalHistory (origin value) (history value)
+      pub handed : IsPrefix (origin value) (history value)
+
+    -- each lawful state with the value home is such a one
+    abbrev pub FreeWhileHome : Type 0
+    FreeWhileHome = (t : Trace T) (next serving : ℕ) (homes : List (maybe.Option (Option V))) (views : List (View T)) (value : V)
+        → Lawful t next serving homes views → homes ≡ some (Some value) ∷ [] → IsFree value views
+
+    -- of two passes that are inside one is the other, and the value is out
+    abbrev pub AloneInside : Type 0
+    AloneInside = (t : Trace T) (next serving : ℕ) (homes : List (maybe.Option (Option V))) (views : List (View T)) (i j k n : ℕ) (v w : View T)
+        → Lawful t next serving homes views → get_elem? views i ≡ some v → get_elem? views j ≡ some w → v.standing.phase ≡ Inside k → w.standing.phase ≡ Inside n
+        → (j ≡ i) × (homes ≡ none ∷ [])

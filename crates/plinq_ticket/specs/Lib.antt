@@ -1,0 +1,10 @@
+pub mod Weights
+pub mod Turns
+pub mod TwoWords
+pub mod Refusals
+pub mod Shares
+pub mod Lawful
+pub mod Passes
+pub mod Steps
+pub mod Lending
+pub mod Finished

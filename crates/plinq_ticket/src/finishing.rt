@@ -1,0 +1,40 @@
+ghost use Rattle.std.specs.Prelude.{◌≡◌};
+ghost use Rattle.plinq_ticket.specs.Finished.{IsFinished};
+ghost use Rattle.plinq_ticket.specs.Passes.{IsPassOf};
+
+use crate::lock_fault::LockFault;
+use crate::pass::{Pass, Token};
+use crate::steps::{NEXT, SERVING, VALUE};
+use crate::ticket_lock::TicketLock;
+use plinq_keyed::Guarded;
+
+impl<V: Guarded> TicketLock<V> {
+    /// Takes the lock apart and gives the value back, where the pass has all its records.
+    ///
+    /// # Errors
+    ///
+    /// [`LockFault::Away`] where a pass waits or is inside, without the value; [`LockFault::Incomplete`] where records are
+    /// missing, since a pass was dropped or isn't joined, with the value.
+    pub fn finish(self, pass: Pass<V>) -> Result<V, (Option<V>, LockFault)>
+        requires { IsPassOf self pass }
+        ensures { IsFinished V.origin V.history pass result }
+    {
+        let TicketLock { table } = self;
+        let Token { seat, records } = pass;
+        let mut closed = table.close_with(seat);
+        let drawn = closed.word(NEXT);
+        let served = closed.word(SERVING);
+        let slot = closed.take(VALUE);
+        closed.free();
+        if served < drawn {
+            return Err((None, LockFault::Away));
+        }
+        let Some(value) = slot else { unreachable!() };
+        let all = value.records().len() as u64;
+        if records == all {
+            Ok(value)
+        } else {
+            Err((Some(value), LockFault::Incomplete { have: records, all }))
+        }
+    }
+}

@@ -1,0 +1,197 @@
+ghost use Rattle.plinq_ticket.specs.Passes.{IsPassOf};
+
+use crate::{LockFault, Pass, TicketLock, free_lock_has_handed_out_a_prefix, one_pass_is_inside};
+use notes::Notes;
+use plinq_keyed::Guarded;
+use std::process::Abort;
+use std::sync::Wait;
+use std::test::Fail;
+use std::thread;
+
+mod notes;
+
+// Tries to enter, and is refused.
+fn try_in_vain(
+    rt: &impl Abort,
+    lock: &TicketLock<Notes>,
+    pass: Pass<Notes>,
+) -> (Pass<Notes>, LockFault)
+    requires { IsPassOf lock.now pass }
+    ensures { IsPassOf lock.now result.0 }
+{
+    match lock.try_enter(pass) {
+        Err(refused) => refused,
+        Ok(held) => {
+            lock.leave(held);
+            panic!(rt; "entered")
+        }
+    }
+}
+
+// Enters, notes that it was there, and leaves. Answers the ticket.
+fn visit<R: Wait + Abort>(
+    rt: &R,
+    lock: &TicketLock<Notes>,
+    pass: Pass<Notes>,
+) -> (Pass<Notes>, Option<u64>)
+    requires { IsPassOf lock.now pass }
+    ensures { IsPassOf lock.now result.0 }
+{
+    match lock.enter(rt, pass) {
+        Err((pass, _)) => (pass, None),
+        Ok(mut held) => {
+            let ticket = held.ticket();
+            let noted = held.value_mut().close(ticket).is_ok();
+            let pass = lock.leave(held);
+            (pass, if noted { Some(ticket) } else { None })
+        }
+    }
+}
+
+// Enters a thousand times.
+fn visit_often<R: Wait + Abort>(rt: &R, lock: &TicketLock<Notes>, pass: Pass<Notes>) -> Pass<Notes>
+    requires { IsPassOf lock.now pass }
+    ensures { IsPassOf lock.now result }
+{
+    let mut pass = pass;
+    for _turn in 0..1000 {
+        pass = visit(rt, lock, pass).0;
+    }
+    pass
+}
+
+#[test]
+fn passes_enter_in_the_order_of_tickets(rt: HostRuntime) -> Result<(), Fail> {
+    let (lock, pass) = TicketLock::new(rt.alloc(), Notes::new(rt.alloc()))?;
+    let (first, second) = lock.split(pass);
+    let Ok(held) = lock.enter(&rt, first) else {
+        panic!(rt; "not entered");
+    };
+    assert_eq!(rt; held.ticket(), 0);
+    let (second, fault) = try_in_vain(&rt, &lock, second);
+    assert_eq!(rt;
+        fault,
+        LockFault::Busy {
+            served: 0,
+            drawn: 1
+        }
+    );
+    let first = lock.leave(held);
+    let Ok(held) = lock.try_enter(second) else {
+        panic!(rt; "busy with nobody there");
+    };
+    assert_eq!(rt; held.ticket(), 1);
+    assert!(rt; held.value().records().is_empty());
+    let second = lock.leave(held);
+    let pass = lock.join(first, second);
+    let Ok(notes) = lock.finish(pass) else {
+        panic!(rt; "not whole");
+    };
+    assert!(rt; notes.records().is_empty());
+    Ok(())
+}
+
+#[test]
+fn the_last_ticket_is_drawn_once(rt: HostRuntime) -> Result<(), Fail> {
+    let notes = Notes::new(rt.alloc());
+    let (lock, pass) = TicketLock::with_first_ticket(rt.alloc(), notes, 4611686018427387903)?;
+    let (pass, ticket) = visit(&rt, &lock, pass);
+    assert_eq!(rt; ticket, Some(4611686018427387903));
+    let (pass, fault) = match lock.enter(&rt, pass) {
+        Err(refused) => refused,
+        Ok(held) => {
+            lock.leave(held);
+            panic!(rt; "a ticket behind the last")
+        }
+    };
+    assert_eq!(rt; fault, LockFault::Spent);
+    let (pass, fault) = try_in_vain(&rt, &lock, pass);
+    assert_eq!(rt; fault, LockFault::Spent);
+    let Ok(notes) = lock.finish(pass) else {
+        panic!(rt; "not whole");
+    };
+    assert_eq!(rt; notes.records().len(), 1);
+    assert_eq!(rt; notes.records()[0].ticket, 4611686018427387903);
+    Ok(())
+}
+
+#[test]
+fn a_dropped_pass_takes_its_records_with_it(rt: HostRuntime) -> Result<(), Fail> {
+    let (lock, pass) = TicketLock::new(rt.alloc(), Notes::new(rt.alloc()))?;
+    let (first, second) = lock.split(pass);
+    let (first, _) = visit(&rt, &lock, first);
+    let (second, _) = visit(&rt, &lock, second);
+    drop(second);
+    let Err((notes, fault)) = lock.finish(first) else {
+        panic!(rt; "whole without one of two");
+    };
+    let Some(notes) = notes else {
+        panic!(rt; "away");
+    };
+    assert_eq!(rt; fault, LockFault::Incomplete { have: 1, all: 2 });
+    assert_eq!(rt; notes.records().len(), 2);
+    Ok(())
+}
+
+// Run with each allocation failing in turn.
+#[test]
+fn a_lock_that_is_refused_is_out_of_memory(rt: HostRuntime) {
+    match TicketLock::new(rt.alloc(), Notes::new(rt.alloc())) {
+        Err(fault) => assert_eq!(rt; fault, LockFault::Memory),
+        Ok((lock, pass)) => {
+            let (pass, _) = visit(&rt, &lock, pass);
+            assert!(rt; lock.finish(pass).is_ok());
+        }
+    }
+}
+
+#[test]
+fn two_threads_share_a_lock(rt: HostRuntime) -> Result<(), Fail> {
+    let (lock, pass) = TicketLock::new(rt.alloc(), Notes::new(rt.alloc()))?;
+    let (first, second) = lock.split(pass);
+    let shared = &lock;
+    let runtime = &rt;
+    let (first, second) = thread::join(
+        &rt,
+        || visit_often(runtime, shared, first),
+        || visit_often(runtime, shared, second),
+    );
+    let pass = lock.join(first, second);
+    let Ok(notes) = lock.finish(pass) else {
+        panic!(rt; "not whole");
+    };
+    assert_eq!(rt; notes.records().len(), 2000);
+    for (place, record) in notes.records().iter().enumerate() {
+        assert_eq!(rt; record.ticket, place as u64);
+    }
+    Ok(())
+}
+
+#[test]
+fn laws_can_be_called() {
+    free_lock_has_handed_out_a_prefix::<Notes>();
+    one_pass_is_inside::<Notes>();
+}
+
+#[test]
+fn faults_in_words(rt: HostRuntime) -> Result<(), Fail> {
+    for (fault, text) in [
+        (LockFault::Spent, "lock: tickets spent"),
+        (
+            LockFault::Busy {
+                served: 3,
+                drawn: 5,
+            },
+            "lock: busy, 3 served of 5 drawn",
+        ),
+        (
+            LockFault::Incomplete { have: 1, all: 2 },
+            "lock: incomplete, 1 records of 2",
+        ),
+        (LockFault::Memory, "lock: out of memory"),
+        (LockFault::Away, "lock: away"),
+    ] {
+        assert_eq!(rt; format!(in rt.alloc(); "{fault}")?.as_str(), text);
+    }
+    Ok(())
+}
