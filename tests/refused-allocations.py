@@ -1,90 +1,98 @@
 #!/usr/bin/env python3
-"""Refuses each allocation of the program in turn, and looks at what it answers.
+"""Refuses each allocation of the program in turn, alone and with all after it, and looks at what it answers.
 
     python3 tests/refused-allocations.py
 
-The program runs on the first example under each command, with its first allocation refused, then its second, and so
-on until a run meets no refusal. Each run must end with status 5 and the line `plinq: out of memory`, or with the right
-answer. It wants a C compiler, for the few lines that refuse an allocation, and isn't part of the gate.
+Each run must end as it does with ample memory, or with status 5, the one line `plinq: out of memory` on standard error, and
+a beginning of the right output. A few lines of C, loaded before the C library, refuse the allocations.
 """
+import json
 import os
-import subprocess
-import sys
 import tempfile
 
-ROOT = os.path.dirname(os.path.dirname(os.path.abspath(__file__)))
-PROGRAM = os.path.join(ROOT, "crates", "plinq", "out", "plinq")
-DOCUMENT = open(os.path.join(ROOT, "examples", "add-one.json"), "rb").read()
+from support.program import PROGRAM, Outcome, Tests, build, run, shared_library
 
-REFUSING = """
-#define _GNU_SOURCE
-#include <dlfcn.h>
-#include <errno.h>
-#include <stdlib.h>
-#include <unistd.h>
-
-static long left;
-
-static int refused(void) {
-    if (left == 0) {
-        const char *at = getenv("REFUSE_AT");
-        left = at ? atol(at) : -1;
-    }
-    if (left < 0) return 0;
-    if (--left > 0) return 0;
-    left = -1;
-    errno = ENOMEM;
-    (void)!write(3, "!", 1);
-    return 1;
-}
-
-#define NEXT(name) static typeof(name) *next; if (!next) next = dlsym(RTLD_NEXT, #name)
-
-void *malloc(size_t n) { NEXT(malloc); return refused() ? 0 : next(n); }
-void *realloc(void *p, size_t n) { NEXT(realloc); return refused() ? 0 : next(p, n); }
-int posix_memalign(void **p, size_t a, size_t n) { NEXT(posix_memalign); return refused() ? ENOMEM : next(p, a, n); }
-void *aligned_alloc(size_t a, size_t n) { NEXT(aligned_alloc); return refused() ? 0 : next(a, n); }
-"""
+OUT_OF_MEMORY = b"plinq: out of memory\n"
 
 
-def outcome(words, shim=None, at=None):
-    """The status, output and errors of a run, and whether an allocation was refused."""
+def document(source, *steps, **more):
+    return json.dumps({"version": 1, "source": source, "query": [["as_ordered"], *steps], **more}).encode()
+
+
+LIST = {"list": [3, 1, 4]}
+ANSWERED = [
+    document(LIST, ["select", "add", 1]),
+    document({"list": list(range(40)), "refuse": 7}, ["filter", "even"]),
+    document({"text": "12 5\n-7 0 18"}, ["take_while", "above", -9]),
+    document({"text": "1 2 x"}),
+    document({"range": [1, 40]}, ["skip", 3], ["take", 20], growth=[1, 3, 512]),
+    document({"repeat": [5, 20]}, ["with_degree", 3]),
+    document({"list": [2, 3, 0, 5]}, ["select_many", "repeat", 30], ["select_many", "up_to"], ["take", 200]),
+    document({"list": [1, 65537]}, ["select_many", "up_to"]),
+    document({"list": [5, 0, 2]}, ["select", "into", 10]),
+    document({"list": [9223372036854775807]}, ["select", "add", 1]),
+]
+REFUSED = [
+    b'{"version":1,"source":{"list":[3,1,4]',
+    b"{}",
+    document(LIST, ["select", "add", 1]).replace(b'"version": 1', b'"version": 3'),
+    document({"list": [1.5]}),
+    document({"range": [9223372036854775807, 2]}),
+    document(LIST, growth=[0, 3, 512]),
+    document(LIST, ["take", 1], ["sort"]),
+    document(LIST, ["take", 1], ["as_ordered"]),
+]
+CASES = (
+    [(words, it) for it in ANSWERED for words in (["run", "--merge", "not"], ["run"], ["plan", "--workers", "2"], ["parts"])]
+    + [(["run", "--merge", "full"], ANSWERED[0]), (["seq"], ANSWERED[1]), (["seq", "--merge", "auto"], ANSWERED[6])]
+    + [(["run"], it) for it in REFUSED]
+    + [(words, ANSWERED[0]) for words in ([], ["walk"], ["run", "--workers", "0"], ["seq", "--merge", "some"], ["plan", "x"])]
+    + [(words, b"") for words in (["--help"], ["run", "--help"], ["help"])]
+)
+
+
+def refusing(words, given, shim, which, at):
+    """How a run ends whose allocations are refused so, and whether one was refused."""
     reading, writing = os.pipe()
-    env = dict(os.environ)
-    if shim:
-        env |= {"LD_PRELOAD": shim, "REFUSE_AT": str(at)}
-    run = subprocess.run([PROGRAM] + words, input=DOCUMENT, stdout=subprocess.PIPE, stderr=subprocess.PIPE,
-                         env=env, preexec_fn=lambda: os.dup2(writing, 3), close_fds=False)
+    env = os.environ | {"LD_PRELOAD": shim, which: str(at), "REFUSED_TO": str(writing)}
+    seen = run(words, given, PROGRAM, env=env, pass_fds=(writing,))
     os.close(writing)
     met = os.read(reading, 1)
     os.close(reading)
-    return (run.returncode, run.stdout, run.stderr), bool(met)
+    return seen, bool(met)
 
 
-def check(words, shim):
-    right, _ = outcome(words)
-    at = 0
-    refused = True
-    while refused:
-        at += 1
-        seen, refused = outcome(words, shim, at)
-        memory = seen[0] == 5 and seen[2] == b"plinq: out of memory\n"
-        assert seen == right or memory, (words, at, seen)
-    print(f"{' '.join(words)}: {at - 1} allocations, each refused once")
-    return at - 1
+def problem(seen, right):
+    """What is wrong with how a run ended that met a refusal, if anything is."""
+    if seen == right:
+        return None
+    if seen.status != 5 or seen.errors != OUT_OF_MEMORY:
+        return f"neither as with ample memory ({right}) nor out of memory: {seen}"
+    if not right.output.startswith(seen.output):
+        return f"what was written is no beginning of the right output ({right}): {seen}"
+    return None
 
 
 def main():
-    if not os.path.exists(PROGRAM):
-        subprocess.run([os.path.join(ROOT, "plinq"), "--help"], stdout=subprocess.DEVNULL, check=True)
+    build()
+    tests = Tests()
     with tempfile.TemporaryDirectory() as folder:
-        source, shim = os.path.join(folder, "refusing.c"), os.path.join(folder, "refusing.so")
-        with open(source, "w") as file:
-            file.write(REFUSING)
-        subprocess.run(["cc", "-O2", "-shared", "-fPIC", "-o", shim, source, "-ldl"], check=True)
-        counts = [check(words, shim) for words in (["run", "--merge", "not"], ["seq"], ["plan"], ["parts"])]
-    assert all(counts), "no allocation was refused"
+        shim = shared_library("refusing.c", folder)
+        for words, given in CASES:
+            right = run(words, given, PROGRAM)
+            for which in ("REFUSE_AT", "REFUSE_FROM"):
+                name = f"plinq {' '.join(words)} < {given.decode()[:70]!r}, {which}"
+                problems, memory, at, met = [], 0, 0, True
+                while met:
+                    at += 1
+                    seen, met = refusing(words, given, shim, which, at)
+                    why = problem(seen, right)
+                    problems += [f"={at}: {why}"] if why else []
+                    memory += seen.errors == OUT_OF_MEMORY
+                tests.check(name, not problems, f"{len(problems)} of {at}; the first is {problems[:1]}")
+                tests.check(f"{name}: an allocation was refused", at > 1 and memory > 0, f"{at - 1} refused, {memory} answered")
+    tests.end()
 
 
 if __name__ == "__main__":
-    sys.exit(main())
+    main()

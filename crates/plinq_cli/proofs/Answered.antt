@@ -1,19 +1,27 @@
 -- What was written for a document, once a step behind it has failed or the output is flushed.
-use Rattle.std.proofs.Common.{◌≡◌, ℕ, List, Option, Some, None, Result, Ok, Err, IfSome, refl, ap, sym, ◌∙◌, subst, inr}
+use Rattle.std.proofs.Common.{◌≡◌, true, false, ℕ, ℤ, ◌+◌, ◌^◌, ◌<◌, List, [], Some, None, Result, Ok, Err, IfSome, refl, ap, sym, ◌∙◌, subst, inl, inr, arith, length, replicate}
 use Rattle.std.specs.Io.KnownBytes.{Keeps}
+use Rattle.std.proofs.Math.ListN.{length-replicate}
 use Rattle.plinq_source.specs.declared.ending.Ending.{Ending}
+use Rattle.plinq_document.specs.Jobs.{JobView}
+use Rattle.plinq_document.specs.Document.{document_of}
+use Rattle.plinq_document.proofs.Reading.{document_of-long}
+use Rattle.plinq_document.specs.Results.{IfMeant}
+use Rattle.plinq_document.specs.declared.doc_fault.DocFault.{DocFault}
+use Rattle.plinq_document.specs.declared.doc_fault.DocFault.TheVariants.{TooLong, NotJson, Shape, Version, Source, Step, Memory as DocMemory, Growth}
+use Rattle.std.specs.Result.{IsErr}
+use Rattle.plinq_source.specs.Trace.{Trace}
+use Rattle.plinq_lines.specs.Written.{AppendsBeginning}
+use Rattle.plinq_lines.proofs.WrittenBytes.{Bytes, appends-kept, begins-all, begins-nothing}
 use Rattle.plinq_cli.specs.declared.command.Command.{Command}
-use Rattle.plinq_cli.specs.declared.settings.Settings.{Settings}
-use Rattle.plinq_cli.specs.declared.doc_fault.DocFault.{DocFault}
-use Rattle.plinq_cli.specs.declared.doc_fault.DocFault.TheVariants.{TooLong, NotJson, Shape, Version, Source, Step, Memory as DocMemory, Growth}
+use Rattle.plinq_cli.specs.declared.command.Command.TheVariants.{Run, Seq, Plan, Parts}
 use Rattle.plinq_cli.specs.declared.failure.Failure.{Failure}
-use Rattle.plinq_cli.specs.declared.failure.Failure.TheVariants.{Document, Memory, Write}
-use Rattle.plinq_cli.specs.Document.{JobView, document_of}
-use Rattle.plinq_cli.specs.Performed.{failure_of_document, AnswersDocument, PerformsWords, Shows}
-use Rattle.plinq_cli.specs.Arguments.{Refuses}
-use Rattle.clap.specs.declared.error.kind.ErrorKind.{ErrorKind}
-use Rattle.plinq_cli.specs.Results.{IfMeant}
-use Rattle.plinq_cli.proofs.WrittenBytes.{Bytes, appends-kept, begins-all, begins-nothing}
+use Rattle.plinq_cli.specs.declared.failure.Failure.TheVariants.{Document, Memory, Read, Write}
+use Rattle.plinq_cli.specs.Served.{IsAnswer, Serves, text}
+use Rattle.plinq_cli.specs.Performed.{Answers, AnswersMeaning, Flushes, failure_of_document, failure_of_input}
+use Rattle.plinq_cli.specs.declared.arguments.Arguments.{Arguments}
+use Rattle.plinq_cli.specs.declared.input_fault.InputFault.{InputFault}
+use Rattle.plinq_cli.specs.declared.input_fault.InputFault.TheVariants.{Read as InputRead, TooLong as InputTooLong, Memory as InputMemory}
 
 keeps-same : (a : Bytes) → Keeps a a
 keeps-same None = tt
@@ -25,74 +33,87 @@ keeps-keeps (Some xs) None c h k = absurd h
 keeps-keeps (Some xs) (Some ys) None h k = absurd k
 keeps-keeps (Some xs) (Some ys) (Some zs) h k = k ∙ h
 
--- out of memory before anything was written
-unwritten-memory : (command : Command) (meaning : Result JobView DocFault) (a : Bytes) → AnswersDocument command meaning a a (Err Memory)
-unwritten-memory command (Ok job) a = (begins-nothing a _, tt)
+-- where nothing was written before a failure, that is a beginning of whatever is to be written
+pub serves-nothing : (E : Type 0) (command : Command) (job : JobView) (a : Bytes) (e : E) → Serves {E = E} command job a a (Err e)
+serves-nothing E Run job a e = (_, refl, begins-nothing a _, tt)
+serves-nothing E Seq job a e = (_, refl, begins-nothing a _, tt)
+serves-nothing E Plan job a e = (_, refl, begins-nothing a _, tt)
+serves-nothing E Parts job a e = (_, refl, begins-nothing a _, tt)
+
+-- a failure before anything was written, and one behind a beginning of the lines
+pub serves-unwritten : {E : Type 0} (command : Command) (job : JobView) (a : Bytes) (r : Result Ending E) → IsErr r → Serves command job a a r
+serves-unwritten command job a (Ok e) failed = let bad : false ≡ true = failed in cc
+serves-unwritten command job a (Err e) failed = serves-nothing _ command job a e
+
+pub serves-begun : {E : Type 0} (command : Command) (job : JobView) (a b : Bytes) (r : Result Ending E) (u : Trace ℤ) → IsErr r
+    → IsAnswer command job u → AppendsBeginning a b (text command job u) → Serves command job a b r
+serves-begun command job a b (Ok e) u failed is begun = let bad : false ≡ true = failed in cc
+serves-begun command job a b (Err e) u failed is begun = (u, is, begun, tt)
+
+-- out of memory, or a read that fails, before anything was written
+pub unwritten-memory : (command : Command) (meaning : Result JobView DocFault) (a : Bytes) → AnswersMeaning command meaning a a (Err Memory)
+unwritten-memory command (Ok job) a = (serves-nothing Failure command job a Memory, tt)
 unwritten-memory command (Err why) a = (keeps-same a, tt)
 
-unwritten-refused : (command : Command) (meaning : Result JobView DocFault) (a : Bytes) (e : DocFault) → meaning ≡ Err e
-    → AnswersDocument command meaning a a (Err (Document e))
-unwritten-refused command meaning a e is =
-    let P : Result JobView DocFault → Type 0 = λ m. AnswersDocument command m a a (Err (Document e)) in
-    subst P (sym is) (keeps-same a, refl)
-
-unwritten : (command : Command) (meaning : Result JobView DocFault) (a : Bytes) (e : DocFault) → IfMeant meaning e
-    → AnswersDocument command meaning a a (Err (failure_of_document e))
-unwritten command meaning a DocMemory h = unwritten-memory command meaning a
-unwritten command meaning a TooLong h = unwritten-refused command meaning a TooLong (h (λ is. cc))
-unwritten command meaning a NotJson h = unwritten-refused command meaning a NotJson (h (λ is. cc))
-unwritten command meaning a Shape h = unwritten-refused command meaning a Shape (h (λ is. cc))
-unwritten command meaning a Version h = unwritten-refused command meaning a Version (h (λ is. cc))
-unwritten command meaning a Source h = unwritten-refused command meaning a Source (h (λ is. cc))
-unwritten command meaning a (Growth why) h = unwritten-refused command meaning a (Growth why) (h (λ is. cc))
-unwritten command meaning a (Step at why) h = unwritten-refused command meaning a (Step at why) (h (λ is. cc))
+unwritten-read : (command : Command) (meaning : Result JobView DocFault) (a : Bytes) → AnswersMeaning command meaning a a (Err Read)
+unwritten-read command (Ok job) a = (serves-nothing Failure command job a Read, tt)
+unwritten-read command (Err why) a = (keeps-same a, tt)
 
 -- a document that is refused
-pub refused : (command : Command) (settings : Settings) (told : Bytes) (items : List ℕ) (a : Bytes) (r : Result Ending Failure) (x : Failure) (e : DocFault)
-    → r ≡ Err x → x ≡ failure_of_document e → IfMeant (document_of settings items) e → IfSome told (λ bytes. items ≡ bytes)
-    → IfSome told (λ bytes. AnswersDocument command (document_of settings bytes) a a r)
-refused command settings None items a r x e is from h same = tt
-refused command settings (Some bytes) items a r x e is from h same =
-    let P : Result Ending Failure → Type 0 = λ s. AnswersDocument command (document_of settings bytes) a a s in
-    subst P (sym (is ∙ ap Err from))
-    (unwritten command (document_of settings bytes) a e
-    (let Q : List ℕ → Type 0 = λ b. IfMeant (document_of settings b) e in subst Q same h))
+refused-as : (command : Command) (meaning : Result JobView DocFault) (a : Bytes) (e : DocFault) → meaning ≡ Err e → AnswersMeaning command meaning a a (Err (Document e))
+refused-as command meaning a e is =
+    let P : Result JobView DocFault → Type 0 = λ m. AnswersMeaning command m a a (Err (Document e)) in
+    subst P (sym is) (keeps-same a, refl)
+
+pub refused : (command : Command) (meaning : Result JobView DocFault) (a : Bytes) (e : DocFault) → IfMeant meaning e
+    → AnswersMeaning command meaning a a (Err (failure_of_document e))
+refused command meaning a DocMemory h = unwritten-memory command meaning a
+refused command meaning a TooLong h = refused-as command meaning a TooLong (h (λ is. cc))
+refused command meaning a NotJson h = refused-as command meaning a NotJson (h (λ is. cc))
+refused command meaning a Shape h = refused-as command meaning a Shape (h (λ is. cc))
+refused command meaning a Version h = refused-as command meaning a Version (h (λ is. cc))
+refused command meaning a Source h = refused-as command meaning a Source (h (λ is. cc))
+refused command meaning a (Growth why) h = refused-as command meaning a (Growth why) (h (λ is. cc))
+refused command meaning a (Step at why) h = refused-as command meaning a (Step at why) (h (λ is. cc))
+
+-- ---- an input that isn't read
+
+-- some text that is longer than this
+longer : (n : ℕ) → (bytes : List ℕ) × (n < length bytes)
+longer n = (replicate (n + 1) 0, omega (arith, length-replicate {A = ℕ} (n + 1) 0))
+
+too_long : (arguments : Arguments) (a : Bytes) (bytes : List ℕ) → 2 ^ 24 < length bytes
+    → AnswersMeaning arguments.command (document_of arguments.settings bytes) a a (Err (Document TooLong))
+too_long arguments a bytes long = refused-as arguments.command _ a TooLong (document_of-long arguments.settings bytes long)
+
+pub unread : (arguments : Arguments) (told a : Bytes) (e : InputFault) → (e ≡ InputTooLong → IfSome told (λ all. 2 ^ 24 < length all))
+    → Answers arguments told a a (Err (failure_of_input e))
+unread arguments None a InputRead long = ([], tt, unwritten-read arguments.command _ a)
+unread arguments (Some all) a InputRead long = (all, refl, unwritten-read arguments.command _ a)
+unread arguments None a InputMemory long = ([], tt, unwritten-memory arguments.command _ a)
+unread arguments (Some all) a InputMemory long = (all, refl, unwritten-memory arguments.command _ a)
+unread arguments None a InputTooLong long = let some = longer (2 ^ 24) in (some.0, tt, too_long arguments a some.0 some.1)
+unread arguments (Some all) a InputTooLong long = (all, refl, too_long arguments a all (long refl))
+
+-- ---- the output that is flushed
 
 kept : (command : Command) (meaning : Result JobView DocFault) (a b c : Bytes) (r : Result Ending Failure)
-    → AnswersDocument command meaning a b r → Keeps b c → AnswersDocument command meaning a c r
-kept command (Ok job) a b c (Ok e) h k = (appends-kept a b c _ h.0 k, h.1)
-kept command (Ok job) a b c (Err failure) h k = ((h.0.0, appends-kept a b c _ h.0.1 k), h.1)
+    → AnswersMeaning command meaning a b r → Keeps b c → AnswersMeaning command meaning a c r
+kept command (Ok job) a b c (Ok e) h k = ((h.0.0, h.0.1, appends-kept a b c _ h.0.2 k, h.0.3), tt)
+kept command (Ok job) a b c (Err failure) h k = ((h.0.0, h.0.1, (h.0.2.0, appends-kept a b c _ h.0.2.1 k), tt), h.1)
 kept command (Err why) a b c (Ok e) h k = h
 kept command (Err why) a b c (Err failure) h k = (keeps-keeps a b c h.0 k, h.1)
 
--- a flush that succeeds changes nothing
-pub flushed : (command : Command) (settings : Settings) (told a b c : Bytes) (r : Result Ending Failure)
-    → IfSome told (λ bytes. AnswersDocument command (document_of settings bytes) a b r) → Keeps b c
-    → IfSome told (λ bytes. AnswersDocument command (document_of settings bytes) a c r)
-flushed command settings None a b c r h k = tt
-flushed command settings (Some bytes) a b c r h k = kept command (document_of settings bytes) a b c r h k
+-- an answer of which the last of the output couldn't be written
+unkept : (command : Command) (meaning : Result JobView DocFault) (a b : Bytes) (e : Ending)
+    → AnswersMeaning command meaning a b (Ok e) → AnswersMeaning command meaning a b (Err Write)
+unkept command (Ok job) a b e h = ((h.0.0, h.0.1, begins-all a b _ h.0.2, tt), tt)
+unkept command (Err why) a b e h = absurd h
 
-unkept : (command : Command) (meaning : Result JobView DocFault) (a b c : Bytes) (e : Ending)
-    → AnswersDocument command meaning a b (Ok e) → Keeps b c → AnswersDocument command meaning a c (Err Write)
-unkept command (Ok job) a b c e h k = (begins-all a c _ (appends-kept a b c _ h.0 k), tt)
-unkept command (Err why) a b c e h k = absurd h
-
--- one that fails turns the answer into a failing write
-pub unflushed : (command : Command) (settings : Settings) (told a b c : Bytes) (e : Ending)
-    → IfSome told (λ bytes. AnswersDocument command (document_of settings bytes) a b (Ok e)) → Keeps b c
-    → IfSome told (λ bytes. AnswersDocument command (document_of settings bytes) a c (Err Write))
-unflushed command settings None a b c e h k = tt
-unflushed command settings (Some bytes) a b c e h k = unkept command (document_of settings bytes) a b c e h k
-
-pub flushed-failed : (command : Command) (settings : Settings) (told a b c : Bytes) (r : Result Ending Failure) (x failure : Failure) → r ≡ Err x → x ≡ failure
-    → IfSome told (λ bytes. AnswersDocument command (document_of settings bytes) a b (Err failure)) → Keeps b c
-    → IfSome told (λ bytes. AnswersDocument command (document_of settings bytes) a c r)
-flushed-failed command settings told a b c r x failure is from h k =
-    let P : Result Ending Failure → Type 0 = λ s. IfSome told (λ bytes. AnswersDocument command (document_of settings bytes) a c s) in
-    subst P (sym (is ∙ ap Err from)) (flushed command settings told a b c (Err failure) h k)
-
--- what is said of words that aren't taken
-pub shown : (told : Option (List ℕ)) (words : List (List ℕ)) (kind : ErrorKind) (old new : Bytes) (status : ℕ) → Refuses words kind → Shows kind old new status
-    → IfSome told (λ bytes. PerformsWords words bytes old new status)
-shown None words kind old new status refuses shows = tt
-shown (Some bytes) words kind old new status refuses shows = inr (kind, refuses, shows)
+pub flushed : (command : Command) (meaning : Result JobView DocFault) (a b c : Bytes) (r s : Result Ending Failure)
+    → AnswersMeaning command meaning a b r → Keeps b c → Flushes r s → AnswersMeaning command meaning a c s
+flushed command meaning a b c (Ok e) s h k (inl same) = subst (AnswersMeaning command meaning a c) (sym same) (kept command meaning a b c (Ok e) h k)
+flushed command meaning a b c (Ok e) s h k (inr failed) =
+    subst (AnswersMeaning command meaning a c) (sym failed) (unkept command meaning a c e (kept command meaning a b c (Ok e) h k))
+flushed command meaning a b c (Err failure) s h k same =
+    subst (AnswersMeaning command meaning a c) (sym same) (kept command meaning a b c (Err failure) h k)

@@ -1,10 +1,10 @@
 -- What the words of a command line ask for, from what `clap` found in them.
-use Rattle.std.proofs.Common.{◌≡◌, ◌∙◌, ℕ, ◌≤◌, List, [], ◌∷◌, Bool, true, false, Option, Some, None, Result, Ok, Err, is_some, map, refl, sym, ap, ap₂, subst, codes, inl, inr}
+use Rattle.std.proofs.Common.{◌≡◌, ◌∙◌, ℕ, ◌≤◌, List, [], ◌∷◌, Bool, true, false, Option, Some, None, Result, Ok, Err, is_some, map, refl, sym, ap, ap₂, subst, codes, inl, inr, arith}
 use Rattle.std.specs.Borrow.{Bor}
 use Rattle.std.specs.Prelude.{MatchResult, option_map, option_and_then, find, if◌then◌else◌}
 use Rattle.std.specs.List.{list_all}
 use Rattle.std.specs.Str.Parse.{ParsesUnsigned, digits_value, without_leading_plus}
-use Rattle.clap.specs.Words.{AddsSubcommand, App, HasKind, HasMatchesOf, IsAmong, Row, Shape, Text, app_of, fault_of, first_value, found_of, is_simple_and_free, is_simple, kind_of, one_of, one_text, rows_of, ReadsOne, subcommand_of, subcommand_rows_of, with_subcommand}
+use Rattle.clap.specs.Words.{AddsSubcommand, App, HasKind, HasMatchesOf, IsAmong, Row, Shape, Text, app_of, fault_of, first_value, found_of, is_simple_and_free, is_simple, kind_of, one_text, rows_of, ReadsOne, subcommand_of, subcommand_rows_of, with_subcommand}
 use Rattle.clap.specs.Kinds.{Kinds, check_kinds, or_else}
 use Rattle.clap.specs.Simple.{argument_words, built, rows_at, entered, label_of, names_of}
 use Rattle.clap.specs.Walk.{Held, Names, answers_to, finished, nothing_held, settled, stop_after, walk, walk_from}
@@ -17,9 +17,12 @@ use Rattle.clap.specs.declared.error.Error.{Error}
 use Rattle.clap.specs.declared.parser.matches.ArgMatches.{ArgMatches}
 use Rattle.clap.proofs.WalkLemmas.{both, first_value-rows, one_text-rows}
 use Rattle.clap.proofs.ValueTestLemmas.{accepts-Accepts, Accepts-accepts}
-use Rattle.plinq_cli.specs.Words.{beside}
-use Rattle.plinq_cli.specs.Steps.{merge_word}
-use Rattle.plinq_cli.specs.Arguments.{AddsItsShape, IsAsked, Refuses, TakesOnly, arguments_in, arguments_of, arguments_with, command_names, kinds_of, merge_of, merge_words, plinq_app, subcommand_app, with_command, workers_in, workers_of}
+use Rattle.plinq_document.specs.Words.{beside}
+use Rattle.plinq_document.specs.Steps.{merge_word}
+use Rattle.plinq_document.specs.Degrees.{degree_of}
+use Rattle.plinq_ops.specs.Query.{is_degree}
+use Rattle.std.proofs.lemmas.Bool.Decides.{nat_tests}
+use Rattle.plinq_cli.specs.Arguments.{AddsItsShape, IsAsked, Refuses, TakesOnly, arguments_in, arguments_of, arguments_with, command_names, kinds_of, merge_of, merge_words, plinq_app, with_command, workers_in, workers_of}
 use Rattle.plinq_cli.specs.declared.arguments.Arguments.{Arguments}
 use Rattle.plinq_cli.specs.declared.command.Command.{Command}
 
@@ -62,36 +65,33 @@ no_number E t e h = go (is_unsigned_in 1 64 t) refl
         absurd (h (a.0, a.1))
     go false is = refl
 
--- the number that was read is in the range, so it is the degree
-pub workers_some : (m : ArgMatches) (E : Type 0) (G : Text → Result ℕ E → Type 0) (r : Option ℕ) (n : ℕ)
+-- a number that was read is the degree, if it is one
+parsed : (E : Type 0) (t : Text) (n : ℕ) → ParsesUnsigned {E = E} 64 10 t (Ok n) → workers_in t ≡ degree_of n
+parsed E t n h = go (is_degree n) refl
+  where
+    go : (b : Bool) → is_degree n ≡ b → workers_in t ≡ (if b then Some n else None)
+    go true e =
+        let low : 1 ≤ n = grind (arith, nat_tests) in
+        let high : n ≤ 64 = grind (arith, nat_tests) in
+        in_range E t n h low high
+    go false e = out_of_range E t n h (λ low high. grind (arith, nat_tests))
+
+read_one : (E : Type 0) (G : Text → Result ℕ E → Type 0) (t : Text) (r : Option ℕ) → ((x : Result ℕ E) → G t x → ParsesUnsigned 64 10 t x)
+    → ReadsOne G t r → workers_in t ≡ option_and_then degree_of r
+read_one E G t None parses h = no_number E t h.0 (parses (Err h.0) h.1)
+read_one E G t (Some n) parses h = parsed E t n (parses (Ok n) h)
+
+-- the degree that is asked for, from what was read
+pub workers_read : (m : ArgMatches) (E : Type 0) (G : Text → Result ℕ E → Type 0) (r : Option ℕ)
     → ((t : Text) (x : Result ℕ E) → G t x → ParsesUnsigned 64 10 t x)
     → (one_text (found_of m) (codes "workers") ≡ None → r ≡ None)
     → ((t : Text) → one_text (found_of m) (codes "workers") ≡ Some t → ReadsOne G t r)
-    → r ≡ Some n → 1 ≤ n → n ≤ 64 → workers_of (rows_of (found_of m)) ≡ Some n
-workers_some m E G r n parses none value is low high = go (one_text (found_of m) (codes "workers")) refl
+    → workers_of (rows_of (found_of m)) ≡ option_and_then degree_of r
+workers_read m E G r parses none value = go (one_text (found_of m) (codes "workers")) refl
   where
-    go : (o : Option Text) → one_text (found_of m) (codes "workers") ≡ o → workers_of (rows_of (found_of m)) ≡ Some n
-    go None e =
-        let bad : Some n ≡ None = sym is ∙ none e in
-        cc
-    go (Some t) e =
-        let read : ReadsOne G t (Some n) = subst (λ (x : Option ℕ). ReadsOne G t x) is (value t e) in
-        text_read m (Some t) e ∙ in_range E t n (parses t (Ok n) read) low high
-
--- none was read, or one out of the range, so there is no degree
-pub workers_none : (m : ArgMatches) (E : Type 0) (G : Text → Result ℕ E → Type 0) (r : Option ℕ)
-    → ((t : Text) (x : Result ℕ E) → G t x → ParsesUnsigned 64 10 t x)
-    → ((t : Text) → one_text (found_of m) (codes "workers") ≡ Some t → ReadsOne G t r)
-    → ((n : ℕ) → r ≡ Some n → 1 ≤ n → n ≤ 64 → ⊥) → workers_of (rows_of (found_of m)) ≡ None
-workers_none m E G r parses value not_in = go (one_text (found_of m) (codes "workers")) refl
-  where
-    at : (t : Text) → one_text (found_of m) (codes "workers") ≡ Some t → (x : Option ℕ) → r ≡ x → ReadsOne G t x → workers_in t ≡ None
-    at t e None is h = no_number E t h.0 (parses t (Err h.0) h.1)
-    at t e (Some n) is h = out_of_range E t n (parses t (Ok n) h) (not_in n is)
-
-    go : (o : Option Text) → one_text (found_of m) (codes "workers") ≡ o → workers_of (rows_of (found_of m)) ≡ None
-    go None e = text_read m None e
-    go (Some t) e = text_read m (Some t) e ∙ at t e r refl (value t e)
+    go : (o : Option Text) → one_text (found_of m) (codes "workers") ≡ o → workers_of (rows_of (found_of m)) ≡ option_and_then degree_of r
+    go None e = text_read m None e ∙ sym (ap (option_and_then degree_of) (none e))
+    go (Some t) e = text_read m (Some t) e ∙ read_one E G t r (parses t) (value t e)
 
 -- ---- where `clap` takes the words, they ask for something
 
@@ -113,14 +113,14 @@ map_some f None is = is
 map_some f (Some x) is = refl
 
 abbrev has_name : Shape → Bool
-has_name s = is_some (beside command_names s.name)
+has_name s = is_some (beside (command_names []) s.name)
 
 abbrev Named : Option Shape → List Text → Type 0
 Named found words = is_some (option_map (λ s. rows_at s words) found) ≡ true
     → is_some (option_and_then arguments_in (option_map (λ s. rows_at s words) found)) ≡ true
 
 named_here : (s : Shape) (words : List Text) → has_name s ≡ true → Named (Some s) words
-named_here s words known is = map_some (arguments_with (rows_at s words).1) (beside command_names s.name) known
+named_here s words known is = map_some (arguments_with (rows_at s words).1) (beside (command_names []) s.name) known
 
 named : (subs : List Shape) (p : Shape → Bool) (words : List Text) → list_all has_name subs ≡ true → Named (find p subs) words
 named [] p words all = λ is. is
@@ -162,9 +162,9 @@ pub takes_only : (q : ValueParser) (names : Bor (List (Bor (List ℕ)))) → q �
 takes_only q names is words = subst (TakesOnly merge_words) (sym is) words
 
 -- one more subcommand
-pub added : (q : ValueParser) (old sub new : ClapCommand) (app : App) (name : Text) → AddsItsShape sub × (app_of sub ≡ subcommand_app q name)
-    → AddsSubcommand old sub new → app_of old ≡ app → app_of new ≡ with_command q app name
-added q old sub new app name has adds was = has.0 old new adds ∙ ap₂ with_subcommand was (ap (λ (a : App). a.top) has.1)
+pub added : (old sub new : ClapCommand) (app sub_app : App) → AddsItsShape sub × (app_of sub ≡ sub_app) → AddsSubcommand old sub new → app_of old ≡ app
+    → app_of new ≡ with_command app sub_app
+added old sub new app sub_app has adds was = has.0 old new adds ∙ ap₂ with_subcommand was (ap (λ (a : App). a.top) has.1)
 
 -- ---- the words, from a parse that succeeds and from one that fails
 
@@ -198,36 +198,3 @@ refused q app words r x e takes is fails err from =
       | inl memory ↦ inl memory
       | inr among ↦ inr (q, takes, subst (λ (a : App). IsAmong (kind_of e) (fault_of a words)) is among)
     ]
-
--- ---- the degree that is asked for
-
-workers_fit : (text : Text) (n : ℕ) → workers_in text ≡ Some n → (1 ≤ n) × (n ≤ 64)
-workers_fit text n is = go (is_unsigned_in 1 64 text) refl is
-  where
-    go : (b : Bool) → is_unsigned_in 1 64 text ≡ b → (if b then Some (digits_value 10 (without_leading_plus text)) else None) ≡ Some n → (1 ≤ n) × (n ≤ 64)
-    go true e h =
-        let a = accepts-Accepts false (parser.Unsigned 1 64) text e in
-        let same : digits_value 10 (without_leading_plus text) ≡ n = cc in
-        (rw same at a.2, rw same at a.3)
-    go false e h = cc
-
-rows_fit : (rows : List Row) (n : ℕ) → workers_of rows ≡ Some n → (1 ≤ n) × (n ≤ 64)
-rows_fit rows n is = go (one_of (codes "workers") rows) is
-  where
-    go : (o : Option Text) → option_and_then workers_in o ≡ Some n → (1 ≤ n) × (n ≤ 64)
-    go None h = cc
-    go (Some text) h = workers_fit text n h
-
--- it is from 1 to 64
-pub asked_fits : (words : List Text) (a : Arguments) → IsAsked words a → (n : ℕ) → a.settings.workers ≡ Some n → (1 ≤ n) × (n ≤ 64)
-asked_fits words a asked n is = met_fits (subcommand_of (plinq_app asked.0) words) asked.3
-  where
-    found_fits : (rows : List Row) (o : Option Command) → option_map (arguments_with rows) o ≡ Some a → (1 ≤ n) × (n ≤ 64)
-    found_fits rows None h = cc
-    found_fits rows (Some command) h =
-        let same : arguments_with rows command ≡ a = cc in
-        rows_fit rows n (ap (λ (x : Arguments). x.settings.workers) same ∙ is)
-
-    met_fits : (o : Option (Text × List Row)) → option_and_then arguments_in o ≡ Some a → (1 ≤ n) × (n ≤ 64)
-    met_fits None h = cc
-    met_fits (Some met) h = found_fits met.1 (beside command_names met.0) h

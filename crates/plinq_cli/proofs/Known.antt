@@ -1,5 +1,5 @@
 -- What reads do to the bytes that a reader tells.
-use Rattle.std.proofs.Common.{◌≡◌, ℕ, ◌<◌, List, [], ◌++◌, length, Option, Some, None, refl, ap, sym, subst, ◌∙◌, arith, append_assoc, append-nil, length-append}
+use Rattle.std.proofs.Common.{◌≡◌, ℕ, List, [], ◌++◌, Option, Some, None, refl, ap, sym, subst, ◌∙◌, append_assoc, append-nil}
 use Rattle.std.specs.Prelude.{IfSome}
 use Rattle.std.specs.Io.KnownBytes.{Consumes, IsAtEnd}
 
@@ -26,9 +26,3 @@ pub Consumes-end : (a b : Option (List ℕ)) (xs : List ℕ) → Consumes a b xs
 Consumes-end None b xs read end = tt
 Consumes-end (Some x) None xs read end = absurd read
 Consumes-end (Some x) (Some y) xs read end = sym (read ∙ ap (λ w. xs ++ w) end ∙ append-nil xs)
-
--- there are as many bytes as were read
-pub Consumes-length : (a b : Option (List ℕ)) (xs : List ℕ) (n : ℕ) → Consumes a b xs → n < length xs → IfSome a (λ told. n < length told)
-Consumes-length None b xs n read many = tt
-Consumes-length (Some x) None xs n read many = absurd read
-Consumes-length (Some x) (Some y) xs n read many = omega (arith, ap length read, length-append xs y)

@@ -11,8 +11,8 @@ use Rattle.clap.specs.declared.builder.value_parser.ValueParser.TheVariants as p
 use Rattle.clap.specs.declared.error.kind.ErrorKind.{ErrorKind}
 use Rattle.clap.specs.declared.error.kind.ErrorKind.TheVariants.{OutOfMemory}
 use Rattle.plinq_ops.specs.declared.merge_option.MergeOption.{MergeOption}
-use Rattle.plinq_cli.specs.Words.{beside}
-use Rattle.plinq_cli.specs.Steps.{merge_word}
+use Rattle.plinq_document.specs.Words.{beside}
+use Rattle.plinq_document.specs.Steps.{merge_word}
 use Rattle.plinq_cli.specs.declared.arguments.Arguments.{Arguments}
 use Rattle.plinq_cli.specs.declared.command.Command.{Command}
 use Rattle.plinq_cli.specs.declared.command.Command.TheVariants.{Run, Seq, Plan, Parts}
@@ -42,9 +42,22 @@ merge_rule words = record (new_rule (codes "merge")) {
   parser = Some words;
 }
 
--- a subcommand, which has the two options
+-- a subcommand of this name, which has the two options of the settings
 abbrev pub subcommand_app : ValueParser → Text → App
 subcommand_app words name = with_rule (with_rule (new_app name) workers_rule) (merge_rule words)
+
+-- the four, of which each may have further options
+abbrev pub run_app : ValueParser → App
+run_app words = subcommand_app words (codes "run")
+
+abbrev pub seq_app : ValueParser → App
+seq_app words = subcommand_app words (codes "seq")
+
+abbrev pub plan_app : ValueParser → App
+plan_app words = subcommand_app words (codes "plan")
+
+abbrev pub parts_app : ValueParser → App
+parts_app words = subcommand_app words (codes "parts")
 
 -- a command that adds all that it has as a subcommand of another
 abbrev pub AddsItsShape : ClapCommand → Type 0
@@ -55,18 +68,16 @@ abbrev pub bare_app : App
 bare_app = on_top (λ s. record s { disable_help_subcommand = true; subcommand_required = true }) (new_app (codes "plinq"))
 
 -- the program with one more subcommand
-abbrev pub with_command : ValueParser → App → Text → App
-with_command words app name = with_subcommand app (subcommand_app words name).top
+abbrev pub with_command : App → App → App
+with_command app sub = with_subcommand app sub.top
 
 -- the program with its four subcommands
 abbrev pub plinq_app : ValueParser → App
-plinq_app words =
-    with_command words (with_command words (with_command words (with_command words bare_app
-    (codes "run")) (codes "seq")) (codes "plan")) (codes "parts")
+plinq_app words = with_command (with_command (with_command (with_command bare_app (run_app words)) (seq_app words)) (plan_app words)) (parts_app words)
 
--- the commands by the names of the subcommands
-abbrev pub command_names : List (Text × Command)
-command_names = (codes "run", Run) ∷ (codes "seq", Seq) ∷ (codes "plan", Plan) ∷ (codes "parts", Parts) ∷ []
+-- the commands by the names of the subcommands, with what the matches of these ask for beside the settings: nothing yet
+abbrev pub command_names : List Row → List (Text × Command)
+command_names rows = (codes "run", Run) ∷ (codes "seq", Seq) ∷ (codes "plan", Plan) ∷ (codes "parts", Parts) ∷ []
 
 -- the number from 1 to 64 that a text writes
 abbrev pub workers_in : Text → Option ℕ
@@ -86,7 +97,7 @@ arguments_with rows command = record { command = command; settings = record { wo
 
 -- what a subcommand and its matches ask for
 abbrev pub arguments_in : Text × List Row → Option Arguments
-arguments_in met = option_map (arguments_with met.1) (beside command_names met.0)
+arguments_in met = option_map (arguments_with met.1) (beside (command_names met.1) met.0)
 
 -- what the words ask for
 abbrev pub arguments_of : ValueParser → List Text → Option Arguments

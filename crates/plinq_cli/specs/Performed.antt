@@ -1,24 +1,24 @@
 -- What the program does with a document, and the status that it ends with.
-use Rattle.std.specs.Prelude.{◌≡◌, ℕ, List, Option, Some, Result, Ok, Err, ⊤, ◌⊎◌}
-use Rattle.std.specs.Io.KnownBytes.{Keeps, Appends}
+use Rattle.std.specs.Prelude.{◌≡◌, ℕ, List, Option, Result, Ok, Err, IfSome, IfErr, MatchResult, ⊤, ◌⊎◌, refl}
+use Rattle.std.specs.Io.KnownBytes.{Keeps}
 use Rattle.clap.specs.declared.error.kind.ErrorKind.{ErrorKind}
 use Rattle.clap.specs.declared.error.kind.ErrorKind.TheVariants.{DisplayHelp, DisplayVersion, OutOfMemory}
 use Rattle.plinq_source.specs.declared.ending.Ending.{Ending}
 use Rattle.plinq_source.specs.declared.ending.Ending.TheVariants.{End, Refused, Fault}
+use Rattle.plinq_document.specs.Jobs.{JobView}
+use Rattle.plinq_document.specs.Document.{document_of}
+use Rattle.plinq_document.specs.declared.doc_fault.DocFault.{DocFault}
+use Rattle.plinq_document.specs.declared.doc_fault.DocFault.TheVariants.{TooLong, NotJson, Memory as DocMemory}
 use Rattle.plinq_cli.specs.declared.command.Command.{Command}
-use Rattle.plinq_cli.specs.declared.doc_fault.DocFault.{DocFault}
-use Rattle.plinq_cli.specs.declared.doc_fault.DocFault.TheVariants.{TooLong, Memory as DocMemory}
 use Rattle.plinq_cli.specs.declared.input_fault.InputFault.{InputFault}
 use Rattle.plinq_cli.specs.declared.input_fault.InputFault.TheVariants.{Read as InputRead, TooLong as InputTooLong, Memory as InputMemory}
 use Rattle.plinq_cli.specs.declared.serve_fault.ServeFault.{ServeFault}
 use Rattle.plinq_cli.specs.declared.serve_fault.ServeFault.TheVariants.{Memory as ServeMemory, Write as ServeWrite}
 use Rattle.plinq_cli.specs.declared.failure.Failure.{Failure}
 use Rattle.plinq_cli.specs.declared.failure.Failure.TheVariants.{Document, Memory, Read, Write}
-use Rattle.plinq_cli.specs.Document.{JobView, document_of}
 use Rattle.plinq_cli.specs.declared.arguments.Arguments.{Arguments}
 use Rattle.plinq_cli.specs.Arguments.{IsAsked, Refuses}
-use Rattle.plinq_cli.specs.Served.{answer_for, text}
-use Rattle.plinq_cli.specs.Written.{AppendsBeginning}
+use Rattle.plinq_cli.specs.Served.{Serves}
 
 abbrev pub failure_of_document : DocFault → Failure
 failure_of_document DocMemory = Memory
@@ -40,23 +40,24 @@ IfDocument P Memory = ⊤
 IfDocument P Read = ⊤
 IfDocument P Write = ⊤
 
--- what is written for a document that asks for a job: the text of its answer, or a beginning of it where something fails that isn't the document
-abbrev pub AnswersJob : Command → JobView → Option (List ℕ) → Option (List ℕ) → Result Ending Failure → Type 0
-AnswersJob command job old new (Ok e) =
-    Appends old new (text command job.query (answer_for command job.query job.source))
-    × ((answer_for command job.query job.source).ending ≡ Some e)
-AnswersJob command job old new (Err failure) =
-    AppendsBeginning old new (text command job.query (answer_for command job.query job.source)) × IfDocument (λ fault. ⊥) failure
-
 -- a document that is refused has no answer and no text, and the failure says why it is refused
 abbrev pub RefusesDocument : DocFault → Option (List ℕ) → Option (List ℕ) → Result Ending Failure → Type 0
 RefusesDocument why old new (Ok e) = ⊥
 RefusesDocument why old new (Err failure) = Keeps old new × IfDocument (λ fault. fault ≡ why) failure
 
--- what the program does with a document of this meaning
-abbrev pub AnswersDocument : Command → Result JobView DocFault → Option (List ℕ) → Option (List ℕ) → Result Ending Failure → Type 0
-AnswersDocument command (Ok job) old new r = AnswersJob command job old new r
-AnswersDocument command (Err why) old new r = RefusesDocument why old new r
+-- what the program does with a document of this meaning: it answers the job, and fails by nothing that the document is to blame for, or it refuses it
+abbrev pub AnswersMeaning : Command → Result JobView DocFault → Option (List ℕ) → Option (List ℕ) → Result Ending Failure → Type 0
+AnswersMeaning command (Ok job) old new r = Serves command job old new r × IfErr r (IfDocument (λ fault. ⊥))
+AnswersMeaning command (Err why) old new r = RefusesDocument why old new r
+
+-- what it does with the bytes that it reads: those of the reader, where this tells them
+abbrev pub Answers : Arguments → Option (List ℕ) → Option (List ℕ) → Option (List ℕ) → Result Ending Failure → Type 0
+Answers arguments told old new r =
+    (bytes : List ℕ) × IfSome told (λ all. bytes ≡ all) × AnswersMeaning arguments.command (document_of arguments.settings bytes) old new r
+
+-- what is answered once the output was flushed: a flush that fails is a failing write, and what failed before it is answered
+abbrev pub Flushes : Result Ending Failure → Result Ending Failure → Type 0
+Flushes before after = MatchResult before (λ e. (after ≡ Ok e) ⊎ (after ≡ Err Write)) (λ failure. after ≡ Err failure)
 
 -- the status: 0 at the end, 2 for a refused document, 3 for a refusal of the source, 4 for a fault, 5 for anything else
 abbrev pub failure_status : Failure → ℕ
@@ -75,10 +76,8 @@ status_of (Ok e) = ending_status e
 status_of (Err failure) = failure_status failure
 
 -- what was written and the status, where the words are these arguments: those of an answer of the document
-pub record Performs (arguments : Arguments) (bytes : List ℕ) (old new : Option (List ℕ)) (status : ℕ) : Type 0 where
-  pub answered : Result Ending Failure
-  pub meant : AnswersDocument arguments.command (document_of arguments.settings bytes) old new answered
-  pub status_is : status ≡ status_of answered
+abbrev pub Performs : Arguments → Option (List ℕ) → Option (List ℕ) → Option (List ℕ) → ℕ → Type 0
+Performs arguments told old new status = (r : Result Ending Failure) × Answers arguments told old new r × (status ≡ status_of r)
 
 -- what `clap` has to say: memory ran out, help is written, or the words are refused and nothing is written
 abbrev pub Shows : ErrorKind → Option (List ℕ) → Option (List ℕ) → ℕ → Type 0
@@ -87,8 +86,37 @@ Shows DisplayHelp old new status = (status ≡ 0) ⊎ (status ≡ 5)
 Shows DisplayVersion old new status = (status ≡ 0) ⊎ (status ≡ 5)
 Shows _ old new status = (status ≡ 2) × Keeps old new
 
--- what the program does on these words and bytes: the answer of the document for what the words ask for, or what `clap` has to say of the words
-abbrev pub PerformsWords : List (List ℕ) → List ℕ → Option (List ℕ) → Option (List ℕ) → ℕ → Type 0
-PerformsWords words bytes old new status =
-    ((arguments : Arguments) × IsAsked words arguments × Performs arguments bytes old new status)
+-- what the program does on these words and the reader's bytes: the answer of the document for what the words ask for, or what `clap` has to say of the words
+abbrev pub PerformsWords : List (List ℕ) → Option (List ℕ) → Option (List ℕ) → Option (List ℕ) → ℕ → Type 0
+PerformsWords words told old new status =
+    ((arguments : Arguments) × IsAsked words arguments × Performs arguments told old new status)
     ⊎ ((kind : ErrorKind) × Refuses words kind × Shows kind old new status)
+
+-- ---- worked rows
+
+pub at_the_end : status_of (Ok End) ≡ 0
+at_the_end = refl
+
+pub at_a_refused_document : status_of (Err (Document NotJson)) ≡ 2
+at_a_refused_document = refl
+
+pub at_a_refusal : status_of (Ok (Refused 7)) ≡ 3
+at_a_refusal = refl
+
+pub at_a_fault : status_of (Ok (Fault 1)) ≡ 4
+at_a_fault = refl
+
+pub at_want_of_memory : status_of (Err (failure_of_serve ServeMemory)) ≡ 5
+at_want_of_memory = refl
+
+pub at_want_of_memory_for_the_document : status_of (Err (failure_of_document DocMemory)) ≡ 5
+at_want_of_memory_for_the_document = refl
+
+pub at_a_failing_read : status_of (Err (failure_of_input InputRead)) ≡ 5
+at_a_failing_read = refl
+
+pub at_a_long_input : status_of (Err (failure_of_input InputTooLong)) ≡ 2
+at_a_long_input = refl
+
+pub at_a_failing_write : status_of (Err (failure_of_serve ServeWrite)) ≡ 5
+at_a_failing_write = refl

@@ -1,27 +1,38 @@
 -- What each command answers, and the text that it prints.
-use Rattle.std.specs.Prelude.{ℕ, ℤ, List, []}
+use Rattle.std.specs.Prelude.{◌≡◌, ℕ, ℤ, List, [], Option, Some, Result, IfOk}
+use Rattle.plinq_source.specs.declared.ending.Ending.{Ending}
 use Rattle.plinq_source.specs.declared.ending.Ending.TheVariants.{End}
 use Rattle.plinq_source.specs.Trace.{Trace, ended}
 use Rattle.plinq_lambda.specs.Formula.{formula_meaning}
-use Rattle.plinq_lambda.specs.declared.formula.Formula.{Formula}
-use Rattle.plinq_ops.specs.Query.{QueryView, merge_in_force, degree_in_force}
+use Rattle.plinq_ops.specs.Query.{merge_in_force, degree_in_force}
 use Rattle.plinq_ops.specs.Sequential.{answer_of}
+use Rattle.plinq_document.specs.Jobs.{JobView}
 use Rattle.plinq_cli.specs.declared.command.Command.{Command}
 use Rattle.plinq_cli.specs.declared.command.Command.TheVariants.{Run, Seq, Plan, Parts}
-use Rattle.plinq_cli.specs.Text.{answer_text}
-use Rattle.plinq_cli.specs.PlanText.{plan_text}
-use Rattle.plinq_cli.specs.PartsText.{parts_text}
+use Rattle.plinq_lines.specs.Text.{answer_text}
+use Rattle.plinq_lines.specs.PlanText.{plan_text}
+use Rattle.plinq_lines.specs.PartsText.{parts_text}
+use Rattle.plinq_lines.specs.Written.{Writes}
 
--- the answer of a command for a query over a source that has this whole trace
-abbrev pub answer_for : Command → QueryView Formula → Trace ℤ → Trace ℤ
-answer_for Run query t = answer_of formula_meaning query.ops t
-answer_for Seq query t = answer_of formula_meaning query.ops t
-answer_for Plan query t = ended [] End
-answer_for Parts query t = t
+-- the query's answer on one thread
+abbrev pub sequential_answer : JobView → Trace ℤ
+sequential_answer job = answer_of formula_meaning job.query.ops job.source
 
--- the lines of that answer
-abbrev pub text : Command → QueryView Formula → Trace ℤ → List ℕ
-text Run query u = answer_text (merge_in_force query.merge) u
-text Seq query u = answer_text (merge_in_force query.merge) u
-text Plan query u = plan_text query
-text Parts query u = parts_text (degree_in_force query.degree) u
+-- this is an answer of the command for the job: the query's, no items for `plan`, all that the source has for `parts`
+abbrev pub IsAnswer : Command → JobView → Trace ℤ → Type 0
+IsAnswer Run job u = u ≡ sequential_answer job
+IsAnswer Seq job u = u ≡ sequential_answer job
+IsAnswer Plan job u = u ≡ ended [] End
+IsAnswer Parts job u = u ≡ job.source
+
+-- the lines of an answer
+abbrev pub text : Command → JobView → Trace ℤ → List ℕ
+text Run job u = answer_text (merge_in_force job.query.merge) u
+text Seq job u = answer_text (merge_in_force job.query.merge) u
+text Plan job u = plan_text job.query
+text Parts job u = parts_text (degree_in_force job.query.degree) u
+
+-- what was written for a job: the lines of an answer that has the ending that is told, or after a fault a beginning of such lines
+abbrev pub Serves : {E : Type 0} → Command → JobView → Option (List ℕ) → Option (List ℕ) → Result Ending E → Type 0
+Serves command job old new r =
+    (u : Trace ℤ) × IsAnswer command job u × Writes old new r (text command job u) × IfOk r (λ e. u.ending ≡ Some e)

@@ -1,19 +1,36 @@
 ghost use Rattle.std.specs.Prelude.{◌≡◌, map, option_and_then, IfOk, MatchResult};
 ghost use Rattle.std.specs.String.{string_bytes};
 ghost use Rattle.clap.specs.Words.{app_of, found_of, kind_of, rows_of, subcommand_rows_of};
-ghost use Rattle.plinq_cli.specs.Words.{beside};
+ghost use Rattle.plinq_document.specs.Words.{beside};
 ghost use Rattle.plinq_cli.specs.Arguments.{AddsItsShape, IsAsked, IsPlinq, Refuses, arguments_in, command_names, merge_of, subcommand_app, workers_of};
 
 use crate::command::Command;
-use crate::settings::Settings;
-use crate::step_call::merge_word;
 use clap::builder::ValueParser;
 use clap::error::ErrorKind;
 use clap::{Arg, ArgMatches};
+use plinq_document::{Degree, Settings, merge_word};
 use plinq_ops::MergeOption;
 use std::alloc::{AllocError, Global};
 
 static MERGE_WORDS: [&str; 4] = ["not", "auto", "full", "default"];
+
+/// What stands at the end of the program's help.
+const AFTER_HELP: &str =
+    r#"Each command takes --workers N, from 1 to 64, and --merge with one of these words:
+  not      a line for each element
+  auto     lines of 16 elements
+  full     one line of all elements, where there are any and the answer comes to its end
+  default  as auto
+
+Exit status:
+  0  the answer came to its end, or help was shown
+  2  the arguments or the document were refused
+  3  the source refused
+  4  a formula had a fault
+  5  memory ran out, or reading or writing failed
+
+Example, which prints 4, 2, 5 and end, a line each:
+  echo '{"version":1,"source":{"list":[3,1,4]},"query":[["as_ordered"],["select","add",1]]}' | plinq run --merge not"#;
 
 /// What a command line asks for.
 #[derive(Clone, Copy, Debug, PartialEq, Eq)]
@@ -44,6 +61,7 @@ fn command_line<'a>(alloc: Global) -> Result<clap::Command<'a>, AllocError>
     let merge = ValueParser::from(MERGE_WORDS.as_slice());
     clap::Command::new(alloc, "plinq")
         .about("Answers the query of a JSON document, which it reads from standard input")
+        .after_help(AFTER_HELP)
         .disable_help_subcommand(true)
         .subcommand_required(true)
         .subcommand(subcommand(alloc, "run", "Answers the query", merge)?)?
@@ -91,9 +109,8 @@ fn chosen(matches: &ArgMatches<'_>) -> Option<Arguments>
     ensures { result ≡ option_and_then arguments_in (subcommand_rows_of matches.now) }
 {
     let (name, options) = matches.subcommand()?;
-    let command = command_named(name)?;
     Some(Arguments {
-        command,
+        command: command_of(name, options)?,
         settings: Settings {
             workers: workers_of(options),
             merge: merge_of(options),
@@ -101,8 +118,9 @@ fn chosen(matches: &ArgMatches<'_>) -> Option<Arguments>
     })
 }
 
-fn command_named(name: &str) -> Option<Command>
-    ensures { result ≡ beside command_names name.now }
+// The command of this subcommand. None has options of its own yet.
+fn command_of(name: &str, _options: &ArgMatches<'_>) -> Option<Command>
+    ensures { result ≡ beside (command_names (rows_of (found_of _options.now))) name.now }
 {
     match name {
         "run" => Some(Command::Run),
@@ -113,14 +131,11 @@ fn command_named(name: &str) -> Option<Command>
     }
 }
 
-// `clap` has refused any number that isn't from 1 to 64.
-fn workers_of(options: &ArgMatches<'_>) -> Option<u64>
+// `clap` has refused any number that is no degree.
+fn workers_of(options: &ArgMatches<'_>) -> Option<Degree>
     ensures { result ≡ workers_of (rows_of (found_of options.now)) }
 {
-    match options.get_one::<u64>("workers") {
-        Some(n) if n >= 1 && n <= 64 => Some(n),
-        _ => None,
-    }
+    Degree::new(options.get_one::<u64>("workers")?)
 }
 
 fn merge_of(options: &ArgMatches<'_>) -> Option<MergeOption>

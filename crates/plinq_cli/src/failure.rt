@@ -1,9 +1,9 @@
 ghost use Rattle.std.specs.Prelude.{◌≡◌};
 ghost use Rattle.plinq_cli.specs.Performed.{failure_of_document, failure_of_input, failure_of_serve};
 
-use crate::doc_fault::DocFault;
 use crate::input_fault::InputFault;
 use crate::serve_fault::ServeFault;
+use plinq_document::DocFault;
 use thiserror::Error;
 
 /// Why the program has no answer. Its text is the line on standard error, behind the program's name.

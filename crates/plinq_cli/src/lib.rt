@@ -1,44 +1,31 @@
-//! The program's edge: from a JSON document to lines.
+//! The words of a command line and the bytes of a document give lines and a status.
+//!
+//! `read_arguments` says what the words ask for by `clap`'s rules, and `read_input` gives a reader's bytes. `serve` writes
+//! the lines of an answer of a job, whole or after a fault a beginning of them, and `perform` does all of it in turn: what
+//! it writes is that of the document of the bytes that it read, and its status that of the outcome. The document's meaning
+//! is `plinq_document`'s, the lines are `plinq_lines`'.
 #![tactic(auto)]
 
-mod any_source;
 mod arguments;
-mod bytes;
 mod command;
-mod doc_fault;
-mod document;
 mod failure;
-mod formulas;
-mod growth_counts;
 mod input;
 mod input_fault;
-mod job;
-mod lines;
-mod op_words;
-mod parts_lines;
+pub mod laws;
 mod performing;
-mod plan_lines;
 mod serve_fault;
 mod serving;
-mod settings;
-mod source_name;
-mod sources;
-mod step_call;
-mod step_name;
-mod steps;
-mod values;
-mod write_fault;
+#[cfg(test)]
+mod tests;
 
-pub use any_source::AnySource;
 pub use arguments::{Arguments, read_arguments};
 pub use command::Command;
-pub use doc_fault::{DocFault, StepFault};
-pub use document::read_document;
 pub use failure::Failure;
 pub use input::read_input;
 pub use input_fault::InputFault;
-pub use job::Job;
 pub use performing::perform;
+pub use plinq_document::{
+    AnySource, Degree, DocFault, Job, PlainSource, Settings, StepFault, read_document,
+};
 pub use serve_fault::ServeFault;
 pub use serving::serve;
-pub use settings::Settings;

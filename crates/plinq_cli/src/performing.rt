@@ -1,16 +1,16 @@
-ghost use Rattle.std.specs.Prelude.{◌≡◌, ◌≤◌, map, IfSome};
+ghost use Rattle.std.specs.Prelude.{◌≡◌, ◌≤◌, map};
 ghost use Rattle.std.specs.String.{string_bytes};
-ghost use Rattle.std.specs.Option.{ForSome};
-ghost use Rattle.plinq_cli.specs.Document.{document_of};
+ghost use Rattle.std.specs.Io.KnownBytes.{Keeps};
+ghost use Rattle.plinq_document.specs.Document.{document_of};
 ghost use Rattle.clap.specs.Words.{kind_of};
-ghost use Rattle.plinq_cli.specs.Performed.{AnswersDocument, Performs, PerformsWords, Shows, status_of, failure_status};
+ghost use Rattle.plinq_cli.specs.Performed.{Answers, AnswersMeaning, Flushes, Performs, PerformsWords, Shows, status_of, failure_status};
 
 use crate::arguments::{Arguments, read_arguments};
-use crate::document::read_document;
 use crate::failure::Failure;
 use crate::input::read_input;
 use crate::serving::serve;
 use clap::error::ErrorKind;
+use plinq_document::read_document;
 use plinq_source::Ending;
 use std::alloc::Global;
 use std::io::{Read, Write};
@@ -20,7 +20,9 @@ use std::io::{Read, Write};
 ///
 /// The status is 0 at the end of an answer and for help, 2 for refused arguments and documents, 3 where the source
 /// refused, 4 at a fault, and 5 where anything else failed. `out` is flushed before the status is answered, and a
-/// flush that fails is a failing write. What fails in writing to `err` changes nothing.
+/// flush that fails is a failing write, unless something has failed before. After a failing write `out` is left alone,
+/// so that a caller who lets go of what it still holds writes nothing behind the line of the failure. What fails in
+/// writing to `err` changes nothing.
 pub fn perform<R: AllocGlobal, I: Read, W: Write, E: Write>(
     rt: &R,
     words: Vec<String>,
@@ -30,10 +32,10 @@ pub fn perform<R: AllocGlobal, I: Read, W: Write, E: Write>(
 ) -> u8
     ensures status { result ≤ 5 }
 
-    // Where the reader tells its bytes: the answer of these for what the words ask for, or what `clap` shows of words
-    // that it doesn't take.
-    ensures written { IfSome (I.remaining reader.old) (λ bytes.
-        PerformsWords (map string_bytes words.items) bytes (W.contents out.old) (W.contents out.new) result) }
+    // The answer of the document for what the words ask for, or what `clap` shows of words that it doesn't take. Where
+    // the reader tells its bytes these are the document, else the document is of some bytes.
+    ensures written { PerformsWords (map string_bytes words.items)
+        (I.remaining reader.old) (W.contents out.old) (W.contents out.new) result }
 {
     let alloc = rt.alloc();
     match read_arguments(alloc, words.as_slice()) {
@@ -50,48 +52,60 @@ fn perform_with<I: Read, W: Write, E: Write>(
     out: &mut W,
     err: &mut E,
 ) -> u8
-    requires { ForSome arguments.settings.workers (λ n. (1 ≤ n) × (n ≤ 64)) }
-    ensures status { result ≤ 5 }
-    ensures written { IfSome (I.remaining reader.old) (λ bytes.
-        Performs arguments bytes (W.contents out.old) (W.contents out.new) result) }
+    ensures { Performs arguments (I.remaining reader.old) (W.contents out.old) (W.contents out.new) result }
 {
     let answered = answer(alloc, arguments, reader, out);
     report(&answered, err)
 }
 
-// The answer of the document, flushed.
+// The answer of the document that is read, flushed.
 fn answer<I: Read, W: Write>(
     alloc: Global,
     arguments: Arguments,
     reader: &mut I,
     out: &mut W,
 ) -> Result<Ending, Failure>
-    requires { ForSome arguments.settings.workers (λ n. (1 ≤ n) × (n ≤ 64)) }
-    ensures { IfSome (I.remaining reader.old) (λ bytes. AnswersDocument arguments.command
-        (document_of arguments.settings bytes) (W.contents out.old) (W.contents out.new) result) }
-{
-    let answered = answer_unflushed(alloc, arguments, reader, out);
-    let flushed = out.flush();
-    let ending = answered?;
-    match flushed {
-        Ok(()) => Ok(ending),
-        Err(_) => Err(Failure::Write),
-    }
-}
-
-fn answer_unflushed<I: Read, W: Write>(
-    alloc: Global,
-    arguments: Arguments,
-    reader: &mut I,
-    out: &mut W,
-) -> Result<Ending, Failure>
-    requires { ForSome arguments.settings.workers (λ n. (1 ≤ n) × (n ≤ 64)) }
-    ensures { IfSome (I.remaining reader.old) (λ bytes. AnswersDocument arguments.command
-        (document_of arguments.settings bytes) (W.contents out.old) (W.contents out.new) result) }
+    ensures { Answers arguments (I.remaining reader.old) (W.contents out.old) (W.contents out.new) result }
 {
     let bytes = read_input(alloc, reader)?;
-    let job = read_document(alloc, bytes.as_slice(), arguments.settings)?;
+    let answered = answer_bytes(alloc, arguments, bytes.as_slice(), out);
+    flush(answered, out)
+}
+
+// The answer of the document of these bytes.
+fn answer_bytes<W: Write>(
+    alloc: Global,
+    arguments: Arguments,
+    bytes: &[u8],
+    out: &mut W,
+) -> Result<Ending, Failure>
+    ensures { AnswersMeaning arguments.command (document_of arguments.settings bytes.now)
+        (W.contents out.old) (W.contents out.new) result }
+{
+    let job = read_document(alloc, bytes, arguments.settings)?;
     Ok(serve(alloc, arguments.command, job, out)?)
+}
+
+// What is answered once the output is flushed.
+//
+// After a failing write nothing more may be written, so the output isn't flushed. What failed before a flush is answered
+// also where the flush fails.
+fn flush<W: Write>(answered: Result<Ending, Failure>, out: &mut W) -> Result<Ending, Failure>
+    ensures answer { Flushes answered result }
+    ensures bytes { Keeps (W.contents out.old) (W.contents out.new) }
+    ensures untouched { answered ≡ Err Failure.Write → out.new ≡ out.old }
+{
+    match answered {
+        Err(Failure::Write) => Err(Failure::Write),
+        Err(failure) => {
+            let _ = out.flush();
+            Err(failure)
+        }
+        Ok(ending) => match out.flush() {
+            Ok(()) => Ok(ending),
+            Err(_) => Err(Failure::Write),
+        },
+    }
 }
 
 // The status of an answer, and the line of a failure.
@@ -139,6 +153,3 @@ fn show_help<W: Write>(help: &clap::Error, out: &mut W) -> std::io::Result<()> {
     write!(out, "{help}")?;
     out.flush()
 }
-
-#[cfg(test)]
-mod tests;

@@ -1,7 +1,7 @@
 ghost use Rattle.std.specs.Prelude.{◌≡◌};
 ghost use Rattle.plinq_cli.specs.declared.serve_fault.ServeFault.TheVariants.{Memory, Write};
 
-use crate::write_fault::WriteFault;
+use plinq_lines::WriteFault;
 use plinq_source::OutOfMemory;
 use thiserror::Error;
 

@@ -1,23 +1,15 @@
-ghost use Rattle.std.specs.Prelude.{◌≡◌, ◌≤◌, IfOk, IfErr, Some};
-ghost use Rattle.plinq_ops.specs.Query.{degree_in_force};
+ghost use Rattle.std.specs.Prelude.{◌≡◌, ◌≤◌, IfOk, IfErr};
 ghost use Rattle.plinq_keyed.specs.Keys.{keyed_from, element_lists};
 ghost use Rattle.plinq_partition.specs.Cuts.{cuts};
 ghost use Rattle.plinq_source.specs.Trace.{ended};
-ghost use Rattle.plinq_cli.specs.PartsText.{parts_text};
-ghost use Rattle.plinq_source.specs.declared.ending.Ending.TheVariants.{End};
-ghost use Rattle.plinq_cli.specs.PlanText.{plan_text};
-ghost use Rattle.plinq_cli.specs.Served.{answer_for, text};
-ghost use Rattle.plinq_cli.specs.Written.{Writes};
+ghost use Rattle.plinq_cli.specs.Served.{Serves};
 
-use crate::any_source::AnySource;
 use crate::command::Command;
-use crate::job::Job;
-use crate::lines::write_answer;
-use crate::parts_lines::write_parts;
-use crate::plan_lines::write_plan;
 use crate::serve_fault::ServeFault;
+use plinq_document::{AnySource, Job};
 use plinq_keyed::Keyed;
 use plinq_lambda::Formula;
+use plinq_lines::{write_answer, write_parts, write_plan};
 use plinq_ops::{Query, sequential};
 use plinq_partition::{OrderablePartitioner, RangeParts};
 use plinq_source::{Ending, OutOfMemory, Source};
@@ -26,18 +18,19 @@ use std::io::Write;
 
 /// Answers a document's job as the command asks, and writes the lines of the answer.
 ///
-/// After a fault what was written is a beginning of these lines: after [`ServeFault::Write`] it has those of the
-/// batches that the writer took, and how much of the next one isn't said.
+/// After a fault what was written is a beginning of these lines; how long it is isn't said.
+///
+/// # Errors
+///
+/// [`ServeFault::Memory`] where there is no memory for the answer, and [`ServeFault::Write`] where the writer answers
+/// an error, or takes none of the bytes that it is given.
 pub fn serve<W: Write>(
     alloc: Global,
     command: Command,
     job: Job,
     writer: &mut W,
 ) -> Result<Ending, ServeFault>
-    requires { ⟦<AnySource as Source>⟧.given job.source ≡ 0 }
-    ensures written { let u = answer_for command job.query (⟦<AnySource as Source>⟧.whole job.source) in
-        Writes (W.contents writer.old) (W.contents writer.new) result (text command job.query u) }
-    ensures ending { IfOk result (λ e. (answer_for command job.query (⟦<AnySource as Source>⟧.whole job.source)).ending ≡ Some e) }
+    ensures { Serves command job (W.contents writer.old) (W.contents writer.new) result }
 {
     match command {
         Command::Run => serve_sequential(alloc, job, writer),
@@ -48,30 +41,27 @@ pub fn serve<W: Write>(
 }
 
 fn serve_sequential<W: Write>(alloc: Global, job: Job, writer: &mut W) -> Result<Ending, ServeFault>
-    requires { ⟦<AnySource as Source>⟧.given job.source ≡ 0 }
-    ensures written { let u = answer_for Command.Seq job.query (⟦<AnySource as Source>⟧.whole job.source) in
-        Writes (W.contents writer.old) (W.contents writer.new) result (text Command.Seq job.query u) }
-    ensures ending { IfOk result (λ e. (answer_for Command.Seq job.query (⟦<AnySource as Source>⟧.whole job.source)).ending ≡ Some e) }
+    ensures { Serves Command.Seq job (W.contents writer.old) (W.contents writer.new) result }
 {
-    let mut job = job;
-    let (items, ending) = sequential(alloc, &job.query, &mut job.source)?;
-    write_answer(writer, job.query.merge_option(), items.as_slice(), ending)?;
+    let Job {
+        query,
+        mut source,
+        ..
+    } = job;
+    let (items, ending) = sequential(alloc, &query, &mut source)?;
+    write_answer(writer, query.merge_option(), items.as_slice(), ending)?;
     Ok(ending)
 }
 
 fn serve_plan<W: Write>(job: &Job, writer: &mut W) -> Result<Ending, ServeFault>
-    ensures written { Writes (W.contents writer.old) (W.contents writer.new) result (plan_text job.now.query) }
-    ensures ending { IfOk result (λ e. e ≡ End) }
+    ensures { Serves Command.Plan job.now (W.contents writer.old) (W.contents writer.new) result }
 {
     write_plan(writer, &job.query)?;
     Ok(Ending::End)
 }
 
 fn serve_parts<W: Write>(alloc: Global, job: Job, writer: &mut W) -> Result<Ending, ServeFault>
-    requires { ⟦<AnySource as Source>⟧.given job.source ≡ 0 }
-    ensures written { let u = ⟦<AnySource as Source>⟧.whole job.source in
-        Writes (W.contents writer.old) (W.contents writer.new) result (parts_text (degree_in_force job.query.degree) u) }
-    ensures ending { IfOk result (λ e. (⟦<AnySource as Source>⟧.whole job.source).ending ≡ Some e) }
+    ensures { Serves Command.Parts job (W.contents writer.old) (W.contents writer.new) result }
 {
     let Job {
         query,

@@ -1,3 +1,4 @@
 pub mod Formula
 pub mod Meaning
 pub mod Short
+pub mod FaultRows

@@ -65,6 +65,8 @@ impl Lambda for Formula {
 
     ghost short = { formula_meaning-short };
 
+    // Inlined, as `test` is: they run for each item, and the call would cost more than the work.
+    #[inline(always)]
     fn map(&self, x: i64) -> Result<i64, u32> {
         match *self {
             Formula::Add(c) => x.checked_add(c).ok_or(Formula::OVERFLOW),
@@ -79,6 +81,7 @@ impl Lambda for Formula {
         }
     }
 
+    #[inline(always)]
     fn test(&self, x: i64) -> Result<bool, u32> {
         match *self {
             Formula::Below(c) => Ok(x < c),

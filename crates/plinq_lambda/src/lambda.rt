@@ -15,11 +15,19 @@ pub trait Lambda: Send + Sync + Drop {
     // The three functions that the methods compute.
     ghost meaning: { Self → Meaning Self.Item };
 
-    /// The element that stands in the place of this one, or the code of a fault.
+    /// The element that stands in the place of this one.
+    ///
+    /// # Errors
+    ///
+    /// The code of the lambda's fault.
     fn map(&self, x: Self::Item) -> Result<Self::Item, u32>
         ensures { result ≡ (meaning self.now).map x };
 
-    /// Whether the element passes, or the code of a fault.
+    /// Whether the element passes.
+    ///
+    /// # Errors
+    ///
+    /// The code of the lambda's fault.
     fn test(&self, x: Self::Item) -> Result<bool, u32>
         ensures { result ≡ (meaning self.now).test x };
 

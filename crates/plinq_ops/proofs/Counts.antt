@@ -1,13 +1,15 @@
 -- The counts with which the operators begin.
-use Rattle.std.specs.Prelude.{◌≡◌, ℕ, zero, suc, pos, negsuc, List, [], ◌∷◌, map, refl}
+use Rattle.std.specs.Prelude.{◌≡◌, ℕ, zero, suc, pos, negsuc, List, [], ◌∷◌, map, length, refl}
 use Rattle.std.specs.List.{list_any}
-use Rattle.std.proofs.Common.{arith}
+use Rattle.std.proofs.Common.{arith, ap, ◌∙◌}
 use Rattle.std.proofs.lemmas.Bool.Decides.{nat_tests}
 use Rattle.plinq_lambda.specs.Meaning.{Meaning}
 use Rattle.plinq_ops.specs.declared.op.Op.{Op}
 use Rattle.plinq_ops.specs.declared.op.Op.TheVariants.{Select, Filter, SelectMany, Take, Skip, TakeWhile, AsUnordered}
 use Rattle.plinq_ops.specs.Stage.{takes_none, some_takes_none}
 use Rattle.plinq_ops.specs.Operator.{stage_of, stages_of}
+use Rattle.plinq_ops.specs.ByKey.{passed_on, counts_at}
+use Rattle.plinq_ops.specs.Pipeline.{PipelineView, begun, stages}
 use Rattle.plinq_ops.specs.Feeding.{count_of, stage_left, stages_left, is_empty_take}
 
 stage_left-count_of : {L T : Type 0} (meaning : L → Meaning T) (op : Op L) → stage_left meaning op (count_of op) ≡ stage_of meaning op
@@ -27,8 +29,9 @@ stages_left-counts meaning (op ∷ ops) =
     let others = stages_left-counts meaning ops in
     cc
 
-pub stages_left-begun : {L T : Type 0} (meaning : L → Meaning T) (ops : List (Op L)) (counts : List ℕ) → counts ≡ map count_of ops → stages_left meaning ops counts ≡ stages_of meaning ops
-stages_left-begun meaning ops counts begun = rw begun (stages_left-counts meaning ops)
+-- which is what a new pipeline does
+pub stages-begun : {L T : Type 0} (meaning : L → Meaning T) (ops : List (Op L)) (p : PipelineView L) → p ≡ begun ops → stages meaning p ≡ stages_of meaning ops
+stages-begun meaning ops p is = ap (stages meaning) is ∙ stages_left-counts meaning ops
 
 takes_none-stage_of : {L T : Type 0} (meaning : L → Meaning T) (op : Op L) → is_empty_take op ≡ takes_none (stage_of meaning op)
 takes_none-stage_of meaning (Select f) = refl
@@ -48,3 +51,7 @@ some_takes_none-stages_of meaning (op ∷ ops) =
     let first = takes_none-stage_of meaning op in
     let others = some_takes_none-stages_of meaning ops in
     cc
+
+pub length-counts_at : {L : Type 0} (ops : List (Op L)) (n : ℕ) → length (counts_at ops n) ≡ length ops
+length-counts_at [] n = refl
+length-counts_at (op ∷ ops) n = ap suc (length-counts_at ops (passed_on op n))

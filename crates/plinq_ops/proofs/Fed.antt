@@ -3,13 +3,12 @@ use Rattle.std.specs.Prelude.{◌≡◌, List, [], ◌∷◌, ◌++◌, true, fa
 use Rattle.std.specs.Option.{option_or}
 use Rattle.std.proofs.Common.{sym, ◌∙◌, ap, append-nil, append_assoc}
 use Rattle.plinq_source.specs.declared.ending.Ending.{Ending}
-use Rattle.plinq_source.specs.declared.ending.Ending.TheVariants.{End}
 use Rattle.plinq_source.specs.Trace.{Trace, open_trace, ended, continued, followed}
-use Rattle.plinq_source.proofs.Followed.{trace_of, followed-ended}
-use Rattle.plinq_ops.specs.Stage.{Stage, apply, seq, behind, seq_behind, some_takes_none}
+use Rattle.plinq_source.proofs.Followed.{trace_of, followed-ended, followed-open_nil}
+use Rattle.plinq_ops.specs.Stage.{Stage, pieces, apply, seq, behind, seq_behind, some_takes_none}
 use Rattle.plinq_ops.specs.Feeding.{IsFed}
 use Rattle.plinq_ops.proofs.Stages.{seq-followed}
-use Rattle.plinq_ops.proofs.Open.{seq-nothing, seq_behind-nothing, seq_behind-followed, seq-ended_nil, some-where_open, seq_behind-open}
+use Rattle.plinq_ops.proofs.Open.{seq-nothing, seq_behind-nothing, seq_behind-followed, seq-ending_of_open, some-where_open, seq_behind-open}
 
 -- a trace that ends with no item
 pub fed-ending : {T : Type 0} (ss ss' : List (Stage T)) (out : List T) (e : Ending) → some_takes_none ss ≡ false → IsFed ss (ended [] e) out out ss' (Some e)
@@ -20,34 +19,17 @@ fed-ending ss ss' out e undecided =
       left = λ bad. absurd (cc);
     }
 
--- the operators but the first see this trace in the place of the item
-pub fed-through : {T : Type 0} (s s' : Stage T) (x : T) (t : Trace T) (ss ss' : List (Stage T)) (before after : List T) (e : Option Ending)
-    → apply s (open_trace (x ∷ [])) ≡ t → behind s 1 ≡ s' → IsFed ss t before after ss' e
-    → IsFed (s ∷ ss) (open_trace (x ∷ [])) before after (s' ∷ ss') e
-fed-through s s' x t ss ss' before after e is rest fed =
+-- the operators but the first see this trace in the place of the items
+pub fed-through : {T : Type 0} (s s' : Stage T) (xs : List T) (t : Trace T) (ss ss' : List (Stage T)) (before after : List T) (e : Option Ending)
+    → apply s (open_trace xs) ≡ t → behind s xs ≡ s' → IsFed ss t before after ss' e
+    → IsFed (s ∷ ss) (open_trace xs) before after (s' ∷ ss') e
+fed-through s s' xs t ss ss' before after e is rest fed =
     record {
       items = fed.items ∙ ap (λ u. before ++ (seq ss u).items) (sym is);
       told = fed.told ∙ ap (λ u. (seq ss u).ending) (sym is);
       left = λ goes_on.
-          let others : ss' ≡ seq_behind ss (apply s (open_trace (x ∷ []))) = fed.left goes_on ∙ ap (seq_behind ss) (sym is) in
+          let others : ss' ≡ seq_behind ss (apply s (open_trace xs)) = fed.left goes_on ∙ ap (seq_behind ss) (sym is) in
           cc;
-    }
-
--- the run ends behind this item
-pub fed-last : {T : Type 0} (x : T) (ss ss' ss'' : List (Stage T)) (before after : List T) (e : Option Ending)
-    → IsFed ss (open_trace (x ∷ [])) before after ss' e → IsFed ss (ended (x ∷ []) End) before after ss'' (option_or e (Some End))
-fed-last {T} x ss ss' ss'' before after e fed =
-    let left : List (Stage T) = seq_behind ss (open_trace (x ∷ [])) in
-    let through : seq ss (ended (x ∷ []) End) ≡ followed (seq ss (open_trace (x ∷ []))) (ended [] End) =
-    seq-followed ss (open_trace (x ∷ [])) (ended [] End) ∙ ap (followed (seq ss (open_trace (x ∷ [])))) (seq-ended_nil left) in
-    let items : (xs : List T) (o : Option Ending) → (continued xs o (ended [] End)).items ≡ xs = λ xs o. elim o as (λ v. (continued xs v (ended [] End)).items ≡ xs) [ None ↦ append-nil xs | Some f ↦ refl ] in
-    let ending : (xs : List T) (o : Option Ending) → (continued xs o (ended [] End)).ending ≡ option_or o (Some End) = λ xs o. elim o as (λ v. (continued xs v (ended [] End)).ending ≡ option_or v (Some End)) [ None ↦ refl | Some f ↦ refl ] in
-    let told : option_or e (Some End) ≡ (seq ss (ended (x ∷ []) End)).ending = ap (λ o. option_or o (Some End)) fed.told ∙ sym (ap (λ u. u.ending) through ∙ ending _ _) in
-    let ends : (o : Option Ending) → option_or o (Some End) ≡ None → ss'' ≡ seq_behind ss (ended (x ∷ []) End) = λ o. elim o as (λ v. option_or v (Some End) ≡ None → ss'' ≡ seq_behind ss (ended (x ∷ []) End)) [ None ↦ λ bad. absurd (cc) | Some f ↦ λ bad. absurd (cc) ] in
-    record {
-      items = fed.items ∙ ap (λ zs. before ++ zs) (sym (ap (λ u. u.items) through ∙ items _ _));
-      told = told;
-      left = ends e;
     }
 
 -- nothing was fed yet
@@ -79,6 +61,40 @@ pub undecided-left : {T : Type 0} (ss ss' : List (Stage T)) (a : Trace T) (befor
 undecided-left ss ss' a before after fed =
     ap some_takes_none (fed.left refl) ∙ some-where_open (seq_behind ss a) (seq_behind-open ss a (sym fed.told))
 
+-- the items end so: an operator that ended the run before has the last word
+pub fed-told : {T : Type 0} (xs : List T) (told : Option Ending) (ss ss' : List (Stage T)) (before after : List T) (e : Option Ending)
+    → IsFed ss (open_trace xs) before after ss' e → IsFed ss (trace_of xs told) before after ss' (option_or e told)
+fed-told xs None ss ss' before after None fed = fed
+fed-told xs None ss ss' before after (Some g) fed = fed
+fed-told {T} xs (Some f) ss ss' before after None fed =
+    let whole : ended (xs ++ []) f ≡ ended xs f = ap (λ zs. ended zs f) (append-nil xs) in
+    let answer : seq ss (ended xs f) ≡ ended (seq ss (open_trace xs)).items f =
+    ap (seq ss) (sym whole) ∙ seq-ending_of_open ss (open_trace xs) (seq ss (open_trace xs)).items f (ap (trace_of (seq ss (open_trace xs)).items) (sym fed.told)) in
+    record {
+      items = fed.items ∙ ap (λ u. before ++ u.items) (sym answer);
+      told = ap (λ u. u.ending) (sym answer);
+      left = λ bad. absurd (cc);
+    }
+fed-told {T} xs (Some f) ss ss' before after (Some g) fed =
+    let whole : ended (xs ++ []) f ≡ ended xs f = ap (λ zs. ended zs f) (append-nil xs) in
+    let answer : seq ss (ended xs f) ≡ seq ss (open_trace xs) =
+    ap (seq ss) (sym whole) ∙ seq-followed ss (open_trace xs) (ended [] f) ∙ followed-ended (seq ss (open_trace xs)) (seq (seq_behind ss (open_trace xs)) (ended [] f)) g (sym fed.told) in
+    record {
+      items = fed.items ∙ ap (λ u. before ++ u.items) (sym answer);
+      told = fed.told ∙ ap (λ u. u.ending) (sym answer);
+      left = λ bad. absurd (cc);
+    }
+
+-- what comes out stands behind other items
+pub fed-behind : {T : Type 0} (ss ss' : List (Stage T)) (t : Trace T) (before after : List T) (e : Option Ending)
+    → IsFed ss t [] after ss' e → IsFed ss t before (before ++ after) ss' e
+fed-behind ss ss' t before after e fed =
+    record {
+      items = ap (λ zs. before ++ zs) fed.items;
+      told = fed.told;
+      left = fed.left;
+    }
+
 -- a run that has ended stays as it is, whatever comes behind
 pub fed-ended_before : {T : Type 0} (ss ss' ss'' : List (Stage T)) (a b : Trace T) (before after : List T) (e : Option Ending) → is_some e ≡ true
     → IsFed ss a before after ss' e → IsFed ss (followed a b) before after ss'' e
@@ -94,3 +110,11 @@ fed-ended_before {T} ss ss' ss'' a b before after (Some e) ends fed =
 pub none-from_is_some : {A : Type 0} (o : Option A) → is_some o ≡ false → o ≡ None
 none-from_is_some None none = refl
 none-from_is_some (Some x) none = absurd (let bad : true ≡ false = none in cc)
+
+-- one piece more
+pub fed-piece : {T : Type 0} (piece : T → Trace T) (ss ss' ss'' : List (Stage T)) (xs : List T) (x : T) (t : Trace T) (before between after : List T) (e : Option Ending)
+    → IsFed (pieces piece ∷ ss) (open_trace xs) before between (pieces piece ∷ ss') None → piece x ≡ t → IsFed ss' t between after ss'' e
+    → IsFed (pieces piece ∷ ss) (open_trace (xs ++ x ∷ [])) before after (pieces piece ∷ ss'') e
+fed-piece piece ss ss' ss'' xs x t before between after e first is second =
+    fed-followed (pieces piece ∷ ss) (pieces piece ∷ ss') (pieces piece ∷ ss'') (open_trace xs) (open_trace (x ∷ [])) before between after e first
+    (fed-through (pieces piece) (pieces piece) (x ∷ []) t ss' ss'' between after e (followed-open_nil (piece x) ∙ is) refl second)

@@ -1,49 +1,69 @@
 -- Fragments glue to what the worker part gives for the whole, and chunks one behind another glue to the whole.
-use Rattle.std.specs.Prelude.{◌≡◌, ℕ, suc, ◌+◌, ◌≤◌, pos, List, [], ◌∷◌, ◌++◌, length, true, Option, Some, None, refl}
-use Rattle.std.specs.List.{list_all}
-use Rattle.std.proofs.Common.{sym, ◌∙◌, ap, arith}
+use Rattle.std.specs.Prelude.{◌≡◌, ℕ, suc, ◌+◌, ◌≤◌, pos, List, [], ◌∷◌, ◌++◌, length, true, false, Option, Some, None, refl}
+use Rattle.std.specs.List.{list_any}
+use Rattle.std.proofs.Common.{sym, ◌∙◌, ap, inl, inr, arith}
 use Rattle.std.proofs.lemmas.Bool.{lt-leb}
 use Rattle.plinq_source.specs.declared.ending.Ending.{Ending}
 use Rattle.plinq_source.specs.Trace.{Trace, open_trace, followed, continued}
-use Rattle.plinq_source.proofs.Followed.{trace_of, followed-followed}
+use Rattle.plinq_source.proofs.Followed.{trace_of, followed-ended, followed-followed}
 use Rattle.plinq_lambda.specs.Meaning.{Meaning}
 use Rattle.plinq_ops.specs.declared.op.Op.{Op}
-use Rattle.plinq_ops.specs.Stage.{Stage, apply, seq, seq_behind}
+use Rattle.plinq_ops.specs.Stage.{Stage, apply, seq, seq_behind, some_takes_none}
 use Rattle.plinq_ops.specs.Operator.{stage_of, stages_of}
 use Rattle.plinq_ops.specs.Sequential.{answer_of}
-use Rattle.plinq_ops.specs.Plan.{is_by_element, worker_part, after_part}
+use Rattle.plinq_ops.specs.declared.order.Order.{Order}
+use Rattle.plinq_ops.specs.Feeding.{is_empty_take}
+use Rattle.plinq_ops.specs.ByKey.{is_by_key, left_at}
+use Rattle.plinq_ops.specs.Plan.{known_at_source, worker_part, after_part}
 use Rattle.plinq_ops.specs.Fragment.{fragment_of, glued, glue}
 use Rattle.plinq_ops.specs.Chunk.{ChunkAnswer, before_answer, chunk_answer}
 use Rattle.plinq_ops.proofs.Stages.{seq-followed}
-use Rattle.plinq_ops.proofs.Open.{seq-nothing}
-use Rattle.plinq_ops.proofs.Parts.{worker-after, worker_part-by_element}
-use Rattle.plinq_ops.proofs.Worker.{worker-undecided, seq_behind-worker, fragment_at-worker}
+use Rattle.plinq_ops.proofs.Open.{none-or_ending, seq-nothing, some-where_open, seq_behind-open}
+use Rattle.plinq_ops.proofs.Counts.{some_takes_none-stages_of}
+use Rattle.plinq_ops.proofs.Parts.{worker-after, worker_part-by_key, parts-undecided}
+use Rattle.plinq_ops.proofs.ByKey.{fragment_of-keyed, left_at-next, left_at-start}
 
--- the glued fragments are the worker part on the whole
-pub glued-worker : {L T : Type 0} (meaning : L → Meaning T) (worker : List (Op L)) (key : ℕ) (xs : List T) (e : Option Ending)
-    → list_all is_by_element worker ≡ true → glued meaning worker key xs e ≡ seq (stages_of meaning worker) (trace_of xs e)
-glued-worker meaning worker key [] e each = sym (seq-nothing (stages_of meaning worker) e (worker-undecided meaning worker each))
-glued-worker {L} {T} meaning worker key (x ∷ xs) e each =
-    let ss : List (Stage T) = stages_of meaning worker in
-    let first : fragment_of meaning worker key x ≡ seq ss (open_trace (x ∷ [])) = fragment_at-worker meaning worker (pos key) (open_trace (x ∷ [])) each in
-    let rest : glued meaning worker (key + 1) xs e ≡ seq (seq_behind ss (open_trace (x ∷ []))) (trace_of xs e) =
-    glued-worker meaning worker (key + 1) xs e each ∙ ap (λ left. seq left (trace_of xs e)) (sym (seq_behind-worker meaning worker (open_trace (x ∷ [])) each)) in
-    ap (λ t. followed t (glued meaning worker (key + 1) xs e)) first
-    ∙ ap (followed (seq ss (open_trace (x ∷ [])))) rest
+-- the glued fragments of items from a key on are what is left of the operators there makes of them
+pub glued-keyed : {L T : Type 0} (meaning : L → Meaning T) (worker : List (Op L)) (key : ℕ) (xs : List T) (e : Option Ending) → is_by_key worker ≡ true → list_any is_empty_take worker ≡ false
+    → some_takes_none (left_at meaning worker (pos key)) ≡ false → glued meaning worker key xs e ≡ seq (left_at meaning worker (pos key)) (trace_of xs e)
+glued-keyed meaning worker key [] e keyed some undecided = sym (seq-nothing (left_at meaning worker (pos key)) e undecided)
+glued-keyed {L} {T} meaning worker key (x ∷ xs) e keyed some undecided =
+    let ss : List (Stage T) = left_at meaning worker (pos key) in
+    let first : Trace T = seq ss (open_trace (x ∷ [])) in
+    let rest : Trace T = seq (seq_behind ss (open_trace (x ∷ []))) (trace_of xs e) in
+    let others : followed first (glued meaning worker (key + 1) xs e) ≡ followed first rest =
+    elim (none-or_ending first.ending) [
+      | inl is_open ↦
+          let next = left_at-next meaning worker key x keyed some is_open in
+          let undecided_next : some_takes_none (left_at meaning worker (pos (key + 1))) ≡ false =
+          ap some_takes_none (sym next) ∙ some-where_open (seq_behind ss (open_trace (x ∷ []))) (seq_behind-open ss (open_trace (x ∷ [])) is_open) in
+          ap (followed first) (glued-keyed meaning worker (key + 1) xs e keyed some undecided_next ∙ ap (λ left. seq left (trace_of xs e)) (sym next))
+      | inr ends ↦ followed-ended first (glued meaning worker (key + 1) xs e) ends.0 ends.1 ∙ sym (followed-ended first rest ends.0 ends.1)
+    ] in
+    ap (λ t. followed t (glued meaning worker (key + 1) xs e)) (fragment_of-keyed meaning worker key x keyed some)
+    ∙ others
     ∙ sym (seq-followed ss (open_trace (x ∷ [])) (trace_of xs e))
 
-seq-append : {L T : Type 0} (meaning : L → Meaning T) (before after : List (Op L)) (t : Trace T)
+-- the glued fragments of a whole trace are what the operators make of it
+pub glue-keyed : {L T : Type 0} (meaning : L → Meaning T) (worker : List (Op L)) (t : Trace T) → is_by_key worker ≡ true → list_any is_empty_take worker ≡ false
+    → glue meaning worker t ≡ answer_of meaning worker t
+glue-keyed meaning worker t keyed some =
+    let all = left_at-start meaning worker in
+    glued-keyed meaning worker 0 t.items t.ending keyed some (ap some_takes_none all ∙ sym (some_takes_none-stages_of meaning worker) ∙ some)
+    ∙ ap (λ ss. seq ss t) all
+
+pub seq-append : {L T : Type 0} (meaning : L → Meaning T) (before after : List (Op L)) (t : Trace T)
     → seq (stages_of meaning (before ++ after)) t ≡ seq (stages_of meaning after) (seq (stages_of meaning before) t)
 seq-append meaning [] after t = refl
 seq-append meaning (op ∷ before) after t = seq-append meaning before after (apply (stage_of meaning op) t)
 
--- the split law: the operators' answer is the after part's answer on the glued fragments
-pub answer_of-split : {L T : Type 0} (meaning : L → Meaning T) (ops : List (Op L)) (t : Trace T)
-    → answer_of meaning ops t ≡ answer_of meaning (after_part ops) (glue meaning (worker_part ops) t)
-answer_of-split meaning ops t =
-    ap (λ both. answer_of meaning both t) (sym (worker-after ops))
-    ∙ seq-append meaning (worker_part ops) (after_part ops) t
-    ∙ ap (seq (stages_of meaning (after_part ops))) (sym (glued-worker meaning (worker_part ops) 0 t.items t.ending (worker_part-by_element ops)))
+-- the split law: the operators' answer is the after part's answer on the glued fragments of the worker part
+pub answer_of-split : {L T : Type 0} (meaning : L → Meaning T) (order : Order) (ops : List (Op L)) (t : Trace T) → list_any is_empty_take ops ≡ false
+    → answer_of meaning ops t ≡ answer_of meaning (after_part order ops) (glue meaning (worker_part order ops) t)
+answer_of-split meaning order ops t some =
+    ap (λ both. answer_of meaning both t) (sym (worker-after (known_at_source order) ops))
+    ∙ seq-append meaning (worker_part order ops) (after_part order ops) t
+    ∙ ap (seq (stages_of meaning (after_part order ops))) (sym (glue-keyed meaning (worker_part order ops) t (worker_part-by_key order ops) (parts-undecided order ops some).0))
 
 -- chunks one behind another glue to the whole
 pub glued-append : {L T : Type 0} (meaning : L → Meaning T) (worker : List (Op L)) (key : ℕ) (xs ys : List T) (e : Option Ending)

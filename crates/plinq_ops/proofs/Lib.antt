@@ -2,10 +2,17 @@ pub mod Stages
 pub mod Open
 pub mod Fed
 pub mod Through
+pub mod Joined
 pub mod Counts
 pub mod Answered
+pub mod Answers
 pub mod Parts
 pub mod Worker
 pub mod Glue
 pub mod Chunks
 pub mod Runs
+pub mod Batched
+pub mod ByKey
+pub mod Cut
+pub mod Rows
+pub mod Histories

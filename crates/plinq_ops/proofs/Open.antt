@@ -1,5 +1,5 @@
 -- Open answers: an answer stays open only while the trace is, and then what is left of the operators goes on from there.
-use Rattle.std.specs.Prelude.{◌≡◌, ℕ, zero, suc, ◌+◌, ◌-◌, List, [], ◌∷◌, length, take, nat_le, true, false, cond, ◌||◌, Option, Some, None, is_some, ◌⊎◌, refl}
+use Rattle.std.specs.Prelude.{◌≡◌, ℕ, zero, suc, ◌-◌, List, [], ◌∷◌, ◌++◌, length, take, nat_le, true, false, cond, ◌||◌, Option, Some, None, is_some, ◌⊎◌, refl}
 use Rattle.std.proofs.Common.{sym, ◌∙◌, ap, inl, inr, arith, length-append, append-nil}
 use Rattle.std.proofs.Math.Nat.{sub-zero}
 use Rattle.std.proofs.Math.Seq.{drop-nil}
@@ -32,9 +32,10 @@ pub is_some-seq : {T : Type 0} (ss : List (Stage T)) (t : Trace T) → is_some t
 is_some-seq [] t ends = ends
 is_some-seq (s ∷ ss) t ends = is_some-seq ss (apply s t) (is_some-apply s t ends)
 
-none-or_some : (e : Option Ending) → (e ≡ None) ⊎ (is_some e ≡ true)
-none-or_some None = inl refl
-none-or_some (Some e) = inr refl
+-- a trace is open or has an ending
+pub none-or_ending : (e : Option Ending) → (e ≡ None) ⊎ ((f : Ending) × (e ≡ Some f))
+none-or_ending None = inl refl
+none-or_ending (Some e) = inr (e, refl)
 
 not_none : {A : Type 0} (e : Option Ending) → is_some e ≡ true → e ≡ None → A
 not_none None is_ended is_open = absurd (let bad : false ≡ true = is_ended in cc)
@@ -43,16 +44,16 @@ not_none (Some e) is_ended is_open = absurd (cc)
 -- an open answer comes from an open trace
 pub open-from_seq : {T : Type 0} (ss : List (Stage T)) (t : Trace T) → (seq ss t).ending ≡ None → t.ending ≡ None
 open-from_seq ss t is_open =
-    elim (none-or_some t.ending) [
+    elim (none-or_ending t.ending) [
       | inl e ↦ e
-      | inr ends ↦ not_none (seq ss t).ending (is_some-seq ss t ends) is_open
+      | inr ends ↦ not_none (seq ss t).ending (is_some-seq ss t (ap is_some ends.1)) is_open
     ]
 
-open-from_continued : {T : Type 0} (xs : List T) (e : Option Ending) (b : Trace T) → (continued xs e b).ending ≡ None → e ≡ None
+pub open-from_continued : {T : Type 0} (xs : List T) (e : Option Ending) (b : Trace T) → (continued xs e b).ending ≡ None → e ≡ None
 open-from_continued xs None b is_open = refl
 open-from_continued xs (Some e) b is_open = is_open
 
-open_behind : {T : Type 0} (xs : List T) (e : Option Ending) (b : Trace T) → e ≡ None → (continued xs e b).ending ≡ None → b.ending ≡ None
+pub open_behind : {T : Type 0} (xs : List T) (e : Option Ending) (b : Trace T) → e ≡ None → (continued xs e b).ending ≡ None → b.ending ≡ None
 open_behind xs None b first both = both
 open_behind xs (Some e) b first both = absurd (cc)
 
@@ -62,21 +63,24 @@ seq-open_before {T} ss a b is_open =
     let t : Trace T = seq (seq_behind ss a) b in
     open-from_continued (seq ss a).items (seq ss a).ending t (sym (ap (λ u. u.ending) (seq-followed ss a b)) ∙ is_open)
 
-pub behind-behind : {T : Type 0} (s : Stage T) (m n : ℕ) → behind (behind s m) n ≡ behind s (m + n)
-behind-behind (pieces piece) m n = refl
-behind-behind (taking k) m n = let e : (k - m) - n ≡ k - (m + n) = omega arith in ap taking e
-behind-behind (skipping k) m n = let e : (k - m) - n ≡ k - (m + n) = omega arith in ap skipping e
-behind-behind unchanged m n = refl
+less-less : {T : Type 0} (k : ℕ) (xs ys : List T) → (k - length xs) - length ys ≡ k - length (xs ++ ys)
+less-less k xs ys = omega (arith, length-append xs ys)
 
-pub behind-zero : {T : Type 0} (s : Stage T) → behind s 0 ≡ s
-behind-zero (pieces piece) = refl
-behind-zero (taking k) = ap taking (sub-zero k)
-behind-zero (skipping k) = ap skipping (sub-zero k)
-behind-zero unchanged = refl
+pub behind-behind : {T : Type 0} (s : Stage T) (xs ys : List T) → behind (behind s xs) ys ≡ behind s (xs ++ ys)
+behind-behind (pieces piece) xs ys = refl
+behind-behind (taking k) xs ys = ap taking (less-less k xs ys)
+behind-behind (skipping k) xs ys = ap skipping (less-less k xs ys)
+behind-behind unchanged xs ys = refl
 
-length-continued : {T : Type 0} (xs : List T) (e : Option Ending) (b : Trace T) → e ≡ None → length (continued xs e b).items ≡ length xs + length b.items
-length-continued xs None b is_open = length-append xs b.items
-length-continued xs (Some e) b is_open = absurd (cc)
+pub behind-nothing : {T : Type 0} (s : Stage T) → behind s [] ≡ s
+behind-nothing (pieces piece) = refl
+behind-nothing (taking k) = ap taking (sub-zero k)
+behind-nothing (skipping k) = ap skipping (sub-zero k)
+behind-nothing unchanged = refl
+
+pub items-continued : {T : Type 0} (xs : List T) (e : Option Ending) (b : Trace T) → e ≡ None → (continued xs e b).items ≡ xs ++ b.items
+items-continued xs None b is_open = refl
+items-continued xs (Some e) b is_open = absurd (cc)
 
 -- what is left behind two traces is what is left of what was left behind the first
 pub seq_behind-followed : {T : Type 0} (ss : List (Stage T)) (a b : Trace T) → (seq ss a).ending ≡ None
@@ -84,10 +88,10 @@ pub seq_behind-followed : {T : Type 0} (ss : List (Stage T)) (a b : Trace T) →
 seq_behind-followed [] a b is_open = refl
 seq_behind-followed (s ∷ ss) a b is_open =
     let first_open : a.ending ≡ None = open-from_seq (s ∷ ss) a is_open in
-    let first : behind s (length (followed a b).items) ≡ behind (behind s (length a.items)) (length b.items) =
-    ap (behind s) (length-continued a.items a.ending b first_open) ∙ sym (behind-behind s (length a.items) (length b.items)) in
-    let others : seq_behind ss (apply s (followed a b)) ≡ seq_behind (seq_behind ss (apply s a)) (apply (behind s (length a.items)) b) =
-    ap (seq_behind ss) (apply-followed s a b) ∙ seq_behind-followed ss (apply s a) (apply (behind s (length a.items)) b) is_open in
+    let first : behind s (followed a b).items ≡ behind (behind s a.items) b.items =
+    ap (behind s) (items-continued a.items a.ending b first_open) ∙ sym (behind-behind s a.items b.items) in
+    let others : seq_behind ss (apply s (followed a b)) ≡ seq_behind (seq_behind ss (apply s a)) (apply (behind s a.items) b) =
+    ap (seq_behind ss) (apply-followed s a b) ∙ seq_behind-followed ss (apply s a) (apply (behind s a.items) b) is_open in
     cc
 
 pub apply-nothing : {T : Type 0} (s : Stage T) (e : Option Ending) → takes_none s ≡ false → apply s (trace_of [] e) ≡ trace_of [] e
@@ -131,10 +135,10 @@ seq-takes_none (unchanged ∷ ss) none = seq-takes_none ss none
 pub seq_behind-nothing : {T : Type 0} (ss : List (Stage T)) → some_takes_none ss ≡ false → seq_behind ss (open_trace []) ≡ ss
 seq_behind-nothing [] some = refl
 seq_behind-nothing (s ∷ ss) some =
-    elim (takes_none s) as (λ v. v ≡ takes_none s → v || some_takes_none ss ≡ false → behind s 0 ∷ seq_behind ss (apply s (open_trace [])) ≡ s ∷ ss) [
+    elim (takes_none s) as (λ v. v ≡ takes_none s → v || some_takes_none ss ≡ false → behind s [] ∷ seq_behind ss (apply s (open_trace [])) ≡ s ∷ ss) [
       | true ↦ λ is bad. absurd (cc)
       | false ↦ λ is rest.
-          let same : behind s 0 ≡ s = behind-zero s in
+          let same : behind s [] ≡ s = behind-nothing s in
           let others : seq_behind ss (apply s (open_trace [])) ≡ ss =
           ap (seq_behind ss) (apply-nothing s None (sym is)) ∙ seq_behind-nothing ss rest in
           cc

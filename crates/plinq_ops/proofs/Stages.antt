@@ -78,7 +78,7 @@ taken-ended n xs e b = elim (nat_le n (length xs)) as (λ v. cond v (ended (take
 
 -- one operator on a trace behind an open or an ended one
 pub apply-continued : {T : Type 0} (s : Stage T) (xs : List T) (e : Option Ending) (b : Trace T)
-    → apply s (continued xs e b) ≡ followed (apply s (trace_of xs e)) (apply (behind s (length xs)) b)
+    → apply s (continued xs e b) ≡ followed (apply s (trace_of xs e)) (apply (behind s xs) b)
 apply-continued (pieces piece) xs None b = joined-append piece xs b.items b.ending
 apply-continued (pieces piece) xs (Some e) b = sym (followed-joined piece xs e (joined piece b.items b.ending))
 apply-continued (taking n) xs None b = taken-append n xs b
@@ -89,7 +89,7 @@ apply-continued unchanged xs None b = refl
 apply-continued unchanged xs (Some e) b = refl
 
 pub apply-followed : {T : Type 0} (s : Stage T) (a b : Trace T)
-    → apply s (followed a b) ≡ followed (apply s a) (apply (behind s (length a.items)) b)
+    → apply s (followed a b) ≡ followed (apply s a) (apply (behind s a.items) b)
 apply-followed s a b = apply-continued s a.items a.ending b
 
 -- the operators on a trace that follows another
@@ -97,4 +97,4 @@ pub seq-followed : {T : Type 0} (ss : List (Stage T)) (a b : Trace T)
     → seq ss (followed a b) ≡ followed (seq ss a) (seq (seq_behind ss a) b)
 seq-followed [] a b = refl
 seq-followed (s ∷ ss) a b =
-    ap (seq ss) (apply-followed s a b) ∙ seq-followed ss (apply s a) (apply (behind s (length a.items)) b)
+    ap (seq ss) (apply-followed s a b) ∙ seq-followed ss (apply s a) (apply (behind s a.items) b)

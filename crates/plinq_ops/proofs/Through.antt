@@ -11,7 +11,7 @@ use Rattle.plinq_lambda.specs.Meaning.{Meaning}
 use Rattle.plinq_ops.specs.declared.op.Op.{Op}
 use Rattle.plinq_ops.specs.Stage.{apply, behind, takes_none, some_takes_none}
 use Rattle.plinq_ops.specs.Feeding.{stage_left, stages_left, IsFed}
-use Rattle.plinq_ops.proofs.Fed.{fed-through, fed-last, fed-none, fed-ending}
+use Rattle.plinq_ops.proofs.Fed.{fed-through, fed-told, fed-none, fed-ending}
 
 -- an item x that has become y on its way through the first i operators: whatever the rest makes of y, all make of x,
 -- unless a Take before had its last item
@@ -32,7 +32,7 @@ pub record IsAt {L T : Type 0} (meaning : L → Meaning T) (ops : List (Op L)) (
   pub undecided : some_takes_none (stages_left meaning (drop (i + 1) ops) (drop (i + 1) left)) ≡ false
   pub passed : (t : Trace T) (count : ℕ) (rest : List ℕ) (after : List T) (e : Option Ending)
       → t ≡ apply (stage_left meaning op (get_or left i 0)) (open_trace (y ∷ []))
-      → stage_left meaning op count ≡ behind (stage_left meaning op (get_or left i 0)) 1
+      → stage_left meaning op count ≡ behind (stage_left meaning op (get_or left i 0)) (y ∷ [])
       → IsFed (stages_left meaning (drop (i + 1) ops) (drop (i + 1) left)) t out after (stages_left meaning (drop (i + 1) ops) rest) e
       → IsFed (stages_left meaning ops counts) (open_trace (x ∷ [])) before after (stages_left meaning ops (take i left ++ count ∷ rest)) (option_or e last)
 
@@ -89,14 +89,14 @@ at-op {L} {T} {meaning} {ops} {counts} {x} {before} {out} {i} {op} {left} {y} {l
       passed = λ t count' rest after e gives behind fed.
           through.goes_on (count' ∷ rest) after e
           (rw (here_op, here_left)
-          (fed-through (stage_left meaning op count) (stage_left meaning op count') y t (stages_left meaning (drop (i + 1) ops) (drop (i + 1) left))
+          (fed-through (stage_left meaning op count) (stage_left meaning op count') (y ∷ []) t (stages_left meaning (drop (i + 1) ops) (drop (i + 1) left))
           (stages_left meaning (drop (i + 1) ops) rest) out after e (sym gives) (sym behind) fed));
     }
 
 -- the operator gives one item
 pub through-item : {L T : Type 0} {meaning : L → Meaning T} {ops : List (Op L)} {counts : List ℕ} {x : T} {before out : List T} {i : ℕ} {op : Op L} {left : List ℕ} {y : T} {last : Option Ending}
     (y' : T) (count : ℕ) → IsAt meaning ops counts x before out i op left y last
-    → open_trace (y' ∷ []) ≡ apply (stage_left meaning op (get_or left i 0)) (open_trace (y ∷ [])) → stage_left meaning op count ≡ behind (stage_left meaning op (get_or left i 0)) 1
+    → open_trace (y' ∷ []) ≡ apply (stage_left meaning op (get_or left i 0)) (open_trace (y ∷ [])) → stage_left meaning op count ≡ behind (stage_left meaning op (get_or left i 0)) (y ∷ [])
     → IsThrough meaning ops counts x before out (i + 1) (set left i count) y' last
 through-item {L} {T} {meaning} {ops} {counts} {x} {before} {out} {i} {op} {left} y' count here gives behind =
     let behind_left : drop (i + 1) (set left i count) ≡ drop (i + 1) left = drop-set-lt (i + 1) left i count (omega arith) in
@@ -111,7 +111,7 @@ through-item {L} {T} {meaning} {ops} {counts} {x} {before} {out} {i} {op} {left}
 -- the operator gives its last item
 pub through-last : {L T : Type 0} {meaning : L → Meaning T} {ops : List (Op L)} {counts : List ℕ} {x : T} {before out : List T} {i : ℕ} {op : Op L} {left : List ℕ} {y : T} {last : Option Ending}
     (y' : T) (count : ℕ) → IsAt meaning ops counts x before out i op left y last
-    → ended (y' ∷ []) End ≡ apply (stage_left meaning op (get_or left i 0)) (open_trace (y ∷ [])) → stage_left meaning op count ≡ behind (stage_left meaning op (get_or left i 0)) 1
+    → ended (y' ∷ []) End ≡ apply (stage_left meaning op (get_or left i 0)) (open_trace (y ∷ [])) → stage_left meaning op count ≡ behind (stage_left meaning op (get_or left i 0)) (y ∷ [])
     → IsThrough meaning ops counts x before out (i + 1) (set left i count) y' (Some End)
 through-last {L} {T} {meaning} {ops} {counts} {x} {before} {out} {i} {op} {left} {y} {last} y' count here gives behind =
     let behind_left : drop (i + 1) (set left i count) ≡ drop (i + 1) left = drop-set-lt (i + 1) left i count (omega arith) in
@@ -121,13 +121,13 @@ through-last {L} {T} {meaning} {ops} {counts} {x} {before} {out} {i} {op} {left}
       goes_on = λ rest after e fed.
           rw (take_more_set left i count here.within, append_assoc (take i left) (count ∷ []) rest, ← or_some e End last)
           (here.passed (ended (y' ∷ []) End) count rest after (option_or e (Some End)) gives behind
-          (fed-last y' (stages_left meaning (drop (i + 1) ops) (drop (i + 1) left)) _ (stages_left meaning (drop (i + 1) ops) rest) out after e (rw behind_left at fed)));
+          (fed-told (y' ∷ []) (Some End) (stages_left meaning (drop (i + 1) ops) (drop (i + 1) left)) (stages_left meaning (drop (i + 1) ops) rest) out after e (rw behind_left at fed)));
     }
 
 -- the operator gives a list, which the operators behind it see
 pub through-items : {L T : Type 0} {meaning : L → Meaning T} {ops : List (Op L)} {counts : List ℕ} {x : T} {before out : List T} {i : ℕ} {op : Op L} {left : List ℕ} {y : T} {last : Option Ending}
     (ys : List T) (count : ℕ) (ops' : List (Op L)) (done left' rest : List ℕ) (after : List T) (e : Option Ending) → IsAt meaning ops counts x before out i op left y last
-    → open_trace ys ≡ apply (stage_left meaning op (get_or left i 0)) (open_trace (y ∷ [])) → stage_left meaning op count ≡ behind (stage_left meaning op (get_or left i 0)) 1
+    → open_trace ys ≡ apply (stage_left meaning op (get_or left i 0)) (open_trace (y ∷ [])) → stage_left meaning op count ≡ behind (stage_left meaning op (get_or left i 0)) (y ∷ [])
     → ops' ≡ drop (i + 1) ops → done ≡ take (i + 1) (set left i count) → left' ≡ drop (i + 1) (set left i count)
     → IsFed (stages_left meaning ops' left') (open_trace ys) out after (stages_left meaning ops' rest) e
     → IsFed (stages_left meaning ops counts) (open_trace (x ∷ [])) before after (stages_left meaning ops (done ++ rest)) (option_or e last)
@@ -150,7 +150,7 @@ set-parts left i count within = rw add-one (set_split left i count within)
 -- the operator gives nothing
 pub through-nothing : {L T : Type 0} {meaning : L → Meaning T} {ops : List (Op L)} {counts : List ℕ} {x : T} {before out : List T} {i : ℕ} {op : Op L} {left : List ℕ} {y : T} {last : Option Ending}
     (count : ℕ) → IsAt meaning ops counts x before out i op left y last
-    → open_trace [] ≡ apply (stage_left meaning op (get_or left i 0)) (open_trace (y ∷ [])) → stage_left meaning op count ≡ behind (stage_left meaning op (get_or left i 0)) 1
+    → open_trace [] ≡ apply (stage_left meaning op (get_or left i 0)) (open_trace (y ∷ [])) → stage_left meaning op count ≡ behind (stage_left meaning op (get_or left i 0)) (y ∷ [])
     → IsFed (stages_left meaning ops counts) (open_trace (x ∷ [])) before out (stages_left meaning ops (set left i count)) last
 through-nothing {L} {T} {meaning} {ops} {counts} {x} {before} {out} {i} {op} {left} count here gives behind =
     rw (set-parts left i count here.within)
@@ -159,9 +159,20 @@ through-nothing {L} {T} {meaning} {ops} {counts} {x} {before} {out} {i} {op} {le
 -- the operator ends the run
 pub through-ending : {L T : Type 0} {meaning : L → Meaning T} {ops : List (Op L)} {counts : List ℕ} {x : T} {before out : List T} {i : ℕ} {op : Op L} {left : List ℕ} {y : T} {last : Option Ending}
     (e : Ending) (count : ℕ) → IsAt meaning ops counts x before out i op left y last
-    → ended [] e ≡ apply (stage_left meaning op (get_or left i 0)) (open_trace (y ∷ [])) → stage_left meaning op count ≡ behind (stage_left meaning op (get_or left i 0)) 1
+    → ended [] e ≡ apply (stage_left meaning op (get_or left i 0)) (open_trace (y ∷ [])) → stage_left meaning op count ≡ behind (stage_left meaning op (get_or left i 0)) (y ∷ [])
     → IsFed (stages_left meaning ops counts) (open_trace (x ∷ [])) before out (stages_left meaning ops (set left i count)) (Some e)
 through-ending {L} {T} {meaning} {ops} {counts} {x} {before} {out} {i} {op} {left} e count here gives behind =
     let behind_ops = stages_left meaning (drop (i + 1) ops) (drop (i + 1) left) in
     rw (set-parts left i count here.within)
     (here.passed (ended [] e) count (drop (i + 1) left) out (Some e) gives behind (fed-ending behind_ops behind_ops out e here.undecided))
+
+-- what the first makes of the items goes on through those behind it
+pub through-first : {L T : Type 0} (meaning : L → Meaning T) (op : Op L) (ops ops' : List (Op L)) (left front back back' : List ℕ) (count : ℕ) (xs : List T) (t : Trace T) (before after : List T) (e : Option Ending)
+    → ops ≡ op ∷ ops' → length left ≡ length ops → front ≡ take 1 (set left 0 count) → back ≡ drop 1 (set left 0 count)
+    → t ≡ apply (stage_left meaning op (get_or left 0 0)) (open_trace xs) → stage_left meaning op count ≡ behind (stage_left meaning op (get_or left 0 0)) xs
+    → IsFed (stages_left meaning ops' back) t before after (stages_left meaning ops' back') e
+    → IsFed (stages_left meaning ops left) (open_trace xs) before after (stages_left meaning ops (front ++ back')) e
+through-first meaning op ops ops' [] front back back' count xs t before after e is counted first rest gives behind fed = absurd (omega (arith, counted, ap length is))
+through-first {L} {T} meaning op ops ops' (l ∷ left) front back back' count xs t before after e is counted first rest gives behind fed =
+    rw (is, first)
+    (fed-through (stage_left meaning op l) (stage_left meaning op count) xs t (stages_left meaning ops' left) (stages_left meaning ops' back') before after e (sym gives) (sym behind) (rw rest at fed))

@@ -56,6 +56,10 @@ seventeen = refl
 last_of_seventeen : batches AutoBuffered (ended (range_with_len 1 17) End) ≡ range_with_len 1 16 ∷ (17 ∷ []) ∷ []
 last_of_seventeen = refl
 
+-- the default is the same
+seventeen_by_default : batches Default (ended (range_with_len 1 17) End) ≡ range_with_len 1 16 ∷ (17 ∷ []) ∷ []
+seventeen_by_default = refl
+
 -- a trace that is still open gives its full batches alone
 seventeen_open : batches AutoBuffered (open_trace (range_with_len 1 17)) ≡ range_with_len 1 16 ∷ []
 seventeen_open = refl
@@ -63,9 +67,16 @@ seventeen_open = refl
 one_by_one : batches {T = ℕ} NotBuffered (ended (4 ∷ 2 ∷ []) (Refused 7)) ≡ (4 ∷ []) ∷ (2 ∷ []) ∷ []
 one_by_one = refl
 
+-- what was held back goes out at a fault as well
+held_back_at_fault : batches {T = ℕ} AutoBuffered (ended (4 ∷ 2 ∷ []) (Fault 1)) ≡ (4 ∷ 2 ∷ []) ∷ []
+held_back_at_fault = refl
+
 -- a fully buffered answer that doesn't end well gives nothing
 refused_full : batches {T = ℕ} FullyBuffered (ended (4 ∷ 2 ∷ []) (Refused 7)) ≡ []
 refused_full = refl
+
+fault_full : batches {T = ℕ} FullyBuffered (ended (4 ∷ 2 ∷ []) (Fault 1)) ≡ []
+fault_full = refl
 
 ended_full : batches {T = ℕ} FullyBuffered (ended (4 ∷ 2 ∷ []) End) ≡ (4 ∷ 2 ∷ []) ∷ []
 ended_full = refl

@@ -1,12 +1,12 @@
 -- What the worker part gives for a chunk.
-use Rattle.std.specs.Prelude.{◌≡◌, refl, ℕ, ◌+◌, List, [], ◌∷◌, ◌++◌, length, Bool, true, false, nat_lt, if◌then◌else◌, MatchBool, Option, Some, None, ⊤}
+use Rattle.std.specs.Prelude.{◌≡◌, refl, ℕ, pos, ◌+◌, List, [], ◌∷◌, ◌++◌, length, Bool, true, false, ◌==◌, nat_lt, if◌then◌else◌, MatchBool, Option, Some, None, ⊤}
 use Rattle.plinq_source.specs.declared.ending.Ending.{Ending}
 use Rattle.plinq_source.specs.declared.ending.Ending.TheVariants.{End, Refused, Fault}
 use Rattle.plinq_source.specs.Trace.{Trace, open_trace, ended}
 use Rattle.plinq_lambda.specs.Meaning.{Meaning}
 use Rattle.plinq_keyed.specs.declared.chunk.Chunk.{Chunk}
 use Rattle.plinq_ops.specs.declared.op.Op.{Op}
-use Rattle.plinq_ops.specs.declared.op.Op.TheVariants.{Select}
+use Rattle.plinq_ops.specs.declared.op.Op.TheVariants.{Select, Take}
 use Rattle.plinq_ops.specs.declared.fragments.FragEnd.{FragEnd}
 use Rattle.plinq_ops.specs.declared.fragments.FragEnd.TheVariants.{More, End as EndsHere, Fault as Faults, Dropped}
 use Rattle.plinq_ops.specs.declared.fragments.Fragment.{Fragment}
@@ -28,6 +28,10 @@ IsToldBy More e = e ≡ None
 IsToldBy EndsHere e = e ≡ Some End
 IsToldBy (Faults code) e = e ≡ Some (Fault code)
 IsToldBy Dropped e = ⊥
+
+-- nothing is told by Dropped: what was dropped isn't known
+dropped_tells_nothing : IsToldBy Dropped None ≡ ⊥
+dropped_tells_nothing = refl
 
 -- a fragment is this trace
 pub record IsFragment {T : Type 0} (t : Trace T) (f : Fragment T) : Type 0 where
@@ -69,6 +73,10 @@ stopped_by_a_fault = refl
 stopped_by_the_cut : chunk_answer {L = ℕ} (λ _. example) (Select 0 ∷ []) 7 7 (5 ∷ 0 ∷ 2 ∷ []) ≡ record { trace = open_trace (4 ∷ []); dropped = true; stop = Some 8 }
 stopped_by_the_cut = refl
 
+-- the element of key 2 is behind the last that is taken, and stops a chunk that begins with it
+stopped_behind_a_take : chunk_answer {L = ℕ} (λ _. example) (Take (pos 2) ∷ []) 9 2 (7 ∷ 8 ∷ []) ≡ record { trace = ended [] End; dropped = false; stop = Some 2 }
+stopped_behind_a_take = refl
+
 -- a result tells the answer of a chunk: its items, its ending and its stop, beside the chunk's first key, number of
 -- items and tail
 pub record IsChunkResult {L T : Type 0} (meaning : L → Meaning T) (worker : List (Op L)) (cut : ℕ) (chunk : Chunk T) (r : ChunkResult T) : Type 0 where
@@ -81,10 +89,25 @@ pub record IsChunkResult {L T : Type 0} (meaning : L → Meaning T) (worker : Li
   pub stop : r.stop ≡ (chunk_answer meaning worker cut chunk.first chunk.items.items).stop
   pub tail : r.tail ≡ chunk.tail
 
+-- how the run ended, as far as a fragment or a result tells
+abbrev pub run_ending : FragEnd → Option Ending
+run_ending More = None
+run_ending EndsHere = Some End
+run_ending (Faults code) = Some (Fault code)
+run_ending Dropped = None
+
+-- what a result gives
+abbrev pub result_trace : {T : Type 0} → ChunkResult T → Trace T
+result_trace r = record { items = r.items.items; ending = run_ending r.ending }
+
 -- what was told of a chunk's answer: where it stopped, and how it goes on
 abbrev pub IsStop : {T : Type 0} → ChunkAnswer T → Option Stop → Type 0
 IsStop a None = (a.stop ≡ None) × (a.dropped ≡ false) × (a.trace.ending ≡ None)
 IsStop a (Some s) = (a.stop ≡ Some s.key) × MatchBool a.dropped (s.ending ≡ Dropped) (IsToldBy s.ending a.trace.ending)
+
+-- where so many items stop whose first key stands behind the last item of a Take
+abbrev pub stop_over : ℕ → ℕ → ℕ → Option Stop
+stop_over cut key n = if n == 0 then None else Some (record { key = key; ending = if nat_lt cut key then Dropped else EndsHere })
 
 -- between `before` and `out` stand items behind which the answer of the rest gives the answer of all
 pub record BehindItems {T : Type 0} (before out : List T) (rest all : ChunkAnswer T) : Type 0 where

@@ -4,29 +4,21 @@ use Rattle.plinq_source.specs.declared.ending.Ending.{Ending}
 use Rattle.plinq_source.specs.Trace.{Trace}
 use Rattle.plinq_lambda.specs.Meaning.{Meaning}
 use Rattle.plinq_ops.specs.declared.op.Op.{Op}
-use Rattle.plinq_ops.specs.declared.op.Op.TheVariants.{Select, Filter, SelectMany, Take, Skip, TakeWhile, AsUnordered}
+use Rattle.plinq_ops.specs.declared.op.Op.TheVariants.{Take, Skip}
 use Rattle.plinq_ops.specs.Stage.{Stage, taking, skipping, seq, seq_behind}
 use Rattle.plinq_ops.specs.Operator.{stage_of, item_count}
 
 -- how many items a Take or a Skip counts off; the others count none
 abbrev pub count_of : {L : Type 0} → Op L → ℕ
-count_of (Select f) = 0
-count_of (Filter f) = 0
-count_of (SelectMany f) = 0
 count_of (Take n) = item_count n
 count_of (Skip n) = item_count n
-count_of (TakeWhile f) = 0
-count_of AsUnordered = 0
+count_of op = 0
 
 -- what an operator still does, where a Take or a Skip has so many items left
 abbrev pub stage_left : {L T : Type 0} → (L → Meaning T) → Op L → ℕ → Stage T
-stage_left meaning (Select f) count = stage_of meaning (Select f)
-stage_left meaning (Filter f) count = stage_of meaning (Filter f)
-stage_left meaning (SelectMany f) count = stage_of meaning (SelectMany f)
 stage_left meaning (Take n) count = taking count
 stage_left meaning (Skip n) count = skipping count
-stage_left meaning (TakeWhile f) count = stage_of meaning (TakeWhile f)
-stage_left meaning AsUnordered count = stage_of meaning AsUnordered
+stage_left meaning op count = stage_of meaning op
 
 abbrev pub stages_left : {L T : Type 0} → (L → Meaning T) → List (Op L) → List ℕ → List (Stage T)
 stages_left meaning [] counts = []
@@ -42,10 +34,5 @@ pub record IsFed {T : Type 0} (ss : List (Stage T)) (t : Trace T) (before after 
 
 -- a Take of at most 0
 abbrev pub is_empty_take : {L : Type 0} → Op L → Bool
-is_empty_take (Select f) = false
-is_empty_take (Filter f) = false
-is_empty_take (SelectMany f) = false
 is_empty_take (Take n) = item_count n == 0
-is_empty_take (Skip n) = false
-is_empty_take (TakeWhile f) = false
-is_empty_take AsUnordered = false
+is_empty_take op = false

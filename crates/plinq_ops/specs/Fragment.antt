@@ -5,7 +5,7 @@ use Rattle.plinq_source.specs.declared.ending.Ending.TheVariants.{End, Refused, 
 use Rattle.plinq_source.specs.Trace.{Trace, open_trace, ended, followed}
 use Rattle.plinq_lambda.specs.Meaning.{Meaning}
 use Rattle.plinq_ops.specs.declared.op.Op.{Op}
-use Rattle.plinq_ops.specs.declared.op.Op.TheVariants.{Select, Filter, SelectMany, Take, Skip, TakeWhile, AsUnordered}
+use Rattle.plinq_ops.specs.declared.op.Op.TheVariants.{Select, Take, Skip, TakeWhile}
 use Rattle.plinq_ops.specs.Stage.{apply}
 use Rattle.plinq_ops.specs.Operator.{stage_of, item_count, example}
 
@@ -24,23 +24,14 @@ skipped_at n p t = if int_lt p n then record { items = []; ending = t.ending } e
 
 -- an operator on what it sees of the element at a position
 abbrev pub apply_at : {L T : Type 0} → (L → Meaning T) → Op L → ℤ → Trace T → Trace T
-apply_at meaning (Select f) p t = apply (stage_of meaning (Select f)) t
-apply_at meaning (Filter f) p t = apply (stage_of meaning (Filter f)) t
-apply_at meaning (SelectMany f) p t = apply (stage_of meaning (SelectMany f)) t
 apply_at meaning (Take n) p t = taken_at (pos (item_count n)) p t
 apply_at meaning (Skip n) p t = skipped_at (pos (item_count n)) p t
-apply_at meaning (TakeWhile f) p t = apply (stage_of meaning (TakeWhile f)) t
-apply_at meaning AsUnordered p t = apply (stage_of meaning AsUnordered) t
+apply_at meaning op p t = apply (stage_of meaning op) t
 
 -- the position behind an operator: a Skip of n moves it back by n, also below 0
 abbrev pub position_behind : {L : Type 0} → Op L → ℤ → ℤ
-position_behind (Select f) p = p
-position_behind (Filter f) p = p
-position_behind (SelectMany f) p = p
-position_behind (Take n) p = p
 position_behind (Skip n) p = p -ℤ pos (item_count n)
-position_behind (TakeWhile f) p = p
-position_behind AsUnordered p = p
+position_behind op p = p
 
 -- the operators one after another on what they see of the element at a position
 abbrev pub fragment_at : {L T : Type 0} → (L → Meaning T) → List (Op L) → ℤ → Trace T → Trace T
@@ -75,6 +66,32 @@ last_taken = refl
 
 behind_the_last : example_fragment (Skip (pos 1) ∷ Take (pos 2) ∷ Select 0 ∷ []) 3 7 ≡ ended [] End
 behind_the_last = refl
+
+-- before the Skip has passed its number the position is below 0, where a Take is far from its last
+before_the_first : example_fragment (Skip (pos 1) ∷ Take (pos 1) ∷ []) 0 5 ≡ open_trace []
+before_the_first = refl
+
+-- neither a Skip nor a Take hides a fault
+fault_passed_over : example_fragment (Select 0 ∷ Skip (pos 1) ∷ []) 0 0 ≡ ended [] (Fault 1)
+fault_passed_over = refl
+
+fault_of_the_last : example_fragment (Select 0 ∷ Take (pos 1) ∷ []) 0 0 ≡ ended [] (Fault 1)
+fault_of_the_last = refl
+
+-- a TakeWhile and a Take leave the positions as they are
+behind_a_take_while : example_fragment (TakeWhile 0 ∷ Take (pos 2) ∷ []) 1 2 ≡ ended (2 ∷ []) End
+behind_a_take_while = refl
+
+behind_a_take : example_fragment (Take (pos 3) ∷ Skip (pos 1) ∷ []) 1 5 ≡ open_trace (5 ∷ [])
+behind_a_take = refl
+
+-- the element of key 0 is the first: it alone is taken, and the refusal isn't reached
+glued_to_the_last : glue {L = ℕ} (λ _. example) (Take (pos 1) ∷ []) (ended (4 ∷ 5 ∷ []) (Refused 7)) ≡ ended (4 ∷ []) End
+glued_to_the_last = refl
+
+-- a Take of more than there are leaves the refusal
+glued_to_the_refusal : glue {L = ℕ} (λ _. example) (Take (pos 3) ∷ []) (ended (4 ∷ 5 ∷ []) (Refused 7)) ≡ ended (4 ∷ 5 ∷ []) (Refused 7)
+glued_to_the_refusal = refl
 
 -- the fragments behind a fault are dropped, and so is the ending
 glued_to_a_fault : glue {L = ℕ} (λ _. example) (Select 0 ∷ []) (ended (5 ∷ 0 ∷ 2 ∷ []) (Refused 7)) ≡ ended (4 ∷ []) (Fault 1)

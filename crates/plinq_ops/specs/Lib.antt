@@ -2,9 +2,15 @@ pub mod Stage
 pub mod Operator
 pub mod Query
 pub mod Batches
+pub mod Answer
 pub mod Sequential
 pub mod Feeding
 pub mod Passing
+pub mod Pipeline
 pub mod Plan
 pub mod Fragment
+pub mod ByKey
+pub mod Cut
+pub mod Row
 pub mod Chunk
+pub mod AnswerRows

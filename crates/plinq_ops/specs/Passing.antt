@@ -1,7 +1,9 @@
 -- Passing: what one operator makes of one item.
-use Rattle.std.specs.Prelude.{[], ◌∷◌}
+use Rattle.std.specs.Prelude.{[], ◌∷◌, Bool, true, false}
 use Rattle.plinq_source.specs.declared.ending.Ending.TheVariants.{End}
 use Rattle.plinq_source.specs.Trace.{Trace, open_trace, ended}
+use Rattle.plinq_ops.specs.declared.op.Op.{Op}
+use Rattle.plinq_ops.specs.declared.op.Op.TheVariants.{SelectMany}
 use Rattle.plinq_ops.specs.declared.passing.Passed.{Passed}
 use Rattle.plinq_ops.specs.declared.passing.Passed.TheVariants.{Nothing, Item, Last, Items, Ends}
 
@@ -12,3 +14,8 @@ passed_trace (Item x) = open_trace (x ∷ [])
 passed_trace (Last x) = ended (x ∷ []) End
 passed_trace (Items xs) = open_trace xs.items
 passed_trace (Ends e) = ended [] e
+
+-- an operator that can give more items than it was given
+abbrev pub expands : {L : Type 0} → Op L → Bool
+expands (SelectMany f) = true
+expands op = false

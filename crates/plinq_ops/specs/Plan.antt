@@ -2,48 +2,72 @@
 use Rattle.std.specs.Prelude.{◌≡◌, refl, ℕ, pos, List, [], ◌∷◌, Bool, true, false, if◌then◌else◌}
 use Rattle.std.specs.List.{list_any}
 use Rattle.plinq_ops.specs.declared.op.Op.{Op}
-use Rattle.plinq_ops.specs.declared.op.Op.TheVariants.{Select, Filter, SelectMany, Take, Skip, TakeWhile, AsUnordered}
+use Rattle.plinq_ops.specs.declared.op.Op.TheVariants.{Select, Filter, Take, Skip, TakeWhile, AsUnordered}
 use Rattle.plinq_ops.specs.declared.order.Order.{Order}
 use Rattle.plinq_ops.specs.declared.order.Order.TheVariants.{ByKey, ByArrival}
+use Rattle.plinq_ops.specs.declared.known.Known.{Known}
+use Rattle.plinq_ops.specs.declared.known.Known.TheVariants.{Nothing, Position}
 use Rattle.plinq_ops.specs.declared.plan.Plan.{Plan}
 use Rattle.plinq_ops.specs.Query.{QueryView}
 use Rattle.plinq_ops.specs.Feeding.{is_empty_take}
-
--- an operator that looks at each element alone
-abbrev pub is_by_element : {L : Type 0} → Op L → Bool
-is_by_element (Select f) = true
-is_by_element (Filter f) = true
-is_by_element (SelectMany f) = true
-is_by_element (Take n) = false
-is_by_element (Skip n) = false
-is_by_element (TakeWhile f) = false
-is_by_element AsUnordered = false
-
--- the worker part: the longest prefix of operators that look at each element alone
-abbrev pub worker_part : {L : Type 0} → List (Op L) → List (Op L)
-worker_part [] = []
-worker_part (op ∷ ops) = if is_by_element op then op ∷ worker_part ops else []
-
--- the after part: the rest
-abbrev pub after_part : {L : Type 0} → List (Op L) → List (Op L)
-after_part [] = []
-after_part (op ∷ ops) = if is_by_element op then after_part ops else op ∷ ops
-
--- the workers take no Take, and nothing behind it
-worker_before_a_take : worker_part {L = ℕ} (Select 0 ∷ Take (pos 5) ∷ Filter 1 ∷ Take (pos 2) ∷ []) ≡ Select 0 ∷ []
-worker_before_a_take = refl
-
-after_from_a_take : after_part {L = ℕ} (Select 0 ∷ Take (pos 5) ∷ Filter 1 ∷ Take (pos 2) ∷ []) ≡ Take (pos 5) ∷ Filter 1 ∷ Take (pos 2) ∷ []
-after_from_a_take = refl
+use Rattle.plinq_ops.specs.ByKey.{can_apply, known_behind}
 
 -- an ordered query is merged by key, any other by arrival
 abbrev pub order_of : Bool → Order
 order_of true = ByKey
 order_of false = ByArrival
 
+-- what a worker may use of the source's elements: their keys, which are their positions, where the order is kept
+abbrev pub known_at_source : Order → Known
+known_at_source ByKey = Position
+known_at_source ByArrival = Nothing
+
+-- the longest prefix that a worker can apply
+abbrev pub worker_from : {L : Type 0} → Known → List (Op L) → List (Op L)
+worker_from known [] = []
+worker_from known (op ∷ ops) = if can_apply known op then op ∷ worker_from (known_behind known op) ops else []
+
+-- the rest
+abbrev pub after_from : {L : Type 0} → Known → List (Op L) → List (Op L)
+after_from known [] = []
+after_from known (op ∷ ops) = if can_apply known op then after_from (known_behind known op) ops else op ∷ ops
+
+abbrev pub worker_part : {L : Type 0} → Order → List (Op L) → List (Op L)
+worker_part order ops = worker_from (known_at_source order) ops
+
+abbrev pub after_part : {L : Type 0} → Order → List (Op L) → List (Op L)
+after_part order ops = after_from (known_at_source order) ops
+
+-- select, take 5, filter, take 2: by key the workers take the first five elements; how many pass isn't known from a key
+abbrev example_ops : List (Op ℕ)
+example_ops = Select 0 ∷ Take (pos 5) ∷ Filter 1 ∷ Take (pos 2) ∷ []
+
+worker_by_key : worker_part ByKey example_ops ≡ Select 0 ∷ Take (pos 5) ∷ Filter 1 ∷ []
+worker_by_key = refl
+
+after_by_key : after_part ByKey example_ops ≡ Take (pos 2) ∷ []
+after_by_key = refl
+
+worker_by_arrival : worker_part ByArrival example_ops ≡ Select 0 ∷ []
+worker_by_arrival = refl
+
+after_by_arrival : after_part ByArrival example_ops ≡ Take (pos 5) ∷ Filter 1 ∷ Take (pos 2) ∷ []
+after_by_arrival = refl
+
+-- TakeWhile stops at the first that fails, which by arrival is any
+take_while_by_arrival : worker_part {L = ℕ} ByArrival (Filter 0 ∷ TakeWhile 1 ∷ []) ≡ Filter 0 ∷ []
+take_while_by_arrival = refl
+
+take_while_by_key : worker_part {L = ℕ} ByKey (Filter 0 ∷ TakeWhile 1 ∷ []) ≡ Filter 0 ∷ TakeWhile 1 ∷ []
+take_while_by_key = refl
+
+-- no operator goes past an AsUnordered
+before_as_unordered : worker_part {L = ℕ} ByKey (Skip (pos 1) ∷ AsUnordered ∷ Select 0 ∷ []) ≡ Skip (pos 1) ∷ []
+before_as_unordered = refl
+
 -- the plan of a query
 pub record IsPlanOf {L : Type 0} (q : QueryView L) (plan : Plan L) : Type 0 where
-  pub worker : plan.worker.now ≡ worker_part q.ops
-  pub after : plan.after.now ≡ after_part q.ops
+  pub worker : plan.worker.now ≡ worker_part (order_of q.ordered) q.ops
+  pub after : plan.after.now ≡ after_part (order_of q.ordered) q.ops
   pub order : plan.order ≡ order_of q.ordered
   pub decided : plan.decided ≡ list_any is_empty_take q.ops

@@ -36,17 +36,17 @@ abbrev pub seq : {T : Type 0} → List (Stage T) → Trace T → Trace T
 seq [] t = t
 seq (s ∷ ss) t = seq ss (apply s t)
 
--- what is left of an operator once n items have reached it
-abbrev pub behind : {T : Type 0} → Stage T → ℕ → Stage T
-behind (pieces piece) n = pieces piece
-behind (taking k) n = taking (k - n)
-behind (skipping k) n = skipping (k - n)
-behind unchanged n = unchanged
+-- what is left of an operator once these items have reached it
+abbrev pub behind : {T : Type 0} → Stage T → List T → Stage T
+behind (pieces piece) xs = pieces piece
+behind (taking k) xs = taking (k - length xs)
+behind (skipping k) xs = skipping (k - length xs)
+behind unchanged xs = unchanged
 
 -- what is left of the operators once this trace has gone through them
 abbrev pub seq_behind : {T : Type 0} → List (Stage T) → Trace T → List (Stage T)
 seq_behind [] t = []
-seq_behind (s ∷ ss) t = behind s (length t.items) ∷ seq_behind ss (apply s t)
+seq_behind (s ∷ ss) t = behind s t.items ∷ seq_behind ss (apply s t)
 
 -- a Take of none decides the answer before any item
 abbrev pub takes_none : {T : Type 0} → Stage T → Bool

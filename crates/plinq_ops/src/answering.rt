@@ -1,13 +1,13 @@
-ghost use Rattle.std.specs.Prelude.{◌≡◌, length, false, Some, OnOk, IfOk};
+ghost use Rattle.std.specs.Prelude.{◌≡◌, false, Some, OnOk, IfOk};
 ghost use Rattle.plinq_source.specs.Trace.{ended};
 ghost use Rattle.plinq_ops.specs.Stage.{some_takes_none};
 ghost use Rattle.plinq_ops.specs.Operator.{stages_of};
-ghost use Rattle.plinq_ops.specs.Feeding.{stages_left, IsFed};
+ghost use Rattle.plinq_ops.specs.Feeding.{IsFed};
+ghost use Rattle.plinq_ops.specs.Pipeline.{stages};
 ghost use Rattle.plinq_ops.specs.Sequential.{answer_of, IsLeastDeciding};
 
-use crate::decided::{counts_of, is_decided};
-use crate::feeding::feed;
-use crate::op::Op;
+use crate::decided::is_decided;
+use crate::pipeline::Pipeline;
 use crate::query::Query;
 use plinq_lambda::Lambda;
 use plinq_source::{Ending, OutOfMemory, Source, Step};
@@ -16,11 +16,18 @@ use std::alloc::Global;
 /// The query's answer on one thread, as LINQ gives it: its items and how it ends. `AsUnordered` leaves the order as
 /// it is.
 ///
-/// The source must have given nothing. It is asked for no element after the one that decides the answer. After want
-/// of memory it may have given some.
+/// The source must have given nothing. It is asked for no element after the one that decides the answer.
+///
+/// # Errors
+///
+/// [`OutOfMemory`] where there is no room for the operators' counts or for the answer. The source may have given some of
+/// its elements then.
 ///
 /// ```text
-/// let (items, ending) = sequential(alloc, &query, &mut source)?;
+/// let query = Query::new(alloc).as_ordered()?.filter(Formula::Even)?.take(2)?;
+/// let mut source = RangeSource::new(1, 10)?;
+/// let (items, ending) = sequential(alloc, &query, &mut source)?;   // 2 and 4, Ending::End
+/// source.next()                                                    // Step::Item(5)
 /// ```
 pub fn sequential<L: Lambda, S: Source<Item = L::Item>>(
     alloc: Global,
@@ -39,35 +46,33 @@ pub fn sequential<L: Lambda, S: Source<Item = L::Item>>(
     if is_decided(ops) {
         return Ok((items, Ending::End));
     }
-    let mut left = counts_of(alloc, ops)?;
-    let ending = feed_all(alloc, ops, left.as_mut_slice(), source, &mut items)?;
+    let mut pipeline = Pipeline::new(alloc, ops)?;
+    let ending = feed_all(alloc, &mut pipeline, source, &mut items)?;
     Ok((items, ending))
 }
 
-/// Sends the items of a source through the operators, up to the one that ends the run, and the ending behind them.
+/// Sends the items of a source through a pipeline, up to the one that ends the run, and the ending behind them.
 fn feed_all<L: Lambda, S: Source<Item = L::Item>>(
     alloc: Global,
-    ops: &[Op<L>],
-    left: &mut [u64],
+    pipeline: &mut Pipeline<'_, L>,
     source: &mut S,
     out: &mut Vec<L::Item>,
 ) -> Result<Ending, OutOfMemory>
-    requires counted { length left.old ≡ length ops.now }
-    requires undecided { some_takes_none (stages_left L.meaning ops.now left.old) ≡ false }
+    requires undecided { some_takes_none (stages L.meaning pipeline.old) ≡ false }
     requires fresh { S.given source.old ≡ 0 }
 
     ensures same { S.whole source.new ≡ S.whole source.old }
     ensures fed { IfOk result (λ ending. IsFed
-        (stages_left L.meaning ops.now left.old) (S.whole source.old)
+        (stages L.meaning pipeline.old) (S.whole source.old)
         out.old.items out.new.items
-        (stages_left L.meaning ops.now left.new) (Some ending)) }
+        (stages L.meaning pipeline.new) (Some ending)) }
     ensures least { OnOk result (IsLeastDeciding
-        (stages_left L.meaning ops.now left.old) (S.whole source.old) (S.given source.new)) }
+        (stages L.meaning pipeline.old) (S.whole source.old) (S.given source.new)) }
 {
     loop {
         match source.next() {
             Step::Item(item) => {
-                if let Some(ending) = feed(alloc, ops, left, item, out)? {
+                if let Some(ending) = pipeline.feed(alloc, item, out)? {
                     return Ok(ending);
                 }
             }

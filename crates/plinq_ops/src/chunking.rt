@@ -1,15 +1,14 @@
-ghost use Rattle.std.specs.Prelude.{◌≡◌, ◌+◌, ◌≤◌, ◌^◌, ◌++◌, true, length, IfOk};
-ghost use Rattle.std.specs.List.{list_all};
-ghost use Rattle.plinq_ops.specs.Plan.{is_by_element};
-ghost use Rattle.plinq_ops.specs.Operator.{stages_of};
-ghost use Rattle.plinq_ops.specs.Feeding.{stages_left};
-ghost use Rattle.plinq_ops.specs.Chunk.{IsChunkResult, IsStop, chunk_answer};
+ghost use Rattle.std.specs.Prelude.{◌≡◌, ◌+◌, ◌<◌, ◌≤◌, ◌^◌, [], pos, true, false, length, IfOk};
+ghost use Rattle.std.specs.List.{list_any};
+ghost use Rattle.plinq_ops.specs.Stage.{some_takes_none};
+ghost use Rattle.plinq_ops.specs.Feeding.{is_empty_take};
+ghost use Rattle.plinq_ops.specs.ByKey.{is_by_key, left_at};
+ghost use Rattle.plinq_ops.specs.Chunk.{IsChunkResult, IsStop, chunk_answer, stop_over};
 
 use crate::cutting::frag_end;
-use crate::decided::counts_of;
-use crate::feeding::feed;
 use crate::fragments::FragEnd;
 use crate::op::Op;
+use crate::pipeline::Pipeline;
 use crate::plan::Plan;
 use crate::results::ChunkResult;
 use plinq_keyed::Chunk;
@@ -26,23 +25,35 @@ struct Stop {
 
 /// What the worker part of a plan gives for a chunk, up to the first key above `cut`.
 ///
-/// Memory is taken once for the counts and once for as many items as the chunk has; only a SelectMany can need more.
+/// Memory is taken for the counts and for as many items as the chunk has; a SelectMany can need more, and so does a run
+/// that ends in the chunk.
+///
+/// # Errors
+///
+/// [`OutOfMemory`] where there is no room for these.
+///
+/// ```text
+/// // as_ordered, select 10 / x: the chunk from key 7 on with the elements 5, 0 and 2
+/// let result = chunk_result(alloc, &query.split(), &chunk, u64::MAX)?;
+/// result.items     // 2
+/// result.ending    // FragEnd::Fault(2), a division by 0
+/// result.stop      // Some(8)
+/// ```
 pub fn chunk_result<L: Lambda>(
     alloc: Global,
     plan: &Plan<'_, L>,
     chunk: &Chunk<L::Item>,
     cut: u64,
 ) -> Result<ChunkResult<L::Item>, OutOfMemory>
-    requires by_element { list_all is_by_element plan.now.worker.now ≡ true }
+    requires keyed { is_by_key plan.now.worker.now ≡ true }
+    requires some { list_any is_empty_take plan.now.worker.now ≡ false }
     requires within { chunk.now.first + length chunk.now.items.items ≤ 2 ^ 40 }
     ensures { IfOk result (IsChunkResult L.meaning plan.now.worker.now cut chunk.now) }
 {
-    let mut left = counts_of(alloc, plan.worker)?;
     let mut items = Vec::with_capacity(alloc, chunk.items.len())?;
     let stop = work(
         alloc,
         plan.worker,
-        left.as_mut_slice(),
         chunk.first,
         chunk.items.as_slice(),
         cut,
@@ -58,25 +69,94 @@ pub fn chunk_result<L: Lambda>(
     })
 }
 
-/// Sends the items of a chunk through the worker part, up to the first that ends the run or whose key is above `cut`.
+/// Sends the items of a chunk that the cut reaches through the worker part: as one block, and where the run ends in it
+/// once more, item by item, to find the key.
 fn work<L: Lambda>(
     alloc: Global,
     worker: &[Op<L>],
-    left: &mut [u64],
     first: u64,
     items: &[L::Item],
     cut: u64,
     out: &mut Vec<L::Item>,
 ) -> Result<Option<Stop>, OutOfMemory>
-    requires counted { length left.old ≡ length worker.now }
-    requires whole { stages_left L.meaning worker.now left.old ≡ stages_of L.meaning worker.now }
-    requires by_element { list_all is_by_element worker.now ≡ true }
+    requires keyed { is_by_key worker.now ≡ true }
+    requires some { list_any is_empty_take worker.now ≡ false }
     requires within { first + length items.now ≤ 2 ^ 40 }
+    requires empty { out.old.items ≡ [] }
 
-    ensures items { IfOk result (λ _.
-        out.new.items ≡ out.old.items ++ (chunk_answer L.meaning worker.now cut first items.now).trace.items) }
+    ensures items { IfOk result (λ _. out.new.items ≡ (chunk_answer L.meaning worker.now cut first items.now).trace.items) }
     ensures stop { IfOk result (IsStop (chunk_answer L.meaning worker.now cut first items.now)) }
 {
+    let mut pipeline = Pipeline::at_key(alloc, worker, first)?;
+    if pipeline.is_over() {
+        return Ok(stop_over(cut, first, items.len()));
+    }
+    let reached = count_within(first, items.len(), cut);
+    let (block, rest) = items.split_at(reached);
+    out.extend_from_slice(block)?;
+    if pipeline.feed_block(alloc, out)?.is_some() {
+        out.clear();
+        return work_each(alloc, worker, first, items, cut, out);
+    }
+    if rest.is_empty() {
+        return Ok(None);
+    }
+    Ok(Some(Stop {
+        key: first + reached as u64,
+        ending: FragEnd::Dropped,
+    }))
+}
+
+/// Where a chunk stops whose first key stands behind the last item of a Take.
+fn stop_over(cut: u64, first: u64, len: usize) -> Option<Stop>
+    ensures { result ≡ stop_over cut first len }
+{
+    if len == 0 {
+        return None;
+    }
+    let ending = if first > cut {
+        FragEnd::Dropped
+    } else {
+        FragEnd::End
+    };
+    Some(Stop { key: first, ending })
+}
+
+/// How many of the keys from `first` on the cut reaches.
+fn count_within(first: u64, len: usize, cut: u64) -> usize
+    ensures most { result ≤ len }
+    ensures below { 0 < result → first + result ≤ cut + 1 }
+    ensures above { result < len → cut < first + result }
+{
+    if first > cut {
+        return 0;
+    }
+    let others = cut - first;
+    if others >= len as u64 {
+        return len;
+    }
+    others as usize + 1
+}
+
+/// Sends the items of a chunk through the worker part, up to the first that ends the run or whose key is above `cut`.
+fn work_each<L: Lambda>(
+    alloc: Global,
+    worker: &[Op<L>],
+    first: u64,
+    items: &[L::Item],
+    cut: u64,
+    out: &mut Vec<L::Item>,
+) -> Result<Option<Stop>, OutOfMemory>
+    requires keyed { is_by_key worker.now ≡ true }
+    requires some { list_any is_empty_take worker.now ≡ false }
+    requires undecided { some_takes_none (left_at L.meaning worker.now (pos first)) ≡ false }
+    requires within { first + length items.now ≤ 2 ^ 40 }
+    requires empty { out.old.items ≡ [] }
+
+    ensures items { IfOk result (λ _. out.new.items ≡ (chunk_answer L.meaning worker.now cut first items.now).trace.items) }
+    ensures stop { IfOk result (IsStop (chunk_answer L.meaning worker.now cut first items.now)) }
+{
+    let mut pipeline = Pipeline::at_key(alloc, worker, first)?;
     for (at, item) in items.iter().enumerate() {
         let key = first + at as u64;
         if key > cut {
@@ -85,7 +165,7 @@ fn work<L: Lambda>(
                 ending: FragEnd::Dropped,
             }));
         }
-        let ending = feed(alloc, worker, left, *item, out)?;
+        let ending = pipeline.feed(alloc, *item, out)?;
         if ending.is_some() {
             return Ok(Some(Stop {
                 key,

@@ -1,32 +1,51 @@
-ghost use Rattle.std.specs.Prelude.{◌≡◌, ◌+◌, ◌≤◌, ◌^◌, true, length, IfOk};
-ghost use Rattle.std.specs.List.{list_all};
-ghost use Rattle.plinq_ops.specs.Plan.{is_by_element};
+ghost use Rattle.std.specs.Prelude.{◌≡◌, true, false, IfOk};
+ghost use Rattle.std.specs.List.{list_any};
+ghost use Rattle.plinq_ops.specs.Feeding.{is_empty_take};
+ghost use Rattle.plinq_ops.specs.ByKey.{is_by_key};
 ghost use Rattle.plinq_ops.specs.Fragment.{fragment_of};
 ghost use Rattle.plinq_ops.specs.Chunk.{IsWorkerEnding, IsToldBy, IsFragment};
 
-use crate::decided::counts_of;
-use crate::feeding::feed;
 use crate::fragments::{FragEnd, Fragment};
 use crate::op::Op;
+use crate::pipeline::Pipeline;
 use plinq_lambda::Lambda;
 use plinq_source::{Ending, OutOfMemory};
 use std::alloc::Global;
 
 /// What a worker part gives for the element of a key.
 ///
-/// The worker part is that of a plan: each of its operators looks at each element alone.
+/// The worker part is that of a plan whose answer isn't decided before any element.
+///
+/// # Errors
+///
+/// [`OutOfMemory`] where there is no room for the counts or the items.
+///
+/// ```text
+/// // as_ordered, skip 1, take 2
+/// let worker = query.split().worker;
+/// fragment(alloc, worker, 0, x)?    // nothing, FragEnd::More
+/// fragment(alloc, worker, 1, x)?    // x, FragEnd::More
+/// fragment(alloc, worker, 2, x)?    // x, FragEnd::End
+/// ```
 pub fn fragment<L: Lambda>(
     alloc: Global,
     worker: &[Op<L>],
     key: u64,
     x: L::Item,
 ) -> Result<Fragment<L::Item>, OutOfMemory>
-    requires { list_all is_by_element worker.now ≡ true }
+    requires keyed { is_by_key worker.now ≡ true }
+    requires some { list_any is_empty_take worker.now ≡ false }
     ensures { IfOk result (IsFragment (fragment_of L.meaning worker.now key x)) }
 {
-    let mut left = counts_of(alloc, worker)?;
+    let mut pipeline = Pipeline::at_key(alloc, worker, key)?;
     let mut items = Vec::new(alloc);
-    let ending = feed(alloc, worker, left.as_mut_slice(), x, &mut items)?;
+    if pipeline.is_over() {
+        return Ok(Fragment {
+            items,
+            ending: FragEnd::End,
+        });
+    }
+    let ending = pipeline.feed(alloc, x, &mut items)?;
     Ok(Fragment {
         items,
         ending: frag_end(ending),

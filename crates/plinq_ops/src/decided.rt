@@ -1,6 +1,7 @@
-ghost use Rattle.std.specs.Prelude.{◌≡◌, map, IfOk};
+ghost use Rattle.std.specs.Prelude.{◌≡◌, IfOk};
 ghost use Rattle.std.specs.List.{list_any};
 ghost use Rattle.plinq_ops.specs.Feeding.{count_of, is_empty_take};
+ghost use Rattle.plinq_ops.specs.ByKey.{passed_on, counts_at};
 
 use crate::op::Op;
 use plinq_source::OutOfMemory;
@@ -33,9 +34,29 @@ pub(crate) fn is_decided<L>(ops: &[Op<L>]) -> bool
     ops.iter().any(|op| is_empty_take(op))
 }
 
-/// The counts of the operators, one for each.
-pub(crate) fn counts_of<L>(alloc: Global, ops: &[Op<L>]) -> Result<Vec<u64>, OutOfMemory>
-    ensures { IfOk result (λ counts. counts.items ≡ map count_of ops.now) }
+/// How many elements have got past an operator, so many having reached it and none having been filtered out.
+fn passed_on<L>(op: &Op<L>, reached: u64) -> u64
+    ensures { result ≡ passed_on op.now reached }
 {
-    Ok(ops.iter().map(|op| count_of(op)).collect(alloc)?)
+    match op {
+        Op::Skip(_) => reached.saturating_sub(count_of(op)),
+        _ => reached,
+    }
+}
+
+/// How many items each operator has left to count off, so many elements having reached the first.
+pub(crate) fn counts_at<L>(
+    alloc: Global,
+    ops: &[Op<L>],
+    reached: u64,
+) -> Result<Vec<u64>, OutOfMemory>
+    ensures { IfOk result (λ counts. counts.items ≡ counts_at ops.now reached) }
+{
+    let mut counts = Vec::with_capacity(alloc, ops.len())?;
+    let mut reached = reached;
+    for op in ops {
+        counts.push(count_of(op).saturating_sub(reached))?;
+        reached = passed_on(op, reached);
+    }
+    Ok(counts)
 }

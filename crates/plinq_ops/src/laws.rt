@@ -1,54 +1,144 @@
 //! Laws of the definitions, each the contract of a function with nothing to do.
-ghost use Rattle.std.specs.Prelude.{◌≡◌, ℕ, ◌+◌, ◌≤◌, List, [], ◌++◌, length, Option, None};
+//!
+//! They hold whatever the lambdas mean, so they name a meaning where the other contracts have `L.meaning`.
+ghost use Rattle.std.specs.Prelude.{◌≡◌, ℕ, Bool, ◌+◌, ◌<◌, ◌≤◌, ◌^◌, List, [], ◌++◌, length, take, true, false, Option, Some, None, IfSome, ◌≢◌};
+ghost use Rattle.std.specs.List.{list_any, list_all, Contains};
 ghost use Rattle.plinq_source.specs.declared.ending.Ending.{Ending};
 ghost use Rattle.plinq_source.specs.Trace.{Trace, open_trace, followed};
-ghost use Rattle.plinq_ops.specs.Stage.{seq, seq_behind};
-ghost use Rattle.plinq_ops.specs.Operator.{stages_of};
+ghost use Rattle.plinq_lambda.specs.Meaning.{Meaning};
+ghost use Rattle.plinq_keyed.specs.declared.chunk.Chunk.{Chunk};
+ghost use Rattle.plinq_keyed.specs.declared.record.Record.{Record};
+ghost use Rattle.plinq_keyed.specs.History.{IsLegalHistory, given_by};
+ghost use Rattle.plinq_ops.specs.declared.op.Op.{Op};
+ghost use Rattle.plinq_ops.specs.declared.order.Order.{Order};
+ghost use Rattle.plinq_ops.specs.declared.merge_option.MergeOption.{MergeOption};
+ghost use Rattle.plinq_ops.specs.declared.fragments.FragEnd.TheVariants.{Dropped};
+ghost use Rattle.plinq_ops.specs.declared.results.ChunkResult.{ChunkResult};
+ghost use Rattle.plinq_ops.specs.Stage.{Stage, seq, seq_behind};
+ghost use Rattle.plinq_ops.specs.Feeding.{is_empty_take};
 ghost use Rattle.plinq_ops.specs.Sequential.{answer_of};
-ghost use Rattle.plinq_ops.specs.Batches.{batch_size, batches, batches_from, full_batches, held_back};
+ghost use Rattle.plinq_ops.specs.Batches.{batch_size, batches, batches_from, held_back};
+ghost use Rattle.plinq_ops.specs.Answer.{Answer, keeps_order};
 ghost use Rattle.plinq_ops.specs.Plan.{worker_part, after_part};
 ghost use Rattle.plinq_ops.specs.Fragment.{glue, glued};
-ghost use Rattle.plinq_ops.specs.Chunk.{chunk_answer};
+ghost use Rattle.plinq_ops.specs.Chunk.{chunk_answer, IsChunkResult, result_trace};
+ghost use Rattle.plinq_ops.specs.Cut.{is_cut};
+ghost use Rattle.plinq_ops.specs.Row.{IsOffer, AreOffers, IsRow, row_trace, IsAnswer, AreAnswers};
 
-use crate::merge_option::MergeOption;
-use crate::query::Query;
-use plinq_lambda::Lambda;
-
-/// What a query answers to a trace that follows another: the answer to the first, and where that is open, behind it
-/// what is left of the operators answers to the second.
-pub fn answer_goes_on<L: Lambda>(_query: &Query<L>)
-    ensures { (a b : Trace L.Item) →
-        seq (stages_of L.meaning _query.now.ops) (followed a b)
-        ≡ followed (seq (stages_of L.meaning _query.now.ops) a)
-        (seq (seq_behind (stages_of L.meaning _query.now.ops) a) b) }
+/// What operators make of a trace that follows another: what they make of the first, and where that is open, behind it
+/// what is left of them makes of the second.
+pub fn answer_goes_on<T>()
+    ensures { (ss : List (Stage T)) (a b : Trace T) →
+        seq ss (followed a b) ≡ followed (seq ss a) (seq (seq_behind ss a) b) }
 {}
 
-/// The split law: a query answers what its after part answers to the glued fragments of its worker part.
-pub fn split_gives_the_answer<L: Lambda>(_query: &Query<L>)
-    ensures { (t : Trace L.Item) →
-        answer_of L.meaning _query.now.ops t
-        ≡ answer_of L.meaning (after_part _query.now.ops) (glue L.meaning (worker_part _query.now.ops) t) }
+/// The split law: operators answer what their after part answers to the glued fragments of their worker part, by key
+/// or by arrival. With a Take of none they answer nothing and the end, and no worker is needed.
+pub fn split_gives_the_answer<L, T>()
+    ensures { (meaning : L → Meaning T) (order : Order) (ops : List (Op L)) (t : Trace T) →
+        list_any is_empty_take ops ≡ false →
+        answer_of meaning ops t ≡ answer_of meaning (after_part order ops) (glue meaning (worker_part order ops) t) }
+{}
+
+/// An answer that the first items decide is the answer to all.
+pub fn decided_answer_stays<L, T>()
+    ensures { (meaning : L → Meaning T) (worker : List (Op L)) (after : List (Stage T)) (t : Trace T) (k : ℕ) (e : Ending) →
+        (seq after (glued meaning worker 0 (take k t.items) None)).ending ≡ Some e →
+        seq after (glue meaning worker t) ≡ seq after (glued meaning worker 0 (take k t.items) None) }
 {}
 
 /// Chunks one behind another glue to the whole.
-pub fn chunks_glue<L: Lambda>(_query: &Query<L>)
-    ensures { (key : ℕ) (xs ys : List L.Item) (e : Option Ending) →
-        glued L.meaning (worker_part _query.now.ops) key (xs ++ ys) e
-        ≡ followed (glued L.meaning (worker_part _query.now.ops) key xs None)
-        (glued L.meaning (worker_part _query.now.ops) (key + length xs) ys e) }
+pub fn chunks_glue<L, T>()
+    ensures { (meaning : L → Meaning T) (worker : List (Op L)) (key : ℕ) (xs ys : List T) (e : Option Ending) →
+        glued meaning worker key (xs ++ ys) e
+        ≡ followed (glued meaning worker key xs None) (glued meaning worker (key + length xs) ys e) }
+{}
+
+/// The source's ending stands behind the glued fragments of its items.
+pub fn ending_follows<L, T>()
+    ensures { (meaning : L → Meaning T) (worker : List (Op L)) (t : Trace T) →
+        glue meaning worker t
+        ≡ followed (glued meaning worker 0 t.items None) (record { items = []; ending = t.ending }) }
 {}
 
 /// A chunk whose keys the cut doesn't reach gives its glued fragments.
-pub fn chunk_gives_its_fragments<L: Lambda>(_query: &Query<L>)
-    ensures { (cut key : ℕ) (xs : List L.Item) → key + length xs ≤ cut + 1 →
-        (chunk_answer L.meaning (worker_part _query.now.ops) cut key xs).trace
-        ≡ glued L.meaning (worker_part _query.now.ops) key xs None }
+pub fn chunk_gives_its_fragments<L, T>()
+    ensures { (meaning : L → Meaning T) (worker : List (Op L)) (cut key : ℕ) (xs : List T) →
+        key + length xs ≤ cut + 1 →
+        (chunk_answer meaning worker cut key xs).trace ≡ glued meaning worker key xs None }
+{}
+
+/// A result that isn't dropped gives its chunk's answer.
+pub fn result_gives_its_answer<L, T>()
+    ensures { (meaning : L → Meaning T) (worker : List (Op L)) (cut : ℕ) (chunk : Chunk T) (r : ChunkResult T) →
+        IsChunkResult meaning worker cut chunk r → r.ending ≢ Dropped →
+        result_trace r ≡ (chunk_answer meaning worker cut chunk.first chunk.items.items).trace }
+{}
+
+/// The key at which a result stopped that isn't dropped is a cut: its fragment ends the run.
+pub fn stop_is_a_cut<L, T>()
+    ensures { (meaning : L → Meaning T) (worker : List (Op L)) (t : Trace T) (r : ChunkResult T) (k : ℕ) →
+        IsOffer meaning worker t r → r.ending ≢ Dropped → r.stop ≡ Some k → is_cut meaning worker t.items k ≡ true }
+{}
+
+/// Behind items whose fragments leave the run open no result is dropped, whatever its cut: it gives the glued fragments
+/// of its chunk.
+pub fn nothing_reached_is_dropped<L, T>()
+    ensures { (meaning : L → Meaning T) (worker : List (Op L)) (t : Trace T) (r : ChunkResult T) →
+        length t.items ≤ 2 ^ 40 → (offer : IsOffer meaning worker t r) →
+        (glued meaning worker 0 (take r.first t.items) None).ending ≡ None →
+        (result_trace r ≡ glued meaning worker r.first offer.chunk.items.items None) × (r.ending ≢ Dropped) }
+{}
+
+/// One result more: behind the glued fragments of the items before it, a result gives those up to its last.
+pub fn row_goes_on<L, T>()
+    ensures { (meaning : L → Meaning T) (worker : List (Op L)) (t : Trace T) (r : ChunkResult T) →
+        length t.items ≤ 2 ^ 40 → IsOffer meaning worker t r →
+        followed (glued meaning worker 0 (take r.first t.items) None) (result_trace r)
+        ≡ glued meaning worker 0 (take (r.first + r.count) t.items) None }
+{}
+
+/// A row of results from key 0, each with a cut of its own, joins to the glued fragments of the items.
+pub fn row_glues<L, T>()
+    ensures { (meaning : L → Meaning T) (worker : List (Op L)) (t : Trace T) (rs : List (ChunkResult T)) (to : ℕ) →
+        length t.items ≤ 2 ^ 40 → AreOffers meaning worker t rs → IsRow 0 rs to →
+        row_trace rs ≡ glued meaning worker 0 (take to t.items) None }
+{}
+
+/// The results of a legal history's chunks join to the glued fragments of the items that it handed out.
+pub fn history_glues<L, T>()
+    ensures { (meaning : L → Meaning T) (worker : List (Op L)) (t : Trace T) (h : List Record) (rs : List (ChunkResult T)) →
+        length t.items ≤ 2 ^ 40 → IsLegalHistory t h → AreAnswers meaning worker t h rs →
+        row_trace rs ≡ glued meaning worker 0 (take (given_by t h) t.items) None }
+{}
+
+/// The result of the chunk of one record of a legal history is that of a chunk of the source.
+pub fn answers_are_offers<L, T>()
+    ensures { (meaning : L → Meaning T) (worker : List (Op L)) (t : Trace T) (h : List Record) (asked : Record) (r : ChunkResult T) →
+        IsLegalHistory t h → Contains h asked → IsAnswer meaning worker t asked r → IsOffer meaning worker t r }
 {}
 
 /// The batches of a trace that grows are those so far, and then those of the rest begun with what is held back.
-pub fn batches_go_on<L: Lambda>(_query: &Query<L>, option: MergeOption)
-    ensures { (xs : List L.Item) (t : Trace L.Item) →
+pub fn batches_go_on<T>()
+    ensures { (option : MergeOption) (xs : List T) (t : Trace T) →
         batches option (followed (open_trace xs) t)
-        ≡ full_batches (batch_size option) [] xs
-        ++ batches_from (batch_size option) (held_back (batch_size option) [] xs) t }
+        ≡ batches option (open_trace xs) ++ batches_from (batch_size option) (held_back (batch_size option) [] xs) t }
+{}
+
+/// Where a batch has a size, fewer items than that are held back.
+pub fn fewer_are_held_back<T>()
+    ensures { (option : MergeOption) (xs : List T) →
+        IfSome (batch_size option) (λ size. length (held_back (batch_size option) [] xs) < size) }
+{}
+
+/// The sequential answer is an answer to each query, ordered or not.
+pub fn sequential_is_an_answer<L, T>()
+    ensures { (meaning : L → Meaning T) (ordered : Bool) (ops : List (Op L)) (t : Trace T) →
+        Answer meaning ordered ops t (answer_of meaning ops t) }
+{}
+
+/// An ordered query, one with `as_ordered` and no AsUnordered, has no other answer.
+pub fn ordered_query_has_one_answer<L, T>()
+    ensures { (meaning : L → Meaning T) (ops : List (Op L)) (t u : Trace T) → list_all keeps_order ops ≡ true →
+        Answer meaning true ops t u → u ≡ answer_of meaning ops t }
 {}

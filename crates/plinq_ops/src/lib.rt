@@ -2,25 +2,28 @@
 //!
 //! A [`Query`] is a list of LINQ's operators with its settings; each builder call adds exactly one of them. What
 //! a query answers is `answer_of`, its operators applied one after another to the whole trace of a source
-//! ([`sequential`]). Its plan (`IsPlanOf`, by [`Query::split`]) gives the workers those operators that look at each
-//! element alone: they make of a keyed element its `fragment_of` ([`fragment`]), and of a chunk its `chunk_answer`,
-//! the fragments joined by key ([`chunk_result`]). The [`laws`] say that the rest of the operators, on the glued
-//! fragments, give the query's answer, that chunks one behind another glue to the whole, and how answers and their
-//! batches grow.
+//! ([`sequential`]). Its plan (`IsPlanOf`, by [`Query::split`]) gives the workers those operators that they can apply
+//! knowing their elements' keys: they make of an element its `fragment_of` ([`fragment`]), and of a chunk its
+//! `chunk_answer`, the fragments joined by key ([`chunk_result`]). Operators at work are a [`Pipeline`]. The [`laws`]
+//! say that the rest of the operators, on the glued fragments, give the query's answer, that results one behind another
+//! glue to the whole whatever their cuts, and how answers and their batches grow.
 #![tactic(auto)]
 
 mod answering;
+mod blocks;
 mod build_fault;
 mod chunking;
 mod cutting;
 mod decided;
 mod feeding;
 mod fragments;
+mod known;
 pub mod laws;
 mod merge_option;
 mod op;
 mod order;
 mod passing;
+mod pipeline;
 mod plan;
 mod query;
 mod results;
@@ -36,6 +39,7 @@ pub use fragments::{FragEnd, Fragment};
 pub use merge_option::MergeOption;
 pub use op::Op;
 pub use order::Order;
+pub use pipeline::Pipeline;
 pub use plan::Plan;
 pub use query::{Built, Query};
 pub use results::ChunkResult;

@@ -35,7 +35,7 @@ pub(crate) fn pass<L: Lambda>(
     ensures passed { IfOk result (λ passed.
         passed_trace passed ≡ apply (stage_left L.meaning op.now left.old) (open_trace (item ∷ []))) }
     ensures left { OnOk result (
-        stage_left L.meaning op.now left.new ≡ behind (stage_left L.meaning op.now left.old) 1) }
+        stage_left L.meaning op.now left.new ≡ behind (stage_left L.meaning op.now left.old) (item ∷ [])) }
 {
     match op {
         Op::Select(f) => match f.map(item) {
@@ -49,10 +49,8 @@ pub(crate) fn pass<L: Lambda>(
         },
         Op::SelectMany(f) => match f.expand(alloc, item) {
             Ok(items) => Ok(Passed::Items(items)),
-            Err(fault) => match fault {
-                ExpandFault::Code(code) => Ok(Passed::Ends(Ending::Fault(code))),
-                ExpandFault::Memory => Err(OutOfMemory),
-            },
+            Err(ExpandFault::Code(code)) => Ok(Passed::Ends(Ending::Fault(code))),
+            Err(ExpandFault::Memory) => Err(OutOfMemory),
         },
         Op::Take(_) => {
             *left -= 1;

@@ -51,10 +51,11 @@ impl<L: Drop> Query<L> {
         }
     }
 
-    /// The query keeps the order of its source (.NET's `ParallelEnumerable.AsOrdered`).
+    /// The query keeps the order of its source (.NET's `ParallelEnumerable.AsOrdered`). Takes no memory.
+    ///
+    /// # Errors
     ///
     /// [`BuildFault::NotAtSource`] where an operator or another `as_ordered` stands before; settings may.
-    /// Takes no memory.
     pub fn as_ordered(mut self) -> Built<L>
         ensures { result ≡ with_order self }
     {
@@ -66,6 +67,10 @@ impl<L: Drop> Query<L> {
     }
 
     /// The order isn't kept from here on (.NET's `ParallelEnumerable.AsUnordered`).
+    ///
+    /// # Errors
+    ///
+    /// [`BuildFault::Memory`] where there is no room for it; the query comes back unchanged.
     pub fn as_unordered(self) -> Built<L>
         ensures { AddsOp self Op.AsUnordered result }
     {
@@ -73,6 +78,10 @@ impl<L: Drop> Query<L> {
     }
 
     /// Maps each element (.NET's `Enumerable.Select`).
+    ///
+    /// # Errors
+    ///
+    /// [`BuildFault::Memory`] where there is no room for it; the query comes back unchanged.
     pub fn select(self, f: L) -> Built<L>
         ensures { AddsOp self (Op.Select f) result }
     {
@@ -80,6 +89,10 @@ impl<L: Drop> Query<L> {
     }
 
     /// Keeps the elements that pass (.NET's `Enumerable.Where`).
+    ///
+    /// # Errors
+    ///
+    /// [`BuildFault::Memory`] where there is no room for it; the query comes back unchanged.
     pub fn filter(self, f: L) -> Built<L>
         ensures { AddsOp self (Op.Filter f) result }
     {
@@ -87,6 +100,10 @@ impl<L: Drop> Query<L> {
     }
 
     /// Puts each element's expansion in its place (.NET's `Enumerable.SelectMany`).
+    ///
+    /// # Errors
+    ///
+    /// [`BuildFault::Memory`] where there is no room for it; the query comes back unchanged.
     pub fn select_many(self, f: L) -> Built<L>
         ensures { AddsOp self (Op.SelectMany f) result }
     {
@@ -94,6 +111,10 @@ impl<L: Drop> Query<L> {
     }
 
     /// Keeps the first `n` elements, none where `n` is negative (.NET's `Enumerable.Take`).
+    ///
+    /// # Errors
+    ///
+    /// [`BuildFault::Memory`] where there is no room for it; the query comes back unchanged.
     pub fn take(self, n: i64) -> Built<L>
         ensures { AddsOp self (Op.Take n) result }
     {
@@ -101,6 +122,10 @@ impl<L: Drop> Query<L> {
     }
 
     /// Passes over the first `n` elements, none where `n` is negative (.NET's `Enumerable.Skip`).
+    ///
+    /// # Errors
+    ///
+    /// [`BuildFault::Memory`] where there is no room for it; the query comes back unchanged.
     pub fn skip(self, n: i64) -> Built<L>
         ensures { AddsOp self (Op.Skip n) result }
     {
@@ -108,15 +133,21 @@ impl<L: Drop> Query<L> {
     }
 
     /// Keeps the elements before the first that fails (.NET's `Enumerable.TakeWhile`).
+    ///
+    /// # Errors
+    ///
+    /// [`BuildFault::Memory`] where there is no room for it; the query comes back unchanged.
     pub fn take_while(self, f: L) -> Built<L>
         ensures { AddsOp self (Op.TakeWhile f) result }
     {
         self.with_op(Op::TakeWhile(f))
     }
 
-    /// Sets the merge option (.NET's `ParallelEnumerable.WithMergeOptions`).
+    /// Sets the merge option (.NET's `ParallelEnumerable.WithMergeOptions`). Takes no memory.
     ///
-    /// [`BuildFault::MergeTwice`] where one was given before, [`MergeOption::Default`] too. Takes no memory.
+    /// # Errors
+    ///
+    /// [`BuildFault::MergeTwice`] where one was given before, [`MergeOption::Default`] too.
     pub fn with_merge(mut self, option: MergeOption) -> Built<L>
         ensures { result ≡ with_option self option }
     {
@@ -128,9 +159,12 @@ impl<L: Drop> Query<L> {
     }
 
     /// Sets the degree of parallelism, the number of workers (.NET's `ParallelEnumerable.WithDegreeOfParallelism`).
+    /// Takes no memory.
+    ///
+    /// # Errors
     ///
     /// [`BuildFault::DegreeTwice`] where one was given before, else [`BuildFault::DegreeOutOfRange`] where `n`
-    /// isn't from 1 to 64. Takes no memory.
+    /// isn't from 1 to 64.
     pub fn with_degree(mut self, n: u64) -> Built<L>
         ensures { result ≡ with_degree_of self n }
     {
@@ -155,7 +189,7 @@ impl<L: Drop> Query<L> {
 }
 
 impl<L> Query<L> {
-    /// The operators in order.
+    /// The operators in order. Takes no memory.
     pub fn ops(&self) -> &[Op<L>]
         ensures { result.now ≡ self.now.ops }
     {

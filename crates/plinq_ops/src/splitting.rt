@@ -1,26 +1,42 @@
-ghost use Rattle.std.specs.Prelude.{◌≡◌, length, true};
-ghost use Rattle.std.specs.List.{list_all};
-ghost use Rattle.plinq_ops.specs.Plan.{is_by_element, worker_part, order_of, IsPlanOf};
+ghost use Rattle.std.specs.Prelude.{◌≡◌, length, true, false};
+ghost use Rattle.std.specs.List.{list_any};
+ghost use Rattle.plinq_ops.specs.Feeding.{is_empty_take};
+ghost use Rattle.plinq_ops.specs.ByKey.{is_by_key};
+ghost use Rattle.plinq_ops.specs.Plan.{order_of, worker_part, IsPlanOf};
 
 use crate::decided::is_decided;
+use crate::known::Known;
 use crate::op::Op;
 use crate::order::Order;
 use crate::plan::Plan;
 use crate::query::Query;
 
 impl<L> Query<L> {
-    /// How the query is shared among workers: the longest prefix of Select, Where and SelectMany goes to them, since
-    /// these look at each element alone. Takes no memory.
+    /// How the query is shared among workers, who get the longest prefix of operators that they can apply to
+    /// elements of their own.
+    ///
+    /// These are Select, Where and SelectMany, which look at each element alone; and of a query with `as_ordered`
+    /// TakeWhile, since a worker knows the order of its elements, and Take and Skip while no Where or SelectMany
+    /// stands before them, since until then an element's key tells how many stand before it. Takes no memory.
+    ///
+    /// ```text
+    /// // as_ordered, select, take 5, filter, take 2
+    /// let plan = query.split();
+    /// // worker: select, take 5, filter; after: take 2
+    /// ```
     pub fn split(&self) -> Plan<'_, L>
         ensures plan { IsPlanOf self.now result }
-        ensures by_element { list_all is_by_element result.worker.now ≡ true }
+        ensures by_key { is_by_key result.worker.now ≡ true }
+        ensures undecided { result.decided ≡ false →
+            (list_any is_empty_take result.worker.now ≡ false) × (list_any is_empty_take result.after.now ≡ false) }
     {
         let ops = self.ops();
-        let (worker, after) = ops.split_at(worker_len(ops));
+        let order = self.order();
+        let (worker, after) = ops.split_at(worker_len(ops, order));
         Plan {
             worker,
             after,
-            order: self.order(),
+            order,
             decided: is_decided(ops),
         }
     }
@@ -37,20 +53,15 @@ impl<L> Query<L> {
 }
 
 /// How many operators the worker part has.
-fn worker_len<L>(ops: &[Op<L>]) -> usize
-    ensures { result ≡ length (worker_part ops.now) }
+fn worker_len<L>(ops: &[Op<L>], order: Order) -> usize
+    ensures { result ≡ length (worker_part order ops.now) }
 {
+    let mut known = Known::at_source(order);
     for (at, op) in ops.iter().enumerate() {
-        if !is_by_element(op) {
+        if !known.can_apply(op) {
             return at;
         }
+        known = known.behind(op);
     }
     ops.len()
-}
-
-/// Whether an operator looks at each element alone.
-fn is_by_element<L>(op: &Op<L>) -> bool
-    ensures { result ≡ is_by_element op.now }
-{
-    matches!(op, Op::Select(_) | Op::Filter(_) | Op::SelectMany(_))
 }

@@ -1,6 +1,7 @@
 mod answers;
 mod chunks;
 mod queries;
+mod splits;
 
 use crate::{BuildFault, Built, Op, Query};
 use plinq_lambda::Formula;

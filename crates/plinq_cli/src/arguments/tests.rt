@@ -1,6 +1,6 @@
 use super::{Arguments, read_arguments};
 use crate::command::Command;
-use crate::settings::Settings;
+use plinq_document::{Degree, Settings};
 use plinq_ops::MergeOption;
 use std::test::Fail;
 
@@ -48,7 +48,10 @@ fn reads_words(rt: HostRuntime) -> Result<(), Fail> {
             arguments,
             Arguments {
                 command,
-                settings: Settings { workers, merge }
+                settings: Settings {
+                    workers: workers.and_then(Degree::new),
+                    merge
+                }
             },
             "at {words:?}"
         );

@@ -1,8 +1,7 @@
 use super::serve;
 use crate::command::Command;
-use crate::document::read_document;
 use crate::serve_fault::ServeFault;
-use crate::settings::Settings;
+use plinq_document::{Settings, read_document};
 use plinq_ops::MergeOption;
 use plinq_source::Ending;
 use std::test::Fail;

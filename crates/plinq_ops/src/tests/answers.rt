@@ -238,6 +238,30 @@ fn range_through_a_filter(rt: HostRuntime) -> Result<(), Fail> {
     Ok(())
 }
 
+// Long lists and answers take no other path than short ones.
+#[test]
+fn answers_of_many_items(rt: HostRuntime) -> Result<(), Fail> {
+    let rows: [(&[Op<Formula>], usize, i64); 5] = [
+        (&[], 5000, 5000),
+        (&[Op::Select(Formula::Add(1))], 5000, 5001),
+        (&[Op::Filter(Formula::Even)], 2500, 5000),
+        (&[Op::SelectMany(Formula::Repeat(3))], 15_000, 5000),
+        (&[Op::Skip(1000), Op::Take(3000)], 3000, 4000),
+    ];
+    for (ops, count, last) in rows {
+        let query = ordered(rt.alloc(), ops)?;
+        let mut source = RangeSource::new(1, 5000)?;
+        let (items, ending) = sequential(rt.alloc(), &query, &mut source)?;
+        assert_eq!(rt;
+            (items.len(), items.last()),
+            (count, Some(&last)),
+            "{ops:?}"
+        );
+        assert_eq!(rt; ending, Ending::End, "{ops:?}");
+    }
+    Ok(())
+}
+
 // Also where an allocation fails: run it with each allocation refused in turn.
 #[test]
 fn answers_or_says_that_memory_ran_out(rt: HostRuntime) {

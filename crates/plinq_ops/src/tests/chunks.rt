@@ -14,6 +14,7 @@ fn fragments(rt: HostRuntime) -> Result<(), Fail> {
     ];
     let query = ordered(rt.alloc(), &ops)?;
     let plan = query.split();
+    assert!(rt; !plan.decided);
     let rows: [(i64, &[i64], FragEnd); 4] = [
         (3, &[1, 2, 3, 4], FragEnd::More),
         (4, &[], FragEnd::More),
@@ -26,6 +27,27 @@ fn fragments(rt: HostRuntime) -> Result<(), Fail> {
             assert_eq!(rt; given.items.as_slice(), items, "{x}");
             assert_eq!(rt; given.ending, ending, "{x}");
         }
+    }
+    Ok(())
+}
+
+#[test]
+fn fragments_by_position(rt: HostRuntime) -> Result<(), Fail> {
+    let ops = [Op::Skip(1), Op::Take(2), Op::Select(Formula::Add(1))];
+    let query = ordered(rt.alloc(), &ops)?;
+    let plan = query.split();
+    assert!(rt; !plan.decided);
+    assert_eq!(rt; plan.worker, ops.as_slice());
+    let rows: [(u64, &[i64], FragEnd); 4] = [
+        (0, &[], FragEnd::More),
+        (1, &[8], FragEnd::More),
+        (2, &[8], FragEnd::End),
+        (3, &[], FragEnd::End),
+    ];
+    for (key, items, ending) in rows {
+        let given = fragment(rt.alloc(), plan.worker, key, 7)?;
+        assert_eq!(rt; given.items.as_slice(), items, "{key}");
+        assert_eq!(rt; given.ending, ending, "{key}");
     }
     Ok(())
 }
@@ -46,7 +68,11 @@ fn chunk_results(rt: HostRuntime) -> Result<(), Fail> {
     let add = Op::Select(Formula::Add(1));
     let into = Op::Select(Formula::Into(10));
     let all = u64::MAX;
-    let rows: [Row<'_>; 9] = [
+    let end = FragEnd::End;
+    let rows: [Row<'_>; 12] = [
+        (Op::Take(2), 0, &[5, 6, 7], all, &[5, 6], end, Some(1)),
+        (Op::Take(2), 2, &[7, 8], all, &[], end, Some(2)),
+        (Op::Skip(2), 1, &[6, 7], all, &[7], FragEnd::More, None),
         (add, 0, &[3, 1], all, &[4, 2], FragEnd::More, None),
         (add, 0, &[3, 1], 0, &[4], FragEnd::Dropped, Some(1)),
         (add, 0, &[3, 1], 1, &[4, 2], FragEnd::More, None),
@@ -74,7 +100,9 @@ fn chunk_results(rt: HostRuntime) -> Result<(), Fail> {
         };
         assert!(rt; first <= 1_099_511_627_774 && list.len() < 4);
         assert!(rt; first + chunk.items.len() as u64 <= 1_099_511_627_776);
-        let given = chunk_result(rt.alloc(), &query.split(), &chunk, cut)?;
+        let plan = query.split();
+        assert!(rt; !plan.decided);
+        let given = chunk_result(rt.alloc(), &plan, &chunk, cut)?;
         let wanted = ChunkResult {
             first,
             count: list.len() as u64,
@@ -99,6 +127,7 @@ fn results_or_want_of_memory(rt: HostRuntime) {
     };
     assert!(rt; items.len() == 2);
     let plan = query.split();
+    assert!(rt; !plan.decided);
     let chunk = Chunk {
         first: 0,
         items,

@@ -110,7 +110,7 @@ fn empty(alloc: Global) -> Query<Formula> {
 }
 
 #[test]
-fn splits_before_the_first_operator_that_looks_at_others(rt: HostRuntime) -> Result<(), Fail> {
+fn splits_before_the_first_operator_that_no_worker_can_apply(rt: HostRuntime) -> Result<(), Fail> {
     let ops = [
         Op::Select(Formula::Add(1)),
         Op::Take(5),
@@ -119,18 +119,24 @@ fn splits_before_the_first_operator_that_looks_at_others(rt: HostRuntime) -> Res
     ];
     let query = ordered(rt.alloc(), &ops)?;
     let plan = query.split();
-    assert_eq!(rt; plan.worker, [Op::Select(Formula::Add(1))].as_slice());
     assert_eq!(rt;
-        plan.after,
-        [Op::Take(5), Op::Filter(Formula::Even), Op::Take(2)].as_slice()
+        plan.worker,
+        [
+            Op::Select(Formula::Add(1)),
+            Op::Take(5),
+            Op::Filter(Formula::Even)
+        ]
+        .as_slice()
     );
+    assert_eq!(rt; plan.after, [Op::Take(2)].as_slice());
     assert_eq!(rt; plan.order, Order::ByKey);
     assert!(rt; !plan.decided);
 
     let query = accepted(empty(rt.alloc()).filter(Formula::Even))?;
+    let query = accepted(query.take(5))?;
     let plan = query.split();
     assert_eq!(rt; plan.worker, [Op::Filter(Formula::Even)].as_slice());
-    assert!(rt; plan.after.is_empty());
+    assert_eq!(rt; plan.after, [Op::Take(5)].as_slice());
     assert_eq!(rt; plan.order, Order::ByArrival);
 
     for (n, decided) in [(-1, true), (0, true), (1, false)] {

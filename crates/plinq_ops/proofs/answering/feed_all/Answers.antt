@@ -2,7 +2,8 @@ use Rattle.std.proofs.Common.{rules, ◌≡◌, ◌+◌, [], ◌∷◌, None, So
 use Rattle.plinq_source.specs.declared.ending.Ending.TheVariants.{End, Refused}
 use Rattle.plinq_source.specs.Trace.{open_trace, given_after}
 use Rattle.plinq_source.proofs.Steps.{IsNextItem, IsAtEnding, next_item, at_end, at_refusal}
-use Rattle.plinq_ops.specs.Feeding.{stages_left, IsFed}
+use Rattle.plinq_ops.specs.Feeding.{IsFed}
+use Rattle.plinq_ops.specs.Pipeline.{stages}
 use Rattle.plinq_ops.proofs.Fed.{fed-none, undecided-left}
 use Rattle.plinq_ops.proofs.Answered.{fed-next, fed-decided, fed-at_ending, least-decided, least-at_ending}
 use Rattle.plinq_ops.proofs.answering.feed_all.Goals as goal
@@ -22,8 +23,8 @@ returns-in-Some-clause-fed g c =
     let x = c.in-Item.item in
     let next : IsNextItem t n x = next_item t n x (search (rules, c.loop-item.invariant.0)) in
     let moved : g.S.Source.given c.next.new.self ≡ n + 1 = c.next.ensures.moved ∙ ap (λ u. given_after u n) c.loop-item.invariant.0 ∙ next.moved in
-    let fed : IsFed (stages_left m c.args.ops.now c.loop-item.left) (open_trace (x ∷ [])) c.loop-item.out.items c.feed.new.out.items (stages_left m c.args.ops.now c.feed.new.left) (Some c.in-Some.ending) = search rules in
-    fed-decided _ _ _ t (n + 1) _ _ _ (fed-next _ _ (stages_left m c.args.ops.now c.feed.new.left) t n x _ _ _ _ next c.loop-item.invariant.1 fed)
+    let fed : IsFed (stages m c.loop-item.pipeline) (open_trace (x ∷ [])) c.loop-item.out.items c.feed.new.out.items (stages m c.feed.new.self) (Some c.in-Some.ending) = search rules in
+    fed-decided _ _ _ t (n + 1) _ _ _ (fed-next _ _ (stages m c.feed.new.self) t n x _ _ _ _ next c.loop-item.invariant.1 fed)
 
 -- no item before it did
 pub returns-in-Some-clause-least : goal.returns-in-Some-clause-least
@@ -34,8 +35,8 @@ returns-in-Some-clause-least g c =
     let x = c.in-Item.item in
     let next : IsNextItem t n x = next_item t n x (search (rules, c.loop-item.invariant.0)) in
     let moved : g.S.Source.given c.next.new.self ≡ n + 1 = c.next.ensures.moved ∙ ap (λ u. given_after u n) c.loop-item.invariant.0 ∙ next.moved in
-    let fed : IsFed (stages_left m c.args.ops.now c.loop-item.left) (open_trace (x ∷ [])) c.loop-item.out.items c.feed.new.out.items (stages_left m c.args.ops.now c.feed.new.left) (Some c.in-Some.ending) = search rules in
-    rw moved (least-decided _ _ _ t n x _ _ _ _ next c.loop-item.invariant.1 (fed-next _ _ (stages_left m c.args.ops.now c.feed.new.left) t n x _ _ _ _ next c.loop-item.invariant.1 fed))
+    let fed : IsFed (stages m c.loop-item.pipeline) (open_trace (x ∷ [])) c.loop-item.out.items c.feed.new.out.items (stages m c.feed.new.self) (Some c.in-Some.ending) = search rules in
+    rw moved (least-decided _ _ _ t n x _ _ _ _ next c.loop-item.invariant.1 (fed-next _ _ (stages m c.feed.new.self) t n x _ _ _ _ next c.loop-item.invariant.1 fed))
 
 -- an item that leaves the answer open
 pub loop-item-preserved : goal.loop-item-preserved
@@ -46,8 +47,8 @@ loop-item-preserved g c =
     let x = c.in-Item.item in
     let next : IsNextItem t n x = next_item t n x (search (rules, c.loop-item.invariant.0)) in
     let moved : g.S.Source.given c.next.new.self ≡ n + 1 = c.next.ensures.moved ∙ ap (λ u. given_after u n) c.loop-item.invariant.0 ∙ next.moved in
-    let fed : IsFed (stages_left m c.args.ops.now c.loop-item.left) (open_trace (x ∷ [])) c.loop-item.out.items c.feed.new.out.items (stages_left m c.args.ops.now c.feed.new.left) None = search rules in
-    (search rules, rw moved (fed-next _ _ (stages_left m c.args.ops.now c.feed.new.left) t n x _ _ _ _ next c.loop-item.invariant.1 fed))
+    let fed : IsFed (stages m c.loop-item.pipeline) (open_trace (x ∷ [])) c.loop-item.out.items c.feed.new.out.items (stages m c.feed.new.self) None = search rules in
+    (search rules, rw moved (fed-next _ _ (stages m c.feed.new.self) t n x _ _ _ _ next c.loop-item.invariant.1 fed))
 
 pub returns-in-End-clause-fed : goal.returns-in-End-clause-fed
 returns-in-End-clause-fed g c =

@@ -1,5 +1,6 @@
 use Rattle.std.proofs.Common.{◌≡◌, length, ◌-◌, None}
-use Rattle.plinq_ops.specs.Feeding.{stages_left, IsFed}
+use Rattle.plinq_ops.specs.Feeding.{IsFed}
+use Rattle.plinq_ops.specs.Pipeline.{stages}
 use Rattle.plinq_ops.specs.Sequential.{first_items}
 use Rattle.plinq_ops.proofs.answering.feed_all.Given as goal
 
@@ -7,8 +8,8 @@ use Rattle.plinq_ops.proofs.answering.feed_all.Given as goal
 abbrev pub invariant-loop-item : goal.invariant-loop-item
 invariant-loop-item g l =
     (g.S.Source.whole l.source ≡ g.S.Source.whole l.fn.source)
-    × IsFed (stages_left g.L.Lambda.meaning l.ops l.fn.left) (first_items (g.S.Source.given l.source) (g.S.Source.whole l.fn.source))
-    l.fn.out.items l.out.items (stages_left g.L.Lambda.meaning l.ops l.left) None
+    × IsFed (stages g.L.Lambda.meaning l.fn.pipeline) (first_items (g.S.Source.given l.source) (g.S.Source.whole l.fn.source))
+    l.fn.out.items l.out.items (stages g.L.Lambda.meaning l.pipeline) None
 
 abbrev pub decreases-loop-item : goal.decreases-loop-item
 decreases-loop-item g l = length (g.S.Source.whole l.source).items - g.S.Source.given l.source

@@ -1,10 +1,10 @@
-use Rattle.std.proofs.Common.{rules, ◌≡◌, true, false, map, sym, ◌∙◌}
+use Rattle.std.proofs.Common.{rules, ◌≡◌, true, false, sym, ◌∙◌}
 use Rattle.std.specs.List.{list_any}
 use Rattle.plinq_ops.specs.Stage.{some_takes_none}
 use Rattle.plinq_ops.specs.Operator.{stages_of}
-use Rattle.plinq_ops.specs.Feeding.{count_of, is_empty_take}
+use Rattle.plinq_ops.specs.Feeding.{is_empty_take}
 use Rattle.plinq_ops.proofs.Answered.{answer-of_none, least-of_none, answer-fed}
-use Rattle.plinq_ops.proofs.Counts.{stages_left-counts, some_takes_none-stages_of}
+use Rattle.plinq_ops.proofs.Counts.{stages-begun, some_takes_none-stages_of}
 use Rattle.plinq_ops.proofs.answering.sequential.Goals as goal
 
 pub returns-then-is_decided-clause-answer : goal.returns-then-is_decided-clause-answer
@@ -25,17 +25,16 @@ pub feed_all-requires-clause-undecided : goal.feed_all-requires-clause-undecided
 feed_all-requires-clause-undecided g c lives within =
     let m = g.L.Lambda.meaning in
     let ops = c.ops-ops.result.now in
-    let counts : c.as_mut_slice.result.now ≡ map count_of ops = search rules in
     let some : list_any is_empty_take ops ≡ false = search rules in
-    rw (counts, stages_left-counts m ops) (sym (some_takes_none-stages_of m ops) ∙ some)
+    rw (stages-begun m ops c.in_ok-pipeline.pipeline c.in_ok-pipeline.ensures) (sym (some_takes_none-stages_of m ops) ∙ some)
 
 pub returns-clause-answer : goal.returns-clause-answer
 returns-clause-answer g c =
     let m = g.L.Lambda.meaning in
     let ops = c.args.query.now.ops in
     let same : c.ops-ops.result.now ≡ ops = search rules in
-    let counts : c.as_mut_slice.result.now ≡ map count_of ops = search rules in
-    let fed = rw (same, counts, stages_left-counts m ops) at c.in_ok-ending.ensures.fed in
+    let begins = stages-begun m ops c.in_ok-pipeline.pipeline (rw same at c.in_ok-pipeline.ensures) in
+    let fed = rw begins at c.in_ok-ending.ensures.fed in
     answer-fed (stages_of m ops) _ (g.S.Source.whole c.args.source.now) c.new-items.result.items c.feed_all.new.out.items c.in_ok-ending.ending
     c.new-items.ensures.items fed
 
@@ -44,5 +43,4 @@ returns-clause-least g c =
     let m = g.L.Lambda.meaning in
     let ops = c.args.query.now.ops in
     let same : c.ops-ops.result.now ≡ ops = search rules in
-    let counts : c.as_mut_slice.result.now ≡ map count_of ops = search rules in
-    rw (same, counts, stages_left-counts m ops) at c.in_ok-ending.ensures.least
+    rw (stages-begun m ops c.in_ok-pipeline.pipeline (rw same at c.in_ok-pipeline.ensures)) at c.in_ok-ending.ensures.least

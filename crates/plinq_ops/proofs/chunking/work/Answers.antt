@@ -1,61 +1,67 @@
-use Rattle.std.proofs.Common.{rules, ◌≡◌, ◌+◌, ◌≤◌, ◌∷◌, drop, None, is_some, true, sym, ◌∙◌, ap, arith, refl}
-use Rattle.std.proofs.lemmas.List.{drop_more}
+use Rattle.std.proofs.Common.{rules, ◌≡◌, ◌+◌, [], ◌<◌, length, drop, None, ap, sym, ◌∙◌, refl}
+use Rattle.std.proofs.lemmas.List.{drop_all}
+use Rattle.plinq_ops.specs.Stage.{some_takes_none}
 use Rattle.plinq_ops.proofs.Fed.{none-from_is_some}
-use Rattle.plinq_ops.proofs.Chunks.{fed-fragment, undecided-worker, behind-more, behind-stop, told-stop}
+use Rattle.plinq_ops.proofs.ByKey.{stages-begun_at}
+use Rattle.plinq_ops.proofs.Chunks.{stop-over, behind-block, behind-none, behind-rest_dropped}
 use Rattle.plinq_ops.proofs.chunking.work.Goals as goal
 
-pub feed-requires-clause-undecided : goal.feed-requires-clause-undecided
-feed-requires-clause-undecided g c lives within =
-    undecided-worker g.L.Lambda.meaning c.args.worker.now _ c.loop-at.invariant.1 c.requires.by_element
+pub returns-then-is_over-clause-items : goal.returns-then-is_over-clause-items
+returns-then-is_over-clause-items g c =
+    let begins = stages-begun_at g.L.Lambda.meaning c.args.worker.now c.args.first c.in_ok-pipeline.pipeline c.in_ok-pipeline.ensures in
+    let stopped = stop-over g.L.Lambda.meaning c.args.worker.now c.args.cut c.args.first c.args.items.now c.requires.keyed c.requires.some (ap some_takes_none (sym begins) ∙ search rules) in
+    c.requires.empty ∙ sym stopped.0
 
-pub frag_end-requires : goal.frag_end-requires
-frag_end-requires g c =
-    (fed-fragment g.L.Lambda.meaning c.args.worker.now 0 c.index-items-at.result _ _ _ _ _ c.loop-at.invariant.1 c.requires.by_element c.in_ok-ending.ensures).sound
+pub returns-then-is_over-clause-stop : goal.returns-then-is_over-clause-stop
+returns-then-is_over-clause-stop g c =
+    let begins = stages-begun_at g.L.Lambda.meaning c.args.worker.now c.args.first c.in_ok-pipeline.pipeline c.in_ok-pipeline.ensures in
+    let stopped = stop-over g.L.Lambda.meaning c.args.worker.now c.args.cut c.args.first c.args.items.now c.requires.keyed c.requires.some (ap some_takes_none (sym begins) ∙ search rules) in
+    rw c.stop_over.ensures stopped.1
 
-pub returns-then-is_some-clause-items : goal.returns-then-is_some-clause-items
-returns-then-is_some-clause-items g c =
-    let m = g.L.Lambda.meaning in
-    let worker = c.args.worker.now in
-    let items = c.args.items.now in
-    let i = c.loop-at.at in
-    let key = c.args.first + i in
-    let x = c.index-items-at.result in
-    let within : key ≤ c.args.cut = omega (arith, c.if-key-cut.false) in
-    let here : drop i items ≡ x ∷ drop (i + 1) items = drop_more items i x c.loop-at-test.true ∙ ap (λ y. y ∷ drop (i + 1) items) (sym c.index-items-at.is) in
-    let behind = rw here at c.loop-at.invariant.0 in
-    let ends : is_some c.in_ok-ending.ending ≡ true = search rules in
-    let fed = fed-fragment m worker key x _ _ _ _ _ c.loop-at.invariant.1 c.requires.by_element c.in_ok-ending.ensures in
-    let stopped = behind-stop m worker c.args.cut key x (drop (i + 1) items) _ _ _ _ _ _ within ends behind fed in
-    stopped.items
+pub work_each-requires-clause-undecided : goal.work_each-requires-clause-undecided
+work_each-requires-clause-undecided g c lives within =
+    let begins = stages-begun_at g.L.Lambda.meaning c.args.worker.now c.args.first c.in_ok-pipeline.pipeline c.in_ok-pipeline.ensures in
+    ap some_takes_none (sym begins) ∙ search rules
 
-pub returns-then-is_some-clause-stop : goal.returns-then-is_some-clause-stop
-returns-then-is_some-clause-stop g c =
-    let m = g.L.Lambda.meaning in
-    let worker = c.args.worker.now in
-    let items = c.args.items.now in
-    let i = c.loop-at.at in
-    let key = c.args.first + i in
-    let x = c.index-items-at.result in
-    let within : key ≤ c.args.cut = omega (arith, c.if-key-cut.false) in
-    let here : drop i items ≡ x ∷ drop (i + 1) items = drop_more items i x c.loop-at-test.true ∙ ap (λ y. y ∷ drop (i + 1) items) (sym c.index-items-at.is) in
-    let behind = rw here at c.loop-at.invariant.0 in
-    let ends : is_some c.in_ok-ending.ending ≡ true = search rules in
-    let fed = fed-fragment m worker key x _ _ _ _ _ c.loop-at.invariant.1 c.requires.by_element c.in_ok-ending.ensures in
-    let stopped = behind-stop m worker c.args.cut key x (drop (i + 1) items) _ _ _ _ _ _ within ends behind fed in
-    (stopped.stop, told-stop _ _ _ _ _ c.frag_end.result stopped c.frag_end.ensures)
+pub returns-then-is_empty-clause-items : goal.returns-then-is_empty-clause-items
+returns-then-is_empty-clause-items g c =
+    let open_still : c.in_ok-feed_block.field-0 ≡ None = none-from_is_some _ (search rules) in
+    let copied : c.extend_from_slice.new.self.items ≡ c.split_at.result.0.now = search rules in
+    let behind = behind-block g.L.Lambda.meaning c.args.worker.now c.args.cut c.args.first c.count_within-reached.result c.args.items.now c.split_at.result.0.now c.extend_from_slice.new.self.items c.feed_block.new.block.items
+    c.in_ok-pipeline.pipeline _ c.requires.keyed c.requires.some c.count_within-reached.ensures.most c.count_within-reached.ensures.below c.split_at.ensures.front copied c.in_ok-pipeline.ensures (search rules)
+    (rw open_still at c.in_ok-feed_block.ensures.fed) in
+    let none : drop c.count_within-reached.result c.args.items.now ≡ [] = drop_all c.count_within-reached.result c.args.items.now (search rules) in
+    (behind-none g.L.Lambda.meaning c.args.worker.now c.args.cut (c.args.first + c.count_within-reached.result) (drop c.count_within-reached.result c.args.items.now) [] c.feed_block.new.block.items _ none behind).0
 
-pub loop-at-preserved : goal.loop-at-preserved
-loop-at-preserved g c =
-    let m = g.L.Lambda.meaning in
-    let worker = c.args.worker.now in
-    let items = c.args.items.now in
-    let i = c.loop-at.at in
-    let key = c.args.first + i in
-    let x = c.index-items-at.result in
-    let within : key ≤ c.args.cut = omega (arith, c.if-key-cut.false) in
-    let here : drop i items ≡ x ∷ drop (i + 1) items = drop_more items i x c.loop-at-test.true ∙ ap (λ y. y ∷ drop (i + 1) items) (sym c.index-items-at.is) in
-    let behind = rw here at c.loop-at.invariant.0 in
-    let open_still : c.in_ok-ending.ending ≡ None = none-from_is_some _ (search rules) in
-    let fed = rw open_still at (fed-fragment m worker key x _ _ _ _ _ c.loop-at.invariant.1 c.requires.by_element c.in_ok-ending.ensures) in
-    let next : key + 1 ≡ c.args.first + (i + 1) = omega arith in
-    (rw (← next) (behind-more m worker c.args.cut key x (drop (i + 1) items) _ _ _ _ _ within behind fed), fed.left refl)
+pub returns-then-is_empty-clause-stop : goal.returns-then-is_empty-clause-stop
+returns-then-is_empty-clause-stop g c =
+    let open_still : c.in_ok-feed_block.field-0 ≡ None = none-from_is_some _ (search rules) in
+    let copied : c.extend_from_slice.new.self.items ≡ c.split_at.result.0.now = search rules in
+    let behind = behind-block g.L.Lambda.meaning c.args.worker.now c.args.cut c.args.first c.count_within-reached.result c.args.items.now c.split_at.result.0.now c.extend_from_slice.new.self.items c.feed_block.new.block.items
+    c.in_ok-pipeline.pipeline _ c.requires.keyed c.requires.some c.count_within-reached.ensures.most c.count_within-reached.ensures.below c.split_at.ensures.front copied c.in_ok-pipeline.ensures (search rules)
+    (rw open_still at c.in_ok-feed_block.ensures.fed) in
+    let none : drop c.count_within-reached.result c.args.items.now ≡ [] = drop_all c.count_within-reached.result c.args.items.now (search rules) in
+    (behind-none g.L.Lambda.meaning c.args.worker.now c.args.cut (c.args.first + c.count_within-reached.result) (drop c.count_within-reached.result c.args.items.now) [] c.feed_block.new.block.items _ none behind).1
+
+pub returns-clause-items : goal.returns-clause-items
+returns-clause-items g c =
+    let open_still : c.in_ok-feed_block.field-0 ≡ None = none-from_is_some _ (search rules) in
+    let copied : c.extend_from_slice.new.self.items ≡ c.split_at.result.0.now = search rules in
+    let behind = behind-block g.L.Lambda.meaning c.args.worker.now c.args.cut c.args.first c.count_within-reached.result c.args.items.now c.split_at.result.0.now c.extend_from_slice.new.self.items c.feed_block.new.block.items
+    c.in_ok-pipeline.pipeline _ c.requires.keyed c.requires.some c.count_within-reached.ensures.most c.count_within-reached.ensures.below c.split_at.ensures.front copied c.in_ok-pipeline.ensures (search rules)
+    (rw open_still at c.in_ok-feed_block.ensures.fed) in
+    let some : 0 < length (drop c.count_within-reached.result c.args.items.now) = search rules in
+    let more : c.count_within-reached.result < length c.args.items.now = search rules in
+    (behind-rest_dropped g.L.Lambda.meaning c.args.worker.now c.args.cut (c.args.first + c.count_within-reached.result) (drop c.count_within-reached.result c.args.items.now) [] c.feed_block.new.block.items _ some (c.count_within-reached.ensures.above more) behind).0
+
+pub returns-clause-stop : goal.returns-clause-stop
+returns-clause-stop g c =
+    let open_still : c.in_ok-feed_block.field-0 ≡ None = none-from_is_some _ (search rules) in
+    let copied : c.extend_from_slice.new.self.items ≡ c.split_at.result.0.now = search rules in
+    let behind = behind-block g.L.Lambda.meaning c.args.worker.now c.args.cut c.args.first c.count_within-reached.result c.args.items.now c.split_at.result.0.now c.extend_from_slice.new.self.items c.feed_block.new.block.items
+    c.in_ok-pipeline.pipeline _ c.requires.keyed c.requires.some c.count_within-reached.ensures.most c.count_within-reached.ensures.below c.split_at.ensures.front copied c.in_ok-pipeline.ensures (search rules)
+    (rw open_still at c.in_ok-feed_block.ensures.fed) in
+    let some : 0 < length (drop c.count_within-reached.result c.args.items.now) = search rules in
+    let more : c.count_within-reached.result < length c.args.items.now = search rules in
+    let dropped = behind-rest_dropped g.L.Lambda.meaning c.args.worker.now c.args.cut (c.args.first + c.count_within-reached.result) (drop c.count_within-reached.result c.args.items.now) [] c.feed_block.new.block.items _ some (c.count_within-reached.ensures.above more) behind in
+    (dropped.1, rw dropped.2 refl)

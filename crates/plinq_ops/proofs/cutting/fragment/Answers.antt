@@ -1,22 +1,23 @@
-use Rattle.std.proofs.Common.{rules, ◌∙◌, refl}
-use Rattle.plinq_ops.proofs.Counts.{stages_left-begun}
-use Rattle.plinq_ops.proofs.Chunks.{fed-fragment, undecided-worker}
+use Rattle.std.proofs.Common.{◌∙◌, ap, sym, refl, rules}
+use Rattle.plinq_ops.specs.Stage.{some_takes_none}
+use Rattle.plinq_ops.proofs.ByKey.{stages-begun_at}
+use Rattle.plinq_ops.proofs.Chunks.{fed-fragment, fragment-over}
 use Rattle.plinq_ops.proofs.cutting.fragment.Goals as goal
 
-pub feed-requires-clause-undecided : goal.feed-requires-clause-undecided
-feed-requires-clause-undecided g c lives within =
-    let whole = stages_left-begun g.L.Lambda.meaning c.args.worker.now c.as_mut_slice.result.now (search rules) in
-    undecided-worker g.L.Lambda.meaning c.args.worker.now _ whole c.requires
+pub returns-then-is_over : goal.returns-then-is_over
+returns-then-is_over g c =
+    let begins = stages-begun_at g.L.Lambda.meaning c.args.worker.now c.args.key c.in_ok-pipeline.pipeline c.in_ok-pipeline.ensures in
+    fragment-over g.L.Lambda.meaning c.args.worker.now c.args.key c.args.x _ c.requires.keyed c.requires.some (ap some_takes_none (sym begins) ∙ search rules) c.new-items.ensures.items refl
 
 pub frag_end-requires : goal.frag_end-requires
 frag_end-requires g c =
-    let whole = stages_left-begun g.L.Lambda.meaning c.args.worker.now c.as_mut_slice.result.now (search rules) in
-    (fed-fragment g.L.Lambda.meaning c.args.worker.now c.args.key c.args.x _ _ _ _ _ whole c.requires c.in_ok-ending.ensures).sound
+    let whole = stages-begun_at g.L.Lambda.meaning c.args.worker.now c.args.key c.in_ok-pipeline.pipeline c.in_ok-pipeline.ensures in
+    (fed-fragment g.L.Lambda.meaning c.args.worker.now c.args.key c.args.x _ _ _ _ _ whole c.requires.keyed c.requires.some c.in_ok-ending.ensures.fed).sound
 
 pub returns : goal.returns
 returns g c =
-    let whole = stages_left-begun g.L.Lambda.meaning c.args.worker.now c.as_mut_slice.result.now (search rules) in
-    let fed = fed-fragment g.L.Lambda.meaning c.args.worker.now c.args.key c.args.x _ _ _ _ _ whole c.requires c.in_ok-ending.ensures in
+    let whole = stages-begun_at g.L.Lambda.meaning c.args.worker.now c.args.key c.in_ok-pipeline.pipeline c.in_ok-pipeline.ensures in
+    let fed = fed-fragment g.L.Lambda.meaning c.args.worker.now c.args.key c.args.x _ _ _ _ _ whole c.requires.keyed c.requires.some c.in_ok-ending.ensures.fed in
     record {
       items = fed.items ∙ rw c.new-items.ensures.items refl;
       ending = rw fed.told at c.frag_end.ensures;

@@ -1,0 +1,11 @@
+use Rattle.plinq_cli.proofs.PrintedRead.{call_from-printed, call_from-read, op_words-named}
+use Rattle.plinq_cli.proofs.laws.printed_operator_is_read.Goals as goal
+
+pub returns-clause-read : goal.returns-clause-read
+returns-clause-read c = λ op ds h. call_from-printed op ds h
+
+pub returns-clause-printed : goal.returns-clause-printed
+returns-clause-printed c = λ ds call is. call_from-read ds call is
+
+pub returns-clause-words : goal.returns-clause-words
+returns-clause-words c = λ op. op_words-named op

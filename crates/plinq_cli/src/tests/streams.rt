@@ -1,0 +1,226 @@
+//! Readers and writers that fail.
+use super::{ADD_ONE, words_of};
+use crate::performing::perform;
+use std::alloc::AllocError;
+use std::io;
+use std::io::{BufWriter, ErrorKind, Read, Write};
+use std::process::Abort;
+use std::test::Fail;
+
+// A writer that takes only so many bytes, and only so many at once.
+#[derive(Drop)]
+struct Narrow {
+    taken: Vec<u8>,
+    room: usize,
+    at_once: usize,
+    flushes: bool,
+    interrupts: bool,
+}
+
+impl Write for Narrow {
+    fn write(&mut self, buf: &[u8]) -> io::Result<usize> {
+        if self.interrupts {
+            self.interrupts = false;
+            return Err(io::Error::from(ErrorKind::Interrupted));
+        }
+        let count = buf.len().min(self.at_once).min(self.room);
+        if count == 0 && !buf.is_empty() {
+            return Err(io::Error::from(ErrorKind::BrokenPipe));
+        }
+        self.taken.extend_from_slice(&buf[..count])?;
+        self.room -= count;
+        Ok(count)
+    }
+
+    fn flush(&mut self) -> io::Result<()> {
+        if self.flushes {
+            Ok(())
+        } else {
+            Err(io::Error::from(ErrorKind::BrokenPipe))
+        }
+    }
+}
+
+// Row by row: the room, how many bytes at once, whether it flushes, what it took, and the status.
+type Written = (usize, usize, bool, &'static str, u8);
+
+const WRITTEN: [Written; 6] = [
+    (100, 100, true, "4\n2\n5\nend\n", 0),
+    (100, 1, true, "4\n2\n5\nend\n", 0),
+    (3, 100, true, "4\n2", 5),
+    (8, 1, true, "4\n2\n5\nen", 5),
+    (0, 1, true, "", 5),
+    (100, 100, false, "4\n2\n5\nend\n", 5),
+];
+
+#[test]
+fn writes_that_fail(rt: HostRuntime) -> Result<(), Fail> {
+    let alloc = rt.alloc();
+    for (room, at_once, flushes, taken, status) in WRITTEN {
+        let mut out = Narrow {
+            taken: Vec::new(alloc),
+            room,
+            at_once,
+            flushes,
+            interrupts: true,
+        };
+        let mut err = Vec::new(alloc);
+        let words = words_of(alloc, &["plinq", "run", "--merge", "not"])?;
+        let answered = perform(&rt, words, &mut ADD_ONE.as_bytes(), &mut out, &mut err);
+        assert_eq!(rt; answered, status, "with room for {room}");
+        assert_eq!(rt; out.taken.as_slice(), taken.as_bytes());
+        let line = if status == 0 {
+            ""
+        } else {
+            "plinq: write failed\n"
+        };
+        assert_eq!(rt; err.as_slice(), line.as_bytes());
+    }
+    Ok(())
+}
+
+// Help, or a failure's line, on a writer that takes nothing.
+#[test]
+fn errors_that_cannot_be_written(rt: HostRuntime) -> Result<(), Fail> {
+    let alloc = rt.alloc();
+    let closed = || Narrow {
+        taken: Vec::new(alloc),
+        room: 0,
+        at_once: 1,
+        flushes: false,
+        interrupts: false,
+    };
+    let mut out = Vec::new(alloc);
+    let mut err = closed();
+    let words = words_of(alloc, &["plinq", "run"])?;
+    assert_eq!(rt;
+        perform(&rt, words, &mut b"[".as_slice(), &mut out, &mut err),
+        2
+    );
+    let words = words_of(alloc, &["plinq", "walk"])?;
+    assert_eq!(rt;
+        perform(&rt, words, &mut b"[".as_slice(), &mut out, &mut err),
+        2
+    );
+    let words = words_of(alloc, &["plinq", "--help"])?;
+    let mut told = Vec::new(alloc);
+    assert_eq!(rt;
+        perform(&rt, words, &mut b"[".as_slice(), &mut err, &mut told),
+        5
+    );
+    assert_eq!(rt; told.as_slice(), b"plinq: write failed\n".as_slice());
+    Ok(())
+}
+
+// A refused document comes before a flush that fails.
+#[test]
+fn a_flush_that_fails_beside_a_refused_document(rt: HostRuntime) -> Result<(), Fail> {
+    let alloc = rt.alloc();
+    let mut out = Narrow {
+        taken: Vec::new(alloc),
+        room: 100,
+        at_once: 100,
+        flushes: false,
+        interrupts: false,
+    };
+    let mut err = Vec::new(alloc);
+    let words = words_of(alloc, &["plinq", "run"])?;
+    assert_eq!(rt;
+        perform(&rt, words, &mut b"[".as_slice(), &mut out, &mut err),
+        2
+    );
+    assert_eq!(rt; err.as_slice(), b"plinq: document: not JSON\n".as_slice());
+    assert!(rt; out.taken.is_empty());
+    Ok(())
+}
+
+// Fails at its first write, and takes all later ones.
+#[derive(Drop)]
+struct FailsOnce {
+    taken: Vec<u8>,
+    has_failed: bool,
+}
+
+impl Write for FailsOnce {
+    fn write(&mut self, buf: &[u8]) -> io::Result<usize> {
+        if !self.has_failed {
+            self.has_failed = true;
+            return Err(io::Error::from(ErrorKind::WouldBlock));
+        }
+        self.taken.extend_from_slice(buf)?;
+        Ok(buf.len())
+    }
+
+    fn flush(&mut self) -> io::Result<()> {
+        Ok(())
+    }
+}
+
+// What a buffer still holds after a failing write isn't written, whether a line or the flush was what failed.
+#[test]
+fn nothing_is_written_behind_a_failure(rt: HostRuntime) -> Result<(), Fail> {
+    let alloc = rt.alloc();
+    for capacity in [3, 8_192] {
+        let once = FailsOnce {
+            taken: Vec::new(alloc),
+            has_failed: false,
+        };
+        let mut out = BufWriter::with_capacity(alloc, capacity, once)?;
+        let mut err = Vec::new(alloc);
+        let words = words_of(alloc, &["plinq", "run", "--merge", "not"])?;
+        let status = perform(&rt, words, &mut ADD_ONE.as_bytes(), &mut out, &mut err);
+        assert_eq!(rt; status, 5, "a buffer of {capacity} bytes");
+        assert_eq!(rt; err.as_slice(), b"plinq: write failed\n".as_slice());
+        let (once, _) = out.into_parts();
+        assert!(rt; once.has_failed);
+        assert!(rt; once.taken.is_empty(), "a buffer of {capacity} bytes");
+    }
+    Ok(())
+}
+
+// A reader of spaces, which fails when they are used up or ends.
+#[derive(Drop)]
+struct Spaces {
+    left: usize,
+    fails: bool,
+}
+
+impl Read for Spaces {
+    fn read(&mut self, buf: &mut [u8]) -> io::Result<usize> {
+        let count = buf.len().min(self.left);
+        if count == 0 && self.fails {
+            return Err(io::Error::from(ErrorKind::BrokenPipe));
+        }
+        for byte in &mut buf[..count] {
+            *byte = b' ';
+        }
+        self.left -= count;
+        Ok(count)
+    }
+}
+
+fn check_read<R: AllocGlobal + Abort>(
+    rt: &R,
+    left: usize,
+    fails: bool,
+    line: &str,
+    status: u8,
+) -> Result<(), AllocError> {
+    let alloc = rt.alloc();
+    let mut reader = Spaces { left, fails };
+    let mut out = Vec::new(alloc);
+    let mut err = Vec::new(alloc);
+    let words = words_of(alloc, &["plinq", "seq"])?;
+    assert_eq!(rt; perform(rt, words, &mut reader, &mut out, &mut err), status);
+    assert_eq!(rt; err.as_slice(), line.as_bytes());
+    assert!(rt; out.is_empty());
+    Ok(())
+}
+
+#[test]
+fn reads(rt: HostRuntime) -> Result<(), Fail> {
+    check_read(&rt, 10, true, "plinq: read failed\n", 5)?;
+    check_read(&rt, 16_777_217, false, "plinq: document: too long\n", 2)?;
+    check_read(&rt, 16_777_216, false, "plinq: document: not JSON\n", 2)?;
+    Ok(())
+}

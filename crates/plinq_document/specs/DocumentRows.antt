@@ -1,0 +1,100 @@
+-- Documents, as values, and what they ask for.
+use Rattle.std.specs.Prelude.{◌≡◌, ℕ, pos, negsuc, List, [], ◌∷◌, Some, None, Ok, Err, true, codes, refl}
+use Rattle.serde_json.specs.Data.{Data, unsigned, negative, number, string, array, object, no_members, member}
+use Rattle.serde_json.specs.View.{items_of}
+use Rattle.plinq_source.specs.Trace.{ended}
+use Rattle.plinq_source.specs.declared.ending.Ending.TheVariants.{End}
+use Rattle.plinq_lambda.specs.declared.formula.Formula.TheVariants.{Add}
+use Rattle.plinq_ops.specs.declared.op.Op.TheVariants.{Select}
+use Rattle.plinq_ops.specs.declared.merge_option.MergeOption.TheVariants.{NotBuffered}
+use Rattle.plinq_ops.specs.declared.build_fault.BuildFault.TheVariants.{NotAtSource, MergeTwice, DegreeTwice, DegreeOutOfRange}
+use Rattle.plinq_enumerator.specs.declared.growth_fault.GrowthFault.TheVariants.{Zero}
+use Rattle.plinq_document.specs.Document.{document_meaning}
+use Rattle.plinq_document.specs.declared.settings.Settings.{Settings}
+use Rattle.plinq_document.specs.declared.doc_fault.StepFault.TheVariants.{Unknown, Build}
+use Rattle.plinq_document.specs.declared.doc_fault.DocFault.TheVariants.{Shape, Version, Source, Growth, Step}
+
+abbrev whole : ℕ → Data
+whole n = number (unsigned n)
+
+abbrev word : List ℕ → Data
+word bytes = string bytes
+
+abbrev row : List Data → Data
+row ds = array (items_of ds)
+
+-- no setting of the command line
+abbrev plain : Settings
+plain = record { workers = None; merge = None }
+
+-- the members in the order of their names
+abbrev document : List Data → Data → Data → Data
+document steps source version = object (member (codes "query") (row steps) (member (codes "source") source (member (codes "version") version no_members)))
+
+abbrev list_of : List Data → Data
+list_of ds = object (member (codes "list") (row ds) no_members)
+
+abbrev range_of : Data → Data → Data
+range_of start count = object (member (codes "range") (row (start ∷ count ∷ [])) no_members)
+
+abbrev stepping : List Data → Data
+stepping steps = document steps (list_of []) (whole 1)
+
+abbrev as_ordered : Data
+as_ordered = row (word (codes "as_ordered") ∷ [])
+
+abbrev select_add_one : Data
+select_add_one = row (word (codes "select") ∷ word (codes "add") ∷ whole 1 ∷ [])
+
+-- {"version":1,"source":{"list":[3,1,4]},"query":[["as_ordered"],["select","add",1]]}
+pub meaning-example : document_meaning plain (document (as_ordered ∷ select_add_one ∷ []) (list_of (whole 3 ∷ whole 1 ∷ whole 4 ∷ [])) (whole 1))
+    ≡ Ok (record { query = record { ops = Select (Add (pos 1)) ∷ []; ordered = true; merge = None; degree = None }; source = ended (pos 3 ∷ pos 1 ∷ pos 4 ∷ []) End; growth = record { first = 1; repeat = 3; max = 512 } })
+meaning-example = refl
+
+-- {}
+pub meaning-empty : document_meaning plain (object no_members) ≡ Err Shape
+meaning-empty = refl
+
+-- a version that isn't known comes before a name that isn't
+pub meaning-version : document_meaning plain (object (member (codes "version") (whole 3) (member (codes "x") (whole 0) no_members))) ≡ Err Version
+meaning-version = refl
+
+-- {"range":[9223372036854775807,2]}
+pub meaning-large : document_meaning plain (document [] (range_of (whole 9223372036854775807) (whole 2)) (whole 1)) ≡ Err Source
+meaning-large = refl
+
+-- {"range":[1,-1]}
+pub meaning-negative : document_meaning plain (document [] (range_of (whole 1) (number (negative (negsuc 0)))) (whole 1)) ≡ Err Shape
+meaning-negative = refl
+
+-- the growth [0,3,512], and [["sort"]]
+pub meaning-growth : document_meaning plain (object (member (codes "growth") (row (whole 0 ∷ whole 3 ∷ whole 512 ∷ [])) (member (codes "query") (row (row (word (codes "sort") ∷ []) ∷ [])) (member (codes "source") (list_of []) (member (codes "version") (whole 1) no_members))))) ≡ Err (Growth Zero)
+meaning-growth = refl
+
+-- the growth [1,3] has a wrong shape, which is looked at before the size of {"range":[0,1099511627777]}
+pub meaning-two_counts : document_meaning plain (object (member (codes "growth") (row (whole 1 ∷ whole 3 ∷ [])) (member (codes "query") (row []) (member (codes "source") (range_of (whole 0) (whole 1099511627777)) (member (codes "version") (whole 1) no_members))))) ≡ Err Shape
+meaning-two_counts = refl
+
+-- and the growth [0,3,512] is none, which is looked at behind it
+pub meaning-large_before_growth : document_meaning plain (object (member (codes "growth") (row (whole 0 ∷ whole 3 ∷ whole 512 ∷ [])) (member (codes "query") (row []) (member (codes "source") (range_of (whole 0) (whole 1099511627777)) (member (codes "version") (whole 1) no_members))))) ≡ Err Source
+meaning-large_before_growth = refl
+
+-- [["sort"]]
+pub meaning-unknown : document_meaning plain (stepping (row (word (codes "sort") ∷ []) ∷ [])) ≡ Err (Step 0 Unknown)
+meaning-unknown = refl
+
+-- [["select","add",1],["as_ordered"]]
+pub meaning-late : document_meaning plain (stepping (select_add_one ∷ as_ordered ∷ [])) ≡ Err (Step 1 (Build NotAtSource))
+meaning-late = refl
+
+-- [["with_degree",65]]
+pub meaning-degree : document_meaning plain (stepping (row (word (codes "with_degree") ∷ whole 65 ∷ []) ∷ [])) ≡ Err (Step 0 (Build DegreeOutOfRange))
+meaning-degree = refl
+
+-- the command line's merge option, and [["with_merge","full"]]
+pub meaning-merge_twice : document_meaning (record { workers = None; merge = Some NotBuffered }) (stepping (row (word (codes "with_merge") ∷ word (codes "full") ∷ []) ∷ [])) ≡ Err (Step 0 (Build MergeTwice))
+meaning-merge_twice = refl
+
+-- the command line's workers, and [["with_degree",0]]
+pub meaning-degree_twice : document_meaning (record { workers = Some 2; merge = None }) (stepping (row (word (codes "with_degree") ∷ whole 0 ∷ []) ∷ [])) ≡ Err (Step 0 (Build DegreeTwice))
+meaning-degree_twice = refl

@@ -1,0 +1,14 @@
+pub mod Walked
+pub mod Json
+pub mod Words
+pub mod Values
+pub mod Degrees
+pub mod Formulas
+pub mod Results
+pub mod Versions
+pub mod Steps
+pub mod Sources
+pub mod Growths
+pub mod Jobs
+pub mod Document
+pub mod DocumentRows

@@ -1,0 +1,96 @@
+-- The source of a document.
+use Rattle.std.specs.Prelude.{ℕ, ◌^◌, ℤ, ◌&&◌, List, [], ◌∷◌, length, Option, Some, None, option_map, option_and_then, nat_le, nat_lt, if◌then◌else◌, replicate, Result, Ok, Err, codes}
+use Rattle.std.specs.Str.{bytes_eq}
+use Rattle.serde_json.specs.Data.{Data, Items, no_items, item, Members, no_members, member}
+use Rattle.serde_json.specs.Find.{as_str, as_array, as_object, get}
+use Rattle.plinq_source.specs.Trace.{Trace, ended, list_ending}
+use Rattle.plinq_source.specs.Text.{text_trace}
+use Rattle.plinq_source.specs.Range.{range_items, is_range}
+use Rattle.plinq_source.specs.Repeat.{is_repeat}
+use Rattle.plinq_source.specs.declared.ending.Ending.TheVariants.{End}
+use Rattle.plinq_document.specs.Words.{beside}
+use Rattle.plinq_document.specs.Values.{whole_number, count_of, only_count}
+use Rattle.plinq_document.specs.Results.{◌>>=◌, or_shape}
+use Rattle.plinq_document.specs.declared.version.Version.{Version}
+use Rattle.plinq_document.specs.declared.version.Version.TheVariants.{One}
+use Rattle.plinq_document.specs.declared.source_name.SourceName.{SourceName}
+use Rattle.plinq_document.specs.declared.source_name.SourceName.TheVariants.{List as ListName, Text as TextName, Range as RangeName, Repeat as RepeatName}
+use Rattle.plinq_document.specs.declared.doc_fault.DocFault.{DocFault}
+use Rattle.plinq_document.specs.declared.doc_fault.DocFault.TheVariants.{Shape, Source}
+
+-- the kind of source of this name
+abbrev pub source_name : List ℕ → Option SourceName
+source_name = beside ((codes "list", ListName) ∷ (codes "text", TextName) ∷ (codes "range", RangeName) ∷ (codes "repeat", RepeatName) ∷ [])
+
+-- the items, all of them whole numbers
+abbrev pub whole_numbers : Items → Option (List ℤ)
+whole_numbers no_items = Some []
+whole_numbers (item d ds) = option_and_then (λ n. option_map (λ ns. n ∷ ns) (whole_numbers ds)) (whole_number d)
+
+-- the code of a refusal, a count below 2^32
+abbrev pub code_of : Data → Option ℕ
+code_of d = option_and_then (λ n. if nat_lt n (2 ^ 32) then Some n else None) (count_of d)
+
+-- the numbers of a list that may be a source
+abbrev pub few_numbers : List ℤ → Result (List ℤ) DocFault
+few_numbers ns = if nat_le (length ns) (2 ^ 40) then Ok ns else Err Source
+
+abbrev pub list_numbers : Data → Result (List ℤ) DocFault
+list_numbers d = or_shape (option_and_then whole_numbers (as_array d)) >>= few_numbers
+
+-- a list of whole numbers, and how it ends
+abbrev pub list_source : Option ℕ → Data → Result (Trace ℤ) DocFault
+list_source refusal d = do
+  ns ← list_numbers d
+  Ok (ended ns (list_ending refusal))
+
+-- the numbers of a text
+abbrev pub text_source : List ℕ → Result (Trace ℤ) DocFault
+text_source text = if nat_le (length text) (2 ^ 40) then Ok (text_trace text) else Err Source
+
+-- the whole numbers from a start on, so many
+abbrev pub range_trace : ℤ → ℕ → Result (Trace ℤ) DocFault
+range_trace start count = if is_range start count then Ok (ended (range_items start count) End) else Err Source
+
+-- one whole number, so many times
+abbrev pub repeat_trace : ℤ → ℕ → Result (Trace ℤ) DocFault
+repeat_trace value count = if is_repeat count then Ok (ended (replicate count value) End) else Err Source
+
+-- what is made of an item that is a whole number and one behind it that is a count
+abbrev pub of_number_and_count : (ℤ → ℕ → Result (Trace ℤ) DocFault) → Items → Result (Trace ℤ) DocFault
+of_number_and_count f no_items = Err Shape
+of_number_and_count f (item d ds) = do
+  n ← or_shape (whole_number d)
+  count ← or_shape (only_count ds)
+  f n count
+
+-- the source of this kind that the value describes
+abbrev pub plain_source_named : Data → SourceName → Result (Trace ℤ) DocFault
+plain_source_named d ListName = list_source None d
+plain_source_named d TextName = or_shape (as_str d) >>= text_source
+plain_source_named d RangeName = or_shape (as_array d) >>= of_number_and_count range_trace
+plain_source_named d RepeatName = or_shape (as_array d) >>= of_number_and_count repeat_trace
+
+-- the members "list" and "refuse"
+abbrev pub refusing_list : List ℕ → Data → List ℕ → Data → Result (Trace ℤ) DocFault
+refusing_list first d second e =
+    if bytes_eq first (codes "list") && bytes_eq second (codes "refuse") then (or_shape (code_of e) >>= λ code. list_source (Some code) d) else Err Shape
+
+-- the source of an object that is one of the five: of its only member, or of the members "list" and "refuse"
+abbrev pub plain_source_from : Members → Result (Trace ℤ) DocFault
+plain_source_from no_members = Err Shape
+plain_source_from (member name d no_members) = or_shape (source_name name) >>= plain_source_named d
+plain_source_from (member name d (member other e no_members)) = refusing_list name d other e
+plain_source_from (member name d (member other e (member third g rest))) = Err Shape
+
+-- the source that a value describes, of those that every version has
+abbrev pub plain_source_of : Data → Result (Trace ℤ) DocFault
+plain_source_of d = or_shape (as_object d) >>= plain_source_from
+
+-- the source that a value describes in this version
+abbrev pub source_of : Version → Data → Result (Trace ℤ) DocFault
+source_of One d = plain_source_of d
+
+-- the source of a document of this version, under the name "source"
+abbrev pub source_in : Version → Data → Result (Trace ℤ) DocFault
+source_in version d = or_shape (get (codes "source") d) >>= source_of version

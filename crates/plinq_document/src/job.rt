@@ -1,0 +1,28 @@
+use crate::any_source::AnySource;
+use plinq_enumerator::Growth;
+use plinq_lambda::Formula;
+use plinq_ops::Query;
+use plinq_source::Source;
+use std::marker::Model;
+
+/// What a document asks for.
+#[derive(Drop)]
+pub struct Job {
+    /// The operators and settings.
+    pub query: Query<Formula>,
+    /// Where the elements come from, with nothing given yet.
+    pub source: AnySource,
+    /// How the chunks grow that partitions take from the source.
+    pub growth: Growth,
+}
+
+impl Model for Job {
+    ghost use Rattle.std.specs.Prelude.{◌≡◌};
+    ghost use Rattle.plinq_document.specs.Jobs.{JobView};
+
+    ghost Value = { JobView };
+
+    ghost view = { λ job. record { query = job.query; source = ⟦<AnySource as Source>⟧.whole job.source; growth = job.growth } };
+
+    ghost invariant = { λ job. ⟦<AnySource as Source>⟧.given job.source ≡ 0 };
+}

@@ -1,0 +1,35 @@
+//! A text of bytes gives the job that it means, or the first thing that is wrong with it.
+//!
+//! `read_document` answers `document_of`, one definition that looks in turn at the length, the JSON, the version, the
+//! names, the steps, the shape of the growth, the source, the growth and the calls of the steps. A `Job` is seen as its
+//! query, the trace of its source, of which nothing is given yet, and its growth. A `Degree` is from 1 to 64. `merge_word`
+//! is the merge option of a word, for the command line as for a step.
+#![tactic(auto)]
+
+mod any_source;
+mod degree;
+mod doc_fault;
+mod document;
+mod formulas;
+mod growth_counts;
+mod job;
+mod plain_source;
+mod plain_sources;
+mod settings;
+mod source_name;
+mod sources;
+mod step_call;
+mod step_name;
+mod steps;
+mod values;
+mod version;
+
+pub use any_source::AnySource;
+pub use degree::Degree;
+pub use doc_fault::{DocFault, StepFault};
+pub use document::read_document;
+pub use job::Job;
+pub use plain_source::PlainSource;
+pub use settings::Settings;
+pub use step_call::{StepCall, merge_word};
+pub use version::Version;

@@ -1,0 +1,3 @@
+mod ItemLines
+mod PartWritten
+pub mod WrittenBytes

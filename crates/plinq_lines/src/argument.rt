@@ -1,0 +1,9 @@
+use plinq_lambda::Formula;
+
+/// What stands behind an operator's name.
+#[derive(Clone, Copy)]
+pub(crate) enum Argument {
+    Nothing,
+    Formula(Formula),
+    Number(i64),
+}

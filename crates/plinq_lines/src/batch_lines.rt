@@ -1,0 +1,94 @@
+ghost use Rattle.std.specs.Prelude.{◌≡◌, ◌≤◌, ◌++◌, ◌∷◌, [], length};
+ghost use Rattle.std.specs.List.{flat_map};
+ghost use Rattle.plinq_lines.specs.Text.{line, further_number, batch_line};
+ghost use Rattle.plinq_lines.specs.Written.{Writes};
+
+use crate::bytes::write_bytes;
+use crate::piece::Piece;
+use crate::pieces::write_pieces;
+use crate::placing::{place_further_numbers, place_line, place_number};
+use crate::write_fault::WriteFault;
+use std::io::Write;
+
+// How many numbers are placed at once: as many as stand in a batch of the default merge option.
+const MOST_PLACED: usize = 16;
+
+// A decimal has at most 20 bytes, a space or a line feed with it makes 21.
+const NUMBER_ROOM: usize = 21;
+
+const NUMBERS_ROOM: usize = 336;
+
+const LINE_ROOM: usize = 337;
+
+/// Writes one batch as a line of decimals, with a space between two. Takes no memory.
+///
+/// A batch of at most 16 numbers is written by one call of the writer, if that takes it whole.
+///
+/// ```text
+/// write_batch(&mut out, &[4, -2, 5])?; // 4 -2 5
+/// ```
+///
+/// # Errors
+///
+/// [`WriteFault`] where the writer fails, or takes none of the bytes that it is given. What it took until then is a
+/// beginning of the line.
+pub fn write_batch<W: Write>(writer: &mut W, batch: &[i64]) -> Result<(), WriteFault>
+    ensures { Writes (W.contents writer.old) (W.contents writer.new) result (batch_line batch.now) }
+{
+    if batch.len() > MOST_PLACED {
+        return write_long_batch(writer, batch);
+    }
+    match batch {
+        [x] => write_only_number(writer, *x),
+        _ => write_short_batch(writer, batch),
+    }
+}
+
+fn write_only_number<W: Write>(writer: &mut W, x: i64) -> Result<(), WriteFault>
+    ensures { Writes (W.contents writer.old) (W.contents writer.new) result (batch_line (x ∷ [])) }
+{
+    let mut text = [b'\n'; NUMBER_ROOM];
+    let start = place_number(x, &mut text, NUMBER_ROOM - 1);
+    write_bytes(writer, &text[start..])
+}
+
+fn write_short_batch<W: Write>(writer: &mut W, batch: &[i64]) -> Result<(), WriteFault>
+    requires { length batch.now ≤ 16 }
+    ensures { Writes (W.contents writer.old) (W.contents writer.new) result (batch_line batch.now) }
+{
+    let mut text = [0; LINE_ROOM];
+    let start = place_line(batch, &mut text, LINE_ROOM);
+    write_bytes(writer, &text[start..])
+}
+
+fn write_long_batch<W: Write>(writer: &mut W, batch: &[i64]) -> Result<(), WriteFault>
+    ensures { Writes (W.contents writer.old) (W.contents writer.new) result (batch_line batch.now) }
+{
+    let Some((first, further)) = batch.split_first() else {
+        return write_bytes(writer, b"\n");
+    };
+    write_pieces(writer, &[Piece::Number(*first)])?;
+    write_further_numbers(writer, further)
+}
+
+// Writes the numbers behind the first of a line, and its line feed.
+fn write_further_numbers<W: Write>(writer: &mut W, further: &[i64]) -> Result<(), WriteFault>
+    ensures { Writes (W.contents writer.old) (W.contents writer.new) result (line (flat_map further_number further.now)) }
+{
+    let mut rest = further;
+    while !rest.is_empty() {
+        let (numbers, behind) = rest.split_at(MOST_PLACED.min(rest.len()));
+        write_few_numbers(writer, numbers)?;
+        rest = behind;
+    }
+    write_bytes(writer, b"\n")
+}
+
+fn write_few_numbers<W: Write>(writer: &mut W, numbers: &[i64]) -> Result<(), WriteFault>
+    requires { length numbers.now ≤ 16 }
+    ensures { Writes (W.contents writer.old) (W.contents writer.new) result (flat_map further_number numbers.now) }
+{
+    let mut text = [0; NUMBERS_ROOM];
+    let start = place_further_numbers(numbers, &mut text, NUMBERS_ROOM);
+    write_bytes(writer, &text[start..])
+}

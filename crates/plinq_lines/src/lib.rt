@@ -1,0 +1,29 @@
+//! Lines: what is written is exactly the lines of an answer, and after a failure a beginning of them.
+//!
+//! - Each function here `Writes` a text: at `Ok` the writer has all of it behind what it had, at an `Err` a beginning
+//!   of it (`specs/Written.antt`). None takes memory, and none flushes.
+//! - [`write_batch`] writes the line of one batch (`batch_line`), [`write_batches`] those of a whole answer, a line
+//!   each, and [`write_ending`] the line of how it ended (`ending_words`); [`write_answer`] all of it (`answer_text`).
+//! - [`write_plan`] writes the five lines of a query's plan (`plan_text`), [`write_parts`] those of a source cut into
+//!   partitions (`properties_line`, `part_lines`, `ending_words`).
+#![tactic(auto)]
+
+mod answer_lines;
+mod argument;
+mod batch_lines;
+mod bytes;
+mod op_words;
+mod parts_lines;
+mod piece;
+mod pieces;
+mod placing;
+mod plan_lines;
+#[cfg(test)]
+mod tests;
+mod write_fault;
+
+pub use answer_lines::{write_answer, write_batches, write_ending};
+pub use batch_lines::write_batch;
+pub use parts_lines::write_parts;
+pub use plan_lines::write_plan;
+pub use write_fault::WriteFault;

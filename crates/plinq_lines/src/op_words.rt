@@ -1,0 +1,152 @@
+ghost use Rattle.std.specs.Prelude.{◌≡◌, ◌++◌};
+ghost use Rattle.std.specs.List.{flat_map};
+ghost use Rattle.plinq_lines.specs.OpWords.{formula_name, formula_number, formula_words, op_name, op_argument, op_words, further_op, part_words};
+ghost use Rattle.plinq_lines.specs.Text.{line};
+ghost use Rattle.plinq_lines.specs.Written.{Writes};
+
+use crate::argument::Argument;
+use crate::piece::Piece;
+use crate::pieces::write_pieces;
+use crate::write_fault::WriteFault;
+use plinq_lambda::Formula;
+use plinq_ops::Op;
+use std::io::Write;
+
+/// Writes a line of this name and of operators in order, or `none`.
+pub(crate) fn write_part<W: Write>(
+    writer: &mut W,
+    name: &str,
+    ops: &[Op<Formula>],
+) -> Result<(), WriteFault>
+    ensures { Writes (W.contents writer.old) (W.contents writer.new) result (line (name.now ++ part_words ops.now)) }
+{
+    let Some((first, further)) = ops.split_first() else {
+        return write_pieces(writer, &[Piece::Text(name), Piece::Text("none\n")]);
+    };
+    write_op(writer, name, first)?;
+    write_further_ops(writer, further)
+}
+
+// Writes the operators behind the first of a line, and its line feed.
+fn write_further_ops<W: Write>(writer: &mut W, further: &[Op<Formula>]) -> Result<(), WriteFault>
+    ensures { Writes (W.contents writer.old) (W.contents writer.new) result (line (flat_map further_op further.now)) }
+{
+    let mut rest = further;
+    while let Some((op, behind)) = rest.split_first() {
+        write_op(writer, ", ", op)?;
+        rest = behind;
+    }
+    write_pieces(writer, &[Piece::Text("\n")])
+}
+
+// Writes an operator, and before it this text.
+fn write_op<W: Write>(writer: &mut W, before: &str, op: &Op<Formula>) -> Result<(), WriteFault>
+    ensures { Writes (W.contents writer.old) (W.contents writer.new) result (before.now ++ op_words op.now) }
+{
+    let name = op_name(op);
+    match op_argument(op) {
+        Argument::Nothing => write_pieces(writer, &[Piece::Text(before), Piece::Text(name)]),
+        Argument::Number(n) => write_pieces(
+            writer,
+            &[
+                Piece::Text(before),
+                Piece::Text(name),
+                Piece::Text(" "),
+                Piece::Number(n),
+            ],
+        ),
+        Argument::Formula(f) => write_call(writer, before, name, f),
+    }
+}
+
+fn write_call<'a, W: Write>(
+    writer: &mut W,
+    before: &'a str,
+    name: &'a str,
+    f: Formula,
+) -> Result<(), WriteFault>
+    ensures { Writes (W.contents writer.old) (W.contents writer.new) result (before.now ++ (name.now ++ formula_words f)) }
+{
+    let formula = formula_name(f);
+    match formula_number(f) {
+        None => write_pieces(
+            writer,
+            &[
+                Piece::Text(before),
+                Piece::Text(name),
+                Piece::Text(" "),
+                Piece::Text(formula),
+            ],
+        ),
+        Some(c) => write_pieces(
+            writer,
+            &[
+                Piece::Text(before),
+                Piece::Text(name),
+                Piece::Text(" "),
+                Piece::Text(formula),
+                Piece::Text(" "),
+                Piece::Number(c),
+            ],
+        ),
+    }
+}
+
+fn op_name(op: &Op<Formula>) -> &'static str
+    ensures { result.now ≡ op_name op.now }
+{
+    match op {
+        Op::Select(_) => "select",
+        Op::Filter(_) => "filter",
+        Op::SelectMany(_) => "select_many",
+        Op::Take(_) => "take",
+        Op::Skip(_) => "skip",
+        Op::TakeWhile(_) => "take_while",
+        Op::AsUnordered => "as_unordered",
+    }
+}
+
+fn op_argument(op: &Op<Formula>) -> Argument
+    ensures { result ≡ op_argument op.now }
+{
+    match op {
+        Op::Select(f) | Op::Filter(f) | Op::SelectMany(f) | Op::TakeWhile(f) => {
+            Argument::Formula(*f)
+        }
+        Op::Take(n) | Op::Skip(n) => Argument::Number(*n),
+        Op::AsUnordered => Argument::Nothing,
+    }
+}
+
+fn formula_name(f: Formula) -> &'static str
+    ensures { result.now ≡ formula_name f }
+{
+    match f {
+        Formula::Add(_) => "add",
+        Formula::Mul(_) => "mul",
+        Formula::Mod(_) => "mod",
+        Formula::Into(_) => "into",
+        Formula::Below(_) => "below",
+        Formula::Above(_) => "above",
+        Formula::Equal(_) => "equal",
+        Formula::Even => "even",
+        Formula::Repeat(_) => "repeat",
+        Formula::UpTo => "up_to",
+    }
+}
+
+fn formula_number(f: Formula) -> Option<i64>
+    ensures { result ≡ formula_number f }
+{
+    match f {
+        Formula::Add(c)
+        | Formula::Mul(c)
+        | Formula::Mod(c)
+        | Formula::Into(c)
+        | Formula::Below(c)
+        | Formula::Above(c)
+        | Formula::Equal(c)
+        | Formula::Repeat(c) => Some(c),
+        Formula::Even | Formula::UpTo => None,
+    }
+}

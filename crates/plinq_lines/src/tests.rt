@@ -1,0 +1,7 @@
+mod answers;
+mod batches;
+mod failures;
+mod interrupting;
+mod narrow;
+mod parts;
+mod plans;

@@ -1,0 +1,5 @@
+use Rattle.plinq_ops.proofs.Histories.{row-of_history}
+use Rattle.plinq_ops.proofs.laws.history_glues.Goals as goal
+
+pub returns : goal.returns
+returns g c = λ meaning worker t h rs. row-of_history meaning worker t h rs

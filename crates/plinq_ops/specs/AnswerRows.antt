@@ -1,0 +1,57 @@
+-- Rows of answers: which an unordered query may give, and how many items decide one.
+use Rattle.std.specs.Prelude.{◌≡◌, refl, ℕ, zero, suc, pos, ◌<◌, [], ◌∷◌, true, false, Some, None}
+use Rattle.std.proofs.Common.{arith, ap, ◌∙◌}
+use Rattle.plinq_source.specs.declared.ending.Ending.TheVariants.{End, Refused}
+use Rattle.plinq_source.specs.Trace.{Trace, ended}
+use Rattle.plinq_ops.specs.declared.op.Op.TheVariants.{Select, Take, AsUnordered}
+use Rattle.plinq_ops.specs.Stage.{taking, seq}
+use Rattle.plinq_ops.specs.Operator.{example}
+use Rattle.plinq_ops.specs.Sequential.{first_items, IsLeastDeciding}
+use Rattle.plinq_ops.specs.Answer.{Answer}
+
+-- the rows' source
+abbrev three_items : Trace ℕ
+three_items = ended (1 ∷ 2 ∷ 3 ∷ []) (Refused 7)
+
+-- any two of three
+take_any_two : Answer {L = ℕ} (λ _. example) false (Take (pos 2) ∷ []) three_items (ended (3 ∷ 2 ∷ []) End)
+take_any_two = record {
+  between = ended (3 ∷ 2 ∷ 1 ∷ []) (Refused 7);
+  given = record { items = record { moves = (0, 2) ∷ []; below = (omega arith, omega arith, tt); is = refl }; ending = refl };
+  goes_on = record { between = ended (3 ∷ 2 ∷ []) End; given = refl; goes_on = refl };
+}
+
+-- the first two of three, in any order
+as_unordered_behind_a_take : Answer {L = ℕ} (λ _. example) true (Take (pos 2) ∷ AsUnordered ∷ []) three_items (ended (2 ∷ 1 ∷ []) End)
+as_unordered_behind_a_take = record {
+  between = ended (1 ∷ 2 ∷ []) End;
+  given = refl;
+  goes_on = record {
+    between = ended (2 ∷ 1 ∷ []) End;
+    given = record { items = record { moves = (0, 1) ∷ []; below = (omega arith, omega arith, tt); is = refl }; ending = refl };
+    goes_on = refl;
+  };
+}
+
+-- an ordered query has one answer
+ordered_alone : (u : Trace ℕ) → Answer {L = ℕ} (λ _. example) true (Select 0 ∷ []) three_items u → u ≡ ended (0 ∷ 1 ∷ 2 ∷ []) (Refused 7)
+ordered_alone u answer = answer.goes_on ∙ answer.given
+
+-- the ending stays whatever the order is
+ending_stays : (u : Trace ℕ) → Answer {L = ℕ} (λ _. example) false [] three_items u → u.ending ≡ Some (Refused 7)
+ending_stays u answer = ap (λ (t : Trace ℕ). t.ending) answer.goes_on ∙ answer.given.ending
+
+-- the second item decides a Take of 2: not one fewer, and not one more
+two_decide : IsLeastDeciding (taking 2 ∷ []) three_items 2
+two_decide = record { within = omega arith; open_before = open_with; decided = λ fewer. refl }
+  where
+    open_with : (j : ℕ) → j < 2 → (seq (taking 2 ∷ []) (first_items j three_items)).ending ≡ None
+    open_with zero below = refl
+    open_with (suc zero) below = refl
+    open_with (suc (suc j)) below = absurd (omega arith)
+
+one_is_too_few : IsLeastDeciding (taking 2 ∷ []) three_items 1 → ⊥
+one_is_too_few least = let decided = least.decided (omega arith) in absurd (cc)
+
+three_are_too_many : IsLeastDeciding (taking 2 ∷ []) three_items 3 → ⊥
+three_are_too_many least = let decided = least.open_before 2 (omega arith) in absurd (cc)

@@ -1,0 +1,93 @@
+-- By key: which operators a worker can apply to elements of which it knows the keys, and what is left of them at a key.
+use Rattle.std.specs.Prelude.{◌≡◌, refl, ℕ, ◌-◌, ℤ, pos, List, [], ◌∷◌, Bool, true, false, ◌&&◌}
+use Rattle.plinq_lambda.specs.Meaning.{Meaning}
+use Rattle.plinq_ops.specs.declared.op.Op.{Op}
+use Rattle.plinq_ops.specs.declared.op.Op.TheVariants.{Select, Filter, SelectMany, Take, Skip, TakeWhile, AsUnordered}
+use Rattle.plinq_ops.specs.declared.known.Known.{Known}
+use Rattle.plinq_ops.specs.declared.known.Known.TheVariants.{Nothing, Key, Position}
+use Rattle.plinq_ops.specs.Stage.{Stage, taking, skipping}
+use Rattle.plinq_ops.specs.Operator.{item_count, example}
+use Rattle.plinq_ops.specs.Feeding.{count_of, stage_left}
+use Rattle.plinq_ops.specs.Fragment.{position_behind}
+
+-- the order of the elements is known
+abbrev pub knows_order : Known → Bool
+knows_order Nothing = false
+knows_order Key = true
+knows_order Position = true
+
+abbrev pub knows_position : Known → Bool
+knows_position Nothing = false
+knows_position Key = false
+knows_position Position = true
+
+-- whether a worker that knows so much can apply an operator: TakeWhile needs the order, Take and Skip the position;
+-- AsUnordered gives the order up
+abbrev pub can_apply : {L : Type 0} → Known → Op L → Bool
+can_apply known (Select f) = true
+can_apply known (Filter f) = true
+can_apply known (SelectMany f) = true
+can_apply known (Take n) = knows_position known
+can_apply known (Skip n) = knows_position known
+can_apply known (TakeWhile f) = knows_order known
+can_apply known AsUnordered = false
+
+-- how many items a Filter or a SelectMany gives isn't known from the key
+abbrev pub without_position : Known → Known
+without_position Nothing = Nothing
+without_position Key = Key
+without_position Position = Key
+
+-- what is known of the elements behind an operator
+abbrev pub known_behind : {L : Type 0} → Known → Op L → Known
+known_behind known (Filter f) = without_position known
+known_behind known (SelectMany f) = without_position known
+known_behind known op = known
+
+abbrev pub is_by_key_from : {L : Type 0} → Known → List (Op L) → Bool
+is_by_key_from known [] = true
+is_by_key_from known (op ∷ ops) = can_apply known op && is_by_key_from (known_behind known op) ops
+
+-- whether a worker can apply all the operators to elements whose keys are their positions
+abbrev pub is_by_key : {L : Type 0} → List (Op L) → Bool
+is_by_key ops = is_by_key_from Position ops
+
+-- what is left of the operators at a position, all elements before it having reached them
+abbrev pub left_at : {L T : Type 0} → (L → Meaning T) → List (Op L) → ℤ → List (Stage T)
+left_at meaning [] p = []
+left_at meaning (op ∷ ops) p =
+    stage_left meaning op (count_of op - item_count p) ∷ left_at meaning ops (position_behind op p)
+
+-- how many elements have got past an operator, where so many have reached it and none was filtered out
+abbrev pub passed_on : {L : Type 0} → Op L → ℕ → ℕ
+passed_on (Skip k) n = n - item_count k
+passed_on op n = n
+
+-- how many items each Take and each Skip has left, so many elements having reached the first operator
+abbrev pub counts_at : {L : Type 0} → List (Op L) → ℕ → List ℕ
+counts_at [] n = []
+counts_at (op ∷ ops) n = (count_of op - n) ∷ counts_at ops (passed_on op n)
+
+-- Take and Skip go by key in any order, while nothing before them can change how many elements there are
+take_by_key : is_by_key {L = ℕ} (Skip (pos 1) ∷ Select 0 ∷ TakeWhile 0 ∷ Take (pos 2) ∷ Skip (pos 1) ∷ Filter 0 ∷ TakeWhile 0 ∷ []) ≡ true
+take_by_key = refl
+
+take_behind_a_filter : is_by_key {L = ℕ} (Filter 0 ∷ Take (pos 2) ∷ []) ≡ false
+take_behind_a_filter = refl
+
+skip_behind_an_expansion : is_by_key {L = ℕ} (SelectMany 0 ∷ Skip (pos 2) ∷ []) ≡ false
+skip_behind_an_expansion = refl
+
+as_unordered_by_key : is_by_key {L = ℕ} (AsUnordered ∷ []) ≡ false
+as_unordered_by_key = refl
+
+-- two elements past a Skip of 3 and a Take of 1 nothing was taken yet
+before_the_skip_ends : counts_at {L = ℕ} (Skip (pos 3) ∷ Take (pos 1) ∷ []) 2 ≡ 1 ∷ 1 ∷ []
+before_the_skip_ends = refl
+
+-- a Skip behind another counts from the position behind it
+behind_two_skips : counts_at {L = ℕ} (Skip (pos 1) ∷ Skip (pos 2) ∷ Take (pos 4) ∷ []) 4 ≡ 0 ∷ 0 ∷ 3 ∷ []
+behind_two_skips = refl
+
+left_before_the_skip_ends : left_at {L = ℕ} (λ _. example) (Skip (pos 3) ∷ Take (pos 1) ∷ []) (pos 2) ≡ skipping 1 ∷ taking 1 ∷ []
+left_before_the_skip_ends = refl

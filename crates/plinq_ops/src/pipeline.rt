@@ -1,0 +1,124 @@
+ghost use Rattle.std.specs.Prelude.{◌≡◌, [], ◌∷◌, false, IfOk};
+ghost use Rattle.plinq_source.specs.Trace.{open_trace};
+ghost use Rattle.plinq_ops.specs.Stage.{takes_none, some_takes_none};
+ghost use Rattle.plinq_ops.specs.Feeding.{stage_left, IsFed};
+ghost use Rattle.plinq_ops.specs.Pipeline.{begun, begun_at, stages};
+
+use crate::decided::counts_at;
+use crate::feeding;
+use crate::op::Op;
+use plinq_lambda::Lambda;
+use plinq_source::{Ending, OutOfMemory};
+use std::alloc::Global;
+use std::marker::Model;
+
+/// Operators at work: fed items, alone or by the block, they put out what the query makes of them.
+///
+/// A pipeline stands for what is left of its operators: behind the items that it was fed, a Take has fewer left to
+/// take and a Skip fewer to pass over. Where the run has ended, it is fed nothing more.
+#[derive(Drop)]
+pub struct Pipeline<'a, L> {
+    ops: &'a [Op<L>],
+    left: Vec<u64>,
+}
+
+impl<'a, L> Model for Pipeline<'a, L> {
+    ghost use Rattle.std.specs.Prelude.{◌≡◌, length};
+    ghost use Rattle.plinq_ops.specs.Pipeline.{PipelineView};
+
+    ghost Value = { PipelineView L };
+
+    ghost view = { λ p. record { ops = p.ops.now; counts = p.left.items } };
+
+    ghost invariant = { λ p. length p.left.items ≡ length p.ops.now };
+}
+
+impl<'a, L: Lambda> Pipeline<'a, L> {
+    /// A pipeline of these operators, which have seen no item.
+    ///
+    /// # Errors
+    ///
+    /// [`OutOfMemory`] where there is no room for their counts.
+    pub fn new(alloc: Global, ops: &'a [Op<L>]) -> Result<Pipeline<'a, L>, OutOfMemory>
+        ensures { IfOk result (λ pipeline. pipeline ≡ begun ops.now) }
+    {
+        Pipeline::at_key(alloc, ops, 0)
+    }
+
+    /// A pipeline of operators that a worker applies by key, as it stands once the elements of all keys before this one
+    /// have reached it.
+    ///
+    /// # Errors
+    ///
+    /// [`OutOfMemory`] where there is no room for their counts.
+    pub fn at_key(alloc: Global, ops: &'a [Op<L>], key: u64) -> Result<Pipeline<'a, L>, OutOfMemory>
+        ensures { IfOk result (λ pipeline. pipeline ≡ begun_at ops.now key) }
+    {
+        Ok(Pipeline {
+            ops,
+            left: counts_at(alloc, ops, key)?,
+        })
+    }
+
+    /// Whether a Take has no item left to take, so that the run has ended.
+    pub fn is_over(&self) -> bool
+        ensures { result ≡ some_takes_none (stages L.meaning self.now) }
+    {
+        for (at, op) in self.ops.iter().enumerate() {
+            if takes_none(op, self.left[at]) {
+                return true;
+            }
+        }
+        false
+    }
+
+    /// Feeds one item, and puts what comes out behind `out`. Answers how the run ended, or `None` where more items may
+    /// follow.
+    ///
+    /// # Errors
+    ///
+    /// [`OutOfMemory`] where there is no room for an expansion or in `out`; the pipeline is of no more use then.
+    pub fn feed(
+        &mut self,
+        alloc: Global,
+        item: L::Item,
+        out: &mut Vec<L::Item>,
+    ) -> Result<Option<Ending>, OutOfMemory>
+        requires undecided { some_takes_none (stages L.meaning self.old) ≡ false }
+        ensures same { self.new.ops ≡ self.old.ops }
+        ensures fed { IfOk result (IsFed
+            (stages L.meaning self.old) (open_trace (item ∷ []))
+            out.old.items out.new.items
+            (stages L.meaning self.new)) }
+    {
+        feeding::feed(alloc, self.ops, self.left.as_mut_slice(), item, out)
+    }
+
+    /// Feeds a block of items, which what comes out takes the place of. Answers how the run ended, or `None` where
+    /// more items may follow.
+    ///
+    /// # Errors
+    ///
+    /// [`OutOfMemory`] where there is no room for an expansion; the pipeline and the block are of no more use then.
+    pub fn feed_block(
+        &mut self,
+        alloc: Global,
+        block: &mut Vec<L::Item>,
+    ) -> Result<Option<Ending>, OutOfMemory>
+        requires undecided { some_takes_none (stages L.meaning self.old) ≡ false }
+        ensures same { self.new.ops ≡ self.old.ops }
+        ensures fed { IfOk result (IsFed
+            (stages L.meaning self.old) (open_trace block.old.items)
+            [] block.new.items
+            (stages L.meaning self.new)) }
+    {
+        feeding::feed_block(alloc, self.ops, self.left.as_mut_slice(), block)
+    }
+}
+
+/// Whether an operator is a Take that has no item left to take.
+fn takes_none<L: Lambda>(op: &Op<L>, left: u64) -> bool
+    ensures { result ≡ takes_none (stage_left L.meaning op.now left) }
+{
+    matches!(op, Op::Take(_)) && left == 0
+}

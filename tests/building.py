@@ -1,0 +1,320 @@
+#!/usr/bin/env python3
+"""Tests ./plinq, which builds the program and runs it, in a folder of its own with a stand-in for rt.
+
+    python3 tests/building.py
+"""
+import fcntl
+import os
+import shutil
+import signal
+import subprocess
+import tempfile
+import time
+
+from support.program import HANGS, ROOT, Tests
+
+# What rt prints and leaves, without a proof. Each call adds a line to the file calls; what stands in the folder orders
+# is done on the way.
+RT = r"""#!/usr/bin/env bash
+top=$(cd ../.. && pwd)
+name=${PWD##*/}
+echo "$name $*" >>"$top/calls"
+[ ! -e "$top/orders/say-waiting" ] || echo "rt: waiting for another rt to finish in $PWD" >&2
+if [ "$1" = lib ]; then
+    if [ -e out/rlib ] && cmp -s out/rlib <(cat src/*); then exit 0; fi
+    echo "rt: chose --jobs 4 for $name"
+    echo 'so far: 0 of 20 functions checked; the verdict comes last'
+    echo 'so far: 9 of 20 functions checked'
+    echo "fn $name::some: proved"
+    if [ -e "$top/orders/fail-$name" ]; then echo 'error: a goal is open'; exit 1; fi
+    if [ -e "$top/orders/wait" ]; then echo $$ >"$top/at-work"; fi
+    while [ -e "$top/orders/wait" ]; do sleep 0.02; done
+    if [ -e "$top/orders/edit" ]; then rm "$top/orders/edit"; echo edited >"$top/crates/low/src/lib.rt"; fi
+    mkdir -p out
+    cat src/* >out/rlib
+else
+    mkdir -p out
+    { echo '#!/usr/bin/env bash'; echo "echo \"words: \$*; built of: $(cat "$top"/crates/*/src/* | tr '\n' ' ')\""; echo cat; echo 'exit 3'; } >out/plinq.new
+    chmod +x out/plinq.new
+    mv out/plinq.new out/plinq
+fi
+"""
+TOOLS = "bash basename cat chmod cmp cut dirname env find flock mkdir mv readlink rm sed sha256sum sleep sort touch tr true xargs".split()
+SOURCES = {"low/src/lib.rt": "low", "low/specs/A.antt": "a", "mid/src/lib.rt": "mid", "apart/specs/B.antt": "b", "plinq/src/main.rt": "main"}
+
+
+class Place:
+    """A folder with the scripts, the stand-in and four crates, one of which the program doesn't use."""
+
+    def __init__(self, folder):
+        self.top = os.path.join(folder, "top")
+        self.bin = os.path.join(folder, "bin")
+        self.temporary = os.path.join(folder, "temporary")
+        for it in (self.bin, self.temporary, f"{self.top}/tools", f"{self.top}/orders", f"{self.top}/.git"):
+            os.makedirs(it)
+        shutil.copy(f"{ROOT}/plinq", self.top)
+        shutil.copy(f"{ROOT}/tools/build", f"{self.top}/tools")
+        for name in TOOLS:
+            os.symlink(shutil.which(name), f"{self.bin}/{name}")
+        self.write("../bin/rt", RT)
+        os.chmod(f"{self.bin}/rt", 0o755)
+        self.write("crates.txt", "# The crates, lowest first.\nlow: thiserror\napart: low\nmid: low # and no other\nplinq: mid\n")
+        for name, text in SOURCES.items():
+            self.write(f"crates/{name}", f"{text}\n")
+
+    def write(self, name, text=""):
+        path = os.path.join(self.top, name)
+        os.makedirs(os.path.dirname(path), exist_ok=True)
+        with open(path, "w") as file:
+            file.write(text)
+        return path
+
+    def start(self, *words, program="./plinq", **how):
+        env = {"PATH": self.bin, "TMPDIR": self.temporary, "HOME": self.temporary}
+        streams = {"stdin": subprocess.PIPE, "stdout": subprocess.PIPE, "stderr": subprocess.PIPE} | how
+        return subprocess.Popen([program, *words], cwd=self.top, env=env, text=True, **streams)
+
+    def run(self, *words, given="", **how):
+        """The status, output and errors of ./plinq, and what it asked of rt."""
+        before = len(self.calls())
+        started = self.start(*words, **how)
+        output, errors = started.communicate(given if how.get("stdin", subprocess.PIPE) == subprocess.PIPE else None, timeout=HANGS)
+        return started.returncode, output, errors, self.calls()[before:]
+
+    def calls(self):
+        try:
+            with open(f"{self.top}/calls") as file:
+                return file.read().splitlines()
+        except FileNotFoundError:
+            return []
+
+    def files(self):
+        """All files but those of the crates' folders out and the stand-in's list of its calls."""
+        found = set()
+        for top in (self.top, self.temporary):
+            for at, folders, names in os.walk(top):
+                folders[:] = [it for it in folders if it != "out"]
+                found |= {os.path.join(at, it) for it in names}
+        return found - {f"{self.top}/calls", f"{self.top}/at-work"}
+
+    def wait_for(self, name):
+        """What a file of the top folder holds, once it holds anything."""
+        for _ in range(HANGS * 50):
+            try:
+                with open(f"{self.top}/{name}") as file:
+                    text = file.read().strip()
+                if text:
+                    return text
+            except FileNotFoundError:
+                pass
+            time.sleep(0.02)
+        raise TimeoutError(name)
+
+
+ALL_CALLS = ["low lib", "mid lib", "plinq run -- --help"]
+BUILT = "built of: low mid main "
+
+
+def is_alive(number):
+    try:
+        with open(f"/proc/{number}/stat") as file:
+            return file.read().rpartition(")")[2].split()[0] != "Z"
+    except FileNotFoundError:
+        return False
+
+
+def first_use(place, tests):
+    status, output, errors, calls = place.run("seq", "two words", given="some\ninput")
+    tests.check("the first use asks rt for each library that the program uses, in the order of crates.txt, and then for the program", calls == ALL_CALLS, calls)
+    tests.check("words, input, output and status pass through", (status, output) == (3, f"words: seq two words; {BUILT}\nsome\ninput"), (status, output))
+    said = errors.splitlines()
+    tests.check("the first line says how long it takes, and what for", "first use" in said[0] and "proved" in said[0] and "minutes" in said[0], said)
+    wanted = ["plinq: proving low (1 of 3)", "plinq: proving low (1 of 3), 9 of 20 functions checked", "plinq: proving mid (2 of 3)"]
+    wanted += ["plinq: proving mid (2 of 3), 9 of 20 functions checked"]
+    tests.check("each crate that is proved has its lines", said[1:] == wanted, said)
+
+
+def further_uses(place, tests):
+    seen = place.run("plan", given="x")
+    tests.check("an up-to-date program is run at once", seen == (3, f"words: plan; {BUILT}\nx", "", []), seen)
+    os.symlink(f"{place.top}/plinq", f"{place.temporary}/link")
+    seen = place.run(program=f"{place.temporary}/link")
+    os.remove(f"{place.temporary}/link")
+    tests.check("it is found through a link", seen == (3, f"words: ; {BUILT}\n", "", []), seen)
+    os.utime(place.write("crates/low/src/lib.rt", "low\n"))
+    seen = place.run()
+    tests.check("a source that was written again, the same, builds nothing", seen[2:] == ("", []), seen)
+
+
+def closed_streams(place, tests):
+    for closed in ("<&-", ">&-", "2>&-", "<&- >&- 2>&-"):
+        started = place.start("-c", f"./plinq words {closed}", program="bash", stdin=subprocess.DEVNULL)
+        output, errors = started.communicate(timeout=HANGS)
+        is_so = started.returncode in (1, 3) and place.calls()[3:] == [] and (">&-" in closed.split() or "words: words" in output)
+        tests.check(f"closed streams reach the program: {closed}", is_so, (started.returncode, output, errors))
+
+
+def changes(place, tests):
+    def rebuilds(name):
+        status, output, errors, calls = place.run()
+        tests.check(f"{name}: it is built anew", calls == ALL_CALLS and "built anew" in errors, (errors, calls))
+        return output
+
+    place.write("crates/mid/src/lib.rt", "new\n")
+    tests.check("the new source is in it", "built of: low new main" in rebuilds("a source changed"))
+    os.utime(place.write("crates/mid/src/lib.rt", "mid\n"), (1, 1))
+    tests.check("the old source is in it", BUILT in rebuilds("a source was replaced by one of an old date"))
+    os.remove(f"{place.top}/crates/low/specs/A.antt")
+    rebuilds("a source went")
+    os.utime(place.write("crates/low/specs/B.antt", "b\n"), (1, 1))
+    rebuilds("a source of an old date came")
+    place.write("crates.txt", "low: thiserror\nmid: low thiserror\nplinq: mid\n")
+    rebuilds("the list of crates changed")
+    os.remove(f"{place.top}/crates/plinq/out/plinq")
+    tests.check("a program that went is built again", "first use" in place.run()[2])
+
+
+def copies(place, tests):
+    out = f"{place.top}/crates/plinq/out"
+    shutil.copytree(out, f"{place.temporary}/out")
+    place.write("crates/mid/src/lib.rt", "newer\n")
+    place.run()
+    for kind in (shutil.copy, shutil.copy2):
+        shutil.rmtree(out)
+        shutil.copytree(f"{place.temporary}/out", out, copy_function=kind)
+        status, output, _, calls = place.run()
+        is_so = "built of: low newer main" in output and calls[-1:] == ALL_CALLS[-1:]
+        tests.check(f"an old program that was copied here isn't taken for a new one ({kind.__name__})", is_so, (output, calls))
+    shutil.rmtree(f"{place.temporary}/out")
+    place.write("crates/mid/src/lib.rt", "tried\n")
+    subprocess.run([f"{place.bin}/rt", "run"], cwd=f"{place.top}/crates/plinq", check=True)
+    place.write("crates/mid/src/lib.rt", "newer\n")
+    status, output, _, calls = place.run()
+    tests.check("a program that rt made by hand of other sources isn't either", "built of: low newer main" in output, (output, calls))
+    place.write("crates/mid/src/lib.rt", "mid\n")
+    place.run()
+
+
+def change_during_build(place, tests):
+    place.write("crates/mid/src/lib.rt", "mid2\n")
+    place.write("orders/edit")
+    status, output, errors, calls = place.run()
+    tests.check("a source that changes during the build is built", "built of: edited mid2 main" in output and calls == ALL_CALLS * 2, (output, calls))
+    tests.check("it is said", "a source changed during the build" in errors, errors)
+    tests.check("and not again", place.run()[3] == [], place.calls())
+    place.write("crates/low/src/lib.rt", "low\n")
+    place.write("crates/mid/src/lib.rt", "mid\n")
+    place.run()
+
+
+def failure(place, tests):
+    place.write("crates/mid/src/lib.rt", "wrong\n")
+    place.write("orders/fail-mid")
+    status, output, errors, calls = place.run()
+    tests.check("a build that fails ends with status 5 and runs nothing", (status, output, calls) == (5, "", ALL_CALLS[:2]), (status, output, calls))
+    is_so = "error: a goal is open" in errors and "was not built: proving mid (2 of 3)" in errors and "some: proved" not in errors
+    tests.check("it shows what rt said, and the crate", is_so, errors)
+    os.remove(f"{place.top}/orders/fail-mid")
+    status, output, _, calls = place.run()
+    tests.check("the next use builds", status == 3 and "built of: low wrong main" in output and calls == ALL_CALLS, (status, output, calls))
+    place.write("crates/mid/src/lib.rt", "mid\n")
+    place.run()
+
+
+def no_rt(place, tests):
+    os.rename(f"{place.bin}/rt", f"{place.bin}/hidden")
+    status, output, errors, _ = place.run()
+    tests.check("a program that is up to date needs no rt", (status, errors) == (3, ""), (status, errors))
+    place.write("crates/mid/src/lib.rt", "unbuilt\n")
+    status, output, errors, _ = place.run()
+    is_so = (status, output) == (5, "") and errors.count("\n") == 1 and "rt is not on the PATH" in errors
+    tests.check("where rt isn't there, it is said", is_so, (status, output, errors))
+    os.rename(f"{place.bin}/hidden", f"{place.bin}/rt")
+    place.write("crates/mid/src/lib.rt", "mid\n")
+
+
+def interruption(place, tests):
+    for which in (signal.SIGINT, signal.SIGTERM, signal.SIGHUP):
+        place.write("crates/mid/src/lib.rt", f"{which}\n")
+        place.write("orders/wait")
+        before = place.files()
+        started = place.start()
+        at_work = int(place.wait_for("at-work"))
+        # (as a terminal does for the first, and kill for the others)
+        started.send_signal(which)
+        output, errors = started.communicate(timeout=HANGS)
+        tests.check(f"{which.name} ends it", (started.returncode, output) == (-which, ""), (started.returncode, output, errors))
+        for _ in range(250):
+            if not is_alive(at_work):
+                break
+            time.sleep(0.02)
+        tests.check(f"{which.name} ends what it started", not is_alive(at_work), at_work)
+        tests.check(f"{which.name} leaves nothing behind", place.files() == before, place.files() ^ before)
+        os.remove(f"{place.top}/orders/wait")
+        os.remove(f"{place.top}/at-work")
+        status, output, _, calls = place.run()
+        is_so = status == 3 and f"built of: low {which} main" in output and calls == ALL_CALLS
+        tests.check(f"after {which.name} the next use builds", is_so, (status, output, calls))
+    place.write("crates/mid/src/lib.rt", "mid\n")
+    place.run()
+
+
+def two_at_once(place, tests):
+    place.write("crates/low/src/lib.rt", "both\n")
+    place.write("orders/wait")
+    before = len(place.calls())
+    first = place.start("first")
+    place.wait_for("at-work")
+    second = place.start("second")
+    said = second.stderr.readline()
+    tests.check("the second of two says that it waits", "waiting: another build" in said, said)
+    os.remove(f"{place.top}/orders/wait")
+    os.remove(f"{place.top}/at-work")
+    ended = [(it.communicate("", timeout=HANGS)[0], it.returncode) for it in (first, second)]
+    wanted = [(f"words: {it}; built of: both mid main \n", 3) for it in ("first", "second")]
+    tests.check("both run the right program", ended == wanted, ended)
+    tests.check("and the first alone has built it", place.calls()[before:] == ALL_CALLS, place.calls()[before:])
+    place.write("crates/low/src/lib.rt", "four\n")
+    before = len(place.calls())
+    started = [place.start(str(it)) for it in range(4)]
+    ended = [(it.communicate("", timeout=HANGS)[0], it.returncode) for it in started]
+    wanted = [(f"words: {it}; built of: four mid main \n", 3) for it in range(4)]
+    tests.check("of four at once all run the right program", ended == wanted, ended)
+    tests.check("and one builds it", sorted(place.calls()[before:]) == sorted(ALL_CALLS), place.calls()[before:])
+
+
+def waits_for_the_gate(place, tests):
+    place.write("crates/low/src/lib.rt", "low\n")
+    place.write("orders/say-waiting")
+    with open(place.write(".git/rt-ci.lock")) as lock:
+        fcntl.flock(lock, fcntl.LOCK_EX)
+        errors = place.run()[2]
+        tests.check("an rt ci that holds it up is named", "waiting: an rt ci is running here" in errors, errors)
+    place.write("crates/low/src/lib.rt", "other\n")
+    errors = place.run()[2]
+    tests.check("another rt that holds it up is named", "waiting: another rt is at work here" in errors, errors)
+    os.remove(f"{place.top}/orders/say-waiting")
+
+
+def main():
+    tests = Tests()
+    with tempfile.TemporaryDirectory() as folder:
+        place = Place(folder)
+        before = place.files()
+        first_use(place, tests)
+        tests.check("a build leaves nothing behind", place.files() == before, place.files() ^ before)
+        further_uses(place, tests)
+        closed_streams(place, tests)
+        changes(place, tests)
+        copies(place, tests)
+        change_during_build(place, tests)
+        failure(place, tests)
+        no_rt(place, tests)
+        interruption(place, tests)
+        two_at_once(place, tests)
+        waits_for_the_gate(place, tests)
+    tests.end()
+
+
+if __name__ == "__main__":
+    main()

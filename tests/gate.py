@@ -1,0 +1,184 @@
+#!/usr/bin/env python3
+"""Tests ./test, which counts what rt ci and the tests of the program say, in a folder of its own with stand-ins for both.
+
+    python3 tests/gate.py
+"""
+import os
+import shutil
+import signal
+import subprocess
+import tempfile
+import time
+
+from support.program import HANGS, ROOT, Tests
+
+# A stand-in for rt, whose `rt ci` leaves a program, as rt does, unless there is a file no-program, and then runs what the
+# file ci says.
+RT = """#!/usr/bin/env bash
+echo "$*" >>calls
+[ "$1" = ci ] || exit 1
+rm -rf crates/plinq/out
+mkdir -p crates/plinq/out
+if [ ! -e no-program ]; then printf '#!/usr/bin/env bash\\necho new\\n' >crates/plinq/out/plinq; chmod +x crates/plinq/out/plinq; fi
+. ./ci
+"""
+
+
+class Place:
+    """A folder with ./test, a crate, the stand-in for rt, and tests that do as they are told."""
+
+    def __init__(self, folder):
+        self.top = folder
+        os.makedirs(f"{folder}/bin")
+        os.makedirs(f"{folder}/tools")
+        shutil.copy(f"{ROOT}/test", folder)
+        shutil.copy(f"{ROOT}/tools/build", f"{folder}/tools")
+        self.write("bin/rt", RT)
+        os.chmod(f"{folder}/bin/rt", 0o755)
+        self.write("crates.txt", "plinq:\n")
+        self.write("crates/plinq/src/main.rt", "main\n")
+
+    def write(self, name, text=""):
+        path = os.path.join(self.top, name)
+        os.makedirs(os.path.dirname(path), exist_ok=True)
+        with open(path, "w") as file:
+            file.write(text)
+
+    def tell(self, ci, **tests):
+        """Has rt ci run some lines of bash, and each test some of Python."""
+        self.write("ci", ci)
+        shutil.rmtree(f"{self.top}/tests", ignore_errors=True)
+        for name, text in tests.items():
+            self.write(f"tests/{name}.py", text)
+
+    def start(self, **how):
+        env = os.environ | {"PATH": f"{self.top}/bin:{os.environ['PATH']}"}
+        streams = {"stdout": subprocess.PIPE, "stderr": subprocess.PIPE} | how
+        return subprocess.Popen(["./test"], cwd=self.top, env=env, text=True, **streams)
+
+    def run(self, **how):
+        started = self.start(**how)
+        output, errors = started.communicate(timeout=HANGS)
+        return started.returncode, output, errors
+
+
+COUNTED = "echo some; echo 'in between: 9 passed, 9 failed'; echo '5 passed, 0 failed'"
+PASSES = "print('a line'); print('2 passed, 0 failed')"
+
+
+def sums(place, tests):
+    place.tell(COUNTED, one=PASSES, two="print('08 passed, 0 failed')")
+    status, output, _ = place.run(stdin=subprocess.DEVNULL)
+    tests.check("all is added, and the status is 0", (status, output.splitlines()[-1]) == (0, "15 passed, 0 failed"), (status, output))
+    is_so = output.startswith("some\nin between: 9 passed, 9 failed\n5 passed, 0 failed\n") and "a line\n2 passed, 0 failed\n" in output
+    tests.check("what rt ci and the tests say is passed on", is_so, output)
+
+    def ends(name, wanted, ci=COUNTED, **told):
+        place.tell(ci, **told)
+        status, output, _ = place.run()
+        is_so = output.splitlines()[-1] == wanted and (status != 0) == (not wanted.endswith(" 0 failed"))
+        tests.check(name, is_so, (wanted, status, output))
+
+    # (a program that an rt ci leaves which counts nothing as passed is not trusted, so the test isn't run, and counts as failed)
+    ends("what rt ci counts as failed is added", "6 passed, 2 failed", "echo '4 passed, 2 failed'; exit 1", one=PASSES)
+    ends("an rt ci that fails and counts nothing as failed", "7 passed, 1 failed", COUNTED + "; exit 1", one=PASSES)
+    ends("an rt ci that prints no line", "0 passed, 2 failed", "echo '5 passed'", one=PASSES)
+    ends("an rt ci whose last line is another", "0 passed, 2 failed", COUNTED + "; echo more", one=PASSES)
+    ends("an rt ci that prints nothing", "0 passed, 2 failed", "exit 0", one=PASSES)
+    ends("an rt ci that is killed", "0 passed, 2 failed", "kill -9 $$", one=PASSES)
+    ends("an rt ci that tests nothing", "0 passed, 2 failed", "echo '0 passed, 0 failed'", one=PASSES)
+    ends("a last line without its end", "7 passed, 0 failed", "printf '5 passed, 0 failed'", one=PASSES)
+    ends("a test that fails", "6 passed, 1 failed", one="print('1 passed, 1 failed'); exit(1)")
+    ends("a test that breaks off", "7 passed, 1 failed", one=PASSES, two="raise Exception")
+    ends("a test that breaks off after its line", "9 passed, 1 failed", one=PASSES, two=PASSES + "\nraise Exception")
+    ends("a test that tests nothing", "7 passed, 1 failed", one=PASSES, two="print('0 passed, 0 failed')")
+
+
+def streams(place, tests):
+    place.tell(COUNTED, one="import sys; assert sys.stdin.read() == ''\n" + PASSES)
+    env = os.environ | {"PATH": f"{place.top}/bin:{os.environ['PATH']}"}
+    for how in ("./test <&-", "bash ./test </dev/null", "echo input | ./test", "cd / && $OLDPWD/test"):
+        ran = subprocess.run(["bash", "-c", how], cwd=place.top, env=env, capture_output=True, text=True, timeout=HANGS)
+        is_so = (ran.returncode, ran.stdout.splitlines()[-1:]) == (0, ["7 passed, 0 failed"])
+        tests.check(f"it runs as `{how}`", is_so, (ran.returncode, ran.stdout, ran.stderr))
+    with open(f"{place.top}/log", "w+") as log:
+        place.run(stdout=log)
+        log.seek(0)
+        lines = log.read().splitlines()
+    tests.check("a file gets all lines", (lines[0], lines[-1]) == ("some", "7 passed, 0 failed"), lines)
+
+
+def freshness(place, tests):
+    program = f"{place.top}/crates/plinq/out/plinq"
+    sees = "import subprocess; assert subprocess.check_output(['crates/plinq/out/plinq']) == b'new\\n'\n" + PASSES
+    place.tell(COUNTED, one=sees)
+    place.write("crates/plinq/out/plinq", "#!/usr/bin/env bash\necho old\n")
+    os.chmod(program, 0o755)
+    os.remove(f"{place.top}/calls")
+    status, output, _ = place.run()
+    with open(f"{place.top}/calls") as file:
+        calls = file.read()
+    is_so = (status, calls) == (0, "ci\n")
+    tests.check("the tests get the program that rt ci made, which isn't built twice", is_so, (status, output, calls))
+    for name, ci, marker in (
+        ("rt ci makes none", "echo '1 passed, 0 failed'", "no-program"),
+        ("rt ci stops before it makes one", "rm -f crates/plinq/out/plinq; echo '0 passed, 1 failed'; exit 2", "other"),
+        ("a source changes during rt ci", "echo changed >crates/plinq/src/main.rt; echo '1 passed, 0 failed'", "other"),
+    ):
+        place.tell(ci, one=sees, two=sees)
+        place.write(marker)
+        status, output, _ = place.run()
+        counted = int(output.splitlines()[-1].split()[2])
+        is_so = status != 0 and counted >= 2 and "tests/two.py: not run" in output
+        tests.check(f"where {name}, and it can't be built, no old program is tested", is_so, (status, output))
+        os.remove(f"{place.top}/{marker}")
+
+
+def no_rt(place, tests):
+    place.tell(COUNTED, one=PASSES)
+    os.rename(f"{place.top}/bin/rt", f"{place.top}/bin/hidden")
+    tools = f"{place.top}/tools-alone"
+    os.mkdir(tools)
+    for name in "bash readlink dirname rm find sort xargs sha256sum cut flock sed".split():
+        os.symlink(shutil.which(name), f"{tools}/{name}")
+    ran = subprocess.run(["./test"], cwd=place.top, env={"PATH": tools}, capture_output=True, text=True, timeout=HANGS)
+    lines = ran.stdout.splitlines()
+    is_so = ran.returncode != 0 and "rt is not on the PATH" in ran.stdout and lines[-1] == "0 passed, 2 failed"
+    tests.check("where rt isn't there, it is said", is_so, (ran.returncode, ran.stdout, ran.stderr))
+    os.rename(f"{place.top}/bin/hidden", f"{place.top}/bin/rt")
+
+
+def interruption(place, tests):
+    place.tell("echo $$ >at-work; exec sleep 1000", one=PASSES)
+    started = place.start()
+    for _ in range(HANGS * 50):
+        if os.path.exists(f"{place.top}/at-work"):
+            break
+        time.sleep(0.02)
+    time.sleep(0.1)
+    with open(f"{place.top}/at-work") as file:
+        at_work = int(file.read())
+    started.send_signal(signal.SIGTERM)
+    started.communicate(timeout=HANGS)
+    for _ in range(250):
+        if not os.path.exists(f"/proc/{at_work}"):
+            break
+        time.sleep(0.02)
+    is_so = started.returncode == -signal.SIGTERM and not os.path.exists(f"/proc/{at_work}")
+    tests.check("an interruption ends rt ci as well", is_so, (started.returncode, at_work))
+
+
+def main():
+    tests = Tests()
+    with tempfile.TemporaryDirectory() as folder:
+        place = Place(folder)
+        sums(place, tests)
+        streams(place, tests)
+        freshness(place, tests)
+        no_rt(place, tests)
+        interruption(place, tests)
+    tests.end()
+
+
+if __name__ == "__main__":
+    main()

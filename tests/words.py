@@ -1,0 +1,112 @@
+#!/usr/bin/env python3
+"""Words of the command line: what is shown of refused ones, the texts of help, and what is accepted.
+
+    python3 tests/words.py
+"""
+import os
+import subprocess
+
+from support.program import EXAMPLES, HANGS, ROOT, Outcome, Tests, build, run
+
+MORE = "\nFor more information, try '--help'.\n"
+USAGE = "\nUsage: plinq <COMMAND>\n" + MORE
+OPTIONS = "\nUsage: plinq run [OPTIONS]\n" + MORE
+
+REFUSED = {
+    "": "error: 'plinq' requires a subcommand but one was not provided\n  [subcommands: run, seq, plan, parts]\n" + USAGE,
+    "walk": "error: unrecognized subcommand 'walk'\n" + USAGE,
+    "help": "error: unrecognized subcommand 'help'\n" + USAGE,
+    "RUN": "error: unrecognized subcommand 'RUN'\n" + USAGE,
+    "ru": "error: unrecognized subcommand 'ru'\n\n  tip: a similar subcommand exists: 'run'\n" + USAGE,
+    "--version": "error: unexpected argument '--version' found\n" + USAGE,
+    "--workers 2 run": "error: unexpected argument '--workers' found\n\n  tip: 'run --workers' exists\n" + USAGE,
+    "run more": "error: unexpected argument 'more' found\n" + OPTIONS,
+    "run -w 2": "error: unexpected argument '-w' found\n" + OPTIONS,
+    "run --workers 1 --workers 2": "error: the argument '--workers <N>' cannot be used multiple times\n" + OPTIONS,
+    "run --workers": "error: a value is required for '--workers <N>' but none was supplied\n" + MORE,
+    "run --workers 0": "error: invalid value '0' for '--workers <N>': 0 is not in 1..=64\n" + MORE,
+    "run --workers 65": "error: invalid value '65' for '--workers <N>': 65 is not in 1..=64\n" + MORE,
+    "run --workers x": "error: invalid value 'x' for '--workers <N>': invalid digit found in string\n" + MORE,
+    "seq --merge some": "error: invalid value 'some' for '--merge <OPTION>'\n  [possible values: not, auto, full, default]\n" + MORE,
+}
+
+HELP = """Answers the query of a JSON document, which it reads from standard input
+
+Usage: plinq <COMMAND>
+
+Commands:
+  run    Answers the query
+  seq    Answers the query on one thread
+  plan   Shows how the query is shared among workers
+  parts  Shows the source cut into partitions
+
+Options:
+  -h, --help  Print help
+
+Each command takes --workers N, from 1 to 64, and --merge with one of these words:
+  not      a line for each element
+  auto     lines of 16 elements
+  full     one line of all elements, where there are any and the answer comes to its end
+  default  as auto
+
+Exit status:
+  0  the answer came to its end, or help was shown
+  2  the arguments or the document were refused
+  3  the source refused
+  4  a formula had a fault
+  5  memory ran out, or reading or writing failed
+
+Example, which prints 4, 2, 5 and end, a line each:
+  echo '{"version":1,"source":{"list":[3,1,4]},"query":[["as_ordered"],["select","add",1]]}' | plinq run --merge not
+"""
+ABOUT = {
+    "run": "Answers the query",
+    "seq": "Answers the query on one thread",
+    "plan": "Shows how the query is shared among workers",
+    "parts": "Shows the source cut into partitions",
+}
+COMMAND_HELP = """
+
+Usage: plinq {} [OPTIONS]
+
+Options:
+      --workers <N>     The degree of parallelism, from 1 to 64
+      --merge <OPTION>  How results are handed over [possible values: not, auto, full, default]
+  -h, --help            Print help
+"""
+
+
+def main():
+    build()
+    tests = Tests()
+
+    def ends(words, wanted, given=b""):
+        seen = run(words, given)
+        tests.check(f"plinq {' '.join(map(str, words))}", seen == wanted, f"wanted {wanted}; seen {seen}")
+
+    for words, text in REFUSED.items():
+        ends(words.split(), Outcome(2, b"", text.encode()))
+    no_text = Outcome(2, b"", b"error: invalid UTF-8 was detected in one or more arguments\n")
+    for words in ([b"\xff"], ["run", "--merge", b"\xff"]):
+        ends(words, no_text)
+    for word in ("--help", "-h"):
+        ends([word], Outcome(0, HELP.encode(), b""))
+        for command, about in ABOUT.items():
+            ends([command, word], Outcome(0, (about + COMMAND_HELP.format(command)).encode(), b""))
+    ends(["run", "--workers", "2", "--help"], Outcome(0, (ABOUT["run"] + COMMAND_HELP.format("run")).encode(), b""))
+
+    # (the command as it stands in help, with ./plinq for plinq)
+    example = next(line for line in HELP.splitlines() if line.startswith("  echo "))
+    ran = subprocess.run(["bash", "-c", example], env=os.environ | {"PATH": f"{ROOT}:{os.environ['PATH']}"}, capture_output=True, timeout=HANGS)
+    seen = Outcome(ran.returncode, ran.stdout, ran.stderr)
+    tests.check("the example of help prints what help says", seen == Outcome(0, b"4\n2\n5\nend\n", b""), seen)
+
+    with open(os.path.join(EXAMPLES, "add-one.json"), "rb") as file:
+        document = file.read()
+    for words in (["--merge", "full"], ["--merge=full"], ["--workers", "64", "--merge", "full"], ["--merge", "full", "--workers=1"]):
+        ends(["run", *words], Outcome(0, b"4 2 5\nend\n", b""), document)
+    tests.end()
+
+
+if __name__ == "__main__":
+    main()
