@@ -1,0 +1,7 @@
+pub mod Blocks
+pub mod Sent
+pub mod Overlaps
+pub mod Takings
+pub mod Moves
+pub mod Gains
+pub mod Offers

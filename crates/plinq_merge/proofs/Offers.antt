@@ -1,0 +1,167 @@
+-- What an offer answers, by what the work did; what a merger tells of the answer.
+use Rattle.std.specs.Prelude.{◌≡◌, ℕ, ◌<◌, List, [], true, false, cond, nat_lt, Option, Some, None, Result, Ok, Err, is_some, refl}
+use Rattle.std.specs.List.{list_any}
+use Rattle.std.proofs.Common.{sym, ◌∙◌, ap, subst, arith}
+use Rattle.std.proofs.lemmas.Bool.{or_left, or_from, lt-ltb, le-ltb}
+use Rattle.plinq_source.specs.declared.ending.Ending.{Ending}
+use Rattle.plinq_source.specs.declared.ending.Ending.TheVariants.{End}
+use Rattle.plinq_source.specs.Trace.{open_trace, ended, followed}
+use Rattle.plinq_lambda.specs.Meaning.{Meaning}
+use Rattle.plinq_ops.specs.declared.results.ChunkResult.{ChunkResult}
+use Rattle.plinq_ops.specs.declared.op.Op.{Op}
+use Rattle.plinq_ops.specs.Stage.{seq, some_takes_none}
+use Rattle.plinq_ops.specs.Operator.{stages_of}
+use Rattle.plinq_ops.specs.Feeding.{is_empty_take}
+use Rattle.plinq_ops.specs.Pipeline.{PipelineView, stages, begun}
+use Rattle.plinq_ops.proofs.Counts.{stages_left-counts, some_takes_none-stages_of}
+use Rattle.plinq_ops.proofs.Open.{seq-nothing}
+use Rattle.plinq_merge.specs.declared.more.More.TheVariants.{Yes, No}
+use Rattle.plinq_merge.specs.declared.merge_fault.MergeFault.TheVariants.{Memory, Sink, Twice}
+use Rattle.plinq_merge.specs.declared.undelivered.Undelivered.TheVariants.{Memory as NoMemory, Sink as Refusal}
+use Rattle.plinq_merge.specs.declared.standing.Standing.{Standing}
+use Rattle.plinq_merge.specs.declared.standing.Standing.TheVariants.{Open, Decided, Failed}
+use Rattle.plinq_merge.specs.declared.work.Work.{Work}
+use Rattle.plinq_merge.specs.Shown.{Merge, merged, answer, behind_result}
+use Rattle.plinq_merge.specs.Keys.{is_offered, IsFresh, IsRepeated}
+use Rattle.plinq_merge.specs.Merging.{Content, coming, HasTaken}
+use Rattle.plinq_merge.specs.Buffer.{held_of}
+use Rattle.plinq_merge.specs.declared.undelivered.Undelivered.{Undelivered}
+use Rattle.plinq_merge.specs.Working.{content, merge_of, Rests, Gains}
+use Rattle.plinq_merge.specs.Offering.{StandsFor, AreNew, Offers, finished, finish_of, is_decided}
+use Rattle.plinq_merge.proofs.Takings.{answer-taken}
+use Rattle.plinq_merge.proofs.Gains.{answer-open}
+
+-- the answer of an open merger is open
+pub rests-open : {L T : Type 0} (meaning : L → Meaning T) (w : Work L T) (offers : List (ChunkResult T)) → Rests meaning w offers → (answer (merge_of meaning w) offers).ending ≡ None
+rests-open meaning w offers rests =
+    ap (λ t. t.ending)
+    (answer-open (merge_of meaning w) offers rests.undecided
+    ∙ answer-taken (merge_of meaning w) (content meaning w) (open_trace []) offers rests.out rests.taken
+    ∙ ap (followed (open_trace rests.out)) rests.rests)
+
+-- `decided` tells whether the answer has an ending
+pub decided-answer : {L T : Type 0} (meaning : L → Meaning T) (w : Work L T) (standing : Standing) (offers : List (ChunkResult T)) → StandsFor meaning w standing offers
+    → is_decided standing ≡ is_some (answer (merge_of meaning w) offers).ending
+decided-answer meaning w Open offers stands = ap is_some (sym (rests-open meaning w offers stands))
+decided-answer meaning w (Decided e) offers stands = ap is_some (sym stands)
+decided-answer meaning w Failed offers stands = absurd stands
+
+-- `finish` tells which
+pub finished-answer : {L T : Type 0} (meaning : L → Meaning T) (w : Work L T) (standing : Standing) (offers : List (ChunkResult T)) → StandsFor meaning w standing offers
+    → finished standing ≡ finish_of (answer (merge_of meaning w) offers).ending
+finished-answer meaning w Open offers stands = ap finish_of (sym (rests-open meaning w offers stands))
+finished-answer meaning w (Decided e) offers stands = ap finish_of (sym stands)
+finished-answer meaning w Failed offers stands = absurd stands
+
+-- each key before the next one was offered
+pub merged-offered : {L T : Type 0} (meaning : L → Meaning T) (w : Work L T) (offers : List (ChunkResult T)) → Rests meaning w offers → (key : ℕ) → key < w.row.next → is_offered offers key ≡ true
+merged-offered meaning w offers rests key before = let taken = rests.taken in taken.keys key ∙ or_left _ _ (lt-ltb key w.row.next before)
+
+are-new : {L T : Type 0} (meaning : L → Meaning T) (w : Work L T) (offers : List (ChunkResult T)) (r : ChunkResult T) → IsFresh w.row.next w.row.waiting.entries r.first (behind_result r)
+    → Rests meaning w offers → AreNew offers r
+are-new meaning w offers r fresh rests key within = let taken = rests.taken in taken.keys key ∙ fresh key within
+
+pub offers-yes : {L K T : Type 0} (meaning : L → Meaning T) (accepts : K → List T → K → Type 0) (refuses : K → List T → ℕ → K → Type 0) (w : Work L T) (standing : Standing) (r : ChunkResult T) (s : K) (w' : Work L T) (standing' : Standing) (s' : K)
+    → standing ≡ Open → standing' ≡ Open → IsFresh w.row.next w.row.waiting.entries r.first (behind_result r)
+    → ((offers : List (ChunkResult T)) → Rests meaning w offers → Gains meaning accepts refuses w offers r s (Ok None) w' s')
+    → Offers meaning accepts refuses w standing r s (Ok Yes) w' standing' s'
+offers-yes meaning accepts refuses w Open r s w' standing' s' is still fresh gains = (
+  still,
+  λ offers rests.
+      let brings = gains offers rests in
+      (record { are_new = are-new meaning w offers r fresh rests; gained = brings.gained; grows = brings.grows; sent = brings.sends }, brings.stands),
+)
+offers-yes meaning accepts refuses w (Decided e) r s w' standing' s' is still fresh gains = absurd (cc)
+offers-yes meaning accepts refuses w Failed r s w' standing' s' is still fresh gains = absurd (cc)
+
+pub offers-no : {L K T : Type 0} (meaning : L → Meaning T) (accepts : K → List T → K → Type 0) (refuses : K → List T → ℕ → K → Type 0) (w : Work L T) (standing : Standing) (r : ChunkResult T) (s : K) (e : Ending) (w' : Work L T) (s' : K)
+    → standing ≡ Open → IsFresh w.row.next w.row.waiting.entries r.first (behind_result r)
+    → ((offers : List (ChunkResult T)) → Rests meaning w offers → Gains meaning accepts refuses w offers r s (Ok (Some e)) w' s')
+    → Offers meaning accepts refuses w standing r s (Ok No) w' (Decided e) s'
+offers-no meaning accepts refuses w Open r s e w' s' is fresh gains = (
+  e,
+  refl,
+  λ offers rests.
+      let brings = gains offers rests in
+      (record { are_new = are-new meaning w offers r fresh rests; gained = brings.gained; grows = brings.grows; sent = brings.sends }, brings.stands),
+)
+offers-no meaning accepts refuses w (Decided f) r s e w' s' is fresh gains = absurd (cc)
+offers-no meaning accepts refuses w Failed r s e w' s' is fresh gains = absurd (cc)
+
+pub offers-memory : {L K T : Type 0} (meaning : L → Meaning T) (accepts : K → List T → K → Type 0) (refuses : K → List T → ℕ → K → Type 0) (w : Work L T) (standing : Standing) (r : ChunkResult T) (s : K) (w' : Work L T) (s' : K)
+    → standing ≡ Open → IsFresh w.row.next w.row.waiting.entries r.first (behind_result r)
+    → ((offers : List (ChunkResult T)) → Rests meaning w offers → Gains meaning accepts refuses w offers r s (Err NoMemory) w' s')
+    → Offers meaning accepts refuses w standing r s (Err Memory) w' Failed s'
+offers-memory meaning accepts refuses w Open r s w' s' is fresh gains = (
+  refl,
+  λ offers rests.
+      let brings = gains offers rests in
+      record { are_new = are-new meaning w offers r fresh rests; gained = brings.gained; grows = brings.grows; sent = brings.sends },
+)
+offers-memory meaning accepts refuses w (Decided e) r s w' s' is fresh gains = absurd (cc)
+offers-memory meaning accepts refuses w Failed r s w' s' is fresh gains = absurd (cc)
+
+pub offers-sink : {L K T : Type 0} (meaning : L → Meaning T) (accepts : K → List T → K → Type 0) (refuses : K → List T → ℕ → K → Type 0) (w : Work L T) (standing : Standing) (r : ChunkResult T) (s : K) (code : ℕ) (w' : Work L T) (s' : K)
+    → standing ≡ Open → IsFresh w.row.next w.row.waiting.entries r.first (behind_result r)
+    → ((offers : List (ChunkResult T)) → Rests meaning w offers → Gains meaning accepts refuses w offers r s (Err (Refusal code)) w' s')
+    → Offers meaning accepts refuses w standing r s (Err (Sink code)) w' Failed s'
+offers-sink meaning accepts refuses w Open r s code w' s' is fresh gains = (
+  refl,
+  λ offers rests.
+      let brings = gains offers rests in
+      record { are_new = are-new meaning w offers r fresh rests; gained = brings.gained; grows = brings.grows; sent = brings.sends },
+)
+offers-sink meaning accepts refuses w (Decided e) r s code w' s' is fresh gains = absurd (cc)
+offers-sink meaning accepts refuses w Failed r s code w' s' is fresh gains = absurd (cc)
+
+pub gains-as : {L K T : Type 0} (meaning : L → Meaning T) (accepts : K → List T → K → Type 0) (refuses : K → List T → ℕ → K → Type 0) (w : Work L T) (r : ChunkResult T) (s : K)
+    (result result' : Result (Option Ending) Undelivered) (w' : Work L T) (s' : K) → result ≡ result'
+    → ((offers : List (ChunkResult T)) → Rests meaning w offers → Gains meaning accepts refuses w offers r s result w' s')
+    → (offers : List (ChunkResult T)) → Rests meaning w offers → Gains meaning accepts refuses w offers r s result' w' s'
+gains-as meaning accepts refuses w r s result result' w' s' same gains offers rests =
+    let P : Result (Option Ending) Undelivered → Type 0 = λ o. Gains meaning accepts refuses w offers r s o w' s' in
+    subst P same (gains offers rests)
+
+-- nothing was offered to a new merger
+taken-begun : {T : Type 0} (merge : Merge T) → HasTaken merge (record { next = 0; waiting = []; told = None; now = merge.after; held = [] }) (open_trace []) [] []
+taken-begun merge =
+    record {
+      done = [];
+      placed = refl;
+      told = refl;
+      answers = λ later told rest. refl;
+      before = λ rest key p past. refl;
+      held = refl;
+      parts = tt;
+      keys = λ key. sym (or_from (nat_lt key 0) false (le-ltb key 0 (omega arith)) refl);
+    }
+
+-- what is left of operators that have seen nothing
+pub begun-stages : {L T : Type 0} (meaning : L → Meaning T) (p : PipelineView L) (ops : List (Op L)) → p ≡ begun ops → stages meaning p ≡ stages_of meaning p.ops
+begun-stages meaning p ops is = ap (stages meaning) is ∙ stages_left-counts meaning ops ∙ sym (ap (λ q. stages_of meaning q.ops) is)
+
+pub begun-undecided : {L T : Type 0} (meaning : L → Meaning T) (p : PipelineView L) (ops : List (Op L)) → p ≡ begun ops → list_any is_empty_take ops ≡ false → some_takes_none (stages meaning p) ≡ false
+begun-undecided meaning p ops is some = ap some_takes_none (ap (stages meaning) is ∙ stages_left-counts meaning ops) ∙ sym (some_takes_none-stages_of meaning ops) ∙ some
+
+-- a new merger stands for no offers
+pub begun-rests : {L T : Type 0} (meaning : L → Meaning T) (w : Work L T) (ops : List (Op L)) → w.decided ≡ false → w.pipeline ≡ begun ops → list_any is_empty_take ops ≡ false
+    → w.row.next ≡ 0 → w.row.waiting.entries ≡ [] → w.row.told ≡ None → held_of w.buffer ≡ [] → Rests meaning w []
+begun-rests {L} {T} meaning w ops undecided is some next waiting told held =
+    let merge : Merge T = merge_of meaning w in
+    let m0 : Content T = record { next = 0; waiting = []; told = None; now = merge.after; held = [] } in
+    let now = begun-stages meaning w.pipeline ops is in
+    let same : m0 ≡ content meaning w =
+    ap (λ n. record m0 { next = n }) (sym next)
+    ∙ ap (λ ps. record m0 { next = w.row.next; waiting = ps }) (sym waiting)
+    ∙ ap (λ t. record m0 { next = w.row.next; waiting = w.row.waiting.entries; told = t }) (sym told)
+    ∙ ap (λ ss. record m0 { next = w.row.next; waiting = w.row.waiting.entries; told = w.row.told; now = ss }) (sym now)
+    ∙ ap (λ h. record m0 { next = w.row.next; waiting = w.row.waiting.entries; told = w.row.told; now = stages meaning w.pipeline; held = h }) (sym held) in
+    let P : Content T → Type 0 = λ m. HasTaken merge m (open_trace []) [] [] in
+    let Q : Content T → Type 0 = λ m. coming m (open_trace []) ≡ open_trace [] in
+    let none : some_takes_none merge.after ≡ false = ap some_takes_none (sym now) ∙ begun-undecided meaning w.pipeline ops is some in
+    record {
+      undecided = undecided;
+      out = [];
+      taken = subst P same (taken-begun merge);
+      rests = subst Q same (seq-nothing merge.after None none);
+    }

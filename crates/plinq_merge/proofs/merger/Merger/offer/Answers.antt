@@ -1,0 +1,47 @@
+use Rattle.std.proofs.Common.{rules, ◌≡◌, Ok, Err, Some, None}
+use Rattle.plinq_merge.specs.declared.standing.Standing.TheVariants.{Open}
+use Rattle.plinq_merge.specs.declared.undelivered.Undelivered.TheVariants.{Memory, Sink}
+use Rattle.plinq_merge.specs.Shown.{behind_result}
+use Rattle.plinq_merge.specs.Keys.{IsFresh}
+use Rattle.plinq_merge.proofs.Offers.{offers-yes, offers-no, offers-memory, offers-sink, gains-as}
+use Rattle.plinq_merge.proofs.merger.Merger.offer.Goals as goal
+
+pub returns-in-Ok-None-clause-offers : goal.returns-in-Ok-None-clause-offers
+returns-in-Ok-None-clause-offers g c =
+    let w = c.args.self.now.work in
+    let r = c.args.offered in
+    let is_open : c.args.self.now.standing ≡ Open = search rules in
+    let fresh : IsFresh w.row.next w.row.waiting.entries r.first (behind_result r) = search rules in
+    let is : c.merge.result ≡ Ok None = search rules in
+    offers-yes g.L.Lambda.meaning g.K.Sink.accepts g.K.Sink.refuses w c.args.self.now.standing r c.args.sink.now c.merge.new.self c.args.self.now.standing c.merge.new.sink is_open is_open fresh
+    (gains-as g.L.Lambda.meaning g.K.Sink.accepts g.K.Sink.refuses w r c.args.sink.now c.merge.result (Ok None) c.merge.new.self c.merge.new.sink is c.merge.ensures.gains)
+
+pub returns-in-Ok-Some-clause-offers : goal.returns-in-Ok-Some-clause-offers
+returns-in-Ok-Some-clause-offers g c =
+    let w = c.args.self.now.work in
+    let r = c.args.offered in
+    let is_open : c.args.self.now.standing ≡ Open = search rules in
+    let fresh : IsFresh w.row.next w.row.waiting.entries r.first (behind_result r) = search rules in
+    let is : c.merge.result ≡ Ok (Some c.in-Ok-Some.ending) = search rules in
+    offers-no g.L.Lambda.meaning g.K.Sink.accepts g.K.Sink.refuses w c.args.self.now.standing r c.args.sink.now c.in-Ok-Some.ending c.merge.new.self c.merge.new.sink is_open fresh
+    (gains-as g.L.Lambda.meaning g.K.Sink.accepts g.K.Sink.refuses w r c.args.sink.now c.merge.result (Ok (Some c.in-Ok-Some.ending)) c.merge.new.self c.merge.new.sink is c.merge.ensures.gains)
+
+pub returns-in-Err-Memory-clause-offers : goal.returns-in-Err-Memory-clause-offers
+returns-in-Err-Memory-clause-offers g c =
+    let w = c.args.self.now.work in
+    let r = c.args.offered in
+    let is_open : c.args.self.now.standing ≡ Open = search rules in
+    let fresh : IsFresh w.row.next w.row.waiting.entries r.first (behind_result r) = search rules in
+    let is : c.merge.result ≡ Err Memory = search rules in
+    offers-memory g.L.Lambda.meaning g.K.Sink.accepts g.K.Sink.refuses w c.args.self.now.standing r c.args.sink.now c.merge.new.self c.merge.new.sink is_open fresh
+    (gains-as g.L.Lambda.meaning g.K.Sink.accepts g.K.Sink.refuses w r c.args.sink.now c.merge.result (Err Memory) c.merge.new.self c.merge.new.sink is c.merge.ensures.gains)
+
+pub returns-in-Err-Sink-clause-offers : goal.returns-in-Err-Sink-clause-offers
+returns-in-Err-Sink-clause-offers g c =
+    let w = c.args.self.now.work in
+    let r = c.args.offered in
+    let is_open : c.args.self.now.standing ≡ Open = search rules in
+    let fresh : IsFresh w.row.next w.row.waiting.entries r.first (behind_result r) = search rules in
+    let is : c.merge.result ≡ Err (Sink c.in-Err-Sink.code) = search rules in
+    offers-sink g.L.Lambda.meaning g.K.Sink.accepts g.K.Sink.refuses w c.args.self.now.standing r c.args.sink.now c.in-Err-Sink.code c.merge.new.self c.merge.new.sink is_open fresh
+    (gains-as g.L.Lambda.meaning g.K.Sink.accepts g.K.Sink.refuses w r c.args.sink.now c.merge.result (Err (Sink c.in-Err-Sink.code)) c.merge.new.self c.merge.new.sink is c.merge.ensures.gains)

@@ -1,0 +1,80 @@
+-- Offers: which lists of them a merger stands for, and what one more brings.
+use Rattle.std.specs.Prelude.{◌≡◌, ℕ, List, [], ◌∷◌, ◌++◌, Option, Some, None, Bool, true, false, Result, Ok, Err}
+use Rattle.plinq_source.specs.declared.ending.Ending.{Ending}
+use Rattle.plinq_lambda.specs.Meaning.{Meaning}
+use Rattle.plinq_ops.specs.declared.results.ChunkResult.{ChunkResult}
+use Rattle.plinq_merge.specs.declared.merge_fault.MergeFault.{MergeFault}
+use Rattle.plinq_merge.specs.declared.merge_fault.MergeFault.TheVariants.{Memory, Sink, Twice, Gap, Failed}
+use Rattle.plinq_merge.specs.declared.more.More.{More}
+use Rattle.plinq_merge.specs.declared.more.More.TheVariants.{Yes, No}
+use Rattle.plinq_merge.specs.declared.standing.Standing.{Standing}
+use Rattle.plinq_merge.specs.declared.standing.Standing.TheVariants.{Open, Decided, Failed as HasFailed}
+use Rattle.plinq_merge.specs.declared.undelivered.Undelivered.TheVariants.{Memory as NoMemory, Sink as Refusal}
+use Rattle.plinq_merge.specs.declared.work.Work.{Work}
+use Rattle.plinq_merge.specs.Sending.{Leads, IsCutOff}
+use Rattle.plinq_merge.specs.Shown.{Merge, answer, shown, behind_result}
+use Rattle.plinq_merge.specs.Keys.{is_within, is_offered}
+use Rattle.plinq_merge.specs.Working.{merge_of, Rests}
+
+-- the merger stands for these offers: with them the answer is open, or it has this ending; a failed one stands for none
+abbrev pub StandsFor : {L T : Type 0} → (L → Meaning T) → Work L T → Standing → List (ChunkResult T) → Type 0
+StandsFor meaning w Open offers = Rests meaning w offers
+StandsFor meaning w (Decided e) offers = (answer (merge_of meaning w) offers).ending ≡ Some e
+StandsFor meaning w HasFailed offers = ⊥
+
+-- no key of the result was offered before
+abbrev pub AreNew : {T : Type 0} → List (ChunkResult T) → ChunkResult T → Type 0
+AreNew offers r = (key : ℕ) → is_within r.first (behind_result r) key ≡ true → is_offered offers key ≡ false
+
+-- some key of it was
+abbrev pub IsTwice : {T : Type 0} → List (ChunkResult T) → ChunkResult T → Type 0
+IsTwice offers r = (key : ℕ) × (is_within r.first (behind_result r) key ≡ true) × (is_offered offers key ≡ true)
+
+-- the result is new, and of the batches that the definition gains by it this much was sent
+pub record Brings {T : Type 0} (merge : Merge T) (offers : List (ChunkResult T)) (r : ChunkResult T) (Sent : List (List T) → Type 0) : Type 0 where
+  pub are_new : AreNew offers r
+  pub gained : List (List T)
+  pub grows : shown merge (offers ++ r ∷ []) ≡ shown merge offers ++ gained
+  pub sent : Sent gained
+
+-- what an offer answers and does, where the answer is open
+abbrev pub TakesOffer : {L K T : Type 0} → (L → Meaning T) → (K → List T → K → Type 0) → (K → List T → ℕ → K → Type 0)
+    → Work L T → ChunkResult T → K → Result More MergeFault → Work L T → Standing → K → Type 0
+TakesOffer {L} {K} {T} meaning accepts refuses w r s (Ok Yes) w' standing' s' =
+    (standing' ≡ Open) × ((offers : List (ChunkResult T)) → Rests meaning w offers
+    → Brings (merge_of meaning w) offers r (λ gained. Leads accepts s gained s') × Rests meaning w' (offers ++ r ∷ []))
+TakesOffer {L} {K} {T} meaning accepts refuses w r s (Ok No) w' standing' s' =
+    (e : Ending) × (standing' ≡ Decided e) × ((offers : List (ChunkResult T)) → Rests meaning w offers
+    → Brings (merge_of meaning w) offers r (λ gained. Leads accepts s gained s') × ((answer (merge_of meaning w) (offers ++ r ∷ [])).ending ≡ Some e))
+TakesOffer {L} {K} {T} meaning accepts refuses w r s (Err Memory) w' standing' s' =
+    (standing' ≡ HasFailed) × ((offers : List (ChunkResult T)) → Rests meaning w offers
+    → Brings (merge_of meaning w) offers r (λ gained. IsCutOff accepts refuses s gained NoMemory s'))
+TakesOffer {L} {K} {T} meaning accepts refuses w r s (Err (Sink code)) w' standing' s' =
+    (standing' ≡ HasFailed) × ((offers : List (ChunkResult T)) → Rests meaning w offers
+    → Brings (merge_of meaning w) offers r (λ gained. IsCutOff accepts refuses s gained (Refusal code) s'))
+TakesOffer {L} {K} {T} meaning accepts refuses w r s (Err Twice) w' standing' s' =
+    (w' ≡ w) × (standing' ≡ Open) × (s' ≡ s) × ((offers : List (ChunkResult T)) → Rests meaning w offers → IsTwice offers r)
+TakesOffer meaning accepts refuses w r s (Err Gap) w' standing' s' = ⊥
+TakesOffer meaning accepts refuses w r s (Err Failed) w' standing' s' = ⊥
+
+-- a decided merger answers No, a failed one Failed, and nothing changes
+abbrev pub Offers : {L K T : Type 0} → (L → Meaning T) → (K → List T → K → Type 0) → (K → List T → ℕ → K → Type 0)
+    → Work L T → Standing → ChunkResult T → K → Result More MergeFault → Work L T → Standing → K → Type 0
+Offers meaning accepts refuses w Open r s result w' standing' s' = TakesOffer meaning accepts refuses w r s result w' standing' s'
+Offers meaning accepts refuses w (Decided e) r s result w' standing' s' = (result ≡ Ok No) × (w' ≡ w) × (standing' ≡ Decided e) × (s' ≡ s)
+Offers meaning accepts refuses w HasFailed r s result w' standing' s' = (result ≡ Err Failed) × (w' ≡ w) × (standing' ≡ HasFailed) × (s' ≡ s)
+
+abbrev pub is_decided : Standing → Bool
+is_decided Open = false
+is_decided (Decided e) = true
+is_decided HasFailed = false
+
+-- how a merger finishes: with the answer's ending, or with Gap where it is open
+abbrev pub finished : Standing → Result Ending MergeFault
+finished Open = Err Gap
+finished (Decided e) = Ok e
+finished HasFailed = Err Failed
+
+abbrev pub finish_of : Option Ending → Result Ending MergeFault
+finish_of None = Err Gap
+finish_of (Some e) = Ok e

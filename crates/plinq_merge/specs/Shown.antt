@@ -1,0 +1,92 @@
+-- What offered results show: the trace that they merge to, and its batches.
+use Rattle.std.specs.Prelude.{ℕ, ◌+◌, ◌==◌, List, [], ◌∷◌, Bool, if◌then◌else◌, Option, Some, None}
+use Rattle.std.specs.Option.{option_or}
+use Rattle.std.specs.Ordering.{nat_cmp}
+use Rattle.std.specs.BTreeMap.{insert_entry}
+use Rattle.plinq_source.specs.declared.ending.Ending.{Ending}
+use Rattle.plinq_source.specs.declared.ending.Ending.TheVariants.{End, Refused}
+use Rattle.plinq_source.specs.Trace.{Trace, open_trace, ended, followed}
+use Rattle.plinq_keyed.specs.declared.tail.Tail.{Tail}
+use Rattle.plinq_keyed.specs.declared.tail.Tail.TheVariants.{Ended, Refused as TailRefused, Closed}
+use Rattle.plinq_ops.specs.declared.order.Order.{Order}
+use Rattle.plinq_ops.specs.declared.order.Order.TheVariants.{ByKey, ByArrival}
+use Rattle.plinq_ops.specs.declared.results.ChunkResult.{ChunkResult}
+use Rattle.plinq_ops.specs.Stage.{Stage, seq}
+use Rattle.plinq_ops.specs.Batches.{batches_from}
+use Rattle.plinq_ops.specs.Chunk.{result_trace}
+use Rattle.plinq_merge.specs.Part.{Part}
+
+-- the first key behind those of a result
+abbrev pub behind_result : {T : Type 0} → ChunkResult T → ℕ
+behind_result r = r.first + r.count
+
+-- what is merged as soon as it arrives: nothing by key, the result by arrival
+abbrev pub at_once : {T : Type 0} → Order → ChunkResult T → Trace T
+at_once ByKey r = open_trace []
+at_once ByArrival r = result_trace r
+
+-- what waits for its keys' turn: the result by key, and by arrival nothing but the keys
+abbrev pub waiting_trace : {T : Type 0} → Order → ChunkResult T → Trace T
+waiting_trace ByKey r = result_trace r
+waiting_trace ByArrival r = open_trace []
+
+abbrev pub part_of : {T : Type 0} → Order → ChunkResult T → Part T
+part_of order r = record { behind = behind_result r; trace = waiting_trace order r }
+
+-- the place of a result among the others, by its first key; one of no keys has none
+abbrev pub placed : {T : Type 0} → Order → List (ℕ × Part T) → ChunkResult T → List (ℕ × Part T)
+placed order parts r = if r.count == 0 then parts else insert_entry nat_cmp parts r.first (part_of order r)
+
+abbrev pub all_placed : {T : Type 0} → Order → List (ℕ × Part T) → List (ChunkResult T) → List (ℕ × Part T)
+all_placed order parts [] = parts
+all_placed order parts (r ∷ rs) = all_placed order (placed order parts r) rs
+
+-- where the source ends, and how, if the tail behind these keys tells it
+abbrev pub told_at : ℕ → Option Tail → Option (ℕ × Ending)
+told_at key None = None
+told_at key (Some Ended) = Some (key, End)
+told_at key (Some (TailRefused code)) = Some (key, Refused code)
+told_at key (Some Closed) = None
+
+-- the first that was told
+abbrev pub all_told : {T : Type 0} → Option (ℕ × Ending) → List (ChunkResult T) → Option (ℕ × Ending)
+all_told told [] = told
+all_told told (r ∷ rs) = all_told (option_or told (told_at (behind_result r) r.tail)) rs
+
+-- the source's ending, if this is its place
+abbrev pub ending_at : Option (ℕ × Ending) → ℕ → Option Ending
+ending_at None key = None
+ending_at (Some at) key = if at.0 == key then Some at.1 else None
+
+-- the unbroken row of keys from this one on, up to and with the first part that ends the run; behind it the source's
+-- ending, if this is its place
+abbrev pub row : {T : Type 0} → Option (ℕ × Ending) → ℕ → List (ℕ × Part T) → Trace T
+row told key [] = record { items = []; ending = ending_at told key }
+row told key (p ∷ ps) =
+    if p.0 == key then followed p.1.trace (row told p.1.behind ps) else record { items = []; ending = ending_at told key }
+
+-- what was merged at once, in the order of arrival
+abbrev pub arrived : {T : Type 0} → Order → List (ChunkResult T) → Trace T
+arrived order [] = open_trace []
+arrived order (r ∷ rs) = followed (at_once order r) (arrived order rs)
+
+-- the results merged: by key their unbroken row from key 0 on, by arrival each as it came, and the source's ending
+-- where all keys before it were offered
+abbrev pub merged : {T : Type 0} → Order → List (ChunkResult T) → Trace T
+merged order offers = followed (arrived order offers) (row (all_told None offers) 0 (all_placed order [] offers))
+
+-- what a merger is made for: the operators behind the merge, the order, whether the plan was decided from the start, and
+-- after how many items a batch is full
+pub record Merge (T : Type 0) : Type 0 where
+  pub after : List (Stage T)
+  pub order : Order
+  pub decided : Bool
+  pub size : Option ℕ
+
+-- the answer so far; that of a decided plan is nothing and the end
+abbrev pub answer : {T : Type 0} → Merge T → List (ChunkResult T) → Trace T
+answer merge offers = if merge.decided then ended [] End else seq merge.after (merged merge.order offers)
+
+-- its batches so far
+abbrev pub shown : {T : Type 0} → Merge T → List (ChunkResult T) → List (List T)
+shown merge offers = batches_from merge.size [] (answer merge offers)

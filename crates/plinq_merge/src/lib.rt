@@ -1,0 +1,28 @@
+//! The merger: results of chunks in any order, batches of the answer in order.
+//!
+//! - A [`Merger`] stands for lists of offers (`StandsFor`). What they show is the answer so far (`answer`): by key the
+//!   unbroken row of results from key 0 on, by arrival the results as they came, sent through the operators behind the
+//!   merge.
+//! - Each offer delivers exactly the batches that the answer gains by it, or after a fault the first of them
+//!   (`Merger::offer`); `decided`, `finish` and [`More`] tell whether and how the answer ends.
+//! - A [`Sink`] takes the batches; what it says of a call is `accepts` and `refuses`.
+#![tactic(auto)]
+
+mod buffer;
+mod merge_fault;
+mod merger;
+mod more;
+mod row;
+mod sending;
+mod sink;
+mod standing;
+#[cfg(test)]
+mod tests;
+mod undelivered;
+mod waiting;
+mod work;
+
+pub use merge_fault::MergeFault;
+pub use merger::Merger;
+pub use more::More;
+pub use sink::Sink;

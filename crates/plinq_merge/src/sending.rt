@@ -1,0 +1,130 @@
+ghost use Rattle.std.specs.Prelude.{◌≡◌, ℕ, List, [], ◌∷◌, ◌<◌, ◌≤◌, length, Some, None, OnOk, MatchResult};
+ghost use Rattle.plinq_ops.specs.Batches.{full_batches, held_back, last_batch};
+ghost use Rattle.plinq_merge.specs.Buffer.{held_of, size_of, HasRoom};
+ghost use Rattle.plinq_merge.specs.Sending.{Delivers};
+
+use crate::buffer::Buffer;
+use crate::sink::Sink;
+use crate::undelivered::Undelivered;
+use circular_buffer::HeapCircularBuffer;
+use plinq_source::Ending;
+
+/// Hands one batch to the sink.
+fn send<K: Sink>(batch: &[K::Item], sink: &mut K) -> Result<(), Undelivered>
+    ensures { Delivers K.accepts K.refuses sink.old (batch.now ∷ []) result sink.new }
+{
+    match sink.batch(batch) {
+        Ok(()) => Ok(()),
+        Err(code) => Err(Undelivered::Sink(code)),
+    }
+}
+
+/// Hands out what is left in the buffer, if the answer ends and as its ending says.
+pub(crate) fn hand_last<K: Sink>(
+    buffer: &mut Buffer<K::Item>,
+    ending: Option<Ending>,
+    sink: &mut K,
+) -> Result<(), Undelivered>
+    ensures same { ending ≡ None → buffer.new ≡ buffer.old }
+    ensures size { size_of buffer.new ≡ size_of buffer.old }
+    ensures sent { Delivers K.accepts K.refuses sink.old
+        (last_batch (size_of buffer.old) (held_of buffer.old) ending) result sink.new }
+{
+    let Some(ending) = ending else {
+        return Ok(());
+    };
+    match buffer {
+        Buffer::Ring(ring) => {
+            if ring.is_empty() {
+                return Ok(());
+            }
+            send(ring.make_contiguous(), sink)
+        }
+        Buffer::All(items) => {
+            if items.is_empty() || ending != Ending::End {
+                return Ok(());
+            }
+            send(items.as_slice(), sink)
+        }
+    }
+}
+
+/// Hands out the batches that these items fill, and holds the rest back.
+pub(crate) fn hand_out<K: Sink>(
+    buffer: &mut Buffer<K::Item>,
+    items: &[K::Item],
+    sink: &mut K,
+) -> Result<(), Undelivered>
+where
+    K::Item: Copy,
+    requires { HasRoom buffer.old }
+    ensures room { OnOk result (HasRoom buffer.new) }
+    ensures size { size_of buffer.new ≡ size_of buffer.old }
+    ensures held { OnOk result (held_of buffer.new ≡ held_back (size_of buffer.old) (held_of buffer.old) items.now) }
+    ensures sent { Delivers K.accepts K.refuses sink.old
+        (full_batches (size_of buffer.old) (held_of buffer.old) items.now) result sink.new }
+{
+    match buffer {
+        Buffer::Ring(ring) => hand_filled(ring, items, sink),
+        Buffer::All(held) => {
+            held.extend_from_slice(items)?;
+            Ok(())
+        }
+    }
+}
+
+/// Fills up the batch that was begun, and goes on with the items behind it.
+fn hand_filled<K: Sink>(
+    ring: &mut HeapCircularBuffer<K::Item>,
+    items: &[K::Item],
+    sink: &mut K,
+) -> Result<(), Undelivered>
+where
+    K::Item: Copy,
+    requires { length ring.old.items < ring.old.capacity }
+    ensures room { OnOk result (length ring.new.items < ring.new.capacity) }
+    ensures size { ring.new.capacity ≡ ring.old.capacity }
+    ensures held { OnOk result (ring.new.items ≡ held_back (Some ring.old.capacity) ring.old.items items.now) }
+    ensures sent { Delivers K.accepts K.refuses sink.old
+        (full_batches (Some ring.old.capacity) ring.old.items items.now) result sink.new }
+{
+    if ring.is_empty() {
+        return hand_whole(ring, items, sink);
+    }
+    let taken = ring.fill_from_slice(items);
+    if !ring.is_full() {
+        return Ok(());
+    }
+    let sent = send(ring.make_contiguous(), sink);
+    ring.clear();
+    sent?;
+    let (_, rest) = items.split_at(taken);
+    hand_whole(ring, rest, sink)
+}
+
+/// Hands out full batches as parts of the items themselves, and holds back what is left of them.
+fn hand_whole<K: Sink>(
+    ring: &mut HeapCircularBuffer<K::Item>,
+    items: &[K::Item],
+    sink: &mut K,
+) -> Result<(), Undelivered>
+where
+    K::Item: Copy,
+    requires empty { ring.old.items ≡ [] }
+    requires size { 0 < ring.old.capacity }
+    ensures room { OnOk result (length ring.new.items < ring.new.capacity) }
+    ensures size { ring.new.capacity ≡ ring.old.capacity }
+    ensures held { OnOk result (ring.new.items ≡ held_back (Some ring.old.capacity) [] items.now) }
+    ensures sent { Delivers K.accepts K.refuses sink.old
+        (full_batches (Some ring.old.capacity) [] items.now) result sink.new }
+{
+    let size = ring.capacity();
+    let mut rest = items;
+    while rest.len() >= size {
+        let (batch, others) = rest.split_at(size);
+        send(batch, sink)?;
+        rest = others;
+    }
+    ring.fill_from_slice(rest);
+    Ok(())
+}

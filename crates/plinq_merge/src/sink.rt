@@ -1,0 +1,31 @@
+ghost use Rattle.std.specs.Prelude.{ℕ, List, MatchResult};
+
+/// Where the batches of an answer go.
+///
+/// ```text
+/// impl Sink for Lines {
+///     type Item = i64;
+///
+///     fn batch(&mut self, items: &[i64]) -> Result<(), u32> { .. }   // Err(code) refuses the batch
+/// }
+/// ```
+pub trait Sink {
+    /// What the batches hold.
+    type Item;
+
+    // The sink before a batch that it takes, the batch, the sink after it.
+    ghost accepts: { Self → List Self.Item → Self → Type 0 };
+
+    // The sink before a batch that it refuses, the batch, the code, the sink after it.
+    ghost refuses: { Self → List Self.Item → ℕ → Self → Type 0 };
+
+    /// Takes a batch, or refuses it with a code of its own.
+    ///
+    /// # Errors
+    ///
+    /// The sink's code. A merger hands it no further batch then.
+    fn batch(&mut self, items: &[Self::Item]) -> Result<(), u32>
+        ensures { MatchResult result
+            (λ _. accepts self.old items.now self.new)
+            (λ code. refuses self.old items.now code self.new) };
+}

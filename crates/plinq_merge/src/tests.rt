@@ -1,0 +1,3 @@
+mod orders;
+mod rows;
+mod taken;
