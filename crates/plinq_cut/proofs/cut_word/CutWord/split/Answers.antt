@@ -1,0 +1,8 @@
+use Rattle.std.proofs.Common.{arith}
+use Rattle.plinq_cut.proofs.Steps.{splits}
+use Rattle.plinq_cut.proofs.cut_word.CutWord.split.Goals as goal
+
+pub split_seat-seat-requires : goal.split_seat-seat-requires
+split_seat-seat-requires g c =
+    let one = c.args.self.now.one in
+    (c.requires, omega arith, splits g.E.Enders.is_ender c.args.self.now.table.shared.key _ _)

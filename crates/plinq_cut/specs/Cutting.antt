@@ -1,0 +1,32 @@
+-- A cut that several passes share: what holds between any two steps of any passes, and what a step tells the one that makes it.
+use Rattle.std.specs.Prelude.{◌≡◌, ℕ, ◌≤◌, ◌==◌, ◌||◌, Bool, true, List, min, ⊤}
+use mathlib.Core.Option.{some}
+use lib.ListN.{get_elem?}
+use Rattle.plinq_ops.specs.Cut.{no_cut}
+use Rattle.plinq_cut.specs.declared.view.View.{View}
+use Rattle.plinq_cut.specs.declared.view.View.TheVariants.{Passing, Joined}
+
+-- a cut is no cut at all, or a key that ends the run
+abbrev pub is_cut_of : (ℕ → Bool) → ℕ → Bool
+is_cut_of is_ender cut = cut == no_cut || is_ender cut
+
+-- a pass is of these enders, and the word is at most the least number that it has seen
+abbrev pub Knows : {E : Type 0} → E → ℕ → View E → Type 0
+Knows of word (Passing mine least) = (mine ≡ of) × (word ≤ least)
+Knows of word Joined = ⊤
+
+-- the word is a cut, and no pass has seen less
+pub record IsLawful {E : Type 0} (is_ender : E → ℕ → Bool) (of : E) (word : ℕ) (views : List (View E)) : Type 0 where
+  pub cut : is_cut_of (is_ender of) word ≡ true
+  pub known : (i : ℕ) (v : View E) → get_elem? views i ≡ some v → Knows of word v
+
+-- what a step of a pass tells that found n: a cut that is at most what it has seen, and the least number that it has then seen
+abbrev pub Sees : {E : Type 0} → (E → ℕ → Bool) → ℕ → ℕ → View E → View E → Type 0
+Sees is_ender n seen (Passing of least) v = (is_cut_of (is_ender of) n ≡ true) × (n ≤ least) × (v ≡ Passing of seen)
+Sees is_ender n seen Joined v = ⊤
+
+-- what two passes know together
+abbrev pub together : {E : Type 0} → View E → View E → View E
+together (Passing of least) (Passing _ other) = Passing of (min least other)
+together (Passing of least) Joined = Passing of least
+together Joined v = v

@@ -1,0 +1,4 @@
+pub mod Cutting
+pub mod OneWord
+pub mod Passes
+pub mod Views

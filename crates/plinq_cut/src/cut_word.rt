@@ -1,0 +1,29 @@
+ghost use Rattle.std.specs.Prelude.{◌≡◌};
+ghost use Rattle.plinq_ops.specs.Cut.{no_cut};
+
+use crate::enders::Enders;
+use crate::view::View;
+use atomic_table::{Table, TableRule};
+use std::alloc::Global;
+
+// Where the number stands in the table.
+pub(crate) const WORD: usize = 0;
+
+pub struct Cuts;
+
+impl<E: Enders> TableRule<(), View<E>, E> for Cuts {
+    ghost use Rattle.plinq_cut.specs.OneWord.{OfOneWord};
+    ghost use Rattle.plinq_cut.specs.Cutting.{IsLawful};
+    ghost use Rattle.plinq_cut.specs.declared.view.View.TheVariants.{Passing};
+
+    ghost holds = { λ of. OfOneWord (IsLawful E.is_ender of) };
+
+    ghost first = { λ of. Passing of no_cut };
+}
+
+/// The least key at which some worker has seen the run end, as one atomic number that workers share.
+#[derive(Drop)]
+pub struct CutWord<E: Enders> {
+    pub(crate) table: Table<(), View<E>, E, Cuts, Global>,
+    ghost one: { table.shared.table_id.words ≡ 1 },
+}

@@ -1,0 +1,24 @@
+//! The cut that the workers of a query share: no key above it needs to be looked at.
+//!
+//! A [`CutWord`] is one atomic number, at first the greatest. A worker whose chunk ends the run lowers it to the key
+//! at which that happened ([`CutWord::lower`]), and each worker reads it before it works on a chunk ([`CutWord::read`]).
+//! Between any two steps of any passes the number is the greatest one or a key whose fragment ends the run, and no
+//! pass has seen a lesser one. So a chunk may be left off above it, which the law of rows in `plinq_ops` makes harmless.
+//! Nothing takes memory but making the word.
+#![tactic(auto)]
+
+mod cut_pass;
+mod cut_word;
+mod cutting;
+mod enders;
+mod plan_enders;
+mod plays;
+mod view;
+
+pub use cut_pass::CutPass;
+pub use cut_word::CutWord;
+pub use enders::Enders;
+pub use plan_enders::PlanEnders;
+
+#[cfg(test)]
+mod tests;

@@ -1,0 +1,40 @@
+//! What each step tells the pass that makes it. These types are for the proofs alone.
+ghost use Rattle.std.specs.Prelude.{◌≡◌, min};
+ghost use Rattle.plinq_cut.specs.Cutting.{Sees, together};
+ghost use Rattle.plinq_cut.specs.declared.view.View.TheVariants.{Joined};
+
+use crate::enders::Enders;
+use crate::view::View;
+use atomic_table::{Join, Play, Split};
+
+// A load of the word.
+pub struct See;
+
+impl<E: Enders> Play<(), View<E>> for See {
+    ghost then = { λ s a n b. Sees E.is_ender n n a.0 b.0 × (b.1 ≡ a.1) };
+}
+
+// The word becomes the lesser of itself and a key.
+pub struct Lower;
+
+impl<E: Enders> Play<(), View<E>> for Lower {
+    ghost then = { λ s a n b. Sees E.is_ender n (min n s.first) a.0 b.0 × (b.1 ≡ a.1) };
+}
+
+// A pass becomes two.
+pub struct Cut;
+
+impl<E> Split<View<E>> for Cut {
+    ghost left = { λ a. a };
+
+    ghost right = { λ a. a };
+}
+
+// Two passes become one.
+pub struct Glue;
+
+impl<E> Join<View<E>> for Glue {
+    ghost both = { together };
+
+    ghost spent = { Joined };
+}
