@@ -1,31 +1,42 @@
 #!/usr/bin/env python3
-"""Measures the program beside python3 doing the same work, and prints the tables of bench/README.md.
+"""Measures the program beside python3, awk and jq doing the same work, and prints the tables of bench/README.md.
 
-    python3 bench/measure.py times          # seconds and peak memory, as ratios taken in this run
+    python3 bench/measure.py times          # processor time and peak memory; the ratios are of one run
+    python3 bench/measure.py memory         # peak memory of documents that are made to take much
     python3 bench/measure.py instructions   # instructions an item, by callgrind's slope between two sizes
+    python3 bench/measure.py totals         # instructions of two long runs, by callgrind
     python3 bench/measure.py allocations    # how the number of allocations grows with the items
+
+The program is ./plinq's, or the one that the environment names as PLINQ.
 """
 import json
 import os
 import re
+import shutil
 import subprocess
 import sys
 import tempfile
 
 ROOT = os.path.dirname(os.path.dirname(os.path.abspath(__file__)))
-PROGRAM = os.environ.get('PLINQ') or os.path.join(ROOT, 'crates', 'plinq', 'out', 'plinq')
+PROGRAM = os.environ.get("PLINQ") or os.path.join(ROOT, "crates", "plinq", "out", "plinq")
+LONGEST = 16_777_216
 
-ADD_ONE = """
+JOIN = """
+import json, sys
+print("\\n".join([str(x + 1) for x in json.load(sys.stdin.buffer)["source"]["list"]]))
+print("end")
+"""
+PRINT = """
 import json, sys
 for x in json.load(sys.stdin.buffer)["source"]["list"]:
     print(x + 1)
 print("end")
 """
-
 SUM_TEXT = """
 import json, sys
 print(sum(map(int, json.load(sys.stdin.buffer)["source"]["text"].split())))
 """
+AWK = '{ print $0 + 1 } END { print "end" }'
 
 
 def document(source, query):
@@ -34,57 +45,92 @@ def document(source, query):
 
 # A process of its own, so that the peak isn't that of the documents that this one holds.
 LAUNCH = """
-import os, subprocess, sys, time
-began = time.perf_counter()
-child = subprocess.Popen(sys.argv[2:], stdin=open(sys.argv[1], "rb"), stdout=subprocess.DEVNULL)
+import os, subprocess, sys
+child = subprocess.Popen(sys.argv[2:], stdin=open(sys.argv[1], "rb"), stdout=subprocess.DEVNULL, stderr=subprocess.DEVNULL)
 _, status, usage = os.wait4(child.pid, 0)
-print(time.perf_counter() - began, usage.ru_maxrss / 1024, os.WEXITSTATUS(status))
+print(usage.ru_utime + usage.ru_stime, usage.ru_maxrss / 1024, os.waitstatus_to_exitcode(status))
 """
 
 
-def run(words, text):
-    """Runs a command on a text; answers seconds and the peak of its memory in MB."""
-    with tempfile.NamedTemporaryFile() as stdin:
-        stdin.write(text)
-        stdin.flush()
-        said = subprocess.run([sys.executable, "-c", LAUNCH, stdin.name] + words, stdout=subprocess.PIPE, check=True)
-    seconds, peak, status = said.stdout.split()
-    assert status == b"0", (words, status)
-    return float(seconds), float(peak)
+class Measured:
+    """Processor seconds, the peak of memory in MB, and the status of a run."""
+
+    def __init__(self, words, text):
+        with tempfile.NamedTemporaryFile() as stdin:
+            stdin.write(text)
+            stdin.flush()
+            said = subprocess.run([sys.executable, "-c", LAUNCH, stdin.name] + words, stdout=subprocess.PIPE, check=True)
+        seconds, peak, status = said.stdout.split()
+        self.seconds, self.peak, self.status = float(seconds), float(peak), int(status)
 
 
-def best(words, text, rounds=5):
-    return min(run(words, text) for _ in range(rounds))
+def beside(name, works, rounds=5):
+    """Prints how the works, each with its words and text, do: the best of some rounds, in each of which all take turns."""
+    missing = {it for it, (words, _) in works.items() if not shutil.which(words[0])}
+    for it in sorted(missing):
+        print(f"(not measured: {it}: apt-get install {works[it][0][0]})")
+    best = {}
+    for _ in range(rounds):
+        for it in works.keys() - missing:
+            words, text = works[it]
+            seen = Measured(words, text)
+            assert seen.status == 0, (words, seen.status)
+            if it not in best or seen.seconds < best[it].seconds:
+                best[it] = seen
+    ours = best["plinq"].seconds
+    for it, seen in sorted(best.items(), key=lambda it: it[1].seconds):
+        print(f"| {name} | {it} | {seen.seconds:.2f} s | {seen.peak:.0f} MB | {seen.seconds / ours:.1f} |")
+        name = ""
 
 
 def numbers(count):
     return [1_000_000 + i * 4 % 9_000_000 for i in range(count)]
 
 
-def row(name, ours, theirs=None):
-    line = f"| {name} | {ours[0]:.2f} s | {ours[1]:.0f} MB |"
-    if theirs:
-        line += f" {theirs[0]:.2f} s | {theirs[1]:.0f} MB | {ours[0] / theirs[0]:.2f} |"
-    else:
-        line += " | | |"
-    print(line)
-
-
 def times():
     plus_one = [["as_ordered"], ["select", "add", 1]]
     print(f"{os.cpu_count()} cores\n")
-    print("| work | plinq | peak | python3 | peak | ratio |\n|---|---|---|---|---|---|")
+    print("| work | program | processor time | peak | times plinq's |\n|---|---|---|---|---|")
     for count in (1_000_000, 2_000_000):
         text = document({"list": numbers(count)}, plus_one)
-        name = f"list of {count:,} numbers ({len(text) / 1e6:.0f} MB), add 1, `--merge not`"
-        row(name, best([PROGRAM, "run", "--merge", "not"], text), best([sys.executable, "-c", ADD_ONE], text))
+        lines = "".join(f"{it}\n" for it in numbers(count)).encode()
+        works = {
+            "plinq": ([PROGRAM, "run", "--merge", "not"], text),
+            "awk, of plain lines": (["awk", AWK], lines),
+            "python3, one join": (["python3", "-c", JOIN], text),
+            "jq": (["jq", ".source.list[] + 1"], text),
+            "python3, print for each": (["python3", "-c", PRINT], text),
+        }
+        beside(f"list of {count:,} numbers ({len(text) / 1e6:.0f} MB), add 1, one a line", works)
     for count in (1_000_000, 2_000_000):
         text = document({"text": " ".join(map(str, numbers(count)))}, [["as_ordered"], ["filter", "below", 0]])
-        name = f"text of {count:,} tokens ({len(text) / 1e6:.0f} MB), none kept"
-        row(name, best([PROGRAM, "run"], text), best([sys.executable, "-c", SUM_TEXT], text))
+        works = {"plinq": ([PROGRAM, "run"], text), "python3, summed": (["python3", "-c", SUM_TEXT], text)}
+        beside(f"text of {count:,} tokens ({len(text) / 1e6:.0f} MB), none kept", works)
     for count in (1_000_000, 10_000_000):
-        text = document({"range": [0, count]}, plus_one)
-        row(f"range of {count:,}, add 1, `--merge auto`", best([PROGRAM, "run", "--merge", "auto"], text))
+        works = {"plinq": ([PROGRAM, "run", "--merge", "auto"], document({"range": [0, count]}, plus_one))}
+        beside(f"range of {count:,}, add 1, `--merge auto`", works)
+
+
+def filled(unit):
+    """The longest document whose list holds this text, again and again."""
+    head, tail = b'{"version":1,"source":{"list":[', b']},"query":[]}'
+    count = (LONGEST - len(head) - len(tail) + 1) // (len(unit) + 1)
+    return head + b",".join([unit] * count) + tail
+
+
+def memory():
+    # (a text is nested at most 127 deep, of which the document's own objects and list take three)
+    nested = b'{"":' * 124 + b"0" + b"}" * 124
+    print("| document | bytes | peak | times its bytes | status |\n|---|---|---|---|---|")
+    for name, text in (
+        ("list of objects, nested as deep as can be", filled(nested)),
+        ('list of `{"":0}`', filled(b'{"":0}')),
+        ("list of `[0]`", filled(b"[0]")),
+        ("list of `0`", filled(b"0")),
+        ("998 nested `select_many` of `repeat` 65,536, the first element taken", document({"list": [0]}, [["select_many", "repeat", 65536]] * 998 + [["take", 1]])),
+    ):
+        seen = Measured([PROGRAM, "run"], text)
+        print(f"| {name} | {len(text):,} | {seen.peak:,.0f} MB | {seen.peak * 2**20 / len(text):,.0f} | {seen.status} |")
 
 
 def callgrind(words, text):
@@ -102,6 +148,13 @@ SELECTS = [["select", "add", 1], ["filter", "above", -1], ["select", "mul", 1], 
            ["select", "add", 2], ["filter", "above", -1], ["skip", 1], ["take", 1_000_000_000]]
 
 
+def totals():
+    plus_one = [["as_ordered"], ["select", "add", 1]]
+    print("| work | instructions |\n|---|---|")
+    for name, source in (("range of 10,000,000", {"range": [0, 10_000_000]}), ("list of 2,000,000 numbers (16 MB)", {"list": numbers(2_000_000)})):
+        print(f"| {name}, add 1, `--merge auto` | {callgrind([PROGRAM, 'run', '--merge', 'auto'], document(source, plus_one)) / 1e9:.2f} thousand million |")
+
+
 def slope(make, words, low, high):
     return (callgrind(words, make(high)) - callgrind(words, make(low))) / (high - low)
 
@@ -113,7 +166,7 @@ def instructions():
         ("text, none kept", lambda n: document({"text": " ".join(map(str, numbers(n)))}, [["as_ordered"], ["filter", "below", 0]]), ["run"]),
         ("range, add 1, `--merge auto`", lambda n: document({"range": [0, n]}, [["as_ordered"], ["select", "add", 1]]), ["run", "--merge", "auto"]),
         ("range, none kept", lambda n: document({"range": [0, n]}, [["as_ordered"], ["filter", "below", 0]]), ["seq"]),
-        ("range, eight operators, none kept", lambda n: document({"range": [0, n]}, [["as_ordered"]] + SELECTS + [["filter", "below", 0]]), ["seq"]),
+        ("range, nine operators, none kept", lambda n: document({"range": [0, n]}, [["as_ordered"]] + SELECTS + [["filter", "below", 0]]), ["seq"]),
     ):
         print(f"| {name} | {slope(make, [PROGRAM] + words, 10_000, 100_000):.0f} |")
 
@@ -135,9 +188,11 @@ def allocations():
 
 
 if __name__ == "__main__":
-    work = {"times": times, "instructions": instructions, "allocations": allocations}
+    work = {it.__name__: it for it in (times, memory, instructions, totals, allocations)}
     if len(sys.argv) != 2 or sys.argv[1] not in work:
         sys.exit(__doc__)
-    if not os.path.exists(PROGRAM):
-        subprocess.run([os.path.join(ROOT, "plinq"), "--help"], stdout=subprocess.DEVNULL, check=True)
+    if sys.argv[1] in ("instructions", "totals", "allocations") and not shutil.which("valgrind"):
+        sys.exit("valgrind isn't there: apt-get install valgrind")
+    if "PLINQ" not in os.environ:
+        subprocess.run([os.path.join(ROOT, "tools", "build")], check=True)
     work[sys.argv[1]]()
