@@ -1,9 +1,9 @@
 -- A share that stands in a legal history: its keys rise, and a record that comes behind the history is above them.
-use Rattle.std.proofs.Common.{◌≡◌, ℕ, zero, suc, ◌+◌, ◌≤◌, true, cond, leb, List, [], ◌∷◌, ◌++◌, length, drop, refl, sym, ap, ◌∙◌, arith}
+use Rattle.std.proofs.Common.{◌≡◌, ℕ, zero, suc, ◌+◌, ◌-◌, ◌≤◌, true, cond, leb, List, [], ◌∷◌, ◌++◌, length, drop, refl, sym, ap, ◌∙◌, arith, length-drop}
 use Rattle.std.specs.List.{range_with_len}
 use Rattle.std.proofs.lemmas.Bool.{and_parts, and_from, leb-true, le-leb}
 use Rattle.std.proofs.lemmas.Bool.Decides.{nat_tests}
-use Rattle.std.proofs.lemmas.List.{length-take, append-nil, map-append}
+use Rattle.std.proofs.lemmas.List.{length-take, length-take-le, append-nil, map-append}
 use Rattle.plinq_source.specs.Trace.{Trace}
 use Rattle.plinq_keyed.specs.declared.chunk.Chunk.{Chunk}
 use Rattle.plinq_keyed.specs.declared.event.Event.{Event}
@@ -68,17 +68,19 @@ rises-next t h share ticket e legal contains rising =
     let none : total (late (given_by t h)) share ≡ 0 = omega arith in
     rises-behind 0 (given_by t h) share (next_record t h ticket e) rising none (omega arith) (reply-first t (place_after t start h) e)
 
--- a chunk of what is recorded next lies within its source
-pub chunk-within : {T : Type 0} (t : Trace T) (h : List Record) (ticket : ℕ) (e : Event) (chunk : Chunk T) → IsLegalHistory t h → IsChunkOf t (next_record t h ticket e) chunk → chunk.first + length chunk.items.items ≤ length t.items
+-- a chunk of what is recorded next has as many items as the record says, and lies within its source
+pub chunk-within : {T : Type 0} (t : Trace T) (h : List Record) (ticket : ℕ) (e : Event) (chunk : Chunk T) → IsLegalHistory t h → IsChunkOf t (next_record t h ticket e) chunk →
+    (length chunk.items.items ≡ (next_record t h ticket e).count) × (chunk.first + length chunk.items.items ≤ length t.items)
 chunk-within t h ticket e chunk legal of =
     let r = next_record t h ticket e in
     let within = (IsPrefix-from_legal t h legal).within in
     let first : r.first ≡ given_by t h = reply-first t (place_after t start h) e in
-    let few = length-reply t (place_after t start h) e in
+    let few : r.count ≤ length t.items - given_by t h = length-reply t (place_after t start h) e in
     let items : length chunk.items.items ≡ length (record_items t r) = ap length of.items in
-    let most = length-take r.count (drop r.first t.items) in
+    let room : r.count ≤ length (drop r.first t.items) = omega (arith, length-drop r.first t.items) in
+    let most : length (record_items t r) ≡ r.count = length-take-le r.count (drop r.first t.items) room in
     let same = of.first in
-    omega arith
+    (items ∙ most, omega arith)
 
 -- ---- the keys that are handed out
 

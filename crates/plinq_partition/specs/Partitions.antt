@@ -6,7 +6,7 @@ use Rattle.plinq_keyed.specs.declared.chunk.Chunk.{Chunk}
 use Rattle.plinq_keyed.specs.declared.event.Event.{Event}
 use Rattle.plinq_keyed.specs.declared.event.Event.TheVariants.{Ask, Close}
 use Rattle.plinq_keyed.specs.declared.record.Record.{Record}
-use Rattle.plinq_keyed.specs.History.{IsChunkOf}
+use Rattle.plinq_keyed.specs.History.{Place, reply, recorded, IsChunkOf}
 use Rattle.plinq_enumerator.specs.Growing.{GrowthRule, size_at}
 use Rattle.plinq_partition.specs.declared.chunked.Chunked.{Chunked}
 use Rattle.plinq_partition.specs.declared.partition.Partition.{Partition}
@@ -20,17 +20,22 @@ pub record Holding (T : Type 0) : Type 0 where
   pub share : List Record
   pub requests : ℕ
 
--- one record came behind a share
+-- one record came behind a share: it tells what the source replies at the place where the enumerator stood
 pub record Adds {T : Type 0} (a b : Holding T) (asked : Event) (entry : Record) : Type 0 where
   pub origin : b.origin ≡ a.origin
   pub share : b.share ≡ a.share ++ entry ∷ []
   pub asked_is : entry.asked ≡ asked
+  pub place : Place
+  pub replied : entry ≡ recorded entry.ticket entry.asked (reply a.origin place entry.asked)
 
--- a chunk was taken: it is that of one record more, which asked for as many items as the growth says
+-- A chunk was taken: it is that of one record more, which asked for as many items as the growth says. So the records of a
+-- partition that has only taken ask for chunks number 0, 1, 2 and so on of the growth, and where its caller takes no more
+-- behind a tail, the last record alone has one.
 pub record IsTaken {T : Type 0} (growth : GrowthRule) (a b : Holding T) (chunk : Chunk T) : Type 0 where
   pub entry : Record
   pub adds : Adds a b (Ask (size_at growth a.requests)) entry
   pub of : IsChunkOf a.origin entry chunk
+  pub counted : length chunk.items.items ≡ entry.count
   pub within : chunk.first + length chunk.items.items ≤ length a.origin.items
   pub requests : b.requests ≡ a.requests + 1
 

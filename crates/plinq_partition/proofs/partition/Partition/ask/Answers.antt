@@ -1,7 +1,7 @@
 use Rattle.std.proofs.Common.{◌≡◌, ◌∙◌, ◌+◌, ◌≤◌, length, ap, arith, refl, subst}
 use Rattle.plinq_source.specs.Trace.{Trace}
 use Rattle.plinq_keyed.specs.declared.event.Event.TheVariants.{Ask}
-use Rattle.plinq_keyed.specs.History.{next_record, IsLegalHistory, IsChunkOf}
+use Rattle.plinq_keyed.specs.History.{start, place_after, reply, recorded, next_record, IsLegalHistory, IsChunkOf}
 use Rattle.plinq_enumerator.specs.Held.{held_source, held_records}
 use Rattle.plinq_ticket.specs.Passes.{held_origin, held_found, held_share}
 use Rattle.plinq_ticket.specs.Shares.{Contains}
@@ -44,11 +44,19 @@ returns-clause-taken g c =
     let of : IsChunkOf t entry c.in_ok-chunk.chunk = c.in_ok-chunk.ensures.chunk in
     let chunk = c.in_ok-chunk.chunk in
     let Within : Trace _ → Type 0 = λ u. chunk.first + length chunk.items.items ≤ length u.items in
-    let within = chunk-within t h c.ticket-ticket.result e c.in_ok-chunk.chunk legal of in
+    let place = place_after t start h in
+    let sized = chunk-within t h c.ticket-ticket.result e c.in_ok-chunk.chunk legal of in
     record {
       entry = entry;
-      adds = record { origin = c.leave.ensures.origin; share = share; asked_is = ap Ask c.size-n.ensures.size };
+      adds = record {
+        origin = c.leave.ensures.origin;
+        share = share;
+        asked_is = ap Ask c.size-n.ensures.size;
+        place = place;
+        replied = ap (λ u. recorded c.ticket-ticket.result e (reply u place e)) origin;
+      };
       of = rw (← origin) of;
-      within = subst Within origin within;
+      counted = sized.0;
+      within = subst Within origin sized.1;
       requests = refl;
     }
