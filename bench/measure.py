@@ -36,6 +36,8 @@ SUM_TEXT = """
 import json, sys
 print(sum(map(int, json.load(sys.stdin.buffer)["source"]["text"].split())))
 """
+# The packages of Debian that are named otherwise than their command.
+PACKAGES = {"awk": "gawk"}
 AWK = '{ print $0 + 1 } END { print "end" }'
 
 
@@ -68,7 +70,8 @@ def beside(name, works, rounds=5):
     """Prints how the works, each with its words and text, do: the best of some rounds, in each of which all take turns."""
     missing = {it for it, (words, _) in works.items() if not shutil.which(words[0])}
     for it in sorted(missing):
-        print(f"(not measured: {it}: apt-get install {works[it][0][0]})")
+        word = works[it][0][0]
+        print(f"(not measured: {it}: apt-get install {PACKAGES.get(word, word)})")
     best = {}
     for _ in range(rounds):
         for it in works.keys() - missing:

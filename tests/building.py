@@ -26,7 +26,7 @@ if [ "$1" = lib ]; then
     echo 'so far: 0 of 20 functions checked; the verdict comes last'
     echo 'so far: 9 of 20 functions checked'
     echo "fn $name::some: proved"
-    if [ -e "$top/orders/fail-$name" ]; then echo 'error: a goal is open'; exit 1; fi
+    if [ -e "$top/orders/fail-$name" ]; then printf 'error: a goal is open\nerror: the last line has no end'; exit 1; fi
     if [ -e "$top/orders/wait" ]; then echo $$ >"$top/at-work"; fi
     while [ -e "$top/orders/wait" ]; do sleep 0.02; done
     if [ -e "$top/orders/edit" ]; then rm "$top/orders/edit"; echo edited >"$top/crates/low/src/lib.rt"; fi
@@ -212,7 +212,7 @@ def failure(place, tests):
     place.write("orders/fail-mid")
     status, output, errors, calls = place.run()
     tests.check("a build that fails ends with status 5 and runs nothing", (status, output, calls) == (5, "", ALL_CALLS[:2]), (status, output, calls))
-    is_so = "error: a goal is open" in errors and "was not built: proving mid (2 of 3)" in errors and "some: proved" not in errors
+    is_so = "error: a goal is open\nerror: the last line has no end\n" in errors and "was not built: proving mid (2 of 3)" in errors and "some: proved" not in errors
     tests.check("it shows what rt said, and the crate", is_so, errors)
     os.remove(f"{place.top}/orders/fail-mid")
     status, output, _, calls = place.run()
@@ -264,10 +264,16 @@ def two_at_once(place, tests):
     place.write("orders/wait")
     before = len(place.calls())
     first = place.start("first")
-    place.wait_for("at-work")
+    at_work = int(place.wait_for("at-work"))
     second = place.start("second")
     said = second.stderr.readline()
     tests.check("the second of two says that it waits", "waiting: another build" in said, said)
+    third = place.start("third")
+    said = third.stderr.readline()
+    third.terminate()
+    third.communicate(timeout=HANGS)
+    is_so = third.returncode == -signal.SIGTERM and is_alive(at_work)
+    tests.check("one that waits ends when it is told to, and the first goes on", is_so, (third.returncode, said))
     os.remove(f"{place.top}/orders/wait")
     os.remove(f"{place.top}/at-work")
     ended = [(it.communicate("", timeout=HANGS)[0], it.returncode) for it in (first, second)]

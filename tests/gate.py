@@ -13,11 +13,10 @@ import time
 from support.program import HANGS, ROOT, Tests
 
 # A stand-in for rt, whose `rt ci` leaves a program, as rt does, unless there is a file no-program, and then runs what the
-# file ci says.
+# file ci says. It removes nothing, so that an old program is gone only where ./test removes it.
 RT = """#!/usr/bin/env bash
 echo "$*" >>calls
 [ "$1" = ci ] || exit 1
-rm -rf crates/plinq/out
 mkdir -p crates/plinq/out
 if [ ! -e no-program ]; then printf '#!/usr/bin/env bash\\necho new\\n' >crates/plinq/out/plinq; chmod +x crates/plinq/out/plinq; fi
 . ./ci
@@ -33,16 +32,22 @@ class Place:
         os.makedirs(f"{folder}/tools")
         shutil.copy(f"{ROOT}/test", folder)
         shutil.copy(f"{ROOT}/tools/build", f"{folder}/tools")
-        self.write("bin/rt", RT)
-        os.chmod(f"{folder}/bin/rt", 0o755)
+        self.write("bin/rt", RT, 0o755)
         self.write("crates.txt", "plinq:\n")
         self.write("crates/plinq/src/main.rt", "main\n")
 
-    def write(self, name, text=""):
+    def write(self, name, text="", mode=0o644):
         path = os.path.join(self.top, name)
         os.makedirs(os.path.dirname(path), exist_ok=True)
         with open(path, "w") as file:
             file.write(text)
+        os.chmod(path, mode)
+
+    def leave_old_program(self):
+        """Leaves a program of an earlier build, with the note that it was built from the sources that are there."""
+        self.write("crates/plinq/out/plinq", "#!/usr/bin/env bash\necho old\n", 0o755)
+        summed = subprocess.check_output(["tools/build", "sum"], cwd=self.top, text=True).strip()
+        subprocess.run(["tools/build", "note", summed], cwd=self.top, check=True)
 
     def tell(self, ci, **tests):
         """Has rt ci run some lines of bash, and each test some of Python."""
@@ -109,29 +114,33 @@ def streams(place, tests):
 
 
 def freshness(place, tests):
-    program = f"{place.top}/crates/plinq/out/plinq"
     sees = "import subprocess; assert subprocess.check_output(['crates/plinq/out/plinq']) == b'new\\n'\n" + PASSES
     place.tell(COUNTED, one=sees)
-    place.write("crates/plinq/out/plinq", "#!/usr/bin/env bash\necho old\n")
-    os.chmod(program, 0o755)
+    place.leave_old_program()
     os.remove(f"{place.top}/calls")
     status, output, _ = place.run()
     with open(f"{place.top}/calls") as file:
         calls = file.read()
     is_so = (status, calls) == (0, "ci\n")
     tests.check("the tests get the program that rt ci made, which isn't built twice", is_so, (status, output, calls))
-    for name, ci, marker in (
-        ("rt ci makes none", "echo '1 passed, 0 failed'", "no-program"),
-        ("rt ci stops before it makes one", "rm -f crates/plinq/out/plinq; echo '0 passed, 1 failed'; exit 2", "other"),
-        ("a source changes during rt ci", "echo changed >crates/plinq/src/main.rt; echo '1 passed, 0 failed'", "other"),
+    for name, ci, wanted, marker in (
+        ("rt ci makes none", "echo '1 passed, 0 failed'", "1 passed, 2 failed", "no-program"),
+        ("rt ci stops before it makes one", "echo '0 passed, 1 failed'; exit 2", "0 passed, 3 failed", "no-program"),
+        ("a source changes during rt ci", "echo changed >crates/plinq/src/main.rt; echo '1 passed, 0 failed'", "1 passed, 2 failed", "other"),
     ):
-        place.tell(ci, one=sees, two=sees)
+        place.tell(ci, one=PASSES, two=PASSES)
+        place.leave_old_program()
         place.write(marker)
         status, output, _ = place.run()
-        counted = int(output.splitlines()[-1].split()[2])
-        is_so = status != 0 and counted >= 2 and "tests/two.py: not run" in output
+        is_so = status != 0 and output.splitlines()[-1] == wanted and "tests/two.py: not run" in output
         tests.check(f"where {name}, and it can't be built, no old program is tested", is_so, (status, output))
         os.remove(f"{place.top}/{marker}")
+    place.tell(COUNTED, one=PASSES)
+    place.write("bin/sha256sum", "#!/usr/bin/env bash\nexit 1\n", 0o755)
+    status, output, _ = place.run()
+    os.remove(f"{place.top}/bin/sha256sum")
+    is_so = status != 0 and output.splitlines()[-1] == "5 passed, 2 failed" and "FAILED: tools/build sum" in output
+    tests.check("sources that can't be summed are counted as failed, and no program is taken for one of them", is_so, (status, output))
 
 
 def no_rt(place, tests):
@@ -149,23 +158,22 @@ def no_rt(place, tests):
 
 
 def interruption(place, tests):
-    place.tell("echo $$ >at-work; exec sleep 1000", one=PASSES)
-    started = place.start()
-    for _ in range(HANGS * 50):
-        if os.path.exists(f"{place.top}/at-work"):
-            break
-        time.sleep(0.02)
-    time.sleep(0.1)
-    with open(f"{place.top}/at-work") as file:
-        at_work = int(file.read())
-    started.send_signal(signal.SIGTERM)
-    started.communicate(timeout=HANGS)
-    for _ in range(250):
-        if not os.path.exists(f"/proc/{at_work}"):
-            break
-        time.sleep(0.02)
-    is_so = started.returncode == -signal.SIGTERM and not os.path.exists(f"/proc/{at_work}")
-    tests.check("an interruption ends rt ci as well", is_so, (started.returncode, at_work))
+    """An interruption ends rt ci as well, and ./test ends after it. (The stand-in takes a while, and leaves a file then.)"""
+    cleans = "trap 'sleep 0.3; echo >ended; exit 1' TERM; echo $$ >at-work.new; mv at-work.new at-work; while :; do sleep 0.02; done"
+    for which in (signal.SIGINT, signal.SIGTERM, signal.SIGHUP):
+        place.tell(cleans, one=PASSES)
+        started = place.start(stdout=subprocess.DEVNULL, stderr=subprocess.DEVNULL)
+        for _ in range(HANGS * 50):
+            if os.path.exists(f"{place.top}/at-work"):
+                break
+            time.sleep(0.02)
+        os.remove(f"{place.top}/at-work")
+        started.send_signal(which)
+        status = started.wait(timeout=HANGS)
+        has_ended = os.path.exists(f"{place.top}/ended")
+        tests.check(f"{which.name} ends rt ci, and then ./test", status == -which and has_ended, (status, has_ended))
+        if has_ended:
+            os.remove(f"{place.top}/ended")
 
 
 def main():
