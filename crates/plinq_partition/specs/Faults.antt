@@ -1,4 +1,5 @@
 -- A lock's faults, as a partition tells them.
+use Rattle.std.specs.Prelude.{◌≡◌, refl}
 use Rattle.plinq_ticket.specs.declared.lock_fault.LockFault.{LockFault}
 use Rattle.plinq_ticket.specs.declared.lock_fault.LockFault.TheVariants.{Spent, Busy, Incomplete, Memory, Away}
 use Rattle.plinq_partition.specs.declared.take_fault.TakeFault.{TakeFault}
@@ -10,3 +11,18 @@ take_fault_of (Busy served drawn) = OthersFirst served drawn
 take_fault_of (Incomplete have all) = RecordsMissing have all
 take_fault_of Memory = NoMemory
 take_fault_of Away = NotThere
+
+row_spent : take_fault_of Spent ≡ TicketsSpent
+row_spent = refl
+
+row_busy : take_fault_of (Busy 3 5) ≡ OthersFirst 3 5
+row_busy = refl
+
+row_incomplete : take_fault_of (Incomplete 1 2) ≡ RecordsMissing 1 2
+row_incomplete = refl
+
+row_memory : take_fault_of Memory ≡ NoMemory
+row_memory = refl
+
+row_away : take_fault_of Away ≡ NotThere
+row_away = refl

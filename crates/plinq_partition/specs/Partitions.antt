@@ -65,14 +65,16 @@ module _ {S T : Type 0} {source : Ghosts S T} where
   abbrev pub IsCauseOf : Partition S T source → TakeFault → Type 0
   IsCauseOf q Memory = ⊤
   IsCauseOf q Spent = (drawn_at q.pass ≡ 2 ^ 62) ⊎ (served_at q.pass ≡ 2 ^ 62)
-  IsCauseOf q (Busy served drawn) = (served < drawn) × (served_at q.pass ≡ served) × (drawn_at q.pass ≡ drawn)
+  IsCauseOf q (Busy served drawn) = (served < drawn) × (drawn < 2 ^ 62) × (served_at q.pass ≡ served) × (drawn_at q.pass ≡ drawn)
   IsCauseOf q (Incomplete have all) = ⊥
   IsCauseOf q Away = ⊥
 
-  -- nothing was taken, and the partition is as it was
+  -- nothing was taken, and the partition is as it was but for what it has seen of the lock
   pub record IsRefused (p q : Partition S T source) (fault : TakeFault) : Type 0 where
     pub same : holding_of q ≡ holding_of p
     pub cause : IsCauseOf q fault
+    pub drawn : drawn_at p.pass ≤ drawn_at q.pass
+    pub served : served_at p.pass ≤ served_at q.pass
 
   -- new partitions beside one
   abbrev pub AreNew : Holding T → List (Partition S T source) → Type 0

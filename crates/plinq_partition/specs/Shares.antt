@@ -1,6 +1,7 @@
 -- What a partition has: its records, and the keys that they say it was handed.
-use Rattle.std.specs.Prelude.{◌≡◌, ℕ, ◌+◌, ◌≤◌, ◌&&◌, nat_le, List, [], ◌∷◌, Bool, true, Option, Some, None}
+use Rattle.std.specs.Prelude.{◌≡◌, ℕ, ◌+◌, ◌≤◌, ◌&&◌, nat_le, List, [], ◌∷◌, Bool, true, false, Option, Some, None, refl}
 use Rattle.plinq_source.specs.Trace.{Trace, open_trace}
+use Rattle.plinq_keyed.specs.declared.event.Event.TheVariants.{Ask}
 use Rattle.plinq_keyed.specs.declared.record.Record.{Record}
 use Rattle.plinq_ticket.specs.declared.pass.Token.{Token}
 use Rattle.plinq_ticket.specs.declared.ticket_lock.TicketLock.{TicketLock}
@@ -42,3 +43,23 @@ module _ {V T : Type 0} where
   abbrev pub served_at : Option (Token V T) → ℕ
   served_at None = 0
   served_at (Some pass) = pass_served pass
+
+-- three records that say where they begin, each of two items; tickets don't matter here
+abbrev beginning : ℕ → ℕ → ℕ → List Record
+beginning i j k = of_two i ∷ of_two j ∷ of_two k ∷ []
+  where
+    of_two : ℕ → Record
+    of_two first = record { ticket = 0; asked = Ask 2; first = first; count = 2; tail = None }
+
+-- one begins where the one before it ended, and one above
+row_rising : keys_rise_from 0 (beginning 0 2 6) ≡ true
+row_rising = refl
+
+row_given_twice : keys_rise_from 0 (beginning 0 1 6) ≡ false
+row_given_twice = refl
+
+row_falling : keys_rise_from 0 (beginning 4 0 6) ≡ false
+row_falling = refl
+
+row_below_the_least : keys_rise_from 1 (beginning 0 2 6) ≡ false
+row_below_the_least = refl

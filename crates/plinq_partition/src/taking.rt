@@ -1,7 +1,9 @@
-ghost use Rattle.std.specs.Prelude.{◌≡◌, Some, IsSome, IfOk, IfErr, OnOk, OnErr};
+ghost use Rattle.std.specs.Prelude.{◌≡◌, ◌+◌, Some, IsSome, IfOk, IfErr, OnOk, OnErr};
 ghost use Rattle.plinq_partition.specs.Faults.{take_fault_of};
 ghost use Rattle.plinq_partition.specs.Inside.{IsInside, holding_inside};
 ghost use Rattle.plinq_partition.specs.Partitions.{IsPartitionOf, IsTaken, IsStopped, IsRefused, IsNotBusy, growth_of, holding_of};
+ghost use Rattle.plinq_partition.specs.Shares.{drawn_at, served_at};
+ghost use Rattle.plinq_ticket.specs.Passes.{held_drawn, held_ticket};
 
 use crate::chunked::Chunked;
 use crate::partition::Partition;
@@ -26,7 +28,8 @@ impl<S: Source> Partition<S> {
     /// # Errors
     ///
     /// [`TakeFault::Spent`] where all tickets were drawn, else [`TakeFault::Memory`] where there is no room for the
-    /// chunk, or else for its record. The partition is as it was, and the source wasn't asked.
+    /// chunk, or else for its record. The partition is as it was, and the source wasn't asked; but a refusal for want of
+    /// memory uses up a ticket, since it comes from inside the lock.
     pub fn take<R: Wait>(
         &mut self,
         rt: &R,
@@ -50,7 +53,8 @@ impl<S: Source> Partition<S> {
     /// # Errors
     ///
     /// [`TakeFault::Spent`] where all tickets were drawn; [`TakeFault::Busy`] where another partition waits or is
-    /// inside; else [`TakeFault::Memory`] as for `take`. The partition is as it was, and the source wasn't asked.
+    /// inside; else [`TakeFault::Memory`] as for `take`, which uses up a ticket. The partition is as it was, and the
+    /// source wasn't asked.
     pub fn try_take(&mut self, chunked: &Chunked<S>) -> Result<Chunk<S::Item>, TakeFault>
         requires { IsPartitionOf chunked.now self.old }
         ensures of { IsPartitionOf chunked.now self.new }
@@ -70,7 +74,7 @@ impl<S: Source> Partition<S> {
     /// # Errors
     ///
     /// [`TakeFault::Spent`] where all tickets were drawn, else [`TakeFault::Memory`] where there is no room for the
-    /// record. The partition is as it was.
+    /// record, which uses up a ticket. The partition is as it was.
     pub fn stop<R: Wait>(&mut self, rt: &R, chunked: &Chunked<S>) -> Result<(), TakeFault>
         requires { IsPartitionOf chunked.now self.old }
         ensures of { IsPartitionOf chunked.now self.new }
@@ -130,6 +134,7 @@ impl<S: Source> Partition<S> {
         ensures taken { IfOk result (IsTaken (growth_of chunked.now) (holding_inside self.old.requests held) (holding_of self.new)) }
         ensures same { OnErr result (holding_of self.new ≡ holding_inside self.old.requests held) }
         ensures memory { IfErr result (λ fault. fault ≡ TakeFault.Memory) }
+        ensures left { (drawn_at self.new.pass ≡ held_drawn held) × (served_at self.new.pass ≡ held_ticket held + 1) }
     {
         let mut held = held;
         let ticket = held.ticket();
@@ -148,6 +153,7 @@ impl<S: Source> Partition<S> {
         ensures stopped { OnOk result (IsStopped (holding_inside self.old.requests held) (holding_of self.new)) }
         ensures same { OnErr result (holding_of self.new ≡ holding_inside self.old.requests held) }
         ensures memory { IfErr result (λ fault. fault ≡ TakeFault.Memory) }
+        ensures left { (drawn_at self.new.pass ≡ held_drawn held) × (served_at self.new.pass ≡ held_ticket held + 1) }
     {
         let mut held = held;
         let ticket = held.ticket();

@@ -75,6 +75,28 @@ module _ {T : Type 0} where
       pub seat : get_elem? views id ≡ some v
       pub home : served ≡ drawn → IsHome (origin_in v) (history_of views) slot
 
+    -- a pass with those records, beside a value that is home with so many: its count is exact, and no more than all
+    pub record Counted (v : View T) (value : V) (records : ℕ) (views : List (View T)) : Type 0 where
+      pub origin_is : origin value ≡ origin_in v
+      pub history_is : history value ≡ history_of views
+      pub contains : Contains (history_of views) v.share
+      pub exact : records ≡ length v.share
+      pub fewer : length v.share ≤ length (history_of views)
+
+    pub counted-from_last : (id : ℕ) (v : View T) (drawn served : ℕ) (slot : Option V) (value : V) (records : ℕ) (l : Last id v drawn served slot) → served ≡ drawn → slot ≡ Some value
+        → length (history value) < 2 ^ 64 → records ≡ min (length v.share) (2 ^ 64 - 1) → Counted v value records l.views
+    counted-from_last id v drawn served slot value records l all is small count =
+        let home = subst (IsHome (origin_in v) (history_of l.views)) is (l.home all) in
+        let contains = contains-share l.views id v l.seat in
+        let same : length (history value) ≡ length (history_of l.views) = ap length home.1 in
+        record {
+          origin_is = home.0;
+          history_is = home.1;
+          contains = contains;
+          exact = count-exact records v.share (history_of l.views) contains (omega arith) count;
+          fewer = count-least v.share (history_of l.views) contains;
+        }
+
     pub last-from_final : (t : Trace T) (id : ℕ) (v : View T) (ws : List ℕ) (xs : List (Option V)) (drawn served : ℕ) (slot : Option V) → v.standing.phase ≡ Idle
         → Final (Seen (OfTwoWords (Lawful origin history t)) id v) ws xs → get_elem? ws 0 ≡ some drawn → get_elem? ws 1 ≡ some served → get_elem? xs 0 ≡ some slot
         → Last id v drawn served slot

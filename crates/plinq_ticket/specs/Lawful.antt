@@ -1,9 +1,9 @@
 -- The lock between any two steps: tickets in turn, the value home or out, and a history that is the records of all passes.
-use Rattle.std.specs.Prelude.{◌≡◌, ℕ, List, [], ◌∷◌, ◌++◌, Option, Some, true, ◌⊎◌}
+use Rattle.std.specs.Prelude.{◌≡◌, ℕ, List, [], ◌∷◌, ◌++◌, Option, Some, None, true, ◌⊎◌, refl}
 use mathlib.Core.Option.{some, none}
 use mathlib.Core.Option as maybe
 use lib.ListN.{get_elem?}
-use Rattle.plinq_source.specs.Trace.{Trace}
+use Rattle.plinq_source.specs.Trace.{Trace, open_trace}
 use Rattle.plinq_keyed.specs.declared.record.Record.{Record}
 use Rattle.plinq_keyed.specs.History.{IsLegalHistory, IsPrefix, tickets_below}
 use Rattle.plinq_ticket.specs.declared.phase.Phase.{Phase}
@@ -12,7 +12,7 @@ use Rattle.plinq_ticket.specs.declared.standing.Standing.{Standing}
 use Rattle.plinq_ticket.specs.declared.view.View.{View}
 use Rattle.plinq_ticket.specs.Weights.{total}
 use Rattle.plinq_ticket.specs.Turns.{InTurn, is_inside, newcomer}
-use Rattle.plinq_ticket.specs.Shares.{in_ticket_order}
+use Rattle.plinq_ticket.specs.Shares.{in_ticket_order, closed_under}
 
 module _ {T : Type 0} where
   abbrev pub standing_of : View T → Standing
@@ -76,3 +76,23 @@ module _ {T : Type 0} where
     AloneInside = (t : Trace T) (next serving : ℕ) (homes : List (maybe.Option (Option V))) (views : List (View T)) (i j k n : ℕ) (v w : View T)
         → Lawful t next serving homes views → get_elem? views i ≡ some v → get_elem? views j ≡ some w → v.standing.phase ≡ Inside k → w.standing.phase ≡ Inside n
         → (j ≡ i) × (homes ≡ none ∷ [])
+
+-- the first pass of a lock whose value came with those records
+abbrev with_records : List Record → View ℕ
+with_records h = first_view (open_trace []) h
+
+-- a pass in that place, with no records
+abbrev standing_at : Phase → View ℕ
+standing_at phase = record { standing = record { phase = phase; drawn = 6; served = 4 }; items = []; ending = None; found = []; share = [] }
+
+-- the pass that was second by place was first by ticket
+row_history : history_of (with_records (closed_under 1 ∷ closed_under 3 ∷ []) ∷ with_records (closed_under 0 ∷ []) ∷ []) ≡ closed_under 0 ∷ closed_under 1 ∷ closed_under 3 ∷ []
+row_history = refl
+
+-- of those that wait, are inside, and have nothing to do there, one is inside
+row_inside : inside_of (standing_at (Waiting 5) ∷ standing_at (Inside 4) ∷ standing_at Idle ∷ []) ≡ 1
+row_inside = refl
+
+-- the first pass knows what the value hands out
+row_first : Knows {T = ℕ} (open_trace (7 ∷ [])) [] (first_view (open_trace (7 ∷ [])) []) Idle
+row_first = refl

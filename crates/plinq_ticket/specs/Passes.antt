@@ -81,10 +81,11 @@ module _ {V T : Type 0} where
     pub below : tickets_below (held_ticket h) (held_found h) ≡ true
     pub within : held_ticket h < tickets_end
 
-  -- a pass enters under a ticket that is at least each number that it had seen drawn
+  -- a pass enters under a ticket that is at least each number that it had seen drawn or served
   pub record Enters (origin : V → Trace T) (history : V → List Record) (p : Token V T) (h : Entry V T) : Type 0 where
     pub finds : Finds origin history (pass_origin p) (pass_share p) h
     pub later : pass_drawn p ≤ held_ticket h
+    pub passed : pass_served p ≤ held_ticket h
     pub drawn : held_drawn h ≡ held_ticket h + 1
 
   -- a pass comes back as it was but for what it has seen, with a fault for its cause

@@ -28,7 +28,7 @@ abbrev pub AddsAtMostOne : ℕ → List Record → List Record → Type 0
 AddsAtMostOne ticket old new = (new ≡ old) ⊎ ((r : Record) × (new ≡ old ++ r ∷ []) × (r.ticket ≡ ticket))
 
 -- a request to close at the start, under that ticket
-abbrev closed_under : ℕ → Record
+abbrev pub closed_under : ℕ → Record
 closed_under ticket = record { ticket = ticket; asked = Close; first = 0; count = 0; tail = Some Closed }
 
 row_of_shares : in_ticket_order (closed_under 2 ∷ closed_under 0 ∷ closed_under 1 ∷ []) ≡ closed_under 0 ∷ closed_under 1 ∷ closed_under 2 ∷ []

@@ -1,7 +1,7 @@
 -- What each step tells the pass that makes it: its view and its slot before and after.
-use Rattle.std.specs.Prelude.{◌≡◌, ◌≢◌, ℕ, List, [], ◌∷◌, ◌++◌, Option, Some, None, true}
+use Rattle.std.specs.Prelude.{◌≡◌, ◌≢◌, ℕ, List, [], ◌∷◌, ◌++◌, Option, Some, None, true, refl}
 use Rattle.atomic_table.specs.Table.{Me, rest}
-use Rattle.plinq_source.specs.Trace.{Trace}
+use Rattle.plinq_source.specs.Trace.{Trace, open_trace}
 use Rattle.plinq_keyed.specs.declared.record.Record.{Record}
 use Rattle.plinq_keyed.specs.History.{IsLegalHistory, tickets_below}
 use Rattle.plinq_ticket.specs.declared.phase.Phase.{Phase}
@@ -9,8 +9,8 @@ use Rattle.plinq_ticket.specs.declared.phase.Phase.TheVariants.{Idle, Waiting, I
 use Rattle.plinq_ticket.specs.declared.standing.Standing.{Standing}
 use Rattle.plinq_ticket.specs.declared.view.View.{View}
 use Rattle.plinq_ticket.specs.Turns.{SawNext, SawDrawn, SawServing, joined, leaving, together}
-use Rattle.plinq_ticket.specs.Shares.{Contains, AddsAtMostOne, added}
-use Rattle.plinq_ticket.specs.Lawful.{origin_in}
+use Rattle.plinq_ticket.specs.Shares.{Contains, AddsAtMostOne, added, closed_under}
+use Rattle.plinq_ticket.specs.Lawful.{origin_in, first_view}
 
 module _ {V : Type 0} where
   -- the records of a value, and none of none
@@ -95,3 +95,26 @@ module _ {T : Type 0} where
     pub record Leaves (history : V → List Record) (n : ℕ) (a b : Me (Option V) (View T)) : Type 0 where
       pub view : b.0 ≡ left_with (added a.0.found (slot_records history a.1)) (leaving n a.0.standing) a.0
       pub slot : b.1 ≡ rest a.1
+
+-- a pass with those records
+abbrev with_records : List Record → View ℕ
+with_records h = first_view (open_trace []) h
+
+-- a new pass has no records, and the two together have those of the one that was cut
+row_cut : (cut (with_records (closed_under 0 ∷ []))).share ≡ []
+row_cut = refl
+
+row_together : together_with (with_records (closed_under 0 ∷ [])) (cut (with_records (closed_under 0 ∷ []))) ≡ with_records (closed_under 0 ∷ [])
+row_together = refl
+
+-- what the value has more than was found becomes the pass's own
+row_left : left_with (added (closed_under 0 ∷ []) (closed_under 0 ∷ closed_under 2 ∷ [])) (leaving 3 (with_records []).standing) (with_records (closed_under 1 ∷ []))
+    ≡ standing_so (leaving 3 (with_records []).standing) (with_records (closed_under 1 ∷ closed_under 2 ∷ []))
+row_left = refl
+
+-- the slot's value is read, and none is read where it is out
+row_slot : slot_records (λ h. h) ((0, Some (closed_under 4 ∷ [])) ∷ []) ≡ closed_under 4 ∷ []
+row_slot = refl
+
+row_empty_slot : slot_records (λ h. h) ((0, None) ∷ []) ≡ []
+row_empty_slot = refl

@@ -1,8 +1,8 @@
-use Rattle.std.proofs.Common.{◌≡◌, ◌<◌, ◌^◌, List, length, sym, ap, subst, ◌∙◌, arith}
+use Rattle.std.proofs.Common.{◌≡◌, List, length, sym, ap, subst, ◌∙◌, arith}
 use Rattle.plinq_keyed.specs.declared.record.Record.{Record}
 use Rattle.plinq_ticket.specs.Lawful.{origin_in, history_of}
 use Rattle.plinq_ticket.specs.Shares.{Contains}
-use Rattle.plinq_ticket.proofs.LastState.{IsHome, last-from_final, history_of-whole, contains-share, count-exact, count-least}
+use Rattle.plinq_ticket.proofs.LastState.{IsHome, last-from_final, counted-from_last, history_of-whole}
 use Rattle.plinq_ticket.proofs.ticket_lock.TicketLock.finish.Goals as goal
 
 pub returns-then-served-drawn : goal.returns-then-served-drawn
@@ -30,12 +30,9 @@ returns-then-records-all g c =
     let last = last-from_final g.V.Guarded.origin g.V.Guarded.history _ _ _ _ _ _ _ _ c.args.pass.idle c.close_with-closed.ensures.values.2 c.word-drawn.ensures c.word-served.ensures c.take-slot.ensures.value in
     let order = last.lawful.turns.order in
     let all : c.word-served.result ≡ c.word-drawn.result = omega (arith, order, c.if-served-drawn.false) in
-    let home = subst (IsHome g.V.Guarded.origin g.V.Guarded.history (origin_in c.args.pass.seat.me.0) (history_of last.views)) c.in-Some.is (last.home all) in
-    let contains = contains-share last.views c.args.pass.seat.id c.args.pass.seat.me.0 last.seat in
-    let count : length c.records.result.now ≡ length (history_of last.views) = ap length (c.records.ensures.value ∙ home.1) in
     let few = c.records.type_inv.0 in
-    let small : length (history_of last.views) < 2 ^ 64 = omega (arith, few, count) in
-    let exact = count-exact c.args.pass.records c.args.pass.seat.me.0.share (history_of last.views) contains small c.args.pass.counted in
+    let count = ap length c.records.ensures.value in
+    let counted = counted-from_last g.V.Guarded.origin g.V.Guarded.history _ _ _ _ _ _ _ last all c.in-Some.is (omega arith) c.args.pass.counted in
     record {
       next = c.word-drawn.result;
       serving = c.word-served.result;
@@ -46,8 +43,9 @@ returns-then-records-all g c =
       answer = (
         all,
         record {
-          origin_is = home.0;
-          history_is = home.1 ∙ history_of-whole _ last.views c.args.pass.seat.id c.args.pass.seat.me.0 last.lawful.legal last.seat (sym exact ∙ c.if-records-all.true ∙ count);
+          origin_is = counted.origin_is;
+          history_is = counted.history_is
+              ∙ history_of-whole _ last.views c.args.pass.seat.id c.args.pass.seat.me.0 last.lawful.legal last.seat (sym counted.exact ∙ c.if-records-all.true ∙ count ∙ ap length counted.history_is);
         },
       );
     }
@@ -57,13 +55,10 @@ returns-else-records-all g c =
     let last = last-from_final g.V.Guarded.origin g.V.Guarded.history _ _ _ _ _ _ _ _ c.args.pass.idle c.close_with-closed.ensures.values.2 c.word-drawn.ensures c.word-served.ensures c.take-slot.ensures.value in
     let order = last.lawful.turns.order in
     let all : c.word-served.result ≡ c.word-drawn.result = omega (arith, order, c.if-served-drawn.false) in
-    let home = subst (IsHome g.V.Guarded.origin g.V.Guarded.history (origin_in c.args.pass.seat.me.0) (history_of last.views)) c.in-Some.is (last.home all) in
-    let contains = contains-share last.views c.args.pass.seat.id c.args.pass.seat.me.0 last.seat in
-    let count : length c.records.result.now ≡ length (history_of last.views) = ap length (c.records.ensures.value ∙ home.1) in
     let few = c.records.type_inv.0 in
-    let small : length (history_of last.views) < 2 ^ 64 = omega (arith, few, count) in
-    let exact = count-exact c.args.pass.records c.args.pass.seat.me.0.share (history_of last.views) contains small c.args.pass.counted in
-    let fewer = count-least c.args.pass.seat.me.0.share (history_of last.views) contains in
+    let count = ap length c.records.ensures.value in
+    let counted = counted-from_last g.V.Guarded.origin g.V.Guarded.history _ _ _ _ _ _ _ last all c.in-Some.is (omega arith) c.args.pass.counted in
+    let whole = ap length counted.history_is in
     record {
       next = c.word-drawn.result;
       serving = c.word-served.result;
@@ -74,11 +69,11 @@ returns-else-records-all g c =
       answer = (
         all,
         record {
-          origin_is = home.0;
-          have_is = exact;
-          all_is = ap length c.records.ensures.value;
-          missing = omega (arith, exact, count, fewer, c.if-records-all.false);
-          contains = let P : List Record → Type 0 = λ h. Contains h c.args.pass.seat.me.0.share in subst P (sym home.1) contains;
+          origin_is = counted.origin_is;
+          have_is = counted.exact;
+          all_is = count;
+          missing = omega (arith, counted.exact, count, whole, counted.fewer, c.if-records-all.false);
+          contains = let P : List Record → Type 0 = λ h. Contains h c.args.pass.seat.me.0.share in subst P (sym counted.history_is) counted.contains;
         },
       );
     }
