@@ -12,7 +12,7 @@ use Rattle.plinq_document.specs.Values.{whole_number}
 use Rattle.plinq_document.specs.Sources.{whole_numbers}
 use Rattle.plinq_document.specs.Steps.{with_step_of, with_steps_of, placed}
 
--- the step at this place is called, and then those behind it
+-- the step at this place is called, and then those after it
 pub with_steps_of-turn : (version : Version) (at : ℕ) (q : QueryView Formula) (vs : List Value) (v : Value) → at < length vs → v ≡ get_or vs at v → with_steps_of version at q (items_view (drop at vs)) ≡ (placed at (with_step_of version q (view v)) >>= λ new. with_steps_of version (at + 1) new (items_view (drop (at + 1) vs)))
 with_steps_of-turn version at q vs v within is =
     at_drop_more (λ ws. with_steps_of version at q (items_view ws)) vs at v within

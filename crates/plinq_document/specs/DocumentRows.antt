@@ -75,7 +75,7 @@ meaning-growth = refl
 pub meaning-two_counts : document_meaning plain (object (member (codes "growth") (row (whole 1 ∷ whole 3 ∷ [])) (member (codes "query") (row []) (member (codes "source") (range_of (whole 0) (whole 1099511627777)) (member (codes "version") (whole 1) no_members))))) ≡ Err Shape
 meaning-two_counts = refl
 
--- and the growth [0,3,512] is none, which is looked at behind it
+-- and the growth [0,3,512] is none, which is looked at after it
 pub meaning-large_before_growth : document_meaning plain (object (member (codes "growth") (row (whole 0 ∷ whole 3 ∷ whole 512 ∷ [])) (member (codes "query") (row []) (member (codes "source") (range_of (whole 0) (whole 1099511627777)) (member (codes "version") (whole 1) no_members))))) ≡ Err Source
 meaning-large_before_growth = refl
 

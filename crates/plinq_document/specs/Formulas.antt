@@ -11,7 +11,7 @@ use Rattle.plinq_lambda.specs.declared.formula.Formula.TheVariants.{Add, Mul, Mo
 abbrev pub formula_alone : List ℕ → Option Formula
 formula_alone = beside ((codes "even", Even) ∷ (codes "up_to", UpTo) ∷ [])
 
--- the formula of a word and the whole number behind it
+-- the formula of a word and the whole number after it
 abbrev pub formula_with : ℤ → List ℕ → Option Formula
 formula_with c = beside (
     (codes "add", Add c)
@@ -24,12 +24,12 @@ formula_with c = beside (
     ∷ (codes "repeat", Repeat c)
     ∷ [])
 
--- the formula of a word and of the items behind it: no item, or one that is a whole number
+-- the formula of a word and of the items after it: no item, or one that is a whole number
 abbrev pub formula_from : Items → List ℕ → Option Formula
 formula_from no_items word = formula_alone word
 formula_from (item c rest) word = option_and_then (λ n. formula_with n word) (only_whole_number (item c rest))
 
--- the formula of a step's items behind its name
+-- the formula of a step's items after its name
 abbrev pub formula_of : Items → Option Formula
 formula_of no_items = None
 formula_of (item word rest) = option_and_then (formula_from rest) (as_str word)

@@ -10,21 +10,21 @@ use Rattle.plinq_document.specs.declared.growth_counts.GrowthCounts.{GrowthCount
 use Rattle.plinq_document.specs.declared.doc_fault.DocFault.{DocFault}
 use Rattle.plinq_document.specs.declared.doc_fault.DocFault.TheVariants.{Growth}
 
--- the counts behind the first two
+-- the counts after the first two
 abbrev pub counts_from : ℕ → ℕ → Items → Option GrowthCounts
 counts_from first repeat ds = option_map (λ max. record { first = first; repeat = repeat; max = max }) (only_count ds)
 
--- the counts behind the first
-abbrev pub counts_behind : ℕ → Items → Option GrowthCounts
-counts_behind first no_items = None
-counts_behind first (item d ds) = option_and_then (λ repeat. counts_from first repeat ds) (count_of d)
+-- the counts after the first
+abbrev pub counts_after : ℕ → Items → Option GrowthCounts
+counts_after first no_items = None
+counts_after first (item d ds) = option_and_then (λ repeat. counts_from first repeat ds) (count_of d)
 
 -- just three counts
 abbrev pub three_counts : Items → Option GrowthCounts
 three_counts no_items = None
-three_counts (item d ds) = option_and_then (λ first. counts_behind first ds) (count_of d)
+three_counts (item d ds) = option_and_then (λ first. counts_after first ds) (count_of d)
 
--- the counts under a name that may be left away, for 1, 3 and 512
+-- the counts under a name that may be omitted, for 1, 3 and 512
 abbrev pub counts_or_default : Option Data → Result GrowthCounts DocFault
 counts_or_default None = Ok (record { first = 1; repeat = 3; max = 512 })
 counts_or_default (Some d) = or_shape (option_and_then three_counts (as_array d))

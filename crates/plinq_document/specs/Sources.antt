@@ -56,7 +56,7 @@ range_trace start count = if is_range start count then Ok (ended (range_items st
 abbrev pub repeat_trace : ℤ → ℕ → Result (Trace ℤ) DocFault
 repeat_trace value count = if is_repeat count then Ok (ended (replicate count value) End) else Err Source
 
--- what is made of an item that is a whole number and one behind it that is a count
+-- what is made of an item that is a whole number and one after it that is a count
 abbrev pub of_number_and_count : (ℤ → ℕ → Result (Trace ℤ) DocFault) → Items → Result (Trace ℤ) DocFault
 of_number_and_count f no_items = Err Shape
 of_number_and_count f (item d ds) = do

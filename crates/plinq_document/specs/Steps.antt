@@ -51,12 +51,12 @@ merge_word = beside (
     ∷ (codes "default", Default)
     ∷ [])
 
--- the call of a step that has no items behind its name
+-- the call of a step that has no items after its name
 abbrev pub call_alone : StepCall → Items → Option StepCall
 call_alone call no_items = Some call
 call_alone call (item d ds) = None
 
--- the builder call of a step, by its name and the items behind that
+-- the builder call of a step, by its name and the items after that
 abbrev pub call_named : StepName → Items → Option StepCall
 call_named AsOrdered ds = call_alone CallAsOrdered ds
 call_named AsUnordered ds = call_alone CallAsUnordered ds

@@ -7,8 +7,8 @@ use plinq_source::SourceFault;
 use std::alloc::AllocError;
 use thiserror::Error;
 
-/// Why a document is refused, in the order in which the causes are looked for; want of memory is answered where a
-/// growth was refused, whatever stands later.
+/// Why a document is refused, in the order in which the causes are looked for; that memory ran out is answered where it
+/// did, whatever stands later.
 #[derive(Clone, Copy, Debug, PartialEq, Eq, Error)]
 pub enum DocFault {
     /// More than 16,777,216 bytes.
@@ -23,7 +23,7 @@ pub enum DocFault {
     /// A version that isn't known.
     #[error("unknown version")]
     Version,
-    /// A source of more than 2^40 items, or with an item that is no `i64`.
+    /// A source of more than 2^40 items, or a range whose last number is no `i64`.
     #[error("source too large")]
     Source,
     /// Three counts that are no growth of chunks.

@@ -27,13 +27,16 @@ const MOST_STEPS: usize = 1_000;
 /// Reads a document: one JSON text, of version 1.
 ///
 /// The settings of the command line count as calls at the head of the query, the workers before the merge option.
-/// Each refusal says the first thing that is wrong: the length, the JSON, whether there is a version, which version
-/// it is, the shape of everything else, the source, the growth, and then the steps in order. Want of memory is
-/// answered at the growth that was refused, whatever stands later.
 ///
 /// ```text
 /// {"version": 1, "source": {"list": [3, 1, 4]}, "query": [["as_ordered"], ["select", "add", 1]]}
 /// ```
+///
+/// # Errors
+///
+/// The first thing that is wrong, in this order: the length, the JSON, whether there is a version, which version it is,
+/// the shape of everything else, the source, the growth, and then the steps in their order. [`DocFault::Memory`] where
+/// memory ran out on the way, whatever stands later.
 pub fn read_document(alloc: Global, bytes: &[u8], settings: Settings) -> Result<Job, DocFault>
     ensures { MatchResult result (λ job. document_of settings bytes.now ≡ Ok job) (IfMeant (document_of settings bytes.now)) }
 {
@@ -136,6 +139,3 @@ fn new_query(alloc: Global, settings: Settings) -> Query<Formula>
     }
     query
 }
-
-#[cfg(test)]
-mod tests;

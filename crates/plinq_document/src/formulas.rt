@@ -6,7 +6,7 @@ use crate::values::only_whole_number;
 use plinq_lambda::Formula;
 use serde_json::Value;
 
-/// The formula of a step's items behind its name.
+/// The formula of a step's items after its name.
 pub(crate) fn formula_of(items: &[Value]) -> Option<Formula>
     ensures { result ≡ formula_of (items_view items.now) }
 {

@@ -27,8 +27,8 @@ impl GrowthCounts {
     }
 }
 
-/// The counts that a document gives for its growth; left away, those of one item at first, doubling after every third
-/// chunk up to 512.
+/// The counts that a document gives for its growth; where they are omitted, those of one item at first, doubling after
+/// every third chunk up to 512.
 pub(crate) fn growth_counts(document: &Value) -> Result<GrowthCounts, DocFault>
     ensures { result ≡ growth_counts (view document.now) }
 {

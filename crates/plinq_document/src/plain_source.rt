@@ -7,7 +7,7 @@ pub enum PlainSource {
     List(ListSource<i64>),
     /// The whole numbers of a text.
     Text(TextSource),
-    /// Whole numbers one behind another.
+    /// Whole numbers one after another.
     Range(RangeSource),
     /// One whole number a number of times.
     Repeat(RepeatSource),

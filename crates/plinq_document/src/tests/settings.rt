@@ -1,0 +1,30 @@
+use crate::degree::Degree;
+use crate::doc_fault::{DocFault, StepFault};
+use crate::settings::Settings;
+use crate::tests::refusal;
+use plinq_ops::{BuildFault, MergeOption};
+
+#[test]
+fn counts_settings_as_calls(rt: HostRuntime) {
+    let merged = Settings {
+        workers: None,
+        merge: Some(MergeOption::NotBuffered),
+    };
+    let text = r#"{"version":1,"source":{"list":[]},"query":[["with_merge","full"]]}"#;
+    let fault = DocFault::Step {
+        at: 0,
+        why: StepFault::Build(BuildFault::MergeTwice),
+    };
+    assert_eq!(rt; refusal(rt.alloc(), text, merged), Some(fault));
+
+    let working = Settings {
+        workers: Degree::new(2),
+        merge: None,
+    };
+    let text = r#"{"version":1,"source":{"list":[]},"query":[["with_degree",0]]}"#;
+    let fault = DocFault::Step {
+        at: 0,
+        why: StepFault::Build(BuildFault::DegreeTwice),
+    };
+    assert_eq!(rt; refusal(rt.alloc(), text, working), Some(fault));
+}
