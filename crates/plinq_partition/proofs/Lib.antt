@@ -1,5 +1,6 @@
 pub mod Indexes
 pub mod Lists
+pub mod OnDemand
 pub mod Promised
 pub mod Shares
 pub mod Taken

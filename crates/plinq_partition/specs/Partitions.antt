@@ -1,13 +1,17 @@
 -- What a clause says of a chunked source and its partitions.
-use Rattle.std.specs.Prelude.{◌≡◌, ℕ, ◌+◌, ◌≤◌, ◌<◌, ◌^◌, List, [], ◌∷◌, ◌++◌, length, ⊤, ◌⊎◌}
+use Rattle.std.specs.Prelude.{◌≡◌, ℕ, ◌+◌, ◌≤◌, ◌<◌, ◌^◌, List, [], ◌∷◌, ◌++◌, length, map, All, ⊤, ◌⊎◌}
 use Rattle.plinq_source.specs.declared.source.Source.{Ghosts}
 use Rattle.plinq_source.specs.Trace.{Trace}
 use Rattle.plinq_keyed.specs.declared.chunk.Chunk.{Chunk}
 use Rattle.plinq_keyed.specs.declared.event.Event.{Event}
 use Rattle.plinq_keyed.specs.declared.event.Event.TheVariants.{Ask, Close}
 use Rattle.plinq_keyed.specs.declared.record.Record.{Record}
-use Rattle.plinq_keyed.specs.History.{Place, reply, recorded, IsChunkOf}
+use Rattle.plinq_keyed.specs.declared.keyed.Keyed.{Keyed}
+use Rattle.plinq_keyed.specs.declared.properties.KeyProperties.{KeyProperties}
+use Rattle.plinq_keyed.specs.History.{Place, reply, recorded, handed_out, IsChunkOf, IsLegalHistory}
+use Rattle.plinq_keyed.specs.Keys.{Keeps}
 use Rattle.plinq_enumerator.specs.Growing.{GrowthRule, size_at}
+use Rattle.plinq_ticket.specs.Shares.{in_ticket_order}
 use Rattle.plinq_partition.specs.declared.chunked.Chunked.{Chunked}
 use Rattle.plinq_partition.specs.declared.partition.Partition.{Partition}
 use Rattle.plinq_partition.specs.declared.take_fault.TakeFault.{TakeFault}
@@ -90,6 +94,15 @@ module _ {S T : Type 0} {source : Ghosts S T} where
   abbrev pub all_shares : List (Partition S T source) → List Record
   all_shares [] = []
   all_shares (p ∷ ps) = share_at p.pass ++ all_shares ps
+
+  -- the elements that each of several partitions was handed
+  abbrev pub lists_of : Trace T → List (Partition S T source) → List (List (Keyed T))
+  lists_of t ps = map (λ p. handed_out t (share_at p.pass)) ps
+
+  -- what is promised of a source's partitions, these have, where their records together are a legal history
+  abbrev pub KeepsPromise : (Chunked S T source → KeyProperties) → Type 0
+  KeepsPromise promised = (c : Chunked S T source) (ps : List (Partition S T source)) (t : Trace T)
+      → All (IsPartitionOf c) ps → IsLegalHistory t (in_ticket_order (all_shares ps)) → Keeps (promised c) (lists_of t ps)
 
 -- those that may wait are never told that others came before
 abbrev pub IsNotBusy : TakeFault → Type 0

@@ -3,7 +3,12 @@ ghost use Rattle.plinq_source.specs.Trace.{Trace};
 ghost use Rattle.plinq_keyed.specs.declared.record.Record.{Record};
 ghost use Rattle.plinq_keyed.specs.History.{IsLegalHistory, handed_out};
 ghost use Rattle.plinq_keyed.specs.Keys.{keys, ordered_in_each, normalized};
+ghost use Rattle.plinq_partition.specs.Partitions.{KeepsPromise};
 ghost use Rattle.plinq_partition.specs.Shares.{keys_rise_from};
+
+use crate::chunked::Chunked;
+use crate::partitioner::OrderablePartitioner;
+use plinq_source::Source;
 
 /// The keys that a partition was handed rise.
 ///
@@ -17,4 +22,12 @@ pub fn keys_of_a_partition_rise<T>()
 /// This function does nothing: it is there for the law in its contract.
 pub fn keys_of_all_partitions_are_normalized<T>()
     ensures { (t : Trace T) (h : List Record) → IsLegalHistory t h → normalized (keys (handed_out t h) ∷ []) ≡ true }
+{}
+
+/// What a chunked source promises of its partitions' keys, these have: the keys of each rise, and all together are 0, 1, 2
+/// and so on, each once. That their records together are a legal history is what `Chunked::give_back` and `records` tell.
+///
+/// This function does nothing: it is there for the law in its contract.
+pub fn chunked_keeps_its_promise<S: Source>()
+    ensures { KeepsPromise ⟦<Chunked<S> as OrderablePartitioner>⟧.promised }
 {}

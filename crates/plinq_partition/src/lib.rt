@@ -5,7 +5,7 @@
 //!   [`Partition::take`] answers is that of the one record that it adds to the partition's share (`IsTaken`), and the
 //!   shares of all partitions are the history of the enumerator, which `Chunked::give_back` hands back (`IsGivenBack`).
 //! - What an [`OrderablePartitioner`] calls true in `properties`, its partitions have: static ones by `partitions`,
-//!   dynamic ones by `keys_of_a_partition_rise` and `keys_of_all_partitions_are_normalized`.
+//!   dynamic ones by `chunked_keeps_its_promise`.
 #![tactic(auto)]
 
 mod chunked;
@@ -23,7 +23,9 @@ mod taking;
 
 pub use chunked::Chunked;
 pub use fault::PartFault;
-pub use laws::{keys_of_a_partition_rise, keys_of_all_partitions_are_normalized};
+pub use laws::{
+    chunked_keeps_its_promise, keys_of_a_partition_rise, keys_of_all_partitions_are_normalized,
+};
 pub use pair_parts::PairParts;
 pub use partition::Partition;
 pub use partitioner::OrderablePartitioner;
