@@ -15,11 +15,11 @@ use Rattle.plinq_merge.specs.declared.undelivered.Undelivered.TheVariants.{Memor
 use Rattle.plinq_merge.specs.declared.row.Row.{Row}
 use Rattle.plinq_merge.specs.declared.work.Work.{Work}
 use Rattle.plinq_merge.specs.Buffer.{held_of, size_of}
-use Rattle.plinq_merge.specs.Sending.{Leads}
+use Rattle.plinq_merge.specs.Sending.{Leads, Delivers}
 use Rattle.plinq_merge.specs.Shown.{Merge, merged, answer, shown, behind_result}
 use Rattle.plinq_merge.specs.Keys.{is_apart, IsFresh}
-use Rattle.plinq_merge.specs.Merging.{Content, content_of, coming, due, HasTaken, TakesIn, Goes}
-use Rattle.plinq_merge.specs.Working.{operators_left, content, merge_of, KeepsPlan, Rests, Sends, Stands, Gains}
+use Rattle.plinq_merge.specs.Merging.{Content, content_of, coming, due, HasTaken, IsAtGap, TakesIn, Goes}
+use Rattle.plinq_merge.specs.Working.{operators_left, content, merge_of, KeepsPlan, Rests, Stands, Gains}
 use Rattle.plinq_merge.proofs.Takings.{taken-none, taken-waits, answer-taken, batches-taken}
 use Rattle.plinq_merge.proofs.Moves.{cut-none}
 
@@ -67,14 +67,14 @@ gains-none meaning accepts refuses w w' offers r s s' apart fresh same rests =
     let after = any-taken (merge_of meaning w) (content meaning w) offers r rests.out apart fresh rests.taken in
     record {
       gained = due (size_of w.buffer) after.0 after.1;
-      grows = gained-due (merge_of meaning w) (content meaning w) after.0 after.1 offers r rests.out rests.undecided rests.taken rests.rests after.2;
+      grows = gained-due (merge_of meaning w) (content meaning w) after.0 after.1 offers r rests.out rests.undecided rests.taken rests.gap.nothing after.2;
       sends = cut-none accepts refuses s (due (size_of w.buffer) after.0 after.1) s' same;
       stands = tt;
     }
 
 sends-due : {K T : Type 0} (accepts : K → List T → K → Type 0) (refuses : K → List T → ℕ → K → Type 0) (size : Option ℕ) (m : Content T) (hand : Trace T) (s : K)
     (result : Result (Option Ending) Undelivered) (m' : Content T) (s' : K)
-    → Goes accepts refuses size m hand s result m' s' → (result ≡ Ok None → coming m' (open_trace []) ≡ open_trace []) → Sends accepts refuses s (due size m hand) result s'
+    → Goes accepts refuses size m hand s result m' s' → (result ≡ Ok None → coming m' (open_trace []) ≡ open_trace []) → Delivers accepts refuses s (due size m hand) result s'
 sends-due {K} {T} accepts refuses size m hand s (Ok None) m' s' goes rests =
     let all : due size m hand ≡ goes.sent = goes.due_before ∙ ap (λ bs. goes.sent ++ bs) (due-nothing size m' (rests refl)) ∙ append-nil goes.sent in
     let P : List (List T) → Type 0 = λ bs. Leads accepts s bs s' in
@@ -82,7 +82,7 @@ sends-due {K} {T} accepts refuses size m hand s (Ok None) m' s' goes rests =
 sends-due accepts refuses size m hand s (Ok (Some e)) m' s' goes rests = goes.1
 sends-due accepts refuses size m hand s (Err fault) m' s' goes rests = goes
 
-merge-same : {L T : Type 0} (meaning : L → Meaning T) (w w' : Work L T) → KeepsPlan w w' → merge_of meaning w ≡ merge_of meaning w'
+pub merge-same : {L T : Type 0} (meaning : L → Meaning T) (w w' : Work L T) → KeepsPlan w w' → merge_of meaning w ≡ merge_of meaning w'
 merge-same {L} {T} meaning w w' plan =
     let m : Merge T = merge_of meaning w in
     ap (λ ops. record m { after = stages_of meaning ops }) (sym plan.after)
@@ -93,35 +93,35 @@ merge-same {L} {T} meaning w w' plan =
 stands-then : {L K T : Type 0} (meaning : L → Meaning T) (accepts : K → List T → K → Type 0) (refuses : K → List T → ℕ → K → Type 0) (w w' : Work L T) (m : Content T) (hand : Trace T)
     (offers : List (ChunkResult T)) (out : List T) (s : K) (result : Result (Option Ending) Undelivered) (s' : K)
     → w.decided ≡ false → HasTaken (merge_of meaning w) m hand offers out → Goes accepts refuses (size_of w.buffer) m hand s result (content meaning w') s'
-    → (result ≡ Ok None → coming (content meaning w') (open_trace []) ≡ open_trace []) → KeepsPlan w w' → Stands meaning w w' offers result
-stands-then {L} {K} {T} meaning accepts refuses w w' m hand offers out s (Ok None) s' undecided taken goes rests plan =
+    → (result ≡ Ok None → IsAtGap (content meaning w')) → KeepsPlan w w' → Stands meaning w w' offers result
+stands-then {L} {K} {T} meaning accepts refuses w w' m hand offers out s (Ok None) s' undecided taken goes gap plan =
     let kept = goes.keeps (merge_of meaning w) offers out refl taken in
     let P : Merge T → Type 0 = λ merge. HasTaken merge (content meaning w') (open_trace []) offers kept.0 in
     record {
       undecided = plan.decided ∙ undecided;
       out = kept.0;
       taken = subst P (merge-same meaning w w' plan) kept.1;
-      rests = rests refl;
+      gap = gap refl;
     }
-stands-then {L} {K} {T} meaning accepts refuses w w' m hand offers out s (Ok (Some e)) s' undecided taken goes rests plan =
+stands-then {L} {K} {T} meaning accepts refuses w w' m hand offers out s (Ok (Some e)) s' undecided taken goes gap plan =
     ap (λ t. t.ending) (answer-open (merge_of meaning w) offers undecided ∙ answer-taken (merge_of meaning w) m hand offers out taken) ∙ goes.0
-stands-then {L} {K} {T} meaning accepts refuses w w' m hand offers out s (Err fault) s' undecided taken goes rests plan = tt
+stands-then {L} {K} {T} meaning accepts refuses w w' m hand offers out s (Err fault) s' undecided taken goes gap plan = tt
 
 -- what the result taken in brings
 pub gains-taken : {L K T : Type 0} (meaning : L → Meaning T) (accepts : K → List T → K → Type 0) (refuses : K → List T → ℕ → K → Type 0) (w w' : Work L T) (row1 : Row T) (hand : Trace T)
     (offers : List (ChunkResult T)) (r : ChunkResult T) (s : K) (result : Result (Option Ending) Undelivered) (s' : K)
     → TakesIn w.order w.row r hand row1
     → Goes accepts refuses (size_of w.buffer) (content_of row1 (operators_left meaning w) (held_of w.buffer)) hand s result (content meaning w') s'
-    → (result ≡ Ok None → coming (content meaning w') (open_trace []) ≡ open_trace []) → KeepsPlan w w'
+    → (result ≡ Ok None → IsAtGap (content meaning w')) → KeepsPlan w w'
     → Rests meaning w offers → Gains meaning accepts refuses w offers r s result w' s'
-gains-taken {L} {K} {T} meaning accepts refuses w w' row1 hand offers r s result s' takes goes open_still plan rests =
+gains-taken {L} {K} {T} meaning accepts refuses w w' row1 hand offers r s result s' takes goes at_gap plan rests =
     let m1 : Content T = content_of row1 (operators_left meaning w) (held_of w.buffer) in
     let taken = takes (merge_of meaning w) (operators_left meaning w) (held_of w.buffer) offers rests.out refl rests.taken in
     record {
       gained = due (size_of w.buffer) m1 hand;
-      grows = gained-due (merge_of meaning w) (content meaning w) m1 hand offers r rests.out rests.undecided rests.taken rests.rests taken;
-      sends = sends-due accepts refuses (size_of w.buffer) m1 hand s result (content meaning w') s' goes open_still;
-      stands = stands-then meaning accepts refuses w w' m1 hand (offers ++ r ∷ []) rests.out s result s' rests.undecided taken goes open_still plan;
+      grows = gained-due (merge_of meaning w) (content meaning w) m1 hand offers r rests.out rests.undecided rests.taken rests.gap.nothing taken;
+      sends = sends-due accepts refuses (size_of w.buffer) m1 hand s result (content meaning w') s' goes (λ none. (at_gap none).nothing);
+      stands = stands-then meaning accepts refuses w w' m1 hand (offers ++ r ∷ []) rests.out s result s' rests.undecided taken goes at_gap plan;
     }
 
 abbrev answered : Option Ending → Result (Option Ending) Undelivered

@@ -5,3 +5,4 @@ pub mod Takings
 pub mod Moves
 pub mod Gains
 pub mod Offers
+pub mod Whole

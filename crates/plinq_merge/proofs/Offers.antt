@@ -1,33 +1,32 @@
 -- What an offer answers, by what the work did; what a merger tells of the answer.
-use Rattle.std.specs.Prelude.{◌≡◌, ℕ, ◌<◌, List, [], true, false, cond, nat_lt, Option, Some, None, Result, Ok, Err, is_some, refl}
+use Rattle.std.specs.Prelude.{◌≡◌, ℕ, ◌<◌, List, [], true, false, nat_lt, Option, Some, None, Result, Ok, Err, is_some, refl}
 use Rattle.std.specs.List.{list_any}
 use Rattle.std.proofs.Common.{sym, ◌∙◌, ap, subst, arith}
 use Rattle.std.proofs.lemmas.Bool.{or_left, or_from, lt-ltb, le-ltb}
 use Rattle.plinq_source.specs.declared.ending.Ending.{Ending}
-use Rattle.plinq_source.specs.declared.ending.Ending.TheVariants.{End}
-use Rattle.plinq_source.specs.Trace.{open_trace, ended, followed}
+use Rattle.plinq_source.specs.Trace.{open_trace, followed}
 use Rattle.plinq_lambda.specs.Meaning.{Meaning}
 use Rattle.plinq_ops.specs.declared.results.ChunkResult.{ChunkResult}
 use Rattle.plinq_ops.specs.declared.op.Op.{Op}
-use Rattle.plinq_ops.specs.Stage.{seq, some_takes_none}
+use Rattle.plinq_ops.specs.Stage.{some_takes_none}
 use Rattle.plinq_ops.specs.Operator.{stages_of}
 use Rattle.plinq_ops.specs.Feeding.{is_empty_take}
 use Rattle.plinq_ops.specs.Pipeline.{PipelineView, stages, begun}
 use Rattle.plinq_ops.proofs.Counts.{stages_left-counts, some_takes_none-stages_of}
 use Rattle.plinq_ops.proofs.Open.{seq-nothing}
 use Rattle.plinq_merge.specs.declared.more.More.TheVariants.{Yes, No}
-use Rattle.plinq_merge.specs.declared.merge_fault.MergeFault.TheVariants.{Memory, Sink, Twice}
+use Rattle.plinq_merge.specs.declared.merge_fault.MergeFault.TheVariants.{Memory, Sink}
 use Rattle.plinq_merge.specs.declared.undelivered.Undelivered.TheVariants.{Memory as NoMemory, Sink as Refusal}
 use Rattle.plinq_merge.specs.declared.standing.Standing.{Standing}
 use Rattle.plinq_merge.specs.declared.standing.Standing.TheVariants.{Open, Decided, Failed}
 use Rattle.plinq_merge.specs.declared.work.Work.{Work}
-use Rattle.plinq_merge.specs.Shown.{Merge, merged, answer, behind_result}
-use Rattle.plinq_merge.specs.Keys.{is_offered, IsFresh, IsRepeated}
-use Rattle.plinq_merge.specs.Merging.{Content, coming, HasTaken}
+use Rattle.plinq_merge.specs.Shown.{Merge, answer, behind_result}
+use Rattle.plinq_merge.specs.Keys.{is_offered, AreNew, IsFresh}
+use Rattle.plinq_merge.specs.Merging.{Content, HasTaken, IsAtGap}
 use Rattle.plinq_merge.specs.Buffer.{held_of}
 use Rattle.plinq_merge.specs.declared.undelivered.Undelivered.{Undelivered}
 use Rattle.plinq_merge.specs.Working.{content, merge_of, Rests, Gains}
-use Rattle.plinq_merge.specs.Offering.{StandsFor, AreNew, Offers, finished, finish_of, is_decided}
+use Rattle.plinq_merge.specs.Offering.{StandsFor, Offers, finished, finish_of, is_decided}
 use Rattle.plinq_merge.proofs.Takings.{answer-taken}
 use Rattle.plinq_merge.proofs.Gains.{answer-open}
 
@@ -37,7 +36,7 @@ rests-open meaning w offers rests =
     ap (λ t. t.ending)
     (answer-open (merge_of meaning w) offers rests.undecided
     ∙ answer-taken (merge_of meaning w) (content meaning w) (open_trace []) offers rests.out rests.taken
-    ∙ ap (followed (open_trace rests.out)) rests.rests)
+    ∙ ap (followed (open_trace rests.out)) rests.gap.nothing)
 
 -- `decided` tells whether the answer has an ending
 pub decided-answer : {L T : Type 0} (meaning : L → Meaning T) (w : Work L T) (standing : Standing) (offers : List (ChunkResult T)) → StandsFor meaning w standing offers
@@ -54,8 +53,19 @@ finished-answer meaning w (Decided e) offers stands = ap finish_of (sym stands)
 finished-answer meaning w Failed offers stands = absurd stands
 
 -- each key before the next one was offered
-pub merged-offered : {L T : Type 0} (meaning : L → Meaning T) (w : Work L T) (offers : List (ChunkResult T)) → Rests meaning w offers → (key : ℕ) → key < w.row.next → is_offered offers key ≡ true
+merged-offered : {L T : Type 0} (meaning : L → Meaning T) (w : Work L T) (offers : List (ChunkResult T)) → Rests meaning w offers → (key : ℕ) → key < w.row.next → is_offered offers key ≡ true
 merged-offered meaning w offers rests key before = let taken = rests.taken in taken.keys key ∙ or_left _ _ (lt-ltb key w.row.next before)
+
+-- and it itself wasn't
+next-not_offered : {L T : Type 0} (meaning : L → Meaning T) (w : Work L T) (offers : List (ChunkResult T)) → Rests meaning w offers → is_offered offers w.row.next ≡ false
+next-not_offered meaning w offers rests = let taken = rests.taken in taken.keys w.row.next ∙ rests.gap.missing
+
+-- while the answer is open, the next key is the first that is missing
+pub next-is_missing : {L T : Type 0} (meaning : L → Meaning T) (w : Work L T) (standing : Standing) (offers : List (ChunkResult T)) → StandsFor meaning w standing offers
+    → (answer (merge_of meaning w) offers).ending ≡ None → ((key : ℕ) → key < w.row.next → is_offered offers key ≡ true) × (is_offered offers w.row.next ≡ false)
+next-is_missing meaning w Open offers stands still = (merged-offered meaning w offers stands, next-not_offered meaning w offers stands)
+next-is_missing meaning w (Decided e) offers stands still = absurd (let bad : Some e ≡ None = sym stands ∙ still in cc)
+next-is_missing meaning w Failed offers stands still = absurd stands
 
 are-new : {L T : Type 0} (meaning : L → Meaning T) (w : Work L T) (offers : List (ChunkResult T)) (r : ChunkResult T) → IsFresh w.row.next w.row.waiting.entries r.first (behind_result r)
     → Rests meaning w offers → AreNew offers r
@@ -157,11 +167,11 @@ begun-rests {L} {T} meaning w ops undecided is some next waiting told held =
     ∙ ap (λ ss. record m0 { next = w.row.next; waiting = w.row.waiting.entries; told = w.row.told; now = ss }) (sym now)
     ∙ ap (λ h. record m0 { next = w.row.next; waiting = w.row.waiting.entries; told = w.row.told; now = stages meaning w.pipeline; held = h }) (sym held) in
     let P : Content T → Type 0 = λ m. HasTaken merge m (open_trace []) [] [] in
-    let Q : Content T → Type 0 = λ m. coming m (open_trace []) ≡ open_trace [] in
+    let Q : Content T → Type 0 = λ m. IsAtGap m in
     let none : some_takes_none merge.after ≡ false = ap some_takes_none (sym now) ∙ begun-undecided meaning w.pipeline ops is some in
     record {
       undecided = undecided;
       out = [];
       taken = subst P same (taken-begun merge);
-      rests = subst Q same (seq-nothing merge.after None none);
+      gap = subst Q same (record { missing = refl; nothing = seq-nothing merge.after None none });
     }

@@ -10,7 +10,7 @@ use Rattle.std.proofs.lemmas.Bool.{and_parts, and_from, or_parts, or_from, or_le
 use Rattle.std.proofs.lemmas.Bool.Decides.{nat_tests}
 use Rattle.std.proofs.Math.Bool.{or_assoc, or_comm, or-false}
 use Rattle.plinq_merge.specs.Part.{Part}
-use Rattle.plinq_merge.specs.Keys.{is_within, is_waiting, is_apart, IsFresh, IsRepeated, Places}
+use Rattle.plinq_merge.specs.Keys.{is_within, is_waiting, is_taken, is_apart, is_first, IsFresh, IsRepeated, Places}
 
 pub within-from : (first behind key : ℕ) → first ≤ key → key < behind → is_within first behind key ≡ true
 within-from first behind key from_first before = and_from (nat_le first key) (nat_lt key behind) (le-leb first key from_first) (lt-ltb key behind before)
@@ -42,6 +42,29 @@ apart-rest start p ps apart = (and_parts (nat_le start p.0 && nat_lt p.0 p.1.beh
 pub apart-cons : {T : Type 0} (start : ℕ) (p : ℕ × Part T) (ps : List (ℕ × Part T)) → start ≤ p.0 → p.0 < p.1.behind → is_apart p.1.behind ps ≡ true → is_apart start (p ∷ ps) ≡ true
 apart-cons start p ps from_start some rest =
     and_from _ _ (and_from _ _ (le-leb start p.0 from_start) (lt-ltb p.0 p.1.behind some)) rest
+
+-- no key before all parts waits
+pub none-before : {T : Type 0} (start key : ℕ) (ps : List (ℕ × Part T)) → is_apart start ps ≡ true → key < start → is_waiting ps key ≡ false
+none-before start key [] apart before = refl
+none-before start key (p ∷ ps) apart before =
+    let from_start = apart-start start p ps apart in
+    let some = apart-some start p ps apart in
+    or_from _ _ (not_within-before p.0 p.1.behind key (omega arith)) (none-before p.1.behind key ps (apart-rest start p ps apart) (omega arith))
+
+-- where no part begins with the next key, it isn't taken
+pub next-missing : {T : Type 0} (next : ℕ) (ps : List (ℕ × Part T)) → is_apart next ps ≡ true → is_first next ps ≡ false → is_taken next ps next ≡ false
+next-missing next ps apart gap = or_from _ _ (le-ltb next next (omega arith)) (not_waiting ps apart gap)
+  where
+    not_waiting : {T : Type 0} (ps : List (ℕ × Part T)) → is_apart next ps ≡ true → is_first next ps ≡ false → is_waiting ps next ≡ false
+    not_waiting [] apart gap = refl
+    not_waiting (p ∷ ps) apart gap =
+        let from_start = apart-start next p ps apart in
+        let some = apart-some next p ps apart in
+        let later : next < p.0 = later-than p.0 next gap from_start in
+        or_from _ _ (not_within-before p.0 p.1.behind next later) (none-before p.1.behind next ps (apart-rest next p ps apart) (omega arith))
+      where
+        later-than : (a b : ℕ) → (a == b) ≡ false → b ≤ a → b < a
+        later-than a b test from = grind (arith, nat_tests)
 
 -- whether a key is before `behind`, as the map's search by range asks
 abbrev pub is_before : ℕ → ℕ → Bool

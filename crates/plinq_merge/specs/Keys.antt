@@ -15,6 +15,14 @@ abbrev pub is_offered : {T : Type 0} → List (ChunkResult T) → ℕ → Bool
 is_offered [] key = false
 is_offered (r ∷ rs) key = is_within r.first (behind_result r) key || is_offered rs key
 
+-- no key of the result was offered before
+abbrev pub AreNew : {T : Type 0} → List (ChunkResult T) → ChunkResult T → Type 0
+AreNew offers r = (key : ℕ) → is_within r.first (behind_result r) key ≡ true → is_offered offers key ≡ false
+
+-- some key of it was
+abbrev pub IsTwice : {T : Type 0} → List (ChunkResult T) → ChunkResult T → Type 0
+IsTwice offers r = (key : ℕ) × (is_within r.first (behind_result r) key ≡ true) × (is_offered offers key ≡ true)
+
 -- whether some part has this key
 abbrev pub is_waiting : {T : Type 0} → List (ℕ × Part T) → ℕ → Bool
 is_waiting [] key = false

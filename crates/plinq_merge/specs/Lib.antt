@@ -6,3 +6,5 @@ pub mod Keys
 pub mod Merging
 pub mod Working
 pub mod Offering
+pub mod Whole
+pub mod Mergers

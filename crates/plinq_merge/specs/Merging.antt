@@ -1,5 +1,5 @@
 -- What a merger holds, and which lists of offers it stands for.
-use Rattle.std.specs.Prelude.{◌≡◌, ℕ, ◌≤◌, List, [], ◌∷◌, ◌++◌, Option, Some, None, Result, Ok, Err}
+use Rattle.std.specs.Prelude.{◌≡◌, ℕ, ◌≤◌, List, [], ◌∷◌, ◌++◌, false, Option, Some, None, Result, Ok, Err}
 use Rattle.std.specs.Ordering.{nat_cmp}
 use Rattle.std.specs.BTreeMap.{insert_entry}
 use Rattle.plinq_source.specs.declared.ending.Ending.{Ending}
@@ -58,13 +58,18 @@ pub record HasTaken {T : Type 0} (merge : Merge T) (m : Content T) (hand : Trace
   pub parts : AreParts merge.order m.waiting
   pub keys : (key : ℕ) → is_offered offers key ≡ is_taken m.next m.waiting key
 
+-- nothing more is coming: the next key is missing, and the source doesn't end before it
+pub record IsAtGap {T : Type 0} (m : Content T) : Type 0 where
+  pub missing : is_taken m.next m.waiting m.next ≡ false
+  pub nothing : coming m (open_trace []) ≡ open_trace []
+
 -- the trace was worked off: it gave `out` and this ending, and where there is none the operators go on
 pub record GoesOn {T : Type 0} (now : List (Stage T)) (t : Trace T) (out : List T) (e : Option Ending) (now' : List (Stage T)) : Type 0 where
   pub answers : (rest : Trace T) → seq now (followed t rest) ≡ followed (record { items = out; ending = e }) (seq now' rest)
 
 -- what stood for some offers with this trace in hand still does without it
-abbrev pub Keeps : {T : Type 0} → Option ℕ → Content T → Trace T → Content T → Type 0
-Keeps {T} size m hand m' =
+abbrev pub StillStands : {T : Type 0} → Option ℕ → Content T → Trace T → Content T → Type 0
+StillStands {T} size m hand m' =
     (merge : Merge T) (offers : List (ChunkResult T)) (out : List T) → merge.size ≡ size → HasTaken merge m hand offers out
     → (more : List T) × HasTaken merge m' (open_trace []) offers more
 
@@ -74,7 +79,7 @@ pub record Moves {K T : Type 0} (accepts : K → List T → K → Type 0) (size 
   pub due_before : due size m hand ≡ sent ++ due size m' (open_trace [])
   pub leads : Leads accepts s sent s'
   pub ending : (coming m hand).ending ≡ (coming m' (open_trace [])).ending
-  pub keeps : Keeps size m hand m'
+  pub keeps : StillStands size m hand m'
 
 -- it is merged and the answer goes on, or the answer has ended and all batches were sent, or they were cut off
 abbrev pub Goes : {K T : Type 0} → (K → List T → K → Type 0) → (K → List T → ℕ → K → Type 0) → Option ℕ → Content T → Trace T → K

@@ -12,8 +12,8 @@ use Rattle.plinq_merge.specs.declared.standing.Standing.TheVariants.{Open, Decid
 use Rattle.plinq_merge.specs.declared.undelivered.Undelivered.TheVariants.{Memory as NoMemory, Sink as Refusal}
 use Rattle.plinq_merge.specs.declared.work.Work.{Work}
 use Rattle.plinq_merge.specs.Sending.{Leads, IsCutOff}
-use Rattle.plinq_merge.specs.Shown.{Merge, answer, shown, behind_result}
-use Rattle.plinq_merge.specs.Keys.{is_within, is_offered}
+use Rattle.plinq_merge.specs.Shown.{Merge, answer, shown}
+use Rattle.plinq_merge.specs.Keys.{AreNew, IsTwice}
 use Rattle.plinq_merge.specs.Working.{merge_of, Rests}
 
 -- the merger stands for these offers: with them the answer is open, or it has this ending; a failed one stands for none
@@ -21,14 +21,6 @@ abbrev pub StandsFor : {L T : Type 0} → (L → Meaning T) → Work L T → Sta
 StandsFor meaning w Open offers = Rests meaning w offers
 StandsFor meaning w (Decided e) offers = (answer (merge_of meaning w) offers).ending ≡ Some e
 StandsFor meaning w HasFailed offers = ⊥
-
--- no key of the result was offered before
-abbrev pub AreNew : {T : Type 0} → List (ChunkResult T) → ChunkResult T → Type 0
-AreNew offers r = (key : ℕ) → is_within r.first (behind_result r) key ≡ true → is_offered offers key ≡ false
-
--- some key of it was
-abbrev pub IsTwice : {T : Type 0} → List (ChunkResult T) → ChunkResult T → Type 0
-IsTwice offers r = (key : ℕ) × (is_within r.first (behind_result r) key ≡ true) × (is_offered offers key ≡ true)
 
 -- the result is new, and of the batches that the definition gains by it this much was sent
 pub record Brings {T : Type 0} (merge : Merge T) (offers : List (ChunkResult T)) (r : ChunkResult T) (Sent : List (List T) → Type 0) : Type 0 where

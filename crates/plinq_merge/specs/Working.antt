@@ -10,10 +10,10 @@ use Rattle.plinq_ops.specs.Pipeline.{stages}
 use Rattle.plinq_merge.specs.declared.undelivered.Undelivered.{Undelivered}
 use Rattle.plinq_merge.specs.declared.work.Work.{Work}
 use Rattle.plinq_merge.specs.Buffer.{held_of, size_of, HasRoom}
-use Rattle.plinq_merge.specs.Sending.{Leads, IsCutOff}
+use Rattle.plinq_merge.specs.Sending.{Delivers}
 use Rattle.plinq_merge.specs.Shown.{Merge, answer, shown}
 use Rattle.plinq_merge.specs.Keys.{is_apart}
-use Rattle.plinq_merge.specs.Merging.{Content, content_of, coming, HasTaken}
+use Rattle.plinq_merge.specs.Merging.{Content, content_of, HasTaken, IsAtGap}
 
 -- what is left of the operators
 abbrev pub operators_left : {L T : Type 0} → (L → Meaning T) → Work L T → List (Stage T)
@@ -44,12 +44,7 @@ pub record Rests {L T : Type 0} (meaning : L → Meaning T) (w : Work L T) (offe
   pub undecided : w.decided ≡ false
   pub out : List T
   pub taken : HasTaken (merge_of meaning w) (content meaning w) (open_trace []) offers out
-  pub rests : coming (content meaning w) (open_trace []) ≡ open_trace []
-
--- what was sent of the batches that were gained
-abbrev pub Sends : {K T A : Type 0} → (K → List T → K → Type 0) → (K → List T → ℕ → K → Type 0) → K → List (List T) → Result A Undelivered → K → Type 0
-Sends accepts refuses s gained (Ok x) s' = Leads accepts s gained s'
-Sends accepts refuses s gained (Err fault) s' = IsCutOff accepts refuses s gained fault s'
+  pub gap : IsAtGap (content meaning w)
 
 -- how it stands then
 abbrev pub Stands : {L T : Type 0} → (L → Meaning T) → Work L T → Work L T → List (ChunkResult T) → Result (Option Ending) Undelivered → Type 0
@@ -62,5 +57,5 @@ pub record Gains {L K T : Type 0} (meaning : L → Meaning T) (accepts : K → L
     (w : Work L T) (offers : List (ChunkResult T)) (r : ChunkResult T) (s : K) (result : Result (Option Ending) Undelivered) (w' : Work L T) (s' : K) : Type 0 where
   pub gained : List (List T)
   pub grows : shown (merge_of meaning w) (offers ++ r ∷ []) ≡ shown (merge_of meaning w) offers ++ gained
-  pub sends : Sends accepts refuses s gained result s'
+  pub sends : Delivers accepts refuses s gained result s'
   pub stands : Stands meaning w w' (offers ++ r ∷ []) result

@@ -1,16 +1,20 @@
 //! The merger: results of chunks in any order, batches of the answer in order.
 //!
-//! - A [`Merger`] stands for lists of offers (`StandsFor`). What they show is the answer so far (`answer`): by key the
+//! - A [`Merger`] is for lists of offers (`IsFor`). What they show is the answer so far (`answer`): by key the
 //!   unbroken row of results from key 0 on, by arrival the results as they came, sent through the operators behind the
 //!   merge.
 //! - Each offer delivers exactly the batches that the answer gains by it, or after a fault the first of them
 //!   (`Merger::offer`); `decided`, `finish` and [`More`] tell whether and how the answer ends.
+//! - What offers of one source show by key is at each moment a beginning of the sequential answer, and all of it where
+//!   all was offered ([`laws`]).
 //! - A [`Sink`] takes the batches; what it says of a call is `accepts` and `refuses`.
 #![tactic(auto)]
 
 mod buffer;
+pub mod laws;
 mod merge_fault;
 mod merger;
+mod merging;
 mod more;
 mod row;
 mod sending;

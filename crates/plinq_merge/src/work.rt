@@ -3,7 +3,7 @@ ghost use Rattle.plinq_source.specs.Trace.{open_trace};
 ghost use Rattle.plinq_merge.specs.Buffer.{size_of, HasRoom};
 ghost use Rattle.plinq_merge.specs.Shown.{behind_result};
 ghost use Rattle.plinq_merge.specs.Keys.{is_first, IsFresh};
-ghost use Rattle.plinq_merge.specs.Merging.{coming, Goes, Feeds};
+ghost use Rattle.plinq_merge.specs.Merging.{IsAtGap, Goes, Feeds};
 ghost use Rattle.plinq_merge.specs.Working.{content, IsReady, KeepsPlan, Rests, Gains};
 
 use crate::buffer::Buffer;
@@ -65,7 +65,7 @@ impl<'a, L: Lambda> Work<'a, L, L::Item> {
         ensures plan { KeepsPlan self.old self.new }
         ensures goes { Goes K.accepts K.refuses (size_of self.old.buffer) (content L.meaning self.old) (open_trace [])
             sink.old result (content L.meaning self.new) sink.new }
-        ensures rests { result ≡ Ok None → coming (content L.meaning self.new) (open_trace []) ≡ open_trace [] }
+        ensures gap { result ≡ Ok None → IsAtGap (content L.meaning self.new) }
     {
         while self.row.is_next_there() {
             let ending = self.advance(sink)?;

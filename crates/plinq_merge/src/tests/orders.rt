@@ -14,9 +14,7 @@ fn query_of(alloc: Global, kind: usize) -> Result<Query<Formula>, BuildFault> {
     if kind == 0 {
         return Ok(query);
     }
-    let query = query
-        .filter(Formula::Above(0))
-        .map_err(|(_, fault)| fault)?;
+    let query = query.filter(Formula::Above(0)).map_err(|(_, fault)| fault)?;
     match kind {
         1 => query.take(4).map_err(|(_, fault)| fault),
         _ => query

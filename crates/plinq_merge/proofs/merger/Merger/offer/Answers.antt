@@ -1,13 +1,14 @@
-use Rattle.std.proofs.Common.{rules, ◌≡◌, Ok, Err, Some, None}
+use Rattle.std.proofs.Common.{rules, ◌≡◌, Ok, Err, Some, None, sym}
 use Rattle.plinq_merge.specs.declared.standing.Standing.TheVariants.{Open}
 use Rattle.plinq_merge.specs.declared.undelivered.Undelivered.TheVariants.{Memory, Sink}
 use Rattle.plinq_merge.specs.Shown.{behind_result}
 use Rattle.plinq_merge.specs.Keys.{IsFresh}
+use Rattle.plinq_merge.proofs.Gains.{merge-same}
 use Rattle.plinq_merge.proofs.Offers.{offers-yes, offers-no, offers-memory, offers-sink, gains-as}
 use Rattle.plinq_merge.proofs.merger.Merger.offer.Goals as goal
 
-pub returns-in-Ok-None-clause-offers : goal.returns-in-Ok-None-clause-offers
-returns-in-Ok-None-clause-offers g c =
+pub returns-in-Ok-None-clause-takes : goal.returns-in-Ok-None-clause-takes
+returns-in-Ok-None-clause-takes g c =
     let w = c.args.self.now.work in
     let r = c.args.offered in
     let is_open : c.args.self.now.standing ≡ Open = search rules in
@@ -16,8 +17,8 @@ returns-in-Ok-None-clause-offers g c =
     offers-yes g.L.Lambda.meaning g.K.Sink.accepts g.K.Sink.refuses w c.args.self.now.standing r c.args.sink.now c.merge.new.self c.args.self.now.standing c.merge.new.sink is_open is_open fresh
     (gains-as g.L.Lambda.meaning g.K.Sink.accepts g.K.Sink.refuses w r c.args.sink.now c.merge.result (Ok None) c.merge.new.self c.merge.new.sink is c.merge.ensures.gains)
 
-pub returns-in-Ok-Some-clause-offers : goal.returns-in-Ok-Some-clause-offers
-returns-in-Ok-Some-clause-offers g c =
+pub returns-in-Ok-Some-clause-takes : goal.returns-in-Ok-Some-clause-takes
+returns-in-Ok-Some-clause-takes g c =
     let w = c.args.self.now.work in
     let r = c.args.offered in
     let is_open : c.args.self.now.standing ≡ Open = search rules in
@@ -26,8 +27,8 @@ returns-in-Ok-Some-clause-offers g c =
     offers-no g.L.Lambda.meaning g.K.Sink.accepts g.K.Sink.refuses w c.args.self.now.standing r c.args.sink.now c.in-Ok-Some.ending c.merge.new.self c.merge.new.sink is_open fresh
     (gains-as g.L.Lambda.meaning g.K.Sink.accepts g.K.Sink.refuses w r c.args.sink.now c.merge.result (Ok (Some c.in-Ok-Some.ending)) c.merge.new.self c.merge.new.sink is c.merge.ensures.gains)
 
-pub returns-in-Err-Memory-clause-offers : goal.returns-in-Err-Memory-clause-offers
-returns-in-Err-Memory-clause-offers g c =
+pub returns-in-Err-Memory-clause-takes : goal.returns-in-Err-Memory-clause-takes
+returns-in-Err-Memory-clause-takes g c =
     let w = c.args.self.now.work in
     let r = c.args.offered in
     let is_open : c.args.self.now.standing ≡ Open = search rules in
@@ -36,8 +37,8 @@ returns-in-Err-Memory-clause-offers g c =
     offers-memory g.L.Lambda.meaning g.K.Sink.accepts g.K.Sink.refuses w c.args.self.now.standing r c.args.sink.now c.merge.new.self c.merge.new.sink is_open fresh
     (gains-as g.L.Lambda.meaning g.K.Sink.accepts g.K.Sink.refuses w r c.args.sink.now c.merge.result (Err Memory) c.merge.new.self c.merge.new.sink is c.merge.ensures.gains)
 
-pub returns-in-Err-Sink-clause-offers : goal.returns-in-Err-Sink-clause-offers
-returns-in-Err-Sink-clause-offers g c =
+pub returns-in-Err-Sink-clause-takes : goal.returns-in-Err-Sink-clause-takes
+returns-in-Err-Sink-clause-takes g c =
     let w = c.args.self.now.work in
     let r = c.args.offered in
     let is_open : c.args.self.now.standing ≡ Open = search rules in
@@ -45,3 +46,15 @@ returns-in-Err-Sink-clause-offers g c =
     let is : c.merge.result ≡ Err (Sink c.in-Err-Sink.code) = search rules in
     offers-sink g.L.Lambda.meaning g.K.Sink.accepts g.K.Sink.refuses w c.args.self.now.standing r c.args.sink.now c.in-Err-Sink.code c.merge.new.self c.merge.new.sink is_open fresh
     (gains-as g.L.Lambda.meaning g.K.Sink.accepts g.K.Sink.refuses w r c.args.sink.now c.merge.result (Err (Sink c.in-Err-Sink.code)) c.merge.new.self c.merge.new.sink is c.merge.ensures.gains)
+
+pub returns-in-Ok-None-clause-plan : goal.returns-in-Ok-None-clause-plan
+returns-in-Ok-None-clause-plan g c = sym (merge-same g.L.Lambda.meaning c.args.self.now.work c.merge.new.self c.merge.ensures.plan)
+
+pub returns-in-Ok-Some-clause-plan : goal.returns-in-Ok-Some-clause-plan
+returns-in-Ok-Some-clause-plan g c = sym (merge-same g.L.Lambda.meaning c.args.self.now.work c.merge.new.self c.merge.ensures.plan)
+
+pub returns-in-Err-Memory-clause-plan : goal.returns-in-Err-Memory-clause-plan
+returns-in-Err-Memory-clause-plan g c = sym (merge-same g.L.Lambda.meaning c.args.self.now.work c.merge.new.self c.merge.ensures.plan)
+
+pub returns-in-Err-Sink-clause-plan : goal.returns-in-Err-Sink-clause-plan
+returns-in-Err-Sink-clause-plan g c = sym (merge-same g.L.Lambda.meaning c.args.self.now.work c.merge.new.self c.merge.ensures.plan)

@@ -10,6 +10,7 @@ use Rattle.plinq_merge.specs.Sending.{Leads, IsCutOff}
 use Rattle.plinq_ops.specs.Pipeline.{stages}
 use Rattle.plinq_merge.specs.Merging.{Goes, coming, content_of}
 use Rattle.plinq_merge.specs.Working.{content}
+use Rattle.plinq_merge.proofs.Overlaps.{next-missing}
 use Rattle.plinq_merge.proofs.Moves.{goes-behind, goes-for, goes-end, goes-end_cut, coming-gap, moves-none}
 use Rattle.plinq_merge.proofs.work.Work+L+L+Item.drain.Goals as goal
 
@@ -90,8 +91,8 @@ returns-clause-goes g c =
     (goes-end g.K.Sink.accepts g.K.Sink.refuses (size_of w0.buffer) (content m wl) c.loop-self.sink c.ending-ending.result (content_of wl.row (stages m wl.pipeline) (held_of c.hand_last.new.buffer)) _ come
     (λ none. ap (λ b. content_of wl.row (stages m wl.pipeline) (held_of b)) (c.hand_last.ensures.same none)) (rw c.loop-self.invariant.plan.size at last))
 
-pub returns-clause-rests : goal.returns-clause-rests
-returns-clause-rests g c =
+pub returns-clause-gap : goal.returns-clause-gap
+returns-clause-gap g c =
     let m = g.L.Lambda.meaning in
     let wl = c.loop-self.self in
     let gap : is_first wl.row.next wl.row.waiting.entries ≡ false = search rules in
@@ -99,5 +100,10 @@ returns-clause-rests g c =
     λ is_open.
     let none : c.ending-ending.result ≡ None = cc in
     let same : c.hand_last.new.buffer ≡ wl.buffer = c.hand_last.ensures.same none in
-    ap (λ b. coming (content_of wl.row (stages m wl.pipeline) (held_of b)) (open_trace [])) same
-    ∙ coming-gap (content m wl) gap c.loop-self.invariant.ready.undecided ∙ ap (trace_of []) (sym ending ∙ none)
+    record {
+      missing = next-missing wl.row.next wl.row.waiting.entries c.loop-self.invariant.ready.apart gap;
+      nothing =
+          ap (λ b. coming (content_of wl.row (stages m wl.pipeline) (held_of b)) (open_trace [])) same
+          ∙ coming-gap (content m wl) gap c.loop-self.invariant.ready.undecided
+          ∙ ap (trace_of []) (sym ending ∙ none);
+    }

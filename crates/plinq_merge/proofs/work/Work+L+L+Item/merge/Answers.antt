@@ -66,4 +66,4 @@ returns-clause-gains g c = λ offers rests.
     let second = goes-for g.K.Sink.accepts g.K.Sink.refuses (size_of w2.buffer) (size_of w.buffer) (content m w2) (open_trace []) c.work_off.new.sink c.drain.result c.drain.result (content m w3) c.drain.new.sink plan.size refl c.drain.ensures.goes in
     gains-taken m g.K.Sink.accepts g.K.Sink.refuses w w3 row1 c.in_ok-hand.hand.trace offers c.args.offered c.args.sink.now c.drain.result c.drain.new.sink takes
     (goes-behind g.K.Sink.accepts g.K.Sink.refuses (size_of w.buffer) (content_of row1 (stages m w.pipeline) (held_of w.buffer)) c.in_ok-hand.hand.trace c.args.sink.now (content m w2) c.work_off.new.sink c.drain.result (content m w3) c.drain.new.sink first second)
-    c.drain.ensures.rests kept rests
+    c.drain.ensures.gap kept rests

@@ -1,0 +1,5 @@
+use Rattle.plinq_merge.proofs.Whole.{decided-whole}
+use Rattle.plinq_merge.proofs.laws.decided_is_sequential.Goals as goal
+
+pub returns : goal.returns
+returns g c = λ meaning worker t merge offers e. decided-whole meaning worker t merge offers e

@@ -1,0 +1,32 @@
+-- What a clause says of a merger.
+use Rattle.std.specs.Prelude.{ℕ, List, Bool, Result}
+use Rattle.plinq_source.specs.declared.ending.Ending.{Ending}
+use Rattle.plinq_lambda.specs.declared.lambda.Lambda.{Ghosts}
+use Rattle.plinq_ops.specs.declared.results.ChunkResult.{ChunkResult}
+use Rattle.plinq_merge.specs.declared.merge_fault.MergeFault.{MergeFault}
+use Rattle.plinq_merge.specs.declared.more.More.{More}
+use Rattle.plinq_merge.specs.declared.merger.Merger.{Merger}
+use Rattle.plinq_merge.specs.Shown.{Merge}
+use Rattle.plinq_merge.specs.Working.{merge_of}
+use Rattle.plinq_merge.specs.Offering.{StandsFor, Offers, is_decided, finished}
+
+module _ {L T : Type 0} {lambda : Ghosts L T} where
+  -- what a merger is made for
+  abbrev pub plan_of : Merger L T lambda → Merge T
+  plan_of m = merge_of lambda.meaning m.work
+
+  -- it stands for these offers; a failed one stands for none
+  abbrev pub IsFor : Merger L T lambda → List (ChunkResult T) → Type 0
+  IsFor m offers = StandsFor lambda.meaning m.work m.standing offers
+
+  -- what an offer answers, and what it does to the merger and to the sink
+  abbrev pub Takes : {K : Type 0} → (K → List T → K → Type 0) → (K → List T → ℕ → K → Type 0)
+      → Merger L T lambda → ChunkResult T → K → Result More MergeFault → Merger L T lambda → K → Type 0
+  Takes accepts refuses m r s result m' s' = Offers lambda.meaning accepts refuses m.work m.standing r s result m'.work m'.standing s'
+
+  -- what it tells of its answer; a failed one tells of none
+  abbrev pub tells_decided : Merger L T lambda → Bool
+  tells_decided m = is_decided m.standing
+
+  abbrev pub tells_ending : Merger L T lambda → Result Ending MergeFault
+  tells_ending m = finished m.standing

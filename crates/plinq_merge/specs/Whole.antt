@@ -1,0 +1,32 @@
+-- Offers of one source: results of its chunks, in any order.
+use Rattle.std.specs.Prelude.{◌≡◌, ℕ, ◌<◌, List, [], ◌∷◌, ◌++◌, length, ⊤, Some, None, true}
+use Rattle.std.specs.Option.{IfSome, IsSome}
+use Rattle.plinq_source.specs.declared.ending.Ending.{Ending}
+use Rattle.plinq_source.specs.Trace.{Trace}
+use Rattle.plinq_ops.specs.declared.results.ChunkResult.{ChunkResult}
+use Rattle.plinq_merge.specs.Shown.{told_at, all_told, behind_result}
+use Rattle.plinq_merge.specs.Keys.{is_offered, AreNew}
+
+-- the source ends there, and so
+abbrev pub EndsAt : {T : Type 0} → Trace T → ℕ × Ending → Type 0
+EndsAt t at = (at.0 ≡ length t.items) × (t.ending ≡ Some at.1)
+
+-- what the tails tell of the source's end is so
+abbrev pub AreTrueTails : {T : Type 0} → Trace T → List (ChunkResult T) → Type 0
+AreTrueTails t [] = ⊤
+AreTrueTails t (r ∷ rs) = IfSome (told_at (behind_result r) r.tail) (EndsAt t) × AreTrueTails t rs
+
+-- no key is in two of them
+abbrev pub AreApart : {T : Type 0} → List (ChunkResult T) → Type 0
+AreApart [] = ⊤
+AreApart (r ∷ rs) = AreNew rs r × AreApart rs
+
+-- all of a source was offered: each of its keys once, and its end
+pub record AreWhole {T : Type 0} (t : Trace T) (offers : List (ChunkResult T)) : Type 0 where
+  pub apart : AreApart offers
+  pub keys : (key : ℕ) → key < length t.items → is_offered offers key ≡ true
+  pub told : IsSome (all_told None offers)
+
+-- the first of these batches
+abbrev pub AreFirstOf : {B : Type 0} → List B → List B → Type 0
+AreFirstOf {B} first all = (rest : List B) × (all ≡ first ++ rest)

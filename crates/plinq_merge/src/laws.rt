@@ -1,0 +1,40 @@
+//! Laws of what merged results show, each the contract of a function with nothing to do.
+//!
+//! They speak of results of one source, for a merger by key: whatever was offered of it, and in whatever order.
+ghost use Rattle.std.specs.Prelude.{◌≡◌, ◌≤◌, ◌^◌, List, [], length, false, Some};
+ghost use Rattle.plinq_source.specs.declared.ending.Ending.{Ending};
+ghost use Rattle.plinq_source.specs.Trace.{Trace};
+ghost use Rattle.plinq_lambda.specs.Meaning.{Meaning};
+ghost use Rattle.plinq_ops.specs.declared.op.Op.{Op};
+ghost use Rattle.plinq_ops.specs.declared.order.Order.TheVariants.{ByKey};
+ghost use Rattle.plinq_ops.specs.declared.results.ChunkResult.{ChunkResult};
+ghost use Rattle.plinq_ops.specs.Stage.{seq};
+ghost use Rattle.plinq_ops.specs.Fragment.{glue};
+ghost use Rattle.plinq_ops.specs.Batches.{batches_from};
+ghost use Rattle.plinq_ops.specs.Row.{AreOffers};
+ghost use Rattle.plinq_merge.specs.Shown.{Merge, answer, shown};
+ghost use Rattle.plinq_merge.specs.Whole.{AreTrueTails, AreWhole, AreFirstOf};
+
+/// Whatever was offered, the batches that it shows are the first of the sequential answer's.
+pub fn shown_is_a_prefix<L, T>()
+    ensures { (meaning : L → Meaning T) (worker : List (Op L)) (t : Trace T) (merge : Merge T) (offers : List (ChunkResult T)) →
+        length t.items ≤ 2 ^ 40 → merge.order ≡ ByKey → merge.decided ≡ false →
+        AreOffers meaning worker t offers → AreTrueTails t offers →
+        AreFirstOf (shown merge offers) (batches_from merge.size [] (seq merge.after (glue meaning worker t))) }
+{}
+
+/// An answer that has ended is the sequential answer, also where results are missing.
+pub fn decided_is_sequential<L, T>()
+    ensures { (meaning : L → Meaning T) (worker : List (Op L)) (t : Trace T) (merge : Merge T) (offers : List (ChunkResult T)) (e : Ending) →
+        length t.items ≤ 2 ^ 40 → merge.order ≡ ByKey → merge.decided ≡ false →
+        AreOffers meaning worker t offers → AreTrueTails t offers → (answer merge offers).ending ≡ Some e →
+        answer merge offers ≡ seq merge.after (glue meaning worker t) }
+{}
+
+/// Where all of the source was offered, the answer is the sequential one.
+pub fn whole_is_sequential<L, T>()
+    ensures { (meaning : L → Meaning T) (worker : List (Op L)) (t : Trace T) (merge : Merge T) (offers : List (ChunkResult T)) →
+        length t.items ≤ 2 ^ 40 → merge.order ≡ ByKey → merge.decided ≡ false →
+        AreOffers meaning worker t offers → AreTrueTails t offers → AreWhole t offers →
+        answer merge offers ≡ seq merge.after (glue meaning worker t) }
+{}

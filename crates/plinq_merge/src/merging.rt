@@ -1,0 +1,153 @@
+ghost use Rattle.std.specs.Prelude.{◌≡◌, ◌≤◌, ◌<◌, ◌^◌, ℕ, List, [], true, false, None, IfOk, IfErr, is_some};
+ghost use Rattle.std.specs.List.{list_any};
+ghost use Rattle.plinq_ops.specs.Batches.{batch_size};
+ghost use Rattle.plinq_ops.specs.Operator.{stages_of};
+ghost use Rattle.plinq_ops.specs.Feeding.{is_empty_take};
+ghost use Rattle.plinq_merge.specs.declared.merge_fault.MergeFault.TheVariants.{Memory};
+ghost use Rattle.plinq_merge.specs.Keys.{is_offered};
+ghost use Rattle.plinq_merge.specs.Shown.{answer, behind_result};
+ghost use Rattle.plinq_merge.specs.Offering.{finish_of};
+ghost use Rattle.plinq_merge.specs.Mergers.{plan_of, IsFor, Takes, tells_decided, tells_ending};
+
+use crate::buffer::buffer_of;
+use crate::merge_fault::MergeFault;
+use crate::merger::Merger;
+use crate::more::More;
+use crate::row::Row;
+use crate::sink::Sink;
+use crate::standing::Standing;
+use crate::undelivered::Undelivered;
+use crate::work::Work;
+use plinq_lambda::Lambda;
+use plinq_ops::{ChunkResult, MergeOption, Pipeline, Plan};
+use plinq_source::Ending;
+use std::alloc::Global;
+
+impl<'a, L: Lambda> Merger<'a, L> {
+    /// The merger of a plan, to which nothing was offered. The answer of a decided plan is decided.
+    ///
+    /// Any other plan has no Take of at most 0 behind the merge; `Query::split` gives such plans.
+    ///
+    /// # Errors
+    ///
+    /// [`MergeFault::Memory`] where there is no room for the operators' counts or for a batch.
+    pub fn new(
+        alloc: Global,
+        plan: &Plan<'a, L>,
+        option: MergeOption,
+    ) -> Result<Merger<'a, L>, MergeFault>
+        requires undecided { plan.now.decided ≡ false → list_any is_empty_take plan.now.after.now ≡ false }
+        ensures plan { IfOk result (λ merger. plan_of merger ≡ record {
+          after = stages_of L.meaning plan.now.after.now;
+          order = plan.now.order;
+          decided = plan.now.decided;
+          size = batch_size option;
+        }) }
+        ensures nothing { IfOk result (λ merger. IsFor merger []) }
+        ensures err { IfErr result (λ fault. fault ≡ Memory) }
+    {
+        let work = Work {
+            alloc,
+            pipeline: Pipeline::new(alloc, plan.after)?,
+            order: plan.order,
+            decided: plan.decided,
+            row: Row::new(alloc),
+            buffer: buffer_of(alloc, option)?,
+        };
+        if plan.decided {
+            return Ok(Merger {
+                work,
+                standing: Standing::Decided(Ending::End),
+            });
+        }
+        Ok(Merger {
+            work,
+            standing: Standing::Open,
+        })
+    }
+
+    /// Offers the result of a chunk, and delivers the batches that the answer gains by it.
+    ///
+    /// Its keys are below 2^40. Once the answer is decided, nothing more is delivered and
+    /// the answer is [`More::No`]. The last batch is delivered by the call that decides it.
+    ///
+    /// # Errors
+    ///
+    /// [`MergeFault::Twice`] where one of its keys was offered before; the merger is unchanged.
+    /// [`MergeFault::Memory`] and [`MergeFault::Sink`] where a batch couldn't be made or was refused: the batches before
+    /// it were delivered, and the merger has failed. [`MergeFault::Failed`] from then on.
+    pub fn offer<K: Sink<Item = L::Item>>(
+        &mut self,
+        offered: ChunkResult<L::Item>,
+        sink: &mut K,
+    ) -> Result<More, MergeFault>
+        requires { behind_result offered ≤ 2 ^ 40 }
+        ensures plan { plan_of self.new ≡ plan_of self.old }
+        ensures takes { Takes K.accepts K.refuses self.old offered sink.old result self.new sink.new }
+    {
+        match self.standing {
+            Standing::Failed => return Err(MergeFault::Failed),
+            Standing::Decided(_) => return Ok(More::No),
+            Standing::Open => {}
+        }
+        let behind = offered.first + offered.count;
+        if self.work.row.was_offered(offered.first, behind) {
+            return Err(MergeFault::Twice);
+        }
+        match self.work.merge(offered, sink) {
+            Ok(None) => Ok(More::Yes),
+            Ok(Some(ending)) => {
+                self.standing = Standing::Decided(ending);
+                Ok(More::No)
+            }
+            Err(Undelivered::Memory) => {
+                self.standing = Standing::Failed;
+                Err(MergeFault::Memory)
+            }
+            Err(Undelivered::Sink(code)) => {
+                self.standing = Standing::Failed;
+                Err(MergeFault::Sink(code))
+            }
+        }
+    }
+
+    /// Whether the answer is decided; not after a failure. Takes no memory.
+    pub fn decided(&self) -> bool
+        ensures told { result ≡ tells_decided self.now }
+        ensures answer { (offers : List (ChunkResult L.Item)) → IsFor self.now offers →
+            result ≡ is_some (answer (plan_of self.now) offers).ending }
+    {
+        match self.standing {
+            Standing::Open => false,
+            Standing::Decided(_) => true,
+            Standing::Failed => false,
+        }
+    }
+
+    /// The first key whose result is missing, while the answer is open: all results before it are merged, and what was
+    /// offered behind it waits. Takes no memory.
+    pub fn merged(&self) -> u64
+        ensures { (offers : List (ChunkResult L.Item)) → IsFor self.now offers →
+            (answer (plan_of self.now) offers).ending ≡ None →
+            ((key : ℕ) → key < result → is_offered offers key ≡ true) × (is_offered offers result ≡ false) }
+    {
+        self.work.row.next
+    }
+
+    /// How the answer ends. Takes no memory.
+    ///
+    /// # Errors
+    ///
+    /// [`MergeFault::Gap`] where the answer isn't decided, [`MergeFault::Failed`] after a failure.
+    pub fn finish(self) -> Result<Ending, MergeFault>
+        ensures told { result ≡ tells_ending self.entry }
+        ensures answer { (offers : List (ChunkResult L.Item)) → IsFor self.entry offers →
+            result ≡ finish_of (answer (plan_of self.entry) offers).ending }
+    {
+        match self.standing {
+            Standing::Open => Err(MergeFault::Gap),
+            Standing::Decided(ending) => Ok(ending),
+            Standing::Failed => Err(MergeFault::Failed),
+        }
+    }
+}
