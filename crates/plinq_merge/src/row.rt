@@ -1,27 +1,15 @@
 ghost use Rattle.std.specs.Prelude.{◌≡◌, ◌<◌, ◌≤◌, ◌^◌, [], ◌∷◌, true, false, None, MatchBool, OnOk, IfOk};
 ghost use Rattle.std.specs.Option.{option_or};
 ghost use Rattle.plinq_merge.specs.Shown.{told_at, ending_at, behind_result};
-ghost use Rattle.plinq_ops.specs.Chunk.{run_ending};
 ghost use Rattle.plinq_merge.specs.Merging.{TakesIn};
 ghost use Rattle.plinq_merge.specs.Keys.{is_apart, is_first, IsFresh, IsRepeated, Places};
 
 use crate::waiting::Waiting;
 use plinq_keyed::Tail;
-use plinq_ops::{ChunkResult, FragEnd, Order};
+use plinq_ops::{ChunkResult, Order};
 use plinq_source::{Ending, OutOfMemory};
 use std::alloc::Global;
 use std::collections::BTreeMap;
-
-/// How a run ends, where it does.
-fn run_ending(ending: FragEnd) -> Option<Ending>
-    ensures { result ≡ run_ending ending }
-{
-    match ending {
-        FragEnd::End => Some(Ending::End),
-        FragEnd::Fault(code) => Some(Ending::Fault(code)),
-        FragEnd::More | FragEnd::Dropped => None,
-    }
-}
 
 /// The row of keys: those before `next` are merged, others wait, and the end of the source may be told.
 #[derive(Drop)]
@@ -139,7 +127,7 @@ impl<T: Copy> Row<T> {
         let whole = Waiting {
             behind,
             items: offered.items,
-            ending: run_ending(offered.ending),
+            ending: offered.ending.run_ending(),
         };
         match order {
             Order::ByKey => {

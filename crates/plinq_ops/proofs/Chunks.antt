@@ -10,8 +10,8 @@ use Rattle.plinq_source.specs.declared.ending.Ending.TheVariants.{End}
 use Rattle.plinq_source.specs.Trace.{Trace, open_trace, ended, followed}
 use Rattle.plinq_lambda.specs.Meaning.{Meaning}
 use Rattle.plinq_ops.specs.declared.op.Op.{Op}
-use Rattle.plinq_ops.specs.declared.fragments.FragEnd.{FragEnd}
-use Rattle.plinq_ops.specs.declared.fragments.FragEnd.TheVariants.{End as EndsHere, Dropped}
+use Rattle.plinq_ops.specs.declared.frag_end.FragEnd.{FragEnd}
+use Rattle.plinq_ops.specs.declared.frag_end.FragEnd.TheVariants.{End as EndsHere, Dropped}
 use Rattle.plinq_ops.specs.declared.fragments.Fragment.{Fragment}
 use Rattle.plinq_ops.specs.Stage.{Stage, seq, seq_behind, some_takes_none}
 use Rattle.plinq_ops.specs.Feeding.{is_empty_take, IsFed}

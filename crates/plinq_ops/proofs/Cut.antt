@@ -9,8 +9,8 @@ use Rattle.plinq_lambda.specs.Meaning.{Meaning}
 use Rattle.plinq_keyed.specs.declared.chunk.Chunk.{Chunk}
 use Rattle.plinq_keyed.specs.Keys.{is_among}
 use Rattle.plinq_ops.specs.declared.op.Op.{Op}
-use Rattle.plinq_ops.specs.declared.fragments.FragEnd.{FragEnd}
-use Rattle.plinq_ops.specs.declared.fragments.FragEnd.TheVariants.{More, End as EndsHere, Fault as Faults, Dropped}
+use Rattle.plinq_ops.specs.declared.frag_end.FragEnd.{FragEnd}
+use Rattle.plinq_ops.specs.declared.frag_end.FragEnd.TheVariants.{More, End as EndsHere, Fault as Faults, Dropped}
 use Rattle.plinq_ops.specs.declared.results.ChunkResult.{ChunkResult}
 use Rattle.plinq_ops.specs.Fragment.{fragment_of, glued}
 use Rattle.plinq_ops.specs.Chunk.{ChunkAnswer, IsToldBy, run_ending, result_trace, dropped_at, before_answer, chunk_answer, IsChunkResult}

@@ -21,22 +21,6 @@ take_while_piece meaning f x = taken_while ((meaning f).test x) x
 pub record IsJoinedSoFar {T : Type 0} (piece : T → Trace T) (xs done rest : List T) : Type 0 where
   pub same : joined piece xs None ≡ followed (open_trace done) (joined piece rest None)
 
-pub joined-none : {T : Type 0} (piece : T → Trace T) (xs : List T) → IsJoinedSoFar piece xs [] xs
-joined-none piece xs = record { same = refl }
-
--- a piece that leaves the trace open
-pub joined-more : {T : Type 0} {piece : T → Trace T} {xs done rest : List T} (x : T) (rest' ys done' : List T) → IsJoinedSoFar piece xs done rest
-    → rest ≡ x ∷ rest' → piece x ≡ open_trace ys → done' ≡ done ++ ys → IsJoinedSoFar piece xs done' rest'
-joined-more {T} {piece} {xs} {done} {rest} x rest' ys done' so_far is gives more =
-    record {
-      same =
-          so_far.same
-          ∙ ap (λ r. followed (open_trace done) (joined piece r None)) is
-          ∙ ap (λ t. followed (open_trace done) (followed t (joined piece rest' None))) gives
-          ∙ sym (followed-followed (open_trace done) (open_trace ys) (joined piece rest' None))
-          ∙ ap (λ zs. followed (open_trace zs) (joined piece rest' None)) (sym more);
-    }
-
 -- a piece that ends it with nothing
 pub joined-last : {T : Type 0} {piece : T → Trace T} {xs done rest : List T} (x : T) (rest' : List T) (e : Ending) → IsJoinedSoFar piece xs done rest
     → rest ≡ x ∷ rest' → piece x ≡ ended [] e → joined piece xs None ≡ ended done e

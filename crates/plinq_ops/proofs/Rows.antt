@@ -11,12 +11,12 @@ use Rattle.plinq_source.proofs.Followed.{trace_of, followed-ended, followed-open
 use Rattle.plinq_lambda.specs.Meaning.{Meaning}
 use Rattle.plinq_keyed.specs.Keys.{is_among}
 use Rattle.plinq_ops.specs.declared.op.Op.{Op}
-use Rattle.plinq_ops.specs.declared.fragments.FragEnd.TheVariants.{Dropped}
+use Rattle.plinq_ops.specs.declared.frag_end.FragEnd.TheVariants.{Dropped}
 use Rattle.plinq_ops.specs.declared.results.ChunkResult.{ChunkResult}
 use Rattle.plinq_ops.specs.Stage.{Stage, seq, seq_behind}
 use Rattle.plinq_ops.specs.Fragment.{glued, glue}
 use Rattle.plinq_ops.specs.Chunk.{result_trace, chunk_answer}
-use Rattle.plinq_ops.specs.Cut.{enders, no_cut, is_cut}
+use Rattle.plinq_ops.specs.Cut.{enders}
 use Rattle.plinq_ops.specs.Row.{IsOffer, AreOffers, IsRow, row_trace}
 use Rattle.plinq_ops.proofs.Stages.{seq-followed}
 use Rattle.plinq_ops.proofs.Open.{none-or_ending}
@@ -116,10 +116,10 @@ answer-decided {L} {T} meaning worker after t k e ends =
 among-append : (js ks : List ℕ) (k : ℕ) → is_among (js ++ ks) k ≡ (is_among js k || is_among ks k)
 among-append js ks k = list_any-append (λ j. k == j) js ks
 
--- the key at which a result stopped that dropped nothing ends the run, so it is a cut
-pub stop-is_cut : {L T : Type 0} (meaning : L → Meaning T) (worker : List (Op L)) (t : Trace T) (r : ChunkResult T) (k : ℕ) → IsOffer meaning worker t r → r.ending ≢ Dropped → r.stop ≡ Some k
-    → is_cut meaning worker t.items k ≡ true
-stop-is_cut {L} {T} meaning worker t r k offer kept stop =
+-- the key at which a result stopped that dropped nothing ends the run
+pub stop-ends : {L T : Type 0} (meaning : L → Meaning T) (worker : List (Op L)) (t : Trace T) (r : ChunkResult T) (k : ℕ) → IsOffer meaning worker t r → r.ending ≢ Dropped → r.stop ≡ Some k
+    → is_among (enders meaning worker 0 t.items) k ≡ true
+stop-ends {L} {T} meaning worker t r k offer kept stop =
     let xs : List T = offer.chunk.items.items in
     let first : ℕ = offer.chunk.first in
     let place = has_place t.items first xs offer.within offer.items in
@@ -130,7 +130,6 @@ stop-is_cut {L} {T} meaning worker t r k offer kept stop =
     ∙ enders-append meaning worker 0 (take first t.items) (xs ++ place.rest)
     ∙ ap (λ j. enders meaning worker 0 (take first t.items) ++ enders meaning worker j (xs ++ place.rest)) (let same : 0 + length (take first t.items) ≡ first = omega (arith, place.place) in same)
     ∙ ap (λ ks. enders meaning worker 0 (take first t.items) ++ ks) (enders-append meaning worker first xs place.rest) in
-    or_right (k == no_cut) _
-    (ap (λ ks. is_among ks k) all
+    ap (λ ks. is_among ks k) all
     ∙ among-append (enders meaning worker 0 (take first t.items)) (enders meaning worker first xs ++ enders meaning worker (first + length xs) place.rest) k
-    ∙ or_right _ _ (among-append (enders meaning worker first xs) (enders meaning worker (first + length xs) place.rest) k ∙ or_left _ _ here))
+    ∙ or_right _ _ (among-append (enders meaning worker first xs) (enders meaning worker (first + length xs) place.rest) k ∙ or_left _ _ here)

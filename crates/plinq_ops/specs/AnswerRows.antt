@@ -1,6 +1,8 @@
 -- Rows of answers: which an unordered query may give, and how many items decide one.
-use Rattle.std.specs.Prelude.{◌≡◌, refl, ℕ, zero, suc, pos, ◌<◌, [], ◌∷◌, true, false, Some, None}
-use Rattle.std.proofs.Common.{arith, ap, ◌∙◌}
+use Rattle.std.specs.Prelude.{◌≡◌, refl, ℕ, zero, suc, pos, ◌<◌, [], ◌∷◌, length, get_or, true, false, Some, None}
+use Rattle.std.proofs.Common.{arith, ap, sym, ◌∙◌}
+use Rattle.std.specs.List.{sum_by}
+use Rattle.std.proofs.lemmas.List.Sorted.{length_permutation, sum_by-IsPermutation}
 use Rattle.plinq_source.specs.declared.ending.Ending.TheVariants.{End, Refused}
 use Rattle.plinq_source.specs.Trace.{Trace, ended}
 use Rattle.plinq_ops.specs.declared.op.Op.TheVariants.{Select, Take, AsUnordered}
@@ -40,6 +42,21 @@ ordered_alone u answer = answer.goes_on ∙ answer.given
 -- the ending stays whatever the order is
 ending_stays : (u : Trace ℕ) → Answer {L = ℕ} (λ _. example) false [] three_items u → u.ending ≡ Some (Refused 7)
 ending_stays u answer = ap (λ (t : Trace ℕ). t.ending) answer.goes_on ∙ answer.given.ending
+
+-- no item is lost, and none is invented
+an_item_is_lost : Answer {L = ℕ} (λ _. example) false [] three_items (ended (1 ∷ 3 ∷ []) (Refused 7)) → ⊥
+an_item_is_lost answer =
+    let items : answer.between.items ≡ 1 ∷ 3 ∷ [] = sym (ap (λ (t : Trace ℕ). t.items) answer.goes_on) in
+    absurd (omega (arith, ap length items, length_permutation three_items.items answer.between.items answer.given.items))
+
+an_item_is_invented : Answer {L = ℕ} (λ _. example) false [] three_items (ended (1 ∷ 2 ∷ 4 ∷ []) (Refused 7)) → ⊥
+an_item_is_invented answer =
+    let items : answer.between.items ≡ 1 ∷ 2 ∷ 4 ∷ [] = sym (ap (λ (t : Trace ℕ). t.items) answer.goes_on) in
+    absurd (omega (arith, ap (sum_by (λ n. n)) items, sum_by-IsPermutation (λ n. n) three_items.items answer.between.items answer.given.items))
+
+-- an ordered query keeps the order
+another_order : Answer {L = ℕ} (λ _. example) true [] three_items (ended (2 ∷ 1 ∷ 3 ∷ []) (Refused 7)) → ⊥
+another_order answer = let first : 2 ≡ 1 = ap (λ (t : Trace ℕ). get_or t.items 0 0) answer in absurd (omega (arith, first))
 
 -- the second item decides a Take of 2: not one fewer, and not one more
 two_decide : IsLeastDeciding (taking 2 ∷ []) three_items 2

@@ -71,6 +71,9 @@ one_by_one = refl
 held_back_at_fault : batches {T = ℕ} AutoBuffered (ended (4 ∷ 2 ∷ []) (Fault 1)) ≡ (4 ∷ 2 ∷ []) ∷ []
 held_back_at_fault = refl
 
+held_back_at_refusal : batches {T = ℕ} AutoBuffered (ended (4 ∷ 2 ∷ []) (Refused 7)) ≡ (4 ∷ 2 ∷ []) ∷ []
+held_back_at_refusal = refl
+
 -- a fully buffered answer that doesn't end well gives nothing
 refused_full : batches {T = ℕ} FullyBuffered (ended (4 ∷ 2 ∷ []) (Refused 7)) ≡ []
 refused_full = refl

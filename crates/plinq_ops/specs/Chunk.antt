@@ -7,8 +7,8 @@ use Rattle.plinq_lambda.specs.Meaning.{Meaning}
 use Rattle.plinq_keyed.specs.declared.chunk.Chunk.{Chunk}
 use Rattle.plinq_ops.specs.declared.op.Op.{Op}
 use Rattle.plinq_ops.specs.declared.op.Op.TheVariants.{Select, Take}
-use Rattle.plinq_ops.specs.declared.fragments.FragEnd.{FragEnd}
-use Rattle.plinq_ops.specs.declared.fragments.FragEnd.TheVariants.{More, End as EndsHere, Fault as Faults, Dropped}
+use Rattle.plinq_ops.specs.declared.frag_end.FragEnd.{FragEnd}
+use Rattle.plinq_ops.specs.declared.frag_end.FragEnd.TheVariants.{More, End as EndsHere, Fault as Faults, Dropped}
 use Rattle.plinq_ops.specs.declared.fragments.Fragment.{Fragment}
 use Rattle.plinq_ops.specs.declared.results.ChunkResult.{ChunkResult}
 use Rattle.plinq_ops.specs.declared.chunking.Stop.{Stop}
@@ -95,6 +95,9 @@ run_ending More = None
 run_ending EndsHere = Some End
 run_ending (Faults code) = Some (Fault code)
 run_ending Dropped = None
+
+dropped_ends_no_run : run_ending Dropped ≡ None
+dropped_ends_no_run = refl
 
 -- what a result gives
 abbrev pub result_trace : {T : Type 0} → ChunkResult T → Trace T

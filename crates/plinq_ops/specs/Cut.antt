@@ -34,3 +34,6 @@ cut_at_an_ender = refl
 
 cut_before_the_enders : is_cut {L = ℕ} (λ _. example) (Take (pos 2) ∷ []) (5 ∷ 6 ∷ 7 ∷ []) 0 ≡ false
 cut_before_the_enders = refl
+
+no_cut_is_a_cut : is_cut {L = ℕ} (λ _. example) (Take (pos 2) ∷ []) (5 ∷ 6 ∷ 7 ∷ []) no_cut ≡ true
+no_cut_is_a_cut = refl

@@ -1,5 +1,5 @@
 -- Feeding: items sent through operators that have seen others before.
-use Rattle.std.specs.Prelude.{◌≡◌, ℕ, List, [], ◌∷◌, ◌++◌, Bool, false, Option, None, ◌==◌}
+use Rattle.std.specs.Prelude.{◌≡◌, refl, ℕ, pos, negsuc, List, [], ◌∷◌, ◌++◌, Bool, true, false, Option, None, ◌==◌}
 use Rattle.plinq_source.specs.declared.ending.Ending.{Ending}
 use Rattle.plinq_source.specs.Trace.{Trace}
 use Rattle.plinq_lambda.specs.Meaning.{Meaning}
@@ -36,3 +36,16 @@ pub record IsFed {T : Type 0} (ss : List (Stage T)) (t : Trace T) (before after 
 abbrev pub is_empty_take : {L : Type 0} → Op L → Bool
 is_empty_take (Take n) = item_count n == 0
 is_empty_take op = false
+
+empty_take : is_empty_take {L = ℕ} (Take (pos 0)) ≡ true
+empty_take = refl
+
+negative_take : is_empty_take {L = ℕ} (Take (negsuc 0)) ≡ true
+negative_take = refl
+
+take_of_one : is_empty_take {L = ℕ} (Take (pos 1)) ≡ false
+take_of_one = refl
+
+-- a Skip of none passes over nothing, and takes all
+empty_skip : is_empty_take {L = ℕ} (Skip (pos 0)) ≡ false
+empty_skip = refl

@@ -59,6 +59,17 @@ example = record { map = less_one; test = λ x. Ok (nat_lt x 3); expand = λ x. 
 abbrev example_stage : Op ℕ → Stage ℕ
 example_stage op = stage_of (λ _. example) op
 
+abbrev at_zero_fault : {A : Type 0} → (ℕ → A) → ℕ → Result A ℕ
+at_zero_fault value zero = Err 1
+at_zero_fault value (suc n) = Ok (value (suc n))
+
+-- another, which does the same with each number but 0, where it faults with 1
+abbrev faulting_at_zero : Meaning ℕ
+faulting_at_zero = record { map = less_one; test = at_zero_fault (λ x. nat_lt x 3); expand = at_zero_fault (λ x. replicate x x) }
+
+abbrev faulting_stage : Op ℕ → Stage ℕ
+faulting_stage op = stage_of (λ _. faulting_at_zero) op
+
 -- a mapping that faults ends the answer there
 select_faults : apply (example_stage (Select 0)) (ended (5 ∷ 0 ∷ 2 ∷ []) End) ≡ ended (4 ∷ []) (Fault 1)
 select_faults = refl
@@ -66,12 +77,23 @@ select_faults = refl
 filter_keeps : apply (example_stage (Filter 0)) (ended (5 ∷ 0 ∷ 2 ∷ []) (Refused 7)) ≡ ended (0 ∷ 2 ∷ []) (Refused 7)
 filter_keeps = refl
 
+-- a test that faults ends the answer, and its item isn't kept
+filter_faults : apply (faulting_stage (Filter 0)) (ended (5 ∷ 2 ∷ 0 ∷ 1 ∷ []) End) ≡ ended (2 ∷ []) (Fault 1)
+filter_faults = refl
+
 select_many_joins : apply (example_stage (SelectMany 0)) (ended (2 ∷ 0 ∷ 1 ∷ []) End) ≡ ended (2 ∷ 2 ∷ 1 ∷ []) End
 select_many_joins = refl
+
+-- an expansion that faults adds nothing
+select_many_faults : apply (faulting_stage (SelectMany 0)) (ended (2 ∷ 0 ∷ 1 ∷ []) (Refused 7)) ≡ ended (2 ∷ 2 ∷ []) (Fault 1)
+select_many_faults = refl
 
 -- TakeWhile keeps nothing behind the first that fails
 take_while_stops : apply (example_stage (TakeWhile 0)) (ended (1 ∷ 2 ∷ 9 ∷ 1 ∷ []) (Refused 7)) ≡ ended (1 ∷ 2 ∷ []) End
 take_while_stops = refl
+
+take_while_faults : apply (faulting_stage (TakeWhile 0)) (ended (1 ∷ 0 ∷ 2 ∷ []) End) ≡ ended (1 ∷ []) (Fault 1)
+take_while_faults = refl
 
 negative_take : example_stage (Take (negsuc 0)) ≡ taking 0
 negative_take = refl

@@ -1,6 +1,7 @@
 -- A query: its operators in order, and its settings.
-use Rattle.std.specs.Prelude.{◌≡◌, ℕ, List, [], ◌∷◌, ◌++◌, Bool, true, false, Option, Some, None, ◌&&◌, not, is_some, nat_lt, if◌then◌else◌, Result, Ok, Err, MatchResult}
+use Rattle.std.specs.Prelude.{◌≡◌, refl, ℕ, pos, List, [], ◌∷◌, ◌++◌, Bool, true, false, Option, Some, None, ◌&&◌, not, is_some, nat_lt, if◌then◌else◌, Result, Ok, Err, MatchResult}
 use Rattle.plinq_ops.specs.declared.op.Op.{Op}
+use Rattle.plinq_ops.specs.declared.op.Op.TheVariants.{Take}
 use Rattle.plinq_ops.specs.declared.merge_option.MergeOption.{MergeOption}
 use Rattle.plinq_ops.specs.declared.merge_option.MergeOption.TheVariants.{Default, NotBuffered, AutoBuffered, FullyBuffered}
 use Rattle.plinq_ops.specs.declared.build_fault.BuildFault.{BuildFault}
@@ -59,3 +60,49 @@ merge_in_force (Some FullyBuffered) = FullyBuffered
 abbrev pub degree_in_force : Option ℕ → ℕ
 degree_in_force None = 4
 degree_in_force (Some n) = n
+
+-- rows: the builder's calls on an empty query, and on one that has an operator
+
+abbrev one_taken : QueryView ℕ
+one_taken = record empty_query { ops = Take (pos 1) ∷ [] }
+
+order_at_the_source : with_order {L = ℕ} empty_query ≡ Ok (record empty_query { ordered = true })
+order_at_the_source = refl
+
+order_behind_an_operator : with_order one_taken ≡ Err (one_taken, NotAtSource)
+order_behind_an_operator = refl
+
+order_twice : with_order {L = ℕ} (record empty_query { ordered = true }) ≡ Err (record empty_query { ordered = true }, NotAtSource)
+order_twice = refl
+
+option_behind_an_operator : with_option one_taken NotBuffered ≡ Ok (record one_taken { merge = Some NotBuffered })
+option_behind_an_operator = refl
+
+-- the default, where it was given, is an option that was given
+option_twice : with_option (record one_taken { merge = Some Default }) NotBuffered ≡ Err (record one_taken { merge = Some Default }, MergeTwice)
+option_twice = refl
+
+degree_of_none : with_degree_of one_taken 0 ≡ Err (one_taken, DegreeOutOfRange)
+degree_of_none = refl
+
+degree_of_one : with_degree_of one_taken 1 ≡ Ok (record one_taken { degree = Some 1 })
+degree_of_one = refl
+
+degree_of_64 : with_degree_of one_taken 64 ≡ Ok (record one_taken { degree = Some 64 })
+degree_of_64 = refl
+
+degree_of_65 : with_degree_of one_taken 65 ≡ Err (one_taken, DegreeOutOfRange)
+degree_of_65 = refl
+
+-- that it was given before is told first
+degree_twice : with_degree_of (record one_taken { degree = Some 4 }) 0 ≡ Err (record one_taken { degree = Some 4 }, DegreeTwice)
+degree_twice = refl
+
+degree_by_default : degree_in_force None ≡ 4
+degree_by_default = refl
+
+option_by_default : merge_in_force None ≡ AutoBuffered
+option_by_default = refl
+
+default_option : merge_in_force (Some Default) ≡ AutoBuffered
+default_option = refl

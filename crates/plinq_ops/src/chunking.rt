@@ -6,7 +6,7 @@ ghost use Rattle.plinq_ops.specs.ByKey.{is_by_key, left_at};
 ghost use Rattle.plinq_ops.specs.Chunk.{IsChunkResult, IsStop, chunk_answer, stop_over};
 
 use crate::cutting::frag_end;
-use crate::fragments::FragEnd;
+use crate::frag_end::FragEnd;
 use crate::op::Op;
 use crate::pipeline::Pipeline;
 use crate::plan::Plan;

@@ -5,7 +5,8 @@ ghost use Rattle.plinq_ops.specs.ByKey.{is_by_key};
 ghost use Rattle.plinq_ops.specs.Fragment.{fragment_of};
 ghost use Rattle.plinq_ops.specs.Chunk.{IsWorkerEnding, IsToldBy, IsFragment};
 
-use crate::fragments::{FragEnd, Fragment};
+use crate::frag_end::FragEnd;
+use crate::fragments::Fragment;
 use crate::op::Op;
 use crate::pipeline::Pipeline;
 use plinq_lambda::Lambda;

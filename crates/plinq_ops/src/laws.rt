@@ -8,11 +8,12 @@ ghost use Rattle.plinq_source.specs.Trace.{Trace, open_trace, followed};
 ghost use Rattle.plinq_lambda.specs.Meaning.{Meaning};
 ghost use Rattle.plinq_keyed.specs.declared.chunk.Chunk.{Chunk};
 ghost use Rattle.plinq_keyed.specs.declared.record.Record.{Record};
+ghost use Rattle.plinq_keyed.specs.Keys.{is_among};
 ghost use Rattle.plinq_keyed.specs.History.{IsLegalHistory, given_by};
 ghost use Rattle.plinq_ops.specs.declared.op.Op.{Op};
 ghost use Rattle.plinq_ops.specs.declared.order.Order.{Order};
 ghost use Rattle.plinq_ops.specs.declared.merge_option.MergeOption.{MergeOption};
-ghost use Rattle.plinq_ops.specs.declared.fragments.FragEnd.TheVariants.{Dropped};
+ghost use Rattle.plinq_ops.specs.declared.frag_end.FragEnd.TheVariants.{Dropped};
 ghost use Rattle.plinq_ops.specs.declared.results.ChunkResult.{ChunkResult};
 ghost use Rattle.plinq_ops.specs.Stage.{Stage, seq, seq_behind};
 ghost use Rattle.plinq_ops.specs.Feeding.{is_empty_take};
@@ -22,7 +23,7 @@ ghost use Rattle.plinq_ops.specs.Answer.{Answer, keeps_order};
 ghost use Rattle.plinq_ops.specs.Plan.{worker_part, after_part};
 ghost use Rattle.plinq_ops.specs.Fragment.{glue, glued};
 ghost use Rattle.plinq_ops.specs.Chunk.{chunk_answer, IsChunkResult, result_trace};
-ghost use Rattle.plinq_ops.specs.Cut.{is_cut};
+ghost use Rattle.plinq_ops.specs.Cut.{enders};
 ghost use Rattle.plinq_ops.specs.Row.{IsOffer, AreOffers, IsRow, row_trace, IsAnswer, AreAnswers};
 
 /// What operators make of a trace that follows another: what they make of the first, and where that is open, behind it
@@ -75,10 +76,11 @@ pub fn result_gives_its_answer<L, T>()
         result_trace r ≡ (chunk_answer meaning worker cut chunk.first chunk.items.items).trace }
 {}
 
-/// The key at which a result stopped that isn't dropped is a cut: its fragment ends the run.
-pub fn stop_is_a_cut<L, T>()
+/// The key at which a result stopped that isn't dropped ends the run: so it is a cut that others may be given.
+pub fn stop_ends_the_run<L, T>()
     ensures { (meaning : L → Meaning T) (worker : List (Op L)) (t : Trace T) (r : ChunkResult T) (k : ℕ) →
-        IsOffer meaning worker t r → r.ending ≢ Dropped → r.stop ≡ Some k → is_cut meaning worker t.items k ≡ true }
+        IsOffer meaning worker t r → r.ending ≢ Dropped → r.stop ≡ Some k →
+        is_among (enders meaning worker 0 t.items) k ≡ true }
 {}
 
 /// Behind items whose fragments leave the run open no result is dropped, whatever its cut: it gives the glued fragments

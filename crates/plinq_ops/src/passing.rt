@@ -1,6 +1,6 @@
-ghost use Rattle.std.specs.Prelude.{◌≡◌, false, IfOk, OnOk, ◌∷◌, []};
+ghost use Rattle.std.specs.Prelude.{◌≡◌, ◌<◌, false, IfOk, OnOk, ◌∷◌, []};
 ghost use Rattle.plinq_source.specs.Trace.{open_trace};
-ghost use Rattle.plinq_ops.specs.Stage.{apply, behind, takes_none};
+ghost use Rattle.plinq_ops.specs.Stage.{apply, behind, takes_none, taking, skipping};
 ghost use Rattle.plinq_ops.specs.Feeding.{stage_left};
 ghost use Rattle.plinq_ops.specs.Passing.{passed_trace};
 
@@ -52,27 +52,40 @@ pub(crate) fn pass<L: Lambda>(
             Err(ExpandFault::Code(code)) => Ok(Passed::Ends(Ending::Fault(code))),
             Err(ExpandFault::Memory) => Err(OutOfMemory),
         },
-        Op::Take(_) => {
-            *left -= 1;
-            if *left == 0 {
-                Ok(Passed::Last(item))
-            } else {
-                Ok(Passed::Item(item))
-            }
-        }
-        Op::Skip(_) => {
-            if *left == 0 {
-                Ok(Passed::Item(item))
-            } else {
-                *left -= 1;
-                Ok(Passed::Nothing)
-            }
-        }
+        Op::Take(_) => Ok(take(left, item)),
+        Op::Skip(_) => Ok(skip(left, item)),
         Op::TakeWhile(f) => match f.test(item) {
             Ok(true) => Ok(Passed::Item(item)),
             Ok(false) => Ok(Passed::Ends(Ending::End)),
             Err(code) => Ok(Passed::Ends(Ending::Fault(code))),
         },
         Op::AsUnordered => Ok(Passed::Item(item)),
+    }
+}
+
+/// Takes one item, of so many that are left to take; behind the last of them the run ends.
+fn take<T: Copy>(left: &mut u64, item: T) -> Passed<T>
+    requires { 0 < left.old }
+    ensures passed { passed_trace result ≡ apply (taking left.old) (open_trace (item ∷ [])) }
+    ensures left { taking left.new ≡ behind (taking left.old) (item ∷ []) }
+{
+    *left -= 1;
+    if *left == 0 {
+        Passed::Last(item)
+    } else {
+        Passed::Item(item)
+    }
+}
+
+/// Passes over one item, where some are left to pass over.
+fn skip<T: Copy>(left: &mut u64, item: T) -> Passed<T>
+    ensures passed { passed_trace result ≡ apply (skipping left.old) (open_trace (item ∷ [])) }
+    ensures left { skipping left.new ≡ behind (skipping left.old) (item ∷ []) }
+{
+    if *left == 0 {
+        Passed::Item(item)
+    } else {
+        *left -= 1;
+        Passed::Nothing
     }
 }

@@ -1,4 +1,4 @@
-use crate::fragments::FragEnd;
+use crate::frag_end::FragEnd;
 use plinq_keyed::Tail;
 
 /// What the worker part of a plan gives for a chunk: its fragments joined by key, up to and with the first that ends

@@ -1,5 +1,6 @@
 mod answers;
 mod chunks;
+mod pipelines;
 mod queries;
 mod splits;
 

@@ -37,7 +37,7 @@ fn answers(rt: &impl Abort, alloc: Global, row: Row<'_>) -> Result<(), Fail> {
 
 #[test]
 fn worked_rows(rt: HostRuntime) -> Result<(), Fail> {
-    let rows: [Row<'_>; 16] = [
+    let rows: [Row<'_>; 18] = [
         (&[], None, &[], &[], Ending::End, Step::End),
         (
             &[1, 2],
@@ -110,6 +110,23 @@ fn worked_rows(rt: HostRuntime) -> Result<(), Fail> {
             &[2],
             Ending::End,
             Step::Item(0),
+        ),
+        // A test that faults ends the answer, and its element isn't kept.
+        (
+            &[5, 0, 2],
+            None,
+            &[Op::Filter(Formula::Into(10))],
+            &[5],
+            DIVISION,
+            Step::Item(2),
+        ),
+        (
+            &[5, 0, 2],
+            None,
+            &[Op::TakeWhile(Formula::Into(10))],
+            &[5],
+            DIVISION,
+            Step::Item(2),
         ),
         (
             &[2, 3],

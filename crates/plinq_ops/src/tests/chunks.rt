@@ -69,7 +69,10 @@ fn chunk_results(rt: HostRuntime) -> Result<(), Fail> {
     let into = Op::Select(Formula::Into(10));
     let all = u64::MAX;
     let end = FragEnd::End;
-    let rows: [Row<'_>; 12] = [
+    let filter = Op::Filter(Formula::Into(10));
+    let take_while = Op::TakeWhile(Formula::Into(10));
+    let fault = FragEnd::Fault(2);
+    let rows: [Row<'_>; 14] = [
         (Op::Take(2), 0, &[5, 6, 7], all, &[5, 6], end, Some(1)),
         (Op::Take(2), 2, &[7, 8], all, &[], end, Some(2)),
         (Op::Skip(2), 1, &[6, 7], all, &[7], FragEnd::More, None),
@@ -78,8 +81,10 @@ fn chunk_results(rt: HostRuntime) -> Result<(), Fail> {
         (add, 0, &[3, 1], 1, &[4, 2], FragEnd::More, None),
         (add, 6, &[3, 1], 5, &[], FragEnd::Dropped, Some(6)),
         (add, 6, &[], 5, &[], FragEnd::More, None),
-        (into, 7, &[5, 0, 2], all, &[2], FragEnd::Fault(2), Some(8)),
-        (into, 7, &[5, 0, 2], 8, &[2], FragEnd::Fault(2), Some(8)),
+        (into, 7, &[5, 0, 2], all, &[2], fault, Some(8)),
+        (into, 7, &[5, 0, 2], 8, &[2], fault, Some(8)),
+        (filter, 7, &[5, 0, 2], all, &[5], fault, Some(8)),
+        (take_while, 7, &[5, 0, 2], all, &[5], fault, Some(8)),
         (into, 7, &[5, 0, 2], 7, &[2], FragEnd::Dropped, Some(8)),
         (
             Op::SelectMany(Formula::Repeat(2)),

@@ -155,12 +155,11 @@ fn join(
     assert!(rt; first < 100 && chunk.items.len() < 100);
     let given = chunk_result(alloc, plan, &chunk, cut)?;
     items.extend_from_slice(&given.items)?;
-    match given.ending {
-        FragEnd::More => Ok(None),
-        FragEnd::End => Ok(Some(Ending::End)),
-        FragEnd::Fault(code) => Ok(Some(Ending::Fault(code))),
-        FragEnd::Dropped => Err(Fail::from("a result was dropped before the run ended")),
-    }
+    assert!(rt;
+        given.ending != FragEnd::Dropped,
+        "a result was dropped before the run ended"
+    );
+    Ok(given.ending.run_ending())
 }
 
 // The results of a list's chunks, joined up to the first that ends the run: chunks of up to four items, each with a cut

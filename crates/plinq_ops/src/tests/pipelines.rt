@@ -1,0 +1,174 @@
+ghost use Rattle.std.specs.Prelude.{◌≡◌, Ok, not, [], ◌∷◌};
+ghost use Rattle.std.proofs.Common.{arith};
+
+use super::ordered;
+use crate::{Built, FragEnd, MergeOption, Op, Pipeline, Query, chunk_result, fragment, sequential};
+use plinq_keyed::Chunk;
+use plinq_lambda::{ExpandFault, Formula, Lambda};
+use plinq_source::{Ending, ListSource, OutOfMemory, Source, Step};
+use std::alloc::Global;
+use std::process::Abort;
+use std::test::Fail;
+
+// What a pipeline gives for a list, fed in blocks of that size, or item by item where there is none.
+fn fed(
+    alloc: Global,
+    mut pipeline: Pipeline<'_, Formula>,
+    list: &[i64],
+    size: Option<usize>,
+) -> Result<(Vec<i64>, Option<Ending>), OutOfMemory> {
+    let mut out = Vec::new(alloc);
+    for items in list.chunks(size.unwrap_or(1).max(1)) {
+        if pipeline.is_over() {
+            return Ok((out, Some(Ending::End)));
+        }
+        let ending = match size {
+            None => pipeline.feed(alloc, items[0], &mut out)?,
+            Some(_) => {
+                let mut block = Vec::from_slice(alloc, items)?;
+                let ending = pipeline.feed_block(alloc, &mut block)?;
+                out.append(&mut block)?;
+                ending
+            }
+        };
+        if ending.is_some() {
+            return Ok((out, ending));
+        }
+    }
+    Ok((out, None))
+}
+
+// Operators; what they give for 5, 6, 0, 7, 8, and how the run ends.
+type Row<'a> = (&'a [Op<Formula>], &'a [i64], Option<Ending>);
+
+#[test]
+fn items_and_blocks_of_any_size_give_the_same(rt: HostRuntime) -> Result<(), Fail> {
+    let list = [5, 6, 0, 7, 8];
+    let repeat = Op::SelectMany(Formula::Repeat(2));
+    let rows: [Row<'_>; 7] = [
+        (&[], &list, None),
+        (
+            &[Op::Skip(2), Op::Select(Formula::Add(1))],
+            &[1, 8, 9],
+            None,
+        ),
+        (
+            &[Op::Skip(1), repeat, Op::Take(3)],
+            &[6, 6, 0],
+            Some(Ending::End),
+        ),
+        (
+            &[Op::Filter(Formula::Into(42))],
+            &[5, 6],
+            Some(Ending::Fault(2)),
+        ),
+        (
+            &[Op::TakeWhile(Formula::Above(5)), Op::AsUnordered],
+            &[],
+            Some(Ending::End),
+        ),
+        (&[Op::Take(0)], &[], Some(Ending::End)),
+        // The last that is taken still faults, and an earlier ending hides the fault behind it.
+        (
+            &[Op::Select(Formula::Into(42)), Op::Take(2)],
+            &[8, 7],
+            Some(Ending::End),
+        ),
+    ];
+    for (ops, items, ending) in rows {
+        for size in [None, Some(1), Some(2), Some(3), Some(5)] {
+            let pipeline = Pipeline::new(rt.alloc(), ops)?;
+            let given = fed(rt.alloc(), pipeline, &list, size)?;
+            assert_eq!(rt; given.0.as_slice(), items, "{ops:?}, {size:?} at once");
+            assert_eq!(rt; given.1, ending, "{ops:?}, {size:?} at once");
+        }
+    }
+    Ok(())
+}
+
+#[test]
+fn begun_at_a_key(rt: HostRuntime) -> Result<(), Fail> {
+    let ops = [Op::Skip(1), Op::Take(2)];
+    let rows: [(u64, &[i64], Option<Ending>); 5] = [
+        (0, &[6, 0], Some(Ending::End)),
+        (1, &[5, 6], Some(Ending::End)),
+        (2, &[5], Some(Ending::End)),
+        (3, &[], Some(Ending::End)),
+        (u64::MAX, &[], Some(Ending::End)),
+    ];
+    for (key, items, ending) in rows {
+        let pipeline = Pipeline::at_key(rt.alloc(), &ops, key)?;
+        assert_eq!(rt; pipeline.is_over(), key > 2, "{key}");
+        let given = fed(rt.alloc(), pipeline, &[5, 6, 0, 7], None)?;
+        assert_eq!(rt; given.0.as_slice(), items, "{key}");
+        assert_eq!(rt; given.1, ending, "{key}");
+    }
+    Ok(())
+}
+
+// A lambda over truth values, whose items have another size: mapped each is turned round, a yes passes, and each is
+// expanded to both; it never faults.
+#[derive(Clone, Copy, Debug, PartialEq, Eq, Drop)]
+struct Turning;
+
+impl Lambda for Turning {
+    type Item = bool;
+
+    ghost meaning = { λ _. record { map = λ x. Ok (not x); test = λ x. Ok x; expand = λ x. Ok (x ∷ not x ∷ []) } };
+
+    ghost short = { λ _ x. omega arith };
+
+    fn map(&self, x: bool) -> Result<bool, u32> {
+        Ok(!x)
+    }
+
+    fn test(&self, x: bool) -> Result<bool, u32> {
+        Ok(x)
+    }
+
+    fn expand(&self, alloc: Global, x: bool) -> Result<Vec<bool>, ExpandFault> {
+        Ok(vec![in alloc; x, !x]?)
+    }
+}
+
+fn built(call: Built<Turning>) -> Result<Query<Turning>, Fail> {
+    Ok(call.map_err(|(_, fault)| fault)?)
+}
+
+// as_ordered, take_while, select_many, select; with a Take behind that no worker can apply
+fn turned_query(alloc: Global) -> Result<Query<Turning>, Fail> {
+    let query = built(Query::new(alloc).as_ordered())?;
+    let query = built(query.with_merge(MergeOption::NotBuffered))?;
+    let query = built(query.take_while(Turning))?;
+    let query = built(query.select_many(Turning))?;
+    let query = built(query.select(Turning))?;
+    built(query.take(5))
+}
+
+#[test]
+fn items_of_another_type(rt: HostRuntime) -> Result<(), Fail> {
+    let query = turned_query(rt.alloc())?;
+    let list = [true, true, false, true];
+    let mut source = ListSource::new(rt.alloc(), Vec::from_slice(rt.alloc(), &list)?);
+    let (items, ending) = sequential(rt.alloc(), &query, &mut source)?;
+    assert_eq!(rt; items.as_slice(), [false, true, false, true].as_slice());
+    assert_eq!(rt; ending, Ending::End);
+    assert_eq!(rt; source.next(), Step::Item(true));
+
+    let plan = query.split();
+    assert!(rt; !plan.decided);
+    assert_eq!(rt; (plan.worker.len(), plan.after.len()), (3, 1));
+    let given = fragment(rt.alloc(), plan.worker, 9, true)?;
+    assert_eq!(rt; given.items.as_slice(), [false, true].as_slice());
+    assert_eq!(rt; given.ending, FragEnd::More);
+    let chunk = Chunk {
+        first: 1,
+        items: Vec::from_slice(rt.alloc(), &[true, false, true])?,
+        tail: None,
+    };
+    assert!(rt; chunk.items.len() == 3);
+    let given = chunk_result(rt.alloc(), &plan, &chunk, u64::MAX)?;
+    assert_eq!(rt; given.items.as_slice(), [false, true].as_slice());
+    assert_eq!(rt; (given.ending, given.stop), (FragEnd::End, Some(2)));
+    Ok(())
+}
