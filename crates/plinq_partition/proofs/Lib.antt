@@ -1,4 +1,5 @@
 pub mod Indexes
+pub mod KeysRise
 pub mod Lists
 pub mod OnDemand
 pub mod Promised

@@ -38,6 +38,7 @@ pub record Adds {T : Type 0} (a b : Holding T) (asked : Event) (entry : Record) 
 pub record IsTaken {T : Type 0} (growth : GrowthRule) (a b : Holding T) (chunk : Chunk T) : Type 0 where
   pub entry : Record
   pub adds : Adds a b (Ask (size_at growth a.requests)) entry
+  pub some : 1 ≤ size_at growth a.requests
   pub of : IsChunkOf a.origin entry chunk
   pub counted : length chunk.items.items ≡ entry.count
   pub within : chunk.first + length chunk.items.items ≤ length a.origin.items

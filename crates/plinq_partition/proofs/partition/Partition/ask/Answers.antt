@@ -40,6 +40,7 @@ returns-clause-taken g c =
         place = place;
         replied = ap (λ u. recorded ticket e (reply u place e)) left.origin;
       };
+      some = let same = c.size-n.ensures.size in let least = c.size-n.ensures.least in omega arith;
       of = rw (← left.origin) of;
       counted = sized.0;
       within = subst Within left.origin sized.1;
