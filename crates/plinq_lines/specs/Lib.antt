@@ -4,3 +4,4 @@ pub mod Pieces
 pub mod OpWords
 pub mod PlanText
 pub mod PartsText
+pub mod HistoryText

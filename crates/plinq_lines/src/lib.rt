@@ -5,13 +5,15 @@
 //! - [`write_batch`] writes the line of one batch (`batch_line`), [`write_batches`] those of a whole answer, a line
 //!   each, and [`write_ending`] the line of how it ended (`ending_words`); [`write_answer`] all of it (`answer_text`).
 //! - [`write_plan`] writes the five lines of a query's plan (`plan_text`), [`write_parts`] those of a source cut into
-//!   partitions (`properties_line`, `part_lines`, `ending_words`).
+//!   partitions (`properties_line`, `part_lines`, `ending_words`), [`write_history`] those of a history of requests
+//!   (`history_text`).
 #![tactic(auto)]
 
 mod answer_lines;
 mod argument;
 mod batch_lines;
 mod bytes;
+mod history_lines;
 mod op_words;
 mod parts_lines;
 mod piece;
@@ -24,6 +26,7 @@ mod write_fault;
 
 pub use answer_lines::{write_answer, write_batches, write_ending};
 pub use batch_lines::write_batch;
+pub use history_lines::write_history;
 pub use parts_lines::write_parts;
 pub use plan_lines::write_plan;
 pub use write_fault::WriteFault;

@@ -1,6 +1,7 @@
 mod answers;
 mod batches;
 mod failures;
+mod histories;
 mod interrupting;
 mod narrow;
 mod parts;
