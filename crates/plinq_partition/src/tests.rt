@@ -1,4 +1,6 @@
 mod chunked;
+mod load;
+mod refusals;
 
 use crate::{OrderablePartitioner, PairParts, PartFault, RangeParts};
 use plinq_keyed::{KeyProperties, Keyed, check_across, check_in_each, check_normalized};

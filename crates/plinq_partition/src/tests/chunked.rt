@@ -1,42 +1,9 @@
-ghost use Rattle.plinq_partition.specs.Partitions.{IsPartitionOf};
-
-use crate::{Chunked, OrderablePartitioner, PartFault, Partition, TakeFault};
+use crate::{Chunked, OrderablePartitioner, PartFault, TakeFault};
 use plinq_enumerator::{Growth, replays};
-use plinq_keyed::{Chunk, Guarded, KeyProperties, Keyed, Tail, check_in_each, check_normalized};
-use plinq_source::{Ending, RangeSource, Source};
-use std::alloc::Global;
+use plinq_keyed::{Chunk, Guarded, KeyProperties, Tail};
+use plinq_source::{Ending, ListSource, RangeSource};
 use std::process::Abort;
-use std::sync::Wait;
 use std::test::Fail;
-use std::thread;
-
-// Takes until there is a tail, at most so often, and keeps the keyed elements.
-fn take_all<R: Wait, S: Source>(
-    rt: &R,
-    alloc: Global,
-    chunked: &Chunked<S>,
-    partition: &mut Partition<S>,
-    most: u64,
-) -> Result<Vec<Keyed<S::Item>>, TakeFault>
-    requires { IsPartitionOf chunked.now partition.old }
-    ensures { IsPartitionOf chunked.now partition.new }
-{
-    let mut taken = Vec::new(alloc);
-    for _turn in 0..most {
-        let chunk = partition.take(rt, chunked)?;
-        let mut key = chunk.first;
-        for value in chunk.items.iter() {
-            if taken.push(Keyed { key, value: *value }).is_err() {
-                return Err(TakeFault::Memory);
-            }
-            key = key.wrapping_add(1);
-        }
-        if chunk.tail.is_some() {
-            return Ok(taken);
-        }
-    }
-    Ok(taken)
-}
 
 fn expect(
     rt: &impl Abort,
@@ -119,6 +86,7 @@ fn a_dropped_partition_is_missed(rt: HostRuntime) -> Result<(), Fail> {
     };
     assert_eq!(rt; fault, TakeFault::Incomplete { have: 1, all: 2 });
     assert_eq!(rt; enumerator.records().len(), 2);
+    assert!(rt; replays(enumerator.records(), 4, Ending::End));
     Ok(())
 }
 
@@ -141,6 +109,26 @@ fn a_stopped_source_gives_nothing_more(rt: HostRuntime) -> Result<(), Fail> {
     };
     assert_eq!(rt; enumerator.records().len(), 3);
     assert!(rt; replays(enumerator.records(), 1, Ending::End));
+    Ok(())
+}
+
+// Another item type, and a source that refuses.
+#[test]
+fn a_list_of_truths_is_handed_out(rt: HostRuntime) -> Result<(), Fail> {
+    let truths = vec![in rt.alloc(); true, false, false]?;
+    let source = ListSource::refusing(rt.alloc(), truths, 7);
+    let (chunked, mut partition) = Chunked::new(rt.alloc(), source, Growth::new(2, 1, 2)?)?;
+    let chunk = partition.take(&rt, &chunked)?;
+    assert_eq!(rt; chunk.items.as_slice(), [true, false].as_slice());
+    assert_eq!(rt; chunk.tail, None);
+    let chunk = partition.try_take(&chunked)?;
+    assert_eq!(rt; chunk.first, 2);
+    assert_eq!(rt; chunk.items.as_slice(), [false].as_slice());
+    assert_eq!(rt; chunk.tail, Some(Tail::Refused(7)));
+    let Ok(enumerator) = chunked.give_back(vec![in rt.alloc(); partition]?) else {
+        panic!(rt; "not whole");
+    };
+    assert!(rt; replays(enumerator.records(), 3, Ending::Refused(7)));
     Ok(())
 }
 
@@ -176,67 +164,5 @@ fn dynamic_partitions_promise_an_order_in_each(rt: HostRuntime) -> Result<(), Fa
             normalized: true
         }
     );
-    Ok(())
-}
-
-#[test]
-fn two_threads_take_what_there_is(rt: HostRuntime) -> Result<(), Fail> {
-    for growth in [Growth::new(1, 1, 4)?, Growth::DEFAULT, Growth::ONE] {
-        let source = RangeSource::new(0, 1000)?;
-        let (chunked, first) = Chunked::new(rt.alloc(), source, growth)?;
-        let mut first = first;
-        let mut second = chunked.dynamic(&mut first);
-        let shared = &chunked;
-        let runtime = &rt;
-        let alloc = rt.alloc();
-        let (first, second) = thread::join(
-            &rt,
-            || {
-                let mut first = first;
-                let taken = take_all(runtime, alloc, shared, &mut first, 2000);
-                (first, taken)
-            },
-            || {
-                let mut second = second;
-                let taken = take_all(runtime, alloc, shared, &mut second, 2000);
-                (second, taken)
-            },
-        );
-        let taken = vec![in alloc; first.1?, second.1?]?;
-        assert!(rt; check_in_each(taken.as_slice()));
-        assert!(rt; check_normalized(taken.as_slice()));
-        assert_eq!(rt; taken[0].len() + taken[1].len(), 1000);
-        for part in taken.iter() {
-            for element in part.iter() {
-                let Ok(key) = i64::try_from(element.key) else {
-                    panic!(rt; "no key of a thousand items");
-                };
-                assert_eq!(rt; key, element.value);
-            }
-        }
-    }
-    Ok(())
-}
-
-#[test]
-fn faults_in_words_of_a_partition(rt: HostRuntime) -> Result<(), Fail> {
-    for (fault, text) in [
-        (TakeFault::Memory, "out of memory"),
-        (TakeFault::Spent, "tickets spent"),
-        (
-            TakeFault::Busy {
-                served: 3,
-                drawn: 5,
-            },
-            "busy, 3 served of 5 drawn",
-        ),
-        (
-            TakeFault::Incomplete { have: 1, all: 2 },
-            "incomplete, 1 records of 2",
-        ),
-        (TakeFault::Away, "away"),
-    ] {
-        assert_eq!(rt; format!(in rt.alloc(); "{fault}")?.as_str(), text);
-    }
     Ok(())
 }

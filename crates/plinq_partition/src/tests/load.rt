@@ -1,0 +1,210 @@
+//! Many threads that take from one source.
+ghost use Rattle.std.specs.Prelude.{All, ◌≡◌, ◌<◌, length, IfOk};
+ghost use Rattle.plinq_partition.specs.Partitions.{IsPartitionOf};
+ghost use Rattle.plinq_source.specs.declared.source.Source.{Ghosts};
+
+use crate::{Chunked, Partition, TakeFault};
+use plinq_enumerator::{Growth, replays};
+use plinq_keyed::{Guarded, Keyed, Record, check_in_each, check_normalized};
+use plinq_source::{Ending, RangeSource};
+use std::alloc::Global;
+use std::process::Abort;
+use std::sync::{Mutex, Wait};
+use std::test::Fail;
+use std::thread;
+use std::thread::Threads;
+
+// What the threads do: all take until there is a tail but every fourth, which stops half way. Where one is to stop the
+// source, that is the first, half way too.
+#[derive(Clone, Copy)]
+struct Row {
+    items: u64,
+    threads: u64,
+    growth: Growth,
+    half: u64,
+    stops: bool,
+}
+
+impl Row {
+    // How many chunks the thread at that place takes at most.
+    fn turns(&self, place: usize) -> u64 {
+        if place % 4 == 1 || (place == 0 && self.stops) {
+            self.half
+        } else {
+            u64::MAX
+        }
+    }
+}
+
+// What each thread took.
+type Lists = Mutex<Vec<Vec<Keyed<i64>>>>;
+
+// Takes until there is a tail, at most so often, and keeps the elements.
+fn take_all<R: Wait>(
+    rt: &R,
+    alloc: Global,
+    chunked: &Chunked<RangeSource>,
+    partition: &mut Partition<RangeSource>,
+    most: u64,
+) -> Result<Vec<Keyed<i64>>, TakeFault>
+    requires { IsPartitionOf chunked.now partition.old }
+    ensures { IsPartitionOf chunked.now partition.new }
+{
+    let mut taken = Vec::new(alloc);
+    for _turn in 0..most {
+        let chunk = partition.take(rt, chunked)?;
+        if !keep(&mut taken, chunk.first, &chunk.items) {
+            return Err(TakeFault::Memory);
+        }
+        if chunk.tail.is_some() {
+            return Ok(taken);
+        }
+    }
+    Ok(taken)
+}
+
+// Keeps some values under the keys from that one on, where there is room.
+fn keep(taken: &mut Vec<Keyed<i64>>, first: u64, values: &[i64]) -> bool {
+    let mut key = first;
+    for value in values {
+        if taken.push(Keyed { key, value: *value }).is_err() {
+            return false;
+        }
+        key = key.wrapping_add(1);
+    }
+    true
+}
+
+// What the thread at that place does; what it took goes to the lists.
+fn work<R: Wait>(
+    rt: &R,
+    alloc: Global,
+    chunked: &Chunked<RangeSource>,
+    row: Row,
+    lists: &Lists,
+    place: usize,
+    partition: &mut Partition<RangeSource>,
+)
+    requires { IsPartitionOf chunked.now partition.old }
+    ensures { IsPartitionOf chunked.now partition.new }
+{
+    let taken = take_all(rt, alloc, chunked, partition, row.turns(place));
+    if place == 0 && row.stops && partition.stop(rt, chunked).is_err() {
+        return;
+    }
+    if let Ok(taken) = taken {
+        let _missed = lists.lock(rt).push(taken);
+    }
+}
+
+// Each partition takes in a thread of its own.
+fn work_all<R: Threads + Wait + Sync>(
+    rt: &R,
+    alloc: Global,
+    chunked: &Chunked<RangeSource>,
+    row: Row,
+    lists: &Lists,
+    partitions: &mut [Partition<RangeSource>],
+)
+    requires { All (IsPartitionOf chunked.now) partitions.old }
+    ensures same { length partitions.new ≡ length partitions.old }
+    ensures of { All (IsPartitionOf chunked.now) partitions.new }
+{
+    thread::for_each_mut(
+        rt,
+        partitions,
+        64,
+        &|place: usize, partition: &mut Partition<RangeSource>|
+            requires { IsPartitionOf chunked.now partition.now }
+            ensures { IsPartitionOf chunked.entry.now partition.exit.now }
+        { work(rt, alloc, chunked, row, lists, place, partition) },
+    );
+}
+
+// How many items these records say were handed out.
+fn count_of(records: &[Record]) -> u64 {
+    let mut count: u64 = 0;
+    for record in records {
+        count = count.wrapping_add(record.count);
+    }
+    count
+}
+
+// Asks that the lists have the keys from 0 on, each once and in order in each list, each with its own number as value.
+fn expect_all(rt: &impl Abort, lists: &[Vec<Keyed<i64>>], count: u64) {
+    assert!(rt; check_in_each(lists));
+    assert!(rt; check_normalized(lists));
+    let mut found: u64 = 0;
+    for list in lists {
+        found = found.wrapping_add(list.len() as u64);
+        for element in list {
+            assert_eq!(rt; i64::try_from(element.key), Ok(element.value));
+        }
+    }
+    assert_eq!(rt; found, count);
+}
+
+// The threads of a row take, and all is given back: the records replay, and nothing is lost or handed out twice.
+fn run<R: Threads + Wait + Abort + Sync>(rt: &R, alloc: Global, row: Row) {
+    let Ok(source) = RangeSource::new(0, row.items) else {
+        panic!(rt; "no such range");
+    };
+    let Ok((chunked, first)) = Chunked::new(alloc, source, row.growth) else {
+        panic!(rt; "no room for the lock");
+    };
+    let Ok(mut partitions) = chunked.partitions(first, row.threads) else {
+        panic!(rt; "no room for the partitions");
+    };
+    assert!(rt; !partitions.is_empty());
+    let lists: Lists = Mutex::new(Vec::new(alloc));
+    work_all(rt, alloc, &chunked, row, &lists, &mut partitions);
+    let Ok(enumerator) = chunked.give_back(partitions) else {
+        panic!(rt; "not whole");
+    };
+    let records = enumerator.records();
+    assert!(rt; replays(records, row.items, Ending::End));
+    let lists = lists.into_inner();
+    assert_eq!(rt; lists.len() as u64, row.threads);
+    let count = count_of(records);
+    expect_all(rt, &lists, count);
+    assert!(rt; row.stops || count == row.items);
+}
+
+#[test]
+fn two_threads_take_what_there_is(rt: HostRuntime) -> Result<(), Fail> {
+    for growth in [Growth::new(1, 1, 4)?, Growth::DEFAULT, Growth::ONE] {
+        run(
+            &rt,
+            rt.alloc(),
+            Row {
+                items: 1000,
+                threads: 2,
+                growth,
+                half: 10,
+                stops: false,
+            },
+        );
+    }
+    Ok(())
+}
+
+#[test]
+fn many_threads_take_from_a_long_source(rt: HostRuntime) {
+    for threads in [2, 8, 64] {
+        for growth in [Growth::ONE, Growth::DEFAULT] {
+            for stops in [false, true] {
+                run(
+                    &rt,
+                    rt.alloc(),
+                    Row {
+                        items: 100_000,
+                        threads,
+                        growth,
+                        half: 40,
+                        stops,
+                    },
+                );
+            }
+        }
+    }
+}
