@@ -8,26 +8,26 @@ use Rattle.std.proofs.lemmas.List.Elements.{All-cons}
 use Rattle.std.proofs.lemmas.List.Sums.{fold-append}
 use Rattle.std.proofs.Math.IntN.{+ℤ_assoc, +ℤ_idl, +ℤ_idr}
 use Rattle.plinq_aggregate.specs.Folding.{folded, IsFolding}
-use Rattle.plinq_aggregate.specs.Numbers.{wrapped, total, summing, counting, picked, picking, IsBest}
+use Rattle.plinq_aggregate.specs.Numbers.{wrapped, whole_sum, summing, counting, picked, picking, IsBest}
 
 -- ---- the sum
 
-pub total-append : (xs ys : List ℤ) → total (xs ++ ys) ≡ total xs +ℤ total ys
-total-append [] ys = sym (+ℤ_idl (total ys))
-total-append (x ∷ xs) ys = ap (λ n. x +ℤ n) (total-append xs ys) ∙ sym (+ℤ_assoc x (total xs) (total ys))
+pub whole_sum-append : (xs ys : List ℤ) → whole_sum (xs ++ ys) ≡ whole_sum xs +ℤ whole_sum ys
+whole_sum-append [] ys = sym (+ℤ_idl (whole_sum ys))
+whole_sum-append (x ∷ xs) ys = ap (λ n. x +ℤ n) (whole_sum-append xs ys) ∙ sym (+ℤ_assoc x (whole_sum xs) (whole_sum ys))
 
 -- a sum that went on from a wrapped one is the whole one, wrapped
-sum-from : (z : ℤ) (xs : List ℤ) → fold summing.update (wrapped z) xs ≡ wrapped (z +ℤ total xs)
+sum-from : (z : ℤ) (xs : List ℤ) → fold summing.update (wrapped z) xs ≡ wrapped (z +ℤ whole_sum xs)
 sum-from z [] = ap wrapped (sym (+ℤ_idr z))
 sum-from z (x ∷ xs) =
     ap (λ n. fold summing.update n xs) (int_wrap-add_left w128 z x)
     ∙ sum-from (z +ℤ x) xs
-    ∙ ap wrapped (+ℤ_assoc z x (total xs))
+    ∙ ap wrapped (+ℤ_assoc z x (whole_sum xs))
 
 -- the sum is the whole sum, wrapped
-pub folded-sum : (xs : List ℤ) → folded summing xs ≡ wrapped (total xs)
+pub folded-sum : (xs : List ℤ) → folded summing xs ≡ wrapped (whole_sum xs)
 unfolding int_wrap
-folded-sum xs = sum-from (pos 0) xs ∙ ap wrapped (+ℤ_idl (total xs))
+folded-sum xs = sum-from (pos 0) xs ∙ ap wrapped (+ℤ_idl (whole_sum xs))
 
 -- wrapping on the way changes nothing
 wrapped-both : (a b : ℤ) → wrapped (wrapped a +ℤ wrapped b) ≡ wrapped (a +ℤ b)
@@ -36,9 +36,9 @@ wrapped-both a b = int_wrap-add_left w128 a (wrapped b) ∙ int_wrap-add_right w
 sums-join : (xs ys : List ℤ) → wrapped (folded summing xs +ℤ folded summing ys) ≡ folded summing (xs ++ ys)
 sums-join xs ys =
     ap (λ n. wrapped (n +ℤ folded summing ys)) (folded-sum xs)
-    ∙ ap (λ n. wrapped (wrapped (total xs) +ℤ n)) (folded-sum ys)
-    ∙ wrapped-both (total xs) (total ys)
-    ∙ ap wrapped (sym (total-append xs ys))
+    ∙ ap (λ n. wrapped (wrapped (whole_sum xs) +ℤ n)) (folded-sum ys)
+    ∙ wrapped-both (whole_sum xs) (whole_sum ys)
+    ∙ ap wrapped (sym (whole_sum-append xs ys))
     ∙ sym (folded-sum (xs ++ ys))
 
 pub summing-lawful : IsFolding summing

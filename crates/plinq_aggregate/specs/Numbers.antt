@@ -9,9 +9,9 @@ abbrev pub wrapped : ℤ → ℤ
 wrapped z = int_wrap w128 z
 
 -- .NET's Sum, over whole numbers
-abbrev pub total : List ℤ → ℤ
-total [] = pos 0
-total (x ∷ xs) = x +ℤ total xs
+abbrev pub whole_sum : List ℤ → ℤ
+whole_sum [] = pos 0
+whole_sum (x ∷ xs) = x +ℤ whole_sum xs
 
 -- the sum, modulo 2^128
 abbrev pub summing : Folding ℤ ℤ ℤ

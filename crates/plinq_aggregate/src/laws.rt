@@ -1,13 +1,13 @@
 ghost use Rattle.std.specs.Prelude.{◌≡◌, ◌%◌, ◌^◌, ◌≤ℤ◌, ℤ, List, length};
 ghost use Rattle.std.specs.Int.{int_min, int_max};
 ghost use Rattle.plinq_aggregate.specs.Folding.{aggregated};
-ghost use Rattle.plinq_aggregate.specs.Numbers.{wrapped, total, summing, counting, picking, IsBest};
+ghost use Rattle.plinq_aggregate.specs.Numbers.{wrapped, whole_sum, summing, counting, picking, IsBest};
 
 /// The sum is the whole sum, modulo 2^128.
 ///
 /// This function does nothing: it is there for the law in its contract.
 pub fn sum_is_the_whole_sum()
-    ensures { (xs : List ℤ) → aggregated summing xs ≡ wrapped (total xs) }
+    ensures { (xs : List ℤ) → aggregated summing xs ≡ wrapped (whole_sum xs) }
 {}
 
 /// The count is the number of items, modulo 2^64.

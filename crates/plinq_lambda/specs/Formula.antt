@@ -1,7 +1,7 @@
 -- Formulas: what each makes of an element, and how each stands in every operator.
 use Rattle.std.specs.Prelude.{◌≡◌, ℕ, zero, suc, ◌-◌, ◌%◌, ◌^◌, ◌==◌, nat_le, Bool, true, false, ◌&&◌, not, if◌then◌else◌, List, [], ◌∷◌, ◌++◌, replicate, Result, Ok, Err, ℤ, pos, negsuc, neg_ℤ, ◌+ℤ◌, ◌*ℤ◌, int_div, int_rem, int_lt, int_le, unsigned_abs, refl}
 use Rattle.std.specs.Ordering.{int_eq}
-use Rattle.plinq_lambda.specs.Meaning.{Meaning}
+use Rattle.plinq_lambda.specs.Meaning.{Meaning, most_items}
 use Rattle.plinq_lambda.specs.declared.formula.Formula.{Formula}
 use Rattle.plinq_lambda.specs.declared.formula.Formula.TheVariants.{Add, Mul, Mod, Into, Below, Above, Equal, Even, Repeat, UpTo}
 
@@ -18,16 +18,16 @@ abbrev pub too_many : ℕ
 too_many = 3
 
 -- the least i64
-abbrev pub least : ℤ
-least = negsuc (2 ^ 63 - 1)
+abbrev pub least_number : ℤ
+least_number = negsuc (2 ^ 63 - 1)
 
 -- the greatest i64
-abbrev pub greatest : ℤ
-greatest = pos (2 ^ 63 - 1)
+abbrev pub greatest_number : ℤ
+greatest_number = pos (2 ^ 63 - 1)
 
 -- a whole number as an element: itself where it is an i64, else Overflow
 abbrev pub fits : ℤ → Result ℤ ℕ
-fits z = if int_le least z && int_le z greatest then Ok z else Err overflow
+fits z = if int_le least_number z && int_le z greatest_number then Ok z else Err overflow
 
 -- x by y, cut toward zero
 abbrev pub quotient : ℤ → ℤ → Result ℤ ℕ
@@ -42,14 +42,14 @@ abbrev pub is_even : ℤ → Bool
 is_even x = unsigned_abs x % 2 == 0
 
 -- 1, 2, .. up to n
-abbrev pub counting : ℕ → List ℤ
-counting zero = []
-counting (suc n) = counting n ++ pos (suc n) ∷ []
+abbrev pub numbers_up_to : ℕ → List ℤ
+numbers_up_to zero = []
+numbers_up_to (suc n) = numbers_up_to n ++ pos (suc n) ∷ []
 
--- how many items a count asks for: none below zero, and at most 65,536
-abbrev pub item_count : ℤ → Result ℕ ℕ
-item_count (pos n) = if nat_le n 65536 then Ok n else Err too_many
-item_count (negsuc n) = Ok 0
+-- how many items a count asks for: none below zero, and too many above the most
+abbrev pub expansion_length : ℤ → Result ℕ ℕ
+expansion_length (pos n) = if nat_le n most_items then Ok n else Err too_many
+expansion_length (negsuc n) = Ok 0
 
 -- the list of that many items
 abbrev pub counted : (ℕ → List ℤ) → Result ℕ ℕ → Result (List ℤ) ℕ
@@ -72,8 +72,8 @@ outcome (Below c) x = Answer (int_lt x c)
 outcome (Above c) x = Answer (int_lt c x)
 outcome (Equal c) x = Answer (int_eq x c)
 outcome Even x = Answer (is_even x)
-outcome (Repeat c) x = Items (counted (λ n. replicate n x) (item_count c))
-outcome UpTo x = Items (counted counting (item_count x))
+outcome (Repeat c) x = Items (counted (λ n. replicate n x) (expansion_length c))
+outcome UpTo x = Items (counted numbers_up_to (expansion_length x))
 
 -- as the element of a Select: a test is 1 or 0, and an expansion leaves x as it is
 abbrev pub mapped : ℤ → Outcome → Result ℤ ℕ
@@ -112,23 +112,23 @@ formula_meaning f = record {
 -- ---- worked rows: a number -n is written neg_ℤ (pos n)
 
 -- arithmetic: one more than the greatest, one less than the least, and the negative of the least are no i64
-pub greatest_plus_one : (formula_meaning (Add (pos 1))).map greatest ≡ Err overflow
+pub greatest_plus_one : (formula_meaning (Add (pos 1))).map greatest_number ≡ Err overflow
 greatest_plus_one = refl
 
-pub least_minus_one : (formula_meaning (Add (neg_ℤ (pos 1)))).map least ≡ Err overflow
+pub least_minus_one : (formula_meaning (Add (neg_ℤ (pos 1)))).map least_number ≡ Err overflow
 least_minus_one = refl
 
-pub greatest_minus_one : (formula_meaning (Add (neg_ℤ (pos 1)))).map greatest ≡ Ok (pos (2 ^ 63 - 2))
+pub greatest_minus_one : (formula_meaning (Add (neg_ℤ (pos 1)))).map greatest_number ≡ Ok (pos (2 ^ 63 - 2))
 greatest_minus_one = refl
 
-pub least_times_minus_one : (formula_meaning (Mul (neg_ℤ (pos 1)))).map least ≡ Err overflow
+pub least_times_minus_one : (formula_meaning (Mul (neg_ℤ (pos 1)))).map least_number ≡ Err overflow
 least_times_minus_one = refl
 
 pub three_times_minus_two : (formula_meaning (Mul (neg_ℤ (pos 2)))).map (pos 3) ≡ Ok (neg_ℤ (pos 6))
 three_times_minus_two = refl
 
 -- division cuts toward zero, and the remainder has the sign of what is divided
-pub minus_one_into_least : (formula_meaning (Into least)).map (neg_ℤ (pos 1)) ≡ Err overflow
+pub minus_one_into_least : (formula_meaning (Into least_number)).map (neg_ℤ (pos 1)) ≡ Err overflow
 minus_one_into_least = refl
 
 pub two_into_minus_seven : (formula_meaning (Into (neg_ℤ (pos 7)))).map (pos 2) ≡ Ok (neg_ℤ (pos 3))
@@ -137,7 +137,7 @@ two_into_minus_seven = refl
 pub zero_into_ten : (formula_meaning (Into (pos 10))).map (pos 0) ≡ Err divide_by_zero
 zero_into_ten = refl
 
-pub least_mod_minus_one : (formula_meaning (Mod (neg_ℤ (pos 1)))).map least ≡ Ok (pos 0)
+pub least_mod_minus_one : (formula_meaning (Mod (neg_ℤ (pos 1)))).map least_number ≡ Ok (pos 0)
 least_mod_minus_one = refl
 
 pub minus_seven_mod_three : (formula_meaning (Mod (pos 3))).map (neg_ℤ (pos 7)) ≡ Ok (neg_ℤ (pos 1))
@@ -209,5 +209,5 @@ expand_add = refl
 pub expand_below : (formula_meaning (Below (pos 3))).expand (pos 3) ≡ Ok (pos 0 ∷ [])
 expand_below = refl
 
-pub expand_of_fault : (formula_meaning (Add (pos 1))).expand greatest ≡ Err overflow
+pub expand_of_fault : (formula_meaning (Add (pos 1))).expand greatest_number ≡ Err overflow
 expand_of_fault = refl

@@ -1,5 +1,6 @@
 ghost use Rattle.std.specs.Prelude.{◌≡◌, ◌≤◌, IfOk};
-ghost use Rattle.plinq_lambda.specs.Formula.{formula_meaning, quotient, remainder, item_count, counting};
+ghost use Rattle.plinq_lambda.specs.Meaning.{most_items};
+ghost use Rattle.plinq_lambda.specs.Formula.{formula_meaning, quotient, remainder, expansion_length, numbers_up_to};
 ghost use Rattle.plinq_lambda.specs.Short.{formula_meaning-short};
 
 use crate::expand_fault::ExpandFault;
@@ -95,12 +96,12 @@ impl Lambda for Formula {
     fn expand(&self, alloc: Global, x: i64) -> Result<Vec<i64>, ExpandFault> {
         match *self {
             Formula::Repeat(c) => {
-                let count = item_count(c).map_err(ExpandFault::Code)?;
+                let count = expansion_length(c).map_err(ExpandFault::Code)?;
                 Ok(vec![in alloc; x; count]?)
             }
             Formula::UpTo => {
-                let count = item_count(x).map_err(ExpandFault::Code)?;
-                Ok(counting(alloc, count)?)
+                let count = expansion_length(x).map_err(ExpandFault::Code)?;
+                Ok(numbers_up_to(alloc, count)?)
             }
             _ => {
                 let y = self.map(x).map_err(ExpandFault::Code)?;
@@ -131,8 +132,8 @@ fn remainder(x: i64, y: i64) -> Result<i64, u32>
 }
 
 // How many items a count asks for.
-fn item_count(count: i64) -> Result<usize, u32>
-    ensures { result ≡ item_count count }
+fn expansion_length(count: i64) -> Result<usize, u32>
+    ensures { result ≡ expansion_length count }
 {
     match count {
         ..0 => Ok(0),
@@ -142,9 +143,9 @@ fn item_count(count: i64) -> Result<usize, u32>
 }
 
 // 1, 2, .. up to n, in a block of just that size.
-fn counting(alloc: Global, n: usize) -> Result<Vec<i64>, AllocError>
-    requires { n ≤ 65536 }
-    ensures { IfOk result (λ ys. ys.items ≡ counting n) }
+fn numbers_up_to(alloc: Global, n: usize) -> Result<Vec<i64>, AllocError>
+    requires { n ≤ most_items }
+    ensures { IfOk result (λ ys. ys.items ≡ numbers_up_to n) }
 {
     let mut numbers = Vec::with_capacity(alloc, n)?;
     for i in 0..n {

@@ -1,5 +1,5 @@
 ghost use Rattle.std.specs.Prelude.{◌≡◌, ◌≤◌, length, Ok, IfOk, IfErr};
-ghost use Rattle.plinq_lambda.specs.Meaning.{Meaning, IsFaultOf};
+ghost use Rattle.plinq_lambda.specs.Meaning.{Meaning, IsFaultOf, most_items};
 
 use crate::expand_fault::ExpandFault;
 use std::alloc::Global;
@@ -41,5 +41,5 @@ pub trait Lambda: Send + Sync + Drop {
         ensures items { IfOk result (λ ys. (meaning self.now).expand x ≡ Ok ys.items) }
         ensures fault { IfErr result (IsFaultOf ((meaning self.now).expand x)) };
 
-    ghost short: { (f : Self) (x : Self.Item) → IfOk ((meaning f).expand x) (λ ys. length ys ≤ 65536) };
+    ghost short: { (f : Self) (x : Self.Item) → IfOk ((meaning f).expand x) (λ ys. length ys ≤ most_items) };
 }

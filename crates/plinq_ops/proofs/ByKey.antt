@@ -17,7 +17,7 @@ use Rattle.plinq_ops.specs.declared.op.Op.TheVariants.{Select, Filter, SelectMan
 use Rattle.plinq_ops.specs.declared.known.Known.TheVariants.{Key}
 use Rattle.plinq_ops.specs.Stage.{Stage, taking, skipping, taken, skipped, apply, seq, behind, seq_behind}
 use Rattle.plinq_ops.specs.Operator.{item_count, selected, taken_while, stage_of, stages_of}
-use Rattle.plinq_ops.specs.Feeding.{count_of, stage_left, stages_left, is_empty_take}
+use Rattle.plinq_ops.specs.Feeding.{counted_off, stage_left, stages_left, is_empty_take}
 use Rattle.plinq_ops.specs.Fragment.{ended_here, taken_at, skipped_at, apply_at, position_behind, fragment_at, fragment_of}
 use Rattle.plinq_ops.specs.Pipeline.{PipelineView, begun_at, stages}
 use Rattle.plinq_ops.specs.ByKey.{is_by_key_from, is_by_key, left_at, passed_on, counts_at}
@@ -67,7 +67,7 @@ IsAt (negsuc k) (x ∷ xs) e = ⊥
 
 -- an operator makes of what stands at a position what is left of it there makes of it
 record IsPassedAt {L T : Type 0} (meaning : L → Meaning T) (op : Op L) (p : ℤ) (t : Trace T) : Type 0 where
-  pub same : apply_at meaning op p t ≡ apply (stage_left meaning op (count_of op - item_count p)) t
+  pub same : apply_at meaning op p t ≡ apply (stage_left meaning op (counted_off op - item_count p)) t
   pub at : IsAt (position_behind op p) (apply_at meaning op p t).items (apply_at meaning op p t).ending
 
 selected-at : {T : Type 0} (k : ℕ) (r : Result T ℕ) → IsAt (pos k) (followed (selected r) (open_trace [])).items (followed (selected r) (open_trace [])).ending
@@ -270,7 +270,7 @@ item_count-next (negsuc k) [] at = item_count-difference 1 k ∙ (let none : 1 -
 item_count-next (negsuc k) (x ∷ xs) at = absurd at
 
 behind-at : {L T : Type 0} (meaning : L → Meaning T) (op : Op L) (p : ℤ) (xs : List T) → IsAt p xs None
-    → behind (stage_left meaning op (count_of op - item_count p)) xs ≡ stage_left meaning op (count_of op - item_count (p +ℤ pos 1))
+    → behind (stage_left meaning op (counted_off op - item_count p)) xs ≡ stage_left meaning op (counted_off op - item_count (p +ℤ pos 1))
 behind-at meaning (Select f) p xs at = refl
 behind-at meaning (Filter f) p xs at = refl
 behind-at meaning (SelectMany f) p xs at = refl
@@ -296,7 +296,7 @@ seq_behind-passed {L} {T} meaning op ops p xs at passed others is_open =
     let t : Trace T = apply_at meaning op p (open_trace xs) in
     let left : List (Stage T) = left_at meaning ops (position_behind op p) in
     let first = behind-at meaning op p xs at in
-    let rest : seq_behind left (apply (stage_left meaning op (count_of op - item_count p)) (open_trace xs)) ≡ left_at meaning ops (position_behind op (p +ℤ pos 1)) =
+    let rest : seq_behind left (apply (stage_left meaning op (counted_off op - item_count p)) (open_trace xs)) ≡ left_at meaning ops (position_behind op (p +ℤ pos 1)) =
     ap (seq_behind left) (sym passed.same)
     ∙ others t.items t.ending passed.at (ap (λ u. (seq left u).ending) passed.same ∙ is_open)
     ∙ ap (left_at meaning ops) (position_behind-next op p) in
@@ -307,7 +307,7 @@ seq_behind-first : {L T : Type 0} (meaning : L → Meaning T) (op : Op L) (ops :
     → seq_behind (left_at meaning (op ∷ ops) p) (open_trace xs) ≡ left_at meaning (op ∷ ops) (p +ℤ pos 1)
 seq_behind-first {L} {T} meaning op ops p xs at keyed =
     let first = behind-at meaning op p xs at in
-    let rest = seq_behind-any meaning ops (position_behind op p) (position_behind op (p +ℤ pos 1)) (apply (stage_left meaning op (count_of op - item_count p)) (open_trace xs)) keyed in
+    let rest = seq_behind-any meaning ops (position_behind op p) (position_behind op (p +ℤ pos 1)) (apply (stage_left meaning op (counted_off op - item_count p)) (open_trace xs)) keyed in
     cc
 
 -- where what stands at a position leaves the run open, what is left of the operators then is what is left at the next
@@ -353,7 +353,7 @@ item_count-behind AsUnordered p = refl
 pub stages_left-counts_at : {L T : Type 0} (meaning : L → Meaning T) (ops : List (Op L)) (p : ℤ) → stages_left meaning ops (counts_at ops (item_count p)) ≡ left_at meaning ops p
 stages_left-counts_at meaning [] p = refl
 stages_left-counts_at meaning (op ∷ ops) p =
-    ap (λ rest. stage_left meaning op (count_of op - item_count p) ∷ rest)
+    ap (λ rest. stage_left meaning op (counted_off op - item_count p) ∷ rest)
     (ap (λ n. stages_left meaning ops (counts_at ops n)) (item_count-behind op p) ∙ stages_left-counts_at meaning ops (position_behind op p))
 
 passed_on-none : {L : Type 0} (op : Op L) (n : ℕ) → n ≡ 0 → passed_on op n ≡ 0
@@ -366,10 +366,10 @@ passed_on-none (TakeWhile f) n none = none
 passed_on-none AsUnordered n none = none
 
 -- at the start all of the operators is left
-pub counts_at-start : {L : Type 0} (ops : List (Op L)) (n : ℕ) → n ≡ 0 → counts_at ops n ≡ map count_of ops
+pub counts_at-start : {L : Type 0} (ops : List (Op L)) (n : ℕ) → n ≡ 0 → counts_at ops n ≡ map counted_off ops
 counts_at-start [] n none = refl
 counts_at-start (op ∷ ops) n none =
-    let first : count_of op - n ≡ count_of op = omega (arith, none) in
+    let first : counted_off op - n ≡ counted_off op = omega (arith, none) in
     let others = counts_at-start ops (passed_on op n) (passed_on-none op n none) in
     cc
 

@@ -10,22 +10,22 @@ use Rattle.plinq_ops.specs.Stage.{takes_none, some_takes_none}
 use Rattle.plinq_ops.specs.Operator.{stage_of, stages_of}
 use Rattle.plinq_ops.specs.ByKey.{passed_on, counts_at}
 use Rattle.plinq_ops.specs.Pipeline.{PipelineView, begun, stages}
-use Rattle.plinq_ops.specs.Feeding.{count_of, stage_left, stages_left, is_empty_take}
+use Rattle.plinq_ops.specs.Feeding.{counted_off, stage_left, stages_left, is_empty_take}
 
-stage_left-count_of : {L T : Type 0} (meaning : L → Meaning T) (op : Op L) → stage_left meaning op (count_of op) ≡ stage_of meaning op
-stage_left-count_of meaning (Select f) = refl
-stage_left-count_of meaning (Filter f) = refl
-stage_left-count_of meaning (SelectMany f) = refl
-stage_left-count_of meaning (Take n) = refl
-stage_left-count_of meaning (Skip n) = refl
-stage_left-count_of meaning (TakeWhile f) = refl
-stage_left-count_of meaning AsUnordered = refl
+stage_left-counted_off : {L T : Type 0} (meaning : L → Meaning T) (op : Op L) → stage_left meaning op (counted_off op) ≡ stage_of meaning op
+stage_left-counted_off meaning (Select f) = refl
+stage_left-counted_off meaning (Filter f) = refl
+stage_left-counted_off meaning (SelectMany f) = refl
+stage_left-counted_off meaning (Take n) = refl
+stage_left-counted_off meaning (Skip n) = refl
+stage_left-counted_off meaning (TakeWhile f) = refl
+stage_left-counted_off meaning AsUnordered = refl
 
 -- at the start all of each operator is left
-pub stages_left-counts : {L T : Type 0} (meaning : L → Meaning T) (ops : List (Op L)) → stages_left meaning ops (map count_of ops) ≡ stages_of meaning ops
+pub stages_left-counts : {L T : Type 0} (meaning : L → Meaning T) (ops : List (Op L)) → stages_left meaning ops (map counted_off ops) ≡ stages_of meaning ops
 stages_left-counts meaning [] = refl
 stages_left-counts meaning (op ∷ ops) =
-    let first = stage_left-count_of meaning op in
+    let first = stage_left-counted_off meaning op in
     let others = stages_left-counts meaning ops in
     cc
 

@@ -1,5 +1,5 @@
 -- A cut at a key that ends the run changes no answer of a chunk that the run reaches.
-use Rattle.std.specs.Prelude.{◌≡◌, ℕ, ◌+◌, ◌≤◌, ◌==◌, ◌^◌, List, [], ◌∷◌, ◌++◌, length, true, false, cond, Option, Some, None, is_some, nat_lt, ◌≢◌, MatchBool, refl}
+use Rattle.std.specs.Prelude.{◌≡◌, ℕ, ◌+◌, ◌≤◌, ◌==◌, List, [], ◌∷◌, ◌++◌, length, true, false, cond, Option, Some, None, is_some, nat_lt, ◌≢◌, MatchBool, refl}
 use Rattle.std.proofs.Common.{sym, ◌∙◌, ap, inl, inr, arith}
 use Rattle.std.proofs.lemmas.Bool.{or_cases, or_left, eqb-true, eq-eqb}
 use Rattle.plinq_source.specs.declared.ending.Ending.{Ending}
@@ -14,7 +14,7 @@ use Rattle.plinq_ops.specs.declared.frag_end.FragEnd.TheVariants.{More, End as E
 use Rattle.plinq_ops.specs.declared.results.ChunkResult.{ChunkResult}
 use Rattle.plinq_ops.specs.Fragment.{fragment_of, glued}
 use Rattle.plinq_ops.specs.Chunk.{ChunkAnswer, IsToldBy, run_ending, result_trace, dropped_at, before_answer, chunk_answer, IsChunkResult}
-use Rattle.plinq_ops.specs.Cut.{enders, no_cut, is_cut}
+use Rattle.plinq_ops.specs.Cut.{enders, no_cut, is_cut, most_items}
 use Rattle.plinq_ops.proofs.Open.{open-from_continued, open_behind}
 use Rattle.plinq_ops.proofs.Chunks.{chunk_answer-cons}
 
@@ -97,7 +97,7 @@ undropped-uncut {L} {T} meaning worker cut key (x ∷ xs) above =
 
 -- a cut of a source, at a chunk that the run reaches
 pub chunk_answer-reached : {L T : Type 0} (meaning : L → Meaning T) (worker : List (Op L)) (items before xs ys : List T) (cut cut' first : ℕ) → is_cut meaning worker items cut ≡ true
-    → items ≡ before ++ (xs ++ ys) → first ≡ length before → (glued meaning worker 0 before None).ending ≡ None → first + length xs ≤ 2 ^ 40 → first + length xs ≤ cut' + 1
+    → items ≡ before ++ (xs ++ ys) → first ≡ length before → (glued meaning worker 0 before None).ending ≡ None → first + length xs ≤ most_items → first + length xs ≤ cut' + 1
     → chunk_answer meaning worker cut first xs ≡ chunk_answer meaning worker cut' first xs
 chunk_answer-reached meaning worker items before xs ys cut cut' first legal parts place is_open few above =
     elim (or_cases (cut == no_cut) (is_among (enders meaning worker 0 items) cut) legal) [

@@ -1,5 +1,5 @@
 -- A row of results from key 0 gives the glued fragments of the items that it accounts for, whatever the cuts.
-use Rattle.std.specs.Prelude.{◌≡◌, ℕ, ◌+◌, ◌≤◌, ◌^◌, List, [], ◌∷◌, ◌++◌, length, take, drop, true, false, ◌||◌, ◌==◌, Some, None, ◌≢◌}
+use Rattle.std.specs.Prelude.{◌≡◌, ℕ, ◌+◌, ◌≤◌, List, [], ◌∷◌, ◌++◌, length, take, drop, true, false, ◌||◌, ◌==◌, Some, None, ◌≢◌}
 use Rattle.std.proofs.Common.{sym, ◌∙◌, ap, inl, inr, arith, append-nil}
 use Rattle.std.proofs.lemmas.Bool.{or_left, or_right}
 use Rattle.std.proofs.lemmas.List.{take-append-drop, length-take-le}
@@ -16,7 +16,7 @@ use Rattle.plinq_ops.specs.declared.results.ChunkResult.{ChunkResult}
 use Rattle.plinq_ops.specs.Stage.{Stage, seq, seq_behind}
 use Rattle.plinq_ops.specs.Fragment.{glued, glue}
 use Rattle.plinq_ops.specs.Chunk.{result_trace, chunk_answer}
-use Rattle.plinq_ops.specs.Cut.{enders}
+use Rattle.plinq_ops.specs.Cut.{enders, most_items}
 use Rattle.plinq_ops.specs.Row.{IsOffer, AreOffers, IsRow, row_trace}
 use Rattle.plinq_ops.proofs.Stages.{seq-followed}
 use Rattle.plinq_ops.proofs.Open.{none-or_ending}
@@ -41,7 +41,7 @@ has_place items first xs within is =
     }
 
 -- behind a row that is still open a result gives the glued fragments of its chunk
-pub result-behind_open : {L T : Type 0} (meaning : L → Meaning T) (worker : List (Op L)) (t : Trace T) (r : ChunkResult T) → length t.items ≤ 2 ^ 40 → (offer : IsOffer meaning worker t r)
+pub result-behind_open : {L T : Type 0} (meaning : L → Meaning T) (worker : List (Op L)) (t : Trace T) (r : ChunkResult T) → length t.items ≤ most_items → (offer : IsOffer meaning worker t r)
     → (glued meaning worker 0 (take r.first t.items) None).ending ≡ None
     → (result_trace r ≡ glued meaning worker r.first offer.chunk.items.items None) × (r.ending ≢ Dropped)
 result-behind_open {L} {T} meaning worker t r few offer is_open =
@@ -61,7 +61,7 @@ result-behind_open {L} {T} meaning worker t r few offer is_open =
     )
 
 -- one result more
-pub row-next : {L T : Type 0} (meaning : L → Meaning T) (worker : List (Op L)) (t : Trace T) (r : ChunkResult T) → length t.items ≤ 2 ^ 40 → IsOffer meaning worker t r
+pub row-next : {L T : Type 0} (meaning : L → Meaning T) (worker : List (Op L)) (t : Trace T) (r : ChunkResult T) → length t.items ≤ most_items → IsOffer meaning worker t r
     → followed (glued meaning worker 0 (take r.first t.items) None) (result_trace r) ≡ glued meaning worker 0 (take (r.first + r.count) t.items) None
 row-next {L} {T} meaning worker t r few offer =
     let xs : List T = offer.chunk.items.items in
@@ -78,7 +78,7 @@ row-next {L} {T} meaning worker t r few offer =
       | inr ends ↦ followed-ended before (result_trace r) ends.0 ends.1 ∙ sym (followed-ended before here ends.0 ends.1) ∙ sym all
     ]
 
-row-from : {L T : Type 0} (meaning : L → Meaning T) (worker : List (Op L)) (t : Trace T) (rs : List (ChunkResult T)) (from to : ℕ) → length t.items ≤ 2 ^ 40 → AreOffers meaning worker t rs → IsRow from rs to
+row-from : {L T : Type 0} (meaning : L → Meaning T) (worker : List (Op L)) (t : Trace T) (rs : List (ChunkResult T)) (from to : ℕ) → length t.items ≤ most_items → AreOffers meaning worker t rs → IsRow from rs to
     → followed (glued meaning worker 0 (take from t.items) None) (row_trace rs) ≡ glued meaning worker 0 (take to t.items) None
 row-from meaning worker t [] from to few offers row =
     followed-open_nil (glued meaning worker 0 (take from t.items) None) ∙ ap (λ k. glued meaning worker 0 (take k t.items) None) row
@@ -93,7 +93,7 @@ row-from {L} {T} meaning worker t (r ∷ rs) from to few offers row =
     ∙ row-from meaning worker t rs (from + r.count) to few offers.1 row.1
 
 -- a row of results from key 0 gives the glued fragments of the items up to its end
-pub row-holds : {L T : Type 0} (meaning : L → Meaning T) (worker : List (Op L)) (t : Trace T) (rs : List (ChunkResult T)) (to : ℕ) → length t.items ≤ 2 ^ 40 → AreOffers meaning worker t rs → IsRow 0 rs to
+pub row-holds : {L T : Type 0} (meaning : L → Meaning T) (worker : List (Op L)) (t : Trace T) (rs : List (ChunkResult T)) (to : ℕ) → length t.items ≤ most_items → AreOffers meaning worker t rs → IsRow 0 rs to
     → row_trace rs ≡ glued meaning worker 0 (take to t.items) None
 row-holds meaning worker t rs to few offers row = row-from meaning worker t rs 0 to few offers row
 

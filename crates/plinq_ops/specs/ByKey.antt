@@ -7,7 +7,7 @@ use Rattle.plinq_ops.specs.declared.known.Known.{Known}
 use Rattle.plinq_ops.specs.declared.known.Known.TheVariants.{Nothing, Key, Position}
 use Rattle.plinq_ops.specs.Stage.{Stage, taking, skipping}
 use Rattle.plinq_ops.specs.Operator.{item_count, example}
-use Rattle.plinq_ops.specs.Feeding.{count_of, stage_left}
+use Rattle.plinq_ops.specs.Feeding.{counted_off, stage_left}
 use Rattle.plinq_ops.specs.Fragment.{position_behind}
 
 -- the order of the elements is known
@@ -56,7 +56,7 @@ is_by_key ops = is_by_key_from Position ops
 abbrev pub left_at : {L T : Type 0} → (L → Meaning T) → List (Op L) → ℤ → List (Stage T)
 left_at meaning [] p = []
 left_at meaning (op ∷ ops) p =
-    stage_left meaning op (count_of op - item_count p) ∷ left_at meaning ops (position_behind op p)
+    stage_left meaning op (counted_off op - item_count p) ∷ left_at meaning ops (position_behind op p)
 
 -- how many elements have got past an operator, where so many have reached it and none was filtered out
 abbrev pub passed_on : {L : Type 0} → Op L → ℕ → ℕ
@@ -66,7 +66,7 @@ passed_on op n = n
 -- how many items each Take and each Skip has left, so many elements having reached the first operator
 abbrev pub counts_at : {L : Type 0} → List (Op L) → ℕ → List ℕ
 counts_at [] n = []
-counts_at (op ∷ ops) n = (count_of op - n) ∷ counts_at ops (passed_on op n)
+counts_at (op ∷ ops) n = (counted_off op - n) ∷ counts_at ops (passed_on op n)
 
 -- Take and Skip go by key in any order, while nothing before them can change how many elements there are
 take_by_key : is_by_key {L = ℕ} (Skip (pos 1) ∷ Select 0 ∷ TakeWhile 0 ∷ Take (pos 2) ∷ Skip (pos 1) ∷ Filter 0 ∷ TakeWhile 0 ∷ []) ≡ true

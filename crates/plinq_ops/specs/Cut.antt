@@ -1,5 +1,5 @@
 -- Cuts: keys above which a worker needn't look, since the run has ended there.
-use Rattle.std.specs.Prelude.{◌≡◌, refl, ℕ, ◌+◌, pos, List, [], ◌∷◌, Bool, true, false, ◌||◌, ◌==◌, if◌then◌else◌, is_some}
+use Rattle.std.specs.Prelude.{◌≡◌, refl, ℕ, ◌+◌, ◌^◌, pos, List, [], ◌∷◌, Bool, true, false, ◌||◌, ◌==◌, if◌then◌else◌, is_some}
 use Rattle.plinq_lambda.specs.Meaning.{Meaning}
 use Rattle.plinq_keyed.specs.Keys.{is_among}
 use Rattle.plinq_ops.specs.declared.op.Op.{Op}
@@ -12,6 +12,10 @@ abbrev pub enders : {L T : Type 0} → (L → Meaning T) → List (Op L) → ℕ
 enders meaning worker key [] = []
 enders meaning worker key (x ∷ xs) =
     if is_some (fragment_of meaning worker key x).ending then key ∷ enders meaning worker (key + 1) xs else enders meaning worker (key + 1) xs
+
+-- the most items that a source may have; all keys are below it
+abbrev pub most_items : ℕ
+most_items = 2 ^ 40
 
 -- no key is above it
 abbrev pub no_cut : ℕ

@@ -9,10 +9,10 @@ use Rattle.plinq_ops.specs.Stage.{Stage, taking, skipping, seq, seq_behind}
 use Rattle.plinq_ops.specs.Operator.{stage_of, item_count}
 
 -- how many items a Take or a Skip counts off; the others count none
-abbrev pub count_of : {L : Type 0} → Op L → ℕ
-count_of (Take n) = item_count n
-count_of (Skip n) = item_count n
-count_of op = 0
+abbrev pub counted_off : {L : Type 0} → Op L → ℕ
+counted_off (Take n) = item_count n
+counted_off (Skip n) = item_count n
+counted_off op = 0
 
 -- what an operator still does, where a Take or a Skip has so many items left
 abbrev pub stage_left : {L T : Type 0} → (L → Meaning T) → Op L → ℕ → Stage T

@@ -19,9 +19,9 @@ filtered (Ok false) x = open_trace []
 filtered (Err code) x = ended [] (Fault code)
 
 -- SelectMany: the expansion; one that faults adds nothing and ends the answer
-abbrev pub expanded : {T : Type 0} → Result (List T) ℕ → Trace T
-expanded (Ok ys) = open_trace ys
-expanded (Err code) = ended [] (Fault code)
+abbrev pub selected_many : {T : Type 0} → Result (List T) ℕ → Trace T
+selected_many (Ok ys) = open_trace ys
+selected_many (Err code) = ended [] (Fault code)
 
 -- TakeWhile: the item if it passes; one that fails ends the answer, and so does a fault
 abbrev pub taken_while : {T : Type 0} → Result Bool ℕ → T → Trace T
@@ -38,7 +38,7 @@ item_count (negsuc n) = 0
 abbrev pub stage_of : {L T : Type 0} → (L → Meaning T) → Op L → Stage T
 stage_of meaning (Select f) = pieces (λ x. selected ((meaning f).map x))
 stage_of meaning (Filter f) = pieces (λ x. filtered ((meaning f).test x) x)
-stage_of meaning (SelectMany f) = pieces (λ x. expanded ((meaning f).expand x))
+stage_of meaning (SelectMany f) = pieces (λ x. selected_many ((meaning f).expand x))
 stage_of meaning (Take n) = taking (item_count n)
 stage_of meaning (Skip n) = skipping (item_count n)
 stage_of meaning (TakeWhile f) = pieces (λ x. taken_while ((meaning f).test x) x)

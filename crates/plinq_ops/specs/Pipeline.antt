@@ -3,7 +3,7 @@ use Rattle.std.specs.Prelude.{ℕ, List, map}
 use Rattle.plinq_lambda.specs.Meaning.{Meaning}
 use Rattle.plinq_ops.specs.declared.op.Op.{Op}
 use Rattle.plinq_ops.specs.Stage.{Stage}
-use Rattle.plinq_ops.specs.Feeding.{count_of, stages_left}
+use Rattle.plinq_ops.specs.Feeding.{counted_off, stages_left}
 use Rattle.plinq_ops.specs.ByKey.{counts_at}
 
 -- the operators, and how many items each Take and each Skip has left
@@ -17,7 +17,7 @@ stages meaning p = stages_left meaning p.ops p.counts
 
 -- the operators before any item has reached them
 abbrev pub begun : {L : Type 0} → List (Op L) → PipelineView L
-begun ops = record { ops = ops; counts = map count_of ops }
+begun ops = record { ops = ops; counts = map counted_off ops }
 
 -- operators that go by key, before the element of this key
 abbrev pub begun_at : {L : Type 0} → List (Op L) → ℕ → PipelineView L

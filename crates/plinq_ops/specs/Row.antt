@@ -42,7 +42,7 @@ abbrev pub row_trace : {T : Type 0} → List (ChunkResult T) → Trace T
 row_trace rs = all_followed (map result_trace rs)
 
 -- the result of a record's chunk
-pub record IsAnswer {L T : Type 0} (meaning : L → Meaning T) (worker : List (Op L)) (t : Trace T) (asked : Record) (r : ChunkResult T) : Type 0 where
+pub record IsResultOf {L T : Type 0} (meaning : L → Meaning T) (worker : List (Op L)) (t : Trace T) (asked : Record) (r : ChunkResult T) : Type 0 where
   pub cut : ℕ
   pub chunk : Chunk T
   pub is_cut : is_cut meaning worker t.items cut ≡ true
@@ -50,8 +50,8 @@ pub record IsAnswer {L T : Type 0} (meaning : L → Meaning T) (worker : List (O
   pub made : IsChunkResult meaning worker cut chunk r
 
 -- the results of a history's chunks, record by record
-abbrev pub AreAnswers : {L T : Type 0} → (L → Meaning T) → List (Op L) → Trace T → List Record → List (ChunkResult T) → Type 0
-AreAnswers meaning worker t [] [] = ⊤
-AreAnswers meaning worker t [] (r ∷ rs) = ⊥
-AreAnswers meaning worker t (asked ∷ h) [] = ⊥
-AreAnswers meaning worker t (asked ∷ h) (r ∷ rs) = IsAnswer meaning worker t asked r × AreAnswers meaning worker t h rs
+abbrev pub AreResultsOf : {L T : Type 0} → (L → Meaning T) → List (Op L) → Trace T → List Record → List (ChunkResult T) → Type 0
+AreResultsOf meaning worker t [] [] = ⊤
+AreResultsOf meaning worker t [] (r ∷ rs) = ⊥
+AreResultsOf meaning worker t (asked ∷ h) [] = ⊥
+AreResultsOf meaning worker t (asked ∷ h) (r ∷ rs) = IsResultOf meaning worker t asked r × AreResultsOf meaning worker t h rs

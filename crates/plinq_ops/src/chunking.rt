@@ -1,8 +1,9 @@
-ghost use Rattle.std.specs.Prelude.{◌≡◌, ◌+◌, ◌<◌, ◌≤◌, ◌^◌, [], pos, true, false, length, IfOk};
+ghost use Rattle.std.specs.Prelude.{◌≡◌, ◌+◌, ◌<◌, ◌≤◌, [], pos, true, false, length, IfOk};
 ghost use Rattle.std.specs.List.{list_any};
 ghost use Rattle.plinq_ops.specs.Stage.{some_takes_none};
 ghost use Rattle.plinq_ops.specs.Feeding.{is_empty_take};
 ghost use Rattle.plinq_ops.specs.ByKey.{is_by_key, left_at};
+ghost use Rattle.plinq_ops.specs.Cut.{most_items};
 ghost use Rattle.plinq_ops.specs.Chunk.{IsChunkResult, IsStop, chunk_answer, stop_over};
 
 use crate::cutting::frag_end;
@@ -47,7 +48,7 @@ pub fn chunk_result<L: Lambda>(
 ) -> Result<ChunkResult<L::Item>, OutOfMemory>
     requires keyed { is_by_key plan.now.worker.now ≡ true }
     requires some { list_any is_empty_take plan.now.worker.now ≡ false }
-    requires within { chunk.now.first + length chunk.now.items.items ≤ 2 ^ 40 }
+    requires within { chunk.now.first + length chunk.now.items.items ≤ most_items }
     ensures { IfOk result (IsChunkResult L.meaning plan.now.worker.now cut chunk.now) }
 {
     let mut items = Vec::with_capacity(alloc, chunk.items.len())?;
@@ -81,7 +82,7 @@ fn work<L: Lambda>(
 ) -> Result<Option<Stop>, OutOfMemory>
     requires keyed { is_by_key worker.now ≡ true }
     requires some { list_any is_empty_take worker.now ≡ false }
-    requires within { first + length items.now ≤ 2 ^ 40 }
+    requires within { first + length items.now ≤ most_items }
     requires empty { out.old.items ≡ [] }
 
     ensures items { IfOk result (λ _. out.new.items ≡ (chunk_answer L.meaning worker.now cut first items.now).trace.items) }
@@ -150,7 +151,7 @@ fn work_each<L: Lambda>(
     requires keyed { is_by_key worker.now ≡ true }
     requires some { list_any is_empty_take worker.now ≡ false }
     requires undecided { some_takes_none (left_at L.meaning worker.now (pos first)) ≡ false }
-    requires within { first + length items.now ≤ 2 ^ 40 }
+    requires within { first + length items.now ≤ most_items }
     requires empty { out.old.items ≡ [] }
 
     ensures items { IfOk result (λ _. out.new.items ≡ (chunk_answer L.meaning worker.now cut first items.now).trace.items) }

@@ -1,7 +1,7 @@
 //! Laws of the definitions, each the contract of a function with nothing to do.
 //!
 //! They hold whatever the lambdas mean, so they name a meaning where the other contracts have `L.meaning`.
-ghost use Rattle.std.specs.Prelude.{◌≡◌, ℕ, Bool, ◌+◌, ◌<◌, ◌≤◌, ◌^◌, List, [], ◌++◌, length, take, true, false, Option, Some, None, IfSome, ◌≢◌};
+ghost use Rattle.std.specs.Prelude.{◌≡◌, ℕ, Bool, ◌+◌, ◌<◌, ◌≤◌, List, [], ◌++◌, length, take, true, false, Option, Some, None, IfSome, ◌≢◌};
 ghost use Rattle.std.specs.List.{list_any, list_all, Contains};
 ghost use Rattle.plinq_source.specs.declared.ending.Ending.{Ending};
 ghost use Rattle.plinq_source.specs.Trace.{Trace, open_trace, followed};
@@ -23,8 +23,8 @@ ghost use Rattle.plinq_ops.specs.Answer.{Answer, keeps_order};
 ghost use Rattle.plinq_ops.specs.Plan.{worker_part, after_part};
 ghost use Rattle.plinq_ops.specs.Fragment.{glue, glued};
 ghost use Rattle.plinq_ops.specs.Chunk.{chunk_answer, IsChunkResult, result_trace};
-ghost use Rattle.plinq_ops.specs.Cut.{enders};
-ghost use Rattle.plinq_ops.specs.Row.{IsOffer, AreOffers, IsRow, row_trace, IsAnswer, AreAnswers};
+ghost use Rattle.plinq_ops.specs.Cut.{enders, most_items};
+ghost use Rattle.plinq_ops.specs.Row.{IsOffer, AreOffers, IsRow, row_trace, IsResultOf, AreResultsOf};
 
 /// What operators make of a trace that follows another: what they make of the first, and where that is open, behind it
 /// what is left of them makes of the second.
@@ -87,7 +87,7 @@ pub fn stop_ends_the_run<L, T>()
 /// of its chunk.
 pub fn nothing_reached_is_dropped<L, T>()
     ensures { (meaning : L → Meaning T) (worker : List (Op L)) (t : Trace T) (r : ChunkResult T) →
-        length t.items ≤ 2 ^ 40 → (offer : IsOffer meaning worker t r) →
+        length t.items ≤ most_items → (offer : IsOffer meaning worker t r) →
         (glued meaning worker 0 (take r.first t.items) None).ending ≡ None →
         (result_trace r ≡ glued meaning worker r.first offer.chunk.items.items None) × (r.ending ≢ Dropped) }
 {}
@@ -95,7 +95,7 @@ pub fn nothing_reached_is_dropped<L, T>()
 /// One result more: behind the glued fragments of the items before it, a result gives those up to its last.
 pub fn row_goes_on<L, T>()
     ensures { (meaning : L → Meaning T) (worker : List (Op L)) (t : Trace T) (r : ChunkResult T) →
-        length t.items ≤ 2 ^ 40 → IsOffer meaning worker t r →
+        length t.items ≤ most_items → IsOffer meaning worker t r →
         followed (glued meaning worker 0 (take r.first t.items) None) (result_trace r)
         ≡ glued meaning worker 0 (take (r.first + r.count) t.items) None }
 {}
@@ -103,21 +103,21 @@ pub fn row_goes_on<L, T>()
 /// A row of results from key 0, each with a cut of its own, joins to the glued fragments of the items.
 pub fn row_glues<L, T>()
     ensures { (meaning : L → Meaning T) (worker : List (Op L)) (t : Trace T) (rs : List (ChunkResult T)) (to : ℕ) →
-        length t.items ≤ 2 ^ 40 → AreOffers meaning worker t rs → IsRow 0 rs to →
+        length t.items ≤ most_items → AreOffers meaning worker t rs → IsRow 0 rs to →
         row_trace rs ≡ glued meaning worker 0 (take to t.items) None }
 {}
 
 /// The results of a legal history's chunks join to the glued fragments of the items that it handed out.
 pub fn history_glues<L, T>()
     ensures { (meaning : L → Meaning T) (worker : List (Op L)) (t : Trace T) (h : List Record) (rs : List (ChunkResult T)) →
-        length t.items ≤ 2 ^ 40 → IsLegalHistory t h → AreAnswers meaning worker t h rs →
+        length t.items ≤ most_items → IsLegalHistory t h → AreResultsOf meaning worker t h rs →
         row_trace rs ≡ glued meaning worker 0 (take (given_by t h) t.items) None }
 {}
 
 /// The result of the chunk of one record of a legal history is that of a chunk of the source.
-pub fn answers_are_offers<L, T>()
+pub fn results_are_offers<L, T>()
     ensures { (meaning : L → Meaning T) (worker : List (Op L)) (t : Trace T) (h : List Record) (asked : Record) (r : ChunkResult T) →
-        IsLegalHistory t h → Contains h asked → IsAnswer meaning worker t asked r → IsOffer meaning worker t r }
+        IsLegalHistory t h → Contains h asked → IsResultOf meaning worker t asked r → IsOffer meaning worker t r }
 {}
 
 /// The batches of a trace that grows are those so far, and then those of the rest begun with what is held back.

@@ -2,7 +2,7 @@ use Rattle.std.proofs.Common.{rules, arith, ◌≡◌, ◌∷◌, [], ◌++◌, 
 use Rattle.std.proofs.lemmas.List.{take_more, take_all, take-append-drop}
 use Rattle.plinq_source.specs.Trace.{open_trace, ended}
 use Rattle.plinq_source.specs.declared.ending.Ending.TheVariants.{Fault}
-use Rattle.plinq_ops.specs.Operator.{expanded}
+use Rattle.plinq_ops.specs.Operator.{selected_many}
 use Rattle.plinq_ops.specs.Feeding.{stages_left}
 use Rattle.plinq_ops.proofs.Fed.{fed-none, fed-ending, fed-ended_before, undecided-left, none-from_is_some, fed-told, fed-behind, fed-piece}
 use Rattle.plinq_ops.proofs.Through.{through-first}
@@ -31,7 +31,7 @@ feed_expansions-returns-then-is_some g t c =
     let same : items ≡ c.args.block.now.items = search rules in
     let all : items ≡ (take i items ++ x ∷ []) ++ drop (i + 1) items =
     sym (take-append-drop (i + 1) items) ∙ ap (λ ys. ys ++ drop (i + 1) items) (take_more items i x c.loop-item-test.true ∙ ap (λ y. take i items ++ y ∷ []) (sym c.item-item.is)) in
-    let gives : expanded ((m c.args.f.now).expand x) ≡ open_trace c.in-Ok.expansion.items = search rules in
+    let gives : selected_many ((m c.args.f.now).expand x) ≡ open_trace c.in-Ok.expansion.items = search rules in
     let ends : is_some c.in_ok-ending-in-Ok.ending ≡ true = search rules in
     let out : c.append.new.self.items ≡ c.loop-item.block.items ++ c.feed_block.new.block.items = search rules in
     let next = fed-piece _ _ (stages_left m c.args.ops.now c.loop-item.left) (stages_left m c.args.ops.now c.feed_block.new.left) (take i items) x (open_trace c.in-Ok.expansion.items) [] c.loop-item.block.items _ c.in_ok-ending-in-Ok.ending c.loop-item.invariant gives
@@ -48,7 +48,7 @@ feed_expansions-returns-in-Err-Code g t c =
     let same : items ≡ c.args.block.now.items = search rules in
     let all : items ≡ (take i items ++ x ∷ []) ++ drop (i + 1) items =
     sym (take-append-drop (i + 1) items) ∙ ap (λ ys. ys ++ drop (i + 1) items) (take_more items i x c.loop-item-test.true ∙ ap (λ y. take i items ++ y ∷ []) (sym c.item-item.is)) in
-    let gives : expanded ((m c.args.f.now).expand x) ≡ ended [] (Fault c.in-Err-Code.code) = search rules in
+    let gives : selected_many ((m c.args.f.now).expand x) ≡ ended [] (Fault c.in-Err-Code.code) = search rules in
     let left = stages_left m c.args.ops.now c.loop-item.left in
     let next = fed-piece _ _ left left (take i items) x (ended [] (Fault c.in-Err-Code.code)) [] c.loop-item.block.items c.loop-item.block.items (Some (Fault c.in-Err-Code.code)) c.loop-item.invariant gives
     (fed-ending left left c.loop-item.block.items (Fault c.in-Err-Code.code) (undecided-left _ _ _ _ _ c.loop-item.invariant)) in
@@ -62,7 +62,7 @@ feed_expansions-loop-item-preserved g t c =
     let x = c.item-item.result in
     let m = g.L.Lambda.meaning in
     let more : take (i + 1) items ≡ take i items ++ x ∷ [] = take_more items i x c.loop-item-test.true ∙ ap (λ y. take i items ++ y ∷ []) (sym c.item-item.is) in
-    let gives : expanded ((m c.args.f.now).expand x) ≡ open_trace c.in-Ok.expansion.items = search rules in
+    let gives : selected_many ((m c.args.f.now).expand x) ≡ open_trace c.in-Ok.expansion.items = search rules in
     let open_still : c.in_ok-ending-in-Ok.ending ≡ None = none-from_is_some _ (search rules) in
     let out : c.append.new.self.items ≡ c.loop-item.block.items ++ c.feed_block.new.block.items = search rules in
     rw (more, out)
