@@ -17,7 +17,7 @@ fn run(rt: &HostRuntime) -> io::Result<u8> {
     let words: Vec<String> = env::args(rt)?.collect(rt.alloc())?;
     let mut out = BufWriter::new(rt.alloc(), rt.stdout())?;
     let status = perform(rt, words, &mut rt.stdin(), &mut out, &mut rt.stderr());
-    // What it still holds is what a failing write kept back. Dropped, it would be written behind the failure's line.
+    // What it still holds is what a failing write kept back. Dropped, it would be written after the failure's line.
     let (_stdout, _unwritten) = out.into_parts();
     Ok(status)
 }

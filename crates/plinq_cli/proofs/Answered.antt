@@ -1,6 +1,7 @@
--- What was written for a document, once a step behind it has failed or the output is flushed.
-use Rattle.std.proofs.Common.{◌≡◌, true, false, ℕ, ℤ, ◌+◌, ◌^◌, ◌<◌, List, [], Some, None, Result, Ok, Err, IfSome, refl, ap, sym, ◌∙◌, subst, inl, inr, arith, length, replicate}
+-- What was written for a document, once a step after it has failed or the output is flushed.
+use Rattle.std.proofs.Common.{◌≡◌, true, false, ℕ, ℤ, ◌+◌, ◌^◌, ◌<◌, List, [], Some, None, Result, Ok, Err, IfSome, refl, sym, subst, inl, inr, arith, length, replicate}
 use Rattle.std.specs.Io.KnownBytes.{Keeps}
+use Rattle.std.proofs.KnownBytes.{Appends-kept, Keeps-refl, Keeps-trans}
 use Rattle.std.proofs.Math.ListN.{length-replicate}
 use Rattle.plinq_source.specs.declared.ending.Ending.{Ending}
 use Rattle.plinq_document.specs.Jobs.{JobView}
@@ -12,7 +13,7 @@ use Rattle.plinq_document.specs.declared.doc_fault.DocFault.TheVariants.{TooLong
 use Rattle.std.specs.Result.{IsErr}
 use Rattle.plinq_source.specs.Trace.{Trace}
 use Rattle.plinq_lines.specs.Written.{AppendsBeginning}
-use Rattle.plinq_lines.proofs.WrittenBytes.{Bytes, appends-kept, begins-all, begins-nothing}
+use Rattle.plinq_lines.proofs.WrittenBytes.{Bytes, begins-all, begins-nothing}
 use Rattle.plinq_cli.specs.declared.command.Command.{Command}
 use Rattle.plinq_cli.specs.declared.command.Command.TheVariants.{Run, Seq, Plan, Parts}
 use Rattle.plinq_cli.specs.declared.failure.Failure.{Failure}
@@ -23,16 +24,6 @@ use Rattle.plinq_cli.specs.declared.arguments.Arguments.{Arguments}
 use Rattle.plinq_cli.specs.declared.input_fault.InputFault.{InputFault}
 use Rattle.plinq_cli.specs.declared.input_fault.InputFault.TheVariants.{Read as InputRead, TooLong as InputTooLong, Memory as InputMemory}
 
-keeps-same : (a : Bytes) → Keeps a a
-keeps-same None = tt
-keeps-same (Some xs) = refl
-
-keeps-keeps : (a b c : Bytes) → Keeps a b → Keeps b c → Keeps a c
-keeps-keeps None b c h k = tt
-keeps-keeps (Some xs) None c h k = absurd h
-keeps-keeps (Some xs) (Some ys) None h k = absurd k
-keeps-keeps (Some xs) (Some ys) (Some zs) h k = k ∙ h
-
 -- where nothing was written before a failure, that is a beginning of whatever is to be written
 pub serves-nothing : (E : Type 0) (command : Command) (job : JobView) (a : Bytes) (e : E) → Serves {E = E} command job a a (Err e)
 serves-nothing E Run job a e = (_, refl, begins-nothing a _, tt)
@@ -40,7 +31,7 @@ serves-nothing E Seq job a e = (_, refl, begins-nothing a _, tt)
 serves-nothing E Plan job a e = (_, refl, begins-nothing a _, tt)
 serves-nothing E Parts job a e = (_, refl, begins-nothing a _, tt)
 
--- a failure before anything was written, and one behind a beginning of the lines
+-- a failure before anything was written, and one after a beginning of the lines
 pub serves-unwritten : {E : Type 0} (command : Command) (job : JobView) (a : Bytes) (r : Result Ending E) → IsErr r → Serves command job a a r
 serves-unwritten command job a (Ok e) failed = let bad : false ≡ true = failed in cc
 serves-unwritten command job a (Err e) failed = serves-nothing _ command job a e
@@ -53,17 +44,17 @@ serves-begun command job a b (Err e) u failed is begun = (u, is, begun, tt)
 -- out of memory, or a read that fails, before anything was written
 pub unwritten-memory : (command : Command) (meaning : Result JobView DocFault) (a : Bytes) → AnswersMeaning command meaning a a (Err Memory)
 unwritten-memory command (Ok job) a = (serves-nothing Failure command job a Memory, tt)
-unwritten-memory command (Err why) a = (keeps-same a, tt)
+unwritten-memory command (Err why) a = (Keeps-refl a, tt)
 
 unwritten-read : (command : Command) (meaning : Result JobView DocFault) (a : Bytes) → AnswersMeaning command meaning a a (Err Read)
 unwritten-read command (Ok job) a = (serves-nothing Failure command job a Read, tt)
-unwritten-read command (Err why) a = (keeps-same a, tt)
+unwritten-read command (Err why) a = (Keeps-refl a, tt)
 
 -- a document that is refused
 refused-as : (command : Command) (meaning : Result JobView DocFault) (a : Bytes) (e : DocFault) → meaning ≡ Err e → AnswersMeaning command meaning a a (Err (Document e))
 refused-as command meaning a e is =
     let P : Result JobView DocFault → Type 0 = λ m. AnswersMeaning command m a a (Err (Document e)) in
-    subst P (sym is) (keeps-same a, refl)
+    subst P (sym is) (Keeps-refl a, refl)
 
 pub refused : (command : Command) (meaning : Result JobView DocFault) (a : Bytes) (e : DocFault) → IfMeant meaning e
     → AnswersMeaning command meaning a a (Err (failure_of_document e))
@@ -99,10 +90,10 @@ unread arguments (Some all) a InputTooLong long = (all, refl, too_long arguments
 
 kept : (command : Command) (meaning : Result JobView DocFault) (a b c : Bytes) (r : Result Ending Failure)
     → AnswersMeaning command meaning a b r → Keeps b c → AnswersMeaning command meaning a c r
-kept command (Ok job) a b c (Ok e) h k = ((h.0.0, h.0.1, appends-kept a b c _ h.0.2 k, h.0.3), tt)
-kept command (Ok job) a b c (Err failure) h k = ((h.0.0, h.0.1, (h.0.2.0, appends-kept a b c _ h.0.2.1 k), tt), h.1)
+kept command (Ok job) a b c (Ok e) h k = ((h.0.0, h.0.1, Appends-kept a b c _ h.0.2 k, h.0.3), tt)
+kept command (Ok job) a b c (Err failure) h k = ((h.0.0, h.0.1, (h.0.2.0, Appends-kept a b c _ h.0.2.1 k), tt), h.1)
 kept command (Err why) a b c (Ok e) h k = h
-kept command (Err why) a b c (Err failure) h k = (keeps-keeps a b c h.0 k, h.1)
+kept command (Err why) a b c (Err failure) h k = (Keeps-trans a b c h.0 k, h.1)
 
 -- an answer of which the last of the output couldn't be written
 unkept : (command : Command) (meaning : Result JobView DocFault) (a b : Bytes) (e : Ending)

@@ -24,7 +24,6 @@ use Rattle.plinq_ops.specs.Query.{is_degree}
 use Rattle.std.proofs.lemmas.Bool.Decides.{nat_tests}
 use Rattle.plinq_cli.specs.Arguments.{AddsItsShape, IsAsked, Refuses, TakesOnly, arguments_in, arguments_of, arguments_with, command_names, kinds_of, merge_of, merge_words, plinq_app, with_command, workers_in, workers_of}
 use Rattle.plinq_cli.specs.declared.arguments.Arguments.{Arguments}
-use Rattle.plinq_cli.specs.declared.command.Command.{Command}
 
 -- the program's command line is one of which `clap` tells the matches and the faults
 pub is_plain : (q : ValueParser) → is_simple_and_free (plinq_app q) ≡ true

@@ -8,7 +8,7 @@ pub Consumes-none : (a : Option (List ℕ)) → Consumes a a []
 Consumes-none None = tt
 Consumes-none (Some xs) = refl
 
--- one read behind another
+-- one read after another
 pub Consumes-append : (a b d : Option (List ℕ)) (xs ys : List ℕ) → Consumes a b xs → Consumes b d ys → Consumes a d (xs ++ ys)
 Consumes-append None b d xs ys first second = tt
 Consumes-append (Some x) None d xs ys first second = absurd first

@@ -1,5 +1,5 @@
 -- What is printed is read as itself, and what is read is printed by the same words.
-use Rattle.std.proofs.Common.{◌≡◌, ◌≢◌, ℕ, ℤ, List, [], ◌∷◌, ◌++◌, Bool, true, false, Option, Some, None, refl, ap, sym, ◌∙◌, subst, codes, bytes_eq}
+use Rattle.std.proofs.Common.{◌≡◌, ◌≢◌, ℕ, ℤ, List, [], ◌∷◌, Bool, true, false, Option, Some, None, refl, ap, sym, ◌∙◌, subst, codes, bytes_eq}
 use Rattle.std.specs.Prelude.{IfSome, ⊤, option_map, option_and_then, if◌then◌else◌}
 use Rattle.std.proofs.lemmas.Slice.Eq.{bytes_eq-Decides}
 use Rattle.plinq_document.specs.Json.{Data, null, boolean, number, string, array, object, Items, no_items, item}
@@ -17,9 +17,9 @@ use Rattle.plinq_document.specs.Steps.{call_from, call_named, call_alone, merge_
 use Rattle.plinq_document.specs.declared.version.Version.TheVariants.{One}
 use Rattle.plinq_document.specs.declared.step_call.StepCall.{StepCall}
 use Rattle.plinq_document.specs.declared.step_call.StepCall.TheVariants as call
-use Rattle.plinq_lines.specs.OpWords.{formula_name, formula_number, op_name, op_words}
+use Rattle.plinq_lines.specs.OpWords.{formula_name, formula_number, op_name}
 use Rattle.plinq_lines.specs.PlanText.{merge_name}
-use Rattle.plinq_cli.specs.Printed.{NumberItems, FormulaItems, BehindName, behind_words, OpItems, op_of_call, call_of_op}
+use Rattle.plinq_cli.specs.Printed.{NumberItems, FormulaItems, AfterName, OpItems, op_of_call, call_of_op}
 
 -- a fact of each row of a table
 abbrev Rows : {A : Type 0} → (List ℕ → A → Type 0) → List (List ℕ × A) → Type 0
@@ -99,7 +99,7 @@ formula_of-read f (item (object ms) ds) is = cc
 
 -- ---- operators
 
-call_from-named : (op : Op Formula) (ds : Items) → BehindName op ds → call_from One (item (string (op_name op)) ds) ≡ Some (call_of_op op)
+call_from-named : (op : Op Formula) (ds : Items) → AfterName op ds → call_from One (item (string (op_name op)) ds) ≡ Some (call_of_op op)
 call_from-named (Select f) ds h = ap (option_map call.Select) (formula_of-printed f ds h)
 call_from-named (Filter f) ds h = ap (option_map call.Filter) (formula_of-printed f ds h)
 call_from-named (SelectMany f) ds h = ap (option_map call.SelectMany) (formula_of-printed f ds h)
@@ -176,16 +176,6 @@ call_from-read (item (number n) ds) c is = cc
 call_from-read (item (string word) ds) c is = chosen (step_names One) (λ n. call_named n ds) (λ w x. Prints w x ds) word c (call_named-read ds) is
 call_from-read (item (array es) ds) c is = cc
 call_from-read (item (object ms) ds) c is = cc
-
--- the words that are printed for an operator: its name, and what stands behind it
-pub op_words-named : (op : Op Formula) → op_words op ≡ op_name op ++ behind_words op
-op_words-named (Select f) = refl
-op_words-named (Filter f) = refl
-op_words-named (SelectMany f) = refl
-op_words-named (Take n) = refl
-op_words-named (Skip n) = refl
-op_words-named (TakeWhile f) = refl
-op_words-named AsUnordered = refl
 
 -- ---- merge options
 

@@ -106,11 +106,11 @@ at_a_refusal = refl
 pub at_a_fault : status_of (Ok (Fault 1)) ≡ 4
 at_a_fault = refl
 
-pub at_want_of_memory : status_of (Err (failure_of_serve ServeMemory)) ≡ 5
-at_want_of_memory = refl
+pub out_of_memory : status_of (Err (failure_of_serve ServeMemory)) ≡ 5
+out_of_memory = refl
 
-pub at_want_of_memory_for_the_document : status_of (Err (failure_of_document DocMemory)) ≡ 5
-at_want_of_memory_for_the_document = refl
+pub out_of_memory_for_the_document : status_of (Err (failure_of_document DocMemory)) ≡ 5
+out_of_memory_for_the_document = refl
 
 pub at_a_failing_read : status_of (Err (failure_of_input InputRead)) ≡ 5
 at_a_failing_read = refl

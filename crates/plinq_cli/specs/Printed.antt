@@ -1,5 +1,5 @@
 -- The words that are printed, as the items of a document's step that has them.
-use Rattle.std.specs.Prelude.{◌≡◌, ℕ, ℤ, List, [], Option, Some, None, ⊤}
+use Rattle.std.specs.Prelude.{◌≡◌, ℤ, Option, Some, None, ⊤}
 use Rattle.plinq_document.specs.Json.{Items, no_items, item, string}
 use Rattle.plinq_lambda.specs.declared.formula.Formula.{Formula}
 use Rattle.plinq_ops.specs.declared.op.Op.{Op}
@@ -7,8 +7,7 @@ use Rattle.plinq_ops.specs.declared.op.Op.TheVariants.{Select, Filter, SelectMan
 use Rattle.plinq_document.specs.Values.{only_whole_number}
 use Rattle.plinq_document.specs.declared.step_call.StepCall.{StepCall}
 use Rattle.plinq_document.specs.declared.step_call.StepCall.TheVariants as call
-use Rattle.plinq_lines.specs.Text.{further_number}
-use Rattle.plinq_lines.specs.OpWords.{formula_name, formula_number, formula_words, op_name}
+use Rattle.plinq_lines.specs.OpWords.{formula_name, formula_number, op_name}
 
 -- a number that may be there: no item, or one that is it
 abbrev pub NumberItems : Option ℤ → Items → Type 0
@@ -21,30 +20,20 @@ abbrev pub FormulaItems : Formula → Items → Type 0
 FormulaItems f no_items = ⊥
 FormulaItems f (item word ds) = (word ≡ string (formula_name f)) × NumberItems (formula_number f) ds
 
--- what stands behind an operator's name: a formula, a number or nothing
-abbrev pub BehindName : Op Formula → Items → Type 0
-BehindName (Select f) ds = FormulaItems f ds
-BehindName (Filter f) ds = FormulaItems f ds
-BehindName (SelectMany f) ds = FormulaItems f ds
-BehindName (Take n) ds = NumberItems (Some n) ds
-BehindName (Skip n) ds = NumberItems (Some n) ds
-BehindName (TakeWhile f) ds = FormulaItems f ds
-BehindName AsUnordered ds = NumberItems None ds
+-- what stands after an operator's name: a formula, a number or nothing
+abbrev pub AfterName : Op Formula → Items → Type 0
+AfterName (Select f) ds = FormulaItems f ds
+AfterName (Filter f) ds = FormulaItems f ds
+AfterName (SelectMany f) ds = FormulaItems f ds
+AfterName (Take n) ds = NumberItems (Some n) ds
+AfterName (Skip n) ds = NumberItems (Some n) ds
+AfterName (TakeWhile f) ds = FormulaItems f ds
+AfterName AsUnordered ds = NumberItems None ds
 
--- and how that is printed
-abbrev pub behind_words : Op Formula → List ℕ
-behind_words (Select f) = formula_words f
-behind_words (Filter f) = formula_words f
-behind_words (SelectMany f) = formula_words f
-behind_words (Take n) = further_number n
-behind_words (Skip n) = further_number n
-behind_words (TakeWhile f) = formula_words f
-behind_words AsUnordered = []
-
--- an operator: its printed name, and what stands behind it
+-- an operator: its printed name, and what stands after it
 abbrev pub OpItems : Op Formula → Items → Type 0
 OpItems op no_items = ⊥
-OpItems op (item word ds) = (word ≡ string (op_name op)) × BehindName op ds
+OpItems op (item word ds) = (word ≡ string (op_name op)) × AfterName op ds
 
 -- the operator that a step's call adds, if it adds one
 abbrev pub op_of_call : StepCall → Option (Op Formula)

@@ -1,9 +1,13 @@
 -- What each command answers, and the text that it prints.
-use Rattle.std.specs.Prelude.{◌≡◌, ℕ, ℤ, List, [], Option, Some, Result, IfOk}
+use Rattle.std.specs.Prelude.{◌≡◌, ℕ, ℤ, pos, List, [], ◌∷◌, true, Option, Some, None, Result, IfOk, codes, refl}
+use Rattle.std.specs.Fmt.{digits}
 use Rattle.plinq_source.specs.declared.ending.Ending.{Ending}
 use Rattle.plinq_source.specs.declared.ending.Ending.TheVariants.{End}
 use Rattle.plinq_source.specs.Trace.{Trace, ended}
 use Rattle.plinq_lambda.specs.Formula.{formula_meaning}
+use Rattle.plinq_lambda.specs.declared.formula.Formula.TheVariants.{Add}
+use Rattle.plinq_ops.specs.declared.op.Op.TheVariants.{Select}
+use Rattle.plinq_ops.specs.declared.merge_option.MergeOption.TheVariants.{NotBuffered}
 use Rattle.plinq_ops.specs.Query.{merge_in_force, degree_in_force}
 use Rattle.plinq_ops.specs.Sequential.{answer_of}
 use Rattle.plinq_document.specs.Jobs.{JobView}
@@ -36,3 +40,20 @@ text Parts job u = parts_text (degree_in_force job.query.degree) u
 abbrev pub Serves : {E : Type 0} → Command → JobView → Option (List ℕ) → Option (List ℕ) → Result Ending E → Type 0
 Serves command job old new r =
     (u : Trace ℤ) × IsAnswer command job u × Writes old new r (text command job u) × IfOk r (λ e. u.ending ≡ Some e)
+
+-- ---- worked rows
+
+-- {"version":1,"source":{"list":[3,1,4]},"query":[["as_ordered"],["select","add",1]]}, with --merge not
+abbrev pub add_one : JobView
+add_one = record {
+  query = record { ops = Select (Add (pos 1)) ∷ []; ordered = true; merge = Some NotBuffered; degree = None };
+  source = ended (pos 3 ∷ pos 1 ∷ pos 4 ∷ []) End;
+  growth = record { first = 1; repeat = 3; max = 512 };
+}
+
+pub add_one_is_answered : sequential_answer add_one ≡ ended (pos 4 ∷ pos 2 ∷ pos 5 ∷ []) End
+add_one_is_answered = refl
+
+pub add_one_is_printed : text Run add_one (sequential_answer add_one) ≡ codes "4\n2\n5\nend\n"
+unfolding digits
+add_one_is_printed = refl

@@ -43,7 +43,10 @@ pub struct Arguments {
 
 /// Reads a command line, of which the first word is the program's name.
 ///
-/// `clap` words the refusals and the help, both of which are its errors.
+/// # Errors
+///
+/// What `clap` shows in place of arguments, in its words: why it refuses the command line, the help that this asks for,
+/// or that memory ran out. Its kind tells which.
 pub fn read_arguments(alloc: Global, words: &[String]) -> Result<Arguments, clap::Error>
     ensures { MatchResult result (IsAsked (map string_bytes words.now)) (λ e. Refuses (map string_bytes words.now) (kind_of e)) }
 {

@@ -6,7 +6,7 @@ use crate::serve_fault::ServeFault;
 use plinq_document::DocFault;
 use thiserror::Error;
 
-/// Why the program has no answer. Its text is the line on standard error, behind the program's name.
+/// Why the program has no answer. Its text is the line on standard error, after the program's name.
 #[derive(Clone, Copy, Debug, PartialEq, Eq, Error)]
 pub enum Failure {
     /// The document is refused.

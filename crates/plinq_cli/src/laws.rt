@@ -13,9 +13,9 @@ ghost use Rattle.plinq_document.specs.declared.version.Version.TheVariants.{One}
 ghost use Rattle.plinq_document.specs.declared.step_call.StepCall.{StepCall};
 ghost use Rattle.plinq_document.specs.Formulas.{formula_of};
 ghost use Rattle.plinq_document.specs.Steps.{call_from, merge_word};
-ghost use Rattle.plinq_lines.specs.OpWords.{op_name, op_words};
+ghost use Rattle.plinq_lines.specs.OpWords.{argument_words, op_argument, op_name, op_words};
 ghost use Rattle.plinq_lines.specs.PlanText.{merge_name};
-ghost use Rattle.plinq_cli.specs.Printed.{FormulaItems, OpItems, behind_words, call_of_op, op_of_call};
+ghost use Rattle.plinq_cli.specs.Printed.{FormulaItems, OpItems, call_of_op, op_of_call};
 
 /// A formula's printed words, and no others, are read as that formula.
 pub fn printed_formula_is_read()
@@ -25,7 +25,7 @@ pub fn printed_formula_is_read()
 
 /// An operator's printed words, and no others, are read as the call that adds it.
 pub fn printed_operator_is_read()
-    ensures words { (op : Op Formula) → op_words op ≡ op_name op ++ behind_words op }
+    ensures words { (op : Op Formula) → op_words op ≡ op_name op ++ argument_words (op_argument op) }
     ensures read { (op : Op Formula) (ds : Items) → OpItems op ds → call_from One ds ≡ Some (call_of_op op) }
     ensures printed { (ds : Items) (c : StepCall) → call_from One ds ≡ Some c → IfSome (op_of_call c) (λ op. OpItems op ds) }
 {}

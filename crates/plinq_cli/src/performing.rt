@@ -21,7 +21,7 @@ use std::io::{Read, Write};
 /// The status is 0 at the end of an answer and for help, 2 for refused arguments and documents, 3 where the source
 /// refused, 4 at a fault, and 5 where anything else failed. `out` is flushed before the status is answered, and a
 /// flush that fails is a failing write, unless something has failed before. After a failing write `out` is left alone,
-/// so that a caller who lets go of what it still holds writes nothing behind the line of the failure. What fails in
+/// so that a caller who lets go of what it still holds writes nothing after the line of the failure. What fails in
 /// writing to `err` changes nothing.
 pub fn perform<R: AllocGlobal, I: Read, W: Write, E: Write>(
     rt: &R,

@@ -1,6 +1,7 @@
--- Writes one behind another.
-use Rattle.std.proofs.Common.{◌≡◌, ℕ, ◌+◌, ◌-◌, ◌≤◌, min, List, [], ◌++◌, length, take, drop, Option, Some, None, Result, Ok, Err, arith, ap, sym, subst, ◌∙◌, append_assoc, append-nil, length-drop}
-use Rattle.std.specs.Io.KnownBytes.{Keeps, Appends}
+-- Writes one after another.
+use Rattle.std.proofs.Common.{◌≡◌, ℕ, ◌+◌, ◌-◌, ◌≤◌, min, List, [], ◌++◌, length, take, drop, Option, Some, None, Result, Ok, Err, arith, ap, sym, subst, ◌∙◌, length-drop}
+use Rattle.std.specs.Io.KnownBytes.{Appends}
+use Rattle.std.proofs.KnownBytes.{Appends-nil, Appends-trans}
 use Rattle.std.specs.Result.{IsErr}
 use Rattle.std.proofs.lemmas.Result.{MatchResult-from_err}
 use Rattle.std.proofs.Math.Seq.{take-append-add, take-length, take-add}
@@ -11,34 +12,18 @@ use Rattle.plinq_lines.specs.Written.{AppendsBeginning, Writes}
 abbrev pub Bytes : Type 0
 Bytes = Option (List ℕ)
 
-pub appends-nothing : (a : Bytes) → Appends a a []
-appends-nothing None = tt
-appends-nothing (Some xs) = sym (append-nil xs)
-
-pub appends-kept : (a b c : Bytes) (x : List ℕ) → Appends a b x → Keeps b c → Appends a c x
-appends-kept None b c x h k = tt
-appends-kept (Some xs) None c x h k = absurd h
-appends-kept (Some xs) (Some ys) None x h k = absurd k
-appends-kept (Some xs) (Some ys) (Some zs) x h k = k ∙ h
-
-pub appends-appends : (a b c : Bytes) (x y : List ℕ) → Appends a b x → Appends b c y → Appends a c (x ++ y)
-appends-appends None b c x y h k = tt
-appends-appends (Some xs) None c x y h k = absurd h
-appends-appends (Some xs) (Some ys) None x y h k = absurd k
-appends-appends (Some xs) (Some ys) (Some zs) x y h k = k ∙ (ap (λ s. s ++ y) h ∙ append_assoc xs x y)
-
 pub appends-as : (a b : Bytes) (x y : List ℕ) → x ≡ y → Appends a b x → Appends a b y
 appends-as a b x y e h = let P : List ℕ → Type 0 = λ s. Appends a b s in subst P e h
 
 range-to_end : (bs : List ℕ) (i : ℕ) → take (length bs - i) (drop i bs) ≡ drop i bs
 range-to_end bs i = ap (λ n. take n (drop i bs)) (sym (length-drop i bs)) ∙ take-length (drop i bs)
 
--- the first i bytes, and then n of those behind them
+-- the first i bytes, and then n of those after them
 pub appends-piece : (a b c : Bytes) (bs : List ℕ) (i n w : ℕ) → w ≡ i + n → Appends a b (take i bs)
     → Appends b c (take n (take (length bs - i) (drop i bs))) → Appends a c (take w bs)
 appends-piece a b c bs i n w e h k =
     appends-as a c _ _ (ap (λ s. take i bs ++ take n s) (range-to_end bs i) ∙ (sym (take-add i n bs) ∙ ap (λ m. take m bs) (sym e)))
-    (appends-appends a b c _ _ h k)
+    (Appends-trans a b c _ _ h k)
 
 pub within-piece : (bs : List ℕ) (i n w : ℕ) → w ≡ i + n → i ≤ length bs → n ≤ length (take (length bs - i) (drop i bs)) → w ≤ length bs
 within-piece bs i n w e h k =
@@ -56,20 +41,20 @@ begins-as a b x y e h = let P : List ℕ → Type 0 = λ s. AppendsBeginning a b
 take-min-append : (x y : List ℕ) (n : ℕ) → take (min n (length x)) (x ++ y) ≡ take n x
 take-min-append x y n = take-append-le (min n (length x)) x y (omega arith) ∙ take_min n x
 
--- a beginning of x is one of x with more behind it
+-- a beginning of x is one of x with more after it
 pub begins-append : (a b : Bytes) (x y : List ℕ) → AppendsBeginning a b x → AppendsBeginning a b (x ++ y)
 begins-append a b x y h =
     (min h.0 (length x), appends-as a b (take h.0 x) _ (sym (take-min-append x y h.0)) h.1)
 
 -- x, and then a beginning of y
-pub begins-behind : (a b c : Bytes) (x y : List ℕ) → Appends a b x → AppendsBeginning b c y → AppendsBeginning a c (x ++ y)
-begins-behind a b c x y h k =
-    (length x + k.0, appends-as a c _ _ (sym (take-append-add x y k.0)) (appends-appends a b c x (take k.0 y) h k.1))
+pub begins-after : (a b c : Bytes) (x y : List ℕ) → Appends a b x → AppendsBeginning b c y → AppendsBeginning a c (x ++ y)
+begins-after a b c x y h k =
+    (length x + k.0, appends-as a c _ _ (sym (take-append-add x y k.0)) (Appends-trans a b c x (take k.0 y) h k.1))
 
 -- x, and then all or a beginning of y, as the last call says
-pub writes-behind : {A E : Type 0} (a b c : Bytes) (r : Result A E) (x y : List ℕ) → Appends a b x → Writes b c r y → Writes a c r (x ++ y)
-writes-behind a b c (Ok v) x y h k = appends-appends a b c x y h k
-writes-behind a b c (Err e) x y h k = begins-behind a b c x y h k
+pub writes-after : {A E : Type 0} (a b c : Bytes) (r : Result A E) (x y : List ℕ) → Appends a b x → Writes b c r y → Writes a c r (x ++ y)
+writes-after a b c (Ok v) x y h k = Appends-trans a b c x y h k
+writes-after a b c (Err e) x y h k = begins-after a b c x y h k
 
 -- at the exit of a `?`
 pub writes-at_err : {A E : Type 0} (a b : Bytes) (r : Result A E) (bytes : List ℕ) → IsErr r → AppendsBeginning a b bytes → Writes a b r bytes
@@ -79,4 +64,4 @@ pub writes-as : {A E : Type 0} (a b : Bytes) (r : Result A E) (x y : List ℕ) �
 writes-as a b r x y e h = let P : List ℕ → Type 0 = λ s. Writes a b r s in subst P e h
 
 pub begins-nothing : (a : Bytes) (x : List ℕ) → AppendsBeginning a a x
-begins-nothing a x = (0, appends-nothing a)
+begins-nothing a x = (0, Appends-nil a)

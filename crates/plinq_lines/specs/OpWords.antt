@@ -10,7 +10,7 @@ use Rattle.plinq_lines.specs.declared.argument.Argument.{Argument}
 use Rattle.plinq_lines.specs.declared.argument.Argument.TheVariants.{Nothing, Formula as FormulaArgument, Number}
 use Rattle.plinq_lines.specs.Text.{further_number}
 
--- a name, and the number behind it if there is one
+-- a name, and the number after it if there is one
 abbrev pub name_words : List ℕ → Option ℤ → List ℕ
 name_words name None = name
 name_words name (Some n) = name ++ further_number n
@@ -52,7 +52,7 @@ op_name (Skip n) = codes "skip"
 op_name (TakeWhile f) = codes "take_while"
 op_name AsUnordered = codes "as_unordered"
 
--- what stands behind an operator's name
+-- what stands after an operator's name
 abbrev pub op_argument : Op Formula → Argument
 op_argument (Select f) = FormulaArgument f
 op_argument (Filter f) = FormulaArgument f
@@ -67,11 +67,11 @@ argument_words Nothing = []
 argument_words (FormulaArgument f) = formula_words f
 argument_words (Number n) = further_number n
 
--- an operator: its name, and what stands behind it
+-- an operator: its name, and what stands after it
 abbrev pub op_words : Op Formula → List ℕ
 op_words op = op_name op ++ argument_words (op_argument op)
 
--- an operator behind another: a comma and a space, and its words
+-- an operator after another: a comma and a space, and its words
 abbrev pub further_op : Op Formula → List ℕ
 further_op op = codes ", " ++ op_words op
 

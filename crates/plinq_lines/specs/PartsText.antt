@@ -49,5 +49,5 @@ pub none_in_two : parts_text 2 (ended [] End) ≡ codes "properties true true tr
 unfolding digits
 none_in_two = refl
 
-pub in_each_alone : properties_line (record { in_each = true; across = false; normalized = false }) ≡ codes "properties true false false\n"
-in_each_alone = refl
+pub each_in_its_place : properties_line (record { in_each = true; across = false; normalized = true }) ≡ codes "properties true false true\n"
+each_in_its_place = refl

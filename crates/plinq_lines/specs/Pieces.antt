@@ -11,6 +11,6 @@ piece_words (Text words) = words.now
 piece_words (Count n) = decimal n
 piece_words (Number x) = signed_decimal x
 
--- pieces one behind another
+-- pieces one after another
 abbrev pub pieces_words : List Piece → List ℕ
 pieces_words = flat_map piece_words

@@ -14,7 +14,7 @@ use Rattle.plinq_ops.specs.Batches.{batches}
 abbrev pub line : List ℕ → List ℕ
 line text = text ++ 10 ∷ []
 
--- a number behind another: a space, and its decimal
+-- a number after another: a space, and its decimal
 abbrev pub further_number : ℤ → List ℕ
 further_number x = 32 ∷ signed_decimal x
 

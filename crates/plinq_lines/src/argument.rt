@@ -1,6 +1,6 @@
 use plinq_lambda::Formula;
 
-/// What stands behind an operator's name.
+/// What stands after an operator's name.
 #[derive(Clone, Copy)]
 pub(crate) enum Argument {
     Nothing,

@@ -71,7 +71,7 @@ fn write_long_batch<W: Write>(writer: &mut W, batch: &[i64]) -> Result<(), Write
     write_further_numbers(writer, further)
 }
 
-// Writes the numbers behind the first of a line, and its line feed.
+// Writes the numbers after the first of a line, and its line feed.
 fn write_further_numbers<W: Write>(writer: &mut W, further: &[i64]) -> Result<(), WriteFault>
     ensures { Writes (W.contents writer.old) (W.contents writer.new) result (line (flat_map further_number further.now)) }
 {

@@ -1,6 +1,6 @@
 //! Lines: what is written is exactly the lines of an answer, and after a failure a beginning of them.
 //!
-//! - Each function here `Writes` a text: at `Ok` the writer has all of it behind what it had, at an `Err` a beginning
+//! - Each function here `Writes` a text: at `Ok` the writer has all of it after what it had, at an `Err` a beginning
 //!   of it (`specs/Written.antt`). None takes memory, and none flushes.
 //! - [`write_batch`] writes the line of one batch (`batch_line`), [`write_batches`] those of a whole answer, a line
 //!   each, and [`write_ending`] the line of how it ended (`ending_words`); [`write_answer`] all of it (`answer_text`).

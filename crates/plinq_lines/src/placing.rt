@@ -37,7 +37,7 @@ fn place_further_number(x: i64, text: &mut [u8], end: usize) -> usize
     start - 1
 }
 
-// Places numbers, each behind a space.
+// Places numbers, each after a space.
 #[inline]
 pub(crate) fn place_further_numbers(numbers: &[i64], text: &mut [u8], end: usize) -> usize
     requires room { 21 * length numbers.now ≤ end }

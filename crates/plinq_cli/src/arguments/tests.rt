@@ -4,7 +4,7 @@ use plinq_document::{Degree, Settings};
 use plinq_ops::MergeOption;
 use std::test::Fail;
 
-// Words behind the program's name, and what they ask for.
+// Words after the program's name, and what they ask for.
 const READ: [(&[&str], Command, Option<u64>, Option<MergeOption>); 6] = [
     (&["run"], Command::Run, None, None),
     (&["seq", "--workers", "64"], Command::Seq, Some(64), None),

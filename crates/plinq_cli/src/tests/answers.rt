@@ -4,7 +4,7 @@ use std::alloc::AllocError;
 use std::process::Abort;
 use std::test::Fail;
 
-// A merge option or none, a source, the steps behind `as_ordered`, the output and the status.
+// A merge option or none, a source, the steps after `as_ordered`, the output and the status.
 type Answer = (&'static str, &'static str, &'static str, &'static str, u8);
 
 const LISTS: [Answer; 20] = [

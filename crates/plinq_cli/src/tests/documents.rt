@@ -4,7 +4,7 @@ use std::alloc::AllocError;
 use std::process::Abort;
 use std::test::Fail;
 
-// Words, a document, and the line on standard error behind the program's name.
+// Words, a document, and the line on standard error after the program's name.
 type Refused = (&'static [&'static str], &'static str, &'static str);
 
 const REFUSED: [Refused; 15] = [

@@ -158,7 +158,7 @@ impl Write for FailsOnce {
 
 // What a buffer still holds after a failing write isn't written, whether a line or the flush was what failed.
 #[test]
-fn nothing_is_written_behind_a_failure(rt: HostRuntime) -> Result<(), Fail> {
+fn nothing_is_written_after_a_failure(rt: HostRuntime) -> Result<(), Fail> {
     let alloc = rt.alloc();
     for capacity in [3, 8_192] {
         let once = FailsOnce {

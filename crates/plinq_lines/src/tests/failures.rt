@@ -1,3 +1,4 @@
+use crate::bytes::write_bytes;
 use crate::tests::interrupting::Interrupting;
 use crate::tests::narrow::Narrow;
 use crate::{WriteFault, write_answer, write_batch};
@@ -51,6 +52,7 @@ fn a_writer_that_is_interrupted(rt: HostRuntime) -> Result<(), Fail> {
     Ok(())
 }
 
+// As one write, and as a batch.
 #[test]
 fn a_thousand_bytes_one_at_a_time(rt: HostRuntime) -> Result<(), Fail> {
     let mut batch = Vec::new(rt.alloc());
@@ -65,6 +67,9 @@ fn a_thousand_bytes_one_at_a_time(rt: HostRuntime) -> Result<(), Fail> {
     }
     line.push_str("\n")?;
     assert_eq!(rt; line.len(), 1_000);
+    let mut out = Narrow::new(rt.alloc(), 1_000, 1);
+    assert_eq!(rt; write_bytes(&mut out, line.as_bytes()), Ok(()));
+    assert_eq!(rt; out.taken(), line.as_bytes());
     let mut out = Narrow::new(rt.alloc(), 1_000, 1);
     assert_eq!(rt; write_batch(&mut out, batch.as_slice()), Ok(()));
     assert_eq!(rt; out.taken(), line.as_bytes());

@@ -1,4 +1,5 @@
-use Rattle.plinq_cli.proofs.PrintedRead.{call_from-printed, call_from-read, op_words-named}
+use Rattle.std.proofs.Common.{refl}
+use Rattle.plinq_cli.proofs.PrintedRead.{call_from-printed, call_from-read}
 use Rattle.plinq_cli.proofs.laws.printed_operator_is_read.Goals as goal
 
 pub returns-clause-read : goal.returns-clause-read
@@ -8,4 +9,4 @@ pub returns-clause-printed : goal.returns-clause-printed
 returns-clause-printed c = λ ds call is. call_from-read ds call is
 
 pub returns-clause-words : goal.returns-clause-words
-returns-clause-words c = λ op. op_words-named op
+returns-clause-words c = λ op. refl

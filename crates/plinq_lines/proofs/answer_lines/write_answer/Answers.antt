@@ -1,4 +1,4 @@
--- the lines of the batches, and the line of the ending behind them
+-- the lines of the batches, and the line of the ending after them
 use Rattle.std.proofs.Common.{refl}
 use Rattle.std.specs.List.{flat_map}
 use Rattle.plinq_source.specs.Trace.{ended}

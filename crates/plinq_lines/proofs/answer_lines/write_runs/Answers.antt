@@ -1,4 +1,4 @@
--- a batch is written behind those before it
+-- a batch is written after those before it
 use Rattle.std.proofs.Common.{◌<◌, length, ap, rules}
 use Rattle.std.specs.List.{flat_map}
 use Rattle.plinq_source.specs.declared.ending.Ending.TheVariants.{End}

@@ -1,4 +1,4 @@
--- some numbers are written behind those before them, and at the end the line feed
+-- some numbers are written after those before them, and at the end the line feed
 use Rattle.std.proofs.Common.{◌≡◌, ℕ, ℤ, List, ◌++◌, take, drop, ap, sym, ◌∙◌, append_assoc}
 use Rattle.std.specs.List.{flat_map}
 use Rattle.std.proofs.lemmas.Bool.{eqb-true}

@@ -1,6 +1,7 @@
--- what a call took stands behind what was written before it; a call that was interrupted has written nothing
+-- what a call took stands after what was written before it; a call that was interrupted has written nothing
 use Rattle.std.proofs.Common.{arith}
-use Rattle.plinq_lines.proofs.WrittenBytes.{appends-kept, appends-piece, within-piece}
+use Rattle.std.proofs.KnownBytes.{Appends-kept}
+use Rattle.plinq_lines.proofs.WrittenBytes.{appends-piece, within-piece}
 use Rattle.plinq_lines.proofs.bytes.write_bytes.Goals as goal
 use Rattle.plinq_lines.proofs.bytes.write_bytes.Goals.{in-Ok, in-Err}
 
@@ -12,6 +13,6 @@ loop-preserved g c = elim c.match-write.branch [
   }
   | in-Err w ↦ record {
     within = omega arith;
-    appended = rw w.written-is (appends-kept _ _ _ _ c.loop.invariant.appended w.in-Err.ensures.bytes);
+    appended = rw w.written-is (Appends-kept _ _ _ _ c.loop.invariant.appended w.in-Err.ensures.bytes);
   }
 ]

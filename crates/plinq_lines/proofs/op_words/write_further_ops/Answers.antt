@@ -1,4 +1,4 @@
--- one is written behind those before it, and at the end the line feed
+-- one is written after those before it, and at the end the line feed
 use Rattle.plinq_lines.specs.OpWords.{further_op}
 use Rattle.plinq_lines.proofs.ItemLines.{line-first, line-none}
 use Rattle.plinq_lines.proofs.PartWritten.{piece-failed, piece-written, rest-writes}

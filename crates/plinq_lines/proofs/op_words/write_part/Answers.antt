@@ -1,4 +1,4 @@
--- the name with the first operator, and those behind it with the line feed
+-- the name with the first operator, and those after it with the line feed
 use Rattle.std.proofs.Common.{◌≡◌, ℕ, List, ◌∷◌, ◌++◌, refl, ap, ◌∙◌, append_assoc}
 use Rattle.std.specs.List.{flat_map}
 use Rattle.plinq_lambda.specs.declared.formula.Formula.{Formula}

@@ -1,4 +1,4 @@
--- the number and the colon, and the elements behind them
+-- the number and the colon, and the elements after them
 use Rattle.std.proofs.Common.{[], ◌∷◌, decimal, refl, sym, append_assoc}
 use Rattle.std.specs.List.{flat_map}
 use Rattle.plinq_lines.specs.PartsText.{element_words}

@@ -1,4 +1,4 @@
--- a partition is written behind those before it
+-- a partition is written after those before it
 use Rattle.std.proofs.Common.{◌+◌, ◌++◌, length, ap, sym, ◌∙◌, arith}
 use Rattle.plinq_keyed.specs.Keys.{element_lists}
 use Rattle.plinq_lines.specs.PartsText.{part_line, part_lines}

@@ -1,4 +1,4 @@
--- the properties, the partitions and the ending, one behind another
+-- the properties, the partitions and the ending, one after another
 use Rattle.std.proofs.Common.{◌++◌, refl}
 use Rattle.plinq_keyed.specs.Keys.{element_lists}
 use Rattle.plinq_lines.specs.PartsText.{properties_line, part_lines}

@@ -1,4 +1,4 @@
--- a piece is written behind those before it
+-- a piece is written after those before it
 use Rattle.std.proofs.lemmas.List.{at_drop_more}
 use Rattle.plinq_lines.specs.Pieces.{pieces_words}
 use Rattle.plinq_lines.proofs.PartWritten.{piece-failed, piece-written}

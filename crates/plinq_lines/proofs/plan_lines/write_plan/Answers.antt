@@ -1,4 +1,4 @@
--- the three settings, the worker part and the part after it, one behind another
+-- the three settings, the worker part and the part after it, one after another
 use Rattle.std.proofs.Common.{◌≡◌, ℕ, List, ◌++◌, codes, refl}
 use Rattle.plinq_lambda.specs.declared.formula.Formula.{Formula}
 use Rattle.plinq_ops.specs.declared.merge_option.MergeOption.{MergeOption}
