@@ -1,3 +1,4 @@
+mod memory;
 mod orders;
 mod rows;
 mod taken;

@@ -1,4 +1,4 @@
-use super::taken::{Taken, merger_of, offer};
+use super::taken::{Offered, Taken, merger_of, offer};
 use plinq_keyed::Tail;
 use plinq_lambda::Formula;
 use plinq_ops::{BuildFault, FragEnd, MergeOption, Query, sequential};
@@ -7,17 +7,44 @@ use std::alloc::Global;
 use std::process::Abort;
 use std::test::Fail;
 
-/// The operators after the merge that are tried: none, a Take that ends in the third result, a Skip and a Take that
-/// ends nothing. A Filter that keeps all items stands before them, so that no worker can apply them.
-fn query_of(alloc: Global, kind: usize) -> Result<Query<Formula>, BuildFault> {
-    let query = Query::new(alloc).as_ordered().map_err(|(_, fault)| fault)?;
-    if kind == 0 {
-        return Ok(query);
-    }
-    let query = query.filter(Formula::Above(0)).map_err(|(_, fault)| fault)?;
-    match kind {
-        1 => query.take(4).map_err(|(_, fault)| fault),
-        _ => query
+/// What stands after the merge.
+#[derive(Clone, Copy, Debug, PartialEq, Eq)]
+enum After {
+    Nothing,
+    /// A Take that ends within the results.
+    Take,
+    /// A Skip, and a Take that ends nothing.
+    SkipAndTake,
+}
+
+const AFTERS: [After; 3] = [After::Nothing, After::Take, After::SkipAndTake];
+
+const OPTIONS: [MergeOption; 3] = [
+    MergeOption::NotBuffered,
+    MergeOption::AutoBuffered,
+    MergeOption::FullyBuffered,
+];
+
+/// A query that is merged by key, with a Filter that keeps all items, behind which no worker can take or skip.
+fn by_key(alloc: Global, after: After) -> Result<Query<Formula>, BuildFault> {
+    let query = Query::new(alloc)
+        .as_ordered()
+        .map_err(|(_, fault)| fault)?
+        .filter(Formula::Above(0))
+        .map_err(|(_, fault)| fault)?;
+    with_after(query, after)
+}
+
+/// A query that is merged by arrival: no worker can take or skip.
+fn by_arrival(alloc: Global, after: After) -> Result<Query<Formula>, BuildFault> {
+    with_after(Query::new(alloc), after)
+}
+
+fn with_after(query: Query<Formula>, after: After) -> Result<Query<Formula>, BuildFault> {
+    match after {
+        After::Nothing => Ok(query),
+        After::Take => query.take(4).map_err(|(_, fault)| fault),
+        After::SkipAndTake => query
             .skip(2)
             .map_err(|(_, fault)| fault)?
             .take(50)
@@ -25,7 +52,7 @@ fn query_of(alloc: Global, kind: usize) -> Result<Query<Formula>, BuildFault> {
     }
 }
 
-/// The five results: the first key of each, and its items.
+/// The results: the first key of each, and its items.
 const RESULTS: [(u64, &[i64]); 5] = [
     (0, &[1]),
     (1, &[2, 3]),
@@ -34,7 +61,7 @@ const RESULTS: [(u64, &[i64]); 5] = [
     (6, &[7, 8, 9, 10, 11, 12, 13, 14, 15, 16, 17, 18, 19, 20]),
 ];
 
-/// How the third result ends, and how the last one's tail does.
+/// How the third result ends, how the last one's tail does, and how the answer then does.
 const ENDINGS: [(FragEnd, Tail, Ending); 4] = [
     (FragEnd::More, Tail::Ended, Ending::End),
     (FragEnd::More, Tail::Refused(7), Ending::Refused(7)),
@@ -42,20 +69,49 @@ const ENDINGS: [(FragEnd, Tail, Ending); 4] = [
     (FragEnd::Fault(3), Tail::Ended, Ending::Fault(3)),
 ];
 
-/// The order of offers of this number, out of all orders of five.
-fn order_of(alloc: Global, number: usize) -> Result<Vec<usize>, Fail> {
-    let mut left = Vec::from_slice(alloc, &[0, 1, 2, 3, 4])?;
+/// The first `count` results, in the order of this number out of all orders of so many.
+fn results_in_order(
+    alloc: Global,
+    count: usize,
+    number: usize,
+    third: FragEnd,
+    tail: Tail,
+) -> Result<Vec<Offered<'static, i64>>, Fail> {
+    let mut left: Vec<usize> = (0..count).collect(alloc)?;
     let mut order = Vec::new(alloc);
     let mut rest = number;
-    for _ in 0..5 {
+    for _ in 0..count {
         if left.is_empty() {
             break;
         }
-        let at = rest % left.len();
-        rest /= left.len();
-        order.push(left.remove(at))?;
+        let at = left.remove(rest % left.len());
+        rest /= left.len().saturating_add(1);
+        if let Some((first, items)) = RESULTS.get(at) {
+            order.push(Offered {
+                first: *first,
+                items: *items,
+                ending: if at == 2 { third } else { FragEnd::More },
+                tail: if at.saturating_add(1) == count {
+                    Some(tail)
+                } else {
+                    None
+                },
+            })?;
+        }
     }
     Ok(order)
+}
+
+/// The items of results, up to and with the first that ends the run.
+fn items_of(alloc: Global, results: &[Offered<'_, i64>]) -> Result<Vec<i64>, Fail> {
+    let mut items = Vec::new(alloc);
+    for result in results {
+        items.extend_from_slice(result.items)?;
+        if result.ending != FragEnd::More {
+            break;
+        }
+    }
+    Ok(items)
 }
 
 /// The batches of items that have this ending.
@@ -82,18 +138,14 @@ fn batches_of(
     Ok(batches)
 }
 
-/// The batches and the ending on one thread.
+/// The batches and the ending on one thread, of items that end so.
 fn sequential_batches(
-    rt: &impl Abort,
     alloc: Global,
     query: &Query<Formula>,
     option: MergeOption,
-    third: FragEnd,
+    items: Vec<i64>,
     last: Ending,
 ) -> Result<(Vec<Vec<i64>>, Ending), Fail> {
-    let count = if third == FragEnd::More { 20 } else { 6 };
-    let items: Vec<i64> = (1..=count).collect(alloc)?;
-    assert!(rt; items.len() <= 20);
     let mut source = ListSource::refusing(alloc, items, 99);
     let (items, ending) = sequential(alloc, query, &mut source)?;
     let ending = if ending == Ending::Refused(99) {
@@ -105,51 +157,49 @@ fn sequential_batches(
     Ok((batches, ending))
 }
 
-#[test]
-fn all_orders_of_five_give_the_sequential_batches(rt: HostRuntime) -> Result<(), Fail> {
-    let options = [
-        MergeOption::NotBuffered,
-        MergeOption::AutoBuffered,
-        MergeOption::FullyBuffered,
-    ];
-    for kind in 0..3 {
-        let query = query_of(rt.alloc(), kind)?;
-        for option in options {
-            for (third, tail, last) in ENDINGS {
-                let (batches, ending) = sequential_batches(
-                    &rt,
-                    rt.alloc(),
-                    &query,
-                    option,
-                    third,
-                    last,
-                )?;
-                for number in 0..120 {
-                    let mut sink = Taken::new(rt.alloc(), usize::MAX);
-                    let mut merger = merger_of(rt.alloc(), &query, option)?;
-                    for at in order_of(rt.alloc(), number)? {
-                        let Some((first, items)) = RESULTS.get(at) else {
-                            break;
-                        };
-                        let end = if at == 2 { third } else { FragEnd::More };
-                        let told = if at == 4 { Some(tail) } else { None };
-                        offer(
-                            &rt,
-                            rt.alloc(),
-                            &mut merger,
-                            *first,
-                            items,
-                            end,
-                            told,
-                            &mut sink,
-                        )?;
-                    }
-                    assert_eq!(rt;
-                        sink.batches,
-                        batches,
-                        "{kind} {option:?} {ending:?} {number}"
-                    );
-                    assert_eq!(rt; merger.finish(), Ok(ending));
+/// Results in this order give these batches and this ending.
+fn expect(
+    rt: &impl Abort,
+    alloc: Global,
+    query: &Query<Formula>,
+    option: MergeOption,
+    results: &[Offered<'_, i64>],
+    wanted: &(Vec<Vec<i64>>, Ending),
+) -> Result<(), Fail> {
+    let mut sink = Taken::new(alloc, usize::MAX);
+    let mut merger = merger_of(alloc, query, option)?;
+    for result in results {
+        offer(rt, &mut merger, *result, &mut sink)?;
+    }
+    assert_eq!(rt; sink.batches, wanted.0);
+    assert_eq!(rt; merger.finish(), Ok(wanted.1));
+    Ok(())
+}
+
+/// How many orders so many results have.
+fn orders_of(count: usize) -> usize {
+    [1, 1, 2, 6, 24, 120].get(count).copied().unwrap_or(0)
+}
+
+/// The first results in all orders, by key and by arrival.
+fn try_orders(rt: &impl Abort, alloc: Global, count: usize) -> Result<(), Fail> {
+    for after in AFTERS {
+        let keyed = by_key(alloc, after)?;
+        let arriving = by_arrival(alloc, after)?;
+        for (third, tail, last) in ENDINGS {
+            if count < 3 && third != FragEnd::More {
+                continue;
+            }
+            let in_turn = results_in_order(alloc, count, 0, third, tail)?;
+            for option in OPTIONS {
+                let items = items_of(alloc, in_turn.as_slice())?;
+                let wanted = sequential_batches(alloc, &keyed, option, items, last)?;
+                for number in 0..orders_of(count) {
+                    let results = results_in_order(alloc, count, number, third, tail)?;
+                    expect(rt, alloc, &keyed, option, results.as_slice(), &wanted)?;
+                    let items = items_of(alloc, results.as_slice())?;
+                    let arrived = sequential_batches(alloc, &arriving, option, items, last)?;
+                    expect(rt, alloc, &arriving, option, results.as_slice(), &arrived)?;
                 }
             }
         }
@@ -157,25 +207,34 @@ fn all_orders_of_five_give_the_sequential_batches(rt: HostRuntime) -> Result<(),
     Ok(())
 }
 
+#[test]
+fn all_orders_of_five_give_the_sequential_batches(rt: HostRuntime) -> Result<(), Fail> {
+    try_orders(&rt, rt.alloc(), 5)
+}
+
+#[test]
+fn all_orders_of_fewer_do(rt: HostRuntime) -> Result<(), Fail> {
+    for count in 1..5 {
+        try_orders(&rt, rt.alloc(), count)?;
+    }
+    Ok(())
+}
+
 /// A thousand results of one item, offered in this order, give all items in batches of sixteen.
 fn offer_thousand(rt: &impl Abort, alloc: Global, step: u64) -> Result<(), Fail> {
-    let query = query_of(alloc, 0)?;
+    let query = by_key(alloc, After::Nothing)?;
     let mut sink = Taken::new(alloc, usize::MAX);
     let mut merger = merger_of(alloc, &query, MergeOption::AutoBuffered)?;
     for turn in 0..1_000u64 {
         assert!(rt; step < 1_000_000);
         let key = (turn * step + 999) % 1_000;
-        let tail = if key == 999 { Some(Tail::Ended) } else { None };
-        offer(
-            rt,
-            alloc,
-            &mut merger,
-            key,
-            &[key as i64],
-            FragEnd::More,
-            tail,
-            &mut sink,
-        )?;
+        let result = Offered {
+            first: key,
+            items: &[key as i64],
+            ending: FragEnd::More,
+            tail: if key == 999 { Some(Tail::Ended) } else { None },
+        };
+        offer(rt, &mut merger, result, &mut sink)?;
     }
     assert_eq!(rt; merger.merged(), 1_000);
     assert_eq!(rt; merger.finish(), Ok(Ending::End));

@@ -1,22 +1,23 @@
-ghost use Rattle.std.specs.Prelude.{⊤};
+ghost use Rattle.std.specs.Prelude.{◌≤◌, ◌^◌, ⊤, Ok, Err, true, IfOk};
+ghost use Rattle.plinq_merge.specs.Shown.{behind_result};
 
 use crate::{MergeFault, Merger, More, Sink};
 use plinq_keyed::Tail;
-use plinq_lambda::Formula;
-use plinq_ops::{ChunkResult, FragEnd, MergeOption, Query};
-use std::alloc::Global;
+use plinq_lambda::{ExpandFault, Lambda};
+use plinq_ops::{BuildFault, ChunkResult, FragEnd, MergeOption, Query};
+use std::alloc::{AllocError, Global};
 use std::process::Abort;
 
 /// A sink that keeps the batches, and refuses number `refused` with 9.
 #[derive(Drop)]
-pub(crate) struct Taken {
+pub(crate) struct Taken<T> {
     alloc: Global,
-    pub(crate) batches: Vec<Vec<i64>>,
+    pub(crate) batches: Vec<Vec<T>>,
     refused: usize,
 }
 
-impl Taken {
-    pub(crate) fn new(alloc: Global, refused: usize) -> Taken {
+impl<T> Taken<T> {
+    pub(crate) fn new(alloc: Global, refused: usize) -> Taken<T> {
         Taken {
             alloc,
             batches: Vec::new(alloc),
@@ -25,14 +26,14 @@ impl Taken {
     }
 }
 
-impl Sink for Taken {
-    type Item = i64;
+impl<T: Copy + Drop> Sink for Taken<T> {
+    type Item = T;
 
     ghost accepts = { λ _ _ _. ⊤ };
 
     ghost refuses = { λ _ _ _ _. ⊤ };
 
-    fn batch(&mut self, items: &[i64]) -> Result<(), u32> {
+    fn batch(&mut self, items: &[T]) -> Result<(), u32> {
         if self.batches.len() == self.refused {
             return Err(9);
         }
@@ -46,37 +47,123 @@ impl Sink for Taken {
     }
 }
 
+/// A lambda over letters that leaves each as it is, and expands none.
+#[derive(Clone, Copy)]
+pub(crate) struct Same;
+
+impl Lambda for Same {
+    type Item = char;
+
+    ghost meaning = { λ _. record { map = λ x. Ok x; test = λ _. Ok true; expand = λ _. Err 1 } };
+
+    ghost short = { λ _ _. tt };
+
+    fn map(&self, x: char) -> Result<char, u32> {
+        Ok(x)
+    }
+
+    fn test(&self, _: char) -> Result<bool, u32> {
+        Ok(true)
+    }
+
+    fn expand(&self, _: Global, _: char) -> Result<Vec<char>, ExpandFault> {
+        Err(ExpandFault::Code(1))
+    }
+}
+
+/// A query of no operators whose results are merged by key.
+pub(crate) fn ordered<L: Lambda>(alloc: Global) -> Result<Query<L>, BuildFault> {
+    Query::new(alloc).as_ordered().map_err(|(_, fault)| fault)
+}
+
 /// The merger of a query.
-pub(crate) fn merger_of(
+pub(crate) fn merger_of<L: Lambda>(
     alloc: Global,
-    query: &Query<Formula>,
+    query: &Query<L>,
     option: MergeOption,
-) -> Result<Merger<'_, Formula>, MergeFault> {
+) -> Result<Merger<'_, L>, MergeFault> {
     Merger::new(alloc, &query.split(), option)
 }
 
-/// Offers the result of a chunk of as many elements as items.
-pub(crate) fn offer(
+/// A result to be offered, of as many elements as items.
+#[derive(Clone, Copy)]
+pub(crate) struct Offered<'a, T> {
+    pub(crate) first: u64,
+    pub(crate) items: &'a [T],
+    pub(crate) ending: FragEnd,
+    pub(crate) tail: Option<Tail>,
+}
+
+/// One behind which the run goes on.
+pub(crate) fn part<T>(first: u64, items: &[T]) -> Offered<'_, T> {
+    Offered {
+        first,
+        items,
+        ending: FragEnd::More,
+        tail: None,
+    }
+}
+
+/// One with a tail.
+pub(crate) fn last<T>(first: u64, items: &[T], tail: Tail) -> Offered<'_, T> {
+    Offered {
+        first,
+        items,
+        ending: FragEnd::More,
+        tail: Some(tail),
+    }
+}
+
+/// One that tells of its run's ending.
+pub(crate) fn ender<T>(first: u64, items: &[T], ending: FragEnd) -> Offered<'_, T> {
+    Offered {
+        first,
+        items,
+        ending,
+        tail: None,
+    }
+}
+
+/// The result itself.
+pub(crate) fn result_of<T: Copy>(
     rt: &impl Abort,
     alloc: Global,
-    merger: &mut Merger<'_, Formula>,
-    first: u64,
-    items: &[i64],
-    ending: FragEnd,
-    tail: Option<Tail>,
-    sink: &mut Taken,
-) -> Result<More, MergeFault> {
-    assert!(rt; first <= 1_000_000 && items.len() <= 1_000_000);
-    let Ok(copied) = Vec::from_slice(alloc, items) else {
-        return Err(MergeFault::Memory);
-    };
-    let offered = ChunkResult {
-        first,
-        count: items.len() as u64,
-        items: copied,
-        ending,
+    offered: Offered<'_, T>,
+) -> Result<ChunkResult<T>, AllocError>
+    ensures { IfOk result (λ made. behind_result made ≤ 2 ^ 40) }
+{
+    assert!(rt; offered.first <= 1_000_000 && offered.items.len() <= 1_000_000);
+    Ok(ChunkResult {
+        first: offered.first,
+        count: offered.items.len() as u64,
+        items: Vec::from_slice(alloc, offered.items)?,
+        ending: offered.ending,
         stop: None,
-        tail,
-    };
-    merger.offer(offered, sink)
+        tail: offered.tail,
+    })
+}
+
+/// What the merger answers to it.
+pub(crate) fn offer<L: Lambda>(
+    rt: &impl Abort,
+    merger: &mut Merger<'_, L>,
+    offered: Offered<'_, L::Item>,
+    sink: &mut Taken<L::Item>,
+) -> Result<More, MergeFault>
+where
+    L::Item: Drop,
+{
+    match result_of(rt, sink.alloc, offered) {
+        Ok(result) => merger.offer(result, sink),
+        Err(_) => Err(MergeFault::Memory),
+    }
+}
+
+/// These batches.
+pub(crate) fn batches<T: Copy>(alloc: Global, batches: &[&[T]]) -> Result<Vec<Vec<T>>, AllocError> {
+    let mut all = Vec::new(alloc);
+    for batch in batches {
+        all.push(Vec::from_slice(alloc, batch)?)?;
+    }
+    Ok(all)
 }
