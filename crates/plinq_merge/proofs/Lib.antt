@@ -6,3 +6,4 @@ pub mod Moves
 pub mod Gains
 pub mod Offers
 pub mod Whole
+pub mod Told

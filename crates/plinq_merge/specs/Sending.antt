@@ -1,5 +1,5 @@
 -- Sending: what a sink is handed, batch by batch.
-use Rattle.std.specs.Prelude.{◌≡◌, ℕ, List, [], ◌∷◌, ◌++◌, Result, MatchResult}
+use Rattle.std.specs.Prelude.{◌≡◌, ℕ, refl, List, [], ◌∷◌, ◌++◌, Result, MatchResult}
 use Rattle.plinq_merge.specs.declared.undelivered.Undelivered.{Undelivered}
 use Rattle.plinq_merge.specs.declared.undelivered.Undelivered.TheVariants.{Memory, Sink}
 
@@ -17,3 +17,14 @@ IsCutOff {K} {B} accepts refuses s bs (Sink code) s' =
 -- all of these batches are delivered, or the first of them are and the fault says why not all
 abbrev pub Delivers : {K B A : Type 0} → (K → B → K → Type 0) → (K → B → ℕ → K → Type 0) → K → List B → Result A Undelivered → K → Type 0
 Delivers accepts refuses s bs r s' = MatchResult r (λ _. Leads accepts s bs s') (λ fault. IsCutOff accepts refuses s bs fault s')
+
+-- a sink that keeps the items of its batches
+abbrev keeps_items : List ℕ → List ℕ → List ℕ → Type 0
+keeps_items s b s' = s' ≡ s ++ b
+
+two_batches : Leads keeps_items (1 ∷ []) ((4 ∷ []) ∷ (2 ∷ 3 ∷ []) ∷ []) (1 ∷ 4 ∷ 2 ∷ 3 ∷ [])
+two_batches = (1 ∷ 4 ∷ [], refl, (1 ∷ 4 ∷ 2 ∷ 3 ∷ [], refl, refl))
+
+-- the second of three is refused with 9: the first was taken
+refused_second : IsCutOff keeps_items (λ s b code s'. s' ≡ s) [] ((4 ∷ []) ∷ (2 ∷ []) ∷ (3 ∷ []) ∷ []) (Sink 9) (4 ∷ [])
+refused_second = (((4 ∷ []) ∷ []), 2 ∷ [], ((3 ∷ []) ∷ []), 4 ∷ [], refl, (4 ∷ [], refl, refl), refl)

@@ -1,15 +1,18 @@
 -- What offered results show: the trace that they merge to, and its batches.
-use Rattle.std.specs.Prelude.{ℕ, ◌+◌, ◌==◌, List, [], ◌∷◌, Bool, if◌then◌else◌, Option, Some, None}
+use Rattle.std.specs.Prelude.{◌≡◌, refl, ℕ, ◌+◌, ◌==◌, List, [], ◌∷◌, Bool, if◌then◌else◌, Option, Some, None}
 use Rattle.std.specs.Option.{option_or}
 use Rattle.std.specs.Ordering.{nat_cmp}
 use Rattle.std.specs.BTreeMap.{insert_entry}
+use Rattle.std.specs.Global.{Vec}
 use Rattle.plinq_source.specs.declared.ending.Ending.{Ending}
-use Rattle.plinq_source.specs.declared.ending.Ending.TheVariants.{End, Refused}
+use Rattle.plinq_source.specs.declared.ending.Ending.TheVariants.{End, Refused, Fault}
 use Rattle.plinq_source.specs.Trace.{Trace, open_trace, ended, followed}
 use Rattle.plinq_keyed.specs.declared.tail.Tail.{Tail}
 use Rattle.plinq_keyed.specs.declared.tail.Tail.TheVariants.{Ended, Refused as TailRefused, Closed}
 use Rattle.plinq_ops.specs.declared.order.Order.{Order}
 use Rattle.plinq_ops.specs.declared.order.Order.TheVariants.{ByKey, ByArrival}
+use Rattle.plinq_ops.specs.declared.fragments.FragEnd.{FragEnd}
+use Rattle.plinq_ops.specs.declared.fragments.FragEnd.TheVariants.{More, Fault as Faults}
 use Rattle.plinq_ops.specs.declared.results.ChunkResult.{ChunkResult}
 use Rattle.plinq_ops.specs.Stage.{Stage, seq}
 use Rattle.plinq_ops.specs.Batches.{batches_from}
@@ -90,3 +93,61 @@ answer merge offers = if merge.decided then ended [] End else seq merge.after (m
 -- its batches so far
 abbrev pub shown : {T : Type 0} → Merge T → List (ChunkResult T) → List (List T)
 shown merge offers = batches_from merge.size [] (answer merge offers)
+
+-- ---- worked rows
+
+ended_tells_the_end : told_at 7 (Some Ended) ≡ Some (7, End)
+ended_tells_the_end = refl
+
+refused_tells_its_code : told_at 7 (Some (TailRefused 3)) ≡ Some (7, Refused 3)
+refused_tells_its_code = refl
+
+closed_tells_nothing : told_at 7 (Some Closed) ≡ None
+closed_tells_nothing = refl
+
+-- keys 0 and 1, a gap at 2, and key 3
+abbrev row_with_a_gap : Option (ℕ × Ending) → Trace ℕ
+row_with_a_gap told =
+    row told 0 ((0, record { behind = 2; trace = open_trace (4 ∷ 2 ∷ []) }) ∷ (3, record { behind = 4; trace = open_trace (9 ∷ []) }) ∷ [])
+
+up_to_the_gap : row_with_a_gap None ≡ open_trace (4 ∷ 2 ∷ [])
+up_to_the_gap = refl
+
+-- a tail behind the gap isn't reached
+tail_behind_a_gap : row_with_a_gap (Some (4, End)) ≡ open_trace (4 ∷ 2 ∷ [])
+tail_behind_a_gap = refl
+
+tail_in_its_place : row_with_a_gap (Some (2, Refused 3)) ≡ ended (4 ∷ 2 ∷ []) (Refused 3)
+tail_in_its_place = refl
+
+nothing_behind_a_fault : row {T = ℕ} (Some (2, End)) 0 ((0, record { behind = 1; trace = ended (4 ∷ []) (Fault 1) }) ∷ (1, record { behind = 2; trace = open_trace (2 ∷ []) }) ∷ [])
+    ≡ ended (4 ∷ []) (Fault 1)
+nothing_behind_a_fault = refl
+
+-- the result of one element
+abbrev one_element : ℕ → Vec ℕ → FragEnd → Option Tail → ChunkResult ℕ
+one_element first items ending tail = record { first = first; count = 1; items = items; ending = ending; stop = None; tail = tail }
+
+-- the later key comes first, with the source's end
+abbrev later_first : Order → Vec ℕ → Vec ℕ → FragEnd → Trace ℕ
+later_first order early late ending = merged order (one_element 1 late ending (Some Ended) ∷ one_element 0 early More None ∷ [])
+
+by_key_in_the_order_of_keys : (early late : Vec ℕ) → early.items ≡ 4 ∷ [] → late.items ≡ 2 ∷ [] → later_first ByKey early late More ≡ ended (4 ∷ 2 ∷ []) End
+by_key_in_the_order_of_keys early late four two = rw (four, two) refl
+
+by_arrival_as_they_came : (early late : Vec ℕ) → early.items ≡ 4 ∷ [] → late.items ≡ 2 ∷ [] → later_first ByArrival early late More ≡ ended (2 ∷ 4 ∷ []) End
+by_arrival_as_they_came early late four two = rw (four, two) refl
+
+-- a fault of the later key
+by_key_the_fault_is_last : (early late : Vec ℕ) → early.items ≡ 4 ∷ [] → late.items ≡ 2 ∷ [] → later_first ByKey early late (Faults 1) ≡ ended (4 ∷ 2 ∷ []) (Fault 1)
+by_key_the_fault_is_last early late four two = rw (four, two) refl
+
+by_arrival_the_fault_is_first : (early late : Vec ℕ) → early.items ≡ 4 ∷ [] → late.items ≡ 2 ∷ [] → later_first ByArrival early late (Faults 1) ≡ ended (2 ∷ []) (Fault 1)
+by_arrival_the_fault_is_first early late four two = rw two refl
+
+-- without key 0 nothing is merged by key, and by arrival the end isn't reached
+by_key_a_gap : (late : Vec ℕ) → late.items ≡ 2 ∷ [] → merged ByKey (one_element 1 late More (Some Ended) ∷ []) ≡ open_trace []
+by_key_a_gap late two = refl
+
+by_arrival_a_gap : (late : Vec ℕ) → late.items ≡ 2 ∷ [] → merged ByArrival (one_element 1 late More (Some Ended) ∷ []) ≡ open_trace (2 ∷ [])
+by_arrival_a_gap late two = rw two refl

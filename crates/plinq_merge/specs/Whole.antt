@@ -11,10 +11,13 @@ use Rattle.plinq_merge.specs.Keys.{is_offered, AreNew}
 abbrev pub EndsAt : {T : Type 0} → Trace T → ℕ × Ending → Type 0
 EndsAt t at = (at.0 ≡ length t.items) × (t.ending ≡ Some at.1)
 
--- what the tails tell of the source's end is so
+-- what a tail tells of the source's end is so
+abbrev pub IsTrueTail : {T : Type 0} → Trace T → ChunkResult T → Type 0
+IsTrueTail t r = IfSome (told_at (behind_result r) r.tail) (EndsAt t)
+
 abbrev pub AreTrueTails : {T : Type 0} → Trace T → List (ChunkResult T) → Type 0
 AreTrueTails t [] = ⊤
-AreTrueTails t (r ∷ rs) = IfSome (told_at (behind_result r) r.tail) (EndsAt t) × AreTrueTails t rs
+AreTrueTails t (r ∷ rs) = IsTrueTail t r × AreTrueTails t rs
 
 -- no key is in two of them
 abbrev pub AreApart : {T : Type 0} → List (ChunkResult T) → Type 0

@@ -140,12 +140,14 @@ fn batches_of(
 
 /// The batches and the ending on one thread, of items that end so.
 fn sequential_batches(
+    rt: &impl Abort,
     alloc: Global,
     query: &Query<Formula>,
     option: MergeOption,
     items: Vec<i64>,
     last: Ending,
 ) -> Result<(Vec<Vec<i64>>, Ending), Fail> {
+    assert!(rt; items.len() <= 20);
     let mut source = ListSource::refusing(alloc, items, 99);
     let (items, ending) = sequential(alloc, query, &mut source)?;
     let ending = if ending == Ending::Refused(99) {
@@ -193,12 +195,12 @@ fn try_orders(rt: &impl Abort, alloc: Global, count: usize) -> Result<(), Fail> 
             let in_turn = results_in_order(alloc, count, 0, third, tail)?;
             for option in OPTIONS {
                 let items = items_of(alloc, in_turn.as_slice())?;
-                let wanted = sequential_batches(alloc, &keyed, option, items, last)?;
+                let wanted = sequential_batches(rt, alloc, &keyed, option, items, last)?;
                 for number in 0..orders_of(count) {
                     let results = results_in_order(alloc, count, number, third, tail)?;
                     expect(rt, alloc, &keyed, option, results.as_slice(), &wanted)?;
                     let items = items_of(alloc, results.as_slice())?;
-                    let arrived = sequential_batches(alloc, &arriving, option, items, last)?;
+                    let arrived = sequential_batches(rt, alloc, &arriving, option, items, last)?;
                     expect(rt, alloc, &arriving, option, results.as_slice(), &arrived)?;
                 }
             }
