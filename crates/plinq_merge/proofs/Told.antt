@@ -18,7 +18,7 @@ use Rattle.plinq_keyed.specs.History.{Place, start, ending_tail, no_items, next_
 use Rattle.plinq_keyed.proofs.Legal.{Told-from_tells, reply-first, place_behind-given, length-reply}
 use Rattle.plinq_ops.specs.declared.op.Op.{Op}
 use Rattle.plinq_ops.specs.declared.results.ChunkResult.{ChunkResult}
-use Rattle.plinq_ops.specs.Row.{IsAnswer}
+use Rattle.plinq_ops.specs.Row.{IsResultOf}
 use Rattle.plinq_merge.specs.Shown.{behind_result, told_at}
 use Rattle.plinq_merge.specs.Whole.{EndsAt, IsTrueTail}
 
@@ -43,7 +43,7 @@ reply-told t p (Ask n) at within here =
     ] here
 
 answer-told : {L T : Type 0} (meaning : L → Meaning T) (worker : List (Op L)) (t : Trace T) (p : Place) (asked : Record) (r : ChunkResult T) → p.given ≤ length t.items
-    → tells asked (reply t p asked.asked) ≡ true → IsAnswer meaning worker t asked r → IsTrueTail t r
+    → tells asked (reply t p asked.asked) ≡ true → IsResultOf meaning worker t asked r → IsTrueTail t r
 answer-told meaning worker t p asked r within tells_it answer =
     let told = Told-from_tells asked (reply t p asked.asked) tells_it in
     let few = length-reply t p asked.asked in
@@ -55,17 +55,17 @@ answer-told meaning worker t p asked r within tells_it answer =
     let P : Option Tail → Type 0 = λ o. IfSome (told_at (behind_result r) o) (EndsAt t) in
     subst P (sym tail) (reply-told t p asked.asked (behind_result r) within at)
 
-is_first : {A : Type 0} (x y : A) → Contains (x ∷ []) y → x ≡ y
-is_first x y there = elim (Contains-push_cases [] x y there) [ inl none ↦ absurd (omega (arith, none.1)) | inr is ↦ is ]
+only-one : {A : Type 0} (x y : A) → Contains (x ∷ []) y → x ≡ y
+only-one x y there = elim (Contains-push_cases [] x y there) [ inl none ↦ absurd (omega (arith, none.1)) | inr is ↦ is ]
 
 told-of_run : {L T : Type 0} (meaning : L → Meaning T) (worker : List (Op L)) (t : Trace T) (p : Place) (h : List Record) (asked : Record) (r : ChunkResult T) → p.given ≤ length t.items
-    → is_run t p h ≡ true → Contains h asked → IsAnswer meaning worker t asked r → IsTrueTail t r
+    → is_run t p h ≡ true → Contains h asked → IsResultOf meaning worker t asked r → IsTrueTail t r
 told-of_run meaning worker t p [] asked r within run there answer = absurd (omega (arith, there.1))
 told-of_run meaning worker t p (first ∷ h) asked r within run there answer =
     let parts = and_parts (tells first (reply t p first.asked)) _ run in
     elim (Contains-append_cases (first ∷ []) h asked there) [
       | inl here ↦
-          let same : first ≡ asked = is_first first asked here in
+          let same : first ≡ asked = only-one first asked here in
           answer-told meaning worker t p asked r within (ap (λ x. tells x (reply t p x.asked)) (sym same) ∙ parts.0) answer
       | inr later ↦
           let moved = place_behind-given t p first.asked in
@@ -74,6 +74,6 @@ told-of_run meaning worker t p (first ∷ h) asked r within run there answer =
     ]
 
 pub told-of_record : {L T : Type 0} (meaning : L → Meaning T) (worker : List (Op L)) (t : Trace T) (h : List Record) (asked : Record) (r : ChunkResult T) → IsLegalHistory t h
-    → Contains h asked → IsAnswer meaning worker t asked r → IsTrueTail t r
+    → Contains h asked → IsResultOf meaning worker t asked r → IsTrueTail t r
 told-of_record meaning worker t h asked r legal there answer =
     told-of_run meaning worker t start h asked r (omega arith) (and_parts (is_run t start h) _ legal).0 there answer

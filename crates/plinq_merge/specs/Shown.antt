@@ -11,8 +11,8 @@ use Rattle.plinq_keyed.specs.declared.tail.Tail.{Tail}
 use Rattle.plinq_keyed.specs.declared.tail.Tail.TheVariants.{Ended, Refused as TailRefused, Closed}
 use Rattle.plinq_ops.specs.declared.order.Order.{Order}
 use Rattle.plinq_ops.specs.declared.order.Order.TheVariants.{ByKey, ByArrival}
-use Rattle.plinq_ops.specs.declared.fragments.FragEnd.{FragEnd}
-use Rattle.plinq_ops.specs.declared.fragments.FragEnd.TheVariants.{More, Fault as Faults}
+use Rattle.plinq_ops.specs.declared.frag_end.FragEnd.{FragEnd}
+use Rattle.plinq_ops.specs.declared.frag_end.FragEnd.TheVariants.{More, Fault as Faults}
 use Rattle.plinq_ops.specs.declared.results.ChunkResult.{ChunkResult}
 use Rattle.plinq_ops.specs.Stage.{Stage, seq}
 use Rattle.plinq_ops.specs.Batches.{batches_from}
