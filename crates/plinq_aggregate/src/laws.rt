@@ -1,32 +1,36 @@
+//! What the aggregators over `i64` come to, each law the contract of a function with nothing to do.
 ghost use Rattle.std.specs.Prelude.{◌≡◌, ◌%◌, ◌^◌, ◌≤ℤ◌, ℤ, List, length};
-ghost use Rattle.std.specs.Int.{int_min, int_max};
+ghost use Rattle.plinq_aggregate.specs.declared.count.Count.{Count as CountView};
+ghost use Rattle.plinq_aggregate.specs.declared.max.Max.{Max as MaxView};
+ghost use Rattle.plinq_aggregate.specs.declared.min.Min.{Min as MinView};
+ghost use Rattle.plinq_aggregate.specs.declared.sum.Sum.{Sum as SumView};
 ghost use Rattle.plinq_aggregate.specs.Folding.{aggregated};
-ghost use Rattle.plinq_aggregate.specs.Numbers.{wrapped, whole_sum, summing, counting, picking, IsBest};
+ghost use Rattle.plinq_aggregate.specs.Numbers.{wrapped, whole_sum, IsBest};
+
+use crate::aggregator::Aggregator;
+use crate::count::Count;
+use crate::max::Max;
+use crate::min::Min;
+use crate::sum::Sum;
 
 /// The sum is the whole sum, modulo 2^128.
-///
-/// This function does nothing: it is there for the law in its contract.
 pub fn sum_is_the_whole_sum()
-    ensures { (xs : List ℤ) → aggregated summing xs ≡ wrapped (whole_sum xs) }
+    ensures { (sum : SumView) (xs : List ℤ) → aggregated (⟦<Sum as Aggregator>⟧.folding sum) xs ≡ wrapped (whole_sum xs) }
 {}
 
 /// The count is the number of items, modulo 2^64.
-///
-/// This function does nothing: it is there for the law in its contract.
 pub fn count_is_the_length()
-    ensures { (xs : List ℤ) → aggregated counting xs ≡ length xs % 2 ^ 64 }
+    ensures { (count : CountView) (xs : List ℤ) → aggregated (⟦<Count as Aggregator>⟧.folding count) xs ≡ length xs % 2 ^ 64 }
 {}
 
 /// The least number is one of the items, and no item is less; of none there is none.
-///
-/// This function does nothing: it is there for the law in its contract.
 pub fn min_is_the_least()
-    ensures { (xs : List ℤ) → IsBest (λ least x. least ≤ℤ x) xs (aggregated (picking int_min) xs) }
+    ensures { (min : MinView) (xs : List ℤ) →
+        IsBest (λ least x. least ≤ℤ x) xs (aggregated (⟦<Min as Aggregator>⟧.folding min) xs) }
 {}
 
 /// The greatest number is one of the items, and no item is greater; of none there is none.
-///
-/// This function does nothing: it is there for the law in its contract.
 pub fn max_is_the_greatest()
-    ensures { (xs : List ℤ) → IsBest (λ greatest x. x ≤ℤ greatest) xs (aggregated (picking int_max) xs) }
+    ensures { (max : MaxView) (xs : List ℤ) →
+        IsBest (λ greatest x. x ≤ℤ greatest) xs (aggregated (⟦<Max as Aggregator>⟧.folding max) xs) }
 {}

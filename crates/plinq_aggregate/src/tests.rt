@@ -1,5 +1,48 @@
+ghost use Rattle.std.specs.Int.{int_max};
+ghost use Rattle.plinq_aggregate.specs.Numbers.{picking};
+ghost use Rattle.plinq_aggregate.specs.Lawful.{picking_max-lawful};
+
 use crate::{Aggregator, Count, Max, Min, Sum, fold_sequential};
 use std::test::Fail;
+
+/// The greatest of numbers of another type.
+#[derive(Drop)]
+struct MaxOfSmall;
+
+impl Aggregator for MaxOfSmall {
+    type Item = i32;
+
+    type Acc = Option<i32>;
+
+    type Out = Option<i32>;
+
+    ghost folding = { λ _. picking int_max };
+
+    fn seed(&self) -> Option<i32> {
+        None
+    }
+
+    fn update(&self, acc: Option<i32>, x: i32) -> Option<i32> {
+        match acc {
+            None => Some(x),
+            Some(best) => Some(best.max(x)),
+        }
+    }
+
+    fn combine(&self, first: Option<i32>, second: Option<i32>) -> Option<i32> {
+        match (first, second) {
+            (Some(first), Some(second)) => Some(first.max(second)),
+            (None, second) => second,
+            (first, None) => first,
+        }
+    }
+
+    fn result(&self, acc: Option<i32>) -> Option<i32> {
+        acc
+    }
+
+    ghost lawful = { λ _. picking_max-lawful };
+}
 
 // The folds of two parts, combined.
 fn in_two_parts<A: Aggregator>(aggregator: &A, first: &[A::Item], second: &[A::Item]) -> A::Out {
@@ -66,5 +109,12 @@ fn parts_combine_to_the_whole(rt: HostRuntime) -> Result<(), Fail> {
         assert_eq!(rt; in_two_parts(&Min, first, second), Some(-2));
         assert_eq!(rt; in_two_parts(&Max, first, second), Some(9));
     }
+    Ok(())
+}
+
+#[test]
+fn numbers_of_another_type_are_folded_as_well(rt: HostRuntime) -> Result<(), Fail> {
+    assert_eq!(rt; fold_sequential(&MaxOfSmall, &[i32::MIN, 7, 2]), Some(7));
+    assert_eq!(rt; in_two_parts(&MaxOfSmall, &[3, 4], &[]), Some(4));
     Ok(())
 }

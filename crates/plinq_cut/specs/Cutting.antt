@@ -1,5 +1,5 @@
 -- A cut that several passes share: what holds between any two steps of any passes, and what a step tells the one that makes it.
-use Rattle.std.specs.Prelude.{◌≡◌, ℕ, ◌≤◌, ◌==◌, ◌||◌, Bool, true, List, min, ⊤}
+use Rattle.std.specs.Prelude.{◌≡◌, ℕ, ◌≤◌, ◌==◌, ◌||◌, Bool, true, false, List, min, ⊤, refl}
 use mathlib.Core.Option.{some}
 use lib.ListN.{get_elem?}
 use Rattle.plinq_ops.specs.Cut.{no_cut}
@@ -9,6 +9,19 @@ use Rattle.plinq_cut.specs.declared.view.View.TheVariants.{Passing, Joined}
 -- a cut is no cut at all, or a key that ends the run
 abbrev pub is_cut_of : (ℕ → Bool) → ℕ → Bool
 is_cut_of is_ender cut = cut == no_cut || is_ender cut
+
+-- no cut at all, where no key ends the run
+no_cut_at_all : is_cut_of (λ key. false) no_cut ≡ true
+no_cut_at_all = refl
+
+a_key_that_ends_the_run : is_cut_of (λ key. key == 5) 5 ≡ true
+a_key_that_ends_the_run = refl
+
+a_key_before_it : is_cut_of (λ key. key == 5) 4 ≡ false
+a_key_before_it = refl
+
+a_key_behind_it : is_cut_of (λ key. key == 5) 6 ≡ false
+a_key_behind_it = refl
 
 -- a pass is of these enders, and the word is at most the least number that it has seen
 abbrev pub Knows : {E : Type 0} → E → ℕ → View E → Type 0

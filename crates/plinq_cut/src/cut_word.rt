@@ -21,7 +21,15 @@ impl<E: Enders> TableRule<(), View<E>, E> for Cuts {
     ghost first = { λ of. Passing of no_cut };
 }
 
-/// The least key at which some worker has seen the run end, as one atomic number that workers share.
+/// The least key at which some worker has seen the run end, as one atomic number that the workers of a query share that
+/// is merged by key.
+///
+/// ```text
+/// let (cut, mut pass) = CutWord::new(alloc, &plan, &source)?;    // beyond all keys
+/// let mut other = cut.split(&mut pass);                           // one for each worker
+/// cut.lower(&mut pass, 5);                                        // the element of key 5 ends the run
+/// cut.read(&mut other)                                            // 5
+/// ```
 #[derive(Drop)]
 pub struct CutWord<E: Enders> {
     pub(crate) table: Table<(), View<E>, E, Cuts, Global>,

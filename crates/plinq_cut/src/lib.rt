@@ -1,5 +1,7 @@
 //! The cut that the workers of a query share: no key above it needs to be looked at.
 //!
+//! It is for a query that is merged by key; by arrival no key stands before another, and nothing may be left off.
+//!
 //! A [`CutWord`] is one atomic number, at first the greatest. A worker whose chunk ends the run lowers it to the key
 //! at which that happened ([`CutWord::lower`]), and each worker reads it before it works on a chunk ([`CutWord::read`]).
 //! Between any two steps of any passes the number is the greatest one or a key whose fragment ends the run, and no

@@ -2,4 +2,4 @@ use Rattle.plinq_aggregate.specs.Lawful.{folded-count}
 use Rattle.plinq_aggregate.proofs.laws.count_is_the_length.Goals as goal
 
 pub returns : goal.returns
-returns c = λ xs. folded-count xs
+returns c = λ count xs. folded-count xs
