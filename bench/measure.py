@@ -136,14 +136,15 @@ def memory():
         print(f"| {name} | {len(text):,} | {seen.peak:,.0f} MB | {seen.peak * 2**20 / len(text):,.0f} | {seen.status} |")
 
 
-def callgrind(words, text):
+def callgrind(words, text, status=0):
     with tempfile.TemporaryDirectory() as folder, tempfile.TemporaryFile() as stdin, open(os.devnull, "wb") as stdout:
         stdin.write(text)
         stdin.flush()
         stdin.seek(0)
         out = os.path.join(folder, "out")
         tool = ["valgrind", "--tool=callgrind", f"--callgrind-out-file={out}"]
-        said = subprocess.run(tool + words, stdin=stdin, stdout=stdout, stderr=subprocess.PIPE, check=True)
+        said = subprocess.run(tool + words, stdin=stdin, stdout=stdout, stderr=subprocess.PIPE)
+    assert said.returncode == status, (words, said)
     return int(re.search(rb"Collected : (\d+)", said.stderr).group(1))
 
 
@@ -158,8 +159,8 @@ def totals():
         print(f"| {name}, add 1, `--merge auto` | {callgrind([PROGRAM, 'run', '--merge', 'auto'], document(source, plus_one)) / 1e9:.2f} thousand million |")
 
 
-def slope(make, words, low, high):
-    return (callgrind(words, make(high)) - callgrind(words, make(low))) / (high - low)
+def slope(make, words, status=0, low=10_000, high=100_000):
+    return (callgrind(words, make(high), status) - callgrind(words, make(low), status)) / (high - low)
 
 
 def instructions():
@@ -171,7 +172,18 @@ def instructions():
         ("range, none kept", lambda n: document({"range": [0, n]}, [["as_ordered"], ["filter", "below", 0]]), ["seq"]),
         ("range, nine operators, none kept", lambda n: document({"range": [0, n]}, [["as_ordered"]] + SELECTS + [["filter", "below", 0]]), ["seq"]),
     ):
-        print(f"| {name} | {slope(make, [PROGRAM] + words, 10_000, 100_000):.0f} |")
+        print(f"| {name} | {slope(make, [PROGRAM] + words):.0f} |")
+    printing()
+
+
+def printing():
+    """What printing adds for a number: what a range that is printed takes more than one that is computed and held as well, and
+    of which nothing is printed, since its last number overflows."""
+    plus_one = [["as_ordered"], ["select", "add", 1]]
+    unprinted = slope(lambda n: document({"range": [2**63 - n, n]}, plus_one), [PROGRAM, "run", "--merge", "full"], status=4)
+    for name, option in (("in a line of 16", "auto"), ("as a line of its own", "not")):
+        printed = slope(lambda n: document({"range": [1_000_000, n]}, plus_one), [PROGRAM, "run", "--merge", option])
+        print(f"| printing alone, a number of 7 digits {name} | {printed - unprinted:.0f} |")
 
 
 def allocations_of(words, text):

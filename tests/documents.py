@@ -79,6 +79,9 @@ def long_queries(tests):
     steps = [["select", "add", 1]] * 1000
     seen = run(["run"], document(steps))
     tests.check("1,000 steps are answered", seen == Outcome(0, b"1000\nend\n", b""), seen)
+    seen = run(["plan"], document(steps))
+    wanted = "workers 4\nmerge auto\norder arrival\nworker " + ", ".join(["select add 1"] * 1000) + "\nafter none\n"
+    tests.check("of 1,000 steps the plan is shown", seen == Outcome(0, wanted.encode(), b""), seen)
     seen = run(["run"], document(steps + steps[:1]))
     tests.check("1,001 steps are refused", seen == WRONG_SHAPE, seen)
     seen = run(["run"], document([["take", 1]] * 999 + [["sort"]]))

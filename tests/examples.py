@@ -4,7 +4,8 @@
     python3 tests/examples.py
 
 A row has a document (a file of examples/, or its text), a command, what it prints (or, in a table with the column 'says',
-its line on standard error) and the exit status.
+its line on standard error) and the exit status. A table that has a call of the program in a cell, and other columns than
+these, is a failure.
 """
 import os
 import re
@@ -12,20 +13,25 @@ import re
 from support.program import EXAMPLES, Outcome, Tests, build, run
 
 
+COLUMNS = (["document", "command", "prints", "status"], ["document", "command", "says", "status"])
+
+
 def cells(line):
     return [it.strip() for it in line.strip().strip("|").split("|")]
 
 
 def rows(page):
-    """The rows of each table whose first column is 'document', as (line number, columns by name)."""
+    """The rows of each table that calls the program, as (line number, columns by name); None where it has other columns."""
     names = None
     for number, line in enumerate(page.splitlines(), 1):
         if not line.startswith("|"):
             names = None
         elif names is None:
             names = cells(line)
-        elif names[0] == "document" and not re.fullmatch(r"[|\- ]+", line):
+        elif names in COLUMNS and not re.fullmatch(r"[|\- ]+", line):
             yield number, dict(zip(names, cells(line), strict=True))
+        elif any(it.startswith("`plinq ") for it in cells(line)):
+            yield number, None
 
 
 def code(cell):
@@ -51,6 +57,9 @@ def main():
         page = file.read()
     told = set()
     for number, row in rows(page):
+        if row is None:
+            tests.check(f"examples/README.md, line {number}", False, f"its table has other columns than one of {COLUMNS}")
+            continue
         program, *words = code(row["command"]).split()
         assert program == "plinq", row
         says, prints = (lines(row[it]) if it in row else b"" for it in ("says", "prints"))
