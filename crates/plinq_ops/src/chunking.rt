@@ -52,14 +52,8 @@ pub fn chunk_result<L: Lambda>(
     ensures { IfOk result (IsChunkResult L.meaning plan.now.worker.now cut chunk.now) }
 {
     let mut items = Vec::with_capacity(alloc, chunk.items.len())?;
-    let stop = work(
-        alloc,
-        plan.worker,
-        chunk.first,
-        chunk.items.as_slice(),
-        cut,
-        &mut items,
-    )?;
+    let given = chunk.items.as_slice();
+    let stop = work(alloc, plan.worker, chunk.first, given, cut, &mut items)?;
     Ok(ChunkResult {
         first: chunk.first,
         count: chunk.items.len() as u64,
@@ -161,17 +155,13 @@ fn work_each<L: Lambda>(
     for (at, item) in items.iter().enumerate() {
         let key = first + at as u64;
         if key > cut {
-            return Ok(Some(Stop {
-                key,
-                ending: FragEnd::Dropped,
-            }));
+            let ending = FragEnd::Dropped;
+            return Ok(Some(Stop { key, ending }));
         }
         let ending = pipeline.feed(alloc, *item, out)?;
         if ending.is_some() {
-            return Ok(Some(Stop {
-                key,
-                ending: frag_end(ending),
-            }));
+            let ending = frag_end(ending);
+            return Ok(Some(Stop { key, ending }));
         }
     }
     Ok(None)

@@ -41,16 +41,12 @@ pub fn fragment<L: Lambda>(
     let mut pipeline = Pipeline::at_key(alloc, worker, key)?;
     let mut items = Vec::new(alloc);
     if pipeline.is_over() {
-        return Ok(Fragment {
-            items,
-            ending: FragEnd::End,
-        });
+        let ending = FragEnd::End;
+        return Ok(Fragment { items, ending });
     }
     let ending = pipeline.feed(alloc, x, &mut items)?;
-    Ok(Fragment {
-        items,
-        ending: frag_end(ending),
-    })
+    let ending = frag_end(ending);
+    Ok(Fragment { items, ending })
 }
 
 /// A worker part's ending, told by a fragment.

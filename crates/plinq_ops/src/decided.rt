@@ -21,10 +21,7 @@ fn counted_off<L>(op: &Op<L>) -> u64
 fn is_empty_take<L>(op: &Op<L>) -> bool
     ensures { result ≡ is_empty_take op.now }
 {
-    match op {
-        Op::Take(n) => *n <= 0,
-        _ => false,
-    }
+    matches!(op, Op::Take(n) if *n <= 0)
 }
 
 /// Whether some operator is a Take of none, so that the answer is nothing and the end, whatever the source holds.

@@ -82,10 +82,9 @@ fn skip<T: Copy>(left: &mut u64, item: T) -> Passed<T>
     ensures passed { passed_trace result ≡ apply (skipping left.old) (open_trace (item ∷ [])) }
     ensures left { skipping left.new ≡ behind (skipping left.old) (item ∷ []) }
 {
-    if *left == 0 {
-        Passed::Item(item)
-    } else {
+    if *left > 0 {
         *left -= 1;
-        Passed::Nothing
+        return Passed::Nothing;
     }
+    Passed::Item(item)
 }

@@ -9,8 +9,8 @@ pub feed-requires-clause-undecided : goal.feed-requires-clause-undecided
 feed-requires-clause-undecided g c lives within =
     c.loop-at.invariant.2
 
-pub frag_end-requires : goal.frag_end-requires
-frag_end-requires g c =
+pub frag_end-ending-requires : goal.frag_end-ending-requires
+frag_end-ending-requires g c =
     (fed-fragment g.L.Lambda.meaning c.args.worker.now (c.args.first + c.loop-at.at) c.index-items-at.result _ _ _ _ _ c.loop-at.invariant.1 c.requires.keyed c.requires.some c.in_ok-ending.ensures.fed).sound
 
 pub returns-then-is_some-clause-items : goal.returns-then-is_some-clause-items
@@ -43,7 +43,7 @@ returns-then-is_some-clause-stop g c =
     let ends : is_some c.in_ok-ending.ending ≡ true = search rules in
     let fed = fed-fragment m worker key x _ _ _ _ _ c.loop-at.invariant.1 c.requires.keyed c.requires.some c.in_ok-ending.ensures.fed in
     let stopped = behind-stop m worker c.args.cut key x (drop (i + 1) items) _ _ _ _ _ _ within ends behind fed in
-    (stopped.stop, told-stop _ _ _ _ _ c.frag_end.result stopped c.frag_end.ensures)
+    (stopped.stop, told-stop _ _ _ _ _ c.frag_end-ending.result stopped c.frag_end-ending.ensures)
 
 pub loop-at-preserved : goal.loop-at-preserved
 loop-at-preserved g c =

@@ -9,8 +9,8 @@ returns-then-is_over g c =
     let begins = stages-begun_at g.L.Lambda.meaning c.args.worker.now c.args.key c.in_ok-pipeline.pipeline c.in_ok-pipeline.ensures in
     fragment-over g.L.Lambda.meaning c.args.worker.now c.args.key c.args.x _ c.requires.keyed c.requires.some (ap some_takes_none (sym begins) ∙ search rules) c.new-items.ensures.items refl
 
-pub frag_end-requires : goal.frag_end-requires
-frag_end-requires g c =
+pub frag_end-ending-requires : goal.frag_end-ending-requires
+frag_end-ending-requires g c =
     let whole = stages-begun_at g.L.Lambda.meaning c.args.worker.now c.args.key c.in_ok-pipeline.pipeline c.in_ok-pipeline.ensures in
     (fed-fragment g.L.Lambda.meaning c.args.worker.now c.args.key c.args.x _ _ _ _ _ whole c.requires.keyed c.requires.some c.in_ok-ending.ensures.fed).sound
 
@@ -20,5 +20,5 @@ returns g c =
     let fed = fed-fragment g.L.Lambda.meaning c.args.worker.now c.args.key c.args.x _ _ _ _ _ whole c.requires.keyed c.requires.some c.in_ok-ending.ensures.fed in
     record {
       items = fed.items ∙ rw c.new-items.ensures.items refl;
-      ending = rw fed.told at c.frag_end.ensures;
+      ending = rw fed.told at c.frag_end-ending.ensures;
     }
