@@ -148,7 +148,24 @@ def words_of(steps):
     return ", ".join(" ".join(map(str, it)) for it in steps) or "none"
 
 
-def wanted(command, source, steps):
+def requests(items, ending, growth, degree):
+    """The lines of partitions that take in turn, each until it has had the tail."""
+    first, repeat, most = growth
+    lines, at, asked, waiting = [], 0, [0] * degree, list(range(degree))
+    while waiting:
+        p = waiting.pop(0)
+        size = min(most, first * 2 ** (asked[p] // repeat))
+        asked[p] += 1
+        count = min(size, len(items) - at)
+        tail = "" if count == size else " ended" if ending == "end" else f" {ending}"
+        lines.append(f"ticket {len(lines)} ask {size} first {at} count {count}{tail}")
+        at += count
+        if count == size:
+            waiting.append(p)
+    return lines
+
+
+def wanted(command, source, steps, growth):
     """What the program is to print, and its status."""
     items, ending = given(source)
     option, degree = setting(steps, "with_merge", "auto"), setting(steps, "with_degree", 4)
@@ -164,6 +181,8 @@ def wanted(command, source, steps):
         for p in range(degree):
             low, high = p * len(items) // degree, (p + 1) * len(items) // degree
             lines.append(f"{p}:" + "".join(f" {key}={items[key]}" for key in range(low, high)))
+    elif command == "history":
+        lines += requests(items, ending, growth, degree)
     else:
         for step in calls:
             items, ending = applied(step, items, ending)
@@ -234,9 +253,13 @@ def main():
         if is_too_long(source, steps):
             continue
         keeps_order = ["as_ordered"] in steps and ["as_unordered"] not in steps
-        command = chance.choice(["run", "run", "run", "seq", "plan", "parts"] if keeps_order else ["seq", "plan", "parts"])
-        text = json.dumps({"version": 1, "source": source, "query": steps})
-        lines, status = wanted(command, source, steps)
+        command = chance.choice(["run", "run", "run", "seq", "plan", "parts", "history"] if keeps_order else ["seq", "plan", "parts", "history"])
+        document = {"version": 1, "source": source, "query": steps}
+        growth = chance.choice([None, [1, 1, 1], [1, 1, 4], [2, 3, 16], [1, 3, 512]])
+        if growth:
+            document["growth"] = growth
+        text = json.dumps(document)
+        lines, status = wanted(command, source, steps, growth or [1, 3, 512])
         right = Outcome(status, "".join(it + "\n" for it in lines).encode(), b"")
         seen = run([command], text.encode(), PROGRAM)
         tests.check(f"plinq {command} < {text}", seen == right, f"wanted {right}; seen {seen}")

@@ -13,7 +13,7 @@ USAGE = "\nUsage: plinq <COMMAND>\n" + MORE
 OPTIONS = "\nUsage: plinq run [OPTIONS]\n" + MORE
 
 REFUSED = {
-    "": "error: 'plinq' requires a subcommand but one was not provided\n  [subcommands: run, seq, plan, parts]\n" + USAGE,
+    "": "error: 'plinq' requires a subcommand but one was not provided\n  [subcommands: run, seq, plan, parts, history]\n" + USAGE,
     "walk": "error: unrecognized subcommand 'walk'\n" + USAGE,
     "help": "error: unrecognized subcommand 'help'\n" + USAGE,
     "RUN": "error: unrecognized subcommand 'RUN'\n" + USAGE,
@@ -35,10 +35,11 @@ HELP = """Answers the query of a JSON document, which it reads from standard inp
 Usage: plinq <COMMAND>
 
 Commands:
-  run    Answers the query
-  seq    Answers the query on one thread
-  plan   Shows how the query is shared among workers
-  parts  Shows the source cut into partitions
+  run      Answers the query
+  seq      Answers the query on one thread
+  plan     Shows how the query is shared among workers
+  parts    Shows the source cut into partitions
+  history  Shows the requests of partitions that take from the source in turn
 
 Options:
   -h, --help  Print help
@@ -64,6 +65,7 @@ ABOUT = {
     "seq": "Answers the query on one thread",
     "plan": "Shows how the query is shared among workers",
     "parts": "Shows the source cut into partitions",
+    "history": "Shows the requests of partitions that take from the source in turn",
 }
 COMMAND_HELP = """
 

@@ -13,41 +13,33 @@ use Rattle.plinq_document.specs.declared.doc_fault.DocFault.TheVariants.{TooLong
 use Rattle.std.specs.Result.{IsErr}
 use Rattle.plinq_source.specs.Trace.{Trace}
 use Rattle.plinq_lines.specs.Written.{AppendsBeginning}
-use Rattle.plinq_lines.proofs.WrittenBytes.{Bytes, begins-all, begins-nothing}
+use Rattle.plinq_lines.proofs.WrittenBytes.{Bytes, begins-all}
 use Rattle.plinq_cli.specs.declared.command.Command.{Command}
-use Rattle.plinq_cli.specs.declared.command.Command.TheVariants.{Run, Seq, Plan, Parts}
 use Rattle.plinq_cli.specs.declared.failure.Failure.{Failure}
 use Rattle.plinq_cli.specs.declared.failure.Failure.TheVariants.{Document, Memory, Read, Write}
-use Rattle.plinq_cli.specs.Served.{IsAnswer, Serves, text}
+use Rattle.plinq_cli.specs.Served.{HasBegun, IsAnswer, IsText, Serves}
 use Rattle.plinq_cli.specs.Performed.{Answers, AnswersMeaning, Flushes, failure_of_document, failure_of_input}
 use Rattle.plinq_cli.specs.declared.arguments.Arguments.{Arguments}
 use Rattle.plinq_cli.specs.declared.input_fault.InputFault.{InputFault}
 use Rattle.plinq_cli.specs.declared.input_fault.InputFault.TheVariants.{Read as InputRead, TooLong as InputTooLong, Memory as InputMemory}
 
--- where nothing was written before a failure, that is a beginning of whatever is to be written
-pub serves-nothing : (E : Type 0) (command : Command) (job : JobView) (a : Bytes) (e : E) → Serves {E = E} command job a a (Err e)
-serves-nothing E Run job a e = (_, refl, begins-nothing a _, tt)
-serves-nothing E Seq job a e = (_, refl, begins-nothing a _, tt)
-serves-nothing E Plan job a e = (_, refl, begins-nothing a _, tt)
-serves-nothing E Parts job a e = (_, refl, begins-nothing a _, tt)
-
 -- a failure before anything was written, and one after a beginning of the lines
 pub serves-unwritten : {E : Type 0} (command : Command) (job : JobView) (a : Bytes) (r : Result Ending E) → IsErr r → Serves command job a a r
 serves-unwritten command job a (Ok e) failed = let bad : false ≡ true = failed in cc
-serves-unwritten command job a (Err e) failed = serves-nothing _ command job a e
+serves-unwritten command job a (Err e) failed = inl (Keeps-refl a)
 
-pub serves-begun : {E : Type 0} (command : Command) (job : JobView) (a b : Bytes) (r : Result Ending E) (u : Trace ℤ) → IsErr r
-    → IsAnswer command job u → AppendsBeginning a b (text command job u) → Serves command job a b r
-serves-begun command job a b (Ok e) u failed is begun = let bad : false ≡ true = failed in cc
-serves-begun command job a b (Err e) u failed is begun = (u, is, begun, tt)
+pub serves-begun : {E : Type 0} (command : Command) (job : JobView) (a b : Bytes) (r : Result Ending E) (u : Trace ℤ) (lines : List ℕ) → IsErr r
+    → IsAnswer command job u → IsText command job u lines → AppendsBeginning a b lines → Serves command job a b r
+serves-begun command job a b (Ok e) u lines failed is text begun = let bad : false ≡ true = failed in cc
+serves-begun command job a b (Err e) u lines failed is text begun = inr (u, is, lines, text, begun)
 
 -- out of memory, or a read that fails, before anything was written
 pub unwritten-memory : (command : Command) (meaning : Result JobView DocFault) (a : Bytes) → AnswersMeaning command meaning a a (Err Memory)
-unwritten-memory command (Ok job) a = (serves-nothing Failure command job a Memory, tt)
+unwritten-memory command (Ok job) a = (inl (Keeps-refl a), tt)
 unwritten-memory command (Err why) a = (Keeps-refl a, tt)
 
 unwritten-read : (command : Command) (meaning : Result JobView DocFault) (a : Bytes) → AnswersMeaning command meaning a a (Err Read)
-unwritten-read command (Ok job) a = (serves-nothing Failure command job a Read, tt)
+unwritten-read command (Ok job) a = (inl (Keeps-refl a), tt)
 unwritten-read command (Err why) a = (Keeps-refl a, tt)
 
 -- a document that is refused
@@ -88,17 +80,21 @@ unread arguments (Some all) a InputTooLong long = (all, refl, too_long arguments
 
 -- ---- the output that is flushed
 
+kept-begun : (command : Command) (job : JobView) (a b c : Bytes) → HasBegun command job a b → Keeps b c → HasBegun command job a c
+kept-begun command job a b c (inl none) k = inl (Keeps-trans a b c none k)
+kept-begun command job a b c (inr (u, is, lines, text, begun)) k = inr (u, is, lines, text, (begun.0, Appends-kept a b c _ begun.1 k))
+
 kept : (command : Command) (meaning : Result JobView DocFault) (a b c : Bytes) (r : Result Ending Failure)
     → AnswersMeaning command meaning a b r → Keeps b c → AnswersMeaning command meaning a c r
-kept command (Ok job) a b c (Ok e) h k = ((h.0.0, h.0.1, Appends-kept a b c _ h.0.2 k, h.0.3), tt)
-kept command (Ok job) a b c (Err failure) h k = ((h.0.0, h.0.1, (h.0.2.0, Appends-kept a b c _ h.0.2.1 k), tt), h.1)
+kept command (Ok job) a b c (Ok e) ((u, is, lines, text, written, ends), none) k = ((u, is, lines, text, Appends-kept a b c _ written k, ends), tt)
+kept command (Ok job) a b c (Err failure) h k = (kept-begun command job a b c h.0 k, h.1)
 kept command (Err why) a b c (Ok e) h k = h
 kept command (Err why) a b c (Err failure) h k = (Keeps-trans a b c h.0 k, h.1)
 
 -- an answer of which the last of the output couldn't be written
 unkept : (command : Command) (meaning : Result JobView DocFault) (a b : Bytes) (e : Ending)
     → AnswersMeaning command meaning a b (Ok e) → AnswersMeaning command meaning a b (Err Write)
-unkept command (Ok job) a b e h = ((h.0.0, h.0.1, begins-all a b _ h.0.2, tt), tt)
+unkept command (Ok job) a b e ((u, is, lines, text, written, ends), none) = (inr (u, is, lines, text, begins-all a b _ written), tt)
 unkept command (Err why) a b e h = absurd h
 
 pub flushed : (command : Command) (meaning : Result JobView DocFault) (a b c : Bytes) (r s : Result Ending Failure)

@@ -3,3 +3,7 @@ pub mod Answered
 pub mod Asked
 pub mod PrintedRead
 mod ArgumentRows
+mod HandedOut
+mod Histories
+mod ToldEnding
+mod Turns

@@ -15,7 +15,7 @@ use Rattle.plinq_document.specs.Words.{beside}
 use Rattle.plinq_document.specs.Steps.{merge_word}
 use Rattle.plinq_cli.specs.declared.arguments.Arguments.{Arguments}
 use Rattle.plinq_cli.specs.declared.command.Command.{Command}
-use Rattle.plinq_cli.specs.declared.command.Command.TheVariants.{Run, Seq, Plan, Parts}
+use Rattle.plinq_cli.specs.declared.command.Command.TheVariants.{Run, Seq, Plan, Parts, History}
 
 -- the words of the merge option
 abbrev pub merge_words : List Text
@@ -46,7 +46,7 @@ merge_rule words = record (new_rule (codes "merge")) {
 abbrev pub subcommand_app : ValueParser → Text → App
 subcommand_app words name = with_rule (with_rule (new_app name) workers_rule) (merge_rule words)
 
--- the four, of which each may have further options
+-- the five, of which each may have further options
 abbrev pub run_app : ValueParser → App
 run_app words = subcommand_app words (codes "run")
 
@@ -58,6 +58,9 @@ plan_app words = subcommand_app words (codes "plan")
 
 abbrev pub parts_app : ValueParser → App
 parts_app words = subcommand_app words (codes "parts")
+
+abbrev pub history_app : ValueParser → App
+history_app words = subcommand_app words (codes "history")
 
 -- a command that adds all that it has as a subcommand of another
 abbrev pub AddsItsShape : ClapCommand → Type 0
@@ -71,13 +74,14 @@ bare_app = on_top (λ s. record s { disable_help_subcommand = true; subcommand_r
 abbrev pub with_command : App → App → App
 with_command app sub = with_subcommand app sub.top
 
--- the program with its four subcommands
+-- the program with its five subcommands
 abbrev pub plinq_app : ValueParser → App
-plinq_app words = with_command (with_command (with_command (with_command bare_app (run_app words)) (seq_app words)) (plan_app words)) (parts_app words)
+plinq_app words =
+    with_command (with_command (with_command (with_command (with_command bare_app (run_app words)) (seq_app words)) (plan_app words)) (parts_app words)) (history_app words)
 
 -- the commands by the names of the subcommands, with what the matches of these ask for beside the settings: nothing yet
 abbrev pub command_names : List Row → List (Text × Command)
-command_names rows = (codes "run", Run) ∷ (codes "seq", Seq) ∷ (codes "plan", Plan) ∷ (codes "parts", Parts) ∷ []
+command_names rows = (codes "run", Run) ∷ (codes "seq", Seq) ∷ (codes "plan", Plan) ∷ (codes "parts", Parts) ∷ (codes "history", History) ∷ []
 
 -- the number from 1 to 64 that a text writes
 abbrev pub workers_in : Text → Option ℕ

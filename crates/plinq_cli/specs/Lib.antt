@@ -1,3 +1,5 @@
+pub mod Rounds
+pub mod ServeFaults
 pub mod Served
 pub mod Arguments
 pub mod Performed

@@ -9,13 +9,15 @@ use Rattle.plinq_document.specs.Jobs.{JobView}
 use Rattle.plinq_document.specs.Document.{document_of}
 use Rattle.plinq_document.specs.declared.doc_fault.DocFault.{DocFault}
 use Rattle.plinq_document.specs.declared.doc_fault.DocFault.TheVariants.{TooLong, NotJson, Memory as DocMemory}
+use Rattle.plinq_partition.specs.declared.take_fault.TakeFault.{TakeFault}
+use Rattle.plinq_partition.specs.declared.take_fault.TakeFault.TheVariants.{Memory as TakeMemory, Spent, Busy, Incomplete as RecordsMissing, Away}
 use Rattle.plinq_cli.specs.declared.command.Command.{Command}
 use Rattle.plinq_cli.specs.declared.input_fault.InputFault.{InputFault}
 use Rattle.plinq_cli.specs.declared.input_fault.InputFault.TheVariants.{Read as InputRead, TooLong as InputTooLong, Memory as InputMemory}
 use Rattle.plinq_cli.specs.declared.serve_fault.ServeFault.{ServeFault}
-use Rattle.plinq_cli.specs.declared.serve_fault.ServeFault.TheVariants.{Memory as ServeMemory, Write as ServeWrite}
+use Rattle.plinq_cli.specs.declared.serve_fault.ServeFault.TheVariants.{Memory as ServeMemory, Write as ServeWrite, Take}
 use Rattle.plinq_cli.specs.declared.failure.Failure.{Failure}
-use Rattle.plinq_cli.specs.declared.failure.Failure.TheVariants.{Document, Memory, Read, Write}
+use Rattle.plinq_cli.specs.declared.failure.Failure.TheVariants.{Document, Memory, Read, Write, Tickets, Incomplete}
 use Rattle.plinq_cli.specs.declared.arguments.Arguments.{Arguments}
 use Rattle.plinq_cli.specs.Arguments.{IsAsked, Refuses}
 use Rattle.plinq_cli.specs.Served.{Serves}
@@ -29,9 +31,17 @@ failure_of_input InputRead = Read
 failure_of_input InputTooLong = Document TooLong
 failure_of_input InputMemory = Memory
 
+abbrev pub failure_of_take : TakeFault → Failure
+failure_of_take TakeMemory = Memory
+failure_of_take Spent = Tickets
+failure_of_take (Busy served drawn) = Tickets
+failure_of_take (RecordsMissing have all) = Incomplete
+failure_of_take Away = Incomplete
+
 abbrev pub failure_of_serve : ServeFault → Failure
 failure_of_serve ServeMemory = Memory
 failure_of_serve ServeWrite = Write
+failure_of_serve (Take fault) = failure_of_take fault
 
 -- where a failure speaks of the document, it says this fault
 abbrev pub IfDocument : (DocFault → Type 0) → Failure → Type 0
@@ -39,6 +49,8 @@ IfDocument P (Document fault) = P fault
 IfDocument P Memory = ⊤
 IfDocument P Read = ⊤
 IfDocument P Write = ⊤
+IfDocument P Tickets = ⊤
+IfDocument P Incomplete = ⊤
 
 -- a document that is refused has no answer and no text, and the failure says why it is refused
 abbrev pub RefusesDocument : DocFault → Option (List ℕ) → Option (List ℕ) → Result Ending Failure → Type 0
@@ -65,6 +77,8 @@ failure_status (Document fault) = 2
 failure_status Memory = 5
 failure_status Read = 5
 failure_status Write = 5
+failure_status Tickets = 5
+failure_status Incomplete = 5
 
 abbrev pub ending_status : Ending → ℕ
 ending_status End = 0
@@ -120,3 +134,9 @@ at_a_long_input = refl
 
 pub at_a_failing_write : status_of (Err (failure_of_serve ServeWrite)) ≡ 5
 at_a_failing_write = refl
+
+pub at_spent_tickets : status_of (Err (failure_of_serve (Take Spent))) ≡ 5
+at_spent_tickets = refl
+
+pub at_missing_records : status_of (Err (failure_of_serve (Take (RecordsMissing 1 2)))) ≡ 5
+at_missing_records = refl

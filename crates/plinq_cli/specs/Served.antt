@@ -1,6 +1,7 @@
 -- What each command answers, and the text that it prints.
-use Rattle.std.specs.Prelude.{◌≡◌, ℕ, ℤ, pos, List, [], ◌∷◌, true, Option, Some, None, Result, IfOk, codes, refl}
+use Rattle.std.specs.Prelude.{◌≡◌, ◌⊎◌, ℕ, ℤ, pos, List, [], ◌∷◌, true, Option, Some, None, Result, MatchResult, codes, refl}
 use Rattle.std.specs.Fmt.{digits}
+use Rattle.std.specs.Io.KnownBytes.{Appends, Keeps}
 use Rattle.plinq_source.specs.declared.ending.Ending.{Ending}
 use Rattle.plinq_source.specs.declared.ending.Ending.TheVariants.{End}
 use Rattle.plinq_source.specs.Trace.{Trace, ended}
@@ -10,36 +11,50 @@ use Rattle.plinq_ops.specs.declared.op.Op.TheVariants.{Select}
 use Rattle.plinq_ops.specs.declared.merge_option.MergeOption.TheVariants.{NotBuffered}
 use Rattle.plinq_ops.specs.Query.{merge_in_force, degree_in_force}
 use Rattle.plinq_ops.specs.Sequential.{answer_of}
+use Rattle.plinq_keyed.specs.declared.record.Record.{Record}
 use Rattle.plinq_document.specs.Jobs.{JobView}
 use Rattle.plinq_cli.specs.declared.command.Command.{Command}
-use Rattle.plinq_cli.specs.declared.command.Command.TheVariants.{Run, Seq, Plan, Parts}
+use Rattle.plinq_cli.specs.declared.command.Command.TheVariants.{Run, Seq, Plan, Parts, History}
 use Rattle.plinq_lines.specs.Text.{answer_text}
 use Rattle.plinq_lines.specs.PlanText.{plan_text}
 use Rattle.plinq_lines.specs.PartsText.{parts_text}
-use Rattle.plinq_lines.specs.Written.{Writes}
+use Rattle.plinq_lines.specs.HistoryText.{history_text}
+use Rattle.plinq_lines.specs.Written.{AppendsBeginning}
+use Rattle.plinq_cli.specs.Rounds.{IsHistory}
 
 -- the query's answer on one thread
 abbrev pub sequential_answer : JobView → Trace ℤ
 sequential_answer job = answer_of formula_meaning job.query.ops job.source
 
--- this is an answer of the command for the job: the query's, no items for `plan`, all that the source has for `parts`
+-- this is an answer of the command for the job: the query's, no items for `plan`, all that the source has for `parts` and `history`
 abbrev pub IsAnswer : Command → JobView → Trace ℤ → Type 0
 IsAnswer Run job u = u ≡ sequential_answer job
 IsAnswer Seq job u = u ≡ sequential_answer job
 IsAnswer Plan job u = u ≡ ended [] End
 IsAnswer Parts job u = u ≡ job.source
+IsAnswer History job u = u ≡ job.source
 
--- the lines of an answer
-abbrev pub text : Command → JobView → Trace ℤ → List ℕ
-text Run job u = answer_text (merge_in_force job.query.merge) u
-text Seq job u = answer_text (merge_in_force job.query.merge) u
-text Plan job u = plan_text job.query
-text Parts job u = parts_text (degree_in_force job.query.degree) u
+-- these are the lines of an answer
+abbrev pub IsText : Command → JobView → Trace ℤ → List ℕ → Type 0
+IsText Run job u lines = lines ≡ answer_text (merge_in_force job.query.merge) u
+IsText Seq job u lines = lines ≡ answer_text (merge_in_force job.query.merge) u
+IsText Plan job u lines = lines ≡ plan_text job.query
+IsText Parts job u lines = lines ≡ parts_text (degree_in_force job.query.degree) u
+IsText History job u lines = (h : List Record) × IsHistory (degree_in_force job.query.degree) job.growth u h × (lines ≡ history_text h u.ending)
 
--- what was written for a job: the lines of an answer that has the ending that is told, or after a fault a beginning of such lines
+-- the lines of an answer were written, and this is how it ended
+abbrev pub HasWritten : Command → JobView → Option (List ℕ) → Option (List ℕ) → Ending → Type 0
+HasWritten command job old new e =
+    (u : Trace ℤ) × IsAnswer command job u × (lines : List ℕ) × IsText command job u lines × Appends old new lines × (u.ending ≡ Some e)
+
+-- nothing was written, or a beginning of the lines of an answer
+abbrev pub HasBegun : Command → JobView → Option (List ℕ) → Option (List ℕ) → Type 0
+HasBegun command job old new =
+    Keeps old new ⊎ ((u : Trace ℤ) × IsAnswer command job u × (lines : List ℕ) × IsText command job u lines × AppendsBeginning old new lines)
+
+-- what was written for a job: the lines of an answer with the ending that is told, or after a fault a beginning of such lines
 abbrev pub Serves : {E : Type 0} → Command → JobView → Option (List ℕ) → Option (List ℕ) → Result Ending E → Type 0
-Serves command job old new r =
-    (u : Trace ℤ) × IsAnswer command job u × Writes old new r (text command job u) × IfOk r (λ e. u.ending ≡ Some e)
+Serves command job old new r = MatchResult r (HasWritten command job old new) (λ _. HasBegun command job old new)
 
 -- ---- worked rows
 
@@ -54,6 +69,6 @@ add_one = record {
 pub add_one_is_answered : sequential_answer add_one ≡ ended (pos 4 ∷ pos 2 ∷ pos 5 ∷ []) End
 add_one_is_answered = refl
 
-pub add_one_is_printed : text Run add_one (sequential_answer add_one) ≡ codes "4\n2\n5\nend\n"
+pub add_one_is_printed : IsText Run add_one (sequential_answer add_one) (codes "4\n2\n5\nend\n")
 unfolding digits
 add_one_is_printed = refl

@@ -80,6 +80,12 @@ fn command_line<'a>(alloc: Global) -> Result<clap::Command<'a>, AllocError>
             "parts",
             "Shows the source cut into partitions",
             merge,
+        )?)?
+        .subcommand(subcommand(
+            alloc,
+            "history",
+            "Shows the requests of partitions that take from the source in turn",
+            merge,
         )?)
 }
 
@@ -130,6 +136,7 @@ fn command_of(name: &str, _options: &ArgMatches<'_>) -> Option<Command>
         "seq" => Some(Command::Seq),
         "plan" => Some(Command::Plan),
         "parts" => Some(Command::Parts),
+        "history" => Some(Command::History),
         _ => None,
     }
 }

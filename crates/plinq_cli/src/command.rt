@@ -9,4 +9,6 @@ pub enum Command {
     Plan,
     /// Shows the source cut into partitions.
     Parts,
+    /// Shows the requests of partitions that take from the source in turn.
+    History,
 }

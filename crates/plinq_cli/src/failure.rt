@@ -1,9 +1,10 @@
 ghost use Rattle.std.specs.Prelude.{◌≡◌};
-ghost use Rattle.plinq_cli.specs.Performed.{failure_of_document, failure_of_input, failure_of_serve};
+ghost use Rattle.plinq_cli.specs.Performed.{failure_of_document, failure_of_input, failure_of_serve, failure_of_take};
 
 use crate::input_fault::InputFault;
 use crate::serve_fault::ServeFault;
 use plinq_document::DocFault;
+use plinq_partition::TakeFault;
 use thiserror::Error;
 
 /// Why the program has no answer. Its text is the line on standard error, after the program's name.
@@ -21,6 +22,12 @@ pub enum Failure {
     /// The output couldn't be written.
     #[error("write failed")]
     Write,
+    /// All tickets were drawn, or another request came first.
+    #[error("tickets spent")]
+    Tickets,
+    /// Records of the history are missing, or the enumerator is.
+    #[error("incomplete")]
+    Incomplete,
 }
 
 impl From<DocFault> for Failure {
@@ -53,6 +60,19 @@ impl From<ServeFault> for Failure {
         match fault {
             ServeFault::Memory => Failure::Memory,
             ServeFault::Write => Failure::Write,
+            ServeFault::Take(fault) => Failure::from(fault),
+        }
+    }
+}
+
+impl From<TakeFault> for Failure {
+    ghost from_gives = { λ fault e. e ≡ failure_of_take fault };
+
+    fn from(fault: TakeFault) -> Failure {
+        match fault {
+            TakeFault::Memory => Failure::Memory,
+            TakeFault::Spent | TakeFault::Busy { .. } => Failure::Tickets,
+            TakeFault::Incomplete { .. } | TakeFault::Away => Failure::Incomplete,
         }
     }
 }

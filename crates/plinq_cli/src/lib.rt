@@ -13,6 +13,7 @@ mod input;
 mod input_fault;
 pub mod laws;
 mod performing;
+mod rounds;
 mod serve_fault;
 mod serving;
 #[cfg(test)]

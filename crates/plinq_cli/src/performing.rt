@@ -128,6 +128,7 @@ fn report_failure<E: Write>(failure: Failure, err: &mut E) -> u8
     match failure {
         Failure::Document(_) => 2,
         Failure::Memory | Failure::Read | Failure::Write => 5,
+        Failure::Tickets | Failure::Incomplete => 5,
     }
 }
 

@@ -1,7 +1,9 @@
 ghost use Rattle.std.specs.Prelude.{◌≡◌};
+ghost use Rattle.plinq_cli.specs.ServeFaults.{serve_fault_of};
 ghost use Rattle.plinq_cli.specs.declared.serve_fault.ServeFault.TheVariants.{Memory, Write};
 
 use plinq_lines::WriteFault;
+use plinq_partition::TakeFault;
 use plinq_source::OutOfMemory;
 use thiserror::Error;
 
@@ -14,6 +16,9 @@ pub enum ServeFault {
     /// The writer took no more.
     #[error("write failed")]
     Write,
+    /// A partition was given no chunk, or the enumerator wasn't given back; never for want of memory.
+    #[error("{0}")]
+    Take(TakeFault),
 }
 
 impl From<OutOfMemory> for ServeFault {
@@ -29,5 +34,16 @@ impl From<WriteFault> for ServeFault {
 
     fn from(_: WriteFault) -> ServeFault {
         ServeFault::Write
+    }
+}
+
+impl From<TakeFault> for ServeFault {
+    ghost from_gives = { λ fault e. e ≡ serve_fault_of fault };
+
+    fn from(fault: TakeFault) -> ServeFault {
+        match fault {
+            TakeFault::Memory => ServeFault::Memory,
+            _ => ServeFault::Take(fault),
+        }
     }
 }

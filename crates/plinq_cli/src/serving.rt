@@ -5,11 +5,12 @@ ghost use Rattle.plinq_source.specs.Trace.{ended};
 ghost use Rattle.plinq_cli.specs.Served.{Serves};
 
 use crate::command::Command;
+use crate::rounds::{hand_out, told_ending};
 use crate::serve_fault::ServeFault;
 use plinq_document::{AnySource, Job};
-use plinq_keyed::Keyed;
+use plinq_keyed::{Guarded, Keyed};
 use plinq_lambda::Formula;
-use plinq_lines::{write_answer, write_parts, write_plan};
+use plinq_lines::{write_answer, write_history, write_parts, write_plan};
 use plinq_ops::{Query, sequential};
 use plinq_partition::{OrderablePartitioner, RangeParts};
 use plinq_source::{Ending, OutOfMemory, Source};
@@ -22,8 +23,9 @@ use std::io::Write;
 ///
 /// # Errors
 ///
-/// [`ServeFault::Memory`] where there is no memory for the answer, and [`ServeFault::Write`] where the writer answers
-/// an error, or takes none of the bytes that it is given.
+/// [`ServeFault::Memory`] where there is no memory for the answer, [`ServeFault::Write`] where the writer answers an
+/// error, or takes none of the bytes that it is given, and [`ServeFault::Take`] where the partitions of a history don't
+/// get through.
 pub fn serve<W: Write>(
     alloc: Global,
     command: Command,
@@ -37,6 +39,7 @@ pub fn serve<W: Write>(
         Command::Seq => serve_sequential(alloc, job, writer),
         Command::Plan => serve_plan(&job, writer),
         Command::Parts => serve_parts(alloc, job, writer),
+        Command::History => serve_history(alloc, job, writer),
     }
 }
 
@@ -72,6 +75,23 @@ fn serve_parts<W: Write>(alloc: Global, job: Job, writer: &mut W) -> Result<Endi
     let parts = RangeParts::new(alloc, items);
     let partitions = cut(&parts, query.degree())?;
     write_parts(writer, parts.properties(), partitions.as_slice(), ending)?;
+    Ok(ending)
+}
+
+fn serve_history<W: Write>(alloc: Global, job: Job, writer: &mut W) -> Result<Ending, ServeFault>
+    ensures { Serves Command.History job (W.contents writer.old) (W.contents writer.new) result }
+{
+    let Job {
+        query,
+        source,
+        growth,
+    } = job;
+    let enumerator = hand_out(alloc, source, growth, query.degree())?;
+    let records = enumerator.records();
+    let Some(ending) = told_ending(records) else {
+        unreachable!()
+    };
+    write_history(writer, records, ending)?;
     Ok(ending)
 }
 

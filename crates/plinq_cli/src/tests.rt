@@ -5,6 +5,7 @@ use std::process::Abort;
 
 mod answers;
 mod documents;
+mod histories;
 mod streams;
 mod words;
 

@@ -5,7 +5,7 @@ use plinq_ops::MergeOption;
 use std::test::Fail;
 
 // Words after the program's name, and what they ask for.
-const READ: [(&[&str], Command, Option<u64>, Option<MergeOption>); 6] = [
+const READ: [(&[&str], Command, Option<u64>, Option<MergeOption>); 7] = [
     (&["run"], Command::Run, None, None),
     (&["seq", "--workers", "64"], Command::Seq, Some(64), None),
     (
@@ -19,6 +19,12 @@ const READ: [(&[&str], Command, Option<u64>, Option<MergeOption>); 6] = [
         Command::Run,
         Some(2),
         Some(MergeOption::NotBuffered),
+    ),
+    (
+        &["history", "--workers", "3"],
+        Command::History,
+        Some(3),
+        None,
     ),
     (
         &["run", "--merge", "auto"],

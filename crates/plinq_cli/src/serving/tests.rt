@@ -29,7 +29,13 @@ fn answers_the_example(rt: HostRuntime) -> Result<(), Fail> {
 #[test]
 fn fails_with_its_writer(rt: HostRuntime) -> Result<(), Fail> {
     let alloc = rt.alloc();
-    for command in [Command::Run, Command::Seq, Command::Plan] {
+    for command in [
+        Command::Run,
+        Command::Seq,
+        Command::Plan,
+        Command::Parts,
+        Command::History,
+    ] {
         let job = read_document(alloc, ADD_ONE.as_bytes(), NOT_BUFFERED)?;
         let mut full = [0u8; 0];
         let mut out = full.as_mut_slice();

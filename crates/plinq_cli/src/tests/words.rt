@@ -57,10 +57,11 @@ const HELP: &str = r#"Answers the query of a JSON document, which it reads from 
 Usage: plinq <COMMAND>
 
 Commands:
-  run    Answers the query
-  seq    Answers the query on one thread
-  plan   Shows how the query is shared among workers
-  parts  Shows the source cut into partitions
+  run      Answers the query
+  seq      Answers the query on one thread
+  plan     Shows how the query is shared among workers
+  parts    Shows the source cut into partitions
+  history  Shows the requests of partitions that take from the source in turn
 
 Options:
   -h, --help  Print help

@@ -4,7 +4,7 @@ use Rattle.std.proofs.lemmas.Result.{IfOk-weaker}
 use Rattle.clap.specs.Words.{app_of, new_app}
 use Rattle.clap.specs.Simple.{app_of_fields, on_top}
 use Rattle.clap.specs.declared.builder.value_parser.ValueParser.TheVariants as parser
-use Rattle.plinq_cli.specs.Arguments.{bare_app, merge_words, run_app, seq_app, plan_app, parts_app}
+use Rattle.plinq_cli.specs.Arguments.{bare_app, merge_words, run_app, seq_app, plan_app, parts_app, history_app}
 use Rattle.plinq_cli.proofs.Asked.{added, takes_only}
 use Rattle.plinq_cli.proofs.arguments.command_line.Goals as goal
 
@@ -21,6 +21,7 @@ returns c =
     let run = added _ _ _ _ (run_app q) c.in_ok-subcommand.ensures c.in_ok-subcommand-2.ensures bare in
     let seq = added _ _ _ _ (seq_app q) c.in_ok-subcommand-3.ensures c.in_ok-subcommand-4.ensures run in
     let plan = added _ _ _ _ (plan_app q) c.in_ok-subcommand-5.ensures c.in_ok-subcommand-6.ensures seq in
-    IfOk-weaker c.subcommand-8.result _ _
-    (λ line h. (q, takes_only q c.as_slice.result parser_is words_are, added _ _ _ _ (parts_app q) c.in_ok-subcommand-7.ensures h plan))
-    c.subcommand-8.ensures
+    let parts = added _ _ _ _ (parts_app q) c.in_ok-subcommand-7.ensures c.in_ok-subcommand-8.ensures plan in
+    IfOk-weaker c.subcommand-10.result _ _
+    (λ line h. (q, takes_only q c.as_slice.result parser_is words_are, added _ _ _ _ (history_app q) c.in_ok-subcommand-9.ensures h parts))
+    c.subcommand-10.ensures

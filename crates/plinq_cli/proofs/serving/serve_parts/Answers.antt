@@ -35,7 +35,7 @@ returns-in_err-write_parts g c =
     let cut : element_lists c.as_slice.result.now ≡ cuts (keyed_from 0 c.in_ok-items.items.items) c.degree.result = search rules in
     let degree : c.degree.result ≡ degree_in_force c.args.job.query.degree = c.degree.ensures.value ∙ ap (λ (j : JobView). degree_in_force j.query.degree) c.job.view_is in
     let whole = ap (λ (j : JobView). j.source) c.job.view_is in
-    serves-begun Parts c.args.job _ _ _ c.args.job.source c.from_residual-in_err-write_parts.ensures.0 refl
+    serves-begun Parts c.args.job _ _ _ c.args.job.source _ c.from_residual-in_err-write_parts.ensures.0 refl refl
     (begins-as _ _ _ _ (written _ _ _ _ _ _ _ _ c.properties.ensures cut degree c.in_ok-items.ensures whole) c.in_err-write_parts.ensures)
 
 pub returns : goal.returns
@@ -44,6 +44,8 @@ returns g c =
     let degree : c.degree.result ≡ degree_in_force c.args.job.query.degree = c.degree.ensures.value ∙ ap (λ (j : JobView). degree_in_force j.query.degree) c.job.view_is in
     let whole = ap (λ (j : JobView). j.source) c.job.view_is in (
       c.args.job.source,
+      refl,
+      parts_text (degree_in_force c.args.job.query.degree) c.args.job.source,
       refl,
       appends-as _ _ _ _ (written _ _ _ _ _ _ _ _ c.properties.ensures cut degree c.in_ok-items.ensures whole) c.in_ok-write_parts.ensures,
       sym (ap (λ (t : Trace ℤ). t.ending) (c.in_ok-items.ensures ∙ whole)),

@@ -1,0 +1,10 @@
+-- A fault of a partition, as a command tells it.
+use Rattle.plinq_partition.specs.declared.take_fault.TakeFault.{TakeFault}
+use Rattle.plinq_partition.specs.declared.take_fault.TakeFault.TheVariants.{Memory as NoMemory}
+use Rattle.plinq_cli.specs.declared.serve_fault.ServeFault.{ServeFault}
+use Rattle.plinq_cli.specs.declared.serve_fault.ServeFault.TheVariants.{Memory, Take}
+
+-- want of memory is that of the command
+abbrev pub serve_fault_of : TakeFault → ServeFault
+serve_fault_of NoMemory = Memory
+serve_fault_of fault = Take fault
