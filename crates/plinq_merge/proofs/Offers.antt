@@ -15,13 +15,13 @@ use Rattle.plinq_ops.specs.Pipeline.{PipelineView, stages, begun}
 use Rattle.plinq_ops.proofs.Counts.{stages_left-counts, some_takes_none-stages_of}
 use Rattle.plinq_ops.proofs.Open.{seq-nothing}
 use Rattle.plinq_merge.specs.declared.more.More.TheVariants.{Yes, No}
-use Rattle.plinq_merge.specs.declared.merge_fault.MergeFault.TheVariants.{Memory, Sink}
+use Rattle.plinq_merge.specs.declared.merge_fault.MergeFault.TheVariants.{Memory, Sink, Twice}
 use Rattle.plinq_merge.specs.declared.undelivered.Undelivered.TheVariants.{Memory as NoMemory, Sink as Refusal}
 use Rattle.plinq_merge.specs.declared.standing.Standing.{Standing}
 use Rattle.plinq_merge.specs.declared.standing.Standing.TheVariants.{Open, Decided, Failed}
 use Rattle.plinq_merge.specs.declared.work.Work.{Work}
 use Rattle.plinq_merge.specs.Shown.{Merge, answer, behind_result}
-use Rattle.plinq_merge.specs.Keys.{is_offered, AreNew, IsFresh}
+use Rattle.plinq_merge.specs.Keys.{is_offered, AreNew, IsFresh, IsRepeated}
 use Rattle.plinq_merge.specs.Merging.{Content, HasTaken, IsAtGap}
 use Rattle.plinq_merge.specs.Buffer.{held_of}
 use Rattle.plinq_merge.specs.declared.undelivered.Undelivered.{Undelivered}
@@ -123,6 +123,15 @@ offers-sink meaning accepts refuses w Open r s code w' s' is fresh gains = (
 )
 offers-sink meaning accepts refuses w (Decided e) r s code w' s' is fresh gains = absurd (cc)
 offers-sink meaning accepts refuses w Failed r s code w' s' is fresh gains = absurd (cc)
+
+-- a key of it was offered before: nothing changes
+pub offers-twice : {L K T : Type 0} (meaning : L → Meaning T) (accepts : K → List T → K → Type 0) (refuses : K → List T → ℕ → K → Type 0) (w : Work L T) (standing : Standing) (r : ChunkResult T) (s : K) (w' : Work L T) (standing' : Standing) (s' : K)
+    → standing ≡ Open → w' ≡ w → standing' ≡ standing → s' ≡ s → IsRepeated w.row.next w.row.waiting.entries r.first (behind_result r)
+    → Offers meaning accepts refuses w standing r s (Err Twice) w' standing' s'
+offers-twice meaning accepts refuses w Open r s w' standing' s' is same still taken repeated =
+    (same, still, taken, λ offers rests. let held = rests.taken in (repeated.0, repeated.1, held.keys repeated.0 ∙ repeated.2))
+offers-twice meaning accepts refuses w (Decided e) r s w' standing' s' is same still taken repeated = absurd (cc)
+offers-twice meaning accepts refuses w Failed r s w' standing' s' is same still taken repeated = absurd (cc)
 
 pub gains-as : {L K T : Type 0} (meaning : L → Meaning T) (accepts : K → List T → K → Type 0) (refuses : K → List T → ℕ → K → Type 0) (w : Work L T) (r : ChunkResult T) (s : K)
     (result result' : Result (Option Ending) Undelivered) (w' : Work L T) (s' : K) → result ≡ result'

@@ -1,10 +1,10 @@
-use Rattle.std.proofs.Common.{rules, ◌≡◌, Ok, Err, Some, None, sym}
+use Rattle.std.proofs.Common.{rules, ◌≡◌, Ok, Err, Some, None, refl, sym}
 use Rattle.plinq_merge.specs.declared.standing.Standing.TheVariants.{Open}
 use Rattle.plinq_merge.specs.declared.undelivered.Undelivered.TheVariants.{Memory, Sink}
 use Rattle.plinq_merge.specs.Shown.{behind_result}
-use Rattle.plinq_merge.specs.Keys.{IsFresh}
+use Rattle.plinq_merge.specs.Keys.{IsFresh, IsRepeated}
 use Rattle.plinq_merge.proofs.Gains.{merge-same}
-use Rattle.plinq_merge.proofs.Offers.{offers-yes, offers-no, offers-memory, offers-sink, gains-as}
+use Rattle.plinq_merge.proofs.Offers.{offers-yes, offers-no, offers-memory, offers-sink, offers-twice, gains-as}
 use Rattle.plinq_merge.proofs.merger.Merger.offer.Goals as goal
 
 pub returns-in-Ok-None-clause-takes : goal.returns-in-Ok-None-clause-takes
@@ -58,3 +58,10 @@ returns-in-Err-Memory-clause-plan g c = sym (merge-same g.L.Lambda.meaning c.arg
 
 pub returns-in-Err-Sink-clause-plan : goal.returns-in-Err-Sink-clause-plan
 returns-in-Err-Sink-clause-plan g c = sym (merge-same g.L.Lambda.meaning c.args.self.now.work c.merge.new.self c.merge.ensures.plan)
+
+pub returns-then-was_offered-clause-takes : goal.returns-then-was_offered-clause-takes
+returns-then-was_offered-clause-takes g c =
+    let w = c.args.self.now.work in
+    let r = c.args.offered in
+    let repeated : IsRepeated w.row.next w.row.waiting.entries r.first (behind_result r) = search rules in
+    offers-twice g.L.Lambda.meaning g.K.Sink.accepts g.K.Sink.refuses w c.args.self.now.standing r c.args.sink.now w c.args.self.now.standing c.args.sink.now c.in-Open.is refl refl refl repeated
