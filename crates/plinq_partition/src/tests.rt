@@ -1,4 +1,5 @@
 mod chunked;
+mod expecting;
 mod load;
 mod refusals;
 

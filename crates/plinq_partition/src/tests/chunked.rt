@@ -1,24 +1,9 @@
+use super::expecting::{expect, give_back};
 use crate::{Chunked, OrderablePartitioner, PartFault, TakeFault};
 use plinq_enumerator::{Growth, replays};
-use plinq_keyed::{Chunk, Guarded, KeyProperties, Tail};
+use plinq_keyed::{Guarded, KeyProperties, Record, Tail};
 use plinq_source::{Ending, ListSource, RangeSource};
-use std::process::Abort;
 use std::test::Fail;
-
-fn expect(
-    rt: &impl Abort,
-    chunk: Result<Chunk<i64>, TakeFault>,
-    first: u64,
-    items: &[i64],
-    tail: Option<Tail>,
-) {
-    let Ok(chunk) = chunk else {
-        panic!(rt; "refused");
-    };
-    assert_eq!(rt; chunk.first, first);
-    assert_eq!(rt; chunk.items.as_slice(), items);
-    assert_eq!(rt; chunk.tail, tail);
-}
 
 #[test]
 fn one_partition_takes_chunks_that_grow(rt: HostRuntime) -> Result<(), Fail> {
@@ -104,11 +89,17 @@ fn a_stopped_source_gives_nothing_more(rt: HostRuntime) -> Result<(), Fail> {
         &[],
         Some(Tail::Closed),
     );
-    let Ok(enumerator) = chunked.give_back(vec![in rt.alloc(); partition]?) else {
-        panic!(rt; "not whole");
+    let Some(enumerator) = give_back(&rt, rt.alloc(), chunked, partition) else {
+        return Err(Fail::from("no room for a list of one"));
     };
-    assert_eq!(rt; enumerator.records().len(), 3);
-    assert!(rt; replays(enumerator.records(), 1, Ending::End));
+    let records = enumerator.records();
+    assert_eq!(rt; records.len(), 3);
+    assert!(rt; replays(records, 1, Ending::End));
+    let moved = Record {
+        first: 0,
+        ..records[1]
+    };
+    assert!(rt; !replays(&[records[0], moved, records[2]], 1, Ending::End));
     Ok(())
 }
 
@@ -118,15 +109,11 @@ fn a_list_of_truths_is_handed_out(rt: HostRuntime) -> Result<(), Fail> {
     let truths = vec![in rt.alloc(); true, false, false]?;
     let source = ListSource::refusing(rt.alloc(), truths, 7);
     let (chunked, mut partition) = Chunked::new(rt.alloc(), source, Growth::new(2, 1, 2)?)?;
-    let chunk = partition.take(&rt, &chunked)?;
-    assert_eq!(rt; chunk.items.as_slice(), [true, false].as_slice());
-    assert_eq!(rt; chunk.tail, None);
-    let chunk = partition.try_take(&chunked)?;
-    assert_eq!(rt; chunk.first, 2);
-    assert_eq!(rt; chunk.items.as_slice(), [false].as_slice());
-    assert_eq!(rt; chunk.tail, Some(Tail::Refused(7)));
-    let Ok(enumerator) = chunked.give_back(vec![in rt.alloc(); partition]?) else {
-        panic!(rt; "not whole");
+    expect(&rt, partition.take(&rt, &chunked), 0, &[true, false], None);
+    let refused = Some(Tail::Refused(7));
+    expect(&rt, partition.try_take(&chunked), 2, &[false], refused);
+    let Some(enumerator) = give_back(&rt, rt.alloc(), chunked, partition) else {
+        return Err(Fail::from("no room for a list of one"));
     };
     assert!(rt; replays(enumerator.records(), 3, Ending::Refused(7)));
     Ok(())
