@@ -33,11 +33,11 @@ CASES = [
     (["run"], b'{"version":1,"source":{"list":[2,0]},"query":[["as_ordered"],["select","into",4]]}'),
     (["plan"], document(3)),
     (["parts", "--workers", "3"], document(5_000)),
-    (["history", "--workers", "3"], document(1_000)),
     (["run"], b"{"),
     (["walk"], b""),
     (["--help"], b""),
     (["plan", "--help"], b""),
+    (["history", "--workers", "3"], document(1_000)),
 ]
 
 
