@@ -1,9 +1,8 @@
 -- The pieces of a block's items, joined one item after another.
-use Rattle.std.specs.Prelude.{◌≡◌, List, [], ◌∷◌, ◌++◌, None, refl}
-use Rattle.std.proofs.Common.{sym, ◌∙◌, ap, append-nil}
+use Rattle.std.specs.Prelude.{◌≡◌, List, [], ◌∷◌, None}
+use Rattle.std.proofs.Common.{◌∙◌, ap, append-nil}
 use Rattle.plinq_source.specs.declared.ending.Ending.{Ending}
 use Rattle.plinq_source.specs.Trace.{Trace, open_trace, ended, followed}
-use Rattle.plinq_source.proofs.Followed.{followed-followed}
 use Rattle.plinq_lambda.specs.Meaning.{Meaning}
 use Rattle.plinq_ops.specs.Stage.{joined}
 use Rattle.plinq_ops.specs.Operator.{selected, filtered, taken_while}
