@@ -1,7 +1,7 @@
 -- Writes one after another.
 use Rattle.std.proofs.Common.{◌≡◌, ℕ, ◌+◌, ◌-◌, ◌≤◌, min, List, ◌++◌, length, take, drop, Option, Result, Ok, Err, arith, ap, sym, subst, ◌∙◌, length-drop}
 use Rattle.std.specs.Io.KnownBytes.{Appends}
-use Rattle.std.proofs.KnownBytes.{Appends-nil, Appends-trans}
+use Rattle.std.proofs.KnownBytes.{Appends-trans}
 use Rattle.std.specs.Result.{IsErr}
 use Rattle.std.proofs.lemmas.Result.{MatchResult-from_err}
 use Rattle.std.proofs.Math.Seq.{take-append-add, take-length, take-add}
@@ -62,6 +62,3 @@ writes-at_err a b r bytes failed h = MatchResult-from_err r _ _ failed (λ _. h)
 
 pub writes-as : {A E : Type 0} (a b : Bytes) (r : Result A E) (x y : List ℕ) → x ≡ y → Writes a b r x → Writes a b r y
 writes-as a b r x y e h = let P : List ℕ → Type 0 = λ s. Writes a b r s in subst P e h
-
-pub begins-nothing : (a : Bytes) (x : List ℕ) → AppendsBeginning a a x
-begins-nothing a x = (0, Appends-nil a)
