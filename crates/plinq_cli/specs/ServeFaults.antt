@@ -4,7 +4,7 @@ use Rattle.plinq_partition.specs.declared.take_fault.TakeFault.TheVariants.{Memo
 use Rattle.plinq_cli.specs.declared.serve_fault.ServeFault.{ServeFault}
 use Rattle.plinq_cli.specs.declared.serve_fault.ServeFault.TheVariants.{Memory, Take}
 
--- want of memory is that of the command
+-- memory that ran out is told as the command's
 abbrev pub serve_fault_of : TakeFault → ServeFault
 serve_fault_of NoMemory = Memory
 serve_fault_of fault = Take fault

@@ -16,7 +16,7 @@ pub enum ServeFault {
     /// The writer took no more.
     #[error("write failed")]
     Write,
-    /// A partition was given no chunk, or the enumerator wasn't given back; never for want of memory.
+    /// A partition was given no chunk, or the enumerator wasn't given back; never since memory ran out.
     #[error("{0}")]
     Take(TakeFault),
 }

@@ -3,7 +3,7 @@ use Rattle.std.specs.Prelude.{ℕ, Err}
 use Rattle.plinq_lambda.specs.Meaning.{IsFaultOf}
 use Rattle.plinq_lambda.specs.declared.expand_fault.ExpandFault.TheVariants.{Code, Memory}
 
--- where the meaning faults, want of memory isn't answered, and no other code
+-- where the meaning faults, no memory fault is answered, and no other code
 memory_for_a_fault : IsFaultOf {T = ℕ} (Err 3) Memory → ⊥
 memory_for_a_fault fault = absurd (cc)
 

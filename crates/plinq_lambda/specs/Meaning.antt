@@ -13,7 +13,7 @@ pub record Meaning (T : Type 0) : Type 0 where
 abbrev pub most_items : ℕ
 most_items = 65536
 
--- why an expansion has no items: the meaning's fault, or else want of memory for the meaning's list, which may be empty
+-- why an expansion has no items: the meaning's fault, or else that memory ran out for the meaning's list, which may be empty
 abbrev pub IsFaultOf : {T : Type 0} → Result (List T) ℕ → ExpandFault → Type 0
 IsFaultOf m (Code c) = m ≡ Err c
 IsFaultOf m Memory = IsOk m
