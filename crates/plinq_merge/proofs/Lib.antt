@@ -7,3 +7,4 @@ pub mod Gains
 pub mod Offers
 pub mod Whole
 pub mod Told
+pub mod Mergers

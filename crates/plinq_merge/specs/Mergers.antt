@@ -4,8 +4,12 @@ use Rattle.plinq_source.specs.declared.ending.Ending.{Ending}
 use Rattle.plinq_lambda.specs.declared.lambda.Lambda.{Ghosts}
 use Rattle.plinq_ops.specs.declared.results.ChunkResult.{ChunkResult}
 use Rattle.plinq_merge.specs.declared.merge_fault.MergeFault.{MergeFault}
+use Rattle.plinq_merge.specs.declared.merge_fault.MergeFault.TheVariants.{Memory, Sink, Twice, Gap, Failed}
 use Rattle.plinq_merge.specs.declared.more.More.{More}
 use Rattle.plinq_merge.specs.declared.merger.Merger.{Merger}
+use Rattle.plinq_merge.specs.declared.undelivered.Undelivered.{Undelivered}
+use Rattle.plinq_merge.specs.declared.undelivered.Undelivered.TheVariants.{Memory as NoMemory, Sink as Refusal}
+use Rattle.plinq_merge.specs.Sending.{IsCutOff}
 use Rattle.plinq_merge.specs.Shown.{Merge}
 use Rattle.plinq_merge.specs.Working.{merge_of}
 use Rattle.plinq_merge.specs.Offering.{StandsFor, Offers, is_decided, finished}
@@ -30,3 +34,15 @@ module _ {L T : Type 0} {lambda : Ghosts L T} where
 
   abbrev pub tells_ending : Merger L T lambda → Result Ending MergeFault
   tells_ending m = finished m.standing
+
+-- what a fault says of the batches that weren't delivered: the sink refused the next one, or it wasn't tried
+abbrev pub undelivered_of : MergeFault → Undelivered
+undelivered_of (Sink code) = Refusal code
+undelivered_of Memory = NoMemory
+undelivered_of Twice = NoMemory
+undelivered_of Gap = NoMemory
+undelivered_of Failed = NoMemory
+
+-- the sink has taken the first of these batches, and the fault says why not all
+abbrev pub StopsShort : {K B : Type 0} → (K → B → K → Type 0) → (K → B → ℕ → K → Type 0) → K → List B → MergeFault → K → Type 0
+StopsShort accepts refuses s bs fault s' = IsCutOff accepts refuses s bs (undelivered_of fault) s'

@@ -1,0 +1,6 @@
+mod Ended
+mod Hands
+mod Merged
+mod Queue
+mod Runs
+mod Taken

@@ -1,0 +1,47 @@
+-- One result more.
+use Rattle.std.specs.Prelude.{◌≡◌, ℕ, List, [], ◌∷◌, ◌++◌, ◌⊎◌, Option, Some, None, Result, Ok, Err, All}
+use Rattle.std.proofs.Common.{sym, ◌∙◌, ap, subst, refl, inl, inr}
+use Rattle.std.proofs.lemmas.List.Elements.{All-push}
+use Rattle.plinq_lambda.specs.declared.lambda.Lambda.{Ghosts}
+use Rattle.plinq_ops.specs.declared.results.ChunkResult.{ChunkResult}
+use Rattle.plinq_merge.specs.declared.merge_fault.MergeFault.{MergeFault}
+use Rattle.plinq_merge.specs.declared.merger.Merger.{Merger}
+use Rattle.plinq_merge.specs.declared.more.More.{More}
+use Rattle.plinq_merge.specs.Sending.{Leads}
+use Rattle.plinq_merge.specs.Shown.{Merge, shown}
+use Rattle.plinq_merge.specs.Mergers.{plan_of, IsFor, Takes, StopsShort}
+use Rattle.plinq_merge.proofs.Mergers.{AreOneMore, takes-ok, takes-err}
+use Rattle.plinq_run.specs.Merged.{IsMerging, HasStopped, Merges}
+
+are-more : {T : Type 0} (IsResult : ChunkResult T → Type 0) (offers : List (ChunkResult T)) (r : ChunkResult T) (offers' : List (ChunkResult T))
+    → AreOneMore offers r offers' → All IsResult offers → IsResult r → All IsResult offers'
+are-more IsResult offers r offers' (inl same) are good = subst (All IsResult) (sym same) are
+are-more IsResult offers r offers' (inr more) are good = subst (All IsResult) (sym more) (All-push IsResult offers r are good)
+
+module _ {L T K : Type 0} {lambda : Ghosts L T} (IsResult : ChunkResult T → Type 0) (accepts : K → List T → K → Type 0) (refuses : K → List T → ℕ → K → Type 0)
+    (merge : Merge T) (s : K) where
+  -- a result that the merger takes in
+  pub merges-ok : (m : Merger L T lambda) (r : ChunkResult T) (s1 : K) (more : More) (m' : Merger L T lambda) (s2 : K)
+      → plan_of m' ≡ plan_of m → Takes accepts refuses m r s1 (Ok more) m' s2 → IsResult r → IsMerging IsResult accepts refuses merge s m s1
+      → IsMerging IsResult accepts refuses merge s m' s2
+  merges-ok m r s1 more m' s2 same takes good h =
+      let on = takes-ok accepts refuses m r s1 more m' s2 h.offers same h.stands takes in
+      record {
+        offers = on.0;
+        are = are-more IsResult h.offers r on.0 on.1 h.are good;
+        plan = same ∙ h.plan;
+        stands = on.2;
+        leads = subst (λ x. Leads accepts s (shown x on.0) s2) h.plan (on.3 s (subst (λ x. Leads accepts s (shown x h.offers) s1) (sym h.plan) h.leads));
+      }
+
+  -- a result that it refuses
+  pub merges-err : (m : Merger L T lambda) (r : ChunkResult T) (s1 : K) (fault : MergeFault) (m' : Merger L T lambda) (s2 : K)
+      → Takes accepts refuses m r s1 (Err fault) m' s2 → IsResult r → IsMerging IsResult accepts refuses merge s m s1
+      → HasStopped IsResult accepts refuses merge s fault s2
+  merges-err m r s1 fault m' s2 takes good h =
+      let on = takes-err accepts refuses m r s1 fault m' s2 h.offers h.stands takes in
+      record {
+        offers = on.0;
+        are = are-more IsResult h.offers r on.0 on.1 h.are good;
+        short = subst (λ x. StopsShort accepts refuses s (shown x on.0) fault s2) h.plan (on.2 s (subst (λ x. Leads accepts s (shown x h.offers) s1) (sym h.plan) h.leads));
+      }

@@ -1,0 +1,17 @@
+use Rattle.std.proofs.Common.{◌≡◌, ◌≤◌, ◌+◌, All, length, vec_len, vec_capacity}
+use Rattle.plinq_partition.specs.Partitions.{IsPartitionOf, holding_of}
+use Rattle.plinq_partition.specs.GivenBack.{common_origin}
+use Rattle.plinq_run.specs.Hands.{IsHandOf}
+use Rattle.plinq_run.proofs.starting.join_all.Given as goal
+
+abbrev pub invariant-loop-hand : goal.invariant-loop-hand
+invariant-loop-hand g l = record {
+  hands : All (IsHandOf l.chunked) l.hands.items;
+  some : 1 ≤ length l.partitions.items;
+  of : All (IsPartitionOf l.chunked) l.partitions.items;
+  origin : common_origin l.partitions.items ≡ (holding_of l.fn.own).origin;
+  room : length l.hands.items + length l.partitions.items ≤ vec_capacity l.partitions;
+}
+
+abbrev pub decreases-loop-hand : goal.decreases-loop-hand
+decreases-loop-hand g l = vec_len l.hands

@@ -1,0 +1,30 @@
+-- What the merging thread has done so far.
+use Rattle.std.specs.Prelude.{◌≡◌, ℕ, List, Option, Some, None, All}
+use Rattle.plinq_lambda.specs.declared.lambda.Lambda.{Ghosts}
+use Rattle.plinq_ops.specs.declared.results.ChunkResult.{ChunkResult}
+use Rattle.plinq_merge.specs.declared.merge_fault.MergeFault.{MergeFault}
+use Rattle.plinq_merge.specs.declared.merger.Merger.{Merger}
+use Rattle.plinq_merge.specs.Sending.{Leads}
+use Rattle.plinq_merge.specs.Shown.{Merge, shown}
+use Rattle.plinq_merge.specs.Mergers.{plan_of, IsFor, StopsShort}
+
+module _ {T K : Type 0} (IsResult : ChunkResult T → Type 0) (accepts : K → List T → K → Type 0) (refuses : K → List T → ℕ → K → Type 0)
+    (merge : Merge T) (s : K) where
+  -- results were offered, and the sink has the first batches of what they show
+  pub record HasStopped (fault : MergeFault) (s' : K) : Type 0 where
+    pub offers : List (ChunkResult T)
+    pub are : All IsResult offers
+    pub short : StopsShort accepts refuses s (shown merge offers) fault s'
+
+  module _ {L : Type 0} {lambda : Ghosts L T} where
+    -- results were offered, and the sink has what they show
+    pub record IsMerging (m : Merger L T lambda) (s' : K) : Type 0 where
+      pub offers : List (ChunkResult T)
+      pub are : All IsResult offers
+      pub plan : plan_of m ≡ merge
+      pub stands : IsFor m offers
+      pub leads : Leads accepts s (shown merge offers) s'
+
+    abbrev pub Merges : Merger L T lambda → Option MergeFault → K → Type 0
+    Merges m None s' = IsMerging m s'
+    Merges m (Some fault) s' = HasStopped fault s'

@@ -1,0 +1,187 @@
+//! What the caller's thread does in a run: it starts the workers, merges what they send, and joins them.
+ghost use Rattle.std.specs.Prelude.{◌≡◌, ◌≤◌, ◌<◌, ◌^◌, [], length, true, false, All, IfOk, vec_capacity};
+ghost use Rattle.std.specs.List.{list_any};
+ghost use Rattle.crossbeam_queue.specs.Passes.{IsPassOf};
+ghost use Rattle.plinq_ops.specs.Feeding.{is_empty_take};
+ghost use Rattle.plinq_ops.specs.ByKey.{is_by_key};
+ghost use Rattle.plinq_ops.specs.declared.order.Order.TheVariants.{ByKey};
+ghost use Rattle.plinq_ops.specs.declared.results.ChunkResult.{ChunkResult};
+ghost use Rattle.plinq_merge.specs.Shown.{Merge, behind_result};
+ghost use Rattle.plinq_partition.specs.Partitions.{IsPartitionOf, holding_of};
+ghost use Rattle.plinq_partition.specs.GivenBack.{common_origin};
+ghost use Rattle.plinq_run.specs.Merged.{Merges};
+ghost use Rattle.plinq_run.specs.Plans.{IsUndecided, merged_answer};
+ghost use Rattle.plinq_run.specs.Runs.{Runs};
+ghost use Rattle.plinq_run.specs.Endings.{ending_in};
+ghost use Rattle.plinq_run.specs.Results.{IsResult};
+
+use crate::finishing::told;
+use crate::gate::Gate;
+use crate::hand::Hand;
+use crate::merging::Merging;
+use crate::results::{Came, Carries, ResultPass};
+use crate::run_fault::RunFault;
+use crate::starting::{Shortages, join_all, start_all};
+use crate::worker::Crew;
+use crossbeam_utils::Backoff;
+use plinq_lambda::Lambda;
+use plinq_merge::{Merger, Sink};
+use plinq_partition::Partition;
+use plinq_source::{Ending, Source};
+use std::sync::Wait;
+use std::thread::{Scope, Threads};
+
+/// How many workers are wanted, and how many were started.
+#[derive(Clone, Copy)]
+pub(crate) struct Staff {
+    pub(crate) wanted: u64,
+    pub(crate) started: u64,
+}
+
+/// What is left of a run that has an answer: the partitions, and how the answer ended.
+#[derive(Drop)]
+pub(crate) struct Ended<S: Source> {
+    pub(crate) partitions: Vec<Partition<S>>,
+    pub(crate) ending: Ending,
+}
+
+/// Closes the source once nothing more is wanted: the answer is decided, or there was a fault.
+fn close_in_time<L, S, J, G, R>(
+    rt: &R,
+    crew: &Crew<'_, L, S, J, G>,
+    staff: Staff,
+    own: &mut Partition<S>,
+    merging: &mut Merging<'_, L>,
+    shortages: &mut Shortages,
+)
+where
+    L: Lambda,
+    S: Source<Item = L::Item>,
+    J: Carries<L::Item>,
+    G: Gate,
+    R: Wait,
+    requires of { IsPartitionOf crew.now.chunked.now own.old }
+    ensures of { IsPartitionOf crew.now.chunked.now own.new }
+    ensures origin { (holding_of own.new).origin ≡ (holding_of own.old).origin }
+    ensures merger { merging.new.merger ≡ merging.old.merger }
+    ensures fault { merging.new.fault ≡ merging.old.fault }
+{
+    if merging.is_closed {
+        return;
+    }
+    let is_whole = staff.started == staff.wanted && !crew.progress.has_failed();
+    if is_whole && !merging.is_over() {
+        return;
+    }
+    merging.is_closed = true;
+    if let Err(fault) = own.stop(rt, crew.chunked) {
+        shortages.note(fault);
+    }
+}
+
+/// Merges what the workers send, until all have ended and nothing is left in the queue.
+fn merge_all<L, S, J, G, K, R>(
+    rt: &R,
+    crew: &Crew<'_, L, S, J, G>,
+    staff: Staff,
+    own: &mut Partition<S>,
+    pass: &mut ResultPass<L::Item>,
+    merging: &mut Merging<'_, L>,
+    shortages: &mut Shortages,
+    sink: &mut K,
+)
+where
+    L: Lambda,
+    S: Source<Item = L::Item>,
+    J: Carries<L::Item>,
+    G: Gate,
+    K: Sink<Item = L::Item>,
+    R: Wait,
+    requires of { IsPartitionOf crew.now.chunked.now own.old }
+    requires queue { IsPassOf crew.now.queue.now pass.old }
+    requires within { (r : ChunkResult L.Item) → J.is_result r → behind_result r ≤ 2 ^ 40 }
+    ensures of { IsPartitionOf crew.now.chunked.now own.new }
+    ensures origin { (holding_of own.new).origin ≡ (holding_of own.old).origin }
+    ensures merges { (merge : Merge L.Item) (s : K) → Merges J.is_result K.accepts K.refuses merge s merging.old.merger merging.old.fault sink.old
+        → Merges J.is_result K.accepts K.refuses merge s merging.new.merger merging.new.fault sink.new }
+{
+    let backoff = Backoff::new();
+    for _ in rt.forever() {
+        let have_ended = crew.progress.have_ended(staff.started);
+        close_in_time(rt, crew, staff, own, merging, shortages);
+        match crew.queue.try_pop_as::<Came<J>>(pass) {
+            Some(made) => {
+                backoff.reset();
+                merging.take_in::<J, K>(made, sink);
+            }
+            None => {
+                if have_ended {
+                    return;
+                }
+                backoff.snooze();
+            }
+        }
+    }
+}
+
+/// Starts the workers, merges what they send, and joins them.
+pub(crate) fn conduct<'s, E, L, S, J, G, K, R>(
+    scope: &Scope<'s, E>,
+    rt: &'s R,
+    crew: &'s Crew<'s, L, S, J, G>,
+    own: Partition<S>,
+    pass: ResultPass<L::Item>,
+    sink: &mut K,
+) -> Result<Ended<S>, RunFault>
+where
+    L: Lambda,
+    S: Source<Item = L::Item>,
+    J: Carries<L::Item> + Send + Sync,
+    G: Gate,
+    K: Sink<Item = L::Item>,
+    R: Threads + Wait + Sync,
+    requires of { IsPartitionOf crew.now.chunked.now own }
+    requires queue { IsPassOf crew.now.queue.now pass }
+    requires plan { IsUndecided crew.now.plan.now }
+    requires few { crew.now.workers ≤ 64 }
+    requires source { length (holding_of own).origin.items ≤ 2 ^ 40 }
+    requires carries { (r : ChunkResult L.Item) → IsResult L.meaning crew.now.plan.now.worker.now (holding_of own).origin r → J.is_result r }
+    requires carried { (r : ChunkResult L.Item) → J.is_result r → IsResult L.meaning crew.now.plan.now.worker.now (holding_of own).origin r }
+    ensures back { IfOk result (λ ended. (1 ≤ length ended.partitions.items) × All (IsPartitionOf crew.now.chunked.now) ended.partitions.items × (common_origin ended.partitions.items ≡ (holding_of own).origin)) }
+    ensures runs { crew.now.plan.now.order ≡ ByKey → Runs K.accepts K.refuses crew.now.option (merged_answer L.meaning crew.now.plan.now (holding_of own).origin) sink.old sink.new (ending_in result) }
+{
+    let Ok(hands) = Vec::with_capacity(crew.alloc, crew.workers as usize) else {
+        return Err(RunFault::Memory);
+    };
+    let Ok(room) = Vec::with_capacity(crew.alloc, crew.workers as usize + 1) else {
+        return Err(RunFault::Memory);
+    };
+    let Ok(merger) = Merger::new(crew.alloc, crew.plan, crew.option) else {
+        return Err(RunFault::Memory);
+    };
+    let mut merging = Merging {
+        merger,
+        fault: None,
+        is_closed: false,
+    };
+    let mut own = own;
+    let mut pass = pass;
+    let mut shortages = Shortages::none();
+    let hands = start_all(scope, rt, crew, crew.workers, &mut own, &mut pass, hands);
+    let staff = Staff {
+        wanted: crew.workers,
+        started: hands.len() as u64,
+    };
+    merge_all(
+        rt,
+        crew,
+        staff,
+        &mut own,
+        &mut pass,
+        &mut merging,
+        &mut shortages,
+        sink,
+    );
+    let partitions = join_all(rt, crew.chunked, own, hands, room, &mut shortages);
+    told(merging, shortages, staff, partitions)
+}

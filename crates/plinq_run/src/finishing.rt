@@ -1,0 +1,126 @@
+//! What is told when all workers have been joined.
+ghost use Rattle.std.specs.Prelude.{◌≡◌, ◌≤◌, List, length, Some, None, All, IfOk, IfErr, IfSome, OnOk, Ok};
+ghost use Rattle.plinq_keyed.specs.History.{IsLegalHistory};
+ghost use Rattle.plinq_ops.specs.declared.results.ChunkResult.{ChunkResult};
+ghost use Rattle.plinq_merge.specs.Shown.{answer};
+ghost use Rattle.plinq_merge.specs.Mergers.{plan_of, IsFor};
+ghost use Rattle.plinq_partition.specs.Partitions.{IsPartitionOf};
+ghost use Rattle.plinq_partition.specs.GivenBack.{common_origin};
+ghost use Rattle.plinq_source.specs.Trace.{Trace};
+ghost use Rattle.plinq_run.specs.Runs.{refusal_of, told_refusal, IsReportOf};
+ghost use Rattle.plinq_run.specs.Endings.{ending_in, reported};
+
+use crate::conducting::{Ended, Staff};
+use crate::merging::Merging;
+use crate::report::Report;
+use crate::run_fault::RunFault;
+use crate::starting::Shortages;
+use plinq_keyed::{Guarded, Record};
+use plinq_lambda::Lambda;
+use plinq_merge::MergeFault;
+use plinq_partition::{Chunked, Partition};
+use plinq_source::Source;
+use std::alloc::Global;
+
+/// The first of the faults that aren't the merging thread's.
+fn shortage(shortages: Shortages, staff: Staff) -> Option<RunFault>
+    ensures { IfSome result (λ fault. told_refusal fault ≡ None) }
+{
+    if shortages.memory {
+        return Some(RunFault::Memory);
+    }
+    if staff.started != staff.wanted {
+        return Some(RunFault::Thread);
+    }
+    if shortages.tickets {
+        return Some(RunFault::Tickets);
+    }
+    None
+}
+
+/// The first of all faults.
+fn first_fault(fault: Option<MergeFault>, shortages: Shortages, staff: Staff) -> Option<RunFault>
+    ensures told { IfSome result (λ told. told_refusal told ≡ refusal_of fault) }
+    ensures none { result ≡ None → fault ≡ None }
+{
+    match fault {
+        Some(MergeFault::Sink(code)) => Some(RunFault::Sink(code)),
+        Some(MergeFault::Memory) => Some(RunFault::Memory),
+        Some(_) => match shortage(shortages, staff) {
+            Some(fault) => Some(fault),
+            None => Some(RunFault::Incomplete),
+        },
+        None => shortage(shortages, staff),
+    }
+}
+
+/// The records of the history.
+fn copied(alloc: Global, records: &[Record]) -> Result<Vec<Record>, RunFault>
+    ensures ok { IfOk result (λ copy. copy.items ≡ records.now) }
+    ensures err { IfErr result (λ fault. told_refusal fault ≡ None) }
+{
+    match Vec::from_slice(alloc, records) {
+        Ok(copy) => Ok(copy),
+        Err(_) => Err(RunFault::Memory),
+    }
+}
+
+/// How the answer ended, or the first of all faults.
+pub(crate) fn told<L: Lambda, S: Source>(
+    merging: Merging<'_, L>,
+    shortages: Shortages,
+    staff: Staff,
+    partitions: Vec<Partition<S>>,
+) -> Result<Ended<S>, RunFault>
+    ensures none { OnOk result (merging.entry.fault ≡ None) }
+    ensures ending { IfOk result (λ ended. (offers : List (ChunkResult L.Item)) → IsFor merging.entry.merger offers → (answer (plan_of merging.entry.merger) offers).ending ≡ Some ended.ending) }
+    ensures partitions { IfOk result (λ ended. ended.partitions ≡ partitions) }
+    ensures err { IfErr result (λ fault. told_refusal fault ≡ refusal_of merging.entry.fault) }
+{
+    let Merging { merger, fault, .. } = merging;
+    if let Some(first) = first_fault(fault, shortages, staff) {
+        return Err(first);
+    }
+    let Ok(ending) = merger.finish() else {
+        return Err(RunFault::Incomplete);
+    };
+    Ok(Ended { partitions, ending })
+}
+
+/// The report of a run that has an answer.
+fn report_of<S: Source>(
+    alloc: Global,
+    chunked: Chunked<S>,
+    ended: Ended<S>,
+) -> Result<Report, RunFault>
+    requires some { 1 ≤ length ended.partitions.items }
+    requires of { All (IsPartitionOf chunked) ended.partitions.items }
+    ensures told { IsReportOf (Ok ended.ending) (reported result) }
+    ensures legal { IfOk result (λ report. IsLegalHistory (common_origin ended.partitions.items) report.records.items) }
+{
+    let Ended { partitions, ending } = ended;
+    match chunked.give_back(partitions) {
+        Ok(enumerator) => match copied(alloc, enumerator.records()) {
+            Ok(records) => Ok(Report { ending, records }),
+            Err(fault) => Err(fault),
+        },
+        Err(_) => Err(RunFault::Incomplete),
+    }
+}
+
+/// The report of a run, if it has an answer.
+pub(crate) fn report<S: Source>(
+    alloc: Global,
+    chunked: Chunked<S>,
+    ended: Result<Ended<S>, RunFault>,
+) -> Result<Report, RunFault>
+    requires some { IfOk ended (λ e. 1 ≤ length e.partitions.items) }
+    requires of { IfOk ended (λ e. All (IsPartitionOf chunked) e.partitions.items) }
+    ensures told { IsReportOf (ending_in ended) (reported result) }
+    ensures legal { (t : Trace S.Item) → IfOk ended (λ e. common_origin e.partitions.items ≡ t) → IfOk result (λ report. IsLegalHistory t report.records.items) }
+{
+    match ended {
+        Ok(ended) => report_of(alloc, chunked, ended),
+        Err(fault) => Err(fault),
+    }
+}

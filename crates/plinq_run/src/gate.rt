@@ -1,0 +1,19 @@
+/// What the workers of a run pass on their way, with their numbers from 0 on: a test holds them back there, or counts
+/// them.
+pub trait Gate: Sync {
+    /// A worker is about to take its next chunk.
+    fn before_take(&self, worker: u64);
+
+    /// A worker has taken the chunk whose first key is `first`, and computes its result next.
+    fn after_chunk(&self, worker: u64, first: u64);
+}
+
+/// A gate that lets every worker pass.
+#[derive(Clone, Copy, Debug)]
+pub struct OpenGate;
+
+impl Gate for OpenGate {
+    fn before_take(&self, _worker: u64) {}
+
+    fn after_chunk(&self, _worker: u64, _first: u64) {}
+}

@@ -1,0 +1,30 @@
+//! The run of a query: workers take chunks from one source and turn them into results, and the caller's thread merges
+//! these.
+//!
+//! - [`run`] on a query with `as_ordered` delivers exactly the batches of the sequential answer and tells its ending, or
+//!   after a fault the first of these batches (`Runs`), for every number of workers and every order in which results come.
+//! - What goes through the queue are results of chunks of the source, each under a cut of its own (`IsResult`): that is
+//!   the queue's rule.
+//! - A [`Gate`] is what workers pass on their way.
+#![tactic(auto)]
+
+mod conducting;
+mod finishing;
+mod gate;
+mod hand;
+mod merging;
+mod progress;
+mod report;
+mod results;
+mod run_fault;
+mod running;
+mod starting;
+mod worker;
+
+pub use gate::{Gate, OpenGate};
+pub use report::Report;
+pub use run_fault::RunFault;
+pub use running::run;
+
+#[cfg(test)]
+mod tests;

@@ -1,0 +1,44 @@
+//! What the merging thread does with the results that come.
+ghost use Rattle.std.specs.Prelude.{◌≤◌, ◌^◌};
+ghost use Rattle.plinq_merge.specs.Shown.{Merge, behind_result};
+ghost use Rattle.plinq_run.specs.Merged.{Merges};
+
+use crate::results::Carries;
+use plinq_lambda::Lambda;
+use plinq_merge::{MergeFault, Merger, Sink};
+use plinq_ops::ChunkResult;
+
+/// A merger, the fault after which it is offered nothing more, and whether the source was closed, since nothing more is
+/// wanted.
+#[derive(Drop)]
+pub(crate) struct Merging<'a, L: Lambda> {
+    pub(crate) merger: Merger<'a, L>,
+    pub(crate) fault: Option<MergeFault>,
+    pub(crate) is_closed: bool,
+}
+
+impl<'a, L: Lambda> Merging<'a, L> {
+    /// Offers a result, unless nothing more is wanted.
+    pub(crate) fn take_in<J: Carries<L::Item>, K: Sink<Item = L::Item>>(
+        &mut self,
+        made: ChunkResult<L::Item>,
+        sink: &mut K,
+    )
+        requires within { behind_result made ≤ 2 ^ 40 }
+        requires result { J.is_result made }
+        ensures { (merge : Merge L.Item) (s : K) → Merges J.is_result K.accepts K.refuses merge s self.old.merger self.old.fault sink.old
+            → Merges J.is_result K.accepts K.refuses merge s self.new.merger self.new.fault sink.new }
+    {
+        if self.is_closed || self.fault.is_some() {
+            return;
+        }
+        if let Err(fault) = self.merger.offer(made, sink) {
+            self.fault = Some(fault);
+        }
+    }
+
+    /// Whether it is offered nothing more, or wants nothing more.
+    pub(crate) fn is_over(&self) -> bool {
+        self.fault.is_some() || self.merger.decided()
+    }
+}

@@ -1,0 +1,187 @@
+//! The run of a query.
+ghost use Rattle.std.specs.Prelude.{◌≡◌, ◌≤◌, ◌^◌, length, true, All, IfOk};
+ghost use Rattle.crossbeam_queue.specs.Passes.{IsPassOf};
+ghost use Rattle.plinq_keyed.specs.History.{IsLegalHistory};
+ghost use Rattle.plinq_ops.specs.declared.order.Order.TheVariants.{ByKey};
+ghost use Rattle.plinq_ops.specs.declared.results.ChunkResult.{ChunkResult};
+ghost use Rattle.plinq_ops.specs.Query.{merge_in_force};
+ghost use Rattle.plinq_ops.specs.Sequential.{answer_of};
+ghost use Rattle.plinq_partition.specs.Partitions.{IsPartitionOf, holding_of};
+ghost use Rattle.plinq_partition.specs.GivenBack.{common_origin};
+ghost use Rattle.plinq_run.specs.Endings.{ending_in, reported};
+ghost use Rattle.plinq_run.specs.Plans.{IsUndecided, merged_answer};
+ghost use Rattle.plinq_run.specs.Results.{IsResult};
+ghost use Rattle.plinq_run.specs.Runs.{Runs};
+
+use crate::conducting::{Ended, conduct};
+use crate::finishing::report;
+use crate::gate::Gate;
+use crate::progress::Progress;
+use crate::report::Report;
+use crate::results::{Carries, ResultPass, ResultQueue};
+use crate::run_fault::RunFault;
+use crate::worker::Crew;
+use plinq_enumerator::Growth;
+use plinq_lambda::Lambda;
+use plinq_merge::Sink;
+use plinq_ops::{MergeOption, Plan, Query};
+use plinq_partition::{Chunked, Partition};
+use plinq_source::{Ending, Source};
+use std::alloc::Global;
+use std::marker::Brand;
+use std::sync::Wait;
+use std::thread;
+use std::thread::Threads;
+
+// How many results the queue has room for.
+const ROOM: usize = 64;
+
+/// Runs a crew in a scope of threads.
+fn run_crew<J, L, S, G, K, R>(
+    rt: &R,
+    crew: &Crew<'_, L, S, J, G>,
+    own: Partition<S>,
+    pass: ResultPass<L::Item>,
+    sink: &mut K,
+) -> Result<Ended<S>, RunFault>
+where
+    J: Carries<L::Item> + Send + Sync,
+    L: Lambda,
+    S: Source<Item = L::Item>,
+    G: Gate,
+    K: Sink<Item = L::Item>,
+    R: Threads + Wait + Sync,
+    requires of { IsPartitionOf crew.now.chunked.now own }
+    requires queue { IsPassOf crew.now.queue.now pass }
+    requires plan { IsUndecided crew.now.plan.now }
+    requires few { crew.now.workers ≤ 64 }
+    requires source { length (holding_of own).origin.items ≤ 2 ^ 40 }
+    requires carries { (r : ChunkResult L.Item) → IsResult L.meaning crew.now.plan.now.worker.now (holding_of own).origin r → J.is_result r }
+    requires carried { (r : ChunkResult L.Item) → J.is_result r → IsResult L.meaning crew.now.plan.now.worker.now (holding_of own).origin r }
+    ensures back { IfOk result (λ ended. (1 ≤ length ended.partitions.items) × All (IsPartitionOf crew.now.chunked.now) ended.partitions.items × (common_origin ended.partitions.items ≡ (holding_of own).origin)) }
+    ensures runs { crew.now.plan.now.order ≡ ByKey → Runs K.accepts K.refuses crew.now.option (merged_answer L.meaning crew.now.plan.now (holding_of own).origin) sink.old sink.new (ending_in result) }
+{
+    let lent = &mut *sink;
+    let (ended, _lent) = thread::scope(
+        thread::scope_env(),
+        rt,
+        move |scope| -> (Result<Ended<S>, RunFault>, &mut K)
+            requires partition { IsPartitionOf crew.now.chunked.now own }
+            requires queue { IsPassOf crew.now.queue.now pass }
+            requires plan { IsUndecided crew.now.plan.now }
+            requires few { crew.now.workers ≤ 64 }
+            requires source { length (holding_of own).origin.items ≤ 2 ^ 40 }
+            requires carries { (r : ChunkResult L.Item) → IsResult L.meaning crew.now.plan.now.worker.now (holding_of own).origin r → J.is_result r }
+            requires carried { (r : ChunkResult L.Item) → J.is_result r → IsResult L.meaning crew.now.plan.now.worker.now (holding_of own).origin r }
+            ensures back { IfOk result.0 (λ ended. (1 ≤ length ended.partitions.items) × All (IsPartitionOf crew.entry.now.chunked.now) ended.partitions.items × (common_origin ended.partitions.items ≡ (holding_of own).origin)) }
+            ensures same { result.1.ghost_name ≡ lent.entry.ghost_name }
+            ensures runs { crew.entry.now.plan.now.order ≡ ByKey → Runs K.accepts K.refuses crew.entry.now.option (merged_answer L.meaning crew.entry.now.plan.now (holding_of own).origin) lent.entry.now result.1.now (ending_in result.0) }
+        {
+            let ended = conduct(scope, rt, crew, own, pass, lent);
+            (ended, lent)
+        },
+    );
+    ended
+}
+
+/// Runs a plan that isn't decided.
+fn run_plan<J, L, S, G, K, R>(
+    rt: &R,
+    alloc: Global,
+    plan: &Plan<'_, L>,
+    option: MergeOption,
+    workers: u64,
+    source: S,
+    growth: Growth,
+    gate: &G,
+    sink: &mut K,
+) -> Result<Report, RunFault>
+where
+    J: Carries<L::Item> + Send + Sync,
+    L: Lambda,
+    S: Source<Item = L::Item>,
+    G: Gate,
+    K: Sink<Item = L::Item>,
+    R: Threads + Wait + Sync,
+    requires unasked { S.given source ≡ 0 }
+    requires plan { IsUndecided plan.now }
+    requires few { workers ≤ 64 }
+    requires carries { (r : ChunkResult L.Item) → IsResult L.meaning plan.now.worker.now (S.whole source) r → J.is_result r }
+    requires carried { (r : ChunkResult L.Item) → J.is_result r → IsResult L.meaning plan.now.worker.now (S.whole source) r }
+    ensures legal { IfOk result (λ report. IsLegalHistory (S.whole source) report.records.items) }
+    ensures runs { plan.now.order ≡ ByKey → Runs K.accepts K.refuses option (merged_answer L.meaning plan.now (S.whole source)) sink.old sink.new (reported result) }
+{
+    let Ok((chunked, own)) = Chunked::new(alloc, source, growth) else {
+        return Err(RunFault::Memory);
+    };
+    let Ok((queue, pass)) = ResultQueue::<L::Item, J>::ruled(alloc, ROOM) else {
+        return Err(RunFault::Memory);
+    };
+    let progress = Progress::new();
+    let crew = Crew {
+        alloc,
+        plan,
+        chunked: &chunked,
+        queue: &queue,
+        gate,
+        progress: &progress,
+        workers,
+        option,
+    };
+    let ended = run_crew(rt, &crew, own, pass, sink);
+    report(alloc, chunked, ended)
+}
+
+/// Runs a query over a source: as many workers as its degree take chunks that grow so, and the sink is handed the batches
+/// of the answer as they are computed.
+///
+/// The caller's thread merges, and no thread is left when it returns. A decided query asks the source for nothing.
+///
+/// # Errors
+///
+/// [`RunFault::Sink`] where the sink refused a batch, else [`RunFault::Memory`], [`RunFault::Thread`],
+/// [`RunFault::Tickets`] or [`RunFault::Incomplete`], in this order. The batches that were delivered are the first of the
+/// answer.
+///
+/// ```text
+/// let report = run(&rt, alloc, &query, source, Growth::DEFAULT, &OpenGate, &mut sink)?;
+/// report.ending    // how the answer ended
+/// ```
+pub fn run<L, S, G, K, R>(
+    rt: &R,
+    alloc: Global,
+    query: &Query<L>,
+    source: S,
+    growth: Growth,
+    gate: &G,
+    sink: &mut K,
+) -> Result<Report, RunFault>
+where
+    L: Lambda,
+    S: Source<Item = L::Item>,
+    G: Gate,
+    K: Sink<Item = L::Item>,
+    R: Threads + Wait + Sync,
+    requires { S.given source ≡ 0 }
+    ensures legal { IfOk result (λ report. IsLegalHistory (S.whole source) report.records.items) }
+    ensures runs { query.now.ordered ≡ true → Runs K.accepts K.refuses (merge_in_force query.now.merge) (answer_of L.meaning query.now.ops (S.whole source)) sink.old sink.new (reported result) }
+{
+    let plan = query.split();
+    if plan.decided {
+        return Ok(Report {
+            ending: Ending::End,
+            records: Vec::new(alloc),
+        });
+    }
+    run_plan::<Brand, L, S, G, K, R>(
+        rt,
+        alloc,
+        &plan,
+        query.merge_option(),
+        query.degree(),
+        source,
+        growth,
+        gate,
+        sink,
+    )
+}

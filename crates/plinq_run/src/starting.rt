@@ -1,0 +1,158 @@
+//! Starting the workers of a run, and having them back.
+ghost use Rattle.std.specs.Prelude.{◌≡◌, ◌≤◌, ◌<◌, ◌^◌, ◌+◌, [], length, true, false, All, IfSome, vec_len, vec_capacity};
+ghost use Rattle.std.specs.List.{list_any};
+ghost use Rattle.crossbeam_queue.specs.Passes.{IsPassOf};
+ghost use Rattle.plinq_ops.specs.Feeding.{is_empty_take};
+ghost use Rattle.plinq_ops.specs.ByKey.{is_by_key};
+ghost use Rattle.plinq_ops.specs.declared.results.ChunkResult.{ChunkResult};
+ghost use Rattle.plinq_partition.specs.Partitions.{IsPartitionOf, holding_of};
+ghost use Rattle.plinq_partition.specs.GivenBack.{common_origin};
+ghost use Rattle.plinq_run.specs.Hands.{IsHandOf};
+ghost use Rattle.plinq_run.specs.Results.{IsResult};
+
+use crate::gate::Gate;
+use crate::hand::{ComesBack, Hand};
+use crate::results::{Both, Carries, ResultPass};
+use crate::worker::{Crew, Worked};
+use plinq_lambda::Lambda;
+use plinq_partition::{Chunked, Partition, TakeFault};
+use plinq_source::Source;
+use std::snapshot::Snapshot;
+use std::sync::Wait;
+use std::thread::{Scope, Threads};
+
+/// Starts one worker, unless no thread can be had.
+pub(crate) fn start<'s, E, L, S, J, G, R>(
+    scope: &Scope<'s, E>,
+    rt: &'s R,
+    crew: &'s Crew<'s, L, S, J, G>,
+    worker: u64,
+    partition: Partition<S>,
+    pass: ResultPass<L::Item>,
+) -> Option<Hand<S>>
+where
+    L: Lambda,
+    S: Source<Item = L::Item>,
+    J: Carries<L::Item> + Send + Sync,
+    G: Gate,
+    R: Threads + Wait + Sync,
+    requires of { IsPartitionOf crew.now.chunked.now partition }
+    requires queue { IsPassOf crew.now.queue.now pass }
+    requires keyed { is_by_key crew.now.plan.now.worker.now ≡ true }
+    requires some { list_any is_empty_take crew.now.plan.now.worker.now ≡ false }
+    requires few { length (holding_of partition).origin.items ≤ 2 ^ 40 }
+    requires results { (r : ChunkResult L.Item) → IsResult L.meaning crew.now.plan.now.worker.now (holding_of partition).origin r → J.is_result r }
+    ensures { IfSome result (IsHandOf crew.now.chunked.now) }
+{
+    let promise = ComesBack {
+        chunked: Snapshot::of(crew.chunked),
+    };
+    let hand = scope.spawn_with(
+        promise,
+        move || -> Worked<S>
+            requires of { IsPartitionOf crew.now.chunked.now partition }
+            requires queue { IsPassOf crew.now.queue.now pass }
+            requires keyed { is_by_key crew.now.plan.now.worker.now ≡ true }
+            requires some { list_any is_empty_take crew.now.plan.now.worker.now ≡ false }
+            requires few { length (holding_of partition).origin.items ≤ 2 ^ 40 }
+            requires results { (r : ChunkResult L.Item) → IsResult L.meaning crew.now.plan.now.worker.now (holding_of partition).origin r → J.is_result r }
+            ensures { IsPartitionOf crew.entry.now.chunked.now result.partition }
+        { crew.work(rt, worker, partition, pass) },
+    );
+    hand.ok()
+}
+
+/// Starts so many workers, each with a new partition beside this one, or as many as there are threads to be had.
+pub(crate) fn start_all<'s, E, L, S, J, G, R>(
+    scope: &Scope<'s, E>,
+    rt: &'s R,
+    crew: &'s Crew<'s, L, S, J, G>,
+    workers: u64,
+    own: &mut Partition<S>,
+    pass: &mut ResultPass<L::Item>,
+    room: Vec<Hand<S>>,
+) -> Vec<Hand<S>>
+where
+    L: Lambda,
+    S: Source<Item = L::Item>,
+    J: Carries<L::Item> + Send + Sync,
+    G: Gate,
+    R: Threads + Wait + Sync,
+    requires of { IsPartitionOf crew.now.chunked.now own.old }
+    requires queue { IsPassOf crew.now.queue.now pass.old }
+    requires keyed { is_by_key crew.now.plan.now.worker.now ≡ true }
+    requires some { list_any is_empty_take crew.now.plan.now.worker.now ≡ false }
+    requires few { length (holding_of own.old).origin.items ≤ 2 ^ 40 }
+    requires results { (r : ChunkResult L.Item) → IsResult L.meaning crew.now.plan.now.worker.now (holding_of own.old).origin r → J.is_result r }
+    requires empty { room.items ≡ [] }
+    requires room { workers ≤ vec_capacity room }
+    ensures of { IsPartitionOf crew.now.chunked.now own.new }
+    ensures same { holding_of own.new ≡ holding_of own.old }
+    ensures queue { IsPassOf crew.now.queue.now pass.new }
+    ensures hands { All (IsHandOf crew.now.chunked.now) result.items }
+    ensures count { length result.items ≤ workers }
+{
+    let mut hands = room;
+    for worker in 0..workers {
+        let partition = crew.chunked.dynamic(own);
+        let theirs = crew.queue.another::<Both>(pass);
+        let Some(hand) = start(scope, rt, crew, worker, partition, theirs) else {
+            return hands;
+        };
+        hands.push_reserved(hand);
+    }
+    hands
+}
+
+/// Why workers ended before they saw a tail.
+#[derive(Clone, Copy)]
+pub(crate) struct Shortages {
+    pub(crate) memory: bool,
+    pub(crate) tickets: bool,
+}
+
+impl Shortages {
+    pub(crate) fn none() -> Shortages {
+        Shortages {
+            memory: false,
+            tickets: false,
+        }
+    }
+
+    pub(crate) fn note(&mut self, fault: TakeFault) {
+        match fault {
+            TakeFault::Memory => self.memory = true,
+            _ => self.tickets = true,
+        }
+    }
+}
+
+/// Joins the workers. Their partitions come behind the one that is given.
+pub(crate) fn join_all<S: Source, R: Threads>(
+    rt: &R,
+    chunked: &Chunked<S>,
+    own: Partition<S>,
+    hands: Vec<Hand<S>>,
+    room: Vec<Partition<S>>,
+    shortages: &mut Shortages,
+) -> Vec<Partition<S>>
+    requires of { IsPartitionOf chunked.now own }
+    requires hands { All (IsHandOf chunked.now) hands.items }
+    requires empty { room.items ≡ [] }
+    requires room { length hands.items < vec_capacity room }
+    ensures some { 1 ≤ length result.items }
+    ensures of { All (IsPartitionOf chunked.now) result.items }
+    ensures origin { common_origin result.items ≡ (holding_of own).origin }
+{
+    let mut hands = hands;
+    let mut partitions = room;
+    partitions.push_reserved(own);
+    while let Some(hand) = hands.pop() {
+        let worked = hand.join(rt);
+        if let Some(fault) = worked.fault {
+            shortages.note(fault);
+        }
+        partitions.push_reserved(worked.partition);
+    }
+    partitions
+}
