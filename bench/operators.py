@@ -4,8 +4,9 @@
     python3 bench/operators.py             # `chunk_result` and `sequential` as they are here
     python3 bench/operators.py COMMIT      # `sequential` as it was at a commit
 
-The programs, bench/operators/chunks.rt and sequential.rt, are built in a temporary folder over a copy of the crates that they
-use, which are proved first where they aren't built, and run under callgrind.
+The programs, bench/operators/chunks.rt.txt and sequential.rt.txt, are built in a temporary folder over a copy of the crates
+that they use, which are proved first where they aren't built, and run under callgrind. They end in .txt since rt refuses a
+source that stands in no crate.
 """
 import os
 import re
@@ -29,7 +30,7 @@ def build(tree, name, folder):
         lines = [it for it in listed if it.split(":")[0] in BELOW]
     with open(os.path.join(folder, name, "crates.txt"), "w") as written:
         written.writelines(lines + [f"bench_{name}: {' '.join(BELOW)}\n"])
-    shutil.copy(os.path.join(ROOT, "bench", "operators", f"{name}.rt"), os.path.join(source, "main.rt"))
+    shutil.copy(os.path.join(ROOT, "bench", "operators", f"{name}.rt.txt"), os.path.join(source, "main.rt"))
     ran = subprocess.run(["rt", "run", "--", "none", "1"], cwd=os.path.dirname(source), stdout=subprocess.PIPE, stderr=subprocess.STDOUT, text=True)
     if ran.returncode:
         sys.exit(ran.stdout)

@@ -5,6 +5,7 @@
     python3 bench/partitions.py threads        # seconds for ten million items, by 1, 2, 4 and 64 threads
 
 The program is that of bench/partitions, proved and built in a repository of its own with a copy of the crates that it uses.
+Its files end in .txt, since rt refuses sources that stand in no crate.
 """
 import os
 import re
@@ -23,7 +24,11 @@ USED = ("plinq_source", "plinq_keyed", "plinq_ticket", "plinq_enumerator", "plin
 def built(folder):
     """The path of the program, once it is built in that folder."""
     crate = os.path.join(folder, "crates", NAME)
-    shutil.copytree(os.path.join(ROOT, "bench", NAME), crate)
+    for at, _, names in os.walk(os.path.join(ROOT, "bench", NAME)):
+        to = os.path.join(crate, os.path.relpath(at, os.path.join(ROOT, "bench", NAME)))
+        os.makedirs(to, exist_ok=True)
+        for name in names:
+            shutil.copy(os.path.join(at, name), os.path.join(to, name.removesuffix(".txt")))
     for it in USED:
         shutil.copytree(os.path.join(ROOT, "crates", it), os.path.join(folder, "crates", it), symlinks=True)
     with open(os.path.join(ROOT, "crates.txt")) as file:
