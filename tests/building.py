@@ -323,4 +323,6 @@ def main():
 
 
 if __name__ == "__main__":
+    # (a shell that starts this in the background has interrupts ignored, and what is started here would ignore them as well)
+    signal.signal(signal.SIGINT, signal.default_int_handler)
     main()
