@@ -1,4 +1,4 @@
-ghost use Rattle.std.specs.Prelude.{ℕ, List, MatchResult};
+ghost use Rattle.std.specs.Prelude.{◌≡◌, ℕ, List, MatchResult};
 
 /// Where the batches of an answer go.
 ///
@@ -28,4 +28,10 @@ pub trait Sink {
         ensures { MatchResult result
             (λ _. accepts self.old items.now self.new)
             (λ code. refuses self.old items.now code self.new) };
+
+    /// No batch is there to be delivered now, and it may take a while until the next: a sink that holds back what it
+    /// took, as a buffer does, hands it on. This delivers nothing.
+    fn idle(&mut self)
+        ensures { self.new ≡ self.old }
+    {}
 }

@@ -118,6 +118,7 @@ where
                 if have_ended {
                     return;
                 }
+                merging.rest(sink);
                 backoff.snooze();
             }
         }

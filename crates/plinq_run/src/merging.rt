@@ -1,5 +1,5 @@
 //! What the merging thread does with the results that come.
-ghost use Rattle.std.specs.Prelude.{◌≤◌, ◌^◌};
+ghost use Rattle.std.specs.Prelude.{◌≡◌, ◌≤◌, ◌^◌};
 ghost use Rattle.plinq_merge.specs.Shown.{Merge, behind_result};
 ghost use Rattle.plinq_run.specs.Merged.{Merges};
 
@@ -34,6 +34,15 @@ impl<'a, L: Lambda> Merging<'a, L> {
         }
         if let Err(fault) = self.merger.offer(made, sink) {
             self.fault = Some(fault);
+        }
+    }
+
+    /// Tells the sink that no batch is there now, unless one couldn't be delivered.
+    pub(crate) fn rest<K: Sink<Item = L::Item>>(&self, sink: &mut K)
+        ensures { sink.new ≡ sink.old }
+    {
+        if self.fault.is_none() {
+            sink.idle();
         }
     }
 

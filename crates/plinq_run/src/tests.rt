@@ -1,6 +1,8 @@
 ghost use Rattle.std.specs.Prelude.{⊤, ◌≡◌};
 ghost use Rattle.plinq_source.specs.declared.source.Source.{Ghosts};
 
+mod idle;
+
 use crate::{OpenGate, Report, RunFault, run};
 use plinq_enumerator::{Growth, replays};
 use plinq_keyed::{Event, Record};
