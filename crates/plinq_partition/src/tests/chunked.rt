@@ -1,106 +1,86 @@
-use super::expecting::{expect, give_back};
+use super::expecting::{
+    expect, expect_records, expect_taken, expect_tried, expect_whole, give_back, range_of,
+};
 use crate::{Chunked, OrderablePartitioner, PartFault, TakeFault};
 use plinq_enumerator::{Growth, replays};
 use plinq_keyed::{Guarded, KeyProperties, Record, Tail};
-use plinq_source::{Ending, ListSource, RangeSource};
+use plinq_source::{Ending, ListSource};
+use std::process::Abort;
 use std::test::Fail;
 
 #[test]
-fn one_partition_takes_chunks_that_grow(rt: HostRuntime) -> Result<(), Fail> {
-    let source = RangeSource::new(0, 10)?;
-    let (chunked, mut partition) = Chunked::new(rt.alloc(), source, Growth::DEFAULT)?;
-    expect(&rt, partition.take(&rt, &chunked), 0, &[0], None);
-    expect(&rt, partition.try_take(&chunked), 1, &[1], None);
-    expect(&rt, partition.take(&rt, &chunked), 2, &[2], None);
-    expect(&rt, partition.take(&rt, &chunked), 3, &[3, 4], None);
-    expect(&rt, partition.take(&rt, &chunked), 5, &[5, 6], None);
-    expect(&rt, partition.try_take(&chunked), 7, &[7, 8], None);
-    expect(
-        &rt,
-        partition.take(&rt, &chunked),
-        9,
-        &[9],
-        Some(Tail::Ended),
-    );
-    expect(
-        &rt,
-        partition.take(&rt, &chunked),
-        10,
-        &[],
-        Some(Tail::Ended),
-    );
+fn one_partition_takes_chunks_that_grow(rt: HostRuntime) {
+    let (chunked, mut partition) = range_of(&rt, rt.alloc(), 10, Growth::DEFAULT);
+    let end = Some(Tail::Ended);
+    expect_taken(&rt, &chunked, &mut partition, 0, &[0], None);
+    expect_tried(&rt, &chunked, &mut partition, 1, &[1], None);
+    expect_taken(&rt, &chunked, &mut partition, 2, &[2], None);
+    expect_taken(&rt, &chunked, &mut partition, 3, &[3, 4], None);
+    expect_taken(&rt, &chunked, &mut partition, 5, &[5, 6], None);
+    expect_tried(&rt, &chunked, &mut partition, 7, &[7, 8], None);
+    expect_taken(&rt, &chunked, &mut partition, 9, &[9], end);
+    expect_taken(&rt, &chunked, &mut partition, 10, &[], end);
     assert_eq!(rt; partition.requests(), 8);
-    Ok(())
 }
 
 #[test]
 fn two_partitions_take_in_turn(rt: HostRuntime) -> Result<(), Fail> {
-    let source = RangeSource::new(0, 4)?;
-    let (chunked, first) = Chunked::new(rt.alloc(), source, Growth::DEFAULT)?;
-    let mut first = first;
+    let (chunked, mut first) = range_of(&rt, rt.alloc(), 4, Growth::DEFAULT);
     let mut second = chunked.dynamic(&mut first);
-    expect(&rt, first.take(&rt, &chunked), 0, &[0], None);
-    expect(&rt, second.take(&rt, &chunked), 1, &[1], None);
-    expect(&rt, first.take(&rt, &chunked), 2, &[2], None);
-    expect(&rt, second.take(&rt, &chunked), 3, &[3], None);
+    expect_taken(&rt, &chunked, &mut first, 0, &[0], None);
+    expect_taken(&rt, &chunked, &mut second, 1, &[1], None);
+    expect_taken(&rt, &chunked, &mut first, 2, &[2], None);
+    expect_taken(&rt, &chunked, &mut second, 3, &[3], None);
     let third = chunked.dynamic(&mut second);
-    assert_eq!(rt; third.requests(), 0);
-    assert_eq!(rt; second.requests(), 2);
-    let Ok(enumerator) = chunked.give_back(vec![in rt.alloc(); first, second, third]?) else {
-        panic!(rt; "not whole");
-    };
-    assert_eq!(rt; enumerator.records().len(), 4);
-    assert!(rt; replays(enumerator.records(), 4, Ending::End));
+    assert_eq!(rt; (third.requests(), second.requests()), (0, 2));
+    let partitions = vec![in rt.alloc(); first, second, third]?;
+    expect_whole(&rt, chunked, partitions, 4, 4);
     Ok(())
 }
 
 #[test]
 fn a_dropped_partition_is_missed(rt: HostRuntime) -> Result<(), Fail> {
-    let source = RangeSource::new(0, 4)?;
-    let (chunked, first) = Chunked::new(rt.alloc(), source, Growth::DEFAULT)?;
-    let mut first = first;
+    let (chunked, mut first) = range_of(&rt, rt.alloc(), 4, Growth::DEFAULT);
     let mut second = chunked.dynamic(&mut first);
-    expect(&rt, first.take(&rt, &chunked), 0, &[0], None);
-    expect(&rt, second.take(&rt, &chunked), 1, &[1], None);
+    expect_taken(&rt, &chunked, &mut first, 0, &[0], None);
+    expect_taken(&rt, &chunked, &mut second, 1, &[1], None);
     drop(second);
     let Err((enumerator, fault)) = chunked.give_back(vec![in rt.alloc(); first]?) else {
         panic!(rt; "whole without one of two");
     };
+    assert_eq!(rt; fault, TakeFault::Incomplete { have: 1, all: 2 });
     let Some(enumerator) = enumerator else {
         panic!(rt; "away");
     };
-    assert_eq!(rt; fault, TakeFault::Incomplete { have: 1, all: 2 });
-    assert_eq!(rt; enumerator.records().len(), 2);
-    assert!(rt; replays(enumerator.records(), 4, Ending::End));
+    expect_records(&rt, enumerator.records(), 2, 4);
     Ok(())
 }
 
 #[test]
-fn a_stopped_source_gives_nothing_more(rt: HostRuntime) -> Result<(), Fail> {
-    let source = RangeSource::new(0, 1)?;
-    let (chunked, mut partition) = Chunked::new(rt.alloc(), source, Growth::DEFAULT)?;
-    expect(&rt, partition.try_take(&chunked), 0, &[0], None);
-    partition.stop(&rt, &chunked)?;
+fn a_stopped_source_gives_nothing_more(rt: HostRuntime) {
+    let (chunked, mut partition) = range_of(&rt, rt.alloc(), 1, Growth::DEFAULT);
+    expect_tried(&rt, &chunked, &mut partition, 0, &[0], None);
+    assert_eq!(rt; partition.stop(&rt, &chunked), Ok(()));
     assert_eq!(rt; partition.requests(), 1);
-    expect(
-        &rt,
-        partition.try_take(&chunked),
-        1,
-        &[],
-        Some(Tail::Closed),
-    );
+    let closed = Some(Tail::Closed);
+    expect_tried(&rt, &chunked, &mut partition, 1, &[], closed);
     let Some(enumerator) = give_back(&rt, rt.alloc(), chunked, partition) else {
-        return Err(Fail::from("no room for a list of one"));
+        panic!(rt; "no room for a list of one");
     };
-    let records = enumerator.records();
-    assert_eq!(rt; records.len(), 3);
-    assert!(rt; replays(records, 1, Ending::End));
+    expect_stopped(&rt, enumerator.records());
+}
+
+// Asks that records are those of a chunk, a stop and an empty chunk, and replay only with the stop in its place.
+fn expect_stopped(rt: &impl Abort, records: &[Record]) {
+    expect_records(rt, records, 3, 1);
+    let [taken, stopped, empty] = records else {
+        panic!(rt; "not three");
+    };
     let moved = Record {
         first: 0,
-        ..records[1]
+        ..*stopped
     };
-    assert!(rt; !replays(&[records[0], moved, records[2]], 1, Ending::End));
-    Ok(())
+    assert!(rt; !replays(&[*taken, moved, *empty], 1, Ending::End));
 }
 
 // Another item type, and a source that refuses.
@@ -113,17 +93,16 @@ fn a_list_of_truths_is_handed_out(rt: HostRuntime) -> Result<(), Fail> {
     let refused = Some(Tail::Refused(7));
     expect(&rt, partition.try_take(&chunked), 2, &[false], refused);
     let Some(enumerator) = give_back(&rt, rt.alloc(), chunked, partition) else {
-        return Err(Fail::from("no room for a list of one"));
+        panic!(rt; "no room for a list of one");
     };
     assert!(rt; replays(enumerator.records(), 3, Ending::Refused(7)));
     Ok(())
 }
 
 #[test]
-fn partitions_are_as_many_as_asked_for(rt: HostRuntime) -> Result<(), Fail> {
-    let source = RangeSource::new(0, 4)?;
-    let (chunked, mut partition) = Chunked::new(rt.alloc(), source, Growth::ONE)?;
-    expect(&rt, partition.take(&rt, &chunked), 0, &[0], None);
+fn partitions_are_as_many_as_asked_for(rt: HostRuntime) {
+    let (chunked, mut partition) = range_of(&rt, rt.alloc(), 4, Growth::ONE);
+    expect_taken(&rt, &chunked, &mut partition, 0, &[0], None);
     let Err((partition, fault)) = chunked.partitions(partition, 0) else {
         panic!(rt; "no partitions are some");
     };
@@ -132,24 +111,19 @@ fn partitions_are_as_many_as_asked_for(rt: HostRuntime) -> Result<(), Fail> {
         panic!(rt; "refused");
     };
     assert_eq!(rt; partitions.len(), 64);
-    assert_eq!(rt; partitions[0].requests(), 1);
-    assert_eq!(rt; partitions[63].requests(), 0);
-    assert!(rt; chunked.give_back(partitions).is_ok());
-    Ok(())
+    let requests = (partitions[0].requests(), partitions[63].requests());
+    assert_eq!(rt; requests, (1, 0));
+    expect_whole(&rt, chunked, partitions, 1, 4);
 }
 
 #[test]
-fn dynamic_partitions_promise_an_order_in_each(rt: HostRuntime) -> Result<(), Fail> {
-    let source = RangeSource::new(0, 0)?;
-    let (chunked, _partition) = Chunked::new(rt.alloc(), source, Growth::ONE)?;
+fn dynamic_partitions_promise_an_order_in_each(rt: HostRuntime) {
+    let (chunked, _partition) = range_of(&rt, rt.alloc(), 0, Growth::ONE);
     assert!(rt; chunked.supports_dynamic());
-    assert_eq!(rt;
-        chunked.properties(),
-        KeyProperties {
-            in_each: true,
-            across: false,
-            normalized: true
-        }
-    );
-    Ok(())
+    let promised = KeyProperties {
+        in_each: true,
+        across: false,
+        normalized: true,
+    };
+    assert_eq!(rt; chunked.properties(), promised);
 }

@@ -130,6 +130,12 @@ fn count_of(records: &[Record]) -> u64 {
     count
 }
 
+// Whether each element's value is its own number.
+fn are_own(list: &[Keyed<i64>]) -> bool {
+    list.iter()
+        .all(|element| i64::try_from(element.key) == Ok(element.value))
+}
+
 // Asks that the lists have the keys from 0 on, each once and in order in each list, each with its own number as value.
 fn expect_all(rt: &impl Abort, lists: &[Vec<Keyed<i64>>], count: u64) {
     assert!(rt; check_in_each(lists));
@@ -137,14 +143,21 @@ fn expect_all(rt: &impl Abort, lists: &[Vec<Keyed<i64>>], count: u64) {
     let mut found: u64 = 0;
     for list in lists {
         found = found.wrapping_add(list.len() as u64);
-        for element in list {
-            assert_eq!(rt; i64::try_from(element.key), Ok(element.value));
-        }
+        assert!(rt; are_own(list));
     }
     assert_eq!(rt; found, count);
 }
 
-// The threads of a row take, and all is given back: the records replay, and nothing is lost or handed out twice.
+// Asks that records replay, and that nothing is lost or handed out twice.
+fn expect_row(rt: &impl Abort, row: &Row, records: &[Record], lists: &[Vec<Keyed<i64>>]) {
+    assert!(rt; replays(records, row.items, Ending::End));
+    assert_eq!(rt; lists.len() as u64, row.threads);
+    let count = count_of(records);
+    expect_all(rt, lists, count);
+    assert!(rt; row.stops || count == row.items);
+}
+
+// The threads of a row take, and all is given back.
 fn run<R: Threads + Wait + Abort + Sync>(rt: &R, alloc: Global, row: Row) {
     let Ok(source) = RangeSource::new(0, row.items) else {
         panic!(rt; "no such range");
@@ -158,16 +171,11 @@ fn run<R: Threads + Wait + Abort + Sync>(rt: &R, alloc: Global, row: Row) {
     assert!(rt; !partitions.is_empty());
     let lists: Lists = Mutex::new(Vec::new(alloc));
     work_all(rt, alloc, &chunked, row, &lists, &mut partitions);
+    let lists = lists.into_inner();
     let Ok(enumerator) = chunked.give_back(partitions) else {
         panic!(rt; "not whole");
     };
-    let records = enumerator.records();
-    assert!(rt; replays(records, row.items, Ending::End));
-    let lists = lists.into_inner();
-    assert_eq!(rt; lists.len() as u64, row.threads);
-    let count = count_of(records);
-    expect_all(rt, &lists, count);
-    assert!(rt; row.stops || count == row.items);
+    expect_row(rt, &row, enumerator.records(), &lists);
 }
 
 #[test]

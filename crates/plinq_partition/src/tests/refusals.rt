@@ -1,17 +1,16 @@
 //! What a partition is told where it is given nothing.
-ghost use Rattle.std.specs.Prelude.{◌≡◌, IfOk};
+ghost use Rattle.std.specs.Prelude.{◌≡◌, ◌≤◌, ◌^◌, All, length, IfOk};
 ghost use Rattle.plinq_partition.specs.Partitions.{IsPartitionOf};
 
-use super::expecting::{expect_fault, give_back};
+use super::expecting::{expect, expect_taken, expect_tried, expect_words, give_back, range_of};
 use crate::{Chunked, PartFault, Partition, TakeFault};
 use plinq_enumerator::{Enumerator, Growth, replays};
-use plinq_keyed::{Chunk, Guarded, Tail};
-use plinq_source::{Ending, OutOfMemory, RangeSource, Source};
+use plinq_keyed::{Chunk, Guarded, Record, Tail};
+use plinq_source::{Ending, OutOfMemory, RangeSource};
 use plinq_ticket::{LockFault, TicketLock};
 use std::alloc::Global;
 use std::process::Abort;
 use std::sync::Wait;
-use std::test::Fail;
 
 // A source of some numbers, the first three of which are each in a chunk of its own, and its first partition.
 fn numbers(
@@ -25,6 +24,18 @@ fn numbers(
         Ok(source) => Chunked::new(alloc, source, Growth::DEFAULT),
         Err(_) => Err(TakeFault::Away),
     }
+}
+
+fn expect_fault<T: Drop>(rt: &impl Abort, told: Result<T, TakeFault>, fault: TakeFault) {
+    let Err(told) = told else {
+        panic!(rt; "not refused");
+    };
+    assert_eq!(rt; told, fault);
+}
+
+// A refusal is for want of memory, and the partition's count is as before.
+fn expect_refusal(rt: &impl Abort, fault: TakeFault, requests: u64, before: u64) {
+    assert_eq!(rt; (fault, requests), (TakeFault::Memory, before));
 }
 
 // Takes a chunk of one number, at the second attempt where the first is refused. Answers how many were refused.
@@ -42,8 +53,7 @@ fn take_at_last<R: Wait + Abort>(
     let Err(fault) = expect_number(rt, partition.take(rt, chunked), first, number) else {
         return 0;
     };
-    assert_eq!(rt; fault, TakeFault::Memory);
-    assert_eq!(rt; partition.requests(), before);
+    expect_refusal(rt, fault, partition.requests(), before);
     assert!(rt; expect_number(rt, partition.take(rt, chunked), first, number).is_ok());
     1
 }
@@ -63,8 +73,7 @@ fn try_at_last(
     let Err(fault) = expect_number(rt, partition.try_take(chunked), first, number) else {
         return 0;
     };
-    assert_eq!(rt; fault, TakeFault::Memory);
-    assert_eq!(rt; partition.requests(), before);
+    expect_refusal(rt, fault, partition.requests(), before);
     assert!(rt; expect_number(rt, partition.try_take(chunked), first, number).is_ok());
     1
 }
@@ -96,98 +105,129 @@ fn expect_number(
     first: u64,
     number: i64,
 ) -> Result<(), TakeFault> {
-    let chunk = chunk?;
-    assert_eq!(rt; chunk.first, first);
-    assert_eq!(rt; chunk.items.as_slice(), [number].as_slice());
-    assert_eq!(rt; chunk.tail, None);
-    Ok(())
+    match chunk {
+        Ok(chunk) => {
+            expect(rt, Ok(chunk), first, &[number], None);
+            Ok(())
+        }
+        Err(fault) => Err(fault),
+    }
+}
+
+// Two partitions, at the second attempt where the first is refused; the given one is then as it was.
+fn two_at_last(
+    rt: &impl Abort,
+    chunked: &Chunked<RangeSource>,
+    partition: Partition<RangeSource>,
+) -> Vec<Partition<RangeSource>>
+    requires { IsPartitionOf chunked.now partition }
+    ensures count { length result.items ≡ 2 }
+    ensures of { All (IsPartitionOf chunked.now) result.items }
+{
+    let before = partition.requests();
+    let (partition, fault) = match chunked.partitions(partition, 2) {
+        Ok(partitions) => return partitions,
+        Err(refused) => refused,
+    };
+    assert_eq!(rt; (fault, partition.requests()), (PartFault::Memory, before));
+    let Ok(partitions) = chunked.partitions(partition, 2) else {
+        panic!(rt; "refused twice");
+    };
+    partitions
 }
 
 // Each call is refused once at most, changes nothing then but that a ticket is gone, and answers the next time. Run with
 // each allocation failing in turn.
 #[test]
 fn a_refused_allocation_changes_nothing(rt: HostRuntime) {
-    let (chunked, first) = match numbers(rt.alloc(), 0, 3) {
+    let (chunked, mut first) = match numbers(rt.alloc(), 0, 3) {
         Ok(made) => made,
         Err(fault) => {
             assert_eq!(rt; fault, TakeFault::Memory);
             return;
         }
     };
-    let mut first = first;
-    let mut refused = take_at_last(&rt, &chunked, &mut first, 0, 0);
-    let mut partitions = match chunked.partitions(first, 2) {
-        Ok(partitions) => partitions,
-        Err((first, fault)) => {
-            assert_eq!(rt; fault, PartFault::Memory);
-            assert_eq!(rt; first.requests(), 1);
-            let Ok(partitions) = chunked.partitions(first, 2) else {
-                panic!(rt; "refused twice");
-            };
-            partitions
-        }
-    };
-    assert_eq!(rt; partitions.len(), 2);
-    refused = refused.wrapping_add(try_at_last(&rt, &chunked, &mut partitions[1], 1, 1));
-    refused = refused.wrapping_add(stop_at_last(&rt, &chunked, &mut partitions[1]));
-    assert!(rt; refused <= 1);
+    let taken = take_at_last(&rt, &chunked, &mut first, 0, 0);
+    let mut partitions = two_at_last(&rt, &chunked, first);
+    let tried = try_at_last(&rt, &chunked, &mut partitions[1], 1, 1);
+    let stopped = stop_at_last(&rt, &chunked, &mut partitions[1]);
     let Ok(enumerator) = chunked.give_back(partitions) else {
         panic!(rt; "not whole");
     };
-    let records = enumerator.records();
-    assert_eq!(rt; records.len(), 3);
-    assert_eq!(rt; records[2].ticket, refused.wrapping_add(2));
-    assert!(rt; replays(records, 3, Ending::End));
+    let refused = taken.wrapping_add(tried).wrapping_add(stopped);
+    assert!(rt; refused <= 1);
+    expect_last(&rt, enumerator.records(), 3, refused.wrapping_add(2));
+    assert!(rt; replays(enumerator.records(), 3, Ending::End));
+}
+
+// Asks that there are so many records, and that the last has this ticket.
+fn expect_last(rt: &impl Abort, records: &[Record], count: usize, ticket: u64) {
+    let last = records.last().map(|record| record.ticket);
+    assert_eq!(rt; (records.len(), last), (count, Some(ticket)));
 }
 
 // A first chunk is refused for want of room for its items, or for its record. Run with each allocation failing in turn.
 #[test]
 fn a_refused_first_chunk_uses_up_a_ticket(rt: HostRuntime) {
-    let Ok((chunked, partition)) = numbers(rt.alloc(), 5, 2) else {
+    let Ok((chunked, mut partition)) = numbers(rt.alloc(), 5, 2) else {
         return;
     };
-    let mut partition = partition;
     let refused = try_at_last(&rt, &chunked, &mut partition, 0, 5);
     assert_eq!(rt; partition.requests(), 1);
     let Some(enumerator) = give_back(&rt, rt.alloc(), chunked, partition) else {
         return;
     };
-    let records = enumerator.records();
-    assert_eq!(rt; records.len(), 1);
-    assert_eq!(rt; records[0].ticket, refused);
-    assert!(rt; replays(records, 2, Ending::End));
+    expect_last(&rt, enumerator.records(), 1, refused);
+    assert!(rt; replays(enumerator.records(), 2, Ending::End));
 }
 
-// Where a first `stop` is refused, nothing is closed. Run with each allocation failing in turn.
-#[test]
-fn a_refused_stop_closes_nothing(rt: HostRuntime) {
-    let Ok((chunked, partition)) = numbers(rt.alloc(), 5, 2) else {
+// Stops a source of which nothing was taken; where that is refused, nothing is closed.
+fn stop_before_all<R: Wait + Abort>(
+    rt: &R,
+    chunked: &Chunked<RangeSource>,
+    partition: &mut Partition<RangeSource>,
+    number: i64,
+)
+    requires { IsPartitionOf chunked.now partition.old }
+    ensures { IsPartitionOf chunked.now partition.new }
+{
+    let Err(fault) = partition.stop(rt, chunked) else {
         return;
     };
-    let mut partition = partition;
-    if let Err(fault) = partition.stop(&rt, &chunked) {
-        assert_eq!(rt; fault, TakeFault::Memory);
-        assert_eq!(rt; partition.requests(), 0);
-        assert_eq!(rt; try_at_last(&rt, &chunked, &mut partition, 0, 5), 0);
-        assert!(rt; partition.stop(&rt, &chunked).is_ok());
-    }
+    expect_refusal(rt, fault, partition.requests(), 0);
+    assert_eq!(rt; try_at_last(rt, chunked, partition, 0, number), 0);
+    assert!(rt; partition.stop(rt, chunked).is_ok());
+}
+
+// A first `stop` is refused, or not. Run with each allocation failing in turn.
+#[test]
+fn a_refused_stop_closes_nothing(rt: HostRuntime) {
+    let Ok((chunked, mut partition)) = numbers(rt.alloc(), 5, 2) else {
+        return;
+    };
+    stop_before_all(&rt, &chunked, &mut partition, 5);
     let Ok(chunk) = partition.try_take(&chunked) else {
         return;
     };
-    assert_eq!(rt; chunk.tail, Some(Tail::Closed));
-    assert!(rt; chunk.items.is_empty());
+    assert_eq!(rt; (chunk.items.len(), chunk.tail), (0, Some(Tail::Closed)));
 }
 
-// The source of three numbers whose first ticket is the last that there is.
-fn with_one_ticket(
+// Three numbers whose first ticket is that one.
+fn with_first_ticket(
+    rt: &impl Abort,
     alloc: Global,
-    source: RangeSource,
-) -> Result<(Chunked<RangeSource>, Partition<RangeSource>), TakeFault>
-    requires { ⟦<RangeSource as Source>⟧.given source ≡ 0 }
-    ensures { IfOk result (λ made. IsPartitionOf made.0 made.1) }
+    ticket: u64,
+) -> (Chunked<RangeSource>, Partition<RangeSource>)
+    requires { ticket ≤ 2 ^ 62 }
+    ensures { IsPartitionOf result.0 result.1 }
 {
+    let Ok(source) = RangeSource::new(0, 3) else {
+        panic!(rt; "no such range");
+    };
     let enumerator = Enumerator::new(alloc, source);
-    let (lock, pass) = TicketLock::with_first_ticket(alloc, enumerator, 4611686018427387903)?;
+    let Ok((lock, pass)) = TicketLock::with_first_ticket(alloc, enumerator, ticket) else {
+        panic!(rt; "no room for the lock");
+    };
     let chunked = Chunked {
         alloc,
         lock,
@@ -197,29 +237,27 @@ fn with_one_ticket(
         pass: Some(pass),
         requests: 0,
     };
-    Ok((chunked, partition))
+    (chunked, partition)
 }
 
 #[test]
-fn the_last_ticket_is_taken_once(rt: HostRuntime) -> Result<(), Fail> {
-    let (chunked, mut partition) = with_one_ticket(rt.alloc(), RangeSource::new(0, 3)?)?;
-    assert!(rt; expect_number(&rt, partition.take(&rt, &chunked), 0, 0).is_ok());
+fn the_last_ticket_is_taken_once(rt: HostRuntime) {
+    let last = 4611686018427387903;
+    let (chunked, mut partition) = with_first_ticket(&rt, rt.alloc(), last);
+    expect_taken(&rt, &chunked, &mut partition, 0, &[0], None);
     expect_fault(&rt, partition.take(&rt, &chunked), TakeFault::Spent);
     expect_fault(&rt, partition.try_take(&chunked), TakeFault::Spent);
-    assert_eq!(rt; partition.stop(&rt, &chunked), Err(TakeFault::Spent));
+    expect_fault(&rt, partition.stop(&rt, &chunked), TakeFault::Spent);
     assert_eq!(rt; partition.requests(), 1);
     let Some(enumerator) = give_back(&rt, rt.alloc(), chunked, partition) else {
-        return Err(Fail::from("no room for a list of one"));
+        panic!(rt; "no room for a list of one");
     };
-    assert_eq!(rt; enumerator.records().len(), 1);
-    assert_eq!(rt; enumerator.records()[0].ticket, 4611686018427387903);
-    Ok(())
+    expect_last(&rt, enumerator.records(), 1, last);
 }
 
 #[test]
-fn others_are_inside(rt: HostRuntime) -> Result<(), Fail> {
-    let (chunked, first) = numbers(rt.alloc(), 0, 3)?;
-    let mut first = first;
+fn others_are_inside(rt: HostRuntime) {
+    let (chunked, mut first) = range_of(&rt, rt.alloc(), 3, Growth::ONE);
     let mut second = chunked.dynamic(&mut first);
     let Ok(held) = chunked.lock.try_enter(first.into_pass()) else {
         panic!(rt; "busy with nobody there");
@@ -231,54 +269,42 @@ fn others_are_inside(rt: HostRuntime) -> Result<(), Fail> {
     expect_fault(&rt, second.try_take(&chunked), busy);
     assert_eq!(rt; second.requests(), 0);
     chunked.lock.leave(held);
-    assert!(rt; expect_number(&rt, second.try_take(&chunked), 0, 0).is_ok());
-    Ok(())
+    expect_tried(&rt, &chunked, &mut second, 0, &[0], None);
+}
+
+// Asks that a fault of the lock is told as this one.
+fn expect_told(rt: &impl Abort, said: LockFault, fault: TakeFault) {
+    assert_eq!(rt; TakeFault::from(said), fault);
 }
 
 #[test]
 fn a_lock_says_why_there_is_no_chunk(rt: HostRuntime) {
-    let busy = LockFault::Busy {
+    let said = LockFault::Busy {
         served: 3,
         drawn: 5,
     };
-    let missing = LockFault::Incomplete { have: 1, all: 2 };
-    for (said, fault) in [
-        (LockFault::Memory, TakeFault::Memory),
-        (LockFault::Spent, TakeFault::Spent),
-        (
-            busy,
-            TakeFault::Busy {
-                served: 3,
-                drawn: 5,
-            },
-        ),
-        (missing, TakeFault::Incomplete { have: 1, all: 2 }),
-        (LockFault::Away, TakeFault::Away),
-    ] {
-        assert_eq!(rt; TakeFault::from(said), fault);
-    }
+    expect_told(&rt, said, BUSY);
+    let said = LockFault::Incomplete { have: 1, all: 2 };
+    expect_told(&rt, said, INCOMPLETE);
+    expect_told(&rt, LockFault::Memory, TakeFault::Memory);
+    expect_told(&rt, LockFault::Spent, TakeFault::Spent);
+    expect_told(&rt, LockFault::Away, TakeFault::Away);
     assert_eq!(rt; TakeFault::from(OutOfMemory), TakeFault::Memory);
 }
 
+const BUSY: TakeFault = TakeFault::Busy {
+    served: 3,
+    drawn: 5,
+};
+
+const INCOMPLETE: TakeFault = TakeFault::Incomplete { have: 1, all: 2 };
+
 #[test]
-fn faults_in_words_of_a_partition(rt: HostRuntime) -> Result<(), Fail> {
-    for (fault, text) in [
-        (TakeFault::Memory, "out of memory"),
-        (TakeFault::Spent, "tickets spent"),
-        (
-            TakeFault::Busy {
-                served: 3,
-                drawn: 5,
-            },
-            "busy, 3 served of 5 drawn",
-        ),
-        (
-            TakeFault::Incomplete { have: 1, all: 2 },
-            "incomplete, 1 records of 2",
-        ),
-        (TakeFault::Away, "away"),
-    ] {
-        assert_eq!(rt; format!(in rt.alloc(); "{fault}")?.as_str(), text);
-    }
-    Ok(())
+fn faults_in_words_of_a_partition(rt: HostRuntime) {
+    expect_words(&rt, rt.alloc(), &TakeFault::Memory, "out of memory");
+    expect_words(&rt, rt.alloc(), &TakeFault::Spent, "tickets spent");
+    expect_words(&rt, rt.alloc(), &BUSY, "busy, 3 served of 5 drawn");
+    let incomplete = "incomplete, 1 records of 2";
+    expect_words(&rt, rt.alloc(), &INCOMPLETE, incomplete);
+    expect_words(&rt, rt.alloc(), &TakeFault::Away, "away");
 }
