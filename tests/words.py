@@ -20,7 +20,10 @@ REFUSED = {
     "ru": "error: unrecognized subcommand 'ru'\n\n  tip: a similar subcommand exists: 'run'\n" + USAGE,
     "--version": "error: unexpected argument '--version' found\n" + USAGE,
     "--workers 2 run": "error: unexpected argument '--workers' found\n\n  tip: 'run --workers' exists\n" + USAGE,
+    "--merge not run": "error: unexpected argument '--merge' found\n\n  tip: 'run --merge' exists\n" + USAGE,
     "run more": "error: unexpected argument 'more' found\n" + OPTIONS,
+    "run seq": "error: unexpected argument 'seq' found\n" + OPTIONS,
+    "run --version": "error: unexpected argument '--version' found\n" + OPTIONS,
     "run -w 2": "error: unexpected argument '-w' found\n" + OPTIONS,
     "run --workers 1 --workers 2": "error: the argument '--workers <N>' cannot be used multiple times\n" + OPTIONS,
     "run --workers": "error: a value is required for '--workers <N>' but none was supplied\n" + MORE,
@@ -28,6 +31,7 @@ REFUSED = {
     "run --workers 65": "error: invalid value '65' for '--workers <N>': 65 is not in 1..=64\n" + MORE,
     "run --workers x": "error: invalid value 'x' for '--workers <N>': invalid digit found in string\n" + MORE,
     "seq --merge some": "error: invalid value 'some' for '--merge <OPTION>'\n  [possible values: not, auto, full, default]\n" + MORE,
+    "run --merge some": "error: invalid value 'some' for '--merge <OPTION>'\n  [possible values: not, auto, full, default]\n" + MORE,
 }
 
 HELP = """Answers the query of a JSON document, which it reads from standard input

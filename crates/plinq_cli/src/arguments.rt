@@ -153,6 +153,3 @@ fn merge_of(options: &ArgMatches<'_>) -> Option<MergeOption>
 {
     merge_word(options.get_str("merge")?)
 }
-
-#[cfg(test)]
-mod tests;

@@ -77,6 +77,3 @@ fn read_piece<R: Read>(reader: &mut R, piece: &mut [u8]) -> Result<usize, InputF
         Err(_) => Err(InputFault::Read),
     }
 }
-
-#[cfg(test)]
-mod tests;

@@ -16,8 +16,6 @@ mod performing;
 mod rounds;
 mod serve_fault;
 mod serving;
-#[cfg(test)]
-mod tests;
 
 pub use arguments::{Arguments, read_arguments};
 pub use command::Command;

@@ -115,6 +115,3 @@ fn cut(parts: &RangeParts<i64>, n: u64) -> Result<Vec<Vec<Keyed<i64>>>, ServeFau
         Err(_) => Err(ServeFault::Memory),
     }
 }
-
-#[cfg(test)]
-mod tests;

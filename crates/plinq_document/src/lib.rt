@@ -21,8 +21,6 @@ mod sources;
 mod step_call;
 mod step_name;
 mod steps;
-#[cfg(test)]
-mod tests;
 mod values;
 mod version;
 

@@ -20,8 +20,6 @@ mod piece;
 mod pieces;
 mod placing;
 mod plan_lines;
-#[cfg(test)]
-mod tests;
 mod write_fault;
 
 pub use answer_lines::{write_answer, write_batches, write_ending};

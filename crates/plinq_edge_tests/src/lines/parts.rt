@@ -1,5 +1,5 @@
-use crate::write_parts;
 use plinq_keyed::{KeyProperties, Keyed};
+use plinq_lines::write_parts;
 use plinq_source::Ending;
 use std::test::Fail;
 

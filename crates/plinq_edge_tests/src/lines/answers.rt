@@ -1,13 +1,10 @@
-use crate::{write_answer, write_batches, write_ending};
 use plinq_lambda::Formula;
+use plinq_lines::{write_answer, write_batches, write_ending};
 use plinq_ops::MergeOption;
 use plinq_source::Ending;
-use std::test::Fail;
+use std::process::Abort;
 
 const NUMBERS: [i64; 18] = [3, 1, 4, 1, 5, 9, 2, 6, 5, 3, 5, 8, 9, 7, 9, 3, 2, -3];
-
-// A merge option, how an answer of these numbers ends, and its batches.
-type Batches = (MergeOption, Ending, &'static str);
 
 const ONE_A_LINE: &str = "3\n1\n4\n1\n5\n9\n2\n6\n5\n3\n5\n8\n9\n7\n9\n3\n2\n-3\n";
 
@@ -15,39 +12,38 @@ const RUNS: &str = "3 1 4 1 5 9 2 6 5 3 5 8 9 7 9 3\n2 -3\n";
 
 const AT_ONCE: &str = "3 1 4 1 5 9 2 6 5 3 5 8 9 7 9 3 2 -3\n";
 
-const BATCHES: [Batches; 8] = [
-    (MergeOption::NotBuffered, Ending::End, ONE_A_LINE),
-    (MergeOption::NotBuffered, Ending::Refused(7), ONE_A_LINE),
-    (MergeOption::AutoBuffered, Ending::End, RUNS),
-    (MergeOption::AutoBuffered, Ending::Fault(1), RUNS),
-    (MergeOption::Default, Ending::End, RUNS),
-    (MergeOption::FullyBuffered, Ending::End, AT_ONCE),
-    (MergeOption::FullyBuffered, Ending::Refused(7), ""),
-    (MergeOption::FullyBuffered, Ending::Fault(1), ""),
-];
-
-#[test]
-fn batches_of_each_option(rt: HostRuntime) -> Result<(), Fail> {
-    for (option, ending, lines) in BATCHES {
+// The batches of an answer of these numbers with this ending, and those of one without numbers.
+fn check<R: AllocGlobal + Abort>(rt: &R, option: MergeOption, ending: Ending, lines: &str) {
+    for (numbers, lines) in [(NUMBERS.as_slice(), lines), ([].as_slice(), "")] {
         let mut out = Vec::new(rt.alloc());
-        assert_eq!(rt;
-            write_batches(&mut out, option, NUMBERS.as_slice(), ending),
-            Ok(())
-        );
+        assert_eq!(rt; write_batches(&mut out, option, numbers, ending), Ok(()));
         assert_eq!(rt;
             out.as_slice(),
             lines.as_bytes(),
             "at {option:?}, {ending:?}"
         );
-        let mut none = Vec::new(rt.alloc());
-        assert_eq!(rt; write_batches(&mut none, option, &[], ending), Ok(()));
-        assert!(rt; none.is_empty(), "at {option:?}, {ending:?}");
     }
-    Ok(())
 }
 
 #[test]
-fn endings(rt: HostRuntime) -> Result<(), Fail> {
+fn batches_of_each_option(rt: HostRuntime) {
+    check(&rt, MergeOption::NotBuffered, Ending::End, ONE_A_LINE);
+    check(
+        &rt,
+        MergeOption::NotBuffered,
+        Ending::Refused(7),
+        ONE_A_LINE,
+    );
+    check(&rt, MergeOption::AutoBuffered, Ending::End, RUNS);
+    check(&rt, MergeOption::AutoBuffered, Ending::Fault(1), RUNS);
+    check(&rt, MergeOption::Default, Ending::End, RUNS);
+    check(&rt, MergeOption::FullyBuffered, Ending::End, AT_ONCE);
+    check(&rt, MergeOption::FullyBuffered, Ending::Refused(7), "");
+    check(&rt, MergeOption::FullyBuffered, Ending::Fault(1), "");
+}
+
+#[test]
+fn endings(rt: HostRuntime) {
     for (ending, line) in [
         (Ending::End, "end\n"),
         (Ending::Refused(0), "refused 0\n"),
@@ -60,11 +56,10 @@ fn endings(rt: HostRuntime) -> Result<(), Fail> {
         assert_eq!(rt; write_ending(&mut out, ending), Ok(()));
         assert_eq!(rt; out.as_slice(), line.as_bytes());
     }
-    Ok(())
 }
 
 #[test]
-fn an_answer(rt: HostRuntime) -> Result<(), Fail> {
+fn an_answer(rt: HostRuntime) {
     let mut out = Vec::new(rt.alloc());
     assert_eq!(rt;
         write_answer(
@@ -76,5 +71,4 @@ fn an_answer(rt: HostRuntime) -> Result<(), Fail> {
         Ok(())
     );
     assert_eq!(rt; out.as_slice(), b"1 2\nrefused 7\n".as_slice());
-    Ok(())
 }

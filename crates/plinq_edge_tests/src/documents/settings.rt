@@ -1,7 +1,5 @@
-use crate::degree::Degree;
-use crate::doc_fault::{DocFault, StepFault};
-use crate::settings::Settings;
-use crate::tests::refusal;
+use super::refusal;
+use plinq_document::{Degree, DocFault, Settings, StepFault};
 use plinq_ops::{BuildFault, MergeOption};
 
 #[test]

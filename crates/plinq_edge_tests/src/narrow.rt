@@ -8,6 +8,11 @@ pub(crate) struct Narrow {
     taken: Vec<u8>,
     room: usize,
     at_once: usize,
+    /// Whether a flush succeeds.
+    pub(crate) flushes: bool,
+    /// Whether each write that takes bytes comes behind an interrupted one.
+    pub(crate) interrupts: bool,
+    was_interrupted: bool,
 }
 
 impl Narrow {
@@ -16,6 +21,9 @@ impl Narrow {
             taken: Vec::new(alloc),
             room,
             at_once,
+            flushes: true,
+            interrupts: false,
+            was_interrupted: false,
         }
     }
 
@@ -26,6 +34,10 @@ impl Narrow {
 
 impl Write for Narrow {
     fn write(&mut self, buf: &[u8]) -> io::Result<usize> {
+        self.was_interrupted = self.interrupts && !self.was_interrupted;
+        if self.was_interrupted {
+            return Err(io::Error::from(ErrorKind::Interrupted));
+        }
         let count = buf.len().min(self.at_once).min(self.room);
         if count == 0 && !buf.is_empty() {
             return Err(io::Error::from(ErrorKind::BrokenPipe));
@@ -36,6 +48,10 @@ impl Write for Narrow {
     }
 
     fn flush(&mut self) -> io::Result<()> {
-        Ok(())
+        if self.flushes {
+            Ok(())
+        } else {
+            Err(io::Error::from(ErrorKind::BrokenPipe))
+        }
     }
 }

@@ -1,6 +1,5 @@
-use crate::any_source::AnySource;
-use crate::document::read_document;
-use crate::tests::PLAIN;
+use super::{PLAIN, read};
+use plinq_document::AnySource;
 use plinq_enumerator::Growth;
 use plinq_lambda::Formula;
 use plinq_ops::{MergeOption, Op};
@@ -12,7 +11,7 @@ use std::test::Fail;
 fn reads_the_example(rt: HostRuntime) -> Result<(), Fail> {
     let text =
         r#"{"version":1,"source":{"list":[3,1,4]},"query":[["as_ordered"],["select","add",1]]}"#;
-    let mut job = read_document(rt.alloc(), text.as_bytes(), PLAIN)?;
+    let mut job = read(rt.alloc(), text, PLAIN)?;
     assert_eq!(rt; job.query.ops(), [Op::Select(Formula::Add(1))].as_slice());
     assert!(rt; job.query.is_ordered());
     assert_eq!(rt; job.query.merge_option(), MergeOption::AutoBuffered);
@@ -25,7 +24,7 @@ fn reads_the_example(rt: HostRuntime) -> Result<(), Fail> {
 #[test]
 fn reads_a_growth(rt: HostRuntime) -> Result<(), Fail> {
     let text = r#"{"version":1,"source":{"list":[]},"query":[],"growth":[2,5,9]}"#;
-    let job = read_document(rt.alloc(), text.as_bytes(), PLAIN)?;
+    let job = read(rt.alloc(), text, PLAIN)?;
     assert_eq!(rt; job.growth, Growth::new(2, 5, 9)?);
     Ok(())
 }
@@ -44,7 +43,7 @@ fn reads_each_source(rt: HostRuntime) -> Result<(), Fail> {
     ] {
         let alloc = rt.alloc();
         let text = format!(in alloc; "{{\"query\":[],\"source\":{source},\"version\":1}}")?;
-        let mut job = read_document(alloc, text.as_bytes(), PLAIN)?;
+        let mut job = read(alloc, text.as_str(), PLAIN)?;
         gives(&rt, &mut job.source, items, ending);
     }
     Ok(())

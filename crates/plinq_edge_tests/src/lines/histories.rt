@@ -1,56 +1,54 @@
-use crate::write_history;
 use plinq_keyed::{Event, Record, Tail};
+use plinq_lines::write_history;
 use plinq_source::Ending;
-use std::test::Fail;
 
-#[test]
-fn each_request_and_each_tail(rt: HostRuntime) -> Result<(), Fail> {
-    let alloc = rt.alloc();
-    let mut records = Vec::new(alloc);
-    records.push(Record {
+const RECORDS: [Record; 4] = [
+    Record {
         ticket: 0,
         asked: Event::Ask(512),
         first: 0,
         count: 512,
         tail: None,
-    })?;
-    records.push(Record {
+    },
+    Record {
         ticket: 3,
         asked: Event::Ask(1),
         first: 512,
         count: 0,
         tail: Some(Tail::Ended),
-    })?;
-    records.push(Record {
+    },
+    Record {
         ticket: 12,
         asked: Event::Ask(65_536),
         first: 512,
         count: 9,
         tail: Some(Tail::Refused(u32::MAX)),
-    })?;
-    records.push(Record {
+    },
+    Record {
         ticket: u64::MAX,
         asked: Event::Close,
         first: 521,
         count: 0,
         tail: Some(Tail::Closed),
-    })?;
-    let mut out = Vec::new(alloc);
+    },
+];
+
+#[test]
+fn each_request_and_each_tail(rt: HostRuntime) {
+    let mut out = Vec::new(rt.alloc());
     assert_eq!(rt;
-        write_history(&mut out, records.as_slice(), Ending::Refused(7)),
+        write_history(&mut out, RECORDS.as_slice(), Ending::Refused(7)),
         Ok(())
     );
     assert_eq!(rt;
         out.as_slice(),
         b"ticket 0 ask 512 first 0 count 512\nticket 3 ask 1 first 512 count 0 ended\nticket 12 ask 65536 first 512 count 9 refused 4294967295\nticket 18446744073709551615 close first 521 count 0 closed\nrefused 7\n".as_slice()
     );
-    Ok(())
 }
 
 #[test]
-fn no_request(rt: HostRuntime) -> Result<(), Fail> {
+fn no_request(rt: HostRuntime) {
     let mut out = Vec::new(rt.alloc());
     assert_eq!(rt; write_history(&mut out, &[], Ending::End), Ok(()));
     assert_eq!(rt; out.as_slice(), b"end\n".as_slice());
-    Ok(())
 }

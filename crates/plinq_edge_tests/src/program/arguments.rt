@@ -1,39 +1,43 @@
-use super::{Arguments, read_arguments};
-use crate::command::Command;
-use plinq_document::{Degree, Settings};
+use super::words_of;
+use plinq_cli::{Arguments, Command, Degree, Settings, read_arguments};
 use plinq_ops::MergeOption;
 use std::test::Fail;
 
-// Words after the program's name, and what they ask for.
+// Words, and what they ask for.
 const READ: [(&[&str], Command, Option<u64>, Option<MergeOption>); 7] = [
-    (&["run"], Command::Run, None, None),
-    (&["seq", "--workers", "64"], Command::Seq, Some(64), None),
+    (&["plinq", "run"], Command::Run, None, None),
     (
-        &["plan", "--workers=1", "--merge=full"],
+        &["plinq", "seq", "--workers", "64"],
+        Command::Seq,
+        Some(64),
+        None,
+    ),
+    (
+        &["plinq", "plan", "--workers=1", "--merge=full"],
         Command::Plan,
         Some(1),
         Some(MergeOption::FullyBuffered),
     ),
     (
-        &["run", "--merge", "not", "--workers", "2"],
+        &["plinq", "run", "--merge", "not", "--workers", "2"],
         Command::Run,
         Some(2),
         Some(MergeOption::NotBuffered),
     ),
     (
-        &["history", "--workers", "3"],
+        &["plinq", "history", "--workers", "3"],
         Command::History,
         Some(3),
         None,
     ),
     (
-        &["run", "--merge", "auto"],
+        &["plinq", "run", "--merge", "auto"],
         Command::Run,
         None,
         Some(MergeOption::AutoBuffered),
     ),
     (
-        &["run", "--merge", "default"],
+        &["plinq", "run", "--merge", "default"],
         Command::Run,
         None,
         Some(MergeOption::Default),
@@ -44,11 +48,7 @@ const READ: [(&[&str], Command, Option<u64>, Option<MergeOption>); 7] = [
 fn reads_words(rt: HostRuntime) -> Result<(), Fail> {
     let alloc = rt.alloc();
     for (words, command, workers, merge) in READ {
-        let mut all = Vec::new(alloc);
-        all.push(String::from_str(alloc, "plinq")?)?;
-        for word in words {
-            all.push(String::from_str(alloc, word)?)?;
-        }
+        let all = words_of(alloc, words)?;
         let arguments = read_arguments(alloc, all.as_slice())?;
         assert_eq!(rt;
             arguments,

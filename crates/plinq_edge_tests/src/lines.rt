@@ -1,8 +1,7 @@
+//! The lines of answers, plans, partitions and histories.
 mod answers;
 mod batches;
 mod failures;
 mod histories;
-mod interrupting;
-mod narrow;
 mod parts;
 mod plans;

@@ -1,44 +1,32 @@
 //! Readers and writers that fail.
 use super::{ADD_ONE, words_of};
-use crate::performing::perform;
+use crate::narrow::Narrow;
+use plinq_cli::perform;
 use std::alloc::AllocError;
 use std::io;
 use std::io::{BufWriter, ErrorKind, Read, Write};
 use std::process::Abort;
 use std::test::Fail;
 
-// A writer that takes only so many bytes, and only so many at once.
-#[derive(Drop)]
-struct Narrow {
-    taken: Vec<u8>,
-    room: usize,
-    at_once: usize,
-    flushes: bool,
-    interrupts: bool,
+// How a run of the program ends that is asked for the example's answer.
+fn answered<R: AllocGlobal, W: Write>(
+    rt: &R,
+    out: &mut W,
+    err: &mut Vec<u8>,
+) -> Result<u8, AllocError> {
+    let words = words_of(rt.alloc(), &["plinq", "run", "--merge", "not"])?;
+    Ok(perform(rt, words, &mut ADD_ONE.as_bytes(), out, err))
 }
 
-impl Write for Narrow {
-    fn write(&mut self, buf: &[u8]) -> io::Result<usize> {
-        if self.interrupts {
-            self.interrupts = false;
-            return Err(io::Error::from(ErrorKind::Interrupted));
-        }
-        let count = buf.len().min(self.at_once).min(self.room);
-        if count == 0 && !buf.is_empty() {
-            return Err(io::Error::from(ErrorKind::BrokenPipe));
-        }
-        self.taken.extend_from_slice(&buf[..count])?;
-        self.room -= count;
-        Ok(count)
-    }
-
-    fn flush(&mut self) -> io::Result<()> {
-        if self.flushes {
-            Ok(())
-        } else {
-            Err(io::Error::from(ErrorKind::BrokenPipe))
-        }
-    }
+// How a run ends that reads a document that is no JSON.
+fn refused<R: AllocGlobal, W: Write, E: Write>(
+    rt: &R,
+    words: &[&str],
+    out: &mut W,
+    err: &mut E,
+) -> Result<u8, AllocError> {
+    let words = words_of(rt.alloc(), words)?;
+    Ok(perform(rt, words, &mut b"[".as_slice(), out, err))
 }
 
 // Row by row: the room, how many bytes at once, whether it flushes, what it took, and the status.
@@ -55,20 +43,17 @@ const WRITTEN: [Written; 6] = [
 
 #[test]
 fn writes_that_fail(rt: HostRuntime) -> Result<(), Fail> {
-    let alloc = rt.alloc();
     for (room, at_once, flushes, taken, status) in WRITTEN {
-        let mut out = Narrow {
-            taken: Vec::new(alloc),
-            room,
-            at_once,
-            flushes,
-            interrupts: true,
-        };
-        let mut err = Vec::new(alloc);
-        let words = words_of(alloc, &["plinq", "run", "--merge", "not"])?;
-        let answered = perform(&rt, words, &mut ADD_ONE.as_bytes(), &mut out, &mut err);
-        assert_eq!(rt; answered, status, "with room for {room}");
-        assert_eq!(rt; out.taken.as_slice(), taken.as_bytes());
+        let mut out = Narrow::new(rt.alloc(), room, at_once);
+        out.flushes = flushes;
+        out.interrupts = true;
+        let mut err = Vec::new(rt.alloc());
+        assert_eq!(rt;
+            answered(&rt, &mut out, &mut err)?,
+            status,
+            "with room for {room}"
+        );
+        assert_eq!(rt; out.taken(), taken.as_bytes());
         let line = if status == 0 {
             ""
         } else {
@@ -82,32 +67,14 @@ fn writes_that_fail(rt: HostRuntime) -> Result<(), Fail> {
 // Help, or a failure's line, on a writer that takes nothing.
 #[test]
 fn errors_that_cannot_be_written(rt: HostRuntime) -> Result<(), Fail> {
-    let alloc = rt.alloc();
-    let closed = || Narrow {
-        taken: Vec::new(alloc),
-        room: 0,
-        at_once: 1,
-        flushes: false,
-        interrupts: false,
-    };
-    let mut out = Vec::new(alloc);
-    let mut err = closed();
-    let words = words_of(alloc, &["plinq", "run"])?;
-    assert_eq!(rt;
-        perform(&rt, words, &mut b"[".as_slice(), &mut out, &mut err),
-        2
-    );
-    let words = words_of(alloc, &["plinq", "walk"])?;
-    assert_eq!(rt;
-        perform(&rt, words, &mut b"[".as_slice(), &mut out, &mut err),
-        2
-    );
-    let words = words_of(alloc, &["plinq", "--help"])?;
-    let mut told = Vec::new(alloc);
-    assert_eq!(rt;
-        perform(&rt, words, &mut b"[".as_slice(), &mut err, &mut told),
-        5
-    );
+    let mut out = Vec::new(rt.alloc());
+    let mut err = Narrow::new(rt.alloc(), 0, 1);
+    err.flushes = false;
+    for words in [["plinq", "run"], ["plinq", "walk"]] {
+        assert_eq!(rt; refused(&rt, words.as_slice(), &mut out, &mut err)?, 2);
+    }
+    let mut told = Vec::new(rt.alloc());
+    assert_eq!(rt; refused(&rt, &["plinq", "--help"], &mut err, &mut told)?, 5);
     assert_eq!(rt; told.as_slice(), b"plinq: write failed\n".as_slice());
     Ok(())
 }
@@ -115,22 +82,12 @@ fn errors_that_cannot_be_written(rt: HostRuntime) -> Result<(), Fail> {
 // A refused document comes before a flush that fails.
 #[test]
 fn a_flush_that_fails_beside_a_refused_document(rt: HostRuntime) -> Result<(), Fail> {
-    let alloc = rt.alloc();
-    let mut out = Narrow {
-        taken: Vec::new(alloc),
-        room: 100,
-        at_once: 100,
-        flushes: false,
-        interrupts: false,
-    };
-    let mut err = Vec::new(alloc);
-    let words = words_of(alloc, &["plinq", "run"])?;
-    assert_eq!(rt;
-        perform(&rt, words, &mut b"[".as_slice(), &mut out, &mut err),
-        2
-    );
+    let mut out = Narrow::new(rt.alloc(), 100, 100);
+    out.flushes = false;
+    let mut err = Vec::new(rt.alloc());
+    assert_eq!(rt; refused(&rt, &["plinq", "run"], &mut out, &mut err)?, 2);
     assert_eq!(rt; err.as_slice(), b"plinq: document: not JSON\n".as_slice());
-    assert!(rt; out.taken.is_empty());
+    assert!(rt; out.taken().is_empty());
     Ok(())
 }
 
@@ -167,9 +124,11 @@ fn nothing_is_written_after_a_failure(rt: HostRuntime) -> Result<(), Fail> {
         };
         let mut out = BufWriter::with_capacity(alloc, capacity, once)?;
         let mut err = Vec::new(alloc);
-        let words = words_of(alloc, &["plinq", "run", "--merge", "not"])?;
-        let status = perform(&rt, words, &mut ADD_ONE.as_bytes(), &mut out, &mut err);
-        assert_eq!(rt; status, 5, "a buffer of {capacity} bytes");
+        assert_eq!(rt;
+            answered(&rt, &mut out, &mut err)?,
+            5,
+            "a buffer of {capacity} bytes"
+        );
         assert_eq!(rt; err.as_slice(), b"plinq: write failed\n".as_slice());
         let (once, _) = out.into_parts();
         assert!(rt; once.has_failed);
@@ -180,9 +139,9 @@ fn nothing_is_written_after_a_failure(rt: HostRuntime) -> Result<(), Fail> {
 
 // A reader of spaces, which fails when they are used up or ends.
 #[derive(Drop)]
-struct Spaces {
-    left: usize,
-    fails: bool,
+pub(super) struct Spaces {
+    pub(super) left: usize,
+    pub(super) fails: bool,
 }
 
 impl Read for Spaces {

@@ -1,0 +1,271 @@
+#!/usr/bin/env python3
+"""Further rows than examples/README.md has: answers by both commands and with each number of workers, and what is refused.
+
+    python3 tests/answers.py
+"""
+from support.program import Outcome, Tests, build, run
+
+# A merge option or none, a source, the steps after `as_ordered`, the output and the status.
+ANSWERS = [
+    ("not", '"list":[3,1,4]', ',["select","add",1]', "4\n2\n5\nend\n", 0),
+    ("not", '"list":[]', "", "end\n", 0),
+    ("auto", '"list":[]', "", "end\n", 0),
+    ("full", '"list":[]', "", "end\n", 0),
+    ("default", '"list":[]', "", "end\n", 0),
+    ("", '"text":"3 1 4"', ',["select","add",1]', "4 2 5\nend\n", 0),
+    ("auto", '"range":[1,17]', "", "1 2 3 4 5 6 7 8 9 10 11 12 13 14 15 16\n17\nend\n", 0),
+    ("auto", '"range":[1,16]', "", "1 2 3 4 5 6 7 8 9 10 11 12 13 14 15 16\nend\n", 0),
+    ("not", '"list":[1,2],"refuse":7', "", "1\n2\nrefused 7\n", 3),
+    ("auto", '"list":[1,2],"refuse":7', "", "1 2\nrefused 7\n", 3),
+    ("full", '"list":[1,2],"refuse":7', "", "refused 7\n", 3),
+    ("not", '"list":[1,2],"refuse":7', ',["take",2]', "1\n2\nend\n", 0),
+    ("", '"list":[],"refuse":7', ',["take",0]', "end\n", 0),
+    ("", '"list":[],"refuse":7', ',["take",-1]', "end\n", 0),
+    ("", '"list":[],"refuse":7', ',["filter","even"],["take",0]', "end\n", 0),
+    ("not", '"list":[5,0,2]', ',["select","into",10]', "2\nfault division\n", 4),
+    ("full", '"list":[5,0,2]', ',["select","into",10]', "fault division\n", 4),
+    ("not", '"list":[5,0,2]', ',["select","into",10],["take",1]', "2\nend\n", 0),
+    ("auto", '"list":[2,3]', ',["select_many","repeat",2],["take",3]', "2 2 3\nend\n", 0),
+    ("not", '"list":[1,2,9,3,0]', ',["take_while","below",5],["select","into",6]', "6\n3\nend\n", 0),
+    ("", '"list":[1,2],"refuse":7', ',["skip",5]', "refused 7\n", 3),
+    ("auto", '"list":[1,2]', ',["skip",-1]', "1 2\nend\n", 0),
+    ("auto", '"range":[1,10]', ',["filter","even"],["take",2]', "2 4\nend\n", 0),
+    ("not", '"text":"7 x 9"', "", "7\nrefused 1\n", 3),
+    ("not", '"text":"12345678901234567890"', "", "refused 2\n", 3),
+    ("auto", '"text":"-9223372036854775808 007 -0"', "", "-9223372036854775808 7 0\nend\n", 0),
+    ("", '"text":"+1"', "", "refused 1\n", 3),
+    ("", '"text":"-"', "", "refused 1\n", 3),
+    ("", '"text":" "', "", "end\n", 0),
+    ("", '"list":[9223372036854775807]', ',["select","add",1]', "fault overflow\n", 4),
+    ("", '"list":[-1]', ',["select","into",-9223372036854775808]', "fault overflow\n", 4),
+    ("", '"list":[-9223372036854775808]', ',["select","mod",-1]', "0\nend\n", 0),
+    ("", '"list":[-7]', ',["select","mod",3]', "-1\nend\n", 0),
+    ("not", '"list":[1,65537]', ',["select_many","up_to"]', "1\nfault toomany\n", 4),
+    ("", '"list":[3,1]', ',["as_unordered"]', "3 1\nend\n", 0),
+    ("", '"repeat":[6,3]', ',["select","mul",-7]', "-42 -42 -42\nend\n", 0),
+    ("full", '"range":[8,20]', ',["skip",1]', "9 10 11 12 13 14 15 16 17 18 19 20 21 22 23 24 25 26 27\nend\n", 0),
+]
+
+# Words, a document, and what is said of it.
+REFUSED = [
+    ("run --merge not", "[", "not JSON"),
+    ("run --merge not", "{}", "wrong shape"),
+    ("seq", "", "not JSON"),
+    ("plan", '{"version":2}', "unknown version"),
+    ("run", '{"version":3,"source":{"list":[]},"query":[]}', "unknown version"),
+    ("run", '{"version":1,"source":{"range":[9223372036854775807,2]},"query":[]}', "source too large"),
+    ("run", '{"version":1,"source":{"range":[1,-1]},"query":[]}', "wrong shape"),
+    ("parts", '{"version":1,"source":{"list":[]},"query":[["sort"]],"growth":[0,3,512]}', "growth: zero"),
+    ("run", '{"version":1,"source":{"list":[]},"query":[],"growth":[4,1,2]}', "growth: first above max"),
+    ("run", '{"version":1,"source":{"list":[]},"query":[],"growth":[1,1,65537]}', "growth: max too large"),
+    ("run", '{"version":1,"source":{"list":[]},"query":[["sort"]]}', "step 0: unknown"),
+    ("run", '{"version":1,"source":{"list":[]},"query":[["select","add",1],["as_ordered"]]}', "step 1: not at source"),
+    ("run", '{"version":1,"source":{"list":[]},"query":[["with_degree",65]]}', "step 0: degree out of range"),
+    ("run --merge not", '{"version":1,"source":{"list":[]},"query":[["with_merge","full"]]}', "step 0: merge twice"),
+    ("run --workers 2", '{"version":1,"source":{"list":[]},"query":[["with_degree",0]]}', "step 0: degree twice"),
+    ("run", "[", "not JSON"),
+    ("run", "{} {}", "not JSON"),
+    ("run", "{}", "wrong shape"),
+    ("run", "[]", "wrong shape"),
+    ("run", '{"version":1}', "wrong shape"),
+    ("run", '{"version":"1","source":{"list":[]},"query":[]}', "wrong shape"),
+    ("run", '{"version":1.0,"source":{"list":[]},"query":[]}', "wrong shape"),
+    ("run", '{"version":2,"source":{"list":[]},"query":[]}', "unknown version"),
+    ("run", '{"version":3,"x":0}', "unknown version"),
+    ("run", '{"version":1,"source":{"list":[]},"query":[],"x":0}', "wrong shape"),
+    ("run", '{"version":1,"source":{"list":[]},"query":["take"]}', "step 0: unknown"),
+    ("run", '{"version":1,"source":{"list":[]},"query":"take"}', "wrong shape"),
+    ("run", '{"version":1,"source":{"list":[1.5]},"query":[]}', "wrong shape"),
+    ("run", '{"version":1,"source":{"list":[9223372036854775808]},"query":[]}', "wrong shape"),
+    ("run", '{"version":1,"source":{"list":[],"refuse":4294967296},"query":[]}', "wrong shape"),
+    ("run", '{"version":1,"source":{"refuse":1},"query":[]}', "wrong shape"),
+    ("run", '{"version":1,"source":{"text":"","refuse":1},"query":[]}', "wrong shape"),
+    ("run", '{"version":1,"source":{"list":[],"refuse":1,"text":""},"query":[]}', "wrong shape"),
+    ("run", '{"version":1,"source":{"range":[1]},"query":[]}', "wrong shape"),
+    ("run", '{"version":1,"source":{"repeat":[1,2,3]},"query":[]}', "wrong shape"),
+    ("run", '{"version":1,"source":{"range":[9223372036854775807,2]},"query":["sort"]}', "source too large"),
+    ("run", '{"version":1,"source":{"range":[0,1099511627777]},"query":[]}', "source too large"),
+    ("run", '{"version":1,"source":{"repeat":[0,1099511627777]},"query":[]}', "source too large"),
+    ("run", '{"version":1,"source":{"list":[]},"query":[],"growth":[1,3]}', "wrong shape"),
+    ("run", '{"version":1,"source":{"list":[]},"query":[],"growth":[-1,3,512]}', "wrong shape"),
+    ("run", '{"version":1,"source":{"range":[0,1099511627777]},"query":[],"growth":[0,3,512]}', "source too large"),
+    ("run", '{"version":1,"source":{"list":[]},"query":[["sort"]],"growth":[0,3,512]}', "growth: zero"),
+]
+
+# Queries of one step that isn't known.
+UNKNOWN_STEPS = [
+    '["take"]',
+    '["take",1,2]',
+    '["take",1.0]',
+    '["select"]',
+    '["select","add"]',
+    '["select","even",1]',
+    '["select","plus",1]',
+    '["with_merge","some"]',
+    '["with_degree",-1]',
+    '["as_ordered",0]',
+]
+
+# Words, a document, the lines and the status.
+SHOWN = [
+    ("plan --workers 4", '{"version":1,"source":{"range":[1,10]},"query":[["as_ordered"],["select","add",1],["take",5],["filter","even"],["take",2]]}', ["workers 4", "merge auto", "order key", "worker select add 1, take 5, filter even", "after take 2"], 0),
+    ("plan --workers 4", '{"version":1,"source":{"range":[1,10]},"query":[["select","add",1],["take",5],["filter","even"],["take",2]]}', ["workers 4", "merge auto", "order arrival", "worker select add 1", "after take 5, filter even, take 2"], 0),
+    ("plan --workers 1 --merge not", '{"version":1,"source":{"list":[]},"query":[["as_ordered"]]}', ["workers 1", "merge not", "order key", "worker none", "after none"], 0),
+    ("plan", '{"version":1,"source":{"list":[],"refuse":1},"query":[["with_merge","full"],["with_degree",64],["select_many","up_to"],["skip",-3],["take_while","above",-1],["as_unordered"]]}', ["workers 64", "merge full", "order arrival", "worker select_many up_to", "after skip -3, take_while above -1, as_unordered"], 0),
+    # Each operator and each formula.
+    (
+        "plan --merge full --workers 64",
+        """{"version":1,"source":{"list":[]},"query":[
+            ["select","add",-1],["filter","even"],["select_many","up_to"],["select","mul",2],["select","mod",3],["select","into",4],
+            ["take",-5],["skip",6],["take_while","below",7],["filter","above",8],["filter","equal",9],["select_many","repeat",0],["as_unordered"]]}""",
+        [
+            "workers 64",
+            "merge full",
+            "order arrival",
+            "worker select add -1, filter even, select_many up_to, select mul 2, select mod 3, select into 4",
+            "after take -5, skip 6, take_while below 7, filter above 8, filter equal 9, select_many repeat 0, as_unordered",
+        ],
+        0,
+    ),
+    ("parts --workers 2", '{"version":1,"source":{"list":[5,6,7,8,9]},"query":[["take",1]]}', ["properties true true true", "0: 0=5 1=6", "1: 2=7 3=8 4=9", "end"], 0),
+    ("parts --workers 2", '{"version":1,"source":{"list":[]},"query":[]}', ["properties true true true", "0:", "1:", "end"], 0),
+    ("parts", '{"version":1,"source":{"list":[-1],"refuse":7},"query":[["with_degree",1]]}', ["properties true true true", "0: 0=-1", "refused 7"], 3),
+    ("run", '{"version":1,"source":{"list":[1,2,3]},"query":[["take",2]]}', ["1 2", "end"], 0),
+    ("seq", '{"version":1,"source":{"list":[1,2,3]},"query":[["take",2]]}', ["1 2", "end"], 0),
+    ("run", '{"version":1,"source":{"list":[1],"refuse":4294967295},"query":[]}', ["1", "refused 4294967295"], 3),
+    (
+        "history --workers 2",
+        '{"version":1,"source":{"list":[10,20,30,40]},"query":[]}',
+        [
+            "ticket 0 ask 1 first 0 count 1",
+            "ticket 1 ask 1 first 1 count 1",
+            "ticket 2 ask 1 first 2 count 1",
+            "ticket 3 ask 1 first 3 count 1",
+            "ticket 4 ask 1 first 4 count 0 ended",
+            "ticket 5 ask 1 first 4 count 0 ended",
+            "end",
+        ],
+        0,
+    ),
+    (
+        "history --workers 1",
+        '{"version":1,"source":{"list":[]},"query":[]}',
+        [
+            "ticket 0 ask 1 first 0 count 0 ended",
+            "end",
+        ],
+        0,
+    ),
+    # The degree is 4 where none is given, and no other step counts.
+    (
+        "history",
+        '{"version":1,"source":{"repeat":[7,1]},"query":[["as_ordered"],["select","into",0],["take",0]]}',
+        [
+            "ticket 0 ask 1 first 0 count 1",
+            "ticket 1 ask 1 first 1 count 0 ended",
+            "ticket 2 ask 1 first 1 count 0 ended",
+            "ticket 3 ask 1 first 1 count 0 ended",
+            "ticket 4 ask 1 first 1 count 0 ended",
+            "end",
+        ],
+        0,
+    ),
+    # Each partition's chunks grow by themselves: one at a time, then four, and then no more.
+    (
+        "history --workers 1 --merge full",
+        '{"version":1,"source":{"range":[5,10]},"query":[],"growth":[1,2,4]}',
+        [
+            "ticket 0 ask 1 first 0 count 1",
+            "ticket 1 ask 1 first 1 count 1",
+            "ticket 2 ask 2 first 2 count 2",
+            "ticket 3 ask 2 first 4 count 2",
+            "ticket 4 ask 4 first 6 count 4",
+            "ticket 5 ask 4 first 10 count 0 ended",
+            "end",
+        ],
+        0,
+    ),
+    (
+        "history",
+        '{"version":1,"source":{"range":[0,10]},"query":[["with_degree",2]],"growth":[2,1,8]}',
+        [
+            "ticket 0 ask 2 first 0 count 2",
+            "ticket 1 ask 2 first 2 count 2",
+            "ticket 2 ask 4 first 4 count 4",
+            "ticket 3 ask 4 first 8 count 2 ended",
+            "ticket 4 ask 8 first 10 count 0 ended",
+            "end",
+        ],
+        0,
+    ),
+    # A partition that has had a tail is passed over.
+    (
+        "history --workers 3",
+        '{"version":1,"source":{"range":[0,7]},"query":[],"growth":[3,1,4]}',
+        [
+            "ticket 0 ask 3 first 0 count 3",
+            "ticket 1 ask 3 first 3 count 3",
+            "ticket 2 ask 3 first 6 count 1 ended",
+            "ticket 3 ask 4 first 7 count 0 ended",
+            "ticket 4 ask 4 first 7 count 0 ended",
+            "end",
+        ],
+        0,
+    ),
+    (
+        "history --workers 1",
+        '{"version":1,"source":{"list":[1],"refuse":7},"query":[]}',
+        [
+            "ticket 0 ask 1 first 0 count 1",
+            "ticket 1 ask 1 first 1 count 0 refused 7",
+            "refused 7",
+        ],
+        3,
+    ),
+    (
+        "history --workers 2",
+        '{"version":1,"source":{"text":"7 x 9"},"query":[]}',
+        [
+            "ticket 0 ask 1 first 0 count 1",
+            "ticket 1 ask 1 first 1 count 0 refused 1",
+            "ticket 2 ask 1 first 1 count 0 refused 1",
+            "refused 1",
+        ],
+        3,
+    ),
+    (
+        "history --workers 1",
+        '{"version":1,"source":{"list":[],"refuse":4294967295},"query":[],"growth":[65536,1,65536]}',
+        [
+            "ticket 0 ask 65536 first 0 count 0 refused 4294967295",
+            "refused 4294967295",
+        ],
+        3,
+    ),
+]
+
+
+def main():
+    build()
+    tests = Tests()
+
+    def ends(words, document, wanted):
+        seen = run(words, document.encode())
+        tests.check(f"plinq {' '.join(words)} < {document}", seen == wanted, f"wanted {wanted}; seen {seen}")
+
+    for merge, source, steps, output, status in ANSWERS:
+        document = f'{{"version":1,"source":{{{source}}},"query":[["as_ordered"]{steps}]}}'
+        for command in ("run", "seq"):
+            # (once without options)
+            for options in [["--workers", it, "--merge", merge] for it in ("1", "2", "64")] if merge else [[]]:
+                ends([command, *options], document, Outcome(status, output.encode(), b""))
+    for words, document, lines, status in SHOWN:
+        ends(words.split(), document, Outcome(status, "".join(it + "\n" for it in lines).encode(), b""))
+    unknown = [("run", f'{{"version":1,"source":{{"list":[]}},"query":[{it}]}}', "step 0: unknown") for it in UNKNOWN_STEPS]
+    for words, document, why in REFUSED + unknown:
+        ends(words.split(), document, Outcome(2, b"", f"plinq: document: {why}\n".encode()))
+    tests.end()
+
+
+if __name__ == "__main__":
+    main()
