@@ -12,8 +12,8 @@ use Rattle.plinq_ops.specs.declared.merge_option.MergeOption.TheVariants.{Defaul
 use Rattle.plinq_ops.specs.Query.{merge_in_force}
 use Rattle.plinq_document.specs.Words.{beside}
 use Rattle.plinq_document.specs.Values.{only_whole_number, only_count, only_text}
-use Rattle.plinq_document.specs.Formulas.{formula_of, formula_from, formula_alone, formula_with}
-use Rattle.plinq_document.specs.Steps.{call_from, call_named, call_alone, merge_word, step_names}
+use Rattle.plinq_document.specs.Formulas.{formula_of, formula_from, formula_alone, formula_with, words_alone, words_with}
+use Rattle.plinq_document.specs.Steps.{call_from, call_named, call_alone, merge_word, merge_words, step_names}
 use Rattle.plinq_document.specs.declared.version.Version.TheVariants.{One}
 use Rattle.plinq_document.specs.declared.step_call.StepCall.{StepCall}
 use Rattle.plinq_document.specs.declared.step_call.StepCall.TheVariants as call
@@ -67,23 +67,14 @@ formula_of-printed f (item word ds) h = ap (λ (w : Data). formula_of (item w ds
 
 formula_from-read : (word : List ℕ) (ds : Items) (f : Formula) → formula_from ds word ≡ Some f → FormulaItems f (item (string word) ds)
 formula_from-read word no_items f is =
-    beside-row (λ w g. FormulaItems g (item (string w) no_items)) ((codes "even", Even) ∷ (codes "up_to", UpTo) ∷ []) word f ((refl, tt), ((refl, tt), tt)) is
+    beside-row (λ w g. FormulaItems g (item (string w) no_items)) words_alone word f ((refl, tt), ((refl, tt), tt)) is
 formula_from-read word (item d ds) f is = go (only_whole_number (item d ds)) refl is
   where
     go : (o : Option ℤ) → only_whole_number (item d ds) ≡ o → option_and_then (λ n. formula_with n word) o ≡ Some f → FormulaItems f (item (string word) (item d ds))
     go None e found = cc
     go (Some c) e found =
         beside-row (λ w g. FormulaItems g (item (string w) (item d ds)))
-        ((codes "add", Add c)
-        ∷ (codes "mul", Mul c)
-        ∷ (codes "mod", Mod c)
-        ∷ (codes "into", Into c)
-        ∷ (codes "below", Below c)
-        ∷ (codes "above", Above c)
-        ∷ (codes "equal", Equal c)
-        ∷ (codes "repeat", Repeat c)
-        ∷ [])
-        word f
+        (words_with c) word f
         ((refl, e), ((refl, e), ((refl, e), ((refl, e), ((refl, e), ((refl, e), ((refl, e), ((refl, e), tt))))))))
         found
 
@@ -191,5 +182,4 @@ merge_word-printed (Some FullyBuffered) = refl
 pub merge_word-read : (word : List ℕ) (option : MergeOption) → merge_word word ≡ Some option → option ≢ Default → word ≡ merge_name option
 merge_word-read word option is =
     beside-row (λ w x. x ≢ Default → w ≡ merge_name x)
-    ((codes "not", NotBuffered) ∷ (codes "auto", AutoBuffered) ∷ (codes "full", FullyBuffered) ∷ (codes "default", Default) ∷ [])
-    word option ((λ other. refl), ((λ other. refl), ((λ other. refl), ((λ other. absurd (other refl)), tt)))) is
+    merge_words word option ((λ other. refl), ((λ other. refl), ((λ other. refl), ((λ other. absurd (other refl)), tt)))) is

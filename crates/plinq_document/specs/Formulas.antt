@@ -7,13 +7,13 @@ use Rattle.plinq_document.specs.Values.{only_whole_number}
 use Rattle.plinq_lambda.specs.declared.formula.Formula.{Formula}
 use Rattle.plinq_lambda.specs.declared.formula.Formula.TheVariants.{Add, Mul, Mod, Into, Below, Above, Equal, Even, Repeat, UpTo}
 
--- the formula of a word that stands alone
-abbrev pub formula_alone : List ℕ → Option Formula
-formula_alone = beside ((codes "even", Even) ∷ (codes "up_to", UpTo) ∷ [])
+-- the words that stand alone
+abbrev pub words_alone : List (List ℕ × Formula)
+words_alone = (codes "even", Even) ∷ (codes "up_to", UpTo) ∷ []
 
--- the formula of a word and the whole number after it
-abbrev pub formula_with : ℤ → List ℕ → Option Formula
-formula_with c = beside (
+-- the words with a whole number after them
+abbrev pub words_with : ℤ → List (List ℕ × Formula)
+words_with c =
     (codes "add", Add c)
     ∷ (codes "mul", Mul c)
     ∷ (codes "mod", Mod c)
@@ -22,7 +22,15 @@ formula_with c = beside (
     ∷ (codes "above", Above c)
     ∷ (codes "equal", Equal c)
     ∷ (codes "repeat", Repeat c)
-    ∷ [])
+    ∷ []
+
+-- the formula of a word that stands alone
+abbrev pub formula_alone : List ℕ → Option Formula
+formula_alone = beside words_alone
+
+-- the formula of a word and the whole number after it
+abbrev pub formula_with : ℤ → List ℕ → Option Formula
+formula_with c = beside (words_with c)
 
 -- the formula of a word and of the items after it: no item, or one that is a whole number
 abbrev pub formula_from : Items → List ℕ → Option Formula

@@ -42,14 +42,18 @@ step_names One =
 abbrev pub step_name : Version → List ℕ → Option StepName
 step_name version = beside (step_names version)
 
--- the merge option of this word
-abbrev pub merge_word : List ℕ → Option MergeOption
-merge_word = beside (
+-- the words of the merge options
+abbrev pub merge_words : List (List ℕ × MergeOption)
+merge_words =
     (codes "not", NotBuffered)
     ∷ (codes "auto", AutoBuffered)
     ∷ (codes "full", FullyBuffered)
     ∷ (codes "default", Default)
-    ∷ [])
+    ∷ []
+
+-- the merge option of this word
+abbrev pub merge_word : List ℕ → Option MergeOption
+merge_word = beside merge_words
 
 -- the call of a step that has no items after its name
 abbrev pub call_alone : StepCall → Items → Option StepCall
