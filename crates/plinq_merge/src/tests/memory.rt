@@ -1,5 +1,5 @@
 use super::taken::{Offered, Taken, last, merger_of, ordered, part, result_of};
-use crate::MergeFault;
+use crate::{MergeFault, More};
 use plinq_keyed::Tail;
 use plinq_lambda::Formula;
 use plinq_ops::{ChunkResult, MergeOption};
@@ -17,6 +17,28 @@ fn results_of(
         results.push(result_of(rt, alloc, *offered).ok()?).ok()?;
     }
     Some(results)
+}
+
+// Asks that the batches have the items from 1 on, and answers which item comes next.
+fn item_behind(rt: &impl Abort, batches: &[Vec<i64>]) -> i64 {
+    let mut next: i64 = 1;
+    for batch in batches {
+        for item in batch {
+            assert_eq!(rt; *item, next);
+            next = item.wrapping_add(1);
+        }
+    }
+    next
+}
+
+// Asks for an answer that fits whether the merger has failed before. Answers whether it has now.
+fn fails(rt: &impl Abort, answer: Result<More, MergeFault>, failed: bool) -> bool {
+    match answer {
+        Ok(_) => assert!(rt; !failed),
+        Err(MergeFault::Memory | MergeFault::Sink(1_000)) => assert!(rt; !failed),
+        Err(fault) => assert!(rt; failed && fault == MergeFault::Failed),
+    }
+    answer.is_err()
 }
 
 // The batches delivered so far are the first of the answer's, and after an offer with no room the merger has failed. A
@@ -40,31 +62,26 @@ fn offer_till_failed(rt: &impl Abort, alloc: Global, option: MergeOption) {
     let mut failed = false;
     for result in results {
         assert!(rt; result.first <= 1_000_000 && result.count <= 1_000_000);
-        match merger.offer(result, &mut sink) {
-            Ok(_) => assert!(rt; !failed),
-            Err(MergeFault::Memory | MergeFault::Sink(1_000)) => failed = true,
-            Err(fault) => assert!(rt; failed && fault == MergeFault::Failed),
-        }
+        failed = fails(rt, merger.offer(result, &mut sink), failed);
     }
-    let mut next = 1;
-    for batch in sink.batches.iter() {
-        for item in batch.iter() {
-            assert_eq!(rt; *item, next);
-            next = item.wrapping_add(1);
-        }
-    }
-    assert_eq!(rt; merger.decided(), !failed);
-    if failed {
-        assert_eq!(rt; merger.finish(), Err(MergeFault::Failed));
+    let next = item_behind(rt, &sink.batches);
+    assert!(rt; failed || next == 5);
+    let ending = if failed {
+        Err(MergeFault::Failed)
     } else {
-        assert_eq!(rt; next, 5);
-        assert_eq!(rt; merger.finish(), Ok(Ending::End));
-    }
+        Ok(Ending::End)
+    };
+    assert_eq!(rt; (merger.decided(), merger.finish()), (!failed, ending));
 }
 
 #[test]
 fn no_room_ends_a_merger_that_is_not_buffered(rt: HostRuntime) {
     offer_till_failed(&rt, rt.alloc(), MergeOption::NotBuffered);
+}
+
+#[test]
+fn no_room_ends_a_merger_of_batches(rt: HostRuntime) {
+    offer_till_failed(&rt, rt.alloc(), MergeOption::AutoBuffered);
 }
 
 #[test]

@@ -1,9 +1,10 @@
 use super::taken::{Offered, Taken, merger_of, offer};
+use crate::Merger;
 use plinq_keyed::Tail;
 use plinq_lambda::Formula;
 use plinq_ops::{BuildFault, FragEnd, MergeOption, Query, sequential};
 use plinq_source::{Ending, ListSource};
-use std::alloc::Global;
+use std::alloc::{AllocError, Global};
 use std::process::Abort;
 use std::test::Fail;
 
@@ -69,6 +70,21 @@ const ENDINGS: [(FragEnd, Tail, Ending); 4] = [
     (FragEnd::Fault(3), Tail::Ended, Ending::Fault(3)),
 ];
 
+/// The result at that place of `count`.
+fn result_at(at: usize, count: usize, third: FragEnd, tail: Tail) -> Offered<'static, i64> {
+    let (first, items) = RESULTS.get(at).copied().unwrap_or((0, &[]));
+    Offered {
+        first,
+        items,
+        ending: if at == 2 { third } else { FragEnd::More },
+        tail: if at.saturating_add(1) == count {
+            Some(tail)
+        } else {
+            None
+        },
+    }
+}
+
 /// The first `count` results, in the order of this number out of all orders of so many.
 fn results_in_order(
     alloc: Global,
@@ -76,7 +92,7 @@ fn results_in_order(
     number: usize,
     third: FragEnd,
     tail: Tail,
-) -> Result<Vec<Offered<'static, i64>>, Fail> {
+) -> Result<Vec<Offered<'static, i64>>, AllocError> {
     let mut left: Vec<usize> = (0..count).collect(alloc)?;
     let mut order = Vec::new(alloc);
     let mut rest = number;
@@ -86,18 +102,7 @@ fn results_in_order(
         }
         let at = left.remove(rest % left.len());
         rest /= left.len().saturating_add(1);
-        if let Some((first, items)) = RESULTS.get(at) {
-            order.push(Offered {
-                first: *first,
-                items: *items,
-                ending: if at == 2 { third } else { FragEnd::More },
-                tail: if at.saturating_add(1) == count {
-                    Some(tail)
-                } else {
-                    None
-                },
-            })?;
-        }
+        order.push(result_at(at, count, third, tail))?;
     }
     Ok(order)
 }
@@ -167,15 +172,16 @@ fn expect(
     option: MergeOption,
     results: &[Offered<'_, i64>],
     wanted: &(Vec<Vec<i64>>, Ending),
-) -> Result<(), Fail> {
+) {
     let mut sink = Taken::new(alloc, usize::MAX);
-    let mut merger = merger_of(alloc, query, option)?;
+    let Ok(mut merger) = merger_of(alloc, query, option) else {
+        panic!(rt; "no room for a merger");
+    };
     for result in results {
-        offer(rt, &mut merger, *result, &mut sink)?;
+        assert!(rt; offer(rt, &mut merger, *result, &mut sink).is_ok());
     }
     assert_eq!(rt; sink.batches, wanted.0);
     assert_eq!(rt; merger.finish(), Ok(wanted.1));
-    Ok(())
 }
 
 /// How many orders so many results have.
@@ -183,26 +189,85 @@ fn orders_of(count: usize) -> usize {
     [1, 1, 2, 6, 24, 120].get(count).copied().unwrap_or(0)
 }
 
-/// The first results in all orders, by key and by arrival.
-fn try_orders(rt: &impl Abort, alloc: Global, count: usize) -> Result<(), Fail> {
+/// The first `count` results, how the third and the last tail end, and what merges them.
+#[derive(Clone, Copy)]
+struct Row {
+    count: usize,
+    third: FragEnd,
+    tail: Tail,
+    last: Ending,
+    option: MergeOption,
+}
+
+/// Results in this order give the sequential batches.
+fn expect_sequential(
+    rt: &impl Abort,
+    alloc: Global,
+    query: &Query<Formula>,
+    row: Row,
+    results: &[Offered<'_, i64>],
+) -> Result<(), Fail> {
+    let items = items_of(alloc, results)?;
+    let wanted = sequential_batches(rt, alloc, query, row.option, items, row.last)?;
+    expect(rt, alloc, query, row.option, results, &wanted);
+    Ok(())
+}
+
+/// Results in all orders give the batches of those that come in turn, merged by key.
+fn expect_in_turn(
+    rt: &impl Abort,
+    alloc: Global,
+    query: &Query<Formula>,
+    row: Row,
+) -> Result<(), Fail> {
+    let in_turn = results_in_order(alloc, row.count, 0, row.third, row.tail)?;
+    let items = items_of(alloc, in_turn.as_slice())?;
+    let wanted = sequential_batches(rt, alloc, query, row.option, items, row.last)?;
+    for number in 0..orders_of(row.count) {
+        let results = results_in_order(alloc, row.count, number, row.third, row.tail)?;
+        expect(rt, alloc, query, row.option, results.as_slice(), &wanted);
+    }
+    Ok(())
+}
+
+/// Results in all orders give the batches of that order, merged by arrival.
+fn expect_as_they_come(
+    rt: &impl Abort,
+    alloc: Global,
+    query: &Query<Formula>,
+    row: Row,
+) -> Result<(), Fail> {
+    for number in 0..orders_of(row.count) {
+        let results = results_in_order(alloc, row.count, number, row.third, row.tail)?;
+        expect_sequential(rt, alloc, query, row, results.as_slice())?;
+    }
+    Ok(())
+}
+
+/// A row, by key and by arrival, with each kind of operators behind the merge.
+fn try_row(rt: &impl Abort, alloc: Global, row: Row) -> Result<(), Fail> {
     for after in AFTERS {
         let keyed = by_key(alloc, after)?;
+        expect_in_turn(rt, alloc, &keyed, row)?;
         let arriving = by_arrival(alloc, after)?;
-        for (third, tail, last) in ENDINGS {
-            if count < 3 && third != FragEnd::More {
-                continue;
-            }
-            let in_turn = results_in_order(alloc, count, 0, third, tail)?;
-            for option in OPTIONS {
-                let items = items_of(alloc, in_turn.as_slice())?;
-                let wanted = sequential_batches(rt, alloc, &keyed, option, items, last)?;
-                for number in 0..orders_of(count) {
-                    let results = results_in_order(alloc, count, number, third, tail)?;
-                    expect(rt, alloc, &keyed, option, results.as_slice(), &wanted)?;
-                    let items = items_of(alloc, results.as_slice())?;
-                    let arrived = sequential_batches(rt, alloc, &arriving, option, items, last)?;
-                    expect(rt, alloc, &arriving, option, results.as_slice(), &arrived)?;
-                }
+        expect_as_they_come(rt, alloc, &arriving, row)?;
+    }
+    Ok(())
+}
+
+/// The first results in all orders, with each ending and merge option.
+fn try_orders(rt: &impl Abort, alloc: Global, count: usize) -> Result<(), Fail> {
+    for (third, tail, last) in ENDINGS {
+        for option in OPTIONS {
+            let row = Row {
+                count,
+                third,
+                tail,
+                last,
+                option,
+            };
+            if count >= 3 || third == FragEnd::More {
+                try_row(rt, alloc, row)?;
             }
         }
     }
@@ -222,32 +287,43 @@ fn all_orders_of_fewer_do(rt: HostRuntime) -> Result<(), Fail> {
     Ok(())
 }
 
+/// Offers the result of that key alone, which is its item; the last of a thousand has the tail.
+fn offer_one(rt: &impl Abort, merger: &mut Merger<'_, Formula>, key: u64, sink: &mut Taken<i64>) {
+    let item = [i64::try_from(key).unwrap_or(-1)];
+    let result = Offered {
+        first: key,
+        items: item.as_slice(),
+        ending: FragEnd::More,
+        tail: if key == 999 { Some(Tail::Ended) } else { None },
+    };
+    assert!(rt; offer(rt, merger, result, sink).is_ok());
+}
+
 /// A thousand results of one item, offered in this order, give all items in batches of sixteen.
 fn offer_thousand(rt: &impl Abort, alloc: Global, step: u64) -> Result<(), Fail> {
     let query = by_key(alloc, After::Nothing)?;
     let mut sink = Taken::new(alloc, usize::MAX);
     let mut merger = merger_of(alloc, &query, MergeOption::AutoBuffered)?;
-    for turn in 0..1_000u64 {
-        assert!(rt; step < 1_000_000);
-        let key = (turn * step + 999) % 1_000;
-        let result = Offered {
-            first: key,
-            items: &[key as i64],
-            ending: FragEnd::More,
-            tail: if key == 999 { Some(Tail::Ended) } else { None },
-        };
-        offer(rt, &mut merger, result, &mut sink)?;
+    let mut key = 999;
+    for _ in 0..1_000 {
+        offer_one(rt, &mut merger, key, &mut sink);
+        key = key.wrapping_add(step) % 1_000;
     }
     assert_eq!(rt; merger.merged(), 1_000);
     assert_eq!(rt; merger.finish(), Ok(Ending::End));
+    expect_thousand(rt, alloc, &sink.batches)
+}
+
+/// All items of a thousand, in batches of sixteen.
+fn expect_thousand(rt: &impl Abort, alloc: Global, batches: &[Vec<i64>]) -> Result<(), Fail> {
     let items: Vec<i64> = (0..1_000).collect(alloc)?;
-    let batches = batches_of(
+    let wanted = batches_of(
         alloc,
         MergeOption::AutoBuffered,
         items.as_slice(),
         Ending::End,
     )?;
-    assert_eq!(rt; sink.batches, batches);
+    assert_eq!(rt; batches, wanted.as_slice());
     Ok(())
 }
 

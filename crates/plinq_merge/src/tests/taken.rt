@@ -3,9 +3,11 @@ ghost use Rattle.plinq_merge.specs.Shown.{behind_result};
 
 use crate::{MergeFault, Merger, More, Sink};
 use plinq_keyed::Tail;
-use plinq_lambda::{ExpandFault, Lambda};
+use plinq_lambda::{ExpandFault, Formula, Lambda};
 use plinq_ops::{BuildFault, ChunkResult, FragEnd, MergeOption, Query};
+use plinq_source::Ending;
 use std::alloc::{AllocError, Global};
+use std::fmt::Debug;
 use std::process::Abort;
 
 /// A sink that keeps the batches, and refuses number `refused` with 9.
@@ -159,11 +161,60 @@ where
     }
 }
 
-/// These batches.
-pub(crate) fn batches<T: Copy>(alloc: Global, batches: &[&[T]]) -> Result<Vec<Vec<T>>, AllocError> {
-    let mut all = Vec::new(alloc);
-    for batch in batches {
-        all.push(Vec::from_slice(alloc, batch)?)?;
+/// What a merger answers to offers, one behind another, and how many batches it has delivered by then; what all of these
+/// are, and how the answer ends.
+#[derive(Clone, Copy)]
+pub(crate) struct Case<'a, T> {
+    pub(crate) option: MergeOption,
+    pub(crate) turns: &'a [(Offered<'a, T>, Result<More, MergeFault>, usize)],
+    pub(crate) batches: &'a [&'a [T]],
+    pub(crate) ending: Result<Ending, MergeFault>,
+}
+
+/// Asks that it is so with a query's merger and a sink that refuses that batch.
+pub(crate) fn expect_case<L: Lambda>(
+    rt: &impl Abort,
+    alloc: Global,
+    query: &Query<L>,
+    refused: usize,
+    case: Case<'_, L::Item>,
+)
+where
+    L::Item: Debug + Drop + PartialEq,
+{
+    let mut sink = Taken::new(alloc, refused);
+    let Ok(mut merger) = merger_of(alloc, query, case.option) else {
+        panic!(rt; "no room for a merger");
+    };
+    assert_eq!(rt; merger.decided(), query.split().decided);
+    for (offered, answer, delivered) in case.turns {
+        expect_answer(rt, offer(rt, &mut merger, *offered, &mut sink), *answer);
+        assert_eq!(rt; sink.batches.len(), *delivered);
+        assert_eq!(rt; merger.decided(), *answer == Ok(More::No));
     }
-    Ok(all)
+    expect_batches(rt, &sink.batches, case.batches);
+    assert_eq!(rt; merger.finish(), case.ending);
+}
+
+fn expect_answer(
+    rt: &impl Abort,
+    told: Result<More, MergeFault>,
+    answer: Result<More, MergeFault>,
+) {
+    assert_eq!(rt; told, answer);
+}
+
+/// The same of numbers that are merged by key, behind no operator.
+pub(crate) fn expect_ordered(rt: &impl Abort, alloc: Global, refused: usize, case: Case<'_, i64>) {
+    let Ok(query) = ordered::<Formula>(alloc) else {
+        panic!(rt; "no room for a query");
+    };
+    expect_case(rt, alloc, &query, refused, case);
+}
+
+fn expect_batches<T: Debug + PartialEq>(rt: &impl Abort, batches: &[Vec<T>], wanted: &[&[T]]) {
+    assert_eq!(rt; batches.len(), wanted.len());
+    for (batch, wanted) in batches.iter().zip(wanted) {
+        assert_eq!(rt; batch.as_slice(), *wanted);
+    }
 }
