@@ -111,10 +111,8 @@ pub none-from_is_some : {A : Type 0} (o : Option A) → is_some o ≡ false → 
 none-from_is_some None none = refl
 none-from_is_some (Some x) none = absurd (let bad : true ≡ false = none in cc)
 
--- one piece more
-pub fed-piece : {T : Type 0} (piece : T → Trace T) (ss ss' ss'' : List (Stage T)) (xs : List T) (x : T) (t : Trace T) (before between after : List T) (e : Option Ending)
-    → IsFed (pieces piece ∷ ss) (open_trace xs) before between (pieces piece ∷ ss') None → piece x ≡ t → IsFed ss' t between after ss'' e
-    → IsFed (pieces piece ∷ ss) (open_trace (xs ++ x ∷ [])) before after (pieces piece ∷ ss'') e
-fed-piece piece ss ss' ss'' xs x t before between after e first is second =
-    fed-followed (pieces piece ∷ ss) (pieces piece ∷ ss') (pieces piece ∷ ss'') (open_trace xs) (open_trace (x ∷ [])) before between after e first
-    (fed-through (pieces piece) (pieces piece) (x ∷ []) t ss' ss'' between after e (followed-open_nil (piece x) ∙ is) refl second)
+-- the piece that the first gives for one item goes on through the others
+pub fed-expansion : {T : Type 0} (piece : T → Trace T) (ss ss' : List (Stage T)) (x : T) (t : Trace T) (before after : List T) (e : Option Ending)
+    → piece x ≡ t → IsFed ss t before after ss' e → IsFed (pieces piece ∷ ss) (open_trace (x ∷ [])) before after (pieces piece ∷ ss') e
+fed-expansion piece ss ss' x t before after e is fed =
+    fed-through (pieces piece) (pieces piece) (x ∷ []) t ss ss' before after e (followed-open_nil (piece x) ∙ is) refl fed

@@ -3,12 +3,14 @@ use Rattle.std.specs.Prelude.{◌≡◌, ℕ, ◌+◌, ◌<◌, ◌≤◌, List,
 use Rattle.std.specs.Option.{option_or}
 use Rattle.std.proofs.Common.{sym, ◌∙◌, ap, arith, append_assoc, add-one}
 use Rattle.std.proofs.Math.ListN.{get_or, set}
-use Rattle.std.proofs.lemmas.List.{drop_more, set_split, take_more_set, drop-set-lt, drop_all, take-append-drop}
+use Rattle.std.proofs.lemmas.List.{drop_more, take_more, set_split, take_more_set, drop-set-lt, drop_all, take-append-drop}
 use Rattle.plinq_source.specs.declared.ending.Ending.{Ending}
 use Rattle.plinq_source.specs.declared.ending.Ending.TheVariants.{End}
 use Rattle.plinq_source.specs.Trace.{Trace, open_trace, ended}
 use Rattle.plinq_lambda.specs.Meaning.{Meaning}
 use Rattle.plinq_ops.specs.declared.op.Op.{Op}
+use Rattle.plinq_ops.specs.declared.op.Op.TheVariants.{SelectMany}
+use Rattle.plinq_ops.specs.Operator.{stage_of}
 use Rattle.plinq_ops.specs.Stage.{apply, behind, takes_none, some_takes_none}
 use Rattle.plinq_ops.specs.Feeding.{stage_left, stages_left, IsFed}
 use Rattle.plinq_ops.proofs.Fed.{fed-through, fed-told, fed-none, fed-ending}
@@ -124,24 +126,26 @@ through-last {L} {T} {meaning} {ops} {counts} {x} {before} {out} {i} {op} {left}
           (fed-told (y' ∷ []) (Some End) (stages_left meaning (drop (i + 1) ops) (drop (i + 1) left)) (stages_left meaning (drop (i + 1) ops) rest) out after e (rw behind_left at fed)));
     }
 
--- the operator gives a list, which the operators behind it see
-pub through-items : {L T : Type 0} {meaning : L → Meaning T} {ops : List (Op L)} {counts : List ℕ} {x : T} {before out : List T} {i : ℕ} {op : Op L} {left : List ℕ} {y : T} {last : Option Ending}
-    (ys : List T) (count : ℕ) (ops' : List (Op L)) (done left' rest : List ℕ) (after : List T) (e : Option Ending) → IsAt meaning ops counts x before out i op left y last
-    → open_trace ys ≡ apply (stage_left meaning op (get_or left i 0)) (open_trace (y ∷ [])) → stage_left meaning op count ≡ behind (stage_left meaning op (get_or left i 0)) (y ∷ [])
-    → ops' ≡ drop (i + 1) ops → done ≡ take (i + 1) (set left i count) → left' ≡ drop (i + 1) (set left i count)
-    → IsFed (stages_left meaning ops' left') (open_trace ys) out after (stages_left meaning ops' rest) e
-    → IsFed (stages_left meaning ops counts) (open_trace (x ∷ [])) before after (stages_left meaning ops (done ++ rest)) (option_or e last)
-through-items {L} {T} {meaning} {ops} {counts} {x} {before} {out} {i} {op} {left} ys count ops' done left' rest after e here gives behind front back_ops back_left fed =
-    let behind_left : left' ≡ drop (i + 1) left = back_left ∙ drop-set-lt (i + 1) left i count (omega arith) in
-    rw (back_ops, take_more_set left i count here.within, append_assoc (take i left) (count ∷ []) rest)
-    (here.passed (open_trace ys) count rest after e gives behind (rw (front, behind_left) at fed))
-
--- nor do they see a Take of none
-pub items-undecided : {L T : Type 0} {meaning : L → Meaning T} {ops : List (Op L)} {counts : List ℕ} {x : T} {before out : List T} {i : ℕ} {op : Op L} {left : List ℕ} {y : T} {last : Option Ending}
-    (count : ℕ) (ops' : List (Op L)) (left' : List ℕ) → IsAt meaning ops counts x before out i op left y last → ops' ≡ drop (i + 1) ops → left' ≡ drop (i + 1) (set left i count)
+-- the operators behind an operator
+pub behind-undecided : {L T : Type 0} {meaning : L → Meaning T} {ops : List (Op L)} {counts : List ℕ} {x : T} {before out : List T} {i : ℕ} {op : Op L} {left : List ℕ} {y : T} {last : Option Ending}
+    (ops' : List (Op L)) (left' : List ℕ) → IsAt meaning ops counts x before out i op left y last → ops' ≡ drop (i + 1) ops → left' ≡ drop (i + 1) left
     → some_takes_none (stages_left meaning ops' left') ≡ false
-items-undecided {L} {T} {meaning} {ops} {counts} {x} {before} {out} {i} {op} {left} count ops' left' here back_ops back_left =
-    rw (back_ops, back_left, drop-set-lt (i + 1) left i count (let after : i < i + 1 = omega arith in after)) here.undecided
+behind-undecided ops' left' here back_ops back_left = rw (back_ops, back_left) here.undecided
+
+-- a SelectMany, with the operators behind it, makes this of the item
+pub through-expansion : {L T : Type 0} {meaning : L → Meaning T} {ops : List (Op L)} {counts : List ℕ} {x : T} {before out : List T} {i : ℕ} {op : Op L} {left : List ℕ} {y : T} {last : Option Ending}
+    (f : L) (ops' : List (Op L)) (done left' rest : List ℕ) (after : List T) (e : Option Ending)
+    → i < length ops → length left ≡ length ops → op ≡ get_or ops i op → op ≡ SelectMany f → IsThrough meaning ops counts x before out i left y last
+    → ops' ≡ drop (i + 1) ops → done ≡ take (i + 1) left → left' ≡ drop (i + 1) left
+    → IsFed (stage_of meaning (SelectMany f) ∷ stages_left meaning ops' left') (open_trace (y ∷ [])) out after (stage_of meaning (SelectMany f) ∷ stages_left meaning ops' rest) e
+    → IsFed (stages_left meaning ops counts) (open_trace (x ∷ [])) before after (stages_left meaning ops (done ++ rest)) (option_or e last)
+through-expansion {L} {T} {meaning} {ops} {counts} {x} {before} {out} {i} {op} {left} {y} f ops' done left' rest after e within long is expands through back_ops front back_left fed =
+    let count : ℕ = get_or left i 0 in
+    let here_op : drop i ops ≡ SelectMany f ∷ ops' = drop_more ops i op within ∙ ap (λ o. o ∷ drop (i + 1) ops) (sym is ∙ expands) ∙ ap (λ os. SelectMany f ∷ os) (sym back_ops) in
+    let here_left : drop i left ≡ count ∷ left' = drop_more left i 0 (omega arith) ∙ ap (λ ls. count ∷ ls) (sym back_left) in
+    let front_left : done ≡ take i left ++ count ∷ [] = front ∙ take_more left i 0 (omega arith) in
+    rw (front_left, append_assoc (take i left) (count ∷ []) rest)
+    (through.goes_on (count ∷ rest) after e (rw (here_op, here_left) fed))
 
 -- the counts behind an operator
 set-parts : (left : List ℕ) (i count : ℕ) → i < length left → set left i count ≡ take i left ++ count ∷ drop (i + 1) left

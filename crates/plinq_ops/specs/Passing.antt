@@ -5,15 +5,14 @@ use Rattle.plinq_source.specs.Trace.{Trace, open_trace, ended}
 use Rattle.plinq_ops.specs.declared.op.Op.{Op}
 use Rattle.plinq_ops.specs.declared.op.Op.TheVariants.{SelectMany}
 use Rattle.plinq_ops.specs.declared.passing.Passed.{Passed}
-use Rattle.plinq_ops.specs.declared.passing.Passed.TheVariants.{Nothing, Item, Last, Items, Ends}
+use Rattle.plinq_ops.specs.declared.passing.Passed.TheVariants.{Nothing, Item, Last, Ends}
 
--- the trace that an operator gives for an item
-abbrev pub passed_trace : {T : Type 0} → Passed T → Trace T
-passed_trace Nothing = open_trace []
-passed_trace (Item x) = open_trace (x ∷ [])
-passed_trace (Last x) = ended (x ∷ []) End
-passed_trace (Items xs) = open_trace xs.items
-passed_trace (Ends e) = ended [] e
+-- the trace that an operator gives for an item, where x stands in the item's place now
+abbrev pub passed_trace : {T : Type 0} → Passed → T → Trace T
+passed_trace Item x = open_trace (x ∷ [])
+passed_trace Last x = ended (x ∷ []) End
+passed_trace Nothing x = open_trace []
+passed_trace (Ends e) x = ended [] e
 
 -- an operator that can give more items than it was given
 abbrev pub expands : {L : Type 0} → Op L → Bool

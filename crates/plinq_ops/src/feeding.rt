@@ -30,21 +30,17 @@ pub(crate) fn feed<L: Lambda>(
     let mut item = item;
     let mut last = None;
     for (at, op) in ops.iter().enumerate() {
-        match pass(alloc, op, &mut left[at], item)? {
-            Passed::Item(passed) => item = passed,
-            Passed::Last(passed) => {
-                item = passed;
-                last = Some(Ending::End);
-            }
+        if let Op::SelectMany(f) = op {
+            let (_, ops) = ops.split_at(at + 1);
+            let (_, left) = left.split_at_mut(at + 1);
+            let ending = feed_expansion(alloc, f, ops, left, item, out)?;
+            return Ok(ending.or(last));
+        }
+        match pass(op, &mut left[at], &mut item) {
+            Passed::Item => {}
+            Passed::Last => last = Some(Ending::End),
             Passed::Nothing => return Ok(last),
             Passed::Ends(ending) => return Ok(Some(ending)),
-            Passed::Items(mut items) => {
-                let (_, ops) = ops.split_at(at + 1);
-                let (_, left) = left.split_at_mut(at + 1);
-                let ending = feed_block(alloc, ops, left, &mut items)?;
-                out.append(&mut items)?;
-                return Ok(ending.or(last));
-            }
         }
     }
     out.push(item)?;
@@ -98,17 +94,38 @@ fn feed_expansions<L: Lambda>(
 {
     let items = std::mem::replace(block, Vec::new(alloc));
     for item in items.iter() {
-        match f.expand(alloc, *item) {
-            Ok(mut expansion) => {
-                let ending = feed_block(alloc, ops, left, &mut expansion)?;
-                block.append(&mut expansion)?;
-                if ending.is_some() {
-                    return Ok(ending);
-                }
-            }
-            Err(ExpandFault::Code(code)) => return Ok(Some(Ending::Fault(code))),
-            Err(ExpandFault::Memory) => return Err(OutOfMemory),
+        let ending = feed_expansion(alloc, f, ops, left, *item, block)?;
+        if ending.is_some() {
+            return Ok(ending);
         }
     }
     Ok(None)
+}
+
+/// Sends the expansion of one item through the operators behind a SelectMany, and puts what comes out behind `out`.
+#[cycle(blocks)]
+fn feed_expansion<L: Lambda>(
+    alloc: Global,
+    f: &L,
+    ops: &[Op<L>],
+    left: &mut [u64],
+    item: L::Item,
+    out: &mut Vec<L::Item>,
+) -> Result<Option<Ending>, OutOfMemory>
+    requires counted { length left.old ≡ length ops.now }
+    requires undecided { some_takes_none (stages_left L.meaning ops.now left.old) ≡ false }
+    ensures { IfOk result (IsFed
+        (stage_of L.meaning (SelectMany f.now) ∷ stages_left L.meaning ops.now left.old) (open_trace (item ∷ []))
+        out.old.items out.new.items
+        (stage_of L.meaning (SelectMany f.now) ∷ stages_left L.meaning ops.now left.new)) }
+{
+    match f.expand(alloc, item) {
+        Ok(mut expansion) => {
+            let ending = feed_block(alloc, ops, left, &mut expansion)?;
+            out.append(&mut expansion)?;
+            Ok(ending)
+        }
+        Err(ExpandFault::Code(code)) => Ok(Some(Ending::Fault(code))),
+        Err(ExpandFault::Memory) => Err(OutOfMemory),
+    }
 }

@@ -1,90 +1,70 @@
-ghost use Rattle.std.specs.Prelude.{◌≡◌, ◌<◌, false, IfOk, OnOk, ◌∷◌, []};
+ghost use Rattle.std.specs.Prelude.{◌≡◌, false, ◌∷◌, []};
 ghost use Rattle.plinq_source.specs.Trace.{open_trace};
-ghost use Rattle.plinq_ops.specs.Stage.{apply, behind, takes_none, taking, skipping};
+ghost use Rattle.plinq_ops.specs.Stage.{apply, behind, takes_none};
 ghost use Rattle.plinq_ops.specs.Feeding.{stage_left};
-ghost use Rattle.plinq_ops.specs.Passing.{passed_trace};
+ghost use Rattle.plinq_ops.specs.Passing.{passed_trace, expands};
 
 use crate::op::Op;
-use plinq_lambda::{ExpandFault, Lambda};
-use plinq_source::{Ending, OutOfMemory};
-use std::alloc::Global;
+use plinq_lambda::Lambda;
+use plinq_source::Ending;
 
-/// What an operator makes of one item.
-#[derive(Drop)]
-pub(crate) enum Passed<T> {
-    /// One item.
-    Item(T),
-    /// One item, behind which the operator takes no other.
-    Last(T),
-    /// Nothing.
+/// What becomes of one item at an operator.
+#[derive(Clone, Copy)]
+pub(crate) enum Passed {
+    /// It goes on.
+    Item,
+    /// It goes on, and behind it the operator takes no other.
+    Last,
+    /// It is dropped.
     Nothing,
-    /// Nothing, and the run ends.
+    /// It is dropped, and the run ends.
     Ends(Ending),
-    /// So many items.
-    Items(Vec<T>),
 }
 
-/// Sends one item through one operator, where a Take or a Skip has so many items left.
-pub(crate) fn pass<L: Lambda>(
-    alloc: Global,
-    op: &Op<L>,
-    left: &mut u64,
-    item: L::Item,
-) -> Result<Passed<L::Item>, OutOfMemory>
-    requires { takes_none (stage_left L.meaning op.now left.old) ≡ false }
-    ensures passed { IfOk result (λ passed.
-        passed_trace passed ≡ apply (stage_left L.meaning op.now left.old) (open_trace (item ∷ []))) }
-    ensures left { OnOk result (
-        stage_left L.meaning op.now left.new ≡ behind (stage_left L.meaning op.now left.old) (item ∷ [])) }
+/// Sends one item through one operator but SelectMany, where a Take or a Skip has so many items left; what comes out
+/// takes its place. Takes no memory.
+pub(crate) fn pass<L: Lambda>(op: &Op<L>, left: &mut u64, item: &mut L::Item) -> Passed
+    requires in_place { expands op.now ≡ false }
+    requires takes_some { takes_none (stage_left L.meaning op.now left.old) ≡ false }
+    ensures passed { passed_trace result item.new
+        ≡ apply (stage_left L.meaning op.now left.old) (open_trace (item.old ∷ [])) }
+    ensures left { stage_left L.meaning op.now left.new
+        ≡ behind (stage_left L.meaning op.now left.old) (item.old ∷ []) }
 {
     match op {
-        Op::Select(f) => match f.map(item) {
-            Ok(mapped) => Ok(Passed::Item(mapped)),
-            Err(code) => Ok(Passed::Ends(Ending::Fault(code))),
+        Op::Select(f) => match f.map(*item) {
+            Ok(mapped) => {
+                *item = mapped;
+                Passed::Item
+            }
+            Err(code) => Passed::Ends(Ending::Fault(code)),
         },
-        Op::Filter(f) => match f.test(item) {
-            Ok(true) => Ok(Passed::Item(item)),
-            Ok(false) => Ok(Passed::Nothing),
-            Err(code) => Ok(Passed::Ends(Ending::Fault(code))),
+        Op::Filter(f) => match f.test(*item) {
+            Ok(true) => Passed::Item,
+            Ok(false) => Passed::Nothing,
+            Err(code) => Passed::Ends(Ending::Fault(code)),
         },
-        Op::SelectMany(f) => match f.expand(alloc, item) {
-            Ok(items) => Ok(Passed::Items(items)),
-            Err(ExpandFault::Code(code)) => Ok(Passed::Ends(Ending::Fault(code))),
-            Err(ExpandFault::Memory) => Err(OutOfMemory),
+        Op::SelectMany(_) => unreachable!(),
+        Op::Take(_) => {
+            *left -= 1;
+            if *left == 0 {
+                Passed::Last
+            } else {
+                Passed::Item
+            }
+        }
+        Op::Skip(_) => {
+            if *left == 0 {
+                return Passed::Item;
+            }
+            *left -= 1;
+            Passed::Nothing
+        }
+        Op::TakeWhile(f) => match f.test(*item) {
+            Ok(true) => Passed::Item,
+            Ok(false) => Passed::Ends(Ending::End),
+            Err(code) => Passed::Ends(Ending::Fault(code)),
         },
-        Op::Take(_) => Ok(take(left, item)),
-        Op::Skip(_) => Ok(skip(left, item)),
-        Op::TakeWhile(f) => match f.test(item) {
-            Ok(true) => Ok(Passed::Item(item)),
-            Ok(false) => Ok(Passed::Ends(Ending::End)),
-            Err(code) => Ok(Passed::Ends(Ending::Fault(code))),
-        },
-        Op::AsUnordered => Ok(Passed::Item(item)),
+        Op::AsUnordered => Passed::Item,
     }
-}
-
-/// Takes one item, of so many that are left to take; behind the last of them the run ends.
-fn take<T: Copy>(left: &mut u64, item: T) -> Passed<T>
-    requires { 0 < left.old }
-    ensures passed { passed_trace result ≡ apply (taking left.old) (open_trace (item ∷ [])) }
-    ensures left { taking left.new ≡ behind (taking left.old) (item ∷ []) }
-{
-    *left -= 1;
-    if *left == 0 {
-        Passed::Last(item)
-    } else {
-        Passed::Item(item)
-    }
-}
-
-/// Passes over one item, where some are left to pass over.
-fn skip<T: Copy>(left: &mut u64, item: T) -> Passed<T>
-    ensures passed { passed_trace result ≡ apply (skipping left.old) (open_trace (item ∷ [])) }
-    ensures left { skipping left.new ≡ behind (skipping left.old) (item ∷ []) }
-{
-    if *left > 0 {
-        *left -= 1;
-        return Passed::Nothing;
-    }
-    Passed::Item(item)
 }

@@ -1,10 +1,10 @@
-use Rattle.std.proofs.Common.{rules, arith, ◌≡◌, ◌∷◌, [], ◌++◌, ◌+◌, ◌∙◌, ap, sym, take, drop, is_some, true, Some, None, refl}
+use Rattle.std.proofs.Common.{rules, arith, ◌≡◌, ◌∷◌, [], ◌++◌, ◌+◌, ◌∙◌, ap, sym, take, drop, is_some, true, Some, None}
 use Rattle.std.proofs.lemmas.List.{take_more, take_all, take-append-drop}
 use Rattle.plinq_source.specs.Trace.{open_trace, ended}
 use Rattle.plinq_source.specs.declared.ending.Ending.TheVariants.{Fault}
 use Rattle.plinq_ops.specs.Operator.{selected_many}
 use Rattle.plinq_ops.specs.Feeding.{stages_left}
-use Rattle.plinq_ops.proofs.Fed.{fed-none, fed-ending, fed-ended_before, undecided-left, none-from_is_some, fed-told, fed-behind, fed-piece}
+use Rattle.plinq_ops.proofs.Fed.{fed-none, fed-ending, fed-ended_before, undecided-left, none-from_is_some, fed-told, fed-followed, fed-expansion}
 use Rattle.plinq_ops.proofs.Through.{through-first}
 use Rattle.plinq_ops.proofs.feeding.+blocks.Goals as goal
 
@@ -16,58 +16,43 @@ feed_block-returns g t c =
     c.args.block.now.items _ [] c.feed_block.new.block.items _ is c.requires.counted c.split_at_mut-left-2.ensures.front c.split_at_mut-left-2.ensures.back c.pass_block-ending.ensures.passed c.pass_block-ending.ensures.left
     (fed-told c.pass_block-ending.new.block.items c.pass_block-ending.result _ _ [] c.feed_block.new.block.items c.in_ok-earlier.earlier c.in_ok-earlier.ensures))
 
+pub feed_expansion-returns-in-Err-Code : goal.feed_expansion-returns-in-Err-Code
+feed_expansion-returns-in-Err-Code g t c =
+    let m = g.L.Lambda.meaning in
+    let left = stages_left m c.args.ops.now c.args.left.now in
+    let gives : selected_many ((m c.args.f.now).expand c.args.item) ≡ ended [] (Fault c.in-Err-Code.code) = search rules in
+    rw c.in-Err-Code.code-is
+    (fed-expansion _ left left c.args.item (ended [] (Fault c.in-Err-Code.code)) c.args.out.now.items c.args.out.now.items (Some (Fault c.in-Err-Code.code)) gives
+    (fed-ending left left c.args.out.now.items (Fault c.in-Err-Code.code) c.requires.undecided))
+
 pub feed_expansions-loop-item-init : goal.feed_expansions-loop-item-init
 feed_expansions-loop-item-init g t c = rw (c.replace-items.ensures.after, c.new.ensures.items) (fed-none _ [] c.requires.undecided)
 
-pub feed_expansions-feed_block-requires-clause-undecided : goal.feed_expansions-feed_block-requires-clause-undecided
-feed_expansions-feed_block-requires-clause-undecided g t c = λ lives outlive. undecided-left _ _ _ _ _ c.loop-item.invariant
+pub feed_expansions-feed_expansion-requires-clause-undecided : goal.feed_expansions-feed_expansion-requires-clause-undecided
+feed_expansions-feed_expansion-requires-clause-undecided g t c = λ lives outlive. undecided-left _ _ _ _ _ c.loop-item.invariant
 
 pub feed_expansions-returns-then-is_some : goal.feed_expansions-returns-then-is_some
 feed_expansions-returns-then-is_some g t c =
     let i = c.loop-item.item-index in
     let items = c.deref-item-items.result.now in
     let x = c.item-item.result in
-    let m = g.L.Lambda.meaning in
     let same : items ≡ c.args.block.now.items = search rules in
     let all : items ≡ (take i items ++ x ∷ []) ++ drop (i + 1) items =
     sym (take-append-drop (i + 1) items) ∙ ap (λ ys. ys ++ drop (i + 1) items) (take_more items i x c.loop-item-test.true ∙ ap (λ y. take i items ++ y ∷ []) (sym c.item-item.is)) in
-    let gives : selected_many ((m c.args.f.now).expand x) ≡ open_trace c.in-Ok.expansion.items = search rules in
-    let ends : is_some c.in_ok-ending-in-Ok.ending ≡ true = search rules in
-    let out : c.append.new.self.items ≡ c.loop-item.block.items ++ c.feed_block.new.block.items = search rules in
-    let next = fed-piece _ _ (stages_left m c.args.ops.now c.loop-item.left) (stages_left m c.args.ops.now c.feed_block.new.left) (take i items) x (open_trace c.in-Ok.expansion.items) [] c.loop-item.block.items _ c.in_ok-ending-in-Ok.ending c.loop-item.invariant gives
-    (fed-behind _ _ (open_trace c.in-Ok.expansion.items) c.loop-item.block.items c.feed_block.new.block.items _ c.in_ok-ending-in-Ok.ensures) in
-    rw (← same, all, out)
-    (fed-ended_before _ _ _ (open_trace (take i items ++ x ∷ [])) (open_trace (drop (i + 1) items)) [] _ c.in_ok-ending-in-Ok.ending ends next)
-
-pub feed_expansions-returns-in-Err-Code : goal.feed_expansions-returns-in-Err-Code
-feed_expansions-returns-in-Err-Code g t c =
-    let i = c.loop-item.item-index in
-    let items = c.deref-item-items.result.now in
-    let x = c.item-item.result in
-    let m = g.L.Lambda.meaning in
-    let same : items ≡ c.args.block.now.items = search rules in
-    let all : items ≡ (take i items ++ x ∷ []) ++ drop (i + 1) items =
-    sym (take-append-drop (i + 1) items) ∙ ap (λ ys. ys ++ drop (i + 1) items) (take_more items i x c.loop-item-test.true ∙ ap (λ y. take i items ++ y ∷ []) (sym c.item-item.is)) in
-    let gives : selected_many ((m c.args.f.now).expand x) ≡ ended [] (Fault c.in-Err-Code.code) = search rules in
-    let left = stages_left m c.args.ops.now c.loop-item.left in
-    let next = fed-piece _ _ left left (take i items) x (ended [] (Fault c.in-Err-Code.code)) [] c.loop-item.block.items c.loop-item.block.items (Some (Fault c.in-Err-Code.code)) c.loop-item.invariant gives
-    (fed-ending left left c.loop-item.block.items (Fault c.in-Err-Code.code) (undecided-left _ _ _ _ _ c.loop-item.invariant)) in
-    rw (c.in-Err-Code.code-is, ← same, all)
-    (fed-ended_before _ _ _ (open_trace (take i items ++ x ∷ [])) (open_trace (drop (i + 1) items)) [] c.loop-item.block.items (Some (Fault c.in-Err-Code.code)) refl next)
+    let ends : is_some c.in_ok-ending.ending ≡ true = search rules in
+    rw (← same, all)
+    (fed-ended_before _ _ _ (open_trace (take i items ++ x ∷ [])) (open_trace (drop (i + 1) items)) [] _ c.in_ok-ending.ending ends
+    (fed-followed _ _ _ (open_trace (take i items)) (open_trace (x ∷ [])) [] c.loop-item.block.items c.feed_expansion.new.out.items c.in_ok-ending.ending c.loop-item.invariant c.in_ok-ending.ensures))
 
 pub feed_expansions-loop-item-preserved : goal.feed_expansions-loop-item-preserved
 feed_expansions-loop-item-preserved g t c =
     let i = c.loop-item.item-index in
     let items = c.deref-item-items.result.now in
     let x = c.item-item.result in
-    let m = g.L.Lambda.meaning in
     let more : take (i + 1) items ≡ take i items ++ x ∷ [] = take_more items i x c.loop-item-test.true ∙ ap (λ y. take i items ++ y ∷ []) (sym c.item-item.is) in
-    let gives : selected_many ((m c.args.f.now).expand x) ≡ open_trace c.in-Ok.expansion.items = search rules in
-    let open_still : c.in_ok-ending-in-Ok.ending ≡ None = none-from_is_some _ (search rules) in
-    let out : c.append.new.self.items ≡ c.loop-item.block.items ++ c.feed_block.new.block.items = search rules in
-    rw (more, out)
-    (fed-piece _ _ (stages_left m c.args.ops.now c.loop-item.left) (stages_left m c.args.ops.now c.feed_block.new.left) (take i items) x (open_trace c.in-Ok.expansion.items) [] c.loop-item.block.items _ None c.loop-item.invariant gives
-    (fed-behind _ _ (open_trace c.in-Ok.expansion.items) c.loop-item.block.items c.feed_block.new.block.items None (rw open_still at c.in_ok-ending-in-Ok.ensures)))
+    let open_still : c.in_ok-ending.ending ≡ None = none-from_is_some _ (search rules) in
+    rw more
+    (fed-followed _ _ _ (open_trace (take i items)) (open_trace (x ∷ [])) [] c.loop-item.block.items c.feed_expansion.new.out.items None c.loop-item.invariant (rw open_still at c.in_ok-ending.ensures))
 
 pub feed_expansions-returns : goal.feed_expansions-returns
 feed_expansions-returns g t c =

@@ -6,11 +6,15 @@ use Rattle.plinq_ops.specs.Feeding.{stages_left, IsFed}
 use Rattle.plinq_ops.proofs.feeding.+blocks.Given as goal
 
 abbrev pub decreases-feed_block : goal.decreases-feed_block
-decreases-feed_block g l = 2 * length l.ops.now
+decreases-feed_block g l = 3 * length l.ops.now
 
 -- one more than that of `feed_block` over the same operators, which it calls
+abbrev pub decreases-feed_expansion : goal.decreases-feed_expansion
+decreases-feed_expansion g l = 3 * length l.ops.now + 1
+
+-- one more than that of `feed_expansion`
 abbrev pub decreases-feed_expansions : goal.decreases-feed_expansions
-decreases-feed_expansions g l = 2 * length l.ops.now + 1
+decreases-feed_expansions g l = 3 * length l.ops.now + 2
 
 abbrev pub invariant-feed_expansions-loop-item : goal.invariant-feed_expansions-loop-item
 invariant-feed_expansions-loop-item g l =
