@@ -1,7 +1,9 @@
 //! The lines of answers, plans, partitions and histories.
 mod answers;
 mod batches;
+mod fails_once;
 mod failures;
 mod histories;
 mod parts;
 mod plans;
+mod sinks;

@@ -1,3 +1,4 @@
 mod ItemLines
+mod LinesTaken
 mod PartWritten
 pub mod WrittenBytes

@@ -5,3 +5,4 @@ pub mod OpWords
 pub mod PlanText
 pub mod PartsText
 pub mod HistoryText
+pub mod LineSink

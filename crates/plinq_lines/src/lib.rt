@@ -2,6 +2,8 @@
 //!
 //! - Each function here `Writes` a text: at `Ok` the writer has all of it after what it had, at an `Err` a beginning
 //!   of it (`specs/Written.antt`). None takes memory, and none flushes.
+//! - A [`LineSink`] writes each batch that a run delivers as its line (`TakesLine`, `RefusesLine`): batches that it took
+//!   one after another are their lines ([`laws`]).
 //! - [`write_batch`] writes the line of one batch (`batch_line`), [`write_batches`] those of a whole answer, a line
 //!   each, and [`write_ending`] the line of how it ended (`ending_words`); [`write_answer`] all of it (`answer_text`).
 //! - [`write_plan`] writes the five lines of a query's plan (`plan_text`), [`write_parts`] those of a source cut into
@@ -14,6 +16,8 @@ mod argument;
 mod batch_lines;
 mod bytes;
 mod history_lines;
+pub mod laws;
+mod line_sink;
 mod op_words;
 mod parts_lines;
 mod piece;
@@ -25,6 +29,7 @@ mod write_fault;
 pub use answer_lines::{write_answer, write_batches, write_ending};
 pub use batch_lines::write_batch;
 pub use history_lines::write_history;
+pub use line_sink::{LineSink, WRITE_FAILED};
 pub use parts_lines::write_parts;
 pub use plan_lines::write_plan;
 pub use write_fault::WriteFault;

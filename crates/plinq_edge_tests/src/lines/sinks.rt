@@ -1,0 +1,86 @@
+use crate::lines::fails_once::FailsOnce;
+use crate::narrow::Narrow;
+use plinq_lines::{LineSink, WRITE_FAILED};
+use plinq_merge::Sink;
+use std::test::Fail;
+
+const LINES: &[u8] = b"-12 345\n6\n\n78\n";
+
+// What a sink answers to these batches, one after another.
+fn take_all<K: Sink<Item = i64>>(sink: &mut K) -> Result<(), u32> {
+    sink.batch(&[-12, 345])?;
+    sink.batch(&[6])?;
+    sink.batch(&[])?;
+    sink.batch(&[78])
+}
+
+#[test]
+fn each_batch_is_a_line(rt: HostRuntime) -> Result<(), Fail> {
+    let mut sink = LineSink::new(Vec::new(rt.alloc()));
+    assert_eq!(rt; take_all(&mut sink), Ok(()));
+    assert!(rt; !sink.has_failed());
+    assert_eq!(rt; sink.into_writer().as_slice(), LINES);
+    Ok(())
+}
+
+// It fails at each place of each line.
+#[test]
+fn a_writer_that_fails_anywhere(rt: HostRuntime) -> Result<(), Fail> {
+    for room in 0..LINES.len() {
+        let mut out = Narrow::new(rt.alloc(), room, 100);
+        let mut sink = LineSink::new(&mut out);
+        assert_eq!(rt;
+            take_all(&mut sink),
+            Err(WRITE_FAILED),
+            "with room for {room}"
+        );
+        assert!(rt; sink.has_failed());
+        let _ = sink.into_writer();
+        assert_eq!(rt; out.taken(), &LINES[..room], "with room for {room}");
+    }
+    Ok(())
+}
+
+// It fails in the middle of the first line, and would take the second.
+#[test]
+fn a_batch_after_a_failure(rt: HostRuntime) -> Result<(), Fail> {
+    let mut sink = LineSink::new(FailsOnce::new(rt.alloc(), 2));
+    assert_eq!(rt; sink.batch(&[-12, 345]), Err(WRITE_FAILED));
+    assert_eq!(rt; sink.batch(&[6]), Err(WRITE_FAILED));
+    sink.idle();
+    let out = sink.into_writer();
+    assert_eq!(rt; out.taken(), b"-12".as_slice());
+    assert_eq!(rt; out.calls, 2);
+    Ok(())
+}
+
+#[test]
+fn only_what_was_written_is_flushed(rt: HostRuntime) -> Result<(), Fail> {
+    let mut sink = LineSink::new(FailsOnce::new(rt.alloc(), 0));
+    sink.idle();
+    assert_eq!(rt; sink.batch(&[4]), Ok(()));
+    assert_eq!(rt; sink.batch(&[2]), Ok(()));
+    sink.idle();
+    sink.idle();
+    assert_eq!(rt; sink.batch(&[5]), Ok(()));
+    sink.idle();
+    assert!(rt; !sink.has_failed());
+    let out = sink.into_writer();
+    assert_eq!(rt; out.flushes, 2);
+    assert_eq!(rt; out.taken(), b"4\n2\n5\n".as_slice());
+    Ok(())
+}
+
+#[test]
+fn a_batch_after_a_flush_that_fails(rt: HostRuntime) -> Result<(), Fail> {
+    let mut sink = LineSink::new(FailsOnce::new(rt.alloc(), 2));
+    assert_eq!(rt; sink.batch(&[4]), Ok(()));
+    sink.idle();
+    assert!(rt; sink.has_failed());
+    assert_eq!(rt; sink.batch(&[2]), Err(WRITE_FAILED));
+    sink.idle();
+    let out = sink.into_writer();
+    assert_eq!(rt; out.taken(), b"4\n".as_slice());
+    assert_eq!(rt; out.calls, 2);
+    Ok(())
+}

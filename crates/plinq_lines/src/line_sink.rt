@@ -1,0 +1,109 @@
+ghost use Rattle.std.specs.Prelude.{◌≡◌};
+ghost use Rattle.std.specs.Io.KnownBytes.{Keeps};
+ghost use Rattle.plinq_lines.specs.LineSink.{write_failed, TakesLine, RefusesLine};
+
+use crate::batch_lines::write_batch;
+use plinq_merge::Sink;
+use std::io::Write;
+use std::marker::Model;
+use std::snapshot::Snapshot;
+
+/// The code with which a [`LineSink`] refuses a batch: the writer failed, or took none of the bytes that it was given.
+pub const WRITE_FAILED: u32 = 1;
+
+/// A sink that writes each batch as its line, as [`write_batch`](crate::write_batch) does. Takes no memory.
+///
+/// A writer that keeps back what it was given, as a buffer does, is flushed where a run finds no batch to deliver. Once the
+/// writer has failed, each batch is refused with [`WRITE_FAILED`], and nothing more is written or flushed.
+///
+/// ```text
+/// let mut sink = LineSink::new(&mut out);
+/// run(&rt, alloc, &query, source, Growth::DEFAULT, &OpenGate, &mut sink)?;
+/// ```
+#[derive(Drop)]
+pub struct LineSink<W: Write> {
+    writer: W,
+    start: Snapshot<W>,
+    state: State,
+}
+
+/// What became of the last call of the writer.
+#[derive(Clone, Copy, PartialEq, Eq)]
+enum State {
+    Flushed,
+    Written,
+    Failed,
+}
+
+// What contracts see of it is what is known of the writer's bytes. A writer may tell its bytes in mid-life that didn't at
+// first; these aren't told of, so that a flush changes nothing.
+impl<W: Write> Model for LineSink<W> {
+    ghost use Rattle.std.specs.Prelude.{ℕ, List, Option};
+    ghost use Rattle.plinq_lines.specs.LineSink.{known_since, StaysKnown};
+
+    ghost Value = { Option (List ℕ) };
+
+    ghost view = { λ s. known_since (W.contents s.start.value) (W.contents s.writer) };
+
+    ghost invariant = { λ s. StaysKnown (W.contents s.start.value) (W.contents s.writer) };
+}
+
+impl<W: Write> LineSink<W> {
+    /// One that writes to this writer.
+    pub fn new(writer: W) -> LineSink<W>
+        ensures { result ≡ W.contents writer }
+    {
+        let start = Snapshot::of(&writer);
+        LineSink {
+            writer,
+            start,
+            state: State::Flushed,
+        }
+    }
+
+    /// The writer, which isn't flushed.
+    pub fn into_writer(self) -> W
+        ensures { Keeps self (W.contents result) }
+    {
+        let LineSink { writer, .. } = self;
+        writer
+    }
+
+    /// Whether the writer has failed.
+    pub fn has_failed(&self) -> bool {
+        self.state == State::Failed
+    }
+}
+
+impl<W: Write> Sink for LineSink<W> {
+    type Item = i64;
+
+    ghost accepts = { TakesLine };
+
+    ghost refuses = { RefusesLine };
+
+    fn batch(&mut self, items: &[i64]) -> Result<(), u32> {
+        if self.has_failed() {
+            return Err(WRITE_FAILED);
+        }
+        match write_batch(&mut self.writer, items) {
+            Ok(()) => {
+                self.state = State::Written;
+                Ok(())
+            }
+            Err(_) => {
+                self.state = State::Failed;
+                Err(WRITE_FAILED)
+            }
+        }
+    }
+
+    fn idle(&mut self) {
+        if self.state == State::Written {
+            self.state = match self.writer.flush() {
+                Ok(()) => State::Flushed,
+                Err(_) => State::Failed,
+            };
+        }
+    }
+}
