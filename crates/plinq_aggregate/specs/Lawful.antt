@@ -95,7 +95,7 @@ picks-join pick grouped xs ys =
     ∙ ap (λ n. fold (picking pick).update n ys) (picked-none pick (folded (picking pick) xs))
     ∙ sym (fold-append (picking pick).update None xs ys)
 
-picking-lawful : (pick : ℤ → ℤ → ℤ) → IsGrouped pick → IsFolding (picking pick)
+pub picking-lawful : (pick : ℤ → ℤ → ℤ) → IsGrouped pick → IsFolding (picking pick)
 picking-lawful pick grouped = record { joins = picks-join pick grouped; neutral = λ xs. refl }
 
 int_min-grouped : IsGrouped int_min

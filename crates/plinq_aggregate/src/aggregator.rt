@@ -4,9 +4,9 @@ ghost use Rattle.plinq_aggregate.specs.Folding.{Folding, IsFolding};
 /// What .NET's `Aggregate` takes: a seed, how an accumulator takes in an item, how two accumulators become one, and
 /// what is told of the last one.
 ///
-/// It is shared by the workers of a query. Each folds its chunks from the seed, and the accumulators are combined
-/// in the order of the chunks, so that the laws below make the result that of one thread
-/// ([`fold_sequential`](crate::fold_sequential)). Nothing takes memory.
+/// It may be shared by threads. Parts may be folded apart, each from the seed, and their accumulators combined in the
+/// order of the parts: the laws below make the result that of one thread ([`fold_sequential`](crate::fold_sequential)).
+/// Nothing takes memory.
 pub trait Aggregator: Sync + Drop {
     /// What is taken in.
     type Item: Copy;

@@ -1,3 +1,4 @@
+mod Batches
 mod Ended
 mod Hands
 mod Merged

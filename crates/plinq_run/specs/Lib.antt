@@ -1,3 +1,4 @@
+pub mod Aggregates
 pub mod Endings
 pub mod Hands
 pub mod Merged

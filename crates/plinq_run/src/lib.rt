@@ -3,13 +3,18 @@
 //!
 //! - [`run`] on a query with `as_ordered` delivers exactly the batches of the sequential answer and tells its ending, or
 //!   after a fault the first of these batches (`Runs`), for every number of workers and every order in which results come.
+//! - [`aggregate`] on such a query tells the value of the sequential answer's items, or how that answer ended otherwise
+//!   (`Aggregates`).
 //! - What goes through the queue are results of chunks of the source, each under a cut of its own (`IsResult`): that is
 //!   the queue's rule.
 //! - A [`Gate`] is what workers pass on their way.
 #![tactic(auto)]
 
+mod aggregate_fault;
+mod aggregating;
 mod conducting;
 mod finishing;
+mod folded;
 mod gate;
 mod hand;
 mod merging;
@@ -21,6 +26,8 @@ mod running;
 mod starting;
 mod worker;
 
+pub use aggregate_fault::AggregateFault;
+pub use aggregating::aggregate;
 pub use gate::{Gate, OpenGate};
 pub use report::Report;
 pub use run_fault::RunFault;

@@ -1,0 +1,34 @@
+-- What an aggregate tells, and what a sink that folds has.
+use Rattle.std.specs.Prelude.{◌≡◌, ◌≢◌, List, Option, Some, None, Result, Ok, Err}
+use Rattle.std.specs.List.{fold}
+use Rattle.plinq_source.specs.declared.ending.Ending.{Ending}
+use Rattle.plinq_source.specs.declared.ending.Ending.TheVariants.{End, Refused, Fault}
+use Rattle.plinq_source.specs.Trace.{Trace}
+use Rattle.plinq_aggregate.specs.Folding.{Folding, aggregated}
+use Rattle.plinq_run.specs.declared.aggregate_fault.AggregateFault.{AggregateFault}
+use Rattle.plinq_run.specs.declared.aggregate_fault.AggregateFault.TheVariants.{Ended, Run}
+use Rattle.plinq_run.specs.declared.run_fault.RunFault.{RunFault}
+use Rattle.plinq_run.specs.Runs.{told_refusal}
+
+-- an aggregate tells the value of this answer's items, which ended well; or how the answer ended, which isn't well; or why
+-- there is none, which is never since a sink refused
+abbrev pub Aggregates : {T A O : Type 0} → Folding T A O → Trace T → Result O AggregateFault → Type 0
+Aggregates f u (Ok out) = (out ≡ aggregated f u.items) × (u.ending ≡ Some End)
+Aggregates f u (Err (Ended e)) = (u.ending ≡ Some e) × (e ≢ End)
+Aggregates f u (Err (Run fault)) = told_refusal fault ≡ None
+
+-- the accumulator: the seed before anything was taken in
+abbrev pub so_far : {T A O : Type 0} → Folding T A O → Option A → A
+so_far f None = f.seed
+so_far f (Some acc) = acc
+
+-- a batch is taken in, and the folding stays the same
+abbrev pub TakesIn : {T A O : Type 0} → Folding T A O → Option A → List T → Folding T A O → Option A → Type 0
+TakesIn f acc b f' acc' = (f' ≡ f) × (so_far f' acc' ≡ fold f.update (so_far f acc) b)
+
+-- what is told where this was taken in and the run ended so
+abbrev pub aggregate_of : {T A O : Type 0} → Folding T A O → Option A → Result Ending RunFault → Result O AggregateFault
+aggregate_of f acc (Ok End) = Ok (f.tell (so_far f acc))
+aggregate_of f acc (Ok (Refused code)) = Err (Ended (Refused code))
+aggregate_of f acc (Ok (Fault code)) = Err (Ended (Fault code))
+aggregate_of f acc (Err fault) = Err (Run fault)

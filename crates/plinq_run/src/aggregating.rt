@@ -1,0 +1,57 @@
+//! The aggregate of a query.
+ghost use Rattle.std.specs.Prelude.{◌≡◌, true};
+ghost use Rattle.plinq_ops.specs.Sequential.{answer_of};
+ghost use Rattle.plinq_run.specs.Aggregates.{Aggregates};
+
+use crate::aggregate_fault::AggregateFault;
+use crate::folded::Folded;
+use crate::gate::Gate;
+use crate::running::run;
+use plinq_aggregate::Aggregator;
+use plinq_enumerator::Growth;
+use plinq_lambda::Lambda;
+use plinq_ops::Query;
+use plinq_source::Source;
+use std::alloc::Global;
+use std::sync::Wait;
+use std::thread::Threads;
+
+#[cfg(test)]
+mod tests;
+
+/// The aggregate of a query's answer (.NET's `Aggregate` with a seed, an update, a combine and a result selector).
+///
+/// As many workers as the query's degree take chunks that grow so. The batches of the answer are folded as they come, and
+/// not kept; how long they are, by the query's merge option, doesn't change the value. A decided query asks the source for
+/// nothing, and its value is that of no items.
+///
+/// # Errors
+///
+/// [`AggregateFault::Ended`] where the answer doesn't end well, [`AggregateFault::Run`] where there is none, as
+/// [`run`](crate::run) tells it; never since a sink refused.
+///
+/// ```text
+/// let sum = aggregate(&rt, alloc, &query, source, Growth::DEFAULT, &OpenGate, &Sum)?;
+/// ```
+pub fn aggregate<L, S, G, A, R>(
+    rt: &R,
+    alloc: Global,
+    query: &Query<L>,
+    source: S,
+    growth: Growth,
+    gate: &G,
+    aggregator: &A,
+) -> Result<A::Out, AggregateFault>
+where
+    L: Lambda,
+    S: Source<Item = L::Item>,
+    G: Gate,
+    A: Aggregator<Item = L::Item>,
+    R: Threads + Wait + Sync,
+    requires { S.given source ≡ 0 }
+    ensures { query.now.ordered ≡ true → Aggregates (A.folding aggregator.now) (answer_of L.meaning query.now.ops (S.whole source)) result }
+{
+    let mut sink = Folded::new(aggregator);
+    let report = run(rt, alloc, query, source, growth, gate, &mut sink);
+    sink.told(report)
+}

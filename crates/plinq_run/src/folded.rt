@@ -1,0 +1,79 @@
+ghost use Rattle.std.specs.Prelude.{◌≡◌, None};
+ghost use Rattle.plinq_run.specs.Aggregates.{TakesIn, aggregate_of, so_far};
+ghost use Rattle.plinq_run.specs.Endings.{reported};
+
+use crate::aggregate_fault::AggregateFault;
+use crate::report::Report;
+use crate::run_fault::RunFault;
+use plinq_aggregate::Aggregator;
+use plinq_merge::Sink;
+use plinq_source::Ending;
+
+/// A sink that folds what it is handed, and keeps nothing else.
+#[derive(Drop)]
+pub(crate) struct Folded<'a, A: Aggregator> {
+    pub(crate) aggregator: &'a A,
+    /// What was taken in, if anything was.
+    pub(crate) acc: Option<A::Acc>,
+}
+
+impl<'a, A: Aggregator> Folded<'a, A> {
+    /// The sink that was handed nothing.
+    pub(crate) fn new(aggregator: &'a A) -> Folded<'a, A>
+        ensures aggregator { result.aggregator.now ≡ aggregator.now }
+        ensures nothing { result.acc ≡ None }
+    {
+        Folded {
+            aggregator,
+            acc: None,
+        }
+    }
+
+    /// The accumulator of what was taken in.
+    fn so_far(self) -> A::Acc
+        ensures { result ≡ so_far (A.folding self.entry.aggregator.now) self.entry.acc }
+    {
+        match self.acc {
+            Some(acc) => acc,
+            None => self.aggregator.seed(),
+        }
+    }
+
+    /// What is told of a run that ended so and handed it its batches.
+    pub(crate) fn told(self, run: Result<Report, RunFault>) -> Result<A::Out, AggregateFault>
+        ensures { result ≡ aggregate_of (A.folding self.entry.aggregator.now) self.entry.acc (reported run) }
+    {
+        let ending = match run {
+            Ok(report) => report.ending,
+            Err(fault) => return Err(AggregateFault::Run(fault)),
+        };
+        match ending {
+            Ending::End => {
+                let aggregator = self.aggregator;
+                Ok(aggregator.result(self.so_far()))
+            }
+            Ending::Refused(_) | Ending::Fault(_) => Err(AggregateFault::Ended(ending)),
+        }
+    }
+}
+
+impl<'a, A: Aggregator> Sink for Folded<'a, A> {
+    type Item = A::Item;
+
+    ghost accepts = { λ s b s'. TakesIn (A.folding s.aggregator.now) s.acc b (A.folding s'.aggregator.now) s'.acc };
+
+    ghost refuses = { λ s b code s'. ⊥ };
+
+    fn batch(&mut self, items: &[A::Item]) -> Result<(), u32> {
+        let aggregator = self.aggregator;
+        let mut acc = match self.acc.take() {
+            Some(acc) => acc,
+            None => aggregator.seed(),
+        };
+        for item in items {
+            acc = aggregator.update(acc, *item);
+        }
+        self.acc = Some(acc);
+        Ok(())
+    }
+}
