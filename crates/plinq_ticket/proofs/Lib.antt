@@ -5,4 +5,5 @@ pub mod Ordered
 pub mod Histories
 pub mod LockSteps
 pub mod LastState
+pub mod Finishes
 pub mod Free

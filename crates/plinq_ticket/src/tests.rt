@@ -3,9 +3,9 @@ ghost use Rattle.plinq_ticket.specs.Passes.{IsPassOf};
 use crate::{LockFault, Pass, TicketLock, free_lock_has_handed_out_a_prefix, one_pass_is_inside};
 use notes::Notes;
 use plinq_keyed::Guarded;
+use std::alloc::Global;
 use std::process::Abort;
 use std::sync::Wait;
-use std::test::Fail;
 use std::thread;
 
 mod notes;
@@ -60,22 +60,55 @@ fn visit_often<R: Wait + Abort>(rt: &R, lock: &TicketLock<Notes>, pass: Pass<Not
     pass
 }
 
+// A lock round new notes, and its first pass.
+fn lock_of(rt: &impl Abort, alloc: Global) -> (TicketLock<Notes>, Pass<Notes>)
+    ensures { IsPassOf result.0 result.1 }
+{
+    let Ok(made) = TicketLock::new(alloc, Notes::new(alloc)) else {
+        panic!(rt; "no room for a lock");
+    };
+    made
+}
+
+// Asks that the pass has all records, so many, under the tickets from that one on.
+fn expect_whole(
+    rt: &impl Abort,
+    lock: TicketLock<Notes>,
+    pass: Pass<Notes>,
+    count: usize,
+    first: u64,
+)
+    requires { IsPassOf lock pass }
+{
+    let Ok(notes) = lock.finish(pass) else {
+        panic!(rt; "not whole");
+    };
+    assert_eq!(rt; notes.records().len(), count);
+    let mut ticket = first;
+    for record in notes.records() {
+        assert_eq!(rt; record.ticket, ticket);
+        ticket = ticket.wrapping_add(1);
+    }
+}
+
+fn expect_fault(rt: &impl Abort, told: LockFault, fault: LockFault) {
+    assert_eq!(rt; told, fault);
+}
+
 #[test]
-fn passes_enter_in_the_order_of_tickets(rt: HostRuntime) -> Result<(), Fail> {
-    let (lock, pass) = TicketLock::new(rt.alloc(), Notes::new(rt.alloc()))?;
+fn passes_enter_in_the_order_of_tickets(rt: HostRuntime) {
+    let (lock, pass) = lock_of(&rt, rt.alloc());
     let (first, second) = lock.split(pass);
     let Ok(held) = lock.enter(&rt, first) else {
         panic!(rt; "not entered");
     };
     assert_eq!(rt; held.ticket(), 0);
     let (second, fault) = try_in_vain(&rt, &lock, second);
-    assert_eq!(rt;
-        fault,
-        LockFault::Busy {
-            served: 0,
-            drawn: 1
-        }
-    );
+    let busy = LockFault::Busy {
+        served: 0,
+        drawn: 1,
+    };
+    expect_fault(&rt, fault, busy);
     let first = lock.leave(held);
     let Ok(held) = lock.try_enter(second) else {
         panic!(rt; "busy with nobody there");
@@ -84,40 +117,46 @@ fn passes_enter_in_the_order_of_tickets(rt: HostRuntime) -> Result<(), Fail> {
     assert!(rt; held.value().records().is_empty());
     let second = lock.leave(held);
     let pass = lock.join(first, second);
-    let Ok(notes) = lock.finish(pass) else {
-        panic!(rt; "not whole");
-    };
-    assert!(rt; notes.records().is_empty());
-    Ok(())
+    expect_whole(&rt, lock, pass, 0, 0);
 }
 
-#[test]
-fn the_last_ticket_is_drawn_once(rt: HostRuntime) -> Result<(), Fail> {
-    let notes = Notes::new(rt.alloc());
-    let (lock, pass) = TicketLock::with_first_ticket(rt.alloc(), notes, 4611686018427387903)?;
-    let (pass, ticket) = visit(&rt, &lock, pass);
-    assert_eq!(rt; ticket, Some(4611686018427387903));
-    let (pass, fault) = match lock.enter(&rt, pass) {
+// Enters behind the last ticket.
+fn enter_in_vain<R: Wait + Abort>(
+    rt: &R,
+    lock: &TicketLock<Notes>,
+    pass: Pass<Notes>,
+) -> (Pass<Notes>, LockFault)
+    requires { IsPassOf lock.now pass }
+    ensures { IsPassOf lock.now result.0 }
+{
+    match lock.enter(rt, pass) {
         Err(refused) => refused,
         Ok(held) => {
             lock.leave(held);
             panic!(rt; "a ticket behind the last")
         }
-    };
-    assert_eq!(rt; fault, LockFault::Spent);
-    let (pass, fault) = try_in_vain(&rt, &lock, pass);
-    assert_eq!(rt; fault, LockFault::Spent);
-    let Ok(notes) = lock.finish(pass) else {
-        panic!(rt; "not whole");
-    };
-    assert_eq!(rt; notes.records().len(), 1);
-    assert_eq!(rt; notes.records()[0].ticket, 4611686018427387903);
-    Ok(())
+    }
 }
 
 #[test]
-fn a_dropped_pass_takes_its_records_with_it(rt: HostRuntime) -> Result<(), Fail> {
-    let (lock, pass) = TicketLock::new(rt.alloc(), Notes::new(rt.alloc()))?;
+fn the_last_ticket_is_drawn_once(rt: HostRuntime) {
+    let last = 4611686018427387903;
+    let notes = Notes::new(rt.alloc());
+    let Ok((lock, pass)) = TicketLock::with_first_ticket(rt.alloc(), notes, last) else {
+        panic!(rt; "no room for a lock");
+    };
+    let (pass, ticket) = visit(&rt, &lock, pass);
+    assert_eq!(rt; ticket, Some(last));
+    let (pass, fault) = enter_in_vain(&rt, &lock, pass);
+    expect_fault(&rt, fault, LockFault::Spent);
+    let (pass, fault) = try_in_vain(&rt, &lock, pass);
+    expect_fault(&rt, fault, LockFault::Spent);
+    expect_whole(&rt, lock, pass, 1, last);
+}
+
+#[test]
+fn a_dropped_pass_takes_its_records_with_it(rt: HostRuntime) {
+    let (lock, pass) = lock_of(&rt, rt.alloc());
     let (first, second) = lock.split(pass);
     let (first, _) = visit(&rt, &lock, first);
     let (second, _) = visit(&rt, &lock, second);
@@ -125,19 +164,18 @@ fn a_dropped_pass_takes_its_records_with_it(rt: HostRuntime) -> Result<(), Fail>
     let Err((notes, fault)) = lock.finish(first) else {
         panic!(rt; "whole without one of two");
     };
+    expect_fault(&rt, fault, LockFault::Incomplete { have: 1, all: 2 });
     let Some(notes) = notes else {
         panic!(rt; "away");
     };
-    assert_eq!(rt; fault, LockFault::Incomplete { have: 1, all: 2 });
     assert_eq!(rt; notes.records().len(), 2);
-    Ok(())
 }
 
 // Run with each allocation failing in turn.
 #[test]
 fn a_lock_that_is_refused_is_out_of_memory(rt: HostRuntime) {
     match TicketLock::new(rt.alloc(), Notes::new(rt.alloc())) {
-        Err(fault) => assert_eq!(rt; fault, LockFault::Memory),
+        Err(fault) => expect_fault(&rt, fault, LockFault::Memory),
         Ok((lock, pass)) => {
             let (pass, _) = visit(&rt, &lock, pass);
             assert!(rt; lock.finish(pass).is_ok());
@@ -146,8 +184,8 @@ fn a_lock_that_is_refused_is_out_of_memory(rt: HostRuntime) {
 }
 
 #[test]
-fn two_threads_share_a_lock(rt: HostRuntime) -> Result<(), Fail> {
-    let (lock, pass) = TicketLock::new(rt.alloc(), Notes::new(rt.alloc()))?;
+fn two_threads_share_a_lock(rt: HostRuntime) {
+    let (lock, pass) = lock_of(&rt, rt.alloc());
     let (first, second) = lock.split(pass);
     let shared = &lock;
     let runtime = &rt;
@@ -157,14 +195,7 @@ fn two_threads_share_a_lock(rt: HostRuntime) -> Result<(), Fail> {
         || visit_often(runtime, shared, second),
     );
     let pass = lock.join(first, second);
-    let Ok(notes) = lock.finish(pass) else {
-        panic!(rt; "not whole");
-    };
-    assert_eq!(rt; notes.records().len(), 2000);
-    for (place, record) in notes.records().iter().enumerate() {
-        assert_eq!(rt; record.ticket, place as u64);
-    }
-    Ok(())
+    expect_whole(&rt, lock, pass, 2000, 0);
 }
 
 #[test]
@@ -173,25 +204,28 @@ fn laws_can_be_called() {
     one_pass_is_inside::<Notes>();
 }
 
+fn expect_words(rt: &impl Abort, alloc: Global, fault: LockFault, text: &str) {
+    let Ok(words) = format!(in alloc; "{fault}") else {
+        panic!(rt; "no room for words");
+    };
+    assert_eq!(rt; words.as_str(), text);
+}
+
 #[test]
-fn faults_in_words(rt: HostRuntime) -> Result<(), Fail> {
-    for (fault, text) in [
-        (LockFault::Spent, "lock: tickets spent"),
-        (
-            LockFault::Busy {
-                served: 3,
-                drawn: 5,
-            },
-            "lock: busy, 3 served of 5 drawn",
-        ),
-        (
-            LockFault::Incomplete { have: 1, all: 2 },
-            "lock: incomplete, 1 records of 2",
-        ),
-        (LockFault::Memory, "lock: out of memory"),
-        (LockFault::Away, "lock: away"),
-    ] {
-        assert_eq!(rt; format!(in rt.alloc(); "{fault}")?.as_str(), text);
-    }
-    Ok(())
+fn faults_in_words(rt: HostRuntime) {
+    let busy = LockFault::Busy {
+        served: 3,
+        drawn: 5,
+    };
+    let incomplete = LockFault::Incomplete { have: 1, all: 2 };
+    expect_words(&rt, rt.alloc(), LockFault::Spent, "lock: tickets spent");
+    expect_words(&rt, rt.alloc(), busy, "lock: busy, 3 served of 5 drawn");
+    expect_words(
+        &rt,
+        rt.alloc(),
+        incomplete,
+        "lock: incomplete, 1 records of 2",
+    );
+    expect_words(&rt, rt.alloc(), LockFault::Memory, "lock: out of memory");
+    expect_words(&rt, rt.alloc(), LockFault::Away, "lock: away");
 }
