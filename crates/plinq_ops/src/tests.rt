@@ -5,11 +5,10 @@ mod queries;
 mod splits;
 
 use crate::{BuildFault, Built, Op, Query};
-use plinq_lambda::Formula;
 use std::alloc::Global;
 
 /// The query with the builder call of this operator.
-fn with(query: Query<Formula>, op: Op<Formula>) -> Built<Formula> {
+fn with<L: Drop>(query: Query<L>, op: Op<L>) -> Built<L> {
     match op {
         Op::Select(f) => query.select(f),
         Op::Filter(f) => query.filter(f),
@@ -22,7 +21,7 @@ fn with(query: Query<Formula>, op: Op<Formula>) -> Built<Formula> {
 }
 
 /// An ordered query of these operators.
-fn ordered(alloc: Global, ops: &[Op<Formula>]) -> Result<Query<Formula>, BuildFault> {
+fn ordered<L: Copy + Drop>(alloc: Global, ops: &[Op<L>]) -> Result<Query<L>, BuildFault> {
     let mut query = Query::new(alloc).as_ordered().map_err(|(_, fault)| fault)?;
     for op in ops {
         query = with(query, *op).map_err(|(_, fault)| fault)?;

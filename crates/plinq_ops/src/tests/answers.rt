@@ -244,14 +244,26 @@ fn behind_a_take(rt: HostRuntime) -> Result<(), Fail> {
     Ok(())
 }
 
+/// What operators answer to a range, how the answer ends, and what the range gives next.
+fn of_range(
+    alloc: Global,
+    ops: &[Op<Formula>],
+    start: i64,
+    count: u64,
+) -> Result<(Vec<i64>, Ending, Step<i64>), Fail> {
+    let query = ordered(alloc, ops)?;
+    let mut source = RangeSource::new(start, count)?;
+    let (items, ending) = sequential(alloc, &query, &mut source)?;
+    Ok((items, ending, source.next()))
+}
+
 #[test]
 fn range_through_a_filter(rt: HostRuntime) -> Result<(), Fail> {
-    let query = ordered(rt.alloc(), &[Op::Filter(Formula::Even), Op::Take(2)])?;
-    let mut source = RangeSource::new(1, 10)?;
-    let (items, ending) = sequential(rt.alloc(), &query, &mut source)?;
+    let ops = [Op::Filter(Formula::Even), Op::Take(2)];
+    let (items, ending, next) = of_range(rt.alloc(), &ops, 1, 10)?;
     assert_eq!(rt; items.as_slice(), [2, 4].as_slice());
     assert_eq!(rt; ending, Ending::End);
-    assert_eq!(rt; source.next(), Step::Item(5));
+    assert_eq!(rt; next, Step::Item(5));
     Ok(())
 }
 
@@ -266,9 +278,7 @@ fn answers_of_many_items(rt: HostRuntime) -> Result<(), Fail> {
         (&[Op::Skip(1000), Op::Take(3000)], 3000, 4000),
     ];
     for (ops, count, last) in rows {
-        let query = ordered(rt.alloc(), ops)?;
-        let mut source = RangeSource::new(1, 5000)?;
-        let (items, ending) = sequential(rt.alloc(), &query, &mut source)?;
+        let (items, ending, _next) = of_range(rt.alloc(), ops, 1, 5000)?;
         assert_eq!(rt;
             (items.len(), items.last()),
             (count, Some(&last)),

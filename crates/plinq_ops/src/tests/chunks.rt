@@ -2,8 +2,30 @@ use super::ordered;
 use crate::{ChunkResult, FragEnd, Op, chunk_result, fragment};
 use plinq_keyed::{Chunk, Tail};
 use plinq_lambda::Formula;
+use std::alloc::Global;
 use std::process::Abort;
 use std::test::Fail;
+
+/// A key; the element that it has; what the fragment has, and how the run goes on.
+type FragmentRow<'a> = (u64, i64, &'a [i64], FragEnd);
+
+/// Asks for this fragment of a query of these operators, all of which the workers apply.
+fn gives_fragment(
+    rt: &impl Abort,
+    alloc: Global,
+    ops: &[Op<Formula>],
+    row: FragmentRow<'_>,
+) -> Result<(), Fail> {
+    let (key, x, items, ending) = row;
+    let query = ordered(alloc, ops)?;
+    let plan = query.split();
+    assert!(rt; !plan.decided);
+    assert_eq!(rt; plan.worker, ops);
+    let given = fragment(alloc, plan.worker, key, x)?;
+    assert_eq!(rt; given.items.as_slice(), items, "{x} at {key}");
+    assert_eq!(rt; given.ending, ending, "{x} at {key}");
+    Ok(())
+}
 
 #[test]
 fn fragments(rt: HostRuntime) -> Result<(), Fail> {
@@ -12,9 +34,6 @@ fn fragments(rt: HostRuntime) -> Result<(), Fail> {
         Op::Filter(Formula::Even),
         Op::SelectMany(Formula::UpTo),
     ];
-    let query = ordered(rt.alloc(), &ops)?;
-    let plan = query.split();
-    assert!(rt; !plan.decided);
     let rows: [(i64, &[i64], FragEnd); 4] = [
         (3, &[1, 2, 3, 4], FragEnd::More),
         (4, &[], FragEnd::More),
@@ -23,9 +42,7 @@ fn fragments(rt: HostRuntime) -> Result<(), Fail> {
     ];
     for (x, items, ending) in rows {
         for key in [0, 5, u64::MAX] {
-            let given = fragment(rt.alloc(), plan.worker, key, x)?;
-            assert_eq!(rt; given.items.as_slice(), items, "{x}");
-            assert_eq!(rt; given.ending, ending, "{x}");
+            gives_fragment(&rt, rt.alloc(), &ops, (key, x, items, ending))?;
         }
     }
     Ok(())
@@ -34,20 +51,14 @@ fn fragments(rt: HostRuntime) -> Result<(), Fail> {
 #[test]
 fn fragments_by_position(rt: HostRuntime) -> Result<(), Fail> {
     let ops = [Op::Skip(1), Op::Take(2), Op::Select(Formula::Add(1))];
-    let query = ordered(rt.alloc(), &ops)?;
-    let plan = query.split();
-    assert!(rt; !plan.decided);
-    assert_eq!(rt; plan.worker, ops.as_slice());
-    let rows: [(u64, &[i64], FragEnd); 4] = [
-        (0, &[], FragEnd::More),
-        (1, &[8], FragEnd::More),
-        (2, &[8], FragEnd::End),
-        (3, &[], FragEnd::End),
+    let rows: [FragmentRow<'_>; 4] = [
+        (0, 7, &[], FragEnd::More),
+        (1, 7, &[8], FragEnd::More),
+        (2, 7, &[8], FragEnd::End),
+        (3, 7, &[], FragEnd::End),
     ];
-    for (key, items, ending) in rows {
-        let given = fragment(rt.alloc(), plan.worker, key, 7)?;
-        assert_eq!(rt; given.items.as_slice(), items, "{key}");
-        assert_eq!(rt; given.ending, ending, "{key}");
+    for row in rows {
+        gives_fragment(&rt, rt.alloc(), &ops, row)?;
     }
     Ok(())
 }
@@ -62,6 +73,32 @@ type Row<'a> = (
     FragEnd,
     Option<u64>,
 );
+
+/// Asks for this result of a chunk, whose tail it has.
+fn gives_result(rt: &impl Abort, alloc: Global, row: Row<'_>) -> Result<(), Fail> {
+    let (op, first, list, cut, items, ending, stop) = row;
+    let query = ordered(alloc, &[op])?;
+    let chunk = Chunk {
+        first,
+        items: Vec::from_slice(alloc, list)?,
+        tail: Some(Tail::Refused(7)),
+    };
+    assert!(rt; first <= 1_099_511_627_774 && list.len() < 4);
+    assert!(rt; first + chunk.items.len() as u64 <= 1_099_511_627_776);
+    let plan = query.split();
+    assert!(rt; !plan.decided);
+    let given = chunk_result(alloc, &plan, &chunk, cut)?;
+    let wanted = ChunkResult {
+        first,
+        count: list.len() as u64,
+        items: Vec::from_slice(alloc, items)?,
+        ending,
+        stop,
+        tail: Some(Tail::Refused(7)),
+    };
+    assert_eq!(rt; given, wanted, "{op:?} at {first}, cut {cut}");
+    Ok(())
+}
 
 #[test]
 fn chunk_results(rt: HostRuntime) -> Result<(), Fail> {
@@ -96,27 +133,8 @@ fn chunk_results(rt: HostRuntime) -> Result<(), Fail> {
             None,
         ),
     ];
-    for (op, first, list, cut, items, ending, stop) in rows {
-        let query = ordered(rt.alloc(), &[op])?;
-        let chunk = Chunk {
-            first,
-            items: Vec::from_slice(rt.alloc(), list)?,
-            tail: Some(Tail::Refused(7)),
-        };
-        assert!(rt; first <= 1_099_511_627_774 && list.len() < 4);
-        assert!(rt; first + chunk.items.len() as u64 <= 1_099_511_627_776);
-        let plan = query.split();
-        assert!(rt; !plan.decided);
-        let given = chunk_result(rt.alloc(), &plan, &chunk, cut)?;
-        let wanted = ChunkResult {
-            first,
-            count: list.len() as u64,
-            items: Vec::from_slice(rt.alloc(), items)?,
-            ending,
-            stop,
-            tail: Some(Tail::Refused(7)),
-        };
-        assert_eq!(rt; given, wanted, "{op:?} at {first}, cut {cut}");
+    for row in rows {
+        gives_result(&rt, rt.alloc(), row)?;
     }
     Ok(())
 }

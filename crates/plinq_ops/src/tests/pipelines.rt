@@ -2,7 +2,7 @@ ghost use Rattle.std.specs.Prelude.{◌≡◌, Ok, not, [], ◌∷◌};
 ghost use Rattle.std.proofs.Common.{arith};
 
 use super::ordered;
-use crate::{Built, FragEnd, MergeOption, Op, Pipeline, Query, chunk_result, fragment, sequential};
+use crate::{FragEnd, MergeOption, Op, Pipeline, Query, chunk_result, fragment, sequential};
 use plinq_keyed::Chunk;
 use plinq_lambda::{ExpandFault, Formula, Lambda};
 use plinq_source::{Ending, ListSource, OutOfMemory, Source, Step};
@@ -41,6 +41,21 @@ fn fed(
 // Operators; what they give for 5, 6, 0, 7, 8, and how the run ends.
 type Row<'a> = (&'a [Op<Formula>], &'a [i64], Option<Ending>);
 
+/// Asks that a pipeline gives that for a list, fed in blocks of that size.
+fn gives(
+    rt: &impl Abort,
+    alloc: Global,
+    row: Row<'_>,
+    list: &[i64],
+    size: Option<usize>,
+) -> Result<(), Fail> {
+    let (ops, items, ending) = row;
+    let given = fed(alloc, Pipeline::new(alloc, ops)?, list, size)?;
+    assert_eq!(rt; given.0.as_slice(), items, "{ops:?}, {size:?} at once");
+    assert_eq!(rt; given.1, ending, "{ops:?}, {size:?} at once");
+    Ok(())
+}
+
 #[test]
 fn items_and_blocks_of_any_size_give_the_same(rt: HostRuntime) -> Result<(), Fail> {
     let list = [5, 6, 0, 7, 8];
@@ -75,12 +90,9 @@ fn items_and_blocks_of_any_size_give_the_same(rt: HostRuntime) -> Result<(), Fai
             Some(Ending::End),
         ),
     ];
-    for (ops, items, ending) in rows {
+    for row in rows {
         for size in [None, Some(1), Some(2), Some(3), Some(5)] {
-            let pipeline = Pipeline::new(rt.alloc(), ops)?;
-            let given = fed(rt.alloc(), pipeline, &list, size)?;
-            assert_eq!(rt; given.0.as_slice(), items, "{ops:?}, {size:?} at once");
-            assert_eq!(rt; given.1, ending, "{ops:?}, {size:?} at once");
+            gives(&rt, rt.alloc(), row, &list, size)?;
         }
     }
     Ok(())
@@ -131,42 +143,54 @@ impl Lambda for Turning {
     }
 }
 
-fn built(call: Built<Turning>) -> Result<Query<Turning>, Fail> {
-    Ok(call.map_err(|(_, fault)| fault)?)
-}
-
 // as_ordered, take_while, select_many, select; with a Take behind that no worker can apply
 fn turned_query(alloc: Global) -> Result<Query<Turning>, Fail> {
-    let query = built(Query::new(alloc).as_ordered())?;
-    let query = built(query.with_merge(MergeOption::NotBuffered))?;
-    let query = built(query.take_while(Turning))?;
-    let query = built(query.select_many(Turning))?;
-    let query = built(query.select(Turning))?;
-    built(query.take(5))
+    let ops = [
+        Op::TakeWhile(Turning),
+        Op::SelectMany(Turning),
+        Op::Select(Turning),
+        Op::Take(5),
+    ];
+    let built = ordered(alloc, &ops)?.with_merge(MergeOption::NotBuffered);
+    Ok(built.map_err(|(_, fault)| fault)?)
 }
 
 #[test]
-fn items_of_another_type(rt: HostRuntime) -> Result<(), Fail> {
+fn another_type_on_one_thread(rt: HostRuntime) -> Result<(), Fail> {
     let query = turned_query(rt.alloc())?;
-    let list = [true, true, false, true];
-    let mut source = ListSource::new(rt.alloc(), Vec::from_slice(rt.alloc(), &list)?);
+    let list = Vec::from_slice(rt.alloc(), &[true, true, false, true])?;
+    let mut source = ListSource::new(rt.alloc(), list);
     let (items, ending) = sequential(rt.alloc(), &query, &mut source)?;
     assert_eq!(rt; items.as_slice(), [false, true, false, true].as_slice());
     assert_eq!(rt; ending, Ending::End);
     assert_eq!(rt; source.next(), Step::Item(true));
+    Ok(())
+}
 
+#[test]
+fn another_type_in_a_fragment(rt: HostRuntime) -> Result<(), Fail> {
+    let query = turned_query(rt.alloc())?;
     let plan = query.split();
     assert!(rt; !plan.decided);
     assert_eq!(rt; (plan.worker.len(), plan.after.len()), (3, 1));
     let given = fragment(rt.alloc(), plan.worker, 9, true)?;
     assert_eq!(rt; given.items.as_slice(), [false, true].as_slice());
     assert_eq!(rt; given.ending, FragEnd::More);
+    Ok(())
+}
+
+#[test]
+fn another_type_in_a_chunk(rt: HostRuntime) -> Result<(), Fail> {
+    let query = turned_query(rt.alloc())?;
+    let plan = query.split();
+    assert!(rt; !plan.decided);
+    let items = Vec::from_slice(rt.alloc(), &[true, false, true])?;
+    assert!(rt; items.len() == 3);
     let chunk = Chunk {
         first: 1,
-        items: Vec::from_slice(rt.alloc(), &[true, false, true])?,
+        items,
         tail: None,
     };
-    assert!(rt; chunk.items.len() == 3);
     let given = chunk_result(rt.alloc(), &plan, &chunk, u64::MAX)?;
     assert_eq!(rt; given.items.as_slice(), [false, true].as_slice());
     assert_eq!(rt; (given.ending, given.stop), (FragEnd::End, Some(2)));

@@ -64,83 +64,103 @@ fn as_ordered_stands_at_the_source_alone(rt: HostRuntime) -> Result<(), Fail> {
     Ok(())
 }
 
+fn empty(alloc: Global) -> Query<Formula> {
+    Query::new(alloc)
+}
+
 #[test]
-fn settings_are_given_once(rt: HostRuntime) -> Result<(), Fail> {
+fn settings_that_are_not_given(rt: HostRuntime) {
     let query = empty(rt.alloc());
     assert_eq!(rt; query.merge_option(), MergeOption::AutoBuffered);
     assert_eq!(rt; query.degree(), 4);
+}
+
+fn merged(alloc: Global, option: MergeOption) -> Result<Query<Formula>, BuildFault> {
+    accepted(empty(alloc).with_merge(option))
+}
+
+#[test]
+fn a_merge_option_is_given_once(rt: HostRuntime) -> Result<(), Fail> {
     for (given, in_force) in [
         (MergeOption::Default, MergeOption::AutoBuffered),
         (MergeOption::NotBuffered, MergeOption::NotBuffered),
         (MergeOption::AutoBuffered, MergeOption::AutoBuffered),
         (MergeOption::FullyBuffered, MergeOption::FullyBuffered),
     ] {
-        let query = accepted(empty(rt.alloc()).with_merge(given))?;
-        let query = refused(
-            &rt,
-            query.with_merge(MergeOption::NotBuffered),
-            BuildFault::MergeTwice,
-        );
+        let second = merged(rt.alloc(), given)?.with_merge(MergeOption::NotBuffered);
+        let query = refused(&rt, second, BuildFault::MergeTwice);
         assert_eq!(rt; query.merge_option(), in_force);
-    }
-    for degree in [0, 65, u64::MAX] {
-        let query = refused(
-            &rt,
-            empty(rt.alloc()).with_degree(degree),
-            BuildFault::DegreeOutOfRange,
-        );
-        assert_eq!(rt; query.degree(), 4);
-    }
-    for degree in [1, 64] {
-        let query = accepted(empty(rt.alloc()).with_degree(degree))?;
-        for second in [0, 2] {
-            let built = accepted(empty(rt.alloc()).with_degree(degree))?.with_degree(second);
-            assert_eq!(rt;
-                refused(&rt, built, BuildFault::DegreeTwice).degree(),
-                degree
-            );
-        }
-        assert_eq!(rt; query.degree(), degree);
     }
     Ok(())
 }
 
-fn empty(alloc: Global) -> Query<Formula> {
-    Query::new(alloc)
+#[test]
+fn a_degree_is_from_1_to_64(rt: HostRuntime) {
+    for degree in [0, 65, u64::MAX] {
+        let built = empty(rt.alloc()).with_degree(degree);
+        let query = refused(&rt, built, BuildFault::DegreeOutOfRange);
+        assert_eq!(rt; query.degree(), 4);
+    }
+}
+
+fn of_degree(alloc: Global, degree: u64) -> Result<Query<Formula>, BuildFault> {
+    accepted(empty(alloc).with_degree(degree))
+}
+
+#[test]
+fn a_degree_is_given_once(rt: HostRuntime) -> Result<(), Fail> {
+    for degree in [1, 64] {
+        assert_eq!(rt; of_degree(rt.alloc(), degree)?.degree(), degree);
+        for second in [0, 2] {
+            let built = of_degree(rt.alloc(), degree)?.with_degree(second);
+            let query = refused(&rt, built, BuildFault::DegreeTwice);
+            assert_eq!(rt; query.degree(), degree);
+        }
+    }
+    Ok(())
+}
+
+/// Asks for these parts of a query's plan, and this order, which isn't decided.
+fn is_split(
+    rt: &impl Abort,
+    query: &Query<Formula>,
+    worker: &[Op<Formula>],
+    after: &[Op<Formula>],
+    order: Order,
+) {
+    let plan = query.split();
+    assert_eq!(rt; plan.worker, worker);
+    assert_eq!(rt; plan.after, after);
+    assert_eq!(rt; plan.order, order);
+    assert!(rt; !plan.decided);
 }
 
 #[test]
 fn splits_before_the_first_operator_that_no_worker_can_apply(rt: HostRuntime) -> Result<(), Fail> {
-    let ops = [
+    let worker = [
         Op::Select(Formula::Add(1)),
         Op::Take(5),
         Op::Filter(Formula::Even),
-        Op::Take(2),
     ];
-    let query = ordered(rt.alloc(), &ops)?;
-    let plan = query.split();
-    assert_eq!(rt;
-        plan.worker,
-        [
-            Op::Select(Formula::Add(1)),
-            Op::Take(5),
-            Op::Filter(Formula::Even)
-        ]
-        .as_slice()
-    );
-    assert_eq!(rt; plan.after, [Op::Take(2)].as_slice());
-    assert_eq!(rt; plan.order, Order::ByKey);
-    assert!(rt; !plan.decided);
+    let query = accepted(ordered(rt.alloc(), &worker)?.take(2))?;
+    is_split(&rt, &query, &worker, &[Op::Take(2)], Order::ByKey);
+    Ok(())
+}
 
+#[test]
+fn splits_an_unordered_query_before_a_take(rt: HostRuntime) -> Result<(), Fail> {
     let query = accepted(empty(rt.alloc()).filter(Formula::Even))?;
     let query = accepted(query.take(5))?;
-    let plan = query.split();
-    assert_eq!(rt; plan.worker, [Op::Filter(Formula::Even)].as_slice());
-    assert_eq!(rt; plan.after, [Op::Take(5)].as_slice());
-    assert_eq!(rt; plan.order, Order::ByArrival);
+    let worker = [Op::Filter(Formula::Even)];
+    is_split(&rt, &query, &worker, &[Op::Take(5)], Order::ByArrival);
+    Ok(())
+}
 
+#[test]
+fn a_take_of_none_decides_the_answer(rt: HostRuntime) -> Result<(), Fail> {
     for (n, decided) in [(-1, true), (0, true), (1, false)] {
-        let query = ordered(rt.alloc(), &[Op::Skip(0), Op::Take(n)])?;
+        let ops: [Op<Formula>; 2] = [Op::Skip(0), Op::Take(n)];
+        let query = ordered(rt.alloc(), &ops)?;
         assert_eq!(rt; query.split().decided, decided, "take {n}");
     }
     Ok(())
