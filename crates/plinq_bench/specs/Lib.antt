@@ -1,0 +1,2 @@
+pub mod Spinning
+pub mod Works

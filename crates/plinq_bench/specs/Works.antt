@@ -1,0 +1,35 @@
+-- What the operators of the workloads do to an element.
+use Rattle.std.specs.Prelude.{ℕ, ◌*◌, ◌/◌, ◌%◌, ◌^◌, ◌==◌, ℤ, pos, Bool, true, if◌then◌else◌, Result, Ok, Err}
+use Rattle.std.specs.Ordering.{int_eq}
+use Rattle.std.specs.Int.{w64, cast_unsigned}
+use Rattle.plinq_lambda.specs.Meaning.{Meaning}
+use Rattle.plinq_lambda.specs.Formula.{formula_meaning}
+use Rattle.plinq_bench.specs.declared.work.Cost.{Cost}
+use Rattle.plinq_bench.specs.declared.work.Cost.TheVariants.{Fixed, Skewed, Ramp}
+use Rattle.plinq_bench.specs.declared.work.Work.{Work}
+use Rattle.plinq_bench.specs.declared.work.Work.TheVariants.{Plain, Spin, Keep}
+use Rattle.plinq_bench.specs.Spinning.{spin}
+
+-- the turns that an element takes
+abbrev pub turns : Cost → ℤ → ℕ
+turns (Fixed n) x = n
+turns Skewed x = cast_unsigned w64 x % 1000
+turns (Ramp n) x = if n == 0 then 0 else cast_unsigned w64 x * 1000 % 2 ^ 64 / n
+
+-- the element itself, unless its n turns come out at one number
+abbrev pub kept : ℕ → ℤ → Result ℤ ℕ
+kept n x = if int_eq (spin x n) (pos 12345) then Err 1 else Ok x
+
+abbrev pub mapped : Work → ℤ → Result ℤ ℕ
+mapped (Plain f) x = (formula_meaning f).map x
+mapped (Spin cost) x = Ok (spin x (turns cost x))
+mapped (Keep n) x = kept n x
+
+abbrev pub tested : Work → ℤ → Result Bool ℕ
+tested (Plain f) x = (formula_meaning f).test x
+tested (Spin cost) x = Ok true
+tested (Keep n) x = Ok true
+
+-- no workload expands
+abbrev pub work_meaning : Work → Meaning ℤ
+work_meaning work = record { map = mapped work; test = tested work; expand = λ x. Err 1 }

@@ -1,0 +1,22 @@
+use plinq_ops::BuildFault;
+use plinq_run::RunFault;
+use plinq_source::SourceFault;
+use std::io;
+use thiserror::Error;
+
+/// Why a workload has no figure.
+#[derive(Debug, Drop, Error)]
+pub(crate) enum BenchFault {
+    #[error("the query: {0}")]
+    Build(#[from] BuildFault),
+    #[error("the source: {0}")]
+    Source(#[from] SourceFault),
+    #[error("the run: {0}")]
+    Run(#[from] RunFault),
+    #[error("{0}")]
+    Io(#[from] io::Error),
+    #[error("the sums differ")]
+    Sums,
+    #[error("plinq_bench check | WORKLOAD WORKERS ITEMS")]
+    Words,
+}

@@ -1,0 +1,135 @@
+//! `plinq_bench`: runs a workload over the library, and says how long it took beside a plain loop.
+//!
+//!     plinq_bench W2 4 1000000   # a workload, workers, and items
+//!     plinq_bench check          # each workload with few items: the sums alone
+//!
+//! A line has the workload, what ran it, threads, seconds, items a second, the ratio to the plain loop and the sum of what
+//! came, on which its order tells.
+#![tactic(auto)]
+
+mod bench_fault;
+mod measuring;
+mod spinning;
+mod summed;
+mod work;
+mod workload;
+
+use crate::bench_fault::BenchFault;
+use crate::measuring::{Seen, loop_it, run_it};
+use crate::workload::Workload;
+use std::alloc::Global;
+use std::io::Print;
+use std::process::ExitCode;
+use std::sync::Wait;
+use std::thread::Threads;
+use std::time::{Clock, Duration};
+use std::{env, io};
+
+fn main(rt: HostRuntime) -> ExitCode {
+    let ended = match words(&rt) {
+        Ok(words) => bench(&rt, rt.alloc(), &words),
+        Err(error) => Err(BenchFault::Io(error)),
+    };
+    match ended {
+        Ok(()) => ExitCode::SUCCESS,
+        Err(fault) => {
+            let _ = eprintln!(rt; "plinq_bench: {fault}");
+            ExitCode::FAILURE
+        }
+    }
+}
+
+fn words(rt: &HostRuntime) -> io::Result<Vec<String>> {
+    Ok(env::args(rt)?.collect(rt.alloc())?)
+}
+
+fn bench<R: Threads + Wait + Sync + Clock + Print>(
+    rt: &R,
+    alloc: Global,
+    words: &[String],
+) -> Result<(), BenchFault> {
+    match words {
+        [_, word] if word.as_str() == "check" => check(rt, alloc),
+        [_, name, workers, items] => {
+            let Some(workload) = Workload::named(name.as_str()) else {
+                return Err(BenchFault::Words);
+            };
+            let (Ok(workers), Ok(items)) = (workers.parse::<u64>(), items.parse::<i64>()) else {
+                return Err(BenchFault::Words);
+            };
+            measure(rt, alloc, workload, workers, items)
+        }
+        _ => Err(BenchFault::Words),
+    }
+}
+
+fn check<R: Threads + Wait + Sync + Clock + Print>(
+    rt: &R,
+    alloc: Global,
+) -> Result<(), BenchFault> {
+    for workload in Workload::ALL {
+        let seen = run_it(rt, alloc, workload, 2, 3_000)?;
+        if seen.sum != workload.looped(3_000) {
+            return Err(BenchFault::Sums);
+        }
+        let name = workload.name();
+        println!(rt; "{name} sum={:x}", seen.sum)?;
+    }
+    Ok(())
+}
+
+fn measure<R: Threads + Wait + Sync + Clock + Print>(
+    rt: &R,
+    alloc: Global,
+    workload: Workload,
+    workers: u64,
+    items: i64,
+) -> Result<(), BenchFault> {
+    let looped = loop_it(rt, workload, items)?;
+    let seen = run_it(rt, alloc, workload, workers, items)?;
+    if seen.sum != looped.sum {
+        return Err(BenchFault::Sums);
+    }
+    print(rt, workload, "loop", 1, items, looped, looped.time)?;
+    print(rt, workload, "run", workers, items, seen, looped.time)
+}
+
+fn print<R: Print>(
+    rt: &R,
+    workload: Workload,
+    what: &str,
+    threads: u64,
+    items: i64,
+    seen: Seen,
+    plain: Duration,
+) -> Result<(), BenchFault> {
+    let name = workload.name();
+    let took = micros(seen.time);
+    let rate = items.unsigned_abs().saturating_mul(1_000_000) / took.max(1);
+    let ratio = micros(plain).saturating_mul(100) / took.max(1);
+    print!(rt;
+        "{name} plinq:{what} {threads} {}.{:06} {rate} x{}.{:02} sum={:x}",
+        took / 1_000_000,
+        took % 1_000_000,
+        ratio / 100,
+        ratio % 100,
+        seen.sum
+    )?;
+    if workload.shows_first() {
+        if let Some(first) = seen.first {
+            let first = micros(first);
+            print!(rt; " first={}.{:06}", first / 1_000_000, first % 1_000_000)?;
+        }
+    }
+    if workload.shows_pulled() {
+        if let Some(pulled) = seen.pulled {
+            print!(rt; " pulled={pulled}")?;
+        }
+    }
+    println!(rt)?;
+    Ok(())
+}
+
+fn micros(time: Duration) -> u64 {
+    u64::try_from(time.as_micros()).unwrap_or(u64::MAX)
+}
