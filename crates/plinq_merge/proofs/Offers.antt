@@ -14,7 +14,9 @@ use Rattle.plinq_ops.specs.Feeding.{is_empty_take}
 use Rattle.plinq_ops.specs.Pipeline.{PipelineView, stages, begun}
 use Rattle.plinq_ops.proofs.Counts.{stages_left-counts, some_takes_none-stages_of}
 use Rattle.plinq_ops.proofs.Open.{seq-nothing}
+use Rattle.plinq_merge.specs.declared.more.More.{More}
 use Rattle.plinq_merge.specs.declared.more.More.TheVariants.{Yes, No}
+use Rattle.plinq_merge.specs.declared.merge_fault.MergeFault.{MergeFault}
 use Rattle.plinq_merge.specs.declared.merge_fault.MergeFault.TheVariants.{Memory, Sink, Twice}
 use Rattle.plinq_merge.specs.declared.undelivered.Undelivered.TheVariants.{Memory as NoMemory, Sink as Refusal}
 use Rattle.plinq_merge.specs.declared.standing.Standing.{Standing}
@@ -26,7 +28,8 @@ use Rattle.plinq_merge.specs.Merging.{Content, HasTaken, IsAtGap}
 use Rattle.plinq_merge.specs.Buffer.{held_of}
 use Rattle.plinq_merge.specs.declared.undelivered.Undelivered.{Undelivered}
 use Rattle.plinq_merge.specs.Working.{content, merge_of, Rests, Gains}
-use Rattle.plinq_merge.specs.Offering.{StandsFor, Offers, finished, finish_of, is_decided}
+use Rattle.plinq_merge.specs.Sending.{Delivers}
+use Rattle.plinq_merge.specs.Offering.{StandsFor, Brings, Offers, finished, finish_of, is_decided}
 use Rattle.plinq_merge.proofs.Takings.{answer-taken}
 use Rattle.plinq_merge.proofs.Gains.{answer-open}
 
@@ -71,58 +74,37 @@ are-new : {L T : Type 0} (meaning : L → Meaning T) (w : Work L T) (offers : Li
     → Rests meaning w offers → AreNew offers r
 are-new meaning w offers r fresh rests key within = let taken = rests.taken in taken.keys key ∙ fresh key within
 
-pub offers-yes : {L K T : Type 0} (meaning : L → Meaning T) (accepts : K → List T → K → Type 0) (refuses : K → List T → ℕ → K → Type 0) (w : Work L T) (standing : Standing) (r : ChunkResult T) (s : K) (w' : Work L T) (standing' : Standing) (s' : K)
-    → standing ≡ Open → standing' ≡ Open → IsFresh w.row.next w.row.waiting.entries r.first (behind_result r)
-    → ((offers : List (ChunkResult T)) → Rests meaning w offers → Gains meaning accepts refuses w offers r s (Ok None) w' s')
-    → Offers meaning accepts refuses w standing r s (Ok Yes) w' standing' s'
-offers-yes meaning accepts refuses w Open r s w' standing' s' is still fresh gains = (
-  still,
-  λ offers rests.
-      let brings = gains offers rests in
-      (record { are_new = are-new meaning w offers r fresh rests; gained = brings.gained; grows = brings.grows; sent = brings.sends }, brings.stands),
-)
-offers-yes meaning accepts refuses w (Decided e) r s w' standing' s' is still fresh gains = absurd (cc)
-offers-yes meaning accepts refuses w Failed r s w' standing' s' is still fresh gains = absurd (cc)
+-- what an offer answers, by what the work did
+abbrev pub answer_by : Result (Option Ending) Undelivered → Result More MergeFault
+answer_by (Ok None) = Ok Yes
+answer_by (Ok (Some e)) = Ok No
+answer_by (Err NoMemory) = Err Memory
+answer_by (Err (Refusal code)) = Err (Sink code)
 
-pub offers-no : {L K T : Type 0} (meaning : L → Meaning T) (accepts : K → List T → K → Type 0) (refuses : K → List T → ℕ → K → Type 0) (w : Work L T) (standing : Standing) (r : ChunkResult T) (s : K) (e : Ending) (w' : Work L T) (s' : K)
-    → standing ≡ Open → IsFresh w.row.next w.row.waiting.entries r.first (behind_result r)
-    → ((offers : List (ChunkResult T)) → Rests meaning w offers → Gains meaning accepts refuses w offers r s (Ok (Some e)) w' s')
-    → Offers meaning accepts refuses w standing r s (Ok No) w' (Decided e) s'
-offers-no meaning accepts refuses w Open r s e w' s' is fresh gains = (
-  e,
-  refl,
-  λ offers rests.
-      let brings = gains offers rests in
-      (record { are_new = are-new meaning w offers r fresh rests; gained = brings.gained; grows = brings.grows; sent = brings.sends }, brings.stands),
-)
-offers-no meaning accepts refuses w (Decided f) r s e w' s' is fresh gains = absurd (cc)
-offers-no meaning accepts refuses w Failed r s e w' s' is fresh gains = absurd (cc)
+-- and how the merger stands then
+abbrev pub standing_by : Result (Option Ending) Undelivered → Standing
+standing_by (Ok None) = Open
+standing_by (Ok (Some e)) = Decided e
+standing_by (Err fault) = Failed
 
-pub offers-memory : {L K T : Type 0} (meaning : L → Meaning T) (accepts : K → List T → K → Type 0) (refuses : K → List T → ℕ → K → Type 0) (w : Work L T) (standing : Standing) (r : ChunkResult T) (s : K) (w' : Work L T) (s' : K)
-    → standing ≡ Open → IsFresh w.row.next w.row.waiting.entries r.first (behind_result r)
-    → ((offers : List (ChunkResult T)) → Rests meaning w offers → Gains meaning accepts refuses w offers r s (Err NoMemory) w' s')
-    → Offers meaning accepts refuses w standing r s (Err Memory) w' Failed s'
-offers-memory meaning accepts refuses w Open r s w' s' is fresh gains = (
-  refl,
-  λ offers rests.
-      let brings = gains offers rests in
-      record { are_new = are-new meaning w offers r fresh rests; gained = brings.gained; grows = brings.grows; sent = brings.sends },
-)
-offers-memory meaning accepts refuses w (Decided e) r s w' s' is fresh gains = absurd (cc)
-offers-memory meaning accepts refuses w Failed r s w' s' is fresh gains = absurd (cc)
+-- the result is new, and of what it gains as much was sent as the work says
+brings-by : {L K T : Type 0} (meaning : L → Meaning T) (accepts : K → List T → K → Type 0) (refuses : K → List T → ℕ → K → Type 0) (w : Work L T) (offers : List (ChunkResult T)) (r : ChunkResult T) (s : K)
+    (result : Result (Option Ending) Undelivered) (w' : Work L T) (s' : K) → IsFresh w.row.next w.row.waiting.entries r.first (behind_result r) → Rests meaning w offers → Gains meaning accepts refuses w offers r s result w' s'
+    → Brings (merge_of meaning w) offers r (λ gained. Delivers accepts refuses s gained result s')
+brings-by meaning accepts refuses w offers r s result w' s' fresh rests gains = record { are_new = are-new meaning w offers r fresh rests; gained = gains.gained; grows = gains.grows; sent = gains.sends }
 
-pub offers-sink : {L K T : Type 0} (meaning : L → Meaning T) (accepts : K → List T → K → Type 0) (refuses : K → List T → ℕ → K → Type 0) (w : Work L T) (standing : Standing) (r : ChunkResult T) (s : K) (code : ℕ) (w' : Work L T) (s' : K)
-    → standing ≡ Open → IsFresh w.row.next w.row.waiting.entries r.first (behind_result r)
-    → ((offers : List (ChunkResult T)) → Rests meaning w offers → Gains meaning accepts refuses w offers r s (Err (Refusal code)) w' s')
-    → Offers meaning accepts refuses w standing r s (Err (Sink code)) w' Failed s'
-offers-sink meaning accepts refuses w Open r s code w' s' is fresh gains = (
-  refl,
-  λ offers rests.
-      let brings = gains offers rests in
-      record { are_new = are-new meaning w offers r fresh rests; gained = brings.gained; grows = brings.grows; sent = brings.sends },
-)
-offers-sink meaning accepts refuses w (Decided e) r s code w' s' is fresh gains = absurd (cc)
-offers-sink meaning accepts refuses w Failed r s code w' s' is fresh gains = absurd (cc)
+pub offers-by : {L K T : Type 0} (meaning : L → Meaning T) (accepts : K → List T → K → Type 0) (refuses : K → List T → ℕ → K → Type 0) (w : Work L T) (standing : Standing) (r : ChunkResult T) (s : K)
+    (result : Result (Option Ending) Undelivered) (w' : Work L T) (s' : K) → standing ≡ Open → IsFresh w.row.next w.row.waiting.entries r.first (behind_result r)
+    → ((offers : List (ChunkResult T)) → Rests meaning w offers → Gains meaning accepts refuses w offers r s result w' s')
+    → Offers meaning accepts refuses w standing r s (answer_by result) w' (standing_by result) s'
+offers-by meaning accepts refuses w Open r s (Ok None) w' s' is fresh gains =
+    (refl, λ offers rests. let gain = gains offers rests in (brings-by meaning accepts refuses w offers r s (Ok None) w' s' fresh rests gain, gain.stands))
+offers-by meaning accepts refuses w Open r s (Ok (Some e)) w' s' is fresh gains =
+    (e, refl, λ offers rests. let gain = gains offers rests in (brings-by meaning accepts refuses w offers r s (Ok (Some e)) w' s' fresh rests gain, gain.stands))
+offers-by meaning accepts refuses w Open r s (Err NoMemory) w' s' is fresh gains = (refl, λ offers rests. brings-by meaning accepts refuses w offers r s (Err NoMemory) w' s' fresh rests (gains offers rests))
+offers-by meaning accepts refuses w Open r s (Err (Refusal code)) w' s' is fresh gains = (refl, λ offers rests. brings-by meaning accepts refuses w offers r s (Err (Refusal code)) w' s' fresh rests (gains offers rests))
+offers-by meaning accepts refuses w (Decided e) r s result w' s' is fresh gains = absurd (cc)
+offers-by meaning accepts refuses w Failed r s result w' s' is fresh gains = absurd (cc)
 
 -- a key of it was offered before: nothing changes
 pub offers-twice : {L K T : Type 0} (meaning : L → Meaning T) (accepts : K → List T → K → Type 0) (refuses : K → List T → ℕ → K → Type 0) (w : Work L T) (standing : Standing) (r : ChunkResult T) (s : K) (w' : Work L T) (standing' : Standing) (s' : K)

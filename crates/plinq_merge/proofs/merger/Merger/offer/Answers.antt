@@ -1,10 +1,13 @@
-use Rattle.std.proofs.Common.{rules, ◌≡◌, Ok, Err, Some, None, refl, sym}
+use Rattle.std.proofs.Common.{rules, ◌≡◌, Ok, Err, Some, None, refl, sym, subst}
+use Rattle.plinq_merge.specs.declared.more.More.TheVariants.{Yes}
+use Rattle.plinq_merge.specs.declared.standing.Standing.{Standing}
 use Rattle.plinq_merge.specs.declared.standing.Standing.TheVariants.{Open}
 use Rattle.plinq_merge.specs.declared.undelivered.Undelivered.TheVariants.{Memory, Sink}
 use Rattle.plinq_merge.specs.Shown.{behind_result}
 use Rattle.plinq_merge.specs.Keys.{IsFresh, IsRepeated}
+use Rattle.plinq_merge.specs.Offering.{Offers}
 use Rattle.plinq_merge.proofs.Gains.{merge-same}
-use Rattle.plinq_merge.proofs.Offers.{offers-yes, offers-no, offers-memory, offers-sink, offers-twice, gains-as}
+use Rattle.plinq_merge.proofs.Offers.{offers-by, offers-twice, gains-as}
 use Rattle.plinq_merge.proofs.merger.Merger.offer.Goals as goal
 
 pub returns-in-Ok-None-clause-takes : goal.returns-in-Ok-None-clause-takes
@@ -14,8 +17,10 @@ returns-in-Ok-None-clause-takes g c =
     let is_open : c.args.self.now.standing ≡ Open = search rules in
     let fresh : IsFresh w.row.next w.row.waiting.entries r.first (behind_result r) = search rules in
     let is : c.merge.result ≡ Ok None = search rules in
-    offers-yes g.L.Lambda.meaning g.K.Sink.accepts g.K.Sink.refuses w c.args.self.now.standing r c.args.sink.now c.merge.new.self c.args.self.now.standing c.merge.new.sink is_open is_open fresh
-    (gains-as g.L.Lambda.meaning g.K.Sink.accepts g.K.Sink.refuses w r c.args.sink.now c.merge.result (Ok None) c.merge.new.self c.merge.new.sink is c.merge.ensures.gains)
+    let P : Standing → Type 0 = λ x. Offers g.L.Lambda.meaning g.K.Sink.accepts g.K.Sink.refuses w c.args.self.now.standing r c.args.sink.now (Ok Yes) c.merge.new.self x c.merge.new.sink in
+    subst P (sym is_open)
+    (offers-by g.L.Lambda.meaning g.K.Sink.accepts g.K.Sink.refuses w c.args.self.now.standing r c.args.sink.now (Ok None) c.merge.new.self c.merge.new.sink is_open fresh
+    (gains-as g.L.Lambda.meaning g.K.Sink.accepts g.K.Sink.refuses w r c.args.sink.now c.merge.result (Ok None) c.merge.new.self c.merge.new.sink is c.merge.ensures.gains))
 
 pub returns-in-Ok-Some-clause-takes : goal.returns-in-Ok-Some-clause-takes
 returns-in-Ok-Some-clause-takes g c =
@@ -24,7 +29,7 @@ returns-in-Ok-Some-clause-takes g c =
     let is_open : c.args.self.now.standing ≡ Open = search rules in
     let fresh : IsFresh w.row.next w.row.waiting.entries r.first (behind_result r) = search rules in
     let is : c.merge.result ≡ Ok (Some c.in-Ok-Some.ending) = search rules in
-    offers-no g.L.Lambda.meaning g.K.Sink.accepts g.K.Sink.refuses w c.args.self.now.standing r c.args.sink.now c.in-Ok-Some.ending c.merge.new.self c.merge.new.sink is_open fresh
+    offers-by g.L.Lambda.meaning g.K.Sink.accepts g.K.Sink.refuses w c.args.self.now.standing r c.args.sink.now (Ok (Some c.in-Ok-Some.ending)) c.merge.new.self c.merge.new.sink is_open fresh
     (gains-as g.L.Lambda.meaning g.K.Sink.accepts g.K.Sink.refuses w r c.args.sink.now c.merge.result (Ok (Some c.in-Ok-Some.ending)) c.merge.new.self c.merge.new.sink is c.merge.ensures.gains)
 
 pub returns-in-Err-Memory-clause-takes : goal.returns-in-Err-Memory-clause-takes
@@ -34,7 +39,7 @@ returns-in-Err-Memory-clause-takes g c =
     let is_open : c.args.self.now.standing ≡ Open = search rules in
     let fresh : IsFresh w.row.next w.row.waiting.entries r.first (behind_result r) = search rules in
     let is : c.merge.result ≡ Err Memory = search rules in
-    offers-memory g.L.Lambda.meaning g.K.Sink.accepts g.K.Sink.refuses w c.args.self.now.standing r c.args.sink.now c.merge.new.self c.merge.new.sink is_open fresh
+    offers-by g.L.Lambda.meaning g.K.Sink.accepts g.K.Sink.refuses w c.args.self.now.standing r c.args.sink.now (Err Memory) c.merge.new.self c.merge.new.sink is_open fresh
     (gains-as g.L.Lambda.meaning g.K.Sink.accepts g.K.Sink.refuses w r c.args.sink.now c.merge.result (Err Memory) c.merge.new.self c.merge.new.sink is c.merge.ensures.gains)
 
 pub returns-in-Err-Sink-clause-takes : goal.returns-in-Err-Sink-clause-takes
@@ -44,7 +49,7 @@ returns-in-Err-Sink-clause-takes g c =
     let is_open : c.args.self.now.standing ≡ Open = search rules in
     let fresh : IsFresh w.row.next w.row.waiting.entries r.first (behind_result r) = search rules in
     let is : c.merge.result ≡ Err (Sink c.in-Err-Sink.code) = search rules in
-    offers-sink g.L.Lambda.meaning g.K.Sink.accepts g.K.Sink.refuses w c.args.self.now.standing r c.args.sink.now c.in-Err-Sink.code c.merge.new.self c.merge.new.sink is_open fresh
+    offers-by g.L.Lambda.meaning g.K.Sink.accepts g.K.Sink.refuses w c.args.self.now.standing r c.args.sink.now (Err (Sink c.in-Err-Sink.code)) c.merge.new.self c.merge.new.sink is_open fresh
     (gains-as g.L.Lambda.meaning g.K.Sink.accepts g.K.Sink.refuses w r c.args.sink.now c.merge.result (Err (Sink c.in-Err-Sink.code)) c.merge.new.self c.merge.new.sink is c.merge.ensures.gains)
 
 pub returns-in-Ok-None-clause-plan : goal.returns-in-Ok-None-clause-plan
