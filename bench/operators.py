@@ -54,6 +54,8 @@ def sequential(tree, folder, when):
     program = build(tree, "sequential", folder)
     for work, name in (("selects", "eight Selects"), ("mix", "three Selects and Filters in turn, a Skip, a Take")):
         print(f"| `sequential`{when}, {name} | {slope(program, work, 10_000, 100_000, 1, 8):.1f} |", flush=True)
+    an_item = (instructions(program, "nine", 100_000) - instructions(program, "nine", 10_000)) / 90_000
+    print(f"\n`sequential`{when}, these eight and a Filter that keeps none: {an_item:.0f} instructions an item in all", flush=True)
 
 
 def main():

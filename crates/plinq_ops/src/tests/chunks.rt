@@ -74,20 +74,32 @@ type Row<'a> = (
     Option<u64>,
 );
 
+/// The result of the chunk of these items through one operator.
+fn result_of(
+    rt: &impl Abort,
+    alloc: Global,
+    op: Op<Formula>,
+    first: u64,
+    items: Vec<i64>,
+    cut: u64,
+) -> Result<ChunkResult<i64>, Fail> {
+    assert!(rt; first <= 1_099_511_627_774 && items.len() < 4);
+    assert!(rt; first + items.len() as u64 <= 1_099_511_627_776);
+    let chunk = Chunk {
+        first,
+        items,
+        tail: Some(Tail::Refused(7)),
+    };
+    let query = ordered(alloc, &[op])?;
+    let plan = query.split();
+    assert!(rt; !plan.decided);
+    Ok(chunk_result(alloc, &plan, &chunk, cut)?)
+}
+
 /// Asks for this result of a chunk, whose tail it has.
 fn gives_result(rt: &impl Abort, alloc: Global, row: Row<'_>) -> Result<(), Fail> {
     let (op, first, list, cut, items, ending, stop) = row;
-    let query = ordered(alloc, &[op])?;
-    let chunk = Chunk {
-        first,
-        items: Vec::from_slice(alloc, list)?,
-        tail: Some(Tail::Refused(7)),
-    };
-    assert!(rt; first <= 1_099_511_627_774 && list.len() < 4);
-    assert!(rt; first + chunk.items.len() as u64 <= 1_099_511_627_776);
-    let plan = query.split();
-    assert!(rt; !plan.decided);
-    let given = chunk_result(alloc, &plan, &chunk, cut)?;
+    let given = result_of(rt, alloc, op, first, Vec::from_slice(alloc, list)?, cut)?;
     let wanted = ChunkResult {
         first,
         count: list.len() as u64,
