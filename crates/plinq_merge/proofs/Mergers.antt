@@ -13,15 +13,16 @@ use Rattle.plinq_merge.specs.declared.standing.Standing.{Standing}
 use Rattle.plinq_merge.specs.declared.standing.Standing.TheVariants.{Open, Decided, Failed as HasFailed}
 use Rattle.plinq_merge.specs.declared.work.Work.{Work}
 use Rattle.plinq_merge.specs.Sending.{Leads, IsCutOff}
+use Rattle.plinq_merge.specs.Keys.{AreNew}
 use Rattle.plinq_merge.specs.Shown.{Merge, answer, shown}
 use Rattle.plinq_merge.specs.Working.{merge_of}
 use Rattle.plinq_merge.specs.Offering.{StandsFor, Offers}
 use Rattle.plinq_merge.specs.Mergers.{plan_of, IsFor, Takes, undelivered_of, StopsShort}
 use Rattle.plinq_merge.proofs.Sent.{leads-append, cut-behind}
 
--- the offers so far, or these and one more
+-- the offers so far, or these and one more, of which no key was offered before
 abbrev pub AreOneMore : {T : Type 0} → List (ChunkResult T) → ChunkResult T → List (ChunkResult T) → Type 0
-AreOneMore offers r offers' = (offers' ≡ offers) ⊎ (offers' ≡ offers ++ r ∷ [])
+AreOneMore offers r offers' = (offers' ≡ offers) ⊎ ((offers' ≡ offers ++ r ∷ []) × AreNew offers r)
 
 module _ {L T K : Type 0} (meaning : L → Meaning T) (accepts : K → List T → K → Type 0) (refuses : K → List T → ℕ → K → Type 0) where
   -- the sink went on from what the offers so far show to what these show
@@ -38,7 +39,7 @@ module _ {L T K : Type 0} (meaning : L → Meaning T) (accepts : K → List T �
       let brings = o.1 offers stands in
       record {
         offers' = offers ++ r ∷ [];
-        more = inr refl;
+        more = inr (refl, brings.0.are_new);
         stands = subst (λ st. StandsFor meaning w' st (offers ++ r ∷ [])) (sym o.0) brings.1;
         goes = λ s leads. subst (λ bs. Leads accepts s bs s2) (sym brings.0.grows) (leads-append accepts s (shown (merge_of meaning w) offers) brings.0.gained s1 s2 leads brings.0.sent);
       }
@@ -46,7 +47,7 @@ module _ {L T K : Type 0} (meaning : L → Meaning T) (accepts : K → List T �
       let brings = o.2 offers stands in
       record {
         offers' = offers ++ r ∷ [];
-        more = inr refl;
+        more = inr (refl, brings.0.are_new);
         stands = subst (λ st. StandsFor meaning w' st (offers ++ r ∷ [])) (sym o.1) (ap (λ m. (answer m (offers ++ r ∷ [])).ending) same ∙ brings.1);
         goes = λ s leads. subst (λ bs. Leads accepts s bs s2) (sym brings.0.grows) (leads-append accepts s (shown (merge_of meaning w) offers) brings.0.gained s1 s2 leads brings.0.sent);
       }
@@ -66,7 +67,7 @@ module _ {L T K : Type 0} (meaning : L → Meaning T) (accepts : K → List T �
       let brings = o.1 offers stands in
       record {
         offers' = offers ++ r ∷ [];
-        more = inr refl;
+        more = inr (refl, brings.are_new);
         stands = tt;
         goes = λ s leads. subst (λ bs. IsCutOff accepts refuses s bs (undelivered_of Memory) s2) (sym brings.grows)
             (cut-behind accepts refuses s (shown (merge_of meaning w) offers) brings.gained (undelivered_of Memory) s1 s2 leads brings.sent);
@@ -75,7 +76,7 @@ module _ {L T K : Type 0} (meaning : L → Meaning T) (accepts : K → List T �
       let brings = o.1 offers stands in
       record {
         offers' = offers ++ r ∷ [];
-        more = inr refl;
+        more = inr (refl, brings.are_new);
         stands = tt;
         goes = λ s leads. subst (λ bs. IsCutOff accepts refuses s bs (undelivered_of (Sink code)) s2) (sym brings.grows)
             (cut-behind accepts refuses s (shown (merge_of meaning w) offers) brings.gained (undelivered_of (Sink code)) s1 s2 leads brings.sent);

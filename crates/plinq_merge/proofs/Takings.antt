@@ -120,7 +120,7 @@ taken-worked {T} merge m hand offers out more now held on kept taken =
       keys = taken.keys;
     }
 
-is_offered-append : {T : Type 0} (offers : List (ChunkResult T)) (r : ChunkResult T) (key : ℕ) → is_offered (offers ++ r ∷ []) key ≡ is_offered offers key || is_within r.first (behind_result r) key
+pub is_offered-append : {T : Type 0} (offers : List (ChunkResult T)) (r : ChunkResult T) (key : ℕ) → is_offered (offers ++ r ∷ []) key ≡ is_offered offers key || is_within r.first (behind_result r) key
 is_offered-append [] r key = or-false (is_within r.first (behind_result r) key)
 is_offered-append (o ∷ os) r key =
     ap (λ b. is_within o.first (behind_result o) key || b) (is_offered-append os r key)

@@ -39,7 +39,7 @@ told-either : {T : Type 0} (t : Trace T) (a b : Option (ℕ × Ending)) → IfSo
 told-either t None b first second = second
 told-either t (Some at) b first second = first
 
-told-true : {T : Type 0} (t : Trace T) (told : Option (ℕ × Ending)) (offers : List (ChunkResult T)) → IfSome told (EndsAt t) → AreTrueTails t offers → IfSome (all_told told offers) (EndsAt t)
+pub told-true : {T : Type 0} (t : Trace T) (told : Option (ℕ × Ending)) (offers : List (ChunkResult T)) → IfSome told (EndsAt t) → AreTrueTails t offers → IfSome (all_told told offers) (EndsAt t)
 told-true t told [] here tails = here
 told-true t told (r ∷ rs) here tails =
     told-true t (option_or told (told_at (behind_result r) r.tail)) rs (told-either t told (told_at (behind_result r) r.tail) here tails.0) tails.1
@@ -94,7 +94,7 @@ module _ {L T : Type 0} (meaning : L → Meaning T) (worker : List (Op L)) (t : 
       ∙ row-next meaning worker t is.of few is.offer
       ∙ ap (λ q. before q.behind) (sym is.part)
 
-  abbrev Begins : Trace T → Type 0
+  abbrev pub Begins : Trace T → Type 0
   Begins first = (rest : Trace T) × (glue meaning worker t ≡ followed first rest)
 
   open-begins : (key : ℕ) → Begins (followed (before key) (open_trace []))
@@ -142,7 +142,7 @@ module _ {L T : Type 0} (meaning : L → Meaning T) (worker : List (Op L)) (t : 
       same_key : (a b : ℕ) → true ≡ (a == b) → a ≡ b
       same_key a b is = grind (arith, nat_tests)
 
-  merged-begins : (offers : List (ChunkResult T)) → length t.items ≤ 2 ^ 40 → AreOffers meaning worker t offers → AreTrueTails t offers → Begins (merged ByKey offers)
+  pub merged-begins : (offers : List (ChunkResult T)) → length t.items ≤ 2 ^ 40 → AreOffers meaning worker t offers → AreTrueTails t offers → Begins (merged ByKey offers)
   merged-begins offers few are tails =
       let here = row-begins (all_told None offers) 0 (all_placed ByKey [] offers) few (told-true t None offers tt tails) (parts_of-placed [] offers are tt) in
       (here.0, here.1 ∙ ap (λ u. followed (followed u (row (all_told None offers) 0 (all_placed ByKey [] offers))) here.0) (sym (arrived-by_key offers)))
@@ -261,7 +261,7 @@ answer-begins {L} {T} meaning worker t merge offers few by_key undecided are tai
           ∙ ap (λ u. followed u rest) (sym (by_key-answer merge offers by_key undecided)),
     )
 
-batches-first : {T : Type 0} (size : Option ℕ) (xs : List T) (e : Option Ending) (b : Trace T) → AreFirstOf (batches_from size [] (trace_of xs e)) (batches_from size [] (followed (trace_of xs e) b))
+pub batches-first : {T : Type 0} (size : Option ℕ) (xs : List T) (e : Option Ending) (b : Trace T) → AreFirstOf (batches_from size [] (trace_of xs e)) (batches_from size [] (followed (trace_of xs e) b))
 batches-first size xs None b = (_, batches_from-grown size [] xs b)
 batches-first size xs (Some e) b = ([], sym (append-nil (batches_from size [] (trace_of xs (Some e)))))
 

@@ -3,29 +3,32 @@ use Rattle.std.specs.Prelude.{◌≡◌, ℕ, ◌≤◌, ◌^◌, List, [], ◌�
 use Rattle.std.specs.List.{list_any}
 use Rattle.std.specs.declared.alloc.Global.{Global}
 use Rattle.std.proofs.Common.{sym, ◌∙◌, ap, subst, append-nil, Vec}
-use Rattle.std.proofs.lemmas.List.Elements.{All-nil, All-weaker}
+use Rattle.std.proofs.lemmas.List.Elements.{All-nil}
 use Rattle.plinq_source.specs.declared.ending.Ending.{Ending}
 use Rattle.plinq_source.specs.declared.ending.Ending.TheVariants.{End}
 use Rattle.plinq_source.specs.declared.source.Source.{Ghosts as SourceGhosts}
 use Rattle.plinq_source.specs.Trace.{Trace, ended}
 use Rattle.plinq_lambda.specs.Meaning.{Meaning}
 use Rattle.plinq_lambda.specs.declared.lambda.Lambda.{Ghosts}
+use Rattle.plinq_keyed.specs.History.{IsLegalHistory}
 use Rattle.plinq_partition.specs.declared.partition.Partition.{Partition}
 use Rattle.plinq_ops.specs.declared.merge_option.MergeOption.{MergeOption}
 use Rattle.plinq_ops.specs.declared.op.Op.{Op}
 use Rattle.plinq_ops.specs.declared.order.Order.{Order}
-use Rattle.plinq_ops.specs.declared.order.Order.TheVariants.{ByKey}
+use Rattle.plinq_ops.specs.declared.order.Order.TheVariants.{ByKey, ByArrival}
 use Rattle.plinq_ops.specs.declared.plan.Plan.{Plan}
 use Rattle.plinq_ops.specs.declared.results.ChunkResult.{ChunkResult}
 use Rattle.plinq_ops.specs.Batches.{batch_size, batches, batches_from}
 use Rattle.plinq_ops.specs.Feeding.{is_empty_take}
 use Rattle.plinq_ops.specs.Fragment.{glue}
 use Rattle.plinq_ops.specs.Operator.{stages_of}
-use Rattle.plinq_ops.specs.Plan.{IsPlanOf, order_of, after_part}
+use Rattle.plinq_ops.specs.Answer.{IsRearranged, Answer}
+use Rattle.plinq_ops.specs.Plan.{IsPlanOf, order_of, worker_part, after_part}
 use Rattle.plinq_ops.specs.Query.{QueryView}
 use Rattle.plinq_ops.specs.Sequential.{answer_of}
 use Rattle.plinq_ops.specs.Stage.{Stage, seq, some_takes_none}
 use Rattle.plinq_ops.proofs.Answered.{answer-of_none}
+use Rattle.plinq_ops.proofs.Answers.{IsRearranged-refl, Answer-rearranged, Answer-sequential}
 use Rattle.plinq_ops.proofs.Counts.{some_takes_none-stages_of}
 use Rattle.plinq_ops.proofs.Glue.{answer_of-split}
 use Rattle.plinq_ops.proofs.Open.{seq-nothing}
@@ -37,13 +40,20 @@ use Rattle.plinq_merge.specs.Shown.{Merge, answer, shown}
 use Rattle.plinq_merge.specs.Mergers.{plan_of, IsFor, StopsShort}
 use Rattle.plinq_merge.proofs.Gains.{answer-open}
 use Rattle.plinq_run.specs.declared.conducting.Ended.{Ended}
+use Rattle.plinq_run.specs.declared.reach.Reach.{Reach}
+use Rattle.plinq_run.specs.declared.report.Report.{Report}
 use Rattle.plinq_run.specs.declared.run_fault.RunFault.{RunFault}
-use Rattle.plinq_run.specs.Endings.{ending_in}
+use Rattle.plinq_run.specs.Endings.{ending_in, reported}
+use Rattle.plinq_run.specs.Handed.{handed_trace}
 use Rattle.plinq_run.specs.Merged.{IsMerging, HasStopped, Merges}
-use Rattle.plinq_run.specs.Plans.{IsUndecided, merged_answer}
+use Rattle.plinq_run.specs.Plans.{IsUndecided, are_keyless, merged_answer}
+use Rattle.plinq_run.specs.Reaching.{IsOffered, Covers, accounts_for}
+use Rattle.plinq_run.specs.Reports.{MayTake, MayMerge, IsBroken, Ends, HasReported, Reports}
 use Rattle.plinq_run.specs.Results.{IsResult}
 use Rattle.plinq_run.specs.Runs.{HasRun, HasBroken, Runs, IsReportOf, refusal_of, told_refusal, fault_of}
-use Rattle.plinq_run.proofs.Runs.{IsOrderly, whole-run, broken-run}
+use Rattle.plinq_run.proofs.Arrived.{worker-keyless}
+use Rattle.plinq_run.proofs.Handed.{covers-handed}
+use Rattle.plinq_run.proofs.Runs.{merge_for, whole-run, broken-run}
 
 -- nothing was sent yet
 pub none-sent : {K B : Type 0} (accepts : K → B → K → Type 0) (s : K) (bs : List B) → (x : List B) × (x' : List B) × (bs ≡ x ++ x') × Leads accepts s x s
@@ -53,10 +63,6 @@ none-sent accepts s bs = ([], bs, refl, refl)
 shown-nothing : {T : Type 0} (merge : Merge T) → merge.decided ≡ false → some_takes_none merge.after ≡ false → shown merge [] ≡ []
 shown-nothing merge undecided takes = ap (λ u. batches_from merge.size [] u) (answer-open merge [] undecided ∙ seq-nothing merge.after None takes)
 
--- what a merger of this plan is made for
-abbrev pub merge_for : {L T : Type 0} → (L → Meaning T) → Plan L → MergeOption → Merge T
-merge_for meaning plan option = record { after = stages_of meaning plan.after.now; order = plan.order; decided = plan.decided; size = batch_size option }
-
 module _ {L T K : Type 0} {lambda : Ghosts L T} (P : ChunkResult T → Type 0) (accepts : K → List T → K → Type 0) (refuses : K → List T → ℕ → K → Type 0) where
   -- a new merger
   pub begins-merging : (plan : Plan L) (option : MergeOption) (s : K) (m : Merger L T lambda) → IsUndecided plan → plan_of m ≡ merge_for lambda.meaning plan option → IsFor m []
@@ -64,31 +70,53 @@ module _ {L T K : Type 0} {lambda : Ghosts L T} (P : ChunkResult T → Type 0) (
   begins-merging plan option s m undecided is stands = record {
     offers = [];
     are = All-nil P;
+    apart = tt;
     plan = is;
     stands = stands;
     leads = subst (λ bs. Leads accepts s bs s)
         (sym (shown-nothing (merge_for lambda.meaning plan option) undecided.undecided (sym (some_takes_none-stages_of lambda.meaning plan.after.now) ∙ undecided.after))) refl;
   }
 
-  -- results that are more than that
-  pub merges-weaker : (Q : ChunkResult T → Type 0) → ((r : ChunkResult T) → P r → Q r) → (merge : Merge T) (s : K) (m : Merger L T lambda) (fault : Option MergeFault) (s' : K)
-      → Merges P accepts refuses merge s m fault s' → Merges Q accepts refuses merge s m fault s'
-  merges-weaker Q f merge s m None s' h = record { offers = h.offers; are = All-weaker P Q f h.offers h.are; plan = h.plan; stands = h.stands; leads = h.leads }
-  merges-weaker Q f merge s m (Some fault) s' h = record { offers = h.offers; are = All-weaker P Q f h.offers h.are; short = h.short }
+-- by key the items are taken in their order
+by_key-merged : {L T : Type 0} (meaning : L → Meaning T) (plan : Plan L) (t u : Trace T) → plan.order ≡ ByKey → MayMerge meaning plan t u → u ≡ merged_answer meaning plan t
+by_key-merged meaning plan t u by may = may.is ∙ ap (merged_answer meaning plan) (subst (λ o. MayTake o t may.taken) by may.may)
+
+-- the order of the source always may be
+may-same : {T : Type 0} (order : Order) (t : Trace T) → MayTake order t t
+may-same ByKey t = refl
+may-same ByArrival t = IsRearranged-refl t
+
+-- before the first offer the first of an answer's batches, none, were delivered
+pub none-ended : {L T K : Type 0} (meaning : L → Meaning T) (accepts : K → List T → K → Type 0) (refuses : K → List T → ℕ → K → Type 0) (option : MergeOption) (plan : Plan L) (t : Trace T) (s : K) (fault : RunFault)
+    → told_refusal fault ≡ None → IsBroken accepts refuses option (MayMerge meaning plan) t s s fault
+none-ended meaning accepts refuses option plan t s fault told =
+    record {
+      answer = merged_answer meaning plan t;
+      may = record { taken = t; may = may-same plan.order t; is = refl };
+      broken = subst (λ x. StopsShort accepts refuses s (batches option (merged_answer meaning plan t)) (fault_of x) s) (sym told) (none-sent accepts s (batches option (merged_answer meaning plan t)));
+    }
 
 module _ {L T K : Type 0} {lambda : Ghosts L T} (t : Trace T) (accepts : K → List T → K → Type 0) (refuses : K → List T → ℕ → K → Type 0) (few : length t.items ≤ 2 ^ 40) where
-  -- a run by key ends with the whole answer, or with the first batches of it
-  pub ended-run : {S U : Type 0} {source : SourceGhosts S U} (plan : Plan L) (option : MergeOption) (s : K) (m : Merger L T lambda) (fault : Option MergeFault) (s' : K) (result : Result (Ended S U source) RunFault)
-      → IsUndecided plan → plan.order ≡ ByKey → Merges (IsResult lambda.meaning plan.worker.now t) accepts refuses (merge_for lambda.meaning plan option) s m fault s'
+  -- a run ends with a whole answer, or with the first batches of one
+  pub ended-run : {S U : Type 0} {source : SourceGhosts S U} (plan : Plan L) (option : MergeOption) (s : K) (m : Merger L T lambda) (reach : Reach) (fault : Option MergeFault) (s' : K) (result : Result (Ended S U source) RunFault)
+      → IsUndecided plan → Merges (IsOffered (IsResult lambda.meaning plan t) reach) accepts refuses (merge_for lambda.meaning plan option) s m fault s'
       → OnOk result (fault ≡ None)
       → IfOk result (λ e. (offers : List (ChunkResult T)) → IsFor m offers → (answer (plan_of m) offers).ending ≡ Some e.ending)
+      → IfOk result (λ e. e.reach ≡ reach)
       → IfErr result (λ f. told_refusal f ≡ refusal_of fault)
-      → Runs accepts refuses option (merged_answer lambda.meaning plan t) s s' (ending_in result)
-  ended-run plan option s m fault s' (Ok e) undecided by h none ends told =
-      whole-run lambda.meaning plan.worker.now t accepts refuses option (merge_for lambda.meaning plan option) few (record { order = by; undecided = undecided.undecided; size = refl }) s m s' e.ending
-      (subst (λ f. Merges (IsResult lambda.meaning plan.worker.now t) accepts refuses (merge_for lambda.meaning plan option) s m f s') none h) ends
-  ended-run plan option s m fault s' (Err f) undecided by h none ends told =
-      broken-run lambda.meaning plan.worker.now t accepts refuses option (merge_for lambda.meaning plan option) few (record { order = by; undecided = undecided.undecided; size = refl }) s m fault s' f h told
+      → Ends accepts refuses option (MayMerge lambda.meaning plan) t s s' result
+  ended-run plan option s m reach fault s' (Ok e) undecided h none ends is_reach told =
+      let P : ChunkResult T → Type 0 = IsOffered (IsResult lambda.meaning plan t) reach in
+      let whole = whole-run lambda.meaning plan option undecided t few accepts refuses reach s m s' e.ending
+      (subst (λ f. Merges P accepts refuses (merge_for lambda.meaning plan option) s m f s') none h) ends in
+      record {
+        answer = whole.answer;
+        may = whole.may;
+        accounts = λ first covers. whole.accounts first (subst (λ x. Covers t x first) is_reach covers);
+        has_run = whole.has_run;
+      }
+  ended-run plan option s m reach fault s' (Err f) undecided h none ends is_reach told =
+      broken-run lambda.meaning plan option undecided t few accepts refuses reach s m fault s' f h told
 
 -- what holds of the partitions
 pub back-as : {S U : Type 0} {source : SourceGhosts S U} (P : Vec (Partition S U source) Global → Type 0) (partitions : Vec (Partition S U source) Global) (result : Result (Ended S U source) RunFault)
@@ -96,14 +124,43 @@ pub back-as : {S U : Type 0} {source : SourceGhosts S U} (P : Vec (Partition S U
 back-as P partitions (Ok e) is p = subst P (sym is) p
 back-as P partitions (Err f) is p = tt
 
-module _ {K T : Type 0} (accepts : K → List T → K → Type 0) (refuses : K → List T → ℕ → K → Type 0) (option : MergeOption) (u : Trace T) (s s' : K) where
-  -- the report of a run tells of the same
-  pub runs-reported : (a b : Result Ending RunFault) → Runs accepts refuses option u s s' a → IsReportOf a b → Runs accepts refuses option u s s' b
-  runs-reported (Ok e) (Ok e') h is = subst (λ x. HasRun accepts option u s s' x) (sym is) h
-  runs-reported (Ok e) (Err f) h is =
-      subst (λ x. StopsShort accepts refuses s (batches option u) (fault_of x) s') (sym is) (batches option u, [], sym (append-nil (batches option u)), h.delivered)
-  runs-reported (Err f) (Ok e) h is = absurd is
-  runs-reported (Err f) (Err f') h is = subst (λ x. HasBroken accepts refuses option u s s' x) (sym is) h
+module _ {K T : Type 0} (accepts : K → List T → K → Type 0) (refuses : K → List T → ℕ → K → Type 0) (option : MergeOption) (May : Trace T → Trace T → Type 0) (t : Trace T) (s s' : K) where
+  -- the report of a run tells of the same answer, which its records account for
+  pub ends-reported : {S U : Type 0} {source : SourceGhosts S U} (a : Result (Ended S U source) RunFault) (b : Result Report RunFault) → Ends accepts refuses option May t s s' a → IsReportOf (ending_in a) (reported b)
+      → IfOk b (λ r. IsLegalHistory t r.records.items) → IfOk a (λ e. IfOk b (λ r. accounts_for e.reach r.records.items ≡ true)) → Reports accepts refuses option May t s s' b
+  ends-reported (Ok e) (Ok r) h is legal all =
+      record {
+        answer = h.answer;
+        may = h.may;
+        accounts = h.accounts (handed_trace t r.records.items) (covers-handed t e.reach r.records.items legal all);
+        has_run = subst (λ x. HasRun accepts option h.answer s s' x) (sym is) h.has_run;
+      }
+  ends-reported (Ok e) (Err f) h is legal all =
+      record {
+        answer = h.answer;
+        may = h.may;
+        broken = subst (λ x. StopsShort accepts refuses s (batches option h.answer) (fault_of x) s') (sym is) (batches option h.answer, [], sym (append-nil (batches option h.answer)), h.has_run.delivered);
+      }
+  ends-reported (Err f) (Ok r) h is legal all = absurd is
+  ends-reported (Err f) (Err f') h is legal all =
+      record { answer = h.answer; may = h.may; broken = subst (λ x. HasBroken accepts refuses option h.answer s s' x) (sym is) h.broken }
+
+  -- what is answered to more is answered here
+  pub reports-weaker : (May' : Trace T → Trace T → Type 0) (b : Result Report RunFault) → ((x u : Trace T) → May x u → May' x u) → Reports accepts refuses option May t s s' b
+      → Reports accepts refuses option May' t s s' b
+  reports-weaker May' (Ok r) f h = record { answer = h.answer; may = f t h.answer h.may; accounts = f (handed_trace t r.records.items) h.answer h.accounts; has_run = h.has_run }
+  reports-weaker May' (Err fault) f h = record { answer = h.answer; may = f t h.answer h.may; broken = h.broken }
+
+  -- where there is one answer, it was delivered
+  pub reports-runs : (v : Trace T) (b : Result Report RunFault) → ((u : Trace T) → May t u → u ≡ v) → Reports accepts refuses option May t s s' b → Runs accepts refuses option v s s' (reported b)
+  reports-runs v (Ok r) only h = subst (λ u. HasRun accepts option u s s' r.ending) (only h.answer h.may) h.has_run
+  reports-runs v (Err f) only h = subst (λ u. HasBroken accepts refuses option u s s' f) (only h.answer h.may) h.broken
+
+  -- and what the records hand out has the same
+  pub reports-accounts : (F : Trace T → Trace T) (b : Result Report RunFault) → ((x u : Trace T) → May x u → u ≡ F x) → Reports accepts refuses option May t s s' b
+      → IfOk b (λ r. F (handed_trace t r.records.items) ≡ F t)
+  reports-accounts F (Ok r) only h = sym (only (handed_trace t r.records.items) h.answer h.accounts) ∙ only t h.answer h.may
+  reports-accounts F (Err f) only h = tt
 
 -- the run of a decided plan: nothing, and the end
 pub decided-run : {L T K : Type 0} (meaning : L → Meaning T) (accepts : K → List T → K → Type 0) (option : MergeOption) (ops : List (Op L)) (t : Trace T) (s : K)
@@ -115,13 +172,49 @@ decided-run meaning accepts option ops t s some =
       ending = ap (λ (v : Trace _). v.ending) is;
     }
 
--- a plan by key answers what the query does
-pub planned-answer : {L T : Type 0} (meaning : L → Meaning T) (q : QueryView L) (plan : Plan L) (t : Trace T) → IsPlanOf q plan → q.ordered ≡ true → plan.decided ≡ false
+-- its answer rests on no record
+pub decided-accounts : {L T : Type 0} (meaning : L → Meaning T) (ops : List (Op L)) (t u : Trace T) → list_any is_empty_take ops ≡ true → answer_of meaning ops t ≡ answer_of meaning ops u
+decided-accounts meaning ops t u some =
+    let none : some_takes_none (stages_of meaning ops) ≡ true = sym (some_takes_none-stages_of meaning ops) ∙ some in
+    answer-of_none (stages_of meaning ops) t none ∙ sym (answer-of_none (stages_of meaning ops) u none)
+
+-- a plan answers what the query does
+planned-answer : {L T : Type 0} (meaning : L → Meaning T) (q : QueryView L) (plan : Plan L) (t : Trace T) → IsPlanOf q plan → plan.decided ≡ false
     → merged_answer meaning plan t ≡ answer_of meaning q.ops t
-planned-answer meaning q plan t is ordered undecided =
+planned-answer meaning q plan t is undecided =
     ap (λ xs. answer_of meaning xs (glue meaning plan.worker.now t)) is.after
     ∙ ap (λ ws. answer_of meaning (after_part (order_of q.ordered) q.ops) (glue meaning ws t)) is.worker
     ∙ sym (answer_of-split meaning (order_of q.ordered) q.ops t (sym is.decided ∙ undecided))
+
+-- by key nothing else
+pub planned-only : {L T : Type 0} (meaning : L → Meaning T) (q : QueryView L) (plan : Plan L) (t u : Trace T) → IsPlanOf q plan → q.ordered ≡ true → plan.decided ≡ false
+    → MayMerge meaning plan t u → u ≡ answer_of meaning q.ops t
+planned-only meaning q plan t u is ordered undecided may =
+    by_key-merged meaning plan t u (is.order ∙ ap order_of ordered) may ∙ planned-answer meaning q plan t is undecided
+
+-- and by arrival what the query may answer
+pub planned-any : {L T : Type 0} (meaning : L → Meaning T) (q : QueryView L) (plan : Plan L) (t u : Trace T) → IsPlanOf q plan → q.ordered ≡ false → plan.decided ≡ false
+    → MayMerge meaning plan t u → Answer meaning false q.ops t u
+planned-any meaning q plan t u is ordered undecided may =
+    let any : IsRearranged t may.taken = subst (λ o. MayTake o t may.taken) (is.order ∙ ap order_of ordered) may.may in
+    subst (λ v. Answer meaning false q.ops t v) (sym (may.is ∙ planned-answer meaning q plan may.taken is undecided)) (Answer-rearranged meaning q.ops t may.taken any)
+
+-- by arrival the workers look at no keys
+pub planned-keyless : {L : Type 0} (q : QueryView L) (plan : Plan L) → IsPlanOf q plan → plan.order ≡ ByArrival → are_keyless plan.worker.now ≡ true
+planned-keyless {L} q plan is by =
+    ap are_keyless is.worker ∙ ap (λ o. are_keyless (worker_part o q.ops)) (sym is.order ∙ by) ∙ worker-keyless q.ops
+
+-- a decided query may answer what it does, of whatever source
+pub decided-any : {L T K : Type 0} (meaning : L → Meaning T) (accepts : K → List T → K → Type 0) (refuses : K → List T → ℕ → K → Type 0) (option : MergeOption) (ops : List (Op L)) (t : Trace T) (s : K) (r : Report)
+    → list_any is_empty_take ops ≡ true → r.ending ≡ End → HasReported accepts refuses option (Answer meaning false ops) t s s r
+decided-any meaning accepts refuses option ops t s r some ends =
+    let first = handed_trace t r.records.items in
+    record {
+      answer = answer_of meaning ops t;
+      may = Answer-sequential meaning false ops t;
+      accounts = subst (λ v. Answer meaning false ops first v) (decided-accounts meaning ops first t some) (Answer-sequential meaning false ops first);
+      has_run = subst (λ e. HasRun accepts option (answer_of meaning ops t) s s e) (sym ends) (decided-run meaning accepts option ops t s some);
+    }
 
 -- a weaker fact of an answer
 pub ok-weaker : {X F : Type 0} (P Q : X → Type 0) → ((x : X) → P x → Q x) → (r : Result X F) → IfOk r P → IfOk r Q

@@ -1,7 +1,11 @@
+mod Arrived
 mod Batches
+mod Covered
 mod Ended
+mod Handed
 mod Hands
 mod Merged
 mod Queue
 mod Runs
 mod Taken
+mod Without

@@ -1,86 +1,163 @@
--- What was merged is how the sequential answer begins, and all of it where the answer has ended.
-use Rattle.std.specs.Prelude.{◌≡◌, ℕ, ◌≤◌, ◌^◌, List, [], ◌∷◌, length, false, Option, Some, None, Result, Ok, Err, All}
-use Rattle.std.proofs.Common.{sym, ◌∙◌, ap, subst, append-nil, refl}
-use Rattle.std.proofs.lemmas.List.Elements.{All-head, All-tail}
+-- What was merged is how an answer begins, and all of it where the answer has ended.
+use Rattle.std.specs.Prelude.{◌≡◌, ℕ, ◌≤◌, ◌^◌, List, [], ◌∷◌, length, Option, Some, None, All, refl}
+use Rattle.std.proofs.Common.{sym, ◌∙◌, ap, subst, append-nil, arith}
+use Rattle.std.proofs.lemmas.List.Elements.{All-head, All-tail, All-weaker}
 use Rattle.plinq_source.specs.declared.ending.Ending.{Ending}
-use Rattle.plinq_source.specs.Trace.{Trace}
+use Rattle.plinq_source.specs.Trace.{Trace, followed}
+use Rattle.plinq_source.proofs.Followed.{followed-ended}
 use Rattle.plinq_lambda.specs.Meaning.{Meaning}
 use Rattle.plinq_lambda.specs.declared.lambda.Lambda.{Ghosts}
 use Rattle.plinq_ops.specs.declared.merge_option.MergeOption.{MergeOption}
-use Rattle.plinq_ops.specs.declared.op.Op.{Op}
-use Rattle.plinq_ops.specs.declared.order.Order.TheVariants.{ByKey}
+use Rattle.plinq_ops.specs.declared.order.Order.{Order}
+use Rattle.plinq_ops.specs.declared.order.Order.TheVariants.{ByKey, ByArrival}
+use Rattle.plinq_ops.specs.declared.plan.Plan.{Plan}
 use Rattle.plinq_ops.specs.declared.results.ChunkResult.{ChunkResult}
 use Rattle.plinq_ops.specs.Batches.{batch_size, batches, batches_from}
 use Rattle.plinq_ops.specs.Fragment.{glue}
+use Rattle.plinq_ops.specs.Operator.{stages_of}
 use Rattle.plinq_ops.specs.Row.{AreOffers}
-use Rattle.plinq_ops.specs.Stage.{seq}
+use Rattle.plinq_ops.specs.Stage.{seq, seq_behind}
+use Rattle.plinq_ops.proofs.Stages.{seq-followed}
 use Rattle.plinq_merge.specs.declared.merge_fault.MergeFault.{MergeFault}
 use Rattle.plinq_merge.specs.declared.merge_fault.MergeFault.TheVariants.{Memory as NoMemory, Sink as Refusal, Twice, Gap, Failed}
 use Rattle.plinq_merge.specs.declared.merger.Merger.{Merger}
-use Rattle.plinq_merge.specs.Sending.{Leads}
-use Rattle.plinq_merge.specs.Shown.{Merge, answer, shown}
+use Rattle.plinq_merge.specs.Sending.{IsCutOff}
+use Rattle.plinq_merge.specs.Shown.{Merge, merged, answer, shown}
 use Rattle.plinq_merge.specs.Mergers.{plan_of, IsFor, undelivered_of, StopsShort}
-use Rattle.plinq_merge.specs.Whole.{AreTrueTails}
+use Rattle.plinq_merge.specs.Whole.{AreTrueTails, AreApart, AreFirstOf}
+use Rattle.plinq_merge.proofs.Gains.{answer-open}
 use Rattle.plinq_merge.proofs.Sent.{cut-before}
-use Rattle.plinq_merge.proofs.Whole.{shown-first, decided-whole}
+use Rattle.plinq_merge.proofs.Whole.{merged-begins, batches-first}
+use Rattle.plinq_run.specs.declared.reach.Reach.{Reach}
 use Rattle.plinq_run.specs.declared.run_fault.RunFault.{RunFault}
 use Rattle.plinq_run.specs.Merged.{IsMerging, HasStopped, Merges}
+use Rattle.plinq_run.specs.Plans.{IsUndecided, merged_answer}
+use Rattle.plinq_run.specs.Reaching.{IsOffered, Covers}
+use Rattle.plinq_run.specs.Reports.{MayTake, MayMerge, IsBroken}
 use Rattle.plinq_run.specs.Results.{IsResult}
 use Rattle.plinq_run.specs.Runs.{HasRun, HasBroken, refusal_of, told_refusal, fault_of}
+use Rattle.plinq_run.proofs.Arrived.{arrival-begins}
+use Rattle.plinq_run.proofs.Covered.{result-covered}
 
-module _ {L T : Type 0} (meaning : L → Meaning T) (worker : List (Op L)) (t : Trace T) where
-  are-offers : (rs : List (ChunkResult T)) → All (IsResult meaning worker t) rs → AreOffers meaning worker t rs
+-- what a merger of this plan is made for
+abbrev pub merge_for : {L T : Type 0} → (L → Meaning T) → Plan L → MergeOption → Merge T
+merge_for meaning plan option = record { after = stages_of meaning plan.after.now; order = plan.order; decided = plan.decided; size = batch_size option }
+
+module _ {L T : Type 0} (meaning : L → Meaning T) (plan : Plan L) (t : Trace T) where
+  are-offers : (rs : List (ChunkResult T)) → All (IsResult meaning plan t) rs → AreOffers meaning plan.worker.now t rs
   are-offers [] are = tt
-  are-offers (r ∷ rs) are = ((All-head (IsResult meaning worker t) r rs are).offer, are-offers rs (All-tail (IsResult meaning worker t) r rs are))
+  are-offers (r ∷ rs) are = ((All-head (IsResult meaning plan t) r rs are).offer, are-offers rs (All-tail (IsResult meaning plan t) r rs are))
 
-  are-true_tails : (rs : List (ChunkResult T)) → All (IsResult meaning worker t) rs → AreTrueTails t rs
+  are-true_tails : (rs : List (ChunkResult T)) → All (IsResult meaning plan t) rs → AreTrueTails t rs
   are-true_tails [] are = tt
-  are-true_tails (r ∷ rs) are = ((All-head (IsResult meaning worker t) r rs are).tail, are-true_tails rs (All-tail (IsResult meaning worker t) r rs are))
+  are-true_tails (r ∷ rs) are = ((All-head (IsResult meaning plan t) r rs are).tail, are-true_tails rs (All-tail (IsResult meaning plan t) r rs are))
 
--- a merge by key of an undecided plan, whose batches have this size
-pub record IsOrderly {T : Type 0} (option : MergeOption) (merge : Merge T) : Type 0 where
-  pub order : merge.order ≡ ByKey
-  pub undecided : merge.decided ≡ false
-  pub size : merge.size ≡ batch_size option
+  -- the fragments of the source's items, in an order in which they may be taken, begin with what was merged
+  record HasBegun (offers : List (ChunkResult T)) : Type 0 where
+    pub taken : Trace T
+    pub may : MayTake plan.order t taken
+    pub rest : Trace T
+    pub is : glue meaning plan.worker.now taken ≡ followed (merged plan.order offers) rest
 
-module _ {L T K : Type 0} (meaning : L → Meaning T) (worker : List (Op L)) (t : Trace T) (accepts : K → List T → K → Type 0) (refuses : K → List T → ℕ → K → Type 0)
-    (option : MergeOption) (merge : Merge T) (few : length t.items ≤ 2 ^ 40) (orderly : IsOrderly option merge) where
-  abbrev Whole : Trace T
-  Whole = seq merge.after (glue meaning worker t)
-
-  -- the answer has ended
-  pub whole-run : {L' : Type 0} {lambda : Ghosts L' T} (s : K) (m : Merger L' T lambda) (s' : K) (e : Ending) → IsMerging (IsResult meaning worker t) accepts refuses merge s m s'
-      → ((offers : List (ChunkResult T)) → IsFor m offers → (answer (plan_of m) offers).ending ≡ Some e) → HasRun accepts option Whole s s' e
-  whole-run s m s' e h ends =
-      let are = are-offers meaning worker t h.offers h.are in
-      let tails = are-true_tails meaning worker t h.offers h.are in
-      let ended : (answer merge h.offers).ending ≡ Some e = ap (λ x. (answer x h.offers).ending) (sym h.plan) ∙ ends h.offers h.stands in
-      let is : answer merge h.offers ≡ Whole = decided-whole meaning worker t merge h.offers e few orderly.order orderly.undecided are tails ended in
+  begun-in : (order : Order) → plan.order ≡ order → length t.items ≤ 2 ^ 40 → IsUndecided plan → (offers : List (ChunkResult T)) → All (IsResult meaning plan t) offers → AreApart offers → HasBegun offers
+  begun-in ByKey by few undecided offers are apart =
+      let begins = merged-begins meaning plan.worker.now t offers few (are-offers offers are) (are-true_tails offers are) in
       record {
-        delivered = subst (λ bs. Leads accepts s bs s') (ap (λ u. batches_from merge.size [] u) is ∙ ap (λ n. batches_from n [] Whole) orderly.size) h.leads;
-        ending = ap (λ (u : Trace T). u.ending) (sym is) ∙ ended;
+        taken = t;
+        may = subst (λ o. MayTake o t t) (sym by) refl;
+        rest = begins.0;
+        is = begins.1 ∙ ap (λ o. followed (merged o offers) begins.0) (sym by);
+      }
+  begun-in ByArrival by few undecided offers are apart =
+      let begins = arrival-begins meaning plan t few by (undecided.keyless by) offers are apart in
+      record {
+        taken = begins.0;
+        may = subst (λ o. MayTake o t begins.0) (sym by) begins.1;
+        rest = begins.2;
+        is = begins.3 ∙ ap (λ o. followed (merged o offers) begins.2) (sym by);
       }
 
-  short-of : (s : K) (offers : List (ChunkResult T)) (fault : MergeFault) (s' : K) → All (IsResult meaning worker t) offers
-      → StopsShort accepts refuses s (shown merge offers) fault s' → StopsShort accepts refuses s (batches option Whole) fault s'
-  short-of s offers fault s' good short =
-      let first = shown-first meaning worker t merge offers few orderly.order orderly.undecided (are-offers meaning worker t offers good) (are-true_tails meaning worker t offers good) in
-      let all : batches option Whole ≡ _ = ap (λ n. batches_from n [] Whole) (sym orderly.size) ∙ first.1 in
-      subst (λ bs. StopsShort accepts refuses s bs fault s') (sym all) (cut-before accepts refuses s (shown merge offers) first.0 (undelivered_of fault) s' short)
+module _ {L T : Type 0} (meaning : L → Meaning T) (plan : Plan L) (option : MergeOption) (undecided : IsUndecided plan) where
+  abbrev Made : Merge T
+  Made = merge_for meaning plan option
+
+  -- so the answer to these items begins with that to the offers
+  begun-answer : (t : Trace T) (offers : List (ChunkResult T)) → (begun : HasBegun meaning plan t offers) → (rest : Trace T) × (merged_answer meaning plan begun.taken ≡ followed (answer Made offers) rest)
+  begun-answer t offers begun =
+      let first : Trace T = merged plan.order offers in
+      let rest : Trace T = seq (seq_behind Made.after first) begun.rest in (
+        rest,
+        ap (seq Made.after) begun.is
+            ∙ seq-followed Made.after first begun.rest
+            ∙ ap (λ u. followed u rest) (sym (answer-open Made offers undecided.undecided)),
+      )
+
+  -- an answer that has ended is one of the source
+  ended-answer : (t : Trace T) (offers : List (ChunkResult T)) (e : Ending) → length t.items ≤ 2 ^ 40 → All (IsResult meaning plan t) offers → AreApart offers → (answer Made offers).ending ≡ Some e
+      → MayMerge meaning plan t (answer Made offers)
+  ended-answer t offers e few are apart ends =
+      let begun = begun-in meaning plan t plan.order refl few undecided offers are apart in
+      let begins = begun-answer t offers begun in
+      record { taken = begun.taken; may = begun.may; is = sym (begins.1 ∙ followed-ended (answer Made offers) begins.0 e ends) }
+
+  -- what was shown are the first batches of one
+  begun-shown : (t : Trace T) (offers : List (ChunkResult T)) → (begun : HasBegun meaning plan t offers) → AreFirstOf (shown Made offers) (batches option (merged_answer meaning plan begun.taken))
+  begun-shown t offers begun =
+      let begins = begun-answer t offers begun in
+      let first = batches-first (batch_size option) (answer Made offers).items (answer Made offers).ending begins.0 in
+      (first.0, ap (batches_from (batch_size option) []) begins.1 ∙ first.1)
+
+module _ {L T K : Type 0} (meaning : L → Meaning T) (plan : Plan L) (option : MergeOption) (undecided : IsUndecided plan) (t : Trace T) (few : length t.items ≤ 2 ^ 40)
+    (accepts : K → List T → K → Type 0) (refuses : K → List T → ℕ → K → Type 0) where
+  abbrev Merged : {L' : Type 0} {lambda : Ghosts L' T} → Reach → K → Merger L' T lambda → Option MergeFault → K → Type 0
+  Merged reach s m fault s' = Merges (IsOffered (IsResult meaning plan t) reach) accepts refuses (merge_for meaning plan option) s m fault s'
+
+  abbrev Ended : {L' : Type 0} {lambda : Ghosts L' T} → Merger L' T lambda → Ending → Type 0
+  Ended m e = (offers : List (ChunkResult T)) → IsFor m offers → (answer (plan_of m) offers).ending ≡ Some e
+
+  -- an answer was delivered, and what has all that was offered of the source has it too
+  pub record IsWhole (reach : Reach) (s s' : K) (e : Ending) : Type 0 where
+    pub answer : Trace T
+    pub may : MayMerge meaning plan t answer
+    pub accounts : (first : Trace T) → Covers t reach first → MayMerge meaning plan first answer
+    pub has_run : HasRun accepts option answer s s' e
+
+  pub whole-run : {L' : Type 0} {lambda : Ghosts L' T} (reach : Reach) (s : K) (m : Merger L' T lambda) (s' : K) (e : Ending) → Merged reach s m None s' → Ended m e → IsWhole reach s s' e
+  whole-run reach s m s' e h ends =
+      let made : Merge T = merge_for meaning plan option in
+      let ended : (answer made h.offers).ending ≡ Some e = ap (λ x. (answer x h.offers).ending) (sym h.plan) ∙ ends h.offers h.stands in
+      record {
+        answer = answer made h.offers;
+        may = ended-answer meaning plan option undecided t h.offers e few
+            (All-weaker (IsOffered (IsResult meaning plan t) reach) (IsResult meaning plan t) (λ r x. x.0) h.offers h.are) h.apart ended;
+        accounts = λ first covers. ended-answer meaning plan option undecided first h.offers e (omega (arith, few, covers.within))
+            (All-weaker (IsOffered (IsResult meaning plan t) reach) (IsResult meaning plan first) (λ r x. result-covered meaning plan t first reach r few covers x) h.offers h.are) h.apart ended;
+        has_run = record { delivered = h.leads; ending = ended };
+      }
+
+  short-of : (reach : Reach) (s : K) (offers : List (ChunkResult T)) (fault : MergeFault) (s' : K) (told : RunFault) → All (IsOffered (IsResult meaning plan t) reach) offers → AreApart offers
+      → StopsShort accepts refuses s (shown (merge_for meaning plan option) offers) fault s' → undelivered_of (fault_of (told_refusal told)) ≡ undelivered_of fault
+      → IsBroken accepts refuses option (MayMerge meaning plan) t s s' told
+  short-of reach s offers fault s' told are apart short same =
+      let plain = All-weaker (IsOffered (IsResult meaning plan t) reach) (IsResult meaning plan t) (λ r x. x.0) offers are in
+      let begun = begun-in meaning plan t plan.order refl few undecided offers plain apart in
+      let first = begun-shown meaning plan option undecided t offers begun in
+      let sent = cut-before accepts refuses s (shown (merge_for meaning plan option) offers) first.0 (undelivered_of fault) s' short in
+      record {
+        answer = merged_answer meaning plan begun.taken;
+        may = record { taken = begun.taken; may = begun.may; is = refl };
+        broken = subst (λ u. IsCutOff accepts refuses s (batches option (merged_answer meaning plan begun.taken)) u s') (sym same)
+            (subst (λ bs. IsCutOff accepts refuses s bs (undelivered_of fault) s') (sym first.1) sent);
+      }
 
   -- it was broken off
-  pub broken-run : {L' : Type 0} {lambda : Ghosts L' T} (s : K) (m : Merger L' T lambda) (fault : Option MergeFault) (s' : K) (told : RunFault)
-      → Merges (IsResult meaning worker t) accepts refuses merge s m fault s' → told_refusal told ≡ refusal_of fault → HasBroken accepts refuses option Whole s s' told
-  broken-run s m None s' told h is =
-      subst (λ x. StopsShort accepts refuses s (batches option Whole) (fault_of x) s') (sym is)
-      (short-of s h.offers NoMemory s' h.are (shown merge h.offers, [], sym (append-nil (shown merge h.offers)), h.leads))
-  broken-run s m (Some (Refusal code)) s' told h is =
-      subst (λ x. StopsShort accepts refuses s (batches option Whole) (fault_of x) s') (sym is) (short-of s h.offers (Refusal code) s' h.are h.short)
-  broken-run s m (Some NoMemory) s' told h is =
-      subst (λ x. StopsShort accepts refuses s (batches option Whole) (fault_of x) s') (sym is) (short-of s h.offers NoMemory s' h.are h.short)
-  broken-run s m (Some Twice) s' told h is =
-      subst (λ x. StopsShort accepts refuses s (batches option Whole) (fault_of x) s') (sym is) (short-of s h.offers NoMemory s' h.are h.short)
-  broken-run s m (Some Gap) s' told h is =
-      subst (λ x. StopsShort accepts refuses s (batches option Whole) (fault_of x) s') (sym is) (short-of s h.offers NoMemory s' h.are h.short)
-  broken-run s m (Some Failed) s' told h is =
-      subst (λ x. StopsShort accepts refuses s (batches option Whole) (fault_of x) s') (sym is) (short-of s h.offers NoMemory s' h.are h.short)
+  pub broken-run : {L' : Type 0} {lambda : Ghosts L' T} (reach : Reach) (s : K) (m : Merger L' T lambda) (fault : Option MergeFault) (s' : K) (told : RunFault)
+      → Merged reach s m fault s' → told_refusal told ≡ refusal_of fault → IsBroken accepts refuses option (MayMerge meaning plan) t s s' told
+  broken-run reach s m None s' told h is =
+      let all : List (List T) = shown (merge_for meaning plan option) h.offers in
+      short-of reach s h.offers NoMemory s' told h.are h.apart (all, [], sym (append-nil all), h.leads) (ap (λ x. undelivered_of (fault_of x)) is)
+  broken-run reach s m (Some (Refusal code)) s' told h is = short-of reach s h.offers (Refusal code) s' told h.are h.apart h.short (ap (λ x. undelivered_of (fault_of x)) is)
+  broken-run reach s m (Some NoMemory) s' told h is = short-of reach s h.offers NoMemory s' told h.are h.apart h.short (ap (λ x. undelivered_of (fault_of x)) is)
+  broken-run reach s m (Some Twice) s' told h is = short-of reach s h.offers Twice s' told h.are h.apart h.short (ap (λ x. undelivered_of (fault_of x)) is)
+  broken-run reach s m (Some Gap) s' told h is = short-of reach s h.offers Gap s' told h.are h.apart h.short (ap (λ x. undelivered_of (fault_of x)) is)
+  broken-run reach s m (Some Failed) s' told h is = short-of reach s h.offers Failed s' told h.are h.apart h.short (ap (λ x. undelivered_of (fault_of x)) is)

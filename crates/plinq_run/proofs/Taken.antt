@@ -16,7 +16,7 @@ use Rattle.plinq_keyed.specs.declared.tail.Tail.{Tail}
 use Rattle.plinq_keyed.specs.History.{Place, reply, recorded, ending_tail, items_from}
 use Rattle.plinq_enumerator.specs.Growing.{GrowthRule}
 use Rattle.plinq_partition.specs.Partitions.{Holding, IsTaken}
-use Rattle.plinq_ops.specs.declared.op.Op.{Op}
+use Rattle.plinq_ops.specs.declared.plan.Plan.{Plan}
 use Rattle.plinq_ops.specs.declared.results.ChunkResult.{ChunkResult}
 use Rattle.plinq_ops.specs.Chunk.{IsChunkResult}
 use Rattle.plinq_ops.specs.Cut.{no_cut}
@@ -62,9 +62,9 @@ told-recorded t p entry is within =
     let tail : entry.tail ≡ r.tail = ap (λ (x : Record). x.tail) is in
     rw (first, count, tail) (told-reply t p entry.asked (omega arith))
 
-pub result-from_taken : {L T : Type 0} (meaning : L → Meaning T) (worker : List (Op L)) (growth : GrowthRule) (a b : Holding T) (chunk : Chunk T) (r : ChunkResult T)
-    → IsTaken growth a b chunk → IsChunkResult meaning worker no_cut chunk r → IsResult meaning worker a.origin r
-result-from_taken meaning worker growth a b chunk r taken made =
+pub result-from_taken : {L T : Type 0} (meaning : L → Meaning T) (plan : Plan L) (growth : GrowthRule) (a b : Holding T) (chunk : Chunk T) (r : ChunkResult T)
+    → IsTaken growth a b chunk → IsChunkResult meaning plan.worker.now no_cut chunk r → IsResult meaning plan a.origin r
+result-from_taken meaning plan growth a b chunk r taken made =
     let t = a.origin in
     let entry = taken.entry in
     let first : chunk.first ≡ entry.first = taken.of.first in
@@ -82,6 +82,7 @@ result-from_taken meaning worker growth a b chunk r taken made =
         items = taken.of.items ∙ rw (first, counted) refl;
         made = made;
       };
+      uncut = λ by. refl;
       tail = rw (is_first, is_count, is_tail) told;
       within = rw (is_first, is_count) (rw (sym first, sym counted) taken.within);
     }

@@ -1,7 +1,10 @@
 pub mod Aggregates
 pub mod Endings
+pub mod Handed
 pub mod Hands
 pub mod Merged
 pub mod Plans
+pub mod Reaching
+pub mod Reports
 pub mod Results
 pub mod Runs

@@ -7,20 +7,23 @@ use Rattle.plinq_merge.specs.declared.merger.Merger.{Merger}
 use Rattle.plinq_merge.specs.Sending.{Leads}
 use Rattle.plinq_merge.specs.Shown.{Merge, shown}
 use Rattle.plinq_merge.specs.Mergers.{plan_of, IsFor, StopsShort}
+use Rattle.plinq_merge.specs.Whole.{AreApart}
 
 module _ {T K : Type 0} (IsResult : ChunkResult T → Type 0) (accepts : K → List T → K → Type 0) (refuses : K → List T → ℕ → K → Type 0)
     (merge : Merge T) (s : K) where
-  -- results were offered, and the sink has the first batches of what they show
+  -- results were offered, of which no key is in two, and the sink has the first batches of what they show
   pub record HasStopped (fault : MergeFault) (s' : K) : Type 0 where
     pub offers : List (ChunkResult T)
     pub are : All IsResult offers
+    pub apart : AreApart offers
     pub short : StopsShort accepts refuses s (shown merge offers) fault s'
 
   module _ {L : Type 0} {lambda : Ghosts L T} where
-    -- results were offered, and the sink has what they show
+    -- results were offered, of which no key is in two, and the sink has what they show
     pub record IsMerging (m : Merger L T lambda) (s' : K) : Type 0 where
       pub offers : List (ChunkResult T)
       pub are : All IsResult offers
+      pub apart : AreApart offers
       pub plan : plan_of m ≡ merge
       pub stands : IsFor m offers
       pub leads : Leads accepts s (shown merge offers) s'

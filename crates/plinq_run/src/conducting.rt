@@ -4,21 +4,21 @@ ghost use Rattle.std.specs.List.{list_any};
 ghost use Rattle.crossbeam_queue.specs.Passes.{IsPassOf};
 ghost use Rattle.plinq_ops.specs.Feeding.{is_empty_take};
 ghost use Rattle.plinq_ops.specs.ByKey.{is_by_key};
-ghost use Rattle.plinq_ops.specs.declared.order.Order.TheVariants.{ByKey};
 ghost use Rattle.plinq_ops.specs.declared.results.ChunkResult.{ChunkResult};
 ghost use Rattle.plinq_merge.specs.Shown.{Merge, behind_result};
 ghost use Rattle.plinq_partition.specs.Partitions.{IsPartitionOf, holding_of};
 ghost use Rattle.plinq_partition.specs.GivenBack.{common_origin};
 ghost use Rattle.plinq_run.specs.Merged.{Merges};
-ghost use Rattle.plinq_run.specs.Plans.{IsUndecided, merged_answer};
-ghost use Rattle.plinq_run.specs.Runs.{Runs};
-ghost use Rattle.plinq_run.specs.Endings.{ending_in};
+ghost use Rattle.plinq_run.specs.Plans.{IsUndecided};
+ghost use Rattle.plinq_run.specs.Reaching.{IsOffered};
+ghost use Rattle.plinq_run.specs.Reports.{MayMerge, Ends};
 ghost use Rattle.plinq_run.specs.Results.{IsResult};
 
 use crate::finishing::told;
 use crate::gate::Gate;
 use crate::hand::Hand;
 use crate::merging::Merging;
+use crate::reach::Reach;
 use crate::results::{Came, Carries, ResultPass};
 use crate::run_fault::RunFault;
 use crate::starting::{Shortages, join_all, start_all};
@@ -38,11 +38,13 @@ pub(crate) struct Staff {
     pub(crate) started: u64,
 }
 
-/// What is left of a run that has an answer: the partitions, and how the answer ended.
+/// What is left of a run that has an answer: the partitions, how the answer ended, and how far the results reach that it
+/// rests on.
 #[derive(Drop)]
 pub(crate) struct Ended<S: Source> {
     pub(crate) partitions: Vec<Partition<S>>,
     pub(crate) ending: Ending,
+    pub(crate) reach: Reach,
 }
 
 /// Closes the source once nothing more is wanted: the answer is decided, or there was a fault.
@@ -65,6 +67,7 @@ where
     ensures origin { (holding_of own.new).origin ≡ (holding_of own.old).origin }
     ensures merger { merging.new.merger ≡ merging.old.merger }
     ensures fault { merging.new.fault ≡ merging.old.fault }
+    ensures reach { merging.new.reach ≡ merging.old.reach }
 {
     if merging.is_closed {
         return;
@@ -102,8 +105,8 @@ where
     requires within { (r : ChunkResult L.Item) → J.is_result r → behind_result r ≤ 2 ^ 40 }
     ensures of { IsPartitionOf crew.now.chunked.now own.new }
     ensures origin { (holding_of own.new).origin ≡ (holding_of own.old).origin }
-    ensures merges { (merge : Merge L.Item) (s : K) → Merges J.is_result K.accepts K.refuses merge s merging.old.merger merging.old.fault sink.old
-        → Merges J.is_result K.accepts K.refuses merge s merging.new.merger merging.new.fault sink.new }
+    ensures merges { (merge : Merge L.Item) (s : K) → Merges (IsOffered J.is_result merging.old.reach) K.accepts K.refuses merge s merging.old.merger merging.old.fault sink.old
+        → Merges (IsOffered J.is_result merging.new.reach) K.accepts K.refuses merge s merging.new.merger merging.new.fault sink.new }
 {
     let backoff = Backoff::new();
     for _ in rt.forever() {
@@ -146,10 +149,10 @@ where
     requires plan { IsUndecided crew.now.plan.now }
     requires few { crew.now.workers ≤ 64 }
     requires source { length (holding_of own).origin.items ≤ 2 ^ 40 }
-    requires carries { (r : ChunkResult L.Item) → IsResult L.meaning crew.now.plan.now.worker.now (holding_of own).origin r → J.is_result r }
-    requires carried { (r : ChunkResult L.Item) → J.is_result r → IsResult L.meaning crew.now.plan.now.worker.now (holding_of own).origin r }
+    requires carries { (r : ChunkResult L.Item) → IsResult L.meaning crew.now.plan.now (holding_of own).origin r → J.is_result r }
+    requires carried { (r : ChunkResult L.Item) → J.is_result r → IsResult L.meaning crew.now.plan.now (holding_of own).origin r }
     ensures back { IfOk result (λ ended. (1 ≤ length ended.partitions.items) × All (IsPartitionOf crew.now.chunked.now) ended.partitions.items × (common_origin ended.partitions.items ≡ (holding_of own).origin)) }
-    ensures runs { crew.now.plan.now.order ≡ ByKey → Runs K.accepts K.refuses crew.now.option (merged_answer L.meaning crew.now.plan.now (holding_of own).origin) sink.old sink.new (ending_in result) }
+    ensures ends { Ends K.accepts K.refuses crew.now.option (MayMerge L.meaning crew.now.plan.now) (holding_of own).origin sink.old sink.new result }
 {
     let Ok(hands) = Vec::with_capacity(crew.alloc, crew.workers as usize) else {
         return Err(RunFault::Memory);
@@ -162,6 +165,7 @@ where
     };
     let mut merging = Merging {
         merger,
+        reach: Reach::none(),
         fault: None,
         is_closed: false,
     };

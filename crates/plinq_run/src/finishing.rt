@@ -1,5 +1,5 @@
 //! What is told when all workers have been joined.
-ghost use Rattle.std.specs.Prelude.{◌≡◌, ◌≤◌, List, length, Some, None, All, IfOk, IfErr, IfSome, OnOk, Ok};
+ghost use Rattle.std.specs.Prelude.{◌≡◌, ◌≤◌, List, length, true, Some, None, All, IfOk, IfErr, IfSome, OnOk, Ok};
 ghost use Rattle.plinq_keyed.specs.History.{IsLegalHistory};
 ghost use Rattle.plinq_ops.specs.declared.results.ChunkResult.{ChunkResult};
 ghost use Rattle.plinq_merge.specs.Shown.{answer};
@@ -9,7 +9,9 @@ ghost use Rattle.plinq_partition.specs.GivenBack.{common_origin};
 ghost use Rattle.plinq_source.specs.Trace.{Trace};
 ghost use Rattle.plinq_run.specs.Runs.{refusal_of, told_refusal, IsReportOf};
 ghost use Rattle.plinq_run.specs.Endings.{ending_in, reported};
+ghost use Rattle.plinq_run.specs.Reaching.{accounts_for};
 
+use crate::accounting::account_for;
 use crate::conducting::{Ended, Staff};
 use crate::merging::Merging;
 use crate::report::Report;
@@ -75,19 +77,29 @@ pub(crate) fn told<L: Lambda, S: Source>(
     ensures none { OnOk result (merging.entry.fault ≡ None) }
     ensures ending { IfOk result (λ ended. (offers : List (ChunkResult L.Item)) → IsFor merging.entry.merger offers → (answer (plan_of merging.entry.merger) offers).ending ≡ Some ended.ending) }
     ensures partitions { IfOk result (λ ended. ended.partitions ≡ partitions) }
+    ensures reach { IfOk result (λ ended. ended.reach ≡ merging.entry.reach) }
     ensures err { IfErr result (λ fault. told_refusal fault ≡ refusal_of merging.entry.fault) }
 {
-    let Merging { merger, fault, .. } = merging;
+    let Merging {
+        merger,
+        reach,
+        fault,
+        ..
+    } = merging;
     if let Some(first) = first_fault(fault, shortages, staff) {
         return Err(first);
     }
     let Ok(ending) = merger.finish() else {
         return Err(RunFault::Incomplete);
     };
-    Ok(Ended { partitions, ending })
+    Ok(Ended {
+        partitions,
+        ending,
+        reach,
+    })
 }
 
-/// The report of a run that has an answer.
+/// The report of a run that has an answer, if the records account for it.
 fn report_of<S: Source>(
     alloc: Global,
     chunked: Chunked<S>,
@@ -97,15 +109,21 @@ fn report_of<S: Source>(
     requires of { All (IsPartitionOf chunked) ended.partitions.items }
     ensures told { IsReportOf (Ok ended.ending) (reported result) }
     ensures legal { IfOk result (λ report. IsLegalHistory (common_origin ended.partitions.items) report.records.items) }
+    ensures accounted { IfOk result (λ report. accounts_for ended.reach report.records.items ≡ true) }
 {
-    let Ended { partitions, ending } = ended;
-    match chunked.give_back(partitions) {
-        Ok(enumerator) => match copied(alloc, enumerator.records()) {
-            Ok(records) => Ok(Report { ending, records }),
-            Err(fault) => Err(fault),
-        },
-        Err(_) => Err(RunFault::Incomplete),
+    let Ended {
+        partitions,
+        ending,
+        reach,
+    } = ended;
+    let Ok(enumerator) = chunked.give_back(partitions) else {
+        return Err(RunFault::Incomplete);
+    };
+    let records = copied(alloc, enumerator.records())?;
+    if !account_for(&records, reach) {
+        return Err(RunFault::Incomplete);
     }
+    Ok(Report { ending, records })
 }
 
 /// The report of a run, if it has an answer.
@@ -117,6 +135,7 @@ pub(crate) fn report<S: Source>(
     requires some { IfOk ended (λ e. 1 ≤ length e.partitions.items) }
     requires of { IfOk ended (λ e. All (IsPartitionOf chunked) e.partitions.items) }
     ensures told { IsReportOf (ending_in ended) (reported result) }
+    ensures accounted { IfOk ended (λ e. IfOk result (λ report. accounts_for e.reach report.records.items ≡ true)) }
     ensures legal { (t : Trace S.Item) → IfOk ended (λ e. common_origin e.partitions.items ≡ t) → IfOk result (λ report. IsLegalHistory t report.records.items) }
 {
     match ended {

@@ -3,13 +3,17 @@
 //!
 //! - [`run`] on a query with `as_ordered` delivers exactly the batches of the sequential answer and tells its ending, or
 //!   after a fault the first of these batches (`Runs`), for every number of workers and every order in which results come.
-//! - [`aggregate`] on such a query tells the value of the sequential answer's items, or how that answer ended otherwise
-//!   (`Aggregates`).
+//! - On any other query it delivers the batches of some answer that the query may have (`Reports`).
+//! - The records that it reports are a legal history of the source, which was closed, and what they hand out has the
+//!   answer that was delivered (`handed_trace`).
+//! - [`aggregate`] on a query with `as_ordered` tells the value of the sequential answer's items, or how that answer ended
+//!   otherwise (`Aggregates`).
 //! - What goes through the queue are results of chunks of the source, each under a cut of its own (`IsResult`): that is
 //!   the queue's rule.
 //! - A [`Gate`] is what workers pass on their way.
 #![tactic(auto)]
 
+mod accounting;
 mod aggregate_fault;
 mod aggregating;
 mod conducting;
@@ -19,6 +23,7 @@ mod gate;
 mod hand;
 mod merging;
 mod progress;
+mod reach;
 mod report;
 mod results;
 mod run_fault;

@@ -2,17 +2,20 @@
 ghost use Rattle.std.specs.Prelude.{◌≡◌, ◌≤◌, ◌^◌};
 ghost use Rattle.plinq_merge.specs.Shown.{Merge, behind_result};
 ghost use Rattle.plinq_run.specs.Merged.{Merges};
+ghost use Rattle.plinq_run.specs.Reaching.{IsOffered};
 
+use crate::reach::Reach;
 use crate::results::Carries;
 use plinq_lambda::Lambda;
 use plinq_merge::{MergeFault, Merger, Sink};
 use plinq_ops::ChunkResult;
 
-/// A merger, the fault after which it is offered nothing more, and whether the source was closed, since nothing more is
-/// wanted.
+/// A merger, how far what it was offered reaches, the fault after which it is offered nothing more, and whether the source
+/// was closed, since nothing more is wanted.
 #[derive(Drop)]
 pub(crate) struct Merging<'a, L: Lambda> {
     pub(crate) merger: Merger<'a, L>,
+    pub(crate) reach: Reach,
     pub(crate) fault: Option<MergeFault>,
     pub(crate) is_closed: bool,
 }
@@ -26,12 +29,13 @@ impl<'a, L: Lambda> Merging<'a, L> {
     )
         requires within { behind_result made ≤ 2 ^ 40 }
         requires result { J.is_result made }
-        ensures { (merge : Merge L.Item) (s : K) → Merges J.is_result K.accepts K.refuses merge s self.old.merger self.old.fault sink.old
-            → Merges J.is_result K.accepts K.refuses merge s self.new.merger self.new.fault sink.new }
+        ensures { (merge : Merge L.Item) (s : K) → Merges (IsOffered J.is_result self.old.reach) K.accepts K.refuses merge s self.old.merger self.old.fault sink.old
+            → Merges (IsOffered J.is_result self.new.reach) K.accepts K.refuses merge s self.new.merger self.new.fault sink.new }
     {
         if self.is_closed || self.fault.is_some() {
             return;
         }
+        self.reach.extend(&made);
         if let Err(fault) = self.merger.offer(made, sink) {
             self.fault = Some(fault);
         }

@@ -1,15 +1,19 @@
 //! The run of a query.
-ghost use Rattle.std.specs.Prelude.{◌≡◌, ◌≤◌, ◌^◌, length, true, All, IfOk};
+ghost use Rattle.std.specs.Prelude.{◌≡◌, ◌≤◌, ◌^◌, [], length, true, false, All, IfOk};
+ghost use Rattle.std.specs.List.{list_any};
 ghost use Rattle.crossbeam_queue.specs.Passes.{IsPassOf};
 ghost use Rattle.plinq_keyed.specs.History.{IsLegalHistory};
-ghost use Rattle.plinq_ops.specs.declared.order.Order.TheVariants.{ByKey};
 ghost use Rattle.plinq_ops.specs.declared.results.ChunkResult.{ChunkResult};
+ghost use Rattle.plinq_ops.specs.Answer.{Answer};
+ghost use Rattle.plinq_ops.specs.Feeding.{is_empty_take};
 ghost use Rattle.plinq_ops.specs.Query.{merge_in_force};
 ghost use Rattle.plinq_ops.specs.Sequential.{answer_of};
 ghost use Rattle.plinq_partition.specs.Partitions.{IsPartitionOf, holding_of};
 ghost use Rattle.plinq_partition.specs.GivenBack.{common_origin};
-ghost use Rattle.plinq_run.specs.Endings.{ending_in, reported};
-ghost use Rattle.plinq_run.specs.Plans.{IsUndecided, merged_answer};
+ghost use Rattle.plinq_run.specs.Endings.{reported};
+ghost use Rattle.plinq_run.specs.Handed.{has_close, handed_trace};
+ghost use Rattle.plinq_run.specs.Plans.{IsUndecided};
+ghost use Rattle.plinq_run.specs.Reports.{MayMerge, Ends, Reports};
 ghost use Rattle.plinq_run.specs.Results.{IsResult};
 ghost use Rattle.plinq_run.specs.Runs.{Runs};
 
@@ -56,10 +60,10 @@ where
     requires plan { IsUndecided crew.now.plan.now }
     requires few { crew.now.workers ≤ 64 }
     requires source { length (holding_of own).origin.items ≤ 2 ^ 40 }
-    requires carries { (r : ChunkResult L.Item) → IsResult L.meaning crew.now.plan.now.worker.now (holding_of own).origin r → J.is_result r }
-    requires carried { (r : ChunkResult L.Item) → J.is_result r → IsResult L.meaning crew.now.plan.now.worker.now (holding_of own).origin r }
+    requires carries { (r : ChunkResult L.Item) → IsResult L.meaning crew.now.plan.now (holding_of own).origin r → J.is_result r }
+    requires carried { (r : ChunkResult L.Item) → J.is_result r → IsResult L.meaning crew.now.plan.now (holding_of own).origin r }
     ensures back { IfOk result (λ ended. (1 ≤ length ended.partitions.items) × All (IsPartitionOf crew.now.chunked.now) ended.partitions.items × (common_origin ended.partitions.items ≡ (holding_of own).origin)) }
-    ensures runs { crew.now.plan.now.order ≡ ByKey → Runs K.accepts K.refuses crew.now.option (merged_answer L.meaning crew.now.plan.now (holding_of own).origin) sink.old sink.new (ending_in result) }
+    ensures ends { Ends K.accepts K.refuses crew.now.option (MayMerge L.meaning crew.now.plan.now) (holding_of own).origin sink.old sink.new result }
 {
     let lent = &mut *sink;
     let (ended, _lent) = thread::scope(
@@ -71,11 +75,11 @@ where
             requires plan { IsUndecided crew.now.plan.now }
             requires few { crew.now.workers ≤ 64 }
             requires source { length (holding_of own).origin.items ≤ 2 ^ 40 }
-            requires carries { (r : ChunkResult L.Item) → IsResult L.meaning crew.now.plan.now.worker.now (holding_of own).origin r → J.is_result r }
-            requires carried { (r : ChunkResult L.Item) → J.is_result r → IsResult L.meaning crew.now.plan.now.worker.now (holding_of own).origin r }
+            requires carries { (r : ChunkResult L.Item) → IsResult L.meaning crew.now.plan.now (holding_of own).origin r → J.is_result r }
+            requires carried { (r : ChunkResult L.Item) → J.is_result r → IsResult L.meaning crew.now.plan.now (holding_of own).origin r }
             ensures back { IfOk result.0 (λ ended. (1 ≤ length ended.partitions.items) × All (IsPartitionOf crew.entry.now.chunked.now) ended.partitions.items × (common_origin ended.partitions.items ≡ (holding_of own).origin)) }
             ensures same { result.1.ghost_name ≡ lent.entry.ghost_name }
-            ensures runs { crew.entry.now.plan.now.order ≡ ByKey → Runs K.accepts K.refuses crew.entry.now.option (merged_answer L.meaning crew.entry.now.plan.now (holding_of own).origin) lent.entry.now result.1.now (ending_in result.0) }
+            ensures ends { Ends K.accepts K.refuses crew.entry.now.option (MayMerge L.meaning crew.entry.now.plan.now) (holding_of own).origin lent.entry.now result.1.now result.0 }
         {
             let ended = conduct(scope, rt, crew, own, pass, lent);
             (ended, lent)
@@ -106,10 +110,11 @@ where
     requires unasked { S.given source ≡ 0 }
     requires plan { IsUndecided plan.now }
     requires few { workers ≤ 64 }
-    requires carries { (r : ChunkResult L.Item) → IsResult L.meaning plan.now.worker.now (S.whole source) r → J.is_result r }
-    requires carried { (r : ChunkResult L.Item) → J.is_result r → IsResult L.meaning plan.now.worker.now (S.whole source) r }
+    requires carries { (r : ChunkResult L.Item) → IsResult L.meaning plan.now (S.whole source) r → J.is_result r }
+    requires carried { (r : ChunkResult L.Item) → J.is_result r → IsResult L.meaning plan.now (S.whole source) r }
     ensures legal { IfOk result (λ report. IsLegalHistory (S.whole source) report.records.items) }
-    ensures runs { plan.now.order ≡ ByKey → Runs K.accepts K.refuses option (merged_answer L.meaning plan.now (S.whole source)) sink.old sink.new (reported result) }
+    ensures closed { IfOk result (λ report. has_close report.records.items ≡ true) }
+    ensures reports { Reports K.accepts K.refuses option (MayMerge L.meaning plan.now) (S.whole source) sink.old sink.new result }
 {
     let Ok((chunked, own)) = Chunked::new(alloc, source, growth) else {
         return Err(RunFault::Memory);
@@ -164,7 +169,11 @@ where
     R: Threads + Wait + Sync,
     requires { S.given source ≡ 0 }
     ensures legal { IfOk result (λ report. IsLegalHistory (S.whole source) report.records.items) }
+    ensures none { list_any is_empty_take query.now.ops ≡ true → IfOk result (λ report. report.records.items ≡ []) }
+    ensures closed { list_any is_empty_take query.now.ops ≡ false → IfOk result (λ report. has_close report.records.items ≡ true) }
+    ensures accounts { query.now.ordered ≡ true → IfOk result (λ report. answer_of L.meaning query.now.ops (handed_trace (S.whole source) report.records.items) ≡ answer_of L.meaning query.now.ops (S.whole source)) }
     ensures runs { query.now.ordered ≡ true → Runs K.accepts K.refuses (merge_in_force query.now.merge) (answer_of L.meaning query.now.ops (S.whole source)) sink.old sink.new (reported result) }
+    ensures any { query.now.ordered ≡ false → Reports K.accepts K.refuses (merge_in_force query.now.merge) (Answer L.meaning false query.now.ops) (S.whole source) sink.old sink.new result }
 {
     let plan = query.split();
     if plan.decided {

@@ -41,7 +41,7 @@ where
     requires keyed { is_by_key crew.now.plan.now.worker.now ≡ true }
     requires some { list_any is_empty_take crew.now.plan.now.worker.now ≡ false }
     requires few { length (holding_of partition).origin.items ≤ 2 ^ 40 }
-    requires results { (r : ChunkResult L.Item) → IsResult L.meaning crew.now.plan.now.worker.now (holding_of partition).origin r → J.is_result r }
+    requires results { (r : ChunkResult L.Item) → IsResult L.meaning crew.now.plan.now (holding_of partition).origin r → J.is_result r }
     ensures { IfSome result (IsHandOf crew.now.chunked.now) }
 {
     let promise = ComesBack {
@@ -55,7 +55,7 @@ where
             requires keyed { is_by_key crew.now.plan.now.worker.now ≡ true }
             requires some { list_any is_empty_take crew.now.plan.now.worker.now ≡ false }
             requires few { length (holding_of partition).origin.items ≤ 2 ^ 40 }
-            requires results { (r : ChunkResult L.Item) → IsResult L.meaning crew.now.plan.now.worker.now (holding_of partition).origin r → J.is_result r }
+            requires results { (r : ChunkResult L.Item) → IsResult L.meaning crew.now.plan.now (holding_of partition).origin r → J.is_result r }
             ensures { IsPartitionOf crew.entry.now.chunked.now result.partition }
         { crew.work(rt, worker, partition, pass) },
     );
@@ -83,7 +83,7 @@ where
     requires keyed { is_by_key crew.now.plan.now.worker.now ≡ true }
     requires some { list_any is_empty_take crew.now.plan.now.worker.now ≡ false }
     requires few { length (holding_of own.old).origin.items ≤ 2 ^ 40 }
-    requires results { (r : ChunkResult L.Item) → IsResult L.meaning crew.now.plan.now.worker.now (holding_of own.old).origin r → J.is_result r }
+    requires results { (r : ChunkResult L.Item) → IsResult L.meaning crew.now.plan.now (holding_of own.old).origin r → J.is_result r }
     requires empty { room.items ≡ [] }
     requires room { workers ≤ vec_capacity room }
     ensures of { IsPartitionOf crew.now.chunked.now own.new }

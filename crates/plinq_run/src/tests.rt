@@ -2,6 +2,7 @@ ghost use Rattle.std.specs.Prelude.{⊤, ◌≡◌};
 ghost use Rattle.plinq_source.specs.declared.source.Source.{Ghosts};
 
 mod idle;
+mod unordered;
 
 use crate::{OpenGate, Report, RunFault, run};
 use plinq_enumerator::{Growth, replays};
@@ -101,6 +102,7 @@ fn add_one<R: Threads + Wait + Sync + Abort>(
     let report = answer(rt, alloc, &query, source, growth, &mut sink)?;
     assert_eq!(rt; report.ending, Ending::End);
     assert!(rt; replays(&report.records, 3, Ending::End));
+    assert_eq!(rt; closes(&report.records), 1);
     let wanted = vec![in alloc;
         vec![in alloc; 4i64]?,
         vec![in alloc; 2i64]?,

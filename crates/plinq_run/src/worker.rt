@@ -35,7 +35,7 @@ pub(crate) fn next_result<L: Lambda, S: Source<Item = L::Item>, G: Gate, R: Wait
     requires few { length (holding_of partition.old).origin.items ≤ 2 ^ 40 }
     ensures of { IsPartitionOf chunked.now partition.new }
     ensures origin { (holding_of partition.new).origin ≡ (holding_of partition.old).origin }
-    ensures result { IfOk result (IsResult L.meaning plan.now.worker.now (holding_of partition.old).origin) }
+    ensures result { IfOk result (IsResult L.meaning plan.now (holding_of partition.old).origin) }
 {
     gate.before_take(worker);
     let chunk = partition.take(rt, chunked)?;
@@ -101,7 +101,7 @@ impl<'a, L: Lambda, S: Source<Item = L::Item>, J: Carries<L::Item>, G: Gate> Cre
         requires keyed { is_by_key self.now.plan.now.worker.now ≡ true }
         requires some { list_any is_empty_take self.now.plan.now.worker.now ≡ false }
         requires few { length (holding_of partition).origin.items ≤ 2 ^ 40 }
-        requires results { (r : ChunkResult L.Item) → IsResult L.meaning self.now.plan.now.worker.now (holding_of partition).origin r → J.is_result r }
+        requires results { (r : ChunkResult L.Item) → IsResult L.meaning self.now.plan.now (holding_of partition).origin r → J.is_result r }
         ensures of { IsPartitionOf self.now.chunked.now result.partition }
         ensures origin { (holding_of result.partition).origin ≡ (holding_of partition).origin }
     {

@@ -1,30 +1,34 @@
-use Rattle.std.proofs.Common.{rules, ◌≡◌, ◌≤◌, ◌∙◌, sym, length, All}
+use Rattle.std.proofs.Common.{rules, ◌≡◌, ◌≤◌, ◌∙◌, sym, refl, length, All}
 use Rattle.plinq_partition.specs.Partitions.{IsPartitionOf, holding_of}
 use Rattle.plinq_partition.specs.GivenBack.{common_origin}
+use Rattle.plinq_run.specs.Reaching.{IsOffered}
 use Rattle.plinq_run.specs.Results.{IsResult}
-use Rattle.plinq_run.proofs.Ended.{none-sent, merge_for, begins-merging, merges-weaker, ended-run, back-as}
+use Rattle.plinq_run.proofs.Ended.{none-ended, begins-merging, ended-run, back-as}
+use Rattle.plinq_run.proofs.Merged.{merges-weaker}
+use Rattle.plinq_run.proofs.Runs.{merge_for}
 use Rattle.plinq_run.proofs.conducting.conduct.Goals as goal
 
-pub returns-in_default-clause-runs : goal.returns-in_default-clause-runs
-returns-in_default-clause-runs g c = λ by. none-sent g.K.Sink.accepts c.args.sink.now _
+pub returns-in_default-clause-ends : goal.returns-in_default-clause-ends
+returns-in_default-clause-ends g c = none-ended g.L.Lambda.meaning g.K.Sink.accepts g.K.Sink.refuses c.args.crew.now.option c.args.crew.now.plan.now (holding_of c.args.own).origin c.args.sink.now _ refl
 
-pub returns-in_default-with_capacity-clause-runs : goal.returns-in_default-with_capacity-clause-runs
-returns-in_default-with_capacity-clause-runs g c = λ by. none-sent g.K.Sink.accepts c.args.sink.now _
+pub returns-in_default-with_capacity-clause-ends : goal.returns-in_default-with_capacity-clause-ends
+returns-in_default-with_capacity-clause-ends g c = none-ended g.L.Lambda.meaning g.K.Sink.accepts g.K.Sink.refuses c.args.crew.now.option c.args.crew.now.plan.now (holding_of c.args.own).origin c.args.sink.now _ refl
 
-pub returns-in_default-new-clause-runs : goal.returns-in_default-new-clause-runs
-returns-in_default-new-clause-runs g c = λ by. none-sent g.K.Sink.accepts c.args.sink.now _
+pub returns-in_default-new-clause-ends : goal.returns-in_default-new-clause-ends
+returns-in_default-new-clause-ends g c = none-ended g.L.Lambda.meaning g.K.Sink.accepts g.K.Sink.refuses c.args.crew.now.option c.args.crew.now.plan.now (holding_of c.args.own).origin c.args.sink.now _ refl
 
-pub returns-clause-runs : goal.returns-clause-runs
-returns-clause-runs g c by =
+pub returns-clause-ends : goal.returns-clause-ends
+returns-clause-ends g c =
     let plan = c.args.crew.now.plan.now in
     let option = c.args.crew.now.option in
     let s = c.args.sink.now in
     let t = (holding_of c.args.own).origin in
     let merge = merge_for g.L.Lambda.meaning plan option in
-    let J = g.J.Carries.is_result in
-    let begun = begins-merging J g.K.Sink.accepts g.K.Sink.refuses plan option s c.in-Ok-new.merger c.requires.plan c.in-Ok-new.ensures.plan c.in-Ok-new.ensures.nothing in
-    let merged = c.merge_all.ensures.merges merge s begun in
     let after = c.merge_all.new.merging in
-    ended-run t g.K.Sink.accepts g.K.Sink.refuses c.requires.source plan option s after.merger after.fault c.merge_all.new.sink c.told.result c.requires.plan by
-    (merges-weaker J g.K.Sink.accepts g.K.Sink.refuses (IsResult g.L.Lambda.meaning plan.worker.now t) c.requires.carried merge s after.merger after.fault c.merge_all.new.sink merged)
-    c.told.ensures.none c.told.ensures.ending c.told.ensures.err
+    let J = g.J.Carries.is_result in
+    let P = IsOffered (IsResult g.L.Lambda.meaning plan t) after.reach in
+    let begun = begins-merging (IsOffered J c.none.result) g.K.Sink.accepts g.K.Sink.refuses plan option s c.in-Ok-new.merger c.requires.plan c.in-Ok-new.ensures.plan c.in-Ok-new.ensures.nothing in
+    let merged = c.merge_all.ensures.merges merge s begun in
+    ended-run t g.K.Sink.accepts g.K.Sink.refuses c.requires.source plan option s after.merger after.reach after.fault c.merge_all.new.sink c.told.result c.requires.plan
+    (merges-weaker (IsOffered J after.reach) g.K.Sink.accepts g.K.Sink.refuses P (λ r x. (c.requires.carried r x.0, x.1)) merge s after.merger after.fault c.merge_all.new.sink merged)
+    c.told.ensures.none c.told.ensures.ending c.told.ensures.reach c.told.ensures.err

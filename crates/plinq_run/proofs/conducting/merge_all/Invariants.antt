@@ -3,6 +3,7 @@ use Rattle.crossbeam_queue.specs.Passes.{IsPassOf}
 use Rattle.plinq_merge.specs.Shown.{Merge}
 use Rattle.plinq_partition.specs.Partitions.{IsPartitionOf, holding_of}
 use Rattle.plinq_run.specs.Merged.{Merges}
+use Rattle.plinq_run.specs.Reaching.{IsOffered}
 use Rattle.plinq_run.proofs.conducting.merge_all.Given as goal
 
 abbrev pub invariant-loop : goal.invariant-loop
@@ -12,6 +13,6 @@ invariant-loop g l = record {
   of : IsPartitionOf l.crew.chunked.now l.own;
   origin : (holding_of l.own).origin ≡ (holding_of l.fn.own).origin;
   queue : IsPassOf l.crew.queue.now l.pass;
-  merges : (merge : Merge g.row.L-Item.Denot) (s : g.row.K.Denot) → Merges g.J.Carries.is_result g.K.Sink.accepts g.K.Sink.refuses merge s l.fn.merging.merger l.fn.merging.fault l.fn.sink
-      → Merges g.J.Carries.is_result g.K.Sink.accepts g.K.Sink.refuses merge s l.merging.merger l.merging.fault l.sink;
+  merges : (merge : Merge g.row.L-Item.Denot) (s : g.row.K.Denot) → Merges (IsOffered g.J.Carries.is_result l.fn.merging.reach) g.K.Sink.accepts g.K.Sink.refuses merge s l.fn.merging.merger l.fn.merging.fault l.fn.sink
+      → Merges (IsOffered g.J.Carries.is_result l.merging.reach) g.K.Sink.accepts g.K.Sink.refuses merge s l.merging.merger l.merging.fault l.sink;
 }

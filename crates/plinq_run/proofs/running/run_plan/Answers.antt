@@ -1,19 +1,30 @@
-use Rattle.std.proofs.Common.{rules, ◌≡◌, subst}
+use Rattle.std.proofs.Common.{rules, ◌≡◌, IfOk, refl, sym, subst}
+use Rattle.plinq_keyed.specs.History.{IsLegalHistory}
 use Rattle.plinq_partition.specs.Partitions.{holding_of}
-use Rattle.plinq_run.specs.Endings.{ending_in, reported}
-use Rattle.plinq_run.specs.Plans.{merged_answer}
-use Rattle.plinq_run.specs.Runs.{Runs}
-use Rattle.plinq_run.proofs.Ended.{runs-reported}
+use Rattle.plinq_run.specs.Reports.{MayMerge, Ends}
+use Rattle.plinq_run.specs.Results.{IsResult}
+use Rattle.plinq_run.proofs.Ended.{none-ended, ends-reported}
 use Rattle.plinq_run.proofs.running.run_plan.Goals as goal
 
-pub returns-clause-runs : goal.returns-clause-runs
-returns-clause-runs g c by =
+pub run_crew-ended-requires-clause-carried : goal.run_crew-ended-requires-clause-carried
+run_crew-ended-requires-clause-carried g c lifetimes outlive r is =
+    let origin : (holding_of c.in-Ok.own).origin ≡ g.S.Source.whole c.args.source = search rules in
+    subst (λ t. IsResult g.L.Lambda.meaning c.args.plan.now t r) (sym origin) (c.requires.carried r is)
+
+pub returns-in_default-clause-reports : goal.returns-in_default-clause-reports
+returns-in_default-clause-reports g c = none-ended g.L.Lambda.meaning g.K.Sink.accepts g.K.Sink.refuses c.args.option c.args.plan.now (g.S.Source.whole c.args.source) c.args.sink.now _ refl
+
+pub returns-in_default-ruled-clause-reports : goal.returns-in_default-ruled-clause-reports
+returns-in_default-ruled-clause-reports g c = none-ended g.L.Lambda.meaning g.K.Sink.accepts g.K.Sink.refuses c.args.option c.args.plan.now (g.S.Source.whole c.args.source) c.args.sink.now _ refl
+
+pub returns-clause-reports : goal.returns-clause-reports
+returns-clause-reports g c =
     let t = g.S.Source.whole c.args.source in
-    let plan = c.args.plan.now in
     let s = c.args.sink.now in
     let s' = c.run_crew-ended.new.sink in
-    let a = ending_in c.run_crew-ended.result in
+    let May = MayMerge g.L.Lambda.meaning c.args.plan.now in
     let origin : (holding_of c.in-Ok.own).origin ≡ t = search rules in
-    runs-reported g.K.Sink.accepts g.K.Sink.refuses c.args.option (merged_answer g.L.Lambda.meaning plan t) s s' a (reported c.report.result)
-    (subst (λ u. Runs g.K.Sink.accepts g.K.Sink.refuses c.args.option (merged_answer g.L.Lambda.meaning plan u) s s' a) origin (c.run_crew-ended.ensures.runs by))
-    c.report.ensures.told
+    let legal : IfOk c.report.result (λ r. IsLegalHistory t r.records.items) = search rules in
+    ends-reported g.K.Sink.accepts g.K.Sink.refuses c.args.option May t s s' c.run_crew-ended.result c.report.result
+    (subst (λ x. Ends g.K.Sink.accepts g.K.Sink.refuses c.args.option May x s s' c.run_crew-ended.result) origin c.run_crew-ended.ensures.ends)
+    c.report.ensures.told legal c.report.ensures.accounted

@@ -1,21 +1,28 @@
 use Rattle.std.proofs.Common.{rules, ◌≡◌, None, sym, subst}
 use Rattle.plinq_run.specs.Merged.{IsMerging, Merges}
-use Rattle.plinq_run.proofs.Merged.{merges-ok, merges-err}
+use Rattle.plinq_run.specs.Reaching.{IsOffered}
+use Rattle.plinq_run.proofs.Merged.{offered-more, merges-ok, merges-err}
 use Rattle.plinq_run.proofs.merging.Merging.take_in.Goals as goal
 
 pub returns-in-Err : goal.returns-in-Err
 returns-in-Err g c merge s h =
     let m = c.args.self.now.merger in
+    let reach = c.args.self.now.reach in
+    let P = IsOffered g.J.Carries.is_result c.extend.new.self in
     let none : c.args.self.now.fault ≡ None = search rules in
-    let before : IsMerging g.J.Carries.is_result g.K.Sink.accepts g.K.Sink.refuses merge s m c.args.sink.now =
-    subst (λ f. Merges g.J.Carries.is_result g.K.Sink.accepts g.K.Sink.refuses merge s m f c.args.sink.now) none h in
-    merges-err g.J.Carries.is_result g.K.Sink.accepts g.K.Sink.refuses merge s m c.args.made c.args.sink.now c.in-Err.fault c.offer.new.self c.offer.new.sink c.in-Err.ensures.takes c.requires.result before
+    let before : IsMerging P g.K.Sink.accepts g.K.Sink.refuses merge s m c.args.sink.now =
+    offered-more g.J.Carries.is_result g.K.Sink.accepts g.K.Sink.refuses reach c.extend.new.self c.extend.ensures.grows merge s m None c.args.sink.now
+    (subst (λ f. Merges (IsOffered g.J.Carries.is_result reach) g.K.Sink.accepts g.K.Sink.refuses merge s m f c.args.sink.now) none h) in
+    merges-err P g.K.Sink.accepts g.K.Sink.refuses merge s m c.args.made c.args.sink.now c.in-Err.fault c.offer.new.self c.offer.new.sink c.in-Err.ensures.takes (c.requires.result, c.extend.ensures.reaches) before
 
 pub returns-in_default : goal.returns-in_default
 returns-in_default g c merge s h =
     let m = c.args.self.now.merger in
+    let reach = c.args.self.now.reach in
+    let P = IsOffered g.J.Carries.is_result c.extend.new.self in
     let none : c.args.self.now.fault ≡ None = search rules in
-    let before : IsMerging g.J.Carries.is_result g.K.Sink.accepts g.K.Sink.refuses merge s m c.args.sink.now =
-    subst (λ f. Merges g.J.Carries.is_result g.K.Sink.accepts g.K.Sink.refuses merge s m f c.args.sink.now) none h in
-    subst (λ f. Merges g.J.Carries.is_result g.K.Sink.accepts g.K.Sink.refuses merge s c.offer.new.self f c.offer.new.sink) (sym none)
-    (merges-ok g.J.Carries.is_result g.K.Sink.accepts g.K.Sink.refuses merge s m c.args.made c.args.sink.now c.in_default.field-0 c.offer.new.self c.offer.new.sink c.in_default.ensures.plan c.in_default.ensures.takes c.requires.result before)
+    let before : IsMerging P g.K.Sink.accepts g.K.Sink.refuses merge s m c.args.sink.now =
+    offered-more g.J.Carries.is_result g.K.Sink.accepts g.K.Sink.refuses reach c.extend.new.self c.extend.ensures.grows merge s m None c.args.sink.now
+    (subst (λ f. Merges (IsOffered g.J.Carries.is_result reach) g.K.Sink.accepts g.K.Sink.refuses merge s m f c.args.sink.now) none h) in
+    subst (λ f. Merges P g.K.Sink.accepts g.K.Sink.refuses merge s c.offer.new.self f c.offer.new.sink) (sym none)
+    (merges-ok P g.K.Sink.accepts g.K.Sink.refuses merge s m c.args.made c.args.sink.now c.in_default.field-0 c.offer.new.self c.offer.new.sink c.in_default.ensures.plan c.in_default.ensures.takes (c.requires.result, c.extend.ensures.reaches) before)

@@ -1,0 +1,55 @@
+//! Whether the records of a run account for the results that were offered.
+ghost use Rattle.std.specs.Prelude.{◌≡◌};
+ghost use Rattle.plinq_run.specs.Handed.{tells_end, has_close, hands_out_to};
+ghost use Rattle.plinq_run.specs.Reaching.{accounts_for};
+
+use crate::reach::{Reach, tells_end};
+use plinq_keyed::{Event, Record};
+
+/// Whether some record tells the source's end.
+fn end_is_told(records: &[Record]) -> bool
+    ensures { result ≡ tells_end records.now }
+{
+    for record in records {
+        if tells_end(record.tail) {
+            return true;
+        }
+    }
+    false
+}
+
+/// Whether some record closed the source.
+fn is_closed(records: &[Record]) -> bool
+    ensures { result ≡ has_close records.now }
+{
+    for record in records {
+        if record.asked == Event::Close {
+            return true;
+        }
+    }
+    false
+}
+
+/// Whether all keys before this one were handed out.
+fn are_handed_out(records: &[Record], behind: u64) -> bool
+    ensures { result ≡ hands_out_to behind records.now }
+{
+    if behind == 0 {
+        return true;
+    }
+    for record in records {
+        if behind <= record.first.saturating_add(record.count) {
+            return true;
+        }
+    }
+    false
+}
+
+/// Whether the source was closed, and results that reach so far are of items that these records hand out.
+pub(crate) fn account_for(records: &[Record], reach: Reach) -> bool
+    ensures { result ≡ accounts_for reach records.now }
+{
+    are_handed_out(records, reach.behind)
+        && (!reach.is_told || end_is_told(records))
+        && is_closed(records)
+}
