@@ -12,7 +12,10 @@ use Rattle.plinq_ops.specs.declared.merge_option.MergeOption.{MergeOption}
 use Rattle.plinq_ops.specs.Batches.{batch_size, is_full, full_batches, held_back, last_batch, batches}
 use Rattle.plinq_run.specs.declared.run_fault.RunFault.{RunFault}
 use Rattle.plinq_run.specs.declared.run_fault.RunFault.TheVariants.{Memory, Sink, Tickets, Thread, Incomplete}
-use Rattle.plinq_run.specs.Aggregates.{Aggregates, TakesIn, so_far, aggregate_of}
+use Rattle.plinq_run.specs.declared.report.Report.{Report}
+use Rattle.plinq_run.specs.Endings.{reported}
+use Rattle.plinq_run.specs.Reports.{Reports}
+use Rattle.plinq_run.specs.Aggregates.{Aggregates, AggregatesSome, TakesIn, so_far, aggregate_of}
 use Rattle.plinq_run.specs.Runs.{HasRun, HasBroken, Runs, told_refusal}
 
 -- the items of batches, one batch after another
@@ -96,3 +99,9 @@ module _ {K T A O : Type 0} (folding : K → Folding T A O) (acc : K → Option 
   aggregate_of-run option u s s' (Ok (Refused code)) none h = (h.ending, λ is. subst ends_well (sym is) tt)
   aggregate_of-run option u s s' (Ok (Fault code)) none h = (h.ending, λ is. subst ends_well (sym is) tt)
   aggregate_of-run option u s s' (Err fault) none h = refused-none option u s s' fault h
+
+  -- one of its answers, where it may have several
+  pub aggregate_of-reports : (option : MergeOption) (May : Trace T → Trace T → Type 0) (t : Trace T) (s s' : K) (r : Result Report RunFault) → acc s ≡ None
+      → Reports Takes Refuses option May t s s' r → AggregatesSome (folding s) (May t) (aggregate_of (folding s') (acc s') (reported r))
+  aggregate_of-reports option May t s s' (Ok report) none h = (h.answer, h.may, aggregate_of-run option h.answer s s' (Ok report.ending) none h.has_run)
+  aggregate_of-reports option May t s s' (Err fault) none h = (h.answer, h.may, aggregate_of-run option h.answer s s' (Err fault) none h.broken)

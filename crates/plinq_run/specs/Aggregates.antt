@@ -17,6 +17,10 @@ Aggregates f u (Ok out) = (out ≡ aggregated f u.items) × (u.ending ≡ Some E
 Aggregates f u (Err (Ended e)) = (u.ending ≡ Some e) × (e ≢ End)
 Aggregates f u (Err (Run fault)) = told_refusal fault ≡ None
 
+-- the same, of one of these answers
+abbrev pub AggregatesSome : {T A O : Type 0} → Folding T A O → (Trace T → Type 0) → Result O AggregateFault → Type 0
+AggregatesSome {T} f IsAnswer r = (u : Trace T) × (IsAnswer u) × Aggregates f u r
+
 -- the accumulator: the seed before anything was taken in
 abbrev pub so_far : {T A O : Type 0} → Folding T A O → Option A → A
 so_far f None = f.seed

@@ -1,7 +1,8 @@
 //! The aggregate of a query.
-ghost use Rattle.std.specs.Prelude.{◌≡◌, true};
+ghost use Rattle.std.specs.Prelude.{◌≡◌, true, false};
+ghost use Rattle.plinq_ops.specs.Answer.{Answer};
 ghost use Rattle.plinq_ops.specs.Sequential.{answer_of};
-ghost use Rattle.plinq_run.specs.Aggregates.{Aggregates};
+ghost use Rattle.plinq_run.specs.Aggregates.{Aggregates, AggregatesSome};
 
 use crate::aggregate_fault::AggregateFault;
 use crate::folded::Folded;
@@ -49,7 +50,8 @@ where
     A: Aggregator<Item = L::Item>,
     R: Threads + Wait + Sync,
     requires { S.given source ≡ 0 }
-    ensures { query.now.ordered ≡ true → Aggregates (A.folding aggregator.now) (answer_of L.meaning query.now.ops (S.whole source)) result }
+    ensures ordered { query.now.ordered ≡ true → Aggregates (A.folding aggregator.now) (answer_of L.meaning query.now.ops (S.whole source)) result }
+    ensures any { query.now.ordered ≡ false → AggregatesSome (A.folding aggregator.now) (Answer L.meaning false query.now.ops (S.whole source)) result }
 {
     let mut sink = Folded::new(aggregator);
     let report = run(rt, alloc, query, source, growth, gate, &mut sink);
