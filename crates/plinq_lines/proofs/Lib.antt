@@ -1,4 +1,4 @@
 mod ItemLines
-mod LinesTaken
+pub mod LinesTaken
 mod PartWritten
 pub mod WrittenBytes

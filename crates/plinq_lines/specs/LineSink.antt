@@ -19,10 +19,18 @@ StaysKnown (Some start) (Some now) = ⊤
 abbrev pub write_failed : ℕ
 write_failed = 1
 
+-- what contracts see of such a sink: what is known of its writer's bytes, and which writer was lent to it
+pub record Lines : Type 0 where
+  pub bytes : Option (List ℕ)
+  pub writer : ℕ
+
 -- a batch that is taken is written as its line
-abbrev pub TakesLine : Option (List ℕ) → List ℤ → Option (List ℕ) → Type 0
-TakesLine s batch s' = Appends s s' (batch_line batch)
+pub record TakesLine (s : Lines) (batch : List ℤ) (s' : Lines) : Type 0 where
+  pub line : Appends s.bytes s'.bytes (batch_line batch)
+  pub writer : s'.writer ≡ s.writer
 
 -- of one that is refused a beginning of its line is written
-abbrev pub RefusesLine : Option (List ℕ) → List ℤ → ℕ → Option (List ℕ) → Type 0
-RefusesLine s batch code s' = (code ≡ write_failed) × AppendsBeginning s s' (batch_line batch)
+pub record RefusesLine (s : Lines) (batch : List ℤ) (code : ℕ) (s' : Lines) : Type 0 where
+  pub code_is : code ≡ write_failed
+  pub begun : AppendsBeginning s.bytes s'.bytes (batch_line batch)
+  pub writer : s'.writer ≡ s.writer

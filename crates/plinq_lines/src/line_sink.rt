@@ -21,8 +21,8 @@ pub const WRITE_FAILED: u32 = 1;
 /// run(&rt, alloc, &query, source, Growth::DEFAULT, &OpenGate, &mut sink)?;
 /// ```
 #[derive(Drop)]
-pub struct LineSink<W: Write> {
-    writer: W,
+pub struct LineSink<'a, W: Write> {
+    writer: &'a mut W,
     start: Snapshot<W>,
     state: State,
 }
@@ -37,23 +37,23 @@ enum State {
 
 // What contracts see of it is what is known of the writer's bytes. A writer may tell its bytes in mid-life that didn't at
 // first; these aren't told of, so that a flush changes nothing.
-impl<W: Write> Model for LineSink<W> {
-    ghost use Rattle.std.specs.Prelude.{ℕ, List, Option};
-    ghost use Rattle.plinq_lines.specs.LineSink.{known_since, StaysKnown};
+impl<'a, W: Write> Model for LineSink<'a, W> {
+    ghost use Rattle.plinq_lines.specs.LineSink.{Lines, known_since, StaysKnown};
 
-    ghost Value = { Option (List ℕ) };
+    ghost Value = { Lines };
 
-    ghost view = { λ s. known_since (W.contents s.start.value) (W.contents s.writer) };
+    ghost view = { λ s. record { bytes = known_since (W.contents s.start.value) (W.contents s.writer.now); writer = s.writer.ghost_name } };
 
-    ghost invariant = { λ s. StaysKnown (W.contents s.start.value) (W.contents s.writer) };
+    ghost invariant = { λ s. StaysKnown (W.contents s.start.value) (W.contents s.writer.now) };
 }
 
-impl<W: Write> LineSink<W> {
+impl<'a, W: Write> LineSink<'a, W> {
     /// One that writes to this writer.
-    pub fn new(writer: W) -> LineSink<W>
-        ensures { result ≡ W.contents writer }
+    pub fn new(writer: &'a mut W) -> LineSink<'a, W>
+        ensures bytes { result.bytes ≡ W.contents writer.old }
+        ensures writer { result.writer ≡ writer.entry.ghost_name }
     {
-        let start = Snapshot::of(&writer);
+        let start = Snapshot::of(&*writer);
         LineSink {
             writer,
             start,
@@ -62,8 +62,9 @@ impl<W: Write> LineSink<W> {
     }
 
     /// The writer, which isn't flushed.
-    pub fn into_writer(self) -> W
-        ensures { Keeps self (W.contents result) }
+    pub fn into_writer(self) -> &'a mut W
+        ensures bytes { Keeps self.entry.bytes (W.contents result.now) }
+        ensures writer { result.ghost_name ≡ self.entry.writer }
     {
         let LineSink { writer, .. } = self;
         writer
@@ -75,7 +76,7 @@ impl<W: Write> LineSink<W> {
     }
 }
 
-impl<W: Write> Sink for LineSink<W> {
+impl<'a, W: Write> Sink for LineSink<'a, W> {
     type Item = i64;
 
     ghost accepts = { TakesLine };
@@ -86,7 +87,7 @@ impl<W: Write> Sink for LineSink<W> {
         if self.has_failed() {
             return Err(WRITE_FAILED);
         }
-        match write_batch(&mut self.writer, items) {
+        match write_batch(self.writer, items) {
             Ok(()) => {
                 self.state = State::Written;
                 Ok(())

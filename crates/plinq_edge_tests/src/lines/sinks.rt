@@ -16,7 +16,8 @@ fn take_all<K: Sink<Item = i64>>(sink: &mut K) -> Result<(), u32> {
 
 #[test]
 fn each_batch_is_a_line(rt: HostRuntime) -> Result<(), Fail> {
-    let mut sink = LineSink::new(Vec::new(rt.alloc()));
+    let mut out = Vec::new(rt.alloc());
+    let mut sink = LineSink::new(&mut out);
     assert_eq!(rt; take_all(&mut sink), Ok(()));
     assert!(rt; !sink.has_failed());
     assert_eq!(rt; sink.into_writer().as_slice(), LINES);
@@ -44,7 +45,8 @@ fn a_writer_that_fails_anywhere(rt: HostRuntime) -> Result<(), Fail> {
 // It fails in the middle of the first line, and would take the second.
 #[test]
 fn a_batch_after_a_failure(rt: HostRuntime) -> Result<(), Fail> {
-    let mut sink = LineSink::new(FailsOnce::new(rt.alloc(), 2));
+    let mut out = FailsOnce::new(rt.alloc(), 2);
+    let mut sink = LineSink::new(&mut out);
     assert_eq!(rt; sink.batch(&[-12, 345]), Err(WRITE_FAILED));
     assert_eq!(rt; sink.batch(&[6]), Err(WRITE_FAILED));
     sink.idle();
@@ -56,7 +58,8 @@ fn a_batch_after_a_failure(rt: HostRuntime) -> Result<(), Fail> {
 
 #[test]
 fn only_what_was_written_is_flushed(rt: HostRuntime) -> Result<(), Fail> {
-    let mut sink = LineSink::new(FailsOnce::new(rt.alloc(), 0));
+    let mut out = FailsOnce::new(rt.alloc(), 0);
+    let mut sink = LineSink::new(&mut out);
     sink.idle();
     assert_eq!(rt; sink.batch(&[4]), Ok(()));
     assert_eq!(rt; sink.batch(&[2]), Ok(()));
@@ -73,7 +76,8 @@ fn only_what_was_written_is_flushed(rt: HostRuntime) -> Result<(), Fail> {
 
 #[test]
 fn a_batch_after_a_flush_that_fails(rt: HostRuntime) -> Result<(), Fail> {
-    let mut sink = LineSink::new(FailsOnce::new(rt.alloc(), 2));
+    let mut out = FailsOnce::new(rt.alloc(), 2);
+    let mut sink = LineSink::new(&mut out);
     assert_eq!(rt; sink.batch(&[4]), Ok(()));
     sink.idle();
     assert!(rt; sink.has_failed());
