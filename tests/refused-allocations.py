@@ -3,8 +3,9 @@
 
     python3 tests/refused-allocations.py
 
-Each run must end as it does with ample memory, or with status 5, the one line `plinq: out of memory` on standard error, and
-a beginning of the right output. A few lines of C, loaded before the C library, refuse the allocations.
+Each run must end as it does with ample memory, or with status 5, the one line `plinq: out of memory` on standard error, or
+`plinq: no thread` where it starts threads, and a beginning of the right output. A few lines of C, loaded before the C
+library, refuse the allocations.
 """
 import json
 import os
@@ -13,6 +14,7 @@ import tempfile
 from support.program import PROGRAM, Outcome, Tests, build, run, shared_library
 
 OUT_OF_MEMORY = b"plinq: out of memory\n"
+NO_THREAD = b"plinq: no thread\n"
 
 
 def document(source, *steps, **more):
@@ -43,7 +45,7 @@ REFUSED = [
     document(LIST, ["take", 1], ["as_ordered"]),
 ]
 CASES = (
-    [(words, it) for it in ANSWERED for words in (["run", "--merge", "not"], ["run"], ["plan", "--workers", "2"], ["parts"], ["history", "--workers", "2"])]
+    [(words, it) for it in ANSWERED for words in (["run", "--merge", "not"], ["run", "--workers", "1"], ["run", "--workers", "8"], ["plan", "--workers", "2"], ["parts"], ["history", "--workers", "2"])]
     + [(["run", "--merge", "full"], ANSWERED[0]), (["seq"], ANSWERED[1]), (["seq", "--merge", "auto"], ANSWERED[6])]
     + [(["run"], it) for it in REFUSED]
     + [(words, ANSWERED[0]) for words in ([], ["walk"], ["run", "--workers", "0"], ["seq", "--merge", "some"], ["plan", "x"])]
@@ -66,7 +68,7 @@ def problem(seen, right):
     """What is wrong with how a run ended that met a refusal, if anything is."""
     if seen == right:
         return None
-    if seen.status != 5 or seen.errors != OUT_OF_MEMORY:
+    if seen.status != 5 or seen.errors not in (OUT_OF_MEMORY, NO_THREAD):
         return f"neither as with ample memory ({right}) nor out of memory: {seen}"
     if not right.output.startswith(seen.output):
         return f"what was written is no beginning of the right output ({right}): {seen}"

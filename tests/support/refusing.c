@@ -3,10 +3,12 @@
 #define _GNU_SOURCE
 #include <dlfcn.h>
 #include <errno.h>
+#include <stdatomic.h>
 #include <stdlib.h>
 #include <unistd.h>
 
-static long made, at, from, to = -1;
+static long at, from, to = -1;
+static atomic_long made;
 
 static long number(const char *name, long otherwise) {
     const char *text = getenv(name);
@@ -19,8 +21,8 @@ static int refused(void) {
         from = number("REFUSE_FROM", 0);
         to = number("REFUSED_TO", 2);
     }
-    made++;
-    if (made != at && (!from || made < from)) return 0;
+    long now = ++made;
+    if (now != at && (!from || now < from)) return 0;
     (void)!write(to, "!", 1);
     errno = ENOMEM;
     return 1;

@@ -7,27 +7,34 @@ use std::process::ExitCode;
 use std::{env, io};
 
 fn main(rt: HostRuntime) -> ExitCode {
-    match run(&rt) {
-        Ok(status) => ExitCode::from(status),
-        Err(error) => ExitCode::from(refuse(&rt, &error)),
-    }
-}
-
-fn run(rt: &HostRuntime) -> io::Result<u8> {
-    let words: Vec<String> = env::args(rt)?.collect(rt.alloc())?;
-    let mut out = BufWriter::new(rt.alloc(), rt.stdout())?;
-    let status = perform(rt, words, &mut rt.stdin(), &mut out, &mut rt.stderr());
+    let words = match words_of(&rt) {
+        Ok(words) => words,
+        Err(error) => return ExitCode::from(refuse(&rt, &error)),
+    };
+    let mut out = match BufWriter::new(rt.alloc(), rt.stdout()) {
+        Ok(out) => out,
+        Err(_) => return ExitCode::from(refuse_for_memory(&rt)),
+    };
+    let status = perform(&rt, words, &mut rt.stdin(), &mut out, &mut rt.stderr());
     // What it still holds is what a failing write kept back. Dropped, it would be written after the failure's line.
     let (_stdout, _unwritten) = out.into_parts();
-    Ok(status)
+    ExitCode::from(status)
+}
+
+fn words_of(rt: &HostRuntime) -> io::Result<Vec<String>> {
+    Ok(env::args(rt)?.collect(rt.alloc())?)
 }
 
 // Why the words couldn't be had: no memory for them, or they are no text.
 fn refuse(rt: &HostRuntime, error: &io::Error) -> u8 {
     if error.kind() == ErrorKind::OutOfMemory {
-        let _ = eprintln!(rt; "plinq: out of memory");
-        return 5;
+        return refuse_for_memory(rt);
     }
     let _ = eprintln!(rt; "error: invalid UTF-8 was detected in one or more arguments");
     2
+}
+
+fn refuse_for_memory(rt: &HostRuntime) -> u8 {
+    let _ = eprintln!(rt; "plinq: out of memory");
+    5
 }

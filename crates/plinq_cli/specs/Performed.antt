@@ -11,13 +11,15 @@ use Rattle.plinq_document.specs.declared.doc_fault.DocFault.{DocFault}
 use Rattle.plinq_document.specs.declared.doc_fault.DocFault.TheVariants.{TooLong, NotJson, Memory as DocMemory}
 use Rattle.plinq_partition.specs.declared.take_fault.TakeFault.{TakeFault}
 use Rattle.plinq_partition.specs.declared.take_fault.TakeFault.TheVariants.{Memory as TakeMemory, Spent, Busy, Incomplete as RecordsMissing, Away}
+use Rattle.plinq_run.specs.declared.run_fault.RunFault.{RunFault}
+use Rattle.plinq_run.specs.declared.run_fault.RunFault.TheVariants.{Memory as RunMemory, Sink as RunSink, Tickets as RunTickets, Thread as RunThread, Incomplete as RunIncomplete}
 use Rattle.plinq_cli.specs.declared.command.Command.{Command}
 use Rattle.plinq_cli.specs.declared.input_fault.InputFault.{InputFault}
 use Rattle.plinq_cli.specs.declared.input_fault.InputFault.TheVariants.{Read as InputRead, TooLong as InputTooLong, Memory as InputMemory}
 use Rattle.plinq_cli.specs.declared.serve_fault.ServeFault.{ServeFault}
-use Rattle.plinq_cli.specs.declared.serve_fault.ServeFault.TheVariants.{Memory as ServeMemory, Write as ServeWrite, Take}
+use Rattle.plinq_cli.specs.declared.serve_fault.ServeFault.TheVariants.{Memory as ServeMemory, Write as ServeWrite, Run as ServeRun, Take}
 use Rattle.plinq_cli.specs.declared.failure.Failure.{Failure}
-use Rattle.plinq_cli.specs.declared.failure.Failure.TheVariants.{Document, Memory, Read, Write, Tickets, Incomplete}
+use Rattle.plinq_cli.specs.declared.failure.Failure.TheVariants.{Document, Memory, Read, Write, Thread, Tickets, Incomplete}
 use Rattle.plinq_cli.specs.declared.arguments.Arguments.{Arguments}
 use Rattle.plinq_cli.specs.Arguments.{IsAsked, Refuses}
 use Rattle.plinq_cli.specs.Served.{Serves}
@@ -38,9 +40,17 @@ failure_of_take (Busy served drawn) = Tickets
 failure_of_take (RecordsMissing have all) = Incomplete
 failure_of_take Away = Incomplete
 
+abbrev pub failure_of_run : RunFault → Failure
+failure_of_run RunMemory = Memory
+failure_of_run (RunSink code) = Write
+failure_of_run RunTickets = Tickets
+failure_of_run RunThread = Thread
+failure_of_run RunIncomplete = Incomplete
+
 abbrev pub failure_of_serve : ServeFault → Failure
 failure_of_serve ServeMemory = Memory
 failure_of_serve ServeWrite = Write
+failure_of_serve (ServeRun fault) = failure_of_run fault
 failure_of_serve (Take fault) = failure_of_take fault
 
 -- where a failure speaks of the document, it says this fault
@@ -49,6 +59,7 @@ IfDocument P (Document fault) = P fault
 IfDocument P Memory = ⊤
 IfDocument P Read = ⊤
 IfDocument P Write = ⊤
+IfDocument P Thread = ⊤
 IfDocument P Tickets = ⊤
 IfDocument P Incomplete = ⊤
 
@@ -77,6 +88,7 @@ failure_status (Document fault) = 2
 failure_status Memory = 5
 failure_status Read = 5
 failure_status Write = 5
+failure_status Thread = 5
 failure_status Tickets = 5
 failure_status Incomplete = 5
 
@@ -134,6 +146,9 @@ at_a_long_input = refl
 
 pub at_a_failing_write : status_of (Err (failure_of_serve ServeWrite)) ≡ 5
 at_a_failing_write = refl
+
+pub without_a_thread : status_of (Err (failure_of_serve (ServeRun RunThread))) ≡ 5
+without_a_thread = refl
 
 pub at_spent_tickets : status_of (Err (failure_of_serve (Take Spent))) ≡ 5
 at_spent_tickets = refl

@@ -1,6 +1,7 @@
 -- What each command answers, and the text that it prints.
 use Rattle.std.specs.Prelude.{◌≡◌, ◌⊎◌, ℕ, ℤ, pos, List, [], ◌∷◌, true, Option, Some, None, Result, MatchResult, codes, refl}
 use Rattle.std.specs.Fmt.{digits}
+use Rattle.std.specs.List.{flat_map}
 use Rattle.std.specs.Io.KnownBytes.{Appends, Keeps}
 use Rattle.plinq_source.specs.declared.ending.Ending.{Ending}
 use Rattle.plinq_source.specs.declared.ending.Ending.TheVariants.{End}
@@ -8,14 +9,16 @@ use Rattle.plinq_source.specs.Trace.{Trace, ended}
 use Rattle.plinq_lambda.specs.Formula.{formula_meaning}
 use Rattle.plinq_lambda.specs.declared.formula.Formula.TheVariants.{Add}
 use Rattle.plinq_ops.specs.declared.op.Op.TheVariants.{Select}
+use Rattle.plinq_ops.specs.declared.merge_option.MergeOption.{MergeOption}
 use Rattle.plinq_ops.specs.declared.merge_option.MergeOption.TheVariants.{NotBuffered}
+use Rattle.plinq_ops.specs.Batches.{batches}
 use Rattle.plinq_ops.specs.Query.{merge_in_force, degree_in_force}
 use Rattle.plinq_ops.specs.Sequential.{answer_of}
 use Rattle.plinq_keyed.specs.declared.record.Record.{Record}
 use Rattle.plinq_document.specs.Jobs.{JobView}
 use Rattle.plinq_cli.specs.declared.command.Command.{Command}
 use Rattle.plinq_cli.specs.declared.command.Command.TheVariants.{Run, Seq, Plan, Parts, History}
-use Rattle.plinq_lines.specs.Text.{answer_text}
+use Rattle.plinq_lines.specs.Text.{batch_line, answer_text}
 use Rattle.plinq_lines.specs.PlanText.{plan_text}
 use Rattle.plinq_lines.specs.PartsText.{parts_text}
 use Rattle.plinq_lines.specs.HistoryText.{history_text}
@@ -25,6 +28,10 @@ use Rattle.plinq_cli.specs.Rounds.{IsHistory}
 -- the query's answer on one thread
 abbrev pub sequential_answer : JobView → Trace ℤ
 sequential_answer job = answer_of formula_meaning job.query.ops job.source
+
+-- the lines of an answer's batches
+abbrev pub batch_lines : Option MergeOption → Trace ℤ → List ℕ
+batch_lines merge u = flat_map batch_line (batches (merge_in_force merge) u)
 
 -- this is an answer of the command for the job: the query's, no items for `plan`, all that the source has for `parts` and `history`
 abbrev pub IsAnswer : Command → JobView → Trace ℤ → Type 0

@@ -1,10 +1,11 @@
 ghost use Rattle.std.specs.Prelude.{◌≡◌};
-ghost use Rattle.plinq_cli.specs.Performed.{failure_of_document, failure_of_input, failure_of_serve, failure_of_take};
+ghost use Rattle.plinq_cli.specs.Performed.{failure_of_document, failure_of_input, failure_of_run, failure_of_serve, failure_of_take};
 
 use crate::input_fault::InputFault;
 use crate::serve_fault::ServeFault;
 use plinq_document::DocFault;
 use plinq_partition::TakeFault;
+use plinq_run::RunFault;
 use thiserror::Error;
 
 /// Why the program has no answer. Its text is the line on standard error, after the program's name.
@@ -22,10 +23,13 @@ pub enum Failure {
     /// The output couldn't be written.
     #[error("write failed")]
     Write,
+    /// A thread couldn't be started.
+    #[error("no thread")]
+    Thread,
     /// All tickets were drawn, or another request came first.
     #[error("tickets spent")]
     Tickets,
-    /// Records of the history are missing, or the enumerator is.
+    /// Records of the history are missing, or the enumerator is, or results of a run.
     #[error("incomplete")]
     Incomplete,
 }
@@ -60,7 +64,22 @@ impl From<ServeFault> for Failure {
         match fault {
             ServeFault::Memory => Failure::Memory,
             ServeFault::Write => Failure::Write,
+            ServeFault::Run(fault) => Failure::from(fault),
             ServeFault::Take(fault) => Failure::from(fault),
+        }
+    }
+}
+
+impl From<RunFault> for Failure {
+    ghost from_gives = { λ fault e. e ≡ failure_of_run fault };
+
+    fn from(fault: RunFault) -> Failure {
+        match fault {
+            RunFault::Memory => Failure::Memory,
+            RunFault::Sink(_) => Failure::Write,
+            RunFault::Tickets => Failure::Tickets,
+            RunFault::Thread => Failure::Thread,
+            RunFault::Incomplete => Failure::Incomplete,
         }
     }
 }

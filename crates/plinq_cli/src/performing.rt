@@ -12,8 +12,9 @@ use crate::serving::serve;
 use clap::error::ErrorKind;
 use plinq_document::read_document;
 use plinq_source::Ending;
-use std::alloc::Global;
 use std::io::{Read, Write};
+use std::sync::Wait;
+use std::thread::Threads;
 
 /// Does what the program does: reads the command line, of which the first word is the program's name, and the
 /// document from `reader`, writes the answer to `out` and what is wrong to `err`, and answers the exit status.
@@ -23,13 +24,18 @@ use std::io::{Read, Write};
 /// flush that fails is a failing write, unless something has failed before. After a failing write `out` is left alone,
 /// so that a caller who lets go of what it still holds writes nothing after the line of the failure. What fails in
 /// writing to `err` changes nothing.
-pub fn perform<R: AllocGlobal, I: Read, W: Write, E: Write>(
+pub fn perform<R, I, W, E>(
     rt: &R,
     words: Vec<String>,
     reader: &mut I,
     out: &mut W,
     err: &mut E,
 ) -> u8
+where
+    R: AllocGlobal + Threads + Wait + Sync,
+    I: Read,
+    W: Write,
+    E: Write,
     ensures status { result ≤ 5 }
 
     // The answer of the document for what the words ask for, or what `clap` shows of words that it doesn't take. Where
@@ -39,51 +45,63 @@ pub fn perform<R: AllocGlobal, I: Read, W: Write, E: Write>(
 {
     let alloc = rt.alloc();
     match read_arguments(alloc, words.as_slice()) {
-        Ok(arguments) => perform_with(alloc, arguments, reader, out, err),
+        Ok(arguments) => perform_with(rt, arguments, reader, out, err),
         Err(refusal) => show(&refusal, out, err),
     }
 }
 
 // What the program does once its arguments are known.
-fn perform_with<I: Read, W: Write, E: Write>(
-    alloc: Global,
+fn perform_with<R, I, W, E>(
+    rt: &R,
     arguments: Arguments,
     reader: &mut I,
     out: &mut W,
     err: &mut E,
 ) -> u8
+where
+    R: AllocGlobal + Threads + Wait + Sync,
+    I: Read,
+    W: Write,
+    E: Write,
     ensures { Performs arguments (I.remaining reader.old) (W.contents out.old) (W.contents out.new) result }
 {
-    let answered = answer(alloc, arguments, reader, out);
+    let answered = answer(rt, arguments, reader, out);
     report(&answered, err)
 }
 
 // The answer of the document that is read, flushed.
-fn answer<I: Read, W: Write>(
-    alloc: Global,
+fn answer<R, I, W>(
+    rt: &R,
     arguments: Arguments,
     reader: &mut I,
     out: &mut W,
 ) -> Result<Ending, Failure>
+where
+    R: AllocGlobal + Threads + Wait + Sync,
+    I: Read,
+    W: Write,
     ensures { Answers arguments (I.remaining reader.old) (W.contents out.old) (W.contents out.new) result }
 {
-    let bytes = read_input(alloc, reader)?;
-    let answered = answer_bytes(alloc, arguments, bytes.as_slice(), out);
+    let bytes = read_input(rt.alloc(), reader)?;
+    let answered = answer_bytes(rt, arguments, bytes.as_slice(), out);
     flush(answered, out)
 }
 
 // The answer of the document of these bytes.
-fn answer_bytes<W: Write>(
-    alloc: Global,
+fn answer_bytes<R, W>(
+    rt: &R,
     arguments: Arguments,
     bytes: &[u8],
     out: &mut W,
 ) -> Result<Ending, Failure>
+where
+    R: AllocGlobal + Threads + Wait + Sync,
+    W: Write,
     ensures { AnswersMeaning arguments.command (document_of arguments.settings bytes.now)
         (W.contents out.old) (W.contents out.new) result }
 {
-    let job = read_document(alloc, bytes, arguments.settings)?;
-    Ok(serve(alloc, arguments.command, job, out)?)
+    let job = read_document(rt.alloc(), bytes, arguments.settings)?;
+    Ok(serve(rt, arguments.command, job, out)?)
 }
 
 // What is answered once the output is flushed.
@@ -128,7 +146,7 @@ fn report_failure<E: Write>(failure: Failure, err: &mut E) -> u8
     match failure {
         Failure::Document(_) => 2,
         Failure::Memory | Failure::Read | Failure::Write => 5,
-        Failure::Tickets | Failure::Incomplete => 5,
+        Failure::Thread | Failure::Tickets | Failure::Incomplete => 5,
     }
 }
 

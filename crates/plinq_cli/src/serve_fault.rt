@@ -1,21 +1,25 @@
 ghost use Rattle.std.specs.Prelude.{◌≡◌};
-ghost use Rattle.plinq_cli.specs.ServeFaults.{serve_fault_of};
+ghost use Rattle.plinq_cli.specs.ServeFaults.{serve_fault_of, serve_fault_of_run};
 ghost use Rattle.plinq_cli.specs.declared.serve_fault.ServeFault.TheVariants.{Memory, Write};
 
 use plinq_lines::WriteFault;
 use plinq_partition::TakeFault;
+use plinq_run::RunFault;
 use plinq_source::OutOfMemory;
 use thiserror::Error;
 
 /// Why a command has no answer.
 #[derive(Clone, Copy, Debug, PartialEq, Eq, Error)]
 pub enum ServeFault {
-    /// Memory ran out.
+    /// Memory ran out, but in a run.
     #[error("out of memory")]
     Memory,
     /// The writer took no more.
     #[error("write failed")]
     Write,
+    /// A run broke off; never since the writer took no more.
+    #[error("{0}")]
+    Run(RunFault),
     /// A partition was given no chunk, or the enumerator wasn't given back; never since memory ran out.
     #[error("{0}")]
     Take(TakeFault),
@@ -44,6 +48,17 @@ impl From<TakeFault> for ServeFault {
         match fault {
             TakeFault::Memory => ServeFault::Memory,
             _ => ServeFault::Take(fault),
+        }
+    }
+}
+
+impl From<RunFault> for ServeFault {
+    ghost from_gives = { λ fault e. e ≡ serve_fault_of_run fault };
+
+    fn from(fault: RunFault) -> ServeFault {
+        match fault {
+            RunFault::Sink(_) => ServeFault::Write,
+            _ => ServeFault::Run(fault),
         }
     }
 }

@@ -1,21 +1,28 @@
-ghost use Rattle.std.specs.Prelude.{◌≡◌, ◌≤◌, IfOk, IfErr};
+ghost use Rattle.std.specs.Prelude.{◌≡◌, ◌≤◌, true, Some, IfOk, IfErr};
+ghost use Rattle.plinq_lambda.specs.Formula.{formula_meaning};
+ghost use Rattle.plinq_lines.specs.Written.{Writes};
+ghost use Rattle.plinq_ops.specs.Sequential.{answer_of};
 ghost use Rattle.plinq_keyed.specs.Keys.{keyed_from, element_lists};
 ghost use Rattle.plinq_partition.specs.Cuts.{cuts};
 ghost use Rattle.plinq_source.specs.Trace.{ended};
-ghost use Rattle.plinq_cli.specs.Served.{Serves};
+ghost use Rattle.plinq_cli.specs.Served.{batch_lines, Serves};
 
 use crate::command::Command;
 use crate::rounds::{hand_out, told_ending};
 use crate::serve_fault::ServeFault;
 use plinq_document::{AnySource, Job};
+use plinq_enumerator::Growth;
 use plinq_keyed::{Guarded, Keyed};
 use plinq_lambda::Formula;
-use plinq_lines::{write_answer, write_history, write_parts, write_plan};
+use plinq_lines::{LineSink, write_answer, write_ending, write_history, write_parts, write_plan};
 use plinq_ops::{Query, sequential};
 use plinq_partition::{OrderablePartitioner, RangeParts};
+use plinq_run::{OpenGate, run};
 use plinq_source::{Ending, OutOfMemory, Source};
 use std::alloc::Global;
 use std::io::Write;
+use std::sync::Wait;
+use std::thread::Threads;
 
 /// Answers a document's job as the command asks, and writes the lines of the answer.
 ///
@@ -24,22 +31,107 @@ use std::io::Write;
 /// # Errors
 ///
 /// [`ServeFault::Memory`] where there is no memory for the answer, [`ServeFault::Write`] where the writer answers an
-/// error, or takes none of the bytes that it is given, and [`ServeFault::Take`] where the partitions of a history don't
-/// get through.
-pub fn serve<W: Write>(
-    alloc: Global,
-    command: Command,
-    job: Job,
-    writer: &mut W,
-) -> Result<Ending, ServeFault>
+/// error, or takes none of the bytes that it is given, [`ServeFault::Run`] where a run breaks off, and
+/// [`ServeFault::Take`] where the partitions of a history don't get through.
+pub fn serve<R, W>(rt: &R, command: Command, job: Job, writer: &mut W) -> Result<Ending, ServeFault>
+where
+    R: AllocGlobal + Threads + Wait + Sync,
+    W: Write,
     ensures { Serves command job (W.contents writer.old) (W.contents writer.new) result }
 {
+    let alloc = rt.alloc();
     match command {
-        Command::Run => serve_sequential(alloc, job, writer),
+        Command::Run => serve_run(rt, job, writer),
         Command::Seq => serve_sequential(alloc, job, writer),
         Command::Plan => serve_plan(&job, writer),
         Command::Parts => serve_parts(alloc, job, writer),
         Command::History => serve_history(alloc, job, writer),
+    }
+}
+
+// A query that keeps the order is run by threads, and each batch is written as it is delivered; any other one is answered
+// on one thread.
+fn serve_run<R, W>(rt: &R, job: Job, writer: &mut W) -> Result<Ending, ServeFault>
+where
+    R: AllocGlobal + Threads + Wait + Sync,
+    W: Write,
+    ensures { Serves Command.Run job (W.contents writer.old) (W.contents writer.new) result }
+{
+    if job.query.is_ordered() {
+        serve_ordered(rt, job, writer)
+    } else {
+        serve_sequential(rt.alloc(), job, writer)
+    }
+}
+
+fn serve_ordered<R, W>(rt: &R, job: Job, writer: &mut W) -> Result<Ending, ServeFault>
+where
+    R: AllocGlobal + Threads + Wait + Sync,
+    W: Write,
+    requires ordered { job.query.ordered ≡ true }
+    ensures { Serves Command.Run job (W.contents writer.old) (W.contents writer.new) result }
+{
+    let Job {
+        query,
+        source,
+        growth,
+    } = job;
+    let ending = run_into(rt, &query, source, growth, writer)?;
+    write_ending(writer, ending)?;
+    Ok(ending)
+}
+
+// Runs a query, and writes the lines of its batches as they are delivered.
+fn run_into<R, W>(
+    rt: &R,
+    query: &Query<Formula>,
+    source: AnySource,
+    growth: Growth,
+    writer: &mut W,
+) -> Result<Ending, ServeFault>
+where
+    R: AllocGlobal + Threads + Wait + Sync,
+    W: Write,
+    requires ordered { query.now.ordered ≡ true }
+    requires unasked { ⟦<AnySource as Source>⟧.given source ≡ 0 }
+    ensures lines { Writes (W.contents writer.old) (W.contents writer.new) result (batch_lines query.now.merge (answer_of formula_meaning query.now.ops (⟦<AnySource as Source>⟧.whole source))) }
+    ensures ending { IfOk result (λ e. (answer_of formula_meaning query.now.ops (⟦<AnySource as Source>⟧.whole source)).ending ≡ Some e) }
+{
+    let (ended, _writer) = run_lines(rt, query, source, growth, writer);
+    ended
+}
+
+// The same, and the writer, which the lines have gone to.
+//
+// A flush that fails while nothing comes is a failing write, also where no batch comes after it.
+fn run_lines<'a, R, W>(
+    rt: &R,
+    query: &Query<Formula>,
+    source: AnySource,
+    growth: Growth,
+    writer: &'a mut W,
+) -> (Result<Ending, ServeFault>, &'a mut W)
+where
+    R: AllocGlobal + Threads + Wait + Sync,
+    W: Write,
+    requires ordered { query.now.ordered ≡ true }
+    requires unasked { ⟦<AnySource as Source>⟧.given source ≡ 0 }
+    ensures lines { Writes (W.contents writer.old) (W.contents result.1.now) result.0 (batch_lines query.now.merge (answer_of formula_meaning query.now.ops (⟦<AnySource as Source>⟧.whole source))) }
+    ensures ending { IfOk result.0 (λ e. (answer_of formula_meaning query.now.ops (⟦<AnySource as Source>⟧.whole source)).ending ≡ Some e) }
+    ensures same { result.1.ghost_name ≡ writer.entry.ghost_name }
+{
+    let mut sink = LineSink::new(writer);
+    let reported = run(rt, rt.alloc(), query, source, growth, &OpenGate, &mut sink);
+    let has_failed = sink.has_failed();
+    let writer = sink.into_writer();
+    match reported {
+        Ok(report) => {
+            if has_failed {
+                return (Err(ServeFault::Write), writer);
+            }
+            (Ok(report.ending), writer)
+        }
+        Err(fault) => (Err(ServeFault::from(fault)), writer),
     }
 }
 

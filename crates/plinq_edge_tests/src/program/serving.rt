@@ -33,16 +33,13 @@ fn answers_the_example(rt: HostRuntime) -> Result<(), Fail> {
     for (command, lines) in SERVED {
         let job = read_document(alloc, ADD_ONE.as_bytes(), NOT_BUFFERED)?;
         let mut out = Vec::new(alloc);
-        assert_eq!(rt; serve(alloc, command, job, &mut out), Ok(Ending::End));
+        assert_eq!(rt; serve(&rt, command, job, &mut out), Ok(Ending::End));
         assert_eq!(rt; out.as_slice(), lines.as_bytes(), "of {command:?}");
 
         let job = read_document(alloc, ADD_ONE.as_bytes(), NOT_BUFFERED)?;
         let mut full = [0u8; 0];
         let mut out = full.as_mut_slice();
-        assert_eq!(rt;
-            serve(alloc, command, job, &mut out),
-            Err(ServeFault::Write)
-        );
+        assert_eq!(rt; serve(&rt, command, job, &mut out), Err(ServeFault::Write));
     }
     Ok(())
 }

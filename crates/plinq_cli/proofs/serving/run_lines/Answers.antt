@@ -6,7 +6,7 @@ use Rattle.std.proofs.KnownBytes.{Appends-kept}
 use Rattle.plinq_lines.specs.Text.{batch_line}
 use Rattle.plinq_lines.specs.Written.{AppendsBeginning}
 use Rattle.plinq_lines.proofs.LinesTaken.{taken-lines, short-lines}
-use Rattle.plinq_lines.proofs.WrittenBytes.{Bytes}
+use Rattle.plinq_lines.proofs.WrittenBytes.{Bytes, begins-all}
 use Rattle.plinq_cli.proofs.serving.run_lines.Goals as goal
 
 taken : (a b s s' : Bytes) (bs : List (List ℤ)) → s ≡ a → Keeps s' b → Appends s s' (flat_map batch_line bs) → Appends a b (flat_map batch_line bs)
@@ -18,13 +18,23 @@ stopped : (a b s s' : Bytes) (bs : List (List ℤ)) → s ≡ a → Keeps s' b �
 stopped a b s s' bs start kept begun =
     let P : Bytes → Type 0 = λ x. AppendsBeginning x b (flat_map batch_line bs) in subst P start (begun.0, Appends-kept s s' b _ begun.1 kept)
 
-pub returns-in-Ok-clause-lines : goal.returns-in-Ok-clause-lines
-returns-in-Ok-clause-lines g c =
+pub returns-then-has_failed-clause-lines : goal.returns-then-has_failed-clause-lines
+returns-then-has_failed-clause-lines g c =
+    let ran = c.in-Ok.ensures.runs c.requires.ordered in
+    begins-all _ _ _ (taken _ _ _ _ _ c.new-sink.ensures.bytes c.into_writer-writer.ensures.bytes (taken-lines _ _ _ ran.delivered).0)
+
+pub returns-then-has_failed-clause-same : goal.returns-then-has_failed-clause-same
+returns-then-has_failed-clause-same g c =
+    let ran = c.in-Ok.ensures.runs c.requires.ordered in
+    c.into_writer-writer.ensures.writer ∙ (taken-lines _ _ _ ran.delivered).1 ∙ c.new-sink.ensures.writer
+
+pub returns-else-has_failed-clause-lines : goal.returns-else-has_failed-clause-lines
+returns-else-has_failed-clause-lines g c =
     let ran = c.in-Ok.ensures.runs c.requires.ordered in
     taken _ _ _ _ _ c.new-sink.ensures.bytes c.into_writer-writer.ensures.bytes (taken-lines _ _ _ ran.delivered).0
 
-pub returns-in-Ok-clause-same : goal.returns-in-Ok-clause-same
-returns-in-Ok-clause-same g c =
+pub returns-else-has_failed-clause-same : goal.returns-else-has_failed-clause-same
+returns-else-has_failed-clause-same g c =
     let ran = c.in-Ok.ensures.runs c.requires.ordered in
     c.into_writer-writer.ensures.writer ∙ (taken-lines _ _ _ ran.delivered).1 ∙ c.new-sink.ensures.writer
 
