@@ -1,5 +1,5 @@
 -- What one offer more does to a merger and a sink, for whoever sees a merger by its words alone.
-use Rattle.std.specs.Prelude.{◌≡◌, ℕ, List, [], ◌∷◌, ◌++◌, ◌⊎◌, Result, Ok, Err}
+use Rattle.std.specs.Prelude.{◌≡◌, ℕ, List, [], ◌∷◌, ◌++◌, ◌⊎◌, Ok, Err}
 use Rattle.std.proofs.Common.{sym, ◌∙◌, ap, subst, append-nil, refl, inl, inr}
 use Rattle.plinq_lambda.specs.Meaning.{Meaning}
 use Rattle.plinq_lambda.specs.declared.lambda.Lambda.{Ghosts}

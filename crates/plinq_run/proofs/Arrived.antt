@@ -1,5 +1,5 @@
 -- By arrival: what results give is how the glued fragments of the source's items in some order begin.
-use Rattle.std.specs.Prelude.{◌≡◌, ℕ, ◌+◌, ◌<◌, ◌≤◌, ◌^◌, ◌==◌, ◌⊎◌, ℤ, pos, List, [], ◌∷◌, ◌++◌, length, take, drop, Bool, true, false, ◌||◌, ◌&&◌, cond, Option, Some, None, All, refl}
+use Rattle.std.specs.Prelude.{◌≡◌, ℕ, ◌+◌, ◌<◌, ◌≤◌, ◌^◌, ◌==◌, ◌⊎◌, ℤ, pos, List, [], ◌∷◌, ◌++◌, length, take, drop, true, false, cond, Option, Some, None, All, refl}
 use Rattle.std.specs.Option.{IfSome}
 use Rattle.std.specs.Ordering.{nat_cmp, match_ordering}
 use Rattle.std.specs.declared.cmp.Ordering.TheVariants.{Less, Equal, Greater}
@@ -19,14 +19,13 @@ use Rattle.plinq_ops.specs.declared.plan.Plan.{Plan}
 use Rattle.plinq_ops.specs.declared.results.ChunkResult.{ChunkResult}
 use Rattle.plinq_ops.specs.Answer.{IsRearranged}
 use Rattle.plinq_ops.specs.Chunk.{result_trace}
-use Rattle.plinq_ops.specs.Cut.{no_cut}
 use Rattle.plinq_ops.specs.Fragment.{fragment_at, fragment_of, glued, glue}
 use Rattle.plinq_ops.specs.Plan.{worker_part}
 use Rattle.plinq_ops.proofs.Cut.{undropped-uncut, result-is}
 use Rattle.plinq_ops.proofs.Glue.{glued-append, chunk_answer-uncut}
 use Rattle.plinq_merge.specs.Part.{Part}
-use Rattle.plinq_merge.specs.Keys.{is_within, is_offered, is_waiting}
-use Rattle.plinq_merge.specs.Shown.{behind_result, part_of, placed, all_placed, told_at, all_told, ending_at, row, arrived, merged}
+use Rattle.plinq_merge.specs.Keys.{is_within, is_offered}
+use Rattle.plinq_merge.specs.Shown.{part_of, placed, all_placed, all_told, ending_at, row, arrived, merged}
 use Rattle.plinq_merge.specs.Whole.{EndsAt, AreTrueTails, AreApart}
 use Rattle.plinq_merge.proofs.Overlaps.{within-from}
 use Rattle.plinq_merge.proofs.Whole.{told-true}

@@ -15,7 +15,7 @@ use Rattle.plinq_ops.specs.declared.frag_end.FragEnd.TheVariants.{Dropped}
 use Rattle.plinq_ops.specs.declared.op.Op.{Op}
 use Rattle.plinq_ops.specs.declared.plan.Plan.{Plan}
 use Rattle.plinq_ops.specs.declared.results.ChunkResult.{ChunkResult}
-use Rattle.plinq_ops.specs.Chunk.{ChunkAnswer, IsToldBy, chunk_answer, IsChunkResult}
+use Rattle.plinq_ops.specs.Chunk.{ChunkAnswer, IsToldBy, IsChunkResult}
 use Rattle.plinq_ops.specs.Cut.{enders, no_cut, is_cut}
 use Rattle.plinq_ops.specs.Fragment.{fragment_of}
 use Rattle.plinq_ops.specs.Row.{IsOffer}

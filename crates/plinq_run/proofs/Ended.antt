@@ -1,10 +1,9 @@
 -- How a run ends: from its first offer to its report.
-use Rattle.std.specs.Prelude.{◌≡◌, ℕ, ◌≤◌, ◌^◌, List, [], ◌∷◌, ◌++◌, length, true, false, Option, Some, None, Result, Ok, Err, All, IfOk, IfErr, OnOk, refl}
+use Rattle.std.specs.Prelude.{◌≡◌, ℕ, ◌≤◌, ◌^◌, List, [], ◌++◌, length, true, false, Option, Some, None, Result, Ok, Err, IfOk, IfErr, OnOk, refl}
 use Rattle.std.specs.List.{list_any}
 use Rattle.std.specs.declared.alloc.Global.{Global}
 use Rattle.std.proofs.Common.{sym, ◌∙◌, ap, subst, append-nil, Vec}
 use Rattle.std.proofs.lemmas.List.Elements.{All-nil}
-use Rattle.plinq_source.specs.declared.ending.Ending.{Ending}
 use Rattle.plinq_source.specs.declared.ending.Ending.TheVariants.{End}
 use Rattle.plinq_source.specs.declared.source.Source.{Ghosts as SourceGhosts}
 use Rattle.plinq_source.specs.Trace.{Trace, ended}
@@ -18,7 +17,7 @@ use Rattle.plinq_ops.specs.declared.order.Order.{Order}
 use Rattle.plinq_ops.specs.declared.order.Order.TheVariants.{ByKey, ByArrival}
 use Rattle.plinq_ops.specs.declared.plan.Plan.{Plan}
 use Rattle.plinq_ops.specs.declared.results.ChunkResult.{ChunkResult}
-use Rattle.plinq_ops.specs.Batches.{batch_size, batches, batches_from}
+use Rattle.plinq_ops.specs.Batches.{batches, batches_from}
 use Rattle.plinq_ops.specs.Feeding.{is_empty_take}
 use Rattle.plinq_ops.specs.Fragment.{glue}
 use Rattle.plinq_ops.specs.Operator.{stages_of}
@@ -26,14 +25,13 @@ use Rattle.plinq_ops.specs.Answer.{IsRearranged, Answer}
 use Rattle.plinq_ops.specs.Plan.{IsPlanOf, order_of, worker_part, after_part}
 use Rattle.plinq_ops.specs.Query.{QueryView}
 use Rattle.plinq_ops.specs.Sequential.{answer_of}
-use Rattle.plinq_ops.specs.Stage.{Stage, seq, some_takes_none}
+use Rattle.plinq_ops.specs.Stage.{some_takes_none}
 use Rattle.plinq_ops.proofs.Answered.{answer-of_none}
 use Rattle.plinq_ops.proofs.Answers.{IsRearranged-refl, Answer-rearranged, Answer-sequential}
 use Rattle.plinq_ops.proofs.Counts.{some_takes_none-stages_of}
 use Rattle.plinq_ops.proofs.Glue.{answer_of-split}
 use Rattle.plinq_ops.proofs.Open.{seq-nothing}
 use Rattle.plinq_merge.specs.declared.merge_fault.MergeFault.{MergeFault}
-use Rattle.plinq_merge.specs.declared.merge_fault.MergeFault.TheVariants.{Memory as NoMemory}
 use Rattle.plinq_merge.specs.declared.merger.Merger.{Merger}
 use Rattle.plinq_merge.specs.Sending.{Leads}
 use Rattle.plinq_merge.specs.Shown.{Merge, answer, shown}
@@ -45,7 +43,7 @@ use Rattle.plinq_run.specs.declared.report.Report.{Report}
 use Rattle.plinq_run.specs.declared.run_fault.RunFault.{RunFault}
 use Rattle.plinq_run.specs.Endings.{ending_in, reported}
 use Rattle.plinq_run.specs.Handed.{handed_trace}
-use Rattle.plinq_run.specs.Merged.{IsMerging, HasStopped, Merges}
+use Rattle.plinq_run.specs.Merged.{IsMerging, Merges}
 use Rattle.plinq_run.specs.Plans.{IsUndecided, are_keyless, merged_answer}
 use Rattle.plinq_run.specs.Reaching.{IsOffered, Covers, accounts_for}
 use Rattle.plinq_run.specs.Reports.{MayTake, MayMerge, IsBroken, Ends, HasReported, Reports}

@@ -1,6 +1,6 @@
 -- One result more.
-use Rattle.std.specs.Prelude.{◌≡◌, ℕ, List, [], ◌∷◌, ◌++◌, ◌⊎◌, Option, Some, None, Result, Ok, Err, All}
-use Rattle.std.proofs.Common.{sym, ◌∙◌, ap, subst, refl, inl, inr, arith}
+use Rattle.std.specs.Prelude.{◌≡◌, ℕ, List, Option, Some, None, Ok, Err, All}
+use Rattle.std.proofs.Common.{sym, ◌∙◌, subst, inl, inr, arith}
 use Rattle.std.proofs.lemmas.List.Elements.{All-push, All-weaker}
 use Rattle.plinq_lambda.specs.declared.lambda.Lambda.{Ghosts}
 use Rattle.plinq_ops.specs.declared.results.ChunkResult.{ChunkResult}
@@ -9,7 +9,7 @@ use Rattle.plinq_merge.specs.declared.merger.Merger.{Merger}
 use Rattle.plinq_merge.specs.declared.more.More.{More}
 use Rattle.plinq_merge.specs.Sending.{Leads}
 use Rattle.plinq_merge.specs.Shown.{Merge, shown}
-use Rattle.plinq_merge.specs.Mergers.{plan_of, IsFor, Takes, StopsShort}
+use Rattle.plinq_merge.specs.Mergers.{plan_of, Takes, StopsShort}
 use Rattle.plinq_merge.specs.Whole.{AreApart}
 use Rattle.plinq_merge.proofs.Mergers.{AreOneMore, takes-ok, takes-err}
 use Rattle.plinq_run.specs.declared.reach.Reach.{Reach}

@@ -1,5 +1,5 @@
 -- Each step of the queue keeps its rule: what it holds are results.
-use Rattle.std.proofs.Common.{◌≡◌, ℕ, List, [], ◌∷◌, ◌++◌, length, All}
+use Rattle.std.proofs.Common.{ℕ, List, [], ◌∷◌, All}
 use Rattle.std.proofs.lemmas.List.Elements.{All-nil, All-push, All-head, All-tail}
 use Rattle.std.specs.Prelude.{⊤}
 use Rattle.crossbeam_queue.specs.Fifo.{Pushes, Pops, Forks}

@@ -30,12 +30,12 @@ use Rattle.plinq_merge.proofs.Sent.{cut-before}
 use Rattle.plinq_merge.proofs.Whole.{merged-begins, batches-first}
 use Rattle.plinq_run.specs.declared.reach.Reach.{Reach}
 use Rattle.plinq_run.specs.declared.run_fault.RunFault.{RunFault}
-use Rattle.plinq_run.specs.Merged.{IsMerging, HasStopped, Merges}
+use Rattle.plinq_run.specs.Merged.{Merges}
 use Rattle.plinq_run.specs.Plans.{IsUndecided, merged_answer}
 use Rattle.plinq_run.specs.Reaching.{IsOffered, Covers}
 use Rattle.plinq_run.specs.Reports.{MayTake, MayMerge, IsBroken}
 use Rattle.plinq_run.specs.Results.{IsResult}
-use Rattle.plinq_run.specs.Runs.{HasRun, HasBroken, refusal_of, told_refusal, fault_of}
+use Rattle.plinq_run.specs.Runs.{HasRun, refusal_of, told_refusal, fault_of}
 use Rattle.plinq_run.proofs.Arrived.{arrival-begins}
 use Rattle.plinq_run.proofs.Covered.{result-covered}
 

@@ -1,9 +1,8 @@
-use Rattle.std.proofs.Common.{rules, ◌≡◌, ◌≤◌, ◌∙◌, sym, refl, length, All}
-use Rattle.plinq_partition.specs.Partitions.{IsPartitionOf, holding_of}
-use Rattle.plinq_partition.specs.GivenBack.{common_origin}
+use Rattle.std.proofs.Common.{refl}
+use Rattle.plinq_partition.specs.Partitions.{holding_of}
 use Rattle.plinq_run.specs.Reaching.{IsOffered}
 use Rattle.plinq_run.specs.Results.{IsResult}
-use Rattle.plinq_run.proofs.Ended.{none-ended, begins-merging, ended-run, back-as}
+use Rattle.plinq_run.proofs.Ended.{none-ended, begins-merging, ended-run}
 use Rattle.plinq_run.proofs.Merged.{merges-weaker}
 use Rattle.plinq_run.proofs.Runs.{merge_for}
 use Rattle.plinq_run.proofs.conducting.conduct.Goals as goal

@@ -1,4 +1,4 @@
-use Rattle.std.proofs.Common.{rules, ◌≡◌, true, false, sym, ap, ◌∙◌, subst, refl}
+use Rattle.std.proofs.Common.{rules, ◌≡◌, true, false, sym, ◌∙◌, subst, refl}
 use Rattle.plinq_source.specs.Trace.{Trace}
 use Rattle.plinq_ops.specs.Answer.{Answer}
 use Rattle.plinq_ops.specs.Query.{merge_in_force}
