@@ -85,16 +85,6 @@ fed-told {T} xs (Some f) ss ss' before after (Some g) fed =
       left = λ bad. absurd (cc);
     }
 
--- what comes out stands behind other items
-pub fed-behind : {T : Type 0} (ss ss' : List (Stage T)) (t : Trace T) (before after : List T) (e : Option Ending)
-    → IsFed ss t [] after ss' e → IsFed ss t before (before ++ after) ss' e
-fed-behind ss ss' t before after e fed =
-    record {
-      items = ap (λ zs. before ++ zs) fed.items;
-      told = fed.told;
-      left = fed.left;
-    }
-
 -- a run that has ended stays as it is, whatever comes behind
 pub fed-ended_before : {T : Type 0} (ss ss' ss'' : List (Stage T)) (a b : Trace T) (before after : List T) (e : Option Ending) → is_some e ≡ true
     → IsFed ss a before after ss' e → IsFed ss (followed a b) before after ss'' e
