@@ -5,4 +5,5 @@ pub mod OpWords
 pub mod PlanText
 pub mod PartsText
 pub mod HistoryText
+pub mod AggregateText
 pub mod LineSink

@@ -6,11 +6,14 @@
 //!   one after another are their lines ([`laws`]).
 //! - [`write_batch`] writes the line of one batch (`batch_line`), [`write_batches`] those of a whole answer, a line
 //!   each, and [`write_ending`] the line of how it ended (`ending_words`); [`write_answer`] all of it (`answer_text`).
+//! - [`write_aggregate`] writes an aggregated answer (`aggregate_text`): the value's line, which [`write_value`] writes
+//!   (`value_line`), where it ended well, and the line of its ending.
 //! - [`write_plan`] writes the five lines of a query's plan (`plan_text`), [`write_parts`] those of a source cut into
 //!   partitions (`properties_line`, `part_lines`, `ending_words`), [`write_history`] those of a history of requests
 //!   (`history_text`).
 #![tactic(auto)]
 
+mod aggregate_lines;
 mod answer_lines;
 mod argument;
 mod batch_lines;
@@ -26,6 +29,7 @@ mod placing;
 mod plan_lines;
 mod write_fault;
 
+pub use aggregate_lines::{write_aggregate, write_value};
 pub use answer_lines::{write_answer, write_batches, write_ending};
 pub use batch_lines::write_batch;
 pub use history_lines::write_history;

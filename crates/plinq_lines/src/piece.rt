@@ -7,4 +7,6 @@ pub(crate) enum Piece<'a> {
     Count(u64),
     /// A whole number, by its decimal, which begins with `-` below zero.
     Number(i64),
+    /// A whole number of up to 128 bits, in the same way.
+    Value(i128),
 }

@@ -27,6 +27,7 @@ fn write_piece<W: Write>(writer: &mut W, piece: Piece) -> Result<(), WriteFault>
         Piece::Text(words) => words,
         Piece::Count(n) => digits.format(n),
         Piece::Number(x) => digits.format(x),
+        Piece::Value(x) => digits.format(x),
     };
     write_bytes(writer, words.as_bytes())
 }
