@@ -20,8 +20,6 @@ mod row;
 mod sending;
 mod sink;
 mod standing;
-#[cfg(test)]
-mod tests;
 mod undelivered;
 mod waiting;
 mod work;

@@ -29,8 +29,6 @@ mod plan;
 mod query;
 mod results;
 mod splitting;
-#[cfg(test)]
-mod tests;
 
 pub use answering::sequential;
 pub use build_fault::BuildFault;

@@ -1,6 +1,6 @@
-use super::{ordered, with};
-use crate::{BuildFault, Built, MergeOption, Op, Order, Query};
+use crate::building::{ordered, with};
 use plinq_lambda::Formula;
+use plinq_ops::{BuildFault, Built, MergeOption, Op, Order, Query};
 use std::alloc::Global;
 use std::process::Abort;
 use std::test::Fail;

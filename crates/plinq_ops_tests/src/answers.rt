@@ -1,6 +1,6 @@
-use super::ordered;
-use crate::{Op, sequential};
+use crate::building::ordered;
 use plinq_lambda::Formula;
+use plinq_ops::{Op, sequential};
 use plinq_source::{Ending, ListSource, RangeSource, Source, Step};
 use std::alloc::Global;
 use std::process::Abort;

@@ -1,10 +1,10 @@
 ghost use Rattle.std.specs.Prelude.{◌≡◌, Ok, not, [], ◌∷◌};
 ghost use Rattle.std.proofs.Common.{arith};
 
-use super::ordered;
-use crate::{FragEnd, MergeOption, Op, Pipeline, Query, chunk_result, fragment, sequential};
+use crate::building::ordered;
 use plinq_keyed::Chunk;
 use plinq_lambda::{ExpandFault, Formula, Lambda};
+use plinq_ops::{FragEnd, MergeOption, Op, Pipeline, Query, chunk_result, fragment, sequential};
 use plinq_source::{Ending, ListSource, OutOfMemory, Source, Step};
 use std::alloc::Global;
 use std::process::Abort;

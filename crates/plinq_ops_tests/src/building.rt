@@ -1,14 +1,8 @@
-mod answers;
-mod chunks;
-mod pipelines;
-mod queries;
-mod splits;
-
-use crate::{BuildFault, Built, Op, Query};
+use plinq_ops::{BuildFault, Built, Op, Query};
 use std::alloc::Global;
 
 /// The query with the builder call of this operator.
-fn with<L: Drop>(query: Query<L>, op: Op<L>) -> Built<L> {
+pub(crate) fn with<L: Drop>(query: Query<L>, op: Op<L>) -> Built<L> {
     match op {
         Op::Select(f) => query.select(f),
         Op::Filter(f) => query.filter(f),
@@ -21,7 +15,10 @@ fn with<L: Drop>(query: Query<L>, op: Op<L>) -> Built<L> {
 }
 
 /// An ordered query of these operators.
-fn ordered<L: Copy + Drop>(alloc: Global, ops: &[Op<L>]) -> Result<Query<L>, BuildFault> {
+pub(crate) fn ordered<L: Copy + Drop>(
+    alloc: Global,
+    ops: &[Op<L>],
+) -> Result<Query<L>, BuildFault> {
     let mut query = Query::new(alloc).as_ordered().map_err(|(_, fault)| fault)?;
     for op in ops {
         query = with(query, *op).map_err(|(_, fault)| fault)?;

@@ -1,7 +1,7 @@
-use super::ordered;
-use crate::{ChunkResult, FragEnd, Op, chunk_result, fragment};
+use crate::building::ordered;
 use plinq_keyed::{Chunk, Tail};
 use plinq_lambda::Formula;
+use plinq_ops::{ChunkResult, FragEnd, Op, chunk_result, fragment};
 use std::alloc::Global;
 use std::process::Abort;
 use std::test::Fail;

@@ -1,7 +1,7 @@
-use super::taken::{Offered, Taken, merger_of, offer};
-use crate::Merger;
+use crate::taken::{Offered, Taken, merger_of, offer};
 use plinq_keyed::Tail;
 use plinq_lambda::Formula;
+use plinq_merge::Merger;
 use plinq_ops::{BuildFault, FragEnd, MergeOption, Query, sequential};
 use plinq_source::{Ending, ListSource};
 use std::alloc::{AllocError, Global};

@@ -1,7 +1,7 @@
-use super::taken::{Offered, Taken, last, merger_of, ordered, part, result_of};
-use crate::{MergeFault, More};
+use crate::taken::{Offered, Taken, last, merger_of, ordered, part, result_of};
 use plinq_keyed::Tail;
 use plinq_lambda::Formula;
+use plinq_merge::{MergeFault, More};
 use plinq_ops::{ChunkResult, MergeOption};
 use plinq_source::Ending;
 use std::alloc::Global;

@@ -3,10 +3,10 @@ ghost use Rattle.std.specs.List.{list_any};
 ghost use Rattle.plinq_ops.specs.Feeding.{is_empty_take};
 ghost use Rattle.plinq_ops.specs.ByKey.{is_by_key};
 
-use super::{ordered, with};
-use crate::{BuildFault, FragEnd, Op, Plan, Query, chunk_result, fragment, sequential};
+use crate::building::{ordered, with};
 use plinq_keyed::Chunk;
 use plinq_lambda::Formula;
+use plinq_ops::{BuildFault, FragEnd, Op, Plan, Query, chunk_result, fragment, sequential};
 use plinq_source::{Ending, ListSource, OutOfMemory};
 use std::alloc::{AllocError, Global};
 use std::process::Abort;

@@ -1,9 +1,9 @@
 ghost use Rattle.std.specs.Prelude.{◌≤◌, ◌^◌, ⊤, Ok, Err, true, IfOk};
 ghost use Rattle.plinq_merge.specs.Shown.{behind_result};
 
-use crate::{MergeFault, Merger, More, Sink};
 use plinq_keyed::Tail;
 use plinq_lambda::{ExpandFault, Formula, Lambda};
+use plinq_merge::{MergeFault, Merger, More, Sink};
 use plinq_ops::{BuildFault, ChunkResult, FragEnd, MergeOption, Query};
 use plinq_source::Ending;
 use std::alloc::{AllocError, Global};

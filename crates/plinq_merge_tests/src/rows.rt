@@ -1,9 +1,9 @@
-use super::taken::{
+use crate::taken::{
     Case, Same, Taken, ender, expect_case, expect_ordered, last, merger_of, offer, ordered, part,
 };
-use crate::{MergeFault, More};
 use plinq_keyed::Tail;
 use plinq_lambda::Formula;
+use plinq_merge::{MergeFault, More};
 use plinq_ops::{BuildFault, FragEnd, MergeOption, Query};
 use plinq_source::Ending;
 use std::alloc::Global;

@@ -1,4 +1,0 @@
-mod memory;
-mod orders;
-mod rows;
-mod taken;
