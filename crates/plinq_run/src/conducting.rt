@@ -82,7 +82,8 @@ where
     }
 }
 
-/// Merges what the workers send, until all have ended and nothing is left in the queue.
+/// Merges what the workers send, until all have ended and nothing is left in the queue. Where nothing comes for a while,
+/// the thread sleeps until something does, so that it takes no processor from a worker.
 fn merge_all<L, S, J, G, K, R>(
     rt: &R,
     crew: &Crew<'_, L, S, J, G>,
@@ -110,6 +111,11 @@ where
 {
     let backoff = Backoff::new();
     for _ in rt.forever() {
+        let sleep = if backoff.is_completed() {
+            Some(crew.progress.announce_sleep())
+        } else {
+            None
+        };
         let have_ended = crew.progress.have_ended(staff.started);
         close_in_time(rt, crew, staff, own, merging, shortages);
         match crew.queue.try_pop_as::<Came<J>>(pass) {
@@ -122,7 +128,10 @@ where
                     return;
                 }
                 merging.rest(sink);
-                backoff.snooze();
+                match sleep {
+                    Some(sleep) => sleep.wait(rt),
+                    None => backoff.snooze(),
+                }
             }
         }
     }

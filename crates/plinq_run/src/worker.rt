@@ -121,6 +121,7 @@ impl<'a, L: Lambda, S: Source<Item = L::Item>, J: Carries<L::Item>, G: Gate> Cre
                 Ok(made) => {
                     let is_last = made.tail.is_some();
                     send(rt, self.queue, &mut pass, made);
+                    self.progress.tell();
                     if is_last {
                         break;
                     }
