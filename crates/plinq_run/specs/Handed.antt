@@ -1,7 +1,7 @@
 -- What the records of a run say that the source has handed out.
 use Rattle.std.specs.Prelude.{◌≡◌, refl, ℕ, ◌+◌, ◌==◌, ◌||◌, nat_le, List, [], ◌∷◌, map, Bool, true, false, if◌then◌else◌, Option, Some, None}
 use Rattle.std.specs.List.{list_any}
-use Rattle.plinq_source.specs.declared.ending.Ending.TheVariants.{End}
+use Rattle.plinq_source.specs.declared.ending.Ending.TheVariants.{End, Refused as RefusedWith}
 use Rattle.plinq_source.specs.Trace.{Trace, ended, open_trace}
 use Rattle.plinq_keyed.specs.declared.event.Event.{Event}
 use Rattle.plinq_keyed.specs.declared.event.Event.TheVariants.{Ask, Close}
@@ -53,3 +53,25 @@ told_by_the_tail = refl
 
 closed_tells_nothing : handed_trace {T = ℕ} (ended (3 ∷ []) End) (two_requests 0 (Some Closed)) ≡ open_trace (3 ∷ [])
 closed_tells_nothing = refl
+
+told_by_a_refusal : handed_trace {T = ℕ} (ended (3 ∷ []) (RefusedWith 7)) (two_requests 0 (Some (Refused 7))) ≡ ended (3 ∷ []) (RefusedWith 7)
+told_by_a_refusal = refl
+
+nothing_was_asked : handed_trace {T = ℕ} (ended [] End) [] ≡ open_trace []
+nothing_was_asked = refl
+
+-- an answer that the source is closed isn't the request that closed it
+asked_of_a_closed_one : has_close (two_requests 0 (Some Closed)) ≡ false
+asked_of_a_closed_one = refl
+
+closed_by_a_request : has_close (record { ticket = 0; asked = Close; first = 0; count = 0; tail = Some Closed } ∷ []) ≡ true
+closed_by_a_request = refl
+
+up_to_the_last_item : hands_out_to 2 (two_requests 1 None) ≡ true
+up_to_the_last_item = refl
+
+behind_the_last_item : hands_out_to 3 (two_requests 1 None) ≡ false
+behind_the_last_item = refl
+
+no_item_without_a_request : hands_out_to 1 [] ≡ false
+no_item_without_a_request = refl

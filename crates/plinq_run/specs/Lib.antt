@@ -7,4 +7,5 @@ pub mod Plans
 pub mod Reaching
 pub mod Reports
 pub mod Results
+pub mod RunRows
 pub mod Runs
