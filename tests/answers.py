@@ -3,6 +3,9 @@
 
     python3 tests/answers.py
 """
+from collections import Counter
+
+from support.batches import batches_in, in_batches
 from support.program import Outcome, Tests, build, run
 
 # A merge option or none, a source, the steps after `as_ordered`, the output and the status.
@@ -41,9 +44,27 @@ ANSWERS = [
     ("", '"list":[-9223372036854775808]', ',["select","mod",-1]', "0\nend\n", 0),
     ("", '"list":[-7]', ',["select","mod",3]', "-1\nend\n", 0),
     ("not", '"list":[1,65537]', ',["select_many","up_to"]', "1\nfault toomany\n", 4),
-    ("", '"list":[3,1]', ',["as_unordered"]', "3 1\nend\n", 0),
     ("", '"repeat":[6,3]', ',["select","mul",-7]', "-42 -42 -42\nend\n", 0),
     ("full", '"range":[8,20]', ',["skip",1]', "9 10 11 12 13 14 15 16 17 18 19 20 21 22 23 24 25 26 27\nend\n", 0),
+]
+
+# Queries that don't keep the order: a merge option, a source, the steps, the items that may come, how many of them do (or
+# any number of them), the last line and the status.
+IN_ANY_ORDER = [
+    ("auto", '"list":[1,2,3]', '["take",2]', [1, 2, 3], 2, "end", 0),
+    ("auto", '"list":[3,1]', '["as_ordered"],["as_unordered"]', [3, 1], 2, "end", 0),
+    ("auto", '"list":[3,1]', '["as_unordered"],["skip",1]', [3, 1], 1, "end", 0),
+    ("not", '"list":[3,1,4]', "", [3, 1, 4], 3, "end", 0),
+    ("full", '"range":[1,40]', '["filter","even"],["select","mul",3]', range(6, 121, 6), 20, "end", 0),
+    ("auto", '"range":[0,500]', '["select_many","repeat",2]', [*range(500), *range(500)], 1000, "end", 0),
+    ("auto", '"range":[1,1000]', '["take",20]', range(1, 1001), 20, "end", 0),
+    ("not", '"list":[1,2],"refuse":7', "", [1, 2], 2, "refused 7", 3),
+    ("full", '"list":[1,2],"refuse":7', "", [], 0, "refused 7", 3),
+    ("auto", '"text":"7 8 x 9"', '["skip",1]', [7, 8], 1, "refused 1", 3),
+    ("", '"list":[1,2],"refuse":7', '["take",0]', [], 0, "end", 0),
+    ("not", '"list":[5,0,2]', '["select","into",10]', [2, 5], None, "fault division", 4),
+    ("full", '"list":[5,0,2]', '["select","into",10]', [], 0, "fault division", 4),
+    ("not", '"list":[1,65537]', '["select_many","up_to"]', [1], None, "fault toomany", 4),
 ]
 
 # Words, a document, and what is said of it.
@@ -130,7 +151,6 @@ SHOWN = [
     ("parts --workers 2", '{"version":1,"source":{"list":[5,6,7,8,9]},"query":[["take",1]]}', ["properties true true true", "0: 0=5 1=6", "1: 2=7 3=8 4=9", "end"], 0),
     ("parts --workers 2", '{"version":1,"source":{"list":[]},"query":[]}', ["properties true true true", "0:", "1:", "end"], 0),
     ("parts", '{"version":1,"source":{"list":[-1],"refuse":7},"query":[["with_degree",1]]}', ["properties true true true", "0: 0=-1", "refused 7"], 3),
-    ("run", '{"version":1,"source":{"list":[1,2,3]},"query":[["take",2]]}', ["1 2", "end"], 0),
     ("seq", '{"version":1,"source":{"list":[1,2,3]},"query":[["take",2]]}', ["1 2", "end"], 0),
     ("run", '{"version":1,"source":{"list":[1],"refuse":4294967295},"query":[]}', ["1", "refused 4294967295"], 3),
     (
@@ -245,6 +265,14 @@ SHOWN = [
 ]
 
 
+def may_come(seen, merge, items, count, last, status):
+    """Whether a run printed so many of these items, in batches as the option says, and then this line."""
+    batches, ending = batches_in(seen.output)
+    came = sum(batches, [])
+    is_part = not Counter(came) - Counter(items) and (count is None or len(came) == count)
+    return is_part and in_batches(merge, came, ending) == batches and (ending, seen.status, seen.errors) == (last, status, b"")
+
+
 def main():
     build()
     tests = Tests()
@@ -259,6 +287,11 @@ def main():
             # (once without options)
             for options in [["--workers", it, "--merge", merge] for it in ("1", "2", "64")] if merge else [[]]:
                 ends([command, *options], document, Outcome(status, output.encode(), b""))
+    for merge, source, steps, *wanted in IN_ANY_ORDER:
+        document = f'{{"version":1,"source":{{{source}}},"query":[{steps}]}}'
+        for options in [["--workers", it, "--merge", merge] for it in ("1", "2", "64")] if merge else [[]]:
+            seen = run(["run", *options], document.encode())
+            tests.check(f"plinq run {' '.join(options)} < {document}", may_come(seen, merge, *wanted), f"wanted {wanted}; seen {seen}")
     for words, document, lines, status in SHOWN:
         ends(words.split(), document, Outcome(status, "".join(it + "\n" for it in lines).encode(), b""))
     unknown = [("run", f'{{"version":1,"source":{{"list":[]}},"query":[{it}]}}', "step 0: unknown") for it in UNKNOWN_STEPS]

@@ -4,12 +4,15 @@
     python3 tests/random-documents.py
 
 The model is written from the words of examples/README.md and docs/MODEL.md, on whole lists, and shares nothing with the
-program. A document for which the order is given up is run by `seq` alone.
+program. What `run` prints of a query that gives the order up is compared with all answers that the query may have, for
+which its source is cut to few items, unless its steps look at each item alone.
 """
+import itertools
 import json
 import random
 import re
 
+from support.batches import batches_in, in_batches
 from support.program import PROGRAM, Outcome, Tests, build, run
 
 LEAST, GREATEST = -(2**63), 2**63 - 1
@@ -117,13 +120,6 @@ def given(source):
     return items, "end"
 
 
-def in_batches(option, items, ending):
-    if option == "full":
-        return [items] if items and ending == "end" else []
-    size = 1 if option == "not" else 16
-    return [items[at : at + size] for at in range(0, len(items), size)]
-
-
 def is_setting(step):
     return step[0] in ("as_ordered", "with_merge", "with_degree")
 
@@ -184,10 +180,58 @@ def wanted(command, source, steps, growth):
     elif command == "history":
         lines += requests(items, ending, growth, degree)
     else:
-        for step in calls:
-            items, ending = applied(step, items, ending)
+        items, ending = through(calls, items, ending)
         lines += [" ".join(map(str, it)) for it in in_batches(option, items, ending)]
     return lines + [ending], {"e": 0, "r": 3, "f": 4}[ending[0]]
+
+
+FEW = 5
+
+
+def shortened(source):
+    """A source of few items, of the same kind."""
+    if "list" in source:
+        return source | {"list": source["list"][:FEW]}
+    if "text" in source:
+        return {"text": " ".join(re.findall("[^ \n]+", source["text"])[:FEW])}
+    ((kind, (first, count)),) = source.items()
+    return {kind: [first, min(count, FEW)]}
+
+
+def through(steps, items, ending):
+    for step in steps:
+        items, ending = applied(step, items, ending)
+    return items, ending
+
+
+def gives_order_up(steps):
+    return ["as_ordered"] not in steps or ["as_unordered"] in steps
+
+
+def is_cut_short(source, steps):
+    """Whether the answers of a query that gives the order up differ by more than the order of their items."""
+    items, ending = given(source)
+    keyless = all(it[0] in ("select", "filter", "select_many", "as_unordered") or is_setting(it) for it in steps)
+    return not keyless or through(steps, items, ending)[1] != ending
+
+
+def may_print(source, steps, seen):
+    """Whether this is printed for an answer that a query may have which gives the order up; `as_unordered` stands last."""
+    came, last = batches_in(seen.output)
+    came_items = sum(came, [])
+    option = setting(steps, "with_merge", "auto")
+    status = {"e": 0, "r": 3, "f": 4}.get(last[:1])
+    if (seen.status, seen.errors) != (status, b"") or in_batches(option, came_items, last) != came:
+        return False
+    items, ending = given(source)
+    is_hidden = option == "full" and last != "end"
+    if len(items) > FEW:
+        wanted, ending = through(steps, items, ending)
+        return last == ending and (is_hidden or sorted(came_items) == sorted(wanted))
+    orders = [items] if ["as_ordered"] in steps else map(list, set(itertools.permutations(items)))
+    order_of = sorted if ["as_unordered"] in steps else list
+    answers = (through(steps, it, ending) for it in orders)
+    return any(last == e and (is_hidden or order_of(came_items) == order_of(xs)) for xs, e in answers)
 
 
 def some_number(chance):
@@ -246,27 +290,38 @@ def is_too_long(source, steps):
 def main():
     build()
     tests = Tests()
-    chance = random.Random(1)
+    chance = random.Random(4)
     seen_endings = set()
     while tests.passed + tests.failed < 1500:
         source, steps = some_source(chance), some_steps(chance)
         if is_too_long(source, steps):
             continue
-        keeps_order = ["as_ordered"] in steps and ["as_unordered"] not in steps
-        command = chance.choice(["run", "run", "run", "seq", "plan", "parts", "history"] if keeps_order else ["seq", "plan", "parts", "history"])
+        command = chance.choice(["run", "run", "run", "seq", "plan", "parts", "history"])
+        in_any_order = command == "run" and gives_order_up(steps)
+        if in_any_order and is_cut_short(source, steps):
+            source = shortened(source)
         document = {"version": 1, "source": source, "query": steps}
         growth = chance.choice([None, [1, 1, 1], [1, 1, 4], [2, 3, 16], [1, 3, 512]])
         if growth:
             document["growth"] = growth
         text = json.dumps(document)
-        lines, status = wanted(command, source, steps, growth or [1, 3, 512])
-        right = Outcome(status, "".join(it + "\n" for it in lines).encode(), b"")
         seen = run([command], text.encode(), PROGRAM)
-        tests.check(f"plinq {command} < {text}", seen == right, f"wanted {right}; seen {seen}")
-        seen_endings.add((command, lines[-1].rstrip("0123456789")))
-    of_run = {it for command, it in seen_endings if command == "run"}
-    all_of_run = {"end", "refused ", "fault overflow", "fault division", "fault toomany"}
-    tests.check("runs ended in every way", of_run == all_of_run, of_run)
+        name = f"plinq {command} < {text}"
+        if in_any_order:
+            tests.check(name, may_print(source, steps, seen), f"no answer of the query: {seen}")
+        else:
+            lines, status = wanted(command, source, steps, growth or [1, 3, 512])
+            right = Outcome(status, "".join(it + "\n" for it in lines).encode(), b"")
+            tests.check(name, seen == right, f"wanted {right}; seen {seen}")
+        if command == "run":
+            seen_endings.add((in_any_order, batches_in(seen.output)[1].rstrip("0123456789")))
+    ways = {True: set(), False: set()}
+    for in_any_order, it in seen_endings:
+        ways[in_any_order].add(it)
+    all_ways = {"end", "refused ", "fault overflow", "fault division", "fault toomany"}
+    tests.check("runs in order ended in every way", ways[False] == all_ways, ways[False])
+    # (which of several faults comes isn't said)
+    tests.check("runs in any order ended well, by a refusal and by a fault", {"end", "refused ", "fault overflow"} <= ways[True], ways[True])
     tests.end()
 
 

@@ -34,6 +34,8 @@ ANSWERED = [
     document({"list": [5, 0, 2]}, ["select", "into", 10]),
     document({"list": [9223372036854775807]}, ["select", "add", 1]),
 ]
+# (one item, which has one order)
+UNORDERED = b'{"version":1,"source":{"list":[4],"refuse":7},"query":[["select","add",1]]}'
 REFUSED = [
     b'{"version":1,"source":{"list":[3,1,4]',
     b"{}",
@@ -46,7 +48,7 @@ REFUSED = [
 ]
 CASES = (
     [(words, it) for it in ANSWERED for words in (["run", "--merge", "not"], ["run", "--workers", "1"], ["run", "--workers", "8"], ["plan", "--workers", "2"], ["parts"], ["history", "--workers", "2"])]
-    + [(["run", "--merge", "full"], ANSWERED[0]), (["seq"], ANSWERED[1]), (["seq", "--merge", "auto"], ANSWERED[6])]
+    + [(["run", "--workers", "2"], UNORDERED), (["run", "--merge", "full"], ANSWERED[0]), (["seq"], ANSWERED[1]), (["seq", "--merge", "auto"], ANSWERED[6])]
     + [(["run"], it) for it in REFUSED]
     + [(words, ANSWERED[0]) for words in ([], ["walk"], ["run", "--workers", "0"], ["seq", "--merge", "some"], ["plan", "x"])]
     + [(words, b"") for words in (["--help"], ["run", "--help"], ["help"])]

@@ -59,7 +59,7 @@ Exit status:
   2  the arguments or the document were refused
   3  the source refused
   4  a formula had a fault
-  5  memory ran out, or reading or writing failed
+  5  memory ran out, no thread could be started, reading or writing failed, or a run broke off
 
 Example, which prints 4, 2, 5 and end, a line each:
   echo '{"version":1,"source":{"list":[3,1,4]},"query":[["as_ordered"],["select","add",1]]}' | plinq run --merge not

@@ -3,6 +3,7 @@ pub mod Answered
 pub mod Asked
 pub mod PrintedRead
 mod ArgumentRows
+mod Delivered
 mod HandedOut
 mod Histories
 mod ToldEnding

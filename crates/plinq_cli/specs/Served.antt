@@ -1,5 +1,6 @@
 -- What each command answers, and the text that it prints.
-use Rattle.std.specs.Prelude.{◌≡◌, ◌⊎◌, ℕ, ℤ, pos, List, [], ◌∷◌, true, Option, Some, None, Result, MatchResult, codes, refl}
+use Rattle.std.specs.Prelude.{◌≡◌, ◌⊎◌, ⊤, ℕ, ℤ, pos, List, [], ◌∷◌, ◌++◌, Bool, true, false, Option, Some, None, Result, Ok, Err, MatchResult, codes, refl}
+use Rattle.std.proofs.Common.{arith}
 use Rattle.std.specs.Fmt.{digits}
 use Rattle.std.specs.List.{flat_map}
 use Rattle.std.specs.Io.KnownBytes.{Appends, Keeps}
@@ -7,12 +8,15 @@ use Rattle.plinq_source.specs.declared.ending.Ending.{Ending}
 use Rattle.plinq_source.specs.declared.ending.Ending.TheVariants.{End}
 use Rattle.plinq_source.specs.Trace.{Trace, ended}
 use Rattle.plinq_lambda.specs.Formula.{formula_meaning}
+use Rattle.plinq_lambda.specs.declared.formula.Formula.{Formula}
 use Rattle.plinq_lambda.specs.declared.formula.Formula.TheVariants.{Add}
+use Rattle.plinq_ops.specs.declared.op.Op.{Op}
 use Rattle.plinq_ops.specs.declared.op.Op.TheVariants.{Select}
 use Rattle.plinq_ops.specs.declared.merge_option.MergeOption.{MergeOption}
 use Rattle.plinq_ops.specs.declared.merge_option.MergeOption.TheVariants.{NotBuffered}
 use Rattle.plinq_ops.specs.Batches.{batches}
-use Rattle.plinq_ops.specs.Query.{merge_in_force, degree_in_force}
+use Rattle.plinq_ops.specs.Query.{QueryView, merge_in_force, degree_in_force}
+use Rattle.plinq_ops.specs.Answer.{Answer}
 use Rattle.plinq_ops.specs.Sequential.{answer_of}
 use Rattle.plinq_keyed.specs.declared.record.Record.{Record}
 use Rattle.plinq_document.specs.Jobs.{JobView}
@@ -23,6 +27,8 @@ use Rattle.plinq_lines.specs.PlanText.{plan_text}
 use Rattle.plinq_lines.specs.PartsText.{parts_text}
 use Rattle.plinq_lines.specs.HistoryText.{history_text}
 use Rattle.plinq_lines.specs.Written.{AppendsBeginning}
+use Rattle.plinq_cli.specs.declared.serve_fault.ServeFault.{ServeFault}
+use Rattle.plinq_cli.specs.declared.serve_fault.ServeFault.TheVariants.{Memory, Write, Run as NoRun, Take}
 use Rattle.plinq_cli.specs.Rounds.{IsHistory}
 
 -- the query's answer on one thread
@@ -33,9 +39,14 @@ sequential_answer job = answer_of formula_meaning job.query.ops job.source
 abbrev pub batch_lines : Option MergeOption → Trace ℤ → List ℕ
 batch_lines merge u = flat_map batch_line (batches (merge_in_force merge) u)
 
+-- what threads may answer: with `as_ordered` what one thread does, else any answer that the query may have
+abbrev pub MayAnswer : Bool → List (Op Formula) → Trace ℤ → Trace ℤ → Type 0
+MayAnswer true ops t u = u ≡ answer_of formula_meaning ops t
+MayAnswer false ops t u = Answer formula_meaning false ops t u
+
 -- this is an answer of the command for the job: the query's, no items for `plan`, all that the source has for `parts` and `history`
 abbrev pub IsAnswer : Command → JobView → Trace ℤ → Type 0
-IsAnswer Run job u = u ≡ sequential_answer job
+IsAnswer Run job u = MayAnswer job.query.ordered job.query.ops job.source u
 IsAnswer Seq job u = u ≡ sequential_answer job
 IsAnswer Plan job u = u ≡ ended [] End
 IsAnswer Parts job u = u ≡ job.source
@@ -63,6 +74,47 @@ HasBegun command job old new =
 abbrev pub Serves : {E : Type 0} → Command → JobView → Option (List ℕ) → Option (List ℕ) → Result Ending E → Type 0
 Serves command job old new r = MatchResult r (HasWritten command job old new) (λ _. HasBegun command job old new)
 
+-- ---- a run that broke off
+
+module _ (q : QueryView Formula) (t : Trace ℤ) (old new : Option (List ℕ)) where
+  -- the lines of the batches of an answer were written, and this is how it ended
+  pub record HasDelivered (e : Ending) : Type 0 where
+    pub answer : Trace ℤ
+    pub may : MayAnswer q.ordered q.ops t answer
+    pub lines : Appends old new (batch_lines q.merge answer)
+    pub ending : answer.ending ≡ Some e
+
+  -- a beginning of such lines was written
+  pub record HasFailed : Type 0 where
+    pub answer : Trace ℤ
+    pub may : MayAnswer q.ordered q.ops t answer
+    pub begun : AppendsBeginning old new (batch_lines q.merge answer)
+
+  -- the lines of the first batches of an answer were written, each whole, and nothing behind them
+  pub record HasBrokenOff : Type 0 where
+    pub answer : Trace ℤ
+    pub may : MayAnswer q.ordered q.ops t answer
+    pub sent : List (List ℤ)
+    pub rest : List (List ℤ)
+    pub first : batches (merge_in_force q.merge) answer ≡ sent ++ rest
+    pub lines : Appends old new (flat_map batch_line sent)
+
+  -- what was written of the batches of a run that ended so
+  abbrev pub Delivers : Result Ending ServeFault → Type 0
+  Delivers (Ok e) = HasDelivered e
+  Delivers (Err (NoRun fault)) = HasBrokenOff
+  Delivers (Err Memory) = HasFailed
+  Delivers (Err Write) = HasFailed
+  Delivers (Err (Take fault)) = HasFailed
+
+-- where the run itself broke off, no line was left half written
+abbrev pub LeavesWholeLines : JobView → Option (List ℕ) → Option (List ℕ) → Result Ending ServeFault → Type 0
+LeavesWholeLines job old new (Ok e) = ⊤
+LeavesWholeLines job old new (Err (NoRun fault)) = HasBrokenOff job.query job.source old new
+LeavesWholeLines job old new (Err Memory) = ⊤
+LeavesWholeLines job old new (Err Write) = ⊤
+LeavesWholeLines job old new (Err (Take fault)) = ⊤
+
 -- ---- worked rows
 
 -- {"version":1,"source":{"list":[3,1,4]},"query":[["as_ordered"],["select","add",1]]}, with --merge not
@@ -79,3 +131,11 @@ add_one_is_answered = refl
 pub add_one_is_printed : IsText Run add_one (sequential_answer add_one) (codes "4\n2\n5\nend\n")
 unfolding digits
 add_one_is_printed = refl
+
+-- without `as_ordered` two numbers may change places
+two_exchanged : MayAnswer false [] (ended (pos 1 ∷ pos 2 ∷ []) End) (ended (pos 2 ∷ pos 1 ∷ []) End)
+two_exchanged = record {
+  between = ended (pos 2 ∷ pos 1 ∷ []) End;
+  given = record { items = record { moves = (0, 1) ∷ []; below = (omega arith, omega arith, tt); is = refl }; ending = refl };
+  goes_on = refl;
+}

@@ -1,11 +1,8 @@
-ghost use Rattle.std.specs.Prelude.{◌≡◌, ◌≤◌, true, Some, IfOk, IfErr};
-ghost use Rattle.plinq_lambda.specs.Formula.{formula_meaning};
-ghost use Rattle.plinq_lines.specs.Written.{Writes};
-ghost use Rattle.plinq_ops.specs.Sequential.{answer_of};
+ghost use Rattle.std.specs.Prelude.{◌≡◌, ◌≤◌, IfOk, IfErr};
 ghost use Rattle.plinq_keyed.specs.Keys.{keyed_from, element_lists};
 ghost use Rattle.plinq_partition.specs.Cuts.{cuts};
 ghost use Rattle.plinq_source.specs.Trace.{ended};
-ghost use Rattle.plinq_cli.specs.Served.{batch_lines, Serves};
+ghost use Rattle.plinq_cli.specs.Served.{Delivers, LeavesWholeLines, Serves};
 
 use crate::command::Command;
 use crate::rounds::{hand_out, told_ending};
@@ -26,7 +23,8 @@ use std::thread::Threads;
 
 /// Answers a document's job as the command asks, and writes the lines of the answer.
 ///
-/// After a fault what was written is a beginning of these lines; how long it is isn't said.
+/// After a fault what was written is a beginning of these lines; how long it is isn't said, but that a run that broke off
+/// leaves whole lines.
 ///
 /// # Errors
 ///
@@ -37,7 +35,8 @@ pub fn serve<R, W>(rt: &R, command: Command, job: Job, writer: &mut W) -> Result
 where
     R: AllocGlobal + Threads + Wait + Sync,
     W: Write,
-    ensures { Serves command job (W.contents writer.old) (W.contents writer.new) result }
+    ensures written { Serves command job (W.contents writer.old) (W.contents writer.new) result }
+    ensures whole { command ≡ Command.Run → LeavesWholeLines job (W.contents writer.old) (W.contents writer.new) result }
 {
     let alloc = rt.alloc();
     match command {
@@ -49,27 +48,13 @@ where
     }
 }
 
-// A query that keeps the order is run by threads, and each batch is written as it is delivered; any other one is answered
-// on one thread.
+// A query is run by threads, and each batch is written as it is delivered.
 fn serve_run<R, W>(rt: &R, job: Job, writer: &mut W) -> Result<Ending, ServeFault>
 where
     R: AllocGlobal + Threads + Wait + Sync,
     W: Write,
-    ensures { Serves Command.Run job (W.contents writer.old) (W.contents writer.new) result }
-{
-    if job.query.is_ordered() {
-        serve_ordered(rt, job, writer)
-    } else {
-        serve_sequential(rt.alloc(), job, writer)
-    }
-}
-
-fn serve_ordered<R, W>(rt: &R, job: Job, writer: &mut W) -> Result<Ending, ServeFault>
-where
-    R: AllocGlobal + Threads + Wait + Sync,
-    W: Write,
-    requires ordered { job.query.ordered ≡ true }
-    ensures { Serves Command.Run job (W.contents writer.old) (W.contents writer.new) result }
+    ensures written { Serves Command.Run job (W.contents writer.old) (W.contents writer.new) result }
+    ensures whole { LeavesWholeLines job (W.contents writer.old) (W.contents writer.new) result }
 {
     let Job {
         query,
@@ -92,10 +77,8 @@ fn run_into<R, W>(
 where
     R: AllocGlobal + Threads + Wait + Sync,
     W: Write,
-    requires ordered { query.now.ordered ≡ true }
     requires unasked { ⟦<AnySource as Source>⟧.given source ≡ 0 }
-    ensures lines { Writes (W.contents writer.old) (W.contents writer.new) result (batch_lines query.now.merge (answer_of formula_meaning query.now.ops (⟦<AnySource as Source>⟧.whole source))) }
-    ensures ending { IfOk result (λ e. (answer_of formula_meaning query.now.ops (⟦<AnySource as Source>⟧.whole source)).ending ≡ Some e) }
+    ensures { Delivers query.now (⟦<AnySource as Source>⟧.whole source) (W.contents writer.old) (W.contents writer.new) result }
 {
     let (ended, _writer) = run_lines(rt, query, source, growth, writer);
     ended
@@ -114,10 +97,8 @@ fn run_lines<'a, R, W>(
 where
     R: AllocGlobal + Threads + Wait + Sync,
     W: Write,
-    requires ordered { query.now.ordered ≡ true }
     requires unasked { ⟦<AnySource as Source>⟧.given source ≡ 0 }
-    ensures lines { Writes (W.contents writer.old) (W.contents result.1.now) result.0 (batch_lines query.now.merge (answer_of formula_meaning query.now.ops (⟦<AnySource as Source>⟧.whole source))) }
-    ensures ending { IfOk result.0 (λ e. (answer_of formula_meaning query.now.ops (⟦<AnySource as Source>⟧.whole source)).ending ≡ Some e) }
+    ensures delivers { Delivers query.now (⟦<AnySource as Source>⟧.whole source) (W.contents writer.old) (W.contents result.1.now) result.0 }
     ensures same { result.1.ghost_name ≡ writer.entry.ghost_name }
 {
     let mut sink = LineSink::new(writer);

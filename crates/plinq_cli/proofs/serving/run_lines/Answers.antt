@@ -1,49 +1,41 @@
 -- what the sink took is written, and the writer comes back as it is
-use Rattle.std.proofs.Common.{◌≡◌, ℤ, List, ◌∙◌, subst}
-use Rattle.std.specs.List.{flat_map}
-use Rattle.std.specs.Io.KnownBytes.{Appends, Keeps}
-use Rattle.std.proofs.KnownBytes.{Appends-kept}
-use Rattle.plinq_lines.specs.Text.{batch_line}
-use Rattle.plinq_lines.specs.Written.{AppendsBeginning}
-use Rattle.plinq_lines.proofs.LinesTaken.{taken-lines, short-lines}
-use Rattle.plinq_lines.proofs.WrittenBytes.{Bytes, begins-all}
+use Rattle.std.proofs.Common.{Ok, Err, ◌∙◌}
+use Rattle.plinq_ops.specs.Query.{merge_in_force}
+use Rattle.plinq_cli.proofs.Delivered.{some-answer, ran-delivered, broke-off, unflushed}
 use Rattle.plinq_cli.proofs.serving.run_lines.Goals as goal
 
-taken : (a b s s' : Bytes) (bs : List (List ℤ)) → s ≡ a → Keeps s' b → Appends s s' (flat_map batch_line bs) → Appends a b (flat_map batch_line bs)
-taken a b s s' bs start kept written =
-    let P : Bytes → Type 0 = λ x. Appends x b (flat_map batch_line bs) in subst P start (Appends-kept s s' b _ written kept)
-
-stopped : (a b s s' : Bytes) (bs : List (List ℤ)) → s ≡ a → Keeps s' b → AppendsBeginning s s' (flat_map batch_line bs)
-    → AppendsBeginning a b (flat_map batch_line bs)
-stopped a b s s' bs start kept begun =
-    let P : Bytes → Type 0 = λ x. AppendsBeginning x b (flat_map batch_line bs) in subst P start (begun.0, Appends-kept s s' b _ begun.1 kept)
-
-pub returns-then-has_failed-clause-lines : goal.returns-then-has_failed-clause-lines
-returns-then-has_failed-clause-lines g c =
-    let ran = c.in-Ok.ensures.runs c.requires.ordered in
-    begins-all _ _ _ (taken _ _ _ _ _ c.new-sink.ensures.bytes c.into_writer-writer.ensures.bytes (taken-lines _ _ _ ran.delivered).0)
+pub returns-then-has_failed-clause-delivers : goal.returns-then-has_failed-clause-delivers
+returns-then-has_failed-clause-delivers g c =
+    let q = c.args.query.now in
+    let some = some-answer q.ordered q.ops (merge_in_force q.merge) _ _ _ (Ok c.in-Ok.report) c.in-Ok.ensures.runs c.in-Ok.ensures.any in
+    unflushed q _ _ _ _ (ran-delivered q _ _ _ _ _ c.new-sink.ensures.bytes c.into_writer-writer.ensures.bytes _ some).0
 
 pub returns-then-has_failed-clause-same : goal.returns-then-has_failed-clause-same
 returns-then-has_failed-clause-same g c =
-    let ran = c.in-Ok.ensures.runs c.requires.ordered in
-    c.into_writer-writer.ensures.writer ∙ (taken-lines _ _ _ ran.delivered).1 ∙ c.new-sink.ensures.writer
+    let q = c.args.query.now in
+    let some = some-answer q.ordered q.ops (merge_in_force q.merge) _ _ _ (Ok c.in-Ok.report) c.in-Ok.ensures.runs c.in-Ok.ensures.any in
+    c.into_writer-writer.ensures.writer ∙ (ran-delivered q _ _ _ _ _ c.new-sink.ensures.bytes c.into_writer-writer.ensures.bytes _ some).1 ∙ c.new-sink.ensures.writer
 
-pub returns-else-has_failed-clause-lines : goal.returns-else-has_failed-clause-lines
-returns-else-has_failed-clause-lines g c =
-    let ran = c.in-Ok.ensures.runs c.requires.ordered in
-    taken _ _ _ _ _ c.new-sink.ensures.bytes c.into_writer-writer.ensures.bytes (taken-lines _ _ _ ran.delivered).0
+pub returns-else-has_failed-clause-delivers : goal.returns-else-has_failed-clause-delivers
+returns-else-has_failed-clause-delivers g c =
+    let q = c.args.query.now in
+    let some = some-answer q.ordered q.ops (merge_in_force q.merge) _ _ _ (Ok c.in-Ok.report) c.in-Ok.ensures.runs c.in-Ok.ensures.any in
+    (ran-delivered q _ _ _ _ _ c.new-sink.ensures.bytes c.into_writer-writer.ensures.bytes _ some).0
 
 pub returns-else-has_failed-clause-same : goal.returns-else-has_failed-clause-same
 returns-else-has_failed-clause-same g c =
-    let ran = c.in-Ok.ensures.runs c.requires.ordered in
-    c.into_writer-writer.ensures.writer ∙ (taken-lines _ _ _ ran.delivered).1 ∙ c.new-sink.ensures.writer
+    let q = c.args.query.now in
+    let some = some-answer q.ordered q.ops (merge_in_force q.merge) _ _ _ (Ok c.in-Ok.report) c.in-Ok.ensures.runs c.in-Ok.ensures.any in
+    c.into_writer-writer.ensures.writer ∙ (ran-delivered q _ _ _ _ _ c.new-sink.ensures.bytes c.into_writer-writer.ensures.bytes _ some).1 ∙ c.new-sink.ensures.writer
 
-pub returns-in-Err-clause-lines : goal.returns-in-Err-clause-lines
-returns-in-Err-clause-lines g c =
-    let short = c.in-Err.ensures.runs c.requires.ordered in
-    stopped _ _ _ _ _ c.new-sink.ensures.bytes c.into_writer-writer.ensures.bytes (short-lines _ _ _ _ short).0
+pub returns-in-Err-clause-delivers : goal.returns-in-Err-clause-delivers
+returns-in-Err-clause-delivers g c =
+    let q = c.args.query.now in
+    let some = some-answer q.ordered q.ops (merge_in_force q.merge) _ _ _ (Err c.in-Err.fault) c.in-Err.ensures.runs c.in-Err.ensures.any in
+    (broke-off q _ _ _ _ _ c.new-sink.ensures.bytes c.into_writer-writer.ensures.bytes c.in-Err.fault _ c.from.ensures some).0
 
 pub returns-in-Err-clause-same : goal.returns-in-Err-clause-same
 returns-in-Err-clause-same g c =
-    let short = c.in-Err.ensures.runs c.requires.ordered in
-    c.into_writer-writer.ensures.writer ∙ (short-lines _ _ _ _ short).1 ∙ c.new-sink.ensures.writer
+    let q = c.args.query.now in
+    let some = some-answer q.ordered q.ops (merge_in_force q.merge) _ _ _ (Err c.in-Err.fault) c.in-Err.ensures.runs c.in-Err.ensures.any in
+    c.into_writer-writer.ensures.writer ∙ (broke-off q _ _ _ _ _ c.new-sink.ensures.bytes c.into_writer-writer.ensures.bytes c.in-Err.fault _ c.from.ensures some).1 ∙ c.new-sink.ensures.writer

@@ -1,0 +1,149 @@
+-- What a run by threads has written: the lines of the batches of an answer, or where it broke off those of the first.
+use Rattle.std.proofs.Common.{◌≡◌, true, false, Bool, ℕ, ℤ, List, ◌++◌, Result, Ok, Err, refl, ap, sym, ◌∙◌, subst}
+use Rattle.std.specs.List.{flat_map}
+use Rattle.std.specs.Result.{IsErr}
+use Rattle.std.specs.Io.KnownBytes.{Appends, Keeps}
+use Rattle.std.proofs.KnownBytes.{Appends-kept, Appends-trans}
+use Rattle.std.proofs.lemmas.Grind.{flat_map-append}
+use Rattle.plinq_source.specs.declared.ending.Ending.{Ending}
+use Rattle.plinq_source.specs.Trace.{Trace}
+use Rattle.plinq_lambda.specs.Formula.{formula_meaning}
+use Rattle.plinq_lambda.specs.declared.formula.Formula.{Formula}
+use Rattle.plinq_merge.specs.declared.merge_fault.MergeFault.TheVariants.{Sink as Refusal}
+use Rattle.plinq_merge.specs.Sending.{Leads}
+use Rattle.plinq_ops.specs.declared.merge_option.MergeOption.{MergeOption}
+use Rattle.plinq_ops.specs.declared.op.Op.{Op}
+use Rattle.plinq_ops.specs.Answer.{Answer}
+use Rattle.plinq_ops.specs.Batches.{batches}
+use Rattle.plinq_ops.specs.Query.{QueryView, merge_in_force}
+use Rattle.plinq_ops.specs.Sequential.{answer_of}
+use Rattle.plinq_run.specs.declared.report.Report.{Report}
+use Rattle.plinq_run.specs.declared.run_fault.RunFault.{RunFault}
+use Rattle.plinq_run.specs.declared.run_fault.RunFault.TheVariants.{Memory as RunMemory, Sink, Tickets, Thread, Incomplete}
+use Rattle.plinq_run.specs.Endings.{reported}
+use Rattle.plinq_run.specs.Reports.{Reports}
+use Rattle.plinq_run.specs.Runs.{Runs}
+use Rattle.plinq_document.specs.Jobs.{JobView}
+use Rattle.plinq_lines.specs.LineSink.{Lines, TakesLine, RefusesLine}
+use Rattle.plinq_lines.specs.Text.{line, batch_line, ending_words, ending_line, answer_text}
+use Rattle.plinq_lines.specs.Written.{AppendsBeginning}
+use Rattle.plinq_lines.proofs.LinesTaken.{taken-lines, short-lines}
+use Rattle.plinq_lines.proofs.WrittenBytes.{Bytes, appends-as, begins-all, begins-after, begins-append, begins-as}
+use Rattle.plinq_cli.specs.declared.command.Command.TheVariants.{Run}
+use Rattle.plinq_cli.specs.declared.serve_fault.ServeFault.{ServeFault}
+use Rattle.plinq_cli.specs.declared.serve_fault.ServeFault.TheVariants.{Memory, Write, Run as NoRun, Take}
+use Rattle.plinq_cli.specs.ServeFaults.{serve_fault_of_run}
+use Rattle.plinq_cli.specs.Served.{MayAnswer, batch_lines, Delivers, HasDelivered, HasFailed, HasBrokenOff, HasWritten, LeavesWholeLines, Serves}
+use Rattle.plinq_cli.proofs.Answered.{serves-begun}
+
+-- ---- which answer it is
+
+-- a run to a sink of lines, of some answer that threads may give
+pub record HasSome (ordered : Bool) (ops : List (Op Formula)) (option : MergeOption) (t : Trace ℤ) (s s' : Lines) (r : Result Ending RunFault) : Type 0 where
+  pub answer : Trace ℤ
+  pub may : MayAnswer ordered ops t answer
+  pub runs : Runs TakesLine RefusesLine option answer s s' r
+
+pub some-answer : (ordered : Bool) (ops : List (Op Formula)) (option : MergeOption) (t : Trace ℤ) (s s' : Lines) (r : Result Report RunFault)
+    → (ordered ≡ true → Runs TakesLine RefusesLine option (answer_of formula_meaning ops t) s s' (reported r))
+    → (ordered ≡ false → Reports TakesLine RefusesLine option (Answer formula_meaning false ops) t s s' r)
+    → HasSome ordered ops option t s s' (reported r)
+some-answer true ops option t s s' r runs any = record { answer = answer_of formula_meaning ops t; may = refl; runs = runs refl }
+some-answer false ops option t s s' (Ok report) runs any = let h = any refl in record { answer = h.answer; may = h.may; runs = h.has_run }
+some-answer false ops option t s s' (Err fault) runs any = let h = any refl in record { answer = h.answer; may = h.may; runs = h.broken }
+
+-- ---- what the sink took is written, and the writer comes back as it is
+
+module _ (q : QueryView Formula) (t : Trace ℤ) (a b : Bytes) (s s' : Lines) (start : s.bytes ≡ a) (keeps : Keeps s'.bytes b) where
+  appended : (bytes : List ℕ) → Appends s.bytes s'.bytes bytes → Appends a b bytes
+  appended bytes h = let P : Bytes → Type 0 = λ x. Appends x b bytes in subst P start (Appends-kept s.bytes s'.bytes b bytes h keeps)
+
+  pub ran-delivered : (e : Ending) → HasSome q.ordered q.ops (merge_in_force q.merge) t s s' (Ok e) → HasDelivered q t a b e × (s'.writer ≡ s.writer)
+  ran-delivered e h =
+      let taken = taken-lines s s' _ h.runs.delivered in (
+        record { answer = h.answer; may = h.may; lines = appended _ taken.0; ending = h.runs.ending },
+        taken.1,
+      )
+
+  -- none was refused
+  stopped : (fault : RunFault) (h : HasSome q.ordered q.ops (merge_in_force q.merge) t s s' (Err fault))
+      → (sent : List (List ℤ)) × (rest : List (List ℤ)) × (batches (merge_in_force q.merge) h.answer ≡ sent ++ rest) × Leads TakesLine s sent s'
+      → HasBrokenOff q t a b × (s'.writer ≡ s.writer)
+  stopped fault h (sent, rest, first, leads) =
+      let taken = taken-lines s s' sent leads in (
+        record { answer = h.answer; may = h.may; sent = sent; rest = rest; first = first; lines = appended _ taken.0 },
+        taken.1,
+      )
+
+  broken : (fault : RunFault) → HasSome q.ordered q.ops (merge_in_force q.merge) t s s' (Err fault)
+      → Delivers q t a b (Err (serve_fault_of_run fault)) × (s'.writer ≡ s.writer)
+  broken RunMemory h = stopped RunMemory h h.runs
+  broken Tickets h = stopped Tickets h h.runs
+  broken Thread h = stopped Thread h h.runs
+  broken Incomplete h = stopped Incomplete h h.runs
+  broken (Sink code) h =
+      let short = short-lines s s' _ (Refusal code) h.runs in (
+        record { answer = h.answer; may = h.may; begun = (short.0.0, appended _ short.0.1) },
+        short.1,
+      )
+
+  pub broke-off : (fault : RunFault) (e : ServeFault) → e ≡ serve_fault_of_run fault
+      → HasSome q.ordered q.ops (merge_in_force q.merge) t s s' (Err fault) → Delivers q t a b (Err e) × (s'.writer ≡ s.writer)
+  broke-off fault e is h = let both = broken fault h in (subst (λ x. Delivers q t a b (Err x)) (sym is) both.0, both.1)
+
+-- ---- the line of the ending behind them
+
+module _ (q : QueryView Formula) (t : Trace ℤ) (a b : Bytes) where
+  -- a flush that failed behind the last batch
+  pub unflushed : (e : Ending) → HasDelivered q t a b e → HasFailed q t a b
+  unflushed e h = record { answer = h.answer; may = h.may; begun = begins-all a b _ h.lines }
+
+  -- where a run failed, a beginning of the lines of its batches is written
+  first-begun : HasBrokenOff q t a b → HasFailed q t a b
+  first-begun h =
+      let begun = begins-append a b _ (flat_map batch_line h.rest) (begins-all a b _ h.lines) in
+      record { answer = h.answer; may = h.may; begun = begins-as a b _ _ (sym (flat_map-append batch_line h.sent h.rest) ∙ ap (flat_map batch_line) (sym h.first)) begun }
+
+  failed-begun : (fault : ServeFault) → Delivers q t a b (Err fault) → HasFailed q t a b
+  failed-begun (NoRun fault) h = first-begun h
+  failed-begun Memory h = h
+  failed-begun Write h = h
+  failed-begun (Take fault) h = h
+
+abbrev text : QueryView Formula → Trace ℤ → List ℕ
+text q u = answer_text (merge_in_force q.merge) u
+
+-- where the run fails, a beginning of its lines is written
+pub run-failed : (j job : JobView) (a b : Bytes) (r : Result Ending ServeFault) (fault : ServeFault) → j ≡ job → IsErr r
+    → Delivers j.query j.source a b (Err fault) → Serves Run job a b r
+run-failed j job a b r fault same failed d =
+    let h = failed-begun j.query j.source a b fault d in
+    subst (λ (x : JobView). Serves Run x a b r) same
+    (serves-begun Run j a b r h.answer (text j.query h.answer) failed h.may refl (begins-append a b _ (ending_line h.answer.ending) h.begun))
+
+-- unless a write failed, these are whole lines
+whole-lines : (job : JobView) (a b : Bytes) (fault : ServeFault) → Delivers job.query job.source a b (Err fault) → LeavesWholeLines job a b (Err fault)
+whole-lines job a b (NoRun fault) h = h
+whole-lines job a b Memory h = tt
+whole-lines job a b Write h = tt
+whole-lines job a b (Take fault) h = tt
+
+pub run-failed-whole : (j job : JobView) (a b : Bytes) (r : Result Ending ServeFault) (fault : ServeFault) → j ≡ job → r ≡ Err fault
+    → Delivers j.query j.source a b (Err fault) → LeavesWholeLines job a b r
+run-failed-whole j job a b r fault same failed d =
+    subst (λ (x : JobView). LeavesWholeLines x a b r) same (subst (LeavesWholeLines j a b) (sym failed) (whole-lines j a b fault d))
+
+-- where the line of the ending fails, all lines of batches and a beginning of that one are written
+pub ending-failed : (j job : JobView) (a m b : Bytes) (r : Result Ending ServeFault) (e : Ending) → j ≡ job → IsErr r
+    → Delivers j.query j.source a m (Ok e) → AppendsBeginning m b (line (ending_words e)) → Serves Run job a b r
+ending-failed j job a m b r e same failed h begun =
+    let end = ap (λ x. batch_lines j.query.merge h.answer ++ ending_line x) (sym h.ending) in
+    subst (λ (x : JobView). Serves Run x a b r) same
+    (serves-begun Run j a b r h.answer (text j.query h.answer) failed h.may refl (begins-as a b _ _ end (begins-after a m b _ _ h.lines begun)))
+
+pub ending-written : (j job : JobView) (a m b : Bytes) (e : Ending) → j ≡ job
+    → Delivers j.query j.source a m (Ok e) → Appends m b (line (ending_words e)) → HasWritten Run job a b e
+ending-written j job a m b e same h written =
+    let end = ap (λ x. batch_lines j.query.merge h.answer ++ ending_line x) (sym h.ending) in
+    subst (λ (x : JobView). HasWritten Run x a b e) same
+    (h.answer, h.may, text j.query h.answer, refl, appends-as a b _ _ end (Appends-trans a m b _ _ h.lines written), h.ending)
