@@ -31,6 +31,3 @@ pub use partition::Partition;
 pub use partitioner::OrderablePartitioner;
 pub use range_parts::RangeParts;
 pub use take_fault::TakeFault;
-
-#[cfg(test)]
-mod tests;

@@ -1,4 +1,4 @@
-ghost use Rattle.std.specs.Prelude.{◌≡◌, ◌≤◌, ◌==◌, true, false, [], length, All, IfOk, IfErr, if◌then◌else◌};
+ghost use Rattle.std.specs.Prelude.{◌≡◌, ◌≤◌, ◌^◌, ◌==◌, true, false, [], length, All, IfOk, IfErr, if◌then◌else◌};
 ghost use Rattle.plinq_partition.specs.declared.fault.PartFault.TheVariants.{NoPartitions, Memory};
 ghost use Rattle.plinq_partition.specs.Partitions.{Holding, holding_of, IsPartitionOf, AreMadeFrom, growth_of, new_beside, all_shares};
 ghost use Rattle.plinq_partition.specs.GivenBack.{IsGivenBack, common_origin};
@@ -32,7 +32,29 @@ impl<S: Source> Chunked<S> {
         ensures partition { IfOk result (λ made. holding_of made.1 ≡ record { origin = S.whole source; share = []; requests = 0 }) }
         ensures memory { IfErr result (λ fault. fault ≡ TakeFault.Memory) }
     {
-        let (lock, pass) = TicketLock::new(alloc, Enumerator::new(alloc, source))?;
+        Chunked::with_first_ticket(alloc, source, growth, 0)
+    }
+
+    /// The same, where `first` is the first ticket.
+    ///
+    /// # Errors
+    ///
+    /// [`TakeFault::Memory`] where there is no room for the lock. The source is dropped then.
+    pub fn with_first_ticket(
+        alloc: Global,
+        source: S,
+        growth: Growth,
+        first: u64,
+    ) -> Result<(Chunked<S>, Partition<S>), TakeFault>
+        requires new { S.given source ≡ 0 }
+        requires within { first ≤ 2 ^ 62 }
+        ensures of { IfOk result (λ made. IsPartitionOf made.0 made.1) }
+        ensures growth { IfOk result (λ made. growth_of made.0 ≡ growth) }
+        ensures partition { IfOk result (λ made. holding_of made.1 ≡ record { origin = S.whole source; share = []; requests = 0 }) }
+        ensures memory { IfErr result (λ fault. fault ≡ TakeFault.Memory) }
+    {
+        let enumerator = Enumerator::new(alloc, source);
+        let (lock, pass) = TicketLock::with_first_ticket(alloc, enumerator, first)?;
         let chunked = Chunked {
             alloc,
             lock,

@@ -3,9 +3,9 @@ ghost use Rattle.std.specs.Prelude.{All, ◌≡◌, ◌<◌, length, IfOk};
 ghost use Rattle.plinq_partition.specs.Partitions.{IsPartitionOf};
 ghost use Rattle.plinq_source.specs.declared.source.Source.{Ghosts};
 
-use crate::{Chunked, Partition, TakeFault};
 use plinq_enumerator::{Growth, replays};
 use plinq_keyed::{Guarded, Keyed, Record, check_in_each, check_normalized};
+use plinq_partition::{Chunked, Partition, TakeFault};
 use plinq_source::{Ending, RangeSource};
 use std::alloc::Global;
 use std::process::Abort;

@@ -2,9 +2,9 @@
 ghost use Rattle.std.specs.Prelude.{◌≤◌, All, length};
 ghost use Rattle.plinq_partition.specs.Partitions.{IsPartitionOf};
 
-use crate::{Chunked, Partition, TakeFault};
 use plinq_enumerator::{Enumerator, Growth, replays};
 use plinq_keyed::{Chunk, Guarded, Record, Tail};
+use plinq_partition::{Chunked, Partition, TakeFault};
 use plinq_source::{Ending, RangeSource, Source};
 use std::alloc::Global;
 use std::fmt::{Debug, Display};

@@ -1,11 +1,6 @@
-mod chunked;
-mod expecting;
-mod load;
-mod refusals;
-
-use crate::{OrderablePartitioner, PairParts, PartFault, RangeParts};
-use expecting::expect_words;
+use crate::expecting::expect_words;
 use plinq_keyed::{KeyProperties, Keyed, check_across, check_in_each, check_normalized};
+use plinq_partition::{OrderablePartitioner, PairParts, PartFault, RangeParts};
 use std::alloc::{AllocError, Global};
 use std::process::Abort;
 use std::test::Fail;

@@ -1,9 +1,9 @@
-use super::expecting::{
+use crate::expecting::{
     expect, expect_records, expect_taken, expect_tried, expect_whole, give_back, range_of,
 };
-use crate::{Chunked, OrderablePartitioner, PartFault, TakeFault};
 use plinq_enumerator::{Growth, replays};
 use plinq_keyed::{Guarded, KeyProperties, Record, Tail};
+use plinq_partition::{Chunked, OrderablePartitioner, PartFault, TakeFault};
 use plinq_source::{Ending, ListSource};
 use std::process::Abort;
 use std::test::Fail;

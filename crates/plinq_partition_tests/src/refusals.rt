@@ -2,12 +2,12 @@
 ghost use Rattle.std.specs.Prelude.{◌≡◌, ◌≤◌, ◌^◌, All, length, IfOk};
 ghost use Rattle.plinq_partition.specs.Partitions.{IsPartitionOf};
 
-use super::expecting::{expect, expect_taken, expect_tried, expect_words, give_back, range_of};
-use crate::{Chunked, PartFault, Partition, TakeFault};
-use plinq_enumerator::{Enumerator, Growth, replays};
+use crate::expecting::{expect, expect_taken, expect_tried, expect_words, give_back, range_of};
+use plinq_enumerator::{Growth, replays};
 use plinq_keyed::{Chunk, Guarded, Record, Tail};
+use plinq_partition::{Chunked, PartFault, Partition, TakeFault};
 use plinq_source::{Ending, OutOfMemory, RangeSource};
-use plinq_ticket::{LockFault, TicketLock};
+use plinq_ticket::LockFault;
 use std::alloc::Global;
 use std::process::Abort;
 use std::sync::Wait;
@@ -26,7 +26,7 @@ fn numbers(
     }
 }
 
-fn expect_fault<T: Drop>(rt: &impl Abort, told: Result<T, TakeFault>, fault: TakeFault) {
+pub(crate) fn expect_fault<T: Drop>(rt: &impl Abort, told: Result<T, TakeFault>, fault: TakeFault) {
     let Err(told) = told else {
         panic!(rt; "not refused");
     };
@@ -224,20 +224,10 @@ fn with_first_ticket(
     let Ok(source) = RangeSource::new(0, 3) else {
         panic!(rt; "no such range");
     };
-    let enumerator = Enumerator::new(alloc, source);
-    let Ok((lock, pass)) = TicketLock::with_first_ticket(alloc, enumerator, ticket) else {
+    let Ok(made) = Chunked::with_first_ticket(alloc, source, Growth::ONE, ticket) else {
         panic!(rt; "no room for the lock");
     };
-    let chunked = Chunked {
-        alloc,
-        lock,
-        growth: Growth::ONE,
-    };
-    let partition = Partition {
-        pass: Some(pass),
-        requests: 0,
-    };
-    (chunked, partition)
+    made
 }
 
 #[test]
@@ -253,23 +243,6 @@ fn the_last_ticket_is_taken_once(rt: HostRuntime) {
         panic!(rt; "no room for a list of one");
     };
     expect_last(&rt, enumerator.records(), 1, last);
-}
-
-#[test]
-fn others_are_inside(rt: HostRuntime) {
-    let (chunked, mut first) = range_of(&rt, rt.alloc(), 3, Growth::ONE);
-    let mut second = chunked.dynamic(&mut first);
-    let Ok(held) = chunked.lock.try_enter(first.into_pass()) else {
-        panic!(rt; "busy with nobody there");
-    };
-    let busy = TakeFault::Busy {
-        served: 0,
-        drawn: 1,
-    };
-    expect_fault(&rt, second.try_take(&chunked), busy);
-    assert_eq!(rt; second.requests(), 0);
-    chunked.lock.leave(held);
-    expect_tried(&rt, &chunked, &mut second, 0, &[0], None);
 }
 
 // Asks that a fault of the lock is told as this one.
