@@ -17,9 +17,6 @@ use std::alloc::Global;
 use std::sync::Wait;
 use std::thread::Threads;
 
-#[cfg(test)]
-mod tests;
-
 /// The aggregate of a query's answer (.NET's `Aggregate` with a seed, an update, a combine and a result selector).
 ///
 /// As many workers as the query's degree take chunks that grow so. The batches of the answer are folded as they come, and

@@ -38,5 +38,3 @@ pub use report::Report;
 pub use run_fault::RunFault;
 pub use running::run;
 
-#[cfg(test)]
-mod tests;

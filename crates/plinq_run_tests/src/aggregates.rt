@@ -2,14 +2,12 @@ ghost use Rattle.std.specs.Prelude.{◌≡◌, ◌≤◌, length, refl};
 ghost use Rattle.plinq_aggregate.specs.Numbers.{picking};
 ghost use Rattle.plinq_aggregate.specs.Lawful.{picking-lawful};
 
-use super::aggregate;
-use crate::aggregate_fault::AggregateFault;
-use crate::gate::OpenGate;
-use crate::run_fault::RunFault;
+use crate::asked::{OPTIONS, WORKERS, ordered};
 use plinq_aggregate::{Aggregator, Count, Max, Min, Sum};
 use plinq_enumerator::Growth;
 use plinq_lambda::Formula;
-use plinq_ops::{BuildFault, MergeOption, Query};
+use plinq_ops::{MergeOption, Query};
+use plinq_run::{AggregateFault, OpenGate, RunFault, aggregate};
 use plinq_source::{Ending, ListSource, RangeSource, Source};
 use std::alloc::Global;
 use std::process::Abort;
@@ -50,13 +48,6 @@ impl Aggregator for Last {
     }
 
     ghost lawful = { λ _. picking-lawful (λ a b. b) (λ a b c. refl) };
-}
-
-/// A query that keeps the order, without an operator.
-fn ordered(alloc: Global, option: MergeOption, workers: u64) -> Result<Query<Formula>, BuildFault> {
-    let query = Query::new(alloc).as_ordered().map_err(|(_, fault)| fault)?;
-    let query = query.with_merge(option).map_err(|(_, fault)| fault)?;
-    query.with_degree(workers).map_err(|(_, fault)| fault)
 }
 
 /// The aggregate of a query whose workers nothing holds back.
@@ -121,9 +112,10 @@ fn a_few_numbers<R: Threads + Wait + Sync + Abort>(
 
 #[test]
 fn aggregates_of_a_few_numbers(rt: HostRuntime) -> Result<(), Fail> {
-    for workers in [1u64, 2, 64] {
-        a_few_numbers(&rt, rt.alloc(), workers, Growth::ONE)?;
-        a_few_numbers(&rt, rt.alloc(), workers, Growth::DEFAULT)?;
+    for growth in [Growth::ONE, Growth::DEFAULT, Growth::new(1, 1, 4)?] {
+        for workers in WORKERS {
+            a_few_numbers(&rt, rt.alloc(), workers, growth)?;
+        }
     }
     Ok(())
 }
@@ -161,13 +153,8 @@ fn even_numbers<R: Threads + Wait + Sync + Abort>(
 
 #[test]
 fn even_numbers_of_a_range_under_each_merge_option(rt: HostRuntime) -> Result<(), Fail> {
-    for option in [
-        MergeOption::Default,
-        MergeOption::NotBuffered,
-        MergeOption::AutoBuffered,
-        MergeOption::FullyBuffered,
-    ] {
-        for workers in [1u64, 2, 64] {
+    for option in OPTIONS {
+        for workers in WORKERS {
             even_numbers(&rt, rt.alloc(), option, workers, 10)?;
             even_numbers(&rt, rt.alloc(), option, workers, 1_000)?;
         }
@@ -197,7 +184,7 @@ fn ended_early<R: Threads + Wait + Sync + Abort>(
 
 #[test]
 fn an_answer_that_ends_early_has_no_aggregate(rt: HostRuntime) -> Result<(), Fail> {
-    for workers in [1u64, 2, 64] {
+    for workers in WORKERS {
         ended_early(&rt, rt.alloc(), workers)?;
     }
     Ok(())
@@ -234,7 +221,7 @@ fn in_any_order<R: Threads + Wait + Sync + Abort>(
 
 #[test]
 fn a_sum_without_order(rt: HostRuntime) -> Result<(), Fail> {
-    for workers in [1u64, 2, 64] {
+    for workers in WORKERS {
         in_any_order(&rt, rt.alloc(), workers)?;
     }
     Ok(())

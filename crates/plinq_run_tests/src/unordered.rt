@@ -1,7 +1,9 @@
-use crate::tests::{Taken, answer};
+use crate::asked::WORKERS;
+use crate::taken::Taken;
 use plinq_enumerator::{Growth, replays};
 use plinq_lambda::Formula;
 use plinq_ops::{BuildFault, MergeOption, Query};
+use plinq_run::{OpenGate, run};
 use plinq_source::{Ending, ListSource};
 use std::alloc::Global;
 use std::process::Abort;
@@ -44,7 +46,7 @@ fn add_one_to_each<R: Threads + Wait + Sync + Abort>(
         .map_err(|(_, fault)| fault)?;
     let source = ListSource::refusing(alloc, vec![in alloc; 3i64, 1, 4]?, 7);
     let mut sink = Taken::new(alloc, usize::MAX);
-    let report = answer(rt, alloc, &query, source, Growth::ONE, &mut sink)?;
+    let report = run(rt, alloc, &query, source, Growth::ONE, &OpenGate, &mut sink)?;
     assert_eq!(rt; report.ending, Ending::Refused(7));
     assert!(rt; replays(&report.records, 3, Ending::Refused(7)));
     assert_eq!(rt; sink.batches.len(), 3);
@@ -54,7 +56,7 @@ fn add_one_to_each<R: Threads + Wait + Sync + Abort>(
 
 #[test]
 fn one_is_added_to_each_in_any_order(rt: HostRuntime) -> Result<(), Fail> {
-    for workers in [1u64, 2, 64] {
+    for workers in WORKERS {
         add_one_to_each(&rt, rt.alloc(), workers)?;
     }
     Ok(())
@@ -70,7 +72,7 @@ fn take_any_two<R: Threads + Wait + Sync + Abort>(
         .map_err(|(_, fault)| fault)?;
     let source = ListSource::new(alloc, vec![in alloc; 1i64, 2, 4]?);
     let mut sink = Taken::new(alloc, usize::MAX);
-    let report = answer(rt, alloc, &query, source, Growth::ONE, &mut sink)?;
+    let report = run(rt, alloc, &query, source, Growth::ONE, &OpenGate, &mut sink)?;
     assert_eq!(rt; report.ending, Ending::End);
     assert_eq!(rt; sink.batches.len(), 1);
     let (count, sum) = totals(&sink.batches);
@@ -81,7 +83,7 @@ fn take_any_two<R: Threads + Wait + Sync + Abort>(
 
 #[test]
 fn two_different_ones_of_three_are_taken(rt: HostRuntime) -> Result<(), Fail> {
-    for workers in [1u64, 2, 64] {
+    for workers in WORKERS {
         take_any_two(&rt, rt.alloc(), workers)?;
     }
     Ok(())

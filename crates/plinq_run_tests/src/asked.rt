@@ -1,0 +1,208 @@
+//! A query that threads answer, and beside them one thread.
+ghost use Rattle.std.specs.Prelude.{◌≡◌, ◌≤◌, ◌^◌, vec_len, IfOk};
+ghost use Rattle.plinq_source.specs.declared.source.Source.{Ghosts};
+
+use crate::taken::Taken;
+use plinq_enumerator::Growth;
+use plinq_lambda::Formula;
+use plinq_ops::{BuildFault, Built, MergeOption, Op, Query, sequential};
+use plinq_run::{Gate, Report, RunFault, run};
+use plinq_source::{Ending, ListSource, OutOfMemory, RangeSource, RepeatSource, Source};
+use std::alloc::{AllocError, Global};
+use std::process::Abort;
+use std::sync::Wait;
+use std::test::Fail;
+use std::thread::Threads;
+
+pub(crate) const WORKERS: [u64; 3] = [1, 2, 64];
+
+pub(crate) const OPTIONS: [MergeOption; 4] = [
+    MergeOption::Default,
+    MergeOption::NotBuffered,
+    MergeOption::AutoBuffered,
+    MergeOption::FullyBuffered,
+];
+
+/// What a query is asked of, where the items of a list stand beside it.
+#[derive(Clone, Copy, Debug)]
+pub(crate) enum Given {
+    List,
+    Refusing(u32),
+    Range(i64, u64),
+    Repeat(i64, u64),
+}
+
+/// How a query is asked. The sink refuses batch number `refused`.
+#[derive(Clone, Copy, Debug)]
+pub(crate) struct Setting {
+    pub(crate) workers: u64,
+    pub(crate) growth: Growth,
+    pub(crate) option: MergeOption,
+    pub(crate) refused: usize,
+}
+
+/// What the run told, what its sink took, and the answer of one thread.
+#[derive(Debug, Drop)]
+pub(crate) struct Answers {
+    pub(crate) told: Result<Report, RunFault>,
+    pub(crate) batches: Vec<Vec<i64>>,
+    pub(crate) items: Vec<i64>,
+    pub(crate) ending: Ending,
+}
+
+impl Answers {
+    /// Whether the run delivered the answer of one thread in batches of this kind, and told how it ends.
+    pub(crate) fn are_one(&self, option: MergeOption) -> bool {
+        match &self.told {
+            Ok(report) => report.ending == self.ending && self.left(option) == Some(0),
+            Err(_) => false,
+        }
+    }
+
+    /// Whether the sink refused a batch with 9 when it had taken so many, the first of the answer.
+    pub(crate) fn are_refused(&self, option: MergeOption, taken: usize) -> bool {
+        match &self.told {
+            Err(RunFault::Sink(9)) => self.batches.len() == taken && self.left(option).is_some(),
+            _ => false,
+        }
+    }
+
+    /// How many items are left behind the batches, if these are the first of the answer.
+    pub(crate) fn left(&self, option: MergeOption) -> Option<usize> {
+        match option {
+            MergeOption::NotBuffered => left_behind(&self.batches, &self.items, 1),
+            MergeOption::Default | MergeOption::AutoBuffered => {
+                left_behind(&self.batches, &self.items, 16)
+            }
+            MergeOption::FullyBuffered => match self.ending {
+                Ending::End => left_behind(&self.batches, &self.items, usize::MAX),
+                Ending::Refused(_) | Ending::Fault(_) => left_behind(&self.batches, &[], 1),
+            },
+        }
+    }
+}
+
+/// How many items are left behind batches, if these are the items cut into batches of that size.
+fn left_behind(batches: &[Vec<i64>], items: &[i64], size: usize) -> Option<usize> {
+    let mut left = items;
+    for batch in batches {
+        let (next, behind) = left.split_at(left.len().min(size));
+        if next.is_empty() || batch.as_slice() != next {
+            return None;
+        }
+        left = behind;
+    }
+    Some(left.len())
+}
+
+/// A query that keeps the order, without an operator.
+pub(crate) fn ordered(
+    alloc: Global,
+    option: MergeOption,
+    workers: u64,
+) -> Result<Query<Formula>, BuildFault> {
+    let query = Query::new(alloc).as_ordered().map_err(|(_, fault)| fault)?;
+    let query = query.with_merge(option).map_err(|(_, fault)| fault)?;
+    query.with_degree(workers).map_err(|(_, fault)| fault)
+}
+
+/// The query with the builder call of this operator.
+fn with(query: Query<Formula>, op: Op<Formula>) -> Built<Formula> {
+    match op {
+        Op::Select(f) => query.select(f),
+        Op::Filter(f) => query.filter(f),
+        Op::SelectMany(f) => query.select_many(f),
+        Op::Take(n) => query.take(n),
+        Op::Skip(n) => query.skip(n),
+        Op::TakeWhile(f) => query.take_while(f),
+        Op::AsUnordered => query.as_unordered(),
+    }
+}
+
+fn with_all(query: Query<Formula>, ops: &[Op<Formula>]) -> Result<Query<Formula>, BuildFault> {
+    let mut query = query;
+    for op in ops {
+        query = with(query, *op).map_err(|(_, fault)| fault)?;
+    }
+    Ok(query)
+}
+
+/// Has a run answer a query, whose workers this gate holds back, and one thread, each from a source of its own.
+pub(crate) fn ask_of<S: Source<Item = i64>, G: Gate, R: Threads + Wait + Sync>(
+    rt: &R,
+    alloc: Global,
+    query: &Query<Formula>,
+    setting: Setting,
+    gate: &G,
+    source: S,
+    again: S,
+) -> Result<Answers, OutOfMemory>
+    requires fresh { S.given source ≡ 0 }
+    requires again { S.given again ≡ 0 }
+{
+    let mut again = again;
+    let (items, ending) = sequential(alloc, query, &mut again)?;
+    let mut sink = Taken::new(alloc, setting.refused);
+    let told = run(rt, alloc, query, source, setting.growth, gate, &mut sink);
+    Ok(Answers {
+        told,
+        batches: sink.batches,
+        items,
+        ending,
+    })
+}
+
+fn few(rt: &impl Abort, alloc: Global, items: &[i64]) -> Result<Vec<i64>, AllocError>
+    ensures { IfOk result (λ items. vec_len items ≤ 2 ^ 40) }
+{
+    assert!(rt; items.len() <= 1_000);
+    Vec::from_slice(alloc, items)
+}
+
+fn ask_given<G: Gate, R: Threads + Wait + Sync + Abort>(
+    rt: &R,
+    alloc: Global,
+    query: &Query<Formula>,
+    given: Given,
+    items: &[i64],
+    setting: Setting,
+    gate: &G,
+) -> Result<Answers, Fail> {
+    match given {
+        Given::List => {
+            let source = ListSource::new(alloc, few(rt, alloc, items)?);
+            let again = ListSource::new(alloc, few(rt, alloc, items)?);
+            Ok(ask_of(rt, alloc, query, setting, gate, source, again)?)
+        }
+        Given::Refusing(code) => {
+            let source = ListSource::refusing(alloc, few(rt, alloc, items)?, code);
+            let again = ListSource::refusing(alloc, few(rt, alloc, items)?, code);
+            Ok(ask_of(rt, alloc, query, setting, gate, source, again)?)
+        }
+        Given::Range(start, count) => {
+            let source = RangeSource::new(start, count)?;
+            let again = RangeSource::new(start, count)?;
+            Ok(ask_of(rt, alloc, query, setting, gate, source, again)?)
+        }
+        Given::Repeat(value, count) => {
+            let source = RepeatSource::new(value, count)?;
+            let again = RepeatSource::new(value, count)?;
+            Ok(ask_of(rt, alloc, query, setting, gate, source, again)?)
+        }
+    }
+}
+
+/// Has a run answer a query with `as_ordered` and these operators, whose workers this gate holds back, and one thread.
+pub(crate) fn ask<G: Gate, R: Threads + Wait + Sync + Abort>(
+    rt: &R,
+    alloc: Global,
+    given: Given,
+    items: &[i64],
+    ops: &[Op<Formula>],
+    setting: Setting,
+    gate: &G,
+) -> Result<Answers, Fail> {
+    let query = ordered(alloc, setting.option, setting.workers)?;
+    let query = with_all(query, ops)?;
+    ask_given(rt, alloc, &query, given, items, setting, gate)
+}

@@ -1,0 +1,188 @@
+//! Queries that are picked by chance, and workers that are held back by chance. The queries are always the same ones; the
+//! order in which threads run isn't.
+ghost use Rattle.std.specs.Prelude.{◌≤◌, ◌<◌};
+
+use crate::asked::{Given, OPTIONS, Setting, ask};
+use plinq_enumerator::{Growth, GrowthFault};
+use plinq_lambda::Formula;
+use plinq_ops::{MergeOption, Op};
+use plinq_run::Gate;
+use plinq_source::Ending;
+use std::alloc::{AllocError, Global};
+use std::hint::spin_loop;
+use std::process::Abort;
+use std::sync::Wait;
+use std::sync::atomic::{AtomicU64, Ordering};
+use std::test::*;
+use std::thread::Threads;
+
+/// The number behind this one, in a walk through all numbers but 0 that looks like chance (xorshift).
+fn number_behind(number: u64) -> u64 {
+    let mixed = number ^ (number << 13);
+    let mixed = mixed ^ (mixed >> 7);
+    mixed ^ (mixed << 17)
+}
+
+/// A gate that holds each worker back for up to 4,095 turns, mostly for few.
+#[derive(Drop)]
+struct Delays {
+    number: AtomicU64,
+}
+
+impl Delays {
+    fn delay(&self) {
+        let number = number_behind(self.number.load(Ordering::SeqCst));
+        self.number.store(number, Ordering::SeqCst);
+        for _turn in 0..(number >> 52) >> (number % 13) {
+            spin_loop();
+        }
+    }
+}
+
+impl Gate for Delays {
+    fn before_take(&self, _: u64) {
+        self.delay();
+    }
+
+    fn after_chunk(&self, _: u64, _: u64) {
+        self.delay();
+    }
+}
+
+/// What picks queries, sources and settings.
+#[derive(Drop)]
+struct Dice {
+    number: u64,
+}
+
+impl Dice {
+    /// A number below this one.
+    fn below(&mut self, sides: u64) -> u64
+        requires { 1 ≤ sides }
+        ensures { result < sides }
+    {
+        self.number = number_behind(self.number);
+        (self.number >> 16) % sides
+    }
+
+    /// A number from -3 to 9.
+    fn small(&mut self) -> i64 {
+        self.below(13) as i64 - 3
+    }
+
+    /// A small number, or now and then the greatest, with which sums, products and expansions fault.
+    fn item(&mut self) -> i64 {
+        match self.below(16) {
+            0 => i64::MAX,
+            _ => self.small(),
+        }
+    }
+
+    fn items(&mut self, alloc: Global) -> Result<Vec<i64>, AllocError> {
+        let mut items = Vec::new(alloc);
+        for _ in 0..self.below(41) {
+            items.push(self.item())?;
+        }
+        Ok(items)
+    }
+
+    fn given(&mut self) -> Given {
+        match self.below(6) {
+            0 => Given::Range(self.small(), self.below(41)),
+            1 => Given::Repeat(self.small(), self.below(41)),
+            2 | 3 => Given::Refusing(7),
+            _ => Given::List,
+        }
+    }
+
+    fn formula(&mut self) -> Formula {
+        let number = self.small();
+        match self.below(10) {
+            0 => Formula::Add(number),
+            1 => Formula::Mul(number),
+            2 => Formula::Mod(number),
+            3 => Formula::Into(number),
+            4 => Formula::Below(number),
+            5 => Formula::Above(number),
+            6 => Formula::Equal(number),
+            7 => Formula::Repeat(number),
+            8 => Formula::UpTo,
+            _ => Formula::Even,
+        }
+    }
+
+    fn op(&mut self) -> Op<Formula> {
+        match self.below(8) {
+            0 | 1 => Op::Select(self.formula()),
+            2 => Op::Filter(self.formula()),
+            3 => Op::SelectMany(self.formula()),
+            4 => Op::Take(self.small()),
+            5 => Op::Skip(self.small()),
+            6 => Op::TakeWhile(self.formula()),
+            _ => Op::AsUnordered,
+        }
+    }
+
+    fn ops(&mut self, alloc: Global) -> Result<Vec<Op<Formula>>, AllocError> {
+        let mut ops = Vec::new(alloc);
+        for _ in 0..self.below(5) {
+            ops.push(self.op())?;
+        }
+        Ok(ops)
+    }
+
+    fn option(&mut self) -> MergeOption {
+        OPTIONS[self.below(4) as usize]
+    }
+
+    fn setting(&mut self) -> Result<Setting, GrowthFault> {
+        let growth = Growth::new(1, 1 + self.below(3), 1 + self.below(8))?;
+        Ok(Setting {
+            workers: 2 + self.below(63),
+            growth,
+            option: self.option(),
+            refused: usize::MAX,
+        })
+    }
+}
+
+/// Asks a query of a run and of one thread, and tells how its answer ends.
+fn ask_any<R: Threads + Wait + Sync + Abort>(
+    rt: &R,
+    alloc: Global,
+    dice: &mut Dice,
+    gate: &Delays,
+) -> Result<Ending, Fail> {
+    let setting = dice.setting()?;
+    let given = dice.given();
+    let items = dice.items(alloc)?;
+    let ops = dice.ops(alloc)?;
+    let answers = ask(rt, alloc, given, &items, &ops, setting, gate)?;
+    assert!(rt;
+        answers.are_one(setting.option),
+        "{given:?} {items:?} {ops:?} {setting:?}"
+    );
+    Ok(answers.ending)
+}
+
+#[test]
+fn any_query_has_the_answer_of_one_thread(rt: HostRuntime) -> Result<(), Fail> {
+    let gate = Delays {
+        number: AtomicU64::new(88_172_645_463_325_252),
+    };
+    let mut dice = Dice {
+        number: 1_181_783_497_276_652_981,
+    };
+    let mut ended = 0u64;
+    let mut refused = 0u64;
+    let mut faulted = 0u64;
+    for _run in 0..2_000 {
+        match ask_any(&rt, rt.alloc(), &mut dice, &gate)? {
+            Ending::End => ended = ended.wrapping_add(1),
+            Ending::Refused(_) => refused = refused.wrapping_add(1),
+            Ending::Fault(_) => faulted = faulted.wrapping_add(1),
+        }
+    }
+    assert!(rt; ended >= 100 && refused >= 100 && faulted >= 100);
+    Ok(())
+}

@@ -1,0 +1,30 @@
+//! The tests of runs and of their aggregates, each of what no contract says: that runs succeed with ample memory and
+//! threads, that workers run side by side, that batches come while workers still compute, and that a chunk which nobody
+//! needs isn't taken.
+//!
+//! They stand in a crate of their own, since a crate with tests is proved twice. What they share is `asked`, one query
+//! that threads and one thread answer, and `waiting`.
+#![tactic(auto)]
+
+#[cfg(test)]
+mod aggregates;
+#[cfg(test)]
+mod answers;
+#[cfg(test)]
+mod asked;
+#[cfg(test)]
+mod by_chance;
+#[cfg(test)]
+mod records;
+#[cfg(test)]
+mod refused_batches;
+#[cfg(test)]
+mod side_by_side;
+#[cfg(test)]
+mod streams;
+#[cfg(test)]
+mod taken;
+#[cfg(test)]
+mod unordered;
+#[cfg(test)]
+mod waiting;

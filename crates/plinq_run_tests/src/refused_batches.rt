@@ -1,0 +1,62 @@
+use crate::asked::{Given, OPTIONS, Setting, WORKERS, ask};
+use plinq_enumerator::Growth;
+use plinq_ops::MergeOption;
+use plinq_run::OpenGate;
+use std::alloc::Global;
+use std::process::Abort;
+use std::sync::Wait;
+use std::test::*;
+use std::thread::Threads;
+
+/// Asks that a run tells of the batch that its sink refuses, and has delivered those before it.
+fn refuse<R: Threads + Wait + Sync + Abort>(
+    rt: &R,
+    alloc: Global,
+    count: u64,
+    setting: Setting,
+) -> Result<(), Fail> {
+    let answers = ask(
+        rt,
+        alloc,
+        Given::Range(1, count),
+        &[],
+        &[],
+        setting,
+        &OpenGate,
+    )?;
+    let is_told = answers.are_refused(setting.option, setting.refused);
+    assert!(rt; is_told, "{setting:?}");
+    Ok(())
+}
+
+#[test]
+fn a_sink_that_refuses_any_batch_ends_the_run(rt: HostRuntime) -> Result<(), Fail> {
+    for refused in 0..17 {
+        for workers in WORKERS {
+            let setting = Setting {
+                workers,
+                growth: Growth::ONE,
+                option: MergeOption::NotBuffered,
+                refused,
+            };
+            refuse(&rt, rt.alloc(), 17, setting)?;
+        }
+    }
+    Ok(())
+}
+
+#[test]
+fn the_only_batch_is_refused(rt: HostRuntime) -> Result<(), Fail> {
+    for option in OPTIONS {
+        for workers in WORKERS {
+            let setting = Setting {
+                workers,
+                growth: Growth::DEFAULT,
+                option,
+                refused: 0,
+            };
+            refuse(&rt, rt.alloc(), 16, setting)?;
+        }
+    }
+    Ok(())
+}

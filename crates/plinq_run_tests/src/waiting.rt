@@ -1,0 +1,14 @@
+use crossbeam_utils::Backoff;
+use std::sync::atomic::{AtomicU64, Ordering};
+
+/// Waits until a word is at least so much, and says whether it ever was.
+pub(crate) fn waits_for(word: &AtomicU64, least: u64) -> bool {
+    let backoff = Backoff::new();
+    for _turn in 0..10_000_000 {
+        if word.load(Ordering::SeqCst) >= least {
+            return true;
+        }
+        backoff.snooze();
+    }
+    false
+}
