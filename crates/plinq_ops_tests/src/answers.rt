@@ -1,8 +1,10 @@
-use crate::building::ordered;
+ghost use Rattle.std.specs.Prelude.{◌≡◌, IfOk};
+
+use crate::building::{expect_ending, expect_items, ordered};
 use plinq_lambda::Formula;
 use plinq_ops::{Op, sequential};
 use plinq_source::{Ending, ListSource, RangeSource, Source, Step};
-use std::alloc::Global;
+use std::alloc::{AllocError, Global};
 use std::process::Abort;
 use std::test::Fail;
 
@@ -22,17 +24,33 @@ type Row<'a> = (
 fn answers(rt: &impl Abort, alloc: Global, row: Row<'_>) -> Result<(), Fail> {
     let (list, refusal, ops, items, ending, next) = row;
     let query = ordered(alloc, ops)?;
+    let mut source = source_of(rt, alloc, list, refusal)?;
+    let answer = sequential(alloc, &query, &mut source)?;
+    expect_items(rt, ops, &answer.0, items);
+    expect_ending(rt, ops, answer.1, ending);
+    expect_next(rt, ops, source.next(), next);
+    Ok(())
+}
+
+/// A source of a list, which refuses behind it where there is a code.
+fn source_of(
+    rt: &impl Abort,
+    alloc: Global,
+    list: &[i64],
+    refusal: Option<u32>,
+) -> Result<ListSource<i64>, AllocError>
+    ensures { IfOk result (λ source. ⟦<ListSource<i64> as Source>⟧.given source ≡ 0) }
+{
     let list = Vec::from_slice(alloc, list)?;
     assert!(rt; list.len() < 100);
-    let mut source = match refusal {
+    Ok(match refusal {
         None => ListSource::new(alloc, list),
         Some(code) => ListSource::refusing(alloc, list, code),
-    };
-    let answer = sequential(alloc, &query, &mut source)?;
-    assert_eq!(rt; answer.0.as_slice(), items, "{ops:?}");
-    assert_eq!(rt; answer.1, ending, "{ops:?}");
-    assert_eq!(rt; source.next(), next, "{ops:?}");
-    Ok(())
+    })
+}
+
+fn expect_next(rt: &impl Abort, ops: &[Op<Formula>], given: Step<i64>, next: Step<i64>) {
+    assert_eq!(rt; given, next, "{ops:?}");
 }
 
 #[test]
@@ -267,6 +285,12 @@ fn range_through_a_filter(rt: HostRuntime) -> Result<(), Fail> {
     Ok(())
 }
 
+/// Asks for so many items, the last of which is this one.
+fn expect_count(rt: &impl Abort, ops: &[Op<Formula>], items: &[i64], count: usize, last: i64) {
+    assert_eq!(rt; items.len(), count, "{ops:?}");
+    assert_eq!(rt; items.last(), Some(&last), "{ops:?}");
+}
+
 // Long lists and answers take no other path than short ones.
 #[test]
 fn answers_of_many_items(rt: HostRuntime) -> Result<(), Fail> {
@@ -279,12 +303,8 @@ fn answers_of_many_items(rt: HostRuntime) -> Result<(), Fail> {
     ];
     for (ops, count, last) in rows {
         let (items, ending, _next) = of_range(rt.alloc(), ops, 1, 5000)?;
-        assert_eq!(rt;
-            (items.len(), items.last()),
-            (count, Some(&last)),
-            "{ops:?}"
-        );
-        assert_eq!(rt; ending, Ending::End, "{ops:?}");
+        expect_count(&rt, ops, &items, count, last);
+        expect_ending(&rt, ops, ending, Ending::End);
     }
     Ok(())
 }

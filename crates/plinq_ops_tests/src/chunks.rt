@@ -1,7 +1,7 @@
 use crate::building::ordered;
 use plinq_keyed::{Chunk, Tail};
 use plinq_lambda::Formula;
-use plinq_ops::{ChunkResult, FragEnd, Op, chunk_result, fragment};
+use plinq_ops::{ChunkResult, FragEnd, Fragment, Op, chunk_result, fragment};
 use std::alloc::Global;
 use std::process::Abort;
 use std::test::Fail;
@@ -16,15 +16,20 @@ fn gives_fragment(
     ops: &[Op<Formula>],
     row: FragmentRow<'_>,
 ) -> Result<(), Fail> {
-    let (key, x, items, ending) = row;
+    let (key, x, _items, _ending) = row;
     let query = ordered(alloc, ops)?;
     let plan = query.split();
     assert!(rt; !plan.decided);
     assert_eq!(rt; plan.worker, ops);
     let given = fragment(alloc, plan.worker, key, x)?;
+    expect_fragment(rt, &given, row);
+    Ok(())
+}
+
+fn expect_fragment(rt: &impl Abort, given: &Fragment<i64>, row: FragmentRow<'_>) {
+    let (key, x, items, ending) = row;
     assert_eq!(rt; given.items.as_slice(), items, "{x} at {key}");
     assert_eq!(rt; given.ending, ending, "{x} at {key}");
-    Ok(())
 }
 
 #[test]

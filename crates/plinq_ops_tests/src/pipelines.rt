@@ -1,7 +1,7 @@
 ghost use Rattle.std.specs.Prelude.{◌≡◌, Ok, not, [], ◌∷◌};
 ghost use Rattle.std.proofs.Common.{arith};
 
-use crate::building::ordered;
+use crate::building::{expect_items, ordered};
 use plinq_keyed::Chunk;
 use plinq_lambda::{ExpandFault, Formula, Lambda};
 use plinq_ops::{FragEnd, MergeOption, Op, Pipeline, Query, chunk_result, fragment, sequential};
@@ -10,32 +10,61 @@ use std::alloc::Global;
 use std::process::Abort;
 use std::test::Fail;
 
+// Feeds a pipeline a list item by item, and puts what comes out behind `out`.
+fn feed_items(
+    alloc: Global,
+    pipeline: &mut Pipeline<'_, Formula>,
+    list: &[i64],
+    out: &mut Vec<i64>,
+) -> Result<Option<Ending>, OutOfMemory> {
+    for item in list {
+        if pipeline.is_over() {
+            return Ok(Some(Ending::End));
+        }
+        let ending = pipeline.feed(alloc, *item, out)?;
+        if ending.is_some() {
+            return Ok(ending);
+        }
+    }
+    Ok(None)
+}
+
+// The same in blocks of that size.
+fn feed_blocks(
+    alloc: Global,
+    pipeline: &mut Pipeline<'_, Formula>,
+    list: &[i64],
+    size: usize,
+    out: &mut Vec<i64>,
+) -> Result<Option<Ending>, OutOfMemory> {
+    for items in list.chunks(size.max(1)) {
+        if pipeline.is_over() {
+            return Ok(Some(Ending::End));
+        }
+        let mut block = Vec::from_slice(alloc, items)?;
+        let ending = pipeline.feed_block(alloc, &mut block)?;
+        out.append(&mut block)?;
+        if ending.is_some() {
+            return Ok(ending);
+        }
+    }
+    Ok(None)
+}
+
 // What a pipeline gives for a list, fed in blocks of that size, or item by item where there is none.
 fn fed(
     alloc: Global,
-    mut pipeline: Pipeline<'_, Formula>,
+    pipeline: Pipeline<'_, Formula>,
     list: &[i64],
     size: Option<usize>,
 ) -> Result<(Vec<i64>, Option<Ending>), OutOfMemory> {
+    let mut pipeline = pipeline;
     let mut out = Vec::new(alloc);
-    for items in list.chunks(size.unwrap_or(1).max(1)) {
-        if pipeline.is_over() {
-            return Ok((out, Some(Ending::End)));
-        }
-        let ending = match size {
-            None => pipeline.feed(alloc, items[0], &mut out)?,
-            Some(_) => {
-                let mut block = Vec::from_slice(alloc, items)?;
-                let ending = pipeline.feed_block(alloc, &mut block)?;
-                out.append(&mut block)?;
-                ending
-            }
-        };
-        if ending.is_some() {
-            return Ok((out, ending));
-        }
-    }
-    Ok((out, None))
+    let ending = match size {
+        None => feed_items(alloc, &mut pipeline, list, &mut out)?,
+        Some(size) => feed_blocks(alloc, &mut pipeline, list, size, &mut out)?,
+    };
+    Ok((out, ending))
 }
 
 // Operators; what they give for 5, 6, 0, 7, 8, and how the run ends.
@@ -49,11 +78,15 @@ fn gives(
     list: &[i64],
     size: Option<usize>,
 ) -> Result<(), Fail> {
-    let (ops, items, ending) = row;
-    let given = fed(alloc, Pipeline::new(alloc, ops)?, list, size)?;
-    assert_eq!(rt; given.0.as_slice(), items, "{ops:?}, {size:?} at once");
-    assert_eq!(rt; given.1, ending, "{ops:?}, {size:?} at once");
+    let (items, ending) = fed(alloc, Pipeline::new(alloc, row.0)?, list, size)?;
+    expect_row(rt, row, &items, ending);
     Ok(())
+}
+
+fn expect_row(rt: &impl Abort, row: Row<'_>, items: &[i64], ending: Option<Ending>) {
+    expect_items(rt, row.0, items, row.1);
+    let ops = row.0;
+    assert_eq!(rt; ending, row.2, "{ops:?}");
 }
 
 #[test]
@@ -111,9 +144,8 @@ fn begun_at_a_key(rt: HostRuntime) -> Result<(), Fail> {
     for (key, items, ending) in rows {
         let pipeline = Pipeline::at_key(rt.alloc(), &ops, key)?;
         assert_eq!(rt; pipeline.is_over(), key > 2, "{key}");
-        let given = fed(rt.alloc(), pipeline, &[5, 6, 0, 7], None)?;
-        assert_eq!(rt; given.0.as_slice(), items, "{key}");
-        assert_eq!(rt; given.1, ending, "{key}");
+        let (given, told) = fed(rt.alloc(), pipeline, &[5, 6, 0, 7], None)?;
+        expect_row(&rt, (&ops, items, ending), &given, told);
     }
     Ok(())
 }

@@ -32,24 +32,34 @@ fn builder_calls_add_their_operators(rt: HostRuntime) -> Result<(), Fail> {
         Op::AsUnordered,
     ];
     let query = ordered(rt.alloc(), &ops)?;
-    assert_eq!(rt; query.ops(), ops.as_slice());
+    expect_ops(&rt, &query, &ops);
     assert!(rt; query.is_ordered());
 
-    let mut query = Query::new(rt.alloc());
-    assert!(rt; query.ops().is_empty());
-    for op in ops {
-        query = accepted(with(query, op))?;
-    }
-    assert_eq!(rt; query.ops(), ops.as_slice());
+    let query = unordered(rt.alloc(), &ops)?;
+    expect_ops(&rt, &query, &ops);
     assert!(rt; !query.is_ordered());
+    expect_ops(&rt, &empty(rt.alloc()), &[]);
     Ok(())
+}
+
+fn expect_ops(rt: &impl Abort, query: &Query<Formula>, ops: &[Op<Formula>]) {
+    assert_eq!(rt; query.ops(), ops);
+}
+
+/// A query of these operators that doesn't keep the order.
+fn unordered(alloc: Global, ops: &[Op<Formula>]) -> Result<Query<Formula>, BuildFault> {
+    let mut query = empty(alloc);
+    for op in ops {
+        query = accepted(with(query, *op))?;
+    }
+    Ok(query)
 }
 
 #[test]
 fn as_ordered_stands_at_the_source_alone(rt: HostRuntime) -> Result<(), Fail> {
     let query = accepted(Query::new(rt.alloc()).select(Formula::Add(1)))?;
     let query = refused(&rt, query.as_ordered(), BuildFault::NotAtSource);
-    assert_eq!(rt; query.ops(), [Op::Select(Formula::Add(1))].as_slice());
+    expect_ops(&rt, &query, &[Op::Select(Formula::Add(1))]);
     assert!(rt; !query.is_ordered());
 
     let query = accepted(Query::new(rt.alloc()).as_unordered())?;
@@ -175,7 +185,8 @@ fn faults_in_words(rt: HostRuntime) -> Result<(), Fail> {
         (BuildFault::DegreeOutOfRange, "degree out of range"),
         (BuildFault::Memory, "out of memory"),
     ] {
-        assert_eq!(rt; format!(in rt.alloc(); "{fault}")?.as_str(), words);
+        let text = format!(in rt.alloc(); "{fault}")?;
+        assert_eq!(rt; text.as_str(), words);
     }
     Ok(())
 }

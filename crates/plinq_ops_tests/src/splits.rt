@@ -3,7 +3,7 @@ ghost use Rattle.std.specs.List.{list_any};
 ghost use Rattle.plinq_ops.specs.Feeding.{is_empty_take};
 ghost use Rattle.plinq_ops.specs.ByKey.{is_by_key};
 
-use crate::building::{ordered, with};
+use crate::building::{expect_ending, expect_items, ordered, with};
 use plinq_keyed::Chunk;
 use plinq_lambda::Formula;
 use plinq_ops::{BuildFault, FragEnd, Op, Plan, Query, chunk_result, fragment, sequential};
@@ -212,13 +212,8 @@ fn expect_one_answer(
         answer(rt, alloc, &ordered(alloc, plan.after)?, items, told)?
     };
     let wanted = answer(rt, alloc, query, Vec::from_slice(alloc, list)?, ending)?;
-    assert_eq!(rt;
-        given.0.as_slice(),
-        wanted.0.as_slice(),
-        "{:?} of {list:?}",
-        query.ops()
-    );
-    assert_eq!(rt; given.1, wanted.1, "{:?} of {list:?}", query.ops());
+    expect_items(rt, query.ops(), &given.0, &wanted.0);
+    expect_ending(rt, query.ops(), given.1, wanted.1);
     Ok(())
 }
 
