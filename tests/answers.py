@@ -67,6 +67,28 @@ IN_ANY_ORDER = [
     ("not", '"list":[1,65537]', '["select_many","up_to"]', [1], None, "fault toomany", 4),
 ]
 
+# Aggregates, which are the same in whatever order the items come: a source, the steps, the aggregate, the output and the
+# status.
+AGGREGATES = [
+    ('"list":[]', "", "sum", "0\nend\n", 0),
+    ('"list":[]', "", "count", "0\nend\n", 0),
+    ('"list":[]', "", "min", "none\nend\n", 0),
+    ('"list":[]', '["as_ordered"]', "max", "none\nend\n", 0),
+    ('"list":[-9223372036854775808,-9223372036854775808]', '["as_ordered"]', "sum", "-18446744073709551616\nend\n", 0),
+    ('"repeat":[9223372036854775807,3]', "", "sum", "27670116110564327421\nend\n", 0),
+    ('"range":[1,10]', '["as_ordered"],["filter","even"]', "count", "5\nend\n", 0),
+    ('"list":[3,9,4]', "", "max", "9\nend\n", 0),
+    ('"list":[3,-9,4]', '["as_ordered"]', "min", "-9\nend\n", 0),
+    ('"list":[1,2],"refuse":7', '["as_ordered"]', "sum", "refused 7\n", 3),
+    ('"list":[1,2],"refuse":7', "", "count", "refused 7\n", 3),
+    ('"list":[1,2],"refuse":7', '["as_ordered"],["take",2]', "max", "2\nend\n", 0),
+    ('"list":[5,0,2]', '["select","into",10]', "min", "fault division\n", 4),
+    ('"list":[3,1,2]', "", "sum", "6\nend\n", 0),
+    ('"range":[1,1000]', '["select_many","repeat",3]', "sum", "1501500\nend\n", 0),
+    ('"range":[1,1000]', '["take",20]', "count", "20\nend\n", 0),
+    ('"list":[],"refuse":7', '["take",0]', "sum", "0\nend\n", 0),
+]
+
 # Words, a document, and what is said of it.
 REFUSED = [
     ("run --merge not", "[", "not JSON"),
@@ -94,6 +116,12 @@ REFUSED = [
     ("run", '{"version":2,"source":{"list":[]},"query":[]}', "unknown version"),
     ("run", '{"version":3,"x":0}', "unknown version"),
     ("run", '{"version":1,"source":{"list":[]},"query":[],"x":0}', "wrong shape"),
+    ("run", '{"version":1,"source":{"list":[]},"query":[],"aggregate":"average"}', "wrong shape"),
+    ("run", '{"version":1,"source":{"list":[]},"query":[],"aggregate":"Sum"}', "wrong shape"),
+    ("run", '{"version":1,"source":{"list":[]},"query":[],"aggregate":["sum"]}', "wrong shape"),
+    ("plan", '{"version":1,"source":{"list":[]},"query":[],"aggregate":null}', "wrong shape"),
+    ("run", '{"version":1,"source":{"range":[0,1099511627777]},"query":[],"aggregate":"average"}', "wrong shape"),
+    ("run", '{"version":1,"source":{"range":[0,1099511627777]},"query":[],"aggregate":"sum"}', "source too large"),
     ("run", '{"version":1,"source":{"list":[]},"query":["take"]}', "step 0: unknown"),
     ("run", '{"version":1,"source":{"list":[]},"query":"take"}', "wrong shape"),
     ("run", '{"version":1,"source":{"list":[1.5]},"query":[]}', "wrong shape"),
@@ -153,6 +181,9 @@ SHOWN = [
     ("parts", '{"version":1,"source":{"list":[-1],"refuse":7},"query":[["with_degree",1]]}', ["properties true true true", "0: 0=-1", "refused 7"], 3),
     ("seq", '{"version":1,"source":{"list":[1,2,3]},"query":[["take",2]]}', ["1 2", "end"], 0),
     ("run", '{"version":1,"source":{"list":[1],"refuse":4294967295},"query":[]}', ["1", "refused 4294967295"], 3),
+    ("plan", '{"version":1,"source":{"list":[1]},"query":[],"aggregate":"sum"}', ["workers 4", "merge auto", "order arrival", "worker none", "after none"], 0),
+    ("parts --workers 1", '{"version":1,"source":{"list":[4,2]},"query":[],"aggregate":"min"}', ["properties true true true", "0: 0=4 1=2", "end"], 0),
+    ("history --workers 1", '{"version":1,"source":{"list":[]},"query":[],"aggregate":"max"}', ["ticket 0 ask 1 first 0 count 0 ended", "end"], 0),
     (
         "history --workers 2",
         '{"version":1,"source":{"list":[10,20,30,40]},"query":[]}',
@@ -292,6 +323,11 @@ def main():
         for options in [["--workers", it, "--merge", merge] for it in ("1", "2", "64")] if merge else [[]]:
             seen = run(["run", *options], document.encode())
             tests.check(f"plinq run {' '.join(options)} < {document}", may_come(seen, merge, *wanted), f"wanted {wanted}; seen {seen}")
+    for source, steps, aggregate, output, status in AGGREGATES:
+        document = f'{{"version":1,"source":{{{source}}},"query":[{steps}],"aggregate":"{aggregate}"}}'
+        for command in ("run", "seq"):
+            for options in [], ["--workers", "1"], ["--workers", "64", "--merge", "not"], ["--workers", "2", "--merge", "full"]:
+                ends([command, *options], document, Outcome(status, output.encode(), b""))
     for words, document, lines, status in SHOWN:
         ends(words.split(), document, Outcome(status, "".join(it + "\n" for it in lines).encode(), b""))
     unknown = [("run", f'{{"version":1,"source":{{"list":[]}},"query":[{it}]}}', "step 0: unknown") for it in UNKNOWN_STEPS]

@@ -29,6 +29,14 @@ MEANINGS = {
 }
 
 
+AGGREGATES = {
+    "sum": lambda items: (sum(items) + 2**127) % 2**128 - 2**127,
+    "count": len,
+    "min": lambda items: min(items, default="none"),
+    "max": lambda items: max(items, default="none"),
+}
+
+
 class Fault(Exception):
     pass
 
@@ -161,7 +169,14 @@ def requests(items, ending, growth, degree):
     return lines
 
 
-def wanted(command, source, steps, growth):
+def told(option, aggregate, items, ending):
+    """The lines of an answer, the last left out: its batches, or the value of an aggregate."""
+    if aggregate:
+        return [str(AGGREGATES[aggregate](items))] if ending == "end" else []
+    return [" ".join(map(str, it)) for it in in_batches(option, items, ending)]
+
+
+def wanted(command, source, steps, growth, aggregate):
     """What the program is to print, and its status."""
     items, ending = given(source)
     option, degree = setting(steps, "with_merge", "auto"), setting(steps, "with_degree", 4)
@@ -181,8 +196,12 @@ def wanted(command, source, steps, growth):
         lines += requests(items, ending, growth, degree)
     else:
         items, ending = through(calls, items, ending)
-        lines += [" ".join(map(str, it)) for it in in_batches(option, items, ending)]
-    return lines + [ending], {"e": 0, "r": 3, "f": 4}[ending[0]]
+        lines += told(option, aggregate, items, ending)
+    return lines + [ending], status_of(ending)
+
+
+def status_of(ending):
+    return {"e": 0, "r": 3, "f": 4}.get(ending[:1])
 
 
 FEW = 5
@@ -215,23 +234,30 @@ def is_cut_short(source, steps):
     return not keyless or through(steps, items, ending)[1] != ending
 
 
+def may_answer(source, steps):
+    """The answers that a query may have which gives the order up, as far as they differ by more than that of their items."""
+    items, ending = given(source)
+    is_one = len(items) > FEW or ["as_ordered"] in steps
+    orders = [items] if is_one else map(list, set(itertools.permutations(items)))
+    return (through(steps, it, ending) for it in orders)
+
+
 def may_print(source, steps, seen):
     """Whether this is printed for an answer that a query may have which gives the order up; `as_unordered` stands last."""
     came, last = batches_in(seen.output)
     came_items = sum(came, [])
     option = setting(steps, "with_merge", "auto")
-    status = {"e": 0, "r": 3, "f": 4}.get(last[:1])
-    if (seen.status, seen.errors) != (status, b"") or in_batches(option, came_items, last) != came:
+    if (seen.status, seen.errors) != (status_of(last), b"") or in_batches(option, came_items, last) != came:
         return False
-    items, ending = given(source)
     is_hidden = option == "full" and last != "end"
-    if len(items) > FEW:
-        wanted, ending = through(steps, items, ending)
-        return last == ending and (is_hidden or sorted(came_items) == sorted(wanted))
-    orders = [items] if ["as_ordered"] in steps else map(list, set(itertools.permutations(items)))
-    order_of = sorted if ["as_unordered"] in steps else list
-    answers = (through(steps, it, ending) for it in orders)
-    return any(last == e and (is_hidden or order_of(came_items) == order_of(xs)) for xs, e in answers)
+    order_of = sorted if ["as_unordered"] in steps or len(given(source)[0]) > FEW else list
+    return any(last == e and (is_hidden or order_of(came_items) == order_of(xs)) for xs, e in may_answer(source, steps))
+
+
+def may_tell(source, steps, aggregate, seen):
+    """Whether this is the aggregate of such an answer."""
+    outputs = ((told(None, aggregate, xs, e) + [e], status_of(e)) for xs, e in may_answer(source, steps))
+    return seen.errors == b"" and (seen.output.decode().splitlines(), seen.status) in outputs
 
 
 def some_number(chance):
@@ -304,17 +330,21 @@ def main():
         growth = chance.choice([None, [1, 1, 1], [1, 1, 4], [2, 3, 16], [1, 3, 512]])
         if growth:
             document["growth"] = growth
+        aggregate = chance.choice([None, None, None, None, *AGGREGATES])
+        if aggregate:
+            document["aggregate"] = aggregate
         text = json.dumps(document)
         seen = run([command], text.encode(), PROGRAM)
         name = f"plinq {command} < {text}"
         if in_any_order:
-            tests.check(name, may_print(source, steps, seen), f"no answer of the query: {seen}")
+            is_right = may_tell(source, steps, aggregate, seen) if aggregate else may_print(source, steps, seen)
+            tests.check(name, is_right, f"no answer of the query: {seen}")
         else:
-            lines, status = wanted(command, source, steps, growth or [1, 3, 512])
+            lines, status = wanted(command, source, steps, growth or [1, 3, 512], aggregate)
             right = Outcome(status, "".join(it + "\n" for it in lines).encode(), b"")
             tests.check(name, seen == right, f"wanted {right}; seen {seen}")
         if command == "run":
-            seen_endings.add((in_any_order, batches_in(seen.output)[1].rstrip("0123456789")))
+            seen_endings.add((in_any_order, seen.output.decode().splitlines()[-1].rstrip("0123456789")))
     ways = {True: set(), False: set()}
     for in_any_order, it in seen_endings:
         ways[in_any_order].add(it)

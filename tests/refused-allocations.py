@@ -33,6 +33,7 @@ ANSWERED = [
     document({"list": [1, 65537]}, ["select_many", "up_to"]),
     document({"list": [5, 0, 2]}, ["select", "into", 10]),
     document({"list": [9223372036854775807]}, ["select", "add", 1]),
+    document({"list": [9, 3, 8]}, ["filter", "even"], aggregate="max"),
 ]
 # (one item, which has one order)
 UNORDERED = b'{"version":1,"source":{"list":[4],"refuse":7},"query":[["select","add",1]]}'

@@ -1,5 +1,5 @@
 -- What a run by threads has written: the lines of the batches of an answer, or where it broke off those of the first.
-use Rattle.std.proofs.Common.{◌≡◌, true, false, Bool, ℕ, ℤ, List, ◌++◌, Result, Ok, Err, refl, ap, sym, ◌∙◌, subst}
+use Rattle.std.proofs.Common.{◌≡◌, true, false, Bool, ℕ, ℤ, List, ◌++◌, None, Result, Ok, Err, refl, ap, sym, ◌∙◌, subst}
 use Rattle.std.specs.List.{flat_map}
 use Rattle.std.specs.Result.{IsErr}
 use Rattle.std.specs.Io.KnownBytes.{Appends, Keeps}
@@ -33,7 +33,8 @@ use Rattle.plinq_cli.specs.declared.command.Command.TheVariants.{Run}
 use Rattle.plinq_cli.specs.declared.serve_fault.ServeFault.{ServeFault}
 use Rattle.plinq_cli.specs.declared.serve_fault.ServeFault.TheVariants.{Memory, Write, Run as NoRun, Take}
 use Rattle.plinq_cli.specs.ServeFaults.{serve_fault_of_run}
-use Rattle.plinq_cli.specs.Served.{MayAnswer, batch_lines, Delivers, HasDelivered, HasFailed, HasBrokenOff, HasWritten, LeavesWholeLines, Serves}
+use Rattle.plinq_cli.specs.Served.{MayAnswer, batch_lines, Delivers, HasDelivered, HasFailed, HasBrokenOff, HasWritten, IsText, LeavesWholeLines, Serves}
+use Rattle.plinq_cli.specs.Told.{told_text}
 use Rattle.plinq_cli.proofs.Answered.{serves-begun}
 
 -- ---- which answer it is
@@ -113,13 +114,17 @@ module _ (q : QueryView Formula) (t : Trace ℤ) (a b : Bytes) where
 abbrev text : QueryView Formula → Trace ℤ → List ℕ
 text q u = answer_text (merge_in_force q.merge) u
 
+-- where no aggregate is asked for, these lines are what is told of the answer
+is-text : (j job : JobView) (u : Trace ℤ) → j ≡ job → job.aggregate ≡ None → IsText Run j u (text j.query u)
+is-text j job u same items = ap (λ kind. told_text kind (merge_in_force j.query.merge) u) (sym (ap (λ (x : JobView). x.aggregate) same ∙ items))
+
 -- where the run fails, a beginning of its lines is written
-pub run-failed : (j job : JobView) (a b : Bytes) (r : Result Ending ServeFault) (fault : ServeFault) → j ≡ job → IsErr r
+pub run-failed : (j job : JobView) (a b : Bytes) (r : Result Ending ServeFault) (fault : ServeFault) → j ≡ job → job.aggregate ≡ None → IsErr r
     → Delivers j.query j.source a b (Err fault) → Serves Run job a b r
-run-failed j job a b r fault same failed d =
+run-failed j job a b r fault same items failed d =
     let h = failed-begun j.query j.source a b fault d in
     subst (λ (x : JobView). Serves Run x a b r) same
-    (serves-begun Run j a b r h.answer (text j.query h.answer) failed h.may refl (begins-append a b _ (ending_line h.answer.ending) h.begun))
+    (serves-begun Run j a b r h.answer (text j.query h.answer) failed h.may (is-text j job h.answer same items) (begins-append a b _ (ending_line h.answer.ending) h.begun))
 
 -- unless a write failed, these are whole lines
 whole-lines : (job : JobView) (a b : Bytes) (fault : ServeFault) → Delivers job.query job.source a b (Err fault) → LeavesWholeLines job a b (Err fault)
@@ -134,16 +139,16 @@ run-failed-whole j job a b r fault same failed d =
     subst (λ (x : JobView). LeavesWholeLines x a b r) same (subst (LeavesWholeLines j a b) (sym failed) (whole-lines j a b fault d))
 
 -- where the line of the ending fails, all lines of batches and a beginning of that one are written
-pub ending-failed : (j job : JobView) (a m b : Bytes) (r : Result Ending ServeFault) (e : Ending) → j ≡ job → IsErr r
+pub ending-failed : (j job : JobView) (a m b : Bytes) (r : Result Ending ServeFault) (e : Ending) → j ≡ job → job.aggregate ≡ None → IsErr r
     → Delivers j.query j.source a m (Ok e) → AppendsBeginning m b (line (ending_words e)) → Serves Run job a b r
-ending-failed j job a m b r e same failed h begun =
+ending-failed j job a m b r e same items failed h begun =
     let end = ap (λ x. batch_lines j.query.merge h.answer ++ ending_line x) (sym h.ending) in
     subst (λ (x : JobView). Serves Run x a b r) same
-    (serves-begun Run j a b r h.answer (text j.query h.answer) failed h.may refl (begins-as a b _ _ end (begins-after a m b _ _ h.lines begun)))
+    (serves-begun Run j a b r h.answer (text j.query h.answer) failed h.may (is-text j job h.answer same items) (begins-as a b _ _ end (begins-after a m b _ _ h.lines begun)))
 
-pub ending-written : (j job : JobView) (a m b : Bytes) (e : Ending) → j ≡ job
+pub ending-written : (j job : JobView) (a m b : Bytes) (e : Ending) → j ≡ job → job.aggregate ≡ None
     → Delivers j.query j.source a m (Ok e) → Appends m b (line (ending_words e)) → HasWritten Run job a b e
-ending-written j job a m b e same h written =
+ending-written j job a m b e same items h written =
     let end = ap (λ x. batch_lines j.query.merge h.answer ++ ending_line x) (sym h.ending) in
     subst (λ (x : JobView). HasWritten Run x a b e) same
-    (h.answer, h.may, text j.query h.answer, refl, appends-as a b _ _ end (Appends-trans a m b _ _ h.lines written), h.ending)
+    (h.answer, h.may, text j.query h.answer, is-text j job h.answer same items, appends-as a b _ _ end (Appends-trans a m b _ _ h.lines written), h.ending)

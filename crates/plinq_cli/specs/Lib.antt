@@ -1,5 +1,6 @@
 pub mod Rounds
 pub mod ServeFaults
+pub mod Told
 pub mod Served
 pub mod Arguments
 pub mod Performed

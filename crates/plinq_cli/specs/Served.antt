@@ -22,7 +22,7 @@ use Rattle.plinq_keyed.specs.declared.record.Record.{Record}
 use Rattle.plinq_document.specs.Jobs.{JobView}
 use Rattle.plinq_cli.specs.declared.command.Command.{Command}
 use Rattle.plinq_cli.specs.declared.command.Command.TheVariants.{Run, Seq, Plan, Parts, History}
-use Rattle.plinq_lines.specs.Text.{batch_line, answer_text}
+use Rattle.plinq_lines.specs.Text.{batch_line}
 use Rattle.plinq_lines.specs.PlanText.{plan_text}
 use Rattle.plinq_lines.specs.PartsText.{parts_text}
 use Rattle.plinq_lines.specs.HistoryText.{history_text}
@@ -30,6 +30,7 @@ use Rattle.plinq_lines.specs.Written.{AppendsBeginning}
 use Rattle.plinq_cli.specs.declared.serve_fault.ServeFault.{ServeFault}
 use Rattle.plinq_cli.specs.declared.serve_fault.ServeFault.TheVariants.{Memory, Write, Run as NoRun, Take}
 use Rattle.plinq_cli.specs.Rounds.{IsHistory}
+use Rattle.plinq_cli.specs.Told.{told_text}
 
 -- the query's answer on one thread
 abbrev pub sequential_answer : JobView → Trace ℤ
@@ -54,8 +55,8 @@ IsAnswer History job u = u ≡ job.source
 
 -- these are the lines of an answer
 abbrev pub IsText : Command → JobView → Trace ℤ → List ℕ → Type 0
-IsText Run job u lines = lines ≡ answer_text (merge_in_force job.query.merge) u
-IsText Seq job u lines = lines ≡ answer_text (merge_in_force job.query.merge) u
+IsText Run job u lines = lines ≡ told_text job.aggregate (merge_in_force job.query.merge) u
+IsText Seq job u lines = lines ≡ told_text job.aggregate (merge_in_force job.query.merge) u
 IsText Plan job u lines = lines ≡ plan_text job.query
 IsText Parts job u lines = lines ≡ parts_text (degree_in_force job.query.degree) u
 IsText History job u lines = (h : List Record) × IsHistory (degree_in_force job.query.degree) job.growth u h × (lines ≡ history_text h u.ending)
@@ -123,6 +124,7 @@ add_one = record {
   query = record { ops = Select (Add (pos 1)) ∷ []; ordered = true; merge = Some NotBuffered; degree = None };
   source = ended (pos 3 ∷ pos 1 ∷ pos 4 ∷ []) End;
   growth = record { first = 1; repeat = 3; max = 512 };
+  aggregate = None;
 }
 
 pub add_one_is_answered : sequential_answer add_one ≡ ended (pos 4 ∷ pos 2 ∷ pos 5 ∷ []) End

@@ -6,6 +6,7 @@
 //! is `plinq_document`'s, the lines are `plinq_lines`'.
 #![tactic(auto)]
 
+mod aggregating;
 mod arguments;
 mod command;
 mod failure;
@@ -24,7 +25,7 @@ pub use input::read_input;
 pub use input_fault::InputFault;
 pub use performing::perform;
 pub use plinq_document::{
-    AnySource, Degree, DocFault, Job, PlainSource, Settings, StepFault, read_document,
+    AnySource, Degree, DocFault, Job, Kind, PlainSource, Settings, StepFault, read_document,
 };
 pub use serve_fault::ServeFault;
 pub use serving::serve;

@@ -1,9 +1,10 @@
-ghost use Rattle.std.specs.Prelude.{◌≡◌, ◌≤◌, IfOk, IfErr};
+ghost use Rattle.std.specs.Prelude.{◌≡◌, ◌≤◌, None, IfOk, IfErr};
 ghost use Rattle.plinq_keyed.specs.Keys.{keyed_from, element_lists};
 ghost use Rattle.plinq_partition.specs.Cuts.{cuts};
 ghost use Rattle.plinq_source.specs.Trace.{ended};
 ghost use Rattle.plinq_cli.specs.Served.{Delivers, LeavesWholeLines, Serves};
 
+use crate::aggregating::write_told;
 use crate::command::Command;
 use crate::rounds::{hand_out, told_ending};
 use crate::serve_fault::ServeFault;
@@ -11,7 +12,7 @@ use plinq_document::{AnySource, Job};
 use plinq_enumerator::Growth;
 use plinq_keyed::{Guarded, Keyed};
 use plinq_lambda::Formula;
-use plinq_lines::{LineSink, write_answer, write_ending, write_history, write_parts, write_plan};
+use plinq_lines::{LineSink, write_ending, write_history, write_parts, write_plan};
 use plinq_ops::{Query, sequential};
 use plinq_partition::{OrderablePartitioner, RangeParts};
 use plinq_run::{OpenGate, run};
@@ -48,7 +49,7 @@ where
     }
 }
 
-// A query is run by threads, and each batch is written as it is delivered.
+// A query is run by threads, and its aggregate is computed on one thread.
 fn serve_run<R, W>(rt: &R, job: Job, writer: &mut W) -> Result<Ending, ServeFault>
 where
     R: AllocGlobal + Threads + Wait + Sync,
@@ -56,10 +57,27 @@ where
     ensures written { Serves Command.Run job (W.contents writer.old) (W.contents writer.new) result }
     ensures whole { LeavesWholeLines job (W.contents writer.old) (W.contents writer.new) result }
 {
+    if job.aggregate.is_none() {
+        serve_batches(rt, job, writer)
+    } else {
+        serve_sequential(rt.alloc(), job, writer)
+    }
+}
+
+// A query is run by threads, and each batch is written as it is delivered.
+fn serve_batches<R, W>(rt: &R, job: Job, writer: &mut W) -> Result<Ending, ServeFault>
+where
+    R: AllocGlobal + Threads + Wait + Sync,
+    W: Write,
+    requires items { job.aggregate ≡ None }
+    ensures written { Serves Command.Run job (W.contents writer.old) (W.contents writer.new) result }
+    ensures whole { LeavesWholeLines job (W.contents writer.old) (W.contents writer.new) result }
+{
     let Job {
         query,
         source,
         growth,
+        ..
     } = job;
     let ending = run_into(rt, &query, source, growth, writer)?;
     write_ending(writer, ending)?;
@@ -117,15 +135,18 @@ where
 }
 
 fn serve_sequential<W: Write>(alloc: Global, job: Job, writer: &mut W) -> Result<Ending, ServeFault>
-    ensures { Serves Command.Seq job (W.contents writer.old) (W.contents writer.new) result }
+    ensures written { Serves Command.Seq job (W.contents writer.old) (W.contents writer.new) result }
+    ensures whole { LeavesWholeLines job (W.contents writer.old) (W.contents writer.new) result }
 {
     let Job {
         query,
         mut source,
+        aggregate,
         ..
     } = job;
     let (items, ending) = sequential(alloc, &query, &mut source)?;
-    write_answer(writer, query.merge_option(), items.as_slice(), ending)?;
+    let option = query.merge_option();
+    write_told(writer, aggregate, option, items.as_slice(), ending)?;
     Ok(ending)
 }
 
@@ -158,6 +179,7 @@ fn serve_history<W: Write>(alloc: Global, job: Job, writer: &mut W) -> Result<En
         query,
         source,
         growth,
+        ..
     } = job;
     let enumerator = hand_out(alloc, source, growth, query.degree())?;
     let records = enumerator.records();

@@ -11,6 +11,7 @@ use Rattle.plinq_document.specs.Jobs.{JobView}
 use Rattle.plinq_document.specs.Versions.{version_in}
 use Rattle.plinq_document.specs.Sources.{source_in}
 use Rattle.plinq_document.specs.Growths.{growth_counts, growth_of}
+use Rattle.plinq_document.specs.Aggregates.{aggregate_in}
 use Rattle.plinq_document.specs.Steps.{with_steps_of}
 use Rattle.plinq_document.specs.declared.settings.Settings.{Settings}
 use Rattle.plinq_document.specs.declared.doc_fault.DocFault.{DocFault}
@@ -18,7 +19,7 @@ use Rattle.plinq_document.specs.declared.doc_fault.DocFault.TheVariants.{TooLong
 
 -- a name that a document may have
 abbrev pub is_top_name : List ℕ → Bool
-is_top_name name = bytes_eq name (codes "version") || bytes_eq name (codes "source") || bytes_eq name (codes "query") || bytes_eq name (codes "growth")
+is_top_name name = bytes_eq name (codes "version") || bytes_eq name (codes "source") || bytes_eq name (codes "query") || bytes_eq name (codes "growth") || bytes_eq name (codes "aggregate")
 
 -- all the names are such
 abbrev pub are_top_names : Members → Bool
@@ -56,10 +57,11 @@ document_meaning settings d = do
   names_check d
   steps ← steps_in d
   counts ← growth_counts d
+  aggregate ← aggregate_in d
   source ← source_in version d
   growth ← growth_of counts
   query ← with_steps_of version 0 (new_query settings) steps
-  Ok (record { query = query; source = source; growth = growth })
+  Ok (record { query = query; source = source; growth = growth; aggregate = aggregate })
 
 -- at most 16,777,216 bytes
 abbrev pub length_check : List ℕ → Result ⊤ DocFault

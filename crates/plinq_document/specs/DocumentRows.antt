@@ -1,6 +1,6 @@
 -- Documents, as values, and what they ask for.
-use Rattle.std.specs.Prelude.{◌≡◌, ℕ, pos, negsuc, List, [], ◌∷◌, Some, None, Ok, Err, true, codes, refl}
-use Rattle.serde_json.specs.Data.{Data, unsigned, negative, number, string, array, object, no_members, member}
+use Rattle.std.specs.Prelude.{◌≡◌, ℕ, pos, negsuc, List, [], ◌∷◌, Option, Some, None, Ok, Err, true, false, codes, refl}
+use Rattle.serde_json.specs.Data.{Data, null, unsigned, negative, number, string, array, object, no_members, member}
 use Rattle.serde_json.specs.View.{items_of}
 use Rattle.plinq_source.specs.Trace.{ended}
 use Rattle.plinq_source.specs.declared.ending.Ending.TheVariants.{End}
@@ -10,7 +10,10 @@ use Rattle.plinq_ops.specs.declared.merge_option.MergeOption.TheVariants.{NotBuf
 use Rattle.plinq_ops.specs.declared.build_fault.BuildFault.TheVariants.{NotAtSource, MergeTwice, DegreeTwice, DegreeOutOfRange}
 use Rattle.plinq_enumerator.specs.declared.growth_fault.GrowthFault.TheVariants.{Zero}
 use Rattle.plinq_document.specs.Document.{document_meaning}
+use Rattle.plinq_document.specs.Jobs.{JobView}
 use Rattle.plinq_document.specs.declared.settings.Settings.{Settings}
+use Rattle.plinq_document.specs.declared.kind.Kind.{Kind}
+use Rattle.plinq_document.specs.declared.kind.Kind.TheVariants.{Sum, Count, Min, Max}
 use Rattle.plinq_document.specs.declared.doc_fault.StepFault.TheVariants.{Unknown, Build}
 use Rattle.plinq_document.specs.declared.doc_fault.DocFault.TheVariants.{Shape, Version, Source, Growth, Step}
 
@@ -48,7 +51,7 @@ select_add_one = row (word (codes "select") ∷ word (codes "add") ∷ whole 1 �
 
 -- {"version":1,"source":{"list":[3,1,4]},"query":[["as_ordered"],["select","add",1]]}
 pub meaning-example : document_meaning plain (document (as_ordered ∷ select_add_one ∷ []) (list_of (whole 3 ∷ whole 1 ∷ whole 4 ∷ [])) (whole 1))
-    ≡ Ok (record { query = record { ops = Select (Add (pos 1)) ∷ []; ordered = true; merge = None; degree = None }; source = ended (pos 3 ∷ pos 1 ∷ pos 4 ∷ []) End; growth = record { first = 1; repeat = 3; max = 512 } })
+    ≡ Ok (record { query = record { ops = Select (Add (pos 1)) ∷ []; ordered = true; merge = None; degree = None }; source = ended (pos 3 ∷ pos 1 ∷ pos 4 ∷ []) End; growth = record { first = 1; repeat = 3; max = 512 }; aggregate = None })
 meaning-example = refl
 
 -- {}
@@ -98,3 +101,36 @@ meaning-merge_twice = refl
 -- the command line's workers, and [["with_degree",0]]
 pub meaning-degree_twice : document_meaning (record { workers = Some 2; merge = None }) (stepping (row (word (codes "with_degree") ∷ whole 0 ∷ []) ∷ [])) ≡ Err (Step 0 (Build DegreeTwice))
 meaning-degree_twice = refl
+
+-- ---- aggregates
+
+-- {"version":1,"source":{"list":[]},"query":[]}, and beside these this aggregate
+abbrev aggregating : Data → Data
+aggregating kind = object (member (codes "aggregate") kind (member (codes "query") (row []) (member (codes "source") (list_of []) (member (codes "version") (whole 1) no_members))))
+
+-- what that asks for
+abbrev with_aggregate : Option Kind → JobView
+with_aggregate kind = record { query = record { ops = []; ordered = false; merge = None; degree = None }; source = ended [] End; growth = record { first = 1; repeat = 3; max = 512 }; aggregate = kind }
+
+pub meaning-sum : document_meaning plain (aggregating (word (codes "sum"))) ≡ Ok (with_aggregate (Some Sum))
+meaning-sum = refl
+
+pub meaning-count : document_meaning plain (aggregating (word (codes "count"))) ≡ Ok (with_aggregate (Some Count))
+meaning-count = refl
+
+pub meaning-min : document_meaning plain (aggregating (word (codes "min"))) ≡ Ok (with_aggregate (Some Min))
+meaning-min = refl
+
+pub meaning-max : document_meaning plain (aggregating (word (codes "max"))) ≡ Ok (with_aggregate (Some Max))
+meaning-max = refl
+
+-- without the name there is none, and null is none of the words
+pub meaning-no_aggregate : document_meaning plain (stepping []) ≡ Ok (with_aggregate None)
+meaning-no_aggregate = refl
+
+pub meaning-null_aggregate : document_meaning plain (aggregating null) ≡ Err Shape
+meaning-null_aggregate = refl
+
+-- a word that isn't known comes before a source that is too large
+pub meaning-average : document_meaning plain (object (member (codes "aggregate") (word (codes "average")) (member (codes "query") (row []) (member (codes "source") (range_of (whole 0) (whole 1099511627777)) (member (codes "version") (whole 1) no_members))))) ≡ Err Shape
+meaning-average = refl

@@ -1,12 +1,14 @@
 -- What a document asks for.
-use Rattle.std.specs.Prelude.{ℤ}
+use Rattle.std.specs.Prelude.{ℤ, Option}
 use Rattle.plinq_source.specs.Trace.{Trace}
 use Rattle.plinq_lambda.specs.declared.formula.Formula.{Formula}
 use Rattle.plinq_ops.specs.Query.{QueryView}
 use Rattle.plinq_enumerator.specs.Growing.{GrowthRule}
+use Rattle.plinq_document.specs.declared.kind.Kind.{Kind}
 
--- a query, the trace of its source, and how its chunks grow
+-- a query, the trace of its source, how its chunks grow, and the aggregate of its answer, if one is asked for
 pub record JobView : Type 0 where
   pub query : QueryView Formula
   pub source : Trace ℤ
   pub growth : GrowthRule
+  pub aggregate : Option Kind

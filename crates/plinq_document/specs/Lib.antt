@@ -9,6 +9,7 @@ pub mod Versions
 pub mod Steps
 pub mod Sources
 pub mod Growths
+pub mod Aggregates
 pub mod Jobs
 pub mod Document
 pub mod DocumentRows

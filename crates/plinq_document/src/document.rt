@@ -5,6 +5,7 @@ ghost use Rattle.plinq_document.specs.declared.doc_fault.DocFault.TheVariants.{M
 ghost use Rattle.plinq_document.specs.Results.{IfMeant};
 ghost use Rattle.plinq_document.specs.Document.{is_top_name, are_top_names, names_check, steps_in, new_query, document_meaning, json_of, document_of};
 
+use crate::aggregates::aggregate_in;
 use crate::doc_fault::DocFault;
 use crate::growth_counts::growth_counts;
 use crate::job::Job;
@@ -75,6 +76,7 @@ fn job_of(alloc: Global, value: &Value, settings: Settings) -> Result<Job, DocFa
     check_names(value)?;
     let steps = steps_in(value)?;
     let counts = growth_counts(value)?;
+    let aggregate = aggregate_in(value)?;
     let source = source_in(alloc, version, value)?;
     let growth = counts.growth()?;
     let query = with_steps(version, new_query(alloc, settings), steps)?;
@@ -82,6 +84,7 @@ fn job_of(alloc: Global, value: &Value, settings: Settings) -> Result<Job, DocFa
         query,
         source,
         growth,
+        aggregate,
     })
 }
 
@@ -110,7 +113,11 @@ fn are_top_names(members: &Map<String, Value>) -> bool
 fn is_top_name(name: &str) -> bool
     ensures { result ≡ is_top_name name.now }
 {
-    name == "version" || name == "source" || name == "query" || name == "growth"
+    name == "version"
+        || name == "source"
+        || name == "query"
+        || name == "growth"
+        || name == "aggregate"
 }
 
 fn steps_in(value: &Value) -> Result<&[Value], DocFault>

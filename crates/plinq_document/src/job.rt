@@ -1,4 +1,5 @@
 use crate::any_source::AnySource;
+use crate::kind::Kind;
 use plinq_enumerator::Growth;
 use plinq_lambda::Formula;
 use plinq_ops::Query;
@@ -14,6 +15,8 @@ pub struct Job {
     pub source: AnySource,
     /// How the chunks grow that partitions take from the source.
     pub growth: Growth,
+    /// What is told of the answer in place of its items; where there is none, the items themselves.
+    pub aggregate: Option<Kind>,
 }
 
 impl Model for Job {
@@ -22,7 +25,7 @@ impl Model for Job {
 
     ghost Value = { JobView };
 
-    ghost view = { λ job. record { query = job.query; source = ⟦<AnySource as Source>⟧.whole job.source; growth = job.growth } };
+    ghost view = { λ job. record { query = job.query; source = ⟦<AnySource as Source>⟧.whole job.source; growth = job.growth; aggregate = job.aggregate } };
 
     ghost invariant = { λ job. ⟦<AnySource as Source>⟧.given job.source ≡ 0 };
 }

@@ -1,11 +1,12 @@
 //! A text of bytes gives the job that it means, or the first thing that is wrong with it.
 //!
 //! `read_document` answers `document_of`, one definition that looks in turn at the length, the JSON, the version, the
-//! names, the steps, the shape of the growth, the source, the growth and the calls of the steps. A `Job` is seen as its
-//! query, the trace of its source, of which nothing is given yet, and its growth. A `Degree` is from 1 to 64. `merge_word`
-//! is the merge option of a word, for the command line as for a step.
+//! names, the steps, the shape of the growth, the aggregate, the source, the growth and the calls of the steps. A `Job` is
+//! seen as its query, the trace of its source, of which nothing is given yet, its growth, and its aggregate, if it has one.
+//! A `Degree` is from 1 to 64. `merge_word` is the merge option of a word, for the command line as for a step.
 #![tactic(auto)]
 
+mod aggregates;
 mod any_source;
 mod degree;
 mod doc_fault;
@@ -13,6 +14,7 @@ mod document;
 mod formulas;
 mod growth_counts;
 mod job;
+mod kind;
 mod plain_source;
 mod plain_sources;
 mod settings;
@@ -29,6 +31,7 @@ pub use degree::Degree;
 pub use doc_fault::{DocFault, StepFault};
 pub use document::read_document;
 pub use job::Job;
+pub use kind::Kind;
 pub use plain_source::PlainSource;
 pub use settings::Settings;
 pub use step_call::{StepCall, merge_word};

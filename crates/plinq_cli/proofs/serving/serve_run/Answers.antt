@@ -1,28 +1,6 @@
--- the lines of batches are written where the run gets through, and the line of the ending behind them
-use Rattle.std.proofs.Common.{Err, ap, sym, ◌∙◌, subst}
-use Rattle.std.proofs.lemmas.Result.{err_from_is_err_and}
-use Rattle.plinq_cli.specs.Served.{LeavesWholeLines}
-use Rattle.plinq_cli.proofs.Delivered.{run-failed, run-failed-whole, ending-failed, ending-written}
+-- what one thread answers is an answer of threads
+use Rattle.plinq_cli.proofs.Answered.{serves-run}
 use Rattle.plinq_cli.proofs.serving.serve_run.Goals as goal
 
-pub returns-in_err-ending-clause-written : goal.returns-in_err-ending-clause-written
-returns-in_err-ending-clause-written g c =
-    run-failed _ c.args.job _ _ _ c.in_err-ending.field-0.0 c.job.view_is c.from_residual.ensures.0 c.in_err-ending.ensures
-
-pub returns-in_err-ending-clause-whole : goal.returns-in_err-ending-clause-whole
-returns-in_err-ending-clause-whole g c =
-    let p = err_from_is_err_and c.from_residual.result c.from_residual.ensures.1 in
-    run-failed-whole _ c.args.job _ _ _ c.in_err-ending.field-0.0 c.job.view_is (p.1 ∙ ap Err p.2) c.in_err-ending.ensures
-
-pub returns-in_err-write_ending-clause-written : goal.returns-in_err-write_ending-clause-written
-returns-in_err-write_ending-clause-written g c =
-    ending-failed _ c.args.job _ _ _ _ _ c.job.view_is c.from_residual-in_err-write_ending.ensures.0 c.in_ok-ending.ensures c.in_err-write_ending.ensures
-
-pub returns-in_err-write_ending-clause-whole : goal.returns-in_err-write_ending-clause-whole
-returns-in_err-write_ending-clause-whole g c =
-    let p = err_from_is_err_and c.from_residual-in_err-write_ending.result c.from_residual-in_err-write_ending.ensures.1 in
-    subst (LeavesWholeLines c.args.job _ _) (sym (p.1 ∙ ap Err p.2)) tt
-
-pub returns-clause-written : goal.returns-clause-written
-returns-clause-written g c =
-    ending-written _ c.args.job _ _ _ _ c.job.view_is c.in_ok-ending.ensures c.in_ok-write_ending.ensures
+pub returns-else-is_none-clause-written : goal.returns-else-is_none-clause-written
+returns-else-is_none-clause-written g c = serves-run c.args.job _ _ _ c.serve_sequential.ensures.written
