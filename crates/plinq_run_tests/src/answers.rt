@@ -37,24 +37,35 @@ fn expect<R: Threads + Wait + Sync + Abort>(
     Ok(())
 }
 
-/// The same by each number of workers, with chunks of each growth and batches of each kind.
+/// The same by each number of workers, with batches of each kind.
 fn expect_each<R: Threads + Wait + Sync + Abort>(
+    rt: &R,
+    alloc: Global,
+    row: Row<'_>,
+    growth: Growth,
+) -> Result<(), Fail> {
+    for option in OPTIONS {
+        for workers in WORKERS {
+            let setting = Setting {
+                workers,
+                growth,
+                option,
+                refused: usize::MAX,
+            };
+            expect(rt, alloc, row, setting)?;
+        }
+    }
+    Ok(())
+}
+
+/// The same with chunks of each growth.
+fn expect_row<R: Threads + Wait + Sync + Abort>(
     rt: &R,
     alloc: Global,
     row: Row<'_>,
 ) -> Result<(), Fail> {
     for growth in [Growth::ONE, Growth::DEFAULT, Growth::new(1, 1, 4)?] {
-        for option in OPTIONS {
-            for workers in WORKERS {
-                let setting = Setting {
-                    workers,
-                    growth,
-                    option,
-                    refused: usize::MAX,
-                };
-                expect(rt, alloc, row, setting)?;
-            }
-        }
+        expect_each(rt, alloc, row, growth)?;
     }
     Ok(())
 }
@@ -70,7 +81,7 @@ fn each_source_is_answered_in_order(rt: HostRuntime) -> Result<(), Fail> {
         (Given::Refusing(7), &[1, 2], add_one, &[2, 3], REFUSED),
     ];
     for row in rows {
-        expect_each(&rt, rt.alloc(), row)?;
+        expect_row(&rt, rt.alloc(), row)?;
     }
     Ok(())
 }
@@ -95,7 +106,7 @@ fn batches_are_full_but_for_the_last(rt: HostRuntime) -> Result<(), Fail> {
         (Given::Range(1, 0), &[], &[], &[], Ending::End),
     ];
     for row in rows {
-        expect_each(&rt, rt.alloc(), row)?;
+        expect_row(&rt, rt.alloc(), row)?;
     }
     Ok(())
 }
@@ -123,7 +134,7 @@ fn a_query_ends_where_its_operators_end_it(rt: HostRuntime) -> Result<(), Fail> 
         (Given::Refusing(7), &[1, 2], &[Op::Skip(5)], &[], REFUSED),
     ];
     for row in rows {
-        expect_each(&rt, rt.alloc(), row)?;
+        expect_row(&rt, rt.alloc(), row)?;
     }
     Ok(())
 }
@@ -137,7 +148,7 @@ fn a_query_that_takes_nothing_meets_no_refusal(rt: HostRuntime) -> Result<(), Fa
         (Given::Refusing(7), &[], no_even, &[], Ending::End),
     ];
     for row in rows {
-        expect_each(&rt, rt.alloc(), row)?;
+        expect_row(&rt, rt.alloc(), row)?;
     }
     Ok(())
 }
@@ -155,7 +166,26 @@ fn a_query_ends_with_its_first_fault(rt: HostRuntime) -> Result<(), Fail> {
         (Given::List, &[1, 65_537], up_to, &[1], TOO_MANY),
     ];
     for row in rows {
-        expect_each(&rt, rt.alloc(), row)?;
+        expect_row(&rt, rt.alloc(), row)?;
+    }
+    Ok(())
+}
+
+fn refuse_behind<R: Threads + Wait + Sync + Abort>(
+    rt: &R,
+    alloc: Global,
+    items: &[i64],
+) -> Result<(), Fail> {
+    let row: Row<'_> = (Given::Refusing(7), items, &[], items, REFUSED);
+    expect_each(rt, alloc, row, Growth::new(1, 1, 4)?)
+}
+
+#[test]
+fn a_list_of_any_length_is_refused_behind_its_items(rt: HostRuntime) -> Result<(), Fail> {
+    let mut items = Vec::new(rt.alloc());
+    for next in 1..42 {
+        refuse_behind(&rt, rt.alloc(), items.as_slice())?;
+        items.push(next)?;
     }
     Ok(())
 }
