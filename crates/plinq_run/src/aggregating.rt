@@ -1,6 +1,9 @@
 //! The aggregate of a query.
-ghost use Rattle.std.specs.Prelude.{◌≡◌, true, false};
+ghost use Rattle.std.specs.Prelude.{◌≡◌, [], true, false, Ok};
+ghost use Rattle.std.specs.List.{list_any};
+ghost use Rattle.plinq_aggregate.specs.Folding.{aggregated};
 ghost use Rattle.plinq_ops.specs.Answer.{Answer};
+ghost use Rattle.plinq_ops.specs.Feeding.{is_empty_take};
 ghost use Rattle.plinq_ops.specs.Sequential.{answer_of};
 ghost use Rattle.plinq_run.specs.Aggregates.{Aggregates, AggregatesSome};
 
@@ -47,6 +50,7 @@ where
     A: Aggregator<Item = L::Item>,
     R: Threads + Wait + Sync,
     requires { S.given source ≡ 0 }
+    ensures decided { list_any is_empty_take query.now.ops ≡ true → result ≡ Ok (aggregated (A.folding aggregator.now) []) }
     ensures ordered { query.now.ordered ≡ true → Aggregates (A.folding aggregator.now) (answer_of L.meaning query.now.ops (S.whole source)) result }
     ensures any { query.now.ordered ≡ false → AggregatesSome (A.folding aggregator.now) (Answer L.meaning false query.now.ops (S.whole source)) result }
 {

@@ -37,4 +37,3 @@ pub use gate::{Gate, OpenGate};
 pub use report::Report;
 pub use run_fault::RunFault;
 pub use running::run;
-

@@ -1,5 +1,6 @@
 //! The run of a query.
-ghost use Rattle.std.specs.Prelude.{◌≡◌, ◌≤◌, ◌^◌, [], length, true, false, All, IfOk};
+ghost use Rattle.std.specs.Prelude.{◌≡◌, ◌≤◌, ◌^◌, [], length, true, false, All, IfOk, Ok};
+ghost use Rattle.plinq_source.specs.declared.ending.Ending.TheVariants.{End};
 ghost use Rattle.std.specs.List.{list_any};
 ghost use Rattle.crossbeam_queue.specs.Passes.{IsPassOf};
 ghost use Rattle.plinq_keyed.specs.History.{IsLegalHistory};
@@ -169,6 +170,8 @@ where
     R: Threads + Wait + Sync,
     requires { S.given source ≡ 0 }
     ensures legal { IfOk result (λ report. IsLegalHistory (S.whole source) report.records.items) }
+    ensures answered { list_any is_empty_take query.now.ops ≡ true → reported result ≡ Ok End }
+    ensures untouched { list_any is_empty_take query.now.ops ≡ true → sink.new ≡ sink.old }
     ensures none { list_any is_empty_take query.now.ops ≡ true → IfOk result (λ report. report.records.items ≡ []) }
     ensures closed { list_any is_empty_take query.now.ops ≡ false → IfOk result (λ report. has_close report.records.items ≡ true) }
     ensures accounts { query.now.ordered ≡ true → IfOk result (λ report. answer_of L.meaning query.now.ops (handed_trace (S.whole source) report.records.items) ≡ answer_of L.meaning query.now.ops (S.whole source)) }
