@@ -1,5 +1,5 @@
 use plinq_ops::BuildFault;
-use plinq_run::RunFault;
+use plinq_run::{AggregateFault, RunFault};
 use plinq_source::SourceFault;
 use std::io;
 use thiserror::Error;
@@ -13,10 +13,12 @@ pub(crate) enum BenchFault {
     Source(#[from] SourceFault),
     #[error("the run: {0}")]
     Run(#[from] RunFault),
+    #[error("the aggregate: {0}")]
+    Aggregate(#[from] AggregateFault),
     #[error("{0}")]
     Io(#[from] io::Error),
     #[error("the sums differ")]
     Sums,
-    #[error("plinq_bench check | WORKLOAD WORKERS ITEMS")]
+    #[error("plinq_bench check | WORKLOAD WORKERS [ITEMS]")]
     Words,
 }

@@ -1,10 +1,10 @@
 //! `plinq_bench`: runs a workload over the library, and says how long it took beside a plain loop.
 //!
-//!     plinq_bench W2 4 1000000   # a workload, workers, and items
-//!     plinq_bench check          # each workload with few items: the sums alone
+//!     plinq_bench heavy 4 1000000   # a workload, workers, and items, which may be left out
+//!     plinq_bench check             # each workload with few items: the sums alone
 //!
 //! A line has the workload, what ran it, threads, seconds, items a second, the ratio to the plain loop and the sum of what
-//! came, on which its order tells.
+//! came, on which its order tells; of `sum` it is the aggregate.
 #![tactic(auto)]
 
 mod bench_fault;
@@ -50,15 +50,24 @@ fn bench<R: Threads + Wait + Sync + Clock + Print>(
 ) -> Result<(), BenchFault> {
     match words {
         [_, word] if word.as_str() == "check" => check(rt, alloc),
+        [_, name, workers] => {
+            let (workload, workers) = asked(name.as_str(), workers.as_str())?;
+            measure(rt, alloc, workload, workers, workload.usual_items())
+        }
         [_, name, workers, items] => {
-            let Some(workload) = Workload::named(name.as_str()) else {
-                return Err(BenchFault::Words);
-            };
-            let (Ok(workers), Ok(items)) = (workers.parse::<u64>(), items.parse::<i64>()) else {
+            let (workload, workers) = asked(name.as_str(), workers.as_str())?;
+            let Ok(items) = items.parse::<i64>() else {
                 return Err(BenchFault::Words);
             };
             measure(rt, alloc, workload, workers, items)
         }
+        _ => Err(BenchFault::Words),
+    }
+}
+
+fn asked(name: &str, workers: &str) -> Result<(Workload, u64), BenchFault> {
+    match (Workload::named(name), workers.parse::<u64>()) {
+        (Some(workload), Ok(workers)) => Ok((workload, workers)),
         _ => Err(BenchFault::Words),
     }
 }

@@ -10,35 +10,38 @@ const TURNS: u64 = 500;
 /// A workload by its name.
 #[derive(Clone, Copy, PartialEq, Eq)]
 pub(crate) enum Workload {
-    W1,
-    W2,
-    W3,
-    W3r,
-    W4,
-    W5w,
-    W5t,
+    Cheap,
+    Heavy,
+    Skewed,
+    Ramp,
+    Streamed,
+    TakeWhile,
+    Take,
+    Sum,
 }
 
 impl Workload {
-    pub(crate) const ALL: [Workload; 7] = [
-        Workload::W1,
-        Workload::W2,
-        Workload::W3,
-        Workload::W3r,
-        Workload::W4,
-        Workload::W5w,
-        Workload::W5t,
+    pub(crate) const ALL: [Workload; 8] = [
+        Workload::Cheap,
+        Workload::Heavy,
+        Workload::Skewed,
+        Workload::Ramp,
+        Workload::Streamed,
+        Workload::TakeWhile,
+        Workload::Take,
+        Workload::Sum,
     ];
 
     pub(crate) fn name(self) -> &'static str {
         match self {
-            Workload::W1 => "W1",
-            Workload::W2 => "W2",
-            Workload::W3 => "W3",
-            Workload::W3r => "W3r",
-            Workload::W4 => "W4",
-            Workload::W5w => "W5w",
-            Workload::W5t => "W5t",
+            Workload::Cheap => "cheap",
+            Workload::Heavy => "heavy",
+            Workload::Skewed => "skewed",
+            Workload::Ramp => "ramp",
+            Workload::Streamed => "streamed",
+            Workload::TakeWhile => "take_while",
+            Workload::Take => "take",
+            Workload::Sum => "sum",
         }
     }
 
@@ -51,22 +54,33 @@ impl Workload {
         None
     }
 
+    /// How many items it has where no number is given.
+    pub(crate) fn usual_items(self) -> i64 {
+        match self {
+            Workload::Cheap | Workload::Sum => 10_000_000,
+            Workload::Heavy | Workload::Skewed | Workload::Ramp => 1_000_000,
+            Workload::Streamed => 200_000,
+            Workload::TakeWhile => 100_000,
+            Workload::Take => 3,
+        }
+    }
+
     /// How many elements its source has, where it counts so many items.
     pub(crate) fn source_length(self, items: u64) -> u64 {
         match self {
-            Workload::W5w | Workload::W5t => 1_000_000_000,
+            Workload::TakeWhile | Workload::Take => 1_000_000_000,
             _ => items,
         }
     }
 
     /// Whether it shows when the first result came.
     pub(crate) fn shows_first(self) -> bool {
-        self == Workload::W4 || self == Workload::W5w
+        self == Workload::Streamed || self == Workload::TakeWhile
     }
 
     /// Whether it shows how many elements left the source.
     pub(crate) fn shows_pulled(self) -> bool {
-        self == Workload::W5w || self == Workload::W5t
+        self == Workload::TakeWhile || self == Workload::Take
     }
 
     /// Its query, for so many workers.
@@ -76,34 +90,38 @@ impl Workload {
         workers: u64,
         items: i64,
     ) -> Result<Query<Work>, BuildFault> {
-        let query = Query::new(alloc).as_ordered().map_err(|(_, fault)| fault)?;
+        let query = match self {
+            Workload::Sum => Query::new(alloc),
+            _ => Query::new(alloc).as_ordered().map_err(|(_, fault)| fault)?,
+        };
         let query = query.with_degree(workers).map_err(|(_, fault)| fault)?;
         let built = match self {
-            Workload::W1 => {
+            Workload::Cheap => {
                 let query = query.select(Work::Plain(Formula::Add(1)));
                 query
                     .map_err(|(_, fault)| fault)?
                     .filter(Work::Plain(Formula::Even))
             }
-            Workload::W2 => query.select(Work::Spin(Cost::Fixed(TURNS))),
-            Workload::W3 => query.select(Work::Spin(Cost::Skewed)),
-            Workload::W3r => query.select(Work::Spin(Cost::Ramp(items.cast_unsigned()))),
-            Workload::W4 => {
+            Workload::Heavy => query.select(Work::Spin(Cost::Fixed(TURNS))),
+            Workload::Skewed => query.select(Work::Spin(Cost::Skewed)),
+            Workload::Ramp => query.select(Work::Spin(Cost::Ramp(items.cast_unsigned()))),
+            Workload::Streamed => {
                 let query = query.with_merge(MergeOption::NotBuffered);
                 query
                     .map_err(|(_, fault)| fault)?
                     .select(Work::Spin(Cost::Fixed(TURNS)))
             }
-            Workload::W5w => {
+            Workload::TakeWhile => {
                 let query = query.select(Work::Keep(TURNS));
                 query
                     .map_err(|(_, fault)| fault)?
                     .take_while(Work::Plain(Formula::Below(items)))
             }
-            Workload::W5t => {
+            Workload::Take => {
                 let query = query.select(Work::Keep(TURNS));
                 query.map_err(|(_, fault)| fault)?.take(items)
             }
+            Workload::Sum => query.filter(Work::Plain(Formula::Even)),
         };
         built.map_err(|(_, fault)| fault)
     }
@@ -111,11 +129,12 @@ impl Workload {
     /// The sum of its answer, by a plain loop.
     pub(crate) fn looped(self, items: i64) -> u64 {
         match self {
-            Workload::W1 => even_successors(items),
-            Workload::W2 | Workload::W4 => spun(items, Cost::Fixed(TURNS)),
-            Workload::W3 => spun(items, Cost::Skewed),
-            Workload::W3r => spun(items, Cost::Ramp(items.cast_unsigned())),
-            Workload::W5w | Workload::W5t => first(items),
+            Workload::Cheap => even_successors(items),
+            Workload::Heavy | Workload::Streamed => spun(items, Cost::Fixed(TURNS)),
+            Workload::Skewed => spun(items, Cost::Skewed),
+            Workload::Ramp => spun(items, Cost::Ramp(items.cast_unsigned())),
+            Workload::TakeWhile | Workload::Take => first(items),
+            Workload::Sum => evens(items),
         }
     }
 }
@@ -144,6 +163,16 @@ fn first(items: i64) -> u64 {
     for x in 0..items {
         if let Ok(y) = kept(TURNS, x) {
             sum = mix(sum, y);
+        }
+    }
+    sum
+}
+
+fn evens(items: i64) -> u64 {
+    let mut sum: u64 = 0;
+    for x in 0..items {
+        if x % 2 == 0 {
+            sum = sum.wrapping_add(x.cast_unsigned());
         }
     }
     sum
