@@ -12,6 +12,9 @@ use std::thread::Threads;
 
 const REFUSED: Ending = Ending::Refused(7);
 
+// What a text answers where a token is no number.
+const NO_NUMBER: Ending = Ending::Refused(1);
+
 const OVERFLOW: Ending = Ending::Fault(Formula::OVERFLOW);
 
 const DIVISION: Ending = Ending::Fault(Formula::DIVIDE_BY_ZERO);
@@ -73,9 +76,12 @@ fn expect_row<R: Threads + Wait + Sync + Abort>(
 #[test]
 fn each_source_is_answered_in_order(rt: HostRuntime) -> Result<(), Fail> {
     let add_one: &[Op<Formula>] = &[Op::Select(Formula::Add(1))];
-    let rows: [Row<'_>; 5] = [
+    let rows: [Row<'_>; 8] = [
         (Given::List, &[3, 1, 4], add_one, &[4, 2, 5], Ending::End),
         (Given::List, &[], &[], &[], Ending::End),
+        (Given::Text("3 1 4"), &[], add_one, &[4, 2, 5], Ending::End),
+        (Given::Text("7 x 9"), &[], &[], &[7], NO_NUMBER),
+        (Given::Text(" "), &[], &[], &[], Ending::End),
         (Given::Repeat(6, 3), &[], add_one, &[7, 7, 7], Ending::End),
         (Given::Refusing(7), &[1, 2], &[], &[1, 2], REFUSED),
         (Given::Refusing(7), &[1, 2], add_one, &[2, 3], REFUSED),

@@ -7,7 +7,9 @@ use plinq_enumerator::Growth;
 use plinq_lambda::Formula;
 use plinq_ops::{BuildFault, Built, MergeOption, Op, Query, sequential};
 use plinq_run::{Gate, Report, RunFault, run};
-use plinq_source::{Ending, ListSource, OutOfMemory, RangeSource, RepeatSource, Source};
+use plinq_source::{
+    Ending, ListSource, OutOfMemory, RangeSource, RepeatSource, Source, TextSource,
+};
 use std::alloc::{AllocError, Global};
 use std::process::Abort;
 use std::sync::Wait;
@@ -28,6 +30,7 @@ pub(crate) const OPTIONS: [MergeOption; 4] = [
 pub(crate) enum Given {
     List,
     Refusing(u32),
+    Text(&'static str),
     Range(i64, u64),
     Repeat(i64, u64),
 }
@@ -159,6 +162,13 @@ fn few(rt: &impl Abort, alloc: Global, items: &[i64]) -> Result<Vec<i64>, AllocE
     Vec::from_slice(alloc, items)
 }
 
+fn bytes(rt: &impl Abort, alloc: Global, text: &str) -> Result<Vec<u8>, AllocError>
+    ensures { IfOk result (λ bytes. vec_len bytes ≤ 2 ^ 40) }
+{
+    assert!(rt; text.len() <= 1_000);
+    Vec::from_slice(alloc, text.as_bytes())
+}
+
 fn ask_given<G: Gate, R: Threads + Wait + Sync + Abort>(
     rt: &R,
     alloc: Global,
@@ -177,6 +187,11 @@ fn ask_given<G: Gate, R: Threads + Wait + Sync + Abort>(
         Given::Refusing(code) => {
             let source = ListSource::refusing(alloc, few(rt, alloc, items)?, code);
             let again = ListSource::refusing(alloc, few(rt, alloc, items)?, code);
+            Ok(ask_of(rt, alloc, query, setting, gate, source, again)?)
+        }
+        Given::Text(text) => {
+            let source = TextSource::new(alloc, bytes(rt, alloc, text)?);
+            let again = TextSource::new(alloc, bytes(rt, alloc, text)?);
             Ok(ask_of(rt, alloc, query, setting, gate, source, again)?)
         }
         Given::Range(start, count) => {

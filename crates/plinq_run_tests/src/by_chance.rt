@@ -14,7 +14,7 @@ use std::process::Abort;
 use std::sync::Wait;
 use std::sync::atomic::{AtomicU64, Ordering};
 use std::test::*;
-use std::thread::Threads;
+use std::thread::{Threads, yield_now};
 
 /// The number behind this one, in a walk through all numbers but 0 that looks like chance (xorshift).
 fn number_behind(number: u64) -> u64 {
@@ -23,7 +23,7 @@ fn number_behind(number: u64) -> u64 {
     mixed ^ (mixed << 17)
 }
 
-/// A gate that holds each worker back for up to 4,095 turns, mostly for few.
+/// A gate that holds each worker back for up to 4,095 turns, mostly for few, and has others go first now and then.
 #[derive(Drop)]
 struct Delays {
     number: AtomicU64,
@@ -35,6 +35,9 @@ impl Delays {
         self.number.store(number, Ordering::SeqCst);
         for _turn in 0..(number >> 52) >> (number % 13) {
             spin_loop();
+        }
+        if number % 4 == 0 {
+            yield_now();
         }
     }
 }
@@ -87,10 +90,11 @@ impl Dice {
     }
 
     fn given(&mut self) -> Given {
-        match self.below(6) {
+        match self.below(8) {
             0 => Given::Range(self.small(), self.below(41)),
             1 => Given::Repeat(self.small(), self.below(41)),
-            2 | 3 => Given::Refusing(7),
+            2 => Given::Text("3 -1 4 1\n-5 9 2 6 5 3 -5 8 9 7 9 three"),
+            3 | 4 => Given::Refusing(7),
             _ => Given::List,
         }
     }
