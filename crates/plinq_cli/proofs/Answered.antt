@@ -1,15 +1,9 @@
 -- What was written for a document, once a step after it has failed or the output is flushed.
-use Rattle.std.proofs.Common.{◌≡◌, Bool, true, false, ℕ, ℤ, ◌+◌, ◌^◌, ◌<◌, List, [], Some, None, Result, Ok, Err, IfSome, refl, sym, subst, inl, inr, arith, length, replicate}
+use Rattle.std.proofs.Common.{◌≡◌, true, false, ℕ, ℤ, ◌+◌, ◌^◌, ◌<◌, List, [], Some, None, Result, Ok, Err, IfSome, refl, sym, subst, inl, inr, arith, length, replicate}
 use Rattle.std.specs.Io.KnownBytes.{Keeps}
 use Rattle.std.proofs.KnownBytes.{Appends-kept, Keeps-refl, Keeps-trans}
 use Rattle.std.proofs.Math.ListN.{length-replicate}
 use Rattle.plinq_source.specs.declared.ending.Ending.{Ending}
-use Rattle.plinq_lambda.specs.Formula.{formula_meaning}
-use Rattle.plinq_lambda.specs.declared.formula.Formula.{Formula}
-use Rattle.plinq_ops.specs.declared.op.Op.{Op}
-use Rattle.plinq_ops.specs.Answer.{Answer}
-use Rattle.plinq_ops.specs.Sequential.{answer_of}
-use Rattle.plinq_ops.proofs.Answers.{Answer-sequential}
 use Rattle.plinq_document.specs.Jobs.{JobView}
 use Rattle.plinq_document.specs.Document.{document_of}
 use Rattle.plinq_document.proofs.Reading.{document_of-long}
@@ -21,10 +15,9 @@ use Rattle.plinq_source.specs.Trace.{Trace}
 use Rattle.plinq_lines.specs.Written.{AppendsBeginning}
 use Rattle.plinq_lines.proofs.WrittenBytes.{Bytes, begins-all}
 use Rattle.plinq_cli.specs.declared.command.Command.{Command}
-use Rattle.plinq_cli.specs.declared.command.Command.TheVariants.{Run, Seq}
 use Rattle.plinq_cli.specs.declared.failure.Failure.{Failure}
 use Rattle.plinq_cli.specs.declared.failure.Failure.TheVariants.{Document, Memory, Read, Write}
-use Rattle.plinq_cli.specs.Served.{HasBegun, IsAnswer, IsText, MayAnswer, Serves}
+use Rattle.plinq_cli.specs.Served.{HasBegun, IsAnswer, IsText, Serves}
 use Rattle.plinq_cli.specs.Performed.{Answers, AnswersMeaning, Flushes, failure_of_document, failure_of_input}
 use Rattle.plinq_cli.specs.declared.arguments.Arguments.{Arguments}
 use Rattle.plinq_cli.specs.declared.input_fault.InputFault.{InputFault}
@@ -39,16 +32,6 @@ pub serves-begun : {E : Type 0} (command : Command) (job : JobView) (a b : Bytes
     → IsAnswer command job u → IsText command job u lines → AppendsBeginning a b lines → Serves command job a b r
 serves-begun command job a b (Ok e) u lines failed is text begun = let bad : false ≡ true = failed in cc
 serves-begun command job a b (Err e) u lines failed is text begun = inr (u, is, lines, text, begun)
-
--- what one thread answers, threads may
-may-sequential : (ordered : Bool) (ops : List (Op Formula)) (t u : Trace ℤ) → u ≡ answer_of formula_meaning ops t → MayAnswer ordered ops t u
-may-sequential true ops t u is = is
-may-sequential false ops t u is = subst (Answer formula_meaning false ops t) (sym is) (Answer-sequential formula_meaning false ops t)
-
-pub serves-run : {E : Type 0} (job : JobView) (a b : Bytes) (r : Result Ending E) → Serves Seq job a b r → Serves Run job a b r
-serves-run job a b (Ok e) (u, is, lines, text, written, ends) = (u, may-sequential job.query.ordered job.query.ops job.source u is, lines, text, written, ends)
-serves-run job a b (Err fault) (inl none) = inl none
-serves-run job a b (Err fault) (inr (u, is, lines, text, begun)) = inr (u, may-sequential job.query.ordered job.query.ops job.source u is, lines, text, begun)
 
 -- out of memory, or a read that fails, before anything was written
 pub unwritten-memory : (command : Command) (meaning : Result JobView DocFault) (a : Bytes) → AnswersMeaning command meaning a a (Err Memory)

@@ -1,4 +1,4 @@
--- What a run by threads has written: the lines of the batches of an answer, or where it broke off those of the first.
+-- What a run by threads tells, and has written: the lines of the batches of an answer, or where it broke off those of the first.
 use Rattle.std.proofs.Common.{◌≡◌, true, false, Bool, ℕ, ℤ, List, ◌++◌, None, Result, Ok, Err, refl, ap, sym, ◌∙◌, subst}
 use Rattle.std.specs.List.{flat_map}
 use Rattle.std.specs.Result.{IsErr}
@@ -9,6 +9,7 @@ use Rattle.plinq_source.specs.declared.ending.Ending.{Ending}
 use Rattle.plinq_source.specs.Trace.{Trace}
 use Rattle.plinq_lambda.specs.Formula.{formula_meaning}
 use Rattle.plinq_lambda.specs.declared.formula.Formula.{Formula}
+use Rattle.plinq_aggregate.specs.Folding.{Folding}
 use Rattle.plinq_merge.specs.declared.merge_fault.MergeFault.TheVariants.{Sink as Refusal}
 use Rattle.plinq_merge.specs.Sending.{Leads}
 use Rattle.plinq_ops.specs.declared.merge_option.MergeOption.{MergeOption}
@@ -17,9 +18,11 @@ use Rattle.plinq_ops.specs.Answer.{Answer}
 use Rattle.plinq_ops.specs.Batches.{batches}
 use Rattle.plinq_ops.specs.Query.{QueryView, merge_in_force}
 use Rattle.plinq_ops.specs.Sequential.{answer_of}
+use Rattle.plinq_run.specs.declared.aggregate_fault.AggregateFault.{AggregateFault}
 use Rattle.plinq_run.specs.declared.report.Report.{Report}
 use Rattle.plinq_run.specs.declared.run_fault.RunFault.{RunFault}
 use Rattle.plinq_run.specs.declared.run_fault.RunFault.TheVariants.{Memory as RunMemory, Sink, Tickets, Thread, Incomplete}
+use Rattle.plinq_run.specs.Aggregates.{Aggregates, AggregatesSome}
 use Rattle.plinq_run.specs.Endings.{reported}
 use Rattle.plinq_run.specs.Reports.{Reports}
 use Rattle.plinq_run.specs.Runs.{Runs}
@@ -33,7 +36,7 @@ use Rattle.plinq_cli.specs.declared.command.Command.TheVariants.{Run}
 use Rattle.plinq_cli.specs.declared.serve_fault.ServeFault.{ServeFault}
 use Rattle.plinq_cli.specs.declared.serve_fault.ServeFault.TheVariants.{Memory, Write, Run as NoRun, Take}
 use Rattle.plinq_cli.specs.ServeFaults.{serve_fault_of_run}
-use Rattle.plinq_cli.specs.Served.{MayAnswer, batch_lines, Delivers, HasDelivered, HasFailed, HasBrokenOff, HasWritten, IsText, LeavesWholeLines, Serves}
+use Rattle.plinq_cli.specs.Served.{MayAnswer, batch_lines, Delivers, HasDelivered, HasFailed, HasBrokenOff, HasWritten, IsText, LeavesLines, LeavesWholeLines, Serves}
 use Rattle.plinq_cli.specs.Told.{told_text}
 use Rattle.plinq_cli.proofs.Answered.{serves-begun}
 
@@ -52,6 +55,14 @@ pub some-answer : (ordered : Bool) (ops : List (Op Formula)) (option : MergeOpti
 some-answer true ops option t s s' r runs any = record { answer = answer_of formula_meaning ops t; may = refl; runs = runs refl }
 some-answer false ops option t s s' (Ok report) runs any = let h = any refl in record { answer = h.answer; may = h.may; runs = h.has_run }
 some-answer false ops option t s s' (Err fault) runs any = let h = any refl in record { answer = h.answer; may = h.may; runs = h.broken }
+
+-- the aggregate of threads is that of some answer that they may give
+pub some-aggregate : {A O : Type 0} (f : Folding ℤ A O) (ordered : Bool) (ops : List (Op Formula)) (t : Trace ℤ) (r : Result O AggregateFault)
+    → (ordered ≡ true → Aggregates f (answer_of formula_meaning ops t) r)
+    → (ordered ≡ false → AggregatesSome f (Answer formula_meaning false ops t) r)
+    → AggregatesSome f (MayAnswer ordered ops t) r
+some-aggregate f true ops t r one any = (answer_of formula_meaning ops t, refl, one refl)
+some-aggregate f false ops t r one any = any refl
 
 -- ---- what the sink took is written, and the writer comes back as it is
 
@@ -127,16 +138,17 @@ run-failed j job a b r fault same items failed d =
     (serves-begun Run j a b r h.answer (text j.query h.answer) failed h.may (is-text j job h.answer same items) (begins-append a b _ (ending_line h.answer.ending) h.begun))
 
 -- unless a write failed, these are whole lines
-whole-lines : (job : JobView) (a b : Bytes) (fault : ServeFault) → Delivers job.query job.source a b (Err fault) → LeavesWholeLines job a b (Err fault)
-whole-lines job a b (NoRun fault) h = h
-whole-lines job a b Memory h = tt
-whole-lines job a b Write h = tt
-whole-lines job a b (Take fault) h = tt
+whole-lines : (job : JobView) (a b : Bytes) (fault : ServeFault) → job.aggregate ≡ None → Delivers job.query job.source a b (Err fault) → LeavesWholeLines job a b (Err fault)
+whole-lines job a b (NoRun fault) items h = subst (λ kind. LeavesLines kind job.query job.source a b) (sym items) h
+whole-lines job a b Memory items h = tt
+whole-lines job a b Write items h = tt
+whole-lines job a b (Take fault) items h = tt
 
-pub run-failed-whole : (j job : JobView) (a b : Bytes) (r : Result Ending ServeFault) (fault : ServeFault) → j ≡ job → r ≡ Err fault
+pub run-failed-whole : (j job : JobView) (a b : Bytes) (r : Result Ending ServeFault) (fault : ServeFault) → j ≡ job → job.aggregate ≡ None → r ≡ Err fault
     → Delivers j.query j.source a b (Err fault) → LeavesWholeLines job a b r
-run-failed-whole j job a b r fault same failed d =
-    subst (λ (x : JobView). LeavesWholeLines x a b r) same (subst (LeavesWholeLines j a b) (sym failed) (whole-lines j a b fault d))
+run-failed-whole j job a b r fault same items failed d =
+    let Q : JobView → Type 0 = λ x. Delivers x.query x.source a b (Err fault) in
+    subst (LeavesWholeLines job a b) (sym failed) (whole-lines job a b fault items (subst Q same d))
 
 -- where the line of the ending fails, all lines of batches and a beginning of that one are written
 pub ending-failed : (j job : JobView) (a m b : Bytes) (r : Result Ending ServeFault) (e : Ending) → j ≡ job → job.aggregate ≡ None → IsErr r

@@ -19,6 +19,7 @@ use Rattle.plinq_ops.specs.Query.{QueryView, merge_in_force, degree_in_force}
 use Rattle.plinq_ops.specs.Answer.{Answer}
 use Rattle.plinq_ops.specs.Sequential.{answer_of}
 use Rattle.plinq_keyed.specs.declared.record.Record.{Record}
+use Rattle.plinq_document.specs.declared.kind.Kind.{Kind}
 use Rattle.plinq_document.specs.Jobs.{JobView}
 use Rattle.plinq_cli.specs.declared.command.Command.{Command}
 use Rattle.plinq_cli.specs.declared.command.Command.TheVariants.{Run, Seq, Plan, Parts, History}
@@ -108,10 +109,15 @@ module _ (q : QueryView Formula) (t : Trace ℤ) (old new : Option (List ℕ)) w
   Delivers (Err Write) = HasFailed
   Delivers (Err (Take fault)) = HasFailed
 
+-- what was written of a run that broke off: the lines of its first batches, and of an aggregate nothing
+abbrev pub LeavesLines : Option Kind → QueryView Formula → Trace ℤ → Option (List ℕ) → Option (List ℕ) → Type 0
+LeavesLines None q t old new = HasBrokenOff q t old new
+LeavesLines (Some kind) q t old new = Keeps old new
+
 -- where the run itself broke off, no line was left half written
 abbrev pub LeavesWholeLines : JobView → Option (List ℕ) → Option (List ℕ) → Result Ending ServeFault → Type 0
 LeavesWholeLines job old new (Ok e) = ⊤
-LeavesWholeLines job old new (Err (NoRun fault)) = HasBrokenOff job.query job.source old new
+LeavesWholeLines job old new (Err (NoRun fault)) = LeavesLines job.aggregate job.query job.source old new
 LeavesWholeLines job old new (Err Memory) = ⊤
 LeavesWholeLines job old new (Err Write) = ⊤
 LeavesWholeLines job old new (Err (Take fault)) = ⊤

@@ -1,21 +1,23 @@
-ghost use Rattle.std.specs.Prelude.{◌≡◌, ◌≤◌, None, IfOk, IfErr};
+ghost use Rattle.std.specs.Prelude.{◌≡◌, ◌≤◌, Some, None, IfOk, IfErr};
 ghost use Rattle.plinq_keyed.specs.Keys.{keyed_from, element_lists};
 ghost use Rattle.plinq_partition.specs.Cuts.{cuts};
 ghost use Rattle.plinq_source.specs.Trace.{ended};
 ghost use Rattle.plinq_cli.specs.Served.{Delivers, LeavesWholeLines, Serves};
 
-use crate::aggregating::write_told;
+use crate::aggregating::{value_by_threads, write_told};
 use crate::command::Command;
 use crate::rounds::{hand_out, told_ending};
 use crate::serve_fault::ServeFault;
-use plinq_document::{AnySource, Job};
+use plinq_document::{AnySource, Job, Kind};
 use plinq_enumerator::Growth;
 use plinq_keyed::{Guarded, Keyed};
 use plinq_lambda::Formula;
-use plinq_lines::{LineSink, write_ending, write_history, write_parts, write_plan};
+use plinq_lines::{
+    LineSink, write_aggregate, write_ending, write_history, write_parts, write_plan,
+};
 use plinq_ops::{Query, sequential};
 use plinq_partition::{OrderablePartitioner, RangeParts};
-use plinq_run::{OpenGate, run};
+use plinq_run::{AggregateFault, OpenGate, run};
 use plinq_source::{Ending, OutOfMemory, Source};
 use std::alloc::Global;
 use std::io::Write;
@@ -49,7 +51,7 @@ where
     }
 }
 
-// A query is run by threads, and its aggregate is computed on one thread.
+// A query is run by threads.
 fn serve_run<R, W>(rt: &R, job: Job, writer: &mut W) -> Result<Ending, ServeFault>
 where
     R: AllocGlobal + Threads + Wait + Sync,
@@ -57,14 +59,13 @@ where
     ensures written { Serves Command.Run job (W.contents writer.old) (W.contents writer.new) result }
     ensures whole { LeavesWholeLines job (W.contents writer.old) (W.contents writer.new) result }
 {
-    if job.aggregate.is_none() {
-        serve_batches(rt, job, writer)
-    } else {
-        serve_sequential(rt.alloc(), job, writer)
+    match job.aggregate {
+        None => serve_batches(rt, job, writer),
+        Some(kind) => serve_value(rt, job, kind, writer),
     }
 }
 
-// A query is run by threads, and each batch is written as it is delivered.
+// Each batch is written as it is delivered.
 fn serve_batches<R, W>(rt: &R, job: Job, writer: &mut W) -> Result<Ending, ServeFault>
 where
     R: AllocGlobal + Threads + Wait + Sync,
@@ -82,6 +83,34 @@ where
     let ending = run_into(rt, &query, source, growth, writer)?;
     write_ending(writer, ending)?;
     Ok(ending)
+}
+
+// Nothing is written before the value is there.
+fn serve_value<R, W>(rt: &R, job: Job, kind: Kind, writer: &mut W) -> Result<Ending, ServeFault>
+where
+    R: AllocGlobal + Threads + Wait + Sync,
+    W: Write,
+    requires value { job.aggregate ≡ Some kind }
+    ensures written { Serves Command.Run job (W.contents writer.old) (W.contents writer.new) result }
+    ensures whole { LeavesWholeLines job (W.contents writer.old) (W.contents writer.new) result }
+{
+    let Job {
+        query,
+        source,
+        growth,
+        ..
+    } = job;
+    match value_by_threads(rt, kind, &query, source, growth) {
+        Ok(value) => {
+            write_aggregate(writer, value, Ending::End)?;
+            Ok(Ending::End)
+        }
+        Err(AggregateFault::Ended(ending)) => {
+            write_aggregate(writer, None, ending)?;
+            Ok(ending)
+        }
+        Err(AggregateFault::Run(fault)) => Err(ServeFault::Run(fault)),
+    }
 }
 
 // Runs a query, and writes the lines of its batches as they are delivered.
@@ -135,8 +164,7 @@ where
 }
 
 fn serve_sequential<W: Write>(alloc: Global, job: Job, writer: &mut W) -> Result<Ending, ServeFault>
-    ensures written { Serves Command.Seq job (W.contents writer.old) (W.contents writer.new) result }
-    ensures whole { LeavesWholeLines job (W.contents writer.old) (W.contents writer.new) result }
+    ensures { Serves Command.Seq job (W.contents writer.old) (W.contents writer.new) result }
 {
     let Job {
         query,

@@ -12,7 +12,7 @@ returns-in_err-ending-clause-written g c =
 pub returns-in_err-ending-clause-whole : goal.returns-in_err-ending-clause-whole
 returns-in_err-ending-clause-whole g c =
     let p = err_from_is_err_and c.from_residual.result c.from_residual.ensures.1 in
-    run-failed-whole _ c.args.job _ _ _ c.in_err-ending.field-0.0 c.job.view_is (p.1 ∙ ap Err p.2) c.in_err-ending.ensures
+    run-failed-whole _ c.args.job _ _ _ c.in_err-ending.field-0.0 c.job.view_is c.requires.items (p.1 ∙ ap Err p.2) c.in_err-ending.ensures
 
 pub returns-in_err-write_ending-clause-written : goal.returns-in_err-write_ending-clause-written
 returns-in_err-write_ending-clause-written g c =
