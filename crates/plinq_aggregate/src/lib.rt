@@ -23,6 +23,3 @@ pub use laws::{count_is_the_length, max_is_the_greatest, min_is_the_least, sum_i
 pub use max::Max;
 pub use min::Min;
 pub use sum::Sum;
-
-#[cfg(test)]
-mod tests;

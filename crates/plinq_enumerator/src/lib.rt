@@ -17,6 +17,3 @@ pub use enumerator::Enumerator;
 pub use growth::Growth;
 pub use growth_fault::GrowthFault;
 pub use replaying::replays;
-
-#[cfg(test)]
-mod tests;

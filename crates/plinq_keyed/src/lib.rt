@@ -29,6 +29,3 @@ pub use normalized::check_normalized;
 pub use properties::KeyProperties;
 pub use record::Record;
 pub use tail::Tail;
-
-#[cfg(test)]
-mod tests;

@@ -153,6 +153,3 @@ fn numbers_up_to(alloc: Global, n: usize) -> Result<Vec<i64>, AllocError>
     }
     Ok(numbers)
 }
-
-#[cfg(test)]
-mod tests;

@@ -19,8 +19,6 @@ mod range;
 mod repeat;
 mod source;
 mod step;
-#[cfg(test)]
-mod tests;
 mod text;
 
 pub use ending::Ending;

@@ -29,6 +29,3 @@ pub use laws::{free_lock_has_handed_out_a_prefix, one_pass_is_inside};
 pub use lock_fault::LockFault;
 pub use pass::{Pass, Token};
 pub use ticket_lock::TicketLock;
-
-#[cfg(test)]
-mod tests;

@@ -2,7 +2,7 @@ ghost use Rattle.std.specs.Int.{int_max};
 ghost use Rattle.plinq_aggregate.specs.Numbers.{picking};
 ghost use Rattle.plinq_aggregate.specs.Lawful.{picking_max-lawful};
 
-use crate::{Aggregator, Count, Max, Min, Sum, fold_sequential};
+use plinq_aggregate::{Aggregator, Count, Max, Min, Sum, fold_sequential};
 use std::test::Fail;
 
 /// The greatest of numbers of another type.

@@ -2,7 +2,7 @@ ghost use Rattle.std.specs.Prelude.{◌≡◌, Some};
 ghost use Rattle.plinq_source.specs.Trace.{IsSourceEnding};
 ghost use Rattle.plinq_keyed.specs.History.{tickets_below};
 
-use crate::{Enumerator, Growth, GrowthFault, replays};
+use plinq_enumerator::{Enumerator, Growth, GrowthFault, replays};
 use plinq_keyed::{Chunk, Event, Guarded, Record, Tail};
 use plinq_source::{Ending, ListSource, OutOfMemory};
 use std::alloc::{AllocError, Global};

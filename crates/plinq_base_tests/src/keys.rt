@@ -1,4 +1,4 @@
-use crate::{
+use plinq_keyed::{
     Keyed, check_across, check_in_each, check_normalized, handed_out_is_a_prefix,
     handed_out_keys_count_up, legality_counts_items,
 };

@@ -1,8 +1,10 @@
 ghost use Rattle.plinq_ticket.specs.Passes.{IsPassOf};
 
-use crate::{LockFault, Pass, TicketLock, free_lock_has_handed_out_a_prefix, one_pass_is_inside};
-use notes::Notes;
+use crate::lock::notes::Notes;
 use plinq_keyed::Guarded;
+use plinq_ticket::{
+    LockFault, Pass, TicketLock, free_lock_has_handed_out_a_prefix, one_pass_is_inside,
+};
 use std::alloc::Global;
 use std::process::Abort;
 use std::sync::Wait;

@@ -1,4 +1,4 @@
-use crate::{
+use plinq_source::{
     ListSource, OutOfMemory, RangeSource, RepeatSource, Source, SourceFault, Step, TextSource,
 };
 use std::alloc::{AllocError, Global};

@@ -1,6 +1,4 @@
-use super::Formula;
-use crate::expand_fault::ExpandFault;
-use crate::lambda::Lambda;
+use plinq_lambda::{ExpandFault, Formula, Lambda};
 use std::alloc::Global;
 use std::process::Abort;
 use std::test::Fail;
