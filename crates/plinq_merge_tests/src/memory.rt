@@ -1,7 +1,7 @@
-use crate::taken::{Offered, Taken, last, merger_of, ordered, part, result_of};
+use crate::taken::{Offered, Taken, expect_ending, last, merger_of, ordered, part, result_of};
 use plinq_keyed::Tail;
 use plinq_lambda::Formula;
-use plinq_merge::{MergeFault, More};
+use plinq_merge::{MergeFault, Merger, More};
 use plinq_ops::{ChunkResult, MergeOption};
 use plinq_source::Ending;
 use std::alloc::Global;
@@ -51,14 +51,20 @@ fn offer_till_failed(rt: &impl Abort, alloc: Global, option: MergeOption) {
     let Some(results) = results_of(rt, alloc, &offers) else {
         return;
     };
+    match merger_of::<Formula>(alloc, &query, option) {
+        Ok(merger) => offer_all(rt, alloc, merger, results),
+        Err(fault) => assert_eq!(rt; fault, MergeFault::Memory),
+    }
+}
+
+fn offer_all(
+    rt: &impl Abort,
+    alloc: Global,
+    merger: Merger<'_, Formula>,
+    results: Vec<ChunkResult<i64>>,
+) {
     let mut sink = Taken::new(alloc, usize::MAX);
-    let mut merger = match merger_of::<Formula>(alloc, &query, option) {
-        Ok(merger) => merger,
-        Err(fault) => {
-            assert_eq!(rt; fault, MergeFault::Memory);
-            return;
-        }
-    };
+    let mut merger = merger;
     let mut failed = false;
     for result in results {
         assert!(rt; result.first <= 1_000_000 && result.count <= 1_000_000);
@@ -66,12 +72,13 @@ fn offer_till_failed(rt: &impl Abort, alloc: Global, option: MergeOption) {
     }
     let next = item_behind(rt, &sink.batches);
     assert!(rt; failed || next == 5);
+    assert!(rt; merger.decided() != failed);
     let ending = if failed {
         Err(MergeFault::Failed)
     } else {
         Ok(Ending::End)
     };
-    assert_eq!(rt; (merger.decided(), merger.finish()), (!failed, ending));
+    expect_ending(rt, merger.finish(), ending);
 }
 
 #[test]

@@ -1,4 +1,4 @@
-use crate::taken::{Offered, Taken, merger_of, offer};
+use crate::taken::{Offered, Taken, expect_ending, merger_of, offer};
 use plinq_keyed::Tail;
 use plinq_lambda::Formula;
 use plinq_merge::Merger;
@@ -181,7 +181,7 @@ fn expect(
         assert!(rt; offer(rt, &mut merger, *result, &mut sink).is_ok());
     }
     assert_eq!(rt; sink.batches, wanted.0);
-    assert_eq!(rt; merger.finish(), Ok(wanted.1));
+    expect_ending(rt, merger.finish(), Ok(wanted.1));
 }
 
 /// How many orders so many results have.
@@ -310,7 +310,7 @@ fn offer_thousand(rt: &impl Abort, alloc: Global, step: u64) -> Result<(), Fail>
         key = key.wrapping_add(step) % 1_000;
     }
     assert_eq!(rt; merger.merged(), 1_000);
-    assert_eq!(rt; merger.finish(), Ok(Ending::End));
+    expect_ending(rt, merger.finish(), Ok(Ending::End));
     expect_thousand(rt, alloc, &sink.batches)
 }
 

@@ -189,11 +189,28 @@ where
     assert_eq!(rt; merger.decided(), query.split().decided);
     for (offered, answer, delivered) in case.turns {
         expect_answer(rt, offer(rt, &mut merger, *offered, &mut sink), *answer);
-        assert_eq!(rt; sink.batches.len(), *delivered);
-        assert_eq!(rt; merger.decided(), *answer == Ok(More::No));
+        expect_count(rt, sink.batches.len(), *delivered);
+        expect_decided(rt, merger.decided(), *answer);
     }
     expect_batches(rt, &sink.batches, case.batches);
-    assert_eq!(rt; merger.finish(), case.ending);
+    expect_ending(rt, merger.finish(), case.ending);
+}
+
+fn expect_count(rt: &impl Abort, count: usize, wanted: usize) {
+    assert_eq!(rt; count, wanted);
+}
+
+/// A merger is decided exactly where it wants no more.
+fn expect_decided(rt: &impl Abort, decided: bool, answer: Result<More, MergeFault>) {
+    assert_eq!(rt; decided, answer == Ok(More::No));
+}
+
+pub(crate) fn expect_ending(
+    rt: &impl Abort,
+    told: Result<Ending, MergeFault>,
+    ending: Result<Ending, MergeFault>,
+) {
+    assert_eq!(rt; told, ending);
 }
 
 fn expect_answer(
@@ -213,7 +230,7 @@ pub(crate) fn expect_ordered(rt: &impl Abort, alloc: Global, refused: usize, cas
 }
 
 fn expect_batches<T: Debug + PartialEq>(rt: &impl Abort, batches: &[Vec<T>], wanted: &[&[T]]) {
-    assert_eq!(rt; batches.len(), wanted.len());
+    expect_count(rt, batches.len(), wanted.len());
     for (batch, wanted) in batches.iter().zip(wanted) {
         assert_eq!(rt; batch.as_slice(), *wanted);
     }
