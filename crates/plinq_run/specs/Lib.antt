@@ -1,5 +1,6 @@
 pub mod Aggregates
 pub mod Endings
+pub mod Faults
 pub mod Handed
 pub mod Hands
 pub mod Merged

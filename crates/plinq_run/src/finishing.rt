@@ -1,5 +1,6 @@
 //! What is told when all workers have been joined.
 ghost use Rattle.std.specs.Prelude.{◌≡◌, ◌≤◌, List, length, true, Some, None, All, IfOk, IfErr, IfSome, OnOk, Ok};
+ghost use Rattle.std.specs.Option.{option_or};
 ghost use Rattle.plinq_keyed.specs.History.{IsLegalHistory};
 ghost use Rattle.plinq_ops.specs.declared.results.ChunkResult.{ChunkResult};
 ghost use Rattle.plinq_merge.specs.Shown.{answer};
@@ -9,6 +10,8 @@ ghost use Rattle.plinq_partition.specs.GivenBack.{common_origin};
 ghost use Rattle.plinq_source.specs.Trace.{Trace};
 ghost use Rattle.plinq_run.specs.Runs.{refusal_of, told_refusal, IsReportOf};
 ghost use Rattle.plinq_run.specs.Endings.{ending_in, reported};
+ghost use Rattle.plinq_run.specs.Faults.{first_told};
+ghost use Rattle.plinq_run.specs.declared.run_fault.RunFault.TheVariants.{Incomplete, Memory};
 ghost use Rattle.plinq_run.specs.Reaching.{accounts_for};
 
 use crate::accounting::account_for;
@@ -26,7 +29,8 @@ use std::alloc::Global;
 
 /// The first of the faults that aren't the merging thread's.
 fn shortage(shortages: Shortages, staff: Staff) -> Option<RunFault>
-    ensures { IfSome result (λ fault. told_refusal fault ≡ None) }
+    ensures first { result ≡ first_told None shortages staff }
+    ensures told { IfSome result (λ fault. told_refusal fault ≡ None) }
 {
     if shortages.memory {
         return Some(RunFault::Memory);
@@ -42,6 +46,7 @@ fn shortage(shortages: Shortages, staff: Staff) -> Option<RunFault>
 
 /// The first of all faults.
 fn first_fault(fault: Option<MergeFault>, shortages: Shortages, staff: Staff) -> Option<RunFault>
+    ensures first { result ≡ first_told fault shortages staff }
     ensures told { IfSome result (λ told. told_refusal told ≡ refusal_of fault) }
     ensures none { result ≡ None → fault ≡ None }
 {
@@ -59,7 +64,7 @@ fn first_fault(fault: Option<MergeFault>, shortages: Shortages, staff: Staff) ->
 /// The records of the history.
 fn copied(alloc: Global, records: &[Record]) -> Result<Vec<Record>, RunFault>
     ensures ok { IfOk result (λ copy. copy.items ≡ records.now) }
-    ensures err { IfErr result (λ fault. told_refusal fault ≡ None) }
+    ensures err { IfErr result (λ fault. fault ≡ Memory) }
 {
     match Vec::from_slice(alloc, records) {
         Ok(copy) => Ok(copy),
@@ -75,10 +80,12 @@ pub(crate) fn told<L: Lambda, S: Source>(
     partitions: Vec<Partition<S>>,
 ) -> Result<Ended<S>, RunFault>
     ensures none { OnOk result (merging.entry.fault ≡ None) }
+    ensures first { OnOk result (first_told merging.entry.fault shortages staff ≡ None) }
     ensures ending { IfOk result (λ ended. (offers : List (ChunkResult L.Item)) → IsFor merging.entry.merger offers → (answer (plan_of merging.entry.merger) offers).ending ≡ Some ended.ending) }
     ensures partitions { IfOk result (λ ended. ended.partitions ≡ partitions) }
     ensures reach { IfOk result (λ ended. ended.reach ≡ merging.entry.reach) }
     ensures err { IfErr result (λ fault. told_refusal fault ≡ refusal_of merging.entry.fault) }
+    ensures told { IfErr result (λ fault. option_or (first_told merging.entry.fault shortages staff) (Some Incomplete) ≡ Some fault) }
 {
     let Merging {
         merger,

@@ -1,5 +1,5 @@
 //! Starting the workers of a run, and having them back.
-ghost use Rattle.std.specs.Prelude.{◌≡◌, ◌≤◌, ◌<◌, ◌^◌, ◌+◌, [], length, true, false, All, IfSome, vec_len, vec_capacity};
+ghost use Rattle.std.specs.Prelude.{◌≡◌, ◌≤◌, ◌<◌, ◌^◌, ◌+◌, [], length, true, false, not, ◌||◌, All, IfSome, vec_len, vec_capacity};
 ghost use Rattle.std.specs.List.{list_any};
 ghost use Rattle.crossbeam_queue.specs.Passes.{IsPassOf};
 ghost use Rattle.plinq_ops.specs.Feeding.{is_empty_take};
@@ -7,6 +7,7 @@ ghost use Rattle.plinq_ops.specs.ByKey.{is_by_key};
 ghost use Rattle.plinq_ops.specs.declared.results.ChunkResult.{ChunkResult};
 ghost use Rattle.plinq_partition.specs.Partitions.{IsPartitionOf, holding_of};
 ghost use Rattle.plinq_partition.specs.GivenBack.{common_origin};
+ghost use Rattle.plinq_run.specs.Faults.{lacks_room};
 ghost use Rattle.plinq_run.specs.Hands.{IsHandOf};
 ghost use Rattle.plinq_run.specs.Results.{IsResult};
 
@@ -119,7 +120,10 @@ impl Shortages {
         }
     }
 
-    pub(crate) fn note(&mut self, fault: TakeFault) {
+    pub(crate) fn note(&mut self, fault: TakeFault)
+        ensures memory { self.new.memory ≡ (self.old.memory || lacks_room fault) }
+        ensures tickets { self.new.tickets ≡ (self.old.tickets || not (lacks_room fault)) }
+    {
         match fault {
             TakeFault::Memory => self.memory = true,
             _ => self.tickets = true,

@@ -1,0 +1,89 @@
+-- Which fault a run tells where it has several.
+use Rattle.std.specs.Prelude.{◌≡◌, refl, Bool, true, false, not, ◌==◌, ◌||◌, if◌then◌else◌, Option, Some, None}
+use Rattle.std.specs.Option.{option_or}
+use Rattle.plinq_merge.specs.declared.merge_fault.MergeFault.{MergeFault}
+use Rattle.plinq_merge.specs.declared.merge_fault.MergeFault.TheVariants.{Memory as NoMemory, Sink as Refusal, Twice, Gap, Failed}
+use Rattle.plinq_partition.specs.declared.take_fault.TakeFault.{TakeFault}
+use Rattle.plinq_partition.specs.declared.take_fault.TakeFault.TheVariants.{Memory as NoRoom, Spent, Busy, Incomplete as NotAll, Away}
+use Rattle.plinq_run.specs.declared.conducting.Staff.{Staff}
+use Rattle.plinq_run.specs.declared.run_fault.RunFault.{RunFault}
+use Rattle.plinq_run.specs.declared.run_fault.RunFault.TheVariants.{Memory, Sink, Tickets, Thread, Incomplete}
+use Rattle.plinq_run.specs.declared.starting.Shortages.{Shortages}
+
+-- a worker's fault that is one of memory; each other one is of its tickets
+abbrev pub lacks_room : TakeFault → Bool
+lacks_room NoRoom = true
+lacks_room Spent = false
+lacks_room (Busy served drawn) = false
+lacks_room (NotAll have all) = false
+lacks_room Away = false
+
+-- the fault, if there is a cause for it
+abbrev pub told_if : Bool → RunFault → Option RunFault
+told_if is_cause fault = if is_cause then Some fault else None
+
+abbrev pub refused_by_sink : Option MergeFault → Option RunFault
+refused_by_sink None = None
+refused_by_sink (Some NoMemory) = None
+refused_by_sink (Some (Refusal code)) = Some (Sink code)
+refused_by_sink (Some Twice) = None
+refused_by_sink (Some Gap) = None
+refused_by_sink (Some Failed) = None
+
+abbrev pub is_out_of_memory : Option MergeFault → Bool
+is_out_of_memory None = false
+is_out_of_memory (Some NoMemory) = true
+is_out_of_memory (Some (Refusal code)) = false
+is_out_of_memory (Some Twice) = false
+is_out_of_memory (Some Gap) = false
+is_out_of_memory (Some Failed) = false
+
+-- a key came twice, or results are missing
+abbrev pub is_incomplete : Option MergeFault → Bool
+is_incomplete None = false
+is_incomplete (Some NoMemory) = false
+is_incomplete (Some (Refusal code)) = false
+is_incomplete (Some Twice) = true
+is_incomplete (Some Gap) = true
+is_incomplete (Some Failed) = true
+
+-- the first of sink, memory, thread, tickets and missing results for which there is a cause
+abbrev pub first_told : Option MergeFault → Shortages → Staff → Option RunFault
+first_told fault short staff =
+    option_or (refused_by_sink fault)
+    (option_or (told_if (is_out_of_memory fault || short.memory) Memory)
+    (option_or (told_if (not (staff.started == staff.wanted)) Thread)
+    (option_or (told_if short.tickets Tickets)
+    (told_if (is_incomplete fault) Incomplete))))
+
+-- ---- worked rows
+
+abbrev short_of : Bool → Bool → Shortages
+short_of memory tickets = record { memory = memory; tickets = tickets }
+
+abbrev three_of_four : Staff
+three_of_four = record { wanted = 4; started = 3 }
+
+abbrev all_four : Staff
+all_four = record { wanted = 4; started = 4 }
+
+the_sink_comes_first : first_told (Some (Refusal 9)) (short_of true true) three_of_four ≡ Some (Sink 9)
+the_sink_comes_first = refl
+
+memory_before_a_thread : first_told None (short_of true false) three_of_four ≡ Some Memory
+memory_before_a_thread = refl
+
+the_mergers_memory_too : first_told (Some NoMemory) (short_of false true) three_of_four ≡ Some Memory
+the_mergers_memory_too = refl
+
+a_thread_before_tickets : first_told None (short_of false true) three_of_four ≡ Some Thread
+a_thread_before_tickets = refl
+
+tickets_before_what_they_bring_about : first_told (Some Gap) (short_of false true) all_four ≡ Some Tickets
+tickets_before_what_they_bring_about = refl
+
+a_key_that_came_twice : first_told (Some Twice) (short_of false false) all_four ≡ Some Incomplete
+a_key_that_came_twice = refl
+
+no_fault : first_told None (short_of false false) all_four ≡ None
+no_fault = refl
