@@ -1,4 +1,5 @@
 //! The lines of answers, plans, partitions and histories.
+mod aggregates;
 mod answers;
 mod batches;
 mod fails_once;

@@ -1,5 +1,5 @@
 use super::{PLAIN, read};
-use plinq_document::AnySource;
+use plinq_document::{AnySource, Kind};
 use plinq_enumerator::Growth;
 use plinq_lambda::Formula;
 use plinq_ops::{MergeOption, Op};
@@ -26,6 +26,14 @@ fn reads_a_growth(rt: HostRuntime) -> Result<(), Fail> {
     let text = r#"{"version":1,"source":{"list":[]},"query":[],"growth":[2,5,9]}"#;
     let job = read(rt.alloc(), text, PLAIN)?;
     assert_eq!(rt; job.growth, Growth::new(2, 5, 9)?);
+    Ok(())
+}
+
+#[test]
+fn reads_an_aggregate(rt: HostRuntime) -> Result<(), Fail> {
+    let text = r#"{"version":1,"source":{"list":[]},"query":[],"aggregate":"min"}"#;
+    let job = read(rt.alloc(), text, PLAIN)?;
+    assert_eq!(rt; job.aggregate, Some(Kind::Min));
     Ok(())
 }
 
