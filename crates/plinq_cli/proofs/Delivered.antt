@@ -25,7 +25,7 @@ use Rattle.plinq_run.specs.declared.run_fault.RunFault.TheVariants.{Memory as Ru
 use Rattle.plinq_run.specs.Aggregates.{Aggregates, AggregatesSome}
 use Rattle.plinq_run.specs.Endings.{reported}
 use Rattle.plinq_run.specs.Reports.{Reports}
-use Rattle.plinq_run.specs.Runs.{Runs}
+use Rattle.plinq_run.specs.Runs.{Runs, told_refusal}
 use Rattle.plinq_document.specs.Jobs.{JobView}
 use Rattle.plinq_lines.specs.LineSink.{Lines, TakesLine, RefusesLine}
 use Rattle.plinq_lines.specs.Text.{line, batch_line, ending_words, ending_line, answer_text}
@@ -78,21 +78,21 @@ module _ (q : QueryView Formula) (t : Trace ℤ) (a b : Bytes) (s s' : Lines) (s
       )
 
   -- none was refused
-  stopped : (fault : RunFault) (h : HasSome q.ordered q.ops (merge_in_force q.merge) t s s' (Err fault))
+  stopped : (fault : RunFault) → told_refusal fault ≡ None → (h : HasSome q.ordered q.ops (merge_in_force q.merge) t s s' (Err fault))
       → (sent : List (List ℤ)) × (rest : List (List ℤ)) × (batches (merge_in_force q.merge) h.answer ≡ sent ++ rest) × Leads TakesLine s sent s'
-      → HasBrokenOff q t a b × (s'.writer ≡ s.writer)
-  stopped fault h (sent, rest, first, leads) =
+      → ((told_refusal fault ≡ None) × HasBrokenOff q t a b) × (s'.writer ≡ s.writer)
+  stopped fault none h (sent, rest, first, leads) =
       let taken = taken-lines s s' sent leads in (
-        record { answer = h.answer; may = h.may; sent = sent; rest = rest; first = first; lines = appended _ taken.0 },
+        (none, record { answer = h.answer; may = h.may; sent = sent; rest = rest; first = first; lines = appended _ taken.0 }),
         taken.1,
       )
 
   broken : (fault : RunFault) → HasSome q.ordered q.ops (merge_in_force q.merge) t s s' (Err fault)
       → Delivers q t a b (Err (serve_fault_of_run fault)) × (s'.writer ≡ s.writer)
-  broken RunMemory h = stopped RunMemory h h.runs
-  broken Tickets h = stopped Tickets h h.runs
-  broken Thread h = stopped Thread h h.runs
-  broken Incomplete h = stopped Incomplete h h.runs
+  broken RunMemory h = stopped RunMemory refl h h.runs
+  broken Tickets h = stopped Tickets refl h h.runs
+  broken Thread h = stopped Thread refl h h.runs
+  broken Incomplete h = stopped Incomplete refl h h.runs
   broken (Sink code) h =
       let short = short-lines s s' _ (Refusal code) h.runs in (
         record { answer = h.answer; may = h.may; begun = (short.0.0, appended _ short.0.1) },
@@ -117,7 +117,7 @@ module _ (q : QueryView Formula) (t : Trace ℤ) (a b : Bytes) where
       record { answer = h.answer; may = h.may; begun = begins-as a b _ _ (sym (flat_map-append batch_line h.sent h.rest) ∙ ap (flat_map batch_line) (sym h.first)) begun }
 
   failed-begun : (fault : ServeFault) → Delivers q t a b (Err fault) → HasFailed q t a b
-  failed-begun (NoRun fault) h = first-begun h
+  failed-begun (NoRun fault) h = first-begun h.1
   failed-begun Memory h = h
   failed-begun Write h = h
   failed-begun (Take fault) h = h
@@ -139,7 +139,7 @@ run-failed j job a b r fault same items failed d =
 
 -- unless a write failed, these are whole lines
 whole-lines : (job : JobView) (a b : Bytes) (fault : ServeFault) → job.aggregate ≡ None → Delivers job.query job.source a b (Err fault) → LeavesWholeLines job a b (Err fault)
-whole-lines job a b (NoRun fault) items h = subst (λ kind. LeavesLines kind job.query job.source a b) (sym items) h
+whole-lines job a b (NoRun fault) items h = (h.0, subst (λ kind. LeavesLines kind job.query job.source a b) (sym items) h.1)
 whole-lines job a b Memory items h = tt
 whole-lines job a b Write items h = tt
 whole-lines job a b (Take fault) items h = tt

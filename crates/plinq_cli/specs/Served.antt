@@ -19,6 +19,7 @@ use Rattle.plinq_ops.specs.Query.{QueryView, merge_in_force, degree_in_force}
 use Rattle.plinq_ops.specs.Answer.{Answer}
 use Rattle.plinq_ops.specs.Sequential.{answer_of}
 use Rattle.plinq_keyed.specs.declared.record.Record.{Record}
+use Rattle.plinq_run.specs.Runs.{told_refusal}
 use Rattle.plinq_document.specs.declared.kind.Kind.{Kind}
 use Rattle.plinq_document.specs.Jobs.{JobView}
 use Rattle.plinq_cli.specs.declared.command.Command.{Command}
@@ -101,10 +102,10 @@ module _ (q : QueryView Formula) (t : Trace ℤ) (old new : Option (List ℕ)) w
     pub first : batches (merge_in_force q.merge) answer ≡ sent ++ rest
     pub lines : Appends old new (flat_map batch_line sent)
 
-  -- what was written of the batches of a run that ended so
+  -- what was written of the batches of a run that ended so; a fault of the run itself is never that the writer took no more
   abbrev pub Delivers : Result Ending ServeFault → Type 0
   Delivers (Ok e) = HasDelivered e
-  Delivers (Err (NoRun fault)) = HasBrokenOff
+  Delivers (Err (NoRun fault)) = (told_refusal fault ≡ None) × HasBrokenOff
   Delivers (Err Memory) = HasFailed
   Delivers (Err Write) = HasFailed
   Delivers (Err (Take fault)) = HasFailed
@@ -114,10 +115,10 @@ abbrev pub LeavesLines : Option Kind → QueryView Formula → Trace ℤ → Opt
 LeavesLines None q t old new = HasBrokenOff q t old new
 LeavesLines (Some kind) q t old new = Keeps old new
 
--- where the run itself broke off, no line was left half written
+-- where the run itself broke off, which is never since the writer took no more, no line was left half written
 abbrev pub LeavesWholeLines : JobView → Option (List ℕ) → Option (List ℕ) → Result Ending ServeFault → Type 0
 LeavesWholeLines job old new (Ok e) = ⊤
-LeavesWholeLines job old new (Err (NoRun fault)) = LeavesLines job.aggregate job.query job.source old new
+LeavesWholeLines job old new (Err (NoRun fault)) = (told_refusal fault ≡ None) × LeavesLines job.aggregate job.query job.source old new
 LeavesWholeLines job old new (Err Memory) = ⊤
 LeavesWholeLines job old new (Err Write) = ⊤
 LeavesWholeLines job old new (Err (Take fault)) = ⊤

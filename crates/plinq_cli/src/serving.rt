@@ -32,7 +32,7 @@ use std::thread::Threads;
 /// # Errors
 ///
 /// [`ServeFault::Memory`] where there is no memory for the answer, [`ServeFault::Write`] where the writer answers an
-/// error, or takes none of the bytes that it is given, [`ServeFault::Run`] where a run breaks off, and
+/// error, or takes none of the bytes that it is given, [`ServeFault::Run`] where a run breaks off for another cause, and
 /// [`ServeFault::Take`] where the partitions of a history don't get through.
 pub fn serve<R, W>(rt: &R, command: Command, job: Job, writer: &mut W) -> Result<Ending, ServeFault>
 where
