@@ -1,12 +1,13 @@
 -- What the merging thread has done so far.
-use Rattle.std.specs.Prelude.{◌≡◌, ℕ, List, Option, Some, None, All}
+use Rattle.std.specs.Prelude.{◌≡◌, ℕ, List, Option, Some, None, Result, Ok, Err, All}
 use Rattle.plinq_lambda.specs.declared.lambda.Lambda.{Ghosts}
 use Rattle.plinq_ops.specs.declared.results.ChunkResult.{ChunkResult}
 use Rattle.plinq_merge.specs.declared.merge_fault.MergeFault.{MergeFault}
 use Rattle.plinq_merge.specs.declared.merger.Merger.{Merger}
+use Rattle.plinq_merge.specs.declared.more.More.{More}
 use Rattle.plinq_merge.specs.Sending.{Leads}
 use Rattle.plinq_merge.specs.Shown.{Merge, shown}
-use Rattle.plinq_merge.specs.Mergers.{plan_of, IsFor, StopsShort}
+use Rattle.plinq_merge.specs.Mergers.{plan_of, IsFor, Takes, StopsShort}
 use Rattle.plinq_merge.specs.Whole.{AreApart}
 
 module _ {T K : Type 0} (IsResult : ChunkResult T → Type 0) (accepts : K → List T → K → Type 0) (refuses : K → List T → ℕ → K → Type 0)
@@ -31,3 +32,15 @@ module _ {T K : Type 0} (IsResult : ChunkResult T → Type 0) (accepts : K → L
     abbrev pub Merges : Merger L T lambda → Option MergeFault → K → Type 0
     Merges m None s' = IsMerging m s'
     Merges m (Some fault) s' = HasStopped fault s'
+
+-- the fault with which an offer was answered, if it was
+abbrev pub offer_fault : Result More MergeFault → Option MergeFault
+offer_fault (Ok more) = None
+offer_fault (Err fault) = Some fault
+
+-- the result was offered to the merger, and how that was answered is known
+pub record WasOffered {L K T : Type 0} {lambda : Ghosts L T} (accepts : K → List T → K → Type 0) (refuses : K → List T → ℕ → K → Type 0)
+    (m : Merger L T lambda) (made : ChunkResult T) (s : K) (m' : Merger L T lambda) (fault : Option MergeFault) (s' : K) : Type 0 where
+  pub told : Result More MergeFault
+  pub takes : Takes accepts refuses m made s told m' s'
+  pub kept : fault ≡ offer_fault told

@@ -4,8 +4,8 @@ use Rattle.plinq_run.specs.Reaching.{IsOffered}
 use Rattle.plinq_run.proofs.Merged.{offered-more, merges-ok, merges-err}
 use Rattle.plinq_run.proofs.merging.Merging.take_in.Goals as goal
 
-pub returns-in-Err : goal.returns-in-Err
-returns-in-Err g c merge s h =
+pub returns-in-Err-clause-merges : goal.returns-in-Err-clause-merges
+returns-in-Err-clause-merges g c merge s h =
     let m = c.args.self.now.merger in
     let reach = c.args.self.now.reach in
     let P = IsOffered g.J.Carries.is_result c.extend.new.self in
@@ -15,8 +15,8 @@ returns-in-Err g c merge s h =
     (subst (λ f. Merges (IsOffered g.J.Carries.is_result reach) g.K.Sink.accepts g.K.Sink.refuses merge s m f c.args.sink.now) none h) in
     merges-err P g.K.Sink.accepts g.K.Sink.refuses merge s m c.args.made c.args.sink.now c.in-Err.fault c.offer.new.self c.offer.new.sink c.in-Err.ensures.takes (c.requires.result, c.extend.ensures.reaches) before
 
-pub returns-in_default : goal.returns-in_default
-returns-in_default g c merge s h =
+pub returns-in_default-clause-merges : goal.returns-in_default-clause-merges
+returns-in_default-clause-merges g c merge s h =
     let m = c.args.self.now.merger in
     let reach = c.args.self.now.reach in
     let P = IsOffered g.J.Carries.is_result c.extend.new.self in
@@ -26,3 +26,9 @@ returns-in_default g c merge s h =
     (subst (λ f. Merges (IsOffered g.J.Carries.is_result reach) g.K.Sink.accepts g.K.Sink.refuses merge s m f c.args.sink.now) none h) in
     subst (λ f. Merges P g.K.Sink.accepts g.K.Sink.refuses merge s c.offer.new.self f c.offer.new.sink) (sym none)
     (merges-ok P g.K.Sink.accepts g.K.Sink.refuses merge s m c.args.made c.args.sink.now c.in_default.field-0 c.offer.new.self c.offer.new.sink c.in_default.ensures.plan c.in_default.ensures.takes (c.requires.result, c.extend.ensures.reaches) before)
+
+pub returns-in-Err-clause-offered : goal.returns-in-Err-clause-offered
+returns-in-Err-clause-offered g c wanted none = record { told = c.offer.result; takes = c.offer.ensures.takes; kept = search rules }
+
+pub returns-in_default-clause-offered : goal.returns-in_default-clause-offered
+returns-in_default-clause-offered g c wanted none = record { told = c.offer.result; takes = c.offer.ensures.takes; kept = search rules }
