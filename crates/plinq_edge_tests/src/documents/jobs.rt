@@ -1,9 +1,10 @@
-use super::{PLAIN, read};
+use super::{PLAIN, expect_query, read};
 use plinq_document::{AnySource, Kind};
 use plinq_enumerator::Growth;
 use plinq_lambda::Formula;
 use plinq_ops::{MergeOption, Op};
 use plinq_source::{Source, Step};
+use std::alloc::Global;
 use std::process::Abort;
 use std::test::Fail;
 
@@ -12,11 +13,10 @@ fn reads_the_example(rt: HostRuntime) -> Result<(), Fail> {
     let text =
         r#"{"version":1,"source":{"list":[3,1,4]},"query":[["as_ordered"],["select","add",1]]}"#;
     let mut job = read(rt.alloc(), text, PLAIN)?;
-    assert_eq!(rt; job.query.ops(), [Op::Select(Formula::Add(1))].as_slice());
+    let add_one = [Op::Select(Formula::Add(1))];
+    expect_query(&rt, &job.query, &add_one, MergeOption::AutoBuffered, 4);
     assert!(rt; job.query.is_ordered());
-    assert_eq!(rt; job.query.merge_option(), MergeOption::AutoBuffered);
-    assert_eq!(rt; job.query.degree(), 4);
-    assert_eq!(rt; job.growth, Growth::DEFAULT);
+    expect_growth(&rt, job.growth, Growth::DEFAULT);
     gives(&rt, &mut job.source, &[3, 1, 4], Step::End);
     Ok(())
 }
@@ -25,8 +25,12 @@ fn reads_the_example(rt: HostRuntime) -> Result<(), Fail> {
 fn reads_a_growth(rt: HostRuntime) -> Result<(), Fail> {
     let text = r#"{"version":1,"source":{"list":[]},"query":[],"growth":[2,5,9]}"#;
     let job = read(rt.alloc(), text, PLAIN)?;
-    assert_eq!(rt; job.growth, Growth::new(2, 5, 9)?);
+    expect_growth(&rt, job.growth, Growth::new(2, 5, 9)?);
     Ok(())
+}
+
+fn expect_growth(rt: &impl Abort, growth: Growth, wanted: Growth) {
+    assert_eq!(rt; growth, wanted);
 }
 
 #[test]
@@ -49,17 +53,26 @@ fn reads_each_source(rt: HostRuntime) -> Result<(), Fail> {
         (r#"{"range":[-1,3]}"#, [-1, 0, 1].as_slice(), Step::End),
         (r#"{"repeat":[5,2]}"#, [5, 5].as_slice(), Step::End),
     ] {
-        let alloc = rt.alloc();
-        let text = format!(in alloc; "{{\"query\":[],\"source\":{source},\"version\":1}}")?;
-        let mut job = read(alloc, text.as_str(), PLAIN)?;
-        gives(&rt, &mut job.source, items, ending);
+        let mut source = read_source(rt.alloc(), source)?;
+        gives(&rt, &mut source, items, ending);
     }
     Ok(())
 }
 
+// The source of a document that has this one.
+fn read_source(alloc: Global, source: &str) -> Result<AnySource, Fail> {
+    let text = format!(in alloc; "{{\"query\":[],\"source\":{source},\"version\":1}}")?;
+    let job = read(alloc, text.as_str(), PLAIN)?;
+    Ok(job.source)
+}
+
 fn gives(rt: &impl Abort, source: &mut AnySource, items: &[i64], ending: Step<i64>) {
     for item in items {
-        assert_eq!(rt; source.next(), Step::Item(*item));
+        expect_step(rt, source.next(), Step::Item(*item));
     }
-    assert_eq!(rt; source.next(), ending);
+    expect_step(rt, source.next(), ending);
+}
+
+fn expect_step(rt: &impl Abort, step: Step<i64>, wanted: Step<i64>) {
+    assert_eq!(rt; step, wanted);
 }

@@ -1,4 +1,4 @@
-use super::{PLAIN, read};
+use super::{PLAIN, expect_query, read};
 use plinq_lambda::Formula;
 use plinq_ops::{MergeOption, Op};
 use std::test::Fail;
@@ -18,8 +18,6 @@ fn reads_each_step(rt: HostRuntime) -> Result<(), Fail> {
         Op::Skip(-1),
         Op::AsUnordered,
     ];
-    assert_eq!(rt; job.query.ops(), ops.as_slice());
-    assert_eq!(rt; job.query.merge_option(), MergeOption::NotBuffered);
-    assert_eq!(rt; job.query.degree(), 3);
+    expect_query(&rt, &job.query, &ops, MergeOption::NotBuffered, 3);
     Ok(())
 }

@@ -1,3 +1,4 @@
+use super::{expect_lines, expect_written};
 use plinq_lambda::Formula;
 use plinq_lines::{write_aggregate, write_value};
 use plinq_source::Ending;
@@ -5,8 +6,8 @@ use std::process::Abort;
 
 fn check<R: AllocGlobal + Abort>(rt: &R, value: Option<i128>, line: &str) {
     let mut out = Vec::new(rt.alloc());
-    assert_eq!(rt; write_value(&mut out, value), Ok(()));
-    assert_eq!(rt; out.as_slice(), line.as_bytes());
+    expect_written(rt, write_value(&mut out, value));
+    expect_lines(rt, &out, line.as_bytes());
 }
 
 #[test]
@@ -33,7 +34,7 @@ fn a_value_before_a_good_ending(rt: HostRuntime) {
         (Ending::Fault(Formula::OVERFLOW), "fault overflow\n"),
     ] {
         let mut out = Vec::new(rt.alloc());
-        assert_eq!(rt; write_aggregate(&mut out, Some(6), ending), Ok(()));
-        assert_eq!(rt; out.as_slice(), lines.as_bytes());
+        expect_written(&rt, write_aggregate(&mut out, Some(6), ending));
+        expect_lines(&rt, &out, lines.as_bytes());
     }
 }

@@ -1,3 +1,4 @@
+use super::{expect_lines, expect_written};
 use plinq_lambda::Formula;
 use plinq_lines::{write_answer, write_batches, write_ending};
 use plinq_ops::MergeOption;
@@ -14,15 +15,20 @@ const AT_ONCE: &str = "3 1 4 1 5 9 2 6 5 3 5 8 9 7 9 3 2 -3\n";
 
 // The batches of an answer of these numbers with this ending, and those of one without numbers.
 fn check<R: AllocGlobal + Abort>(rt: &R, option: MergeOption, ending: Ending, lines: &str) {
-    for (numbers, lines) in [(NUMBERS.as_slice(), lines), ([].as_slice(), "")] {
-        let mut out = Vec::new(rt.alloc());
-        assert_eq!(rt; write_batches(&mut out, option, numbers, ending), Ok(()));
-        assert_eq!(rt;
-            out.as_slice(),
-            lines.as_bytes(),
-            "at {option:?}, {ending:?}"
-        );
-    }
+    check_batches(rt, option, &NUMBERS, ending, lines);
+    check_batches(rt, option, &[], ending, "");
+}
+
+fn check_batches<R: AllocGlobal + Abort>(
+    rt: &R,
+    option: MergeOption,
+    numbers: &[i64],
+    ending: Ending,
+    lines: &str,
+) {
+    let mut out = Vec::new(rt.alloc());
+    expect_written(rt, write_batches(&mut out, option, numbers, ending));
+    expect_lines(rt, &out, lines.as_bytes());
 }
 
 #[test]
@@ -52,23 +58,25 @@ fn endings(rt: HostRuntime) {
         (Ending::Fault(Formula::DIVIDE_BY_ZERO), "fault division\n"),
         (Ending::Fault(Formula::TOO_MANY), "fault toomany\n"),
     ] {
-        let mut out = Vec::new(rt.alloc());
-        assert_eq!(rt; write_ending(&mut out, ending), Ok(()));
-        assert_eq!(rt; out.as_slice(), line.as_bytes());
+        check_ending(&rt, ending, line);
     }
+}
+
+fn check_ending<R: AllocGlobal + Abort>(rt: &R, ending: Ending, line: &str) {
+    let mut out = Vec::new(rt.alloc());
+    expect_written(rt, write_ending(&mut out, ending));
+    expect_lines(rt, &out, line.as_bytes());
 }
 
 #[test]
 fn an_answer(rt: HostRuntime) {
     let mut out = Vec::new(rt.alloc());
-    assert_eq!(rt;
-        write_answer(
-            &mut out,
-            MergeOption::AutoBuffered,
-            &[1, 2],
-            Ending::Refused(7)
-        ),
-        Ok(())
+    let told = write_answer(
+        &mut out,
+        MergeOption::AutoBuffered,
+        &[1, 2],
+        Ending::Refused(7),
     );
-    assert_eq!(rt; out.as_slice(), b"1 2\nrefused 7\n".as_slice());
+    expect_written(&rt, told);
+    expect_lines(&rt, &out, b"1 2\nrefused 7\n");
 }

@@ -1,3 +1,4 @@
+use super::{expect_lines, expect_written};
 use crate::narrow::Narrow;
 use plinq_lines::write_batch;
 use std::process::Abort;
@@ -6,11 +7,11 @@ use std::test::Fail;
 // The line as a whole, and to a writer that takes one byte at once.
 fn check<R: AllocGlobal + Abort>(rt: &R, batch: &[i64], line: &str) {
     let mut out = Vec::new(rt.alloc());
-    assert_eq!(rt; write_batch(&mut out, batch), Ok(()));
-    assert_eq!(rt; out.as_slice(), line.as_bytes(), "at {batch:?}");
+    expect_written(rt, write_batch(&mut out, batch));
+    expect_lines(rt, &out, line.as_bytes());
     let mut out = Narrow::new(rt.alloc(), line.len(), 1);
-    assert_eq!(rt; write_batch(&mut out, batch), Ok(()));
-    assert_eq!(rt; out.taken(), line.as_bytes(), "at {batch:?}");
+    expect_written(rt, write_batch(&mut out, batch));
+    expect_lines(rt, out.taken(), line.as_bytes());
 }
 
 const FROM_ONE: [i64; 33] = [

@@ -1,8 +1,12 @@
 use super::ADD_ONE;
-use plinq_cli::{Command, ServeFault, Settings, read_document, serve};
+use plinq_cli::{Command, DocFault, ServeFault, Settings, read_document, serve};
 use plinq_ops::MergeOption;
 use plinq_source::Ending;
+use std::io::Write;
+use std::process::Abort;
+use std::sync::Wait;
 use std::test::Fail;
+use std::thread::Threads;
 
 const NOT_BUFFERED: Settings = Settings {
     workers: None,
@@ -29,17 +33,39 @@ const SERVED: [(Command, &str); 5] = [
 
 #[test]
 fn answers_the_example(rt: HostRuntime) -> Result<(), Fail> {
-    let alloc = rt.alloc();
     for (command, lines) in SERVED {
-        let job = read_document(alloc, ADD_ONE.as_bytes(), NOT_BUFFERED)?;
-        let mut out = Vec::new(alloc);
-        assert_eq!(rt; serve(&rt, command, job, &mut out), Ok(Ending::End));
-        assert_eq!(rt; out.as_slice(), lines.as_bytes(), "of {command:?}");
+        let mut out = Vec::new(rt.alloc());
+        expect_told(&rt, serve_example(&rt, command, &mut out)?, Ok(Ending::End));
+        expect_lines(&rt, &out, lines);
 
-        let job = read_document(alloc, ADD_ONE.as_bytes(), NOT_BUFFERED)?;
         let mut full = [0u8; 0];
         let mut out = full.as_mut_slice();
-        assert_eq!(rt; serve(&rt, command, job, &mut out), Err(ServeFault::Write));
+        expect_told(
+            &rt,
+            serve_example(&rt, command, &mut out)?,
+            Err(ServeFault::Write),
+        );
     }
     Ok(())
+}
+
+fn serve_example<R: AllocGlobal + Threads + Wait + Sync, W: Write>(
+    rt: &R,
+    command: Command,
+    out: &mut W,
+) -> Result<Result<Ending, ServeFault>, DocFault> {
+    let job = read_document(rt.alloc(), ADD_ONE.as_bytes(), NOT_BUFFERED)?;
+    Ok(serve(rt, command, job, out))
+}
+
+fn expect_told(
+    rt: &impl Abort,
+    told: Result<Ending, ServeFault>,
+    wanted: Result<Ending, ServeFault>,
+) {
+    assert_eq!(rt; told, wanted);
+}
+
+fn expect_lines(rt: &impl Abort, bytes: &[u8], lines: &str) {
+    assert_eq!(rt; bytes, lines.as_bytes());
 }
