@@ -1,6 +1,6 @@
 //! The tests of runs and of their aggregates, each of what no contract says: that runs succeed with ample memory and
-//! threads, that workers run side by side, that batches come while workers still compute, and that a chunk which nobody
-//! needs isn't taken.
+//! threads, that workers run side by side, that batches come while some are held back, and that a source is closed long
+//! before its end.
 //!
 //! They stand in a crate of their own, since a crate with tests is proved twice. What they share is `asked`, one query
 //! that threads and one thread answer, and `waiting`.
