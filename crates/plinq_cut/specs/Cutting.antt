@@ -23,23 +23,23 @@ a_key_before_it = refl
 a_key_behind_it : is_cut_of (λ key. key == 5) 6 ≡ false
 a_key_behind_it = refl
 
--- a pass is of these enders, and the word is at most the least number that it has seen
-abbrev pub Knows : {E : Type 0} → E → ℕ → View E → Type 0
-Knows of word (Passing mine least) = (mine ≡ of) × (word ≤ least)
-Knows of word Joined = ⊤
+-- the word is at most the least number that a pass has seen
+abbrev pub Knows : ℕ → View → Type 0
+Knows word (Passing least) = word ≤ least
+Knows word Joined = ⊤
 
 -- the word is a cut, and no pass has seen less
-pub record IsLawful {E : Type 0} (is_ender : E → ℕ → Bool) (of : E) (word : ℕ) (views : List (View E)) : Type 0 where
-  pub cut : is_cut_of (is_ender of) word ≡ true
-  pub known : (i : ℕ) (v : View E) → get_elem? views i ≡ some v → Knows of word v
+pub record IsLawful (is_ender : ℕ → Bool) (word : ℕ) (views : List View) : Type 0 where
+  pub cut : is_cut_of is_ender word ≡ true
+  pub known : (i : ℕ) (v : View) → get_elem? views i ≡ some v → Knows word v
 
 -- what a step of a pass tells that found n: a cut that is at most what it has seen, and the least number that it has then seen
-abbrev pub Sees : {E : Type 0} → (E → ℕ → Bool) → ℕ → ℕ → View E → View E → Type 0
-Sees is_ender n seen (Passing of least) v = (is_cut_of (is_ender of) n ≡ true) × (n ≤ least) × (v ≡ Passing of seen)
+abbrev pub Sees : (ℕ → Bool) → ℕ → ℕ → View → View → Type 0
+Sees is_ender n seen (Passing least) v = (is_cut_of is_ender n ≡ true) × (n ≤ least) × (v ≡ Passing seen)
 Sees is_ender n seen Joined v = ⊤
 
 -- what two passes know together
-abbrev pub together : {E : Type 0} → View E → View E → View E
-together (Passing of least) (Passing _ other) = Passing of (min least other)
-together (Passing of least) Joined = Passing of least
+abbrev pub together : View → View → View
+together (Passing least) (Passing other) = Passing (min least other)
+together (Passing least) Joined = Passing least
 together Joined v = v

@@ -6,8 +6,8 @@ use atomic_table::Seat;
 
 /// The right to read and lower a cut. It has no bytes.
 #[derive(Drop)]
-pub struct CutPass<E> {
-    pub(crate) seat: Seat<(), View<E>>,
+pub struct CutPass {
+    pub(crate) seat: Seat<(), View>,
     ghost passing: { is_passing seat.me.0 ≡ true },
     ghost empty: { seat.me.1 ≡ [] },
 }

@@ -5,33 +5,36 @@ use crate::enders::Enders;
 use crate::view::View;
 use atomic_table::{Table, TableRule};
 use std::alloc::Global;
+use std::marker::PhantomData;
 
 // Where the number stands in the table.
 pub(crate) const WORD: usize = 0;
 
-pub struct Cuts;
+pub struct Cuts<E> {
+    of: PhantomData<E>,
+}
 
-impl<E: Enders> TableRule<(), View<E>, E> for Cuts {
+impl<E: Enders> TableRule<(), View, ()> for Cuts<E> {
     ghost use Rattle.plinq_cut.specs.OneWord.{OfOneWord};
     ghost use Rattle.plinq_cut.specs.Cutting.{IsLawful};
     ghost use Rattle.plinq_cut.specs.declared.view.View.TheVariants.{Passing};
 
-    ghost holds = { λ of. OfOneWord (IsLawful E.is_ender of) };
+    ghost holds = { λ _. OfOneWord (IsLawful E.is_ender) };
 
-    ghost first = { λ of. Passing of no_cut };
+    ghost first = { λ _. Passing no_cut };
 }
 
 /// The least key at which some worker has seen the run end, as one atomic number that the workers of a query share that
 /// is merged by key.
 ///
 /// ```text
-/// let (cut, mut pass) = CutWord::new(alloc, &plan, &source)?;    // beyond all keys
+/// let (cut, mut pass) = CutWord::<E>::new(alloc)?;               // beyond all keys
 /// let mut other = cut.split(&mut pass);                           // one for each worker
 /// cut.lower(&mut pass, 5);                                        // the element of key 5 ends the run
 /// cut.read(&mut other)                                            // 5
 /// ```
 #[derive(Drop)]
 pub struct CutWord<E: Enders> {
-    pub(crate) table: Table<(), View<E>, E, Cuts, Global>,
+    pub(crate) table: Table<(), View, (), Cuts<E>, Global>,
     ghost one: { table.shared.table_id.words ≡ 1 },
 }

@@ -1,7 +1,7 @@
 ghost use Rattle.std.specs.Prelude.{ℕ, Bool};
 
-/// Which keys end a run. It has no bytes, and is for the proofs alone.
+/// Which keys end the run of a query. It is for the proofs alone.
 pub trait Enders {
     // Whether a key ends the run.
-    ghost is_ender: { Self → ℕ → Bool };
+    ghost is_ender: { ℕ → Bool };
 }

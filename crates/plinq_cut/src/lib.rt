@@ -13,14 +13,12 @@ mod cut_pass;
 mod cut_word;
 mod cutting;
 mod enders;
-mod plan_enders;
 mod plays;
 mod view;
 
 pub use cut_pass::CutPass;
 pub use cut_word::CutWord;
 pub use enders::Enders;
-pub use plan_enders::PlanEnders;
 
 #[cfg(test)]
 mod tests;

@@ -6,25 +6,30 @@ ghost use Rattle.plinq_cut.specs.declared.view.View.TheVariants.{Joined};
 use crate::enders::Enders;
 use crate::view::View;
 use atomic_table::{Join, Play, Split};
+use std::marker::PhantomData;
 
 // A load of the word.
-pub struct See;
+pub struct See<E> {
+    of: PhantomData<E>,
+}
 
-impl<E: Enders> Play<(), View<E>> for See {
+impl<E: Enders> Play<(), View> for See<E> {
     ghost then = { λ s a n b. Sees E.is_ender n n a.0 b.0 × (b.1 ≡ a.1) };
 }
 
 // The word becomes the lesser of itself and a key.
-pub struct Lower;
+pub struct Lower<E> {
+    of: PhantomData<E>,
+}
 
-impl<E: Enders> Play<(), View<E>> for Lower {
+impl<E: Enders> Play<(), View> for Lower<E> {
     ghost then = { λ s a n b. Sees E.is_ender n (min n s.first) a.0 b.0 × (b.1 ≡ a.1) };
 }
 
 // A pass becomes two.
 pub struct Cut;
 
-impl<E> Split<View<E>> for Cut {
+impl Split<View> for Cut {
     ghost left = { λ a. a };
 
     ghost right = { λ a. a };
@@ -33,7 +38,7 @@ impl<E> Split<View<E>> for Cut {
 // Two passes become one.
 pub struct Glue;
 
-impl<E> Join<View<E>> for Glue {
+impl Join<View> for Glue {
     ghost both = { together };
 
     ghost spent = { Joined };

@@ -1,36 +1,19 @@
 ghost use Rattle.std.specs.Prelude.{true};
 
 use crate::{CutWord, Enders};
-use plinq_lambda::Formula;
-use plinq_ops::Query;
-use plinq_source::RepeatSource;
 use std::process::Abort;
 use std::test::Fail;
 
 // Each key ends the run.
-#[derive(Drop)]
 struct EachKey;
 
 impl Enders for EachKey {
-    ghost is_ender = { λ _ _. true };
-}
-
-#[test]
-fn a_cut_of_a_plan_begins_beyond_all_keys(rt: HostRuntime) -> Result<(), Fail> {
-    let query = Query::new(rt.alloc())
-        .as_ordered()
-        .map_err(|(_, fault)| fault)?
-        .take_while(Formula::Below(0))
-        .map_err(|(_, fault)| fault)?;
-    let source = RepeatSource::new(0, 9)?;
-    let (cut, mut pass) = CutWord::new(rt.alloc(), &query.split(), &source)?;
-    assert_eq!(rt; cut.read(&mut pass), u64::MAX);
-    Ok(())
+    ghost is_ender = { λ _. true };
 }
 
 #[test]
 fn the_least_key_is_read_by_each_pass(rt: HostRuntime) -> Result<(), Fail> {
-    let (cut, mut pass) = CutWord::of(rt.alloc(), &EachKey)?;
+    let (cut, mut pass) = CutWord::<EachKey>::new(rt.alloc())?;
     assert_eq!(rt; cut.read(&mut pass), u64::MAX);
     cut.lower(&mut pass, 5);
     cut.lower(&mut pass, 8);

@@ -1,6 +1,7 @@
 mod Arrived
 mod Batches
 mod Covered
+mod Cuts
 mod Ended
 mod Handed
 mod Hands

@@ -16,10 +16,11 @@ use Rattle.plinq_keyed.specs.declared.tail.Tail.{Tail}
 use Rattle.plinq_keyed.specs.History.{Place, reply, recorded, ending_tail, items_from}
 use Rattle.plinq_enumerator.specs.Growing.{GrowthRule}
 use Rattle.plinq_partition.specs.Partitions.{Holding, IsTaken}
+use Rattle.plinq_ops.specs.declared.order.Order.TheVariants.{ByArrival}
 use Rattle.plinq_ops.specs.declared.plan.Plan.{Plan}
 use Rattle.plinq_ops.specs.declared.results.ChunkResult.{ChunkResult}
 use Rattle.plinq_ops.specs.Chunk.{IsChunkResult}
-use Rattle.plinq_ops.specs.Cut.{no_cut}
+use Rattle.plinq_ops.specs.Cut.{no_cut, is_cut}
 use Rattle.plinq_merge.specs.Shown.{told_at}
 use Rattle.plinq_merge.specs.Whole.{EndsAt}
 use Rattle.plinq_run.specs.Results.{IsResult}
@@ -62,9 +63,10 @@ told-recorded t p entry is within =
     let tail : entry.tail ≡ r.tail = ap (λ (x : Record). x.tail) is in
     rw (first, count, tail) (told-reply t p entry.asked (omega arith))
 
-pub result-from_taken : {L T : Type 0} (meaning : L → Meaning T) (plan : Plan L) (growth : GrowthRule) (a b : Holding T) (chunk : Chunk T) (r : ChunkResult T)
-    → IsTaken growth a b chunk → IsChunkResult meaning plan.worker.now no_cut chunk r → IsResult meaning plan a.origin r
-result-from_taken meaning plan growth a b chunk r taken made =
+pub result-from_taken : {L T : Type 0} (meaning : L → Meaning T) (plan : Plan L) (growth : GrowthRule) (a b : Holding T) (cut : ℕ) (chunk : Chunk T) (r : ChunkResult T)
+    → is_cut meaning plan.worker.now a.origin.items cut ≡ true → (plan.order ≡ ByArrival → cut ≡ no_cut) → IsTaken growth a b chunk → IsChunkResult meaning plan.worker.now cut chunk r
+    → IsResult meaning plan a.origin r
+result-from_taken meaning plan growth a b cut chunk r is uncut taken made =
     let t = a.origin in
     let entry = taken.entry in
     let first : chunk.first ≡ entry.first = taken.of.first in
@@ -75,14 +77,14 @@ result-from_taken meaning plan growth a b chunk r taken made =
     let is_tail : r.tail ≡ entry.tail = made.tail ∙ taken.of.tail in
     record {
       offer = record {
-        cut = no_cut;
+        cut = cut;
         chunk = chunk;
-        is_cut = refl;
+        is_cut = is;
         within = taken.within;
         items = taken.of.items ∙ rw (first, counted) refl;
         made = made;
       };
-      uncut = λ by. refl;
+      uncut = uncut;
       tail = rw (is_first, is_count, is_tail) told;
       within = rw (is_first, is_count) (rw (sym first, sym counted) taken.within);
     }

@@ -1,5 +1,7 @@
 pub mod Aggregates
+pub mod Cuts
 pub mod Endings
+pub mod Equipped
 pub mod Faults
 pub mod Handed
 pub mod Hands

@@ -8,8 +8,8 @@ ghost use Rattle.plinq_ops.specs.declared.results.ChunkResult.{ChunkResult};
 ghost use Rattle.plinq_merge.specs.Shown.{Merge, behind_result};
 ghost use Rattle.plinq_partition.specs.Partitions.{IsPartitionOf, holding_of};
 ghost use Rattle.plinq_partition.specs.GivenBack.{common_origin};
+ghost use Rattle.plinq_run.specs.Equipped.{IsEquipped};
 ghost use Rattle.plinq_run.specs.Merged.{Merges};
-ghost use Rattle.plinq_run.specs.Plans.{IsUndecided};
 ghost use Rattle.plinq_run.specs.Reaching.{IsOffered};
 ghost use Rattle.plinq_run.specs.Reports.{MayMerge, Ends};
 ghost use Rattle.plinq_run.specs.Results.{IsResult};
@@ -22,7 +22,7 @@ use crate::reach::Reach;
 use crate::results::{Came, Carries, ResultPass};
 use crate::run_fault::RunFault;
 use crate::starting::{Shortages, join_all, start_all};
-use crate::worker::Crew;
+use crate::worker::{Crew, Equipment};
 use crossbeam_utils::Backoff;
 use plinq_lambda::Lambda;
 use plinq_merge::{Merger, Sink};
@@ -138,12 +138,11 @@ where
 }
 
 /// Starts the workers, merges what they send, and joins them.
-pub(crate) fn conduct<'s, E, L, S, J, G, K, R>(
-    scope: &Scope<'s, E>,
+pub(crate) fn conduct<'s, Env, L, S, J, G, K, R>(
+    scope: &Scope<'s, Env>,
     rt: &'s R,
     crew: &'s Crew<'s, L, S, J, G>,
-    own: Partition<S>,
-    pass: ResultPass<L::Item>,
+    own: Equipment<S>,
     sink: &mut K,
 ) -> Result<Ended<S>, RunFault>
 where
@@ -153,15 +152,11 @@ where
     G: Gate,
     K: Sink<Item = L::Item>,
     R: Threads + Wait + Sync,
-    requires of { IsPartitionOf crew.now.chunked.now own }
-    requires queue { IsPassOf crew.now.queue.now pass }
-    requires plan { IsUndecided crew.now.plan.now }
+    requires queue { IsPassOf crew.now.queue.now own.queue }
+    requires equipped { IsEquipped L.meaning J.is_result J.is_ender crew.now.plan.now crew.now.chunked.now crew.now.cut.now own.partition own.cut }
     requires few { crew.now.workers ≤ 64 }
-    requires source { length (holding_of own).origin.items ≤ 2 ^ 40 }
-    requires carries { (r : ChunkResult L.Item) → IsResult L.meaning crew.now.plan.now (holding_of own).origin r → J.is_result r }
-    requires carried { (r : ChunkResult L.Item) → J.is_result r → IsResult L.meaning crew.now.plan.now (holding_of own).origin r }
-    ensures back { IfOk result (λ ended. (1 ≤ length ended.partitions.items) × All (IsPartitionOf crew.now.chunked.now) ended.partitions.items × (common_origin ended.partitions.items ≡ (holding_of own).origin)) }
-    ensures ends { Ends K.accepts K.refuses crew.now.option (MayMerge L.meaning crew.now.plan.now) (holding_of own).origin sink.old sink.new result }
+    ensures back { IfOk result (λ ended. (1 ≤ length ended.partitions.items) × All (IsPartitionOf crew.now.chunked.now) ended.partitions.items × (common_origin ended.partitions.items ≡ (holding_of own.partition).origin)) }
+    ensures ends { Ends K.accepts K.refuses crew.now.option (MayMerge L.meaning crew.now.plan.now) (holding_of own.partition).origin sink.old sink.new result }
 {
     let Ok(hands) = Vec::with_capacity(crew.alloc, crew.workers as usize) else {
         return Err(RunFault::Memory);
@@ -179,9 +174,13 @@ where
         is_closed: false,
     };
     let mut own = own;
-    let mut pass = pass;
     let mut shortages = Shortages::none();
-    let hands = start_all(scope, rt, crew, crew.workers, &mut own, &mut pass, hands);
+    let hands = start_all(scope, rt, crew, crew.workers, &mut own, hands);
+    let Equipment {
+        mut partition,
+        mut queue,
+        ..
+    } = own;
     let staff = Staff {
         wanted: crew.workers,
         started: hands.len() as u64,
@@ -190,12 +189,12 @@ where
         rt,
         crew,
         staff,
-        &mut own,
-        &mut pass,
+        &mut partition,
+        &mut queue,
         &mut merging,
         &mut shortages,
         sink,
     );
-    let partitions = join_all(rt, crew.chunked, own, hands, room, &mut shortages);
+    let partitions = join_all(rt, crew.chunked, partition, hands, room, &mut shortages);
     told(merging, shortages, staff, partitions)
 }

@@ -17,6 +17,7 @@ mod accounting;
 mod aggregate_fault;
 mod aggregating;
 mod conducting;
+mod cutting;
 mod finishing;
 mod folded;
 mod gate;

@@ -1,19 +1,33 @@
-//! The queue that carries results from the workers to the merging thread.
-ghost use Rattle.std.specs.Prelude.{List, ⊤, ◌≡◌, All};
+//! The queue that carries results from the workers to the merging thread, and what a run picks for its queue and its cut.
+ghost use Rattle.std.specs.Prelude.{List, ⊤, ◌≡◌, All, ℕ, Bool, false};
 ghost use Rattle.plinq_ops.specs.declared.results.ChunkResult.{ChunkResult};
 
 use crossbeam_queue::protocol::{Outcome, Protocol, Split};
 use crossbeam_queue::{Pass, RuledArrayQueue};
+use plinq_cut::Enders;
 use plinq_ops::ChunkResult;
 use std::marker::{Brand, PhantomData};
 
-/// Which results go through a queue. Each run picks it.
+/// Which results go through a queue, and which keys end the run. Each run picks it.
 pub trait Carries<T> {
     ghost is_result: { ChunkResult T → Type 0 };
+
+    ghost is_ender: { ℕ → Bool };
 }
 
 impl<T> Carries<T> for Brand {
     ghost is_result = { λ _. ⊤ };
+
+    ghost is_ender = { λ _. false };
+}
+
+/// The keys that end a run, for its cut.
+pub struct RunEnders<T, J> {
+    of: PhantomData<(T, J)>,
+}
+
+impl<T, J: Carries<T>> Enders for RunEnders<T, J> {
+    ghost is_ender = { J.is_ender };
 }
 
 /// The rule of the queue: what it holds are results.

@@ -11,7 +11,9 @@ ghost use Rattle.plinq_ops.specs.Query.{merge_in_force};
 ghost use Rattle.plinq_ops.specs.Sequential.{answer_of};
 ghost use Rattle.plinq_partition.specs.Partitions.{IsPartitionOf, holding_of};
 ghost use Rattle.plinq_partition.specs.GivenBack.{common_origin};
+ghost use Rattle.plinq_run.specs.Cuts.{AreEnders};
 ghost use Rattle.plinq_run.specs.Endings.{reported};
+ghost use Rattle.plinq_run.specs.Equipped.{IsEquipped};
 ghost use Rattle.plinq_run.specs.Handed.{has_close, handed_trace};
 ghost use Rattle.plinq_run.specs.Plans.{IsUndecided};
 ghost use Rattle.plinq_run.specs.Reports.{MayMerge, Ends, Reports};
@@ -23,14 +25,15 @@ use crate::finishing::report;
 use crate::gate::Gate;
 use crate::progress::Progress;
 use crate::report::Report;
-use crate::results::{Carries, ResultPass, ResultQueue};
+use crate::results::{Carries, ResultQueue, RunEnders};
 use crate::run_fault::RunFault;
-use crate::worker::Crew;
+use crate::worker::{Crew, Equipment};
+use plinq_cut::CutWord;
 use plinq_enumerator::Growth;
 use plinq_lambda::Lambda;
 use plinq_merge::Sink;
 use plinq_ops::{MergeOption, Plan, Query};
-use plinq_partition::{Chunked, Partition};
+use plinq_partition::Chunked;
 use plinq_source::{Ending, Source};
 use std::alloc::Global;
 use std::marker::Brand;
@@ -45,8 +48,7 @@ const ROOM: usize = 64;
 fn run_crew<J, L, S, G, K, R>(
     rt: &R,
     crew: &Crew<'_, L, S, J, G>,
-    own: Partition<S>,
-    pass: ResultPass<L::Item>,
+    own: Equipment<S>,
     sink: &mut K,
 ) -> Result<Ended<S>, RunFault>
 where
@@ -56,33 +58,25 @@ where
     G: Gate,
     K: Sink<Item = L::Item>,
     R: Threads + Wait + Sync,
-    requires of { IsPartitionOf crew.now.chunked.now own }
-    requires queue { IsPassOf crew.now.queue.now pass }
-    requires plan { IsUndecided crew.now.plan.now }
+    requires queue { IsPassOf crew.now.queue.now own.queue }
+    requires equipped { IsEquipped L.meaning J.is_result J.is_ender crew.now.plan.now crew.now.chunked.now crew.now.cut.now own.partition own.cut }
     requires few { crew.now.workers ≤ 64 }
-    requires source { length (holding_of own).origin.items ≤ 2 ^ 40 }
-    requires carries { (r : ChunkResult L.Item) → IsResult L.meaning crew.now.plan.now (holding_of own).origin r → J.is_result r }
-    requires carried { (r : ChunkResult L.Item) → J.is_result r → IsResult L.meaning crew.now.plan.now (holding_of own).origin r }
-    ensures back { IfOk result (λ ended. (1 ≤ length ended.partitions.items) × All (IsPartitionOf crew.now.chunked.now) ended.partitions.items × (common_origin ended.partitions.items ≡ (holding_of own).origin)) }
-    ensures ends { Ends K.accepts K.refuses crew.now.option (MayMerge L.meaning crew.now.plan.now) (holding_of own).origin sink.old sink.new result }
+    ensures back { IfOk result (λ ended. (1 ≤ length ended.partitions.items) × All (IsPartitionOf crew.now.chunked.now) ended.partitions.items × (common_origin ended.partitions.items ≡ (holding_of own.partition).origin)) }
+    ensures ends { Ends K.accepts K.refuses crew.now.option (MayMerge L.meaning crew.now.plan.now) (holding_of own.partition).origin sink.old sink.new result }
 {
     let lent = &mut *sink;
     let (ended, _lent) = thread::scope(
         thread::scope_env(),
         rt,
         move |scope| -> (Result<Ended<S>, RunFault>, &mut K)
-            requires partition { IsPartitionOf crew.now.chunked.now own }
-            requires queue { IsPassOf crew.now.queue.now pass }
-            requires plan { IsUndecided crew.now.plan.now }
+            requires queue { IsPassOf crew.now.queue.now own.queue }
+            requires equipped { IsEquipped L.meaning J.is_result J.is_ender crew.now.plan.now crew.now.chunked.now crew.now.cut.now own.partition own.cut }
             requires few { crew.now.workers ≤ 64 }
-            requires source { length (holding_of own).origin.items ≤ 2 ^ 40 }
-            requires carries { (r : ChunkResult L.Item) → IsResult L.meaning crew.now.plan.now (holding_of own).origin r → J.is_result r }
-            requires carried { (r : ChunkResult L.Item) → J.is_result r → IsResult L.meaning crew.now.plan.now (holding_of own).origin r }
-            ensures back { IfOk result.0 (λ ended. (1 ≤ length ended.partitions.items) × All (IsPartitionOf crew.entry.now.chunked.now) ended.partitions.items × (common_origin ended.partitions.items ≡ (holding_of own).origin)) }
+            ensures back { IfOk result.0 (λ ended. (1 ≤ length ended.partitions.items) × All (IsPartitionOf crew.entry.now.chunked.now) ended.partitions.items × (common_origin ended.partitions.items ≡ (holding_of own.partition).origin)) }
             ensures same { result.1.ghost_name ≡ lent.entry.ghost_name }
-            ensures ends { Ends K.accepts K.refuses crew.entry.now.option (MayMerge L.meaning crew.entry.now.plan.now) (holding_of own).origin lent.entry.now result.1.now result.0 }
+            ensures ends { Ends K.accepts K.refuses crew.entry.now.option (MayMerge L.meaning crew.entry.now.plan.now) (holding_of own.partition).origin lent.entry.now result.1.now result.0 }
         {
-            let ended = conduct(scope, rt, crew, own, pass, lent);
+            let ended = conduct(scope, rt, crew, own, lent);
             (ended, lent)
         },
     );
@@ -113,14 +107,18 @@ where
     requires few { workers ≤ 64 }
     requires carries { (r : ChunkResult L.Item) → IsResult L.meaning plan.now (S.whole source) r → J.is_result r }
     requires carried { (r : ChunkResult L.Item) → J.is_result r → IsResult L.meaning plan.now (S.whole source) r }
+    requires enders { AreEnders L.meaning plan.now (S.whole source) J.is_ender }
     ensures legal { IfOk result (λ report. IsLegalHistory (S.whole source) report.records.items) }
     ensures closed { IfOk result (λ report. has_close report.records.items ≡ true) }
     ensures reports { Reports K.accepts K.refuses option (MayMerge L.meaning plan.now) (S.whole source) sink.old sink.new result }
 {
-    let Ok((chunked, own)) = Chunked::new(alloc, source, growth) else {
+    let Ok((cut, cut_pass)) = CutWord::<RunEnders<L::Item, J>>::new(alloc) else {
         return Err(RunFault::Memory);
     };
-    let Ok((queue, pass)) = ResultQueue::<L::Item, J>::ruled(alloc, ROOM) else {
+    let Ok((chunked, partition)) = Chunked::new(alloc, source, growth) else {
+        return Err(RunFault::Memory);
+    };
+    let Ok((queue, queue_pass)) = ResultQueue::<L::Item, J>::ruled(alloc, ROOM) else {
         return Err(RunFault::Memory);
     };
     let progress = Progress::new();
@@ -129,12 +127,18 @@ where
         plan,
         chunked: &chunked,
         queue: &queue,
+        cut: &cut,
         gate,
         progress: &progress,
         workers,
         option,
     };
-    let ended = run_crew(rt, &crew, own, pass, sink);
+    let own = Equipment {
+        partition,
+        queue: queue_pass,
+        cut: cut_pass,
+    };
+    let ended = run_crew(rt, &crew, own, sink);
     report(alloc, chunked, ended)
 }
 

@@ -1,20 +1,16 @@
 //! Starting the workers of a run, and having them back.
 ghost use Rattle.std.specs.Prelude.{◌≡◌, ◌≤◌, ◌<◌, ◌^◌, ◌+◌, [], length, true, false, not, ◌||◌, All, IfSome, vec_len, vec_capacity};
-ghost use Rattle.std.specs.List.{list_any};
 ghost use Rattle.crossbeam_queue.specs.Passes.{IsPassOf};
-ghost use Rattle.plinq_ops.specs.Feeding.{is_empty_take};
-ghost use Rattle.plinq_ops.specs.ByKey.{is_by_key};
-ghost use Rattle.plinq_ops.specs.declared.results.ChunkResult.{ChunkResult};
 ghost use Rattle.plinq_partition.specs.Partitions.{IsPartitionOf, holding_of};
 ghost use Rattle.plinq_partition.specs.GivenBack.{common_origin};
+ghost use Rattle.plinq_run.specs.Equipped.{IsEquipped};
 ghost use Rattle.plinq_run.specs.Faults.{lacks_room};
 ghost use Rattle.plinq_run.specs.Hands.{IsHandOf};
-ghost use Rattle.plinq_run.specs.Results.{IsResult};
 
 use crate::gate::Gate;
 use crate::hand::{ComesBack, Hand};
-use crate::results::{Both, Carries, ResultPass};
-use crate::worker::{Crew, Worked};
+use crate::results::{Both, Carries};
+use crate::worker::{Crew, Equipment, Worked};
 use plinq_lambda::Lambda;
 use plinq_partition::{Chunked, Partition, TakeFault};
 use plinq_source::Source;
@@ -23,13 +19,12 @@ use std::sync::Wait;
 use std::thread::{Scope, Threads};
 
 /// Starts one worker, unless no thread can be had.
-pub(crate) fn start<'s, E, L, S, J, G, R>(
-    scope: &Scope<'s, E>,
+pub(crate) fn start<'s, Env, L, S, J, G, R>(
+    scope: &Scope<'s, Env>,
     rt: &'s R,
     crew: &'s Crew<'s, L, S, J, G>,
     worker: u64,
-    partition: Partition<S>,
-    pass: ResultPass<L::Item>,
+    own: Equipment<S>,
 ) -> Option<Hand<S>>
 where
     L: Lambda,
@@ -37,12 +32,8 @@ where
     J: Carries<L::Item> + Send + Sync,
     G: Gate,
     R: Threads + Wait + Sync,
-    requires of { IsPartitionOf crew.now.chunked.now partition }
-    requires queue { IsPassOf crew.now.queue.now pass }
-    requires keyed { is_by_key crew.now.plan.now.worker.now ≡ true }
-    requires some { list_any is_empty_take crew.now.plan.now.worker.now ≡ false }
-    requires few { length (holding_of partition).origin.items ≤ 2 ^ 40 }
-    requires results { (r : ChunkResult L.Item) → IsResult L.meaning crew.now.plan.now (holding_of partition).origin r → J.is_result r }
+    requires queue { IsPassOf crew.now.queue.now own.queue }
+    requires equipped { IsEquipped L.meaning J.is_result J.is_ender crew.now.plan.now crew.now.chunked.now crew.now.cut.now own.partition own.cut }
     ensures { IfSome result (IsHandOf crew.now.chunked.now) }
 {
     let promise = ComesBack {
@@ -51,26 +42,21 @@ where
     let hand = scope.spawn_with(
         promise,
         move || -> Worked<S>
-            requires of { IsPartitionOf crew.now.chunked.now partition }
-            requires queue { IsPassOf crew.now.queue.now pass }
-            requires keyed { is_by_key crew.now.plan.now.worker.now ≡ true }
-            requires some { list_any is_empty_take crew.now.plan.now.worker.now ≡ false }
-            requires few { length (holding_of partition).origin.items ≤ 2 ^ 40 }
-            requires results { (r : ChunkResult L.Item) → IsResult L.meaning crew.now.plan.now (holding_of partition).origin r → J.is_result r }
+            requires queue { IsPassOf crew.now.queue.now own.queue }
+            requires equipped { IsEquipped L.meaning J.is_result J.is_ender crew.now.plan.now crew.now.chunked.now crew.now.cut.now own.partition own.cut }
             ensures { IsPartitionOf crew.entry.now.chunked.now result.partition }
-        { crew.work(rt, worker, partition, pass) },
+        { crew.work(rt, worker, own) },
     );
     hand.ok()
 }
 
 /// Starts so many workers, each with a new partition beside this one, or as many as there are threads to be had.
-pub(crate) fn start_all<'s, E, L, S, J, G, R>(
-    scope: &Scope<'s, E>,
+pub(crate) fn start_all<'s, Env, L, S, J, G, R>(
+    scope: &Scope<'s, Env>,
     rt: &'s R,
     crew: &'s Crew<'s, L, S, J, G>,
     workers: u64,
-    own: &mut Partition<S>,
-    pass: &mut ResultPass<L::Item>,
+    own: &mut Equipment<S>,
     room: Vec<Hand<S>>,
 ) -> Vec<Hand<S>>
 where
@@ -79,25 +65,24 @@ where
     J: Carries<L::Item> + Send + Sync,
     G: Gate,
     R: Threads + Wait + Sync,
-    requires of { IsPartitionOf crew.now.chunked.now own.old }
-    requires queue { IsPassOf crew.now.queue.now pass.old }
-    requires keyed { is_by_key crew.now.plan.now.worker.now ≡ true }
-    requires some { list_any is_empty_take crew.now.plan.now.worker.now ≡ false }
-    requires few { length (holding_of own.old).origin.items ≤ 2 ^ 40 }
-    requires results { (r : ChunkResult L.Item) → IsResult L.meaning crew.now.plan.now (holding_of own.old).origin r → J.is_result r }
+    requires queue { IsPassOf crew.now.queue.now own.old.queue }
+    requires equipped { IsEquipped L.meaning J.is_result J.is_ender crew.now.plan.now crew.now.chunked.now crew.now.cut.now own.old.partition own.old.cut }
     requires empty { room.items ≡ [] }
     requires room { workers ≤ vec_capacity room }
-    ensures of { IsPartitionOf crew.now.chunked.now own.new }
-    ensures same { holding_of own.new ≡ holding_of own.old }
-    ensures queue { IsPassOf crew.now.queue.now pass.new }
+    ensures of { IsPartitionOf crew.now.chunked.now own.new.partition }
+    ensures same { holding_of own.new.partition ≡ holding_of own.old.partition }
+    ensures queue { IsPassOf crew.now.queue.now own.new.queue }
     ensures hands { All (IsHandOf crew.now.chunked.now) result.items }
     ensures count { length result.items ≤ workers }
 {
     let mut hands = room;
     for worker in 0..workers {
-        let partition = crew.chunked.dynamic(own);
-        let theirs = crew.queue.another::<Both>(pass);
-        let Some(hand) = start(scope, rt, crew, worker, partition, theirs) else {
+        let theirs = Equipment {
+            partition: crew.chunked.dynamic(&mut own.partition),
+            queue: crew.queue.another::<Both>(&mut own.queue),
+            cut: crew.cut.split(&mut own.cut),
+        };
+        let Some(hand) = start(scope, rt, crew, worker, theirs) else {
             return hands;
         };
         hands.push_reserved(hand);

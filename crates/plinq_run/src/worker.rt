@@ -2,46 +2,27 @@
 ghost use Rattle.std.specs.Prelude.{◌≡◌, ◌≤◌, ◌^◌, length, true, false, IfOk};
 ghost use Rattle.std.specs.List.{list_any};
 ghost use Rattle.crossbeam_queue.specs.Passes.{IsPassOf};
+ghost use Rattle.plinq_cut.specs.Passes.{IsPassOf as IsCutPassOf};
 ghost use Rattle.plinq_ops.specs.Feeding.{is_empty_take};
 ghost use Rattle.plinq_ops.specs.ByKey.{is_by_key};
 ghost use Rattle.plinq_ops.specs.declared.results.ChunkResult.{ChunkResult};
 ghost use Rattle.plinq_partition.specs.Partitions.{IsPartitionOf, holding_of};
+ghost use Rattle.plinq_run.specs.Cuts.{AreEnders};
+ghost use Rattle.plinq_run.specs.Equipped.{IsEquipped};
 ghost use Rattle.plinq_run.specs.Results.{IsResult};
 
+use crate::cutting::{cut_now, cut_off};
 use crate::gate::Gate;
 use crate::progress::Progress;
-use crate::results::{Carries, ResultPass, ResultQueue, Sent};
+use crate::results::{Carries, ResultPass, ResultQueue, RunEnders, Sent};
 use crossbeam_utils::Backoff;
+use plinq_cut::{CutPass, CutWord};
 use plinq_lambda::Lambda;
 use plinq_ops::{ChunkResult, MergeOption, Plan, chunk_result};
 use plinq_partition::{Chunked, Partition, TakeFault};
 use plinq_source::Source;
 use std::alloc::Global;
 use std::sync::Wait;
-
-/// Takes the next chunk, and gives its result.
-pub(crate) fn next_result<L: Lambda, S: Source<Item = L::Item>, G: Gate, R: Wait>(
-    rt: &R,
-    alloc: Global,
-    plan: &Plan<'_, L>,
-    chunked: &Chunked<S>,
-    gate: &G,
-    worker: u64,
-    partition: &mut Partition<S>,
-) -> Result<ChunkResult<L::Item>, TakeFault>
-    requires of { IsPartitionOf chunked.now partition.old }
-    requires keyed { is_by_key plan.now.worker.now ≡ true }
-    requires some { list_any is_empty_take plan.now.worker.now ≡ false }
-    requires few { length (holding_of partition.old).origin.items ≤ 2 ^ 40 }
-    ensures of { IsPartitionOf chunked.now partition.new }
-    ensures origin { (holding_of partition.new).origin ≡ (holding_of partition.old).origin }
-    ensures result { IfOk result (IsResult L.meaning plan.now (holding_of partition.old).origin) }
-{
-    gate.before_take(worker);
-    let chunk = partition.take(rt, chunked)?;
-    gate.after_chunk(worker, chunk.first);
-    Ok(chunk_result(alloc, plan, &chunk, u64::MAX)?)
-}
 
 /// Puts a result into the queue, and waits while it is full.
 pub(crate) fn send<T: Copy + Send, J: Carries<T>, R: Wait>(
@@ -74,6 +55,14 @@ pub(crate) struct Worked<S: Source> {
     pub(crate) fault: Option<TakeFault>,
 }
 
+/// What a thread of a run has of its own: a partition, and a pass of the queue and of the cut.
+#[derive(Drop)]
+pub(crate) struct Equipment<S: Source> {
+    pub(crate) partition: Partition<S>,
+    pub(crate) queue: ResultPass<S::Item>,
+    pub(crate) cut: CutPass,
+}
+
 /// What the workers of a run share.
 #[derive(Drop)]
 pub(crate) struct Crew<'a, L: Lambda, S: Source, J: Carries<L::Item>, G> {
@@ -81,6 +70,7 @@ pub(crate) struct Crew<'a, L: Lambda, S: Source, J: Carries<L::Item>, G> {
     pub(crate) plan: &'a Plan<'a, L>,
     pub(crate) chunked: &'a Chunked<S>,
     pub(crate) queue: &'a ResultQueue<L::Item, J>,
+    pub(crate) cut: &'a CutWord<RunEnders<L::Item, J>>,
     pub(crate) gate: &'a G,
     pub(crate) progress: &'a Progress,
     pub(crate) workers: u64,
@@ -88,39 +78,51 @@ pub(crate) struct Crew<'a, L: Lambda, S: Source, J: Carries<L::Item>, G> {
 }
 
 impl<'a, L: Lambda, S: Source<Item = L::Item>, J: Carries<L::Item>, G: Gate> Crew<'a, L, S, J, G> {
-    /// Takes chunks and sends their results, until one has a tail.
-    pub(crate) fn work<R: Wait>(
+    /// Takes the next chunk, and gives its result under the cut that all share, which it lowers where the run ends.
+    fn next_result<R: Wait>(
         &self,
         rt: &R,
         worker: u64,
-        partition: Partition<S>,
-        pass: ResultPass<L::Item>,
-    ) -> Worked<S>
-        requires of { IsPartitionOf self.now.chunked.now partition }
-        requires queue { IsPassOf self.now.queue.now pass }
+        partition: &mut Partition<S>,
+        pass: &mut CutPass,
+    ) -> Result<ChunkResult<L::Item>, TakeFault>
+        requires of { IsPartitionOf self.now.chunked.now partition.old }
+        requires cut { IsCutPassOf self.now.cut.now pass.old }
+        requires enders { AreEnders L.meaning self.now.plan.now (holding_of partition.old).origin J.is_ender }
         requires keyed { is_by_key self.now.plan.now.worker.now ≡ true }
         requires some { list_any is_empty_take self.now.plan.now.worker.now ≡ false }
-        requires few { length (holding_of partition).origin.items ≤ 2 ^ 40 }
-        requires results { (r : ChunkResult L.Item) → IsResult L.meaning self.now.plan.now (holding_of partition).origin r → J.is_result r }
-        ensures of { IsPartitionOf self.now.chunked.now result.partition }
-        ensures origin { (holding_of result.partition).origin ≡ (holding_of partition).origin }
+        requires few { length (holding_of partition.old).origin.items ≤ 2 ^ 40 }
+        ensures of { IsPartitionOf self.now.chunked.now partition.new }
+        ensures origin { (holding_of partition.new).origin ≡ (holding_of partition.old).origin }
+        ensures cut { IsCutPassOf self.now.cut.now pass.new }
+        ensures result { IfOk result (IsResult L.meaning self.now.plan.now (holding_of partition.old).origin) }
     {
-        let mut partition = partition;
-        let mut pass = pass;
+        self.gate.before_take(worker);
+        let chunk = partition.take(rt, self.chunked)?;
+        self.gate.after_chunk(worker, chunk.first);
+        let cut = cut_now(self.plan, self.cut, pass);
+        let made = chunk_result(self.alloc, self.plan, &chunk, cut)?;
+        cut_off(self.plan, self.cut, pass, &made);
+        Ok(made)
+    }
+
+    /// Takes chunks and sends their results, until one has a tail.
+    pub(crate) fn work<R: Wait>(&self, rt: &R, worker: u64, own: Equipment<S>) -> Worked<S>
+        requires queue { IsPassOf self.now.queue.now own.queue }
+        requires equipped { IsEquipped L.meaning J.is_result J.is_ender self.now.plan.now self.now.chunked.now self.now.cut.now own.partition own.cut }
+        ensures of { IsPartitionOf self.now.chunked.now result.partition }
+        ensures origin { (holding_of result.partition).origin ≡ (holding_of own.partition).origin }
+    {
+        let Equipment {
+            mut partition,
+            mut queue,
+            mut cut,
+        } = own;
         for _ in rt.forever() {
-            let next = next_result(
-                rt,
-                self.alloc,
-                self.plan,
-                self.chunked,
-                self.gate,
-                worker,
-                &mut partition,
-            );
-            match next {
+            match self.next_result(rt, worker, &mut partition, &mut cut) {
                 Ok(made) => {
                     let is_last = made.tail.is_some();
-                    send(rt, self.queue, &mut pass, made);
+                    send(rt, self.queue, &mut queue, made);
                     self.progress.tell();
                     if is_last {
                         break;

@@ -8,26 +8,26 @@ use Rattle.plinq_run.proofs.Runs.{merge_for}
 use Rattle.plinq_run.proofs.conducting.conduct.Goals as goal
 
 pub returns-in_default-clause-ends : goal.returns-in_default-clause-ends
-returns-in_default-clause-ends g c = none-ended g.L.Lambda.meaning g.K.Sink.accepts g.K.Sink.refuses c.args.crew.now.option c.args.crew.now.plan.now (holding_of c.args.own).origin c.args.sink.now _ refl
+returns-in_default-clause-ends g c = none-ended g.L.Lambda.meaning g.K.Sink.accepts g.K.Sink.refuses c.args.crew.now.option c.args.crew.now.plan.now (holding_of c.args.own.partition).origin c.args.sink.now _ refl
 
 pub returns-in_default-with_capacity-clause-ends : goal.returns-in_default-with_capacity-clause-ends
-returns-in_default-with_capacity-clause-ends g c = none-ended g.L.Lambda.meaning g.K.Sink.accepts g.K.Sink.refuses c.args.crew.now.option c.args.crew.now.plan.now (holding_of c.args.own).origin c.args.sink.now _ refl
+returns-in_default-with_capacity-clause-ends g c = none-ended g.L.Lambda.meaning g.K.Sink.accepts g.K.Sink.refuses c.args.crew.now.option c.args.crew.now.plan.now (holding_of c.args.own.partition).origin c.args.sink.now _ refl
 
 pub returns-in_default-new-clause-ends : goal.returns-in_default-new-clause-ends
-returns-in_default-new-clause-ends g c = none-ended g.L.Lambda.meaning g.K.Sink.accepts g.K.Sink.refuses c.args.crew.now.option c.args.crew.now.plan.now (holding_of c.args.own).origin c.args.sink.now _ refl
+returns-in_default-new-clause-ends g c = none-ended g.L.Lambda.meaning g.K.Sink.accepts g.K.Sink.refuses c.args.crew.now.option c.args.crew.now.plan.now (holding_of c.args.own.partition).origin c.args.sink.now _ refl
 
 pub returns-clause-ends : goal.returns-clause-ends
 returns-clause-ends g c =
     let plan = c.args.crew.now.plan.now in
     let option = c.args.crew.now.option in
     let s = c.args.sink.now in
-    let t = (holding_of c.args.own).origin in
+    let t = (holding_of c.args.own.partition).origin in
     let merge = merge_for g.L.Lambda.meaning plan option in
     let after = c.merge_all.new.merging in
     let J = g.J.Carries.is_result in
     let P = IsOffered (IsResult g.L.Lambda.meaning plan t) after.reach in
-    let begun = begins-merging (IsOffered J c.none.result) g.K.Sink.accepts g.K.Sink.refuses plan option s c.in-Ok-new.merger c.requires.plan c.in-Ok-new.ensures.plan c.in-Ok-new.ensures.nothing in
+    let begun = begins-merging (IsOffered J c.none.result) g.K.Sink.accepts g.K.Sink.refuses plan option s c.in-Ok-new.merger c.requires.equipped.undecided c.in-Ok-new.ensures.plan c.in-Ok-new.ensures.nothing in
     let merged = c.merge_all.ensures.merges merge s begun in
-    ended-run t g.K.Sink.accepts g.K.Sink.refuses c.requires.source plan option s after.merger after.reach after.fault c.merge_all.new.sink c.told.result c.requires.plan
-    (merges-weaker (IsOffered J after.reach) g.K.Sink.accepts g.K.Sink.refuses P (λ r x. (c.requires.carried r x.0, x.1)) merge s after.merger after.fault c.merge_all.new.sink merged)
+    ended-run t g.K.Sink.accepts g.K.Sink.refuses c.requires.equipped.few plan option s after.merger after.reach after.fault c.merge_all.new.sink c.told.result c.requires.equipped.undecided
+    (merges-weaker (IsOffered J after.reach) g.K.Sink.accepts g.K.Sink.refuses P (λ r x. (c.requires.equipped.sent r x.0, x.1)) merge s after.merger after.fault c.merge_all.new.sink merged)
     c.told.ensures.none c.told.ensures.ending c.told.ensures.reach c.told.ensures.err

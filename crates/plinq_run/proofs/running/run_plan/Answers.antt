@@ -1,18 +1,32 @@
-use Rattle.std.proofs.Common.{rules, ◌≡◌, IfOk, refl, sym, subst}
+use Rattle.std.proofs.Common.{rules, ◌≡◌, ◌≤◌, ◌^◌, length, IfOk, refl, sym, subst}
 use Rattle.plinq_keyed.specs.History.{IsLegalHistory}
 use Rattle.plinq_partition.specs.Partitions.{holding_of}
+use Rattle.plinq_run.specs.Cuts.{AreEnders}
 use Rattle.plinq_run.specs.Reports.{MayMerge, Ends}
 use Rattle.plinq_run.specs.Results.{IsResult}
 use Rattle.plinq_run.proofs.Ended.{none-ended, ends-reported}
 use Rattle.plinq_run.proofs.running.run_plan.Goals as goal
 
-pub run_crew-ended-requires-clause-carried : goal.run_crew-ended-requires-clause-carried
-run_crew-ended-requires-clause-carried g c lifetimes outlive r is =
-    let origin : (holding_of c.in-Ok.own).origin ≡ g.S.Source.whole c.args.source = search rules in
-    subst (λ t. IsResult g.L.Lambda.meaning c.args.plan.now t r) (sym origin) (c.requires.carried r is)
+pub run_crew-ended-requires-clause-equipped : goal.run_crew-ended-requires-clause-equipped
+run_crew-ended-requires-clause-equipped g c lifetimes outlive =
+    let meaning = g.L.Lambda.meaning in
+    let plan = c.args.plan.now in
+    let origin : (holding_of c.in-Ok-new.partition).origin ≡ g.S.Source.whole c.args.source = search rules in
+    record {
+      of = c.in-Ok-new.ensures.of;
+      few = subst (λ t. length t.items ≤ 2 ^ 40) (sym origin) ((g.met.S.Source g.world.𝓛 g.world.𝓜 g.world.𝓡 (λ s a. a, λ a. a, λ a. a, λ a. a)).few c.args.source);
+      undecided = c.requires.plan;
+      results = λ r is. c.requires.carries r (subst (λ t. IsResult meaning plan t r) origin is);
+      sent = λ r is. subst (λ t. IsResult meaning plan t r) (sym origin) (c.requires.carried r is);
+      sees = c.in-Ok.ensures.pass;
+      enders = subst (λ t. AreEnders meaning plan t g.J.Carries.is_ender) (sym origin) c.requires.enders;
+    }
 
 pub returns-in_default-clause-reports : goal.returns-in_default-clause-reports
 returns-in_default-clause-reports g c = none-ended g.L.Lambda.meaning g.K.Sink.accepts g.K.Sink.refuses c.args.option c.args.plan.now (g.S.Source.whole c.args.source) c.args.sink.now _ refl
+
+pub returns-in_default-new-clause-reports : goal.returns-in_default-new-clause-reports
+returns-in_default-new-clause-reports g c = none-ended g.L.Lambda.meaning g.K.Sink.accepts g.K.Sink.refuses c.args.option c.args.plan.now (g.S.Source.whole c.args.source) c.args.sink.now _ refl
 
 pub returns-in_default-ruled-clause-reports : goal.returns-in_default-ruled-clause-reports
 returns-in_default-ruled-clause-reports g c = none-ended g.L.Lambda.meaning g.K.Sink.accepts g.K.Sink.refuses c.args.option c.args.plan.now (g.S.Source.whole c.args.source) c.args.sink.now _ refl
@@ -23,7 +37,7 @@ returns-clause-reports g c =
     let s = c.args.sink.now in
     let s' = c.run_crew-ended.new.sink in
     let May = MayMerge g.L.Lambda.meaning c.args.plan.now in
-    let origin : (holding_of c.in-Ok.own).origin ≡ t = search rules in
+    let origin : (holding_of c.in-Ok-new.partition).origin ≡ t = search rules in
     let legal : IfOk c.report.result (λ r. IsLegalHistory t r.records.items) = search rules in
     ends-reported g.K.Sink.accepts g.K.Sink.refuses c.args.option May t s s' c.run_crew-ended.result c.report.result
     (subst (λ x. Ends g.K.Sink.accepts g.K.Sink.refuses c.args.option May x s s' c.run_crew-ended.result) origin c.run_crew-ended.ensures.ends)

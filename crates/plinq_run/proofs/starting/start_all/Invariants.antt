@@ -1,14 +1,16 @@
 use Rattle.std.proofs.Common.{◌≡◌, ◌≤◌, All, length, vec_capacity}
 use Rattle.crossbeam_queue.specs.Passes.{IsPassOf}
+use Rattle.plinq_cut.specs.Passes.{IsPassOf as IsCutPassOf}
 use Rattle.plinq_partition.specs.Partitions.{IsPartitionOf, holding_of}
 use Rattle.plinq_run.specs.Hands.{IsHandOf}
 use Rattle.plinq_run.proofs.starting.start_all.Given as goal
 
 abbrev pub invariant-loop-worker : goal.invariant-loop-worker
 invariant-loop-worker g l = record {
-  of : IsPartitionOf l.crew.chunked.now l.own;
-  same : holding_of l.own ≡ holding_of l.fn.own;
-  queue : IsPassOf l.crew.queue.now l.pass;
+  of : IsPartitionOf l.crew.chunked.now l.own.partition;
+  same : holding_of l.own.partition ≡ holding_of l.fn.own.partition;
+  queue : IsPassOf l.crew.queue.now l.own.queue;
+  cut : IsCutPassOf l.crew.cut.now l.own.cut;
   hands : All (IsHandOf l.crew.chunked.now) l.hands.items;
   counted : length l.hands.items ≡ l.worker;
   room : l.workers ≤ vec_capacity l.hands;

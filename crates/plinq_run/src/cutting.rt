@@ -1,0 +1,52 @@
+//! What a worker does with the cut that it shares with the others.
+ghost use Rattle.std.specs.Prelude.{◌≡◌, ◌≢◌, ℕ, true, Some};
+ghost use Rattle.plinq_cut.specs.Cutting.{is_cut_of};
+ghost use Rattle.plinq_cut.specs.Passes.{IsPassOf};
+ghost use Rattle.plinq_ops.specs.Cut.{no_cut};
+ghost use Rattle.plinq_ops.specs.declared.frag_end.FragEnd.TheVariants.{Dropped};
+ghost use Rattle.plinq_ops.specs.declared.order.Order.TheVariants.{ByArrival};
+
+use plinq_cut::{CutPass, CutWord, Enders};
+use plinq_lambda::Lambda;
+use plinq_ops::{ChunkResult, FragEnd, Order, Plan};
+
+/// The cut under which a worker looks at its next chunk: none by arrival, where no key stands before another.
+pub(crate) fn cut_now<L: Lambda, E: Enders>(
+    plan: &Plan<'_, L>,
+    cut: &CutWord<E>,
+    pass: &mut CutPass,
+) -> u64
+    requires { IsPassOf cut.now pass.old }
+    ensures pass { IsPassOf cut.now pass.new }
+    ensures cut { is_cut_of E.is_ender result ≡ true }
+    ensures uncut { plan.now.order ≡ ByArrival → result ≡ no_cut }
+{
+    match plan.order {
+        Order::ByKey => cut.read(pass),
+        Order::ByArrival => u64::MAX,
+    }
+}
+
+/// Lowers the cut to the key at which a result ends the run, by key.
+pub(crate) fn cut_off<L: Lambda, E: Enders>(
+    plan: &Plan<'_, L>,
+    cut: &CutWord<E>,
+    pass: &mut CutPass,
+    made: &ChunkResult<L::Item>,
+)
+    requires pass { IsPassOf cut.now pass.old }
+    requires ender { (key : ℕ) → made.now.ending ≢ Dropped → made.now.stop ≡ Some key → E.is_ender key ≡ true }
+    ensures pass { IsPassOf cut.now pass.new }
+{
+    if plan.order == Order::ByArrival {
+        return;
+    }
+    match made.ending {
+        FragEnd::End | FragEnd::Fault(_) => {
+            if let Some(key) = made.stop {
+                cut.lower(pass, key);
+            }
+        }
+        _ => {}
+    }
+}
