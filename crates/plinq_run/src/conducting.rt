@@ -47,7 +47,8 @@ pub(crate) struct Ended<S: Source> {
     pub(crate) reach: Reach,
 }
 
-/// Closes the source once nothing more is wanted: the answer is decided, or there was a fault.
+/// Closes the source once nothing more is wanted: the answer is decided, or there was a fault. Where there is no memory to
+/// close it, it is tried again at the next turn.
 fn close_in_time<L, S, J, G, R>(
     rt: &R,
     crew: &Crew<'_, L, S, J, G>,
@@ -69,16 +70,18 @@ where
     ensures fault { merging.new.fault ≡ merging.old.fault }
     ensures reach { merging.new.reach ≡ merging.old.reach }
 {
-    if merging.is_closed {
+    if merging.is_stopped {
         return;
     }
     let is_whole = staff.started == staff.wanted && !crew.progress.has_failed();
-    if is_whole && !merging.is_over() {
+    if is_whole && !merging.is_closed && !merging.is_over() {
         return;
     }
     merging.is_closed = true;
-    if let Err(fault) = own.stop(rt, crew.chunked) {
-        shortages.note(fault);
+    crew.progress.move_to(u64::MAX);
+    match own.stop(rt, crew.chunked) {
+        Ok(()) => merging.is_stopped = true,
+        Err(fault) => shortages.note(fault),
     }
 }
 
@@ -122,6 +125,7 @@ where
             Some(made) => {
                 backoff.reset();
                 merging.take_in::<J, K>(made, sink);
+                crew.progress.move_to(merging.place());
             }
             None => {
                 if have_ended {
@@ -172,6 +176,7 @@ where
         reach: Reach::none(),
         fault: None,
         is_closed: false,
+        is_stopped: false,
     };
     let mut own = own;
     let mut shortages = Shortages::none();

@@ -10,14 +10,15 @@ use plinq_lambda::Lambda;
 use plinq_merge::{MergeFault, Merger, Sink};
 use plinq_ops::ChunkResult;
 
-/// A merger, how far what it was offered reaches, the fault after which it is offered nothing more, and whether the source
-/// was closed, since nothing more is wanted.
+/// A merger, how far what it was offered reaches, the fault after which it is offered nothing more, whether nothing more is
+/// wanted, and whether the source was closed for that.
 #[derive(Drop)]
 pub(crate) struct Merging<'a, L: Lambda> {
     pub(crate) merger: Merger<'a, L>,
     pub(crate) reach: Reach,
     pub(crate) fault: Option<MergeFault>,
     pub(crate) is_closed: bool,
+    pub(crate) is_stopped: bool,
 }
 
 impl<'a, L: Lambda> Merging<'a, L> {
@@ -50,6 +51,14 @@ impl<'a, L: Lambda> Merging<'a, L> {
         if self.fault.is_none() {
             sink.idle();
         }
+    }
+
+    /// The first key that isn't merged, or the greatest number where nothing more is wanted.
+    pub(crate) fn place(&self) -> u64 {
+        if self.is_closed || self.is_over() {
+            return u64::MAX;
+        }
+        self.merger.merged()
     }
 
     /// Whether it is offered nothing more, or wants nothing more.

@@ -1,10 +1,16 @@
+use crossbeam_utils::Backoff;
 use crossbeam_utils::sync::{EventCount, Key};
+use std::sync::Wait;
 use std::sync::atomic::{AtomicBool, AtomicU64, Ordering};
 
-/// How far the workers of a run are. It only tells the merging thread when to sleep and when to join them; no answer rests
-/// on it.
+/// How far the threads of a run are. It only tells the merging thread when to sleep and when to join the workers, and the
+/// workers when to wait; no answer rests on it.
 #[derive(Drop)]
 pub(crate) struct Progress {
+    /// How many keys above what is merged a worker may be.
+    window: u64,
+    /// A worker that stands above this key waits.
+    wanted: AtomicU64,
     ended: AtomicU64,
     failed: AtomicBool,
     /// What the merging thread sleeps on.
@@ -12,11 +18,31 @@ pub(crate) struct Progress {
 }
 
 impl Progress {
-    pub(crate) fn new() -> Progress {
+    /// Nothing is merged yet, and workers may be so many keys above it.
+    pub(crate) fn new(window: u64) -> Progress {
         Progress {
+            window,
+            wanted: AtomicU64::new(window),
             ended: AtomicU64::new(0),
             failed: AtomicBool::new(false),
             news: EventCount::new(),
+        }
+    }
+
+    /// All keys below this one are merged, or, where it is the greatest number, nothing more is wanted.
+    pub(crate) fn move_to(&self, place: u64) {
+        let wanted = place.saturating_add(self.window);
+        self.wanted.store(wanted, Ordering::SeqCst);
+    }
+
+    /// Waits while a worker stands so far above what is merged that it may not take more.
+    pub(crate) fn wait_at<R: Wait>(&self, rt: &R, place: u64) {
+        let backoff = Backoff::new();
+        for _ in rt.forever() {
+            if place <= self.wanted.load(Ordering::SeqCst) {
+                return;
+            }
+            backoff.snooze();
         }
     }
 

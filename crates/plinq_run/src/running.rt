@@ -32,7 +32,7 @@ use plinq_cut::CutWord;
 use plinq_enumerator::Growth;
 use plinq_lambda::Lambda;
 use plinq_merge::Sink;
-use plinq_ops::{MergeOption, Plan, Query};
+use plinq_ops::{MergeOption, Order, Plan, Query};
 use plinq_partition::Chunked;
 use plinq_source::{Ending, Source};
 use std::alloc::Global;
@@ -43,6 +43,20 @@ use std::thread::Threads;
 
 // How many results the queue has room for.
 const ROOM: usize = 64;
+
+// How many chunks of the largest size a worker may be above what is merged, for each worker.
+const CHUNKS_AHEAD: u64 = 64;
+
+/// How many keys above what is merged a worker may be. By arrival each result is merged at once, so there is no bound.
+fn window(order: Order, workers: u64, growth: Growth) -> u64 {
+    match order {
+        Order::ByKey => {
+            let largest = growth.size(u64::MAX);
+            largest.saturating_mul(CHUNKS_AHEAD).saturating_mul(workers)
+        }
+        Order::ByArrival => u64::MAX,
+    }
+}
 
 /// Runs a crew in a scope of threads.
 fn run_crew<J, L, S, G, K, R>(
@@ -121,7 +135,7 @@ where
     let Ok((queue, queue_pass)) = ResultQueue::<L::Item, J>::ruled(alloc, ROOM) else {
         return Err(RunFault::Memory);
     };
-    let progress = Progress::new();
+    let progress = Progress::new(window(plan.order, workers, growth));
     let crew = Crew {
         alloc,
         plan,

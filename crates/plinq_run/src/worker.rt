@@ -18,7 +18,7 @@ use crate::results::{Carries, ResultPass, ResultQueue, RunEnders, Sent};
 use crossbeam_utils::Backoff;
 use plinq_cut::{CutPass, CutWord};
 use plinq_lambda::Lambda;
-use plinq_ops::{ChunkResult, MergeOption, Plan, chunk_result};
+use plinq_ops::{ChunkResult, FragEnd, MergeOption, Plan, chunk_result};
 use plinq_partition::{Chunked, Partition, TakeFault};
 use plinq_source::Source;
 use std::alloc::Global;
@@ -45,6 +45,15 @@ pub(crate) fn send<T: Copy + Send, J: Carries<T>, R: Wait>(
                 backoff.snooze();
             }
         }
+    }
+}
+
+/// Where a worker stands whose last result is this one: behind its keys, or behind all keys where the run ends within them or
+/// before, so that it takes nothing more until the source is closed.
+fn place_behind<T>(made: &ChunkResult<T>) -> u64 {
+    match made.ending {
+        FragEnd::More => made.first.saturating_add(made.count),
+        _ => u64::MAX,
     }
 }
 
@@ -122,11 +131,13 @@ impl<'a, L: Lambda, S: Source<Item = L::Item>, J: Carries<L::Item>, G: Gate> Cre
             match self.next_result(rt, worker, &mut partition, &mut cut) {
                 Ok(made) => {
                     let is_last = made.tail.is_some();
+                    let place = place_behind(&made);
                     send(rt, self.queue, &mut queue, made);
                     self.progress.tell();
                     if is_last {
                         break;
                     }
+                    self.progress.wait_at(rt, place);
                 }
                 Err(fault) => {
                     self.progress.fail();

@@ -28,3 +28,5 @@ mod taken;
 mod unordered;
 #[cfg(test)]
 mod waiting;
+#[cfg(test)]
+mod window;

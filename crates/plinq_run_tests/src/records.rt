@@ -65,25 +65,24 @@ fn records_are_a_history_with_one_close(rt: HostRuntime) -> Result<(), Fail> {
     Ok(())
 }
 
-/// Takes three of a range, and asks that at most so many items were handed out.
+/// Takes three of a range, and asks that at most as many items were handed out as workers may be ahead, each with a chunk more.
 fn take_three<R: Threads + Wait + Sync + Abort>(
     rt: &R,
     alloc: Global,
     workers: u64,
     count: u64,
-    most: u64,
 ) -> Result<(), Fail> {
     let range = Given::Range(0, count);
     let records = records_of(rt, alloc, range, &[Op::Take(3)], by(workers))?;
     assert_eq!(rt; closes(&records), 1);
-    assert!(rt; handed_out(&records) <= most);
+    assert!(rt; handed_out(&records) <= workers.saturating_mul(65 * 512));
     Ok(())
 }
 
 #[test]
 fn a_long_range_is_closed_long_before_its_end(rt: HostRuntime) -> Result<(), Fail> {
     for workers in WORKERS {
-        take_three(&rt, rt.alloc(), workers, 1_099_511_627_776, 1_000_000_000)?;
+        take_three(&rt, rt.alloc(), workers, 1_099_511_627_776)?;
     }
     Ok(())
 }
