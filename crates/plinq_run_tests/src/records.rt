@@ -87,6 +87,37 @@ fn a_long_range_is_closed_long_before_its_end(rt: HostRuntime) -> Result<(), Fai
     Ok(())
 }
 
+/// How many items each request asked for, as far as one did.
+fn asked(alloc: Global, records: &[Record]) -> Result<Vec<u64>, Fail> {
+    let mut sizes = Vec::new(alloc);
+    for record in records {
+        if let Event::Ask(size) = record.asked {
+            sizes.push(size)?;
+        }
+    }
+    Ok(sizes)
+}
+
+#[test]
+fn chunks_grow_as_the_run_was_told(rt: HostRuntime) -> Result<(), Fail> {
+    let alloc = rt.alloc();
+    let by_default = records_of(&rt, alloc, Given::Range(0, 11), &[], by(1))?;
+    assert_eq!(rt;
+        asked(alloc, &by_default)?.as_slice(),
+        [1u64, 1, 1, 2, 2, 2, 4].as_slice()
+    );
+    let ones = Setting {
+        growth: Growth::ONE,
+        ..by(1)
+    };
+    let one_by_one = records_of(&rt, alloc, Given::Range(0, 3), &[], ones)?;
+    assert_eq!(rt;
+        asked(alloc, &one_by_one)?.as_slice(),
+        [1u64, 1, 1, 1].as_slice()
+    );
+    Ok(())
+}
+
 #[test]
 fn a_decided_query_asks_for_nothing(rt: HostRuntime) -> Result<(), Fail> {
     let records = records_of(&rt, rt.alloc(), Given::Refusing(7), &[Op::Take(0)], by(2))?;
