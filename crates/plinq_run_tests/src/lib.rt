@@ -15,6 +15,8 @@ mod asked;
 #[cfg(test)]
 mod by_chance;
 #[cfg(test)]
+mod cut_off;
+#[cfg(test)]
 mod records;
 #[cfg(test)]
 mod refused_batches;
