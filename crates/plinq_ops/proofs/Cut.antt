@@ -19,7 +19,7 @@ use Rattle.plinq_ops.proofs.Open.{open-from_continued, open_behind}
 use Rattle.plinq_ops.proofs.Chunks.{chunk_answer-cons}
 
 -- the keys that end the run are among those of the items
-enders-above : {L T : Type 0} (meaning : L → Meaning T) (worker : List (Op L)) (key : ℕ) (xs : List T) (k : ℕ) → is_among (enders meaning worker key xs) k ≡ true → key ≤ k
+pub enders-above : {L T : Type 0} (meaning : L → Meaning T) (worker : List (Op L)) (key : ℕ) (xs : List T) (k : ℕ) → is_among (enders meaning worker key xs) k ≡ true → key ≤ k
 enders-above meaning worker key [] k among = absurd (cc)
 enders-above meaning worker key (x ∷ xs) k among =
     elim (is_some (fragment_of meaning worker key x).ending) as (λ v. is_among (cond v (key ∷ enders meaning worker (key + 1) xs) (enders meaning worker (key + 1) xs)) k ≡ true → key ≤ k) [

@@ -1,8 +1,8 @@
 -- A result within the first items of a source is a result of these.
-use Rattle.std.specs.Prelude.{◌≡◌, ℕ, ◌+◌, ◌≤◌, ◌^◌, ◌==◌, ◌||◌, ◌⊎◌, List, [], ◌∷◌, ◌++◌, length, take, drop, true, false, cond, is_some, Option, Some, None, MatchBool, refl}
+use Rattle.std.specs.Prelude.{◌≡◌, ℕ, ◌+◌, ◌≤◌, ◌^◌, ◌==◌, ◌||◌, ◌⊎◌, List, [], ◌∷◌, ◌++◌, length, take, drop, true, Option, Some, None, MatchBool, refl}
 use Rattle.std.specs.Option.{IfSome}
 use Rattle.std.proofs.Common.{sym, ◌∙◌, ap, subst, inl, inr, arith}
-use Rattle.std.proofs.lemmas.Bool.{or_cases, or_left, or_right, eqb-true}
+use Rattle.std.proofs.lemmas.Bool.{or_cases, or_left, or_right}
 use Rattle.std.proofs.lemmas.List.{take-append-drop, take-append-le, drop-append-le, length-drop}
 use Rattle.std.proofs.lemmas.List.Folds.{list_any-append}
 use Rattle.plinq_source.specs.Trace.{Trace}
@@ -17,9 +17,8 @@ use Rattle.plinq_ops.specs.declared.plan.Plan.{Plan}
 use Rattle.plinq_ops.specs.declared.results.ChunkResult.{ChunkResult}
 use Rattle.plinq_ops.specs.Chunk.{ChunkAnswer, IsToldBy, IsChunkResult}
 use Rattle.plinq_ops.specs.Cut.{enders, no_cut, is_cut}
-use Rattle.plinq_ops.specs.Fragment.{fragment_of}
 use Rattle.plinq_ops.specs.Row.{IsOffer}
-use Rattle.plinq_ops.proofs.Cut.{enders-append, chunk_answer-above}
+use Rattle.plinq_ops.proofs.Cut.{enders-above, enders-append, chunk_answer-above}
 use Rattle.plinq_merge.specs.Shown.{told_at, behind_result}
 use Rattle.plinq_merge.specs.Whole.{EndsAt}
 use Rattle.plinq_run.specs.declared.reach.Reach.{Reach}
@@ -28,18 +27,6 @@ use Rattle.plinq_run.specs.Reaching.{IsOffered, Covers}
 use Rattle.plinq_run.specs.Results.{IsResult}
 
 module _ {L T : Type 0} (meaning : L → Meaning T) (worker : List (Op L)) where
-  -- a key that ends the run is one of the items'
-  ender-from : (key : ℕ) (xs : List T) (k : ℕ) → is_among (enders meaning worker key xs) k ≡ true → key ≤ k
-  ender-from key [] k among = absurd (let bad : false ≡ true = among in cc)
-  ender-from key (x ∷ xs) k among =
-      elim (is_some (fragment_of meaning worker key x).ending) as (λ v. is_among (cond v (key ∷ enders meaning worker (key + 1) xs) (enders meaning worker (key + 1) xs)) k ≡ true → key ≤ k) [
-        | true ↦ λ here. elim (or_cases (k == key) _ here) [
-          | inl is ↦ omega (arith, eqb-true k key is)
-          | inr later ↦ omega (arith, ender-from (key + 1) xs k later)
-        ]
-        | false ↦ λ later. omega (arith, ender-from (key + 1) xs k later)
-      ] among
-
   -- a cut of a source is one of its first items, or behind them
   cut-first : (xs ys : List T) (cut : ℕ) → is_cut meaning worker (xs ++ ys) cut ≡ true → (is_cut meaning worker xs cut ≡ true) ⊎ (length xs ≤ cut)
   cut-first xs ys cut is =
@@ -52,7 +39,7 @@ module _ {L T : Type 0} (meaning : L → Meaning T) (worker : List (Op L)) where
             ∙ ender in
             elim (or_cases (is_among (enders meaning worker 0 xs) cut) (is_among (enders meaning worker (0 + length xs) ys) cut) both) [
               | inl here ↦ inl (or_right (cut == no_cut) _ here)
-              | inr later ↦ inr (omega (arith, ender-from (0 + length xs) ys cut later))
+              | inr later ↦ inr (omega (arith, enders-above meaning worker (0 + length xs) ys cut later))
             ]
       ]
 
