@@ -1,0 +1,4 @@
+pub mod Beside
+pub mod Numbers
+mod Steps
+pub mod Under

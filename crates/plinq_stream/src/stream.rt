@@ -1,0 +1,33 @@
+use crate::carries::Carries;
+use crate::known::Known;
+use crate::sent::Sent;
+use crossbeam_queue::RuledArrayQueue;
+use crossbeam_queue::protocol::Protocol;
+use std::marker::PhantomData;
+
+/// The rule of the queue.
+pub struct InOrder<C> {
+    of: PhantomData<C>,
+}
+
+impl<T, C: Carries<T>> Protocol<Sent<T>, Known<T>> for InOrder<C> {
+    ghost use Rattle.plinq_stream.specs.Knowing.{first_known};
+    ghost use Rattle.plinq_stream.specs.Streams.{IsStream};
+
+    ghost holds = { IsStream C.carries };
+
+    ghost first = { first_known };
+}
+
+/// A queue with room for so many items, which many send to and one receives from.
+///
+/// ```text
+/// let (stream, mut mine) = Stream::<u64, C>::new(alloc, 64)?;     // receives, and has the numbers 0 to 63
+/// let mut theirs = stream.hand_out(&mut mine);                    // may send under number 0
+/// stream.send(&rt, &mut theirs, 0, 5);
+/// stream.receive(&rt, &mut mine)                                  // 5, under number 0
+/// ```
+#[derive(Drop)]
+pub struct Stream<T, C: Carries<T>> {
+    pub(crate) queue: RuledArrayQueue<Sent<T>, Known<T>, InOrder<C>>,
+}

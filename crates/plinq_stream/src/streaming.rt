@@ -1,0 +1,99 @@
+ghost use Rattle.std.specs.Prelude.{◌≡◌, ◌<◌, [], true, false, IfOk, IfNone, IfSome, MatchOption};
+ghost use Rattle.plinq_stream.specs.Knowing.{first_known, with_sent, with_received, without_first, with_first, together};
+ghost use Rattle.plinq_stream.specs.Passes.{IsPassOf, known};
+ghost use Rattle.plinq_stream.specs.Streams.{has, MayHandOut, HasReceivedAll};
+
+use crate::carries::Carries;
+use crate::plays::{Comes, HandsOut, Sends, TakesIn};
+use crate::sent::Sent;
+use crate::stream::Stream;
+use crate::stream_pass::StreamPass;
+use crossbeam_queue::RuledArrayQueue;
+use crossbeam_utils::Backoff;
+use std::alloc::{AllocError, Global};
+use std::sync::Wait;
+
+impl<T: Drop, C: Carries<T>> Stream<T, C> {
+    /// A stream with room for so many items, and the pass that receives, which has the numbers 0 to 63.
+    ///
+    /// # Errors
+    ///
+    /// [`AllocError`] where there is no room for the items.
+    pub fn new(alloc: Global, room: usize) -> Result<(Stream<T, C>, StreamPass<T>), AllocError>
+        requires { 0 < room }
+        ensures pass { IfOk result (λ made. IsPassOf made.0 made.1) }
+        ensures first { IfOk result (λ made. known made.1 ≡ first_known) }
+    {
+        let (queue, pass) = RuledArrayQueue::ruled(alloc, room)?;
+        Ok((Stream { queue }, StreamPass { pass }))
+    }
+
+    /// Sends an item under a number of the pass, and waits while the queue is full.
+    pub fn send<R: Wait>(&self, rt: &R, pass: &mut StreamPass<T>, number: u64, item: T)
+        requires pass { IsPassOf self.now pass.old }
+        requires own { has number (known pass.old).numbers ≡ true }
+        requires carried { C.carries item }
+        ensures pass { IsPassOf self.now pass.new }
+        ensures sent { known pass.new ≡ with_sent (known pass.old) (record { number = number; item = item }) }
+    {
+        let backoff = Backoff::new();
+        let mut waiting = Sent { number, item };
+        for _ in rt.forever() {
+            match self.queue.try_push_as::<Sends>(&mut pass.pass, waiting) {
+                Ok(()) => return,
+                Err(back) => {
+                    waiting = back;
+                    backoff.snooze();
+                }
+            }
+        }
+    }
+
+    /// The next item, unless there is none now or another thread is in the way.
+    pub fn try_receive(&self, pass: &mut StreamPass<T>) -> Option<Sent<T>>
+        requires pass { IsPassOf self.now pass.old }
+        requires receives { (known pass.old).receives ≡ true }
+        ensures pass { IsPassOf self.now pass.new }
+        ensures received { MatchOption result (known pass.new ≡ known pass.old) (λ s. known pass.new ≡ with_received (known pass.old) s) }
+        ensures carried { IfSome result (λ s. C.carries s.item) }
+    {
+        self.queue.try_pop_as::<Comes<C>>(&mut pass.pass)
+    }
+
+    /// The next item, or that there was none at one moment of the call.
+    pub fn receive<R: Wait>(&self, rt: &R, pass: &mut StreamPass<T>) -> Option<Sent<T>>
+        requires pass { IsPassOf self.now pass.old }
+        requires receives { (known pass.old).receives ≡ true }
+        ensures pass { IsPassOf self.now pass.new }
+        ensures received { MatchOption result (known pass.new ≡ known pass.old) (λ s. known pass.new ≡ with_received (known pass.old) s) }
+        ensures carried { IfSome result (λ s. C.carries s.item) }
+        ensures all { IfNone result (HasReceivedAll (known pass.new)) }
+    {
+        self.queue.pop_as::<Comes<C>, R>(rt, &mut pass.pass)
+    }
+
+    /// A pass with the first number that this one has, which may send under it in place of this one.
+    pub fn hand_out(&self, pass: &mut StreamPass<T>) -> StreamPass<T>
+        requires pass { IsPassOf self.now pass.old }
+        requires first { MayHandOut (known pass.old) }
+        ensures pass { IsPassOf self.now pass.new }
+        ensures left { known pass.new ≡ without_first (known pass.old) }
+        ensures of { IsPassOf self.now result }
+        ensures first { known result ≡ with_first (known pass.old) }
+    {
+        let pass = self.queue.another::<HandsOut>(&mut pass.pass);
+        StreamPass { pass }
+    }
+
+    /// Takes in a pass that doesn't receive: its numbers, and what it sent.
+    pub fn join(&self, pass: &mut StreamPass<T>, other: StreamPass<T>)
+        requires pass { IsPassOf self.now pass.old }
+        requires other { IsPassOf self.now other }
+        requires sends { (known other).receives ≡ false }
+        ensures pass { IsPassOf self.now pass.new }
+        ensures both { known pass.new ≡ together (known pass.old) (known other) }
+    {
+        let StreamPass { pass: other } = other;
+        self.queue.absorb::<TakesIn>(&mut pass.pass, other);
+    }
+}
