@@ -48,7 +48,7 @@ REFUSED = [
     document(LIST, ["take", 1], ["as_ordered"]),
 ]
 CASES = (
-    [(words, it) for it in ANSWERED for words in (["run", "--merge", "not"], ["run", "--workers", "1"], ["run", "--workers", "8"], ["plan", "--workers", "2"], ["parts"], ["history", "--workers", "2"])]
+    [(words, it) for it in ANSWERED for words in (["run", "--workers", "2", "--merge", "not"], ["run", "--workers", "1"], ["run", "--workers", "8"], ["plan", "--workers", "2"], ["parts"], ["history", "--workers", "2"])]
     + [(["run", "--workers", "2"], UNORDERED), (["run", "--merge", "full"], ANSWERED[0]), (["seq"], ANSWERED[1]), (["seq", "--merge", "auto"], ANSWERED[6])]
     + [(["run"], it) for it in REFUSED]
     + [(words, ANSWERED[0]) for words in ([], ["walk"], ["run", "--workers", "0"], ["seq", "--merge", "some"], ["plan", "x"])]
