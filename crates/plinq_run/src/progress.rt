@@ -4,7 +4,7 @@ use std::sync::Wait;
 use std::sync::atomic::{AtomicBool, AtomicU64, Ordering};
 
 /// How far the threads of a run are. It only tells the merging thread when to sleep and when to join the workers, and the
-/// workers when to wait; no answer rests on it.
+/// workers when to wait and when to go on; no answer rests on it.
 #[derive(Drop)]
 pub(crate) struct Progress {
     /// How many keys above what is merged a worker may be.
@@ -15,6 +15,8 @@ pub(crate) struct Progress {
     failed: AtomicBool,
     /// What the merging thread sleeps on.
     news: EventCount,
+    /// What the workers sleep on that wait.
+    room: EventCount,
 }
 
 impl Progress {
@@ -26,23 +28,38 @@ impl Progress {
             ended: AtomicU64::new(0),
             failed: AtomicBool::new(false),
             news: EventCount::new(),
+            room: EventCount::new(),
         }
     }
 
-    /// All keys below this one are merged, or, where it is the greatest number, nothing more is wanted.
+    /// All keys below this one are merged, or, where it is the greatest number, nothing more is wanted. Workers are let on by
+    /// half a window at once, so that those that sleep aren't woken by each result.
     pub(crate) fn move_to(&self, place: u64) {
         let wanted = place.saturating_add(self.window);
-        self.wanted.store(wanted, Ordering::SeqCst);
+        let last = self.wanted.load(Ordering::SeqCst);
+        let is_far = wanted == u64::MAX || wanted.saturating_sub(last) >= self.window / 2;
+        if is_far && wanted != last {
+            self.wanted.store(wanted, Ordering::SeqCst);
+            self.room.notify_all();
+        }
     }
 
-    /// Waits while a worker stands so far above what is merged that it may not take more.
+    /// Waits while a worker stands so far above what is merged that it may not take more. Where that takes long, it sleeps.
     pub(crate) fn wait_at<R: Wait>(&self, rt: &R, place: u64) {
         let backoff = Backoff::new();
         for _ in rt.forever() {
+            let sleep = if backoff.is_completed() {
+                Some(self.room.prepare_wait())
+            } else {
+                None
+            };
             if place <= self.wanted.load(Ordering::SeqCst) {
                 return;
             }
-            backoff.snooze();
+            match sleep {
+                Some(sleep) => sleep.wait(rt),
+                None => backoff.snooze(),
+            }
         }
     }
 
