@@ -1,10 +1,10 @@
 //! What a worker does with the cut that it shares with the others.
-ghost use Rattle.std.specs.Prelude.{◌≡◌, ◌≢◌, ℕ, true, Some};
+ghost use Rattle.std.specs.Prelude.{◌≡◌, ◌≢◌, ◌≤◌, ℕ, true, Some};
 ghost use Rattle.plinq_cut.specs.Cutting.{is_cut_of};
-ghost use Rattle.plinq_cut.specs.Passes.{IsPassOf};
+ghost use Rattle.plinq_cut.specs.Passes.{IsPassOf, least};
 ghost use Rattle.plinq_ops.specs.Cut.{no_cut};
-ghost use Rattle.plinq_ops.specs.declared.frag_end.FragEnd.TheVariants.{Dropped};
-ghost use Rattle.plinq_ops.specs.declared.order.Order.TheVariants.{ByArrival};
+ghost use Rattle.plinq_ops.specs.declared.frag_end.FragEnd.TheVariants.{Dropped, More};
+ghost use Rattle.plinq_ops.specs.declared.order.Order.TheVariants.{ByArrival, ByKey};
 
 use plinq_cut::{CutPass, CutWord, Enders};
 use plinq_lambda::Lambda;
@@ -19,6 +19,8 @@ pub(crate) fn cut_now<L: Lambda, E: Enders>(
     requires { IsPassOf cut.now pass.old }
     ensures pass { IsPassOf cut.now pass.new }
     ensures cut { is_cut_of E.is_ender result ≡ true }
+    ensures seen { plan.now.order ≡ ByKey → result ≤ least pass.old }
+    ensures least { plan.now.order ≡ ByKey → least pass.new ≡ result }
     ensures uncut { plan.now.order ≡ ByArrival → result ≡ no_cut }
 {
     match plan.order {
@@ -37,6 +39,8 @@ pub(crate) fn cut_off<L: Lambda, E: Enders>(
     requires pass { IsPassOf cut.now pass.old }
     requires ender { (key : ℕ) → made.now.ending ≢ Dropped → made.now.stop ≡ Some key → E.is_ender key ≡ true }
     ensures pass { IsPassOf cut.now pass.new }
+    ensures lowers { (key : ℕ) → plan.now.order ≡ ByKey → made.now.ending ≢ More → made.now.ending ≢ Dropped → made.now.stop ≡ Some key → least pass.new ≤ key }
+    ensures seen { least pass.new ≤ least pass.old }
 {
     if plan.order == Order::ByArrival {
         return;
