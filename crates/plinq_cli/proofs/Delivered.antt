@@ -35,7 +35,7 @@ use Rattle.plinq_lines.proofs.WrittenBytes.{Bytes, appends-as, begins-all, begin
 use Rattle.plinq_cli.specs.declared.command.Command.TheVariants.{Run}
 use Rattle.plinq_cli.specs.declared.serve_fault.ServeFault.{ServeFault}
 use Rattle.plinq_cli.specs.declared.serve_fault.ServeFault.TheVariants.{Memory, Write, Run as NoRun, Take}
-use Rattle.plinq_cli.specs.ServeFaults.{serve_fault_of_run}
+use Rattle.plinq_cli.specs.ServeFaults.{MayFail, serve_fault_of_run}
 use Rattle.plinq_cli.specs.Served.{MayAnswer, batch_lines, Delivers, HasDelivered, HasFailed, HasBrokenOff, HasWritten, IsText, LeavesLines, LeavesWholeLines, Serves}
 use Rattle.plinq_cli.specs.Told.{told_text}
 use Rattle.plinq_cli.proofs.Answered.{serves-begun}
@@ -118,9 +118,9 @@ module _ (q : QueryView Formula) (t : Trace ℤ) (a b : Bytes) where
 
   failed-begun : (fault : ServeFault) → Delivers q t a b (Err fault) → HasFailed q t a b
   failed-begun (NoRun fault) h = first-begun h.1
-  failed-begun Memory h = h
+  failed-begun Memory h = absurd h
   failed-begun Write h = h
-  failed-begun (Take fault) h = h
+  failed-begun (Take fault) h = absurd h
 
 abbrev text : QueryView Formula → Trace ℤ → List ℕ
 text q u = answer_text (merge_in_force q.merge) u
@@ -139,10 +139,17 @@ run-failed j job a b r fault same items failed d =
 
 -- unless a write failed, these are whole lines
 whole-lines : (job : JobView) (a b : Bytes) (fault : ServeFault) → job.aggregate ≡ None → Delivers job.query job.source a b (Err fault) → LeavesWholeLines job a b (Err fault)
-whole-lines job a b (NoRun fault) items h = (h.0, subst (λ kind. LeavesLines kind job.query job.source a b) (sym items) h.1)
+whole-lines job a b (NoRun fault) items h = subst (λ kind. LeavesLines kind job.query job.source a b) (sym items) h.1
 whole-lines job a b Memory items h = tt
 whole-lines job a b Write items h = tt
 whole-lines job a b (Take fault) items h = tt
+
+-- only a run that broke off, and a failing write, are told
+pub run-failed-so : (q : QueryView Formula) (t : Trace ℤ) (a b : Bytes) (fault : ServeFault) → Delivers q t a b (Err fault) → MayFail Run fault
+run-failed-so q t a b (NoRun fault) h = (refl, h.0)
+run-failed-so q t a b Memory h = absurd h
+run-failed-so q t a b Write h = tt
+run-failed-so q t a b (Take fault) h = absurd h
 
 pub run-failed-whole : (j job : JobView) (a b : Bytes) (r : Result Ending ServeFault) (fault : ServeFault) → j ≡ job → job.aggregate ≡ None → r ≡ Err fault
     → Delivers j.query j.source a b (Err fault) → LeavesWholeLines job a b r

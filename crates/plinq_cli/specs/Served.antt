@@ -102,23 +102,23 @@ module _ (q : QueryView Formula) (t : Trace ℤ) (old new : Option (List ℕ)) w
     pub first : batches (merge_in_force q.merge) answer ≡ sent ++ rest
     pub lines : Appends old new (flat_map batch_line sent)
 
-  -- what was written of the batches of a run that ended so; a fault of the run itself is never that the writer took no more
+  -- what was written of the batches of a run that ended so, or failed: in writing, or by a fault of its own
   abbrev pub Delivers : Result Ending ServeFault → Type 0
   Delivers (Ok e) = HasDelivered e
   Delivers (Err (NoRun fault)) = (told_refusal fault ≡ None) × HasBrokenOff
-  Delivers (Err Memory) = HasFailed
+  Delivers (Err Memory) = ⊥
   Delivers (Err Write) = HasFailed
-  Delivers (Err (Take fault)) = HasFailed
+  Delivers (Err (Take fault)) = ⊥
 
 -- what was written of a run that broke off: the lines of its first batches, and of an aggregate nothing
 abbrev pub LeavesLines : Option Kind → QueryView Formula → Trace ℤ → Option (List ℕ) → Option (List ℕ) → Type 0
 LeavesLines None q t old new = HasBrokenOff q t old new
 LeavesLines (Some kind) q t old new = Keeps old new
 
--- where the run itself broke off, which is never since the writer took no more, no line was left half written
+-- where the run itself broke off, no line was left half written
 abbrev pub LeavesWholeLines : JobView → Option (List ℕ) → Option (List ℕ) → Result Ending ServeFault → Type 0
 LeavesWholeLines job old new (Ok e) = ⊤
-LeavesWholeLines job old new (Err (NoRun fault)) = (told_refusal fault ≡ None) × LeavesLines job.aggregate job.query job.source old new
+LeavesWholeLines job old new (Err (NoRun fault)) = LeavesLines job.aggregate job.query job.source old new
 LeavesWholeLines job old new (Err Memory) = ⊤
 LeavesWholeLines job old new (Err Write) = ⊤
 LeavesWholeLines job old new (Err (Take fault)) = ⊤
@@ -142,7 +142,7 @@ unfolding digits
 add_one_is_printed = refl
 
 -- without `as_ordered` two numbers may change places
-two_exchanged : MayAnswer false [] (ended (pos 1 ∷ pos 2 ∷ []) End) (ended (pos 2 ∷ pos 1 ∷ []) End)
+pub two_exchanged : MayAnswer false [] (ended (pos 1 ∷ pos 2 ∷ []) End) (ended (pos 2 ∷ pos 1 ∷ []) End)
 two_exchanged = record {
   between = ended (pos 2 ∷ pos 1 ∷ []) End;
   given = record { items = record { moves = (0, 1) ∷ []; below = (omega arith, omega arith, tt); is = refl }; ending = refl };

@@ -2,6 +2,7 @@ ghost use Rattle.std.specs.Prelude.{◌≡◌, ◌≤◌, Some, None, IfOk, IfEr
 ghost use Rattle.plinq_keyed.specs.Keys.{keyed_from, element_lists};
 ghost use Rattle.plinq_partition.specs.Cuts.{cuts};
 ghost use Rattle.plinq_source.specs.Trace.{ended};
+ghost use Rattle.plinq_cli.specs.ServeFaults.{MayFail};
 ghost use Rattle.plinq_cli.specs.Served.{Delivers, LeavesWholeLines, Serves};
 
 use crate::aggregating::{value_by_threads, write_told};
@@ -29,17 +30,24 @@ use std::thread::Threads;
 /// After a fault what was written is a beginning of these lines; how long it is isn't said, but that a run that broke off
 /// leaves whole lines.
 ///
+/// ```text
+/// let job = read_document(rt.alloc(), document, settings)?;
+/// let ending = serve(&rt, Command::Run, job, &mut out)?;
+/// ```
+///
 /// # Errors
 ///
-/// [`ServeFault::Memory`] where there is no memory for the answer, [`ServeFault::Write`] where the writer answers an
-/// error, or takes none of the bytes that it is given, [`ServeFault::Run`] where a run breaks off for another cause, and
-/// [`ServeFault::Take`] where the partitions of a history don't get through.
+/// [`ServeFault::Memory`] where `seq`, `parts` or `history` have no memory for the answer, [`ServeFault::Write`] where the
+/// writer answers an error, or takes none of the bytes that it is given, [`ServeFault::Run`] where a run breaks off for
+/// another cause, also for want of memory, and [`ServeFault::Take`] where the partitions of a history don't get through
+/// for another cause than that.
 pub fn serve<R, W>(rt: &R, command: Command, job: Job, writer: &mut W) -> Result<Ending, ServeFault>
 where
     R: AllocGlobal + Threads + Wait + Sync,
     W: Write,
     ensures written { Serves command job (W.contents writer.old) (W.contents writer.new) result }
     ensures whole { command ≡ Command.Run → LeavesWholeLines job (W.contents writer.old) (W.contents writer.new) result }
+    ensures faults { IfErr result (MayFail command) }
 {
     let alloc = rt.alloc();
     match command {
@@ -58,6 +66,7 @@ where
     W: Write,
     ensures written { Serves Command.Run job (W.contents writer.old) (W.contents writer.new) result }
     ensures whole { LeavesWholeLines job (W.contents writer.old) (W.contents writer.new) result }
+    ensures faults { IfErr result (MayFail Command.Run) }
 {
     match job.aggregate {
         None => serve_batches(rt, job, writer),
@@ -73,6 +82,7 @@ where
     requires items { job.aggregate ≡ None }
     ensures written { Serves Command.Run job (W.contents writer.old) (W.contents writer.new) result }
     ensures whole { LeavesWholeLines job (W.contents writer.old) (W.contents writer.new) result }
+    ensures faults { IfErr result (MayFail Command.Run) }
 {
     let Job {
         query,
@@ -93,6 +103,7 @@ where
     requires value { job.aggregate ≡ Some kind }
     ensures written { Serves Command.Run job (W.contents writer.old) (W.contents writer.new) result }
     ensures whole { LeavesWholeLines job (W.contents writer.old) (W.contents writer.new) result }
+    ensures faults { IfErr result (MayFail Command.Run) }
 {
     let Job {
         query,
@@ -164,7 +175,8 @@ where
 }
 
 fn serve_sequential<W: Write>(alloc: Global, job: Job, writer: &mut W) -> Result<Ending, ServeFault>
-    ensures { Serves Command.Seq job (W.contents writer.old) (W.contents writer.new) result }
+    ensures written { Serves Command.Seq job (W.contents writer.old) (W.contents writer.new) result }
+    ensures faults { IfErr result (MayFail Command.Seq) }
 {
     let Job {
         query,
@@ -179,14 +191,16 @@ fn serve_sequential<W: Write>(alloc: Global, job: Job, writer: &mut W) -> Result
 }
 
 fn serve_plan<W: Write>(job: &Job, writer: &mut W) -> Result<Ending, ServeFault>
-    ensures { Serves Command.Plan job.now (W.contents writer.old) (W.contents writer.new) result }
+    ensures written { Serves Command.Plan job.now (W.contents writer.old) (W.contents writer.new) result }
+    ensures faults { IfErr result (MayFail Command.Plan) }
 {
     write_plan(writer, &job.query)?;
     Ok(Ending::End)
 }
 
 fn serve_parts<W: Write>(alloc: Global, job: Job, writer: &mut W) -> Result<Ending, ServeFault>
-    ensures { Serves Command.Parts job (W.contents writer.old) (W.contents writer.new) result }
+    ensures written { Serves Command.Parts job (W.contents writer.old) (W.contents writer.new) result }
+    ensures faults { IfErr result (MayFail Command.Parts) }
 {
     let Job {
         query,
@@ -201,7 +215,8 @@ fn serve_parts<W: Write>(alloc: Global, job: Job, writer: &mut W) -> Result<Endi
 }
 
 fn serve_history<W: Write>(alloc: Global, job: Job, writer: &mut W) -> Result<Ending, ServeFault>
-    ensures { Serves Command.History job (W.contents writer.old) (W.contents writer.new) result }
+    ensures written { Serves Command.History job (W.contents writer.old) (W.contents writer.new) result }
+    ensures faults { IfErr result (MayFail Command.History) }
 {
     let Job {
         query,

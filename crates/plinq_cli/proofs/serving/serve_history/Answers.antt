@@ -20,8 +20,8 @@ unreachable-requires g c =
     let none : c.args.job.source.ending ≡ None = sym tells.told ∙ (sym c.told_ending.ensures ∙ c.in_default.is) in
     subst IsSourceEnding none tells.ends
 
-pub returns-in_err-write_history : goal.returns-in_err-write_history
-returns-in_err-write_history g c =
+pub returns-in_err-write_history-clause-written : goal.returns-in_err-write_history-clause-written
+returns-in_err-write_history-clause-written g c =
     let e = c.in_ok-enumerator.enumerator in
     let records = c.records-records.result.now in
     let tells = taken-tell c.args.job _ c.degree.result (any_whole (held_source e)) (held_records e) records c.job.view_is c.degree.ensures.value
@@ -31,8 +31,8 @@ returns-in_err-write_history g c =
     serves-begun History c.args.job _ _ _ c.args.job.source _ c.from_residual-in_err-write_history.ensures.0 refl (records, tells.history, refl)
     (begins-as _ _ _ _ (ap (history_text records) ended) c.in_err-write_history.ensures)
 
-pub returns : goal.returns
-returns g c =
+pub returns-clause-written : goal.returns-clause-written
+returns-clause-written g c =
     let e = c.in_ok-enumerator.enumerator in
     let records = c.records-records.result.now in
     let tells = taken-tell c.args.job _ c.degree.result (any_whole (held_source e)) (held_records e) records c.job.view_is c.degree.ensures.value

@@ -24,22 +24,22 @@ written p parts e items n m t u properties cut same all whole =
     ∙ ap (parts_text n) (all ∙ whole)
     ∙ ap (λ k. parts_text k u) same
 
-pub returns-in_err-items : goal.returns-in_err-items
-returns-in_err-items g c = serves-unwritten Parts c.args.job _ _ c.from_residual.ensures.0
+pub returns-in_err-items-clause-written : goal.returns-in_err-items-clause-written
+returns-in_err-items-clause-written g c = serves-unwritten Parts c.args.job _ _ c.from_residual.ensures.0
 
-pub returns-in_err-partitions : goal.returns-in_err-partitions
-returns-in_err-partitions g c = serves-unwritten Parts c.args.job _ _ c.from_residual-in_err-partitions.ensures.0
+pub returns-in_err-partitions-clause-written : goal.returns-in_err-partitions-clause-written
+returns-in_err-partitions-clause-written g c = serves-unwritten Parts c.args.job _ _ c.from_residual-in_err-partitions.ensures.0
 
-pub returns-in_err-write_parts : goal.returns-in_err-write_parts
-returns-in_err-write_parts g c =
+pub returns-in_err-write_parts-clause-written : goal.returns-in_err-write_parts-clause-written
+returns-in_err-write_parts-clause-written g c =
     let cut : element_lists c.as_slice.result.now ≡ cuts (keyed_from 0 c.in_ok-items.items.items) c.degree.result = search rules in
     let degree : c.degree.result ≡ degree_in_force c.args.job.query.degree = c.degree.ensures.value ∙ ap (λ (j : JobView). degree_in_force j.query.degree) c.job.view_is in
     let whole = ap (λ (j : JobView). j.source) c.job.view_is in
     serves-begun Parts c.args.job _ _ _ c.args.job.source _ c.from_residual-in_err-write_parts.ensures.0 refl refl
     (begins-as _ _ _ _ (written _ _ _ _ _ _ _ _ c.properties.ensures cut degree c.in_ok-items.ensures whole) c.in_err-write_parts.ensures)
 
-pub returns : goal.returns
-returns g c =
+pub returns-clause-written : goal.returns-clause-written
+returns-clause-written g c =
     let cut : element_lists c.as_slice.result.now ≡ cuts (keyed_from 0 c.in_ok-items.items.items) c.degree.result = search rules in
     let degree : c.degree.result ≡ degree_in_force c.args.job.query.degree = c.degree.ensures.value ∙ ap (λ (j : JobView). degree_in_force j.query.degree) c.job.view_is in
     let whole = ap (λ (j : JobView). j.source) c.job.view_is in (

@@ -3,5 +3,5 @@ use Rattle.plinq_cli.specs.declared.command.Command.TheVariants.{Seq}
 use Rattle.plinq_cli.proofs.Answered.{serves-unwritten}
 use Rattle.plinq_cli.proofs.serving.serve_sequential.Goals as goal
 
-pub returns-in_err-items : goal.returns-in_err-items
-returns-in_err-items g c = serves-unwritten Seq c.args.job _ _ c.from_residual.ensures.0
+pub returns-in_err-items-clause-written : goal.returns-in_err-items-clause-written
+returns-in_err-items-clause-written g c = serves-unwritten Seq c.args.job _ _ c.from_residual.ensures.0
