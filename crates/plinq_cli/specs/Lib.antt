@@ -1,7 +1,6 @@
 pub mod Rounds
 pub mod ServeFaults
 pub mod Told
-pub mod Aggregated
 pub mod Served
 pub mod Arguments
 pub mod Performed

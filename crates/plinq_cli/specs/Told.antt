@@ -1,11 +1,14 @@
--- What is told of a query's answer: its batches, or the value of its aggregate.
-use Rattle.std.specs.Prelude.{◌≡◌, ℕ, ℤ, pos, negsuc, List, [], ◌∷◌, Option, Some, None, codes, refl}
+-- What is told of a query's answer: its batches, or the value of its aggregate, and what threads tell of the latter.
+use Rattle.std.specs.Prelude.{◌≡◌, ◌≢◌, ℕ, ℤ, pos, negsuc, List, [], ◌∷◌, Option, Some, None, Result, Ok, Err, codes, refl}
 use Rattle.std.specs.Int.{int_wrap, int_min, int_max}
 use Rattle.std.specs.Fmt.{digits}
 use Rattle.plinq_source.specs.Trace.{Trace, ended}
 use Rattle.plinq_source.specs.declared.ending.Ending.TheVariants.{End, Refused}
 use Rattle.plinq_aggregate.specs.Folding.{aggregated}
 use Rattle.plinq_aggregate.specs.Numbers.{summing, counting, picking}
+use Rattle.plinq_run.specs.declared.aggregate_fault.AggregateFault.{AggregateFault}
+use Rattle.plinq_run.specs.declared.aggregate_fault.AggregateFault.TheVariants.{Ended, Run}
+use Rattle.plinq_run.specs.Runs.{told_refusal}
 use Rattle.plinq_ops.specs.declared.merge_option.MergeOption.{MergeOption}
 use Rattle.plinq_ops.specs.declared.merge_option.MergeOption.TheVariants.{NotBuffered}
 use Rattle.plinq_document.specs.declared.kind.Kind.{Kind}
@@ -24,6 +27,12 @@ kind_value Max xs = aggregated (picking int_max) xs
 abbrev pub told_text : Option Kind → MergeOption → Trace ℤ → List ℕ
 told_text None option u = answer_text option u
 told_text (Some kind) option u = aggregate_text (kind_value kind u.items) u.ending
+
+-- of one of these answers its value was told, where it ended well, or else how it ended; or there is none, which is never since a sink refused
+abbrev pub TellsValue : (List ℤ → Option ℤ) → (Trace ℤ → Type 0) → Result (Option ℤ) AggregateFault → Type 0
+TellsValue value Is (Ok v) = (u : Trace ℤ) × Is u × (v ≡ value u.items) × (u.ending ≡ Some End)
+TellsValue value Is (Err (Ended e)) = (u : Trace ℤ) × Is u × (u.ending ≡ Some e) × (e ≢ End)
+TellsValue value Is (Err (Run fault)) = told_refusal fault ≡ None
 
 -- ---- worked rows
 

@@ -2,9 +2,8 @@ ghost use Rattle.std.specs.Prelude.{◌≡◌};
 ghost use Rattle.plinq_lines.specs.Written.{Writes};
 ghost use Rattle.plinq_run.specs.Aggregates.{AggregatesSome};
 ghost use Rattle.plinq_source.specs.Trace.{ended};
-ghost use Rattle.plinq_cli.specs.Aggregated.{TellsValue};
 ghost use Rattle.plinq_cli.specs.Served.{MayAnswer};
-ghost use Rattle.plinq_cli.specs.Told.{kind_value, told_text};
+ghost use Rattle.plinq_cli.specs.Told.{TellsValue, kind_value, told_text};
 
 use plinq_aggregate::{Aggregator, Count, Max, Min, Sum, fold_sequential};
 use plinq_document::{AnySource, Kind};
