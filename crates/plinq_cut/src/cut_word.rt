@@ -28,10 +28,10 @@ impl<E: Enders> TableRule<(), View, ()> for Cuts<E> {
 /// is merged by key.
 ///
 /// ```text
-/// let (cut, mut pass) = CutWord::<E>::new(alloc)?;               // beyond all keys
-/// let mut other = cut.split(&mut pass);                           // one for each worker
-/// cut.lower(&mut pass, 5);                                        // the element of key 5 ends the run
-/// cut.read(&mut other)                                            // 5
+/// let (cut, mut pass) = CutWord::<E>::new(alloc, &plan, &source)?; // beyond all keys
+/// let mut other = cut.split(&mut pass);                            // one for each worker
+/// cut.lower(&mut pass, 5);                                         // the element of key 5 ends the run
+/// cut.read(&mut other)                                             // 5
 /// ```
 #[derive(Drop)]
 pub struct CutWord<E: Enders> {

@@ -1,6 +1,7 @@
 ghost use Rattle.std.specs.Prelude.{◌≡◌, ◌≤◌, true, IfOk, min};
 ghost use Rattle.plinq_ops.specs.Cut.{no_cut};
 ghost use Rattle.plinq_cut.specs.Cutting.{is_cut_of};
+ghost use Rattle.plinq_cut.specs.OfPlan.{AreEnders};
 ghost use Rattle.plinq_cut.specs.Passes.{IsPassOf, least};
 
 use crate::cut_pass::CutPass;
@@ -8,16 +9,23 @@ use crate::cut_word::{CutWord, WORD};
 use crate::enders::Enders;
 use crate::plays::{Cut, Glue, Lower, See};
 use atomic_table::Table;
-use plinq_source::OutOfMemory;
+use plinq_lambda::Lambda;
+use plinq_ops::Plan;
+use plinq_source::{OutOfMemory, Source};
 use std::alloc::Global;
 
 impl<E: Enders> CutWord<E> {
-    /// A cut that cuts off nothing yet, and a pass.
+    /// A cut that cuts off nothing yet, and a pass. The plan and the source only say which keys end the run, for life.
     ///
     /// # Errors
     ///
     /// [`OutOfMemory`] where there is no room for the number.
-    pub fn new(alloc: Global) -> Result<(CutWord<E>, CutPass), OutOfMemory>
+    pub fn new<L: Lambda, S: Source<Item = L::Item>>(
+        alloc: Global,
+        _plan: &Plan<'_, L>,
+        _source: &S,
+    ) -> Result<(CutWord<E>, CutPass), OutOfMemory>
+        requires enders { AreEnders L.meaning _plan.now (S.whole _source.now) E.is_ender }
         ensures pass { IfOk result (λ made. IsPassOf made.0 made.1) }
         ensures nothing { IfOk result (λ made. least made.1 ≡ no_cut) }
     {

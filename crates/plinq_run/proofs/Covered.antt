@@ -1,5 +1,5 @@
 -- A result within the first items of a source is a result of these.
-use Rattle.std.specs.Prelude.{◌≡◌, ℕ, ◌+◌, ◌≤◌, ◌^◌, ◌==◌, ◌||◌, ◌⊎◌, List, [], ◌∷◌, ◌++◌, length, take, drop, true, Option, Some, None, MatchBool, refl}
+use Rattle.std.specs.Prelude.{◌≡◌, ℕ, ◌+◌, ◌≤◌, ◌^◌, ◌==◌, ◌||◌, ◌⊎◌, List, ◌++◌, length, take, drop, true, Option, Some, None, MatchBool, refl}
 use Rattle.std.specs.Option.{IfSome}
 use Rattle.std.proofs.Common.{sym, ◌∙◌, ap, subst, inl, inr, arith}
 use Rattle.std.proofs.lemmas.Bool.{or_cases, or_left, or_right}

@@ -16,7 +16,7 @@ use Rattle.plinq_cut.specs.Passes.{IsPassOf}
 use Rattle.plinq_partition.specs.declared.chunked.Chunked.{Chunked}
 use Rattle.plinq_partition.specs.declared.partition.Partition.{Partition}
 use Rattle.plinq_partition.specs.Partitions.{IsPartitionOf, holding_of}
-use Rattle.plinq_run.specs.Cuts.{AreEnders}
+use Rattle.plinq_cut.specs.OfPlan.{AreEnders}
 use Rattle.plinq_run.specs.Equipped.{IsEquipped}
 use Rattle.plinq_run.specs.Results.{IsResult}
 

@@ -2,7 +2,7 @@
 use Rattle.std.specs.Prelude.{◌≡◌, refl, ℕ, pos, List, [], ◌∷◌, ◌++◌, get_or, true, false, Some, None, Ok, Err}
 use Rattle.std.specs.Int.{int_max}
 use Rattle.std.specs.Global.{Vec}
-use Rattle.std.proofs.Common.{arith, ap, sym, ◌∙◌}
+use Rattle.std.proofs.Common.{arith, ap, ◌∙◌}
 use Rattle.plinq_aggregate.specs.Numbers.{picking}
 use Rattle.plinq_source.specs.declared.ending.Ending.TheVariants.{End, Refused, Fault}
 use Rattle.plinq_source.specs.Trace.{Trace, ended, open_trace}
@@ -12,10 +12,8 @@ use Rattle.plinq_keyed.specs.declared.tail.Tail.TheVariants.{Ended, Closed}
 use Rattle.plinq_ops.specs.declared.merge_option.MergeOption.TheVariants.{NotBuffered}
 use Rattle.plinq_ops.specs.Answer.{Answer}
 use Rattle.plinq_ops.specs.Operator.{example}
-use Rattle.plinq_run.specs.declared.report.Report.{Report}
 use Rattle.plinq_run.specs.declared.aggregate_fault.AggregateFault.TheVariants.{Ended as EndedSo, Run}
 use Rattle.plinq_run.specs.declared.run_fault.RunFault.TheVariants.{Memory, Sink}
-use Rattle.plinq_run.specs.declared.reach.Reach.{Reach}
 use Rattle.plinq_run.specs.Aggregates.{Aggregates}
 use Rattle.plinq_run.specs.Handed.{handed_trace}
 use Rattle.plinq_run.specs.Reaching.{Covers}

@@ -11,7 +11,7 @@ ghost use Rattle.plinq_ops.specs.Query.{merge_in_force};
 ghost use Rattle.plinq_ops.specs.Sequential.{answer_of};
 ghost use Rattle.plinq_partition.specs.Partitions.{IsPartitionOf, holding_of};
 ghost use Rattle.plinq_partition.specs.GivenBack.{common_origin};
-ghost use Rattle.plinq_run.specs.Cuts.{AreEnders};
+ghost use Rattle.plinq_cut.specs.OfPlan.{AreEnders};
 ghost use Rattle.plinq_run.specs.Endings.{reported};
 ghost use Rattle.plinq_run.specs.Equipped.{IsEquipped};
 ghost use Rattle.plinq_run.specs.Handed.{has_close, handed_trace};
@@ -126,7 +126,7 @@ where
     ensures closed { IfOk result (λ report. has_close report.records.items ≡ true) }
     ensures reports { Reports K.accepts K.refuses option (MayMerge L.meaning plan.now) (S.whole source) sink.old sink.new result }
 {
-    let Ok((cut, cut_pass)) = CutWord::<RunEnders<L::Item, J>>::new(alloc) else {
+    let Ok((cut, cut_pass)) = CutWord::<RunEnders<L::Item, J>>::new(alloc, plan, &source) else {
         return Err(RunFault::Memory);
     };
     let Ok((chunked, partition)) = Chunked::new(alloc, source, growth) else {

@@ -1,7 +1,7 @@
 use Rattle.std.proofs.Common.{rules, ◌≡◌, ◌≤◌, ◌^◌, length, IfOk, refl, sym, subst}
 use Rattle.plinq_keyed.specs.History.{IsLegalHistory}
 use Rattle.plinq_partition.specs.Partitions.{holding_of}
-use Rattle.plinq_run.specs.Cuts.{AreEnders}
+use Rattle.plinq_cut.specs.OfPlan.{AreEnders}
 use Rattle.plinq_run.specs.Reports.{MayMerge, Ends}
 use Rattle.plinq_run.specs.Results.{IsResult}
 use Rattle.plinq_run.proofs.Ended.{none-ended, ends-reported}
