@@ -139,10 +139,21 @@ impl Dice {
         OPTIONS[self.below(4) as usize]
     }
 
-    fn setting(&mut self) -> Result<Setting, GrowthFault> {
+    /// How many workers go: any number of them, and at every fourth run 1, 2, 8 and 64 in turn.
+    fn workers(&mut self, run: u64) -> u64 {
+        match run % 16 {
+            0 => 1,
+            4 => 2,
+            8 => 8,
+            12 => 64,
+            _ => 1 + self.below(64),
+        }
+    }
+
+    fn setting(&mut self, run: u64) -> Result<Setting, GrowthFault> {
         let growth = Growth::new(1, 1 + self.below(3), 1 + self.below(8))?;
         Ok(Setting {
-            workers: 2 + self.below(63),
+            workers: self.workers(run),
             growth,
             option: self.option(),
             refused: usize::MAX,
@@ -155,9 +166,10 @@ fn ask_any<R: Threads + Wait + Sync + Abort>(
     rt: &R,
     alloc: Global,
     dice: &mut Dice,
+    run: u64,
     gate: &Delays,
 ) -> Result<Ending, Fail> {
-    let setting = dice.setting()?;
+    let setting = dice.setting(run)?;
     let given = dice.given();
     let items = dice.items(alloc)?;
     let ops = dice.ops(alloc)?;
@@ -180,8 +192,8 @@ fn any_query_has_the_answer_of_one_thread(rt: HostRuntime) -> Result<(), Fail> {
     let mut ended = 0u64;
     let mut refused = 0u64;
     let mut faulted = 0u64;
-    for _run in 0..2_000 {
-        match ask_any(&rt, rt.alloc(), &mut dice, &gate)? {
+    for run in 0..2_000 {
+        match ask_any(&rt, rt.alloc(), &mut dice, run, &gate)? {
             Ending::End => ended = ended.wrapping_add(1),
             Ending::Refused(_) => refused = refused.wrapping_add(1),
             Ending::Fault(_) => faulted = faulted.wrapping_add(1),
