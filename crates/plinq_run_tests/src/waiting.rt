@@ -1,5 +1,6 @@
 use crossbeam_utils::Backoff;
-use std::sync::atomic::{AtomicU64, Ordering};
+use plinq_run::Gate;
+use std::sync::atomic::{AtomicBool, AtomicU64, Ordering};
 
 /// Waits until a word is at least so much, and says whether it ever was.
 pub(crate) fn waits_for(word: &AtomicU64, least: u64) -> bool {
@@ -11,4 +12,39 @@ pub(crate) fn waits_for(word: &AtomicU64, least: u64) -> bool {
         backoff.snooze();
     }
     false
+}
+
+/// A gate that keeps the worker back that has taken a chunk which begins with this key, until a word is at least so much.
+#[derive(Drop)]
+pub(crate) struct KeepsBack<'a> {
+    key: u64,
+    word: &'a AtomicU64,
+    least: u64,
+    has_given_up: AtomicBool,
+}
+
+impl<'a> KeepsBack<'a> {
+    pub(crate) fn at(key: u64, word: &'a AtomicU64, least: u64) -> KeepsBack<'a> {
+        KeepsBack {
+            key,
+            word,
+            least,
+            has_given_up: AtomicBool::new(false),
+        }
+    }
+
+    /// Whether the word was still less after a long time.
+    pub(crate) fn gave_up(&self) -> bool {
+        self.has_given_up.load(Ordering::SeqCst)
+    }
+}
+
+impl<'a> Gate for KeepsBack<'a> {
+    fn before_take(&self, _: u64) {}
+
+    fn after_chunk(&self, _: u64, first: u64) {
+        if first == self.key && !waits_for(self.word, self.least) {
+            self.has_given_up.store(true, Ordering::SeqCst);
+        }
+    }
 }
