@@ -4,7 +4,7 @@ ghost use Rattle.plinq_source.specs.declared.source.Source.{Ghosts};
 
 use crate::taken::Taken;
 use plinq_enumerator::Growth;
-use plinq_lambda::Formula;
+use plinq_lambda::Lambda;
 use plinq_ops::{BuildFault, Built, MergeOption, Op, Query, sequential};
 use plinq_run::{Gate, Report, RunFault, run};
 use plinq_source::{
@@ -99,18 +99,18 @@ fn left_behind(batches: &[Vec<i64>], items: &[i64], size: usize) -> Option<usize
 }
 
 /// A query that keeps the order, without an operator.
-pub(crate) fn ordered(
+pub(crate) fn ordered<L: Lambda>(
     alloc: Global,
     option: MergeOption,
     workers: u64,
-) -> Result<Query<Formula>, BuildFault> {
+) -> Result<Query<L>, BuildFault> {
     let query = Query::new(alloc).as_ordered().map_err(|(_, fault)| fault)?;
     let query = query.with_merge(option).map_err(|(_, fault)| fault)?;
     query.with_degree(workers).map_err(|(_, fault)| fault)
 }
 
 /// The query with the builder call of this operator.
-fn with(query: Query<Formula>, op: Op<Formula>) -> Built<Formula> {
+fn with<L: Lambda>(query: Query<L>, op: Op<L>) -> Built<L> {
     match op {
         Op::Select(f) => query.select(f),
         Op::Filter(f) => query.filter(f),
@@ -122,7 +122,7 @@ fn with(query: Query<Formula>, op: Op<Formula>) -> Built<Formula> {
     }
 }
 
-fn with_all(query: Query<Formula>, ops: &[Op<Formula>]) -> Result<Query<Formula>, BuildFault> {
+fn with_all<L: Lambda + Copy>(query: Query<L>, ops: &[Op<L>]) -> Result<Query<L>, BuildFault> {
     let mut query = query;
     for op in ops {
         query = with(query, *op).map_err(|(_, fault)| fault)?;
@@ -131,15 +131,20 @@ fn with_all(query: Query<Formula>, ops: &[Op<Formula>]) -> Result<Query<Formula>
 }
 
 /// Has a run answer a query, whose workers this gate holds back, and one thread, each from a source of its own.
-pub(crate) fn ask_of<S: Source<Item = i64>, G: Gate, R: Threads + Wait + Sync>(
+pub(crate) fn ask_of<L, S, G, R>(
     rt: &R,
     alloc: Global,
-    query: &Query<Formula>,
+    query: &Query<L>,
     setting: Setting,
     gate: &G,
     source: S,
     again: S,
 ) -> Result<Answers, OutOfMemory>
+where
+    L: Lambda<Item = i64>,
+    S: Source<Item = i64>,
+    G: Gate,
+    R: Threads + Wait + Sync,
     requires fresh { S.given source ≡ 0 }
     requires again { S.given again ≡ 0 }
 {
@@ -169,15 +174,20 @@ fn bytes(rt: &impl Abort, alloc: Global, text: &str) -> Result<Vec<u8>, AllocErr
     Vec::from_slice(alloc, text.as_bytes())
 }
 
-fn ask_given<G: Gate, R: Threads + Wait + Sync + Abort>(
+fn ask_given<L, G, R>(
     rt: &R,
     alloc: Global,
-    query: &Query<Formula>,
+    query: &Query<L>,
     given: Given,
     items: &[i64],
     setting: Setting,
     gate: &G,
-) -> Result<Answers, Fail> {
+) -> Result<Answers, Fail>
+where
+    L: Lambda<Item = i64>,
+    G: Gate,
+    R: Threads + Wait + Sync + Abort,
+{
     match given {
         Given::List => {
             let source = ListSource::new(alloc, few(rt, alloc, items)?);
@@ -208,15 +218,20 @@ fn ask_given<G: Gate, R: Threads + Wait + Sync + Abort>(
 }
 
 /// Has a run answer a query with `as_ordered` and these operators, whose workers this gate holds back, and one thread.
-pub(crate) fn ask<G: Gate, R: Threads + Wait + Sync + Abort>(
+pub(crate) fn ask<L, G, R>(
     rt: &R,
     alloc: Global,
     given: Given,
     items: &[i64],
-    ops: &[Op<Formula>],
+    ops: &[Op<L>],
     setting: Setting,
     gate: &G,
-) -> Result<Answers, Fail> {
+) -> Result<Answers, Fail>
+where
+    L: Lambda<Item = i64> + Copy,
+    G: Gate,
+    R: Threads + Wait + Sync + Abort,
+{
     let query = ordered(alloc, setting.option, setting.workers)?;
     let query = with_all(query, ops)?;
     ask_given(rt, alloc, &query, given, items, setting, gate)

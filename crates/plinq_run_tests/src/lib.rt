@@ -17,6 +17,8 @@ mod by_chance;
 #[cfg(test)]
 mod cut_off;
 #[cfg(test)]
+mod late_faults;
+#[cfg(test)]
 mod records;
 #[cfg(test)]
 mod refused_batches;

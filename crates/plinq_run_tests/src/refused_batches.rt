@@ -1,5 +1,6 @@
 use crate::asked::{Given, OPTIONS, Setting, WORKERS, ask};
 use plinq_enumerator::Growth;
+use plinq_lambda::Formula;
 use plinq_ops::MergeOption;
 use plinq_run::OpenGate;
 use std::alloc::Global;
@@ -15,7 +16,7 @@ fn refuse<R: Threads + Wait + Sync + Abort>(
     count: u64,
     setting: Setting,
 ) -> Result<(), Fail> {
-    let answers = ask(
+    let answers = ask::<Formula, _, _>(
         rt,
         alloc,
         Given::Range(1, count),

@@ -1,6 +1,7 @@
 use crate::asked::{Given, Setting, ask};
 use crate::waiting::waits_for;
 use plinq_enumerator::Growth;
+use plinq_lambda::Formula;
 use plinq_ops::MergeOption;
 use plinq_run::Gate;
 use std::alloc::Global;
@@ -47,7 +48,7 @@ fn meet<R: Threads + Wait + Sync + Abort>(rt: &R, alloc: Global, workers: u64) -
         refused: usize::MAX,
     };
     let range = Given::Range(0, workers);
-    let answers = ask(rt, alloc, range, &[], &[], setting, &gate)?;
+    let answers = ask::<Formula, _, _>(rt, alloc, range, &[], &[], setting, &gate)?;
     assert!(rt; !gate.gave_up.load(Ordering::SeqCst));
     // The batches are those of one thread, and so the first of them is that of key 0.
     assert!(rt; answers.are_one(option), "{answers:?}");
