@@ -1,0 +1,110 @@
+//! More results than the queue has room for.
+ghost use Rattle.std.specs.Prelude.{⊤};
+
+use crate::asked::ordered;
+use crate::waiting::waits_for;
+use plinq_enumerator::Growth;
+use plinq_lambda::Formula;
+use plinq_merge::Sink;
+use plinq_ops::{MergeOption, Query};
+use plinq_run::{Gate, run};
+use plinq_source::{Ending, RangeSource};
+use std::alloc::Global;
+use std::process::Abort;
+use std::sync::Wait;
+use std::sync::atomic::{AtomicU64, Ordering};
+use std::test::*;
+use std::thread::Threads;
+
+/// Where the run stands: 1 once the sink has its first batch, and how many chunks were taken.
+#[derive(Drop)]
+struct Standing {
+    is_held: AtomicU64,
+    taken: AtomicU64,
+}
+
+/// A gate at which all keys but the first wait for the sink's first batch.
+#[derive(Drop)]
+struct Counts<'a> {
+    standing: &'a Standing,
+}
+
+impl<'a> Gate for Counts<'a> {
+    fn before_take(&self, _: u64) {}
+
+    fn after_chunk(&self, _: u64, first: u64) {
+        self.standing.taken.fetch_add(1, Ordering::SeqCst);
+        if first > 0 {
+            waits_for(&self.standing.is_held, 1);
+        }
+    }
+}
+
+/// A sink that is held with its first batch until so many chunks were taken. The numbers from 0 on are to come.
+#[derive(Drop)]
+struct Held<'a> {
+    standing: &'a Standing,
+    chunks: u64,
+    gave_up: bool,
+    next: i64,
+    is_wrong: bool,
+}
+
+impl<'a> Sink for Held<'a> {
+    type Item = i64;
+
+    ghost accepts = { λ _ _ _. ⊤ };
+
+    ghost refuses = { λ _ _ _ _. ⊤ };
+
+    fn batch(&mut self, items: &[i64]) -> Result<(), u32> {
+        self.standing.is_held.store(1, Ordering::SeqCst);
+        if !waits_for(&self.standing.taken, self.chunks) {
+            self.gave_up = true;
+        }
+        for item in items {
+            if *item != self.next {
+                self.is_wrong = true;
+            }
+            self.next = item.wrapping_add(1);
+        }
+        Ok(())
+    }
+}
+
+/// The sink is held until the queue is full of the results behind its batch, and each worker has taken one chunk more.
+fn fill_the_queue<R: Threads + Wait + Sync + Abort>(
+    rt: &R,
+    alloc: Global,
+    workers: u64,
+) -> Result<(), Fail> {
+    let standing = Standing {
+        is_held: AtomicU64::new(0),
+        taken: AtomicU64::new(0),
+    };
+    let gate = Counts {
+        standing: &standing,
+    };
+    let mut sink = Held {
+        standing: &standing,
+        chunks: workers.wrapping_add(65),
+        gave_up: false,
+        next: 0,
+        is_wrong: false,
+    };
+    let query: Query<Formula> = ordered(alloc, MergeOption::NotBuffered, workers)?;
+    let source = RangeSource::new(0, 300)?;
+    let report = run(rt, alloc, &query, source, Growth::ONE, &gate, &mut sink)?;
+    assert_eq!(rt; report.ending, Ending::End);
+    assert!(rt; !sink.gave_up && !sink.is_wrong);
+    assert_eq!(rt; sink.next, 300);
+    Ok(())
+}
+
+#[test]
+fn workers_wait_while_the_queue_is_full(rt: HostRuntime) -> Result<(), Fail> {
+    for workers in [2u64, 8, 64] {
+        fill_the_queue(&rt, rt.alloc(), workers)?;
+    }
+    Ok(())
+}
