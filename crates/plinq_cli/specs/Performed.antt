@@ -118,6 +118,10 @@ PerformsWords words told old new status =
     ((arguments : Arguments) × IsAsked words arguments × Performs arguments told old new status)
     ⊎ ((kind : ErrorKind) × Refuses words kind × Shows kind old new status)
 
+-- nothing is written of what is wrong, unless the status is that of a failure
+abbrev pub IsSilent : Option (List ℕ) → Option (List ℕ) → ℕ → Type 0
+IsSilent old new status = (status ≡ 2) ⊎ ((status ≡ 5) ⊎ Keeps old new)
+
 -- ---- worked rows
 
 pub at_the_end : status_of (Ok End) ≡ 0

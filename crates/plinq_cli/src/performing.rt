@@ -1,9 +1,9 @@
-ghost use Rattle.std.specs.Prelude.{◌≡◌, ◌≤◌, map};
+ghost use Rattle.std.specs.Prelude.{◌≡◌, ◌≤◌, ◌⊎◌, map};
 ghost use Rattle.std.specs.String.{string_bytes};
 ghost use Rattle.std.specs.Io.KnownBytes.{Keeps};
 ghost use Rattle.plinq_document.specs.Document.{document_of};
 ghost use Rattle.clap.specs.Words.{kind_of};
-ghost use Rattle.plinq_cli.specs.Performed.{Answers, AnswersMeaning, Flushes, Performs, PerformsWords, Shows, status_of, failure_status};
+ghost use Rattle.plinq_cli.specs.Performed.{Answers, AnswersMeaning, Flushes, IsSilent, Performs, PerformsWords, Shows, status_of, failure_status};
 
 use crate::arguments::{Arguments, read_arguments};
 use crate::failure::Failure;
@@ -42,6 +42,7 @@ where
     // the reader tells its bytes these are the document, else the document is of some bytes.
     ensures written { PerformsWords (map string_bytes words.items)
         (I.remaining reader.old) (W.contents out.old) (W.contents out.new) result }
+    ensures silent { IsSilent (E.contents err.old) (E.contents err.new) result }
 {
     let alloc = rt.alloc();
     match read_arguments(alloc, words.as_slice()) {
@@ -63,7 +64,8 @@ where
     I: Read,
     W: Write,
     E: Write,
-    ensures { Performs arguments (I.remaining reader.old) (W.contents out.old) (W.contents out.new) result }
+    ensures written { Performs arguments (I.remaining reader.old) (W.contents out.old) (W.contents out.new) result }
+    ensures silent { IsSilent (E.contents err.old) (E.contents err.new) result }
 {
     let answered = answer(rt, arguments, reader, out);
     report(&answered, err)
@@ -128,7 +130,8 @@ fn flush<W: Write>(answered: Result<Ending, Failure>, out: &mut W) -> Result<End
 
 // The status of an answer, and the line of a failure.
 fn report<E: Write>(answered: &Result<Ending, Failure>, err: &mut E) -> u8
-    ensures { result ≡ status_of answered.now }
+    ensures status { result ≡ status_of answered.now }
+    ensures silent { IsSilent (E.contents err.old) (E.contents err.new) result }
 {
     match answered {
         Ok(Ending::End) => 0,
@@ -139,7 +142,8 @@ fn report<E: Write>(answered: &Result<Ending, Failure>, err: &mut E) -> u8
 }
 
 fn report_failure<E: Write>(failure: Failure, err: &mut E) -> u8
-    ensures { result ≡ failure_status failure }
+    ensures status { result ≡ failure_status failure }
+    ensures failed { (result ≡ 2) ⊎ (result ≡ 5) }
 {
     let _ = writeln!(err, "plinq: {failure}");
     let _ = err.flush();
@@ -152,7 +156,8 @@ fn report_failure<E: Write>(failure: Failure, err: &mut E) -> u8
 
 // Help goes to `out`, and what `clap` says of a refused command line to `err`.
 fn show<W: Write, E: Write>(refusal: &clap::Error, out: &mut W, err: &mut E) -> u8
-    ensures { Shows (kind_of refusal.now) (W.contents out.old) (W.contents out.new) result }
+    ensures shown { Shows (kind_of refusal.now) (W.contents out.old) (W.contents out.new) result }
+    ensures silent { IsSilent (E.contents err.old) (E.contents err.new) result }
 {
     if refusal.kind() == ErrorKind::OutOfMemory {
         return report_failure(Failure::Memory, err);

@@ -7,4 +7,4 @@ use Rattle.plinq_cli.proofs.performing.perform.Goals as goal
 pub returns-in-Ok-clause-written : goal.returns-in-Ok-clause-written
 returns-in-Ok-clause-written g c =
     let asked = subst (λ words. IsAsked (map string_bytes words) c.in-Ok.arguments) c.as_slice.ensures.value c.in-Ok.ensures in
-    inl (c.in-Ok.arguments, asked, c.perform_with.ensures)
+    inl (c.in-Ok.arguments, asked, c.perform_with.ensures.written)
