@@ -6,7 +6,7 @@ mod Ended
 mod Handed
 mod Hands
 mod Merged
-mod Queue
 mod Runs
 mod Taken
 mod Without
+mod Working

@@ -12,3 +12,4 @@ pub mod Reports
 pub mod Results
 pub mod RunRows
 pub mod Runs
+pub mod Working

@@ -1,25 +1,28 @@
 //! What the caller's thread does in a run: it starts the workers, merges what they send, and joins them.
-ghost use Rattle.std.specs.Prelude.{◌≡◌, ◌≤◌, ◌<◌, ◌^◌, [], length, true, false, All, IfOk, vec_capacity};
+ghost use Rattle.std.specs.Prelude.{◌≡◌, ◌≤◌, ◌<◌, ◌^◌, [], drop, length, true, false, All, IfOk, vec_capacity};
 ghost use Rattle.std.specs.List.{list_any};
-ghost use Rattle.crossbeam_queue.specs.Passes.{IsPassOf};
 ghost use Rattle.plinq_ops.specs.Feeding.{is_empty_take};
 ghost use Rattle.plinq_ops.specs.ByKey.{is_by_key};
 ghost use Rattle.plinq_ops.specs.declared.results.ChunkResult.{ChunkResult};
 ghost use Rattle.plinq_merge.specs.Shown.{Merge, behind_result};
 ghost use Rattle.plinq_partition.specs.Partitions.{IsPartitionOf, holding_of};
 ghost use Rattle.plinq_partition.specs.GivenBack.{common_origin};
-ghost use Rattle.plinq_run.specs.Equipped.{IsEquipped};
+ghost use Rattle.plinq_run.specs.Equipped.{IsReady};
 ghost use Rattle.plinq_run.specs.Merged.{Merges};
 ghost use Rattle.plinq_run.specs.Reaching.{IsOffered};
 ghost use Rattle.plinq_run.specs.Reports.{MayMerge, Ends};
 ghost use Rattle.plinq_run.specs.Results.{IsResult};
+ghost use Rattle.plinq_run.specs.Working.{IsAnsweredBy, IsReceiver};
+ghost use Rattle.plinq_stream.specs.declared.known.Known.{Known};
+ghost use Rattle.plinq_stream.specs.Passes.{IsPassOf, known};
+ghost use Rattle.plinq_stream.specs.Streams.{HasReceivedAll};
 
 use crate::finishing::told;
 use crate::gate::Gate;
 use crate::hand::Hand;
 use crate::merging::Merging;
 use crate::reach::Reach;
-use crate::results::{Came, Carries, ResultPass};
+use crate::results::{Carries, ResultPass};
 use crate::run_fault::RunFault;
 use crate::starting::{Shortages, join_all, start_all};
 use crate::worker::{Crew, Equipment};
@@ -85,7 +88,7 @@ where
     }
 }
 
-/// Merges what the workers send, until all have ended and nothing is left in the queue. Where nothing comes for a while,
+/// Merges what the workers send, until all have ended and nothing seems to be left in the queue. Where nothing comes for a while,
 /// the thread sleeps until something does, so that it takes no processor from a worker.
 fn merge_all<L, S, J, G, K, R>(
     rt: &R,
@@ -105,10 +108,13 @@ where
     K: Sink<Item = L::Item>,
     R: Wait,
     requires of { IsPartitionOf crew.now.chunked.now own.old }
-    requires queue { IsPassOf crew.now.queue.now pass.old }
+    requires stream { IsPassOf crew.now.stream.now pass.old }
+    requires receiver { IsReceiver (known pass.old) }
     requires within { (r : ChunkResult L.Item) → J.is_result r → behind_result r ≤ 2 ^ 40 }
     ensures of { IsPartitionOf crew.now.chunked.now own.new }
     ensures origin { (holding_of own.new).origin ≡ (holding_of own.old).origin }
+    ensures stream { IsPassOf crew.now.stream.now pass.new }
+    ensures receiver { IsReceiver (known pass.new) }
     ensures merges { (merge : Merge L.Item) (s : K) → Merges (IsOffered J.is_result merging.old.reach) K.accepts K.refuses merge s merging.old.merger merging.old.fault sink.old
         → Merges (IsOffered J.is_result merging.new.reach) K.accepts K.refuses merge s merging.new.merger merging.new.fault sink.new }
 {
@@ -121,10 +127,10 @@ where
         };
         let have_ended = crew.progress.have_ended(staff.started);
         close_in_time(rt, crew, staff, own, merging, shortages);
-        match crew.queue.try_pop_as::<Came<J>>(pass) {
-            Some(made) => {
+        match crew.stream.try_receive(pass) {
+            Some(sent) => {
                 backoff.reset();
-                merging.take_in::<J, K>(made, sink);
+                merging.take_in::<J, K>(sent.item, sink);
                 crew.progress.move_to(merging.place());
             }
             None => {
@@ -137,6 +143,38 @@ where
                     None => backoff.snooze(),
                 }
             }
+        }
+    }
+}
+
+/// Merges what is left once all workers were joined, until the queue is empty.
+fn merge_rest<L, S, J, G, K, R>(
+    rt: &R,
+    crew: &Crew<'_, L, S, J, G>,
+    pass: &mut ResultPass<L::Item>,
+    merging: &mut Merging<'_, L>,
+    sink: &mut K,
+)
+where
+    L: Lambda,
+    S: Source<Item = L::Item>,
+    J: Carries<L::Item>,
+    G: Gate,
+    K: Sink<Item = L::Item>,
+    R: Wait,
+    requires stream { IsPassOf crew.now.stream.now pass.old }
+    requires receives { (known pass.old).receives ≡ true }
+    requires within { (r : ChunkResult L.Item) → J.is_result r → behind_result r ≤ 2 ^ 40 }
+    ensures all { HasReceivedAll (known pass.new) }
+    ensures sent { (known pass.new).sent ≡ (known pass.old).sent }
+    ensures numbers { (known pass.new).numbers ≡ (known pass.old).numbers }
+    ensures merges { (merge : Merge L.Item) (s : K) → Merges (IsOffered J.is_result merging.old.reach) K.accepts K.refuses merge s merging.old.merger merging.old.fault sink.old
+        → Merges (IsOffered J.is_result merging.new.reach) K.accepts K.refuses merge s merging.new.merger merging.new.fault sink.new }
+{
+    for _ in rt.forever() {
+        match crew.stream.receive(rt, pass) {
+            Some(sent) => merging.take_in::<J, K>(sent.item, sink),
+            None => return,
         }
     }
 }
@@ -156,10 +194,9 @@ where
     G: Gate,
     K: Sink<Item = L::Item>,
     R: Threads + Wait + Sync,
-    requires queue { IsPassOf crew.now.queue.now own.queue }
-    requires equipped { IsEquipped L.meaning J.is_result J.is_ender crew.now.plan.now crew.now.chunked.now crew.now.cut.now own.partition own.cut }
-    requires few { crew.now.workers ≤ 64 }
+    requires ready { IsReady L.meaning J.is_result J.is_ender crew.now.plan.now crew.now.chunked.now crew.now.cut.now crew.now.stream.now crew.now.workers own.partition own.cut own.stream }
     ensures back { IfOk result (λ ended. (1 ≤ length ended.partitions.items) × All (IsPartitionOf crew.now.chunked.now) ended.partitions.items × (common_origin ended.partitions.items ≡ (holding_of own.partition).origin)) }
+    ensures all { IfOk result (λ ended. (a : Known (ChunkResult L.Item)) × HasReceivedAll a × All (IsAnsweredBy 0 a) (drop 1 ended.partitions.items)) }
     ensures ends { Ends K.accepts K.refuses crew.now.option (MayMerge L.meaning crew.now.plan.now) (holding_of own.partition).origin sink.old sink.new result }
 {
     let Ok(hands) = Vec::with_capacity(crew.alloc, crew.workers as usize) else {
@@ -183,7 +220,7 @@ where
     let hands = start_all(scope, rt, crew, crew.workers, &mut own, hands);
     let Equipment {
         mut partition,
-        mut queue,
+        mut stream,
         ..
     } = own;
     let staff = Staff {
@@ -195,11 +232,21 @@ where
         crew,
         staff,
         &mut partition,
-        &mut queue,
+        &mut stream,
         &mut merging,
         &mut shortages,
         sink,
     );
-    let partitions = join_all(rt, crew.chunked, partition, hands, room, &mut shortages);
+    let partitions = join_all(
+        rt,
+        crew.chunked,
+        crew.stream,
+        partition,
+        &mut stream,
+        hands,
+        room,
+        &mut shortages,
+    );
+    merge_rest(rt, crew, &mut stream, &mut merging, sink);
     told(merging, shortages, staff, partitions)
 }

@@ -8,8 +8,8 @@
 //!   answer that was delivered (`handed_trace`).
 //! - [`aggregate`] on a query with `as_ordered` tells the value of the sequential answer's items, or how that answer ended
 //!   otherwise (`Aggregates`).
-//! - What goes through the queue are results of chunks of the source, each under a cut of its own (`IsResult`): that is
-//!   the queue's rule.
+//! - What workers send are results of chunks of the source, each under a cut of its own (`IsResult`): those of the first of
+//!   its records, in their order, and of all of them where it had no fault (`HasWorked`).
 //! - A [`Gate`] is what workers pass on their way.
 #![tactic(auto)]
 

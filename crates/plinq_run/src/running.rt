@@ -2,7 +2,6 @@
 ghost use Rattle.std.specs.Prelude.{◌≡◌, ◌≤◌, ◌^◌, [], length, true, false, All, IfOk, Ok};
 ghost use Rattle.plinq_source.specs.declared.ending.Ending.TheVariants.{End};
 ghost use Rattle.std.specs.List.{list_any};
-ghost use Rattle.crossbeam_queue.specs.Passes.{IsPassOf};
 ghost use Rattle.plinq_keyed.specs.History.{IsLegalHistory};
 ghost use Rattle.plinq_ops.specs.declared.results.ChunkResult.{ChunkResult};
 ghost use Rattle.plinq_ops.specs.Answer.{Answer};
@@ -13,7 +12,7 @@ ghost use Rattle.plinq_partition.specs.Partitions.{IsPartitionOf, holding_of};
 ghost use Rattle.plinq_partition.specs.GivenBack.{common_origin};
 ghost use Rattle.plinq_cut.specs.OfPlan.{AreEnders};
 ghost use Rattle.plinq_run.specs.Endings.{reported};
-ghost use Rattle.plinq_run.specs.Equipped.{IsEquipped};
+ghost use Rattle.plinq_run.specs.Equipped.{IsReady};
 ghost use Rattle.plinq_run.specs.Handed.{has_close, handed_trace};
 ghost use Rattle.plinq_run.specs.Plans.{IsUndecided};
 ghost use Rattle.plinq_run.specs.Reports.{MayMerge, Ends, Reports};
@@ -25,7 +24,7 @@ use crate::finishing::report;
 use crate::gate::Gate;
 use crate::progress::Progress;
 use crate::report::Report;
-use crate::results::{Carries, ResultQueue, RunEnders};
+use crate::results::{Carries, ResultStream, RunEnders};
 use crate::run_fault::RunFault;
 use crate::worker::{Crew, Equipment};
 use plinq_cut::CutWord;
@@ -72,9 +71,7 @@ where
     G: Gate,
     K: Sink<Item = L::Item>,
     R: Threads + Wait + Sync,
-    requires queue { IsPassOf crew.now.queue.now own.queue }
-    requires equipped { IsEquipped L.meaning J.is_result J.is_ender crew.now.plan.now crew.now.chunked.now crew.now.cut.now own.partition own.cut }
-    requires few { crew.now.workers ≤ 64 }
+    requires ready { IsReady L.meaning J.is_result J.is_ender crew.now.plan.now crew.now.chunked.now crew.now.cut.now crew.now.stream.now crew.now.workers own.partition own.cut own.stream }
     ensures back { IfOk result (λ ended. (1 ≤ length ended.partitions.items) × All (IsPartitionOf crew.now.chunked.now) ended.partitions.items × (common_origin ended.partitions.items ≡ (holding_of own.partition).origin)) }
     ensures ends { Ends K.accepts K.refuses crew.now.option (MayMerge L.meaning crew.now.plan.now) (holding_of own.partition).origin sink.old sink.new result }
 {
@@ -83,9 +80,7 @@ where
         thread::scope_env(),
         rt,
         move |scope| -> (Result<Ended<S>, RunFault>, &mut K)
-            requires queue { IsPassOf crew.now.queue.now own.queue }
-            requires equipped { IsEquipped L.meaning J.is_result J.is_ender crew.now.plan.now crew.now.chunked.now crew.now.cut.now own.partition own.cut }
-            requires few { crew.now.workers ≤ 64 }
+            requires ready { IsReady L.meaning J.is_result J.is_ender crew.now.plan.now crew.now.chunked.now crew.now.cut.now crew.now.stream.now crew.now.workers own.partition own.cut own.stream }
             ensures back { IfOk result.0 (λ ended. (1 ≤ length ended.partitions.items) × All (IsPartitionOf crew.entry.now.chunked.now) ended.partitions.items × (common_origin ended.partitions.items ≡ (holding_of own.partition).origin)) }
             ensures same { result.1.ghost_name ≡ lent.entry.ghost_name }
             ensures ends { Ends K.accepts K.refuses crew.entry.now.option (MayMerge L.meaning crew.entry.now.plan.now) (holding_of own.partition).origin lent.entry.now result.1.now result.0 }
@@ -132,7 +127,7 @@ where
     let Ok((chunked, partition)) = Chunked::new(alloc, source, growth) else {
         return Err(RunFault::Memory);
     };
-    let Ok((queue, queue_pass)) = ResultQueue::<L::Item, J>::ruled(alloc, ROOM) else {
+    let Ok((stream, pass)) = ResultStream::<L::Item, J>::new(alloc, ROOM) else {
         return Err(RunFault::Memory);
     };
     let progress = Progress::new(window(plan.order, workers, growth));
@@ -140,7 +135,7 @@ where
         alloc,
         plan,
         chunked: &chunked,
-        queue: &queue,
+        stream: &stream,
         cut: &cut,
         gate,
         progress: &progress,
@@ -149,7 +144,7 @@ where
     };
     let own = Equipment {
         partition,
-        queue: queue_pass,
+        stream: pass,
         cut: cut_pass,
     };
     let ended = run_crew(rt, &crew, own, sink);

@@ -1,19 +1,22 @@
 //! Starting the workers of a run, and having them back.
-ghost use Rattle.std.specs.Prelude.{◌≡◌, ◌≤◌, ◌<◌, ◌^◌, ◌+◌, [], length, true, false, not, ◌||◌, All, IfSome, vec_len, vec_capacity};
-ghost use Rattle.crossbeam_queue.specs.Passes.{IsPassOf};
+ghost use Rattle.std.specs.Prelude.{◌≡◌, ◌≤◌, ◌<◌, ◌^◌, ◌+◌, [], drop, length, true, false, not, ◌||◌, All, IfSome, vec_len, vec_capacity};
 ghost use Rattle.plinq_partition.specs.Partitions.{IsPartitionOf, holding_of};
 ghost use Rattle.plinq_partition.specs.GivenBack.{common_origin};
 ghost use Rattle.plinq_run.specs.Equipped.{IsEquipped};
 ghost use Rattle.plinq_run.specs.Faults.{lacks_room};
-ghost use Rattle.plinq_run.specs.Hands.{IsHandOf};
+ghost use Rattle.plinq_run.specs.Hands.{IsHandOf, AreNumbered};
+ghost use Rattle.plinq_run.specs.Working.{IsNewcomer, IsReceiver, IsBack, IsAnsweredBy, receiver_from};
+ghost use Rattle.plinq_stream.specs.Passes.{IsPassOf, known};
 
 use crate::gate::Gate;
 use crate::hand::{ComesBack, Hand};
-use crate::results::{Both, Carries};
+use crate::results::{Carries, ResultPass};
 use crate::worker::{Crew, Equipment, Worked};
 use plinq_lambda::Lambda;
+use plinq_ops::ChunkResult;
 use plinq_partition::{Chunked, Partition, TakeFault};
 use plinq_source::Source;
+use plinq_stream::Stream;
 use std::snapshot::Snapshot;
 use std::sync::Wait;
 use std::thread::{Scope, Threads};
@@ -32,25 +35,29 @@ where
     J: Carries<L::Item> + Send + Sync,
     G: Gate,
     R: Threads + Wait + Sync,
-    requires queue { IsPassOf crew.now.queue.now own.queue }
+    requires new { IsNewcomer crew.now.stream.now worker own.partition own.stream }
     requires equipped { IsEquipped L.meaning J.is_result J.is_ender crew.now.plan.now crew.now.chunked.now crew.now.cut.now own.partition own.cut }
-    ensures { IfSome result (IsHandOf crew.now.chunked.now) }
+    ensures hand { IfSome result (IsHandOf crew.now.chunked.now crew.now.stream.now) }
+    ensures number { IfSome result (λ hand. hand.promise.number ≡ worker) }
 {
     let promise = ComesBack {
         chunked: Snapshot::of(crew.chunked),
+        given: Snapshot::of(&own.stream),
+        number: worker,
     };
     let hand = scope.spawn_with(
         promise,
         move || -> Worked<S>
-            requires queue { IsPassOf crew.now.queue.now own.queue }
+            requires new { IsNewcomer crew.now.stream.now worker own.partition own.stream }
             requires equipped { IsEquipped L.meaning J.is_result J.is_ender crew.now.plan.now crew.now.chunked.now crew.now.cut.now own.partition own.cut }
-            ensures { IsPartitionOf crew.entry.now.chunked.now result.partition }
+            ensures { IsBack crew.entry.now.chunked.now own.stream worker result }
         { crew.work(rt, worker, own) },
     );
     hand.ok()
 }
 
-/// Starts so many workers, each with a new partition beside this one, or as many as there are threads to be had.
+/// Starts so many workers, each with a new partition beside this one and a number of its own, or as many as there are threads
+/// to be had.
 pub(crate) fn start_all<'s, Env, L, S, J, G, R>(
     scope: &Scope<'s, Env>,
     rt: &'s R,
@@ -65,21 +72,25 @@ where
     J: Carries<L::Item> + Send + Sync,
     G: Gate,
     R: Threads + Wait + Sync,
-    requires queue { IsPassOf crew.now.queue.now own.old.queue }
+    requires stream { IsPassOf crew.now.stream.now own.old.stream }
+    requires first { known own.old.stream ≡ receiver_from 0 }
     requires equipped { IsEquipped L.meaning J.is_result J.is_ender crew.now.plan.now crew.now.chunked.now crew.now.cut.now own.old.partition own.old.cut }
+    requires few { workers ≤ 64 }
     requires empty { room.items ≡ [] }
     requires room { workers ≤ vec_capacity room }
     ensures of { IsPartitionOf crew.now.chunked.now own.new.partition }
     ensures same { holding_of own.new.partition ≡ holding_of own.old.partition }
-    ensures queue { IsPassOf crew.now.queue.now own.new.queue }
-    ensures hands { All (IsHandOf crew.now.chunked.now) result.items }
+    ensures stream { IsPassOf crew.now.stream.now own.new.stream }
+    ensures receiver { IsReceiver (known own.new.stream) }
+    ensures hands { All (IsHandOf crew.now.chunked.now crew.now.stream.now) result.items }
+    ensures numbered { AreNumbered 0 result.items }
     ensures count { length result.items ≤ workers }
 {
     let mut hands = room;
     for worker in 0..workers {
         let theirs = Equipment {
             partition: crew.chunked.dynamic(&mut own.partition),
-            queue: crew.queue.another::<Both>(&mut own.queue),
+            stream: crew.stream.hand_out(&mut own.stream),
             cut: crew.cut.split(&mut own.cut),
         };
         let Some(hand) = start(scope, rt, crew, worker, theirs) else {
@@ -116,22 +127,35 @@ impl Shortages {
     }
 }
 
-/// Joins the workers. Their partitions come behind the one that is given.
-pub(crate) fn join_all<S: Source, R: Threads>(
+/// Joins the workers. Their partitions come behind the one that is given, and their passes are taken in.
+pub(crate) fn join_all<S, C, R>(
     rt: &R,
     chunked: &Chunked<S>,
+    stream: &Stream<ChunkResult<S::Item>, C>,
     own: Partition<S>,
+    pass: &mut ResultPass<S::Item>,
     hands: Vec<Hand<S>>,
     room: Vec<Partition<S>>,
     shortages: &mut Shortages,
 ) -> Vec<Partition<S>>
+where
+    S: Source,
+    C: plinq_stream::Carries<ChunkResult<S::Item>>,
+    R: Threads,
     requires of { IsPartitionOf chunked.now own }
-    requires hands { All (IsHandOf chunked.now) hands.items }
+    requires pass { IsPassOf stream.now pass.old }
+    requires receiver { IsReceiver (known pass.old) }
+    requires hands { All (IsHandOf chunked.now stream.now) hands.items }
+    requires numbered { AreNumbered 0 hands.items }
     requires empty { room.items ≡ [] }
     requires room { length hands.items < vec_capacity room }
     ensures some { 1 ≤ length result.items }
     ensures of { All (IsPartitionOf chunked.now) result.items }
     ensures origin { common_origin result.items ≡ (holding_of own).origin }
+    ensures pass { IsPassOf stream.now pass.new }
+    ensures receives { (known pass.new).receives ≡ true }
+    ensures received { (known pass.new).received ≡ (known pass.old).received }
+    ensures answered { All (IsAnsweredBy 0 (known pass.new)) (drop 1 result.items) }
 {
     let mut hands = hands;
     let mut partitions = room;
@@ -141,6 +165,7 @@ pub(crate) fn join_all<S: Source, R: Threads>(
         if let Some(fault) = worked.fault {
             shortages.note(fault);
         }
+        stream.join(pass, worked.stream);
         partitions.push_reserved(worked.partition);
     }
     partitions

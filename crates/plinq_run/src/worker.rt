@@ -1,7 +1,6 @@
 //! What a worker does: it takes chunks until one has a tail, and sends their results.
-ghost use Rattle.std.specs.Prelude.{◌≡◌, ◌≤◌, ◌^◌, length, true, false, IfOk};
+ghost use Rattle.std.specs.Prelude.{◌≡◌, ◌≤◌, ◌^◌, length, true, false, All, IfOk, IfErr};
 ghost use Rattle.std.specs.List.{list_any};
-ghost use Rattle.crossbeam_queue.specs.Passes.{IsPassOf};
 ghost use Rattle.plinq_cut.specs.Passes.{IsPassOf as IsCutPassOf};
 ghost use Rattle.plinq_ops.specs.Feeding.{is_empty_take};
 ghost use Rattle.plinq_ops.specs.ByKey.{is_by_key};
@@ -10,12 +9,13 @@ ghost use Rattle.plinq_partition.specs.Partitions.{IsPartitionOf, holding_of};
 ghost use Rattle.plinq_run.specs.Cuts.{AreEnders};
 ghost use Rattle.plinq_run.specs.Equipped.{IsEquipped};
 ghost use Rattle.plinq_run.specs.Results.{IsResult};
+ghost use Rattle.plinq_run.specs.Working.{IsNewcomer, HasWorked, HasTaken, HasLeft};
+ghost use Rattle.plinq_stream.specs.Passes.{IsPassOf, known};
 
 use crate::cutting::{cut_now, cut_off};
 use crate::gate::Gate;
 use crate::progress::Progress;
-use crate::results::{Carries, ResultPass, ResultQueue, RunEnders, Sent};
-use crossbeam_utils::Backoff;
+use crate::results::{Carries, ResultPass, ResultStream, RunEnders};
 use plinq_cut::{CutPass, CutWord};
 use plinq_lambda::Lambda;
 use plinq_ops::{ChunkResult, FragEnd, MergeOption, Plan, chunk_result};
@@ -23,30 +23,6 @@ use plinq_partition::{Chunked, Partition, TakeFault};
 use plinq_source::Source;
 use std::alloc::Global;
 use std::sync::Wait;
-
-/// Puts a result into the queue, and waits while it is full.
-pub(crate) fn send<T: Copy + Send, J: Carries<T>, R: Wait>(
-    rt: &R,
-    queue: &ResultQueue<T, J>,
-    pass: &mut ResultPass<T>,
-    offered: ChunkResult<T>,
-)
-    requires queue { IsPassOf queue.now pass.old }
-    requires rule { J.is_result offered }
-    ensures queue { IsPassOf queue.now pass.new }
-{
-    let backoff = Backoff::new();
-    let mut waiting = offered;
-    for _ in rt.forever() {
-        match queue.try_push_as::<Sent>(pass, waiting) {
-            Ok(()) => return,
-            Err(back) => {
-                waiting = back;
-                backoff.snooze();
-            }
-        }
-    }
-}
 
 /// Where a worker stands whose last result is this one: behind its keys, or behind all keys where the run ends within them or
 /// before, so that it takes nothing more until the source is closed.
@@ -57,18 +33,19 @@ fn place_behind<T>(made: &ChunkResult<T>) -> u64 {
     }
 }
 
-/// What a worker brings back: its partition, and why it ended before it saw a tail, if it did.
+/// What a worker brings back: its partition and its pass of the stream, and why it ended before it saw a tail, if it did.
 #[derive(Drop)]
 pub(crate) struct Worked<S: Source> {
     pub(crate) partition: Partition<S>,
+    pub(crate) stream: ResultPass<S::Item>,
     pub(crate) fault: Option<TakeFault>,
 }
 
-/// What a thread of a run has of its own: a partition, and a pass of the queue and of the cut.
+/// What a thread of a run has of its own: a partition, and a pass of the stream and of the cut.
 #[derive(Drop)]
 pub(crate) struct Equipment<S: Source> {
     pub(crate) partition: Partition<S>,
-    pub(crate) queue: ResultPass<S::Item>,
+    pub(crate) stream: ResultPass<S::Item>,
     pub(crate) cut: CutPass,
 }
 
@@ -78,7 +55,7 @@ pub(crate) struct Crew<'a, L: Lambda, S: Source, J: Carries<L::Item>, G> {
     pub(crate) alloc: Global,
     pub(crate) plan: &'a Plan<'a, L>,
     pub(crate) chunked: &'a Chunked<S>,
-    pub(crate) queue: &'a ResultQueue<L::Item, J>,
+    pub(crate) stream: &'a ResultStream<L::Item, J>,
     pub(crate) cut: &'a CutWord<RunEnders<L::Item, J>>,
     pub(crate) gate: &'a G,
     pub(crate) progress: &'a Progress,
@@ -105,6 +82,8 @@ impl<'a, L: Lambda, S: Source<Item = L::Item>, J: Carries<L::Item>, G: Gate> Cre
         ensures origin { (holding_of partition.new).origin ≡ (holding_of partition.old).origin }
         ensures cut { IsCutPassOf self.now.cut.now pass.new }
         ensures result { IfOk result (IsResult L.meaning self.now.plan.now (holding_of partition.old).origin) }
+        ensures taken { IfOk result (HasTaken (holding_of partition.old).share (holding_of partition.new).share) }
+        ensures left { IfErr result (λ fault. HasLeft (holding_of partition.old).share (holding_of partition.new).share) }
     {
         self.gate.before_take(worker);
         let chunk = partition.take(rt, self.chunked)?;
@@ -117,14 +96,17 @@ impl<'a, L: Lambda, S: Source<Item = L::Item>, J: Carries<L::Item>, G: Gate> Cre
 
     /// Takes chunks and sends their results, until one has a tail.
     pub(crate) fn work<R: Wait>(&self, rt: &R, worker: u64, own: Equipment<S>) -> Worked<S>
-        requires queue { IsPassOf self.now.queue.now own.queue }
+        requires new { IsNewcomer self.now.stream.now worker own.partition own.stream }
         requires equipped { IsEquipped L.meaning J.is_result J.is_ender self.now.plan.now self.now.chunked.now self.now.cut.now own.partition own.cut }
         ensures of { IsPartitionOf self.now.chunked.now result.partition }
         ensures origin { (holding_of result.partition).origin ≡ (holding_of own.partition).origin }
+        ensures stream { IsPassOf self.now.stream.now result.stream }
+        ensures worked { HasWorked worker (holding_of result.partition).share result.fault (known result.stream) }
+        ensures results { All (λ s. IsResult L.meaning self.now.plan.now (holding_of own.partition).origin s.item) (known result.stream).sent }
     {
         let Equipment {
             mut partition,
-            mut queue,
+            mut stream,
             mut cut,
         } = own;
         for _ in rt.forever() {
@@ -132,10 +114,15 @@ impl<'a, L: Lambda, S: Source<Item = L::Item>, J: Carries<L::Item>, G: Gate> Cre
                 Ok(made) => {
                     let is_last = made.tail.is_some();
                     let place = place_behind(&made);
-                    send(rt, self.queue, &mut queue, made);
+                    self.stream.send(rt, &mut stream, worker, made);
                     self.progress.tell();
                     if is_last {
-                        break;
+                        self.progress.end();
+                        return Worked {
+                            partition,
+                            stream,
+                            fault: None,
+                        };
                     }
                     self.progress.wait_at(rt, place);
                 }
@@ -144,15 +131,12 @@ impl<'a, L: Lambda, S: Source<Item = L::Item>, J: Carries<L::Item>, G: Gate> Cre
                     self.progress.end();
                     return Worked {
                         partition,
+                        stream,
                         fault: Some(fault),
                     };
                 }
             }
         }
-        self.progress.end();
-        Worked {
-            partition,
-            fault: None,
-        }
+        unreachable!()
     }
 }

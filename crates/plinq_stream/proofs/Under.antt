@@ -67,9 +67,9 @@ module _ {T : Type 0} where
   under-own n x = ap (λ (b : Bool). if b then x ∷ [] else []) (eq-eqb n n refl)
 
   -- nothing under a number that no item has
-  pub under-none : (n m : ℕ) → m ≢ n → (ss : List (Sent T)) → All (λ s. s.number ≡ m) ss → under n ss ≡ []
-  under-none n m not [] all = refl
-  under-none n m not (s ∷ ss) all =
-      let own = All-head (λ (x : Sent T). x.number ≡ m) s ss all in
-      let rest = under-none n m not ss (All-tail (λ (x : Sent T). x.number ≡ m) s ss all) in
-      ap (λ (b : Bool). if b then s.item ∷ under n ss else under n ss) (ne_eqb s.number n (λ e. not (sym own ∙ e))) ∙ rest
+  pub under-none : (n : ℕ) (ss : List (Sent T)) → All (λ s. s.number ≢ n) ss → under n ss ≡ []
+  under-none n [] all = refl
+  under-none n (s ∷ ss) all =
+      let other = All-head (λ (x : Sent T). x.number ≢ n) s ss all in
+      let rest = under-none n ss (All-tail (λ (x : Sent T). x.number ≢ n) s ss all) in
+      ap (λ (b : Bool). if b then s.item ∷ under n ss else under n ss) (ne_eqb s.number n other) ∙ rest

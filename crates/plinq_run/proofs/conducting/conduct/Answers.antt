@@ -1,10 +1,14 @@
-use Rattle.std.proofs.Common.{refl}
+use Rattle.std.proofs.Common.{drop, refl}
+use Rattle.std.proofs.lemmas.List.Elements.{All-weaker}
+use Rattle.plinq_stream.specs.Passes.{known}
 use Rattle.plinq_partition.specs.Partitions.{holding_of}
 use Rattle.plinq_run.specs.Reaching.{IsOffered}
 use Rattle.plinq_run.specs.Results.{IsResult}
 use Rattle.plinq_run.proofs.Ended.{none-ended, begins-merging, ended-run}
 use Rattle.plinq_run.proofs.Merged.{merges-weaker}
+use Rattle.plinq_run.specs.Working.{IsAnsweredBy}
 use Rattle.plinq_run.proofs.Runs.{merge_for}
+use Rattle.plinq_run.proofs.Working.{answered-same, told-all}
 use Rattle.plinq_run.proofs.conducting.conduct.Goals as goal
 
 pub returns-in_default-clause-ends : goal.returns-in_default-clause-ends
@@ -23,11 +27,18 @@ returns-clause-ends g c =
     let s = c.args.sink.now in
     let t = (holding_of c.args.own.partition).origin in
     let merge = merge_for g.L.Lambda.meaning plan option in
-    let after = c.merge_all.new.merging in
+    let after = c.merge_rest.new.merging in
     let J = g.J.Carries.is_result in
     let P = IsOffered (IsResult g.L.Lambda.meaning plan t) after.reach in
-    let begun = begins-merging (IsOffered J c.none.result) g.K.Sink.accepts g.K.Sink.refuses plan option s c.in-Ok-new.merger c.requires.equipped.undecided c.in-Ok-new.ensures.plan c.in-Ok-new.ensures.nothing in
-    let merged = c.merge_all.ensures.merges merge s begun in
-    ended-run t g.K.Sink.accepts g.K.Sink.refuses c.requires.equipped.few plan option s after.merger after.reach after.fault c.merge_all.new.sink c.told.result c.requires.equipped.undecided
-    (merges-weaker (IsOffered J after.reach) g.K.Sink.accepts g.K.Sink.refuses P (λ r x. (c.requires.equipped.sent r x.0, x.1)) merge s after.merger after.fault c.merge_all.new.sink merged)
+    let begun = begins-merging (IsOffered J c.none.result) g.K.Sink.accepts g.K.Sink.refuses plan option s c.in-Ok-new.merger c.requires.ready.equipped.undecided c.in-Ok-new.ensures.plan c.in-Ok-new.ensures.nothing in
+    let merged = c.merge_rest.ensures.merges merge s (c.merge_all.ensures.merges merge s begun) in
+    ended-run t g.K.Sink.accepts g.K.Sink.refuses c.requires.ready.equipped.few plan option s after.merger after.reach after.fault c.merge_rest.new.sink c.told.result c.requires.ready.equipped.undecided
+    (merges-weaker (IsOffered J after.reach) g.K.Sink.accepts g.K.Sink.refuses P (λ r x. (c.requires.ready.equipped.sent r x.0, x.1)) merge s after.merger after.fault c.merge_rest.new.sink merged)
     c.told.ensures.none c.told.ensures.ending c.told.ensures.reach c.told.ensures.err
+
+pub returns-clause-all : goal.returns-clause-all
+returns-clause-all g c =
+    let a = known c.join_all-partitions.new.pass in
+    let b = known c.merge_rest.new.pass in
+    let answered = All-weaker (IsAnsweredBy 0 a) (IsAnsweredBy 0 b) (answered-same 0 a b c.merge_rest.ensures.sent c.merge_rest.ensures.numbers) (drop 1 c.join_all-partitions.result.items) c.join_all-partitions.ensures.answered in
+    told-all b c.join_all-partitions.result c.told.result c.told.ensures.partitions c.merge_rest.ensures.all answered

@@ -1,9 +1,10 @@
 use Rattle.std.proofs.Common.{◌≡◌}
-use Rattle.crossbeam_queue.specs.Passes.{IsPassOf}
 use Rattle.plinq_merge.specs.Shown.{Merge}
 use Rattle.plinq_partition.specs.Partitions.{IsPartitionOf, holding_of}
+use Rattle.plinq_stream.specs.Passes.{IsPassOf, known}
 use Rattle.plinq_run.specs.Merged.{Merges}
 use Rattle.plinq_run.specs.Reaching.{IsOffered}
+use Rattle.plinq_run.specs.Working.{IsReceiver}
 use Rattle.plinq_run.proofs.conducting.merge_all.Given as goal
 
 abbrev pub invariant-loop : goal.invariant-loop
@@ -12,7 +13,8 @@ invariant-loop g l = record {
   finite : (goal.iterator-loop g).is_finite l.iterator';
   of : IsPartitionOf l.crew.chunked.now l.own;
   origin : (holding_of l.own).origin ≡ (holding_of l.fn.own).origin;
-  queue : IsPassOf l.crew.queue.now l.pass;
+  stream : IsPassOf l.crew.stream.now l.pass;
+  receiver : IsReceiver (known l.pass);
   merges : (merge : Merge g.row.L-Item.Denot) (s : g.row.K.Denot) → Merges (IsOffered g.J.Carries.is_result l.fn.merging.reach) g.K.Sink.accepts g.K.Sink.refuses merge s l.fn.merging.merger l.fn.merging.fault l.fn.sink
       → Merges (IsOffered g.J.Carries.is_result l.merging.reach) g.K.Sink.accepts g.K.Sink.refuses merge s l.merging.merger l.merging.fault l.sink;
 }

@@ -7,19 +7,24 @@ use Rattle.plinq_run.specs.Results.{IsResult}
 use Rattle.plinq_run.proofs.Ended.{none-ended, ends-reported}
 use Rattle.plinq_run.proofs.running.run_plan.Goals as goal
 
-pub run_crew-ended-requires-clause-equipped : goal.run_crew-ended-requires-clause-equipped
-run_crew-ended-requires-clause-equipped g c lifetimes outlive =
+pub run_crew-ended-requires-clause-ready : goal.run_crew-ended-requires-clause-ready
+run_crew-ended-requires-clause-ready g c lifetimes outlive =
     let meaning = g.L.Lambda.meaning in
     let plan = c.args.plan.now in
     let origin : (holding_of c.in-Ok-new.partition).origin ≡ g.S.Source.whole c.args.source = search rules in
     record {
-      of = c.in-Ok-new.ensures.of;
-      few = subst (λ t. length t.items ≤ 2 ^ 40) (sym origin) ((g.met.S.Source g.world.𝓛 g.world.𝓜 g.world.𝓡 (λ s a. a, λ a. a, λ a. a, λ a. a)).few c.args.source);
-      undecided = c.requires.plan;
-      results = λ r is. c.requires.carries r (subst (λ t. IsResult meaning plan t r) origin is);
-      sent = λ r is. subst (λ t. IsResult meaning plan t r) (sym origin) (c.requires.carried r is);
-      sees = c.in-Ok.ensures.pass;
-      enders = subst (λ t. AreEnders meaning plan t g.J.Carries.is_ender) (sym origin) c.requires.enders;
+      equipped = record {
+        of = c.in-Ok-new.ensures.of;
+        few = subst (λ t. length t.items ≤ 2 ^ 40) (sym origin) ((g.met.S.Source g.world.𝓛 g.world.𝓜 g.world.𝓡 (λ s a. a, λ a. a, λ a. a, λ a. a)).few c.args.source);
+        undecided = c.requires.plan;
+        results = λ r is. c.requires.carries r (subst (λ t. IsResult meaning plan t r) origin is);
+        sent = λ r is. subst (λ t. IsResult meaning plan t r) (sym origin) (c.requires.carried r is);
+        sees = c.in-Ok.ensures.pass;
+        enders = subst (λ t. AreEnders meaning plan t g.J.Carries.is_ender) (sym origin) c.requires.enders;
+      };
+      stream_of = c.in-Ok-new-2.ensures.pass;
+      knows = c.in-Ok-new-2.ensures.first;
+      few = c.requires.few;
     }
 
 pub returns-in_default-clause-reports : goal.returns-in_default-clause-reports
@@ -28,8 +33,8 @@ returns-in_default-clause-reports g c = none-ended g.L.Lambda.meaning g.K.Sink.a
 pub returns-in_default-new-clause-reports : goal.returns-in_default-new-clause-reports
 returns-in_default-new-clause-reports g c = none-ended g.L.Lambda.meaning g.K.Sink.accepts g.K.Sink.refuses c.args.option c.args.plan.now (g.S.Source.whole c.args.source) c.args.sink.now _ refl
 
-pub returns-in_default-ruled-clause-reports : goal.returns-in_default-ruled-clause-reports
-returns-in_default-ruled-clause-reports g c = none-ended g.L.Lambda.meaning g.K.Sink.accepts g.K.Sink.refuses c.args.option c.args.plan.now (g.S.Source.whole c.args.source) c.args.sink.now _ refl
+pub returns-in_default-new-2-clause-reports : goal.returns-in_default-new-2-clause-reports
+returns-in_default-new-2-clause-reports g c = none-ended g.L.Lambda.meaning g.K.Sink.accepts g.K.Sink.refuses c.args.option c.args.plan.now (g.S.Source.whole c.args.source) c.args.sink.now _ refl
 
 pub returns-clause-reports : goal.returns-clause-reports
 returns-clause-reports g c =
