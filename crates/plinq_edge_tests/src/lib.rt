@@ -8,6 +8,8 @@
 #[cfg(test)]
 mod documents;
 #[cfg(test)]
+mod fails_once;
+#[cfg(test)]
 mod lines;
 #[cfg(test)]
 mod narrow;

@@ -5,7 +5,6 @@ use std::process::Abort;
 mod aggregates;
 mod answers;
 mod batches;
-mod fails_once;
 mod failures;
 mod histories;
 mod parts;

@@ -1,5 +1,5 @@
 use super::expect_lines;
-use crate::lines::fails_once::FailsOnce;
+use crate::fails_once::FailsOnce;
 use crate::narrow::Narrow;
 use plinq_lines::{LineSink, WRITE_FAILED};
 use plinq_merge::Sink;

@@ -1,5 +1,6 @@
 //! Readers and writers that fail.
 use super::{ADD_ONE, words_of};
+use crate::fails_once::FailsOnce;
 use crate::narrow::Narrow;
 use plinq_cli::perform;
 use std::alloc::AllocError;
@@ -16,8 +17,17 @@ fn answered<R: AllocGlobal + Threads + Wait + Sync, W: Write>(
     out: &mut W,
     err: &mut Vec<u8>,
 ) -> Result<u8, AllocError> {
+    run_document(rt, ADD_ONE, out, err)
+}
+
+fn run_document<R: AllocGlobal + Threads + Wait + Sync, W: Write>(
+    rt: &R,
+    document: &str,
+    out: &mut W,
+    err: &mut Vec<u8>,
+) -> Result<u8, AllocError> {
     let words = words_of(rt.alloc(), &["plinq", "run", "--merge", "not"])?;
-    Ok(perform(rt, words, &mut ADD_ONE.as_bytes(), out, err))
+    Ok(perform(rt, words, &mut document.as_bytes(), out, err))
 }
 
 // How a run ends that reads a document that is no JSON.
@@ -76,6 +86,22 @@ fn a_flush_that_fails(rt: HostRuntime) -> Result<(), Fail> {
     Ok(())
 }
 
+// One line at once, and then many elements that give none.
+const FIRST_OF_MANY: &str =
+    r#"{"version":1,"source":{"range":[5,1000000]},"query":[["as_ordered"],["filter","equal",5]]}"#;
+
+// What fails is the flush behind the only line, though no line of a batch comes after it and later flushes succeed.
+#[test]
+fn a_flush_that_fails_while_nothing_comes(rt: HostRuntime) -> Result<(), Fail> {
+    let mut out = FailsOnce::new(rt.alloc(), 2);
+    let mut err = Vec::new(rt.alloc());
+    assert_eq!(rt; run_document(&rt, FIRST_OF_MANY, &mut out, &mut err)?, 5);
+    assert_eq!(rt; err.as_slice(), b"plinq: write failed\n".as_slice());
+    assert_eq!(rt; out.taken(), b"5\n".as_slice());
+    assert_eq!(rt; out.calls, 2);
+    Ok(())
+}
+
 // Help, or a failure's line, on a writer that takes nothing.
 #[test]
 fn errors_that_cannot_be_written(rt: HostRuntime) -> Result<(), Fail> {
@@ -103,37 +129,12 @@ fn a_flush_that_fails_beside_a_refused_document(rt: HostRuntime) -> Result<(), F
     Ok(())
 }
 
-// Fails at its first write, and takes all later ones.
-#[derive(Drop)]
-struct FailsOnce {
-    taken: Vec<u8>,
-    has_failed: bool,
-}
-
-impl Write for FailsOnce {
-    fn write(&mut self, buf: &[u8]) -> io::Result<usize> {
-        if !self.has_failed {
-            self.has_failed = true;
-            return Err(io::Error::from(ErrorKind::WouldBlock));
-        }
-        self.taken.extend_from_slice(buf)?;
-        Ok(buf.len())
-    }
-
-    fn flush(&mut self) -> io::Result<()> {
-        Ok(())
-    }
-}
-
 // What a buffer still holds after a failing write isn't written, whether a line or the flush was what failed.
 #[test]
 fn nothing_is_written_after_a_failure(rt: HostRuntime) -> Result<(), Fail> {
     let alloc = rt.alloc();
     for capacity in [3, 8_192] {
-        let once = FailsOnce {
-            taken: Vec::new(alloc),
-            has_failed: false,
-        };
+        let once = FailsOnce::new(alloc, 1);
         let mut out = BufWriter::with_capacity(alloc, capacity, once)?;
         let mut err = Vec::new(alloc);
         assert_eq!(rt;
@@ -143,8 +144,7 @@ fn nothing_is_written_after_a_failure(rt: HostRuntime) -> Result<(), Fail> {
         );
         assert_eq!(rt; err.as_slice(), b"plinq: write failed\n".as_slice());
         let (once, _) = out.into_parts();
-        assert!(rt; once.has_failed);
-        assert!(rt; once.taken.is_empty(), "a buffer of {capacity} bytes");
+        assert_eq!(rt; once.calls, 1, "a buffer of {capacity} bytes");
     }
     Ok(())
 }
