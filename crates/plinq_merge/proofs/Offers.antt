@@ -124,7 +124,7 @@ gains-as meaning accepts refuses w r s result result' w' s' same gains offers re
     subst P same (gains offers rests)
 
 -- nothing was offered to a new merger
-taken-begun : {T : Type 0} (merge : Merge T) → HasTaken merge (record { next = 0; waiting = []; told = None; now = merge.after; held = [] }) (open_trace []) [] []
+pub taken-begun : {T : Type 0} (merge : Merge T) → HasTaken merge (record { next = 0; waiting = []; told = None; now = merge.after; held = [] }) (open_trace []) [] []
 taken-begun merge =
     record {
       done = [];

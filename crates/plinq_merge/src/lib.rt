@@ -7,6 +7,7 @@
 //!   (`Merger::offer`); `decided`, `finish` and [`More`] tell whether and how the answer ends.
 //! - What offers of one source show by key is at each moment a beginning of the sequential answer, and all of it where
 //!   all was offered ([`laws`]).
+//! - A [`Row`] of keys is what a merger stands on; it only moves what waits in it, and serves whoever merges otherwise.
 //! - A [`Sink`] takes the batches; what it says of a call is `accepts` and `refuses`.
 #![tactic(auto)]
 
@@ -27,4 +28,6 @@ mod work;
 pub use merge_fault::MergeFault;
 pub use merger::Merger;
 pub use more::More;
+pub use row::Row;
 pub use sink::Sink;
+pub use waiting::Waiting;

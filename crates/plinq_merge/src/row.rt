@@ -13,15 +13,15 @@ use std::collections::BTreeMap;
 
 /// The row of keys: those before `next` are merged, others wait, and the end of the source may be told.
 #[derive(Drop)]
-pub(crate) struct Row<T> {
-    pub(crate) next: u64,
-    pub(crate) waiting: BTreeMap<u64, Waiting<T>>,
-    pub(crate) told: Option<(u64, Ending)>,
+pub struct Row<T> {
+    pub next: u64,
+    pub waiting: BTreeMap<u64, Waiting<T>>,
+    pub told: Option<(u64, Ending)>,
 }
 
-impl<T: Copy> Row<T> {
+impl<T: Drop> Row<T> {
     /// The row of which nothing is merged.
-    pub(crate) fn new(alloc: Global) -> Row<T>
+    pub fn new(alloc: Global) -> Row<T>
         ensures next { result.next ≡ 0 }
         ensures waiting { result.waiting.entries ≡ [] }
         ensures told { result.told ≡ None }
@@ -34,7 +34,7 @@ impl<T: Copy> Row<T> {
     }
 
     /// Whether one of the keys from `first` up to, not including, `behind` is merged or waits.
-    pub(crate) fn was_offered(&self, first: u64, behind: u64) -> bool
+    pub fn was_offered(&self, first: u64, behind: u64) -> bool
         requires { is_apart self.now.next self.now.waiting.entries ≡ true }
         ensures { MatchBool result
             (IsRepeated self.now.next self.now.waiting.entries first behind)
@@ -53,7 +53,7 @@ impl<T: Copy> Row<T> {
     }
 
     /// Notes where the source ends, if a tail behind these keys tells it and none has before.
-    pub(crate) fn hear(&mut self, behind: u64, tail: Option<Tail>)
+    pub fn hear(&mut self, behind: u64, tail: Option<Tail>)
         ensures next { self.new.next ≡ self.old.next }
         ensures waiting { self.new.waiting ≡ self.old.waiting }
         ensures told { self.new.told ≡ option_or self.old.told (told_at behind tail) }
@@ -67,7 +67,7 @@ impl<T: Copy> Row<T> {
     }
 
     /// How the source ends, if all keys before its end are merged.
-    pub(crate) fn ending(&self) -> Option<Ending>
+    pub fn ending(&self) -> Option<Ending>
         ensures { result ≡ ending_at self.now.told self.now.next }
     {
         match self.told {
@@ -77,7 +77,7 @@ impl<T: Copy> Row<T> {
     }
 
     /// Whether what waits has the next key.
-    pub(crate) fn is_next_there(&self) -> bool
+    pub fn is_next_there(&self) -> bool
         ensures { result ≡ is_first self.now.next self.now.waiting.entries }
     {
         match self.waiting.first_key_value() {
@@ -87,7 +87,7 @@ impl<T: Copy> Row<T> {
     }
 
     /// Takes what waits under the next key; the row goes on behind it.
-    pub(crate) fn take_next(&mut self) -> Waiting<T>
+    pub fn take_next(&mut self) -> Waiting<T>
         requires { is_first self.old.next self.old.waiting.entries ≡ true }
         ensures parts { self.old.waiting.entries ≡ (self.old.next, result) ∷ self.new.waiting.entries }
         ensures next { self.new.next ≡ result.behind }
@@ -103,7 +103,7 @@ impl<T: Copy> Row<T> {
     }
 
     /// Takes in a result of keys that weren't offered before. What it answers is in hand: it is to be merged at once.
-    pub(crate) fn take_in(
+    pub fn take_in(
         &mut self,
         alloc: Global,
         order: Order,
@@ -147,11 +147,7 @@ impl<T: Copy> Row<T> {
     }
 
     /// Takes keys: the row goes on behind them if they are the next ones, and the part is handed back; else it waits.
-    pub(crate) fn place(
-        &mut self,
-        first: u64,
-        part: Waiting<T>,
-    ) -> Result<Option<Waiting<T>>, OutOfMemory>
+    pub fn place(&mut self, first: u64, part: Waiting<T>) -> Result<Option<Waiting<T>>, OutOfMemory>
         ensures told { OnOk result (self.new.told ≡ self.old.told) }
         ensures placed { IfOk result (λ turn.
             Places self.old.next self.old.waiting.entries first part turn self.new.next self.new.waiting.entries) }

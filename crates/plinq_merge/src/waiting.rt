@@ -3,12 +3,12 @@ use std::marker::Model;
 
 /// What waits for the turn of its keys.
 #[derive(Drop)]
-pub(crate) struct Waiting<T> {
+pub struct Waiting<T> {
     /// The key behind the last one.
-    pub(crate) behind: u64,
-    pub(crate) items: Vec<T>,
+    pub behind: u64,
+    pub items: Vec<T>,
     /// How the run ends behind the items, if it does.
-    pub(crate) ending: Option<Ending>,
+    pub ending: Option<Ending>,
 }
 
 impl<T> Model for Waiting<T> {

@@ -1,0 +1,3 @@
+pub mod Folds
+pub mod Works
+pub mod Offers

@@ -1,0 +1,45 @@
+-- Folds of results: accumulators in the place of items.
+use Rattle.std.specs.Prelude.{◌≡◌, refl, pos, List, [], ◌∷◌, ◌++◌, ⊤}
+use Rattle.std.specs.List.{fold}
+use Rattle.plinq_source.specs.Trace.{Trace}
+use Rattle.plinq_aggregate.specs.Folding.{Folding, folded}
+use Rattle.plinq_aggregate.specs.Numbers.{counting}
+use Rattle.plinq_ops.specs.declared.results.ChunkResult.{ChunkResult}
+
+-- accumulators, combined one after another from the seed on
+abbrev pub combined : {T A O : Type 0} → Folding T A O → List A → A
+combined f accs = fold f.combine f.seed accs
+
+module _ {T A O : Type 0} (f : Folding T A O) where
+  -- a result with the fold of its items in their place
+  pub record IsFoldOf (r : ChunkResult T) (c : ChunkResult A) : Type 0 where
+    pub first : c.first ≡ r.first
+    pub count : c.count ≡ r.count
+    pub items : c.items.items ≡ folded f r.items.items ∷ []
+    pub ending : c.ending ≡ r.ending
+    pub stop : c.stop ≡ r.stop
+    pub tail : c.tail ≡ r.tail
+
+  abbrev pub AreFoldsOf : List (ChunkResult T) → List (ChunkResult A) → Type 0
+  AreFoldsOf [] [] = ⊤
+  AreFoldsOf [] (c ∷ cs) = ⊥
+  AreFoldsOf (r ∷ rs) [] = ⊥
+  AreFoldsOf (r ∷ rs) (c ∷ cs) = IsFoldOf r c × AreFoldsOf rs cs
+
+  -- accumulators stand for items: combined behind those of any others, they are that of all
+  abbrev pub StandFor : List T → List A → Type 0
+  StandFor xs accs = (before : List T) → fold f.combine (folded f before) accs ≡ folded f (before ++ xs)
+
+  -- a trace of accumulators stands for one of items, and ends so
+  pub record IsFolded (t : Trace T) (u : Trace A) : Type 0 where
+    pub items : StandFor t.items u.items
+    pub ending : u.ending ≡ t.ending
+
+-- ---- worked rows
+
+-- two parts of three items
+three_are_counted : combined counting (folded counting (pos 7 ∷ pos 8 ∷ []) ∷ folded counting (pos 9 ∷ []) ∷ []) ≡ 3
+three_are_counted = refl
+
+of_no_parts_the_seed : combined counting [] ≡ 0
+of_no_parts_the_seed = refl

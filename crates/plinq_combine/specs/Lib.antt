@@ -1,0 +1,3 @@
+pub mod Folds
+pub mod Combining
+pub mod Combiners
