@@ -1,5 +1,5 @@
 -- What a worker sends are the results of its records, one after another.
-use Rattle.std.proofs.Common.{◌≡◌, ◌≢◌, ℕ, ◌+◌, ◌≤◌, ◌<◌, ◌==◌, eq-eqb, ◌||◌, List, drop, [], ◌∷◌, ◌++◌, Option, Some, None, is_some, true, false, true≢false, All, Result, Ok, Err, IfOk, Vec, refl, sym, ap, ◌∙◌, subst, arith}
+use Rattle.std.proofs.Common.{◌≡◌, ◌≢◌, ℕ, ◌+◌, ◌≤◌, ◌<◌, ◌==◌, eq-eqb, ◌||◌, List, drop, [], ◌∷◌, ◌++◌, Option, Some, None, is_some, true, false, true≢false, All, Result, Ok, Err, IfOk, OnOk, Vec, not, Bool, refl, sym, ap, ◌∙◌, subst, arith}
 use Rattle.std.proofs.lemmas.List.{append-nil}
 use Rattle.std.proofs.lemmas.List.Elements.{All-nil, All-push, All-append, All-weaker}
 use Rattle.std.specs.List.{AllZip}
@@ -18,8 +18,14 @@ use Rattle.plinq_stream.specs.declared.sent.Sent.{Sent}
 use Rattle.plinq_stream.specs.Knowing.{with_sent, with_first, without_first, together}
 use Rattle.plinq_stream.specs.Streams.{has, under, HasReceivedAll}
 use Rattle.plinq_stream.proofs.Numbers.{first-of, rest-of}
-use Rattle.plinq_stream.proofs.Under.{has-append, or-first, or-second, under-append, under-own, under-none}
-use Rattle.plinq_run.specs.Working.{Answers, IsOpen, Follows, HasTaken, HasLeft, sender, IsAtWork, HasWorked, IsAnsweredBy, receiver_from}
+use Rattle.plinq_stream.proofs.Under.{has-append, or-none, or-right, or-first, or-second, under-append, under-own, under-none}
+use Rattle.plinq_run.specs.Working.{Answers, IsOpen, Follows, HasTaken, HasLeft, sender, IsAtWork, HasWorked, IsAnsweredBy, IsWhollyAnsweredBy, is_short, receiver_from}
+use Rattle.plinq_merge.specs.declared.merge_fault.MergeFault.{MergeFault}
+use Rattle.plinq_run.specs.declared.conducting.Staff.{Staff}
+use Rattle.plinq_run.specs.declared.starting.Shortages.{Shortages}
+use Rattle.plinq_run.specs.declared.run_fault.RunFault.TheVariants.{Memory, Thread, Tickets}
+use Rattle.plinq_run.specs.Faults.{first_told, told_if, refused_by_sink, is_out_of_memory}
+use Rattle.std.specs.Option.{option_or}
 use Rattle.plinq_run.specs.declared.conducting.Ended.{Ended}
 use Rattle.plinq_run.specs.declared.run_fault.RunFault.{RunFault}
 use Rattle.plinq_source.specs.declared.source.Source.{Ghosts}
@@ -121,6 +127,29 @@ pub rest-handed : {T : Type 0} (n : ℕ) (a b : Known (ChunkResult T)) → n < 6
 rest-handed n a b less is made =
     made ∙ ap without_first is ∙ ap (λ l. record { numbers = l; sent = []; receives = true; received = [] }) (rest-of n 64 less)
 
+-- ---- no fault is told where none was noted
+
+none-before : {A : Type 0} (x y : Option A) → option_or x y ≡ None → x ≡ None
+none-before None y is = refl
+none-before (Some x) y is = is
+
+none-behind : {A : Type 0} (x y : Option A) → option_or x y ≡ None → y ≡ None
+none-behind None y is = is
+none-behind (Some x) y is = absurd (true≢false (ap is_some is))
+
+none-told : (b : Bool) (fault : RunFault) → told_if b fault ≡ None → b ≡ false
+none-told true fault is = absurd (true≢false (ap is_some is))
+none-told false fault is = refl
+
+none-noted : (fault : Option MergeFault) (short : Shortages) (staff : Staff) → first_told fault short staff ≡ None → is_short short ≡ false
+none-noted fault short staff is =
+    let behind-sink = none-behind (refused_by_sink fault) _ is in
+    let memory = none-told (is_out_of_memory fault || short.memory) Memory (none-before _ _ behind-sink) in
+    let behind-memory = none-behind (told_if (is_out_of_memory fault || short.memory) Memory) _ behind-sink in
+    let behind-thread = none-behind (told_if (not (staff.started == staff.wanted)) Thread) _ behind-memory in
+    let tickets = none-told short.tickets Tickets (none-before _ _ behind-thread) in
+    or-none short.memory short.tickets (or-right (is_out_of_memory fault) short.memory memory) tickets
+
 -- ---- a worker's pass is taken in, whose number is below those that were taken in before
 
 module _ {T : Type 0} (a b c : Known (ChunkResult T)) (is : c ≡ together a b) where
@@ -138,17 +167,22 @@ module _ {T : Type 0} (a b c : Known (ChunkResult T)) (is : c ≡ together a b) 
       (All-weaker (λ (s : Sent (ChunkResult T)). s.number ≡ n) (λ s. n ≤ s.number) (λ s h. omega arith) b.sent own))
 
 module _ {S T : Type 0} {source : Ghosts S T} where
-  pub answered-same : (least : ℕ) (a b : Known (ChunkResult T)) → b.sent ≡ a.sent → b.numbers ≡ a.numbers → (p : Partition S T source) → IsAnsweredBy least a p → IsAnsweredBy least b p
-  answered-same least a b sent numbers p h = record {
+  -- without a fault all records are answered
+  pub answered-wholly : (a b : Known (ChunkResult T)) (short : Shortages) → b.sent ≡ a.sent → b.numbers ≡ a.numbers → is_short short ≡ false → (p : Partition S T source)
+      → IsAnsweredBy 0 a short p → IsWhollyAnsweredBy b p
+  answered-wholly a b short sent numbers none p h = record {
     number = h.number;
-    above = h.above;
     own = ap (has h.number) numbers ∙ h.own;
-    fault = h.fault;
-    follows = subst (λ l. Follows (holding_of p).share h.fault (under h.number l)) (sym sent) h.follows;
+    follows = subst (λ l. Follows (holding_of p).share None (under h.number l)) (sym sent) (whole h.fault h.noted h.follows);
   }
+    where
+      whole : (fault : Option TakeFault) → (is_some fault ≡ true → is_short short ≡ true) → Follows (holding_of p).share fault (under h.number a.sent)
+          → Follows (holding_of p).share None (under h.number a.sent)
+      whole None noted follows = follows
+      whole (Some fault) noted follows = absurd (true≢false (sym (noted refl) ∙ none))
 
-  module _ (n least : ℕ) (next : least ≡ n + 1) (a b c : Known (ChunkResult T)) (is : c ≡ together a b) where
-    pub answered-before : All (λ s. s.number ≡ n) b.sent → (p : Partition S T source) → IsAnsweredBy least a p → IsAnsweredBy n c p
+  module _ (n least : ℕ) (next : least ≡ n + 1) (a b c : Known (ChunkResult T)) (is : c ≡ together a b) (old short : Shortages) (kept : is_short old ≡ true → is_short short ≡ true) where
+    pub answered-before : All (λ s. s.number ≡ n) b.sent → (p : Partition S T source) → IsAnsweredBy least a old p → IsAnsweredBy n c short p
     answered-before own p h =
         let k = h.number in
         let none : under k b.sent ≡ [] =
@@ -158,22 +192,30 @@ module _ {S T : Type 0} {source : Ghosts S T} where
           above = (let far : least ≤ k = h.above in omega arith);
           own = has-both a b c is k ∙ or-first (has k a.numbers) (has k b.numbers) h.own;
           fault = h.fault;
+          noted = λ is. kept (h.noted is);
           follows = subst (Follows (holding_of p).share h.fault) (sym (under-both a b c is k ∙ ap (λ l. under k a.sent ++ l) none ∙ append-nil (under k a.sent))) h.follows;
         }
 
-    pub answered-now : All (λ s. least ≤ s.number) a.sent → (p : Partition S T source) (fault : Option TakeFault) → HasWorked n (holding_of p).share fault b → IsAnsweredBy n c p
-    answered-now above p fault h =
+    pub answered-now : All (λ s. least ≤ s.number) a.sent → (p : Partition S T source) (fault : Option TakeFault) → (is_some fault ≡ true → is_short short ≡ true) → HasWorked n (holding_of p).share fault b → IsAnsweredBy n c short p
+    answered-now above p fault noted h =
         let none : under n a.sent ≡ [] = under-none n a.sent (All-weaker (λ (s : Sent (ChunkResult T)). least ≤ s.number) (λ s. s.number ≢ n) (λ s e same. omega arith) a.sent above) in
         record {
           number = n;
           above = omega arith;
           own = has-both a b c is n ∙ or-second (has n a.numbers) (has n b.numbers) (ap (λ (x : Known (ChunkResult T)). has n x.numbers) h.knows ∙ or-first (n == n) false (eq-eqb n n refl));
           fault = fault;
+          noted = noted;
           follows = subst (Follows (holding_of p).share fault) (sym (under-both a b c is n ∙ ap (λ l. l ++ under n b.sent) none)) h.follows;
         }
 
-  pub told-all : (a : Known (ChunkResult T)) (partitions : Vec (Partition S T source) Global) (r : Result (Ended S T source) RunFault) → IfOk r (λ ended. ended.partitions ≡ partitions)
-      → HasReceivedAll a → All (IsAnsweredBy 0 a) (drop 1 partitions.items)
-      → IfOk r (λ ended. (a' : Known (ChunkResult T)) × HasReceivedAll a' × All (IsAnsweredBy 0 a') (drop 1 ended.partitions.items))
-  told-all a partitions (Ok ended) same all answered = (a, all, subst (λ ps. All (IsAnsweredBy 0 a) (drop 1 ps.items)) (sym same) answered)
-  told-all a partitions (Err fault) same all answered = tt
+  pub told-all : (a b : Known (ChunkResult T)) (short : Shortages) (fault : Option MergeFault) (staff : Staff) (partitions : Vec (Partition S T source) Global) (r : Result (Ended S T source) RunFault)
+      → b.sent ≡ a.sent → b.numbers ≡ a.numbers → OnOk r (first_told fault short staff ≡ None) → IfOk r (λ ended. ended.partitions ≡ partitions)
+      → HasReceivedAll b → All (IsAnsweredBy 0 a short) (drop 1 partitions.items)
+      → IfOk r (λ ended. (x : Known (ChunkResult T)) × HasReceivedAll x × All (IsWhollyAnsweredBy x) (drop 1 ended.partitions.items))
+  told-all a b short fault staff partitions (Ok ended) sent numbers none same all answered = (
+    b,
+    all,
+    subst (λ ps. All (IsWhollyAnsweredBy b) (drop 1 ps.items)) (sym same)
+        (All-weaker (IsAnsweredBy 0 a short) (IsWhollyAnsweredBy b) (answered-wholly a b short sent numbers (none-noted fault short staff none)) (drop 1 partitions.items) answered),
+  )
+  told-all a b short fault staff partitions (Err told) sent numbers none same all answered = tt

@@ -1,5 +1,5 @@
 -- What a worker sends, and what it brings back.
-use Rattle.std.specs.Prelude.{◌≡◌, ◌≤◌, ◌-◌, ℕ, List, [], ◌∷◌, ◌++◌, Option, Some, None, is_some, true, false, All}
+use Rattle.std.specs.Prelude.{◌≡◌, ◌||◌, Bool, ◌≤◌, ◌-◌, ℕ, List, [], ◌∷◌, ◌++◌, Option, Some, None, is_some, true, false, All}
 use Rattle.std.specs.List.{AllZip}
 use Rattle.plinq_source.specs.declared.source.Source.{Ghosts}
 use Rattle.plinq_keyed.specs.declared.record.Record.{Record}
@@ -15,7 +15,12 @@ use Rattle.plinq_stream.specs.declared.stream_pass.StreamPass.{StreamPass}
 use Rattle.plinq_stream.specs.Knowing.{numbers_from}
 use Rattle.plinq_stream.specs.Passes.{IsPassOf, IsBeside, known}
 use Rattle.plinq_stream.specs.Streams.{has, under}
+use Rattle.plinq_run.specs.declared.starting.Shortages.{Shortages}
 use Rattle.plinq_run.specs.declared.worker.Worked.{Worked}
+
+-- whether a worker's fault was noted
+abbrev pub is_short : Shortages → Bool
+is_short short = short.memory || short.tickets
 
 -- records may have come behind a share
 pub record HasLeft (share share' : List Record) : Type 0 where
@@ -103,10 +108,17 @@ module _ {S T : Type 0} {source : Ghosts S T} where
     pub worked : HasWorked number (holding_of back.partition).share back.fault (known back.stream)
 
   -- what was sent under one of the pass's numbers, which is at least that, are the results of the first records of this
-  -- partition
-  pub record IsAnsweredBy (least : ℕ) (a : Known (ChunkResult T)) (p : Partition S T source) : Type 0 where
+  -- partition, and of all of them unless a fault was noted
+  pub record IsAnsweredBy (least : ℕ) (a : Known (ChunkResult T)) (short : Shortages) (p : Partition S T source) : Type 0 where
     pub number : ℕ
     pub above : least ≤ number
     pub own : has number a.numbers ≡ true
     pub fault : Option TakeFault
+    pub noted : is_some fault ≡ true → is_short short ≡ true
     pub follows : Follows (holding_of p).share fault (under number a.sent)
+
+  -- what was sent under one of the pass's numbers are the results of all records of this partition
+  pub record IsWhollyAnsweredBy (a : Known (ChunkResult T)) (p : Partition S T source) : Type 0 where
+    pub number : ℕ
+    pub own : has number a.numbers ≡ true
+    pub follows : Follows (holding_of p).share None (under number a.sent)

@@ -12,7 +12,7 @@ ghost use Rattle.plinq_run.specs.Merged.{Merges};
 ghost use Rattle.plinq_run.specs.Reaching.{IsOffered};
 ghost use Rattle.plinq_run.specs.Reports.{MayMerge, Ends};
 ghost use Rattle.plinq_run.specs.Results.{IsResult};
-ghost use Rattle.plinq_run.specs.Working.{IsAnsweredBy, IsReceiver};
+ghost use Rattle.plinq_run.specs.Working.{IsReceiver, IsWhollyAnsweredBy};
 ghost use Rattle.plinq_stream.specs.declared.known.Known.{Known};
 ghost use Rattle.plinq_stream.specs.Passes.{IsPassOf, known};
 ghost use Rattle.plinq_stream.specs.Streams.{HasReceivedAll};
@@ -196,7 +196,7 @@ where
     R: Threads + Wait + Sync,
     requires ready { IsReady L.meaning J.is_result J.is_ender crew.now.plan.now crew.now.chunked.now crew.now.cut.now crew.now.stream.now crew.now.workers own.partition own.cut own.stream }
     ensures back { IfOk result (λ ended. (1 ≤ length ended.partitions.items) × All (IsPartitionOf crew.now.chunked.now) ended.partitions.items × (common_origin ended.partitions.items ≡ (holding_of own.partition).origin)) }
-    ensures all { IfOk result (λ ended. (a : Known (ChunkResult L.Item)) × HasReceivedAll a × All (IsAnsweredBy 0 a) (drop 1 ended.partitions.items)) }
+    ensures all { IfOk result (λ ended. (a : Known (ChunkResult L.Item)) × HasReceivedAll a × All (IsWhollyAnsweredBy a) (drop 1 ended.partitions.items)) }
     ensures ends { Ends K.accepts K.refuses crew.now.option (MayMerge L.meaning crew.now.plan.now) (holding_of own.partition).origin sink.old sink.new result }
 {
     let Ok(hands) = Vec::with_capacity(crew.alloc, crew.workers as usize) else {

@@ -1,11 +1,11 @@
 //! Starting the workers of a run, and having them back.
-ghost use Rattle.std.specs.Prelude.{◌≡◌, ◌≤◌, ◌<◌, ◌^◌, ◌+◌, [], drop, length, true, false, not, ◌||◌, All, IfSome, vec_len, vec_capacity};
+ghost use Rattle.std.specs.Prelude.{◌≡◌, ◌≤◌, ◌<◌, ◌^◌, ◌+◌, [], drop, length, true, false, not, ◌||◌, All, IfSome, is_some, vec_len, vec_capacity};
 ghost use Rattle.plinq_partition.specs.Partitions.{IsPartitionOf, holding_of};
 ghost use Rattle.plinq_partition.specs.GivenBack.{common_origin};
 ghost use Rattle.plinq_run.specs.Equipped.{IsEquipped};
 ghost use Rattle.plinq_run.specs.Faults.{lacks_room};
 ghost use Rattle.plinq_run.specs.Hands.{IsHandOf, AreNumbered};
-ghost use Rattle.plinq_run.specs.Working.{IsNewcomer, IsReceiver, IsBack, IsAnsweredBy, receiver_from};
+ghost use Rattle.plinq_run.specs.Working.{IsNewcomer, IsReceiver, IsBack, IsAnsweredBy, is_short, receiver_from};
 ghost use Rattle.plinq_stream.specs.Passes.{IsPassOf, known};
 
 use crate::gate::Gate;
@@ -125,6 +125,16 @@ impl Shortages {
             _ => self.tickets = true,
         }
     }
+
+    /// Notes a worker's fault, if it had one.
+    fn note_any(&mut self, fault: Option<TakeFault>)
+        ensures kept { is_short self.old ≡ true → is_short self.new ≡ true }
+        ensures noted { is_some fault ≡ true → is_short self.new ≡ true }
+    {
+        if let Some(fault) = fault {
+            self.note(fault);
+        }
+    }
 }
 
 /// Joins the workers. Their partitions come behind the one that is given, and their passes are taken in.
@@ -155,16 +165,14 @@ where
     ensures pass { IsPassOf stream.now pass.new }
     ensures receives { (known pass.new).receives ≡ true }
     ensures received { (known pass.new).received ≡ (known pass.old).received }
-    ensures answered { All (IsAnsweredBy 0 (known pass.new)) (drop 1 result.items) }
+    ensures answered { All (IsAnsweredBy 0 (known pass.new) shortages.new) (drop 1 result.items) }
 {
     let mut hands = hands;
     let mut partitions = room;
     partitions.push_reserved(own);
     while let Some(hand) = hands.pop() {
         let worked = hand.join(rt);
-        if let Some(fault) = worked.fault {
-            shortages.note(fault);
-        }
+        shortages.note_any(worked.fault);
         stream.join(pass, worked.stream);
         partitions.push_reserved(worked.partition);
     }

@@ -1,14 +1,12 @@
-use Rattle.std.proofs.Common.{drop, refl}
-use Rattle.std.proofs.lemmas.List.Elements.{All-weaker}
+use Rattle.std.proofs.Common.{refl}
 use Rattle.plinq_stream.specs.Passes.{known}
 use Rattle.plinq_partition.specs.Partitions.{holding_of}
 use Rattle.plinq_run.specs.Reaching.{IsOffered}
 use Rattle.plinq_run.specs.Results.{IsResult}
 use Rattle.plinq_run.proofs.Ended.{none-ended, begins-merging, ended-run}
 use Rattle.plinq_run.proofs.Merged.{merges-weaker}
-use Rattle.plinq_run.specs.Working.{IsAnsweredBy}
 use Rattle.plinq_run.proofs.Runs.{merge_for}
-use Rattle.plinq_run.proofs.Working.{answered-same, told-all}
+use Rattle.plinq_run.proofs.Working.{told-all}
 use Rattle.plinq_run.proofs.conducting.conduct.Goals as goal
 
 pub returns-in_default-clause-ends : goal.returns-in_default-clause-ends
@@ -40,5 +38,5 @@ pub returns-clause-all : goal.returns-clause-all
 returns-clause-all g c =
     let a = known c.join_all-partitions.new.pass in
     let b = known c.merge_rest.new.pass in
-    let answered = All-weaker (IsAnsweredBy 0 a) (IsAnsweredBy 0 b) (answered-same 0 a b c.merge_rest.ensures.sent c.merge_rest.ensures.numbers) (drop 1 c.join_all-partitions.result.items) c.join_all-partitions.ensures.answered in
-    told-all b c.join_all-partitions.result c.told.result c.told.ensures.partitions c.merge_rest.ensures.all answered
+    told-all a b c.join_all-partitions.new.shortages _ _ c.join_all-partitions.result c.told.result c.merge_rest.ensures.sent c.merge_rest.ensures.numbers c.told.ensures.first c.told.ensures.partitions c.merge_rest.ensures.all
+    c.join_all-partitions.ensures.answered

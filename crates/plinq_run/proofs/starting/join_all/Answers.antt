@@ -32,6 +32,8 @@ loop-hand-preserved g c =
     subst (λ n. HasWorked n (holding_of worked.partition).share worked.fault b) number c.join-worked.ensures.worked in
     let is = c.join.ensures.both in
     let n = length left in
+    let short = c.note_any.new.self in
+    let old = c.loop-hand.shortages in
     let least = length c.loop-hand.hands.items in
     record {
       hands = popped.0;
@@ -44,8 +46,8 @@ loop-hand-preserved g c =
       receives = ap (λ k. k.receives) is ∙ c.loop-hand.invariant.receives;
       received = ap (λ k. k.received) is ∙ c.loop-hand.invariant.received;
       above = above-both a b both is n least next c.loop-hand.invariant.above work.own;
-      answered = subst (All (IsAnsweredBy n both)) (sym (ap (drop 1) pushed ∙ drop-push before worked.partition c.loop-hand.invariant.some))
-          (All-push (IsAnsweredBy n both) (drop 1 before) worked.partition
-          (All-weaker (IsAnsweredBy least a) (IsAnsweredBy n both) (answered-before n least next a b both is work.own) (drop 1 before) c.loop-hand.invariant.answered)
-          (answered-now n least next a b both is c.loop-hand.invariant.above worked.partition worked.fault work));
+      answered = subst (All (IsAnsweredBy n both short)) (sym (ap (drop 1) pushed ∙ drop-push before worked.partition c.loop-hand.invariant.some))
+          (All-push (IsAnsweredBy n both short) (drop 1 before) worked.partition
+          (All-weaker (IsAnsweredBy least a old) (IsAnsweredBy n both short) (answered-before n least next a b both is old short c.note_any.ensures.kept work.own) (drop 1 before) c.loop-hand.invariant.answered)
+          (answered-now n least next a b both is old short c.note_any.ensures.kept c.loop-hand.invariant.above worked.partition worked.fault c.note_any.ensures.noted work));
     }

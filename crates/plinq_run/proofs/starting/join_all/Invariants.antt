@@ -18,7 +18,7 @@ invariant-loop-hand g l = record {
   receives : (known l.pass).receives ≡ true;
   received : (known l.pass).received ≡ (known l.fn.pass).received;
   above : All (λ s. length l.hands.items ≤ s.number) (known l.pass).sent;
-  answered : All (IsAnsweredBy (length l.hands.items) (known l.pass)) (drop 1 l.partitions.items);
+  answered : All (IsAnsweredBy (length l.hands.items) (known l.pass) l.shortages) (drop 1 l.partitions.items);
 }
 
 abbrev pub decreases-loop-hand : goal.decreases-loop-hand
