@@ -29,8 +29,8 @@ use Rattle.plinq_merge.specs.Shown.{part_of, placed, all_placed, all_told, endin
 use Rattle.plinq_merge.specs.Whole.{EndsAt, AreTrueTails, AreApart}
 use Rattle.plinq_merge.proofs.Overlaps.{within-from}
 use Rattle.plinq_merge.proofs.Whole.{told-true}
-use Rattle.plinq_run.specs.Plans.{are_keyless}
-use Rattle.plinq_run.specs.Results.{IsResult}
+use Rattle.plinq_crew.specs.Plans.{are_keyless}
+use Rattle.plinq_crew.specs.Results.{IsResult}
 use Rattle.plinq_run.proofs.Without.{without, without-all, taken_by, AreWithin, rearranged-taken}
 
 -- ---- operators that don't look at keys

@@ -24,7 +24,7 @@ use Rattle.plinq_merge.specs.Whole.{EndsAt}
 use Rattle.plinq_run.specs.declared.reach.Reach.{Reach}
 use Rattle.plinq_run.specs.Handed.{is_end}
 use Rattle.plinq_run.specs.Reaching.{IsOffered, Covers}
-use Rattle.plinq_run.specs.Results.{IsResult}
+use Rattle.plinq_crew.specs.Results.{IsResult}
 
 module _ {L T : Type 0} (meaning : L → Meaning T) (worker : List (Op L)) where
   -- a cut of a source is one of its first items, or behind them

@@ -44,10 +44,11 @@ use Rattle.plinq_run.specs.declared.run_fault.RunFault.{RunFault}
 use Rattle.plinq_run.specs.Endings.{ending_in, reported}
 use Rattle.plinq_run.specs.Handed.{handed_trace}
 use Rattle.plinq_run.specs.Merged.{IsMerging, Merges}
-use Rattle.plinq_run.specs.Plans.{IsUndecided, are_keyless, merged_answer}
+use Rattle.plinq_crew.specs.Plans.{IsUndecided, are_keyless}
+use Rattle.plinq_run.specs.Plans.{merged_answer}
 use Rattle.plinq_run.specs.Reaching.{IsOffered, Covers, accounts_for}
 use Rattle.plinq_run.specs.Reports.{MayTake, MayMerge, IsBroken, Ends, HasReported, Reports}
-use Rattle.plinq_run.specs.Results.{IsResult}
+use Rattle.plinq_crew.specs.Results.{IsResult}
 use Rattle.plinq_run.specs.Runs.{HasRun, HasBroken, Runs, IsReportOf, refusal_of, told_refusal, fault_of}
 use Rattle.plinq_run.proofs.Arrived.{worker-keyless}
 use Rattle.plinq_run.proofs.Handed.{covers-handed}
@@ -116,11 +117,11 @@ module _ {L T K : Type 0} {lambda : Ghosts L T} (t : Trace T) (accepts : K → L
   ended-run plan option s m reach fault s' (Err f) undecided h none ends is_reach told =
       broken-run lambda.meaning plan option undecided t few accepts refuses reach s m fault s' f h told
 
--- what holds of the partitions
-pub back-as : {S U : Type 0} {source : SourceGhosts S U} (P : Vec (Partition S U source) Global → Type 0) (partitions : Vec (Partition S U source) Global) (result : Result (Ended S U source) RunFault)
-    → IfOk result (λ e. e.partitions ≡ partitions) → P partitions → IfOk result (λ e. P e.partitions)
-back-as P partitions (Ok e) is p = subst P (sym is) p
-back-as P partitions (Err f) is p = tt
+-- what holds of the partitions with which it is told
+pub back-as : {X S U : Type 0} {source : SourceGhosts S U} (partitions_of : X → Vec (Partition S U source) Global) (P : Vec (Partition S U source) Global → Type 0) (partitions : Vec (Partition S U source) Global) (result : Result X RunFault)
+    → IfOk result (λ x. partitions_of x ≡ partitions) → P partitions → IfOk result (λ x. P (partitions_of x))
+back-as partitions_of P partitions (Ok x) is p = subst P (sym is) p
+back-as partitions_of P partitions (Err f) is p = tt
 
 module _ {K T : Type 0} (accepts : K → List T → K → Type 0) (refuses : K → List T → ℕ → K → Type 0) (option : MergeOption) (May : Trace T → Trace T → Type 0) (t : Trace T) (s s' : K) where
   -- the report of a run tells of the same answer, which its records account for

@@ -1,12 +1,10 @@
 mod Arrived
 mod Batches
 mod Covered
-mod Cuts
 mod Ended
 mod Handed
-mod Hands
 mod Merged
+mod Parts
 mod Runs
-mod Taken
+mod Told
 mod Without
-mod Working

@@ -3,20 +3,10 @@ use Rattle.std.specs.Prelude.{◌≡◌, refl, Bool, true, false, not, ◌==◌,
 use Rattle.std.specs.Option.{option_or}
 use Rattle.plinq_merge.specs.declared.merge_fault.MergeFault.{MergeFault}
 use Rattle.plinq_merge.specs.declared.merge_fault.MergeFault.TheVariants.{Memory as NoMemory, Sink as Refusal, Twice, Gap, Failed}
-use Rattle.plinq_partition.specs.declared.take_fault.TakeFault.{TakeFault}
-use Rattle.plinq_partition.specs.declared.take_fault.TakeFault.TheVariants.{Memory as NoRoom, Spent, Busy, Incomplete as NotAll, Away}
-use Rattle.plinq_run.specs.declared.conducting.Staff.{Staff}
+use Rattle.plinq_run.specs.declared.staff.Staff.{Staff}
 use Rattle.plinq_run.specs.declared.run_fault.RunFault.{RunFault}
 use Rattle.plinq_run.specs.declared.run_fault.RunFault.TheVariants.{Memory, Sink, Tickets, Thread, Incomplete}
-use Rattle.plinq_run.specs.declared.starting.Shortages.{Shortages}
-
--- a worker's fault that is one of memory; each other one is of its tickets
-abbrev pub lacks_room : TakeFault → Bool
-lacks_room NoRoom = true
-lacks_room Spent = false
-lacks_room (Busy served drawn) = false
-lacks_room (NotAll have all) = false
-lacks_room Away = false
+use Rattle.plinq_crew.specs.declared.starting.Shortages.{Shortages}
 
 -- the fault, if there is a cause for it
 abbrev pub told_if : Bool → RunFault → Option RunFault

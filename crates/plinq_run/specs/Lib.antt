@@ -1,15 +1,11 @@
 pub mod Aggregates
-pub mod Cuts
 pub mod Endings
-pub mod Equipped
 pub mod Faults
 pub mod Handed
-pub mod Hands
 pub mod Merged
 pub mod Plans
 pub mod Reaching
 pub mod Reports
-pub mod Results
 pub mod RunRows
 pub mod Runs
-pub mod Working
+pub mod Turns

@@ -9,9 +9,9 @@ ghost use Rattle.plinq_run.specs.Aggregates.{Aggregates, AggregatesSome};
 
 use crate::aggregate_fault::AggregateFault;
 use crate::folded::Folded;
-use crate::gate::Gate;
 use crate::running::run;
 use plinq_aggregate::Aggregator;
+use plinq_crew::Gate;
 use plinq_enumerator::Growth;
 use plinq_lambda::Lambda;
 use plinq_ops::Query;

@@ -15,11 +15,12 @@ ghost use Rattle.plinq_run.specs.declared.run_fault.RunFault.TheVariants.{Incomp
 ghost use Rattle.plinq_run.specs.Reaching.{accounts_for};
 
 use crate::accounting::account_for;
-use crate::conducting::{Ended, Staff};
+use crate::conducting::Ended;
 use crate::merging::Merging;
 use crate::report::Report;
 use crate::run_fault::RunFault;
-use crate::starting::Shortages;
+use crate::staff::Staff;
+use plinq_crew::Shortages;
 use plinq_keyed::{Guarded, Record};
 use plinq_lambda::Lambda;
 use plinq_merge::MergeFault;
@@ -45,7 +46,11 @@ fn shortage(shortages: Shortages, staff: Staff) -> Option<RunFault>
 }
 
 /// The first of all faults.
-fn first_fault(fault: Option<MergeFault>, shortages: Shortages, staff: Staff) -> Option<RunFault>
+pub(crate) fn first_fault(
+    fault: Option<MergeFault>,
+    shortages: Shortages,
+    staff: Staff,
+) -> Option<RunFault>
     ensures first { result ≡ first_told fault shortages staff }
     ensures told { IfSome result (λ told. told_refusal told ≡ refusal_of fault) }
     ensures none { result ≡ None → fault ≡ None }
@@ -107,7 +112,7 @@ pub(crate) fn told<L: Lambda, S: Source>(
 }
 
 /// The report of a run that has an answer, if the records account for it.
-fn report_of<S: Source>(
+pub(crate) fn report_of<S: Source>(
     alloc: Global,
     chunked: Chunked<S>,
     ended: Ended<S>,

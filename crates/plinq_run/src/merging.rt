@@ -4,21 +4,21 @@ ghost use Rattle.plinq_merge.specs.Shown.{Merge, behind_result};
 ghost use Rattle.plinq_run.specs.Merged.{Merges, WasOffered};
 ghost use Rattle.plinq_run.specs.Reaching.{IsOffered};
 
+use crate::closing::Closing;
 use crate::reach::Reach;
-use crate::results::Carries;
+use plinq_crew::Carries;
 use plinq_lambda::Lambda;
 use plinq_merge::{MergeFault, Merger, Sink};
 use plinq_ops::ChunkResult;
 
-/// A merger, how far what it was offered reaches, the fault after which it is offered nothing more, whether nothing more is
-/// wanted, and whether the source was closed for that.
+/// A merger, how far what it was offered reaches, the fault after which it is offered nothing more, and whether the source
+/// was closed.
 #[derive(Drop)]
 pub(crate) struct Merging<'a, L: Lambda> {
     pub(crate) merger: Merger<'a, L>,
     pub(crate) reach: Reach,
     pub(crate) fault: Option<MergeFault>,
-    pub(crate) is_closed: bool,
-    pub(crate) is_stopped: bool,
+    pub(crate) closing: Closing,
 }
 
 impl<'a, L: Lambda> Merging<'a, L> {
@@ -30,12 +30,12 @@ impl<'a, L: Lambda> Merging<'a, L> {
     )
         requires within { behind_result made ≤ 2 ^ 40 }
         requires result { J.is_result made }
-        ensures offered { self.old.is_closed ≡ false → self.old.fault ≡ None → WasOffered K.accepts K.refuses self.old.merger made sink.old self.new.merger self.new.fault sink.new }
-        ensures over { self.old.is_closed ≡ true → sink.new ≡ sink.old }
+        ensures offered { self.old.closing.is_closed ≡ false → self.old.fault ≡ None → WasOffered K.accepts K.refuses self.old.merger made sink.old self.new.merger self.new.fault sink.new }
+        ensures over { self.old.closing.is_closed ≡ true → sink.new ≡ sink.old }
         ensures merges { (merge : Merge L.Item) (s : K) → Merges (IsOffered J.is_result self.old.reach) K.accepts K.refuses merge s self.old.merger self.old.fault sink.old
             → Merges (IsOffered J.is_result self.new.reach) K.accepts K.refuses merge s self.new.merger self.new.fault sink.new }
     {
-        if self.is_closed || self.fault.is_some() {
+        if self.closing.is_closed || self.fault.is_some() {
             return;
         }
         self.reach.extend(&made);
@@ -55,7 +55,7 @@ impl<'a, L: Lambda> Merging<'a, L> {
 
     /// The first key that isn't merged, or the greatest number where nothing more is wanted.
     pub(crate) fn place(&self) -> u64 {
-        if self.is_closed || self.is_over() {
+        if self.closing.is_closed || self.is_over() {
             return u64::MAX;
         }
         self.merger.merged()

@@ -12,21 +12,19 @@ ghost use Rattle.plinq_partition.specs.Partitions.{IsPartitionOf, holding_of};
 ghost use Rattle.plinq_partition.specs.GivenBack.{common_origin};
 ghost use Rattle.plinq_cut.specs.OfPlan.{AreEnders};
 ghost use Rattle.plinq_run.specs.Endings.{reported};
-ghost use Rattle.plinq_run.specs.Equipped.{IsReady};
+ghost use Rattle.plinq_crew.specs.Equipped.{IsReady};
 ghost use Rattle.plinq_run.specs.Handed.{has_close, handed_trace};
-ghost use Rattle.plinq_run.specs.Plans.{IsUndecided};
+ghost use Rattle.plinq_crew.specs.Plans.{IsUndecided};
 ghost use Rattle.plinq_run.specs.Reports.{MayMerge, Ends, Reports};
-ghost use Rattle.plinq_run.specs.Results.{IsResult};
+ghost use Rattle.plinq_crew.specs.Results.{IsResult};
 ghost use Rattle.plinq_run.specs.Runs.{Runs};
 
 use crate::conducting::{Ended, conduct};
 use crate::finishing::report;
-use crate::gate::Gate;
-use crate::progress::Progress;
+use crate::posts::Whole;
 use crate::report::Report;
-use crate::results::{Carries, ResultStream, RunEnders};
 use crate::run_fault::RunFault;
-use crate::worker::{Crew, Equipment};
+use plinq_crew::{Carries, Crew, Equipment, Gate, Progress, ResultStream, RunEnders};
 use plinq_cut::CutWord;
 use plinq_enumerator::Growth;
 use plinq_lambda::Lambda;
@@ -41,13 +39,13 @@ use std::thread;
 use std::thread::Threads;
 
 // How many results the queue has room for.
-const ROOM: usize = 64;
+pub(crate) const ROOM: usize = 64;
 
 // How many chunks of the largest size a worker may be above what is merged, for each worker.
 const CHUNKS_AHEAD: u64 = 64;
 
 /// How many keys above what is merged a worker may be. By arrival each result is merged at once, so there is no bound.
-fn window(order: Order, workers: u64, growth: Growth) -> u64 {
+pub(crate) fn window(order: Order, workers: u64, growth: Growth) -> u64 {
     match order {
         Order::ByKey => {
             let largest = growth.size(u64::MAX);
@@ -60,8 +58,9 @@ fn window(order: Order, workers: u64, growth: Growth) -> u64 {
 /// Runs a crew in a scope of threads.
 fn run_crew<J, L, S, G, K, R>(
     rt: &R,
-    crew: &Crew<'_, L, S, J, G>,
-    own: Equipment<S>,
+    crew: &Crew<'_, L, S, J, Whole<'_, G>>,
+    own: Equipment<S, L::Item>,
+    option: MergeOption,
     sink: &mut K,
 ) -> Result<Ended<S>, RunFault>
 where
@@ -71,21 +70,21 @@ where
     G: Gate,
     K: Sink<Item = L::Item>,
     R: Threads + Wait + Sync,
-    requires ready { IsReady L.meaning J.is_result J.is_ender crew.now.plan.now crew.now.chunked.now crew.now.cut.now crew.now.stream.now crew.now.workers own.partition own.cut own.stream }
+    requires ready { IsReady L.meaning (λ p r c. c ≡ r) J.is_result J.is_ender crew.now own }
     ensures back { IfOk result (λ ended. (1 ≤ length ended.partitions.items) × All (IsPartitionOf crew.now.chunked.now) ended.partitions.items × (common_origin ended.partitions.items ≡ (holding_of own.partition).origin)) }
-    ensures ends { Ends K.accepts K.refuses crew.now.option (MayMerge L.meaning crew.now.plan.now) (holding_of own.partition).origin sink.old sink.new result }
+    ensures ends { Ends K.accepts K.refuses option (MayMerge L.meaning crew.now.plan.now) (holding_of own.partition).origin sink.old sink.new result }
 {
     let lent = &mut *sink;
     let (ended, _lent) = thread::scope(
         thread::scope_env(),
         rt,
         move |scope| -> (Result<Ended<S>, RunFault>, &mut K)
-            requires ready { IsReady L.meaning J.is_result J.is_ender crew.now.plan.now crew.now.chunked.now crew.now.cut.now crew.now.stream.now crew.now.workers own.partition own.cut own.stream }
+            requires ready { IsReady L.meaning (λ p r c. c ≡ r) J.is_result J.is_ender crew.now own }
             ensures back { IfOk result.0 (λ ended. (1 ≤ length ended.partitions.items) × All (IsPartitionOf crew.entry.now.chunked.now) ended.partitions.items × (common_origin ended.partitions.items ≡ (holding_of own.partition).origin)) }
             ensures same { result.1.ghost_name ≡ lent.entry.ghost_name }
-            ensures ends { Ends K.accepts K.refuses crew.entry.now.option (MayMerge L.meaning crew.entry.now.plan.now) (holding_of own.partition).origin lent.entry.now result.1.now result.0 }
+            ensures ends { Ends K.accepts K.refuses option (MayMerge L.meaning crew.entry.now.plan.now) (holding_of own.partition).origin lent.entry.now result.1.now result.0 }
         {
-            let ended = conduct(scope, rt, crew, own, lent);
+            let ended = conduct(scope, rt, crew, own, option, lent);
             (ended, lent)
         },
     );
@@ -131,23 +130,23 @@ where
         return Err(RunFault::Memory);
     };
     let progress = Progress::new(window(plan.order, workers, growth));
+    let post = Whole { gate };
     let crew = Crew {
         alloc,
         plan,
         chunked: &chunked,
         stream: &stream,
         cut: &cut,
-        gate,
+        post: &post,
         progress: &progress,
         workers,
-        option,
     };
     let own = Equipment {
         partition,
         stream: pass,
         cut: cut_pass,
     };
-    let ended = run_crew(rt, &crew, own, sink);
+    let ended = run_crew(rt, &crew, own, option, sink);
     report(alloc, chunked, ended)
 }
 

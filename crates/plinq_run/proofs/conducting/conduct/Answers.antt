@@ -1,27 +1,29 @@
-use Rattle.std.proofs.Common.{refl}
+use Rattle.std.proofs.Common.{◌≡◌, ◌≤◌, length, All, refl, ap, ◌∙◌}
 use Rattle.plinq_stream.specs.Passes.{known}
-use Rattle.plinq_partition.specs.Partitions.{holding_of}
+use Rattle.plinq_partition.specs.Partitions.{IsPartitionOf, holding_of}
+use Rattle.plinq_partition.specs.GivenBack.{common_origin}
 use Rattle.plinq_run.specs.Reaching.{IsOffered}
-use Rattle.plinq_run.specs.Results.{IsResult}
-use Rattle.plinq_run.proofs.Ended.{none-ended, begins-merging, ended-run}
+use Rattle.plinq_crew.specs.Results.{IsResult, IsPart}
+use Rattle.plinq_run.proofs.Ended.{none-ended, begins-merging, ended-run, back-as}
 use Rattle.plinq_run.proofs.Merged.{merges-weaker}
+use Rattle.plinq_run.proofs.Parts.{plain-part}
 use Rattle.plinq_run.proofs.Runs.{merge_for}
-use Rattle.plinq_run.proofs.Working.{told-all}
+use Rattle.plinq_run.proofs.Told.{told-all}
 use Rattle.plinq_run.proofs.conducting.conduct.Goals as goal
 
 pub returns-in_default-clause-ends : goal.returns-in_default-clause-ends
-returns-in_default-clause-ends g c = none-ended g.L.Lambda.meaning g.K.Sink.accepts g.K.Sink.refuses c.args.crew.now.option c.args.crew.now.plan.now (holding_of c.args.own.partition).origin c.args.sink.now _ refl
+returns-in_default-clause-ends g c = none-ended g.L.Lambda.meaning g.K.Sink.accepts g.K.Sink.refuses c.args.option c.args.crew.now.plan.now (holding_of c.args.own.partition).origin c.args.sink.now _ refl
 
 pub returns-in_default-with_capacity-clause-ends : goal.returns-in_default-with_capacity-clause-ends
-returns-in_default-with_capacity-clause-ends g c = none-ended g.L.Lambda.meaning g.K.Sink.accepts g.K.Sink.refuses c.args.crew.now.option c.args.crew.now.plan.now (holding_of c.args.own.partition).origin c.args.sink.now _ refl
+returns-in_default-with_capacity-clause-ends g c = none-ended g.L.Lambda.meaning g.K.Sink.accepts g.K.Sink.refuses c.args.option c.args.crew.now.plan.now (holding_of c.args.own.partition).origin c.args.sink.now _ refl
 
 pub returns-in_default-new-clause-ends : goal.returns-in_default-new-clause-ends
-returns-in_default-new-clause-ends g c = none-ended g.L.Lambda.meaning g.K.Sink.accepts g.K.Sink.refuses c.args.crew.now.option c.args.crew.now.plan.now (holding_of c.args.own.partition).origin c.args.sink.now _ refl
+returns-in_default-new-clause-ends g c = none-ended g.L.Lambda.meaning g.K.Sink.accepts g.K.Sink.refuses c.args.option c.args.crew.now.plan.now (holding_of c.args.own.partition).origin c.args.sink.now _ refl
 
 pub returns-clause-ends : goal.returns-clause-ends
 returns-clause-ends g c =
     let plan = c.args.crew.now.plan.now in
-    let option = c.args.crew.now.option in
+    let option = c.args.option in
     let s = c.args.sink.now in
     let t = (holding_of c.args.own.partition).origin in
     let merge = merge_for g.L.Lambda.meaning plan option in
@@ -31,12 +33,22 @@ returns-clause-ends g c =
     let begun = begins-merging (IsOffered J c.none.result) g.K.Sink.accepts g.K.Sink.refuses plan option s c.in-Ok-new.merger c.requires.ready.equipped.undecided c.in-Ok-new.ensures.plan c.in-Ok-new.ensures.nothing in
     let merged = c.merge_rest.ensures.merges merge s (c.merge_all.ensures.merges merge s begun) in
     ended-run t g.K.Sink.accepts g.K.Sink.refuses c.requires.ready.equipped.few plan option s after.merger after.reach after.fault c.merge_rest.new.sink c.told.result c.requires.ready.equipped.undecided
-    (merges-weaker (IsOffered J after.reach) g.K.Sink.accepts g.K.Sink.refuses P (λ r x. (c.requires.ready.equipped.sent r x.0, x.1)) merge s after.merger after.fault c.merge_rest.new.sink merged)
+    (merges-weaker (IsOffered J after.reach) g.K.Sink.accepts g.K.Sink.refuses P (λ r x. (plain-part g.L.Lambda.meaning plan t r (c.requires.ready.equipped.sent r x.0), x.1)) merge s after.merger after.fault c.merge_rest.new.sink merged)
     c.told.ensures.none c.told.ensures.ending c.told.ensures.reach c.told.ensures.err
 
 pub returns-clause-all : goal.returns-clause-all
 returns-clause-all g c =
     let a = known c.join_all-partitions.new.pass in
     let b = known c.merge_rest.new.pass in
-    told-all a b c.join_all-partitions.new.shortages _ _ c.join_all-partitions.result c.told.result c.merge_rest.ensures.sent c.merge_rest.ensures.numbers c.told.ensures.first c.told.ensures.partitions c.merge_rest.ensures.all
+    told-all (λ e. e.partitions) a b c.join_all-partitions.new.shortages _ _ c.join_all-partitions.result c.told.result c.merge_rest.ensures.sent c.merge_rest.ensures.numbers c.told.ensures.first c.told.ensures.partitions c.merge_rest.ensures.all
     c.join_all-partitions.ensures.answered
+
+pub returns-clause-back : goal.returns-clause-back
+returns-clause-back g c =
+    let chunked = c.args.crew.now.chunked.now in
+    let t = (holding_of c.args.own.partition).origin in
+    let partitions = c.join_all-partitions.result in
+    let origin : common_origin partitions.items ≡ t =
+    c.join_all-partitions.ensures.origin ∙ c.merge_all.ensures.origin ∙ ap (λ p. (holding_of p).origin) c.new-caller.ensures.partition ∙ ap (λ h. h.origin) c.start_all-hands.ensures.same in
+    back-as (λ e. e.partitions) (λ ps. (1 ≤ length ps.items) × All (IsPartitionOf chunked) ps.items × (common_origin ps.items ≡ t)) partitions c.told.result c.told.ensures.partitions
+    (c.join_all-partitions.ensures.some, c.join_all-partitions.ensures.of, origin)

@@ -4,17 +4,17 @@ use Rattle.plinq_partition.specs.Partitions.{IsPartitionOf, holding_of}
 use Rattle.plinq_stream.specs.Passes.{IsPassOf, known}
 use Rattle.plinq_run.specs.Merged.{Merges}
 use Rattle.plinq_run.specs.Reaching.{IsOffered}
-use Rattle.plinq_run.specs.Working.{IsReceiver}
+use Rattle.plinq_crew.specs.Working.{IsReceiver}
 use Rattle.plinq_run.proofs.conducting.merge_all.Given as goal
 
 abbrev pub invariant-loop : goal.invariant-loop
 invariant-loop g l = record {
   can : (goal.iterator-loop g).can_next l.iterator';
   finite : (goal.iterator-loop g).is_finite l.iterator';
-  of : IsPartitionOf l.crew.chunked.now l.own;
-  origin : (holding_of l.own).origin ≡ (holding_of l.fn.own).origin;
-  stream : IsPassOf l.crew.stream.now l.pass;
-  receiver : IsReceiver (known l.pass);
+  of : IsPartitionOf l.crew.chunked.now l.caller.partition;
+  origin : (holding_of l.caller.partition).origin ≡ (holding_of l.fn.caller.partition).origin;
+  stream : IsPassOf l.crew.stream.now l.caller.stream;
+  receiver : IsReceiver (known l.caller.stream);
   merges : (merge : Merge g.row.L-Item.Denot) (s : g.row.K.Denot) → Merges (IsOffered g.J.Carries.is_result l.fn.merging.reach) g.K.Sink.accepts g.K.Sink.refuses merge s l.fn.merging.merger l.fn.merging.fault l.fn.sink
       → Merges (IsOffered g.J.Carries.is_result l.merging.reach) g.K.Sink.accepts g.K.Sink.refuses merge s l.merging.merger l.merging.fault l.sink;
 }

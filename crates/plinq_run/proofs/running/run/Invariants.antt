@@ -1,6 +1,6 @@
 use Rattle.plinq_keyed.specs.Keys.{is_among}
 use Rattle.plinq_ops.specs.Cut.{enders}
-use Rattle.plinq_run.specs.Results.{IsResult}
+use Rattle.plinq_crew.specs.Results.{IsResult}
 use Rattle.plinq_run.proofs.running.run.Given as goal
 
 abbrev pub ghosts-run_plan : goal.ghosts-run_plan

@@ -3,8 +3,9 @@ use Rattle.plinq_keyed.specs.History.{IsLegalHistory}
 use Rattle.plinq_partition.specs.Partitions.{holding_of}
 use Rattle.plinq_cut.specs.OfPlan.{AreEnders}
 use Rattle.plinq_run.specs.Reports.{MayMerge, Ends}
-use Rattle.plinq_run.specs.Results.{IsResult}
+use Rattle.plinq_crew.specs.Results.{IsResult}
 use Rattle.plinq_run.proofs.Ended.{none-ended, ends-reported}
+use Rattle.plinq_run.proofs.Parts.{plain-part, part-plain}
 use Rattle.plinq_run.proofs.running.run_plan.Goals as goal
 
 pub run_crew-ended-requires-clause-ready : goal.run_crew-ended-requires-clause-ready
@@ -17,8 +18,8 @@ run_crew-ended-requires-clause-ready g c lifetimes outlive =
         of = c.in-Ok-new.ensures.of;
         few = subst (λ t. length t.items ≤ 2 ^ 40) (sym origin) ((g.met.S.Source g.world.𝓛 g.world.𝓜 g.world.𝓡 (λ s a. a, λ a. a, λ a. a, λ a. a)).few c.args.source);
         undecided = c.requires.plan;
-        results = λ r is. c.requires.carries r (subst (λ t. IsResult meaning plan t r) origin is);
-        sent = λ r is. subst (λ t. IsResult meaning plan t r) (sym origin) (c.requires.carried r is);
+        parts = λ r is. c.requires.carries r (subst (λ t. IsResult meaning plan t r) origin (plain-part meaning plan _ r is));
+        sent = λ r is. part-plain meaning plan _ r (subst (λ t. IsResult meaning plan t r) (sym origin) (c.requires.carried r is));
         sees = c.in-Ok.ensures.pass;
         enders = subst (λ t. AreEnders meaning plan t g.J.Carries.is_ender) (sym origin) c.requires.enders;
       };

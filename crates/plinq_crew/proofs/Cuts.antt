@@ -1,0 +1,46 @@
+-- What workers know of the cut that they share.
+use Rattle.std.specs.Prelude.{◌≡◌, ◌≢◌, ◌≤◌, ◌^◌, ℕ, ◌==◌, ◌||◌, Bool, true, Some, length}
+use Rattle.std.proofs.Common.{sym, ◌∙◌, ap, subst}
+use Rattle.plinq_source.specs.declared.source.Source.{Ghosts}
+use Rattle.plinq_source.specs.Trace.{Trace}
+use Rattle.plinq_lambda.specs.Meaning.{Meaning}
+use Rattle.plinq_ops.specs.declared.frag_end.FragEnd.TheVariants.{Dropped}
+use Rattle.plinq_ops.specs.declared.plan.Plan.{Plan}
+use Rattle.plinq_ops.specs.declared.results.ChunkResult.{ChunkResult}
+use Rattle.plinq_ops.specs.Cut.{no_cut, is_cut}
+use Rattle.plinq_ops.proofs.Rows.{stop-ends}
+use Rattle.plinq_cut.specs.declared.cut_pass.CutPass.{CutPass}
+use Rattle.plinq_cut.specs.declared.cut_word.CutWord.{CutWord}
+use Rattle.plinq_cut.specs.Cutting.{is_cut_of}
+use Rattle.plinq_cut.specs.Passes.{IsPassOf}
+use Rattle.plinq_partition.specs.declared.chunked.Chunked.{Chunked}
+use Rattle.plinq_partition.specs.declared.partition.Partition.{Partition}
+use Rattle.plinq_partition.specs.Partitions.{IsPartitionOf, holding_of}
+use Rattle.plinq_cut.specs.OfPlan.{AreEnders}
+use Rattle.plinq_crew.specs.Equipped.{IsEquipped}
+use Rattle.plinq_crew.specs.Results.{IsResult, IsPart}
+
+module _ {L T : Type 0} (meaning : L → Meaning T) (plan : Plan L) (t : Trace T) (is_ender : ℕ → Bool) (are : AreEnders meaning plan t is_ender) where
+  -- a cut that was read is one of the source
+  pub cut-read : (cut : ℕ) → is_cut_of is_ender cut ≡ true → is_cut meaning plan.worker.now t.items cut ≡ true
+  cut-read cut is = ap (λ b. (cut == no_cut) || b) (sym (are cut)) ∙ is
+
+  -- the key at which a result stopped that dropped nothing ends the run
+  pub stop-ender : (r : ChunkResult T) (key : ℕ) → IsResult meaning plan t r → r.ending ≢ Dropped → r.stop ≡ Some key → is_ender key ≡ true
+  stop-ender r key is kept stop = are key ∙ stop-ends meaning plan.worker.now t r key is.offer kept stop
+
+-- what a worker is started with stands beside what another was started with
+pub equipped-beside : {L S T M E : Type 0} {source : Ghosts S T} (meaning : L → Meaning T) (makes : ChunkResult T → ChunkResult M → Type 0) (MaySend : ChunkResult M → Type 0) (is_ender : ℕ → Bool) (plan : Plan L)
+    (chunked : Chunked S T source) (cut : CutWord E) (own partition : Partition S T source) (mine pass : CutPass) → IsEquipped meaning makes MaySend is_ender plan chunked cut own mine
+    → IsPartitionOf chunked partition → (holding_of partition).origin ≡ (holding_of own).origin → IsPassOf cut pass
+    → IsEquipped meaning makes MaySend is_ender plan chunked cut partition pass
+equipped-beside meaning makes MaySend is_ender plan chunked cut own partition mine pass h of at is =
+    record {
+      of = of;
+      few = subst (λ t. length t.items ≤ 2 ^ 40) (sym at) h.few;
+      undecided = h.undecided;
+      parts = λ r x. h.parts r (subst (λ t. IsPart meaning makes plan t r) at x);
+      sent = λ r x. subst (λ t. IsPart meaning makes plan t r) (sym at) (h.sent r x);
+      sees = is;
+      enders = subst (λ t. AreEnders meaning plan t is_ender) (sym at) h.enders;
+    }

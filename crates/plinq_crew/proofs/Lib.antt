@@ -1,0 +1,4 @@
+mod Cuts
+mod Hands
+mod Taken
+pub mod Working

@@ -1,0 +1,188 @@
+-- What a worker sends are the results of its records, one after another.
+use Rattle.std.proofs.Common.{◌≡◌, ◌≢◌, ℕ, ◌+◌, ◌≤◌, ◌<◌, ◌==◌, eq-eqb, ◌||◌, List, drop, [], ◌∷◌, ◌++◌, Option, Some, None, is_some, true, false, true≢false, All, Result, Ok, Err, IfOk, OnOk, Vec, not, Bool, refl, sym, ap, ◌∙◌, subst, arith}
+use Rattle.std.proofs.lemmas.List.{append-nil}
+use Rattle.std.proofs.lemmas.List.Elements.{All-nil, All-push, All-append, All-weaker}
+use Rattle.std.specs.List.{AllZip}
+use Rattle.plinq_keyed.specs.declared.chunk.Chunk.{Chunk}
+use Rattle.plinq_keyed.specs.declared.record.Record.{Record}
+use Rattle.plinq_lambda.specs.Meaning.{Meaning}
+use Rattle.plinq_enumerator.specs.Growing.{GrowthRule}
+use Rattle.plinq_ops.specs.declared.op.Op.{Op}
+use Rattle.plinq_ops.specs.declared.results.ChunkResult.{ChunkResult}
+use Rattle.plinq_ops.specs.Chunk.{IsChunkResult}
+use Rattle.plinq_partition.specs.declared.take_fault.TakeFault.{TakeFault}
+use Rattle.plinq_partition.specs.Partitions.{Holding, IsTaken, holding_of}
+use Rattle.plinq_stream.specs.declared.known.Known.{Known}
+use Rattle.plinq_stream.specs.declared.sent.Sent.{Sent}
+use Rattle.plinq_stream.specs.Knowing.{with_sent, with_first, without_first, together}
+use Rattle.plinq_stream.specs.Streams.{has, under, HasReceivedAll}
+use Rattle.plinq_stream.proofs.Numbers.{first-of, rest-of}
+use Rattle.plinq_stream.proofs.Under.{has-append, or-none, or-right, or-first, or-second, under-append, under-own, under-none}
+use Rattle.plinq_crew.specs.Working.{Answers, IsOpen, Follows, HasTaken, HasLeft, sender, IsAtWork, HasWorked, IsAnsweredBy, IsWhollyAnsweredBy, receiver_from}
+use Rattle.plinq_crew.specs.Short.{is_short}
+use Rattle.plinq_crew.specs.Results.{IsOfSameChunk}
+use Rattle.plinq_crew.specs.declared.starting.Shortages.{Shortages}
+use Rattle.plinq_source.specs.declared.source.Source.{Ghosts}
+use Rattle.plinq_partition.specs.declared.partition.Partition.{Partition}
+
+AllZip-more : {A B : Type 0} (R : A → B → Type 0) (xs : List A) (ys : List B) (x : A) (y : B) → AllZip R xs ys → R x y → AllZip R (xs ++ x ∷ []) (ys ++ y ∷ [])
+AllZip-more R [] [] x y all is = (is, tt)
+AllZip-more R [] (b ∷ ys) x y all is = absurd all
+AllZip-more R (a ∷ xs) [] x y all is = absurd all
+AllZip-more R (a ∷ xs) (b ∷ ys) x y all is = (all.0, AllZip-more R xs ys x y all.1 is)
+
+-- the chunk of a record was taken, and this is its result
+pub taken-result : {L T : Type 0} (meaning : L → Meaning T) (worker : List (Op L)) (growth : GrowthRule) (a b : Holding T) (cut : ℕ) (chunk : Chunk T) (r : ChunkResult T)
+    → IsTaken growth a b chunk → IsChunkResult meaning worker cut chunk r → HasTaken a.share b.share r
+taken-result meaning worker growth a b cut chunk r taken made = record {
+  entry = taken.entry;
+  share_is = taken.adds.share;
+  answers = record { first = made.first ∙ taken.of.first; count = made.count ∙ taken.counted; tail = made.tail ∙ taken.of.tail };
+}
+
+-- and so is what was made of that result
+pub taken-part : {T M : Type 0} (share share' : List Record) (r : ChunkResult T) (c : ChunkResult M) → HasTaken share share' r → IsOfSameChunk r c → HasTaken share share' c
+taken-part share share' r c taken same = record {
+  entry = taken.entry;
+  share_is = taken.share_is;
+  answers = record { first = same.first ∙ taken.answers.first; count = same.count ∙ taken.answers.count; tail = same.tail ∙ taken.answers.tail };
+}
+
+pub left-taken : {T : Type 0} (growth : GrowthRule) (a b : Holding T) (chunk : Chunk T) → IsTaken growth a b chunk → HasLeft a.share b.share
+left-taken growth a b chunk taken = record { more = taken.entry ∷ []; share_is = taken.adds.share }
+
+pub left-same : {T : Type 0} (a b : Holding T) → b ≡ a → HasLeft a.share b.share
+left-same a b same = record { more = []; share_is = ap (λ (h : Holding _). h.share) same ∙ sym (append-nil a.share) }
+
+module _ {T : Type 0} (number : ℕ) where
+  pub begins-work : (share : List Record) (a : Known (ChunkResult T)) → share ≡ [] → a ≡ sender number [] → IsAtWork number share a
+  begins-work share a none knows =
+      let sent : a.sent ≡ [] = ap (λ (k : Known (ChunkResult T)). k.sent) knows in
+      record {
+        knows = knows ∙ ap (sender number) (sym sent);
+        own = subst (All (λ s. s.number ≡ number)) (sym sent) (All-nil (λ (s : Sent (ChunkResult T)). s.number ≡ number));
+        are = rw (none, sent) tt;
+        opens = subst (λ l. All IsOpen (under number l)) (sym sent) (All-nil IsOpen);
+      }
+
+  module _ (share share' : List Record) (a b : Known (ChunkResult T)) (r : ChunkResult T) (h : IsAtWork number share a) (taken : HasTaken share share' r)
+      (is : b ≡ with_sent a (record { number = number; item = r })) where
+    sent-is : b.sent ≡ a.sent ++ record { number = number; item = r } ∷ []
+    sent-is = ap (λ (k : Known (ChunkResult T)). k.sent) is
+
+    under-sent : under number b.sent ≡ under number a.sent ++ r ∷ []
+    under-sent = ap (under number) sent-is ∙ under-append number a.sent (record { number = number; item = r } ∷ []) ∙ ap (λ l. under number a.sent ++ l) (under-own number r)
+
+    knows-sent : b ≡ sender number b.sent
+    knows-sent = is ∙ ap (λ (k : Known (ChunkResult T)). with_sent k (record { number = number; item = r })) h.knows ∙ ap (sender number) (sym sent-is)
+
+    own-sent : All (λ s. s.number ≡ number) b.sent
+    own-sent = subst (All (λ s. s.number ≡ number)) (sym sent-is) (All-push (λ (s : Sent (ChunkResult T)). s.number ≡ number) a.sent (record { number = number; item = r }) h.own refl)
+
+    are-sent : AllZip Answers share' (under number b.sent)
+    are-sent = rw (taken.share_is, under-sent) (AllZip-more Answers share (under number a.sent) taken.entry r h.are taken.answers)
+
+    pub goes-on : is_some r.tail ≡ false → IsAtWork number share' b
+    goes-on none = record {
+      knows = knows-sent;
+      own = own-sent;
+      are = are-sent;
+      opens = subst (All IsOpen) (sym under-sent) (All-push IsOpen (under number a.sent) r h.opens (no-tail r.tail none));
+    }
+      where
+        no-tail : {A : Type 0} (o : Option A) → is_some o ≡ false → o ≡ None
+        no-tail None e = refl
+        no-tail (Some x) e = absurd (true≢false e)
+
+    pub ends-work : is_some r.tail ≡ true → HasWorked number share' None b
+    ends-work last = record {
+      knows = knows-sent;
+      own = own-sent;
+      follows = record {
+        answered = share';
+        rest = [];
+        share_is = sym (append-nil share');
+        are = are-sent;
+        stops = (refl, record { before = under number a.sent; last = r; are = under-sent; opens = h.opens; tail = last });
+      };
+    }
+
+  pub breaks-work : (share share' : List Record) (a : Known (ChunkResult T)) (fault : TakeFault) → IsAtWork number share a → HasLeft share share' → HasWorked number share' (Some fault) a
+  breaks-work share share' a fault h left = record {
+    knows = h.knows;
+    own = h.own;
+    follows = record { answered = share; rest = left.more; share_is = left.share_is; are = h.are; stops = h.opens };
+  }
+
+-- what holds of each item that a worker has sent holds of one more
+pub each-sent : {X : Type 0} (P : X → Type 0) (number : ℕ) (x : X) (a b : Known X) → b ≡ with_sent a (record { number = number; item = x }) → All (λ s. P s.item) a.sent → P x → All (λ s. P s.item) b.sent
+each-sent {X} P number x a b is all one =
+    subst (All (λ s. P s.item)) (sym (ap (λ (k : Known X). k.sent) is)) (All-push (λ (s : Sent X). P s.item) a.sent (record { number = number; item = x }) all one)
+
+-- ---- numbers are handed out one after another
+
+pub first-handed : {T : Type 0} (n : ℕ) (a b : Known (ChunkResult T)) → n < 64 → a ≡ receiver_from n → b ≡ with_first a → b ≡ sender n []
+first-handed n a b less is made =
+    made ∙ ap with_first is ∙ ap (λ l. record { numbers = l; sent = []; receives = false; received = [] }) (first-of n 64 less)
+
+pub rest-handed : {T : Type 0} (n : ℕ) (a b : Known (ChunkResult T)) → n < 64 → a ≡ receiver_from n → b ≡ without_first a → b ≡ receiver_from (n + 1)
+rest-handed n a b less is made =
+    made ∙ ap without_first is ∙ ap (λ l. record { numbers = l; sent = []; receives = true; received = [] }) (rest-of n 64 less)
+
+-- ---- a worker's pass is taken in, whose number is below those that were taken in before
+
+module _ {T : Type 0} (a b c : Known (ChunkResult T)) (is : c ≡ together a b) where
+  under-both : (k : ℕ) → under k c.sent ≡ under k a.sent ++ under k b.sent
+  under-both k = ap (λ (x : Known (ChunkResult T)). under k x.sent) is ∙ under-append k a.sent b.sent
+
+  has-both : (k : ℕ) → has k c.numbers ≡ (has k a.numbers || has k b.numbers)
+  has-both k = ap (λ (x : Known (ChunkResult T)). has k x.numbers) is ∙ has-append k a.numbers b.numbers
+
+  pub above-both : (n least : ℕ) → least ≡ n + 1 → All (λ s. least ≤ s.number) a.sent → All (λ s. s.number ≡ n) b.sent → All (λ s. n ≤ s.number) c.sent
+  above-both n least next above own =
+      subst (All (λ s. n ≤ s.number)) (sym (ap (λ (x : Known (ChunkResult T)). x.sent) is))
+      (All-append (λ (s : Sent (ChunkResult T)). n ≤ s.number) a.sent b.sent
+      (All-weaker (λ (s : Sent (ChunkResult T)). least ≤ s.number) (λ s. n ≤ s.number) (λ s h. omega arith) a.sent above)
+      (All-weaker (λ (s : Sent (ChunkResult T)). s.number ≡ n) (λ s. n ≤ s.number) (λ s h. omega arith) b.sent own))
+
+module _ {S T M : Type 0} {source : Ghosts S T} where
+  -- without a fault all records are answered
+  pub answered-wholly : (a b : Known (ChunkResult M)) (short : Shortages) → b.sent ≡ a.sent → b.numbers ≡ a.numbers → is_short short ≡ false → (p : Partition S T source)
+      → IsAnsweredBy 0 a short p → IsWhollyAnsweredBy b p
+  answered-wholly a b short sent numbers none p h = record {
+    number = h.number;
+    own = ap (has h.number) numbers ∙ h.own;
+    follows = subst (λ l. Follows (holding_of p).share None (under h.number l)) (sym sent) (whole h.fault h.noted h.follows);
+  }
+    where
+      whole : (fault : Option TakeFault) → (is_some fault ≡ true → is_short short ≡ true) → Follows (holding_of p).share fault (under h.number a.sent)
+          → Follows (holding_of p).share None (under h.number a.sent)
+      whole None noted follows = follows
+      whole (Some fault) noted follows = absurd (true≢false (sym (noted refl) ∙ none))
+
+  module _ (n least : ℕ) (next : least ≡ n + 1) (a b c : Known (ChunkResult M)) (is : c ≡ together a b) (old short : Shortages) (kept : is_short old ≡ true → is_short short ≡ true) where
+    pub answered-before : All (λ s. s.number ≡ n) b.sent → (p : Partition S T source) → IsAnsweredBy least a old p → IsAnsweredBy n c short p
+    answered-before own p h =
+        let k = h.number in
+        let none : under k b.sent ≡ [] =
+        under-none k b.sent (All-weaker (λ (s : Sent (ChunkResult M)). s.number ≡ n) (λ s. s.number ≢ k) (λ s e same. let far : least ≤ k = h.above in omega arith) b.sent own) in
+        record {
+          number = k;
+          above = (let far : least ≤ k = h.above in omega arith);
+          own = has-both a b c is k ∙ or-first (has k a.numbers) (has k b.numbers) h.own;
+          fault = h.fault;
+          noted = λ is. kept (h.noted is);
+          follows = subst (Follows (holding_of p).share h.fault) (sym (under-both a b c is k ∙ ap (λ l. under k a.sent ++ l) none ∙ append-nil (under k a.sent))) h.follows;
+        }
+
+    pub answered-now : All (λ s. least ≤ s.number) a.sent → (p : Partition S T source) (fault : Option TakeFault) → (is_some fault ≡ true → is_short short ≡ true) → HasWorked n (holding_of p).share fault b → IsAnsweredBy n c short p
+    answered-now above p fault noted h =
+        let none : under n a.sent ≡ [] = under-none n a.sent (All-weaker (λ (s : Sent (ChunkResult M)). least ≤ s.number) (λ s. s.number ≢ n) (λ s e same. omega arith) a.sent above) in
+        record {
+          number = n;
+          above = omega arith;
+          own = has-both a b c is n ∙ or-second (has n a.numbers) (has n b.numbers) (ap (λ (x : Known (ChunkResult M)). has n x.numbers) h.knows ∙ or-first (n == n) false (eq-eqb n n refl));
+          fault = fault;
+          noted = noted;
+          follows = subst (Follows (holding_of p).share fault) (sym (under-both a b c is n ∙ ap (λ l. l ++ under n b.sent) none)) h.follows;
+        }

@@ -1,0 +1,20 @@
+use Rattle.std.proofs.Common.{◌≡◌, ◌≤◌, All, length, vec_capacity}
+use Rattle.plinq_cut.specs.Passes.{IsPassOf as IsCutPassOf}
+use Rattle.plinq_partition.specs.Partitions.{IsPartitionOf, holding_of}
+use Rattle.plinq_stream.specs.Passes.{IsPassOf, known}
+use Rattle.plinq_crew.specs.Hands.{IsHandOf, AreNumbered}
+use Rattle.plinq_crew.specs.Working.{receiver_from}
+use Rattle.plinq_crew.proofs.starting.start_all.Given as goal
+
+abbrev pub invariant-loop-worker : goal.invariant-loop-worker
+invariant-loop-worker g l = record {
+  of : IsPartitionOf l.crew.chunked.now l.own.partition;
+  same : holding_of l.own.partition ≡ holding_of l.fn.own.partition;
+  stream : IsPassOf l.crew.stream.now l.own.stream;
+  known : known l.own.stream ≡ receiver_from l.worker;
+  cut : IsCutPassOf l.crew.cut.now l.own.cut;
+  hands : All (IsHandOf l.crew.chunked.now l.crew.stream.now) l.hands.items;
+  numbered : AreNumbered 0 l.hands.items;
+  counted : length l.hands.items ≡ l.worker;
+  room : l.workers ≤ vec_capacity l.hands;
+}

@@ -1,0 +1,6 @@
+pub mod Equipped
+pub mod Hands
+pub mod Plans
+pub mod Results
+pub mod Short
+pub mod Working

@@ -1,0 +1,17 @@
+-- Why workers ended before they saw a tail.
+use Rattle.std.specs.Prelude.{◌||◌, Bool, true, false}
+use Rattle.plinq_partition.specs.declared.take_fault.TakeFault.{TakeFault}
+use Rattle.plinq_partition.specs.declared.take_fault.TakeFault.TheVariants.{Memory as NoRoom, Spent, Busy, Incomplete as NotAll, Away}
+use Rattle.plinq_crew.specs.declared.starting.Shortages.{Shortages}
+
+-- a worker's fault that is one of memory; each other one is of its tickets
+abbrev pub lacks_room : TakeFault → Bool
+lacks_room NoRoom = true
+lacks_room Spent = false
+lacks_room (Busy served drawn) = false
+lacks_room (NotAll have all) = false
+lacks_room Away = false
+
+-- whether a worker's fault was noted
+abbrev pub is_short : Shortages → Bool
+is_short short = short.memory || short.tickets

@@ -1,0 +1,45 @@
+//! The stream that carries results from the workers to the merging thread, and what a run picks for it and for its cut.
+ghost use Rattle.std.specs.Prelude.{⊤, ℕ, Bool, false};
+ghost use Rattle.plinq_ops.specs.declared.results.ChunkResult.{ChunkResult};
+
+use plinq_cut::Enders;
+use plinq_ops::ChunkResult;
+use plinq_stream::{Stream, StreamPass};
+use std::marker::{Brand, PhantomData};
+
+/// Which results go through a run's stream, and which keys end the run. Each run picks it.
+pub trait Carries<T> {
+    ghost is_result: { ChunkResult T → Type 0 };
+
+    ghost is_ender: { ℕ → Bool };
+}
+
+impl<T> Carries<T> for Brand {
+    ghost is_result = { λ _. ⊤ };
+
+    ghost is_ender = { λ _. false };
+}
+
+/// The keys that end a run, for its cut.
+pub struct RunEnders<T, J> {
+    of: PhantomData<(T, J)>,
+}
+
+impl<T, J: Carries<T>> Enders for RunEnders<T, J> {
+    ghost is_ender = { J.is_ender };
+}
+
+/// The results of a run, for its stream.
+pub struct RunResults<T, J> {
+    of: PhantomData<(T, J)>,
+}
+
+impl<T, J: Carries<T>> plinq_stream::Carries<ChunkResult<T>> for RunResults<T, J> {
+    ghost carries = { J.is_result };
+}
+
+/// What a worker sends to the merging thread goes through such a stream, under the worker's number.
+pub type ResultStream<T, J> = Stream<ChunkResult<T>, RunResults<T, J>>;
+
+/// What a thread of a run has of its stream.
+pub type ResultPass<T> = StreamPass<ChunkResult<T>>;

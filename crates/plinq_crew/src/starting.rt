@@ -1,0 +1,181 @@
+//! Starting the workers of a run, and having them back.
+ghost use Rattle.std.specs.Prelude.{◌≡◌, ◌≤◌, ◌<◌, ◌^◌, ◌+◌, [], drop, length, true, false, not, ◌||◌, All, IfSome, is_some, vec_len, vec_capacity};
+ghost use Rattle.plinq_partition.specs.Partitions.{IsPartitionOf, holding_of};
+ghost use Rattle.plinq_partition.specs.GivenBack.{common_origin};
+ghost use Rattle.plinq_crew.specs.Equipped.{IsEquipped};
+ghost use Rattle.plinq_crew.specs.Short.{lacks_room, is_short};
+ghost use Rattle.plinq_crew.specs.Hands.{IsHandOf, AreNumbered};
+ghost use Rattle.plinq_crew.specs.Working.{IsNewcomer, IsReceiver, IsBack, IsAnsweredBy, receiver_from};
+ghost use Rattle.plinq_stream.specs.Passes.{IsPassOf, known};
+
+use crate::hand::{ComesBack, Hand};
+use crate::post::Post;
+use crate::results::{Carries, ResultPass};
+use crate::worker::{Crew, Equipment, Worked};
+use plinq_lambda::Lambda;
+use plinq_ops::ChunkResult;
+use plinq_partition::{Chunked, Partition, TakeFault};
+use plinq_source::Source;
+use plinq_stream::Stream;
+use std::snapshot::Snapshot;
+use std::sync::Wait;
+use std::thread::{Scope, Threads};
+
+/// Starts one worker, unless no thread can be had.
+fn start<'s, Env, L, S, J, P, R>(
+    scope: &Scope<'s, Env>,
+    rt: &'s R,
+    crew: &'s Crew<'s, L, S, J, P>,
+    worker: u64,
+    own: Equipment<S, P::Part>,
+) -> Option<Hand<S, P::Part>>
+where
+    L: Lambda,
+    S: Source<Item = L::Item>,
+    J: Carries<P::Part> + Send + Sync,
+    P: Post<L::Item>,
+    R: Threads + Wait + Sync,
+    requires new { IsNewcomer crew.now.stream.now worker own.partition own.stream }
+    requires equipped { IsEquipped L.meaning (P.makes crew.now.post.now) J.is_result J.is_ender crew.now.plan.now crew.now.chunked.now crew.now.cut.now own.partition own.cut }
+    ensures hand { IfSome result (IsHandOf crew.now.chunked.now crew.now.stream.now) }
+    ensures number { IfSome result (λ hand. hand.promise.number ≡ worker) }
+{
+    let promise = ComesBack {
+        chunked: Snapshot::of(crew.chunked),
+        given: Snapshot::of(&own.stream),
+        number: worker,
+    };
+    let hand = scope.spawn_with(
+        promise,
+        move || -> Worked<S, P::Part>
+            requires new { IsNewcomer crew.now.stream.now worker own.partition own.stream }
+            requires equipped { IsEquipped L.meaning (P.makes crew.now.post.now) J.is_result J.is_ender crew.now.plan.now crew.now.chunked.now crew.now.cut.now own.partition own.cut }
+            ensures { IsBack crew.entry.now.chunked.now own.stream worker result }
+        { crew.work(rt, worker, own) },
+    );
+    hand.ok()
+}
+
+/// Starts so many workers, each with a new partition beside this one and a number of its own, or as many as there are threads
+/// to be had.
+pub fn start_all<'s, Env, L, S, J, P, R>(
+    scope: &Scope<'s, Env>,
+    rt: &'s R,
+    crew: &'s Crew<'s, L, S, J, P>,
+    workers: u64,
+    own: &mut Equipment<S, P::Part>,
+    room: Vec<Hand<S, P::Part>>,
+) -> Vec<Hand<S, P::Part>>
+where
+    L: Lambda,
+    S: Source<Item = L::Item>,
+    J: Carries<P::Part> + Send + Sync,
+    P: Post<L::Item>,
+    R: Threads + Wait + Sync,
+    requires stream { IsPassOf crew.now.stream.now own.old.stream }
+    requires first { known own.old.stream ≡ receiver_from 0 }
+    requires equipped { IsEquipped L.meaning (P.makes crew.now.post.now) J.is_result J.is_ender crew.now.plan.now crew.now.chunked.now crew.now.cut.now own.old.partition own.old.cut }
+    requires few { workers ≤ 64 }
+    requires empty { room.items ≡ [] }
+    requires room { workers ≤ vec_capacity room }
+    ensures of { IsPartitionOf crew.now.chunked.now own.new.partition }
+    ensures same { holding_of own.new.partition ≡ holding_of own.old.partition }
+    ensures stream { IsPassOf crew.now.stream.now own.new.stream }
+    ensures receiver { IsReceiver (known own.new.stream) }
+    ensures hands { All (IsHandOf crew.now.chunked.now crew.now.stream.now) result.items }
+    ensures numbered { AreNumbered 0 result.items }
+    ensures count { length result.items ≤ workers }
+{
+    let mut hands = room;
+    for worker in 0..workers {
+        let theirs = Equipment {
+            partition: crew.chunked.dynamic(&mut own.partition),
+            stream: crew.stream.hand_out(&mut own.stream),
+            cut: crew.cut.split(&mut own.cut),
+        };
+        let Some(hand) = start(scope, rt, crew, worker, theirs) else {
+            return hands;
+        };
+        hands.push_reserved(hand);
+    }
+    hands
+}
+
+/// Why workers ended before they saw a tail.
+#[derive(Clone, Copy)]
+pub struct Shortages {
+    pub memory: bool,
+    pub tickets: bool,
+}
+
+impl Shortages {
+    pub fn none() -> Shortages {
+        Shortages {
+            memory: false,
+            tickets: false,
+        }
+    }
+
+    pub fn note(&mut self, fault: TakeFault)
+        ensures memory { self.new.memory ≡ (self.old.memory || lacks_room fault) }
+        ensures tickets { self.new.tickets ≡ (self.old.tickets || not (lacks_room fault)) }
+    {
+        match fault {
+            TakeFault::Memory => self.memory = true,
+            _ => self.tickets = true,
+        }
+    }
+
+    /// Notes a worker's fault, if it had one.
+    fn note_any(&mut self, fault: Option<TakeFault>)
+        ensures kept { is_short self.old ≡ true → is_short self.new ≡ true }
+        ensures noted { is_some fault ≡ true → is_short self.new ≡ true }
+    {
+        if let Some(fault) = fault {
+            self.note(fault);
+        }
+    }
+}
+
+/// Joins the workers. Their partitions come behind the one that is given, and their passes are taken in.
+pub fn join_all<S, M, C, R>(
+    rt: &R,
+    chunked: &Chunked<S>,
+    stream: &Stream<ChunkResult<M>, C>,
+    own: Partition<S>,
+    pass: &mut ResultPass<M>,
+    hands: Vec<Hand<S, M>>,
+    room: Vec<Partition<S>>,
+    shortages: &mut Shortages,
+) -> Vec<Partition<S>>
+where
+    S: Source,
+    M: Drop,
+    C: plinq_stream::Carries<ChunkResult<M>>,
+    R: Threads,
+    requires of { IsPartitionOf chunked.now own }
+    requires pass { IsPassOf stream.now pass.old }
+    requires receiver { IsReceiver (known pass.old) }
+    requires hands { All (IsHandOf chunked.now stream.now) hands.items }
+    requires numbered { AreNumbered 0 hands.items }
+    requires empty { room.items ≡ [] }
+    requires room { length hands.items < vec_capacity room }
+    ensures some { 1 ≤ length result.items }
+    ensures of { All (IsPartitionOf chunked.now) result.items }
+    ensures origin { common_origin result.items ≡ (holding_of own).origin }
+    ensures pass { IsPassOf stream.now pass.new }
+    ensures receives { (known pass.new).receives ≡ true }
+    ensures received { (known pass.new).received ≡ (known pass.old).received }
+    ensures answered { All (IsAnsweredBy 0 (known pass.new) shortages.new) (drop 1 result.items) }
+{
+    let mut hands = hands;
+    let mut partitions = room;
+    partitions.push_reserved(own);
+    while let Some(hand) = hands.pop() {
+        let worked = hand.join(rt);
+        shortages.note_any(worked.fault);
+        stream.join(pass, worked.stream);
+        partitions.push_reserved(worked.partition);
+    }
+    partitions
+}

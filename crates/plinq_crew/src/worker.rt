@@ -1,0 +1,154 @@
+//! What a worker does: it takes chunks until one has a tail, and sends their results.
+ghost use Rattle.std.specs.Prelude.{◌≡◌, ◌≤◌, ◌^◌, length, true, false, All, IfOk, IfErr};
+ghost use Rattle.std.specs.List.{list_any};
+ghost use Rattle.plinq_cut.specs.Passes.{IsPassOf as IsCutPassOf};
+ghost use Rattle.plinq_ops.specs.Feeding.{is_empty_take};
+ghost use Rattle.plinq_ops.specs.ByKey.{is_by_key};
+ghost use Rattle.plinq_ops.specs.declared.results.ChunkResult.{ChunkResult};
+ghost use Rattle.plinq_partition.specs.Partitions.{IsPartitionOf, holding_of};
+ghost use Rattle.plinq_cut.specs.OfPlan.{AreEnders};
+ghost use Rattle.plinq_crew.specs.Equipped.{IsEquipped};
+ghost use Rattle.plinq_crew.specs.Results.{IsPart};
+ghost use Rattle.plinq_crew.specs.Working.{IsNewcomer, HasWorked, HasTaken, HasLeft};
+ghost use Rattle.plinq_stream.specs.Passes.{IsPassOf, known};
+
+use crate::cutting::{cut_now, cut_off};
+use crate::post::Post;
+use crate::progress::Progress;
+use crate::results::{Carries, ResultPass, ResultStream, RunEnders};
+use plinq_cut::{CutPass, CutWord};
+use plinq_lambda::Lambda;
+use plinq_ops::{ChunkResult, FragEnd, Plan, chunk_result};
+use plinq_partition::{Chunked, Partition, TakeFault};
+use plinq_source::Source;
+use std::alloc::Global;
+use std::sync::Wait;
+
+/// Where a worker stands whose last result is this one: behind its keys, or behind all keys where the run ends within them or
+/// before, so that it takes nothing more until the source is closed.
+fn place_behind<T>(made: &ChunkResult<T>) -> u64 {
+    match made.ending {
+        FragEnd::More => made.first.saturating_add(made.count),
+        _ => u64::MAX,
+    }
+}
+
+/// What a worker brings back: its partition and its pass of the stream, and why it ended before it saw a tail, if it did.
+#[derive(Drop)]
+pub struct Worked<S: Source, M> {
+    pub partition: Partition<S>,
+    pub stream: ResultPass<M>,
+    pub fault: Option<TakeFault>,
+}
+
+/// What a thread of a run has of its own: a partition, and a pass of the stream and of the cut.
+#[derive(Drop)]
+pub struct Equipment<S: Source, M> {
+    pub partition: Partition<S>,
+    pub stream: ResultPass<M>,
+    pub cut: CutPass,
+}
+
+/// What the workers of a run share.
+#[derive(Drop)]
+pub struct Crew<'a, L: Lambda, S: Source, J: Carries<P::Part>, P: Post<L::Item>> {
+    pub alloc: Global,
+    pub plan: &'a Plan<'a, L>,
+    pub chunked: &'a Chunked<S>,
+    pub stream: &'a ResultStream<P::Part, J>,
+    pub cut: &'a CutWord<RunEnders<P::Part, J>>,
+    pub post: &'a P,
+    pub progress: &'a Progress,
+    pub workers: u64,
+}
+
+impl<'a, L, S, J, P> Crew<'a, L, S, J, P>
+where
+    L: Lambda,
+    S: Source<Item = L::Item>,
+    J: Carries<P::Part>,
+    P: Post<L::Item>,
+{
+    /// Takes the next chunk, and gives what is sent of its result under the cut that all share, which it lowers where the run
+    /// ends.
+    fn next_result<R: Wait>(
+        &self,
+        rt: &R,
+        worker: u64,
+        partition: &mut Partition<S>,
+        pass: &mut CutPass,
+    ) -> Result<ChunkResult<P::Part>, TakeFault>
+        requires of { IsPartitionOf self.now.chunked.now partition.old }
+        requires cut { IsCutPassOf self.now.cut.now pass.old }
+        requires enders { AreEnders L.meaning self.now.plan.now (holding_of partition.old).origin J.is_ender }
+        requires keyed { is_by_key self.now.plan.now.worker.now ≡ true }
+        requires some { list_any is_empty_take self.now.plan.now.worker.now ≡ false }
+        requires few { length (holding_of partition.old).origin.items ≤ 2 ^ 40 }
+        ensures of { IsPartitionOf self.now.chunked.now partition.new }
+        ensures origin { (holding_of partition.new).origin ≡ (holding_of partition.old).origin }
+        ensures cut { IsCutPassOf self.now.cut.now pass.new }
+        ensures result { IfOk result (IsPart L.meaning (P.makes self.now.post.now) self.now.plan.now (holding_of partition.old).origin) }
+        ensures taken { IfOk result (HasTaken (holding_of partition.old).share (holding_of partition.new).share) }
+        ensures left { IfErr result (λ fault. HasLeft (holding_of partition.old).share (holding_of partition.new).share) }
+    {
+        self.post.before_take(worker);
+        let chunk = partition.take(rt, self.chunked)?;
+        self.post.after_chunk(worker, chunk.first);
+        let cut = cut_now(self.plan, self.cut, pass);
+        let made = chunk_result(self.alloc, self.plan, &chunk, cut)?;
+        cut_off(self.plan, self.cut, pass, &made);
+        let part = self.post.make(self.alloc, made)?;
+        Ok(part)
+    }
+
+    /// Takes chunks and sends their results, until one has a tail.
+    pub fn work<R: Wait>(
+        &self,
+        rt: &R,
+        worker: u64,
+        own: Equipment<S, P::Part>,
+    ) -> Worked<S, P::Part>
+        requires new { IsNewcomer self.now.stream.now worker own.partition own.stream }
+        requires equipped { IsEquipped L.meaning (P.makes self.now.post.now) J.is_result J.is_ender self.now.plan.now self.now.chunked.now self.now.cut.now own.partition own.cut }
+        ensures of { IsPartitionOf self.now.chunked.now result.partition }
+        ensures origin { (holding_of result.partition).origin ≡ (holding_of own.partition).origin }
+        ensures stream { IsPassOf self.now.stream.now result.stream }
+        ensures worked { HasWorked worker (holding_of result.partition).share result.fault (known result.stream) }
+        ensures results { All (λ s. IsPart L.meaning (P.makes self.now.post.now) self.now.plan.now (holding_of own.partition).origin s.item) (known result.stream).sent }
+    {
+        let Equipment {
+            mut partition,
+            mut stream,
+            mut cut,
+        } = own;
+        for _ in rt.forever() {
+            match self.next_result(rt, worker, &mut partition, &mut cut) {
+                Ok(made) => {
+                    let is_last = made.tail.is_some();
+                    let place = place_behind(&made);
+                    self.stream.send(rt, &mut stream, worker, made);
+                    self.progress.tell();
+                    if is_last {
+                        self.progress.end();
+                        return Worked {
+                            partition,
+                            stream,
+                            fault: None,
+                        };
+                    }
+                    self.progress.wait_at(rt, place);
+                }
+                Err(fault) => {
+                    self.progress.fail();
+                    self.progress.end();
+                    return Worked {
+                        partition,
+                        stream,
+                        fault: Some(fault),
+                    };
+                }
+            }
+        }
+        unreachable!()
+    }
+}

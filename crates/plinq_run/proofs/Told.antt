@@ -1,0 +1,55 @@
+-- Where a run tells no fault, all that its workers were to send was received.
+use Rattle.std.proofs.Common.{◌≡◌, ◌||◌, drop, Option, Some, None, is_some, true, false, true≢false, All, Result, Ok, Err, IfOk, OnOk, Vec, not, Bool, refl, sym, ap, ◌∙◌, subst}
+use Rattle.std.proofs.lemmas.List.Elements.{All-weaker}
+use Rattle.std.specs.Prelude.{◌==◌}
+use Rattle.std.specs.Option.{option_or}
+use Rattle.std.specs.declared.alloc.Global.{Global}
+use Rattle.plinq_source.specs.declared.source.Source.{Ghosts}
+use Rattle.plinq_ops.specs.declared.results.ChunkResult.{ChunkResult}
+use Rattle.plinq_merge.specs.declared.merge_fault.MergeFault.{MergeFault}
+use Rattle.plinq_partition.specs.declared.partition.Partition.{Partition}
+use Rattle.plinq_stream.specs.declared.known.Known.{Known}
+use Rattle.plinq_stream.specs.Streams.{HasReceivedAll}
+use Rattle.plinq_stream.proofs.Under.{or-none, or-right}
+use Rattle.plinq_crew.specs.declared.starting.Shortages.{Shortages}
+use Rattle.plinq_crew.specs.Short.{is_short}
+use Rattle.plinq_crew.specs.Working.{IsAnsweredBy, IsWhollyAnsweredBy}
+use Rattle.plinq_crew.proofs.Working.{answered-wholly}
+use Rattle.plinq_run.specs.declared.staff.Staff.{Staff}
+use Rattle.plinq_run.specs.declared.run_fault.RunFault.{RunFault}
+use Rattle.plinq_run.specs.declared.run_fault.RunFault.TheVariants.{Memory, Thread, Tickets}
+use Rattle.plinq_run.specs.Faults.{first_told, told_if, refused_by_sink, is_out_of_memory}
+
+none-before : {A : Type 0} (x y : Option A) → option_or x y ≡ None → x ≡ None
+none-before None y is = refl
+none-before (Some x) y is = is
+
+none-behind : {A : Type 0} (x y : Option A) → option_or x y ≡ None → y ≡ None
+none-behind None y is = is
+none-behind (Some x) y is = absurd (true≢false (ap is_some is))
+
+none-told : (b : Bool) (fault : RunFault) → told_if b fault ≡ None → b ≡ false
+none-told true fault is = absurd (true≢false (ap is_some is))
+none-told false fault is = refl
+
+none-noted : (fault : Option MergeFault) (short : Shortages) (staff : Staff) → first_told fault short staff ≡ None → is_short short ≡ false
+none-noted fault short staff is =
+    let behind-sink = none-behind (refused_by_sink fault) _ is in
+    let memory = none-told (is_out_of_memory fault || short.memory) Memory (none-before _ _ behind-sink) in
+    let behind-memory = none-behind (told_if (is_out_of_memory fault || short.memory) Memory) _ behind-sink in
+    let behind-thread = none-behind (told_if (not (staff.started == staff.wanted)) Thread) _ behind-memory in
+    let tickets = none-told short.tickets Tickets (none-before _ _ behind-thread) in
+    or-none short.memory short.tickets (or-right (is_out_of_memory fault) short.memory memory) tickets
+
+-- of what is told with these partitions
+pub told-all : {X S T M : Type 0} {source : Ghosts S T} (partitions_of : X → Vec (Partition S T source) Global) (a b : Known (ChunkResult M)) (short : Shortages) (fault : Option MergeFault) (staff : Staff) (partitions : Vec (Partition S T source) Global) (r : Result X RunFault)
+    → b.sent ≡ a.sent → b.numbers ≡ a.numbers → OnOk r (first_told fault short staff ≡ None) → IfOk r (λ x. partitions_of x ≡ partitions)
+    → HasReceivedAll b → All (IsAnsweredBy 0 a short) (drop 1 partitions.items)
+    → IfOk r (λ x. (k : Known (ChunkResult M)) × HasReceivedAll k × All (IsWhollyAnsweredBy k) (drop 1 (partitions_of x).items))
+told-all partitions_of a b short fault staff partitions (Ok x) sent numbers none same all answered = (
+  b,
+  all,
+  subst (λ ps. All (IsWhollyAnsweredBy b) (drop 1 ps.items)) (sym same)
+      (All-weaker (IsAnsweredBy 0 a short) (IsWhollyAnsweredBy b) (answered-wholly a b short sent numbers (none-noted fault short staff none)) (drop 1 partitions.items) answered),
+)
+told-all partitions_of a b short fault staff partitions (Err told) sent numbers none same all answered = tt

@@ -1,5 +1,0 @@
-use Rattle.std.proofs.Common.{rules}
-use Rattle.plinq_run.proofs.starting.fn.start.spawn_with+FnOnce.call_once.Goals as goal
-
-pub spawn_with-requires : goal.spawn_with-requires
-spawn_with-requires g c = search rules

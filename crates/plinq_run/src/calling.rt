@@ -1,0 +1,143 @@
+//! The caller's thread among its workers: it starts them, receives what they send, closes the source in time, and has them
+//! back.
+ghost use Rattle.std.specs.Prelude.{◌≡◌, ◌≤◌, ◌^◌, [], drop, length, true, All, IfOk, IfSome};
+ghost use Rattle.plinq_cut.specs.Passes.{IsPassOf as IsCutPassOf};
+ghost use Rattle.plinq_crew.specs.Working.{IsReceiver};
+ghost use Rattle.plinq_partition.specs.Partitions.{IsPartitionOf, holding_of};
+ghost use Rattle.plinq_run.specs.Turns.{IfCame};
+ghost use Rattle.plinq_stream.specs.Passes.{IsPassOf, known};
+
+use crate::closing::Closing;
+use crate::staff::Staff;
+use crate::turn::Turn;
+use crossbeam_utils::Backoff;
+use crossbeam_utils::sync::Key;
+use plinq_crew::{Carries, Crew, Post, ResultPass, Shortages};
+use plinq_lambda::Lambda;
+use plinq_partition::Partition;
+use plinq_source::Source;
+use std::sync::Wait;
+
+// How many turns the caller's thread only yields before the first result comes: it is there soon, and a thread that sleeps
+// is woken late.
+const EARLY_TURNS: u64 = 400;
+
+/// What the caller's thread has of its own while workers send.
+#[derive(Drop)]
+pub(crate) struct Caller<S: Source, M> {
+    pub(crate) partition: Partition<S>,
+    pub(crate) stream: ResultPass<M>,
+    pub(crate) staff: Staff,
+    pub(crate) shortages: Shortages,
+    pub(crate) backoff: Backoff,
+    pub(crate) early: u64,
+}
+
+impl<S: Source, M: Drop> Caller<S, M> {
+    pub(crate) fn new(partition: Partition<S>, stream: ResultPass<M>, staff: Staff) -> Caller<S, M>
+        ensures partition { result.partition ≡ partition }
+        ensures stream { result.stream ≡ stream }
+    {
+        Caller {
+            partition,
+            stream,
+            staff,
+            shortages: Shortages::none(),
+            backoff: Backoff::new(),
+            early: EARLY_TURNS,
+        }
+    }
+
+    /// Closes the source once nothing more is wanted: the answer is decided, or there was a fault. Where there is no memory
+    /// to close it, it is tried again at the next turn.
+    fn close_in_time<L, J, P, R>(
+        &mut self,
+        rt: &R,
+        crew: &Crew<'_, L, S, J, P>,
+        is_over: bool,
+        closing: &mut Closing,
+    )
+    where
+        L: Lambda<Item = S::Item>,
+        J: Carries<M>,
+        P: Post<S::Item, Part = M>,
+        R: Wait,
+        requires of { IsPartitionOf crew.now.chunked.now self.old.partition }
+        ensures of { IsPartitionOf crew.now.chunked.now self.new.partition }
+        ensures origin { (holding_of self.new.partition).origin ≡ (holding_of self.old.partition).origin }
+        ensures stream { self.new.stream ≡ self.old.stream }
+    {
+        if closing.is_stopped {
+            return;
+        }
+        let is_whole = self.staff.started == self.staff.wanted && !crew.progress.has_failed();
+        if is_whole && !closing.is_closed && !is_over {
+            return;
+        }
+        closing.is_closed = true;
+        crew.progress.move_to(u64::MAX);
+        match self.partition.stop(rt, crew.chunked) {
+            Ok(()) => closing.is_stopped = true,
+            Err(fault) => self.shortages.note(fault),
+        }
+    }
+
+    /// The next result that a worker has sent. Where none comes for a while, the thread is to sleep until something is
+    /// told, so that it takes no processor from a worker.
+    pub(crate) fn turn<'c, L, J, P, R>(
+        &mut self,
+        rt: &R,
+        crew: &Crew<'c, L, S, J, P>,
+        is_over: bool,
+        closing: &mut Closing,
+    ) -> Turn<'c, M>
+    where
+        L: Lambda<Item = S::Item>,
+        J: Carries<M>,
+        P: Post<S::Item, Part = M>,
+        R: Wait,
+        requires of { IsPartitionOf crew.now.chunked.now self.old.partition }
+        requires stream { IsPassOf crew.now.stream.now self.old.stream }
+        requires receiver { IsReceiver (known self.old.stream) }
+        ensures of { IsPartitionOf crew.now.chunked.now self.new.partition }
+        ensures origin { (holding_of self.new.partition).origin ≡ (holding_of self.old.partition).origin }
+        ensures stream { IsPassOf crew.now.stream.now self.new.stream }
+        ensures receiver { IsReceiver (known self.new.stream) }
+        ensures carried { IfCame result J.is_result }
+    {
+        let sleep = if self.backoff.is_completed() && self.early == 0 {
+            Some(crew.progress.announce_sleep())
+        } else {
+            None
+        };
+        let have_ended = crew.progress.have_ended(self.staff.started);
+        self.close_in_time(rt, crew, is_over, closing);
+        match crew.stream.try_receive(&mut self.stream) {
+            Some(sent) => {
+                self.backoff.reset();
+                self.early = 0;
+                Turn::Came(sent.item)
+            }
+            None => {
+                if have_ended {
+                    return Turn::Over;
+                }
+                Turn::Nothing(sleep)
+            }
+        }
+    }
+
+    /// Lets others go on, or sleeps, where nothing was there at a turn.
+    pub(crate) fn wait<R: Wait>(&mut self, rt: &R, sleep: Option<Key<'_>>)
+        ensures partition { self.new.partition ≡ self.old.partition }
+        ensures stream { self.new.stream ≡ self.old.stream }
+    {
+        match sleep {
+            Some(sleep) => sleep.wait(rt),
+            None => {
+                self.early = self.early.saturating_sub(1);
+                self.backoff.snooze();
+            }
+        }
+    }
+}

@@ -1,0 +1,13 @@
+use crossbeam_utils::sync::Key;
+use plinq_ops::ChunkResult;
+
+/// What the caller's thread meets at a turn.
+#[derive(Drop)]
+pub(crate) enum Turn<'a, M> {
+    /// A worker has sent this.
+    Came(ChunkResult<M>),
+    /// Nothing is there; where that has been so for a while, the thread is to sleep.
+    Nothing(Option<Key<'a>>),
+    /// All workers have ended, and nothing seems to be left.
+    Over,
+}
