@@ -17,12 +17,12 @@ use Rattle.plinq_run.specs.Merged.{IsMerging, HasStopped, Merges}
 use Rattle.plinq_run.specs.Reaching.{IsOffered, Grows}
 use Rattle.plinq_run.proofs.Without.{apart-push}
 
-pub are-more : {T : Type 0} (IsResult : ChunkResult T → Type 0) (offers : List (ChunkResult T)) (r : ChunkResult T) (offers' : List (ChunkResult T))
+are-more : {T : Type 0} (IsResult : ChunkResult T → Type 0) (offers : List (ChunkResult T)) (r : ChunkResult T) (offers' : List (ChunkResult T))
     → AreOneMore offers r offers' → All IsResult offers → IsResult r → All IsResult offers'
 are-more IsResult offers r offers' (inl same) are good = subst (All IsResult) (sym same) are
 are-more IsResult offers r offers' (inr more) are good = subst (All IsResult) (sym more.0) (All-push IsResult offers r are good)
 
-pub apart-more : {T : Type 0} (offers : List (ChunkResult T)) (r : ChunkResult T) (offers' : List (ChunkResult T)) → AreOneMore offers r offers' → AreApart offers → AreApart offers'
+apart-more : {T : Type 0} (offers : List (ChunkResult T)) (r : ChunkResult T) (offers' : List (ChunkResult T)) → AreOneMore offers r offers' → AreApart offers → AreApart offers'
 apart-more offers r offers' (inl same) apart = subst AreApart (sym same) apart
 apart-more offers r offers' (inr more) apart = subst AreApart (sym more.0) (apart-push offers r apart more.1)
 
@@ -64,7 +64,7 @@ module _ {L T K : Type 0} {lambda : Ghosts L T} (P : ChunkResult T → Type 0) (
   merges-weaker Q f merge s m (Some fault) s' h = record { offers = h.offers; are = All-weaker P Q f h.offers h.are; apart = h.apart; short = h.short }
 
 -- what is within a reach is so when it has grown
-pub reaches-more : {T : Type 0} (P : ChunkResult T → Type 0) (reach reach' : Reach) → Grows reach reach' → (r : ChunkResult T) → IsOffered P reach r → IsOffered P reach' r
+reaches-more : {T : Type 0} (P : ChunkResult T → Type 0) (reach reach' : Reach) → Grows reach reach' → (r : ChunkResult T) → IsOffered P reach r → IsOffered P reach' r
 reaches-more P reach reach' grows r x = (x.0, record { behind = omega (arith, x.1.behind, grows.behind); told = λ is. grows.told (x.1.told is) })
 
 pub offered-more : {L T K : Type 0} {lambda : Ghosts L T} (P : ChunkResult T → Type 0) (accepts : K → List T → K → Type 0) (refuses : K → List T → ℕ → K → Type 0)

@@ -54,13 +54,13 @@ module _ {L T : Type 0} (meaning : L → Meaning T) (plan : Plan L) (t : Trace T
   are-true_tails (r ∷ rs) are = ((All-head (IsResult meaning plan t) r rs are).tail, are-true_tails rs (All-tail (IsResult meaning plan t) r rs are))
 
   -- the fragments of the source's items, in an order in which they may be taken, begin with what was merged
-  pub record HasBegun (offers : List (ChunkResult T)) : Type 0 where
+  record HasBegun (offers : List (ChunkResult T)) : Type 0 where
     pub taken : Trace T
     pub may : MayTake plan.order t taken
     pub rest : Trace T
     pub is : glue meaning plan.worker.now taken ≡ followed (merged plan.order offers) rest
 
-  pub begun-in : (order : Order) → plan.order ≡ order → length t.items ≤ 2 ^ 40 → IsUndecided plan → (offers : List (ChunkResult T)) → All (IsResult meaning plan t) offers → AreApart offers → HasBegun offers
+  begun-in : (order : Order) → plan.order ≡ order → length t.items ≤ 2 ^ 40 → IsUndecided plan → (offers : List (ChunkResult T)) → All (IsResult meaning plan t) offers → AreApart offers → HasBegun offers
   begun-in ByKey by few undecided offers are apart =
       let begins = merged-begins meaning plan.worker.now t offers few (are-offers offers are) (are-true_tails offers are) in
       record {

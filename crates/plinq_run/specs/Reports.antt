@@ -8,7 +8,6 @@ use Rattle.plinq_ops.specs.declared.order.Order.{Order}
 use Rattle.plinq_ops.specs.declared.order.Order.TheVariants.{ByKey, ByArrival}
 use Rattle.plinq_ops.specs.declared.plan.Plan.{Plan}
 use Rattle.plinq_ops.specs.Answer.{IsRearranged}
-use Rattle.plinq_ops.specs.Fragment.{glue}
 use Rattle.plinq_run.specs.declared.conducting.Ended.{Ended}
 use Rattle.plinq_run.specs.declared.report.Report.{Report}
 use Rattle.plinq_run.specs.declared.run_fault.RunFault.{RunFault}
@@ -21,12 +20,6 @@ use Rattle.plinq_run.specs.Runs.{HasRun, HasBroken}
 abbrev pub MayTake : {T : Type 0} → Order → Trace T → Trace T → Type 0
 MayTake ByKey t v = v ≡ t
 MayTake ByArrival t v = IsRearranged t v
-
--- what the workers' fragments may join to
-pub record MayGlue {L T : Type 0} (meaning : L → Meaning T) (plan : Plan L) (t u : Trace T) : Type 0 where
-  pub taken : Trace T
-  pub may : MayTake plan.order t taken
-  pub is : u ≡ glue meaning plan.worker.now taken
 
 -- what a plan may answer
 pub record MayMerge {L T : Type 0} (meaning : L → Meaning T) (plan : Plan L) (t u : Trace T) : Type 0 where
