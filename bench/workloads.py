@@ -28,7 +28,7 @@ PARTS = (
     ("operators", ("plinq_ops::",)),
     ("source, enumerator, and the worker's own part", ("core::scope::entry", "plinq_enumerator::", "plinq_source::", "plinq_partition::")),
     ("lock", ("plinq_ticket::", "atomic_table::")),
-    ("queue, and the caller's loop", ("plinq_run::", "crossbeam_queue::", "crossbeam_utils::")),
+    ("queue, and the caller's loop", ("plinq_run::", "plinq_crew::", "plinq_stream::", "crossbeam_queue::", "crossbeam_utils::")),
     ("sink, and its batches cut", ("plinq_merge::sending::", "circular_buffer::", "plinq_bench::")),
     ("merger", ("plinq_merge::",)),
 )
