@@ -48,8 +48,9 @@ impl<S: Source, M: Drop> Caller<S, M> {
         }
     }
 
-    /// Closes the source once nothing more is wanted: the answer is decided, or there was a fault. Where there is no memory
-    /// to close it, it is tried again at the next turn.
+    /// Closes the source once nothing more is wanted: the answer is decided, or there was a fault. Workers that wait are let
+    /// on behind that, so that they take nothing more. Where there is no memory to close it, it is tried again at the next
+    /// turn.
     fn close_in_time<L, J, P, R>(
         &mut self,
         rt: &R,
@@ -75,11 +76,11 @@ impl<S: Source, M: Drop> Caller<S, M> {
             return;
         }
         closing.is_closed = true;
-        crew.progress.move_to(u64::MAX);
         match self.partition.stop(rt, crew.chunked) {
             Ok(()) => closing.is_stopped = true,
             Err(fault) => self.shortages.note(fault),
         }
+        crew.progress.move_to(u64::MAX);
     }
 
     /// The next result that a worker has sent. Where none comes for a while, the thread is to sleep until something is

@@ -74,7 +74,7 @@ where
         match caller.turn(rt, crew, is_over, &mut merging.closing) {
             Turn::Came(made) => {
                 merging.take_in::<J, K>(made, sink);
-                crew.progress.move_to(merging.place());
+                crew.progress.move_to(merging.merger.merged());
             }
             Turn::Nothing(sleep) => {
                 merging.rest(sink);

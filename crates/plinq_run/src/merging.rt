@@ -53,14 +53,6 @@ impl<'a, L: Lambda> Merging<'a, L> {
         }
     }
 
-    /// The first key that isn't merged, or the greatest number where nothing more is wanted.
-    pub(crate) fn place(&self) -> u64 {
-        if self.closing.is_closed || self.is_over() {
-            return u64::MAX;
-        }
-        self.merger.merged()
-    }
-
     /// Whether it is offered nothing more, or wants nothing more.
     pub(crate) fn is_over(&self) -> bool {
         self.fault.is_some() || self.merger.decided()
