@@ -18,6 +18,7 @@ use Rattle.plinq_ops.specs.declared.order.Order.TheVariants.{ByKey, ByArrival}
 use Rattle.plinq_ops.specs.declared.plan.Plan.{Plan}
 use Rattle.plinq_ops.specs.declared.results.ChunkResult.{ChunkResult}
 use Rattle.plinq_ops.specs.Batches.{batches, batches_from}
+use Rattle.plinq_ops.specs.ByKey.{is_by_key}
 use Rattle.plinq_ops.specs.Feeding.{is_empty_take}
 use Rattle.plinq_ops.specs.Fragment.{glue}
 use Rattle.plinq_ops.specs.Operator.{stages_of}
@@ -85,13 +86,17 @@ may-same : {T : Type 0} (order : Order) (t : Trace T) → MayTake order t t
 may-same ByKey t = refl
 may-same ByArrival t = IsRearranged-refl t
 
+-- there always is an answer
+pub merged-may : {L T : Type 0} (meaning : L → Meaning T) (plan : Plan L) (t : Trace T) → MayMerge meaning plan t (merged_answer meaning plan t)
+merged-may meaning plan t = record { taken = t; may = may-same plan.order t; is = refl }
+
 -- before the first offer the first of an answer's batches, none, were delivered
 pub none-ended : {L T K : Type 0} (meaning : L → Meaning T) (accepts : K → List T → K → Type 0) (refuses : K → List T → ℕ → K → Type 0) (option : MergeOption) (plan : Plan L) (t : Trace T) (s : K) (fault : RunFault)
     → told_refusal fault ≡ None → IsBroken accepts refuses option (MayMerge meaning plan) t s s fault
 none-ended meaning accepts refuses option plan t s fault told =
     record {
       answer = merged_answer meaning plan t;
-      may = record { taken = t; may = may-same plan.order t; is = refl };
+      may = merged-may meaning plan t;
       broken = subst (λ x. StopsShort accepts refuses s (batches option (merged_answer meaning plan t)) (fault_of x) s) (sym told) (none-sent accepts s (batches option (merged_answer meaning plan t)));
     }
 
@@ -202,6 +207,12 @@ planned-any meaning q plan t u is ordered undecided may =
 pub planned-keyless : {L : Type 0} (q : QueryView L) (plan : Plan L) → IsPlanOf q plan → plan.order ≡ ByArrival → are_keyless plan.worker.now ≡ true
 planned-keyless {L} q plan is by =
     ap are_keyless is.worker ∙ ap (λ o. are_keyless (worker_part o q.ops)) (sym is.order ∙ by) ∙ worker-keyless q.ops
+
+-- the plan of a query that isn't decided needs workers
+pub planned-undecided : {L : Type 0} (q : QueryView L) (plan : Plan L) → IsPlanOf q plan → is_by_key plan.worker.now ≡ true
+    → (plan.decided ≡ false → (list_any is_empty_take plan.worker.now ≡ false) × (list_any is_empty_take plan.after.now ≡ false)) → plan.decided ≡ false → IsUndecided plan
+planned-undecided q plan is keyed parts undecided =
+    record { keyed = keyed; worker = (parts undecided).0; after = (parts undecided).1; undecided = undecided; keyless = planned-keyless q plan is }
 
 -- a decided query may answer what it does, of whatever source
 pub decided-any : {L T K : Type 0} (meaning : L → Meaning T) (accepts : K → List T → K → Type 0) (refuses : K → List T → ℕ → K → Type 0) (option : MergeOption) (ops : List (Op L)) (t : Trace T) (s : K) (r : Report)

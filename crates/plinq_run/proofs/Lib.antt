@@ -2,9 +2,11 @@ mod Arrived
 mod Batches
 mod Covered
 mod Ended
+mod Gathered
 mod Handed
 mod Merged
 mod Parts
 mod Runs
 mod Told
+mod Unfolded
 mod Without

@@ -17,12 +17,12 @@ use Rattle.plinq_run.specs.Merged.{IsMerging, HasStopped, Merges}
 use Rattle.plinq_run.specs.Reaching.{IsOffered, Grows}
 use Rattle.plinq_run.proofs.Without.{apart-push}
 
-are-more : {T : Type 0} (IsResult : ChunkResult T → Type 0) (offers : List (ChunkResult T)) (r : ChunkResult T) (offers' : List (ChunkResult T))
+pub are-more : {T : Type 0} (IsResult : ChunkResult T → Type 0) (offers : List (ChunkResult T)) (r : ChunkResult T) (offers' : List (ChunkResult T))
     → AreOneMore offers r offers' → All IsResult offers → IsResult r → All IsResult offers'
 are-more IsResult offers r offers' (inl same) are good = subst (All IsResult) (sym same) are
 are-more IsResult offers r offers' (inr more) are good = subst (All IsResult) (sym more.0) (All-push IsResult offers r are good)
 
-apart-more : {T : Type 0} (offers : List (ChunkResult T)) (r : ChunkResult T) (offers' : List (ChunkResult T)) → AreOneMore offers r offers' → AreApart offers → AreApart offers'
+pub apart-more : {T : Type 0} (offers : List (ChunkResult T)) (r : ChunkResult T) (offers' : List (ChunkResult T)) → AreOneMore offers r offers' → AreApart offers → AreApart offers'
 apart-more offers r offers' (inl same) apart = subst AreApart (sym same) apart
 apart-more offers r offers' (inr more) apart = subst AreApart (sym more.0) (apart-push offers r apart more.1)
 

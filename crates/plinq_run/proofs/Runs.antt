@@ -94,7 +94,7 @@ module _ {L T : Type 0} (meaning : L → Meaning T) (plan : Plan L) (option : Me
       )
 
   -- an answer that has ended is one of the source
-  ended-answer : (t : Trace T) (offers : List (ChunkResult T)) (e : Ending) → length t.items ≤ 2 ^ 40 → All (IsResult meaning plan t) offers → AreApart offers → (answer Made offers).ending ≡ Some e
+  pub ended-answer : (t : Trace T) (offers : List (ChunkResult T)) (e : Ending) → length t.items ≤ 2 ^ 40 → All (IsResult meaning plan t) offers → AreApart offers → (answer Made offers).ending ≡ Some e
       → MayMerge meaning plan t (answer Made offers)
   ended-answer t offers e few are apart ends =
       let begun = begun-in meaning plan t plan.order refl few undecided offers are apart in

@@ -1,5 +1,5 @@
 -- Where a run tells no fault, all that its workers were to send was received.
-use Rattle.std.proofs.Common.{◌≡◌, ◌||◌, drop, Option, Some, None, is_some, true, false, true≢false, All, Result, Ok, Err, IfOk, OnOk, Vec, not, Bool, refl, sym, ap, ◌∙◌, subst}
+use Rattle.std.proofs.Common.{◌≡◌, ◌||◌, drop, Option, Some, None, is_some, true, false, true≢false, All, Result, Ok, Err, IfOk, OnOk, Vec, not, Bool, refl, sym, ap, subst}
 use Rattle.std.proofs.lemmas.List.Elements.{All-weaker}
 use Rattle.std.specs.Prelude.{◌==◌}
 use Rattle.std.specs.Option.{option_or}

@@ -30,9 +30,13 @@ so_far f (Some acc) = acc
 abbrev pub TakesIn : {T A O : Type 0} → Folding T A O → Option A → List T → Folding T A O → Option A → Type 0
 TakesIn f acc b f' acc' = (f' ≡ f) × (so_far f' acc' ≡ fold f.update (so_far f acc) b)
 
+-- what is told of an accumulator whose items' answer ended so
+abbrev pub value_at : {T A O : Type 0} → Folding T A O → A → Ending → Result O AggregateFault
+value_at f acc End = Ok (f.tell acc)
+value_at f acc (Refused code) = Err (Ended (Refused code))
+value_at f acc (Fault code) = Err (Ended (Fault code))
+
 -- what is told where this was taken in and the run ended so
 abbrev pub aggregate_of : {T A O : Type 0} → Folding T A O → Option A → Result Ending RunFault → Result O AggregateFault
-aggregate_of f acc (Ok End) = Ok (f.tell (so_far f acc))
-aggregate_of f acc (Ok (Refused code)) = Err (Ended (Refused code))
-aggregate_of f acc (Ok (Fault code)) = Err (Ended (Fault code))
+aggregate_of f acc (Ok e) = value_at f (so_far f acc) e
 aggregate_of f acc (Err fault) = Err (Run fault)

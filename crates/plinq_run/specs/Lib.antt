@@ -1,6 +1,7 @@
 pub mod Aggregates
 pub mod Endings
 pub mod Faults
+pub mod Gathered
 pub mod Handed
 pub mod Merged
 pub mod Plans

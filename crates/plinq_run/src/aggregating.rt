@@ -8,7 +8,8 @@ ghost use Rattle.plinq_ops.specs.Sequential.{answer_of};
 ghost use Rattle.plinq_run.specs.Aggregates.{Aggregates, AggregatesSome};
 
 use crate::aggregate_fault::AggregateFault;
-use crate::folded::Folded;
+use crate::folded::{Folded, value_of};
+use crate::folding::fold_plan;
 use crate::running::run;
 use plinq_aggregate::Aggregator;
 use plinq_crew::Gate;
@@ -17,13 +18,16 @@ use plinq_lambda::Lambda;
 use plinq_ops::Query;
 use plinq_source::Source;
 use std::alloc::Global;
+use std::marker::Brand;
 use std::sync::Wait;
 use std::thread::Threads;
 
 /// The aggregate of a query's answer (.NET's `Aggregate` with a seed, an update, a combine and a result selector).
 ///
-/// As many workers as the query's degree take chunks that grow so. The batches of the answer are folded as they come, and
-/// not kept; how long they are, by the query's merge option, doesn't change the value. A decided query asks the source for
+/// As many workers as the query's degree take chunks that grow so. Where all operators are the workers' own, each of them
+/// folds its chunks' results from the seed, and the caller's thread combines the accumulators: by key, or without
+/// `as_ordered` as they come. Where operators stand behind the merge, it folds the batches that leave these as they come.
+/// How long batches would be, by the query's merge option, doesn't change the value. A decided query asks the source for
 /// nothing, and its value is that of no items.
 ///
 /// # Errors
@@ -54,7 +58,21 @@ where
     ensures ordered { query.now.ordered ≡ true → Aggregates (A.folding aggregator.now) (answer_of L.meaning query.now.ops (S.whole source)) result }
     ensures any { query.now.ordered ≡ false → AggregatesSome (A.folding aggregator.now) (Answer L.meaning false query.now.ops (S.whole source)) result }
 {
-    let mut sink = Folded::new(aggregator);
-    let report = run(rt, alloc, query, source, growth, gate, &mut sink);
-    sink.told(report)
+    let plan = query.split();
+    if plan.decided || !plan.after.is_empty() {
+        let mut sink = Folded::new(aggregator);
+        let report = run(rt, alloc, query, source, growth, gate, &mut sink);
+        return sink.told(report);
+    }
+    let combined = fold_plan::<Brand, L, S, G, A, R>(
+        rt,
+        alloc,
+        &plan,
+        query.degree(),
+        source,
+        growth,
+        gate,
+        aggregator,
+    );
+    value_of(aggregator, combined)
 }

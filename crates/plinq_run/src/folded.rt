@@ -1,13 +1,42 @@
 ghost use Rattle.std.specs.Prelude.{◌≡◌, None};
-ghost use Rattle.plinq_run.specs.Aggregates.{TakesIn, aggregate_of, so_far};
+ghost use Rattle.plinq_run.specs.Aggregates.{TakesIn, aggregate_of, so_far, value_at};
+ghost use Rattle.plinq_run.specs.Gathered.{value_of};
 ghost use Rattle.plinq_run.specs.Endings.{reported};
 
 use crate::aggregate_fault::AggregateFault;
 use crate::report::Report;
 use crate::run_fault::RunFault;
 use plinq_aggregate::Aggregator;
+use plinq_combine::Combined;
 use plinq_merge::Sink;
 use plinq_source::Ending;
+
+/// What is told of an accumulator whose items' answer ended so.
+fn value_at<A: Aggregator>(
+    aggregator: &A,
+    acc: A::Acc,
+    ending: Ending,
+) -> Result<A::Out, AggregateFault>
+    ensures { result ≡ value_at (A.folding aggregator.now) acc ending }
+{
+    match ending {
+        Ending::End => Ok(aggregator.result(acc)),
+        Ending::Refused(_) | Ending::Fault(_) => Err(AggregateFault::Ended(ending)),
+    }
+}
+
+/// What is told of a run whose workers folded.
+pub(crate) fn value_of<A: Aggregator>(
+    aggregator: &A,
+    combined: Result<Combined<A::Acc>, RunFault>,
+) -> Result<A::Out, AggregateFault>
+    ensures { result ≡ value_of (A.folding aggregator.now) combined }
+{
+    match combined {
+        Ok(combined) => value_at(aggregator, combined.acc, combined.ending),
+        Err(fault) => Err(AggregateFault::Run(fault)),
+    }
+}
 
 /// A sink that folds what it is handed, and keeps nothing else.
 #[derive(Drop)]
@@ -43,16 +72,10 @@ impl<'a, A: Aggregator> Folded<'a, A> {
     pub(crate) fn told(self, run: Result<Report, RunFault>) -> Result<A::Out, AggregateFault>
         ensures { result ≡ aggregate_of (A.folding self.entry.aggregator.now) self.entry.acc (reported run) }
     {
-        let ending = match run {
-            Ok(report) => report.ending,
-            Err(fault) => return Err(AggregateFault::Run(fault)),
-        };
-        match ending {
-            Ending::End => {
-                let aggregator = self.aggregator;
-                Ok(aggregator.result(self.so_far()))
-            }
-            Ending::Refused(_) | Ending::Fault(_) => Err(AggregateFault::Ended(ending)),
+        let aggregator = self.aggregator;
+        match run {
+            Ok(report) => value_at(aggregator, self.so_far(), report.ending),
+            Err(fault) => Err(AggregateFault::Run(fault)),
         }
     }
 }

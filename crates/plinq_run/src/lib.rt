@@ -8,8 +8,8 @@
 //!   answer that was delivered (`handed_trace`).
 //! - [`aggregate`] on a query with `as_ordered` tells the value of the sequential answer's items, or how that answer ended
 //!   otherwise (`Aggregates`).
-//! - What workers send are results of chunks of the source, each under a cut of its own (`IsResult`): those of the first of
-//!   its records, in their order, and of all of them where it had no fault (`HasWorked`).
+//! - Workers send results of chunks of the source as they are, or for an aggregate with nothing behind the merge the fold of
+//!   each in its place (`IsPart` of `plinq_crew`).
 //! - A [`Gate`] is what workers pass on their way.
 #![tactic(auto)]
 
@@ -21,6 +21,8 @@ mod closing;
 mod conducting;
 mod finishing;
 mod folded;
+mod folding;
+mod gathering;
 mod merging;
 mod posts;
 mod reach;

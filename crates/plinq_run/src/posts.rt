@@ -1,7 +1,10 @@
 //! What the workers of a run send.
 ghost use Rattle.std.specs.Prelude.{◌≡◌, IfOk};
+ghost use Rattle.plinq_combine.specs.Folds.{IsFoldOf};
 ghost use Rattle.plinq_crew.specs.Results.{IsOfSameChunk};
+ghost use Rattle.plinq_run.specs.Gathered.{untold, untold-lawful};
 
+use plinq_aggregate::Aggregator;
 use plinq_crew::{Gate, Post};
 use plinq_ops::ChunkResult;
 use plinq_source::OutOfMemory;
@@ -31,5 +34,75 @@ impl<'a, T: Copy + Send, G: Gate> Post<T> for Whole<'a, G> {
         ensures same { IfOk result (IsOfSameChunk made) }
     {
         Ok(made)
+    }
+}
+
+/// The post of a worker that sends the fold of each result's items in their place, and how such folds are combined.
+#[derive(Drop)]
+pub(crate) struct Folds<'a, A, G> {
+    pub(crate) aggregator: &'a A,
+    pub(crate) gate: &'a G,
+}
+
+// The aggregator, of which nothing is told: a scope's closure stays within the checker's limit of steps where what it runs
+// has one type parameter for post and aggregator, and no type for what is told.
+impl<'a, A: Aggregator, G: Gate> Aggregator for Folds<'a, A, G> {
+    type Item = A::Item;
+
+    type Acc = A::Acc;
+
+    type Out = ();
+
+    ghost folding = { λ s. untold (A.folding s.aggregator.now) };
+
+    fn seed(&self) -> A::Acc {
+        self.aggregator.seed()
+    }
+
+    fn update(&self, acc: A::Acc, x: A::Item) -> A::Acc {
+        self.aggregator.update(acc, x)
+    }
+
+    fn combine(&self, first: A::Acc, second: A::Acc) -> A::Acc {
+        self.aggregator.combine(first, second)
+    }
+
+    fn result(&self, _acc: A::Acc) {}
+
+    ghost lawful = { λ s. untold-lawful (A.lawful s.aggregator.now) };
+}
+
+impl<'a, T: Copy, A: Aggregator<Item = T>, G: Gate> Post<T> for Folds<'a, A, G> {
+    type Part = A::Acc;
+
+    ghost makes = { λ s r c. IsFoldOf (untold (A.folding s.aggregator.now)) r c };
+
+    fn before_take(&self, worker: u64) {
+        self.gate.before_take(worker);
+    }
+
+    fn after_chunk(&self, worker: u64, first: u64) {
+        self.gate.after_chunk(worker, first);
+    }
+
+    fn make(&self, alloc: Global, made: ChunkResult<T>) -> Result<ChunkResult<A::Acc>, OutOfMemory>
+        ensures makes { IfOk result (IsFoldOf (untold (A.folding self.now.aggregator.now)) made) }
+        ensures same { IfOk result (IsOfSameChunk made) }
+    {
+        let aggregator = self.aggregator;
+        let mut items = Vec::with_capacity(alloc, 1)?;
+        let mut acc = aggregator.seed();
+        for item in made.items.as_slice() {
+            acc = aggregator.update(acc, *item);
+        }
+        items.push_reserved(acc);
+        Ok(ChunkResult {
+            first: made.first,
+            count: made.count,
+            items,
+            ending: made.ending,
+            stop: made.stop,
+            tail: made.tail,
+        })
     }
 }

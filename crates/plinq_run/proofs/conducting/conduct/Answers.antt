@@ -3,7 +3,7 @@ use Rattle.plinq_stream.specs.Passes.{known}
 use Rattle.plinq_partition.specs.Partitions.{IsPartitionOf, holding_of}
 use Rattle.plinq_partition.specs.GivenBack.{common_origin}
 use Rattle.plinq_run.specs.Reaching.{IsOffered}
-use Rattle.plinq_crew.specs.Results.{IsResult, IsPart}
+use Rattle.plinq_crew.specs.Results.{IsResult}
 use Rattle.plinq_run.proofs.Ended.{none-ended, begins-merging, ended-run, back-as}
 use Rattle.plinq_run.proofs.Merged.{merges-weaker}
 use Rattle.plinq_run.proofs.Parts.{plain-part}

@@ -6,21 +6,14 @@ use Rattle.plinq_ops.specs.Sequential.{answer_of}
 use Rattle.plinq_run.specs.Reports.{MayMerge, Reports}
 use Rattle.plinq_run.specs.Runs.{Runs}
 use Rattle.plinq_run.specs.Endings.{reported}
-use Rattle.plinq_run.proofs.Ended.{decided-run, decided-accounts, decided-any, planned-only, planned-any, planned-keyless, reports-weaker, reports-runs, reports-accounts}
+use Rattle.plinq_run.proofs.Ended.{decided-run, decided-accounts, decided-any, planned-only, planned-any, planned-undecided, reports-weaker, reports-runs, reports-accounts}
 use Rattle.plinq_run.proofs.running.run.Goals as goal
 
 pub run_plan-requires-clause-plan : goal.run_plan-requires-clause-plan
 run_plan-requires-clause-plan g c lifetimes outlive =
     let plan = c.split-plan.result in
     let undecided : plan.decided ≡ false = search rules in
-    let parts = c.split-plan.ensures.undecided undecided in
-    record {
-      keyed = c.split-plan.ensures.by_key;
-      worker = parts.0;
-      after = parts.1;
-      undecided = undecided;
-      keyless = planned-keyless c.args.query.now plan c.split-plan.ensures.plan;
-    }
+    planned-undecided c.args.query.now plan c.split-plan.ensures.plan c.split-plan.ensures.by_key c.split-plan.ensures.undecided undecided
 
 pub returns-then-plan-clause-runs : goal.returns-then-plan-clause-runs
 returns-then-plan-clause-runs g c ordered =

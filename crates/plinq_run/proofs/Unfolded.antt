@@ -1,0 +1,127 @@
+-- A run of folds tells what folding its results' answer would: behind the folds that came stand the results that they are of.
+use Rattle.std.specs.Prelude.{◌≡◌, ⊤, ℕ, ◌≤◌, ◌^◌, List, [], ◌∷◌, length, ◌||◌, Option, Some, None, Result, Ok, Err, All, IfOk, IfErr, OnOk, refl}
+use Rattle.std.proofs.Common.{sym, ◌∙◌, ap, subst}
+use Rattle.std.proofs.lemmas.List.Elements.{All-cons, All-head, All-tail, All-nil, All-weaker}
+use Rattle.plinq_source.specs.declared.ending.Ending.{Ending}
+use Rattle.plinq_source.specs.declared.ending.Ending.TheVariants.{End, Refused, Fault}
+use Rattle.plinq_source.specs.Trace.{Trace}
+use Rattle.plinq_lambda.specs.Meaning.{Meaning}
+use Rattle.plinq_aggregate.specs.declared.aggregator.Aggregator.{Ghosts}
+use Rattle.plinq_aggregate.specs.Folding.{Folding}
+use Rattle.plinq_ops.specs.declared.merge_option.MergeOption.TheVariants.{FullyBuffered}
+use Rattle.plinq_ops.specs.declared.order.Order.{Order}
+use Rattle.plinq_ops.specs.declared.plan.Plan.{Plan}
+use Rattle.plinq_ops.specs.declared.results.ChunkResult.{ChunkResult}
+use Rattle.plinq_ops.specs.Operator.{stages_of}
+use Rattle.plinq_ops.specs.Stage.{seq}
+use Rattle.plinq_merge.specs.declared.merge_fault.MergeFault.{MergeFault}
+use Rattle.plinq_merge.specs.Keys.{is_within, is_offered}
+use Rattle.plinq_merge.specs.Shown.{merged, answer, behind_result}
+use Rattle.plinq_merge.specs.Whole.{AreApart}
+use Rattle.plinq_merge.proofs.Gains.{answer-open}
+use Rattle.plinq_combine.specs.declared.combined.Combined.{Combined}
+use Rattle.plinq_combine.specs.declared.combiner.Combiner.{Combiner}
+use Rattle.plinq_combine.specs.Combiners.{IsFor}
+use Rattle.plinq_combine.specs.Folds.{IsFoldOf, AreFoldsOf}
+use Rattle.plinq_crew.specs.Plans.{IsUndecided}
+use Rattle.plinq_crew.specs.Results.{IsResult, IsPart}
+use Rattle.plinq_run.specs.declared.run_fault.RunFault.{RunFault}
+use Rattle.plinq_run.specs.Aggregates.{Aggregates, AggregatesSome, value_at}
+use Rattle.plinq_run.specs.Gathered.{IsGathering, Gathers, HasFinished, FoldsSome, untold, value_of}
+use Rattle.plinq_run.specs.Reports.{MayMerge}
+use Rattle.plinq_run.specs.Runs.{refusal_of, told_refusal}
+use Rattle.plinq_run.proofs.Runs.{merge_for, ended-answer}
+
+module _ {T A O : Type 0} (f : Folding T A O) where
+  -- folds have the keys of their results
+  folds-within : (r : ChunkResult T) (c : ChunkResult A) → IsFoldOf f r c → (key : ℕ) → is_within c.first (behind_result c) key ≡ is_within r.first (behind_result r) key
+  folds-within r c is key = rw (is.first, is.count) refl
+
+  folds-offered : (rs : List (ChunkResult T)) (cs : List (ChunkResult A)) → AreFoldsOf f rs cs → (key : ℕ) → is_offered cs key ≡ is_offered rs key
+  folds-offered [] [] are key = refl
+  folds-offered [] (c ∷ cs) are key = absurd are
+  folds-offered (r ∷ rs) [] are key = absurd are
+  folds-offered (r ∷ rs) (c ∷ cs) are key =
+      ap (λ b. b || is_offered cs key) (folds-within r c are.0 key) ∙ ap (λ b. is_within r.first (behind_result r) key || b) (folds-offered rs cs are.1 key)
+
+  folds-apart : (rs : List (ChunkResult T)) (cs : List (ChunkResult A)) → AreFoldsOf f rs cs → AreApart cs → AreApart rs
+  folds-apart [] [] are apart = tt
+  folds-apart [] (c ∷ cs) are apart = absurd are
+  folds-apart (r ∷ rs) [] are apart = absurd are
+  folds-apart (r ∷ rs) (c ∷ cs) are apart = (
+    λ key within. sym (folds-offered rs cs are.1 key) ∙ apart.0 key (folds-within r c are.0 key ∙ within),
+    folds-apart rs cs are.1 apart.1,
+  )
+
+module _ {L T A O : Type 0} (f : Folding T A O) (meaning : L → Meaning T) (plan : Plan L) (t : Trace T) where
+  abbrev IsFolded : ChunkResult A → Type 0
+  IsFolded c = IsPart meaning (IsFoldOf f) plan t c
+
+  -- the results that these are the folds of
+  record AreUnfolded (cs : List (ChunkResult A)) : Type 0 where
+    pub results : List (ChunkResult T)
+    pub are : All (IsResult meaning plan t) results
+    pub folds : AreFoldsOf f results cs
+
+  unfolded : (cs : List (ChunkResult A)) → All IsFolded cs → AreUnfolded cs
+  unfolded [] are = record { results = []; are = All-nil (IsResult meaning plan t); folds = tt }
+  unfolded (c ∷ cs) are =
+      let one : IsFolded c = All-head IsFolded c cs are in
+      let more = unfolded cs (All-tail IsFolded c cs are) in
+      record { results = one.result ∷ more.results; are = All-cons (IsResult meaning plan t) one.result more.results one.is more.are; folds = (one.made, more.folds) }
+
+  -- what a finished combiner tells is so of an answer that the plan may have, where nothing stands behind the merge
+  finished-answer : (made : Combined A) → length t.items ≤ 2 ^ 40 → IsUndecided plan → plan.after.now ≡ [] → (cs : List (ChunkResult A)) → All IsFolded cs → AreApart cs
+      → ((results : List (ChunkResult T)) → AreFoldsOf f results cs → HasFinished f (merged plan.order results) made)
+      → (u : Trace T) × MayMerge meaning plan t u × HasFinished f u made
+  finished-answer made few undecided alone cs are apart finishes =
+      let un = unfolded cs are in
+      let merge = merge_for meaning plan FullyBuffered in
+      let u : Trace T = answer merge un.results in
+      let same : u ≡ merged plan.order un.results =
+      answer-open merge un.results undecided.undecided ∙ ap (λ ops. seq (stages_of meaning ops) (merged plan.order un.results)) alone in
+      let fin : HasFinished f u made = subst (λ x. HasFinished f x made) (sym same) (finishes un.results un.folds) in
+      (u, ended-answer meaning plan FullyBuffered undecided t un.results made.ending few un.are (folds-apart f un.results cs un.folds apart) fin.ending, fin)
+
+  -- what a run of folds tells, whose combiner is for this folding and order
+  pub gathered-run : {F : Type 0} {aggregator : Ghosts F T A O} (IsSent : ChunkResult A → Type 0) (c : Combiner F T A O aggregator) (fault : Option MergeFault) (told : Result (Combined A) RunFault)
+      (g : Folding T A O) (order : Order) → g ≡ f → order ≡ plan.order
+      → length t.items ≤ 2 ^ 40 → IsUndecided plan → plan.after.now ≡ [] → ((x : ChunkResult A) → IsSent x → IsFolded x) → Gathers IsSent c fault
+      → OnOk told (fault ≡ None)
+      → IfOk told (λ made. (results : List (ChunkResult T)) (offers : List (ChunkResult A)) → AreFoldsOf g results offers → IsFor c offers → HasFinished g (merged order results) made)
+      → IfErr told (λ x. told_refusal x ≡ refusal_of fault)
+      → FoldsSome f (MayMerge meaning plan t) told
+  gathered-run IsSent c fault (Ok made) g order same_f same_order few undecided alone sent h none finishes same =
+      let gathering : IsGathering IsSent c = subst (λ x. Gathers IsSent c x) none h in
+      finished-answer made few undecided alone gathering.offers (All-weaker IsSent IsFolded sent gathering.offers gathering.are) gathering.apart
+      (λ results folds. subst (λ o. HasFinished f (merged o results) made) same_order
+      (subst (λ x. HasFinished x (merged order results) made) same_f
+      (finishes results gathering.offers (subst (λ x. AreFoldsOf x results gathering.offers) (sym same_f) folds) gathering.stands)))
+  gathered-run IsSent c None (Err x) g order same_f same_order few undecided alone sent h none finishes same = same
+  gathered-run IsSent c (Some fault) (Err x) g order same_f same_order few undecided alone sent h none finishes same = same ∙ h
+
+module _ {T A O : Type 0} (f : Folding T A O) where
+  -- the accumulator doesn't depend on what is told of it
+  pub folds-told : (IsAnswer : Trace T → Type 0) (r : Result (Combined A) RunFault) → FoldsSome (untold f) IsAnswer r → FoldsSome f IsAnswer r
+  folds-told IsAnswer (Ok made) h = (h.0, h.1, record { ending = h.2.ending; acc = h.2.acc })
+  folds-told IsAnswer (Err fault) h = h
+
+  abbrev ends_well : Ending → Type 0
+  ends_well End = ⊤
+  ends_well (Refused code) = ⊥
+  ends_well (Fault code) = ⊥
+
+  value-finished : (u : Trace T) (made : Combined A) (e : Ending) → made.ending ≡ e → HasFinished f u made → Aggregates f u (value_at f made.acc e)
+  value-finished u made End is h = (ap f.tell h.acc, h.ending ∙ ap Some is)
+  value-finished u made (Refused code) is h = (h.ending ∙ ap Some is, λ same. subst ends_well (sym same) tt)
+  value-finished u made (Fault code) is h = (h.ending ∙ ap Some is, λ same. subst ends_well (sym same) tt)
+
+  -- the value of the one answer that there may be
+  pub value-only : (IsAnswer : Trace T → Type 0) (u : Trace T) (r : Result (Combined A) RunFault) → ((v : Trace T) → IsAnswer v → v ≡ u) → FoldsSome f IsAnswer r → Aggregates f u (value_of f r)
+  value-only IsAnswer u (Ok made) only h = subst (λ v. Aggregates f v (value_of f (Ok made))) (only h.0 h.1) (value-finished h.0 made made.ending refl h.2)
+  value-only IsAnswer u (Err fault) only h = h
+
+  -- the value of one of the answers that there may be
+  pub value-some : (IsAnswer May : Trace T → Type 0) (u : Trace T) (r : Result (Combined A) RunFault) → ((v : Trace T) → IsAnswer v → May v) → May u → FoldsSome f IsAnswer r → AggregatesSome f May (value_of f r)
+  value-some IsAnswer May u (Ok made) may there h = (h.0, may h.0 h.1, value-finished h.0 made made.ending refl h.2)
+  value-some IsAnswer May u (Err fault) may there h = (u, there, h)

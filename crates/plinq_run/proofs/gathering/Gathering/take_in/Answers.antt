@@ -1,0 +1,15 @@
+use Rattle.std.proofs.Common.{rules, ◌≡◌, None, sym, subst}
+use Rattle.plinq_run.specs.Gathered.{Gathers}
+use Rattle.plinq_run.proofs.Gathered.{gathers-ok, gathers-err}
+use Rattle.plinq_run.proofs.gathering.Gathering.take_in.Goals as goal
+
+pub returns-in-Err-clause-gathers : goal.returns-in-Err-clause-gathers
+returns-in-Err-clause-gathers g c h = gathers-err g.J.Carries.is_result c.args.self.now.combiner c.args.made c.in-Err.fault c.offer.new.self c.in-Err.ensures.takes
+
+pub returns-in_default-clause-gathers : goal.returns-in_default-clause-gathers
+returns-in_default-clause-gathers g c h =
+    let m = c.args.self.now.combiner in
+    let P = g.J.Carries.is_result in
+    let none : c.args.self.now.fault ≡ None = search rules in
+    subst (λ f. Gathers P c.offer.new.self f) (sym none)
+    (gathers-ok P m c.args.made c.in_default.field-0 c.offer.new.self c.in_default.ensures.aggregator c.in_default.ensures.takes c.requires.part (subst (λ f. Gathers P m f) none h))
