@@ -1,5 +1,5 @@
 -- What a worker sends are the results of its records, one after another.
-use Rattle.std.proofs.Common.{◌≡◌, ◌≢◌, ℕ, ◌+◌, ◌≤◌, ◌<◌, ◌==◌, eq-eqb, ◌||◌, List, drop, [], ◌∷◌, ◌++◌, Option, Some, None, is_some, true, false, true≢false, All, Result, Ok, Err, IfOk, OnOk, Vec, not, Bool, refl, sym, ap, ◌∙◌, subst, arith}
+use Rattle.std.proofs.Common.{◌≡◌, ◌≢◌, ℕ, ◌+◌, ◌≤◌, ◌<◌, ◌==◌, eq-eqb, ◌||◌, List, [], ◌∷◌, ◌++◌, Option, Some, None, is_some, true, false, true≢false, All, refl, sym, ap, ◌∙◌, subst, arith}
 use Rattle.std.proofs.lemmas.List.{append-nil}
 use Rattle.std.proofs.lemmas.List.Elements.{All-nil, All-push, All-append, All-weaker}
 use Rattle.std.specs.List.{AllZip}
@@ -15,9 +15,9 @@ use Rattle.plinq_partition.specs.Partitions.{Holding, IsTaken, holding_of}
 use Rattle.plinq_stream.specs.declared.known.Known.{Known}
 use Rattle.plinq_stream.specs.declared.sent.Sent.{Sent}
 use Rattle.plinq_stream.specs.Knowing.{with_sent, with_first, without_first, together}
-use Rattle.plinq_stream.specs.Streams.{has, under, HasReceivedAll}
+use Rattle.plinq_stream.specs.Streams.{has, under}
 use Rattle.plinq_stream.proofs.Numbers.{first-of, rest-of}
-use Rattle.plinq_stream.proofs.Under.{has-append, or-none, or-right, or-first, or-second, under-append, under-own, under-none}
+use Rattle.plinq_stream.proofs.Under.{has-append, or-first, or-second, under-append, under-own, under-none}
 use Rattle.plinq_crew.specs.Working.{Answers, IsOpen, Follows, HasTaken, HasLeft, sender, IsAtWork, HasWorked, IsAnsweredBy, IsWhollyAnsweredBy, receiver_from}
 use Rattle.plinq_crew.specs.Short.{is_short}
 use Rattle.plinq_crew.specs.Results.{IsOfSameChunk}
@@ -47,12 +47,6 @@ taken-part share share' r c taken same = record {
   share_is = taken.share_is;
   answers = record { first = same.first ∙ taken.answers.first; count = same.count ∙ taken.answers.count; tail = same.tail ∙ taken.answers.tail };
 }
-
-pub left-taken : {T : Type 0} (growth : GrowthRule) (a b : Holding T) (chunk : Chunk T) → IsTaken growth a b chunk → HasLeft a.share b.share
-left-taken growth a b chunk taken = record { more = taken.entry ∷ []; share_is = taken.adds.share }
-
-pub left-same : {T : Type 0} (a b : Holding T) → b ≡ a → HasLeft a.share b.share
-left-same a b same = record { more = []; share_is = ap (λ (h : Holding _). h.share) same ∙ sym (append-nil a.share) }
 
 module _ {T : Type 0} (number : ℕ) where
   pub begins-work : (share : List Record) (a : Known (ChunkResult T)) → share ≡ [] → a ≡ sender number [] → IsAtWork number share a

@@ -15,7 +15,7 @@ use Rattle.plinq_crew.specs.declared.starting.Shortages.{Shortages}
 use Rattle.plinq_crew.specs.Short.{is_short}
 use Rattle.plinq_crew.specs.Working.{IsAnsweredBy, IsWhollyAnsweredBy}
 use Rattle.plinq_crew.proofs.Working.{answered-wholly}
-use Rattle.plinq_run.specs.declared.staff.Staff.{Staff}
+use Rattle.plinq_crew.specs.declared.staff.Staff.{Staff}
 use Rattle.plinq_run.specs.declared.run_fault.RunFault.{RunFault}
 use Rattle.plinq_run.specs.declared.run_fault.RunFault.TheVariants.{Memory, Thread, Tickets}
 use Rattle.plinq_run.specs.Faults.{first_told, told_if, refused_by_sink, is_out_of_memory}

@@ -3,7 +3,7 @@ use Rattle.std.specs.Prelude.{◌≡◌, refl, Bool, true, false, not, ◌==◌,
 use Rattle.std.specs.Option.{option_or}
 use Rattle.plinq_merge.specs.declared.merge_fault.MergeFault.{MergeFault}
 use Rattle.plinq_merge.specs.declared.merge_fault.MergeFault.TheVariants.{Memory as NoMemory, Sink as Refusal, Twice, Gap, Failed}
-use Rattle.plinq_run.specs.declared.staff.Staff.{Staff}
+use Rattle.plinq_crew.specs.declared.staff.Staff.{Staff}
 use Rattle.plinq_run.specs.declared.run_fault.RunFault.{RunFault}
 use Rattle.plinq_run.specs.declared.run_fault.RunFault.TheVariants.{Memory, Sink, Tickets, Thread, Incomplete}
 use Rattle.plinq_crew.specs.declared.starting.Shortages.{Shortages}

@@ -9,4 +9,3 @@ pub mod Reaching
 pub mod Reports
 pub mod RunRows
 pub mod Runs
-pub mod Turns

@@ -16,16 +16,14 @@ ghost use Rattle.plinq_stream.specs.declared.known.Known.{Known};
 ghost use Rattle.plinq_stream.specs.Passes.{IsPassOf, known};
 ghost use Rattle.plinq_stream.specs.Streams.{HasReceivedAll};
 
-use crate::calling::Caller;
-use crate::closing::Closing;
 use crate::finishing::told;
 use crate::merging::Merging;
 use crate::posts::Whole;
 use crate::reach::Reach;
 use crate::run_fault::RunFault;
-use crate::staff::Staff;
-use crate::turn::Turn;
-use plinq_crew::{Carries, Crew, Equipment, Gate, ResultPass, join_all, start_all};
+use plinq_crew::{
+    Caller, Carries, Closing, Crew, Equipment, Gate, ResultPass, Staff, Turn, join_all, start_all,
+};
 use plinq_lambda::Lambda;
 use plinq_merge::{Merger, Sink};
 use plinq_ops::MergeOption;

@@ -14,18 +14,15 @@ ghost use Rattle.plinq_run.specs.Reports.{MayMerge};
 ghost use Rattle.plinq_stream.specs.Passes.{IsPassOf, known};
 ghost use Rattle.plinq_stream.specs.Streams.{HasReceivedAll};
 
-use crate::calling::Caller;
 use crate::gathering::Gathering;
 use crate::posts::Folds;
 use crate::run_fault::RunFault;
 use crate::running::{ROOM, window};
-use crate::staff::Staff;
-use crate::turn::Turn;
 use plinq_aggregate::Aggregator;
 use plinq_combine::Combined;
 use plinq_crew::{
-    Carries, Crew, Equipment, Gate, Post, Progress, ResultPass, ResultStream, RunEnders, join_all,
-    start_all,
+    Caller, Carries, Crew, Equipment, Gate, Post, Progress, ResultPass, ResultStream, RunEnders,
+    Staff, Turn, join_all, start_all,
 };
 use plinq_cut::CutWord;
 use plinq_enumerator::Growth;

@@ -8,13 +8,11 @@ ghost use Rattle.plinq_run.specs.Faults.{first_told};
 ghost use Rattle.plinq_run.specs.Gathered.{Gathers, WasGathered, HasFinished};
 ghost use Rattle.plinq_run.specs.Runs.{refusal_of, told_refusal};
 
-use crate::closing::Closing;
 use crate::finishing::first_fault;
 use crate::run_fault::RunFault;
-use crate::staff::Staff;
 use plinq_aggregate::Aggregator;
 use plinq_combine::{Combined, Combiner};
-use plinq_crew::{Carries, Shortages};
+use plinq_crew::{Carries, Closing, Shortages, Staff};
 use plinq_merge::MergeFault;
 use plinq_ops::{ChunkResult, Order};
 use std::alloc::Global;

@@ -16,8 +16,6 @@
 mod accounting;
 mod aggregate_fault;
 mod aggregating;
-mod calling;
-mod closing;
 mod conducting;
 mod finishing;
 mod folded;
@@ -29,8 +27,6 @@ mod reach;
 mod report;
 mod run_fault;
 mod running;
-mod staff;
-mod turn;
 
 pub use aggregate_fault::AggregateFault;
 pub use aggregating::aggregate;

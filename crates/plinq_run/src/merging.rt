@@ -4,9 +4,8 @@ ghost use Rattle.plinq_merge.specs.Shown.{Merge, behind_result};
 ghost use Rattle.plinq_run.specs.Merged.{Merges, WasOffered};
 ghost use Rattle.plinq_run.specs.Reaching.{IsOffered};
 
-use crate::closing::Closing;
 use crate::reach::Reach;
-use plinq_crew::Carries;
+use plinq_crew::{Carries, Closing};
 use plinq_lambda::Lambda;
 use plinq_merge::{MergeFault, Merger, Sink};
 use plinq_ops::ChunkResult;

@@ -3,7 +3,7 @@ use plinq_ops::ChunkResult;
 
 /// What the caller's thread meets at a turn.
 #[derive(Drop)]
-pub(crate) enum Turn<'a, M> {
+pub enum Turn<'a, M> {
     /// A worker has sent this.
     Came(ChunkResult<M>),
     /// Nothing is there; where that has been so for a while, the thread is to sleep.

@@ -1,8 +1,8 @@
 -- What comes at a turn.
 use Rattle.std.specs.Prelude.{⊤}
 use Rattle.plinq_ops.specs.declared.results.ChunkResult.{ChunkResult}
-use Rattle.plinq_run.specs.declared.turn.Turn.{Turn}
-use Rattle.plinq_run.specs.declared.turn.Turn.TheVariants.{Came, Nothing, Over}
+use Rattle.plinq_crew.specs.declared.turn.Turn.{Turn}
+use Rattle.plinq_crew.specs.declared.turn.Turn.TheVariants.{Came, Nothing, Over}
 
 -- this holds of what came
 abbrev pub IfCame : {M : Type 0} → Turn M → (ChunkResult M → Type 0) → Type 0

@@ -4,15 +4,18 @@ ghost use Rattle.std.specs.Prelude.{◌≡◌, ◌≤◌, ◌^◌, [], drop, len
 ghost use Rattle.plinq_cut.specs.Passes.{IsPassOf as IsCutPassOf};
 ghost use Rattle.plinq_crew.specs.Working.{IsReceiver};
 ghost use Rattle.plinq_partition.specs.Partitions.{IsPartitionOf, holding_of};
-ghost use Rattle.plinq_run.specs.Turns.{IfCame};
+ghost use Rattle.plinq_crew.specs.Turns.{IfCame};
 ghost use Rattle.plinq_stream.specs.Passes.{IsPassOf, known};
 
 use crate::closing::Closing;
+use crate::post::Post;
+use crate::results::{Carries, ResultPass};
 use crate::staff::Staff;
+use crate::starting::Shortages;
 use crate::turn::Turn;
+use crate::worker::Crew;
 use crossbeam_utils::Backoff;
 use crossbeam_utils::sync::Key;
-use plinq_crew::{Carries, Crew, Post, ResultPass, Shortages};
 use plinq_lambda::Lambda;
 use plinq_partition::Partition;
 use plinq_source::Source;
@@ -24,17 +27,17 @@ const EARLY_TURNS: u64 = 400;
 
 /// What the caller's thread has of its own while workers send.
 #[derive(Drop)]
-pub(crate) struct Caller<S: Source, M> {
-    pub(crate) partition: Partition<S>,
-    pub(crate) stream: ResultPass<M>,
-    pub(crate) staff: Staff,
-    pub(crate) shortages: Shortages,
-    pub(crate) backoff: Backoff,
-    pub(crate) early: u64,
+pub struct Caller<S: Source, M> {
+    pub partition: Partition<S>,
+    pub stream: ResultPass<M>,
+    pub staff: Staff,
+    pub shortages: Shortages,
+    pub backoff: Backoff,
+    pub early: u64,
 }
 
 impl<S: Source, M: Drop> Caller<S, M> {
-    pub(crate) fn new(partition: Partition<S>, stream: ResultPass<M>, staff: Staff) -> Caller<S, M>
+    pub fn new(partition: Partition<S>, stream: ResultPass<M>, staff: Staff) -> Caller<S, M>
         ensures partition { result.partition ≡ partition }
         ensures stream { result.stream ≡ stream }
     {
@@ -85,7 +88,7 @@ impl<S: Source, M: Drop> Caller<S, M> {
 
     /// The next result that a worker has sent. Where none comes for a while, the thread is to sleep until something is
     /// told, so that it takes no processor from a worker.
-    pub(crate) fn turn<'c, L, J, P, R>(
+    pub fn turn<'c, L, J, P, R>(
         &mut self,
         rt: &R,
         crew: &Crew<'c, L, S, J, P>,
@@ -129,7 +132,7 @@ impl<S: Source, M: Drop> Caller<S, M> {
     }
 
     /// Lets others go on, or sleeps, where nothing was there at a turn.
-    pub(crate) fn wait<R: Wait>(&mut self, rt: &R, sleep: Option<Key<'_>>)
+    pub fn wait<R: Wait>(&mut self, rt: &R, sleep: Option<Key<'_>>)
         ensures partition { self.new.partition ≡ self.old.partition }
         ensures stream { self.new.stream ≡ self.old.stream }
     {
