@@ -1,4 +1,5 @@
 mod Cuts
 mod Hands
 mod Taken
+pub mod Turns
 pub mod Working

@@ -4,7 +4,7 @@ ghost use Rattle.std.specs.Prelude.{◌≡◌, ◌≤◌, ◌^◌, [], drop, len
 ghost use Rattle.plinq_cut.specs.Passes.{IsPassOf as IsCutPassOf};
 ghost use Rattle.plinq_crew.specs.Working.{IsReceiver};
 ghost use Rattle.plinq_partition.specs.Partitions.{IsPartitionOf, holding_of};
-ghost use Rattle.plinq_crew.specs.Turns.{IfCame};
+ghost use Rattle.plinq_crew.specs.Turns.{IfCame, HasCome};
 ghost use Rattle.plinq_stream.specs.Passes.{IsPassOf, known};
 
 use crate::closing::Closing;
@@ -70,6 +70,7 @@ impl<S: Source, M: Drop> Caller<S, M> {
         ensures of { IsPartitionOf crew.now.chunked.now self.new.partition }
         ensures origin { (holding_of self.new.partition).origin ≡ (holding_of self.old.partition).origin }
         ensures stream { self.new.stream ≡ self.old.stream }
+        ensures closed { closing.old.is_closed ≡ true → closing.new.is_closed ≡ true }
     {
         if closing.is_stopped {
             return;
@@ -108,6 +109,8 @@ impl<S: Source, M: Drop> Caller<S, M> {
         ensures stream { IsPassOf crew.now.stream.now self.new.stream }
         ensures receiver { IsReceiver (known self.new.stream) }
         ensures carried { IfCame result J.is_result }
+        ensures received { HasCome (known self.old.stream) result (known self.new.stream) }
+        ensures closed { closing.old.is_closed ≡ true → closing.new.is_closed ≡ true }
     {
         let sleep = if self.backoff.is_completed() && self.early == 0 {
             Some(crew.progress.announce_sleep())

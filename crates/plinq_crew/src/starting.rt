@@ -82,6 +82,7 @@ where
     ensures same { holding_of own.new.partition ≡ holding_of own.old.partition }
     ensures stream { IsPassOf crew.now.stream.now own.new.stream }
     ensures receiver { IsReceiver (known own.new.stream) }
+    ensures nothing { (known own.new.stream).received ≡ [] }
     ensures hands { All (IsHandOf crew.now.chunked.now crew.now.stream.now) result.items }
     ensures numbered { AreNumbered 0 result.items }
     ensures count { length result.items ≤ workers }

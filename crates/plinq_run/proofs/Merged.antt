@@ -1,6 +1,6 @@
 -- One result more.
 use Rattle.std.specs.Prelude.{◌≡◌, ℕ, List, Option, Some, None, Ok, Err, All}
-use Rattle.std.proofs.Common.{sym, ◌∙◌, subst, inl, inr, arith}
+use Rattle.std.proofs.Common.{refl, sym, ◌∙◌, subst, inl, inr, arith}
 use Rattle.std.proofs.lemmas.List.Elements.{All-push, All-weaker}
 use Rattle.plinq_lambda.specs.declared.lambda.Lambda.{Ghosts}
 use Rattle.plinq_ops.specs.declared.results.ChunkResult.{ChunkResult}
@@ -71,3 +71,6 @@ pub offered-more : {L T K : Type 0} {lambda : Ghosts L T} (P : ChunkResult T →
     (reach reach' : Reach) → Grows reach reach' → (merge : Merge T) (s : K) (m : Merger L T lambda) (fault : Option MergeFault) (s' : K)
     → Merges (IsOffered P reach) accepts refuses merge s m fault s' → Merges (IsOffered P reach') accepts refuses merge s m fault s'
 offered-more P accepts refuses reach reach' grows merge s m fault s' h = merges-weaker (IsOffered P reach) accepts refuses (IsOffered P reach') (reaches-more P reach reach' grows) merge s m fault s' h
+
+pub same-state : {M F K : Type 0} (m m' : M) (f f' : F) (s s' : K) → m' ≡ m → f' ≡ f → s' ≡ s → (let one : M × (F × K) = (m', (f', s')) in one ≡ (m, (f, s)))
+same-state m m' f f' s s' merger fault sink = rw (merger, fault, sink) refl

@@ -41,15 +41,17 @@ none-noted fault short staff is =
     let tickets = none-told short.tickets Tickets (none-before _ _ behind-thread) in
     or-none short.memory short.tickets (or-right (is_out_of_memory fault) short.memory memory) tickets
 
--- of what is told with these partitions
-pub told-all : {X S T M : Type 0} {source : Ghosts S T} (partitions_of : X → Vec (Partition S T source) Global) (a b : Known (ChunkResult M)) (short : Shortages) (fault : Option MergeFault) (staff : Staff) (partitions : Vec (Partition S T source) Global) (r : Result X RunFault)
+-- of what is told with these partitions; and what else is known of all that was received
+pub told-all : {X S T M : Type 0} {source : Ghosts S T} (partitions_of : X → Vec (Partition S T source) Global) (Else : Known (ChunkResult M) → Type 0) (a b : Known (ChunkResult M)) (short : Shortages) (fault : Option MergeFault)
+    (staff : Staff) (partitions : Vec (Partition S T source) Global) (r : Result X RunFault)
     → b.sent ≡ a.sent → b.numbers ≡ a.numbers → OnOk r (first_told fault short staff ≡ None) → IfOk r (λ x. partitions_of x ≡ partitions)
-    → HasReceivedAll b → All (IsAnsweredBy 0 a short) (drop 1 partitions.items)
-    → IfOk r (λ x. (k : Known (ChunkResult M)) × HasReceivedAll k × All (IsWhollyAnsweredBy k) (drop 1 (partitions_of x).items))
-told-all partitions_of a b short fault staff partitions (Ok x) sent numbers none same all answered = (
+    → HasReceivedAll b → All (IsAnsweredBy 0 a short) (drop 1 partitions.items) → Else b
+    → IfOk r (λ x. (k : Known (ChunkResult M)) × HasReceivedAll k × All (IsWhollyAnsweredBy k) (drop 1 (partitions_of x).items) × Else k)
+told-all partitions_of Else a b short fault staff partitions (Ok x) sent numbers none same all answered also = (
   b,
   all,
   subst (λ ps. All (IsWhollyAnsweredBy b) (drop 1 ps.items)) (sym same)
       (All-weaker (IsAnsweredBy 0 a short) (IsWhollyAnsweredBy b) (answered-wholly a b short sent numbers (none-noted fault short staff none)) (drop 1 partitions.items) answered),
+  also,
 )
-told-all partitions_of a b short fault staff partitions (Err told) sent numbers none same all answered = tt
+told-all partitions_of Else a b short fault staff partitions (Err told) sent numbers none same all answered also = tt

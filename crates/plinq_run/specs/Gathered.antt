@@ -9,6 +9,7 @@ use Rattle.plinq_ops.specs.declared.results.ChunkResult.{ChunkResult}
 use Rattle.plinq_merge.specs.declared.merge_fault.MergeFault.{MergeFault}
 use Rattle.plinq_merge.specs.declared.more.More.{More}
 use Rattle.plinq_merge.specs.Whole.{AreApart}
+use Rattle.plinq_stream.specs.declared.sent.Sent.{Sent}
 use Rattle.plinq_combine.specs.declared.combined.Combined.{Combined}
 use Rattle.plinq_combine.specs.declared.combiner.Combiner.{Combiner}
 use Rattle.plinq_combine.specs.Combiners.{IsFor, Offers}
@@ -42,6 +43,15 @@ module _ {F T A O : Type 0} {aggregator : AggregatorGhosts F T A O} where
     pub told : Result More MergeFault
     pub takes : Offers c made told c'
     pub kept : fault ≡ offer_fault told
+
+  -- a fold is offered, unless there was a fault before: then nothing changes
+  abbrev pub IsGatheredUnless : Combiner F T A O aggregator → Option MergeFault → ChunkResult A → Combiner F T A O aggregator × Option MergeFault → Type 0
+  IsGatheredUnless c None made y = WasGathered c made y.0 y.1
+  IsGatheredUnless c (Some fault) made y = y ≡ (c, Some fault)
+
+  -- the same of a combiner and its fault, and of what was sent
+  abbrev pub GathersEach : Combiner F T A O aggregator × Option MergeFault → Sent (ChunkResult A) → Combiner F T A O aggregator × Option MergeFault → Type 0
+  GathersEach x sent y = IsGatheredUnless x.0 x.1 sent.item y
 
 -- the same folding, of which nothing is told
 abbrev pub untold : {T A O : Type 0} → Folding T A O → Folding T A (Unit {0})

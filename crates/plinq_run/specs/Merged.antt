@@ -1,5 +1,5 @@
 -- What the merging thread has done so far.
-use Rattle.std.specs.Prelude.{◌≡◌, ℕ, List, Option, Some, None, Result, Ok, Err, All}
+use Rattle.std.specs.Prelude.{◌≡◌, ℕ, Bool, List, [], Option, Some, None, Result, Ok, Err, All}
 use Rattle.plinq_lambda.specs.declared.lambda.Lambda.{Ghosts}
 use Rattle.plinq_ops.specs.declared.results.ChunkResult.{ChunkResult}
 use Rattle.plinq_merge.specs.declared.merge_fault.MergeFault.{MergeFault}
@@ -9,6 +9,8 @@ use Rattle.plinq_merge.specs.Sending.{Leads}
 use Rattle.plinq_merge.specs.Shown.{Merge, shown}
 use Rattle.plinq_merge.specs.Mergers.{plan_of, IsFor, Takes, StopsShort}
 use Rattle.plinq_merge.specs.Whole.{AreApart}
+use Rattle.plinq_stream.specs.declared.sent.Sent.{Sent}
+use Rattle.plinq_crew.specs.Turns.{HasTakenIn}
 
 module _ {T K : Type 0} (IsResult : ChunkResult T → Type 0) (accepts : K → List T → K → Type 0) (refuses : K → List T → ℕ → K → Type 0)
     (merge : Merge T) (s : K) where
@@ -44,3 +46,23 @@ pub record WasOffered {L K T : Type 0} {lambda : Ghosts L T} (accepts : K → Li
   pub told : Result More MergeFault
   pub takes : Takes accepts refuses m made s told m' s'
   pub kept : fault ≡ offer_fault told
+
+module _ {L K T : Type 0} {lambda : Ghosts L T} (accepts : K → List T → K → Type 0) (refuses : K → List T → ℕ → K → Type 0) where
+  -- a result is offered, unless there was a fault before: then nothing changes
+  abbrev pub IsOfferedUnless : Merger L T lambda → Option MergeFault → K → ChunkResult T → Merger L T lambda × (Option MergeFault × K) → Type 0
+  IsOfferedUnless m None s made y = WasOffered accepts refuses m made s y.0 y.1.0 y.1.1
+  IsOfferedUnless m (Some fault) s made y = y ≡ (m, (Some fault, s))
+
+  -- the same of a merger, its fault and the sink, and of what was sent
+  abbrev pub OffersEach : Merger L T lambda × (Option MergeFault × K) → Sent (ChunkResult T) → Merger L T lambda × (Option MergeFault × K) → Type 0
+  OffersEach x sent y = IsOfferedUnless x.0 x.1.0 x.1.1 sent.item y
+
+-- all of these were offered to a new merger, first to last, but for the last ones, which came when the source was closed; it has
+-- left the sink so
+pub record WereOffered {L K T : Type 0} (lambda : Ghosts L T) (accepts : K → List T → K → Type 0) (refuses : K → List T → ℕ → K → Type 0) (received : List (Sent (ChunkResult T))) (s s' : K) : Type 0 where
+  pub first : Merger L T lambda
+  pub begun : IsFor first []
+  pub last : Merger L T lambda
+  pub fault : Option MergeFault
+  pub is_closed : Bool
+  pub taken : HasTakenIn (OffersEach accepts refuses) [] (first, (None, s)) received is_closed (last, (fault, s'))

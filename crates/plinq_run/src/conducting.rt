@@ -5,11 +5,12 @@ ghost use Rattle.plinq_ops.specs.Feeding.{is_empty_take};
 ghost use Rattle.plinq_ops.specs.ByKey.{is_by_key};
 ghost use Rattle.plinq_ops.specs.declared.results.ChunkResult.{ChunkResult};
 ghost use Rattle.plinq_crew.specs.Equipped.{IsReady};
+ghost use Rattle.plinq_crew.specs.Turns.{HasTakenIn};
 ghost use Rattle.plinq_crew.specs.Working.{IsReceiver, IsWhollyAnsweredBy};
 ghost use Rattle.plinq_merge.specs.Shown.{Merge, behind_result};
 ghost use Rattle.plinq_partition.specs.Partitions.{IsPartitionOf, holding_of};
 ghost use Rattle.plinq_partition.specs.GivenBack.{common_origin};
-ghost use Rattle.plinq_run.specs.Merged.{Merges};
+ghost use Rattle.plinq_run.specs.Merged.{Merges, OffersEach, WereOffered};
 ghost use Rattle.plinq_run.specs.Reaching.{IsOffered};
 ghost use Rattle.plinq_run.specs.Reports.{MayMerge, Ends};
 ghost use Rattle.plinq_stream.specs.declared.known.Known.{Known};
@@ -66,6 +67,8 @@ where
     ensures receiver { IsReceiver (known caller.new.stream) }
     ensures merges { (merge : Merge L.Item) (s : K) → Merges (IsOffered J.is_result merging.old.reach) K.accepts K.refuses merge s merging.old.merger merging.old.fault sink.old
         → Merges (IsOffered J.is_result merging.new.reach) K.accepts K.refuses merge s merging.new.merger merging.new.fault sink.new }
+    ensures offers { (before : _) (start : _) → HasTakenIn (OffersEach K.accepts K.refuses) before start (known caller.old.stream).received merging.old.closing.is_closed (merging.old.merger, (merging.old.fault, sink.old))
+        → HasTakenIn (OffersEach K.accepts K.refuses) before start (known caller.new.stream).received merging.new.closing.is_closed (merging.new.merger, (merging.new.fault, sink.new)) }
 {
     for _ in rt.forever() {
         let is_over = merging.is_over();
@@ -106,6 +109,8 @@ where
     ensures numbers { (known pass.new).numbers ≡ (known pass.old).numbers }
     ensures merges { (merge : Merge L.Item) (s : K) → Merges (IsOffered J.is_result merging.old.reach) K.accepts K.refuses merge s merging.old.merger merging.old.fault sink.old
         → Merges (IsOffered J.is_result merging.new.reach) K.accepts K.refuses merge s merging.new.merger merging.new.fault sink.new }
+    ensures offers { (before : _) (start : _) → HasTakenIn (OffersEach K.accepts K.refuses) before start (known pass.old).received merging.old.closing.is_closed (merging.old.merger, (merging.old.fault, sink.old))
+        → HasTakenIn (OffersEach K.accepts K.refuses) before start (known pass.new).received merging.new.closing.is_closed (merging.new.merger, (merging.new.fault, sink.new)) }
 {
     for _ in rt.forever() {
         match crew.stream.receive(rt, pass) {
@@ -133,7 +138,7 @@ where
     R: Threads + Wait + Sync,
     requires ready { IsReady L.meaning (λ p r c. c ≡ r) J.is_result J.is_ender crew.now own }
     ensures back { IfOk result (λ ended. (1 ≤ length ended.partitions.items) × All (IsPartitionOf crew.now.chunked.now) ended.partitions.items × (common_origin ended.partitions.items ≡ (holding_of own.partition).origin)) }
-    ensures all { IfOk result (λ ended. (a : Known (ChunkResult L.Item)) × HasReceivedAll a × All (IsWhollyAnsweredBy a) (drop 1 ended.partitions.items)) }
+    ensures all { IfOk result (λ ended. (a : Known (ChunkResult L.Item)) × HasReceivedAll a × All (IsWhollyAnsweredBy a) (drop 1 ended.partitions.items) × WereOffered L.Lambda K.accepts K.refuses a.received sink.old sink.new) }
     ensures ends { Ends K.accepts K.refuses option (MayMerge L.meaning crew.now.plan.now) (holding_of own.partition).origin sink.old sink.new result }
 {
     let Ok(hands) = Vec::with_capacity(crew.alloc, crew.workers as usize) else {

@@ -4,12 +4,13 @@ ghost use Rattle.plinq_combine.specs.Combiners.{aggregator_of, order_of};
 ghost use Rattle.plinq_combine.specs.Folds.{IsFoldOf};
 ghost use Rattle.plinq_crew.specs.Plans.{IsUndecided};
 ghost use Rattle.plinq_crew.specs.Results.{IsPart};
+ghost use Rattle.plinq_crew.specs.Turns.{HasTakenIn};
 ghost use Rattle.plinq_crew.specs.Working.{IsReceiver};
 ghost use Rattle.plinq_cut.specs.OfPlan.{AreEnders};
 ghost use Rattle.plinq_merge.specs.Shown.{behind_result};
 ghost use Rattle.plinq_ops.specs.declared.results.ChunkResult.{ChunkResult};
 ghost use Rattle.plinq_partition.specs.Partitions.{IsPartitionOf, holding_of};
-ghost use Rattle.plinq_run.specs.Gathered.{Gathers, FoldsSome, IsReadyToFold, untold};
+ghost use Rattle.plinq_run.specs.Gathered.{Gathers, GathersEach, FoldsSome, IsReadyToFold, untold};
 ghost use Rattle.plinq_run.specs.Reports.{MayMerge};
 ghost use Rattle.plinq_stream.specs.Passes.{IsPassOf, known};
 ghost use Rattle.plinq_stream.specs.Streams.{HasReceivedAll};
@@ -58,6 +59,8 @@ where
     ensures aggregator { aggregator_of gathering.new.combiner ≡ aggregator_of gathering.old.combiner }
     ensures order { order_of gathering.new.combiner ≡ order_of gathering.old.combiner }
     ensures gathers { Gathers J.is_result gathering.old.combiner gathering.old.fault → Gathers J.is_result gathering.new.combiner gathering.new.fault }
+    ensures offers { (before : _) (start : _) → HasTakenIn GathersEach before start (known caller.old.stream).received gathering.old.closing.is_closed (gathering.old.combiner, gathering.old.fault)
+        → HasTakenIn GathersEach before start (known caller.new.stream).received gathering.new.closing.is_closed (gathering.new.combiner, gathering.new.fault) }
 {
     for _ in rt.forever() {
         let is_over = gathering.is_over();
@@ -92,6 +95,8 @@ where
     ensures aggregator { aggregator_of gathering.new.combiner ≡ aggregator_of gathering.old.combiner }
     ensures order { order_of gathering.new.combiner ≡ order_of gathering.old.combiner }
     ensures gathers { Gathers J.is_result gathering.old.combiner gathering.old.fault → Gathers J.is_result gathering.new.combiner gathering.new.fault }
+    ensures offers { (before : _) (start : _) → HasTakenIn GathersEach before start (known pass.old).received gathering.old.closing.is_closed (gathering.old.combiner, gathering.old.fault)
+        → HasTakenIn GathersEach before start (known pass.new).received gathering.new.closing.is_closed (gathering.new.combiner, gathering.new.fault) }
 {
     for _ in rt.forever() {
         match crew.stream.receive(rt, pass) {

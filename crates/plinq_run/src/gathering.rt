@@ -5,7 +5,7 @@ ghost use Rattle.plinq_merge.specs.Shown.{merged, behind_result};
 ghost use Rattle.plinq_combine.specs.Folds.{AreFoldsOf};
 ghost use Rattle.plinq_combine.specs.Combiners.{aggregator_of, order_of, IsFor};
 ghost use Rattle.plinq_run.specs.Faults.{first_told};
-ghost use Rattle.plinq_run.specs.Gathered.{Gathers, WasGathered, HasFinished};
+ghost use Rattle.plinq_run.specs.Gathered.{Gathers, IsGatheredUnless, HasFinished};
 ghost use Rattle.plinq_run.specs.Runs.{refusal_of, told_refusal};
 
 use crate::finishing::first_fault;
@@ -46,7 +46,9 @@ impl<'a, A: Aggregator> Gathering<'a, A> {
         requires part { J.is_result made }
         ensures aggregator { aggregator_of self.new.combiner ≡ aggregator_of self.old.combiner }
         ensures order { order_of self.new.combiner ≡ order_of self.old.combiner }
-        ensures offered { self.old.closing.is_closed ≡ false → self.old.fault ≡ None → WasGathered self.old.combiner made self.new.combiner self.new.fault }
+        ensures closing { self.new.closing ≡ self.old.closing }
+        ensures offered { self.old.closing.is_closed ≡ false → IsGatheredUnless self.old.combiner self.old.fault made (self.new.combiner, self.new.fault) }
+        ensures over { self.old.closing.is_closed ≡ true → self.new ≡ self.old }
         ensures gathers { Gathers J.is_result self.old.combiner self.old.fault → Gathers J.is_result self.new.combiner self.new.fault }
     {
         if self.closing.is_closed || self.fault.is_some() {

@@ -1,7 +1,7 @@
 //! What the merging thread does with the results that come.
 ghost use Rattle.std.specs.Prelude.{◌≡◌, ◌≤◌, ◌^◌, true, false, None};
 ghost use Rattle.plinq_merge.specs.Shown.{Merge, behind_result};
-ghost use Rattle.plinq_run.specs.Merged.{Merges, WasOffered};
+ghost use Rattle.plinq_run.specs.Merged.{Merges, IsOfferedUnless};
 ghost use Rattle.plinq_run.specs.Reaching.{IsOffered};
 
 use crate::reach::Reach;
@@ -29,8 +29,9 @@ impl<'a, L: Lambda> Merging<'a, L> {
     )
         requires within { behind_result made ≤ 2 ^ 40 }
         requires result { J.is_result made }
-        ensures offered { self.old.closing.is_closed ≡ false → self.old.fault ≡ None → WasOffered K.accepts K.refuses self.old.merger made sink.old self.new.merger self.new.fault sink.new }
-        ensures over { self.old.closing.is_closed ≡ true → sink.new ≡ sink.old }
+        ensures closing { self.new.closing ≡ self.old.closing }
+        ensures offered { self.old.closing.is_closed ≡ false → IsOfferedUnless K.accepts K.refuses self.old.merger self.old.fault sink.old made (self.new.merger, (self.new.fault, sink.new)) }
+        ensures over { self.old.closing.is_closed ≡ true → (self.new ≡ self.old) × (sink.new ≡ sink.old) }
         ensures merges { (merge : Merge L.Item) (s : K) → Merges (IsOffered J.is_result self.old.reach) K.accepts K.refuses merge s self.old.merger self.old.fault sink.old
             → Merges (IsOffered J.is_result self.new.reach) K.accepts K.refuses merge s self.new.merger self.new.fault sink.new }
     {

@@ -1,8 +1,10 @@
-use Rattle.std.proofs.Common.{◌≡◌, ◌≤◌, length, All, refl, ap, ◌∙◌}
+use Rattle.std.proofs.Common.{◌≡◌, ◌≤◌, [], length, None, All, refl, sym, ap, ◌∙◌, subst}
 use Rattle.plinq_stream.specs.Passes.{known}
 use Rattle.plinq_partition.specs.Partitions.{IsPartitionOf, holding_of}
 use Rattle.plinq_partition.specs.GivenBack.{common_origin}
+use Rattle.plinq_run.specs.Merged.{OffersEach, WereOffered}
 use Rattle.plinq_run.specs.Reaching.{IsOffered}
+use Rattle.plinq_crew.specs.Turns.{HasTakenIn}
 use Rattle.plinq_crew.specs.Results.{IsResult}
 use Rattle.plinq_run.proofs.Ended.{none-ended, begins-merging, ended-run, back-as}
 use Rattle.plinq_run.proofs.Merged.{merges-weaker}
@@ -40,8 +42,19 @@ pub returns-clause-all : goal.returns-clause-all
 returns-clause-all g c =
     let a = known c.join_all-partitions.new.pass in
     let b = known c.merge_rest.new.pass in
-    told-all (λ e. e.partitions) a b c.join_all-partitions.new.shortages _ _ c.join_all-partitions.result c.told.result c.merge_rest.ensures.sent c.merge_rest.ensures.numbers c.told.ensures.first c.told.ensures.partitions c.merge_rest.ensures.all
-    c.join_all-partitions.ensures.answered
+    let s = c.args.sink.now in
+    let accepts = g.K.Sink.accepts in
+    let refuses = g.K.Sink.refuses in
+    let Step = OffersEach accepts refuses in
+    let among = c.merge_all.new.merging in
+    let last = c.merge_rest.new.merging in
+    let none = ap (λ p. (known p).received) c.new-caller.ensures.stream ∙ c.start_all-hands.ensures.nothing in
+    let first = c.merge_all.ensures.offers [] (c.in-Ok-new.merger, (None, s)) (record { taken = []; left = []; came = none; steps = refl; all = λ _. refl }) in
+    let rest = c.merge_rest.ensures.offers [] (c.in-Ok-new.merger, (None, s))
+    (subst (λ xs. HasTakenIn Step [] (c.in-Ok-new.merger, (None, s)) xs among.closing.is_closed (among.merger, (among.fault, c.merge_all.new.sink))) (sym c.join_all-partitions.ensures.received) first) in
+    told-all (λ e. e.partitions) (λ k. WereOffered g.L.Lambda accepts refuses k.received s c.merge_rest.new.sink) a b c.join_all-partitions.new.shortages _ _ c.join_all-partitions.result c.told.result
+    c.merge_rest.ensures.sent c.merge_rest.ensures.numbers c.told.ensures.first c.told.ensures.partitions c.merge_rest.ensures.all c.join_all-partitions.ensures.answered
+    (record { first = c.in-Ok-new.merger; begun = c.in-Ok-new.ensures.nothing; last = last.merger; fault = last.fault; is_closed = last.closing.is_closed; taken = rest })
 
 pub returns-clause-back : goal.returns-clause-back
 returns-clause-back g c =

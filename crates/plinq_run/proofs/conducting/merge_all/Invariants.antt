@@ -2,8 +2,9 @@ use Rattle.std.proofs.Common.{◌≡◌}
 use Rattle.plinq_merge.specs.Shown.{Merge}
 use Rattle.plinq_partition.specs.Partitions.{IsPartitionOf, holding_of}
 use Rattle.plinq_stream.specs.Passes.{IsPassOf, known}
-use Rattle.plinq_run.specs.Merged.{Merges}
+use Rattle.plinq_run.specs.Merged.{Merges, OffersEach}
 use Rattle.plinq_run.specs.Reaching.{IsOffered}
+use Rattle.plinq_crew.specs.Turns.{HasTakenIn}
 use Rattle.plinq_crew.specs.Working.{IsReceiver}
 use Rattle.plinq_run.proofs.conducting.merge_all.Given as goal
 
@@ -17,4 +18,6 @@ invariant-loop g l = record {
   receiver : IsReceiver (known l.caller.stream);
   merges : (merge : Merge g.row.L-Item.Denot) (s : g.row.K.Denot) → Merges (IsOffered g.J.Carries.is_result l.fn.merging.reach) g.K.Sink.accepts g.K.Sink.refuses merge s l.fn.merging.merger l.fn.merging.fault l.fn.sink
       → Merges (IsOffered g.J.Carries.is_result l.merging.reach) g.K.Sink.accepts g.K.Sink.refuses merge s l.merging.merger l.merging.fault l.sink;
+  offers : (before : _) (start : _) → HasTakenIn (OffersEach g.K.Sink.accepts g.K.Sink.refuses) before start (known l.fn.caller.stream).received l.fn.merging.closing.is_closed (l.fn.merging.merger, (l.fn.merging.fault, l.fn.sink))
+      → HasTakenIn (OffersEach g.K.Sink.accepts g.K.Sink.refuses) before start (known l.caller.stream).received l.merging.closing.is_closed (l.merging.merger, (l.merging.fault, l.sink));
 }

@@ -1,7 +1,8 @@
 use Rattle.std.proofs.Common.{◌≡◌, true}
 use Rattle.plinq_merge.specs.Shown.{Merge}
+use Rattle.plinq_crew.specs.Turns.{HasTakenIn}
 use Rattle.plinq_stream.specs.Passes.{IsPassOf, known}
-use Rattle.plinq_run.specs.Merged.{Merges}
+use Rattle.plinq_run.specs.Merged.{Merges, OffersEach}
 use Rattle.plinq_run.specs.Reaching.{IsOffered}
 use Rattle.plinq_run.proofs.conducting.merge_rest.Given as goal
 
@@ -15,4 +16,6 @@ invariant-loop g l = record {
   numbers : (known l.pass).numbers ≡ (known l.fn.pass).numbers;
   merges : (merge : Merge g.row.L-Item.Denot) (s : g.row.K.Denot) → Merges (IsOffered g.J.Carries.is_result l.fn.merging.reach) g.K.Sink.accepts g.K.Sink.refuses merge s l.fn.merging.merger l.fn.merging.fault l.fn.sink
       → Merges (IsOffered g.J.Carries.is_result l.merging.reach) g.K.Sink.accepts g.K.Sink.refuses merge s l.merging.merger l.merging.fault l.sink;
+  offers : (before : _) (start : _) → HasTakenIn (OffersEach g.K.Sink.accepts g.K.Sink.refuses) before start (known l.fn.pass).received l.fn.merging.closing.is_closed (l.fn.merging.merger, (l.fn.merging.fault, l.fn.sink))
+      → HasTakenIn (OffersEach g.K.Sink.accepts g.K.Sink.refuses) before start (known l.pass).received l.merging.closing.is_closed (l.merging.merger, (l.merging.fault, l.sink));
 }

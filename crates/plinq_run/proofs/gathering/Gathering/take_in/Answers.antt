@@ -1,5 +1,5 @@
-use Rattle.std.proofs.Common.{rules, ◌≡◌, None, sym, subst}
-use Rattle.plinq_run.specs.Gathered.{Gathers}
+use Rattle.std.proofs.Common.{rules, ◌≡◌, Some, None, sym, subst}
+use Rattle.plinq_run.specs.Gathered.{Gathers, IsGatheredUnless}
 use Rattle.plinq_run.proofs.Gathered.{gathers-ok, gathers-err}
 use Rattle.plinq_run.proofs.gathering.Gathering.take_in.Goals as goal
 
@@ -13,3 +13,13 @@ returns-in_default-clause-gathers g c h =
     let none : c.args.self.now.fault ≡ None = search rules in
     subst (λ f. Gathers P c.offer.new.self f) (sym none)
     (gathers-ok P m c.args.made c.in_default.field-0 c.offer.new.self c.in_default.ensures.aggregator c.in_default.ensures.takes c.requires.part (subst (λ f. Gathers P m f) none h))
+
+pub returns-in-Err-clause-offered : goal.returns-in-Err-clause-offered
+returns-in-Err-clause-offered g c wanted =
+    let none : c.args.self.now.fault ≡ None = search rules in
+    subst (λ f. IsGatheredUnless c.args.self.now.combiner f c.args.made (c.offer.new.self, Some c.in-Err.fault)) (sym none) (record { told = c.offer.result; takes = c.offer.ensures.takes; kept = search rules })
+
+pub returns-in_default-clause-offered : goal.returns-in_default-clause-offered
+returns-in_default-clause-offered g c wanted =
+    let none : c.args.self.now.fault ≡ None = search rules in
+    subst (λ f. IsGatheredUnless c.args.self.now.combiner f c.args.made (c.offer.new.self, c.args.self.now.fault)) (sym none) (record { told = c.offer.result; takes = c.offer.ensures.takes; kept = search rules })

@@ -1,5 +1,5 @@
-use Rattle.std.proofs.Common.{rules, ◌≡◌, None, sym, subst}
-use Rattle.plinq_run.specs.Merged.{IsMerging, Merges}
+use Rattle.std.proofs.Common.{rules, ◌≡◌, Some, None, sym, subst}
+use Rattle.plinq_run.specs.Merged.{IsMerging, Merges, IsOfferedUnless}
 use Rattle.plinq_run.specs.Reaching.{IsOffered}
 use Rattle.plinq_run.proofs.Merged.{offered-more, merges-ok, merges-err}
 use Rattle.plinq_run.proofs.merging.Merging.take_in.Goals as goal
@@ -28,7 +28,13 @@ returns-in_default-clause-merges g c merge s h =
     (merges-ok P g.K.Sink.accepts g.K.Sink.refuses merge s m c.args.made c.args.sink.now c.in_default.field-0 c.offer.new.self c.offer.new.sink c.in_default.ensures.plan c.in_default.ensures.takes (c.requires.result, c.extend.ensures.reaches) before)
 
 pub returns-in-Err-clause-offered : goal.returns-in-Err-clause-offered
-returns-in-Err-clause-offered g c wanted none = record { told = c.offer.result; takes = c.offer.ensures.takes; kept = search rules }
+returns-in-Err-clause-offered g c wanted =
+    let none : c.args.self.now.fault ≡ None = search rules in
+    subst (λ f. IsOfferedUnless g.K.Sink.accepts g.K.Sink.refuses c.args.self.now.merger f c.args.sink.now c.args.made (c.offer.new.self, (Some c.in-Err.fault, c.offer.new.sink))) (sym none)
+    (record { told = c.offer.result; takes = c.offer.ensures.takes; kept = search rules })
 
 pub returns-in_default-clause-offered : goal.returns-in_default-clause-offered
-returns-in_default-clause-offered g c wanted none = record { told = c.offer.result; takes = c.offer.ensures.takes; kept = search rules }
+returns-in_default-clause-offered g c wanted =
+    let none : c.args.self.now.fault ≡ None = search rules in
+    subst (λ f. IsOfferedUnless g.K.Sink.accepts g.K.Sink.refuses c.args.self.now.merger f c.args.sink.now c.args.made (c.offer.new.self, (c.args.self.now.fault, c.offer.new.sink))) (sym none)
+    (record { told = c.offer.result; takes = c.offer.ensures.takes; kept = search rules })
