@@ -110,7 +110,9 @@ pub struct Shortages {
 }
 
 impl Shortages {
-    pub fn none() -> Shortages {
+    pub fn none() -> Shortages
+        ensures { is_short result ≡ false }
+    {
         Shortages {
             memory: false,
             tickets: false,
@@ -161,7 +163,7 @@ where
     requires numbered { AreNumbered 0 hands.items }
     requires empty { room.items ≡ [] }
     requires room { length hands.items < vec_capacity room }
-    ensures some { 1 ≤ length result.items }
+    ensures count { length result.items ≡ length hands.items + 1 }
     ensures of { All (IsPartitionOf chunked.now) result.items }
     ensures origin { common_origin result.items ≡ (holding_of own).origin }
     ensures pass { IsPassOf stream.now pass.new }

@@ -39,6 +39,7 @@ loop-hand-preserved g c =
       hands = popped.0;
       numbered = numbered.0;
       some = search rules;
+      count = (let at : length c.push_reserved-in-Some.new.self.items ≡ length before + 1 = ap length pushed ∙ length-append before (worked.partition ∷ []) in let sum = c.loop-hand.invariant.count in omega (arith, at, sum, next));
       of = rw pushed (All-push (IsPartitionOf chunked) before worked.partition c.loop-hand.invariant.of of);
       origin = ap common_origin pushed ∙ common_origin-push before worked.partition c.loop-hand.invariant.some ∙ c.loop-hand.invariant.origin;
       room = search rules;

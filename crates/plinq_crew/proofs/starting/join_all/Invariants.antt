@@ -11,6 +11,7 @@ invariant-loop-hand g l = record {
   hands : All (IsHandOf l.chunked l.stream) l.hands.items;
   numbered : AreNumbered 0 l.hands.items;
   some : 1 ≤ length l.partitions.items;
+  count : length l.partitions.items + length l.hands.items ≡ length l.fn.hands.items + 1;
   of : All (IsPartitionOf l.chunked) l.partitions.items;
   origin : common_origin l.partitions.items ≡ (holding_of l.fn.own).origin;
   room : length l.hands.items + length l.partitions.items ≤ vec_capacity l.partitions;

@@ -1,4 +1,4 @@
-use Rattle.std.proofs.Common.{◌≡◌, ◌≤◌, [], length, None, All, refl, sym, ap, ◌∙◌, subst}
+use Rattle.std.proofs.Common.{◌≡◌, ◌≤◌, [], length, None, All, refl, sym, ap, ◌∙◌, subst, arith}
 use Rattle.plinq_stream.specs.Passes.{known}
 use Rattle.plinq_partition.specs.Partitions.{IsPartitionOf, holding_of}
 use Rattle.plinq_partition.specs.GivenBack.{common_origin}
@@ -61,7 +61,8 @@ returns-clause-back g c =
     let chunked = c.args.crew.now.chunked.now in
     let t = (holding_of c.args.own.partition).origin in
     let partitions = c.join_all-partitions.result in
+    let some : 1 ≤ length partitions.items = (let count = c.join_all-partitions.ensures.count in omega (arith, count)) in
     let origin : common_origin partitions.items ≡ t =
     c.join_all-partitions.ensures.origin ∙ c.merge_all.ensures.origin ∙ ap (λ p. (holding_of p).origin) c.new-caller.ensures.partition ∙ ap (λ h. h.origin) c.start_all-hands.ensures.same in
     back-as (λ e. e.partitions) (λ ps. (1 ≤ length ps.items) × All (IsPartitionOf chunked) ps.items × (common_origin ps.items ≡ t)) partitions c.told.result c.told.ensures.partitions
-    (c.join_all-partitions.ensures.some, c.join_all-partitions.ensures.of, origin)
+    (some, c.join_all-partitions.ensures.of, origin)
