@@ -1,2 +1,3 @@
 pub mod Spinning
+pub mod Totals
 pub mod Works

@@ -11,6 +11,7 @@ mod bench_fault;
 mod measuring;
 mod spinning;
 mod summed;
+mod total;
 mod work;
 mod workload;
 

@@ -1,7 +1,7 @@
 use crate::bench_fault::BenchFault;
 use crate::summed::Summed;
+use crate::total::Total;
 use crate::workload::Workload;
-use plinq_aggregate::Sum;
 use plinq_enumerator::Growth;
 use plinq_keyed::Record;
 use plinq_run::{OpenGate, aggregate, run};
@@ -32,10 +32,18 @@ pub(crate) fn run_it<R: Threads + Wait + Sync + Clock>(
     let source = RangeSource::new(0, workload.source_length(items.unsigned_abs()))?;
     let start = Instant::now(rt)?;
     if workload == Workload::Sum {
-        let sum = aggregate(rt, alloc, &query, source, Growth::DEFAULT, &OpenGate, &Sum)?;
+        let sum = aggregate(
+            rt,
+            alloc,
+            &query,
+            source,
+            Growth::DEFAULT,
+            &OpenGate,
+            &Total,
+        )?;
         return Ok(Seen {
             time: start.elapsed(rt)?,
-            sum: low_half(sum),
+            sum,
             first: None,
             pulled: None,
         });
@@ -80,9 +88,4 @@ fn pulled(records: &[Record]) -> u64 {
         Some(record) => record.first.saturating_add(record.count),
         None => 0,
     }
-}
-
-// A number modulo 2^64.
-fn low_half(number: i128) -> u64 {
-    u64::try_from(number.rem_euclid(18_446_744_073_709_551_616)).unwrap_or(0)
 }
