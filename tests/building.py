@@ -72,7 +72,7 @@ class Place:
     def start(self, *words, program="./plinq", **how):
         env = {"PATH": self.bin, "TMPDIR": self.temporary, "HOME": self.temporary}
         streams = {"stdin": subprocess.PIPE, "stdout": subprocess.PIPE, "stderr": subprocess.PIPE} | how
-        return subprocess.Popen([program, *words], cwd=self.top, env=env, text=True, **streams)
+        return subprocess.Popen([program, *words], cwd=self.top, env=env, text=True, preexec_fn=heed_signals, **streams)
 
     def run(self, *words, given="", **how):
         """The status, output and errors of ./plinq, and what it asked of rt."""
@@ -231,6 +231,12 @@ def no_rt(place, tests):
     tests.check("where rt isn't there, it is said", is_so, (status, output, errors))
     os.rename(f"{place.bin}/hidden", f"{place.bin}/rt")
     place.write("crates/mid/src/lib.rt", "mid\n")
+
+
+def heed_signals():
+    """What a gate that runs behind nohup, or in the background, passes on as ignored ends a program again."""
+    for which in (signal.SIGINT, signal.SIGTERM, signal.SIGHUP):
+        signal.signal(which, signal.SIG_DFL)
 
 
 def interruption(place, tests):
