@@ -3,7 +3,7 @@ use crossbeam_utils::sync::{EventCount, Key};
 use std::sync::Wait;
 use std::sync::atomic::{AtomicBool, AtomicU64, Ordering};
 
-/// How far the threads of a run are. It only tells the merging thread when to sleep and when to join the workers, and the
+/// How far the threads of a run are. It only tells the caller's thread when to sleep and when to join the workers, and the
 /// workers when to wait and when to go on; no answer rests on it.
 #[derive(Drop)]
 pub struct Progress {
@@ -13,7 +13,7 @@ pub struct Progress {
     wanted: AtomicU64,
     ended: AtomicU64,
     failed: AtomicBool,
-    /// What the merging thread sleeps on.
+    /// What the caller's thread sleeps on.
     news: EventCount,
     /// What the workers sleep on that wait.
     room: EventCount,
@@ -75,12 +75,12 @@ impl Progress {
         self.tell();
     }
 
-    /// Wakes the merging thread, since a result was sent, or a worker has ended or failed.
+    /// Wakes the caller's thread, since a result was sent, or a worker has ended or failed.
     pub fn tell(&self) {
         self.news.notify_one();
     }
 
-    /// Says that the merging thread is about to sleep. What is told from now on ends its sleep, so whatever it waits for is
+    /// Says that the caller's thread is about to sleep. What is told from now on ends its sleep, so whatever it waits for is
     /// to be looked at once more before it does.
     pub fn announce_sleep(&self) -> Key<'_> {
         self.news.prepare_wait()

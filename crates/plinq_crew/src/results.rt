@@ -1,4 +1,4 @@
-//! The stream that carries results from the workers to the merging thread, and what a run picks for it and for its cut.
+//! The stream that carries results from the workers to the caller's thread, and what a run picks for it and for its cut.
 ghost use Rattle.std.specs.Prelude.{⊤, ℕ, Bool, false};
 ghost use Rattle.plinq_ops.specs.declared.results.ChunkResult.{ChunkResult};
 
@@ -38,7 +38,7 @@ impl<T, J: Carries<T>> plinq_stream::Carries<ChunkResult<T>> for RunResults<T, J
     ghost carries = { J.is_result };
 }
 
-/// What a worker sends to the merging thread goes through such a stream, under the worker's number.
+/// What a worker sends to the caller's thread goes through such a stream, under the worker's number.
 pub type ResultStream<T, J> = Stream<ChunkResult<T>, RunResults<T, J>>;
 
 /// What a thread of a run has of its stream.

@@ -1,11 +1,13 @@
 //! What the caller's thread does with the folds that workers send.
-ghost use Rattle.std.specs.Prelude.{◌≡◌, ◌≤◌, ◌^◌, List, [], true, false, None, IfOk, IfErr, OnOk};
+ghost use Rattle.std.specs.Prelude.{◌≡◌, ◌≤◌, ◌^◌, List, [], true, false, Some, None, IfOk, IfErr, OnOk};
+ghost use Rattle.std.specs.Option.{option_or};
 ghost use Rattle.plinq_ops.specs.declared.results.ChunkResult.{ChunkResult};
 ghost use Rattle.plinq_merge.specs.Shown.{merged, behind_result};
 ghost use Rattle.plinq_combine.specs.Folds.{AreFoldsOf};
 ghost use Rattle.plinq_combine.specs.Combiners.{aggregator_of, order_of, IsFor};
 ghost use Rattle.plinq_run.specs.Faults.{first_told};
 ghost use Rattle.plinq_run.specs.Gathered.{Gathers, IsGatheredUnless, HasFinished};
+ghost use Rattle.plinq_run.specs.declared.run_fault.RunFault.TheVariants.{Incomplete};
 ghost use Rattle.plinq_run.specs.Runs.{refusal_of, told_refusal};
 
 use crate::finishing::first_fault;
@@ -76,6 +78,7 @@ impl<'a, A: Aggregator> Gathering<'a, A> {
             AreFoldsOf (A.folding (aggregator_of self.entry.combiner)) results offers → IsFor self.entry.combiner offers →
             HasFinished (A.folding (aggregator_of self.entry.combiner)) (merged (order_of self.entry.combiner) results) made) }
         ensures err { IfErr result (λ fault. told_refusal fault ≡ refusal_of self.entry.fault) }
+        ensures told { IfErr result (λ fault. option_or (first_told self.entry.fault shortages staff) (Some Incomplete) ≡ Some fault) }
     {
         let Gathering {
             combiner,

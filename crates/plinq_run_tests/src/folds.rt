@@ -1,4 +1,5 @@
-//! That workers fold what they compute, and that what stands behind the merge is folded by the caller's thread.
+//! That workers fold what they compute, that a source is closed in time, and that what stands behind the merge is folded as
+//! well.
 ghost use Rattle.plinq_aggregate.specs.Numbers.{counting};
 ghost use Rattle.plinq_aggregate.specs.Lawful.{counting-lawful};
 
@@ -106,6 +107,56 @@ fn held_back<R: Threads + Wait + Sync + Abort>(
 fn workers_fold_while_the_first_key_is_held_back(rt: HostRuntime) -> Result<(), Fail> {
     for workers in [2u64, 4, 64] {
         held_back(&rt, rt.alloc(), workers, 40)?;
+    }
+    Ok(())
+}
+
+/// A gate that notes whether each chunk begins where one of four elements may.
+#[derive(Drop)]
+struct CountsByFour {
+    takes: AtomicU64,
+    odd_ones: AtomicU64,
+}
+
+impl Gate for CountsByFour {
+    fn before_take(&self, _: u64) {
+        self.takes.fetch_add(1, Ordering::SeqCst);
+    }
+
+    fn after_chunk(&self, _: u64, first: u64) {
+        if first % 4 > 0 {
+            self.odd_ones.fetch_add(1, Ordering::SeqCst);
+        }
+    }
+}
+
+/// Sums the numbers below a thousand of a range that goes on far beyond them.
+fn of_a_long_range<R: Threads + Wait + Sync + Abort>(
+    rt: &R,
+    alloc: Global,
+    workers: u64,
+    count: u64,
+) -> Result<(), Fail> {
+    let query = ordered(alloc, MergeOption::Default, workers)?
+        .take_while(Formula::Below(1_000))
+        .map_err(|(_, fault)| fault)?;
+    let gate = CountsByFour {
+        takes: AtomicU64::new(0),
+        odd_ones: AtomicU64::new(0),
+    };
+    let source = RangeSource::new(0, count)?;
+    let growth = Growth::new(4, 1, 4)?;
+    let sum = aggregate(rt, alloc, &query, source, growth, &gate, &Sum);
+    assert_eq!(rt; sum, Ok(499_500));
+    assert!(rt; gate.takes.load(Ordering::SeqCst) > 250);
+    assert_eq!(rt; gate.odd_ones.load(Ordering::SeqCst), 0);
+    Ok(())
+}
+
+#[test]
+fn an_aggregate_closes_a_long_range_long_before_its_end(rt: HostRuntime) -> Result<(), Fail> {
+    for workers in WORKERS {
+        of_a_long_range(&rt, rt.alloc(), workers, 1_099_511_627_776)?;
     }
     Ok(())
 }
