@@ -17,7 +17,7 @@ use std::thread::Threads;
 
 /// The last number; of none there is none.
 #[derive(Drop)]
-struct Last;
+pub(crate) struct Last;
 
 impl Aggregator for Last {
     type Item = i64;

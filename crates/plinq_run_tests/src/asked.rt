@@ -130,6 +130,17 @@ fn with_all<L: Lambda + Copy>(query: Query<L>, ops: &[Op<L>]) -> Result<Query<L>
     Ok(query)
 }
 
+/// A query that keeps the order, with these operators.
+pub(crate) fn query_of<L: Lambda + Copy>(
+    alloc: Global,
+    ops: &[Op<L>],
+    option: MergeOption,
+    workers: u64,
+) -> Result<Query<L>, BuildFault> {
+    let query = ordered(alloc, option, workers)?;
+    with_all(query, ops)
+}
+
 /// Has a run answer a query, whose workers this gate holds back, and one thread, each from a source of its own.
 pub(crate) fn ask_of<L, S, G, R>(
     rt: &R,
@@ -160,7 +171,7 @@ where
     })
 }
 
-fn few(rt: &impl Abort, alloc: Global, items: &[i64]) -> Result<Vec<i64>, AllocError>
+pub(crate) fn few(rt: &impl Abort, alloc: Global, items: &[i64]) -> Result<Vec<i64>, AllocError>
     ensures { IfOk result (λ items. vec_len items ≤ 2 ^ 40) }
 {
     assert!(rt; items.len() <= 1_000);
@@ -232,7 +243,6 @@ where
     G: Gate,
     R: Threads + Wait + Sync + Abort,
 {
-    let query = ordered(alloc, setting.option, setting.workers)?;
-    let query = with_all(query, ops)?;
+    let query = query_of(alloc, ops, setting.option, setting.workers)?;
     ask_given(rt, alloc, &query, given, items, setting, gate)
 }

@@ -1,13 +1,15 @@
-//! Queries that are picked by chance, and workers that are held back by chance. The queries are always the same ones; the
-//! order in which threads run isn't.
-ghost use Rattle.std.specs.Prelude.{◌≤◌, ◌<◌};
+//! Queries that are picked by chance, and workers that are held back by chance: what they deliver, and what they aggregate.
+//! The queries are always the same ones; the order in which threads run isn't.
+ghost use Rattle.std.specs.Prelude.{◌≡◌, ◌≤◌, ◌<◌, IfOk};
 
-use crate::asked::{Given, OPTIONS, Setting, ask};
+use crate::aggregates::Last;
+use crate::asked::{Given, OPTIONS, Setting, ask, few, query_of};
+use plinq_aggregate::fold_sequential;
 use plinq_enumerator::{Growth, GrowthFault};
 use plinq_lambda::Formula;
-use plinq_ops::{MergeOption, Op};
-use plinq_run::Gate;
-use plinq_source::Ending;
+use plinq_ops::{MergeOption, Op, sequential};
+use plinq_run::{AggregateFault, Gate, aggregate};
+use plinq_source::{Ending, ListSource, Source};
 use std::alloc::{AllocError, Global};
 use std::hint::spin_loop;
 use std::process::Abort;
@@ -200,5 +202,67 @@ fn any_query_has_the_answer_of_one_thread(rt: HostRuntime) -> Result<(), Fail> {
         }
     }
     assert!(rt; ended >= 100 && refused >= 100 && faulted >= 100);
+    Ok(())
+}
+
+/// A list that refuses behind its items, or doesn't.
+fn list(
+    rt: &impl Abort,
+    alloc: Global,
+    items: &[i64],
+    refuses: bool,
+) -> Result<ListSource<i64>, AllocError>
+    ensures { IfOk result (λ source. ⟦<ListSource<i64> as Source>⟧.given source ≡ 0) }
+{
+    let items = few(rt, alloc, items)?;
+    if refuses {
+        return Ok(ListSource::refusing(alloc, items, 7));
+    }
+    Ok(ListSource::new(alloc, items))
+}
+
+/// Asks a query's aggregate of threads and of one thread, and tells whether there is one.
+fn aggregate_any<R: Threads + Wait + Sync + Abort>(
+    rt: &R,
+    alloc: Global,
+    dice: &mut Dice,
+    run: u64,
+    gate: &Delays,
+) -> Result<bool, Fail> {
+    let setting = dice.setting(run)?;
+    let items = dice.items(alloc)?;
+    let refuses = dice.below(8) == 0;
+    let ops = dice.ops(alloc)?;
+    let query = query_of(alloc, &ops, setting.option, setting.workers)?;
+    let source = list(rt, alloc, &items, refuses)?;
+    let told = aggregate(rt, alloc, &query, source, setting.growth, gate, &Last);
+    let mut again = list(rt, alloc, &items, refuses)?;
+    let (answer, ending) = sequential(alloc, &query, &mut again)?;
+    let wanted = match ending {
+        Ending::End => Ok(fold_sequential(&Last, &answer)),
+        Ending::Refused(_) | Ending::Fault(_) => Err(AggregateFault::Ended(ending)),
+    };
+    assert!(rt;
+        told == wanted,
+        "{told:?} {items:?} {refuses} {ops:?} {setting:?}"
+    );
+    Ok(told.is_ok())
+}
+
+#[test]
+fn any_query_has_the_aggregate_of_one_thread(rt: HostRuntime) -> Result<(), Fail> {
+    let gate = Delays {
+        number: AtomicU64::new(88_172_645_463_325_252),
+    };
+    let mut dice = Dice {
+        number: 7_540_113_804_746_346_429,
+    };
+    let mut values = 0u64;
+    for run in 0..1_000 {
+        if aggregate_any(&rt, rt.alloc(), &mut dice, run, &gate)? {
+            values = values.wrapping_add(1);
+        }
+    }
+    assert!(rt; values >= 100 && values <= 900);
     Ok(())
 }
