@@ -1,5 +1,5 @@
 -- What a worker sends are the results of its records, one after another.
-use Rattle.std.proofs.Common.{◌≡◌, ◌≢◌, ℕ, ◌+◌, ◌≤◌, ◌<◌, ◌==◌, eq-eqb, ◌||◌, List, [], ◌∷◌, ◌++◌, Option, Some, None, is_some, true, false, true≢false, All, refl, sym, ap, ◌∙◌, subst, arith}
+use Rattle.std.proofs.Common.{◌≡◌, ◌≢◌, ℕ, ◌+◌, ◌≤◌, ◌<◌, ◌==◌, eq-eqb, ◌||◌, List, [], ◌∷◌, ◌++◌, Option, Some, None, is_some, true, false, true≢false, Bool, if◌then◌else◌, IfSome, All, refl, sym, ap, ◌∙◌, subst, arith}
 use Rattle.std.proofs.lemmas.List.{append-nil}
 use Rattle.std.proofs.lemmas.List.Elements.{All-nil, All-push, All-append, All-weaker}
 use Rattle.std.specs.List.{AllZip}
@@ -19,7 +19,7 @@ use Rattle.plinq_stream.specs.Streams.{has, under}
 use Rattle.plinq_stream.proofs.Numbers.{first-of, rest-of}
 use Rattle.plinq_stream.proofs.Under.{has-append, or-first, or-second, under-append, under-own, under-none}
 use Rattle.plinq_crew.specs.Working.{Answers, IsOpen, Follows, HasTaken, HasLeft, sender, IsAtWork, HasWorked, IsAnsweredBy, IsWhollyAnsweredBy, receiver_from}
-use Rattle.plinq_crew.specs.Short.{is_short}
+use Rattle.plinq_crew.specs.Short.{is_short, lacks_room, has_noted, StaysNoted}
 use Rattle.plinq_crew.specs.Results.{IsOfSameChunk}
 use Rattle.plinq_crew.specs.declared.starting.Shortages.{Shortages}
 use Rattle.plinq_source.specs.declared.source.Source.{Ghosts}
@@ -139,6 +139,19 @@ module _ {T : Type 0} (a b c : Known (ChunkResult T)) (is : c ≡ together a b) 
       (All-weaker (λ (s : Sent (ChunkResult T)). least ≤ s.number) (λ s. n ≤ s.number) (λ s h. omega arith) a.sent above)
       (All-weaker (λ (s : Sent (ChunkResult T)). s.number ≡ n) (λ s. n ≤ s.number) (λ s h. omega arith) b.sent own))
 
+-- a fault that was noted is noted still
+still-noted : (old short : Shortages) → StaysNoted old short → (fault : Option TakeFault) → IfSome fault (λ f. has_noted old f ≡ true) → IfSome fault (λ f. has_noted short f ≡ true)
+still-noted old short kept None noted = tt
+still-noted old short kept (Some fault) noted = by-kind (lacks_room fault) noted
+  where
+    by-kind : (b : Bool) → (if b then old.memory else old.tickets) ≡ true → (if b then short.memory else short.tickets) ≡ true
+    by-kind true = kept.0
+    by-kind false = kept.1
+
+short-by : (short : Shortages) (b : Bool) → (if b then short.memory else short.tickets) ≡ true → is_short short ≡ true
+short-by short true is = or-first short.memory short.tickets is
+short-by short false is = or-second short.memory short.tickets is
+
 module _ {S T M : Type 0} {source : Ghosts S T} where
   -- without a fault all records are answered
   pub answered-wholly : (a b : Known (ChunkResult M)) (short : Shortages) → b.sent ≡ a.sent → b.numbers ≡ a.numbers → is_short short ≡ false → (p : Partition S T source)
@@ -149,12 +162,12 @@ module _ {S T M : Type 0} {source : Ghosts S T} where
     follows = subst (λ l. Follows (holding_of p).share None (under h.number l)) (sym sent) (whole h.fault h.noted h.follows);
   }
     where
-      whole : (fault : Option TakeFault) → (is_some fault ≡ true → is_short short ≡ true) → Follows (holding_of p).share fault (under h.number a.sent)
+      whole : (fault : Option TakeFault) → IfSome fault (λ f. has_noted short f ≡ true) → Follows (holding_of p).share fault (under h.number a.sent)
           → Follows (holding_of p).share None (under h.number a.sent)
       whole None noted follows = follows
-      whole (Some fault) noted follows = absurd (true≢false (sym (noted refl) ∙ none))
+      whole (Some fault) noted follows = absurd (true≢false (sym (short-by short (lacks_room fault) noted) ∙ none))
 
-  module _ (n least : ℕ) (next : least ≡ n + 1) (a b c : Known (ChunkResult M)) (is : c ≡ together a b) (old short : Shortages) (kept : is_short old ≡ true → is_short short ≡ true) where
+  module _ (n least : ℕ) (next : least ≡ n + 1) (a b c : Known (ChunkResult M)) (is : c ≡ together a b) (old short : Shortages) (kept : StaysNoted old short) where
     pub answered-before : All (λ s. s.number ≡ n) b.sent → (p : Partition S T source) → IsAnsweredBy least a old p → IsAnsweredBy n c short p
     answered-before own p h =
         let k = h.number in
@@ -165,11 +178,11 @@ module _ {S T M : Type 0} {source : Ghosts S T} where
           above = (let far : least ≤ k = h.above in omega arith);
           own = has-both a b c is k ∙ or-first (has k a.numbers) (has k b.numbers) h.own;
           fault = h.fault;
-          noted = λ is. kept (h.noted is);
+          noted = still-noted old short kept h.fault h.noted;
           follows = subst (Follows (holding_of p).share h.fault) (sym (under-both a b c is k ∙ ap (λ l. under k a.sent ++ l) none ∙ append-nil (under k a.sent))) h.follows;
         }
 
-    pub answered-now : All (λ s. least ≤ s.number) a.sent → (p : Partition S T source) (fault : Option TakeFault) → (is_some fault ≡ true → is_short short ≡ true) → HasWorked n (holding_of p).share fault b → IsAnsweredBy n c short p
+    pub answered-now : All (λ s. least ≤ s.number) a.sent → (p : Partition S T source) (fault : Option TakeFault) → IfSome fault (λ f. has_noted short f ≡ true) → HasWorked n (holding_of p).share fault b → IsAnsweredBy n c short p
     answered-now above p fault noted h =
         let none : under n a.sent ≡ [] = under-none n a.sent (All-weaker (λ (s : Sent (ChunkResult M)). least ≤ s.number) (λ s. s.number ≢ n) (λ s e same. omega arith) a.sent above) in
         record {

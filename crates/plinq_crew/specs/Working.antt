@@ -1,5 +1,5 @@
 -- What a worker sends, and what it brings back.
-use Rattle.std.specs.Prelude.{◌≡◌, ◌≤◌, ◌-◌, ℕ, List, [], ◌∷◌, ◌++◌, Option, Some, None, is_some, true, false, All}
+use Rattle.std.specs.Prelude.{◌≡◌, ◌≤◌, ◌-◌, ℕ, List, [], ◌∷◌, ◌++◌, Option, Some, None, is_some, true, false, All, IfSome}
 use Rattle.std.specs.List.{AllZip}
 use Rattle.plinq_source.specs.declared.source.Source.{Ghosts}
 use Rattle.plinq_keyed.specs.declared.record.Record.{Record}
@@ -16,7 +16,7 @@ use Rattle.plinq_stream.specs.Knowing.{numbers_from}
 use Rattle.plinq_stream.specs.Passes.{IsPassOf, IsBeside, known}
 use Rattle.plinq_stream.specs.Streams.{has, under}
 use Rattle.plinq_crew.specs.declared.starting.Shortages.{Shortages}
-use Rattle.plinq_crew.specs.Short.{is_short}
+use Rattle.plinq_crew.specs.Short.{has_noted}
 use Rattle.plinq_crew.specs.declared.worker.Worked.{Worked}
 
 -- records may have come behind a share
@@ -105,13 +105,13 @@ module _ {S T M : Type 0} {source : Ghosts S T} where
     pub worked : HasWorked number (holding_of back.partition).share back.fault (known back.stream)
 
   -- what was sent under one of the pass's numbers, which is at least that, are the results of the first records of this
-  -- partition, and of all of them unless a fault was noted
+  -- partition, and of all of them unless there was a fault, which was noted
   pub record IsAnsweredBy (least : ℕ) (a : Known (ChunkResult M)) (short : Shortages) (p : Partition S T source) : Type 0 where
     pub number : ℕ
     pub above : least ≤ number
     pub own : has number a.numbers ≡ true
     pub fault : Option TakeFault
-    pub noted : is_some fault ≡ true → is_short short ≡ true
+    pub noted : IfSome fault (λ f. has_noted short f ≡ true)
     pub follows : Follows (holding_of p).share fault (under number a.sent)
 
   -- what was sent under one of the pass's numbers are the results of all records of this partition

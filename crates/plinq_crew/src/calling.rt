@@ -1,9 +1,10 @@
 //! The caller's thread among its workers: it starts them, receives what they send, closes the source in time, and has them
 //! back.
-ghost use Rattle.std.specs.Prelude.{◌≡◌, ◌≤◌, ◌^◌, [], drop, length, true, All, IfOk, IfSome};
+ghost use Rattle.std.specs.Prelude.{◌≡◌, ◌≤◌, ◌^◌, [], drop, length, true, false, All, IfOk, IfSome};
 ghost use Rattle.plinq_cut.specs.Passes.{IsPassOf as IsCutPassOf};
 ghost use Rattle.plinq_crew.specs.Working.{IsReceiver};
 ghost use Rattle.plinq_partition.specs.Partitions.{IsPartitionOf, holding_of};
+ghost use Rattle.plinq_crew.specs.Short.{is_short, StaysNoted};
 ghost use Rattle.plinq_crew.specs.Turns.{IfCame, HasCome};
 ghost use Rattle.plinq_stream.specs.Passes.{IsPassOf, known};
 
@@ -40,6 +41,8 @@ impl<S: Source, M: Drop> Caller<S, M> {
     pub fn new(partition: Partition<S>, stream: ResultPass<M>, staff: Staff) -> Caller<S, M>
         ensures partition { result.partition ≡ partition }
         ensures stream { result.stream ≡ stream }
+        ensures staff { result.staff ≡ staff }
+        ensures none { is_short result.shortages ≡ false }
     {
         Caller {
             partition,
@@ -70,7 +73,10 @@ impl<S: Source, M: Drop> Caller<S, M> {
         ensures of { IsPartitionOf crew.now.chunked.now self.new.partition }
         ensures origin { (holding_of self.new.partition).origin ≡ (holding_of self.old.partition).origin }
         ensures stream { self.new.stream ≡ self.old.stream }
+        ensures staff { self.new.staff ≡ self.old.staff }
+        ensures kept { StaysNoted self.old.shortages self.new.shortages }
         ensures closed { closing.old.is_closed ≡ true → closing.new.is_closed ≡ true }
+        ensures closes { closing.old.is_stopped ≡ false → is_over ≡ true → closing.new.is_closed ≡ true }
     {
         if closing.is_stopped {
             return;
@@ -110,7 +116,10 @@ impl<S: Source, M: Drop> Caller<S, M> {
         ensures receiver { IsReceiver (known self.new.stream) }
         ensures carried { IfCame result J.is_result }
         ensures received { HasCome (known self.old.stream) result (known self.new.stream) }
+        ensures staff { self.new.staff ≡ self.old.staff }
+        ensures kept { StaysNoted self.old.shortages self.new.shortages }
         ensures closed { closing.old.is_closed ≡ true → closing.new.is_closed ≡ true }
+        ensures closes { closing.old.is_stopped ≡ false → is_over ≡ true → closing.new.is_closed ≡ true }
     {
         let sleep = if self.backoff.is_completed() && self.early == 0 {
             Some(crew.progress.announce_sleep())
@@ -138,6 +147,8 @@ impl<S: Source, M: Drop> Caller<S, M> {
     pub fn wait<R: Wait>(&mut self, rt: &R, sleep: Option<Key<'_>>)
         ensures partition { self.new.partition ≡ self.old.partition }
         ensures stream { self.new.stream ≡ self.old.stream }
+        ensures staff { self.new.staff ≡ self.old.staff }
+        ensures shortages { self.new.shortages ≡ self.old.shortages }
     {
         match sleep {
             Some(sleep) => sleep.wait(rt),

@@ -1,9 +1,9 @@
 //! Starting the workers of a run, and having them back.
-ghost use Rattle.std.specs.Prelude.{◌≡◌, ◌≤◌, ◌<◌, ◌^◌, ◌+◌, [], drop, length, true, false, not, ◌||◌, All, IfSome, is_some, vec_len, vec_capacity};
+ghost use Rattle.std.specs.Prelude.{◌≡◌, ◌≤◌, ◌<◌, ◌^◌, ◌+◌, [], drop, length, true, false, not, ◌||◌, All, IfSome, vec_len, vec_capacity};
 ghost use Rattle.plinq_partition.specs.Partitions.{IsPartitionOf, holding_of};
 ghost use Rattle.plinq_partition.specs.GivenBack.{common_origin};
 ghost use Rattle.plinq_crew.specs.Equipped.{IsEquipped};
-ghost use Rattle.plinq_crew.specs.Short.{lacks_room, is_short};
+ghost use Rattle.plinq_crew.specs.Short.{lacks_room, is_short, has_noted, StaysNoted};
 ghost use Rattle.plinq_crew.specs.Hands.{IsHandOf, AreNumbered};
 ghost use Rattle.plinq_crew.specs.Working.{IsNewcomer, IsReceiver, IsBack, IsAnsweredBy, receiver_from};
 ghost use Rattle.plinq_stream.specs.Passes.{IsPassOf, known};
@@ -122,6 +122,8 @@ impl Shortages {
     pub fn note(&mut self, fault: TakeFault)
         ensures memory { self.new.memory ≡ (self.old.memory || lacks_room fault) }
         ensures tickets { self.new.tickets ≡ (self.old.tickets || not (lacks_room fault)) }
+        ensures kept { StaysNoted self.old self.new }
+        ensures noted { has_noted self.new fault ≡ true }
     {
         match fault {
             TakeFault::Memory => self.memory = true,
@@ -131,8 +133,8 @@ impl Shortages {
 
     /// Notes a worker's fault, if it had one.
     fn note_any(&mut self, fault: Option<TakeFault>)
-        ensures kept { is_short self.old ≡ true → is_short self.new ≡ true }
-        ensures noted { is_some fault ≡ true → is_short self.new ≡ true }
+        ensures kept { StaysNoted self.old self.new }
+        ensures noted { IfSome fault (λ f. has_noted self.new f ≡ true) }
     {
         if let Some(fault) = fault {
             self.note(fault);
@@ -170,6 +172,7 @@ where
     ensures receives { (known pass.new).receives ≡ true }
     ensures received { (known pass.new).received ≡ (known pass.old).received }
     ensures answered { All (IsAnsweredBy 0 (known pass.new) shortages.new) (drop 1 result.items) }
+    ensures kept { StaysNoted shortages.old shortages.new }
 {
     let mut hands = hands;
     let mut partitions = room;

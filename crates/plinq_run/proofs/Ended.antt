@@ -44,7 +44,7 @@ use Rattle.plinq_run.specs.declared.report.Report.{Report}
 use Rattle.plinq_run.specs.declared.run_fault.RunFault.{RunFault}
 use Rattle.plinq_run.specs.Endings.{ending_in, reported}
 use Rattle.plinq_run.specs.Handed.{handed_trace}
-use Rattle.plinq_run.specs.Merged.{IsMerging, Merges}
+use Rattle.plinq_run.specs.Merged.{merge_for, IsMerging, Merges}
 use Rattle.plinq_crew.specs.Plans.{IsUndecided, are_keyless}
 use Rattle.plinq_run.specs.Plans.{merged_answer}
 use Rattle.plinq_run.specs.Reaching.{IsOffered, Covers, accounts_for}
@@ -53,7 +53,7 @@ use Rattle.plinq_crew.specs.Results.{IsResult}
 use Rattle.plinq_run.specs.Runs.{HasRun, HasBroken, Runs, IsReportOf, refusal_of, told_refusal, fault_of}
 use Rattle.plinq_run.proofs.Arrived.{worker-keyless}
 use Rattle.plinq_run.proofs.Handed.{covers-handed}
-use Rattle.plinq_run.proofs.Runs.{merge_for, whole-run, broken-run}
+use Rattle.plinq_run.proofs.Runs.{whole-run, broken-run}
 
 -- nothing was sent yet
 pub none-sent : {K B : Type 0} (accepts : K → B → K → Type 0) (s : K) (bs : List B) → (x : List B) × (x' : List B) × (bs ≡ x ++ x') × Leads accepts s x s

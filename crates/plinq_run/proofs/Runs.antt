@@ -30,7 +30,7 @@ use Rattle.plinq_merge.proofs.Sent.{cut-before}
 use Rattle.plinq_merge.proofs.Whole.{merged-begins, batches-first}
 use Rattle.plinq_run.specs.declared.reach.Reach.{Reach}
 use Rattle.plinq_run.specs.declared.run_fault.RunFault.{RunFault}
-use Rattle.plinq_run.specs.Merged.{Merges}
+use Rattle.plinq_run.specs.Merged.{merge_for, Merges}
 use Rattle.plinq_crew.specs.Plans.{IsUndecided}
 use Rattle.plinq_run.specs.Plans.{merged_answer}
 use Rattle.plinq_run.specs.Reaching.{IsOffered, Covers}
@@ -39,10 +39,6 @@ use Rattle.plinq_crew.specs.Results.{IsResult}
 use Rattle.plinq_run.specs.Runs.{HasRun, refusal_of, told_refusal, fault_of}
 use Rattle.plinq_run.proofs.Arrived.{arrival-begins}
 use Rattle.plinq_run.proofs.Covered.{result-covered}
-
--- what a merger of this plan is made for
-abbrev pub merge_for : {L T : Type 0} → (L → Meaning T) → Plan L → MergeOption → Merge T
-merge_for meaning plan option = record { after = stages_of meaning plan.after.now; order = plan.order; decided = plan.decided; size = batch_size option }
 
 module _ {L T : Type 0} (meaning : L → Meaning T) (plan : Plan L) (t : Trace T) where
   are-offers : (rs : List (ChunkResult T)) → All (IsResult meaning plan t) rs → AreOffers meaning plan.worker.now t rs

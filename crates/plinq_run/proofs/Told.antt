@@ -1,14 +1,20 @@
 -- Where a run tells no fault, all that its workers were to send was received.
-use Rattle.std.proofs.Common.{◌≡◌, ◌||◌, drop, Option, Some, None, is_some, true, false, true≢false, All, Result, Ok, Err, IfOk, OnOk, Vec, not, Bool, refl, sym, ap, subst}
+use Rattle.std.proofs.Common.{◌≡◌, ◌||◌, ℕ, List, [], drop, Option, Some, None, is_some, true, false, true≢false, All, Result, Ok, Err, IfOk, OnOk, Vec, not, Bool, refl, sym, ap, subst}
 use Rattle.std.proofs.lemmas.List.Elements.{All-weaker}
 use Rattle.std.specs.Prelude.{◌==◌}
 use Rattle.std.specs.Option.{option_or}
 use Rattle.std.specs.declared.alloc.Global.{Global}
-use Rattle.plinq_source.specs.declared.source.Source.{Ghosts}
+use Rattle.plinq_source.specs.declared.ending.Ending.{Ending}
+use Rattle.plinq_source.specs.declared.source.Source.{Ghosts as SourceGhosts}
+use Rattle.plinq_lambda.specs.declared.lambda.Lambda.{Ghosts}
 use Rattle.plinq_ops.specs.declared.results.ChunkResult.{ChunkResult}
 use Rattle.plinq_merge.specs.declared.merge_fault.MergeFault.{MergeFault}
+use Rattle.plinq_merge.specs.declared.merger.Merger.{Merger}
+use Rattle.plinq_merge.specs.Mergers.{plan_of, IsFor}
+use Rattle.plinq_merge.specs.Shown.{Merge, answer}
 use Rattle.plinq_partition.specs.declared.partition.Partition.{Partition}
 use Rattle.plinq_stream.specs.declared.known.Known.{Known}
+use Rattle.plinq_stream.specs.declared.sent.Sent.{Sent}
 use Rattle.plinq_stream.specs.Streams.{HasReceivedAll}
 use Rattle.plinq_stream.proofs.Under.{or-none, or-right}
 use Rattle.plinq_crew.specs.declared.starting.Shortages.{Shortages}
@@ -18,6 +24,8 @@ use Rattle.plinq_crew.proofs.Working.{answered-wholly}
 use Rattle.plinq_crew.specs.declared.staff.Staff.{Staff}
 use Rattle.plinq_run.specs.declared.run_fault.RunFault.{RunFault}
 use Rattle.plinq_run.specs.declared.run_fault.RunFault.TheVariants.{Memory, Thread, Tickets}
+use Rattle.plinq_crew.specs.Turns.{HasTakenIn}
+use Rattle.plinq_run.specs.Merged.{OffersEach, WereOffered}
 use Rattle.plinq_run.specs.Faults.{first_told, told_if, refused_by_sink, is_out_of_memory}
 
 none-before : {A : Type 0} (x y : Option A) → option_or x y ≡ None → x ≡ None
@@ -42,11 +50,11 @@ none-noted fault short staff is =
     or-none short.memory short.tickets (or-right (is_out_of_memory fault) short.memory memory) tickets
 
 -- of what is told with these partitions; and what else is known of all that was received
-pub told-all : {X S T M : Type 0} {source : Ghosts S T} (partitions_of : X → Vec (Partition S T source) Global) (Else : Known (ChunkResult M) → Type 0) (a b : Known (ChunkResult M)) (short : Shortages) (fault : Option MergeFault)
+pub told-all : {X S T M : Type 0} {source : SourceGhosts S T} (partitions_of : X → Vec (Partition S T source) Global) (Else : X → Known (ChunkResult M) → Type 0) (a b : Known (ChunkResult M)) (short : Shortages) (fault : Option MergeFault)
     (staff : Staff) (partitions : Vec (Partition S T source) Global) (r : Result X RunFault)
     → b.sent ≡ a.sent → b.numbers ≡ a.numbers → OnOk r (first_told fault short staff ≡ None) → IfOk r (λ x. partitions_of x ≡ partitions)
-    → HasReceivedAll b → All (IsAnsweredBy 0 a short) (drop 1 partitions.items) → Else b
-    → IfOk r (λ x. (k : Known (ChunkResult M)) × HasReceivedAll k × All (IsWhollyAnsweredBy k) (drop 1 (partitions_of x).items) × Else k)
+    → HasReceivedAll b → All (IsAnsweredBy 0 a short) (drop 1 partitions.items) → IfOk r (λ x. Else x b)
+    → IfOk r (λ x. (k : Known (ChunkResult M)) × HasReceivedAll k × All (IsWhollyAnsweredBy k) (drop 1 (partitions_of x).items) × Else x k)
 told-all partitions_of Else a b short fault staff partitions (Ok x) sent numbers none same all answered also = (
   b,
   all,
@@ -55,3 +63,21 @@ told-all partitions_of Else a b short fault staff partitions (Ok x) sent numbers
   also,
 )
 told-all partitions_of Else a b short fault staff partitions (Err told) sent numbers none same all answered also = tt
+
+-- what was received was offered, where it is told how the answer ended
+pub told-offered : {X L K T : Type 0} {lambda : Ghosts L T} (accepts : K → List T → K → Type 0) (refuses : K → List T → ℕ → K → Type 0) (merge : Merge T) (received : List (Sent (ChunkResult T))) (s s' : K) (ending_of : X → Ending)
+    (first last : Merger L T lambda) (fault : Option MergeFault) (is_closed : Bool) (r : Result X RunFault)
+    → plan_of first ≡ merge → IsFor first [] → OnOk r (fault ≡ None)
+    → IfOk r (λ x. (offers : List (ChunkResult T)) → IsFor last offers → (answer (plan_of last) offers).ending ≡ Some (ending_of x))
+    → HasTakenIn (OffersEach accepts refuses) [] (first, (None, s)) received is_closed (last, (fault, s'))
+    → IfOk r (λ x. WereOffered lambda accepts refuses merge received (ending_of x) s s')
+told-offered accepts refuses merge received s s' ending_of first last fault is_closed (Ok x) plan begun none ends taken = record {
+  first = first;
+  plan = plan;
+  begun = begun;
+  last = last;
+  ends = ends;
+  is_closed = is_closed;
+  taken = subst (λ f. HasTakenIn (OffersEach accepts refuses) [] (first, (None, s)) received is_closed (last, (f, s'))) none taken;
+}
+told-offered accepts refuses merge received s s' ending_of first last fault is_closed (Err told) plan begun none ends taken = tt

@@ -30,7 +30,8 @@ use Rattle.plinq_run.specs.Aggregates.{Aggregates, AggregatesSome, value_at}
 use Rattle.plinq_run.specs.Gathered.{IsGathering, Gathers, HasFinished, FoldsSome, untold, value_of}
 use Rattle.plinq_run.specs.Reports.{MayMerge}
 use Rattle.plinq_run.specs.Runs.{refusal_of, told_refusal}
-use Rattle.plinq_run.proofs.Runs.{merge_for, ended-answer}
+use Rattle.plinq_run.specs.Merged.{merge_for}
+use Rattle.plinq_run.proofs.Runs.{ended-answer}
 
 module _ {T A O : Type 0} (f : Folding T A O) where
   -- folds have the keys of their results

@@ -1,16 +1,26 @@
 -- What the merging thread has done so far.
 use Rattle.std.specs.Prelude.{◌≡◌, ℕ, Bool, List, [], Option, Some, None, Result, Ok, Err, All}
+use Rattle.plinq_source.specs.declared.ending.Ending.{Ending}
+use Rattle.plinq_lambda.specs.Meaning.{Meaning}
 use Rattle.plinq_lambda.specs.declared.lambda.Lambda.{Ghosts}
+use Rattle.plinq_ops.specs.declared.merge_option.MergeOption.{MergeOption}
+use Rattle.plinq_ops.specs.declared.plan.Plan.{Plan}
 use Rattle.plinq_ops.specs.declared.results.ChunkResult.{ChunkResult}
+use Rattle.plinq_ops.specs.Batches.{batch_size}
+use Rattle.plinq_ops.specs.Operator.{stages_of}
 use Rattle.plinq_merge.specs.declared.merge_fault.MergeFault.{MergeFault}
 use Rattle.plinq_merge.specs.declared.merger.Merger.{Merger}
 use Rattle.plinq_merge.specs.declared.more.More.{More}
 use Rattle.plinq_merge.specs.Sending.{Leads}
-use Rattle.plinq_merge.specs.Shown.{Merge, shown}
+use Rattle.plinq_merge.specs.Shown.{Merge, answer, shown}
 use Rattle.plinq_merge.specs.Mergers.{plan_of, IsFor, Takes, StopsShort}
 use Rattle.plinq_merge.specs.Whole.{AreApart}
 use Rattle.plinq_stream.specs.declared.sent.Sent.{Sent}
 use Rattle.plinq_crew.specs.Turns.{HasTakenIn}
+
+-- what a merger of this plan is made for
+abbrev pub merge_for : {L T : Type 0} → (L → Meaning T) → Plan L → MergeOption → Merge T
+merge_for meaning plan option = record { after = stages_of meaning plan.after.now; order = plan.order; decided = plan.decided; size = batch_size option }
 
 module _ {T K : Type 0} (IsResult : ChunkResult T → Type 0) (accepts : K → List T → K → Type 0) (refuses : K → List T → ℕ → K → Type 0)
     (merge : Merge T) (s : K) where
@@ -57,12 +67,14 @@ module _ {L K T : Type 0} {lambda : Ghosts L T} (accepts : K → List T → K �
   abbrev pub OffersEach : Merger L T lambda × (Option MergeFault × K) → Sent (ChunkResult T) → Merger L T lambda × (Option MergeFault × K) → Type 0
   OffersEach x sent y = IsOfferedUnless x.0 x.1.0 x.1.1 sent.item y
 
--- all of these were offered to a new merger, first to last, but for the last ones, which came when the source was closed; it has
--- left the sink so
-pub record WereOffered {L K T : Type 0} (lambda : Ghosts L T) (accepts : K → List T → K → Type 0) (refuses : K → List T → ℕ → K → Type 0) (received : List (Sent (ChunkResult T))) (s s' : K) : Type 0 where
+-- All of these were offered to a new merger of this plan, first to last, but for the last ones, which are left only where the
+-- source was closed. No offer was answered with a fault, the merger has left the sink so, and the answer to what it was
+-- offered has ended so.
+pub record WereOffered {L K T : Type 0} (lambda : Ghosts L T) (accepts : K → List T → K → Type 0) (refuses : K → List T → ℕ → K → Type 0) (merge : Merge T) (received : List (Sent (ChunkResult T))) (ending : Ending) (s s' : K) : Type 0 where
   pub first : Merger L T lambda
+  pub plan : plan_of first ≡ merge
   pub begun : IsFor first []
   pub last : Merger L T lambda
-  pub fault : Option MergeFault
+  pub ends : (offers : List (ChunkResult T)) → IsFor last offers → (answer (plan_of last) offers).ending ≡ Some ending
   pub is_closed : Bool
-  pub taken : HasTakenIn (OffersEach accepts refuses) [] (first, (None, s)) received is_closed (last, (fault, s'))
+  pub taken : HasTakenIn (OffersEach accepts refuses) [] (first, (None, s)) received is_closed (last, (None, s'))

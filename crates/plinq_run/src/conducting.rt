@@ -10,7 +10,7 @@ ghost use Rattle.plinq_crew.specs.Working.{IsReceiver, IsWhollyAnsweredBy};
 ghost use Rattle.plinq_merge.specs.Shown.{Merge, behind_result};
 ghost use Rattle.plinq_partition.specs.Partitions.{IsPartitionOf, holding_of};
 ghost use Rattle.plinq_partition.specs.GivenBack.{common_origin};
-ghost use Rattle.plinq_run.specs.Merged.{Merges, OffersEach, WereOffered};
+ghost use Rattle.plinq_run.specs.Merged.{merge_for, Merges, OffersEach, WereOffered};
 ghost use Rattle.plinq_run.specs.Reaching.{IsOffered};
 ghost use Rattle.plinq_run.specs.Reports.{MayMerge, Ends};
 ghost use Rattle.plinq_stream.specs.declared.known.Known.{Known};
@@ -138,7 +138,7 @@ where
     R: Threads + Wait + Sync,
     requires ready { IsReady L.meaning (λ p r c. c ≡ r) J.is_result J.is_ender crew.now own }
     ensures back { IfOk result (λ ended. (1 ≤ length ended.partitions.items) × All (IsPartitionOf crew.now.chunked.now) ended.partitions.items × (common_origin ended.partitions.items ≡ (holding_of own.partition).origin)) }
-    ensures all { IfOk result (λ ended. (a : Known (ChunkResult L.Item)) × HasReceivedAll a × All (IsWhollyAnsweredBy a) (drop 1 ended.partitions.items) × WereOffered L.Lambda K.accepts K.refuses a.received sink.old sink.new) }
+    ensures all { IfOk result (λ ended. (a : Known (ChunkResult L.Item)) × HasReceivedAll a × All (IsWhollyAnsweredBy a) (drop 1 ended.partitions.items) × WereOffered L.Lambda K.accepts K.refuses (merge_for L.meaning crew.now.plan.now option) a.received ended.ending sink.old sink.new) }
     ensures ends { Ends K.accepts K.refuses option (MayMerge L.meaning crew.now.plan.now) (holding_of own.partition).origin sink.old sink.new result }
 {
     let Ok(hands) = Vec::with_capacity(crew.alloc, crew.workers as usize) else {

@@ -1,10 +1,10 @@
 //! What the caller's thread does with the folds that workers send.
-ghost use Rattle.std.specs.Prelude.{◌≡◌, ◌≤◌, ◌^◌, List, [], true, false, Some, None, IfOk, IfErr, OnOk};
+ghost use Rattle.std.specs.Prelude.{◌≡◌, ◌≤◌, ◌^◌, List, [], true, false, Some, None, ◌||◌, is_some, IfOk, IfErr, OnOk};
 ghost use Rattle.std.specs.Option.{option_or};
 ghost use Rattle.plinq_ops.specs.declared.results.ChunkResult.{ChunkResult};
 ghost use Rattle.plinq_merge.specs.Shown.{merged, behind_result};
 ghost use Rattle.plinq_combine.specs.Folds.{AreFoldsOf};
-ghost use Rattle.plinq_combine.specs.Combiners.{aggregator_of, order_of, IsFor};
+ghost use Rattle.plinq_combine.specs.Combiners.{aggregator_of, order_of, tells_decided, IsFor};
 ghost use Rattle.plinq_run.specs.Faults.{first_told};
 ghost use Rattle.plinq_run.specs.Gathered.{Gathers, IsGatheredUnless, HasFinished};
 ghost use Rattle.plinq_run.specs.declared.run_fault.RunFault.TheVariants.{Incomplete};
@@ -62,7 +62,9 @@ impl<'a, A: Aggregator> Gathering<'a, A> {
     }
 
     /// Whether it is offered nothing more, or wants nothing more.
-    pub(crate) fn is_over(&self) -> bool {
+    pub(crate) fn is_over(&self) -> bool
+        ensures { result ≡ (is_some self.now.fault || tells_decided self.now.combiner) }
+    {
         self.fault.is_some() || self.combiner.decided()
     }
 

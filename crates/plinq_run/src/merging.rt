@@ -1,5 +1,6 @@
 //! What the merging thread does with the results that come.
-ghost use Rattle.std.specs.Prelude.{◌≡◌, ◌≤◌, ◌^◌, true, false, None};
+ghost use Rattle.std.specs.Prelude.{◌≡◌, ◌≤◌, ◌^◌, ◌||◌, true, false, None, is_some};
+ghost use Rattle.plinq_merge.specs.Mergers.{tells_decided};
 ghost use Rattle.plinq_merge.specs.Shown.{Merge, behind_result};
 ghost use Rattle.plinq_run.specs.Merged.{Merges, IsOfferedUnless};
 ghost use Rattle.plinq_run.specs.Reaching.{IsOffered};
@@ -54,7 +55,9 @@ impl<'a, L: Lambda> Merging<'a, L> {
     }
 
     /// Whether it is offered nothing more, or wants nothing more.
-    pub(crate) fn is_over(&self) -> bool {
+    pub(crate) fn is_over(&self) -> bool
+        ensures { result ≡ (is_some self.now.fault || tells_decided self.now.merger) }
+    {
         self.fault.is_some() || self.merger.decided()
     }
 }

@@ -51,4 +51,5 @@ loop-hand-preserved g c =
           (All-push (IsAnsweredBy n both short) (drop 1 before) worked.partition
           (All-weaker (IsAnsweredBy least a old) (IsAnsweredBy n both short) (answered-before n least next a b both is old short c.note_any.ensures.kept work.own) (drop 1 before) c.loop-hand.invariant.answered)
           (answered-now n least next a b both is old short c.note_any.ensures.kept c.loop-hand.invariant.above worked.partition worked.fault c.note_any.ensures.noted work));
+      kept = (λ is. c.note_any.ensures.kept.0 (c.loop-hand.invariant.kept.0 is), λ is. c.note_any.ensures.kept.1 (c.loop-hand.invariant.kept.1 is));
     }

@@ -3,6 +3,7 @@ use Rattle.plinq_partition.specs.Partitions.{IsPartitionOf, holding_of}
 use Rattle.plinq_partition.specs.GivenBack.{common_origin}
 use Rattle.plinq_stream.specs.Passes.{IsPassOf, known}
 use Rattle.plinq_crew.specs.Hands.{IsHandOf, AreNumbered}
+use Rattle.plinq_crew.specs.Short.{StaysNoted}
 use Rattle.plinq_crew.specs.Working.{IsAnsweredBy}
 use Rattle.plinq_crew.proofs.starting.join_all.Given as goal
 
@@ -20,6 +21,7 @@ invariant-loop-hand g l = record {
   received : (known l.pass).received ≡ (known l.fn.pass).received;
   above : All (λ s. length l.hands.items ≤ s.number) (known l.pass).sent;
   answered : All (IsAnsweredBy (length l.hands.items) (known l.pass) l.shortages) (drop 1 l.partitions.items);
+  kept : StaysNoted l.fn.shortages l.shortages;
 }
 
 abbrev pub decreases-loop-hand : goal.decreases-loop-hand

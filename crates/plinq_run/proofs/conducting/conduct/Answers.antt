@@ -2,15 +2,14 @@ use Rattle.std.proofs.Common.{◌≡◌, ◌≤◌, [], length, None, All, refl,
 use Rattle.plinq_stream.specs.Passes.{known}
 use Rattle.plinq_partition.specs.Partitions.{IsPartitionOf, holding_of}
 use Rattle.plinq_partition.specs.GivenBack.{common_origin}
-use Rattle.plinq_run.specs.Merged.{OffersEach, WereOffered}
+use Rattle.plinq_run.specs.Merged.{merge_for, OffersEach, WereOffered}
 use Rattle.plinq_run.specs.Reaching.{IsOffered}
 use Rattle.plinq_crew.specs.Turns.{HasTakenIn}
 use Rattle.plinq_crew.specs.Results.{IsResult}
 use Rattle.plinq_run.proofs.Ended.{none-ended, begins-merging, ended-run, back-as}
 use Rattle.plinq_run.proofs.Merged.{merges-weaker}
 use Rattle.plinq_run.proofs.Parts.{plain-part}
-use Rattle.plinq_run.proofs.Runs.{merge_for}
-use Rattle.plinq_run.proofs.Told.{told-all}
+use Rattle.plinq_run.proofs.Told.{told-all, told-offered}
 use Rattle.plinq_run.proofs.conducting.conduct.Goals as goal
 
 pub returns-in_default-clause-ends : goal.returns-in_default-clause-ends
@@ -52,9 +51,11 @@ returns-clause-all g c =
     let first = c.merge_all.ensures.offers [] (c.in-Ok-new.merger, (None, s)) (record { taken = []; left = []; came = none; steps = refl; all = λ _. refl }) in
     let rest = c.merge_rest.ensures.offers [] (c.in-Ok-new.merger, (None, s))
     (subst (λ xs. HasTakenIn Step [] (c.in-Ok-new.merger, (None, s)) xs among.closing.is_closed (among.merger, (among.fault, c.merge_all.new.sink))) (sym c.join_all-partitions.ensures.received) first) in
-    told-all (λ e. e.partitions) (λ k. WereOffered g.L.Lambda accepts refuses k.received s c.merge_rest.new.sink) a b c.join_all-partitions.new.shortages _ _ c.join_all-partitions.result c.told.result
+    let merge = merge_for g.L.Lambda.meaning c.args.crew.now.plan.now c.args.option in
+    told-all (λ e. e.partitions) (λ e k. WereOffered g.L.Lambda accepts refuses merge k.received e.ending s c.merge_rest.new.sink) a b c.join_all-partitions.new.shortages _ _ c.join_all-partitions.result c.told.result
     c.merge_rest.ensures.sent c.merge_rest.ensures.numbers c.told.ensures.first c.told.ensures.partitions c.merge_rest.ensures.all c.join_all-partitions.ensures.answered
-    (record { first = c.in-Ok-new.merger; begun = c.in-Ok-new.ensures.nothing; last = last.merger; fault = last.fault; is_closed = last.closing.is_closed; taken = rest })
+    (told-offered accepts refuses merge b.received s c.merge_rest.new.sink (λ e. e.ending) c.in-Ok-new.merger last.merger last.fault last.closing.is_closed c.told.result
+    c.in-Ok-new.ensures.plan c.in-Ok-new.ensures.nothing c.told.ensures.none c.told.ensures.ending rest)
 
 pub returns-clause-back : goal.returns-clause-back
 returns-clause-back g c =
