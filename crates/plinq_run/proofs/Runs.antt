@@ -14,7 +14,6 @@ use Rattle.plinq_ops.specs.declared.plan.Plan.{Plan}
 use Rattle.plinq_ops.specs.declared.results.ChunkResult.{ChunkResult}
 use Rattle.plinq_ops.specs.Batches.{batch_size, batches, batches_from}
 use Rattle.plinq_ops.specs.Fragment.{glue}
-use Rattle.plinq_ops.specs.Operator.{stages_of}
 use Rattle.plinq_ops.specs.Row.{AreOffers}
 use Rattle.plinq_ops.specs.Stage.{seq, seq_behind}
 use Rattle.plinq_ops.proofs.Stages.{seq-followed}

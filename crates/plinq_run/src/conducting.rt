@@ -1,5 +1,5 @@
 //! What the caller's thread does in a run: it starts the workers, merges what they send, and joins them.
-ghost use Rattle.std.specs.Prelude.{◌≡◌, ◌≤◌, ◌<◌, ◌^◌, ◌^◌, [], drop, length, true, false, All, IfOk, vec_capacity};
+ghost use Rattle.std.specs.Prelude.{◌≡◌, ◌≤◌, ◌<◌, ◌+◌, ◌^◌, [], drop, length, true, false, All, IfOk, vec_capacity};
 ghost use Rattle.std.specs.List.{list_any};
 ghost use Rattle.plinq_ops.specs.Feeding.{is_empty_take};
 ghost use Rattle.plinq_ops.specs.ByKey.{is_by_key};
@@ -138,6 +138,7 @@ where
     R: Threads + Wait + Sync,
     requires ready { IsReady L.meaning (λ p r c. c ≡ r) J.is_result J.is_ender crew.now own }
     ensures back { IfOk result (λ ended. (1 ≤ length ended.partitions.items) × All (IsPartitionOf crew.now.chunked.now) ended.partitions.items × (common_origin ended.partitions.items ≡ (holding_of own.partition).origin)) }
+    ensures started { IfOk result (λ ended. length ended.partitions.items ≡ crew.now.workers + 1) }
     ensures all { IfOk result (λ ended. (a : Known (ChunkResult L.Item)) × HasReceivedAll a × All (IsWhollyAnsweredBy a) (drop 1 ended.partitions.items) × WereOffered L.Lambda K.accepts K.refuses (merge_for L.meaning crew.now.plan.now option) a.received ended.ending sink.old sink.new) }
     ensures ends { Ends K.accepts K.refuses option (MayMerge L.meaning crew.now.plan.now) (holding_of own.partition).origin sink.old sink.new result }
 {
