@@ -22,7 +22,7 @@ module _ {M : Type 0} where
   HasCome a Over b = b ≡ a
 
 -- Something is made by steps of all that was received since some moment, one step for each in the order in which it came,
--- but for the last ones, for which there is none: these came when the source was closed.
+-- but for the last ones, for which there is none; all of them were taken in where the source was not closed.
 pub record HasTakenIn {X Y : Type 0} (Step : Y → X → Y → Type 0) (before : List X) (y : Y) (received : List X) (is_closed : Bool) (y' : Y) : Type 0 where
   pub taken : List X
   pub left : List X

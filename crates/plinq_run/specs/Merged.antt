@@ -67,9 +67,8 @@ module _ {L K T : Type 0} {lambda : Ghosts L T} (accepts : K → List T → K �
   abbrev pub OffersEach : Merger L T lambda × (Option MergeFault × K) → Sent (ChunkResult T) → Merger L T lambda × (Option MergeFault × K) → Type 0
   OffersEach x sent y = IsOfferedUnless x.0 x.1.0 x.1.1 sent.item y
 
--- All of these were offered to a new merger of this plan, first to last, but for the last ones, which are left only where the
--- source was closed. No offer was answered with a fault, the merger has left the sink so, and the answer to what it was
--- offered has ended so.
+-- All of these were offered to a new merger of this plan, first to last, but for some of the last ones. No offer was answered
+-- with a fault, the merger has left the sink so, and the answer to what it was offered has ended so.
 pub record WereOffered {L K T : Type 0} (lambda : Ghosts L T) (accepts : K → List T → K → Type 0) (refuses : K → List T → ℕ → K → Type 0) (merge : Merge T) (received : List (Sent (ChunkResult T))) (ending : Ending) (s s' : K) : Type 0 where
   pub first : Merger L T lambda
   pub plan : plan_of first ≡ merge
