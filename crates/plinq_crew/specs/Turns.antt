@@ -1,10 +1,14 @@
--- What comes at a turn, and what was made of all that came.
-use Rattle.std.specs.Prelude.{◌≡◌, ⊤, List, [], ◌++◌, Bool, false}
+-- What comes at a turn, how it closes the source, and what was made of all that came.
+use Rattle.std.specs.Prelude.{◌≡◌, ⊤, List, [], ◌++◌, Bool, true, false}
 use Rattle.std.specs.List.{FoldsTo}
+use Rattle.plinq_partition.specs.Partitions.{Holding, IsStopped}
 use Rattle.plinq_ops.specs.declared.results.ChunkResult.{ChunkResult}
 use Rattle.plinq_stream.specs.declared.known.Known.{Known}
 use Rattle.plinq_stream.specs.declared.sent.Sent.{Sent}
 use Rattle.plinq_stream.specs.Knowing.{with_received}
+use Rattle.plinq_crew.specs.Short.{is_short}
+use Rattle.plinq_crew.specs.declared.closing.Closing.{Closing}
+use Rattle.plinq_crew.specs.declared.starting.Shortages.{Shortages}
 use Rattle.plinq_crew.specs.declared.turn.Turn.{Turn}
 use Rattle.plinq_crew.specs.declared.turn.Turn.TheVariants.{Came, Nothing, Over}
 
@@ -20,6 +24,16 @@ module _ {M : Type 0} where
   HasCome a (Came made) b = (s : Sent (ChunkResult M)) × (s.item ≡ made) × (b ≡ with_received a s)
   HasCome a (Nothing sleep) b = b ≡ a
   HasCome a Over b = b ≡ a
+
+-- the source is closed once at most, by a close of this share's own; where nothing more is wanted, it is closed by then, or a
+-- fault is noted
+abbrev pub ClosesInTime : {T : Type 0} → Bool → Closing → Holding T → Shortages → Closing → Holding T → Type 0
+ClosesInTime is_over before a short' after b =
+    (before.is_stopped ≡ true → after ≡ before)
+    × (after.is_stopped ≡ before.is_stopped → b ≡ a)
+    × (before.is_stopped ≡ false → after.is_stopped ≡ true → IsStopped a b)
+    × (is_over ≡ true → before.is_stopped ≡ false → after.is_closed ≡ true)
+    × (is_over ≡ true → before.is_stopped ≡ false → after.is_stopped ≡ false → is_short short' ≡ true)
 
 -- Something is made by steps of all that was received since some moment, one step for each in the order in which it came,
 -- but for the last ones, for which there is none; all of them were taken in where the source was not closed.

@@ -5,7 +5,7 @@ ghost use Rattle.plinq_cut.specs.Passes.{IsPassOf as IsCutPassOf};
 ghost use Rattle.plinq_crew.specs.Working.{IsReceiver};
 ghost use Rattle.plinq_partition.specs.Partitions.{IsPartitionOf, holding_of};
 ghost use Rattle.plinq_crew.specs.Short.{is_short, StaysNoted};
-ghost use Rattle.plinq_crew.specs.Turns.{IfCame, HasCome};
+ghost use Rattle.plinq_crew.specs.Turns.{IfCame, HasCome, ClosesInTime};
 ghost use Rattle.plinq_stream.specs.Passes.{IsPassOf, known};
 
 use crate::closing::Closing;
@@ -34,6 +34,7 @@ pub struct Caller<S: Source, M> {
     pub staff: Staff,
     pub shortages: Shortages,
     pub backoff: Backoff,
+    /// How many turns more it only yields where nothing comes.
     pub early: u64,
 }
 
@@ -76,7 +77,7 @@ impl<S: Source, M: Drop> Caller<S, M> {
         ensures staff { self.new.staff ≡ self.old.staff }
         ensures kept { StaysNoted self.old.shortages self.new.shortages }
         ensures closed { closing.old.is_closed ≡ true → closing.new.is_closed ≡ true }
-        ensures closes { closing.old.is_stopped ≡ false → is_over ≡ true → closing.new.is_closed ≡ true }
+        ensures closes { ClosesInTime is_over closing.old (holding_of self.old.partition) self.new.shortages closing.new (holding_of self.new.partition) }
     {
         if closing.is_stopped {
             return;
@@ -119,7 +120,7 @@ impl<S: Source, M: Drop> Caller<S, M> {
         ensures staff { self.new.staff ≡ self.old.staff }
         ensures kept { StaysNoted self.old.shortages self.new.shortages }
         ensures closed { closing.old.is_closed ≡ true → closing.new.is_closed ≡ true }
-        ensures closes { closing.old.is_stopped ≡ false → is_over ≡ true → closing.new.is_closed ≡ true }
+        ensures closes { ClosesInTime is_over closing.old (holding_of self.old.partition) self.new.shortages closing.new (holding_of self.new.partition) }
     {
         let sleep = if self.backoff.is_completed() && self.early == 0 {
             Some(crew.progress.announce_sleep())

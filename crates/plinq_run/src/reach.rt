@@ -1,4 +1,4 @@
-ghost use Rattle.std.specs.Prelude.{◌≡◌, ◌≤◌, ◌^◌};
+ghost use Rattle.std.specs.Prelude.{◌≡◌, ◌≤◌, ◌^◌, false};
 ghost use Rattle.plinq_merge.specs.Shown.{behind_result};
 ghost use Rattle.plinq_run.specs.Handed.{is_end};
 ghost use Rattle.plinq_run.specs.Reaching.{Grows, Reaches};
@@ -21,7 +21,11 @@ pub(crate) fn tells_end(tail: Option<Tail>) -> bool
 }
 
 impl Reach {
-    pub(crate) fn none() -> Reach {
+    /// No result was offered.
+    pub(crate) fn none() -> Reach
+        ensures behind { result.behind ≡ 0 }
+        ensures untold { result.is_told ≡ false }
+    {
         Reach {
             behind: 0,
             is_told: false,
