@@ -1,8 +1,11 @@
 -- What a run delivers and reports: one of the answers that it may have.
-use Rattle.std.specs.Prelude.{◌≡◌, ℕ, List, Result, Ok, Err}
+use Rattle.std.specs.Prelude.{◌≡◌, ◌≤◌, ℕ, List, length, Result, Ok, Err, All, IfOk}
 use Rattle.plinq_source.specs.declared.source.Source.{Ghosts}
 use Rattle.plinq_source.specs.Trace.{Trace}
 use Rattle.plinq_lambda.specs.Meaning.{Meaning}
+use Rattle.plinq_partition.specs.declared.chunked.Chunked.{Chunked}
+use Rattle.plinq_partition.specs.GivenBack.{common_origin}
+use Rattle.plinq_partition.specs.Partitions.{IsPartitionOf}
 use Rattle.plinq_ops.specs.declared.merge_option.MergeOption.{MergeOption}
 use Rattle.plinq_ops.specs.declared.order.Order.{Order}
 use Rattle.plinq_ops.specs.declared.order.Order.TheVariants.{ByKey, ByArrival}
@@ -56,3 +59,9 @@ module _ {K T : Type 0} (accepts : K → List T → K → Type 0) (refuses : K �
   abbrev pub Reports : Result Report RunFault → Type 0
   Reports (Ok report) = HasReported report
   Reports (Err fault) = IsBroken fault
+
+-- a run was conducted: the partitions of one with an answer have shared this source, and what was delivered is of an answer
+pub record IsConducted {K S T : Type 0} {source : Ghosts S T} (accepts : K → List T → K → Type 0) (refuses : K → List T → ℕ → K → Type 0) (option : MergeOption)
+    (May : Trace T → Trace T → Type 0) (chunked : Chunked S T source) (t : Trace T) (s s' : K) (result : Result (Ended S T source) RunFault) : Type 0 where
+  pub back : IfOk result (λ ended. (1 ≤ length ended.partitions.items) × All (IsPartitionOf chunked) ended.partitions.items × (common_origin ended.partitions.items ≡ t))
+  pub ends : Ends accepts refuses option May t s s' result

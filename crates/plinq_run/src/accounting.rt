@@ -1,5 +1,5 @@
 //! Whether the records of a run account for the results that were offered.
-ghost use Rattle.std.specs.Prelude.{◌≡◌};
+ghost use Rattle.std.specs.Prelude.{◌≡◌, ◌+◌, nat_le};
 ghost use Rattle.plinq_run.specs.Handed.{tells_end, has_close, hands_out_to};
 ghost use Rattle.plinq_run.specs.Reaching.{accounts_for};
 
@@ -30,6 +30,13 @@ fn is_closed(records: &[Record]) -> bool
     false
 }
 
+/// Whether this record's keys end there or behind.
+fn reaches(entry: &Record, behind: u64) -> bool
+    ensures { result ≡ nat_le behind (entry.now.first + entry.now.count) }
+{
+    behind <= entry.first.saturating_add(entry.count)
+}
+
 /// Whether all keys before this one were handed out.
 fn are_handed_out(records: &[Record], behind: u64) -> bool
     ensures { result ≡ hands_out_to behind records.now }
@@ -38,7 +45,7 @@ fn are_handed_out(records: &[Record], behind: u64) -> bool
         return true;
     }
     for record in records {
-        if behind <= record.first.saturating_add(record.count) {
+        if reaches(record, behind) {
             return true;
         }
     }

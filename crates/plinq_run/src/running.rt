@@ -15,7 +15,7 @@ ghost use Rattle.plinq_run.specs.Endings.{reported};
 ghost use Rattle.plinq_crew.specs.Equipped.{IsReady};
 ghost use Rattle.plinq_run.specs.Handed.{has_close, handed_trace};
 ghost use Rattle.plinq_crew.specs.Plans.{IsUndecided};
-ghost use Rattle.plinq_run.specs.Reports.{MayMerge, Ends, Reports};
+ghost use Rattle.plinq_run.specs.Reports.{MayMerge, IsConducted, Reports};
 ghost use Rattle.plinq_crew.specs.Results.{IsResult};
 ghost use Rattle.plinq_run.specs.Runs.{Runs};
 
@@ -71,8 +71,7 @@ where
     K: Sink<Item = L::Item>,
     R: Threads + Wait + Sync,
     requires ready { IsReady L.meaning (λ p r c. c ≡ r) J.is_result J.is_ender crew.now own }
-    ensures back { IfOk result (λ ended. (1 ≤ length ended.partitions.items) × All (IsPartitionOf crew.now.chunked.now) ended.partitions.items × (common_origin ended.partitions.items ≡ (holding_of own.partition).origin)) }
-    ensures ends { Ends K.accepts K.refuses option (MayMerge L.meaning crew.now.plan.now) (holding_of own.partition).origin sink.old sink.new result }
+    ensures { IsConducted K.accepts K.refuses option (MayMerge L.meaning crew.now.plan.now) crew.now.chunked.now (holding_of own.partition).origin sink.old sink.new result }
 {
     let lent = &mut *sink;
     let (ended, _lent) = thread::scope(
@@ -80,9 +79,8 @@ where
         rt,
         move |scope| -> (Result<Ended<S>, RunFault>, &mut K)
             requires ready { IsReady L.meaning (λ p r c. c ≡ r) J.is_result J.is_ender crew.now own }
-            ensures back { IfOk result.0 (λ ended. (1 ≤ length ended.partitions.items) × All (IsPartitionOf crew.entry.now.chunked.now) ended.partitions.items × (common_origin ended.partitions.items ≡ (holding_of own.partition).origin)) }
             ensures same { result.1.ghost_name ≡ lent.entry.ghost_name }
-            ensures ends { Ends K.accepts K.refuses option (MayMerge L.meaning crew.entry.now.plan.now) (holding_of own.partition).origin lent.entry.now result.1.now result.0 }
+            ensures conducted { IsConducted K.accepts K.refuses option (MayMerge L.meaning crew.entry.now.plan.now) crew.entry.now.chunked.now (holding_of own.partition).origin lent.entry.now result.1.now result.0 }
         {
             let ended = conduct(scope, rt, crew, own, option, lent);
             (ended, lent)
