@@ -34,7 +34,7 @@ pub struct Caller<S: Source, M> {
     pub staff: Staff,
     pub shortages: Shortages,
     pub backoff: Backoff,
-    /// How many turns more it only yields where nothing comes.
+    /// For how many more turns it only yields where nothing comes.
     pub early: u64,
 }
 

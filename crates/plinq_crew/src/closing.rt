@@ -1,11 +1,11 @@
 ghost use Rattle.std.specs.Prelude.{◌≡◌, false};
 
-/// How far the source was closed since nothing more is wanted.
+/// How far the closing of the source has come, once nothing more is wanted.
 #[derive(Clone, Copy)]
 pub struct Closing {
     /// Whether it is to be closed: what comes from now on is dropped.
     pub is_closed: bool,
-    /// Whether it was: the close is one of the records of the caller's partition.
+    /// Whether a turn has closed it.
     pub is_stopped: bool,
 }
 

@@ -30,7 +30,7 @@ fn is_closed(records: &[Record]) -> bool
     false
 }
 
-/// Whether this record's keys end there or behind.
+/// Whether this record's keys end at that one or later.
 fn reaches(entry: &Record, behind: u64) -> bool
     ensures { result ≡ nat_le behind (entry.now.first + entry.now.count) }
 {
