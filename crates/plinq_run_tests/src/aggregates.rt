@@ -2,7 +2,7 @@ ghost use Rattle.std.specs.Prelude.{◌≡◌, ◌≤◌, length, refl};
 ghost use Rattle.plinq_aggregate.specs.Numbers.{picking};
 ghost use Rattle.plinq_aggregate.specs.Lawful.{picking-lawful};
 
-use crate::asked::{OPTIONS, WORKERS, ordered};
+use crate::asked::{OPTIONS, WORKERS, built, ordered};
 use plinq_aggregate::{Aggregator, Count, Max, Min, Sum};
 use plinq_enumerator::Growth;
 use plinq_lambda::Formula;
@@ -127,9 +127,7 @@ fn even_numbers<R: Threads + Wait + Sync + Abort>(
     workers: u64,
     count: u64,
 ) -> Result<(), Fail> {
-    let query = ordered(alloc, option, workers)?
-        .filter(Formula::Even)
-        .map_err(|(_, fault)| fault)?;
+    let query = built(ordered(alloc, option, workers)?.filter(Formula::Even))?;
     let found = told(
         rt,
         alloc,
@@ -171,10 +169,10 @@ fn ended_early<R: Threads + Wait + Sync + Abort>(
     let source = ListSource::refusing(alloc, vec![in alloc; 1i64, 2]?, 7);
     let refused = told(rt, alloc, &query, source, Growth::ONE, &Sum);
     assert_eq!(rt; refused, Err(AggregateFault::Ended(Ending::Refused(7))));
-    let query = query.select(Formula::Into(10)).map_err(|(_, fault)| fault)?;
+    let query = built(query.select(Formula::Into(10)))?;
     let faulted = of_list(rt, alloc, &query, &[5, 0, 2], Growth::ONE, &Sum)?;
     assert_eq!(rt; faulted, Err(AggregateFault::Ended(Ending::Fault(2))));
-    let query = query.take(1).map_err(|(_, fault)| fault)?;
+    let query = built(query.take(1))?;
     assert_eq!(rt;
         of_list(rt, alloc, &query, &[5, 0, 2], Growth::ONE, &Sum)?,
         Ok(2)
@@ -191,9 +189,7 @@ fn an_answer_that_ends_early_has_no_aggregate(rt: HostRuntime) -> Result<(), Fai
 }
 
 fn of_a_decided_query<R: Threads + Wait + Sync + Abort>(rt: &R, alloc: Global) -> Result<(), Fail> {
-    let query = ordered(alloc, MergeOption::Default, 2)?
-        .take(0)
-        .map_err(|(_, fault)| fault)?;
+    let query = built(ordered(alloc, MergeOption::Default, 2)?.take(0))?;
     let source = ListSource::refusing(alloc, Vec::new(alloc), 7);
     assert_eq!(rt; told(rt, alloc, &query, source, Growth::ONE, &Count), Ok(0));
     Ok(())
@@ -209,9 +205,7 @@ fn in_any_order<R: Threads + Wait + Sync + Abort>(
     alloc: Global,
     workers: u64,
 ) -> Result<(), Fail> {
-    let query = Query::new(alloc)
-        .with_degree(workers)
-        .map_err(|(_, fault)| fault)?;
+    let query = built(Query::new(alloc).with_degree(workers))?;
     assert_eq!(rt;
         of_list(rt, alloc, &query, &[3, 1, 2], Growth::ONE, &Sum)?,
         Ok(6)

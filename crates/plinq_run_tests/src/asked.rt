@@ -98,15 +98,20 @@ fn left_behind(batches: &[Vec<i64>], items: &[i64], size: usize) -> Option<usize
     Some(left.len())
 }
 
+/// What a builder call answered, without the query of one that failed.
+pub(crate) fn built<L: Lambda>(answer: Built<L>) -> Result<Query<L>, BuildFault> {
+    answer.map_err(|(_, fault)| fault)
+}
+
 /// A query that keeps the order, without an operator.
 pub(crate) fn ordered<L: Lambda>(
     alloc: Global,
     option: MergeOption,
     workers: u64,
 ) -> Result<Query<L>, BuildFault> {
-    let query = Query::new(alloc).as_ordered().map_err(|(_, fault)| fault)?;
-    let query = query.with_merge(option).map_err(|(_, fault)| fault)?;
-    query.with_degree(workers).map_err(|(_, fault)| fault)
+    let query = built(Query::new(alloc).as_ordered())?;
+    let query = built(query.with_merge(option))?;
+    built(query.with_degree(workers))
 }
 
 /// The query with the builder call of this operator.
@@ -125,7 +130,7 @@ fn with<L: Lambda>(query: Query<L>, op: Op<L>) -> Built<L> {
 fn with_all<L: Lambda + Copy>(query: Query<L>, ops: &[Op<L>]) -> Result<Query<L>, BuildFault> {
     let mut query = query;
     for op in ops {
-        query = with(query, *op).map_err(|(_, fault)| fault)?;
+        query = built(with(query, *op))?;
     }
     Ok(query)
 }

@@ -1,6 +1,7 @@
 //! What workers do behind a key that ends the run.
 ghost use Rattle.std.specs.Prelude.{Ok, Err, false};
 
+use crate::asked::built;
 use crate::taken::Taken;
 use crate::waiting::waits_for;
 use plinq_enumerator::Growth;
@@ -82,11 +83,9 @@ impl Gate for OneAfterAnother {
 
 /// A query that keeps the order, and takes while its lambda says so.
 fn taking_while(alloc: Global, greatest: &AtomicU64) -> Result<Query<Noting<'_>>, BuildFault> {
-    let query = Query::new(alloc).as_ordered().map_err(|(_, fault)| fault)?;
-    let query = query.with_degree(2).map_err(|(_, fault)| fault)?;
-    query
-        .take_while(Noting { greatest })
-        .map_err(|(_, fault)| fault)
+    let query = built(Query::new(alloc).as_ordered())?;
+    let query = built(query.with_degree(2))?;
+    built(query.take_while(Noting { greatest }))
 }
 
 /// Whether a run told an answer that ended well.

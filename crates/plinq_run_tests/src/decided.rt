@@ -1,5 +1,5 @@
 //! What a decided query asks of its source.
-use crate::asked::ordered;
+use crate::asked::{built, ordered};
 use crate::taken::Taken;
 use plinq_aggregate::Count;
 use plinq_enumerator::Growth;
@@ -83,7 +83,7 @@ fn aggregate_asks<R: Threads + Wait + Sync + Abort>(
 /// A query of the first so many.
 fn first_ones(alloc: Global, count: i64) -> Result<Query<Formula>, Fail> {
     let query = ordered(alloc, MergeOption::NotBuffered, 2)?;
-    Ok(query.take(count).map_err(|(_, fault)| fault)?)
+    Ok(built(query.take(count))?)
 }
 
 #[test]

@@ -3,7 +3,7 @@
 ghost use Rattle.plinq_aggregate.specs.Numbers.{counting};
 ghost use Rattle.plinq_aggregate.specs.Lawful.{counting-lawful};
 
-use crate::asked::{WORKERS, ordered};
+use crate::asked::{WORKERS, built, ordered};
 use plinq_aggregate::{Aggregator, Max, Sum};
 use plinq_enumerator::Growth;
 use plinq_lambda::Formula;
@@ -137,9 +137,8 @@ fn of_a_long_range<R: Threads + Wait + Sync + Abort>(
     workers: u64,
     count: u64,
 ) -> Result<(), Fail> {
-    let query = ordered(alloc, MergeOption::Default, workers)?
-        .take_while(Formula::Below(1_000))
-        .map_err(|(_, fault)| fault)?;
+    let query = ordered(alloc, MergeOption::Default, workers)?;
+    let query = built(query.take_while(Formula::Below(1_000)))?;
     let gate = CountsByFour {
         takes: AtomicU64::new(0),
         odd_ones: AtomicU64::new(0),
@@ -168,11 +167,8 @@ fn behind_the_merge<R: Threads + Wait + Sync + Abort>(
     workers: u64,
     count: u64,
 ) -> Result<(), Fail> {
-    let query = ordered(alloc, MergeOption::Default, workers)?
-        .filter(Formula::Even)
-        .map_err(|(_, fault)| fault)?
-        .take(3)
-        .map_err(|(_, fault)| fault)?;
+    let query = built(ordered(alloc, MergeOption::Default, workers)?.filter(Formula::Even))?;
+    let query = built(query.take(3))?;
     let source = RangeSource::new(1, count)?;
     let sum = aggregate(rt, alloc, &query, source, Growth::ONE, &OpenGate, &Sum);
     assert_eq!(rt; sum, Ok(12));

@@ -2,7 +2,7 @@
 ghost use Rattle.std.specs.Prelude.{Ok, true, []};
 ghost use Rattle.std.proofs.Common.{arith};
 
-use crate::asked::{WORKERS, ordered};
+use crate::asked::{WORKERS, built, ordered};
 use crate::taken::Taken;
 use plinq_enumerator::Growth;
 use plinq_lambda::{ExpandFault, Lambda};
@@ -44,9 +44,8 @@ fn expand_nothing<R: Threads + Wait + Sync + Abort>(
     alloc: Global,
     workers: u64,
 ) -> Result<(), Fail> {
-    let query = ordered(alloc, MergeOption::NotBuffered, workers)?
-        .select_many(NoRoom)
-        .map_err(|(_, fault)| fault)?;
+    let query = ordered(alloc, MergeOption::NotBuffered, workers)?;
+    let query = built(query.select_many(NoRoom))?;
     let source = RangeSource::new(0, 100)?;
     let mut sink = Taken::new(alloc, usize::MAX);
     let told = run(

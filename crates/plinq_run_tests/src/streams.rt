@@ -1,6 +1,6 @@
 ghost use Rattle.std.specs.Prelude.{⊤};
 
-use crate::asked::{WORKERS, ordered};
+use crate::asked::{WORKERS, built, ordered};
 use crate::waiting::KeepsBack;
 use plinq_enumerator::Growth;
 use plinq_lambda::Formula;
@@ -66,9 +66,8 @@ fn add_one<K: Sink<Item = i64>, R: Threads + Wait + Sync + Abort>(
     gate: &KeepsBack<'_>,
     sink: &mut K,
 ) -> Result<(), Fail> {
-    let query = ordered(alloc, MergeOption::NotBuffered, workers)?
-        .select(Formula::Add(1))
-        .map_err(|(_, fault)| fault)?;
+    let query = ordered(alloc, MergeOption::NotBuffered, workers)?;
+    let query = built(query.select(Formula::Add(1)))?;
     let source = ListSource::new(alloc, vec![in alloc; 3i64, 1, 4]?);
     let report = run(rt, alloc, &query, source, Growth::ONE, gate, sink)?;
     assert_eq!(rt; report.ending, Ending::End);

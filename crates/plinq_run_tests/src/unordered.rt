@@ -1,4 +1,4 @@
-use crate::asked::WORKERS;
+use crate::asked::{WORKERS, built};
 use crate::taken::Taken;
 use plinq_enumerator::{Growth, replays};
 use plinq_lambda::Formula;
@@ -30,10 +30,8 @@ fn unordered(
     option: MergeOption,
     workers: u64,
 ) -> Result<Query<Formula>, BuildFault> {
-    let query = Query::new(alloc)
-        .with_merge(option)
-        .map_err(|(_, fault)| fault)?;
-    query.with_degree(workers).map_err(|(_, fault)| fault)
+    let query = built(Query::new(alloc).with_merge(option))?;
+    built(query.with_degree(workers))
 }
 
 fn add_one_to_each<R: Threads + Wait + Sync + Abort>(
@@ -41,9 +39,8 @@ fn add_one_to_each<R: Threads + Wait + Sync + Abort>(
     alloc: Global,
     workers: u64,
 ) -> Result<(), Fail> {
-    let query = unordered(alloc, MergeOption::NotBuffered, workers)?
-        .select(Formula::Add(1))
-        .map_err(|(_, fault)| fault)?;
+    let query = unordered(alloc, MergeOption::NotBuffered, workers)?;
+    let query = built(query.select(Formula::Add(1)))?;
     let source = ListSource::refusing(alloc, vec![in alloc; 3i64, 1, 4]?, 7);
     let mut sink = Taken::new(alloc, usize::MAX);
     let report = run(rt, alloc, &query, source, Growth::ONE, &OpenGate, &mut sink)?;
@@ -67,9 +64,7 @@ fn take_any_two<R: Threads + Wait + Sync + Abort>(
     alloc: Global,
     workers: u64,
 ) -> Result<(), Fail> {
-    let query = unordered(alloc, MergeOption::AutoBuffered, workers)?
-        .take(2)
-        .map_err(|(_, fault)| fault)?;
+    let query = built(unordered(alloc, MergeOption::AutoBuffered, workers)?.take(2))?;
     let source = ListSource::new(alloc, vec![in alloc; 1i64, 2, 4]?);
     let mut sink = Taken::new(alloc, usize::MAX);
     let report = run(rt, alloc, &query, source, Growth::ONE, &OpenGate, &mut sink)?;
