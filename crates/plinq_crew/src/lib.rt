@@ -6,7 +6,8 @@
 //! - What workers send is made of results of chunks of the source, each under a cut of its own (`IsPart`): of the first of
 //!   a worker's records, in their order, and of all of them where it had no fault (`HasWorked`, `IsAnsweredBy`).
 //! - A [`Post`] says what a worker does besides: which gates it passes, and what it makes of a result before it sends it.
-//! - A [`Caller`] is that thread among its workers: at each [`Turn`] it receives what was sent, or closes the source in time.
+//! - A [`Caller`] is that thread among its workers: at each [`Turn`] it closes the source in time (`ClosesInTime`), and
+//!   receives what was sent (`HasCome`).
 //! - [`Progress`] tells the threads of a run when to wait and when to go on; no answer rests on it.
 #![tactic(auto)]
 

@@ -4,8 +4,8 @@
 //! - [`run`] on a query with `as_ordered` delivers exactly the batches of the sequential answer and tells its ending, or
 //!   after a fault the first of these batches (`Runs`), for every number of workers and every order in which results come.
 //! - On any other query it delivers the batches of some answer that the query may have (`Reports`).
-//! - The records that it reports are a legal history of the source, which was closed, and what they hand out has the
-//!   answer that was delivered (`handed_trace`).
+//! - The records that it reports are a legal history of the source, which was closed unless the query is decided, and what
+//!   they hand out has the answer that was delivered (`handed_trace`).
 //! - [`aggregate`] on a query with `as_ordered` tells the value of the sequential answer's items, or how that answer ended
 //!   otherwise (`Aggregates`).
 //! - Workers send results of chunks of the source as they are, or for an aggregate with nothing behind the merge the fold of
