@@ -4,10 +4,10 @@
     python3 bench/workloads.py times [PEERS [NAME=WORKLOAD..]]
     python3 bench/workloads.py instructions
 
-`times` runs each workload by 1, 2 and 4 workers, three rounds, and prints the best line of each. PEERS is a file of such lines
-that other programs printed, of the same workloads or of those that a NAME there stands for: the sums have to be the same, and
-of each workload the shortest times of both are told. `instructions` prints where the instructions of `cheap` go by one worker:
-callgrind's slope between two counts of items, by the functions of the program.
+`times` runs each workload by 1, 2 and 4 workers, each in a process of its own, which tells the best of its rounds. PEERS is a
+file of such lines that other programs printed, of the same workloads or of those that a NAME there stands for: the sums have to
+be the same, and of each workload the shortest times of both are told. `instructions` prints where the instructions of `cheap` go
+by one worker: callgrind's slope between two counts of items, by the functions of the program.
 """
 import os
 import re
@@ -19,7 +19,6 @@ ROOT = os.path.dirname(os.path.dirname(os.path.abspath(__file__)))
 PROGRAM = os.path.join(ROOT, "crates", "plinq_bench", "out", "plinq_bench")
 WORKLOADS = ("cheap", "heavy", "skewed", "ramp", "streamed", "take_while", "take", "sum")
 WORKERS = (1, 2, 4)
-ROUNDS = 3
 LOW, HIGH = 100_000, 1_100_000
 
 # Each part by what the names of its functions begin with; what is called from one place alone stands in its caller.
@@ -52,13 +51,12 @@ def lines_of(text):
 def best_of(workload):
     """The best line of the loop, and that of each number of workers."""
     best = {}
-    for _ in range(ROUNDS):
-        for workers in WORKERS:
-            said = subprocess.run([PROGRAM, workload, str(workers)], stdout=subprocess.PIPE, check=True, text=True).stdout
-            for line in lines_of(said):
-                key = line.what, line.threads
-                if key not in best or line.seconds < best[key].seconds:
-                    best[key] = line
+    for workers in WORKERS:
+        said = subprocess.run([PROGRAM, workload, str(workers)], stdout=subprocess.PIPE, check=True, text=True).stdout
+        for line in lines_of(said):
+            key = line.what, line.threads
+            if key not in best or line.seconds < best[key].seconds:
+                best[key] = line
     return [best[key] for key in sorted(best)]
 
 
@@ -98,7 +96,7 @@ def instructions_of(items):
     with tempfile.TemporaryDirectory() as folder:
         out = os.path.join(folder, "out")
         tool = ["valgrind", "--tool=callgrind", f"--callgrind-out-file={out}"]
-        subprocess.run(tool + [PROGRAM, "cheap", "1", str(items)], stdout=subprocess.DEVNULL, stderr=subprocess.DEVNULL, check=True)
+        subprocess.run(tool + [PROGRAM, "cheap", "1", str(items), "1"], stdout=subprocess.DEVNULL, stderr=subprocess.DEVNULL, check=True)
         said = subprocess.run(["callgrind_annotate", "--threshold=100", out], stdout=subprocess.PIPE, check=True, text=True).stdout
     found = {}
     for count, name in re.findall(r"^ *([\d,]+) \( *[\d.]+%\)  [^\s:]+:(\S.*)$", said, re.MULTILINE):

@@ -1,10 +1,11 @@
 //! `plinq_bench`: runs a workload over the library, and says how long it took beside a plain loop.
 //!
-//!     plinq_bench heavy 4 1000000   # a workload, workers, and items, which may be left out
-//!     plinq_bench check             # each workload with few items: the sums alone
+//!     plinq_bench heavy 4 1000000 5  # a workload, workers, items and rounds, of which the last two may be left out
+//!     plinq_bench check              # each workload with few items: the sums alone
 //!
-//! A line has the workload, what ran it, threads, seconds, items a second, the ratio to the plain loop and the sum of what
-//! came, on which its order tells; of `sum` it is the aggregate.
+//! Of several rounds the first isn't counted, since its process is cold, and the best of the others is told. A line has
+//! the workload, what ran it, threads, seconds, items a second, the ratio to the plain loop and the sum of what came, on
+//! which its order tells; of `sum` it is the aggregate.
 #![tactic(auto)]
 
 mod bench_fault;
@@ -16,7 +17,7 @@ mod work;
 mod workload;
 
 use crate::bench_fault::BenchFault;
-use crate::measuring::{Seen, loop_it, run_it};
+use crate::measuring::{Round, Seen, best_of, run_it};
 use crate::workload::Workload;
 use std::alloc::Global;
 use std::io::Print;
@@ -25,6 +26,9 @@ use std::sync::Wait;
 use std::thread::Threads;
 use std::time::{Clock, Duration};
 use std::{env, io};
+
+/// How many rounds there are where none are asked for.
+const ROUNDS: i64 = 4;
 
 fn main(rt: HostRuntime) -> ExitCode {
     let ended = match words(&rt) {
@@ -53,14 +57,17 @@ fn bench<R: Threads + Wait + Sync + Clock + Print>(
         [_, word] if word.as_str() == "check" => check(rt, alloc),
         [_, name, workers] => {
             let (workload, workers) = asked(name.as_str(), workers.as_str())?;
-            measure(rt, alloc, workload, workers, workload.usual_items())
+            measure(rt, alloc, workload, workers, workload.usual_items(), ROUNDS)
         }
         [_, name, workers, items] => {
             let (workload, workers) = asked(name.as_str(), workers.as_str())?;
-            let Ok(items) = items.parse::<i64>() else {
-                return Err(BenchFault::Words);
-            };
-            measure(rt, alloc, workload, workers, items)
+            let items = number(items.as_str())?;
+            measure(rt, alloc, workload, workers, items, ROUNDS)
+        }
+        [_, name, workers, items, rounds] => {
+            let (workload, workers) = asked(name.as_str(), workers.as_str())?;
+            let (items, rounds) = (number(items.as_str())?, number(rounds.as_str())?);
+            measure(rt, alloc, workload, workers, items, rounds)
         }
         _ => Err(BenchFault::Words),
     }
@@ -71,6 +78,10 @@ fn asked(name: &str, workers: &str) -> Result<(Workload, u64), BenchFault> {
         (Some(workload), Ok(workers)) => Ok((workload, workers)),
         _ => Err(BenchFault::Words),
     }
+}
+
+fn number(word: &str) -> Result<i64, BenchFault> {
+    word.parse::<i64>().map_err(|_| BenchFault::Words)
 }
 
 fn check<R: Threads + Wait + Sync + Clock + Print>(
@@ -94,12 +105,9 @@ fn measure<R: Threads + Wait + Sync + Clock + Print>(
     workload: Workload,
     workers: u64,
     items: i64,
+    rounds: i64,
 ) -> Result<(), BenchFault> {
-    let looped = loop_it(rt, workload, items)?;
-    let seen = run_it(rt, alloc, workload, workers, items)?;
-    if seen.sum != looped.sum {
-        return Err(BenchFault::Sums);
-    }
+    let Round { looped, seen } = best_of(rt, alloc, workload, workers, items, rounds)?;
     print(rt, workload, "loop", 1, items, looped, looped.time)?;
     print(rt, workload, "run", workers, items, seen, looped.time)
 }

@@ -11,13 +11,77 @@ use std::sync::Wait;
 use std::thread::Threads;
 use std::time::{Clock, Duration, Instant};
 
-/// What was seen of a run.
+/// What was seen of a run, or of a plain loop.
 #[derive(Clone, Copy)]
 pub(crate) struct Seen {
     pub(crate) time: Duration,
     pub(crate) sum: u64,
     pub(crate) first: Option<Duration>,
     pub(crate) pulled: Option<u64>,
+}
+
+impl Seen {
+    // The shorter of the times of two runs that came to the same sum, and the more that was pulled.
+    fn or_better(self, other: Seen) -> Seen {
+        Seen {
+            time: self.time.min(other.time),
+            sum: self.sum,
+            first: match (self.first, other.first) {
+                (Some(one), Some(two)) => Some(one.min(two)),
+                _ => None,
+            },
+            pulled: match (self.pulled, other.pulled) {
+                (Some(one), Some(two)) => Some(one.max(two)),
+                _ => None,
+            },
+        }
+    }
+}
+
+/// What was seen of a plain loop and of a run behind it, which came to the same sum.
+#[derive(Clone, Copy)]
+pub(crate) struct Round {
+    pub(crate) looped: Seen,
+    pub(crate) seen: Seen,
+}
+
+/// The best of several rounds, of which the first isn't counted, or the one that there is.
+pub(crate) fn best_of<R: Threads + Wait + Sync + Clock>(
+    rt: &R,
+    alloc: Global,
+    workload: Workload,
+    workers: u64,
+    items: i64,
+    rounds: i64,
+) -> Result<Round, BenchFault> {
+    let mut best = one_round(rt, alloc, workload, workers, items)?;
+    for already in 1..rounds {
+        let next = one_round(rt, alloc, workload, workers, items)?;
+        best = if already == 1 {
+            next
+        } else {
+            Round {
+                looped: best.looped.or_better(next.looped),
+                seen: best.seen.or_better(next.seen),
+            }
+        };
+    }
+    Ok(best)
+}
+
+fn one_round<R: Threads + Wait + Sync + Clock>(
+    rt: &R,
+    alloc: Global,
+    workload: Workload,
+    workers: u64,
+    items: i64,
+) -> Result<Round, BenchFault> {
+    let looped = loop_it(rt, workload, items)?;
+    let seen = run_it(rt, alloc, workload, workers, items)?;
+    if seen.sum != looped.sum {
+        return Err(BenchFault::Sums);
+    }
+    Ok(Round { looped, seen })
 }
 
 /// Runs a workload by threads.
@@ -66,12 +130,8 @@ pub(crate) fn run_it<R: Threads + Wait + Sync + Clock>(
     })
 }
 
-/// The same by a plain loop.
-pub(crate) fn loop_it<C: Clock>(
-    clock: &C,
-    workload: Workload,
-    items: i64,
-) -> Result<Seen, BenchFault> {
+// The same by a plain loop.
+fn loop_it<C: Clock>(clock: &C, workload: Workload, items: i64) -> Result<Seen, BenchFault> {
     let start = Instant::now(clock)?;
     let sum = workload.looped(items);
     Ok(Seen {
