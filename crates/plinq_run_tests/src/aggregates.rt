@@ -10,6 +10,7 @@ use plinq_ops::{MergeOption, Query};
 use plinq_run::{AggregateFault, OpenGate, RunFault, aggregate};
 use plinq_source::{Ending, ListSource, RangeSource, Source};
 use std::alloc::Global;
+use std::fmt::Debug;
 use std::process::Abort;
 use std::sync::Wait;
 use std::test::*;
@@ -68,22 +69,26 @@ where
     aggregate(rt, alloc, query, source, growth, &OpenGate, aggregator)
 }
 
-/// That of a list.
-fn of_list<A, R>(
+/// Asks for that of a list, and looks at it.
+fn list_gives<A, R>(
     rt: &R,
     alloc: Global,
     query: &Query<Formula>,
     items: &[i64],
     growth: Growth,
     aggregator: &A,
-) -> Result<Result<A::Out, AggregateFault>, Fail>
+    expected: Result<A::Out, AggregateFault>,
+) -> Result<(), Fail>
 where
     A: Aggregator<Item = i64>,
-    R: Threads + Wait + Sync,
+    A::Out: PartialEq + Debug + Drop,
+    R: Threads + Wait + Sync + Abort,
     requires { length items.now ≤ 8 }
 {
     let source = ListSource::new(alloc, Vec::from_slice(alloc, items)?);
-    Ok(told(rt, alloc, query, source, growth, aggregator))
+    let found = told(rt, alloc, query, source, growth, aggregator);
+    assert_eq!(rt; found, expected);
+    Ok(())
 }
 
 fn a_few_numbers<R: Threads + Wait + Sync + Abort>(
@@ -93,21 +98,13 @@ fn a_few_numbers<R: Threads + Wait + Sync + Abort>(
     growth: Growth,
 ) -> Result<(), Fail> {
     let query = ordered(alloc, MergeOption::Default, workers)?;
-    assert_eq!(rt; of_list(rt, alloc, &query, &[], growth, &Sum)?, Ok(0));
-    assert_eq!(rt; of_list(rt, alloc, &query, &[], growth, &Min)?, Ok(None));
-    assert_eq!(rt;
-        of_list(rt, alloc, &query, &[3, 9, 4], growth, &Max)?,
-        Ok(Some(9))
-    );
-    assert_eq!(rt;
-        of_list(rt, alloc, &query, &[3, 9, 4], growth, &Last)?,
-        Ok(Some(4))
-    );
-    assert_eq!(rt;
-        of_list(rt, alloc, &query, &[i64::MIN, i64::MIN], growth, &Sum)?,
-        Ok(-18_446_744_073_709_551_616)
-    );
-    Ok(())
+    list_gives(rt, alloc, &query, &[], growth, &Sum, Ok(0))?;
+    list_gives(rt, alloc, &query, &[], growth, &Min, Ok(None))?;
+    list_gives(rt, alloc, &query, &[3, 9, 4], growth, &Max, Ok(Some(9)))?;
+    list_gives(rt, alloc, &query, &[3, 9, 4], growth, &Last, Ok(Some(4)))?;
+    let least = [i64::MIN, i64::MIN];
+    let sum = -18_446_744_073_709_551_616;
+    list_gives(rt, alloc, &query, &least, growth, &Sum, Ok(sum))
 }
 
 #[test]
@@ -170,14 +167,10 @@ fn ended_early<R: Threads + Wait + Sync + Abort>(
     let refused = told(rt, alloc, &query, source, Growth::ONE, &Sum);
     assert_eq!(rt; refused, Err(AggregateFault::Ended(Ending::Refused(7))));
     let query = built(query.select(Formula::Into(10)))?;
-    let faulted = of_list(rt, alloc, &query, &[5, 0, 2], Growth::ONE, &Sum)?;
-    assert_eq!(rt; faulted, Err(AggregateFault::Ended(Ending::Fault(2))));
+    let faulted = Err(AggregateFault::Ended(Ending::Fault(2)));
+    list_gives(rt, alloc, &query, &[5, 0, 2], Growth::ONE, &Sum, faulted)?;
     let query = built(query.take(1))?;
-    assert_eq!(rt;
-        of_list(rt, alloc, &query, &[5, 0, 2], Growth::ONE, &Sum)?,
-        Ok(2)
-    );
-    Ok(())
+    list_gives(rt, alloc, &query, &[5, 0, 2], Growth::ONE, &Sum, Ok(2))
 }
 
 #[test]
@@ -206,11 +199,7 @@ fn in_any_order<R: Threads + Wait + Sync + Abort>(
     workers: u64,
 ) -> Result<(), Fail> {
     let query = built(Query::new(alloc).with_degree(workers))?;
-    assert_eq!(rt;
-        of_list(rt, alloc, &query, &[3, 1, 2], Growth::ONE, &Sum)?,
-        Ok(6)
-    );
-    Ok(())
+    list_gives(rt, alloc, &query, &[3, 1, 2], Growth::ONE, &Sum, Ok(6))
 }
 
 #[test]
