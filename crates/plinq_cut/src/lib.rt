@@ -19,6 +19,3 @@ mod view;
 pub use cut_pass::CutPass;
 pub use cut_word::CutWord;
 pub use enders::Enders;
-
-#[cfg(test)]
-mod tests;

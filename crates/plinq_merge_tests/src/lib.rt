@@ -1,9 +1,11 @@
-//! The tests of `plinq_merge` and `plinq_combine`: worked rows of offers, results in all orders beside the answer on one
-//! thread, letters in place of numbers, folds of results, and what comes of want of memory.
+//! The tests of `plinq_merge`, `plinq_combine` and `plinq_cut`: worked rows of offers, results in all orders beside the
+//! answer on one thread, letters in place of numbers, folds of results, the cut's words, and what comes of want of memory.
 //!
 //! They stand in a crate of their own, since a crate with tests is proved twice.
 #![tactic(auto)]
 
+#[cfg(test)]
+mod cut_words;
 #[cfg(test)]
 mod folds;
 #[cfg(test)]

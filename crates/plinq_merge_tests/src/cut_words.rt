@@ -4,7 +4,7 @@ ghost use Rattle.plinq_lambda.specs.declared.formula.Formula.TheVariants.{Below}
 ghost use Rattle.plinq_ops.specs.declared.op.Op.TheVariants.{TakeWhile};
 ghost use Rattle.plinq_ops.specs.Cut.{enders};
 
-use crate::{CutWord, Enders};
+use plinq_cut::{CutWord, Enders};
 use plinq_lambda::{Formula, Lambda};
 use plinq_ops::{BuildFault, Query};
 use plinq_source::RepeatSource;
