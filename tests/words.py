@@ -54,6 +54,9 @@ Each command takes --workers N, from 1 to 64, and --merge with one of these word
   full     one line of all elements, where there are any and the answer comes to its end
   default  as auto
 
+As many workers as there are cores answer soonest, and more cost little. Where --workers isn't given there are 4, or as
+many as the query asks for by with_degree.
+
 Exit status:
   0  the answer came to its end, or help was shown
   2  the arguments or the document were refused
@@ -76,7 +79,7 @@ COMMAND_HELP = """
 Usage: plinq {} [OPTIONS]
 
 Options:
-      --workers <N>     The degree of parallelism, from 1 to 64
+      --workers <N>     The degree of parallelism, from 1 to 64: as many as cores; more cost little
       --merge <OPTION>  How results are handed over [possible values: not, auto, full, default]
   -h, --help            Print help
 """

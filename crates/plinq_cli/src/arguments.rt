@@ -22,6 +22,9 @@ const AFTER_HELP: &str =
   full     one line of all elements, where there are any and the answer comes to its end
   default  as auto
 
+As many workers as there are cores answer soonest, and more cost little. Where --workers isn't given there are 4, or as
+many as the query asks for by with_degree.
+
 Exit status:
   0  the answer came to its end, or help was shown
   2  the arguments or the document were refused
@@ -101,7 +104,7 @@ fn subcommand<'a>(
     let workers = Arg::new(alloc, "workers")
         .long("workers")
         .value_name("N")
-        .help("The degree of parallelism, from 1 to 64")
+        .help("The degree of parallelism, from 1 to 64: as many as cores; more cost little")
         .value_parser(ValueParser::unsigned(1, 64));
     let merge = Arg::new(alloc, "merge")
         .long("merge")
