@@ -22,10 +22,6 @@ use plinq_partition::Partition;
 use plinq_source::Source;
 use std::sync::Wait;
 
-// How many turns the caller's thread only yields before the first result comes: it is there soon, and a thread that sleeps
-// is woken late.
-const EARLY_TURNS: u64 = 400;
-
 /// What the caller's thread has of its own while workers send.
 #[derive(Drop)]
 pub struct Caller<S: Source, M> {
@@ -34,8 +30,6 @@ pub struct Caller<S: Source, M> {
     pub staff: Staff,
     pub shortages: Shortages,
     pub backoff: Backoff,
-    /// For how many more turns it only yields where nothing comes.
-    pub early: u64,
 }
 
 impl<S: Source, M: Drop> Caller<S, M> {
@@ -51,7 +45,6 @@ impl<S: Source, M: Drop> Caller<S, M> {
             staff,
             shortages: Shortages::none(),
             backoff: Backoff::new(),
-            early: EARLY_TURNS,
         }
     }
 
@@ -91,7 +84,7 @@ impl<S: Source, M: Drop> Caller<S, M> {
             Ok(()) => closing.is_stopped = true,
             Err(fault) => self.shortages.note(fault),
         }
-        crew.progress.move_to(u64::MAX);
+        crew.progress.let_all_on();
     }
 
     /// The next result that a worker has sent. Where none comes for a while, the thread is to sleep until something is
@@ -122,7 +115,7 @@ impl<S: Source, M: Drop> Caller<S, M> {
         ensures closed { closing.old.is_closed ≡ true → closing.new.is_closed ≡ true }
         ensures closes { ClosesInTime is_over closing.old (holding_of self.old.partition) self.new.shortages closing.new (holding_of self.new.partition) }
     {
-        let sleep = if self.backoff.is_completed() && self.early == 0 {
+        let sleep = if self.backoff.is_completed() {
             Some(crew.progress.announce_sleep())
         } else {
             None
@@ -132,7 +125,6 @@ impl<S: Source, M: Drop> Caller<S, M> {
         match crew.stream.try_receive(&mut self.stream) {
             Some(sent) => {
                 self.backoff.reset();
-                self.early = 0;
                 Turn::Came(sent.item)
             }
             None => {
@@ -153,10 +145,7 @@ impl<S: Source, M: Drop> Caller<S, M> {
     {
         match sleep {
             Some(sleep) => sleep.wait(rt),
-            None => {
-                self.early = self.early.saturating_sub(1);
-                self.backoff.snooze();
-            }
+            None => self.backoff.snooze(),
         }
     }
 }

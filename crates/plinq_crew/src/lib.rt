@@ -11,6 +11,7 @@
 //! - [`Progress`] tells the threads of a run when to wait and when to go on; no answer rests on it.
 #![tactic(auto)]
 
+mod ahead;
 mod calling;
 mod closing;
 mod cutting;

@@ -1,5 +1,6 @@
-use crossbeam_utils::Backoff;
-use crossbeam_utils::sync::{EventCount, Key};
+use crate::ahead::Ahead;
+use crossbeam_utils::sync::Key;
+use plinq_wait::WaitQueue;
 use std::sync::Wait;
 use std::sync::atomic::{AtomicBool, AtomicU64, Ordering};
 
@@ -8,58 +9,60 @@ use std::sync::atomic::{AtomicBool, AtomicU64, Ordering};
 #[derive(Drop)]
 pub struct Progress {
     /// How many keys above what is merged a worker may be.
-    window: u64,
-    /// A worker that stands above this key waits.
-    wanted: AtomicU64,
+    keys: Ahead,
+    /// How many items may be sent that aren't merged yet.
+    items: Ahead,
+    sent: AtomicU64,
     ended: AtomicU64,
     failed: AtomicBool,
     /// What the caller's thread sleeps on.
-    news: EventCount,
-    /// What the workers sleep on that wait.
-    room: EventCount,
+    news: WaitQueue,
+    /// What the workers sleep on that are too far ahead.
+    merged: WaitQueue,
 }
 
 impl Progress {
-    /// Nothing is merged yet, and workers may be so many keys above it.
-    pub fn new(window: u64) -> Progress {
+    /// Nothing is merged yet, and workers may be so many keys above it, and so many items.
+    pub fn new(keys: u64, items: u64) -> Progress {
         Progress {
-            window,
-            wanted: AtomicU64::new(window),
+            keys: Ahead::new(keys),
+            items: Ahead::new(items),
+            sent: AtomicU64::new(0),
             ended: AtomicU64::new(0),
             failed: AtomicBool::new(false),
-            news: EventCount::new(),
-            room: EventCount::new(),
+            news: WaitQueue::new(),
+            merged: WaitQueue::new(),
         }
     }
 
-    /// All keys below this one are merged, or, where it is the greatest number, nothing more is wanted. Workers are let on by
-    /// half a window at once, so that those that sleep aren't woken by each result.
-    pub fn move_to(&self, place: u64) {
-        let wanted = place.saturating_add(self.window);
-        let last = self.wanted.load(Ordering::SeqCst);
-        let is_far = wanted == u64::MAX || wanted.saturating_sub(last) >= self.window / 2;
-        if is_far && wanted != last {
-            self.wanted.store(wanted, Ordering::SeqCst);
-            self.room.notify_all();
+    /// All keys below this one are merged, and so many items; where they are the greatest numbers, nothing more is wanted.
+    pub fn move_to(&self, key: u64, items: u64) {
+        let is_raised = self.keys.move_to(key);
+        if self.items.move_to(items) || is_raised {
+            self.merged.wake();
         }
     }
 
-    /// Waits while a worker stands so far above what is merged that it may not take more. Where that takes long, it sleeps.
-    pub fn wait_at<R: Wait>(&self, rt: &R, place: u64) {
-        let backoff = Backoff::new();
+    /// Nothing more is wanted: no worker waits from now on.
+    pub fn let_all_on(&self) {
+        self.move_to(u64::MAX, u64::MAX);
+    }
+
+    /// So many items are about to be sent.
+    pub fn count_in(&self, items: u64) {
+        self.sent.fetch_add(items, Ordering::SeqCst);
+    }
+
+    /// Waits while a worker stands so far above what is merged that it may not take more, or while too many items wait to be
+    /// merged. Where that takes long, it sleeps.
+    pub fn wait_at<R: Wait>(&self, rt: &R, key: u64) {
+        let waiter = self.merged.waiter();
         for _ in rt.forever() {
-            let sleep = if backoff.is_completed() {
-                Some(self.room.prepare_wait())
-            } else {
-                None
-            };
-            if place <= self.wanted.load(Ordering::SeqCst) {
+            let sleep = waiter.prepare();
+            if self.keys.lets_on(key) && self.items.lets_on(self.sent.load(Ordering::SeqCst)) {
                 return;
             }
-            match sleep {
-                Some(sleep) => sleep.wait(rt),
-                None => backoff.snooze(),
-            }
+            waiter.pause(rt, sleep);
         }
     }
 
@@ -77,13 +80,13 @@ impl Progress {
 
     /// Wakes the caller's thread, since a result was sent, or a worker has ended or failed.
     pub fn tell(&self) {
-        self.news.notify_one();
+        self.news.wake();
     }
 
     /// Says that the caller's thread is about to sleep. What is told from now on ends its sleep, so whatever it waits for is
     /// to be looked at once more before it does.
     pub fn announce_sleep(&self) -> Key<'_> {
-        self.news.prepare_wait()
+        self.news.announce()
     }
 
     /// Whether so many workers have ended.

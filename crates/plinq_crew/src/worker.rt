@@ -126,6 +126,7 @@ where
                 Ok(made) => {
                     let is_last = made.tail.is_some();
                     let place = place_behind(&made);
+                    self.progress.count_in(made.items.len() as u64);
                     self.stream.send(rt, &mut stream, worker, made);
                     self.progress.tell();
                     if is_last {

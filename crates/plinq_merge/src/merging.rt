@@ -53,6 +53,7 @@ impl<'a, L: Lambda> Merger<'a, L> {
             decided: plan.decided,
             row: Row::new(alloc),
             buffer: buffer_of(alloc, option)?,
+            items: 0,
         };
         if plan.decided {
             return Ok(Merger {
@@ -132,6 +133,11 @@ impl<'a, L: Lambda> Merger<'a, L> {
             ((key : ℕ) → key < result → is_offered offers key ≡ true) × (is_offered offers result ≡ false) }
     {
         self.work.row.next
+    }
+
+    /// How many items of results were merged so far; those of other results wait. Takes no memory.
+    pub fn merged_items(&self) -> u64 {
+        self.work.items
     }
 
     /// How the answer ends. Takes no memory.

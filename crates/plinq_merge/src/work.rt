@@ -28,6 +28,8 @@ pub(crate) struct Work<'a, L, T> {
     pub(crate) decided: bool,
     pub(crate) row: Row<T>,
     pub(crate) buffer: Buffer<T>,
+    /// How many items had their turn, or the greatest number where there were more.
+    pub(crate) items: u64,
 }
 
 impl<'a, L: Lambda> Work<'a, L, L::Item> {
@@ -110,6 +112,7 @@ impl<'a, L: Lambda> Work<'a, L, L::Item> {
         ensures goes { Goes K.accepts K.refuses (size_of self.old.buffer) (content L.meaning self.old) hand.trace
             sink.old result (content L.meaning self.new) sink.new }
     {
+        self.items = self.items.saturating_add(hand.items.len() as u64);
         let ending = self.feed(hand.items, sink)?.or(hand.ending);
         hand_last(&mut self.buffer, ending, sink)?;
         Ok(ending)

@@ -42,7 +42,7 @@ impl<S: Source> Partition<S> {
         ensures waited { IfErr result IsNotBusy }
     {
         let pass = self.lend_pass();
-        match chunked.lock.enter(rt, pass) {
+        match chunked.lock.enter_when_free(rt, pass) {
             Ok(held) => self.ask(chunked, held),
             Err(refusal) => Err(self.have_back(refusal)),
         }

@@ -75,7 +75,9 @@ where
         match caller.turn(rt, crew, is_over, &mut merging.closing) {
             Turn::Came(made) => {
                 merging.take_in::<J, K>(made, sink);
-                crew.progress.move_to(merging.merger.merged());
+                let merger = &merging.merger;
+                crew.progress
+                    .move_to(merger.merged(), merger.merged_items());
             }
             Turn::Nothing(sleep) => {
                 merging.rest(sink);

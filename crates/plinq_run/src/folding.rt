@@ -18,12 +18,12 @@ ghost use Rattle.plinq_stream.specs.Streams.{HasReceivedAll};
 use crate::gathering::Gathering;
 use crate::posts::Folds;
 use crate::run_fault::RunFault;
-use crate::running::{ROOM, window};
+use crate::running::{ROOM, progress_of};
 use plinq_aggregate::Aggregator;
 use plinq_combine::Combined;
 use plinq_crew::{
-    Caller, Carries, Crew, Equipment, Gate, Post, Progress, ResultPass, ResultStream, RunEnders,
-    Staff, Turn, join_all, start_all,
+    Caller, Carries, Crew, Equipment, Gate, Post, ResultPass, ResultStream, RunEnders, Staff, Turn,
+    join_all, start_all,
 };
 use plinq_cut::CutWord;
 use plinq_enumerator::Growth;
@@ -67,7 +67,7 @@ where
         match caller.turn(rt, crew, is_over, &mut gathering.closing) {
             Turn::Came(made) => {
                 gathering.take_in::<J>(made);
-                crew.progress.move_to(gathering.combiner.merged());
+                crew.progress.move_to(gathering.combiner.merged(), u64::MAX);
             }
             Turn::Nothing(sleep) => caller.wait(rt, sleep),
             Turn::Over => return,
@@ -224,7 +224,7 @@ where
     let Ok((stream, pass)) = ResultStream::<A::Acc, J>::new(alloc, ROOM) else {
         return Err(RunFault::Memory);
     };
-    let progress = Progress::new(window(plan.order, workers, growth));
+    let progress = progress_of(plan.order, workers, growth);
     let post = Folds { aggregator, gate };
     let crew = Crew {
         alloc,

@@ -41,17 +41,17 @@ use std::thread::Threads;
 // How many results the queue has room for.
 pub(crate) const ROOM: usize = 64;
 
-// How many chunks of the largest size a worker may be above what is merged, for each worker.
+// How many chunks of the largest size workers may be ahead of what is merged, for each worker.
 const CHUNKS_AHEAD: u64 = 64;
 
-/// How many keys above what is merged a worker may be. By arrival each result is merged at once, so there is no bound.
-pub(crate) fn window(order: Order, workers: u64, growth: Growth) -> u64 {
+/// How far workers may be ahead of what is merged: how many keys above it, and how many items may be sent that aren't merged
+/// yet. By arrival each result is merged at once, so there is no bound on keys.
+pub(crate) fn progress_of(order: Order, workers: u64, growth: Growth) -> Progress {
+    let largest = growth.size(u64::MAX);
+    let most = largest.saturating_mul(CHUNKS_AHEAD).saturating_mul(workers);
     match order {
-        Order::ByKey => {
-            let largest = growth.size(u64::MAX);
-            largest.saturating_mul(CHUNKS_AHEAD).saturating_mul(workers)
-        }
-        Order::ByArrival => u64::MAX,
+        Order::ByKey => Progress::new(most, most),
+        Order::ByArrival => Progress::new(u64::MAX, most),
     }
 }
 
@@ -127,7 +127,7 @@ where
     let Ok((stream, pass)) = ResultStream::<L::Item, J>::new(alloc, ROOM) else {
         return Err(RunFault::Memory);
     };
-    let progress = Progress::new(window(plan.order, workers, growth));
+    let progress = progress_of(plan.order, workers, growth);
     let post = Whole { gate };
     let crew = Crew {
         alloc,

@@ -3,6 +3,7 @@ use crate::known::Known;
 use crate::sent::Sent;
 use crossbeam_queue::RuledArrayQueue;
 use crossbeam_queue::protocol::Protocol;
+use plinq_wait::WaitQueue;
 use std::marker::PhantomData;
 
 /// The rule of the queue.
@@ -30,4 +31,6 @@ impl<T, C: Carries<T>> Protocol<Sent<T>, Known<T>> for InOrder<C> {
 #[derive(Drop)]
 pub struct Stream<T, C: Carries<T>> {
     pub(crate) queue: RuledArrayQueue<Sent<T>, Known<T>, InOrder<C>>,
+    /// Those that wait for room to send.
+    pub(crate) room: WaitQueue,
 }

@@ -9,7 +9,7 @@ use crate::sent::Sent;
 use crate::stream::Stream;
 use crate::stream_pass::StreamPass;
 use crossbeam_queue::RuledArrayQueue;
-use crossbeam_utils::Backoff;
+use plinq_wait::WaitQueue;
 use std::alloc::{AllocError, Global};
 use std::sync::Wait;
 
@@ -25,10 +25,15 @@ impl<T: Drop, C: Carries<T>> Stream<T, C> {
         ensures first { IfOk result (λ made. known made.1 ≡ first_known) }
     {
         let (queue, pass) = RuledArrayQueue::ruled(alloc, room)?;
-        Ok((Stream { queue }, StreamPass { pass }))
+        let stream = Stream {
+            queue,
+            room: WaitQueue::new(),
+        };
+        Ok((stream, StreamPass { pass }))
     }
 
-    /// Sends an item under a number of the pass, and waits while the queue is full.
+    /// Sends an item under a number of the pass, and waits while the queue is full: for a while it tries again, and then it
+    /// sleeps until an item was received.
     pub fn send<R: Wait>(&self, rt: &R, pass: &mut StreamPass<T>, number: u64, item: T)
         requires pass { IsPassOf self.now pass.old }
         requires own { has number (known pass.old).numbers ≡ true }
@@ -36,16 +41,15 @@ impl<T: Drop, C: Carries<T>> Stream<T, C> {
         ensures pass { IsPassOf self.now pass.new }
         ensures sent { known pass.new ≡ with_sent (known pass.old) (record { number = number; item = item }) }
     {
-        let backoff = Backoff::new();
         let mut waiting = Sent { number, item };
+        let waiter = self.room.exclusive_waiter();
         for _ in rt.forever() {
+            let sleep = waiter.prepare();
             match self.queue.try_push_as::<Sends>(&mut pass.pass, waiting) {
                 Ok(()) => return,
-                Err(back) => {
-                    waiting = back;
-                    backoff.snooze();
-                }
+                Err(back) => waiting = back,
             }
+            waiter.pause(rt, sleep);
         }
     }
 
@@ -57,7 +61,9 @@ impl<T: Drop, C: Carries<T>> Stream<T, C> {
         ensures received { MatchOption result (known pass.new ≡ known pass.old) (λ s. known pass.new ≡ with_received (known pass.old) s) }
         ensures carried { IfSome result (λ s. C.carries s.item) }
     {
-        self.queue.try_pop_as::<Comes<C>>(&mut pass.pass)
+        let received = self.queue.try_pop_as::<Comes<C>>(&mut pass.pass);
+        self.room.wake();
+        received
     }
 
     /// The next item, or that there was none at one moment of the call.
@@ -69,7 +75,9 @@ impl<T: Drop, C: Carries<T>> Stream<T, C> {
         ensures carried { IfSome result (λ s. C.carries s.item) }
         ensures all { IfNone result (HasReceivedAll (known pass.new)) }
     {
-        self.queue.pop_as::<Comes<C>, R>(rt, &mut pass.pass)
+        let received = self.queue.pop_as::<Comes<C>, R>(rt, &mut pass.pass);
+        self.room.wake();
+        received
     }
 
     /// A pass with the first number that this one has, which may send under it in place of this one.

@@ -15,7 +15,6 @@ use crate::view::View;
 use atomic_table::Seat;
 use plinq_keyed::Guarded;
 use std::sync::Wait;
-use std::thread;
 
 // Tickets are the numbers below this one.
 const TICKETS_END: u64 = 1 << 62;
@@ -43,6 +42,41 @@ impl<V: Guarded> TicketLock<V> {
                 return Ok(self.wait(rt, seat, drawn, records));
             }
             drawn = found;
+        }
+        unreachable!()
+    }
+
+    /// Waits until no other pass waits or is inside, draws a ticket then, and takes the value.
+    ///
+    /// A pass that waits so has no ticket, so that nobody waits for it: where its thread has no core, others go before it. In
+    /// return it may wait for as long as others come. Passes that wait in [`TicketLock::enter`] go before it.
+    ///
+    /// # Errors
+    ///
+    /// [`LockFault::Spent`] where all tickets were drawn. The pass comes back as it was.
+    pub fn enter_when_free<R: Wait>(
+        &self,
+        rt: &R,
+        pass: Pass<V>,
+    ) -> Result<Held<V>, (Pass<V>, LockFault)>
+        requires { IsPassOf self.now pass }
+        ensures ok { IfOk result (λ held. IsHeldOf self.now held × Enters V.origin V.history pass held) }
+        ensures err { IfErr result (λ refused. IsPassOf self.now refused.0 × IsRefused pass refused.0 refused.1) }
+        ensures spent { IfErr result (λ refused. refused.1 ≡ Spent) }
+    {
+        let mut pass = pass;
+        let waiter = self.left.exclusive_waiter();
+        for _ in rt.forever() {
+            let sleep = waiter.prepare();
+            match self.try_enter(pass) {
+                Ok(held) => return Ok(held),
+                Err((back, LockFault::Spent)) => {
+                    self.left.wake_all();
+                    return Err((back, LockFault::Spent));
+                }
+                Err((back, _)) => pass = back,
+            }
+            waiter.pause(rt, sleep);
         }
         unreachable!()
     }
@@ -92,11 +126,13 @@ impl<V: Guarded> TicketLock<V> {
         ensures ticket { held_ticket result ≡ ticket }
         ensures drawn { held_drawn result ≡ seat.me.0.standing.drawn }
     {
+        let waiter = self.left.waiter();
         for _ in rt.forever() {
+            let sleep = waiter.prepare();
             if self.see_serving(&mut seat) == ticket {
                 return self.take_value(seat, ticket, records);
             }
-            thread::yield_now();
+            waiter.pause(rt, sleep);
         }
         unreachable!()
     }

@@ -19,7 +19,8 @@ impl<V: Guarded> TicketLock<V> {
         requires { IsPassOf self pass }
         ensures { IsFinished V.origin V.history pass result }
     {
-        let TicketLock { table } = self;
+        let TicketLock { table, left } = self;
+        drop(left);
         let Token { seat, records } = pass;
         let mut closed = table.close_with(seat);
         let drawn = closed.word(NEXT);

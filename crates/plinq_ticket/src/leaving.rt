@@ -30,6 +30,7 @@ impl<V: Guarded> TicketLock<V> {
         let all = value.records().len() as u64;
         self.table.shared.exchange(&mut seat, VALUE, Some(value));
         self.serve_next(&mut seat, ticket);
+        self.left.wake();
         Token {
             seat,
             records: records.saturating_add(all - found),

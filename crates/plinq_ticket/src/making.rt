@@ -8,6 +8,7 @@ use crate::pass::{Pass, Token};
 use crate::ticket_lock::TicketLock;
 use atomic_table::Table;
 use plinq_keyed::Guarded;
+use plinq_wait::WaitQueue;
 use std::alloc::Global;
 use std::snapshot::Snapshot;
 
@@ -47,7 +48,11 @@ impl<V: Guarded> TicketLock<V> {
         let Ok((table, seat)) = Table::new(alloc, &[first, first], slot, &about) else {
             return Err(LockFault::Memory);
         };
-        Ok((TicketLock { table }, Token { seat, records }))
+        let lock = TicketLock {
+            table,
+            left: WaitQueue::new(),
+        };
+        Ok((lock, Token { seat, records }))
     }
 }
 

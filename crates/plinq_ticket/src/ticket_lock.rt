@@ -1,6 +1,7 @@
 use crate::view::View;
 use atomic_table::{Table, TableRule};
 use plinq_keyed::Guarded;
+use plinq_wait::WaitQueue;
 use std::alloc::Global;
 use std::snapshot::Snapshot;
 
@@ -16,8 +17,12 @@ impl<V: Guarded> TableRule<Option<V>, View<V::Item>, Snapshot<V>> for Keeps {
     ghost first = { λ key. first_view (V.origin key.value) (V.history key.value) };
 }
 
-/// A lock round a value that keeps its history. Passes enter it in the order of the tickets that they draw.
+/// A lock round a value that keeps its history. Passes enter it in the order of the tickets that they draw: by
+/// [`TicketLock::enter`] a pass draws one and waits for its turn, by [`TicketLock::enter_when_free`] it waits for the lock to be
+/// free and draws one then.
 #[derive(Drop)]
 pub struct TicketLock<V: Guarded> {
     pub(crate) table: Table<Option<V>, View<V::Item>, Snapshot<V>, Keeps, Global>,
+    /// Those that wait for others to leave: for their turn, or, one at a time, for the lock to be free.
+    pub(crate) left: WaitQueue,
 }

@@ -1,5 +1,7 @@
-use Rattle.std.proofs.Common.{rules, ◌≡◌, ◌≤◌, ◌^◌, length, IfOk, refl, sym, subst}
+use Rattle.std.proofs.Common.{rules, ◌≡◌, ◌≤◌, ◌^◌, ◌∙◌, length, IfOk, refl, sym, subst}
+use Rattle.std.proofs.lemmas.Result.{IfOk-weaker}
 use Rattle.plinq_keyed.specs.History.{IsLegalHistory}
+use Rattle.plinq_partition.specs.GivenBack.{common_origin}
 use Rattle.plinq_partition.specs.Partitions.{holding_of}
 use Rattle.plinq_cut.specs.OfPlan.{AreEnders}
 use Rattle.plinq_run.specs.Reports.{MayMerge, Ends}
@@ -37,6 +39,12 @@ returns-in_default-new-clause-reports g c = none-ended g.L.Lambda.meaning g.K.Si
 pub returns-in_default-new-2-clause-reports : goal.returns-in_default-new-2-clause-reports
 returns-in_default-new-2-clause-reports g c = none-ended g.L.Lambda.meaning g.K.Sink.accepts g.K.Sink.refuses c.args.option c.args.plan.now (g.S.Source.whole c.args.source) c.args.sink.now _ refl
 
+pub returns-clause-legal : goal.returns-clause-legal
+returns-clause-legal g c =
+    let t = g.S.Source.whole c.args.source in
+    let origin : (holding_of c.in-Ok-new.partition).origin ≡ t = search rules in
+    c.report.ensures.legal t (IfOk-weaker c.run_crew-ended.result _ (λ e. common_origin e.partitions.items ≡ t) (λ e back. back.2 ∙ origin) c.run_crew-ended.ensures.back)
+
 pub returns-clause-reports : goal.returns-clause-reports
 returns-clause-reports g c =
     let t = g.S.Source.whole c.args.source in
@@ -44,7 +52,7 @@ returns-clause-reports g c =
     let s' = c.run_crew-ended.new.sink in
     let May = MayMerge g.L.Lambda.meaning c.args.plan.now in
     let origin : (holding_of c.in-Ok-new.partition).origin ≡ t = search rules in
-    let legal : IfOk c.report.result (λ r. IsLegalHistory t r.records.items) = search rules in
+    let legal : IfOk c.report.result (λ r. IsLegalHistory t r.records.items) = returns-clause-legal g c in
     ends-reported g.K.Sink.accepts g.K.Sink.refuses c.args.option May t s s' c.run_crew-ended.result c.report.result
     (subst (λ x. Ends g.K.Sink.accepts g.K.Sink.refuses c.args.option May x s s' c.run_crew-ended.result) origin c.run_crew-ended.ensures.ends)
     c.report.ensures.told legal c.report.ensures.accounted
