@@ -1,3 +1,4 @@
+pub mod Concats
 pub mod Followed
 pub mod Steps
 pub mod Numerals

@@ -1,4 +1,5 @@
 pub mod Trace
+pub mod Concat
 pub mod Range
 pub mod Repeat
 pub mod Text

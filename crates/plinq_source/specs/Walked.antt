@@ -1,17 +1,20 @@
 -- What a value of each source stands for: all that it gives, and how many items of that it has given.
-use Rattle.std.specs.Prelude.{ℕ, ◌≤◌, ◌^◌, ◌+ℤ◌, ℤ, pos, length, replicate}
+use Rattle.std.specs.Prelude.{ℕ, ◌+◌, ◌≤◌, ◌^◌, ◌+ℤ◌, ℤ, pos, length, replicate}
 use Rattle.std.proofs.Common.{arith}
 use Rattle.std.proofs.Math.ListN.{length-replicate}
 use Rattle.std.proofs.lemmas.List.FromFn.{length-map-range_with_len}
 use Rattle.plinq_source.specs.Trace.{Trace, ended, list_ending, list_ending-ends, IsSourceEnding}
 use Rattle.plinq_source.specs.Text.{tokens, refusal, text_trace, given_at}
 use Rattle.plinq_source.specs.Range.{range_items}
+use Rattle.plinq_source.specs.Concat.{concat, length-concat, concat-ends, concat-within}
 use Rattle.plinq_source.specs.Values.{few-values}
 use Rattle.plinq_source.specs.declared.ending.Ending.TheVariants.{End}
+use Rattle.plinq_source.specs.declared.source.Source.{Ghosts}
 use Rattle.plinq_source.specs.declared.list.ListSource.{ListSource}
 use Rattle.plinq_source.specs.declared.text.TextSource.{TextSource}
 use Rattle.plinq_source.specs.declared.range.RangeSource.{RangeSource}
 use Rattle.plinq_source.specs.declared.repeat.RepeatSource.{RepeatSource}
+use Rattle.plinq_source.specs.declared.concat.ConcatSource.{ConcatSource}
 
 -- a source has few items, it ends or refuses, and has given no more items than it has
 pub record IsSource {T : Type 0} (whole : Trace T) (given : ℕ) : Type 0 where
@@ -77,4 +80,25 @@ repeat_walked s =
       few = omega (arith, s.few, as_many);
       ends = tt;
       within = omega (arith, s.within, as_many);
+    }
+
+-- a concatenation: its first source, and where that ends its second
+abbrev pub concat_whole : {A B T : Type 0} {first : Ghosts A T} {second : Ghosts B T} → ConcatSource A B T first second → Trace T
+concat_whole {A} {B} {T} {first} {second} s = concat (first.whole s.first) (second.whole s.second)
+
+abbrev pub concat_given : {A B T : Type 0} {first : Ghosts A T} {second : Ghosts B T} → ConcatSource A B T first second → ℕ
+concat_given {A} {B} {T} {first} {second} s = first.given s.first + second.given s.second
+
+pub concat_walked : {A B T : Type 0} {first : Ghosts A T} {second : Ghosts B T} (s : ConcatSource A B T first second)
+    → IsSourceEnding (first.whole s.first).ending → first.given s.first ≤ length (first.whole s.first).items
+    → IsSourceEnding (second.whole s.second).ending → second.given s.second ≤ length (second.whole s.second).items
+    → IsSource (concat_whole s) (concat_given s)
+concat_walked {A} {B} {T} {first} {second} s first_ends first_within second_ends second_within =
+    let xs = (first.whole s.first).items in
+    let e = (first.whole s.first).ending in
+    let next = second.whole s.second in
+    record {
+      few = omega (arith, s.few, length-concat xs e next);
+      ends = concat-ends xs e next first_ends second_ends;
+      within = concat-within xs e next (first.given s.first) (second.given s.second) s.first_ended s.unasked s.ends first_within second_within;
     }

@@ -4,10 +4,12 @@
 //!   number `given` of it, or the ending again and again (`Source::next`: `same`, `step`, `moved`). It has at most
 //!   2^40 items (`few`) and ends by itself or by a refusal (`ends`).
 //! - Each constructor says what is walked and that nothing was handed out yet (`whole`, `fresh`), and those that refuse
-//!   say exactly when (`made`): [`ListSource`], [`TextSource`], [`RangeSource`], [`RepeatSource`].
+//!   say exactly when (`made`): [`ListSource`], [`TextSource`], [`RangeSource`], [`RepeatSource`], and of two sources
+//!   [`ConcatSource`].
 //! - `specs/Trace.antt` has the words of traces for all layers above.
 #![tactic(auto)]
 
+mod concat;
 mod digits;
 mod ending;
 mod fault;
@@ -21,6 +23,7 @@ mod source;
 mod step;
 mod text;
 
+pub use concat::ConcatSource;
 pub use ending::Ending;
 pub use fault::SourceFault;
 pub use list::ListSource;

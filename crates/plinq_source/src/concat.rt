@@ -1,0 +1,75 @@
+ghost use Rattle.std.specs.Prelude.{◌≡◌, ◌≤◌, ◌+◌, ◌^◌, true, false, length, Some};
+ghost use Rattle.plinq_source.specs.Concat.{concat};
+ghost use Rattle.plinq_source.specs.declared.ending.Ending.TheVariants.{End};
+
+use crate::source::Source;
+use crate::step::Step;
+
+/// One source, and where it ends another one (.NET's `Enumerable.Concat`). It holds no list.
+///
+/// Where the first source refuses, so does the concatenation, again however often it is asked, and the second source is
+/// never asked. Else it ends as the second source does.
+///
+/// ```text
+/// let mut source = ConcatSource::new(RangeSource::new(1, 2)?, RepeatSource::new(5, 1)?);    // 1, 2, 5, then Step::End
+/// ```
+#[derive(Drop)]
+pub struct ConcatSource<A: Source, B: Source<Item = A::Item>> {
+    first: A,
+    second: B,
+    /// Whether the first source was seen to end. It isn't asked again then.
+    first_ended: bool,
+    ghost few: { length (A.whole first).items + length (B.whole second).items ≤ 2 ^ 40 },
+    ghost unasked: { first_ended ≡ false → B.given second ≡ 0 },
+    ghost all: { first_ended ≡ true → A.given first ≡ length (A.whole first).items },
+    ghost ends: { first_ended ≡ true → (A.whole first).ending ≡ Some End },
+}
+
+impl<A: Source, B: Source<Item = A::Item>> ConcatSource<A, B> {
+    /// The items of the first source, and where it ends those of the second.
+    ///
+    /// Neither has given anything yet, and both together have at most 2^40 items, also where the first refuses. Takes
+    /// no memory.
+    pub fn new(first: A, second: B) -> ConcatSource<A, B>
+        requires first_fresh { A.given first ≡ 0 }
+        requires second_fresh { B.given second ≡ 0 }
+        requires few { length (A.whole first).items + length (B.whole second).items ≤ 2 ^ 40 }
+        ensures whole { ⟦<ConcatSource<A, B> as Source>⟧.whole result ≡ concat (A.whole first) (B.whole second) }
+        ensures fresh { ⟦<ConcatSource<A, B> as Source>⟧.given result ≡ 0 }
+    {
+        ConcatSource {
+            first,
+            second,
+            first_ended: false,
+        }
+    }
+}
+
+impl<A: Source, B: Source<Item = A::Item>> Source for ConcatSource<A, B> {
+    ghost use Rattle.plinq_source.specs.Walked.{concat_whole, concat_given, concat_walked};
+
+    type Item = A::Item;
+
+    ghost whole = { concat_whole };
+
+    ghost given = { concat_given };
+
+    ghost few = { λ s. (concat_walked s (A.ends s.first) (A.within s.first) (B.ends s.second) (B.within s.second)).few };
+
+    ghost ends = { λ s. (concat_walked s (A.ends s.first) (A.within s.first) (B.ends s.second) (B.within s.second)).ends };
+
+    ghost within = { λ s. (concat_walked s (A.ends s.first) (A.within s.first) (B.ends s.second) (B.within s.second)).within };
+
+    fn next(&mut self) -> Step<A::Item> {
+        if self.first_ended {
+            return self.second.next();
+        }
+        match self.first.next() {
+            Step::End => {
+                self.first_ended = true;
+                self.second.next()
+            }
+            step => step,
+        }
+    }
+}
