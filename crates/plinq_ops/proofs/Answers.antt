@@ -6,24 +6,19 @@ use Rattle.std.proofs.lemmas.List.Sorted.{IsPermutation-refl}
 use Rattle.plinq_source.specs.Trace.{Trace}
 use Rattle.plinq_lambda.specs.Meaning.{Meaning}
 use Rattle.plinq_ops.specs.declared.op.Op.{Op}
-use Rattle.plinq_ops.specs.declared.op.Op.TheVariants.{Select, Filter, SelectMany, Take, Skip, TakeWhile, AsUnordered}
 use Rattle.plinq_ops.specs.Stage.{apply}
 use Rattle.plinq_ops.specs.Operator.{stage_of}
 use Rattle.plinq_ops.specs.Sequential.{answer_of}
-use Rattle.plinq_ops.specs.Answer.{IsRearranged, MayGive, MayGiveAll, Answer, keeps_order}
+use Rattle.plinq_ops.specs.Answer.{IsRearranged, Gives, MayGive, MayGiveAll, Answer, keeps_order}
 
 pub IsRearranged-refl : {T : Type 0} (t : Trace T) → IsRearranged t t
 IsRearranged-refl t = record { items = IsPermutation-refl t.items; ending = refl }
 
 -- an operator may give what it does
 MayGive-apply : {L T : Type 0} (meaning : L → Meaning T) (op : Op L) (t : Trace T) → MayGive meaning op t (apply (stage_of meaning op) t)
-MayGive-apply meaning (Select f) t = refl
-MayGive-apply meaning (Filter f) t = refl
-MayGive-apply meaning (SelectMany f) t = refl
-MayGive-apply meaning (Take n) t = refl
-MayGive-apply meaning (Skip n) t = refl
-MayGive-apply meaning (TakeWhile f) t = refl
-MayGive-apply meaning AsUnordered t = IsRearranged-refl t
+MayGive-apply {L} {T} meaning op t =
+    let made : Trace T = apply (stage_of meaning op) t in
+    elim (keeps_order op) as (λ v. Gives v made made) [ true ↦ refl | false ↦ IsRearranged-refl made ]
 
 -- operators may give the sequential answer
 MayGiveAll-answer : {L T : Type 0} (meaning : L → Meaning T) (ops : List (Op L)) (t : Trace T) → MayGiveAll meaning ops t (answer_of meaning ops t)
@@ -42,13 +37,12 @@ Answer-sequential meaning false ops t = Answer-rearranged meaning ops t t (IsRea
 
 -- an operator that keeps the order gives what it does and nothing else
 MayGive-only : {L T : Type 0} (meaning : L → Meaning T) (op : Op L) (t u : Trace T) → keeps_order op ≡ true → MayGive meaning op t u → u ≡ apply (stage_of meaning op) t
-MayGive-only meaning (Select f) t u keeps given = given
-MayGive-only meaning (Filter f) t u keeps given = given
-MayGive-only meaning (SelectMany f) t u keeps given = given
-MayGive-only meaning (Take n) t u keeps given = given
-MayGive-only meaning (Skip n) t u keeps given = given
-MayGive-only meaning (TakeWhile f) t u keeps given = given
-MayGive-only meaning AsUnordered t u keeps given = absurd (cc)
+MayGive-only {L} {T} meaning op t u keeps given =
+    let made : Trace T = apply (stage_of meaning op) t in
+    elim (keeps_order op) as (λ v. v ≡ true → Gives v made u → u ≡ made) [
+      | true ↦ λ keeps given. given
+      | false ↦ λ keeps given. absurd (let bad : false ≡ true = keeps in cc)
+    ] keeps given
 
 -- where all operators keep the order, the sequential answer is the only one
 MayGiveAll-only : {L T : Type 0} (meaning : L → Meaning T) (ops : List (Op L)) (t u : Trace T) → list_all keeps_order ops ≡ true → MayGiveAll meaning ops t u → u ≡ answer_of meaning ops t

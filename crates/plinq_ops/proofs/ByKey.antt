@@ -16,8 +16,8 @@ use Rattle.plinq_ops.specs.declared.op.Op.{Op}
 use Rattle.plinq_ops.specs.declared.op.Op.TheVariants.{Select, Filter, SelectMany, Take, Skip, TakeWhile, AsUnordered}
 use Rattle.plinq_ops.specs.declared.known.Known.TheVariants.{Key}
 use Rattle.plinq_ops.specs.Stage.{Stage, taking, skipping, taken, skipped, apply, seq, behind, seq_behind}
-use Rattle.plinq_ops.specs.Operator.{item_count, selected, taken_while, stage_of, stages_of}
-use Rattle.plinq_ops.specs.Feeding.{counted_off, stage_left, stages_left, is_empty_take}
+use Rattle.plinq_ops.specs.Operator.{item_count, selected, taken_while, stage_of, stages_of, counted_off, stage_left}
+use Rattle.plinq_ops.specs.Feeding.{stages_left, is_empty_take}
 use Rattle.plinq_ops.specs.Fragment.{ended_here, taken_at, skipped_at, apply_at, position_behind, fragment_at, fragment_of}
 use Rattle.plinq_ops.specs.Pipeline.{PipelineView, begun_at, stages}
 use Rattle.plinq_ops.specs.ByKey.{is_by_key_from, is_by_key, left_at, passed_on, counts_at}

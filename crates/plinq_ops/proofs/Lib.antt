@@ -3,6 +3,7 @@ pub mod Open
 pub mod Fed
 pub mod Through
 pub mod Joined
+pub mod Operators
 pub mod Counts
 pub mod Answered
 pub mod Answers
@@ -13,6 +14,7 @@ pub mod Chunks
 pub mod Runs
 pub mod Batched
 pub mod ByKey
+pub mod Keyless
 pub mod Cut
 pub mod Rows
 pub mod Histories

@@ -1,32 +1,12 @@
 -- Open answers: an answer stays open only while the trace is, and then what is left of the operators goes on from there.
 use Rattle.std.specs.Prelude.{◌≡◌, ℕ, zero, suc, ◌-◌, List, [], ◌∷◌, ◌++◌, length, take, nat_le, true, false, cond, ◌||◌, Option, Some, None, is_some, ◌⊎◌, refl}
 use Rattle.std.proofs.Common.{sym, ◌∙◌, ap, inl, inr, arith, length-append, append-nil}
-use Rattle.std.proofs.Math.Nat.{sub-zero}
-use Rattle.std.proofs.Math.Seq.{drop-nil}
 use Rattle.plinq_source.specs.declared.ending.Ending.{Ending}
 use Rattle.plinq_source.specs.declared.ending.Ending.TheVariants.{End}
 use Rattle.plinq_source.specs.Trace.{Trace, open_trace, ended, continued, followed}
 use Rattle.plinq_source.proofs.Followed.{trace_of, followed-open_nil}
-use Rattle.plinq_ops.specs.Stage.{Stage, pieces, taking, skipping, unchanged, joined, apply, seq, behind, seq_behind, takes_none, some_takes_none}
-use Rattle.plinq_ops.proofs.Stages.{apply-followed, seq-followed, taken-short}
-
--- what follows decides whether there is an ending, unless there is one already
-pub is_some-continued : {T : Type 0} (xs : List T) (e : Option Ending) (b : Trace T) → is_some b.ending ≡ true → is_some (continued xs e b).ending ≡ true
-is_some-continued xs None b ends = ends
-is_some-continued xs (Some e) b ends = refl
-
-pub is_some-joined : {T : Type 0} (piece : T → Trace T) (xs : List T) (e : Option Ending) → is_some e ≡ true → is_some (joined piece xs e).ending ≡ true
-is_some-joined piece [] e ends = ends
-is_some-joined piece (x ∷ xs) e ends =
-    is_some-continued (piece x).items (piece x).ending (joined piece xs e) (is_some-joined piece xs e ends)
-
--- an operator leaves a trace that has ended with an ending
-pub is_some-apply : {T : Type 0} (s : Stage T) (t : Trace T) → is_some t.ending ≡ true → is_some (apply s t).ending ≡ true
-is_some-apply (pieces piece) t ends = is_some-joined piece t.items t.ending ends
-is_some-apply (taking n) t ends =
-    elim (nat_le n (length t.items)) as (λ v. is_some (cond v (ended (take n t.items) End) t).ending ≡ true) [ true ↦ refl | false ↦ ends ]
-is_some-apply (skipping n) t ends = ends
-is_some-apply unchanged t ends = ends
+use Rattle.plinq_ops.specs.Stage.{Stage, apply, seq, behind, seq_behind, takes_none, some_takes_none}
+use Rattle.plinq_ops.proofs.Stages.{is_some-apply, apply-followed, behind-behind, behind-nothing, apply-nothing, apply-takes_none, apply-ended_nil, seq-followed}
 
 pub is_some-seq : {T : Type 0} (ss : List (Stage T)) (t : Trace T) → is_some t.ending ≡ true → is_some (seq ss t).ending ≡ true
 is_some-seq [] t ends = ends
@@ -63,21 +43,6 @@ seq-open_before {T} ss a b is_open =
     let t : Trace T = seq (seq_behind ss a) b in
     open-from_continued (seq ss a).items (seq ss a).ending t (sym (ap (λ u. u.ending) (seq-followed ss a b)) ∙ is_open)
 
-less-less : {T : Type 0} (k : ℕ) (xs ys : List T) → (k - length xs) - length ys ≡ k - length (xs ++ ys)
-less-less k xs ys = omega (arith, length-append xs ys)
-
-pub behind-behind : {T : Type 0} (s : Stage T) (xs ys : List T) → behind (behind s xs) ys ≡ behind s (xs ++ ys)
-behind-behind (pieces piece) xs ys = refl
-behind-behind (taking k) xs ys = ap taking (less-less k xs ys)
-behind-behind (skipping k) xs ys = ap skipping (less-less k xs ys)
-behind-behind unchanged xs ys = refl
-
-pub behind-nothing : {T : Type 0} (s : Stage T) → behind s [] ≡ s
-behind-nothing (pieces piece) = refl
-behind-nothing (taking k) = ap taking (sub-zero k)
-behind-nothing (skipping k) = ap skipping (sub-zero k)
-behind-nothing unchanged = refl
-
 pub items-continued : {T : Type 0} (xs : List T) (e : Option Ending) (b : Trace T) → e ≡ None → (continued xs e b).items ≡ xs ++ b.items
 items-continued xs None b is_open = refl
 items-continued xs (Some e) b is_open = absurd (cc)
@@ -93,20 +58,6 @@ seq_behind-followed (s ∷ ss) a b is_open =
     let others : seq_behind ss (apply s (followed a b)) ≡ seq_behind (seq_behind ss (apply s a)) (apply (behind s a.items) b) =
     ap (seq_behind ss) (apply-followed s a b) ∙ seq_behind-followed ss (apply s a) (apply (behind s a.items) b) is_open in
     cc
-
-pub apply-nothing : {T : Type 0} (s : Stage T) (e : Option Ending) → takes_none s ≡ false → apply s (trace_of [] e) ≡ trace_of [] e
-apply-nothing (pieces piece) e some = refl
-apply-nothing (taking zero) e some = absurd (cc)
-apply-nothing (taking (suc n)) e some = taken-short (suc n) (trace_of [] e) (omega arith)
-apply-nothing (skipping n) e some = ap (λ zs. trace_of zs e) (drop-nil n)
-apply-nothing unchanged e some = refl
-
-pub apply-ended_nil : {T : Type 0} (s : Stage T) → apply s (ended [] End) ≡ ended [] End
-apply-ended_nil (pieces piece) = refl
-apply-ended_nil (taking zero) = refl
-apply-ended_nil (taking (suc n)) = taken-short (suc n) (ended [] End) (omega arith)
-apply-ended_nil (skipping n) = ap (λ zs. ended zs End) (drop-nil n)
-apply-ended_nil unchanged = refl
 
 -- nothing but the end stays that
 pub seq-ended_nil : {T : Type 0} (ss : List (Stage T)) → seq ss (ended [] End) ≡ ended [] End
@@ -125,11 +76,11 @@ seq-nothing (s ∷ ss) e some =
 -- a Take of none decides the answer before any item
 pub seq-takes_none : {T : Type 0} (ss : List (Stage T)) → some_takes_none ss ≡ true → seq ss (open_trace []) ≡ ended [] End
 seq-takes_none [] none = absurd (cc)
-seq-takes_none (pieces piece ∷ ss) none = seq-takes_none ss none
-seq-takes_none (taking zero ∷ ss) none = seq-ended_nil ss
-seq-takes_none (taking (suc n) ∷ ss) none = ap (seq ss) (apply-nothing (taking (suc n)) None refl) ∙ seq-takes_none ss none
-seq-takes_none (skipping n ∷ ss) none = ap (seq ss) (apply-nothing (skipping n) None refl) ∙ seq-takes_none ss none
-seq-takes_none (unchanged ∷ ss) none = seq-takes_none ss none
+seq-takes_none (s ∷ ss) none =
+    elim (takes_none s) as (λ v. takes_none s ≡ v → v || some_takes_none ss ≡ true → seq ss (apply s (open_trace [])) ≡ ended [] End) [
+      | true ↦ λ is none. ap (seq ss) (apply-takes_none s is) ∙ seq-ended_nil ss
+      | false ↦ λ is none. ap (seq ss) (apply-nothing s None is) ∙ seq-takes_none ss none
+    ] refl none
 
 -- what is left of the operators behind nothing is all of them
 pub seq_behind-nothing : {T : Type 0} (ss : List (Stage T)) → some_takes_none ss ≡ false → seq_behind ss (open_trace []) ≡ ss

@@ -1,5 +1,5 @@
 -- Laws of the operators on traces: a trace that follows another goes through what is left of the operators.
-use Rattle.std.specs.Prelude.{◌≡◌, ℕ, zero, suc, ◌-◌, ◌<◌, ◌≤◌, List, [], ◌∷◌, ◌++◌, length, take, drop, nat_le, true, false, cond, Option, Some, None, refl}
+use Rattle.std.specs.Prelude.{◌≡◌, ℕ, zero, suc, ◌-◌, ◌<◌, ◌≤◌, List, [], ◌∷◌, ◌++◌, length, take, drop, nat_le, true, false, cond, Option, Some, None, is_some, refl}
 use Rattle.std.proofs.Common.{sym, ◌∙◌, ap, inl, inr, arith, length-append}
 use Rattle.std.proofs.lemmas.List.{take-append-le}
 use Rattle.std.proofs.lemmas.Bool.{le-leb, lt-leb}
@@ -10,7 +10,7 @@ use Rattle.plinq_source.specs.declared.ending.Ending.{Ending}
 use Rattle.plinq_source.specs.declared.ending.Ending.TheVariants.{End}
 use Rattle.plinq_source.specs.Trace.{Trace, open_trace, ended, continued, followed}
 use Rattle.plinq_source.proofs.Followed.{trace_of, followed-followed}
-use Rattle.plinq_ops.specs.Stage.{Stage, pieces, taking, skipping, unchanged, joined, taken, apply, seq, behind, seq_behind}
+use Rattle.plinq_ops.specs.Stage.{Stage, pieces, taking, skipping, unchanged, joined, taken, apply, seq, behind, seq_behind, takes_none}
 
 -- the pieces of a list behind another
 pub joined-append : {T : Type 0} (piece : T → Trace T) (xs ys : List T) (e : Option Ending)
@@ -91,6 +91,61 @@ apply-continued unchanged xs (Some e) b = refl
 pub apply-followed : {T : Type 0} (s : Stage T) (a b : Trace T)
     → apply s (followed a b) ≡ followed (apply s a) (apply (behind s a.items) b)
 apply-followed s a b = apply-continued s a.items a.ending b
+
+-- what follows decides whether there is an ending, unless there is one already
+pub is_some-continued : {T : Type 0} (xs : List T) (e : Option Ending) (b : Trace T) → is_some b.ending ≡ true → is_some (continued xs e b).ending ≡ true
+is_some-continued xs None b ends = ends
+is_some-continued xs (Some e) b ends = refl
+
+pub is_some-joined : {T : Type 0} (piece : T → Trace T) (xs : List T) (e : Option Ending) → is_some e ≡ true → is_some (joined piece xs e).ending ≡ true
+is_some-joined piece [] e ends = ends
+is_some-joined piece (x ∷ xs) e ends =
+    is_some-continued (piece x).items (piece x).ending (joined piece xs e) (is_some-joined piece xs e ends)
+
+-- an operator leaves a trace that has ended with an ending
+pub is_some-apply : {T : Type 0} (s : Stage T) (t : Trace T) → is_some t.ending ≡ true → is_some (apply s t).ending ≡ true
+is_some-apply (pieces piece) t ends = is_some-joined piece t.items t.ending ends
+is_some-apply (taking n) t ends =
+    elim (nat_le n (length t.items)) as (λ v. is_some (cond v (ended (take n t.items) End) t).ending ≡ true) [ true ↦ refl | false ↦ ends ]
+is_some-apply (skipping n) t ends = ends
+is_some-apply unchanged t ends = ends
+
+less-less : {T : Type 0} (k : ℕ) (xs ys : List T) → (k - length xs) - length ys ≡ k - length (xs ++ ys)
+less-less k xs ys = omega (arith, length-append xs ys)
+
+pub behind-behind : {T : Type 0} (s : Stage T) (xs ys : List T) → behind (behind s xs) ys ≡ behind s (xs ++ ys)
+behind-behind (pieces piece) xs ys = refl
+behind-behind (taking k) xs ys = ap taking (less-less k xs ys)
+behind-behind (skipping k) xs ys = ap skipping (less-less k xs ys)
+behind-behind unchanged xs ys = refl
+
+pub behind-nothing : {T : Type 0} (s : Stage T) → behind s [] ≡ s
+behind-nothing (pieces piece) = refl
+behind-nothing (taking k) = ap taking (sub-zero k)
+behind-nothing (skipping k) = ap skipping (sub-zero k)
+behind-nothing unchanged = refl
+
+pub apply-nothing : {T : Type 0} (s : Stage T) (e : Option Ending) → takes_none s ≡ false → apply s (trace_of [] e) ≡ trace_of [] e
+apply-nothing (pieces piece) e some = refl
+apply-nothing (taking zero) e some = absurd (cc)
+apply-nothing (taking (suc n)) e some = taken-short (suc n) (trace_of [] e) (omega arith)
+apply-nothing (skipping n) e some = ap (λ zs. trace_of zs e) (drop-nil n)
+apply-nothing unchanged e some = refl
+
+pub apply-ended_nil : {T : Type 0} (s : Stage T) → apply s (ended [] End) ≡ ended [] End
+apply-ended_nil (pieces piece) = refl
+apply-ended_nil (taking zero) = refl
+apply-ended_nil (taking (suc n)) = taken-short (suc n) (ended [] End) (omega arith)
+apply-ended_nil (skipping n) = ap (λ zs. ended zs End) (drop-nil n)
+apply-ended_nil unchanged = refl
+
+-- a Take of none ends it before any item
+pub apply-takes_none : {T : Type 0} (s : Stage T) → takes_none s ≡ true → apply s (open_trace []) ≡ ended [] End
+apply-takes_none (pieces piece) none = absurd (let bad : false ≡ true = none in cc)
+apply-takes_none (taking zero) none = refl
+apply-takes_none (taking (suc n)) none = absurd (let bad : false ≡ true = none in cc)
+apply-takes_none (skipping n) none = absurd (let bad : false ≡ true = none in cc)
+apply-takes_none unchanged none = absurd (let bad : false ≡ true = none in cc)
 
 -- the operators on a trace that follows another
 pub seq-followed : {T : Type 0} (ss : List (Stage T)) (a b : Trace T)

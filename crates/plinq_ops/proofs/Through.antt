@@ -10,9 +10,9 @@ use Rattle.plinq_source.specs.Trace.{Trace, open_trace, ended}
 use Rattle.plinq_lambda.specs.Meaning.{Meaning}
 use Rattle.plinq_ops.specs.declared.op.Op.{Op}
 use Rattle.plinq_ops.specs.declared.op.Op.TheVariants.{SelectMany}
-use Rattle.plinq_ops.specs.Operator.{stage_of}
+use Rattle.plinq_ops.specs.Operator.{stage_of, stage_left}
 use Rattle.plinq_ops.specs.Stage.{apply, behind, takes_none, some_takes_none}
-use Rattle.plinq_ops.specs.Feeding.{stage_left, stages_left, IsFed}
+use Rattle.plinq_ops.specs.Feeding.{stages_left, IsFed}
 use Rattle.plinq_ops.proofs.Fed.{fed-through, fed-told, fed-none, fed-ending}
 
 -- an item x that has become y on its way through the first i operators: whatever the rest makes of y, all make of x,

@@ -12,10 +12,19 @@ pub record IsRearranged {T : Type 0} (t u : Trace T) : Type 0 where
   pub items : IsPermutation t.items u.items
   pub ending : u.ending ≡ t.ending
 
--- what one operator may make of a trace: AsUnordered any rearrangement of it, each other operator what it does
+-- whether an operator keeps the order of what reaches it
+abbrev pub keeps_order : {L : Type 0} → Op L → Bool
+keeps_order AsUnordered = false
+keeps_order _ = true
+
+-- this trace, or where the order isn't kept any rearrangement of it
+abbrev pub Gives : {T : Type 0} → Bool → Trace T → Trace T → Type 0
+Gives true t u = u ≡ t
+Gives false t u = IsRearranged t u
+
+-- what one operator may make of a trace: what it does, and AsUnordered any rearrangement of that
 abbrev pub MayGive : {L T : Type 0} → (L → Meaning T) → Op L → Trace T → Trace T → Type 0
-MayGive meaning AsUnordered t u = IsRearranged t u
-MayGive meaning op t u = u ≡ apply (stage_of meaning op) t
+MayGive meaning op t u = Gives (keeps_order op) (apply (stage_of meaning op) t) u
 
 -- some trace that is given first, and goes on
 pub record IsThrough {T : Type 0} (Given GoesOn : Trace T → Type 0) : Type 0 where
@@ -35,8 +44,3 @@ ops_from_source ordered ops = if ordered then ops else AsUnordered ∷ ops
 -- what a query may answer
 abbrev pub Answer : {L T : Type 0} → (L → Meaning T) → Bool → List (Op L) → Trace T → Trace T → Type 0
 Answer meaning ordered ops t u = MayGiveAll meaning (ops_from_source ordered ops) t u
-
--- whether an operator keeps the order of what reaches it
-abbrev pub keeps_order : {L : Type 0} → Op L → Bool
-keeps_order AsUnordered = false
-keeps_order _ = true

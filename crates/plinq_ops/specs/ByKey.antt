@@ -1,13 +1,13 @@
 -- By key: which operators a worker can apply to elements of which it knows the keys, and what is left of them at a key.
-use Rattle.std.specs.Prelude.{◌≡◌, refl, ℕ, ◌-◌, ℤ, pos, List, [], ◌∷◌, Bool, true, false, ◌&&◌}
+use Rattle.std.specs.Prelude.{◌≡◌, refl, ℕ, ◌-◌, ℤ, pos, List, [], ◌∷◌, Bool, true, false, ◌&&◌, if◌then◌else◌, Option, Some, None}
+use Rattle.std.specs.List.{list_all}
 use Rattle.plinq_lambda.specs.Meaning.{Meaning}
 use Rattle.plinq_ops.specs.declared.op.Op.{Op}
 use Rattle.plinq_ops.specs.declared.op.Op.TheVariants.{Select, Filter, SelectMany, Take, Skip, TakeWhile, AsUnordered}
 use Rattle.plinq_ops.specs.declared.known.Known.{Known}
 use Rattle.plinq_ops.specs.declared.known.Known.TheVariants.{Nothing, Key, Position}
 use Rattle.plinq_ops.specs.Stage.{Stage, taking, skipping}
-use Rattle.plinq_ops.specs.Operator.{item_count, example}
-use Rattle.plinq_ops.specs.Feeding.{counted_off, stage_left}
+use Rattle.plinq_ops.specs.Operator.{item_count, counted_off, stage_left, needed, keeps_count, example}
 use Rattle.plinq_ops.specs.Fragment.{position_behind}
 
 -- the order of the elements is known
@@ -21,18 +21,25 @@ knows_position Nothing = false
 knows_position Key = false
 knows_position Position = true
 
--- whether a worker that knows so much can apply an operator: TakeWhile needs the order, Take and Skip the position;
--- AsUnordered gives the order up
-abbrev pub can_apply : {L : Type 0} → Known → Op L → Bool
-can_apply known (Select f) = true
-can_apply known (Filter f) = true
-can_apply known (SelectMany f) = true
-can_apply known (Take n) = knows_position known
-can_apply known (Skip n) = knows_position known
-can_apply known (TakeWhile f) = knows_order known
-can_apply known AsUnordered = false
+-- whether a worker that knows so much knows what is needed
+abbrev pub suffices : Known → Option Known → Bool
+suffices known None = false
+suffices known (Some Nothing) = true
+suffices known (Some Key) = knows_order known
+suffices known (Some Position) = knows_position known
 
--- how many items a Filter or a SelectMany gives isn't known from the key
+-- whether a worker that knows so much can apply an operator
+abbrev pub can_apply : {L : Type 0} → Known → Op L → Bool
+can_apply known op = suffices known (needed op)
+
+-- the operator looks neither at keys nor at the order of its elements
+abbrev pub is_keyless : {L : Type 0} → Op L → Bool
+is_keyless op = can_apply Nothing op
+
+abbrev pub are_keyless : {L : Type 0} → List (Op L) → Bool
+are_keyless ops = list_all is_keyless ops
+
+-- what is known of elements whose positions aren't
 abbrev pub without_position : Known → Known
 without_position Nothing = Nothing
 without_position Key = Key
@@ -40,9 +47,7 @@ without_position Position = Key
 
 -- what is known of the elements behind an operator
 abbrev pub known_behind : {L : Type 0} → Known → Op L → Known
-known_behind known (Filter f) = without_position known
-known_behind known (SelectMany f) = without_position known
-known_behind known op = known
+known_behind known op = if keeps_count op then known else without_position known
 
 abbrev pub is_by_key_from : {L : Type 0} → Known → List (Op L) → Bool
 is_by_key_from known [] = true

@@ -5,20 +5,8 @@ use Rattle.plinq_source.specs.Trace.{Trace}
 use Rattle.plinq_lambda.specs.Meaning.{Meaning}
 use Rattle.plinq_ops.specs.declared.op.Op.{Op}
 use Rattle.plinq_ops.specs.declared.op.Op.TheVariants.{Take, Skip}
-use Rattle.plinq_ops.specs.Stage.{Stage, taking, skipping, seq, seq_behind}
-use Rattle.plinq_ops.specs.Operator.{stage_of, item_count}
-
--- how many items a Take or a Skip counts off; the others count none
-abbrev pub counted_off : {L : Type 0} → Op L → ℕ
-counted_off (Take n) = item_count n
-counted_off (Skip n) = item_count n
-counted_off op = 0
-
--- what an operator still does, where a Take or a Skip has so many items left
-abbrev pub stage_left : {L T : Type 0} → (L → Meaning T) → Op L → ℕ → Stage T
-stage_left meaning (Take n) count = taking count
-stage_left meaning (Skip n) count = skipping count
-stage_left meaning op count = stage_of meaning op
+use Rattle.plinq_ops.specs.Stage.{Stage, seq, seq_behind}
+use Rattle.plinq_ops.specs.Operator.{item_count, stage_left}
 
 abbrev pub stages_left : {L T : Type 0} → (L → Meaning T) → List (Op L) → List ℕ → List (Stage T)
 stages_left meaning [] counts = []

@@ -1,10 +1,12 @@
 -- The operators of a query, by what they do to a trace.
-use Rattle.std.specs.Prelude.{◌≡◌, refl, zero, suc, nat_lt, replicate, ℕ, ℤ, pos, negsuc, List, [], ◌∷◌, Bool, true, false, Result, Ok, Err, map}
+use Rattle.std.specs.Prelude.{◌≡◌, refl, zero, suc, nat_lt, replicate, ℕ, ℤ, pos, negsuc, List, [], ◌∷◌, Bool, true, false, Option, Some, None, Result, Ok, Err, map}
 use Rattle.plinq_source.specs.declared.ending.Ending.TheVariants.{End, Refused, Fault}
 use Rattle.plinq_source.specs.Trace.{Trace, open_trace, ended}
 use Rattle.plinq_lambda.specs.Meaning.{Meaning}
 use Rattle.plinq_ops.specs.declared.op.Op.{Op}
 use Rattle.plinq_ops.specs.declared.op.Op.TheVariants.{Select, Filter, SelectMany, Take, Skip, TakeWhile, AsUnordered}
+use Rattle.plinq_ops.specs.declared.known.Known.{Known}
+use Rattle.plinq_ops.specs.declared.known.Known.TheVariants.{Nothing, Key, Position}
 use Rattle.plinq_ops.specs.Stage.{Stage, pieces, taking, skipping, unchanged, apply}
 
 -- Select: the mapped item; a fault ends the answer
@@ -46,6 +48,35 @@ stage_of meaning AsUnordered = unchanged
 
 abbrev pub stages_of : {L T : Type 0} → (L → Meaning T) → List (Op L) → List (Stage T)
 stages_of meaning ops = map (stage_of meaning) ops
+
+-- how many items a Take or a Skip counts off; the others count none
+abbrev pub counted_off : {L : Type 0} → Op L → ℕ
+counted_off (Take n) = item_count n
+counted_off (Skip n) = item_count n
+counted_off op = 0
+
+-- what an operator still does, where a Take or a Skip has so many items left
+abbrev pub stage_left : {L T : Type 0} → (L → Meaning T) → Op L → ℕ → Stage T
+stage_left meaning (Take n) count = taking count
+stage_left meaning (Skip n) count = skipping count
+stage_left meaning op count = stage_of meaning op
+
+-- what a worker must know of the elements that reach an operator to apply it: TakeWhile needs their order, Take and Skip
+-- their positions; no worker can apply AsUnordered, which gives the order up
+abbrev pub needed : {L : Type 0} → Op L → Option Known
+needed (Select f) = Some Nothing
+needed (Filter f) = Some Nothing
+needed (SelectMany f) = Some Nothing
+needed (Take n) = Some Position
+needed (Skip n) = Some Position
+needed (TakeWhile f) = Some Key
+needed AsUnordered = None
+
+-- whether the key of an element tells how many elements an operator has given before it
+abbrev pub keeps_count : {L : Type 0} → Op L → Bool
+keeps_count (Filter f) = false
+keeps_count (SelectMany f) = false
+keeps_count op = true
 
 abbrev less_one : ℕ → Result ℕ ℕ
 less_one zero = Err 1

@@ -3,7 +3,8 @@ use Rattle.std.specs.Prelude.{ℕ, List, map}
 use Rattle.plinq_lambda.specs.Meaning.{Meaning}
 use Rattle.plinq_ops.specs.declared.op.Op.{Op}
 use Rattle.plinq_ops.specs.Stage.{Stage}
-use Rattle.plinq_ops.specs.Feeding.{counted_off, stages_left}
+use Rattle.plinq_ops.specs.Operator.{counted_off}
+use Rattle.plinq_ops.specs.Feeding.{stages_left}
 use Rattle.plinq_ops.specs.ByKey.{counts_at}
 
 -- the operators, and how many items each Take and each Skip has left

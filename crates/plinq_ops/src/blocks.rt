@@ -2,8 +2,7 @@ ghost use Rattle.std.specs.Prelude.{◌≡◌, false, drop};
 ghost use Rattle.plinq_source.specs.Trace.{open_trace};
 ghost use Rattle.plinq_ops.specs.declared.op.Op.TheVariants.{Select, Filter, TakeWhile};
 ghost use Rattle.plinq_ops.specs.Stage.{apply, behind, takes_none, taking, skipping};
-ghost use Rattle.plinq_ops.specs.Operator.{stage_of};
-ghost use Rattle.plinq_ops.specs.Feeding.{stage_left};
+ghost use Rattle.plinq_ops.specs.Operator.{stage_of, stage_left};
 ghost use Rattle.plinq_ops.specs.Passing.{expands};
 
 use crate::op::Op;

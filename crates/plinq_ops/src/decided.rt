@@ -1,21 +1,11 @@
 ghost use Rattle.std.specs.Prelude.{◌≡◌, IfOk};
 ghost use Rattle.std.specs.List.{list_any};
-ghost use Rattle.plinq_ops.specs.Feeding.{counted_off, is_empty_take};
+ghost use Rattle.plinq_ops.specs.Feeding.{is_empty_take};
 ghost use Rattle.plinq_ops.specs.ByKey.{passed_on, counts_at};
 
 use crate::op::Op;
 use plinq_source::OutOfMemory;
 use std::alloc::Global;
-
-/// How many items a Take or a Skip counts off; 0 at the others.
-fn counted_off<L>(op: &Op<L>) -> u64
-    ensures { result ≡ counted_off op.now }
-{
-    match op {
-        Op::Take(n) | Op::Skip(n) => (*n).max(0) as u64,
-        _ => 0,
-    }
-}
 
 /// Whether an operator is a Take of none.
 fn is_empty_take<L>(op: &Op<L>) -> bool
@@ -36,7 +26,7 @@ fn passed_on<L>(op: &Op<L>, reached: u64) -> u64
     ensures { result ≡ passed_on op.now reached }
 {
     match op {
-        Op::Skip(_) => reached.saturating_sub(counted_off(op)),
+        Op::Skip(_) => reached.saturating_sub(op.counted_off()),
         _ => reached,
     }
 }
@@ -52,7 +42,7 @@ pub(crate) fn counts_at<L>(
     let mut counts = Vec::with_capacity(alloc, ops.len())?;
     let mut reached = reached;
     for op in ops {
-        counts.push(counted_off(op).saturating_sub(reached))?;
+        counts.push(op.counted_off().saturating_sub(reached))?;
         reached = passed_on(op, reached);
     }
     Ok(counts)

@@ -31,11 +31,11 @@ impl Known {
     pub(crate) fn can_apply<L>(self, op: &Op<L>) -> bool
         ensures { result ≡ can_apply self op.now }
     {
-        match op {
-            Op::Select(_) | Op::Filter(_) | Op::SelectMany(_) => true,
-            Op::Take(_) | Op::Skip(_) => self == Known::Position,
-            Op::TakeWhile(_) => self != Known::Nothing,
-            Op::AsUnordered => false,
+        match op.needed() {
+            None => false,
+            Some(Known::Nothing) => true,
+            Some(Known::Key) => self != Known::Nothing,
+            Some(Known::Position) => self == Known::Position,
         }
     }
 
@@ -43,9 +43,9 @@ impl Known {
     pub(crate) fn behind<L>(self, op: &Op<L>) -> Known
         ensures { result ≡ known_behind self op.now }
     {
-        match op {
-            Op::Filter(_) | Op::SelectMany(_) if self == Known::Position => Known::Key,
-            _ => self,
+        if self == Known::Position && !op.keeps_count() {
+            return Known::Key;
         }
+        self
     }
 }

@@ -1,3 +1,8 @@
+ghost use Rattle.std.specs.Prelude.{◌≡◌};
+ghost use Rattle.plinq_ops.specs.Operator.{counted_off, needed, keeps_count};
+
+use crate::known::Known;
+
 /// One operator of a query, over lambdas `L`.
 #[derive(Clone, Copy, Debug, PartialEq, Eq, Drop)]
 pub enum Op<L> {
@@ -15,4 +20,35 @@ pub enum Op<L> {
     TakeWhile(L),
     /// `AsUnordered`: the order isn't kept from here on.
     AsUnordered,
+}
+
+impl<L> Op<L> {
+    /// How many items a Take or a Skip counts off; 0 at the others.
+    pub(crate) fn counted_off(&self) -> u64
+        ensures { result ≡ counted_off self.now }
+    {
+        match self {
+            Op::Take(n) | Op::Skip(n) => (*n).max(0) as u64,
+            _ => 0,
+        }
+    }
+
+    /// What a worker must know of the elements that reach the operator to apply it; `None` where no worker can.
+    pub(crate) fn needed(&self) -> Option<Known>
+        ensures { result ≡ needed self.now }
+    {
+        match self {
+            Op::Select(_) | Op::Filter(_) | Op::SelectMany(_) => Some(Known::Nothing),
+            Op::Take(_) | Op::Skip(_) => Some(Known::Position),
+            Op::TakeWhile(_) => Some(Known::Key),
+            Op::AsUnordered => None,
+        }
+    }
+
+    /// Whether the key of an element tells how many elements the operator has given before it.
+    pub(crate) fn keeps_count(&self) -> bool
+        ensures { result ≡ keeps_count self.now }
+    {
+        !matches!(self, Op::Filter(_) | Op::SelectMany(_))
+    }
 }

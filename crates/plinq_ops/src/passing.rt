@@ -1,7 +1,7 @@
 ghost use Rattle.std.specs.Prelude.{◌≡◌, false, ◌∷◌, []};
 ghost use Rattle.plinq_source.specs.Trace.{open_trace};
 ghost use Rattle.plinq_ops.specs.Stage.{apply, behind, takes_none};
-ghost use Rattle.plinq_ops.specs.Feeding.{stage_left};
+ghost use Rattle.plinq_ops.specs.Operator.{stage_left};
 ghost use Rattle.plinq_ops.specs.Passing.{passed_trace, expands};
 
 use crate::op::Op;

@@ -1,7 +1,8 @@
 ghost use Rattle.std.specs.Prelude.{◌≡◌, [], ◌∷◌, false, IfOk};
 ghost use Rattle.plinq_source.specs.Trace.{open_trace};
 ghost use Rattle.plinq_ops.specs.Stage.{takes_none, some_takes_none};
-ghost use Rattle.plinq_ops.specs.Feeding.{stage_left, IsFed};
+ghost use Rattle.plinq_ops.specs.Operator.{stage_left};
+ghost use Rattle.plinq_ops.specs.Feeding.{IsFed};
 ghost use Rattle.plinq_ops.specs.Pipeline.{begun, begun_at, stages};
 
 use crate::decided::counts_at;

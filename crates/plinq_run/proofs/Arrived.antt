@@ -12,8 +12,6 @@ use Rattle.plinq_source.specs.declared.ending.Ending.{Ending}
 use Rattle.plinq_source.specs.Trace.{Trace, open_trace, followed}
 use Rattle.plinq_source.proofs.Followed.{trace_of, followed-open_nil}
 use Rattle.plinq_lambda.specs.Meaning.{Meaning}
-use Rattle.plinq_ops.specs.declared.op.Op.{Op}
-use Rattle.plinq_ops.specs.declared.op.Op.TheVariants.{Select, Filter, SelectMany, Take, Skip, TakeWhile, AsUnordered}
 use Rattle.plinq_ops.specs.declared.order.Order.TheVariants.{ByArrival}
 use Rattle.plinq_ops.specs.declared.plan.Plan.{Plan}
 use Rattle.plinq_ops.specs.declared.results.ChunkResult.{ChunkResult}
@@ -21,6 +19,8 @@ use Rattle.plinq_ops.specs.Answer.{IsRearranged}
 use Rattle.plinq_ops.specs.Chunk.{result_trace}
 use Rattle.plinq_ops.specs.Fragment.{fragment_at, fragment_of, glued, glue}
 use Rattle.plinq_ops.specs.Plan.{worker_part}
+use Rattle.plinq_ops.specs.ByKey.{are_keyless}
+use Rattle.plinq_ops.proofs.Keyless.{glued-keyless}
 use Rattle.plinq_ops.proofs.Cut.{undropped-uncut, result-is}
 use Rattle.plinq_ops.proofs.Glue.{glued-append, chunk_answer-uncut}
 use Rattle.plinq_merge.specs.Part.{Part}
@@ -29,38 +29,8 @@ use Rattle.plinq_merge.specs.Shown.{part_of, placed, all_placed, all_told, endin
 use Rattle.plinq_merge.specs.Whole.{EndsAt, AreTrueTails, AreApart}
 use Rattle.plinq_merge.proofs.Overlaps.{within-from}
 use Rattle.plinq_merge.proofs.Whole.{told-true}
-use Rattle.plinq_crew.specs.Plans.{are_keyless}
 use Rattle.plinq_crew.specs.Results.{IsResult}
 use Rattle.plinq_run.proofs.Without.{without, without-all, taken_by, AreWithin, rearranged-taken}
-
--- ---- operators that don't look at keys
-
-pub worker-keyless : {L : Type 0} (ops : List (Op L)) → are_keyless (worker_part ByArrival ops) ≡ true
-worker-keyless [] = refl
-worker-keyless (Select f ∷ ops) = worker-keyless ops
-worker-keyless (Filter f ∷ ops) = worker-keyless ops
-worker-keyless (SelectMany f ∷ ops) = worker-keyless ops
-worker-keyless (Take n ∷ ops) = refl
-worker-keyless (Skip n ∷ ops) = refl
-worker-keyless (TakeWhile f ∷ ops) = refl
-worker-keyless (AsUnordered ∷ ops) = refl
-
-module _ {L T : Type 0} (meaning : L → Meaning T) where
-  fragment_at-keyless : (worker : List (Op L)) (p q : ℤ) (t : Trace T) → are_keyless worker ≡ true → fragment_at meaning worker p t ≡ fragment_at meaning worker q t
-  fragment_at-keyless [] p q t keyless = refl
-  fragment_at-keyless (Select f ∷ ops) p q t keyless = fragment_at-keyless ops p q _ keyless
-  fragment_at-keyless (Filter f ∷ ops) p q t keyless = fragment_at-keyless ops p q _ keyless
-  fragment_at-keyless (SelectMany f ∷ ops) p q t keyless = fragment_at-keyless ops p q _ keyless
-  fragment_at-keyless (Take n ∷ ops) p q t keyless = absurd (let bad : false ≡ true = keyless in cc)
-  fragment_at-keyless (Skip n ∷ ops) p q t keyless = absurd (let bad : false ≡ true = keyless in cc)
-  fragment_at-keyless (TakeWhile f ∷ ops) p q t keyless = absurd (let bad : false ≡ true = keyless in cc)
-  fragment_at-keyless (AsUnordered ∷ ops) p q t keyless = absurd (let bad : false ≡ true = keyless in cc)
-
-  glued-keyless : (worker : List (Op L)) (j k : ℕ) (xs : List T) (e : Option Ending) → are_keyless worker ≡ true → glued meaning worker j xs e ≡ glued meaning worker k xs e
-  glued-keyless worker j k [] e keyless = refl
-  glued-keyless worker j k (x ∷ xs) e keyless =
-      ap (λ u. followed u (glued meaning worker (j + 1) xs e)) (fragment_at-keyless worker (pos j) (pos k) (open_trace (x ∷ [])) keyless)
-      ∙ ap (followed (fragment_of meaning worker k x)) (glued-keyless worker (j + 1) (k + 1) xs e keyless)
 
 -- ---- what arrived
 

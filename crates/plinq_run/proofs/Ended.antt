@@ -18,7 +18,7 @@ use Rattle.plinq_ops.specs.declared.order.Order.TheVariants.{ByKey, ByArrival}
 use Rattle.plinq_ops.specs.declared.plan.Plan.{Plan}
 use Rattle.plinq_ops.specs.declared.results.ChunkResult.{ChunkResult}
 use Rattle.plinq_ops.specs.Batches.{batches, batches_from}
-use Rattle.plinq_ops.specs.ByKey.{is_by_key}
+use Rattle.plinq_ops.specs.ByKey.{are_keyless, is_by_key}
 use Rattle.plinq_ops.specs.Feeding.{is_empty_take}
 use Rattle.plinq_ops.specs.Fragment.{glue}
 use Rattle.plinq_ops.specs.Operator.{stages_of}
@@ -32,6 +32,7 @@ use Rattle.plinq_ops.proofs.Answers.{IsRearranged-refl, Answer-rearranged, Answe
 use Rattle.plinq_ops.proofs.Counts.{some_takes_none-stages_of}
 use Rattle.plinq_ops.proofs.Glue.{answer_of-split}
 use Rattle.plinq_ops.proofs.Open.{seq-nothing}
+use Rattle.plinq_ops.proofs.Parts.{worker-keyless}
 use Rattle.plinq_merge.specs.declared.merge_fault.MergeFault.{MergeFault}
 use Rattle.plinq_merge.specs.declared.merger.Merger.{Merger}
 use Rattle.plinq_merge.specs.Sending.{Leads}
@@ -45,13 +46,12 @@ use Rattle.plinq_run.specs.declared.run_fault.RunFault.{RunFault}
 use Rattle.plinq_run.specs.Endings.{ending_in, reported}
 use Rattle.plinq_run.specs.Handed.{handed_trace}
 use Rattle.plinq_run.specs.Merged.{merge_for, IsMerging, Merges}
-use Rattle.plinq_crew.specs.Plans.{IsUndecided, are_keyless}
+use Rattle.plinq_crew.specs.Plans.{IsUndecided}
 use Rattle.plinq_run.specs.Plans.{merged_answer}
 use Rattle.plinq_run.specs.Reaching.{IsOffered, Covers, accounts_for}
 use Rattle.plinq_run.specs.Reports.{MayTake, MayMerge, IsBroken, Ends, HasReported, Reports}
 use Rattle.plinq_crew.specs.Results.{IsResult}
 use Rattle.plinq_run.specs.Runs.{HasRun, HasBroken, Runs, IsReportOf, refusal_of, told_refusal, fault_of}
-use Rattle.plinq_run.proofs.Arrived.{worker-keyless}
 use Rattle.plinq_run.proofs.Handed.{covers-handed}
 use Rattle.plinq_run.proofs.Runs.{whole-run, broken-run}
 

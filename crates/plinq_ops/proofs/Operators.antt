@@ -1,0 +1,92 @@
+-- What is true of each operator, case by case.
+use Rattle.std.specs.Prelude.{◌≡◌, ℕ, zero, suc, ℤ, pos, negsuc, List, [], ◌∷◌, Bool, true, false, cond, Option, Some, None, Result, Ok, Err, refl}
+use Rattle.std.proofs.Common.{arith}
+use Rattle.std.proofs.lemmas.Bool.Decides.{nat_tests}
+use Rattle.plinq_source.specs.declared.ending.Ending.{Ending}
+use Rattle.plinq_source.specs.declared.ending.Ending.TheVariants.{End}
+use Rattle.plinq_source.specs.Trace.{Trace, ended, continued}
+use Rattle.plinq_lambda.specs.Meaning.{Meaning}
+use Rattle.plinq_ops.specs.declared.op.Op.{Op}
+use Rattle.plinq_ops.specs.declared.op.Op.TheVariants.{Select, Filter, SelectMany, Take, Skip, TakeWhile, AsUnordered}
+use Rattle.plinq_ops.specs.declared.known.Known.TheVariants.{Nothing}
+use Rattle.plinq_ops.specs.Stage.{joined, apply, takes_none}
+use Rattle.plinq_ops.specs.Operator.{selected, filtered, selected_many, taken_while, stage_of, counted_off, stage_left}
+use Rattle.plinq_ops.specs.Feeding.{is_empty_take}
+use Rattle.plinq_ops.specs.ByKey.{can_apply}
+use Rattle.plinq_ops.specs.Fragment.{apply_at}
+use Rattle.plinq_ops.specs.Chunk.{IsWorkerEnding}
+
+-- before any item all of an operator is left
+pub stage_left-counted_off : {L T : Type 0} (meaning : L → Meaning T) (op : Op L) → stage_left meaning op (counted_off op) ≡ stage_of meaning op
+stage_left-counted_off meaning (Select f) = refl
+stage_left-counted_off meaning (Filter f) = refl
+stage_left-counted_off meaning (SelectMany f) = refl
+stage_left-counted_off meaning (Take n) = refl
+stage_left-counted_off meaning (Skip n) = refl
+stage_left-counted_off meaning (TakeWhile f) = refl
+stage_left-counted_off meaning AsUnordered = refl
+
+-- a Take of none is one that takes none
+pub takes_none-stage_of : {L T : Type 0} (meaning : L → Meaning T) (op : Op L) → is_empty_take op ≡ takes_none (stage_of meaning op)
+takes_none-stage_of meaning (Select f) = refl
+takes_none-stage_of meaning (Filter f) = refl
+takes_none-stage_of meaning (SelectMany f) = refl
+takes_none-stage_of meaning (Take (pos zero)) = refl
+takes_none-stage_of meaning (Take (pos (suc n))) = grind (arith, nat_tests)
+takes_none-stage_of meaning (Take (negsuc n)) = refl
+takes_none-stage_of meaning (Skip n) = refl
+takes_none-stage_of meaning (TakeWhile f) = refl
+takes_none-stage_of meaning AsUnordered = refl
+
+-- ---- what a worker can apply never refuses
+
+continued-ending : {T : Type 0} (xs : List T) (e : Option Ending) (t : Trace T) → IsWorkerEnding e → IsWorkerEnding t.ending → IsWorkerEnding (continued xs e t).ending
+continued-ending xs None t first second = second
+continued-ending xs (Some e) t first second = first
+
+joined-ending : {T : Type 0} (piece : T → Trace T) (xs : List T) (e : Option Ending) → ((x : T) → IsWorkerEnding (piece x).ending) → IsWorkerEnding e
+    → IsWorkerEnding (joined piece xs e).ending
+joined-ending piece [] e each last = last
+joined-ending piece (x ∷ xs) e each last =
+    continued-ending (piece x).items (piece x).ending (joined piece xs e) (each x) (joined-ending piece xs e each last)
+
+selected-ending : {T : Type 0} (r : Result T ℕ) → IsWorkerEnding (selected r).ending
+selected-ending (Ok y) = tt
+selected-ending (Err code) = tt
+
+filtered-ending : {T : Type 0} (r : Result Bool ℕ) (x : T) → IsWorkerEnding (filtered r x).ending
+filtered-ending (Ok true) x = tt
+filtered-ending (Ok false) x = tt
+filtered-ending (Err code) x = tt
+
+selected_many-ending : {T : Type 0} (r : Result (List T) ℕ) → IsWorkerEnding (selected_many r).ending
+selected_many-ending (Ok ys) = tt
+selected_many-ending (Err code) = tt
+
+taken_while-ending : {T : Type 0} (r : Result Bool ℕ) (x : T) → IsWorkerEnding (taken_while r x).ending
+taken_while-ending (Ok true) x = tt
+taken_while-ending (Ok false) x = tt
+taken_while-ending (Err code) x = tt
+
+taken-ending : {T : Type 0} (b : Bool) (xs : List T) (t : Trace T) → IsWorkerEnding t.ending → IsWorkerEnding (cond b (ended xs End) t).ending
+taken-ending true xs t ending = tt
+taken-ending false xs t ending = ending
+
+pub apply-ending : {L T : Type 0} (meaning : L → Meaning T) (op : Op L) (count : ℕ) (t : Trace T) → IsWorkerEnding t.ending → IsWorkerEnding (apply (stage_left meaning op count) t).ending
+apply-ending meaning (Select f) count t ending = joined-ending _ t.items t.ending (λ x. selected-ending ((meaning f).map x)) ending
+apply-ending meaning (Filter f) count t ending = joined-ending _ t.items t.ending (λ x. filtered-ending ((meaning f).test x) x) ending
+apply-ending meaning (SelectMany f) count t ending = joined-ending _ t.items t.ending (λ x. selected_many-ending ((meaning f).expand x)) ending
+apply-ending meaning (Take n) count t ending = taken-ending _ _ t ending
+apply-ending meaning (Skip n) count t ending = ending
+apply-ending meaning (TakeWhile f) count t ending = joined-ending _ t.items t.ending (λ x. taken_while-ending ((meaning f).test x) x) ending
+apply-ending meaning AsUnordered count t ending = ending
+
+-- an operator that looks at no key does the same at each
+pub apply_at-keyless : {L T : Type 0} (meaning : L → Meaning T) (op : Op L) (p q : ℤ) (t : Trace T) → can_apply Nothing op ≡ true → apply_at meaning op p t ≡ apply_at meaning op q t
+apply_at-keyless meaning (Select f) p q t keyless = refl
+apply_at-keyless meaning (Filter f) p q t keyless = refl
+apply_at-keyless meaning (SelectMany f) p q t keyless = refl
+apply_at-keyless meaning (Take n) p q t keyless = absurd (let bad : false ≡ true = keyless in cc)
+apply_at-keyless meaning (Skip n) p q t keyless = absurd (let bad : false ≡ true = keyless in cc)
+apply_at-keyless meaning (TakeWhile f) p q t keyless = refl
+apply_at-keyless meaning AsUnordered p q t keyless = refl
