@@ -1,5 +1,5 @@
 -- What a run by threads tells, and has written: the lines of the batches of an answer, or where it broke off those of the first.
-use Rattle.std.proofs.Common.{◌≡◌, true, false, Bool, ℕ, ℤ, List, ◌++◌, None, Result, Ok, Err, refl, ap, sym, ◌∙◌, subst}
+use Rattle.std.proofs.Common.{◌≡◌, Bool, ℕ, ℤ, List, ◌++◌, None, Result, Ok, Err, refl, ap, sym, ◌∙◌, subst}
 use Rattle.std.specs.List.{flat_map}
 use Rattle.std.specs.Result.{IsErr}
 use Rattle.std.specs.Io.KnownBytes.{Appends, Keeps}
@@ -9,20 +9,16 @@ use Rattle.plinq_source.specs.declared.ending.Ending.{Ending}
 use Rattle.plinq_source.specs.Trace.{Trace}
 use Rattle.plinq_lambda.specs.Formula.{formula_meaning}
 use Rattle.plinq_lambda.specs.declared.formula.Formula.{Formula}
-use Rattle.plinq_aggregate.specs.Folding.{Folding}
 use Rattle.plinq_merge.specs.declared.merge_fault.MergeFault.TheVariants.{Sink as Refusal}
 use Rattle.plinq_merge.specs.Sending.{Leads}
 use Rattle.plinq_ops.specs.declared.merge_option.MergeOption.{MergeOption}
 use Rattle.plinq_ops.specs.declared.op.Op.{Op}
-use Rattle.plinq_ops.specs.Answer.{Answer}
+use Rattle.plinq_ops.specs.Answer.{MayAnswer}
 use Rattle.plinq_ops.specs.Batches.{batches}
 use Rattle.plinq_ops.specs.Query.{QueryView, merge_in_force}
-use Rattle.plinq_ops.specs.Sequential.{answer_of}
-use Rattle.plinq_run.specs.declared.aggregate_fault.AggregateFault.{AggregateFault}
 use Rattle.plinq_run.specs.declared.report.Report.{Report}
 use Rattle.plinq_run.specs.declared.run_fault.RunFault.{RunFault}
 use Rattle.plinq_run.specs.declared.run_fault.RunFault.TheVariants.{Memory as RunMemory, Sink, Tickets, Thread, Incomplete}
-use Rattle.plinq_run.specs.Aggregates.{Aggregates, AggregatesSome}
 use Rattle.plinq_run.specs.Endings.{reported}
 use Rattle.plinq_run.specs.Reports.{Reports}
 use Rattle.plinq_run.specs.Runs.{Runs, told_refusal}
@@ -36,7 +32,7 @@ use Rattle.plinq_cli.specs.declared.command.Command.TheVariants.{Run}
 use Rattle.plinq_cli.specs.declared.serve_fault.ServeFault.{ServeFault}
 use Rattle.plinq_cli.specs.declared.serve_fault.ServeFault.TheVariants.{Memory, Write, Run as NoRun, Take}
 use Rattle.plinq_cli.specs.ServeFaults.{MayFail, serve_fault_of_run}
-use Rattle.plinq_cli.specs.Served.{MayAnswer, batch_lines, Delivers, HasDelivered, HasFailed, HasBrokenOff, HasWritten, IsText, LeavesLines, LeavesWholeLines, Serves}
+use Rattle.plinq_cli.specs.Served.{batch_lines, Delivers, HasDelivered, HasFailed, HasBrokenOff, HasWritten, IsText, LeavesLines, LeavesWholeLines, Serves}
 use Rattle.plinq_cli.specs.Told.{told_text}
 use Rattle.plinq_cli.proofs.Answered.{serves-begun}
 
@@ -45,24 +41,13 @@ use Rattle.plinq_cli.proofs.Answered.{serves-begun}
 -- a run to a sink of lines, of some answer that threads may give
 pub record HasSome (ordered : Bool) (ops : List (Op Formula)) (option : MergeOption) (t : Trace ℤ) (s s' : Lines) (r : Result Ending RunFault) : Type 0 where
   pub answer : Trace ℤ
-  pub may : MayAnswer ordered ops t answer
+  pub may : MayAnswer formula_meaning ordered ops t answer
   pub runs : Runs TakesLine RefusesLine option answer s s' r
 
 pub some-answer : (ordered : Bool) (ops : List (Op Formula)) (option : MergeOption) (t : Trace ℤ) (s s' : Lines) (r : Result Report RunFault)
-    → (ordered ≡ true → Runs TakesLine RefusesLine option (answer_of formula_meaning ops t) s s' (reported r))
-    → (ordered ≡ false → Reports TakesLine RefusesLine option (Answer formula_meaning false ops) t s s' r)
-    → HasSome ordered ops option t s s' (reported r)
-some-answer true ops option t s s' r runs any = record { answer = answer_of formula_meaning ops t; may = refl; runs = runs refl }
-some-answer false ops option t s s' (Ok report) runs any = let h = any refl in record { answer = h.answer; may = h.may; runs = h.has_run }
-some-answer false ops option t s s' (Err fault) runs any = let h = any refl in record { answer = h.answer; may = h.may; runs = h.broken }
-
--- the aggregate of threads is that of some answer that they may give
-pub some-aggregate : {A O : Type 0} (f : Folding ℤ A O) (ordered : Bool) (ops : List (Op Formula)) (t : Trace ℤ) (r : Result O AggregateFault)
-    → (ordered ≡ true → Aggregates f (answer_of formula_meaning ops t) r)
-    → (ordered ≡ false → AggregatesSome f (Answer formula_meaning false ops t) r)
-    → AggregatesSome f (MayAnswer ordered ops t) r
-some-aggregate f true ops t r one any = (answer_of formula_meaning ops t, refl, one refl)
-some-aggregate f false ops t r one any = any refl
+    → Reports TakesLine RefusesLine option (MayAnswer formula_meaning ordered ops) t s s' r → HasSome ordered ops option t s s' (reported r)
+some-answer ordered ops option t s s' (Ok report) h = record { answer = h.answer; may = h.may; runs = h.has_run }
+some-answer ordered ops option t s s' (Err fault) h = record { answer = h.answer; may = h.may; runs = h.broken }
 
 -- ---- what the sink took is written, and the writer comes back as it is
 

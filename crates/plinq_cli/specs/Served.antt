@@ -1,5 +1,5 @@
 -- What each command answers, and the text that it prints.
-use Rattle.std.specs.Prelude.{◌≡◌, ◌⊎◌, ⊤, ℕ, ℤ, pos, List, [], ◌∷◌, ◌++◌, Bool, true, false, Option, Some, None, Result, Ok, Err, MatchResult, codes, refl}
+use Rattle.std.specs.Prelude.{◌≡◌, ◌⊎◌, ⊤, ℕ, ℤ, pos, List, [], ◌∷◌, ◌++◌, true, false, Option, Some, None, Result, Ok, Err, MatchResult, codes, refl}
 use Rattle.std.proofs.Common.{arith}
 use Rattle.std.specs.Fmt.{digits}
 use Rattle.std.specs.List.{flat_map}
@@ -10,13 +10,12 @@ use Rattle.plinq_source.specs.Trace.{Trace, ended}
 use Rattle.plinq_lambda.specs.Formula.{formula_meaning}
 use Rattle.plinq_lambda.specs.declared.formula.Formula.{Formula}
 use Rattle.plinq_lambda.specs.declared.formula.Formula.TheVariants.{Add}
-use Rattle.plinq_ops.specs.declared.op.Op.{Op}
 use Rattle.plinq_ops.specs.declared.op.Op.TheVariants.{Select}
 use Rattle.plinq_ops.specs.declared.merge_option.MergeOption.{MergeOption}
 use Rattle.plinq_ops.specs.declared.merge_option.MergeOption.TheVariants.{NotBuffered}
 use Rattle.plinq_ops.specs.Batches.{batches}
 use Rattle.plinq_ops.specs.Query.{QueryView, merge_in_force, degree_in_force}
-use Rattle.plinq_ops.specs.Answer.{Answer}
+use Rattle.plinq_ops.specs.Answer.{MayAnswer}
 use Rattle.plinq_ops.specs.Sequential.{answer_of}
 use Rattle.plinq_keyed.specs.declared.record.Record.{Record}
 use Rattle.plinq_run.specs.Runs.{told_refusal}
@@ -42,14 +41,9 @@ sequential_answer job = answer_of formula_meaning job.query.ops job.source
 abbrev pub batch_lines : Option MergeOption → Trace ℤ → List ℕ
 batch_lines merge u = flat_map batch_line (batches (merge_in_force merge) u)
 
--- what threads may answer: with `as_ordered` what one thread does, else any answer that the query may have
-abbrev pub MayAnswer : Bool → List (Op Formula) → Trace ℤ → Trace ℤ → Type 0
-MayAnswer true ops t u = u ≡ answer_of formula_meaning ops t
-MayAnswer false ops t u = Answer formula_meaning false ops t u
-
 -- this is an answer of the command for the job: the query's, no items for `plan`, all that the source has for `parts` and `history`
 abbrev pub IsAnswer : Command → JobView → Trace ℤ → Type 0
-IsAnswer Run job u = MayAnswer job.query.ordered job.query.ops job.source u
+IsAnswer Run job u = MayAnswer formula_meaning job.query.ordered job.query.ops job.source u
 IsAnswer Seq job u = u ≡ sequential_answer job
 IsAnswer Plan job u = u ≡ ended [] End
 IsAnswer Parts job u = u ≡ job.source
@@ -83,20 +77,20 @@ module _ (q : QueryView Formula) (t : Trace ℤ) (old new : Option (List ℕ)) w
   -- the lines of the batches of an answer were written, and this is how it ended
   pub record HasDelivered (e : Ending) : Type 0 where
     pub answer : Trace ℤ
-    pub may : MayAnswer q.ordered q.ops t answer
+    pub may : MayAnswer formula_meaning q.ordered q.ops t answer
     pub lines : Appends old new (batch_lines q.merge answer)
     pub ending : answer.ending ≡ Some e
 
   -- a beginning of such lines was written
   pub record HasFailed : Type 0 where
     pub answer : Trace ℤ
-    pub may : MayAnswer q.ordered q.ops t answer
+    pub may : MayAnswer formula_meaning q.ordered q.ops t answer
     pub begun : AppendsBeginning old new (batch_lines q.merge answer)
 
   -- the lines of the first batches of an answer were written, each whole, and nothing behind them
   pub record HasBrokenOff : Type 0 where
     pub answer : Trace ℤ
-    pub may : MayAnswer q.ordered q.ops t answer
+    pub may : MayAnswer formula_meaning q.ordered q.ops t answer
     pub sent : List (List ℤ)
     pub rest : List (List ℤ)
     pub first : batches (merge_in_force q.merge) answer ≡ sent ++ rest
@@ -142,7 +136,7 @@ unfolding digits
 add_one_is_printed = refl
 
 -- without `as_ordered` two numbers may change places
-pub two_exchanged : MayAnswer false [] (ended (pos 1 ∷ pos 2 ∷ []) End) (ended (pos 2 ∷ pos 1 ∷ []) End)
+pub two_exchanged : MayAnswer formula_meaning false [] (ended (pos 1 ∷ pos 2 ∷ []) End) (ended (pos 2 ∷ pos 1 ∷ []) End)
 two_exchanged = record {
   between = ended (pos 2 ∷ pos 1 ∷ []) End;
   given = record { items = record { moves = (0, 1) ∷ []; below = (omega arith, omega arith, tt); is = refl }; ending = refl };

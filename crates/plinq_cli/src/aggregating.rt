@@ -1,8 +1,9 @@
 ghost use Rattle.std.specs.Prelude.{◌≡◌};
+ghost use Rattle.plinq_lambda.specs.Formula.{formula_meaning};
 ghost use Rattle.plinq_lines.specs.Written.{Writes};
+ghost use Rattle.plinq_ops.specs.Answer.{MayAnswer};
 ghost use Rattle.plinq_run.specs.Aggregates.{AggregatesSome};
 ghost use Rattle.plinq_source.specs.Trace.{ended};
-ghost use Rattle.plinq_cli.specs.Served.{MayAnswer};
 ghost use Rattle.plinq_cli.specs.Told.{TellsValue, kind_value, told_text};
 
 use plinq_aggregate::{Aggregator, Count, Max, Min, Sum, fold_sequential};
@@ -56,7 +57,7 @@ pub(crate) fn value_by_threads<R>(
 where
     R: AllocGlobal + Threads + Wait + Sync,
     requires unasked { ⟦<AnySource as Source>⟧.given source ≡ 0 }
-    ensures { TellsValue (kind_value kind) (MayAnswer query.now.ordered query.now.ops (⟦<AnySource as Source>⟧.whole source)) result }
+    ensures { TellsValue (kind_value kind) (MayAnswer formula_meaning query.now.ordered query.now.ops (⟦<AnySource as Source>⟧.whole source)) result }
 {
     match kind {
         Kind::Sum => Ok(Some(by_threads(rt, query, source, growth, &Sum)?)),
@@ -77,7 +78,7 @@ where
     R: AllocGlobal + Threads + Wait + Sync,
     A: Aggregator<Item = i64>,
     requires unasked { ⟦<AnySource as Source>⟧.given source ≡ 0 }
-    ensures { AggregatesSome (A.folding aggregator.now) (MayAnswer query.now.ordered query.now.ops (⟦<AnySource as Source>⟧.whole source)) result }
+    ensures { AggregatesSome (A.folding aggregator.now) (MayAnswer formula_meaning query.now.ordered query.now.ops (⟦<AnySource as Source>⟧.whole source)) result }
 {
     aggregate(rt, rt.alloc(), query, source, growth, &OpenGate, aggregator)
 }

@@ -6,6 +6,7 @@ use Rattle.plinq_ops.specs.declared.op.Op.{Op}
 use Rattle.plinq_ops.specs.declared.op.Op.TheVariants.{AsUnordered}
 use Rattle.plinq_ops.specs.Stage.{apply}
 use Rattle.plinq_ops.specs.Operator.{stage_of}
+use Rattle.plinq_ops.specs.Sequential.{answer_of}
 
 -- the same items in any order, and the same ending
 pub record IsRearranged {T : Type 0} (t u : Trace T) : Type 0 where
@@ -44,3 +45,8 @@ ops_from_source ordered ops = if ordered then ops else AsUnordered ∷ ops
 -- what a query may answer
 abbrev pub Answer : {L T : Type 0} → (L → Meaning T) → Bool → List (Op L) → Trace T → Trace T → Type 0
 Answer meaning ordered ops t u = MayGiveAll meaning (ops_from_source ordered ops) t u
+
+-- what threads may answer: with `as_ordered` what one thread does, else any answer that the query may have
+abbrev pub MayAnswer : {L T : Type 0} → (L → Meaning T) → Bool → List (Op L) → Trace T → Trace T → Type 0
+MayAnswer meaning true ops t u = u ≡ answer_of meaning ops t
+MayAnswer meaning false ops t u = Answer meaning false ops t u

@@ -93,7 +93,7 @@ module _ {K T A O : Type 0} (folding : K → Folding T A O) (acc : K → Option 
   refused-none option u s s' Incomplete h = refl
 
   -- what such a sink tells is the aggregate of the run's answer
-  pub aggregate_of-run : (option : MergeOption) (u : Trace T) (s s' : K) (r : Result Ending RunFault) → acc s ≡ None → Runs Takes Refuses option u s s' r
+  aggregate_of-run : (option : MergeOption) (u : Trace T) (s s' : K) (r : Result Ending RunFault) → acc s ≡ None → Runs Takes Refuses option u s s' r
       → Aggregates (folding s) u (aggregate_of (folding s') (acc s') r)
   aggregate_of-run option u s s' (Ok End) none h = (told-run option u s s' none h, h.ending)
   aggregate_of-run option u s s' (Ok (Refused code)) none h = (h.ending, λ is. subst ends_well (sym is) tt)

@@ -1,5 +1,5 @@
 -- How a run ends: from its first offer to its report.
-use Rattle.std.specs.Prelude.{◌≡◌, ℕ, ◌≤◌, ◌^◌, List, [], ◌++◌, length, true, false, Option, Some, None, Result, Ok, Err, IfOk, IfErr, OnOk, refl}
+use Rattle.std.specs.Prelude.{◌≡◌, ℕ, ◌≤◌, ◌^◌, List, [], ◌++◌, length, Bool, true, false, Option, Some, None, Result, Ok, Err, IfOk, IfErr, OnOk, refl}
 use Rattle.std.specs.List.{list_any}
 use Rattle.std.specs.declared.alloc.Global.{Global}
 use Rattle.std.proofs.Common.{sym, ◌∙◌, ap, subst, append-nil, Vec}
@@ -22,7 +22,7 @@ use Rattle.plinq_ops.specs.ByKey.{are_keyless, is_by_key}
 use Rattle.plinq_ops.specs.Feeding.{is_empty_take}
 use Rattle.plinq_ops.specs.Fragment.{glue}
 use Rattle.plinq_ops.specs.Operator.{stages_of}
-use Rattle.plinq_ops.specs.Answer.{IsRearranged, Answer}
+use Rattle.plinq_ops.specs.Answer.{IsRearranged, Answer, MayAnswer}
 use Rattle.plinq_ops.specs.Plan.{IsPlanOf, order_of, worker_part, after_part}
 use Rattle.plinq_ops.specs.Query.{QueryView}
 use Rattle.plinq_ops.specs.Sequential.{answer_of}
@@ -167,7 +167,7 @@ module _ {K T : Type 0} (accepts : K → List T → K → Type 0) (refuses : K �
   reports-accounts F (Err f) only h = tt
 
 -- the run of a decided plan: nothing, and the end
-pub decided-run : {L T K : Type 0} (meaning : L → Meaning T) (accepts : K → List T → K → Type 0) (option : MergeOption) (ops : List (Op L)) (t : Trace T) (s : K)
+decided-run : {L T K : Type 0} (meaning : L → Meaning T) (accepts : K → List T → K → Type 0) (option : MergeOption) (ops : List (Op L)) (t : Trace T) (s : K)
     → list_any is_empty_take ops ≡ true → HasRun accepts option (answer_of meaning ops t) s s End
 decided-run meaning accepts option ops t s some =
     let is : answer_of meaning ops t ≡ ended [] End = answer-of_none (stages_of meaning ops) t (sym (some_takes_none-stages_of meaning ops) ∙ some) in
@@ -177,7 +177,7 @@ decided-run meaning accepts option ops t s some =
     }
 
 -- its answer rests on no record
-pub decided-accounts : {L T : Type 0} (meaning : L → Meaning T) (ops : List (Op L)) (t u : Trace T) → list_any is_empty_take ops ≡ true → answer_of meaning ops t ≡ answer_of meaning ops u
+decided-accounts : {L T : Type 0} (meaning : L → Meaning T) (ops : List (Op L)) (t u : Trace T) → list_any is_empty_take ops ≡ true → answer_of meaning ops t ≡ answer_of meaning ops u
 decided-accounts meaning ops t u some =
     let none : some_takes_none (stages_of meaning ops) ≡ true = sym (some_takes_none-stages_of meaning ops) ∙ some in
     answer-of_none (stages_of meaning ops) t none ∙ sym (answer-of_none (stages_of meaning ops) u none)
@@ -191,17 +191,23 @@ planned-answer meaning q plan t is undecided =
     ∙ sym (answer_of-split meaning (order_of q.ordered) q.ops t (sym is.decided ∙ undecided))
 
 -- by key nothing else
-pub planned-only : {L T : Type 0} (meaning : L → Meaning T) (q : QueryView L) (plan : Plan L) (t u : Trace T) → IsPlanOf q plan → q.ordered ≡ true → plan.decided ≡ false
+planned-only : {L T : Type 0} (meaning : L → Meaning T) (q : QueryView L) (plan : Plan L) (t u : Trace T) → IsPlanOf q plan → q.ordered ≡ true → plan.decided ≡ false
     → MayMerge meaning plan t u → u ≡ answer_of meaning q.ops t
 planned-only meaning q plan t u is ordered undecided may =
     by_key-merged meaning plan t u (is.order ∙ ap order_of ordered) may ∙ planned-answer meaning q plan t is undecided
 
 -- and by arrival what the query may answer
-pub planned-any : {L T : Type 0} (meaning : L → Meaning T) (q : QueryView L) (plan : Plan L) (t u : Trace T) → IsPlanOf q plan → q.ordered ≡ false → plan.decided ≡ false
+planned-any : {L T : Type 0} (meaning : L → Meaning T) (q : QueryView L) (plan : Plan L) (t u : Trace T) → IsPlanOf q plan → q.ordered ≡ false → plan.decided ≡ false
     → MayMerge meaning plan t u → Answer meaning false q.ops t u
 planned-any meaning q plan t u is ordered undecided may =
     let any : IsRearranged t may.taken = subst (λ o. MayTake o t may.taken) (is.order ∙ ap order_of ordered) may.may in
     subst (λ v. Answer meaning false q.ops t v) (sym (may.is ∙ planned-answer meaning q plan may.taken is undecided)) (Answer-rearranged meaning q.ops t may.taken any)
+
+-- a plan answers what the query may
+pub planned-may : {L T : Type 0} (meaning : L → Meaning T) (q : QueryView L) (plan : Plan L) (t u : Trace T) (ordered : Bool) → q.ordered ≡ ordered → IsPlanOf q plan → plan.decided ≡ false
+    → MayMerge meaning plan t u → MayAnswer meaning ordered q.ops t u
+planned-may meaning q plan t u true ordered is undecided may = planned-only meaning q plan t u is ordered undecided may
+planned-may meaning q plan t u false ordered is undecided may = planned-any meaning q plan t u is ordered undecided may
 
 -- by arrival the workers look at no keys
 pub planned-keyless : {L : Type 0} (q : QueryView L) (plan : Plan L) → IsPlanOf q plan → plan.order ≡ ByArrival → are_keyless plan.worker.now ≡ true
@@ -214,15 +220,20 @@ pub planned-undecided : {L : Type 0} (q : QueryView L) (plan : Plan L) → IsPla
 planned-undecided q plan is keyed parts undecided =
     record { keyed = keyed; worker = (parts undecided).0; after = (parts undecided).1; undecided = undecided; keyless = planned-keyless q plan is }
 
+-- what one thread answers may be answered
+may-sequential : {L T : Type 0} (meaning : L → Meaning T) (ordered : Bool) (ops : List (Op L)) (t : Trace T) → MayAnswer meaning ordered ops t (answer_of meaning ops t)
+may-sequential meaning true ops t = refl
+may-sequential meaning false ops t = Answer-sequential meaning false ops t
+
 -- a decided query may answer what it does, of whatever source
-pub decided-any : {L T K : Type 0} (meaning : L → Meaning T) (accepts : K → List T → K → Type 0) (refuses : K → List T → ℕ → K → Type 0) (option : MergeOption) (ops : List (Op L)) (t : Trace T) (s : K) (r : Report)
-    → list_any is_empty_take ops ≡ true → r.ending ≡ End → HasReported accepts refuses option (Answer meaning false ops) t s s r
-decided-any meaning accepts refuses option ops t s r some ends =
+pub decided-reports : {L T K : Type 0} (meaning : L → Meaning T) (accepts : K → List T → K → Type 0) (refuses : K → List T → ℕ → K → Type 0) (option : MergeOption) (ordered : Bool) (ops : List (Op L)) (t : Trace T) (s : K) (r : Report)
+    → list_any is_empty_take ops ≡ true → r.ending ≡ End → HasReported accepts refuses option (MayAnswer meaning ordered ops) t s s r
+decided-reports meaning accepts refuses option ordered ops t s r some ends =
     let first = handed_trace t r.records.items in
     record {
       answer = answer_of meaning ops t;
-      may = Answer-sequential meaning false ops t;
-      accounts = subst (λ v. Answer meaning false ops first v) (decided-accounts meaning ops first t some) (Answer-sequential meaning false ops first);
+      may = may-sequential meaning ordered ops t;
+      accounts = subst (λ v. MayAnswer meaning ordered ops first v) (decided-accounts meaning ops first t some) (may-sequential meaning ordered ops first);
       has_run = subst (λ e. HasRun accepts option (answer_of meaning ops t) s s e) (sym ends) (decided-run meaning accepts option ops t s some);
     }
 

@@ -117,11 +117,6 @@ module _ {T A O : Type 0} (f : Folding T A O) where
   value-finished u made (Refused code) is h = (h.ending ∙ ap Some is, λ same. subst ends_well (sym same) tt)
   value-finished u made (Fault code) is h = (h.ending ∙ ap Some is, λ same. subst ends_well (sym same) tt)
 
-  -- the value of the one answer that there may be
-  pub value-only : (IsAnswer : Trace T → Type 0) (u : Trace T) (r : Result (Combined A) RunFault) → ((v : Trace T) → IsAnswer v → v ≡ u) → FoldsSome f IsAnswer r → Aggregates f u (value_of f r)
-  value-only IsAnswer u (Ok made) only h = subst (λ v. Aggregates f v (value_of f (Ok made))) (only h.0 h.1) (value-finished h.0 made made.ending refl h.2)
-  value-only IsAnswer u (Err fault) only h = h
-
   -- the value of one of the answers that there may be
   pub value-some : (IsAnswer May : Trace T → Type 0) (u : Trace T) (r : Result (Combined A) RunFault) → ((v : Trace T) → IsAnswer v → May v) → May u → FoldsSome f IsAnswer r → AggregatesSome f May (value_of f r)
   value-some IsAnswer May u (Ok made) may there h = (h.0, may h.0 h.1, value-finished h.0 made made.ending refl h.2)

@@ -1,11 +1,10 @@
 //! The aggregate of a query.
-ghost use Rattle.std.specs.Prelude.{◌≡◌, [], true, false, Ok};
+ghost use Rattle.std.specs.Prelude.{◌≡◌, [], true, Ok};
 ghost use Rattle.std.specs.List.{list_any};
 ghost use Rattle.plinq_aggregate.specs.Folding.{aggregated};
-ghost use Rattle.plinq_ops.specs.Answer.{Answer};
+ghost use Rattle.plinq_ops.specs.Answer.{MayAnswer};
 ghost use Rattle.plinq_ops.specs.Feeding.{is_empty_take};
-ghost use Rattle.plinq_ops.specs.Sequential.{answer_of};
-ghost use Rattle.plinq_run.specs.Aggregates.{Aggregates, AggregatesSome};
+ghost use Rattle.plinq_run.specs.Aggregates.{AggregatesSome};
 
 use crate::aggregate_fault::AggregateFault;
 use crate::folded::{Folded, value_of};
@@ -55,8 +54,7 @@ where
     R: Threads + Wait + Sync,
     requires { S.given source ≡ 0 }
     ensures decided { list_any is_empty_take query.now.ops ≡ true → result ≡ Ok (aggregated (A.folding aggregator.now) []) }
-    ensures ordered { query.now.ordered ≡ true → Aggregates (A.folding aggregator.now) (answer_of L.meaning query.now.ops (S.whole source)) result }
-    ensures any { query.now.ordered ≡ false → AggregatesSome (A.folding aggregator.now) (Answer L.meaning false query.now.ops (S.whole source)) result }
+    ensures value { AggregatesSome (A.folding aggregator.now) (MayAnswer L.meaning query.now.ordered query.now.ops (S.whole source)) result }
 {
     let plan = query.split();
     if plan.decided || !plan.after.is_empty() {

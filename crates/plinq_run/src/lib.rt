@@ -21,6 +21,7 @@ mod finishing;
 mod folded;
 mod folding;
 mod gathering;
+pub mod laws;
 mod merging;
 mod posts;
 mod reach;

@@ -4,20 +4,18 @@ ghost use Rattle.plinq_source.specs.declared.ending.Ending.TheVariants.{End};
 ghost use Rattle.std.specs.List.{list_any};
 ghost use Rattle.plinq_keyed.specs.History.{IsLegalHistory};
 ghost use Rattle.plinq_ops.specs.declared.results.ChunkResult.{ChunkResult};
-ghost use Rattle.plinq_ops.specs.Answer.{Answer};
+ghost use Rattle.plinq_ops.specs.Answer.{MayAnswer};
 ghost use Rattle.plinq_ops.specs.Feeding.{is_empty_take};
 ghost use Rattle.plinq_ops.specs.Query.{merge_in_force};
-ghost use Rattle.plinq_ops.specs.Sequential.{answer_of};
 ghost use Rattle.plinq_partition.specs.Partitions.{IsPartitionOf, holding_of};
 ghost use Rattle.plinq_partition.specs.GivenBack.{common_origin};
 ghost use Rattle.plinq_cut.specs.OfPlan.{AreEnders};
 ghost use Rattle.plinq_run.specs.Endings.{reported};
 ghost use Rattle.plinq_crew.specs.Equipped.{IsReady};
-ghost use Rattle.plinq_run.specs.Handed.{has_close, handed_trace};
+ghost use Rattle.plinq_run.specs.Handed.{has_close};
 ghost use Rattle.plinq_crew.specs.Plans.{IsUndecided};
 ghost use Rattle.plinq_run.specs.Reports.{MayMerge, IsConducted, Reports};
 ghost use Rattle.plinq_crew.specs.Results.{IsResult};
-ghost use Rattle.plinq_run.specs.Runs.{Runs};
 
 use crate::conducting::{Ended, conduct};
 use crate::finishing::report;
@@ -184,9 +182,7 @@ where
     ensures untouched { list_any is_empty_take query.now.ops ≡ true → sink.new ≡ sink.old }
     ensures none { list_any is_empty_take query.now.ops ≡ true → IfOk result (λ report. report.records.items ≡ []) }
     ensures closed { list_any is_empty_take query.now.ops ≡ false → IfOk result (λ report. has_close report.records.items ≡ true) }
-    ensures accounts { query.now.ordered ≡ true → IfOk result (λ report. answer_of L.meaning query.now.ops (handed_trace (S.whole source) report.records.items) ≡ answer_of L.meaning query.now.ops (S.whole source)) }
-    ensures runs { query.now.ordered ≡ true → Runs K.accepts K.refuses (merge_in_force query.now.merge) (answer_of L.meaning query.now.ops (S.whole source)) sink.old sink.new (reported result) }
-    ensures any { query.now.ordered ≡ false → Reports K.accepts K.refuses (merge_in_force query.now.merge) (Answer L.meaning false query.now.ops) (S.whole source) sink.old sink.new result }
+    ensures reports { Reports K.accepts K.refuses (merge_in_force query.now.merge) (MayAnswer L.meaning query.now.ordered query.now.ops) (S.whole source) sink.old sink.new result }
 {
     let plan = query.split();
     if plan.decided {

@@ -1,0 +1,43 @@
+//! What a run and an aggregate say of a query with `as_ordered`, each the contract of a function with nothing to do.
+//!
+//! Such a query has one answer (`MayAnswer`), so each of them follows from the clause that says it of any query.
+ghost use Rattle.std.specs.Prelude.{◌≡◌, List, ℕ, Result, IfOk, true};
+ghost use Rattle.plinq_aggregate.specs.Folding.{Folding};
+ghost use Rattle.plinq_ops.specs.declared.merge_option.MergeOption.{MergeOption};
+ghost use Rattle.plinq_ops.specs.declared.op.Op.{Op};
+ghost use Rattle.plinq_ops.specs.Answer.{MayAnswer};
+ghost use Rattle.plinq_ops.specs.Sequential.{answer_of};
+ghost use Rattle.plinq_source.specs.Trace.{Trace};
+ghost use Rattle.plinq_run.specs.declared.aggregate_fault.AggregateFault.{AggregateFault};
+ghost use Rattle.plinq_run.specs.declared.report.Report.{Report};
+ghost use Rattle.plinq_run.specs.declared.run_fault.RunFault.{RunFault};
+ghost use Rattle.plinq_run.specs.Aggregates.{Aggregates, AggregatesSome};
+ghost use Rattle.plinq_run.specs.Endings.{reported};
+ghost use Rattle.plinq_run.specs.Handed.{handed_trace};
+ghost use Rattle.plinq_run.specs.Reports.{Reports};
+ghost use Rattle.plinq_run.specs.Runs.{Runs};
+
+use plinq_lambda::Lambda;
+use plinq_merge::Sink;
+
+/// The sink has taken exactly the batches of the sequential answer, in order, where the run tells its ending, and the first
+/// of them after a fault.
+pub fn ordered_run_is_sequential<L: Lambda, K: Sink<Item = L::Item>>()
+    ensures { (option : MergeOption) (ops : List (Op L)) (t : Trace L.Item) (s s' : K) (result : Result Report RunFault) →
+        Reports K.accepts K.refuses option (MayAnswer L.meaning true ops) t s s' result →
+        Runs K.accepts K.refuses option (answer_of L.meaning ops t) s s' (reported result) }
+{}
+
+/// What the records hand out has the same answer as the source.
+pub fn records_account_for_the_answer<L: Lambda, K: Sink<Item = L::Item>>()
+    ensures { (option : MergeOption) (ops : List (Op L)) (t : Trace L.Item) (s s' : K) (result : Result Report RunFault) →
+        Reports K.accepts K.refuses option (MayAnswer L.meaning true ops) t s s' result →
+        IfOk result (λ report. answer_of L.meaning ops (handed_trace t report.records.items) ≡ answer_of L.meaning ops t) }
+{}
+
+/// The value is that of the sequential answer's items, or the fault tells how that answer ended.
+pub fn ordered_aggregate_is_sequential<L: Lambda, A, O>()
+    ensures { (f : Folding L.Item A O) (ops : List (Op L)) (t : Trace L.Item) (result : Result O AggregateFault) →
+        AggregatesSome f (MayAnswer L.meaning true ops t) result →
+        Aggregates f (answer_of L.meaning ops t) result }
+{}
