@@ -1,10 +1,11 @@
 #!/usr/bin/env python3
-"""Tests ./plinq, which builds the program and runs it, in a folder of its own with a stand-in for rt.
+"""Tests ./plinq, which builds the program and runs it, or answers from a trial, in a folder of its own with a stand-in for rt.
 
     python3 tests/building.py
 """
 import fcntl
 import os
+import pty
 import shutil
 import signal
 import subprocess
@@ -14,7 +15,7 @@ import time
 from support.program import HANGS, ROOT, Tests
 
 # What rt prints and leaves, without a proof. Each call adds a line to the file calls; what stands in the folder orders
-# is done on the way.
+# is done on the way. A trial ends with the status that stands in the order status, or has no answer.
 RT = r"""#!/usr/bin/env bash
 top=$(cd ../.. && pwd)
 name=${PWD##*/}
@@ -32,6 +33,25 @@ if [ "$1" = lib ]; then
     if [ -e "$top/orders/edit" ]; then rm "$top/orders/edit"; echo edited >"$top/crates/low/src/lib.rt"; fi
     mkdir -p out
     cat src/* >out/rlib
+elif [ "$1" = try ]; then
+    shift 2
+    if [ -e "$top/orders/wait" ]; then trap 'exit 143' TERM; echo $$ >"$top/at-work"; fi
+    while [ -e "$top/orders/wait" ]; do sleep 0.02; done
+    if [ -e "$top/orders/no-answer" ]; then
+        printf "the end of the program's standard output:\n| some\n" >&2
+        echo 'checked: no-answer: the program did not end within the time limit' >&2
+        echo 'run=no-answer proved=no' >&2
+        exit "$(<"$top/orders/no-answer")"
+    fi
+    printf 'tried: %s; ' "$*"
+    cat
+    status=0
+    [ ! -e "$top/orders/status" ] || status=$(<"$top/orders/status")
+    [ "$status" = 0 ] || printf 'plinq: of the program\nrun: the second line\nits last\n' >&2
+    echo "checked: ended status=$status" >&2
+    echo 'races: not looked for' >&2
+    echo "run=ended status=$status runners=1 races=unchecked proved=no" >&2
+    exit "$status"
 else
     mkdir -p out
     { echo '#!/usr/bin/env bash'; echo "echo \"words: \$*; built of: $(cat "$top"/crates/*/src/* | tr '\n' ' ')\""; echo cat; echo 'exit 3'; } >out/plinq.new
@@ -39,7 +59,7 @@ else
     mv out/plinq.new out/plinq
 fi
 """
-TOOLS = "bash basename cat chmod cmp cut dirname env find flock mkdir mv readlink rm sed sha256sum sleep sort touch tr true xargs".split()
+TOOLS = "bash basename cat chmod cmp cut dirname env find flock head mkdir mktemp mv readlink rm sed sha256sum sleep sort touch tr true wc xargs yes".split()
 SOURCES = {"low/src/lib.rt": "low", "low/specs/A.antt": "a", "mid/src/lib.rt": "mid", "apart/specs/B.antt": "b", "plinq/src/main.rt": "main"}
 
 
@@ -111,7 +131,7 @@ class Place:
         raise TimeoutError(name)
 
 
-ALL_CALLS = ["low lib", "mid lib", "plinq run -- --help"]
+ALL_CALLS = ["low lib", "mid lib", "plinq run --jobs 1 -- --help"]
 BUILT = "built of: low mid main "
 
 
@@ -123,15 +143,84 @@ def is_alive(number):
         return False
 
 
-def first_use(place, tests):
-    status, output, errors, calls = place.run("seq", "two words", given="some\ninput")
-    tests.check("the first use asks rt for each library that the program uses, in the order of crates.txt, and then for the program", calls == ALL_CALLS, calls)
-    tests.check("words, input, output and status pass through", (status, output) == (3, f"words: seq two words; {BUILT}\nsome\ninput"), (status, output))
+def first_answers(place, tests):
+    """What is answered from a trial, where no program was ever built."""
+    for wanted in (0, 2, 4, 6):
+        place.write("orders/status", str(wanted))
+        status, output, errors, calls = place.run("seq", "two words", given="some\ninput")
+        tests.check(f"a trial answers with status {wanted}", (status, calls) == (wanted, ["plinq try -- seq two words"]), (status, calls))
+        tests.check("its bytes are the program's", output == "tried: seq two words; some\ninput", output)
+        first, *said, last = errors.splitlines()
+        is_so = "without a proof" in first and "without a proof" in last and "./plinq --build" in last and "minutes" in last
+        tests.check("before it and after it is said that nothing is proved, and how it will be", is_so, errors)
+        of_program = [] if wanted == 0 else ["plinq: of the program", "run: the second line", "its last"]
+        tests.check("what the program says stands between, and nothing else", said == of_program, said)
+    os.remove(f"{place.top}/orders/status")
+    with open("/dev/full", "w") as full:
+        status, _, errors, _ = place.run("seq", stdout=full)
+    tests.check("an output that takes nothing is a failed write", status == 5 and errors.endswith("plinq: write failed\n"), (status, errors))
+
+
+def first_inputs(place, tests):
+    for words in (["--help"], ["run", "-h"], []):
+        # (a pipe that nobody closes, as a terminal is)
+        reading, writing = os.pipe()
+        _, output, errors, calls = place.run(*words, stdin=reading)
+        os.close(writing)
+        os.close(reading)
+        is_so = len(calls) == 1 and output.startswith("tried: ") and "waiting" not in errors
+        tests.check(f"a trial of {words} reads nothing", is_so, (output, errors, calls))
+    near, far = pty.openpty()
+    started = place.start("run", stdin=far)
+    os.close(far)
+    said = [started.stderr.readline() for _ in range(2)]
+    tests.check("at a terminal it says that it waits for a document", "waiting for a document" in said[1], said)
+    os.write(near, b"typed\n\x04")
+    output, errors = started.communicate(timeout=HANGS)
+    os.close(near)
+    tests.check("and then answers", (started.returncode, output) == (0, "tried: run; typed\n"), (output, errors))
+    started = place.start("-c", "yes | ./plinq run | wc -c", program="bash", stdin=subprocess.DEVNULL)
+    output, errors = started.communicate(timeout=HANGS)
+    tests.check("of an input without an end no more is kept than the program may read", 16_777_216 < int(output) < 17_000_100, (output, errors))
+
+
+def no_first_answer(place, tests):
+    def forget():
+        for name in ("low", "mid", "plinq"):
+            shutil.rmtree(f"{place.top}/crates/{name}/out")
+
+    # (a status of a trial that has no answer is one that a program may have)
+    for its_own in (2, 4, 5, 6):
+        place.write("orders/no-answer", str(its_own))
+        status, output, errors, calls = place.run("run", "--merge", "not", given="the document")
+        is_so = (status, calls) == (3, ["plinq try -- run --merge not", *ALL_CALLS])
+        tests.check(f"where a trial ends with {its_own} and has no answer, the program is built and answers", is_so, (status, calls))
+        tests.check("from the same input", output == f"words: run --merge not; {BUILT}\nthe document", output)
+        is_so = "the trial has no answer" in errors and "some" not in errors and "--build" not in errors
+        tests.check("it is said", is_so, errors)
+        forget()
+    os.remove(f"{place.top}/orders/no-answer")
+    started = place.start("-c", "./plinq run <&-", program="bash")
+    output, errors = started.communicate(timeout=HANGS)
+    tests.check("a closed input is left to the program", f"words: run; {BUILT}" in output and "tried" not in output, (output, errors))
+    forget()
+
+
+def first_build(place, tests):
+    seen = place.run("--build", "more", given="x")
+    tests.check("with more words --build is the program's", seen[:2] == (0, "tried: --build more; x"), seen)
+    status, output, errors, calls = place.run("--build", given="some\ninput")
+    tests.check("--build asks rt for each library that the program uses, in the order of crates.txt, and then for the program", calls == ALL_CALLS, calls)
+    tests.check("it answers nothing", (status, output) == (0, ""), (status, output))
     said = errors.splitlines()
-    tests.check("the first line says how long it takes, and what for", "first use" in said[0] and "proved" in said[0] and "minutes" in said[0], said)
+    tests.check("the first line says how long it takes, and what for", "first time" in said[0] and "proved" in said[0] and "minutes" in said[0], said)
     wanted = ["plinq: proving low (1 of 3)", "plinq: proving low (1 of 3), 9 of 20 functions checked", "plinq: proving mid (2 of 3)"]
     wanted += ["plinq: proving mid (2 of 3), 9 of 20 functions checked"]
     tests.check("each crate that is proved has its lines", said[1:] == wanted, said)
+    seen = place.run("seq", "two words", given="some\ninput")
+    tests.check("then the program answers, with no trial", seen == (3, f"words: seq two words; {BUILT}\nsome\ninput", "", []), seen)
+    seen = place.run("--build")
+    tests.check("where it is up to date --build does nothing", seen == (0, "", "", []), seen)
 
 
 def further_uses(place, tests):
@@ -147,10 +236,11 @@ def further_uses(place, tests):
 
 
 def closed_streams(place, tests):
+    before = place.calls()
     for closed in ("<&-", ">&-", "2>&-", "<&- >&- 2>&-"):
         started = place.start("-c", f"./plinq words {closed}", program="bash", stdin=subprocess.DEVNULL)
         output, errors = started.communicate(timeout=HANGS)
-        is_so = started.returncode in (1, 3) and place.calls()[3:] == [] and (">&-" in closed.split() or "words: words" in output)
+        is_so = started.returncode in (1, 3) and place.calls() == before and (">&-" in closed.split() or "words: words" in output)
         tests.check(f"closed streams reach the program: {closed}", is_so, (started.returncode, output, errors))
 
 
@@ -171,7 +261,8 @@ def changes(place, tests):
     place.write("crates.txt", "low: thiserror\nmid: low thiserror\nplinq: mid\n")
     rebuilds("the list of crates changed")
     os.remove(f"{place.top}/crates/plinq/out/plinq")
-    tests.check("a program that went is built again", "first use" in place.run()[2])
+    tests.check("where the program went, a trial answers", place.run()[3] == ["plinq try --"])
+    tests.check("and it is built again", place.run("--build")[3] == ALL_CALLS)
 
 
 def copies(place, tests):
@@ -237,6 +328,30 @@ def heed_signals():
     """What a gate that runs behind nohup, or in the background, passes on as ignored ends a program again."""
     for which in (signal.SIGINT, signal.SIGTERM, signal.SIGHUP):
         signal.signal(which, signal.SIG_DFL)
+
+
+def interruption_of_a_trial(place, tests):
+    for which in (signal.SIGINT, signal.SIGTERM, signal.SIGHUP):
+        place.write("orders/wait")
+        before = place.files()
+        started = place.start("run", stdin=subprocess.DEVNULL)
+        at_work = int(place.wait_for("at-work"))
+        started.send_signal(which)
+        output, errors = started.communicate(timeout=HANGS)
+        tests.check(f"{which.name} ends a trial", (started.returncode, output) == (-which, ""), (started.returncode, output, errors))
+        is_so = not is_alive(at_work) and place.files() == before
+        tests.check(f"{which.name} waits for what it started, and leaves nothing behind", is_so, place.files() ^ before)
+        os.remove(f"{place.top}/orders/wait")
+        os.remove(f"{place.top}/at-work")
+        reading, writing = os.pipe()
+        started = place.start("run", stdin=reading)
+        started.stderr.readline()
+        started.send_signal(which)
+        output, errors = started.communicate(timeout=HANGS)
+        os.close(writing)
+        os.close(reading)
+        is_so = (started.returncode, output, place.files() | {f"{place.top}/orders/wait"}) == (-which, "", before)
+        tests.check(f"{which.name} ends the wait for a document", is_so, (started.returncode, output, errors))
 
 
 def interruption(place, tests):
@@ -313,8 +428,12 @@ def main():
     with tempfile.TemporaryDirectory() as folder:
         place = Place(folder)
         before = place.files()
-        first_use(place, tests)
-        tests.check("a build leaves nothing behind", place.files() == before, place.files() ^ before)
+        first_answers(place, tests)
+        first_inputs(place, tests)
+        interruption_of_a_trial(place, tests)
+        no_first_answer(place, tests)
+        first_build(place, tests)
+        tests.check("trials and a build leave nothing behind", place.files() == before, place.files() ^ before)
         further_uses(place, tests)
         closed_streams(place, tests)
         changes(place, tests)
