@@ -1,3 +1,6 @@
+ghost use Rattle.std.specs.Prelude.{◌≡◌};
+
+use crate::query::Query;
 use thiserror::Error;
 
 /// Why a builder call of a query is refused; the query comes back unchanged.
@@ -18,4 +21,13 @@ pub enum BuildFault {
     /// Memory ran out.
     #[error("out of memory")]
     Memory,
+}
+
+/// Drops the query, so that `?` after a builder call answers its fault.
+impl<L: Drop> From<(Query<L>, BuildFault)> for BuildFault {
+    ghost from_gives = { λ refused fault. fault ≡ refused.1 };
+
+    fn from((_, fault): (Query<L>, BuildFault)) -> BuildFault {
+        fault
+    }
 }
