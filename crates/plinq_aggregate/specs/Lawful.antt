@@ -68,35 +68,37 @@ counts-join xs ys =
 pub counting-lawful : IsFolding counting
 counting-lawful = record { joins = counts-join; neutral = λ xs. counts-join [] xs }
 
--- ---- the least and the greatest
+-- ---- the item that is picked
 
 -- picking of more than two in whatever grouping
-abbrev pub IsGrouped : (ℤ → ℤ → ℤ) → Type 0
-IsGrouped pick = (a b c : ℤ) → pick a (pick b c) ≡ pick (pick a b) c
+abbrev pub IsGrouped : {T : Type 0} → (T → T → T) → Type 0
+IsGrouped {T} pick = (a b c : T) → pick a (pick b c) ≡ pick (pick a b) c
 
-picked-grouped : (pick : ℤ → ℤ → ℤ) → IsGrouped pick → (a b : Option ℤ) (x : ℤ) → picked pick a (picked pick b (Some x)) ≡ picked pick (picked pick a b) (Some x)
+picked-grouped : {T : Type 0} (pick : T → T → T) → IsGrouped pick → (a b : Option T) (x : T) → picked pick a (picked pick b (Some x)) ≡ picked pick (picked pick a b) (Some x)
 picked-grouped pick grouped None b x = refl
 picked-grouped pick grouped (Some a) None x = refl
 picked-grouped pick grouped (Some a) (Some b) x = ap Some (grouped a b x)
 
-picked-through : (pick : ℤ → ℤ → ℤ) → IsGrouped pick → (a b : Option ℤ) (xs : List ℤ) → picked pick a (fold (picking pick).update b xs) ≡ fold (picking pick).update (picked pick a b) xs
+picked-through : {T : Type 0} (pick : T → T → T) → IsGrouped pick → (a b : Option T) (xs : List T) → picked pick a (fold (picking pick).update b xs) ≡ fold (picking pick).update (picked pick a b) xs
 picked-through pick grouped a b [] = refl
 picked-through pick grouped a b (x ∷ xs) =
     picked-through pick grouped a (picked pick b (Some x)) xs
     ∙ ap (λ n. fold (picking pick).update n xs) (picked-grouped pick grouped a b x)
 
-picked-none : (pick : ℤ → ℤ → ℤ) (a : Option ℤ) → picked pick a None ≡ a
+picked-none : {T : Type 0} (pick : T → T → T) (a : Option T) → picked pick a None ≡ a
 picked-none pick None = refl
 picked-none pick (Some a) = refl
 
-picks-join : (pick : ℤ → ℤ → ℤ) → IsGrouped pick → (xs ys : List ℤ) → picked pick (folded (picking pick) xs) (folded (picking pick) ys) ≡ folded (picking pick) (xs ++ ys)
+picks-join : {T : Type 0} (pick : T → T → T) → IsGrouped pick → (xs ys : List T) → picked pick (folded (picking pick) xs) (folded (picking pick) ys) ≡ folded (picking pick) (xs ++ ys)
 picks-join pick grouped xs ys =
     picked-through pick grouped (folded (picking pick) xs) None ys
     ∙ ap (λ n. fold (picking pick).update n ys) (picked-none pick (folded (picking pick) xs))
     ∙ sym (fold-append (picking pick).update None xs ys)
 
-pub picking-lawful : (pick : ℤ → ℤ → ℤ) → IsGrouped pick → IsFolding (picking pick)
+pub picking-lawful : {T : Type 0} (pick : T → T → T) → IsGrouped pick → IsFolding (picking pick)
 picking-lawful pick grouped = record { joins = picks-join pick grouped; neutral = λ xs. refl }
+
+-- ---- the least and the greatest
 
 int_min-grouped : IsGrouped int_min
 int_min-grouped a b c = grind (arith, ints)

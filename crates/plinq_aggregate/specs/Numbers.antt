@@ -21,14 +21,14 @@ summing = record { seed = pos 0; update = λ sum x. wrapped (sum +ℤ x); combin
 abbrev pub counting : Folding ℤ ℕ ℕ
 counting = record { seed = 0; update = λ count x. (count + 1) % 2 ^ 64; combine = λ a b. (a + b) % 2 ^ 64; tell = λ count. count }
 
--- of two numbers that may be missing the one that is there, or the one that is picked of both
-abbrev pub picked : (ℤ → ℤ → ℤ) → Option ℤ → Option ℤ → Option ℤ
+-- of two items that may be missing the one that is there, or the one that is picked of both
+abbrev pub picked : {T : Type 0} → (T → T → T) → Option T → Option T → Option T
 picked pick None b = b
 picked pick (Some a) None = Some a
 picked pick (Some a) (Some b) = Some (pick a b)
 
--- the number that is picked of all; of none there is none
-abbrev pub picking : (ℤ → ℤ → ℤ) → Folding ℤ (Option ℤ) (Option ℤ)
+-- the item that is picked of all; of none there is none
+abbrev pub picking : {T : Type 0} → (T → T → T) → Folding T (Option T) (Option T)
 picking pick = record { seed = None; update = λ best x. picked pick best (Some x); combine = picked pick; tell = λ best. best }
 
 -- one of the numbers, and in this relation to each; of none there is none
