@@ -62,6 +62,10 @@ meaning-empty = refl
 pub meaning-version : document_meaning plain (object (member (codes "version") (whole 3) (member (codes "x") (whole 0) no_members))) ≡ Err Version
 meaning-version = refl
 
+-- version 2 has what version 1 has
+pub meaning-version_two : document_meaning plain (document [] (list_of []) (whole 2)) ≡ document_meaning plain (document [] (list_of []) (whole 1))
+meaning-version_two = refl
+
 -- {"range":[9223372036854775807,2]}
 pub meaning-large : document_meaning plain (document [] (range_of (whole 9223372036854775807) (whole 2)) (whole 1)) ≡ Err Source
 meaning-large = refl

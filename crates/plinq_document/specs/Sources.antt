@@ -12,7 +12,7 @@ use Rattle.plinq_document.specs.Words.{beside}
 use Rattle.plinq_document.specs.Values.{whole_number, count_of, only_count}
 use Rattle.plinq_document.specs.Results.{◌>>=◌, or_shape}
 use Rattle.plinq_document.specs.declared.version.Version.{Version}
-use Rattle.plinq_document.specs.declared.version.Version.TheVariants.{One}
+use Rattle.plinq_document.specs.declared.version.Version.TheVariants.{One, Two}
 use Rattle.plinq_document.specs.declared.source_name.SourceName.{SourceName}
 use Rattle.plinq_document.specs.declared.source_name.SourceName.TheVariants.{List as ListName, Text as TextName, Range as RangeName, Repeat as RepeatName}
 use Rattle.plinq_document.specs.declared.doc_fault.DocFault.{DocFault}
@@ -90,6 +90,7 @@ plain_source_of d = or_shape (as_object d) >>= plain_source_from
 -- the source that a value describes in this version
 abbrev pub source_of : Version → Data → Result (Trace ℤ) DocFault
 source_of One d = plain_source_of d
+source_of Two d = plain_source_of d
 
 -- the source of a document of this version, under the name "source"
 abbrev pub source_in : Version → Data → Result (Trace ℤ) DocFault

@@ -13,7 +13,7 @@ use Rattle.plinq_document.specs.Values.{only_whole_number, only_count, only_text
 use Rattle.plinq_document.specs.Formulas.{formula_of}
 use Rattle.plinq_document.specs.Results.{◌>>=◌}
 use Rattle.plinq_document.specs.declared.version.Version.{Version}
-use Rattle.plinq_document.specs.declared.version.Version.TheVariants.{One}
+use Rattle.plinq_document.specs.declared.version.Version.TheVariants.{One, Two}
 use Rattle.plinq_document.specs.declared.step_name.StepName.{StepName}
 use Rattle.plinq_document.specs.declared.step_name.StepName.TheVariants.{AsOrdered, AsUnordered, Select, Filter, SelectMany, TakeWhile, Take, Skip, WithMerge, WithDegree}
 use Rattle.plinq_document.specs.declared.step_call.StepCall.{StepCall}
@@ -23,9 +23,9 @@ use Rattle.plinq_document.specs.declared.doc_fault.StepFault.TheVariants.{Unknow
 use Rattle.plinq_document.specs.declared.doc_fault.DocFault.{DocFault}
 use Rattle.plinq_document.specs.declared.doc_fault.DocFault.TheVariants.{Step}
 
--- the steps of each version by their names
-abbrev pub step_names : Version → List (List ℕ × StepName)
-step_names One =
+-- the steps of the first version by their names
+abbrev pub first_step_names : List (List ℕ × StepName)
+first_step_names =
     (codes "as_ordered", AsOrdered)
     ∷ (codes "as_unordered", AsUnordered)
     ∷ (codes "select", Select)
@@ -37,6 +37,11 @@ step_names One =
     ∷ (codes "with_merge", WithMerge)
     ∷ (codes "with_degree", WithDegree)
     ∷ []
+
+-- the steps of each version by their names
+abbrev pub step_names : Version → List (List ℕ × StepName)
+step_names One = first_step_names
+step_names Two = first_step_names
 
 -- the step of this name
 abbrev pub step_name : Version → List ℕ → Option StepName

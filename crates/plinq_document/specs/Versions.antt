@@ -6,13 +6,13 @@ use Rattle.serde_json.specs.Find.{get}
 use Rattle.plinq_document.specs.Values.{whole_number}
 use Rattle.plinq_document.specs.Results.{◌>>=◌, or_shape}
 use Rattle.plinq_document.specs.declared.version.Version.{Version}
-use Rattle.plinq_document.specs.declared.version.Version.TheVariants.{One}
+use Rattle.plinq_document.specs.declared.version.Version.TheVariants.{One, Two}
 use Rattle.plinq_document.specs.declared.doc_fault.DocFault.{DocFault}
 use Rattle.plinq_document.specs.declared.doc_fault.DocFault.TheVariants as fault
 
 -- the version of this number
 abbrev pub version_numbered : ℤ → Result Version DocFault
-version_numbered n = if int_eq n (pos 1) then Ok One else Err fault.Version
+version_numbered n = if int_eq n (pos 1) then Ok One else if int_eq n (pos 2) then Ok Two else Err fault.Version
 
 -- the version that a document names
 abbrev pub version_in : Data → Result Version DocFault

@@ -25,7 +25,7 @@ const MOST_BYTES: usize = 16_777_216;
 /// The most steps of a query.
 const MOST_STEPS: usize = 1_000;
 
-/// Reads a document: one JSON text, of version 1.
+/// Reads a document: one JSON text, of version 1 or 2.
 ///
 /// The settings of the command line count as calls at the head of the query, the workers before the merge option.
 ///

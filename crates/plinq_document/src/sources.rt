@@ -37,6 +37,6 @@ fn source_of(alloc: Global, version: Version, value: &Value) -> Result<AnySource
     ensures fresh { IfOk result (λ s. ⟦<AnySource as Source>⟧.given s ≡ 0) }
 {
     match version {
-        Version::One => Ok(AnySource::Plain(plain_source_of(alloc, value)?)),
+        Version::One | Version::Two => Ok(AnySource::Plain(plain_source_of(alloc, value)?)),
     }
 }

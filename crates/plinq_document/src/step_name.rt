@@ -1,6 +1,6 @@
 ghost use Rattle.std.specs.Prelude.{◌≡◌};
 ghost use Rattle.plinq_document.specs.Steps.{step_name};
-ghost use Rattle.plinq_document.specs.declared.version.Version.TheVariants.{One};
+ghost use Rattle.plinq_document.specs.declared.version.Version.TheVariants.{One, Two};
 
 use crate::version::Version;
 
@@ -25,6 +25,7 @@ pub(crate) fn step_named(version: Version, word: &str) -> Option<StepName>
 {
     match version {
         Version::One => step_of_version_one(word),
+        Version::Two => step_of_version_two(word),
     }
 }
 
@@ -44,4 +45,10 @@ fn step_of_version_one(word: &str) -> Option<StepName>
         "with_degree" => Some(StepName::WithDegree),
         _ => None,
     }
+}
+
+fn step_of_version_two(word: &str) -> Option<StepName>
+    ensures { result ≡ step_name Two word.now }
+{
+    step_of_version_one(word)
 }

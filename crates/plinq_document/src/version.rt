@@ -10,6 +10,8 @@ use serde_json::Value;
 pub enum Version {
     /// The first, of the number 1.
     One,
+    /// The second, of the number 2: it has all that the first has.
+    Two,
 }
 
 /// The version that a document names.
@@ -26,6 +28,7 @@ fn version_numbered(number: i64) -> Result<Version, DocFault>
 {
     match number {
         1 => Ok(Version::One),
+        2 => Ok(Version::Two),
         _ => Err(DocFault::Version),
     }
 }
