@@ -52,8 +52,14 @@ def slope(program, work, low, high, items, operators):
 
 def sequential(tree, folder, when):
     program = build(tree, "sequential", folder)
-    for work, name in (("selects", "eight Selects"), ("mix", "three Selects and Filters in turn, a Skip, a Take")):
-        print(f"| `sequential`{when}, {name} | {slope(program, work, 10_000, 100_000, 1, 8):.1f} |", flush=True)
+    for work, name, operators in (
+        ("selects", "eight Selects", 8),
+        ("mix", "three Selects and Filters in turn, a Skip, a Take", 8),
+        ("dropping", "a Filter that keeps none", 1),
+        ("skipping", "a SkipWhile that skips all", 1),
+        ("over", "eight SkipWhiles that are over", 8),
+    ):
+        print(f"| `sequential`{when}, {name} | {slope(program, work, 10_000, 100_000, 1, operators):.1f} |", flush=True)
     an_item = (instructions(program, "nine", 100_000) - instructions(program, "nine", 10_000)) / 90_000
     print(f"\n`sequential`{when}, these eight and a Filter that keeps none: {an_item:.0f} instructions an item in all", flush=True)
 

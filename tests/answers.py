@@ -48,6 +48,14 @@ ANSWERS = [
     ("full", '"range":[8,20]', ',["skip",1]', "9 10 11 12 13 14 15 16 17 18 19 20 21 22 23 24 25 26 27\nend\n", 0),
 ]
 
+# The same of documents of version 2.
+ANSWERS_OF_VERSION_2 = [
+    ("auto", '"list":[1,2,9,3]', ',["skip_while","below",5]', "9 3\nend\n", 0),
+    ("auto", '"list":[7,0]', ',["skip_while","into",6]', "7 0\nend\n", 0),
+    ("auto", '"list":[1,0,9]', ',["skip_while","into",6]', "fault division\n", 4),
+    ("auto", '"list":[1],"refuse":7', ',["skip_while","below",5]', "refused 7\n", 3),
+]
+
 # Queries that don't keep the order: a merge option, a source, the steps, the items that may come, how many of them do (or
 # any number of them), the last line and the status.
 IN_ANY_ORDER = [
@@ -123,6 +131,8 @@ REFUSED = [
     ("run", '{"version":1,"source":{"range":[0,1099511627777]},"query":[],"aggregate":"average"}', "wrong shape"),
     ("run", '{"version":1,"source":{"range":[0,1099511627777]},"query":[],"aggregate":"sum"}', "source too large"),
     ("run", '{"version":1,"source":{"list":[]},"query":["take"]}', "step 0: unknown"),
+    ("run", '{"version":1,"source":{"list":[]},"query":[["skip_while","even"]]}', "step 0: unknown"),
+    ("run", '{"version":2,"source":{"list":[]},"query":[["skip_while"]]}', "step 0: unknown"),
     ("run", '{"version":1,"source":{"list":[]},"query":"take"}', "wrong shape"),
     ("run", '{"version":1,"source":{"list":[1.5]},"query":[]}', "wrong shape"),
     ("run", '{"version":1,"source":{"list":[9223372036854775808]},"query":[]}', "wrong shape"),
@@ -161,6 +171,8 @@ SHOWN = [
     ("plan --workers 4", '{"version":1,"source":{"range":[1,10]},"query":[["select","add",1],["take",5],["filter","even"],["take",2]]}', ["workers 4", "merge auto", "order arrival", "worker select add 1", "after take 5, filter even, take 2"], 0),
     ("plan --workers 1 --merge not", '{"version":1,"source":{"list":[]},"query":[["as_ordered"]]}', ["workers 1", "merge not", "order key", "worker none", "after none"], 0),
     ("plan", '{"version":1,"source":{"list":[],"refuse":1},"query":[["with_merge","full"],["with_degree",64],["select_many","up_to"],["skip",-3],["take_while","above",-1],["as_unordered"]]}', ["workers 64", "merge full", "order arrival", "worker select_many up_to", "after skip -3, take_while above -1, as_unordered"], 0),
+    ("plan", '{"version":2,"source":{"list":[]},"query":[["as_ordered"],["select","add",1],["skip_while","below",5],["take",2]]}', ["workers 4", "merge auto", "order key", "worker select add 1", "after skip_while below 5, take 2"], 0),
+    ("plan", '{"version":2,"source":{"list":[]},"query":[["skip_while","even"],["filter","even"]]}', ["workers 4", "merge auto", "order arrival", "worker none", "after skip_while even, filter even"], 0),
     # Each operator and each formula.
     (
         "plan --merge full --workers 64",
@@ -312,8 +324,9 @@ def main():
         seen = run(words, document.encode())
         tests.check(f"plinq {' '.join(words)} < {document}", seen == wanted, f"wanted {wanted}; seen {seen}")
 
-    for merge, source, steps, output, status in ANSWERS:
-        document = f'{{"version":1,"source":{{{source}}},"query":[["as_ordered"]{steps}]}}'
+    versions = [(1, *row) for row in ANSWERS] + [(2, *row) for row in ANSWERS_OF_VERSION_2]
+    for version, merge, source, steps, output, status in versions:
+        document = f'{{"version":{version},"source":{{{source}}},"query":[["as_ordered"]{steps}]}}'
         for command in ("run", "seq"):
             # (once without options)
             for options in [["--workers", it, "--merge", merge] for it in ("1", "2", "64")] if merge else [[]]:

@@ -99,6 +99,14 @@ def applied(step, items, ending):
                     return items[:at], "end"
             except Fault as fault:
                 return items[:at], str(fault)
+    if name == "skip_while":
+        for at, x in enumerate(items):
+            try:
+                if not tested(rest, x):
+                    return items[at:], ending
+            except Fault as fault:
+                return [], str(fault)
+        return [], ending
     if name in ("take", "skip"):
         n = max(rest[0], 0)
         if name == "skip":
@@ -140,7 +148,7 @@ def worker_length(calls, knows_order):
     """How many steps the workers take: those for which they know enough of an element from its key."""
     knows_place = knows_order
     for at, (name, *_) in enumerate(calls):
-        needs = {"take": knows_place, "skip": knows_place, "take_while": knows_order, "as_unordered": False}
+        needs = {"take": knows_place, "skip": knows_place, "take_while": knows_order, "skip_while": False, "as_unordered": False}
         if not needs.get(name, True):
             return at
         if name in ("filter", "select_many"):
@@ -290,10 +298,10 @@ def some_source(chance):
     return {"text": "".join(it + chance.choice([" ", "\n", "  "]) for it in tokens)}
 
 
-def some_steps(chance):
+def some_steps(chance, version):
     steps = [["as_ordered"]] if chance.random() < 0.8 else []
     for _ in range(chance.choice([0, 1, 2, 3, 5])):
-        name = chance.choice(["select", "filter", "select_many", "take_while", "take", "skip"])
+        name = chance.choice(["select", "filter", "select_many", "take_while", "take", "skip"] + ["skip_while"] * (version == 2))
         steps.append([name, chance.choice([-1, 0, 1, 2, 5, 16, 40])] if name in ("take", "skip") else [name, *some_formula(chance)])
     if chance.random() < 0.1:
         steps.append(["as_unordered"])
@@ -319,14 +327,15 @@ def main():
     chance = random.Random(4)
     seen_endings = set()
     while tests.passed + tests.failed < 1500:
-        source, steps = some_source(chance), some_steps(chance)
+        version = chance.choice([1, 2])
+        source, steps = some_source(chance), some_steps(chance, version)
         if is_too_long(source, steps):
             continue
         command = chance.choice(["run", "run", "run", "seq", "plan", "parts", "history"])
         in_any_order = command == "run" and gives_order_up(steps)
         if in_any_order and is_cut_short(source, steps):
             source = shortened(source)
-        document = {"version": 1, "source": source, "query": steps}
+        document = {"version": version, "source": source, "query": steps}
         growth = chance.choice([None, [1, 1, 1], [1, 1, 4], [2, 3, 16], [1, 3, 512]])
         if growth:
             document["growth"] = growth

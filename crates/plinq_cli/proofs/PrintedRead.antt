@@ -6,7 +6,7 @@ use Rattle.plinq_document.specs.Json.{Data, null, boolean, number, string, array
 use Rattle.plinq_lambda.specs.declared.formula.Formula.{Formula}
 use Rattle.plinq_lambda.specs.declared.formula.Formula.TheVariants.{Add, Mul, Mod, Into, Below, Above, Equal, Even, Repeat, UpTo}
 use Rattle.plinq_ops.specs.declared.op.Op.{Op}
-use Rattle.plinq_ops.specs.declared.op.Op.TheVariants.{Select, Filter, SelectMany, Take, Skip, TakeWhile, AsUnordered}
+use Rattle.plinq_ops.specs.declared.op.Op.TheVariants.{Select, Filter, SelectMany, Take, Skip, TakeWhile, SkipWhile, AsUnordered}
 use Rattle.plinq_ops.specs.declared.merge_option.MergeOption.{MergeOption}
 use Rattle.plinq_ops.specs.declared.merge_option.MergeOption.TheVariants.{Default, NotBuffered, AutoBuffered, FullyBuffered}
 use Rattle.plinq_ops.specs.Query.{merge_in_force}
@@ -14,12 +14,13 @@ use Rattle.plinq_document.specs.Words.{beside}
 use Rattle.plinq_document.specs.Values.{only_whole_number, only_count, only_text}
 use Rattle.plinq_document.specs.Formulas.{formula_of, formula_from, formula_alone, formula_with, words_alone, words_with}
 use Rattle.plinq_document.specs.Steps.{call_from, call_named, call_alone, merge_word, merge_words, step_names}
-use Rattle.plinq_document.specs.declared.version.Version.TheVariants.{One}
+use Rattle.plinq_document.specs.declared.version.Version.TheVariants.{One, Two}
+use Rattle.plinq_document.specs.declared.step_name.StepName.TheVariants as step
 use Rattle.plinq_document.specs.declared.step_call.StepCall.{StepCall}
 use Rattle.plinq_document.specs.declared.step_call.StepCall.TheVariants as call
 use Rattle.plinq_lines.specs.OpWords.{formula_name, formula_number, op_name}
 use Rattle.plinq_lines.specs.PlanText.{merge_name}
-use Rattle.plinq_cli.specs.Printed.{NumberItems, FormulaItems, AfterName, OpItems, op_of_call, call_of_op}
+use Rattle.plinq_cli.specs.Printed.{NumberItems, FormulaItems, AfterName, OpItems, op_of_call, call_of_op, in_version_one}
 
 -- a fact of each row of a table
 abbrev Rows : {A : Type 0} → (List ℕ → A → Type 0) → List (List ℕ × A) → Type 0
@@ -90,20 +91,21 @@ formula_of-read f (item (object ms) ds) is = cc
 
 -- ---- operators
 
-call_from-named : (op : Op Formula) (ds : Items) → AfterName op ds → call_from One (item (string (op_name op)) ds) ≡ Some (call_of_op op)
+call_from-named : (op : Op Formula) (ds : Items) → AfterName op ds → call_from Two (item (string (op_name op)) ds) ≡ Some (call_of_op op)
 call_from-named (Select f) ds h = ap (option_map call.Select) (formula_of-printed f ds h)
 call_from-named (Filter f) ds h = ap (option_map call.Filter) (formula_of-printed f ds h)
 call_from-named (SelectMany f) ds h = ap (option_map call.SelectMany) (formula_of-printed f ds h)
 call_from-named (Take n) ds h = ap (option_map call.Take) h
 call_from-named (Skip n) ds h = ap (option_map call.Skip) h
 call_from-named (TakeWhile f) ds h = ap (option_map call.TakeWhile) (formula_of-printed f ds h)
+call_from-named (SkipWhile f) ds h = ap (option_map call.SkipWhile) (formula_of-printed f ds h)
 call_from-named AsUnordered no_items h = refl
 call_from-named AsUnordered (item d ds) h = absurd h
 
 -- an operator's printed words are read as the call that adds it
-pub call_from-printed : (op : Op Formula) (ds : Items) → OpItems op ds → call_from One ds ≡ Some (call_of_op op)
+pub call_from-printed : (op : Op Formula) (ds : Items) → OpItems op ds → call_from Two ds ≡ Some (call_of_op op)
 call_from-printed op no_items h = absurd h
-call_from-printed op (item word ds) h = ap (λ (w : Data). call_from One (item w ds)) h.0 ∙ call_from-named op ds h.1
+call_from-printed op (item word ds) h = ap (λ (w : Data). call_from Two (item w ds)) h.0 ∙ call_from-named op ds h.1
 
 mapped : {A : Type 0} (make : A → StepCall) (G : StepCall → Type 0) (o : Option A) (c : StepCall) → ((x : A) → o ≡ Some x → G (make x)) → option_map make o ≡ Some c → G c
 mapped make G None c each is = cc
@@ -120,8 +122,8 @@ alone G x (item d ds) c here is = cc
 abbrev Prints : List ℕ → StepCall → Items → Type 0
 Prints word c ds = IfSome (op_of_call c) (λ op. OpItems op (item (string word) ds))
 
-call_named-read : (ds : Items) → Rows (λ word n. (c : StepCall) → call_named n ds ≡ Some c → Prints word c ds) (step_names One)
-call_named-read ds = (
+call_named-first : (ds : Items) → Rows (λ word n. (c : StepCall) → call_named n ds ≡ Some c → Prints word c ds) (step_names One)
+call_named-first ds = (
   (λ c is. alone (Prints (codes "as_ordered")) call.AsOrdered ds c tt is),
   (
     (λ c is. alone (Prints (codes "as_unordered")) call.AsUnordered ds c (refl, tt) is),
@@ -150,6 +152,12 @@ call_named-read ds = (
   ),
 )
 
+call_named-read : (ds : Items) → Rows (λ word n. (c : StepCall) → call_named n ds ≡ Some c → Prints word c ds) (step_names Two)
+call_named-read ds = (
+  (λ c is. mapped call.SkipWhile (λ x. Prints (codes "skip_while") x ds) (formula_of ds) c (λ f e. (refl, formula_of-read f ds e)) is),
+  call_named-first ds,
+)
+
 chosen : {A : Type 0} (table : List (List ℕ × A)) (use_of : A → Option StepCall) (G : List ℕ → StepCall → Type 0) (word : List ℕ) (c : StepCall)
     → Rows (λ w n. (x : StepCall) → use_of n ≡ Some x → G w x) table → option_and_then use_of (beside table word) ≡ Some c → G word c
 chosen {A = A} table use_of G word c all is = go (beside table word) refl is
@@ -159,14 +167,61 @@ chosen {A = A} table use_of G word c all is = go (beside table word) refl is
     go (Some n) e found = beside-row (λ w m. (x : StepCall) → use_of m ≡ Some x → G w x) table word n all e c found
 
 -- what is read as a call that adds an operator are its printed words
-pub call_from-read : (ds : Items) (c : StepCall) → call_from One ds ≡ Some c → IfSome (op_of_call c) (λ op. OpItems op ds)
+pub call_from-read : (ds : Items) (c : StepCall) → call_from Two ds ≡ Some c → IfSome (op_of_call c) (λ op. OpItems op ds)
 call_from-read no_items c is = cc
 call_from-read (item null ds) c is = cc
 call_from-read (item (boolean b) ds) c is = cc
 call_from-read (item (number n) ds) c is = cc
-call_from-read (item (string word) ds) c is = chosen (step_names One) (λ n. call_named n ds) (λ w x. Prints w x ds) word c (call_named-read ds) is
+call_from-read (item (string word) ds) c is = chosen (step_names Two) (λ n. call_named n ds) (λ w x. Prints w x ds) word c (call_named-read ds) is
 call_from-read (item (array es) ds) c is = cc
 call_from-read (item (object ms) ds) c is = cc
+
+-- ---- version 1
+
+abbrev IsFirst : StepCall → Type 0
+IsFirst c = in_version_one (Some c) ≡ Some c
+
+named-first : (ds : Items) → Rows (λ word n. (c : StepCall) → call_named n ds ≡ Some c → IsFirst c) (step_names One)
+named-first ds =
+    ((λ c is. alone (λ x es. IsFirst x) call.AsOrdered ds c refl is),
+    ((λ c is. alone (λ x es. IsFirst x) call.AsUnordered ds c refl is),
+    ((λ c is. mapped call.Select IsFirst (formula_of ds) c (λ f e. refl) is),
+    ((λ c is. mapped call.Filter IsFirst (formula_of ds) c (λ f e. refl) is),
+    ((λ c is. mapped call.SelectMany IsFirst (formula_of ds) c (λ f e. refl) is),
+    ((λ c is. mapped call.TakeWhile IsFirst (formula_of ds) c (λ f e. refl) is),
+    ((λ c is. mapped call.Take IsFirst (only_whole_number ds) c (λ n e. refl) is),
+    ((λ c is. mapped call.Skip IsFirst (only_whole_number ds) c (λ n e. refl) is),
+    ((λ c is. mapped call.WithMerge IsFirst (option_and_then merge_word (only_text ds)) c (λ w e. refl) is),
+    ((λ c is. mapped call.WithDegree IsFirst (only_count ds) c (λ n e. refl) is), tt))))))))))
+
+without_skip_while : (o : Option Formula) → in_version_one (option_map call.SkipWhile o) ≡ None
+without_skip_while None = refl
+without_skip_while (Some f) = refl
+
+first-or_none : (ds : Items) (word : List ℕ) (o : Option StepCall) → option_and_then (λ n. call_named n ds) (beside (step_names One) word) ≡ o → o ≡ in_version_one o
+first-or_none ds word None is = refl
+first-or_none ds word (Some c) is = sym (chosen (step_names One) (λ n. call_named n ds) (λ w x. IsFirst x) word c (named-first ds) is)
+
+call_from-word : (ds : Items) (word : List ℕ) → call_from One (item (string word) ds) ≡ in_version_one (call_from Two (item (string word) ds))
+call_from-word ds word = go (bytes_eq word (codes "skip_while")) refl
+  where
+    go : (b : Bool) → bytes_eq word (codes "skip_while") ≡ b
+        → option_and_then (λ n. call_named n ds) (beside (step_names One) word)
+        ≡ in_version_one (option_and_then (λ n. call_named n ds) (if b then Some step.SkipWhile else beside (step_names One) word))
+    go true e =
+        ap (λ w. option_and_then (λ n. call_named n ds) (beside (step_names One) w)) ((bytes_eq-Decides word (codes "skip_while")).0 e)
+        ∙ sym (without_skip_while (formula_of ds))
+    go false e = first-or_none ds word (option_and_then (λ n. call_named n ds) (beside (step_names One) word)) refl
+
+-- version 1 reads what version 2 does, but for a SkipWhile
+pub call_from-first : (ds : Items) → call_from One ds ≡ in_version_one (call_from Two ds)
+call_from-first no_items = refl
+call_from-first (item null ds) = refl
+call_from-first (item (boolean b) ds) = refl
+call_from-first (item (number n) ds) = refl
+call_from-first (item (string word) ds) = call_from-word ds word
+call_from-first (item (array es) ds) = refl
+call_from-first (item (object ms) ds) = refl
 
 -- ---- merge options
 

@@ -3,7 +3,7 @@ use Rattle.std.specs.Prelude.{◌≡◌, ℤ, Option, Some, None, ⊤}
 use Rattle.plinq_document.specs.Json.{Items, no_items, item, string}
 use Rattle.plinq_lambda.specs.declared.formula.Formula.{Formula}
 use Rattle.plinq_ops.specs.declared.op.Op.{Op}
-use Rattle.plinq_ops.specs.declared.op.Op.TheVariants.{Select, Filter, SelectMany, Take, Skip, TakeWhile, AsUnordered}
+use Rattle.plinq_ops.specs.declared.op.Op.TheVariants.{Select, Filter, SelectMany, Take, Skip, TakeWhile, SkipWhile, AsUnordered}
 use Rattle.plinq_document.specs.Values.{only_whole_number}
 use Rattle.plinq_document.specs.declared.step_call.StepCall.{StepCall}
 use Rattle.plinq_document.specs.declared.step_call.StepCall.TheVariants as call
@@ -28,6 +28,7 @@ AfterName (SelectMany f) ds = FormulaItems f ds
 AfterName (Take n) ds = NumberItems (Some n) ds
 AfterName (Skip n) ds = NumberItems (Some n) ds
 AfterName (TakeWhile f) ds = FormulaItems f ds
+AfterName (SkipWhile f) ds = FormulaItems f ds
 AfterName AsUnordered ds = NumberItems None ds
 
 -- an operator: its printed name, and what stands after it
@@ -43,6 +44,7 @@ op_of_call (call.Select f) = Some (Select f)
 op_of_call (call.Filter f) = Some (Filter f)
 op_of_call (call.SelectMany f) = Some (SelectMany f)
 op_of_call (call.TakeWhile f) = Some (TakeWhile f)
+op_of_call (call.SkipWhile f) = Some (SkipWhile f)
 op_of_call (call.Take n) = Some (Take n)
 op_of_call (call.Skip n) = Some (Skip n)
 op_of_call (call.WithMerge w) = None
@@ -56,4 +58,11 @@ call_of_op (SelectMany f) = call.SelectMany f
 call_of_op (Take n) = call.Take n
 call_of_op (Skip n) = call.Skip n
 call_of_op (TakeWhile f) = call.TakeWhile f
+call_of_op (SkipWhile f) = call.SkipWhile f
 call_of_op AsUnordered = call.AsUnordered
+
+-- what version 1 makes of a step that version 2 reads so: all but a SkipWhile, which it doesn't know
+abbrev pub in_version_one : Option StepCall → Option StepCall
+in_version_one None = None
+in_version_one (Some (call.SkipWhile f)) = None
+in_version_one (Some c) = Some c

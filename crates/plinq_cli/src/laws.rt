@@ -9,13 +9,13 @@ ghost use Rattle.plinq_ops.specs.declared.op.Op.{Op};
 ghost use Rattle.plinq_ops.specs.declared.merge_option.MergeOption.{MergeOption};
 ghost use Rattle.plinq_ops.specs.declared.merge_option.MergeOption.TheVariants.{Default};
 ghost use Rattle.plinq_ops.specs.Query.{merge_in_force};
-ghost use Rattle.plinq_document.specs.declared.version.Version.TheVariants.{One};
+ghost use Rattle.plinq_document.specs.declared.version.Version.TheVariants.{One, Two};
 ghost use Rattle.plinq_document.specs.declared.step_call.StepCall.{StepCall};
 ghost use Rattle.plinq_document.specs.Formulas.{formula_of};
 ghost use Rattle.plinq_document.specs.Steps.{call_from, merge_word};
 ghost use Rattle.plinq_lines.specs.OpWords.{argument_words, op_argument, op_name, op_words};
 ghost use Rattle.plinq_lines.specs.PlanText.{merge_name};
-ghost use Rattle.plinq_cli.specs.Printed.{FormulaItems, OpItems, call_of_op, op_of_call};
+ghost use Rattle.plinq_cli.specs.Printed.{FormulaItems, OpItems, call_of_op, op_of_call, in_version_one};
 
 /// A formula's printed words, and no others, are read as that formula.
 pub fn printed_formula_is_read()
@@ -23,11 +23,13 @@ pub fn printed_formula_is_read()
     ensures printed { (f : Formula) (ds : Items) → formula_of ds ≡ Some f → FormulaItems f ds }
 {}
 
-/// An operator's printed words, and no others, are read as the call that adds it.
+/// An operator's printed words, and no others, are read by version 2 as the call that adds it. Version 1 reads the same,
+/// but for SkipWhile.
 pub fn printed_operator_is_read()
     ensures words { (op : Op Formula) → op_words op ≡ op_name op ++ argument_words (op_argument op) }
-    ensures read { (op : Op Formula) (ds : Items) → OpItems op ds → call_from One ds ≡ Some (call_of_op op) }
-    ensures printed { (ds : Items) (c : StepCall) → call_from One ds ≡ Some c → IfSome (op_of_call c) (λ op. OpItems op ds) }
+    ensures read { (op : Op Formula) (ds : Items) → OpItems op ds → call_from Two ds ≡ Some (call_of_op op) }
+    ensures printed { (ds : Items) (c : StepCall) → call_from Two ds ≡ Some c → IfSome (op_of_call c) (λ op. OpItems op ds) }
+    ensures first { (ds : Items) → call_from One ds ≡ in_version_one (call_from Two ds) }
 {}
 
 /// The printed word of the merge option in force, and no other, is read as that option. `default` is read as well, and

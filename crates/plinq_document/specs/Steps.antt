@@ -4,7 +4,7 @@ use Rattle.serde_json.specs.Data.{Data, Items, no_items, item}
 use Rattle.serde_json.specs.Find.{as_str, as_array}
 use Rattle.plinq_lambda.specs.declared.formula.Formula.{Formula}
 use Rattle.plinq_ops.specs.declared.op.Op.{Op}
-use Rattle.plinq_ops.specs.declared.op.Op.TheVariants.{Select as SelectOp, Filter as FilterOp, SelectMany as SelectManyOp, Take as TakeOp, Skip as SkipOp, TakeWhile as TakeWhileOp, AsUnordered as AsUnorderedOp}
+use Rattle.plinq_ops.specs.declared.op.Op.TheVariants.{Select as SelectOp, Filter as FilterOp, SelectMany as SelectManyOp, Take as TakeOp, Skip as SkipOp, TakeWhile as TakeWhileOp, SkipWhile as SkipWhileOp, AsUnordered as AsUnorderedOp}
 use Rattle.plinq_ops.specs.declared.merge_option.MergeOption.{MergeOption}
 use Rattle.plinq_ops.specs.declared.merge_option.MergeOption.TheVariants.{Default, NotBuffered, AutoBuffered, FullyBuffered}
 use Rattle.plinq_ops.specs.Query.{QueryView, Built, with_order, with_option, with_degree_of}
@@ -15,9 +15,9 @@ use Rattle.plinq_document.specs.Results.{◌>>=◌}
 use Rattle.plinq_document.specs.declared.version.Version.{Version}
 use Rattle.plinq_document.specs.declared.version.Version.TheVariants.{One, Two}
 use Rattle.plinq_document.specs.declared.step_name.StepName.{StepName}
-use Rattle.plinq_document.specs.declared.step_name.StepName.TheVariants.{AsOrdered, AsUnordered, Select, Filter, SelectMany, TakeWhile, Take, Skip, WithMerge, WithDegree}
+use Rattle.plinq_document.specs.declared.step_name.StepName.TheVariants.{AsOrdered, AsUnordered, Select, Filter, SelectMany, TakeWhile, SkipWhile, Take, Skip, WithMerge, WithDegree}
 use Rattle.plinq_document.specs.declared.step_call.StepCall.{StepCall}
-use Rattle.plinq_document.specs.declared.step_call.StepCall.TheVariants.{AsOrdered as CallAsOrdered, AsUnordered as CallAsUnordered, Select as CallSelect, Filter as CallFilter, SelectMany as CallSelectMany, TakeWhile as CallTakeWhile, Take as CallTake, Skip as CallSkip, WithMerge as CallWithMerge, WithDegree as CallWithDegree}
+use Rattle.plinq_document.specs.declared.step_call.StepCall.TheVariants.{AsOrdered as CallAsOrdered, AsUnordered as CallAsUnordered, Select as CallSelect, Filter as CallFilter, SelectMany as CallSelectMany, TakeWhile as CallTakeWhile, SkipWhile as CallSkipWhile, Take as CallTake, Skip as CallSkip, WithMerge as CallWithMerge, WithDegree as CallWithDegree}
 use Rattle.plinq_document.specs.declared.doc_fault.StepFault.{StepFault}
 use Rattle.plinq_document.specs.declared.doc_fault.StepFault.TheVariants.{Unknown, Build}
 use Rattle.plinq_document.specs.declared.doc_fault.DocFault.{DocFault}
@@ -41,7 +41,7 @@ first_step_names =
 -- the steps of each version by their names
 abbrev pub step_names : Version → List (List ℕ × StepName)
 step_names One = first_step_names
-step_names Two = first_step_names
+step_names Two = (codes "skip_while", SkipWhile) ∷ first_step_names
 
 -- the step of this name
 abbrev pub step_name : Version → List ℕ → Option StepName
@@ -73,6 +73,7 @@ call_named Select ds = option_map CallSelect (formula_of ds)
 call_named Filter ds = option_map CallFilter (formula_of ds)
 call_named SelectMany ds = option_map CallSelectMany (formula_of ds)
 call_named TakeWhile ds = option_map CallTakeWhile (formula_of ds)
+call_named SkipWhile ds = option_map CallSkipWhile (formula_of ds)
 call_named Take ds = option_map CallTake (only_whole_number ds)
 call_named Skip ds = option_map CallSkip (only_whole_number ds)
 call_named WithMerge ds = option_map CallWithMerge (option_and_then merge_word (only_text ds))
@@ -99,6 +100,7 @@ called q (CallSelect f) = with_op_of q (SelectOp f)
 called q (CallFilter f) = with_op_of q (FilterOp f)
 called q (CallSelectMany f) = with_op_of q (SelectManyOp f)
 called q (CallTakeWhile f) = with_op_of q (TakeWhileOp f)
+called q (CallSkipWhile f) = with_op_of q (SkipWhileOp f)
 called q (CallTake n) = with_op_of q (TakeOp n)
 called q (CallSkip n) = with_op_of q (SkipOp n)
 called q (CallWithMerge w) = with_option q w

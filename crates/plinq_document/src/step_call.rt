@@ -26,6 +26,8 @@ pub enum StepCall {
     SelectMany(Formula),
     /// `take_while` with a formula.
     TakeWhile(Formula),
+    /// `skip_while` with a formula.
+    SkipWhile(Formula),
     /// `take` with a number of elements.
     Take(i64),
     /// `skip` with a number of elements.
@@ -49,6 +51,7 @@ impl StepCall {
             StepCall::Filter(f) => query.filter(f),
             StepCall::SelectMany(f) => query.select_many(f),
             StepCall::TakeWhile(f) => query.take_while(f),
+            StepCall::SkipWhile(f) => query.skip_while(f),
             StepCall::Take(n) => query.take(n),
             StepCall::Skip(n) => query.skip(n),
             StepCall::WithMerge(option) => query.with_merge(option),
@@ -75,6 +78,7 @@ fn call_named(name: StepName, items: &[Value]) -> Option<StepCall>
         StepName::Filter => Some(StepCall::Filter(formula_of(items)?)),
         StepName::SelectMany => Some(StepCall::SelectMany(formula_of(items)?)),
         StepName::TakeWhile => Some(StepCall::TakeWhile(formula_of(items)?)),
+        StepName::SkipWhile => Some(StepCall::SkipWhile(formula_of(items)?)),
         StepName::Take => Some(StepCall::Take(only_whole_number(items)?)),
         StepName::Skip => Some(StepCall::Skip(only_whole_number(items)?)),
         StepName::WithMerge => Some(StepCall::WithMerge(merge_word(only_item(items)?.as_str()?)?)),

@@ -13,6 +13,7 @@ pub(crate) enum StepName {
     Filter,
     SelectMany,
     TakeWhile,
+    SkipWhile,
     Take,
     Skip,
     WithMerge,
@@ -50,5 +51,8 @@ fn step_of_version_one(word: &str) -> Option<StepName>
 fn step_of_version_two(word: &str) -> Option<StepName>
     ensures { result ≡ step_name Two word.now }
 {
-    step_of_version_one(word)
+    match word {
+        "skip_while" => Some(StepName::SkipWhile),
+        _ => step_of_version_one(word),
+    }
 }

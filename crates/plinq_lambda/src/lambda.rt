@@ -4,8 +4,8 @@ ghost use Rattle.plinq_lambda.specs.Meaning.{Meaning, IsFaultOf, most_items};
 use crate::expand_fault::ExpandFault;
 use std::alloc::Global;
 
-/// What a query's operators do to one element: `Select` maps it, `Where` and `TakeWhile` test it, `SelectMany`
-/// expands it. Each answers a value, or faults with a code of the lambda's own.
+/// What a query's operators do to one element: `Select` maps it, `Where`, `TakeWhile` and `SkipWhile` test it,
+/// `SelectMany` expands it. Each answers a value, or faults with a code of the lambda's own.
 ///
 /// A lambda is shared by the workers of a query, so its answers depend on the element alone.
 pub trait Lambda: Send + Sync + Drop {

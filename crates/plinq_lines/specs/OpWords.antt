@@ -5,7 +5,7 @@ use Rattle.std.specs.Fmt.{digits}
 use Rattle.plinq_lambda.specs.declared.formula.Formula.{Formula}
 use Rattle.plinq_lambda.specs.declared.formula.Formula.TheVariants.{Add, Mul, Mod, Into, Below, Above, Equal, Even, Repeat, UpTo}
 use Rattle.plinq_ops.specs.declared.op.Op.{Op}
-use Rattle.plinq_ops.specs.declared.op.Op.TheVariants.{Select, Filter, SelectMany, Take, Skip, TakeWhile, AsUnordered}
+use Rattle.plinq_ops.specs.declared.op.Op.TheVariants.{Select, Filter, SelectMany, Take, Skip, TakeWhile, SkipWhile, AsUnordered}
 use Rattle.plinq_lines.specs.declared.argument.Argument.{Argument}
 use Rattle.plinq_lines.specs.declared.argument.Argument.TheVariants.{Nothing, Formula as FormulaArgument, Number}
 use Rattle.plinq_lines.specs.Text.{further_number}
@@ -50,6 +50,7 @@ op_name (SelectMany f) = codes "select_many"
 op_name (Take n) = codes "take"
 op_name (Skip n) = codes "skip"
 op_name (TakeWhile f) = codes "take_while"
+op_name (SkipWhile f) = codes "skip_while"
 op_name AsUnordered = codes "as_unordered"
 
 -- what stands after an operator's name
@@ -60,6 +61,7 @@ op_argument (SelectMany f) = FormulaArgument f
 op_argument (Take n) = Number n
 op_argument (Skip n) = Number n
 op_argument (TakeWhile f) = FormulaArgument f
+op_argument (SkipWhile f) = FormulaArgument f
 op_argument AsUnordered = Nothing
 
 abbrev pub argument_words : Argument → List ℕ
@@ -97,7 +99,7 @@ unfolding digits
 every_formula = refl
 
 pub every_operator : part_words (
-    Select Even ∷ Filter Even ∷ SelectMany Even ∷ Take (pos 1) ∷ Skip (negsuc 0) ∷ TakeWhile Even ∷ AsUnordered ∷ [])
-    ≡ codes "select even, filter even, select_many even, take 1, skip -1, take_while even, as_unordered"
+    Select Even ∷ Filter Even ∷ SelectMany Even ∷ Take (pos 1) ∷ Skip (negsuc 0) ∷ TakeWhile Even ∷ SkipWhile (Below (pos 5)) ∷ AsUnordered ∷ [])
+    ≡ codes "select even, filter even, select_many even, take 1, skip -1, take_while even, skip_while below 5, as_unordered"
 unfolding digits
 every_operator = refl

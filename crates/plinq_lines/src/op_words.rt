@@ -102,6 +102,7 @@ fn op_name(op: &Op<Formula>) -> &'static str
         Op::Take(_) => "take",
         Op::Skip(_) => "skip",
         Op::TakeWhile(_) => "take_while",
+        Op::SkipWhile(_) => "skip_while",
         Op::AsUnordered => "as_unordered",
     }
 }
@@ -110,9 +111,11 @@ fn op_argument(op: &Op<Formula>) -> Argument
     ensures { result ≡ op_argument op.now }
 {
     match op {
-        Op::Select(f) | Op::Filter(f) | Op::SelectMany(f) | Op::TakeWhile(f) => {
-            Argument::Formula(*f)
-        }
+        Op::Select(f)
+        | Op::Filter(f)
+        | Op::SelectMany(f)
+        | Op::TakeWhile(f)
+        | Op::SkipWhile(f) => Argument::Formula(*f),
         Op::Take(n) | Op::Skip(n) => Argument::Number(*n),
         Op::AsUnordered => Argument::Nothing,
     }

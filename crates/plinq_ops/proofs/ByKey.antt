@@ -13,14 +13,14 @@ use Rattle.plinq_source.specs.Trace.{Trace, open_trace, ended, followed}
 use Rattle.plinq_source.proofs.Followed.{trace_of}
 use Rattle.plinq_lambda.specs.Meaning.{Meaning}
 use Rattle.plinq_ops.specs.declared.op.Op.{Op}
-use Rattle.plinq_ops.specs.declared.op.Op.TheVariants.{Select, Filter, SelectMany, Take, Skip, TakeWhile, AsUnordered}
-use Rattle.plinq_ops.specs.declared.known.Known.TheVariants.{Key}
+use Rattle.plinq_ops.specs.declared.op.Op.TheVariants.{Select, Filter, SelectMany, Take, Skip, TakeWhile, SkipWhile, AsUnordered}
+use Rattle.plinq_ops.specs.declared.known.Known.TheVariants.{Key, Position}
 use Rattle.plinq_ops.specs.Stage.{Stage, taking, skipping, taken, skipped, apply, seq, behind, seq_behind}
 use Rattle.plinq_ops.specs.Operator.{item_count, selected, taken_while, stage_of, stages_of, counted_off, stage_left}
 use Rattle.plinq_ops.specs.Feeding.{stages_left, is_empty_take}
 use Rattle.plinq_ops.specs.Fragment.{ended_here, taken_at, skipped_at, apply_at, position_behind, fragment_at, fragment_of}
 use Rattle.plinq_ops.specs.Pipeline.{PipelineView, begun_at, stages}
-use Rattle.plinq_ops.specs.ByKey.{is_by_key_from, is_by_key, left_at, passed_on, counts_at}
+use Rattle.plinq_ops.specs.ByKey.{can_apply, is_by_key_from, is_by_key, left_at, passed_on, counts_at}
 use Rattle.plinq_ops.proofs.Stages.{taken-short, taken-enough}
 use Rattle.plinq_ops.proofs.Open.{open-from_seq}
 use Rattle.plinq_ops.proofs.Counts.{stages_left-counts}
@@ -35,6 +35,7 @@ fragment_at-any meaning (SelectMany f ∷ ops) p t keyed = fragment_at-any meani
 fragment_at-any meaning (Take n ∷ ops) p t keyed = absurd (cc)
 fragment_at-any meaning (Skip n ∷ ops) p t keyed = absurd (cc)
 fragment_at-any meaning (TakeWhile f ∷ ops) p t keyed = fragment_at-any meaning ops p (apply (stage_of meaning (TakeWhile f)) t) keyed
+fragment_at-any meaning (SkipWhile f ∷ ops) p t keyed = absurd (cc)
 fragment_at-any meaning (AsUnordered ∷ ops) p t keyed = absurd (cc)
 
 seq_behind-any : {L T : Type 0} (meaning : L → Meaning T) (ops : List (Op L)) (p q : ℤ) (t : Trace T) → is_by_key_from Key ops ≡ true
@@ -50,6 +51,7 @@ seq_behind-any meaning (Take n ∷ ops) p q t keyed = absurd (cc)
 seq_behind-any meaning (Skip n ∷ ops) p q t keyed = absurd (cc)
 seq_behind-any meaning (TakeWhile f ∷ ops) p q t keyed =
     ap (λ rest. stage_of meaning (TakeWhile f) ∷ rest) (seq_behind-any meaning ops p q (apply (stage_of meaning (TakeWhile f)) t) keyed)
+seq_behind-any meaning (SkipWhile f ∷ ops) p q t keyed = absurd (cc)
 seq_behind-any meaning (AsUnordered ∷ ops) p q t keyed = absurd (cc)
 
 -- what may stand at a position on the way through operators by key: the one item, open or the last; no item, and an
@@ -259,6 +261,7 @@ fragment_at-keyed meaning (Skip n ∷ ops) p xs e keyed some at =
     fragment_at-passed meaning (Skip n) ops p (trace_of xs e) (passed-skip meaning n p xs e at) (λ ys o. fragment_at-keyed meaning ops (p -ℤ pos (item_count n)) ys o keyed some)
 fragment_at-keyed meaning (TakeWhile f ∷ ops) p xs e keyed some at =
     fragment_at-passed meaning (TakeWhile f) ops p (trace_of xs e) (passed-take_while meaning f p xs e at) (λ ys o. fragment_at-keyed meaning ops p ys o keyed some)
+fragment_at-keyed meaning (SkipWhile f ∷ ops) p xs e keyed some at = absurd (cc)
 fragment_at-keyed meaning (AsUnordered ∷ ops) p xs e keyed some at = absurd (cc)
 
 -- what is left of the operators behind what stands at a position is what is left of them at the next
@@ -269,15 +272,16 @@ item_count-next (pos k) (x ∷ y ∷ xs) at = absurd at
 item_count-next (negsuc k) [] at = item_count-difference 1 k ∙ (let none : 1 - suc k ≡ 0 + 0 = omega arith in none)
 item_count-next (negsuc k) (x ∷ xs) at = absurd at
 
-behind-at : {L T : Type 0} (meaning : L → Meaning T) (op : Op L) (p : ℤ) (xs : List T) → IsAt p xs None
+behind-at : {L T : Type 0} (meaning : L → Meaning T) (op : Op L) (p : ℤ) (xs : List T) → can_apply Position op ≡ true → IsAt p xs None
     → behind (stage_left meaning op (counted_off op - item_count p)) xs ≡ stage_left meaning op (counted_off op - item_count (p +ℤ pos 1))
-behind-at meaning (Select f) p xs at = refl
-behind-at meaning (Filter f) p xs at = refl
-behind-at meaning (SelectMany f) p xs at = refl
-behind-at meaning (Take n) p xs at = let fewer : (item_count n - item_count p) - length xs ≡ item_count n - item_count (p +ℤ pos 1) = omega (arith, item_count-next p xs at) in ap taking fewer
-behind-at meaning (Skip n) p xs at = let fewer : (item_count n - item_count p) - length xs ≡ item_count n - item_count (p +ℤ pos 1) = omega (arith, item_count-next p xs at) in ap skipping fewer
-behind-at meaning (TakeWhile f) p xs at = refl
-behind-at meaning AsUnordered p xs at = refl
+behind-at meaning (Select f) p xs keyed at = refl
+behind-at meaning (Filter f) p xs keyed at = refl
+behind-at meaning (SelectMany f) p xs keyed at = refl
+behind-at meaning (Take n) p xs keyed at = let fewer : (item_count n - item_count p) - length xs ≡ item_count n - item_count (p +ℤ pos 1) = omega (arith, item_count-next p xs at) in ap taking fewer
+behind-at meaning (Skip n) p xs keyed at = let fewer : (item_count n - item_count p) - length xs ≡ item_count n - item_count (p +ℤ pos 1) = omega (arith, item_count-next p xs at) in ap skipping fewer
+behind-at meaning (TakeWhile f) p xs keyed at = refl
+behind-at meaning (SkipWhile f) p xs keyed at = absurd (cc)
+behind-at meaning AsUnordered p xs keyed at = refl
 
 position_behind-next : {L : Type 0} (op : Op L) (p : ℤ) → position_behind op p +ℤ pos 1 ≡ position_behind op (p +ℤ pos 1)
 position_behind-next (Select f) p = refl
@@ -286,16 +290,17 @@ position_behind-next (SelectMany f) p = refl
 position_behind-next (Take n) p = refl
 position_behind-next (Skip n) p = omega (arith, ints)
 position_behind-next (TakeWhile f) p = refl
+position_behind-next (SkipWhile f) p = refl
 position_behind-next AsUnordered p = refl
 
-seq_behind-passed : {L T : Type 0} (meaning : L → Meaning T) (op : Op L) (ops : List (Op L)) (p : ℤ) (xs : List T) → IsAt p xs None → IsPassedAt meaning op p (open_trace xs)
+seq_behind-passed : {L T : Type 0} (meaning : L → Meaning T) (op : Op L) (ops : List (Op L)) (p : ℤ) (xs : List T) → can_apply Position op ≡ true → IsAt p xs None → IsPassedAt meaning op p (open_trace xs)
     → ((ys : List T) (o : Option Ending) → IsAt (position_behind op p) ys o → (seq (left_at meaning ops (position_behind op p)) (trace_of ys o)).ending ≡ None
     → seq_behind (left_at meaning ops (position_behind op p)) (trace_of ys o) ≡ left_at meaning ops (position_behind op p +ℤ pos 1))
     → (seq (left_at meaning (op ∷ ops) p) (open_trace xs)).ending ≡ None → seq_behind (left_at meaning (op ∷ ops) p) (open_trace xs) ≡ left_at meaning (op ∷ ops) (p +ℤ pos 1)
-seq_behind-passed {L} {T} meaning op ops p xs at passed others is_open =
+seq_behind-passed {L} {T} meaning op ops p xs applied at passed others is_open =
     let t : Trace T = apply_at meaning op p (open_trace xs) in
     let left : List (Stage T) = left_at meaning ops (position_behind op p) in
-    let first = behind-at meaning op p xs at in
+    let first = behind-at meaning op p xs applied at in
     let rest : seq_behind left (apply (stage_left meaning op (counted_off op - item_count p)) (open_trace xs)) ≡ left_at meaning ops (position_behind op (p +ℤ pos 1)) =
     ap (seq_behind left) (sym passed.same)
     ∙ others t.items t.ending passed.at (ap (λ u. (seq left u).ending) passed.same ∙ is_open)
@@ -303,10 +308,10 @@ seq_behind-passed {L} {T} meaning op ops p xs at passed others is_open =
     cc
 
 -- an operator behind which positions aren't known
-seq_behind-first : {L T : Type 0} (meaning : L → Meaning T) (op : Op L) (ops : List (Op L)) (p : ℤ) (xs : List T) → IsAt p xs None → is_by_key_from Key ops ≡ true
+seq_behind-first : {L T : Type 0} (meaning : L → Meaning T) (op : Op L) (ops : List (Op L)) (p : ℤ) (xs : List T) → can_apply Position op ≡ true → IsAt p xs None → is_by_key_from Key ops ≡ true
     → seq_behind (left_at meaning (op ∷ ops) p) (open_trace xs) ≡ left_at meaning (op ∷ ops) (p +ℤ pos 1)
-seq_behind-first {L} {T} meaning op ops p xs at keyed =
-    let first = behind-at meaning op p xs at in
+seq_behind-first meaning op ops p xs applied at keyed =
+    let first = behind-at meaning op p xs applied at in
     let rest = seq_behind-any meaning ops (position_behind op p) (position_behind op (p +ℤ pos 1)) (apply (stage_left meaning op (counted_off op - item_count p)) (open_trace xs)) keyed in
     cc
 
@@ -317,16 +322,17 @@ pub seq_behind-keyed : {L T : Type 0} (meaning : L → Meaning T) (ops : List (O
 seq_behind-keyed meaning ops p xs (Some f) keyed some at is_open = absurd (let bad : Some f ≡ None = open-from_seq (left_at meaning ops p) (ended xs f) is_open in cc)
 seq_behind-keyed meaning [] p xs None keyed some at is_open = refl
 seq_behind-keyed meaning (Select f ∷ ops) p xs None keyed some at is_open =
-    seq_behind-passed meaning (Select f) ops p xs at (passed-select meaning f p xs None at) (λ ys o. seq_behind-keyed meaning ops p ys o keyed some) is_open
-seq_behind-keyed meaning (Filter f ∷ ops) p xs None keyed some at is_open = seq_behind-first meaning (Filter f) ops p xs at keyed
-seq_behind-keyed meaning (SelectMany f ∷ ops) p xs None keyed some at is_open = seq_behind-first meaning (SelectMany f) ops p xs at keyed
+    seq_behind-passed meaning (Select f) ops p xs refl at (passed-select meaning f p xs None at) (λ ys o. seq_behind-keyed meaning ops p ys o keyed some) is_open
+seq_behind-keyed meaning (Filter f ∷ ops) p xs None keyed some at is_open = seq_behind-first meaning (Filter f) ops p xs refl at keyed
+seq_behind-keyed meaning (SelectMany f ∷ ops) p xs None keyed some at is_open = seq_behind-first meaning (SelectMany f) ops p xs refl at keyed
 seq_behind-keyed meaning (Take n ∷ ops) p xs None keyed some at is_open =
     let none = or_parts _ _ some in
-    seq_behind-passed meaning (Take n) ops p xs at (passed-take meaning n p xs None none.0 at) (λ ys o. seq_behind-keyed meaning ops p ys o keyed none.1) is_open
+    seq_behind-passed meaning (Take n) ops p xs refl at (passed-take meaning n p xs None none.0 at) (λ ys o. seq_behind-keyed meaning ops p ys o keyed none.1) is_open
 seq_behind-keyed meaning (Skip n ∷ ops) p xs None keyed some at is_open =
-    seq_behind-passed meaning (Skip n) ops p xs at (passed-skip meaning n p xs None at) (λ ys o. seq_behind-keyed meaning ops (p -ℤ pos (item_count n)) ys o keyed some) is_open
+    seq_behind-passed meaning (Skip n) ops p xs refl at (passed-skip meaning n p xs None at) (λ ys o. seq_behind-keyed meaning ops (p -ℤ pos (item_count n)) ys o keyed some) is_open
 seq_behind-keyed meaning (TakeWhile f ∷ ops) p xs None keyed some at is_open =
-    seq_behind-passed meaning (TakeWhile f) ops p xs at (passed-take_while meaning f p xs None at) (λ ys o. seq_behind-keyed meaning ops p ys o keyed some) is_open
+    seq_behind-passed meaning (TakeWhile f) ops p xs refl at (passed-take_while meaning f p xs None at) (λ ys o. seq_behind-keyed meaning ops p ys o keyed some) is_open
+seq_behind-keyed meaning (SkipWhile f ∷ ops) p xs None keyed some at is_open = absurd (cc)
 seq_behind-keyed meaning (AsUnordered ∷ ops) p xs None keyed some at is_open = absurd (cc)
 
 -- the element of a key gives its fragment
@@ -347,6 +353,7 @@ item_count-behind (SelectMany f) p = refl
 item_count-behind (Take n) p = refl
 item_count-behind (Skip n) p = sym (item_count-less p (item_count n))
 item_count-behind (TakeWhile f) p = refl
+item_count-behind (SkipWhile f) p = refl
 item_count-behind AsUnordered p = refl
 
 -- the counts at a position say what is left there
@@ -363,6 +370,7 @@ passed_on-none (SelectMany f) n none = none
 passed_on-none (Take k) n none = none
 passed_on-none (Skip k) n none = let still : n - item_count k ≡ 0 = omega (arith, none) in still
 passed_on-none (TakeWhile f) n none = none
+passed_on-none (SkipWhile f) n none = none
 passed_on-none AsUnordered n none = none
 
 -- at the start all of the operators is left

@@ -1,5 +1,5 @@
 -- What is true of each operator, case by case.
-use Rattle.std.specs.Prelude.{◌≡◌, ℕ, zero, suc, ℤ, pos, negsuc, List, [], ◌∷◌, Bool, true, false, cond, Option, Some, None, Result, Ok, Err, refl}
+use Rattle.std.specs.Prelude.{◌≡◌, ℕ, zero, suc, ℤ, pos, negsuc, List, [], ◌∷◌, Bool, true, false, cond, Option, Some, None, Result, Ok, Err, ◌==◌, refl}
 use Rattle.std.proofs.Common.{arith}
 use Rattle.std.proofs.lemmas.Bool.Decides.{nat_tests}
 use Rattle.plinq_source.specs.declared.ending.Ending.{Ending}
@@ -7,9 +7,10 @@ use Rattle.plinq_source.specs.declared.ending.Ending.TheVariants.{End}
 use Rattle.plinq_source.specs.Trace.{Trace, ended, continued}
 use Rattle.plinq_lambda.specs.Meaning.{Meaning}
 use Rattle.plinq_ops.specs.declared.op.Op.{Op}
-use Rattle.plinq_ops.specs.declared.op.Op.TheVariants.{Select, Filter, SelectMany, Take, Skip, TakeWhile, AsUnordered}
+use Rattle.plinq_ops.specs.declared.op.Op.TheVariants.{Select, Filter, SelectMany, Take, Skip, TakeWhile, SkipWhile, AsUnordered}
 use Rattle.plinq_ops.specs.declared.known.Known.TheVariants.{Nothing}
-use Rattle.plinq_ops.specs.Stage.{joined, apply, takes_none}
+use Rattle.plinq_ops.specs.SkipWhile.{skipped_from, skipped_while}
+use Rattle.plinq_ops.specs.Stage.{skipping_while, unchanged, joined, apply, takes_none}
 use Rattle.plinq_ops.specs.Operator.{selected, filtered, selected_many, taken_while, stage_of, counted_off, stage_left}
 use Rattle.plinq_ops.specs.Feeding.{is_empty_take}
 use Rattle.plinq_ops.specs.ByKey.{can_apply}
@@ -24,6 +25,7 @@ stage_left-counted_off meaning (SelectMany f) = refl
 stage_left-counted_off meaning (Take n) = refl
 stage_left-counted_off meaning (Skip n) = refl
 stage_left-counted_off meaning (TakeWhile f) = refl
+stage_left-counted_off meaning (SkipWhile f) = refl
 stage_left-counted_off meaning AsUnordered = refl
 
 -- a Take of none is one that takes none
@@ -36,6 +38,7 @@ takes_none-stage_of meaning (Take (pos (suc n))) = grind (arith, nat_tests)
 takes_none-stage_of meaning (Take (negsuc n)) = refl
 takes_none-stage_of meaning (Skip n) = refl
 takes_none-stage_of meaning (TakeWhile f) = refl
+takes_none-stage_of meaning (SkipWhile f) = refl
 takes_none-stage_of meaning AsUnordered = refl
 
 -- ---- what a worker can apply never refuses
@@ -72,6 +75,21 @@ taken-ending : {T : Type 0} (b : Bool) (xs : List T) (t : Trace T) → IsWorkerE
 taken-ending true xs t ending = tt
 taken-ending false xs t ending = ending
 
+skipped_from-ending : {T : Type 0} (r : Result Bool ℕ) (xs : List T) (e : Option Ending) (rest : Trace T) → IsWorkerEnding e → IsWorkerEnding rest.ending
+    → IsWorkerEnding (skipped_from r xs e rest).ending
+skipped_from-ending (Ok true) xs e rest ending others = others
+skipped_from-ending (Ok false) xs e rest ending others = ending
+skipped_from-ending (Err code) xs e rest ending others = tt
+
+skipped_while-ending : {T : Type 0} (test : T → Result Bool ℕ) (xs : List T) (e : Option Ending) → IsWorkerEnding e → IsWorkerEnding (skipped_while test xs e).ending
+skipped_while-ending test [] e ending = ending
+skipped_while-ending test (x ∷ xs) e ending = skipped_from-ending (test x) (x ∷ xs) e (skipped_while test xs e) ending (skipped_while-ending test xs e ending)
+
+left_while-ending : {T : Type 0} (test : T → Result Bool ℕ) (is_over : Bool) (t : Trace T) → IsWorkerEnding t.ending
+    → IsWorkerEnding (apply (cond is_over unchanged (skipping_while test)) t).ending
+left_while-ending test true t ending = ending
+left_while-ending test false t ending = skipped_while-ending test t.items t.ending ending
+
 pub apply-ending : {L T : Type 0} (meaning : L → Meaning T) (op : Op L) (count : ℕ) (t : Trace T) → IsWorkerEnding t.ending → IsWorkerEnding (apply (stage_left meaning op count) t).ending
 apply-ending meaning (Select f) count t ending = joined-ending _ t.items t.ending (λ x. selected-ending ((meaning f).map x)) ending
 apply-ending meaning (Filter f) count t ending = joined-ending _ t.items t.ending (λ x. filtered-ending ((meaning f).test x) x) ending
@@ -79,6 +97,7 @@ apply-ending meaning (SelectMany f) count t ending = joined-ending _ t.items t.e
 apply-ending meaning (Take n) count t ending = taken-ending _ _ t ending
 apply-ending meaning (Skip n) count t ending = ending
 apply-ending meaning (TakeWhile f) count t ending = joined-ending _ t.items t.ending (λ x. taken_while-ending ((meaning f).test x) x) ending
+apply-ending meaning (SkipWhile f) count t ending = left_while-ending (meaning f).test (count == 0) t ending
 apply-ending meaning AsUnordered count t ending = ending
 
 -- an operator that looks at no key does the same at each
@@ -89,4 +108,5 @@ apply_at-keyless meaning (SelectMany f) p q t keyless = refl
 apply_at-keyless meaning (Take n) p q t keyless = absurd (let bad : false ≡ true = keyless in cc)
 apply_at-keyless meaning (Skip n) p q t keyless = absurd (let bad : false ≡ true = keyless in cc)
 apply_at-keyless meaning (TakeWhile f) p q t keyless = refl
+apply_at-keyless meaning (SkipWhile f) p q t keyless = refl
 apply_at-keyless meaning AsUnordered p q t keyless = refl

@@ -10,7 +10,8 @@ use Rattle.plinq_source.specs.declared.ending.Ending.{Ending}
 use Rattle.plinq_source.specs.declared.ending.Ending.TheVariants.{End}
 use Rattle.plinq_source.specs.Trace.{Trace, open_trace, ended, continued, followed}
 use Rattle.plinq_source.proofs.Followed.{trace_of, followed-followed}
-use Rattle.plinq_ops.specs.Stage.{Stage, pieces, taking, skipping, unchanged, joined, taken, apply, seq, behind, seq_behind, takes_none}
+use Rattle.plinq_ops.specs.Stage.{Stage, pieces, taking, skipping, skipping_while, unchanged, joined, taken, apply, seq, behind, seq_behind, takes_none}
+use Rattle.plinq_ops.proofs.SkippingWhile.{skipped_while-append, skipped_while-ended, is_some-skipped_while, behind-skipping_while}
 
 -- the pieces of a list behind another
 pub joined-append : {T : Type 0} (piece : T → Trace T) (xs ys : List T) (e : Option Ending)
@@ -85,6 +86,8 @@ apply-continued (taking n) xs None b = taken-append n xs b
 apply-continued (taking n) xs (Some e) b = taken-ended n xs e (taken (n - length xs) b)
 apply-continued (skipping n) xs None b = ap (λ zs. trace_of zs b.ending) (drop-append n xs b.items)
 apply-continued (skipping n) xs (Some e) b = refl
+apply-continued (skipping_while test) xs None b = skipped_while-append test xs b
+apply-continued (skipping_while test) xs (Some e) b = skipped_while-ended test xs e (apply (behind (skipping_while test) xs) b)
 apply-continued unchanged xs None b = refl
 apply-continued unchanged xs (Some e) b = refl
 
@@ -108,6 +111,7 @@ is_some-apply (pieces piece) t ends = is_some-joined piece t.items t.ending ends
 is_some-apply (taking n) t ends =
     elim (nat_le n (length t.items)) as (λ v. is_some (cond v (ended (take n t.items) End) t).ending ≡ true) [ true ↦ refl | false ↦ ends ]
 is_some-apply (skipping n) t ends = ends
+is_some-apply (skipping_while test) t ends = is_some-skipped_while test t.items t.ending ends
 is_some-apply unchanged t ends = ends
 
 less-less : {T : Type 0} (k : ℕ) (xs ys : List T) → (k - length xs) - length ys ≡ k - length (xs ++ ys)
@@ -117,12 +121,14 @@ pub behind-behind : {T : Type 0} (s : Stage T) (xs ys : List T) → behind (behi
 behind-behind (pieces piece) xs ys = refl
 behind-behind (taking k) xs ys = ap taking (less-less k xs ys)
 behind-behind (skipping k) xs ys = ap skipping (less-less k xs ys)
+behind-behind (skipping_while test) xs ys = behind-skipping_while test xs ys
 behind-behind unchanged xs ys = refl
 
 pub behind-nothing : {T : Type 0} (s : Stage T) → behind s [] ≡ s
 behind-nothing (pieces piece) = refl
 behind-nothing (taking k) = ap taking (sub-zero k)
 behind-nothing (skipping k) = ap skipping (sub-zero k)
+behind-nothing (skipping_while test) = refl
 behind-nothing unchanged = refl
 
 pub apply-nothing : {T : Type 0} (s : Stage T) (e : Option Ending) → takes_none s ≡ false → apply s (trace_of [] e) ≡ trace_of [] e
@@ -130,6 +136,7 @@ apply-nothing (pieces piece) e some = refl
 apply-nothing (taking zero) e some = absurd (cc)
 apply-nothing (taking (suc n)) e some = taken-short (suc n) (trace_of [] e) (omega arith)
 apply-nothing (skipping n) e some = ap (λ zs. trace_of zs e) (drop-nil n)
+apply-nothing (skipping_while test) e some = refl
 apply-nothing unchanged e some = refl
 
 pub apply-ended_nil : {T : Type 0} (s : Stage T) → apply s (ended [] End) ≡ ended [] End
@@ -137,6 +144,7 @@ apply-ended_nil (pieces piece) = refl
 apply-ended_nil (taking zero) = refl
 apply-ended_nil (taking (suc n)) = taken-short (suc n) (ended [] End) (omega arith)
 apply-ended_nil (skipping n) = ap (λ zs. ended zs End) (drop-nil n)
+apply-ended_nil (skipping_while test) = refl
 apply-ended_nil unchanged = refl
 
 -- a Take of none ends it before any item
@@ -145,6 +153,7 @@ apply-takes_none (pieces piece) none = absurd (let bad : false ≡ true = none i
 apply-takes_none (taking zero) none = refl
 apply-takes_none (taking (suc n)) none = absurd (let bad : false ≡ true = none in cc)
 apply-takes_none (skipping n) none = absurd (let bad : false ≡ true = none in cc)
+apply-takes_none (skipping_while test) none = absurd (let bad : false ≡ true = none in cc)
 apply-takes_none unchanged none = absurd (let bad : false ≡ true = none in cc)
 
 -- the operators on a trace that follows another

@@ -1,3 +1,4 @@
+pub mod SkipWhile
 pub mod Stage
 pub mod Operator
 pub mod Query

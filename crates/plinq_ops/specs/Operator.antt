@@ -1,13 +1,13 @@
 -- The operators of a query, by what they do to a trace.
-use Rattle.std.specs.Prelude.{◌≡◌, refl, zero, suc, nat_lt, replicate, ℕ, ℤ, pos, negsuc, List, [], ◌∷◌, Bool, true, false, Option, Some, None, Result, Ok, Err, map}
+use Rattle.std.specs.Prelude.{◌≡◌, refl, zero, suc, nat_lt, replicate, ℕ, ℤ, pos, negsuc, List, [], ◌∷◌, Bool, true, false, Option, Some, None, Result, Ok, Err, map, ◌==◌, if◌then◌else◌}
 use Rattle.plinq_source.specs.declared.ending.Ending.TheVariants.{End, Refused, Fault}
 use Rattle.plinq_source.specs.Trace.{Trace, open_trace, ended}
 use Rattle.plinq_lambda.specs.Meaning.{Meaning}
 use Rattle.plinq_ops.specs.declared.op.Op.{Op}
-use Rattle.plinq_ops.specs.declared.op.Op.TheVariants.{Select, Filter, SelectMany, Take, Skip, TakeWhile, AsUnordered}
+use Rattle.plinq_ops.specs.declared.op.Op.TheVariants.{Select, Filter, SelectMany, Take, Skip, TakeWhile, SkipWhile, AsUnordered}
 use Rattle.plinq_ops.specs.declared.known.Known.{Known}
 use Rattle.plinq_ops.specs.declared.known.Known.TheVariants.{Nothing, Key, Position}
-use Rattle.plinq_ops.specs.Stage.{Stage, pieces, taking, skipping, unchanged, apply}
+use Rattle.plinq_ops.specs.Stage.{Stage, pieces, taking, skipping, skipping_while, unchanged, apply}
 
 -- Select: the mapped item; a fault ends the answer
 abbrev pub selected : {T : Type 0} → Result T ℕ → Trace T
@@ -44,25 +44,33 @@ stage_of meaning (SelectMany f) = pieces (λ x. selected_many ((meaning f).expan
 stage_of meaning (Take n) = taking (item_count n)
 stage_of meaning (Skip n) = skipping (item_count n)
 stage_of meaning (TakeWhile f) = pieces (λ x. taken_while ((meaning f).test x) x)
+stage_of meaning (SkipWhile f) = skipping_while (meaning f).test
 stage_of meaning AsUnordered = unchanged
 
 abbrev pub stages_of : {L T : Type 0} → (L → Meaning T) → List (Op L) → List (Stage T)
 stages_of meaning ops = map (stage_of meaning) ops
 
--- how many items a Take or a Skip counts off; the others count none
+-- how many items a Take or a Skip counts off, 1 at a SkipWhile, which is over once this is 0; the others count none
 abbrev pub counted_off : {L : Type 0} → Op L → ℕ
 counted_off (Take n) = item_count n
 counted_off (Skip n) = item_count n
+counted_off (SkipWhile f) = 1
 counted_off op = 0
 
--- what an operator still does, where a Take or a Skip has so many items left
+-- a SkipWhile, which is over where nothing is left to count off
+abbrev pub while_left : {T : Type 0} → (T → Result Bool ℕ) → ℕ → Stage T
+while_left test count = if count == 0 then unchanged else skipping_while test
+
+-- what an operator still does, where so much is left to count off
 abbrev pub stage_left : {L T : Type 0} → (L → Meaning T) → Op L → ℕ → Stage T
 stage_left meaning (Take n) count = taking count
 stage_left meaning (Skip n) count = skipping count
+stage_left meaning (SkipWhile f) count = while_left (meaning f).test count
 stage_left meaning op count = stage_of meaning op
 
 -- what a worker must know of the elements that reach an operator to apply it: TakeWhile needs their order, Take and Skip
--- their positions; no worker can apply AsUnordered, which gives the order up
+-- their positions; no worker can apply SkipWhile, since the first that fails may be another's, nor AsUnordered, which
+-- gives the order up
 abbrev pub needed : {L : Type 0} → Op L → Option Known
 needed (Select f) = Some Nothing
 needed (Filter f) = Some Nothing
@@ -70,6 +78,7 @@ needed (SelectMany f) = Some Nothing
 needed (Take n) = Some Position
 needed (Skip n) = Some Position
 needed (TakeWhile f) = Some Key
+needed (SkipWhile f) = None
 needed AsUnordered = None
 
 -- whether the key of an element tells how many elements an operator has given before it
@@ -125,6 +134,16 @@ take_while_stops = refl
 
 take_while_faults : apply (faulting_stage (TakeWhile 0)) (ended (1 ∷ 0 ∷ 2 ∷ []) End) ≡ ended (1 ∷ []) (Fault 1)
 take_while_faults = refl
+
+-- SkipWhile tests nothing behind the first that fails
+skip_while_starts : apply (example_stage (SkipWhile 0)) (ended (1 ∷ 2 ∷ 9 ∷ 1 ∷ []) (Refused 7)) ≡ ended (9 ∷ 1 ∷ []) (Refused 7)
+skip_while_starts = refl
+
+skip_while_faults : apply (faulting_stage (SkipWhile 0)) (ended (1 ∷ 0 ∷ 9 ∷ []) End) ≡ ended [] (Fault 1)
+skip_while_faults = refl
+
+skip_while_is_over : stage_left {L = ℕ} (λ _. example) (SkipWhile 0) 0 ≡ unchanged
+skip_while_is_over = refl
 
 negative_take : example_stage (Take (negsuc 0)) ≡ taking 0
 negative_take = refl

@@ -7,7 +7,7 @@ use Rattle.plinq_ops.specs.Operator.{counted_off}
 use Rattle.plinq_ops.specs.Feeding.{stages_left}
 use Rattle.plinq_ops.specs.ByKey.{counts_at}
 
--- the operators, and how many items each Take and each Skip has left
+-- the operators, and how much each has left to count off
 pub record PipelineView (L : Type 0) : Type 0 where
   pub ops : List (Op L)
   pub counts : List ℕ

@@ -2,7 +2,7 @@
 use Rattle.std.specs.Prelude.{◌≡◌, refl, ℕ, pos, List, [], ◌∷◌, Bool, true, false, if◌then◌else◌}
 use Rattle.std.specs.List.{list_any}
 use Rattle.plinq_ops.specs.declared.op.Op.{Op}
-use Rattle.plinq_ops.specs.declared.op.Op.TheVariants.{Select, Filter, SelectMany, Take, Skip, TakeWhile, AsUnordered}
+use Rattle.plinq_ops.specs.declared.op.Op.TheVariants.{Select, Filter, SelectMany, Take, Skip, TakeWhile, SkipWhile, AsUnordered}
 use Rattle.plinq_ops.specs.declared.order.Order.{Order}
 use Rattle.plinq_ops.specs.declared.order.Order.TheVariants.{ByKey, ByArrival}
 use Rattle.plinq_ops.specs.declared.known.Known.{Known}
@@ -67,6 +67,13 @@ select_many_by_key = refl
 
 select_many_by_arrival : worker_part {L = ℕ} ByArrival (Select 0 ∷ SelectMany 1 ∷ Take (pos 2) ∷ []) ≡ Select 0 ∷ SelectMany 1 ∷ []
 select_many_by_arrival = refl
+
+-- SkipWhile comes after the merge in both orders, and so does all behind it
+skip_while_by_key : worker_part {L = ℕ} ByKey (Select 0 ∷ SkipWhile 1 ∷ Select 0 ∷ []) ≡ Select 0 ∷ []
+skip_while_by_key = refl
+
+skip_while_by_arrival : after_part {L = ℕ} ByArrival (Select 0 ∷ SkipWhile 1 ∷ Select 0 ∷ []) ≡ SkipWhile 1 ∷ Select 0 ∷ []
+skip_while_by_arrival = refl
 
 -- no operator goes past an AsUnordered
 before_as_unordered : worker_part {L = ℕ} ByKey (Skip (pos 1) ∷ AsUnordered ∷ Select 0 ∷ []) ≡ Skip (pos 1) ∷ []

@@ -1,14 +1,17 @@
 -- Operators on whole traces.
-use Rattle.std.specs.Prelude.{◌≡◌, refl, ℕ, zero, suc, Bool, true, false, ◌||◌, ◌-◌, List, [], ◌∷◌, length, take, drop, nat_le, if◌then◌else◌, Option}
+use Rattle.std.specs.Prelude.{◌≡◌, refl, ℕ, zero, suc, Bool, true, false, ◌||◌, ◌-◌, List, [], ◌∷◌, length, take, drop, nat_le, nat_lt, if◌then◌else◌, Option, Result, Ok}
 use Rattle.plinq_source.specs.declared.ending.Ending.{Ending}
 use Rattle.plinq_source.specs.declared.ending.Ending.TheVariants.{End, Refused}
 use Rattle.plinq_source.specs.Trace.{Trace, open_trace, ended, followed}
+use Rattle.plinq_ops.specs.SkipWhile.{skipped_while, all_pass}
 
--- what an operator does: each item gives a piece of the answer, or so many items are taken or skipped
+-- what an operator does: each item gives a piece of the answer, or so many items are taken or skipped, or
+-- items are skipped while they pass
 pub data Stage (T : Type 0) : Type 0 where
   pieces : (T → Trace T) → Stage T
   taking : ℕ → Stage T
   skipping : ℕ → Stage T
+  skipping_while : (T → Result Bool ℕ) → Stage T
   unchanged : Stage T
 
 -- the pieces of the items, one followed by another, and then the old ending
@@ -29,6 +32,7 @@ abbrev pub apply : {T : Type 0} → Stage T → Trace T → Trace T
 apply (pieces piece) t = joined piece t.items t.ending
 apply (taking n) t = taken n t
 apply (skipping n) t = skipped n t
+apply (skipping_while test) t = skipped_while test t.items t.ending
 apply unchanged t = t
 
 -- the operators one after another: the sequential answer
@@ -41,6 +45,7 @@ abbrev pub behind : {T : Type 0} → Stage T → List T → Stage T
 behind (pieces piece) xs = pieces piece
 behind (taking k) xs = taking (k - length xs)
 behind (skipping k) xs = skipping (k - length xs)
+behind (skipping_while test) xs = if all_pass test xs then skipping_while test else unchanged
 behind unchanged xs = unchanged
 
 -- what is left of the operators once this trace has gone through them
@@ -54,6 +59,7 @@ takes_none (pieces piece) = false
 takes_none (taking zero) = true
 takes_none (taking (suc n)) = false
 takes_none (skipping n) = false
+takes_none (skipping_while test) = false
 takes_none unchanged = false
 
 abbrev pub some_takes_none : {T : Type 0} → List (Stage T) → Bool
@@ -77,3 +83,13 @@ skip_five_of_two = refl
 -- of an open trace one more can be taken behind two of three
 behind_two : seq_behind {T = ℕ} (taking 3 ∷ skipping 1 ∷ []) (open_trace (5 ∷ 6 ∷ [])) ≡ taking 1 ∷ skipping (1 - 2) ∷ []
 behind_two = refl
+
+-- behind an item that fails nothing is skipped any more, whatever came before it
+abbrev is_less : ℕ → ℕ → Result Bool ℕ
+is_less m n = Ok (nat_lt n m)
+
+behind_one_that_fails : seq_behind {T = ℕ} (skipping_while (is_less 5) ∷ taking 3 ∷ []) (open_trace (1 ∷ 9 ∷ 2 ∷ [])) ≡ unchanged ∷ taking 1 ∷ []
+behind_one_that_fails = refl
+
+behind_two_that_pass : seq_behind {T = ℕ} (skipping_while (is_less 5) ∷ taking 3 ∷ []) (open_trace (1 ∷ 2 ∷ [])) ≡ skipping_while (is_less 5) ∷ taking 3 ∷ []
+behind_two_that_pass = refl

@@ -6,11 +6,12 @@ ghost use Rattle.plinq_ops.specs.Operator.{stage_of, stage_left};
 ghost use Rattle.plinq_ops.specs.Passing.{expands};
 
 use crate::op::Op;
+use crate::skip_while::skip_block;
 use plinq_lambda::Lambda;
 use plinq_source::Ending;
 
-/// Sends a block of items through one operator but SelectMany, where a Take or a Skip has so many items left; what comes
-/// out takes its place. Answers how the run ended. Takes no memory.
+/// Sends a block of items through one operator but SelectMany, of which so much is left; what comes out takes its place.
+/// Answers how the run ended. Takes no memory.
 pub(crate) fn pass_block<L: Lambda>(
     op: &Op<L>,
     left: &mut u64,
@@ -33,6 +34,7 @@ pub(crate) fn pass_block<L: Lambda>(
             None
         }
         Op::TakeWhile(f) => take_while(f, block),
+        Op::SkipWhile(f) => skip_block(f, left, block),
         Op::AsUnordered => None,
     }
 }
@@ -94,7 +96,7 @@ fn take<T: Copy>(count: &mut u64, block: &mut Vec<T>) -> Option<Ending>
 }
 
 /// Passes over the first `count` items.
-fn skip<T: Copy>(count: &mut u64, block: &mut Vec<T>)
+pub(crate) fn skip<T: Copy>(count: &mut u64, block: &mut Vec<T>)
     ensures passed { block.new.items ≡ drop count.old block.old.items }
     ensures left { skipping count.new ≡ behind (skipping count.old) block.old.items }
 {

@@ -28,6 +28,7 @@ mod pipeline;
 mod plan;
 mod query;
 mod results;
+mod skip_while;
 mod splitting;
 
 pub use answering::sequential;

@@ -18,17 +18,20 @@ pub enum Op<L> {
     Skip(i64),
     /// `TakeWhile`: the elements before the first that fails.
     TakeWhile(L),
+    /// `SkipWhile`: the elements from the first that fails on.
+    SkipWhile(L),
     /// `AsUnordered`: the order isn't kept from here on.
     AsUnordered,
 }
 
 impl<L> Op<L> {
-    /// How many items a Take or a Skip counts off; 0 at the others.
+    /// How many items a Take or a Skip counts off; 1 at a SkipWhile, which is over once this is 0; 0 at the others.
     pub(crate) fn counted_off(&self) -> u64
         ensures { result ≡ counted_off self.now }
     {
         match self {
             Op::Take(n) | Op::Skip(n) => (*n).max(0) as u64,
+            Op::SkipWhile(_) => 1,
             _ => 0,
         }
     }
@@ -41,7 +44,7 @@ impl<L> Op<L> {
             Op::Select(_) | Op::Filter(_) | Op::SelectMany(_) => Some(Known::Nothing),
             Op::Take(_) | Op::Skip(_) => Some(Known::Position),
             Op::TakeWhile(_) => Some(Known::Key),
-            Op::AsUnordered => None,
+            Op::SkipWhile(_) | Op::AsUnordered => None,
         }
     }
 

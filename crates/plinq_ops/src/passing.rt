@@ -5,6 +5,7 @@ ghost use Rattle.plinq_ops.specs.Operator.{stage_left};
 ghost use Rattle.plinq_ops.specs.Passing.{passed_trace, expands};
 
 use crate::op::Op;
+use crate::skip_while::skip_one;
 use plinq_lambda::Lambda;
 use plinq_source::Ending;
 
@@ -21,8 +22,8 @@ pub(crate) enum Passed {
     Ends(Ending),
 }
 
-/// Sends one item through one operator but SelectMany, where a Take or a Skip has so many items left; what comes out
-/// takes its place. Takes no memory.
+/// Sends one item through one operator but SelectMany, of which so much is left; what comes out takes its place.
+/// Takes no memory.
 pub(crate) fn pass<L: Lambda>(op: &Op<L>, left: &mut u64, item: &mut L::Item) -> Passed
     requires in_place { expands op.now ≡ false }
     requires takes_some { takes_none (stage_left L.meaning op.now left.old) ≡ false }
@@ -65,6 +66,7 @@ pub(crate) fn pass<L: Lambda>(op: &Op<L>, left: &mut u64, item: &mut L::Item) ->
             Ok(false) => Passed::Ends(Ending::End),
             Err(code) => Passed::Ends(Ending::Fault(code)),
         },
+        Op::SkipWhile(f) => skip_one(f, left, *item),
         Op::AsUnordered => Passed::Item,
     }
 }

@@ -16,7 +16,8 @@ use std::marker::Model;
 /// Operators at work: fed items, alone or by the block, they put out what the query makes of them.
 ///
 /// A pipeline stands for what is left of its operators: behind the items that it was fed, a Take has fewer left to
-/// take and a Skip fewer to pass over. Where the run has ended, it is fed nothing more.
+/// take, a Skip fewer to pass over, and a SkipWhile is over once one has failed. Where the run has ended, it is fed
+/// nothing more.
 #[derive(Drop)]
 pub struct Pipeline<'a, L> {
     ops: &'a [Op<L>],

@@ -143,6 +143,17 @@ impl<L: Drop> Query<L> {
         self.with_op(Op::TakeWhile(f))
     }
 
+    /// Passes over the elements before the first that fails (.NET's `Enumerable.SkipWhile`).
+    ///
+    /// # Errors
+    ///
+    /// [`BuildFault::Memory`] where there is no room for it; the query comes back unchanged.
+    pub fn skip_while(self, f: L) -> Built<L>
+        ensures { AddsOp self (Op.SkipWhile f) result }
+    {
+        self.with_op(Op::SkipWhile(f))
+    }
+
     /// Sets the merge option (.NET's `ParallelEnumerable.WithMergeOptions`). Takes no memory.
     ///
     /// # Errors

@@ -17,7 +17,8 @@ impl<L> Query<L> {
     ///
     /// These are Select, Where and SelectMany, which look at each element alone; and of a query with `as_ordered`
     /// TakeWhile, since a worker knows the order of its elements, and Take and Skip while no Where or SelectMany
-    /// stands before them, since until then an element's key tells how many stand before it. Takes no memory.
+    /// stands before them, since until then an element's key tells how many stand before it. SkipWhile comes after the
+    /// merge in any query: the first that fails may be another worker's. Takes no memory.
     ///
     /// ```text
     /// // as_ordered, select, take 5, filter, take 2

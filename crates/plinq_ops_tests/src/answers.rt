@@ -206,6 +206,46 @@ fn worked_rows(rt: HostRuntime) -> Result<(), Fail> {
 
 // What stands behind the last element of a Take still has its say on that element.
 #[test]
+fn from_the_first_that_fails(rt: HostRuntime) -> Result<(), Fail> {
+    let below: &[Op<Formula>] = &[Op::SkipWhile(Formula::Below(5))];
+    let into: &[Op<Formula>] = &[Op::SkipWhile(Formula::Into(6))];
+    let rows: [Row<'_>; 6] = [
+        (&[1, 2, 9, 3], None, below, &[9, 3], Ending::End, Step::End),
+        // No item behind the first that fails is tested.
+        (&[7, 0], None, into, &[7, 0], Ending::End, Step::End),
+        (&[1, 0, 9], None, into, &[], DIVISION, Step::Item(9)),
+        (
+            &[1],
+            Some(7),
+            below,
+            &[],
+            Ending::Refused(7),
+            Step::Refused(7),
+        ),
+        (
+            &[1, 9, 3],
+            None,
+            &[Op::SkipWhile(Formula::Below(5)), Op::Take(1)],
+            &[9],
+            Ending::End,
+            Step::Item(3),
+        ),
+        (
+            &[8, 1, 9, 2],
+            None,
+            &[Op::Skip(1), below[0], Op::SkipWhile(Formula::Above(5))],
+            &[2],
+            Ending::End,
+            Step::End,
+        ),
+    ];
+    for row in rows {
+        answers(&rt, rt.alloc(), row)?;
+    }
+    Ok(())
+}
+
+#[test]
 fn behind_a_take(rt: HostRuntime) -> Result<(), Fail> {
     let rows: [Row<'_>; 5] = [
         (

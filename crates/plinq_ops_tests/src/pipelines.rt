@@ -93,7 +93,7 @@ fn expect_row(rt: &impl Abort, row: Row<'_>, items: &[i64], ending: Option<Endin
 fn items_and_blocks_of_any_size_give_the_same(rt: HostRuntime) -> Result<(), Fail> {
     let list = [5, 6, 0, 7, 8];
     let repeat = Op::SelectMany(Formula::Repeat(2));
-    let rows: [Row<'_>; 7] = [
+    let rows: [Row<'_>; 10] = [
         (&[], &list, None),
         (
             &[Op::Skip(2), Op::Select(Formula::Add(1))],
@@ -116,6 +116,17 @@ fn items_and_blocks_of_any_size_give_the_same(rt: HostRuntime) -> Result<(), Fai
             Some(Ending::End),
         ),
         (&[Op::Take(0)], &[], Some(Ending::End)),
+        (&[Op::SkipWhile(Formula::Below(6))], &[6, 0, 7, 8], None),
+        (
+            &[Op::SkipWhile(Formula::Above(4)), Op::Take(2)],
+            &[0, 7],
+            Some(Ending::End),
+        ),
+        (
+            &[Op::SkipWhile(Formula::Into(42))],
+            &[],
+            Some(Ending::Fault(2)),
+        ),
         // The last that is taken still faults, and an earlier ending hides the fault behind it.
         (
             &[Op::Select(Formula::Into(42)), Op::Take(2)],

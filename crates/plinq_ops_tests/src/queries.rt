@@ -29,6 +29,7 @@ fn builder_calls_add_their_operators(rt: HostRuntime) -> Result<(), Fail> {
         Op::Take(5),
         Op::Skip(-1),
         Op::TakeWhile(Formula::Below(9)),
+        Op::SkipWhile(Formula::Above(3)),
         Op::AsUnordered,
     ];
     let query = ordered(rt.alloc(), &ops)?;
@@ -163,6 +164,18 @@ fn splits_an_unordered_query_before_a_take(rt: HostRuntime) -> Result<(), Fail> 
     let query = accepted(query.take(5))?;
     let worker = [Op::Filter(Formula::Even)];
     is_split(&rt, &query, &worker, &[Op::Take(5)], Order::ByArrival);
+    Ok(())
+}
+
+#[test]
+fn splits_before_a_skip_while_in_both_orders(rt: HostRuntime) -> Result<(), Fail> {
+    let worker = [Op::Select(Formula::Add(1))];
+    let after = [Op::SkipWhile(Formula::Below(5)), Op::Filter(Formula::Even)];
+    let ops = [worker[0], after[0], after[1]];
+    let query = ordered(rt.alloc(), &ops)?;
+    is_split(&rt, &query, &worker, &after, Order::ByKey);
+    let query = unordered(rt.alloc(), &ops)?;
+    is_split(&rt, &query, &worker, &after, Order::ByArrival);
     Ok(())
 }
 

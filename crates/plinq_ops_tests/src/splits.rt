@@ -52,13 +52,14 @@ impl Dice {
     }
 
     fn op(&mut self) -> Op<Formula> {
-        match self.below(7) {
+        match self.below(8) {
             0 => Op::Select(self.formula()),
             1 => Op::Filter(self.formula()),
             2 => Op::SelectMany(self.formula()),
             3 => Op::Take(self.small()),
             4 => Op::Skip(self.small()),
             5 => Op::TakeWhile(self.formula()),
+            6 => Op::SkipWhile(self.formula()),
             _ => Op::AsUnordered,
         }
     }

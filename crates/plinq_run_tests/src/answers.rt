@@ -146,6 +146,22 @@ fn a_query_ends_where_its_operators_end_it(rt: HostRuntime) -> Result<(), Fail> 
 }
 
 #[test]
+fn a_query_begins_where_a_skip_while_ends(rt: HostRuntime) -> Result<(), Fail> {
+    let below: &[Op<Formula>] = &[Op::SkipWhile(Formula::Below(5))];
+    let into: &[Op<Formula>] = &[Op::SkipWhile(Formula::Into(6))];
+    let rows: [Row<'_>; 4] = [
+        (Given::List, &[1, 2, 9, 3], below, &[9, 3], Ending::End),
+        (Given::List, &[7, 0], into, &[7, 0], Ending::End),
+        (Given::List, &[1, 0, 9], into, &[], Ending::Fault(2)),
+        (Given::Refusing(7), &[1], below, &[], REFUSED),
+    ];
+    for row in rows {
+        expect_row(&rt, rt.alloc(), row)?;
+    }
+    Ok(())
+}
+
+#[test]
 fn a_query_that_takes_nothing_meets_no_refusal(rt: HostRuntime) -> Result<(), Fail> {
     let no_even: &[Op<Formula>] = &[Op::Filter(Formula::Even), Op::Take(0)];
     let rows: [Row<'_>; 3] = [

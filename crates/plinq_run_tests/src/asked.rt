@@ -123,6 +123,7 @@ fn with<L: Lambda>(query: Query<L>, op: Op<L>) -> Built<L> {
         Op::Take(n) => query.take(n),
         Op::Skip(n) => query.skip(n),
         Op::TakeWhile(f) => query.take_while(f),
+        Op::SkipWhile(f) => query.skip_while(f),
         Op::AsUnordered => query.as_unordered(),
     }
 }

@@ -118,13 +118,14 @@ impl Dice {
     }
 
     fn op(&mut self) -> Op<Formula> {
-        match self.below(8) {
+        match self.below(9) {
             0 | 1 => Op::Select(self.formula()),
             2 => Op::Filter(self.formula()),
             3 => Op::SelectMany(self.formula()),
             4 => Op::Take(self.small()),
             5 => Op::Skip(self.small()),
             6 => Op::TakeWhile(self.formula()),
+            7 => Op::SkipWhile(self.formula()),
             _ => Op::AsUnordered,
         }
     }
