@@ -1,0 +1,17 @@
+# Completion for bash: source this file, or copy it to a folder of bash-completion.
+_plinq() {
+    local word=${COMP_WORDS[COMP_CWORD]} before=${COMP_WORDS[COMP_CWORD - 1]} words
+    case $before in
+        --merge) words='not auto full default' ;;
+        --workers) words='' ;;
+        *)
+            if [ "$COMP_CWORD" = 1 ]; then
+                words='run seq plan parts history --help'
+            else
+                words='--workers --merge --help'
+            fi
+            ;;
+    esac
+    mapfile -t COMPREPLY < <(compgen -W "$words" -- "$word")
+}
+complete -F _plinq plinq
