@@ -15,11 +15,11 @@ use crate::staff::Staff;
 use crate::starting::Shortages;
 use crate::turn::Turn;
 use crate::worker::Crew;
-use crossbeam_utils::Backoff;
 use crossbeam_utils::sync::Key;
 use plinq_lambda::Lambda;
 use plinq_partition::Partition;
 use plinq_source::Source;
+use plinq_wait::Patience;
 use std::sync::Wait;
 
 /// What the caller's thread has of its own while workers send.
@@ -29,7 +29,7 @@ pub struct Caller<S: Source, M> {
     pub stream: ResultPass<M>,
     pub staff: Staff,
     pub shortages: Shortages,
-    pub backoff: Backoff,
+    pub patience: Patience,
 }
 
 impl<S: Source, M: Drop> Caller<S, M> {
@@ -44,7 +44,7 @@ impl<S: Source, M: Drop> Caller<S, M> {
             stream,
             staff,
             shortages: Shortages::none(),
-            backoff: Backoff::new(),
+            patience: Patience::new(),
         }
     }
 
@@ -115,7 +115,7 @@ impl<S: Source, M: Drop> Caller<S, M> {
         ensures closed { closing.old.is_closed ≡ true → closing.new.is_closed ≡ true }
         ensures closes { ClosesInTime is_over closing.old (holding_of self.old.partition) self.new.shortages closing.new (holding_of self.new.partition) }
     {
-        let sleep = if self.backoff.is_completed() {
+        let sleep = if self.patience.is_over() {
             Some(crew.progress.announce_sleep())
         } else {
             None
@@ -124,7 +124,7 @@ impl<S: Source, M: Drop> Caller<S, M> {
         self.close_in_time(rt, crew, is_over, closing);
         match crew.stream.try_receive(&mut self.stream) {
             Some(sent) => {
-                self.backoff.reset();
+                self.patience.reset();
                 Turn::Came(sent.item)
             }
             None => {
@@ -136,7 +136,7 @@ impl<S: Source, M: Drop> Caller<S, M> {
         }
     }
 
-    /// Lets others go on, or sleeps, where nothing was there at a turn.
+    /// Spins for a moment, or sleeps, where nothing was there at a turn.
     pub fn wait<R: Wait>(&mut self, rt: &R, sleep: Option<Key<'_>>)
         ensures partition { self.new.partition ≡ self.old.partition }
         ensures stream { self.new.stream ≡ self.old.stream }
@@ -145,7 +145,7 @@ impl<S: Source, M: Drop> Caller<S, M> {
     {
         match sleep {
             Some(sleep) => sleep.wait(rt),
-            None => self.backoff.snooze(),
+            None => self.patience.spin(),
         }
     }
 }

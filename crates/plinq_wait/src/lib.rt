@@ -4,8 +4,10 @@
 //! and goes on soon, is for tests and measurements. So no answer rests on it.
 #![tactic(auto)]
 
+mod patience;
 mod wait_queue;
 mod waiter;
 
+pub use patience::Patience;
 pub use wait_queue::WaitQueue;
 pub use waiter::Waiter;

@@ -1,5 +1,5 @@
+use crate::patience::Patience;
 use crate::wait_queue::WaitQueue;
-use crossbeam_utils::Backoff;
 use crossbeam_utils::sync::{EventCount, Key};
 use std::cell::Cell;
 use std::sync::Wait;
@@ -8,7 +8,7 @@ use std::sync::Wait;
 pub struct Waiter<'a> {
     queue: &'a WaitQueue,
     sleepers: &'a EventCount,
-    backoff: Backoff,
+    patience: Patience,
     /// Whether it has announced a sleep, and may have been woken: where it goes on, it has the next one woken in its place.
     has_announced: Cell<bool>,
 }
@@ -18,28 +18,28 @@ impl<'a> Waiter<'a> {
         Waiter {
             queue,
             sleepers,
-            backoff: Backoff::new(),
+            patience: Patience::new(),
             has_announced: Cell::new(false),
         }
     }
 
     /// Before a look: where it has looked often enough, it announces its sleep.
     pub fn prepare(&self) -> Option<Key<'a>> {
-        if !self.backoff.is_completed() {
+        if !self.patience.is_over() {
             return None;
         }
         self.has_announced.set(true);
         Some(self.queue.watch(self.sleepers))
     }
 
-    /// After a look in vain: lets others go on, or sleeps where that was announced.
+    /// After a look in vain: spins for a moment, or sleeps where that was announced.
     pub fn pause<R: Wait>(&self, rt: &R, sleep: Option<Key<'_>>) {
         match sleep {
             Some(sleep) => {
                 sleep.wait(rt);
-                self.backoff.reset();
+                self.patience.reset();
             }
-            None => self.backoff.snooze(),
+            None => self.patience.spin(),
         }
     }
 }
@@ -50,7 +50,7 @@ impl Drop for Waiter<'_> {
         let Self {
             queue,
             sleepers: _,
-            backoff: _,
+            patience: _,
             has_announced: _,
         } = self;
         if has_announced {
