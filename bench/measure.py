@@ -41,8 +41,8 @@ PACKAGES = {"awk": "gawk"}
 AWK = '{ print $0 + 1 } END { print "end" }'
 
 
-def document(source, query):
-    return json.dumps({"version": 1, "source": source, "query": query}, separators=(",", ":")).encode()
+def document(source, query, **more):
+    return json.dumps({"version": 1, "source": source, "query": query, **more}, separators=(",", ":")).encode()
 
 
 # A process of its own, so that the peak isn't that of the documents that this one holds.
@@ -121,6 +121,9 @@ def filled(unit):
     return head + b",".join([unit] * count) + tail
 
 
+EXPANDED = [["as_ordered"], ["select_many", "repeat", 65536]]
+
+
 def memory():
     # (a text is nested at most 127 deep, of which the document's own objects and list take three)
     nested = b'{"":' * 124 + b"0" + b"}" * 124
@@ -131,6 +134,9 @@ def memory():
         ("list of `[0]`", filled(b"[0]")),
         ("list of `0`", filled(b"0")),
         ("998 nested `select_many` of `repeat` 65,536, the first element taken", document({"list": [0]}, [["select_many", "repeat", 65536]] * 998 + [["take", 1]])),
+        ("one `select_many` of `repeat` 65,536 over 2,000 elements", document({"repeat": [7, 2_000]}, EXPANDED)),
+        ("the same over 1,000,000 elements, the first 100,000,000 taken", document({"repeat": [7, 1_000_000]}, EXPANDED + [["take", 100_000_000]])),
+        ("range of 3,000,000 in chunks of one element", document({"range": [0, 3_000_000]}, [["as_ordered"], ["filter", "below", 0]], growth=[1, 1, 1])),
     ):
         seen = Measured([PROGRAM, "run"], text)
         print(f"| {name} | {len(text):,} | {seen.peak:,.0f} MB | {seen.peak * 2**20 / len(text):,.0f} | {seen.status} |")

@@ -18,7 +18,7 @@ import time
 from measure import ROOT, callgrind
 
 NAME = "partitions"
-USED = ("plinq_source", "plinq_keyed", "plinq_ticket", "plinq_enumerator", "plinq_partition")
+USED = ("plinq_wait", "plinq_source", "plinq_keyed", "plinq_ticket", "plinq_enumerator", "plinq_partition")
 
 
 def built(folder):
@@ -51,6 +51,7 @@ def instructions(program):
     ran = lambda words: callgrind(words, b"")
     print("| work | instructions | limit |\n|---|---|---|")
     print(f"| `enter` and `leave`, together | {slope(ran, 'enter'):.0f} | 300 |")
+    print(f"| `enter_when_free` and `leave`, together | {slope(ran, 'free'):.0f} | 85 |")
     print(f"| `take` of one item | {slope(ran, 'one'):.0f} | 600 |")
     print(f"| `take` of 512 items, an item | {slope(ran, 'chunks') / 512:.1f} | 25 |")
     print(f"| allocations of a `take` of 512 items | {slope(allocations_of, 'chunks'):.2f} | 2 |")

@@ -64,6 +64,20 @@ impl<V: Guarded> TicketLock<V> {
         ensures err { IfErr result (λ refused. IsPassOf self.now refused.0 × IsRefused pass refused.0 refused.1) }
         ensures spent { IfErr result (λ refused. refused.1 ≡ Spent) }
     {
+        match self.try_enter(pass) {
+            Ok(held) => Ok(held),
+            Err((back, LockFault::Spent)) => Err((back, LockFault::Spent)),
+            Err((back, _)) => self.enter_later(rt, back),
+        }
+    }
+
+    // Enters once others have left, with a waiter that the first try does without.
+    fn enter_later<R: Wait>(&self, rt: &R, pass: Pass<V>) -> Result<Held<V>, (Pass<V>, LockFault)>
+        requires { IsPassOf self.now pass }
+        ensures ok { IfOk result (λ held. IsHeldOf self.now held × Enters V.origin V.history pass held) }
+        ensures err { IfErr result (λ refused. IsPassOf self.now refused.0 × IsRefused pass refused.0 refused.1) }
+        ensures spent { IfErr result (λ refused. refused.1 ≡ Spent) }
+    {
         let mut pass = pass;
         let waiter = self.left.exclusive_waiter();
         for _ in rt.forever() {

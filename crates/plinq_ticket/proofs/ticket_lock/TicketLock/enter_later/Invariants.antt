@@ -1,6 +1,6 @@
 use Rattle.std.proofs.Common.{◌≡◌, ◌≤◌}
 use Rattle.plinq_ticket.specs.Passes.{IsPassOf, pass_origin, pass_share, pass_drawn, pass_served}
-use Rattle.plinq_ticket.proofs.ticket_lock.TicketLock.enter_when_free.Given as goal
+use Rattle.plinq_ticket.proofs.ticket_lock.TicketLock.enter_later.Given as goal
 
 abbrev pub invariant-loop : goal.invariant-loop
 invariant-loop g l =
