@@ -182,17 +182,34 @@ abbrev IsFirst : StepCall → Type 0
 IsFirst c = in_version_one (Some c) ≡ Some c
 
 named-first : (ds : Items) → Rows (λ word n. (c : StepCall) → call_named n ds ≡ Some c → IsFirst c) (step_names One)
-named-first ds =
-    ((λ c is. alone (λ x es. IsFirst x) call.AsOrdered ds c refl is),
-    ((λ c is. alone (λ x es. IsFirst x) call.AsUnordered ds c refl is),
-    ((λ c is. mapped call.Select IsFirst (formula_of ds) c (λ f e. refl) is),
-    ((λ c is. mapped call.Filter IsFirst (formula_of ds) c (λ f e. refl) is),
-    ((λ c is. mapped call.SelectMany IsFirst (formula_of ds) c (λ f e. refl) is),
-    ((λ c is. mapped call.TakeWhile IsFirst (formula_of ds) c (λ f e. refl) is),
-    ((λ c is. mapped call.Take IsFirst (only_whole_number ds) c (λ n e. refl) is),
-    ((λ c is. mapped call.Skip IsFirst (only_whole_number ds) c (λ n e. refl) is),
-    ((λ c is. mapped call.WithMerge IsFirst (option_and_then merge_word (only_text ds)) c (λ w e. refl) is),
-    ((λ c is. mapped call.WithDegree IsFirst (only_count ds) c (λ n e. refl) is), tt))))))))))
+named-first ds = (
+  (λ c is. alone (λ x es. IsFirst x) call.AsOrdered ds c refl is),
+  (
+    (λ c is. alone (λ x es. IsFirst x) call.AsUnordered ds c refl is),
+    (
+      (λ c is. mapped call.Select IsFirst (formula_of ds) c (λ f e. refl) is),
+      (
+        (λ c is. mapped call.Filter IsFirst (formula_of ds) c (λ f e. refl) is),
+        (
+          (λ c is. mapped call.SelectMany IsFirst (formula_of ds) c (λ f e. refl) is),
+          (
+            (λ c is. mapped call.TakeWhile IsFirst (formula_of ds) c (λ f e. refl) is),
+            (
+              (λ c is. mapped call.Take IsFirst (only_whole_number ds) c (λ n e. refl) is),
+              (
+                (λ c is. mapped call.Skip IsFirst (only_whole_number ds) c (λ n e. refl) is),
+                (
+                  (λ c is. mapped call.WithMerge IsFirst (option_and_then merge_word (only_text ds)) c (λ w e. refl) is),
+                  ((λ c is. mapped call.WithDegree IsFirst (only_count ds) c (λ n e. refl) is), tt),
+                ),
+              ),
+            ),
+          ),
+        ),
+      ),
+    ),
+  ),
+)
 
 without_skip_while : (o : Option Formula) → in_version_one (option_map call.SkipWhile o) ≡ None
 without_skip_while None = refl

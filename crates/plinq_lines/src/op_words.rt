@@ -111,11 +111,8 @@ fn op_argument(op: &Op<Formula>) -> Argument
     ensures { result ≡ op_argument op.now }
 {
     match op {
-        Op::Select(f)
-        | Op::Filter(f)
-        | Op::SelectMany(f)
-        | Op::TakeWhile(f)
-        | Op::SkipWhile(f) => Argument::Formula(*f),
+        Op::Select(f) | Op::Filter(f) | Op::SelectMany(f) | Op::TakeWhile(f) | Op::SkipWhile(f) =>
+            Argument::Formula(*f),
         Op::Take(n) | Op::Skip(n) => Argument::Number(*n),
         Op::AsUnordered => Argument::Nothing,
     }

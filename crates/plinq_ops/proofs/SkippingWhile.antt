@@ -63,3 +63,7 @@ behind-skipping_while test (x ∷ xs) ys = behind-first test (test x) (all_pass 
 pub record IsSkippedSoFar {T : Type 0} (test : T → Result Bool ℕ) (xs rest : List T) : Type 0 where
   pub same : skipped_while test xs None ≡ skipped_while test rest None
   pub passing : all_pass test xs ≡ all_pass test rest
+
+-- where all pass, it goes on
+pub behind-all_pass : {T : Type 0} {test : T → Result Bool ℕ} {xs rest : List T} → IsSkippedSoFar test xs rest → rest ≡ [] → behind (skipping_while test) xs ≡ skipping_while test
+behind-all_pass {T} {test} so_far none = ap (left_while test) (so_far.passing ∙ ap (all_pass test) none)
