@@ -1,11 +1,12 @@
 -- What a document asks for.
-use Rattle.std.specs.Prelude.{ℕ, ◌+◌, ◌^◌, ◌||◌, ◌&&◌, Bool, true, false, List, [], length, nat_le, if◌then◌else◌, option_and_then, ok_or, Result, Ok, Err, codes, ⊤}
+use Rattle.std.specs.Prelude.{ℕ, ◌^◌, ◌||◌, ◌&&◌, Bool, true, false, List, [], length, nat_le, if◌then◌else◌, option_and_then, ok_or, Result, Ok, Err, codes, ⊤}
 use Rattle.std.specs.Str.{bytes_eq, is_utf8}
-use Rattle.serde_json.specs.Data.{Data, Items, no_items, item, Members, no_members, member}
+use Rattle.serde_json.specs.Data.{Data, Items, Members, no_members, member}
 use Rattle.serde_json.specs.Find.{as_array, as_object, get}
 use Rattle.serde_json.specs.Read.{read}
 use Rattle.plinq_lambda.specs.declared.formula.Formula.{Formula}
 use Rattle.plinq_ops.specs.Query.{QueryView}
+use Rattle.plinq_document.specs.Values.{items_len}
 use Rattle.plinq_document.specs.Results.{◌>>=◌, ◌>>◌, or_shape}
 use Rattle.plinq_document.specs.Jobs.{JobView}
 use Rattle.plinq_document.specs.Versions.{version_in}
@@ -32,11 +33,6 @@ known_names ms = if are_top_names ms then Ok tt else Err Shape
 -- the document is an object that has no other name
 abbrev pub names_check : Data → Result ⊤ DocFault
 names_check d = or_shape (as_object d) >>= known_names
-
--- how many items there are
-abbrev pub items_len : Items → ℕ
-items_len no_items = 0
-items_len (item d ds) = items_len ds + 1
 
 -- at most 1,000 steps
 abbrev pub few_steps : Items → Result Items DocFault

@@ -1,9 +1,9 @@
 -- Documents, as values, and what they ask for.
-use Rattle.std.specs.Prelude.{◌≡◌, ℕ, pos, negsuc, List, [], ◌∷◌, Option, Some, None, Ok, Err, true, false, codes, refl}
+use Rattle.std.specs.Prelude.{◌≡◌, ℕ, ℤ, pos, negsuc, List, [], ◌∷◌, Option, Some, None, Ok, Err, true, false, codes, refl}
 use Rattle.serde_json.specs.Data.{Data, null, unsigned, negative, number, string, array, object, no_members, member}
 use Rattle.serde_json.specs.View.{items_of}
-use Rattle.plinq_source.specs.Trace.{ended}
-use Rattle.plinq_source.specs.declared.ending.Ending.TheVariants.{End}
+use Rattle.plinq_source.specs.Trace.{Trace, ended}
+use Rattle.plinq_source.specs.declared.ending.Ending.TheVariants.{End, Refused}
 use Rattle.plinq_lambda.specs.declared.formula.Formula.TheVariants.{Add}
 use Rattle.plinq_ops.specs.declared.op.Op.TheVariants.{Select}
 use Rattle.plinq_ops.specs.declared.merge_option.MergeOption.TheVariants.{NotBuffered}
@@ -138,3 +138,55 @@ meaning-null_aggregate = refl
 -- a word that isn't known comes before a source that is too large
 pub meaning-average : document_meaning plain (object (member (codes "aggregate") (word (codes "average")) (member (codes "query") (row []) (member (codes "source") (range_of (whole 0) (whole 1099511627777)) (member (codes "version") (whole 1) no_members))))) ≡ Err Shape
 meaning-average = refl
+
+-- ---- concatenations
+
+abbrev concat_of_both : Data → Data → Data
+concat_of_both first second = object (member (codes "concat") (row (first ∷ second ∷ [])) no_members)
+
+abbrev greatest_range : Data
+greatest_range = range_of (whole 0) (whole 1099511627776)
+
+abbrev too_large : Data
+too_large = range_of (whole 0) (whole 1099511627777)
+
+-- what a document with this source and no step asks for
+abbrev all_of : Trace ℤ → JobView
+all_of t = record { query = record { ops = []; ordered = false; merge = None; degree = None }; source = t; growth = record { first = 1; repeat = 3; max = 512 }; aggregate = None }
+
+-- {"concat":[{"list":[1,2]},{"range":[5,2]}]}
+pub meaning-concat : document_meaning plain (document [] (concat_of_both (list_of (whole 1 ∷ whole 2 ∷ [])) (range_of (whole 5) (whole 2))) (whole 2)) ≡ Ok (all_of (ended (pos 1 ∷ pos 2 ∷ pos 5 ∷ pos 6 ∷ []) End))
+meaning-concat = refl
+
+-- {"concat":[{"list":[1],"refuse":7},{"list":[2]}]}
+pub meaning-concat_refused : document_meaning plain (document [] (concat_of_both (object (member (codes "list") (row (whole 1 ∷ [])) (member (codes "refuse") (whole 7) no_members))) (list_of (whole 2 ∷ []))) (whole 2)) ≡ Ok (all_of (ended (pos 1 ∷ []) (Refused 7)))
+meaning-concat_refused = refl
+
+-- version 1 has no concatenation, and none has one inside another
+pub meaning-concat_early : document_meaning plain (document [] (concat_of_both (list_of []) (list_of [])) (whole 1)) ≡ Err Shape
+meaning-concat_early = refl
+
+pub meaning-concat_inside : document_meaning plain (document [] (concat_of_both (concat_of_both (list_of []) (list_of [])) (list_of [])) (whole 2)) ≡ Err Shape
+meaning-concat_inside = refl
+
+-- one source, or three
+pub meaning-concat_of_one : document_meaning plain (document [] (object (member (codes "concat") (row (list_of [] ∷ [])) no_members)) (whole 2)) ≡ Err Shape
+meaning-concat_of_one = refl
+
+pub meaning-concat_of_three : document_meaning plain (document [] (object (member (codes "concat") (row (list_of [] ∷ list_of [] ∷ list_of [] ∷ [])) no_members)) (whole 2)) ≡ Err Shape
+meaning-concat_of_three = refl
+
+-- each has as many items as a source may have, and so both have too many
+pub meaning-concat_large : document_meaning plain (document [] (concat_of_both greatest_range greatest_range) (whole 2)) ≡ Err Source
+meaning-concat_large = refl
+
+-- a text counts by its bytes, of which one is too many here
+pub meaning-concat_text : document_meaning plain (document [] (concat_of_both greatest_range (object (member (codes "text") (word (codes " ")) no_members))) (whole 2)) ≡ Err Source
+meaning-concat_text = refl
+
+-- the shape of the second is looked at before the size of the first
+pub meaning-concat_shape : document_meaning plain (document [] (concat_of_both too_large (list_of (null ∷ []))) (whole 2)) ≡ Err Shape
+meaning-concat_shape = refl
+
+pub meaning-concat_too_large : document_meaning plain (document [] (concat_of_both too_large (list_of [])) (whole 2)) ≡ Err Source
+meaning-concat_too_large = refl

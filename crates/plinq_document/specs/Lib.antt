@@ -1,3 +1,4 @@
+pub mod PlainWalked
 pub mod Walked
 pub mod Json
 pub mod Words

@@ -1,5 +1,5 @@
 -- The values of a document.
-use Rattle.std.specs.Prelude.{ℕ, ℤ, List, Option, Some, None, option_and_then}
+use Rattle.std.specs.Prelude.{ℕ, ◌+◌, ℤ, List, Option, Some, None, option_and_then}
 use Rattle.serde_json.specs.Data.{Data, Items, no_items, item}
 use Rattle.serde_json.specs.Find.{as_str, as_number, as_i64, as_u64}
 
@@ -10,6 +10,11 @@ whole_number d = option_and_then as_i64 (as_number d)
 -- a count
 abbrev pub count_of : Data → Option ℕ
 count_of d = option_and_then as_u64 (as_number d)
+
+-- how many items there are
+abbrev pub items_len : Items → ℕ
+items_len no_items = 0
+items_len (item d ds) = items_len ds + 1
 
 -- the only item
 abbrev pub only_item : Items → Option Data

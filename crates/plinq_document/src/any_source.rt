@@ -1,11 +1,13 @@
 use crate::plain_source::PlainSource;
-use plinq_source::{Source, Step};
+use plinq_source::{ConcatSource, Source, Step};
 
 /// The source that a document describes.
 #[derive(Drop)]
 pub enum AnySource {
     /// One of the five that every version has.
     Plain(PlainSource),
+    /// Two of these, one after the other.
+    Concat(ConcatSource<PlainSource, PlainSource>),
 }
 
 impl Source for AnySource {
@@ -26,6 +28,7 @@ impl Source for AnySource {
     fn next(&mut self) -> Step<i64> {
         match self {
             AnySource::Plain(source) => source.next(),
+            AnySource::Concat(source) => source.next(),
         }
     }
 }

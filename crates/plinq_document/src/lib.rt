@@ -8,6 +8,7 @@
 
 mod aggregates;
 mod any_source;
+mod concats;
 mod degree;
 mod doc_fault;
 mod document;

@@ -14,7 +14,7 @@ pub enum PlainSource {
 }
 
 impl Source for PlainSource {
-    ghost use Rattle.plinq_document.specs.Walked.{plain_whole, plain_given, plain_walked};
+    ghost use Rattle.plinq_document.specs.PlainWalked.{plain_whole, plain_given, plain_walked};
 
     type Item = i64;
 

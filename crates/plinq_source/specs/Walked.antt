@@ -90,15 +90,16 @@ abbrev pub concat_given : {A B T : Type 0} {first : Ghosts A T} {second : Ghosts
 concat_given {A} {B} {T} {first} {second} s = first.given s.first + second.given s.second
 
 pub concat_walked : {A B T : Type 0} {first : Ghosts A T} {second : Ghosts B T} (s : ConcatSource A B T first second)
-    → IsSourceEnding (first.whole s.first).ending → first.given s.first ≤ length (first.whole s.first).items
-    → IsSourceEnding (second.whole s.second).ending → second.given s.second ≤ length (second.whole s.second).items
+    → ((a : A) → IsSource (first.whole a) (first.given a)) → ((b : B) → IsSource (second.whole b) (second.given b))
     → IsSource (concat_whole s) (concat_given s)
-concat_walked {A} {B} {T} {first} {second} s first_ends first_within second_ends second_within =
+concat_walked {A} {B} {T} {first} {second} s first_walked second_walked =
     let xs = (first.whole s.first).items in
     let e = (first.whole s.first).ending in
     let next = second.whole s.second in
+    let a = first_walked s.first in
+    let b = second_walked s.second in
     record {
       few = omega (arith, s.few, length-concat xs e next);
-      ends = concat-ends xs e next first_ends second_ends;
-      within = concat-within xs e next (first.given s.first) (second.given s.second) s.first_ended s.unasked s.ends first_within second_within;
+      ends = concat-ends xs e next a.ends b.ends;
+      within = concat-within xs e next (first.given s.first) (second.given s.second) s.first_ended s.unasked s.ends a.within b.within;
     }

@@ -54,11 +54,11 @@ impl<A: Source, B: Source<Item = A::Item>> Source for ConcatSource<A, B> {
 
     ghost given = { concat_given };
 
-    ghost few = { λ s. (concat_walked s (A.ends s.first) (A.within s.first) (B.ends s.second) (B.within s.second)).few };
+    ghost few = { λ s. (concat_walked s (λ a. record { few = A.few a; ends = A.ends a; within = A.within a }) (λ b. record { few = B.few b; ends = B.ends b; within = B.within b })).few };
 
-    ghost ends = { λ s. (concat_walked s (A.ends s.first) (A.within s.first) (B.ends s.second) (B.within s.second)).ends };
+    ghost ends = { λ s. (concat_walked s (λ a. record { few = A.few a; ends = A.ends a; within = A.within a }) (λ b. record { few = B.few b; ends = B.ends b; within = B.within b })).ends };
 
-    ghost within = { λ s. (concat_walked s (A.ends s.first) (A.within s.first) (B.ends s.second) (B.within s.second)).within };
+    ghost within = { λ s. (concat_walked s (λ a. record { few = A.few a; ends = A.ends a; within = A.within a }) (λ b. record { few = B.few b; ends = B.ends b; within = B.within b })).within };
 
     fn next(&mut self) -> Step<A::Item> {
         if self.first_ended {
