@@ -1,13 +1,12 @@
 //! The run of a query: workers take chunks from one source and turn them into results, and the caller's thread merges
 //! these.
 //!
-//! - [`run`] on a query with `as_ordered` delivers exactly the batches of the sequential answer and tells its ending, or
-//!   after a fault the first of these batches (`Runs`), for every number of workers and every order in which results come.
-//! - On any other query it delivers the batches of some answer that the query may have (`Reports`).
+//! - [`run`] delivers exactly the batches of an answer that the query may have and tells its ending, or after a fault the
+//!   first of these batches (`Reports`), for every number of workers and every order in which results come.
+//! - For a query with `as_ordered` that is the sequential answer ([`laws`]).
 //! - The records that it reports are a legal history of the source, which was closed unless the query is decided, and what
 //!   they hand out has the answer that was delivered (`handed_trace`).
-//! - [`aggregate`] on a query with `as_ordered` tells the value of the sequential answer's items, or how that answer ended
-//!   otherwise (`Aggregates`).
+//! - [`aggregate`] tells the value of such an answer's items, or how that answer ended otherwise (`AggregatesSome`).
 //! - Workers send results of chunks of the source as they are, or for an aggregate with nothing behind the merge the fold of
 //!   each in its place (`IsPart` of `plinq_crew`).
 //! - A [`Gate`] is what workers pass on their way.
