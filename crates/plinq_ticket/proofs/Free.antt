@@ -25,9 +25,8 @@ module _ {V T : Type 0} (origin : V → Trace T) (history : V → List Record) w
   pub free_while_home : FreeWhileHome origin history
   free_while_home t next serving homes views value law is =
       let home = home-is t (history_of views) homes (inside_of views) value law.stands is in
-      let P : Trace T × List Record → Type 0 = λ x. IsLegalHistory x.0 x.1 in
-      let legal : IsLegalHistory (origin value) (history value) = subst P (λ k. (sym home.0 k, sym home.1 k)) law.legal in
-      record { whole = home.1; legal = legal; handed = IsPrefix-from_legal (origin value) (history value) legal }
+      let legal : IsLegalHistory t (history value) = subst (IsLegalHistory t) (sym home.1) law.legal in
+      record { origin_is = home.0; whole = home.1; legal = legal; handed = IsPrefix-from_legal t (history value) legal }
 
   out-is : (t : Trace T) (h : List Record) (homes : List (maybe.Option (Option V))) (inside : ℕ) → Stands origin history t h homes inside → 1 ≤ inside → homes ≡ none ∷ []
   out-is t h homes inside (inl home) some_in = let none_in = home.4 in absurd (omega arith)

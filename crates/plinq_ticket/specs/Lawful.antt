@@ -60,16 +60,17 @@ module _ {T : Type 0} where
       pub stands : Stands t (history_of views) homes (inside_of views)
       pub knows : (i : ℕ) (v : View T) → get_elem? views i ≡ some v → Knows t (history_of views) v v.standing.phase
 
-    -- While the value is home its history is the records of all passes, in the order of their tickets: one legal history, which has handed out a prefix of what the value hands out
-    pub record IsFree (value : V) (views : List (View T)) : Type 0 where
+    -- While the value is home it hands out the lock's trace, and its history is the records of all passes, in the order of their tickets: one legal history, which has handed out a prefix of that trace
+    pub record IsFree (t : Trace T) (value : V) (views : List (View T)) : Type 0 where
+      pub origin_is : origin value ≡ t
       pub whole : history value ≡ history_of views
-      pub legal : IsLegalHistory (origin value) (history value)
-      pub handed : IsPrefix (origin value) (history value)
+      pub legal : IsLegalHistory t (history value)
+      pub handed : IsPrefix t (history value)
 
     -- each lawful state with the value home is such a one
     abbrev pub FreeWhileHome : Type 0
     FreeWhileHome = (t : Trace T) (next serving : ℕ) (homes : List (maybe.Option (Option V))) (views : List (View T)) (value : V)
-        → Lawful t next serving homes views → homes ≡ some (Some value) ∷ [] → IsFree value views
+        → Lawful t next serving homes views → homes ≡ some (Some value) ∷ [] → IsFree t value views
 
     -- of two passes that are inside one is the other, and the value is out
     abbrev pub AloneInside : Type 0
