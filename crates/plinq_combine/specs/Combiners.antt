@@ -24,6 +24,17 @@ is_decided Open = false
 is_decided (Decided e) = true
 is_decided HasFailed = false
 
+-- how a combiner finishes: with the answer's ending, or with Gap where it is open
+abbrev pub finished : Standing → Result Ending MergeFault
+finished Open = Err Gap
+finished (Decided e) = Ok e
+finished HasFailed = Err Failed
+
+-- the ending in what was told
+abbrev pub ending_in : {A : Type 0} → Result (Combined A) MergeFault → Result Ending MergeFault
+ending_in (Ok made) = Ok made.ending
+ending_in (Err fault) = Err fault
+
 module _ {F T A O : Type 0} (f : Folding T A O) where
   -- it stands for these offers: with them the answer is open, or has this ending; a failed one stands for none
   abbrev pub StandsFor : Combining F A → Standing → List (ChunkResult A) → Type 0
@@ -78,3 +89,6 @@ module _ {F T A O : Type 0} {aggregator : Ghosts F T A O} where
   -- what it tells of its answer; a failed one tells of none
   abbrev pub tells_decided : Combiner F T A O aggregator → Bool
   tells_decided c = is_decided c.standing
+
+  abbrev pub tells_ending : Combiner F T A O aggregator → Result Ending MergeFault
+  tells_ending c = finished c.standing

@@ -3,7 +3,7 @@ ghost use Rattle.plinq_ops.specs.declared.results.ChunkResult.{ChunkResult};
 ghost use Rattle.plinq_merge.specs.Keys.{is_offered};
 ghost use Rattle.plinq_merge.specs.Shown.{merged, behind_result};
 ghost use Rattle.plinq_combine.specs.Folds.{AreFoldsOf};
-ghost use Rattle.plinq_combine.specs.Combiners.{aggregator_of, order_of, IsFor, Offers, tells_decided, Finishes};
+ghost use Rattle.plinq_combine.specs.Combiners.{aggregator_of, order_of, IsFor, Offers, tells_decided, tells_ending, ending_in, Finishes};
 
 use crate::combined::Combined;
 use crate::combiner::Combiner;
@@ -98,7 +98,8 @@ impl<'a, A: Aggregator> Combiner<'a, A> {
     ///
     /// [`MergeFault::Gap`] where the answer isn't decided, [`MergeFault::Failed`] after a failure.
     pub fn finish(self) -> Result<Combined<A::Acc>, MergeFault>
-        ensures { (results : List (ChunkResult A.Item)) (offers : List (ChunkResult A.Acc)) →
+        ensures told { ending_in result ≡ tells_ending self.entry }
+        ensures answer { (results : List (ChunkResult A.Item)) (offers : List (ChunkResult A.Acc)) →
             AreFoldsOf (A.folding (aggregator_of self.entry)) results offers → IsFor self.entry offers →
             Finishes (A.folding (aggregator_of self.entry)) (merged (order_of self.entry) results) result }
     {
