@@ -15,6 +15,8 @@ use Rattle.plinq_merge.specs.Shown.{Merge, answer}
 use Rattle.plinq_partition.specs.declared.partition.Partition.{Partition}
 use Rattle.plinq_stream.specs.declared.known.Known.{Known}
 use Rattle.plinq_stream.specs.declared.sent.Sent.{Sent}
+use Rattle.plinq_stream.specs.declared.stream_pass.StreamPass.{StreamPass}
+use Rattle.plinq_stream.specs.Passes.{known}
 use Rattle.plinq_stream.specs.Streams.{HasReceivedAll}
 use Rattle.plinq_stream.proofs.Under.{or-none, or-right}
 use Rattle.plinq_crew.specs.declared.starting.Shortages.{Shortages}
@@ -49,20 +51,21 @@ none-noted fault short staff is =
     let tickets = none-told short.tickets Tickets (none-before _ _ behind-thread) in
     or-none short.memory short.tickets (or-right (is_out_of_memory fault) short.memory memory) tickets
 
--- of what is told with these partitions; and what else is known of all that was received
-pub told-all : {X S T M : Type 0} {source : SourceGhosts S T} (partitions_of : X → Vec (Partition S T source) Global) (Else : X → Known (ChunkResult M) → Type 0) (a b : Known (ChunkResult M)) (short : Shortages) (fault : Option MergeFault)
-    (staff : Staff) (partitions : Vec (Partition S T source) Global) (r : Result X RunFault)
-    → b.sent ≡ a.sent → b.numbers ≡ a.numbers → OnOk r (first_told fault short staff ≡ None) → IfOk r (λ x. partitions_of x ≡ partitions)
-    → HasReceivedAll b → All (IsAnsweredBy 0 a short) (drop 1 partitions.items) → IfOk r (λ x. Else x b)
-    → IfOk r (λ x. (k : Known (ChunkResult M)) × HasReceivedAll k × All (IsWhollyAnsweredBy k) (drop 1 (partitions_of x).items) × Else x k)
-told-all partitions_of Else a b short fault staff partitions (Ok x) sent numbers none same all answered also = (
+-- of what is told with these partitions: a pass of the stream has received all that was sent; and what else is known of it
+pub told-all : {X S T M : Type 0} {source : SourceGhosts S T} (IsOf : StreamPass (ChunkResult M) → Type 0) (partitions_of : X → Vec (Partition S T source) Global) (Else : X → Known (ChunkResult M) → Type 0)
+    (a : Known (ChunkResult M)) (b : StreamPass (ChunkResult M)) (short : Shortages) (fault : Option MergeFault) (staff : Staff) (partitions : Vec (Partition S T source) Global) (r : Result X RunFault)
+    → IsOf b → (known b).sent ≡ a.sent → (known b).numbers ≡ a.numbers → OnOk r (first_told fault short staff ≡ None) → IfOk r (λ x. partitions_of x ≡ partitions)
+    → HasReceivedAll (known b) → All (IsAnsweredBy 0 a short) (drop 1 partitions.items) → IfOk r (λ x. Else x (known b))
+    → IfOk r (λ x. (p : StreamPass (ChunkResult M)) × IsOf p × HasReceivedAll (known p) × All (IsWhollyAnsweredBy (known p)) (drop 1 (partitions_of x).items) × Else x (known p))
+told-all IsOf partitions_of Else a b short fault staff partitions (Ok x) of sent numbers none same all answered also = (
   b,
+  of,
   all,
-  subst (λ ps. All (IsWhollyAnsweredBy b) (drop 1 ps.items)) (sym same)
-      (All-weaker (IsAnsweredBy 0 a short) (IsWhollyAnsweredBy b) (answered-wholly a b short sent numbers (none-noted fault short staff none)) (drop 1 partitions.items) answered),
+  subst (λ ps. All (IsWhollyAnsweredBy (known b)) (drop 1 ps.items)) (sym same)
+      (All-weaker (IsAnsweredBy 0 a short) (IsWhollyAnsweredBy (known b)) (answered-wholly a (known b) short sent numbers (none-noted fault short staff none)) (drop 1 partitions.items) answered),
   also,
 )
-told-all partitions_of Else a b short fault staff partitions (Err told) sent numbers none same all answered also = tt
+told-all IsOf partitions_of Else a b short fault staff partitions (Err told) of sent numbers none same all answered also = tt
 
 -- what was received was offered, where it is told how the answer ended
 pub told-offered : {X L K T : Type 0} {lambda : Ghosts L T} (accepts : K → List T → K → Type 0) (refuses : K → List T → ℕ → K → Type 0) (merge : Merge T) (received : List (Sent (ChunkResult T))) (s s' : K) (ending_of : X → Ending)

@@ -13,7 +13,7 @@ ghost use Rattle.plinq_partition.specs.GivenBack.{common_origin};
 ghost use Rattle.plinq_run.specs.Merged.{merge_for, Merges, OffersEach, WereOffered};
 ghost use Rattle.plinq_run.specs.Reaching.{IsOffered};
 ghost use Rattle.plinq_run.specs.Reports.{MayMerge, Ends};
-ghost use Rattle.plinq_stream.specs.declared.known.Known.{Known};
+ghost use Rattle.plinq_stream.specs.declared.stream_pass.StreamPass.{StreamPass};
 ghost use Rattle.plinq_stream.specs.Passes.{IsPassOf, known};
 ghost use Rattle.plinq_stream.specs.Streams.{HasReceivedAll};
 
@@ -106,6 +106,7 @@ where
     requires stream { IsPassOf crew.now.stream.now pass.old }
     requires receives { (known pass.old).receives ≡ true }
     requires within { (r : ChunkResult L.Item) → J.is_result r → behind_result r ≤ 2 ^ 40 }
+    ensures stream { IsPassOf crew.now.stream.now pass.new }
     ensures all { HasReceivedAll (known pass.new) }
     ensures sent { (known pass.new).sent ≡ (known pass.old).sent }
     ensures numbers { (known pass.new).numbers ≡ (known pass.old).numbers }
@@ -141,7 +142,8 @@ where
     requires ready { IsReady L.meaning (λ p r c. c ≡ r) J.is_result J.is_ender crew.now own }
     ensures back { IfOk result (λ ended. (1 ≤ length ended.partitions.items) × All (IsPartitionOf crew.now.chunked.now) ended.partitions.items × (common_origin ended.partitions.items ≡ (holding_of own.partition).origin)) }
     ensures started { IfOk result (λ ended. length ended.partitions.items ≡ crew.now.workers + 1) }
-    ensures all { IfOk result (λ ended. (a : Known (ChunkResult L.Item)) × HasReceivedAll a × All (IsWhollyAnsweredBy a) (drop 1 ended.partitions.items) × WereOffered L.Lambda K.accepts K.refuses (merge_for L.meaning crew.now.plan.now option) a.received ended.ending sink.old sink.new) }
+    ensures all { IfOk result (λ ended. (pass : StreamPass (ChunkResult L.Item)) × IsPassOf crew.now.stream.now pass × HasReceivedAll (known pass) × All (IsWhollyAnsweredBy (known pass)) (drop 1 ended.partitions.items)
+        × WereOffered L.Lambda K.accepts K.refuses (merge_for L.meaning crew.now.plan.now option) (known pass).received ended.ending sink.old sink.new) }
     ensures ends { Ends K.accepts K.refuses option (MayMerge L.meaning crew.now.plan.now) (holding_of own.partition).origin sink.old sink.new result }
 {
     let Ok(hands) = Vec::with_capacity(crew.alloc, crew.workers as usize) else {

@@ -5,8 +5,9 @@ ghost use Rattle.plinq_keyed.specs.History.{IsLegalHistory};
 ghost use Rattle.plinq_ops.specs.declared.results.ChunkResult.{ChunkResult};
 ghost use Rattle.plinq_merge.specs.Shown.{answer};
 ghost use Rattle.plinq_merge.specs.Mergers.{plan_of, IsFor};
-ghost use Rattle.plinq_partition.specs.Partitions.{IsPartitionOf};
+ghost use Rattle.plinq_partition.specs.Partitions.{IsPartitionOf, all_shares};
 ghost use Rattle.plinq_partition.specs.GivenBack.{common_origin};
+ghost use Rattle.plinq_ticket.specs.Shares.{in_ticket_order};
 ghost use Rattle.plinq_source.specs.Trace.{Trace};
 ghost use Rattle.plinq_run.specs.Runs.{refusal_of, told_refusal, IsReportOf};
 ghost use Rattle.plinq_run.specs.Endings.{ending_in, reported};
@@ -120,6 +121,7 @@ pub(crate) fn report_of<S: Source>(
     requires of { All (IsPartitionOf chunked) ended.partitions.items }
     ensures told { IsReportOf (Ok ended.ending) (reported result) }
     ensures legal { IfOk result (λ report. IsLegalHistory (common_origin ended.partitions.items) report.records.items) }
+    ensures records { IfOk result (λ report. report.records.items ≡ in_ticket_order (all_shares ended.partitions.items)) }
     ensures accounted { IfOk result (λ report. accounts_for ended.reach report.records.items ≡ true) }
 {
     let Ended {
@@ -146,6 +148,7 @@ pub(crate) fn report<S: Source>(
     requires some { IfOk ended (λ e. 1 ≤ length e.partitions.items) }
     requires of { IfOk ended (λ e. All (IsPartitionOf chunked) e.partitions.items) }
     ensures told { IsReportOf (ending_in ended) (reported result) }
+    ensures records { IfOk ended (λ e. IfOk result (λ report. report.records.items ≡ in_ticket_order (all_shares e.partitions.items))) }
     ensures accounted { IfOk ended (λ e. IfOk result (λ report. accounts_for e.reach report.records.items ≡ true)) }
     ensures legal { (t : Trace S.Item) → IfOk ended (λ e. common_origin e.partitions.items ≡ t) → IfOk result (λ report. IsLegalHistory t report.records.items) }
 {

@@ -1,5 +1,5 @@
 use Rattle.std.proofs.Common.{◌≡◌, ◌≤◌, [], length, None, All, refl, sym, ap, ◌∙◌, subst, arith}
-use Rattle.plinq_stream.specs.Passes.{known}
+use Rattle.plinq_stream.specs.Passes.{IsPassOf, known}
 use Rattle.plinq_partition.specs.Partitions.{IsPartitionOf, holding_of}
 use Rattle.plinq_partition.specs.GivenBack.{common_origin}
 use Rattle.plinq_run.specs.Merged.{merge_for, OffersEach, WereOffered}
@@ -40,7 +40,8 @@ returns-clause-ends g c =
 pub returns-clause-all : goal.returns-clause-all
 returns-clause-all g c =
     let a = known c.join_all-partitions.new.pass in
-    let b = known c.merge_rest.new.pass in
+    let pass = c.merge_rest.new.pass in
+    let b = known pass in
     let s = c.args.sink.now in
     let accepts = g.K.Sink.accepts in
     let refuses = g.K.Sink.refuses in
@@ -52,8 +53,8 @@ returns-clause-all g c =
     let rest = c.merge_rest.ensures.offers [] (c.in-Ok-new.merger, (None, s))
     (subst (λ xs. HasTakenIn Step [] (c.in-Ok-new.merger, (None, s)) xs among.closing.is_closed (among.merger, (among.fault, c.merge_all.new.sink))) (sym c.join_all-partitions.ensures.received) first) in
     let merge = merge_for g.L.Lambda.meaning c.args.crew.now.plan.now c.args.option in
-    told-all (λ e. e.partitions) (λ e k. WereOffered g.L.Lambda accepts refuses merge k.received e.ending s c.merge_rest.new.sink) a b c.join_all-partitions.new.shortages _ _ c.join_all-partitions.result c.told.result
-    c.merge_rest.ensures.sent c.merge_rest.ensures.numbers c.told.ensures.first c.told.ensures.partitions c.merge_rest.ensures.all c.join_all-partitions.ensures.answered
+    told-all (IsPassOf c.args.crew.now.stream.now) (λ e. e.partitions) (λ e k. WereOffered g.L.Lambda accepts refuses merge k.received e.ending s c.merge_rest.new.sink) a pass c.join_all-partitions.new.shortages _ _ c.join_all-partitions.result c.told.result
+    c.merge_rest.ensures.stream c.merge_rest.ensures.sent c.merge_rest.ensures.numbers c.told.ensures.first c.told.ensures.partitions c.merge_rest.ensures.all c.join_all-partitions.ensures.answered
     (told-offered accepts refuses merge b.received s c.merge_rest.new.sink (λ e. e.ending) c.in-Ok-new.merger last.merger last.fault last.closing.is_closed c.told.result
     c.in-Ok-new.ensures.plan c.in-Ok-new.ensures.nothing c.told.ensures.none c.told.ensures.ending rest)
 
