@@ -9,8 +9,19 @@ use std::alloc::Global;
 use std::process::Abort;
 use std::sync::Wait;
 use std::thread;
+use std::thread::Threads;
 
 mod notes;
+mod when_free;
+
+// How a pass enters where others may be inside.
+#[derive(Clone, Copy)]
+enum Way {
+    // It draws a ticket, and waits for its turn.
+    InTurn,
+    // It waits for the lock to be free.
+    WhenFree,
+}
 
 // Tries to enter, and is refused.
 fn try_in_vain(
@@ -35,11 +46,16 @@ fn visit<R: Wait + Abort>(
     rt: &R,
     lock: &TicketLock<Notes>,
     pass: Pass<Notes>,
+    way: Way,
 ) -> (Pass<Notes>, Option<u64>)
     requires { IsPassOf lock.now pass }
     ensures { IsPassOf lock.now result.0 }
 {
-    match lock.enter(rt, pass) {
+    let entered = match way {
+        Way::InTurn => lock.enter(rt, pass),
+        Way::WhenFree => lock.enter_when_free(rt, pass),
+    };
+    match entered {
         Err((pass, _)) => (pass, None),
         Ok(mut held) => {
             let ticket = held.ticket();
@@ -51,13 +67,18 @@ fn visit<R: Wait + Abort>(
 }
 
 // Enters a thousand times.
-fn visit_often<R: Wait + Abort>(rt: &R, lock: &TicketLock<Notes>, pass: Pass<Notes>) -> Pass<Notes>
+fn visit_often<R: Wait + Abort>(
+    rt: &R,
+    lock: &TicketLock<Notes>,
+    pass: Pass<Notes>,
+    way: Way,
+) -> Pass<Notes>
     requires { IsPassOf lock.now pass }
     ensures { IsPassOf lock.now result }
 {
     let mut pass = pass;
     for _turn in 0..1000 {
-        pass = visit(rt, lock, pass).0;
+        pass = visit(rt, lock, pass, way).0;
     }
     pass
 }
@@ -122,46 +143,59 @@ fn passes_enter_in_the_order_of_tickets(rt: HostRuntime) {
     expect_whole(&rt, lock, pass, 0, 0);
 }
 
-// Enters behind the last ticket.
+// Enters after the last ticket.
 fn enter_in_vain<R: Wait + Abort>(
     rt: &R,
     lock: &TicketLock<Notes>,
     pass: Pass<Notes>,
+    way: Way,
 ) -> (Pass<Notes>, LockFault)
     requires { IsPassOf lock.now pass }
     ensures { IsPassOf lock.now result.0 }
 {
-    match lock.enter(rt, pass) {
+    let entered = match way {
+        Way::InTurn => lock.enter(rt, pass),
+        Way::WhenFree => lock.enter_when_free(rt, pass),
+    };
+    match entered {
         Err(refused) => refused,
         Ok(held) => {
             lock.leave(held);
-            panic!(rt; "a ticket behind the last")
+            panic!(rt; "a ticket after the last")
         }
     }
 }
 
-#[test]
-fn the_last_ticket_is_drawn_once(rt: HostRuntime) {
-    let last = 4611686018427387903;
-    let notes = Notes::new(rt.alloc());
-    let Ok((lock, pass)) = TicketLock::with_first_ticket(rt.alloc(), notes, last) else {
+// The last ticket of each lock.
+const LAST: u64 = 4_611_686_018_427_387_903;
+
+fn draw_the_last<R: Wait + Abort>(rt: &R, alloc: Global, way: Way) {
+    let Ok((lock, pass)) = TicketLock::with_first_ticket(alloc, Notes::new(alloc), LAST) else {
         panic!(rt; "no room for a lock");
     };
-    let (pass, ticket) = visit(&rt, &lock, pass);
-    assert_eq!(rt; ticket, Some(last));
-    let (pass, fault) = enter_in_vain(&rt, &lock, pass);
-    expect_fault(&rt, fault, LockFault::Spent);
-    let (pass, fault) = try_in_vain(&rt, &lock, pass);
-    expect_fault(&rt, fault, LockFault::Spent);
-    expect_whole(&rt, lock, pass, 1, last);
+    let (pass, ticket) = visit(rt, &lock, pass, way);
+    assert_eq!(rt; ticket, Some(LAST));
+    let (pass, fault) = enter_in_vain(rt, &lock, pass, Way::InTurn);
+    expect_fault(rt, fault, LockFault::Spent);
+    let (pass, fault) = enter_in_vain(rt, &lock, pass, Way::WhenFree);
+    expect_fault(rt, fault, LockFault::Spent);
+    let (pass, fault) = try_in_vain(rt, &lock, pass);
+    expect_fault(rt, fault, LockFault::Spent);
+    expect_whole(rt, lock, pass, 1, LAST);
+}
+
+#[test]
+fn the_last_ticket_is_drawn_once(rt: HostRuntime) {
+    draw_the_last(&rt, rt.alloc(), Way::InTurn);
+    draw_the_last(&rt, rt.alloc(), Way::WhenFree);
 }
 
 #[test]
 fn a_dropped_pass_takes_its_records_with_it(rt: HostRuntime) {
     let (lock, pass) = lock_of(&rt, rt.alloc());
     let (first, second) = lock.split(pass);
-    let (first, _) = visit(&rt, &lock, first);
-    let (second, _) = visit(&rt, &lock, second);
+    let (first, _) = visit(&rt, &lock, first, Way::InTurn);
+    let (second, _) = visit(&rt, &lock, second, Way::WhenFree);
     drop(second);
     let Err((notes, fault)) = lock.finish(first) else {
         panic!(rt; "whole without one of two");
@@ -179,25 +213,31 @@ fn a_lock_that_is_refused_is_out_of_memory(rt: HostRuntime) {
     match TicketLock::new(rt.alloc(), Notes::new(rt.alloc())) {
         Err(fault) => expect_fault(&rt, fault, LockFault::Memory),
         Ok((lock, pass)) => {
-            let (pass, _) = visit(&rt, &lock, pass);
+            let (pass, _) = visit(&rt, &lock, pass, Way::InTurn);
             assert!(rt; lock.finish(pass).is_ok());
         }
     }
 }
 
-#[test]
-fn two_threads_share_a_lock(rt: HostRuntime) {
-    let (lock, pass) = lock_of(&rt, rt.alloc());
+// Two threads enter many times, each in its own way.
+fn share<R: Threads + Wait + Sync + Abort>(rt: &R, alloc: Global, ways: (Way, Way)) {
+    let (lock, pass) = lock_of(rt, alloc);
     let (first, second) = lock.split(pass);
     let shared = &lock;
-    let runtime = &rt;
     let (first, second) = thread::join(
-        &rt,
-        || visit_often(runtime, shared, first),
-        || visit_often(runtime, shared, second),
+        rt,
+        || visit_often(rt, shared, first, ways.0),
+        || visit_often(rt, shared, second, ways.1),
     );
     let pass = lock.join(first, second);
-    expect_whole(&rt, lock, pass, 2000, 0);
+    expect_whole(rt, lock, pass, 2000, 0);
+}
+
+#[test]
+fn two_threads_share_a_lock(rt: HostRuntime) {
+    share(&rt, rt.alloc(), (Way::InTurn, Way::InTurn));
+    share(&rt, rt.alloc(), (Way::InTurn, Way::WhenFree));
+    share(&rt, rt.alloc(), (Way::WhenFree, Way::WhenFree));
 }
 
 #[test]
