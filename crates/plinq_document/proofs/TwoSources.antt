@@ -1,5 +1,5 @@
--- Two sources as one: which of their faults is told, and how many items both have.
-use Rattle.std.proofs.Common.{◌≡◌, ◌≢◌, ◌≤◌, ℕ, ◌+◌, ◌^◌, ℤ, Bool, true, false, List, [], ◌∷◌, length, Option, Some, None, Result, Ok, Err, option_map, refl, ap, ◌∙◌, arith}
+-- A source of a document has no more items than its bound, and so two of few together have few.
+use Rattle.std.proofs.Common.{◌≡◌, ◌≤◌, ℕ, ◌+◌, ◌^◌, ℤ, Bool, true, false, List, [], ◌∷◌, length, Option, Some, None, Result, Ok, Err, option_map, refl, ap, ◌∙◌, arith}
 use Rattle.std.proofs.lemmas.Bool.Decides.{nat_tests}
 use Rattle.std.proofs.Math.ListN.{length-replicate}
 use Rattle.std.specs.Prelude.{if◌then◌else◌, option_and_then, nat_le, ◌&&◌, replicate, codes}
@@ -15,46 +15,11 @@ use Rattle.plinq_source.specs.declared.ending.Ending.TheVariants.{End}
 use Rattle.plinq_source.proofs.Walks.{length-range_items}
 use Rattle.plinq_document.specs.Values.{whole_number, only_count, items_len}
 use Rattle.plinq_document.specs.Results.{◌>>=◌, or_shape}
-use Rattle.plinq_document.specs.Sources.{source_name, whole_numbers, few_numbers, list_source, text_source, range_trace, repeat_trace, of_number_and_count, plain_source_named, code_of, plain_source_from, plain_source_of, count_after, bound_named, bound_from, bound_of, few_together, both_sources}
+use Rattle.plinq_document.specs.Sources.{source_name, whole_numbers, few_numbers, list_source, text_source, range_trace, repeat_trace, of_number_and_count, plain_source_named, code_of, plain_source_from, plain_source_of, count_after, bound_named, bound_from, bound_of, few_together}
 use Rattle.plinq_document.specs.declared.source_name.SourceName.{SourceName}
 use Rattle.plinq_document.specs.declared.source_name.SourceName.TheVariants.{List as ListName, Text as TextName, Range as RangeName, Repeat as RepeatName}
 use Rattle.plinq_document.specs.declared.doc_fault.DocFault.{DocFault}
-use Rattle.plinq_document.specs.declared.doc_fault.DocFault.TheVariants.{TooLong, NotJson, Shape, Version, Source, Growth, Step, Memory}
-
--- a fault of the first that isn't its size
-pub fault-first : (few : Bool) (second : Result (Trace ℤ) DocFault) (e : DocFault) → e ≢ Source → both_sources few (Err e) second ≡ Err e
-fault-first few second TooLong h = refl
-fault-first few second NotJson h = refl
-fault-first few second Shape h = refl
-fault-first few second Version h = refl
-fault-first few second Source h = absurd (h refl)
-fault-first few second (Growth g) h = refl
-fault-first few second (Step at why) h = refl
-fault-first few second Memory h = refl
-
--- a fault of the second, where the first is a source
-pub fault-second : (few : Bool) (a : Trace ℤ) (e : DocFault) → both_sources few (Ok a) (Err e) ≡ Err e
-fault-second few a TooLong = refl
-fault-second few a NotJson = refl
-fault-second few a Shape = refl
-fault-second few a Version = refl
-fault-second few a Source = refl
-fault-second few a (Growth g) = refl
-fault-second few a (Step at why) = refl
-fault-second few a Memory = refl
-
--- and where the first is too large
-pub fault-late : (few : Bool) (e : DocFault) → both_sources few (Err Source) (Err e) ≡ Err e
-fault-late few TooLong = refl
-fault-late few NotJson = refl
-fault-late few Shape = refl
-fault-late few Version = refl
-fault-late few Source = refl
-fault-late few (Growth g) = refl
-fault-late few (Step at why) = refl
-fault-late few Memory = refl
-
--- ---- a source has no more items than its bound
+use Rattle.plinq_document.specs.declared.doc_fault.DocFault.TheVariants.{Shape, Source}
 
 length-whole_numbers : (ds : Items) (ns : List ℤ) → whole_numbers ds ≡ Some ns → length ns ≡ items_len ds
 length-whole_numbers no_items ns is = let e : ns ≡ [] = cc in ap length e
