@@ -233,7 +233,11 @@ fn from_the_first_that_fails(rt: HostRuntime) -> Result<(), Fail> {
         (
             &[8, 1, 9, 2],
             None,
-            &[Op::Skip(1), below[0], Op::SkipWhile(Formula::Above(5))],
+            &[
+                Op::Skip(1),
+                Op::SkipWhile(Formula::Below(5)),
+                Op::SkipWhile(Formula::Above(5)),
+            ],
             &[2],
             Ending::End,
             Step::End,

@@ -170,8 +170,12 @@ fn splits_an_unordered_query_before_a_take(rt: HostRuntime) -> Result<(), Fail> 
 #[test]
 fn splits_before_a_skip_while_in_both_orders(rt: HostRuntime) -> Result<(), Fail> {
     let worker = [Op::Select(Formula::Add(1))];
-    let after = [Op::SkipWhile(Formula::Below(5)), Op::Filter(Formula::Even)];
-    let ops = [worker[0], after[0], after[1]];
+    let after = [Op::SkipWhile(Formula::Below(5)), Op::Take(2)];
+    let ops = [
+        Op::Select(Formula::Add(1)),
+        Op::SkipWhile(Formula::Below(5)),
+        Op::Take(2),
+    ];
     let query = ordered(rt.alloc(), &ops)?;
     is_split(&rt, &query, &worker, &after, Order::ByKey);
     let query = unordered(rt.alloc(), &ops)?;
