@@ -1,0 +1,212 @@
+#!/usr/bin/env python3
+"""Signals and readers that leave in the middle of a run, and threads that the system doesn't start.
+
+    python3 tests/signals.py
+
+A run that a signal ends has written a beginning of the right output, and a shell sees that signal in its status. A reader
+that leaves is a failing write. Where a thread isn't started the run is refused with the lines before that, or answers.
+"""
+import array
+import fcntl
+import json
+import os
+import pwd
+import resource
+import shutil
+import signal
+import subprocess
+import tempfile
+import termios
+import time
+
+from support.program import HANGS, PROGRAM, Outcome, Tests, build, run
+
+# More than any test waits for, in lines that a test can count.
+ENDLESS = {"range": [0, 2**40]}
+ORDERED = ["as_ordered"]
+DEGREES = (1, 2, 8, 64)
+WRITE_FAILED = b"plinq: write failed\n"
+REFUSALS = (b"plinq: no thread\n", b"plinq: out of memory\n")
+# How many bytes a test reads of the output.
+READ = 100_000
+
+
+def document(source, *steps, **more):
+    return json.dumps({"version": 1, "source": source, "query": [ORDERED, *steps], **more}).encode()
+
+
+# Words, the steps of a query over what never ends, and whether it prints meanwhile.
+RUNS = {
+    "one by one": (["run", "--merge", "not"], [], True),
+    "in batches": (["run"], [], True),
+    "without an item": (["run"], [["filter", "equal", -1]], False),
+    "with an expansion": (["run", "--merge", "not"], [["select_many", "repeat", 3]], True),
+}
+
+
+def started(words, steps, **more):
+    child = subprocess.Popen([PROGRAM, *words], stdin=subprocess.PIPE, stdout=subprocess.PIPE, stderr=subprocess.PIPE, bufsize=0)
+    child.stdin.write(document(ENDLESS, *steps, **more))
+    child.stdin.close()
+    child.stdin = None
+    return child
+
+
+def read(child, count):
+    """So many bytes of what the program writes, or all that there are."""
+    output = b""
+    while len(output) < count and (more := child.stdout.read(count - len(output))):
+        output += more
+    return output
+
+
+def ended(child, output):
+    """How a run ended, with what was read of it before."""
+    try:
+        rest, errors = child.communicate(timeout=HANGS)
+    except subprocess.TimeoutExpired:
+        child.kill()
+        rest, errors = child.communicate()
+    return Outcome(child.returncode, output + rest, errors)
+
+
+def is_beginning(name, output):
+    """Whether these are the numbers from 0 on, up to some byte, as this run prints them."""
+    size = 16 if name == "in batches" else 1
+    copies = 3 if name == "with an expansion" else 1
+    numbers = [b"%d" % (it // copies) for it in range(len(output))]
+    lines = b"".join(b" ".join(numbers[at : at + size]) + b"\n" for at in range(0, len(numbers), size))
+    return lines.startswith(output)
+
+
+def wait_until(is_so):
+    end = time.monotonic() + HANGS
+    while not is_so() and time.monotonic() < end:
+        time.sleep(0.01)
+
+
+def unread(child):
+    """How many bytes the program has written that nobody has read."""
+    count = array.array("i", [0])
+    fcntl.ioctl(child.stdout, termios.FIONREAD, count)
+    return count[0]
+
+
+def wait_for_a_full_pipe(child):
+    """Waits until the program has written, and for a while writes no more."""
+    seen = [0]
+
+    def is_full():
+        seen.append(unread(child))
+        return seen[-1] > 0 and seen[-5:] == seen[-1:] * 5
+
+    wait_until(is_full)
+
+
+def is_at_work(child, threads):
+    return len(os.listdir(f"/proc/{child.pid}/task")) >= threads
+
+
+# (a shell shows the end by a signal as 128 and its number)
+def signals(tests):
+    for name, (words, steps, prints) in RUNS.items():
+        for workers in DEGREES:
+            words_so = [*words, "--workers", str(workers)]
+            for kind in (signal.SIGINT, signal.SIGTERM):
+                # (once while it is read, and once while nobody reads and the pipe is full)
+                for count in (READ, 0) if prints else (0,):
+                    child = started(words_so, steps)
+                    wait_until(lambda: is_at_work(child, workers + 1))
+                    output = read(child, count)
+                    if prints:
+                        wait_for_a_full_pipe(child)
+                    child.send_signal(kind)
+                    seen = ended(child, output)
+                    is_so = seen.status == -kind and seen.errors == b"" and is_beginning(name, seen.output)
+                    tests.check(f"{kind.name}: {' '.join(words_so)}, {name}, {count} bytes read", is_so, seen)
+    child = started(["run"], [], aggregate="sum")
+    wait_until(lambda: is_at_work(child, 5))
+    child.send_signal(signal.SIGTERM)
+    seen = ended(child, b"")
+    tests.check("SIGTERM: an aggregate is left unwritten", seen == Outcome(-signal.SIGTERM, b"", b""), seen)
+
+
+def readers_that_leave(tests):
+    for name, (words, steps, prints) in RUNS.items():
+        for workers in DEGREES if prints else ():
+            child = started([*words, "--workers", str(workers)], steps)
+            output = read(child, READ)
+            child.stdout.close()
+            child.stdout = open(os.devnull, "rb")
+            seen = ended(child, output)
+            is_so = (seen.status, seen.errors) == (5, WRITE_FAILED) and is_beginning(name, seen.output)
+            tests.check(f"a reader that leaves: {' '.join(words)} {name} by {workers}", is_so, seen)
+
+
+NUMBERS = 20_000
+RIGHT = Outcome(0, "".join(f"{it}\n" for it in range(NUMBERS)).encode() + b"end\n", b"")
+MANY = ["run", "--merge", "not", "--workers"]
+
+
+def answers_or_refuses(seen, right):
+    return seen == right or seen.status == 5 and seen.errors in REFUSALS and right.output.startswith(seen.output)
+
+
+def another_user():
+    """A user who has no process, or None where this one can't become another."""
+    try:
+        return pwd.getpwnam("nobody") if os.geteuid() == 0 else None
+    except KeyError:
+        return None
+
+
+def few_threads(tests):
+    """A limit of the system on threads holds for one user, who isn't root."""
+    user = another_user()
+    with tempfile.TemporaryDirectory() as folder:
+        os.chmod(folder, 0o755)
+        program = shutil.copy(PROGRAM, folder)
+        refused = 0
+        for workers in DEGREES:
+            for threads in sorted({1, 2, workers, workers + 1, workers + 200}):
+
+                def limited():
+                    resource.setrlimit(resource.RLIMIT_NPROC, (threads, threads))
+                    if user:
+                        os.setgroups([])
+                        os.setgid(user.pw_gid)
+                        os.setuid(user.pw_uid)
+
+                seen = run([*MANY, str(workers)], document({"range": [0, NUMBERS]}), program, preexec_fn=limited)
+                refused += seen.errors == REFUSALS[0]
+                tests.check(f"{threads} threads for {workers} workers", answers_or_refuses(seen, RIGHT), seen)
+        # (where other processes of this user count as well, none may be started at all)
+        tests.check("a thread was refused", refused > 0)
+
+
+def little_memory(tests):
+    kinds = set()
+    for workers in DEGREES:
+        for limit in (*range(10, 100, 10), *range(100, 1_000, 100)):
+
+            def limited():
+                resource.setrlimit(resource.RLIMIT_AS, (limit << 20, limit << 20))
+
+            seen = run([*MANY, str(workers)], document({"range": [0, NUMBERS]}), PROGRAM, preexec_fn=limited)
+            kinds.add(seen.errors)
+            tests.check(f"{limit} MiB for {workers} workers", answers_or_refuses(seen, RIGHT), seen)
+    tests.check("a thread had no memory, and there was enough", {b"", REFUSALS[0]} <= kinds, kinds)
+
+
+def main():
+    build()
+    tests = Tests()
+    signals(tests)
+    readers_that_leave(tests)
+    few_threads(tests)
+    little_memory(tests)
+    tests.end()
+
+
+if __name__ == "__main__":
+    main()
