@@ -20,6 +20,8 @@ mod cut_off;
 #[cfg(test)]
 mod decided;
 #[cfg(test)]
+mod failing_worker;
+#[cfg(test)]
 mod folds;
 #[cfg(test)]
 mod full_queue;

@@ -1,0 +1,361 @@
+//! A worker that has no room for a result while the others sleep: before the lock, before the full queue, or too far ahead.
+ghost use Rattle.std.specs.Prelude.{⊤};
+ghost use Rattle.plinq_lambda.specs.Formula.{formula_meaning};
+ghost use Rattle.plinq_lambda.specs.Short.{formula_meaning-short};
+
+use crate::asked::built;
+use crate::taken::Taken;
+use crate::waiting::{lingers, waits_for};
+use plinq_enumerator::Growth;
+use plinq_lambda::{ExpandFault, Formula, Lambda};
+use plinq_merge::Sink;
+use plinq_ops::{BuildFault, MergeOption, Query};
+use plinq_run::{Gate, RunFault, run};
+use plinq_source::{RangeSource, Source, Step};
+use std::alloc::Global;
+use std::process::Abort;
+use std::sync::Wait;
+use std::sync::atomic::{AtomicBool, AtomicU64, Ordering};
+use std::test::*;
+use std::thread::Threads;
+
+/// A run over the numbers from 0 on, of which a worker fails late.
+#[derive(Clone, Copy)]
+struct Late {
+    workers: u64,
+    is_by_key: bool,
+    /// What each number is expanded to.
+    formula: Formula,
+    /// There is no room to expand this number. That is known once workers were about to take so often, and so many chunks were
+    /// taken, and a while later.
+    failing: i64,
+    about: u64,
+    taken: u64,
+    /// This number comes only after the worker has failed.
+    slow: i64,
+    /// Whether the sink is held with its first batch until then.
+    is_held: bool,
+}
+
+/// How far a run has come.
+#[derive(Drop)]
+struct Standing {
+    /// 1 once all keys may pass the gate.
+    is_open: AtomicU64,
+    /// How often a worker was about to take, and how many chunks were taken.
+    about: AtomicU64,
+    taken: AtomicU64,
+    /// How many chunks were taken when the worker failed.
+    taken_by_then: AtomicU64,
+    /// 1 once the worker has failed.
+    failed: AtomicU64,
+    /// Whether somebody has waited for too long.
+    gave_up: AtomicBool,
+}
+
+impl Standing {
+    fn of(late: Late) -> Standing {
+        Standing {
+            is_open: AtomicU64::new(u64::from(!late.is_held)),
+            about: AtomicU64::new(0),
+            taken: AtomicU64::new(0),
+            taken_by_then: AtomicU64::new(0),
+            failed: AtomicU64::new(0),
+            gave_up: AtomicBool::new(false),
+        }
+    }
+
+    fn awaits(&self, word: &AtomicU64, least: u64) {
+        if !waits_for(word, least) {
+            self.gave_up.store(true, Ordering::SeqCst);
+        }
+    }
+
+    /// Waits until the worker has failed, and until the threads that wait because of it sleep.
+    fn awaits_failure(&self) {
+        self.awaits(&self.failed, 1);
+        lingers();
+    }
+}
+
+/// A gate that counts, and holds all keys but the first back until they may pass.
+#[derive(Drop)]
+struct Counts<'a> {
+    standing: &'a Standing,
+}
+
+impl<'a> Gate for Counts<'a> {
+    fn before_take(&self, _: u64) {
+        self.standing.about.fetch_add(1, Ordering::SeqCst);
+    }
+
+    fn after_chunk(&self, _: u64, first: u64) {
+        self.standing.taken.fetch_add(1, Ordering::SeqCst);
+        if first > 0 {
+            self.standing.awaits(&self.standing.is_open, 1);
+        }
+    }
+}
+
+/// A formula that has no room for one number.
+#[derive(Clone, Copy)]
+struct NoRoomForOne<'a> {
+    late: Late,
+    standing: &'a Standing,
+}
+
+impl<'a> Lambda for NoRoomForOne<'a> {
+    type Item = i64;
+
+    ghost meaning = { λ t. formula_meaning t.late.formula };
+
+    ghost short = { λ t x. formula_meaning-short t.late.formula x };
+
+    fn map(&self, x: i64) -> Result<i64, u32> {
+        self.late.formula.map(x)
+    }
+
+    fn test(&self, x: i64) -> Result<bool, u32> {
+        self.late.formula.test(x)
+    }
+
+    fn expand(&self, alloc: Global, x: i64) -> Result<Vec<i64>, ExpandFault> {
+        let items = self.late.formula.expand(alloc, x)?;
+        if x != self.late.failing {
+            return Ok(items);
+        }
+        let standing = self.standing;
+        standing.awaits(&standing.about, self.late.about);
+        standing.awaits(&standing.taken, self.late.taken);
+        lingers();
+        let taken = standing.taken.load(Ordering::SeqCst);
+        standing.taken_by_then.store(taken, Ordering::SeqCst);
+        standing.failed.store(1, Ordering::SeqCst);
+        Err(ExpandFault::Memory)
+    }
+}
+
+/// A range that is slow with one number, and keeps whoever asks for it inside the lock.
+#[derive(Drop)]
+struct Slow<'a> {
+    range: RangeSource,
+    slow: i64,
+    standing: &'a Standing,
+}
+
+impl<'a> Source for Slow<'a> {
+    ghost use Rattle.plinq_source.specs.Walked.{range_whole, range_given, range_walked};
+
+    type Item = i64;
+
+    ghost whole = { λ s. range_whole s.range };
+
+    ghost given = { λ s. range_given s.range };
+
+    ghost few = { λ s. (range_walked s.range).few };
+
+    ghost ends = { λ s. (range_walked s.range).ends };
+
+    ghost within = { λ s. (range_walked s.range).within };
+
+    fn next(&mut self) -> Step<i64> {
+        let step = self.range.next();
+        if let Step::Item(number) = step {
+            if number == self.slow {
+                self.standing.awaits_failure();
+            }
+        }
+        step
+    }
+}
+
+/// A sink that is held with its first batch, where it is to be.
+#[derive(Drop)]
+struct Held<'a> {
+    is_held: bool,
+    taken: Taken,
+    standing: &'a Standing,
+}
+
+impl<'a> Sink for Held<'a> {
+    type Item = i64;
+
+    ghost accepts = { λ _ _ _. ⊤ };
+
+    ghost refuses = { λ _ _ _ _. ⊤ };
+
+    fn batch(&mut self, items: &[i64]) -> Result<(), u32> {
+        if self.is_held {
+            self.standing.is_open.store(1, Ordering::SeqCst);
+            self.standing.awaits_failure();
+        }
+        self.taken.batch(items)
+    }
+}
+
+/// Whether these batches are of so many first numbers at most, each alone: by key from 0 on.
+fn are_first(batches: &[Vec<i64>], most: i64, is_by_key: bool) -> bool {
+    let mut next = 0i64;
+    for batch in batches {
+        let [number] = batch.as_slice() else {
+            return false;
+        };
+        let is_next = *number == next || !is_by_key;
+        if !is_next || *number < 0 || *number >= most {
+            return false;
+        }
+        next = next.wrapping_add(1);
+    }
+    next <= most
+}
+
+/// A query that expands each number, by key or by arrival.
+fn expanding(
+    alloc: Global,
+    late: Late,
+    standing: &Standing,
+) -> Result<Query<NoRoomForOne<'_>>, BuildFault> {
+    let query = Query::new(alloc);
+    let query = if late.is_by_key {
+        built(query.as_ordered())?
+    } else {
+        query
+    };
+    let query = built(query.with_merge(MergeOption::NotBuffered))?;
+    let query = built(query.with_degree(late.workers))?;
+    built(query.select_many(NoRoomForOne { late, standing }))
+}
+
+/// Has a run end for lack of room, and answers the batches that it delivered by then.
+fn fail_late<R: Threads + Wait + Sync + Abort>(
+    rt: &R,
+    alloc: Global,
+    late: Late,
+    standing: &Standing,
+) -> Result<Vec<Vec<i64>>, Fail> {
+    let query = expanding(alloc, late, standing)?;
+    // (the greatest range: far more than may be taken)
+    let range = RangeSource::new(0, 1_099_511_627_776)?;
+    let source = Slow {
+        range,
+        slow: late.slow,
+        standing,
+    };
+    let gate = Counts { standing };
+    let mut sink = Held {
+        is_held: late.is_held,
+        taken: Taken::new(alloc, usize::MAX),
+        standing,
+    };
+    let told = run(rt, alloc, &query, source, Growth::ONE, &gate, &mut sink);
+    assert!(rt; matches!(told, Err(RunFault::Memory)));
+    let Held { taken, .. } = sink;
+    Ok(taken.batches)
+}
+
+/// The run ends so. No more chunks than that were taken when the worker failed, and no more batches delivered.
+fn expect<R: Threads + Wait + Sync + Abort>(
+    rt: &R,
+    alloc: Global,
+    late: Late,
+    most_taken: u64,
+    most_batches: i64,
+) -> Result<(), Fail> {
+    let standing = Standing::of(late);
+    let batches = fail_late(rt, alloc, late, &standing)?;
+    assert!(rt; !standing.gave_up.load(Ordering::SeqCst));
+    let taken = standing.taken_by_then.load(Ordering::SeqCst);
+    assert!(rt; taken <= most_taken, "{taken} of {most_taken}");
+    assert!(rt; are_first(&batches, most_batches, late.is_by_key));
+    Ok(())
+}
+
+const WORKERS: [u64; 3] = [2, 8, 64];
+
+const ONCE: Formula = Formula::Repeat(1);
+
+/// Number 3 fails once number 4 is kept inside the lock, and all other workers have passed the gate before it.
+#[test]
+fn a_run_ends_whose_workers_sleep_before_the_lock(rt: HostRuntime) -> Result<(), Fail> {
+    for workers in WORKERS {
+        for is_by_key in [true, false] {
+            let late = Late {
+                workers,
+                is_by_key,
+                formula: ONCE,
+                failing: 3,
+                about: workers.saturating_add(3),
+                taken: 4,
+                slow: 4,
+                is_held: false,
+            };
+            expect(&rt, rt.alloc(), late, 4, 3)?;
+        }
+    }
+    Ok(())
+}
+
+/// Number 1 fails once the sink is held with number 0, 64 results fill the queue, and each other worker has one more.
+#[test]
+fn a_run_ends_whose_workers_sleep_before_the_queue(rt: HostRuntime) -> Result<(), Fail> {
+    for workers in WORKERS {
+        for is_by_key in [true, false] {
+            let taken = workers.saturating_add(65);
+            let late = Late {
+                workers,
+                is_by_key,
+                formula: ONCE,
+                failing: 1,
+                about: 0,
+                taken,
+                slow: -1,
+                is_held: true,
+            };
+            expect(&rt, rt.alloc(), late, taken, 1)?;
+        }
+    }
+    Ok(())
+}
+
+/// Number 0 fails once the others have taken all of the window, and each but one of them one more.
+#[test]
+fn a_run_ends_whose_workers_sleep_before_the_window(rt: HostRuntime) -> Result<(), Fail> {
+    for workers in WORKERS {
+        // (64 chunks of one element for each worker, and number 0)
+        let taken = workers.saturating_mul(64).saturating_add(1);
+        let late = Late {
+            workers,
+            is_by_key: true,
+            formula: ONCE,
+            failing: 0,
+            about: 0,
+            taken,
+            slow: -1,
+            is_held: false,
+        };
+        let most = taken.saturating_add(workers).saturating_sub(2);
+        expect(&rt, rt.alloc(), late, most, 0)?;
+    }
+    Ok(())
+}
+
+/// Number 0 fails once each worker has taken, and as many items were sent as may be ahead of what is merged.
+#[test]
+fn a_run_ends_whose_workers_sleep_over_items(rt: HostRuntime) -> Result<(), Fail> {
+    for workers in WORKERS {
+        let late = Late {
+            workers,
+            is_by_key: true,
+            formula: Formula::Repeat(1_000),
+            failing: 0,
+            about: 0,
+            taken: workers,
+            slow: -1,
+            is_held: false,
+        };
+        // (64 items for each worker, so that some may take a second time)
+        let again = workers.saturating_mul(64) / 1_000;
+        expect(&rt, rt.alloc(), late, workers.saturating_add(again), 0)?;
+    }
+    Ok(())
+}
