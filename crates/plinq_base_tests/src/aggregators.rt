@@ -96,6 +96,10 @@ fn sums_and_counts_wrap(rt: HostRuntime) -> Result<(), Fail> {
     assert_eq!(rt; Sum.combine(i128::MIN, -1), i128::MAX);
     assert_eq!(rt; Count.update(u64::MAX, 7), 0);
     assert_eq!(rt; Count.combine(u64::MAX, 3), 2);
+    assert_eq!(rt;
+        Count.combine(9_223_372_036_854_775_808, 4_611_686_018_427_387_904),
+        13_835_058_055_282_163_712
+    );
     Ok(())
 }
 
