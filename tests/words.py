@@ -9,8 +9,8 @@ import subprocess
 from support.program import EXAMPLES, HANGS, ROOT, Outcome, Tests, build, run
 
 MORE = "\nFor more information, try '--help'.\n"
-USAGE = "\nUsage: plinq <COMMAND>\n" + MORE
-OPTIONS = "\nUsage: plinq run [OPTIONS]\n" + MORE
+USAGE = "\nUsage: plinq <COMMAND> [OPTIONS] < DOCUMENT\n" + MORE
+OPTIONS = "\nUsage: plinq run [OPTIONS] < DOCUMENT\n" + MORE
 
 REFUSED = {
     "": "error: 'plinq' requires a subcommand but one was not provided\n  [subcommands: run, seq, plan, parts, history]\n" + USAGE,
@@ -21,6 +21,7 @@ REFUSED = {
     "--version": "error: unexpected argument '--version' found\n" + USAGE,
     "--workers 2 run": "error: unexpected argument '--workers' found\n\n  tip: 'run --workers' exists\n" + USAGE,
     "--merge not run": "error: unexpected argument '--merge' found\n\n  tip: 'run --merge' exists\n" + USAGE,
+    "run document.json": "error: unexpected argument 'document.json' found\n" + OPTIONS,
     "run more": "error: unexpected argument 'more' found\n" + OPTIONS,
     "run seq": "error: unexpected argument 'seq' found\n" + OPTIONS,
     "run --version": "error: unexpected argument '--version' found\n" + OPTIONS,
@@ -36,7 +37,7 @@ REFUSED = {
 
 HELP = """Answers the query of a JSON document, which it reads from standard input
 
-Usage: plinq <COMMAND>
+Usage: plinq <COMMAND> [OPTIONS] < DOCUMENT
 
 Commands:
   run      Answers the query
@@ -57,6 +58,11 @@ Each command takes --workers N, from 1 to 64, and --merge with one of these word
 As many workers as there are cores answer soonest, and more cost little. Where --workers isn't given there are 4, or as
 many as the query asks for by with_degree.
 
+The first mistake of a refused document is shown, as these are:
+  wrong shape      a name or a value is missing, or isn't one that a document may have
+  step K: unknown  step K of the query, counted from 0, is none of the steps, or has other values than that step
+plan checks a document, and asks its source for nothing.
+
 Exit status:
   0  the answer came to its end, or help was shown
   2  the arguments or the document were refused
@@ -76,7 +82,7 @@ ABOUT = {
 }
 COMMAND_HELP = """
 
-Usage: plinq {} [OPTIONS]
+Usage: plinq {} [OPTIONS] < DOCUMENT
 
 Options:
       --workers <N>     The degree of parallelism, from 1 to 64: as many as cores; more cost little

@@ -25,6 +25,11 @@ const AFTER_HELP: &str =
 As many workers as there are cores answer soonest, and more cost little. Where --workers isn't given there are 4, or as
 many as the query asks for by with_degree.
 
+The first mistake of a refused document is shown, as these are:
+  wrong shape      a name or a value is missing, or isn't one that a document may have
+  step K: unknown  step K of the query, counted from 0, is none of the steps, or has other values than that step
+plan checks a document, and asks its source for nothing.
+
 Exit status:
   0  the answer came to its end, or help was shown
   2  the arguments or the document were refused
@@ -67,26 +72,42 @@ fn command_line<'a>(alloc: Global) -> Result<clap::Command<'a>, AllocError>
     let merge = ValueParser::from(MERGE_WORDS.as_slice());
     clap::Command::new(alloc, "plinq")
         .about("Answers the query of a JSON document, which it reads from standard input")
+        .override_usage("plinq <COMMAND> [OPTIONS] < DOCUMENT")
         .after_help(AFTER_HELP)
         .disable_help_subcommand(true)
         .subcommand_required(true)
-        .subcommand(subcommand(alloc, "run", "Answers the query", merge)?)?
-        .subcommand(subcommand(alloc, "seq", "Answers the query on one thread", merge)?)?
+        .subcommand(subcommand(
+            alloc,
+            "run",
+            "plinq run [OPTIONS] < DOCUMENT",
+            "Answers the query",
+            merge,
+        )?)?
+        .subcommand(subcommand(
+            alloc,
+            "seq",
+            "plinq seq [OPTIONS] < DOCUMENT",
+            "Answers the query on one thread",
+            merge,
+        )?)?
         .subcommand(subcommand(
             alloc,
             "plan",
+            "plinq plan [OPTIONS] < DOCUMENT",
             "Shows how the query is shared among workers",
             merge,
         )?)?
         .subcommand(subcommand(
             alloc,
             "parts",
+            "plinq parts [OPTIONS] < DOCUMENT",
             "Shows the source cut into partitions",
             merge,
         )?)?
         .subcommand(subcommand(
             alloc,
             "history",
+            "plinq history [OPTIONS] < DOCUMENT",
             "Shows the requests of partitions that take from the source in turn",
             merge,
         )?)
@@ -95,6 +116,7 @@ fn command_line<'a>(alloc: Global) -> Result<clap::Command<'a>, AllocError>
 fn subcommand<'a>(
     alloc: Global,
     name: &'a str,
+    usage: &'a str,
     about: &'a str,
     merge_words: ValueParser<'a>,
 ) -> Result<clap::Command<'a>, AllocError>
@@ -112,6 +134,7 @@ fn subcommand<'a>(
         .help("How results are handed over")
         .value_parser(merge_words);
     clap::Command::new(alloc, name)
+        .override_usage(usage)
         .about(about)
         .arg(workers)?
         .arg(merge)

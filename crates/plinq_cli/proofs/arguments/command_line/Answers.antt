@@ -13,7 +13,8 @@ returns c =
     let q = c.from-merge.result in
     let words_are : map (λ name. name.now) c.as_slice.result.now ≡ merge_words = ap (map (λ (name : Bor (List ℕ)). name.now)) c.as_slice.ensures in
     let parser_is : q ≡ parser.Names c.as_slice.result = search rules in
-    let helped : app_of c.after_help.result ≡ new_app (codes "plinq") = ap app_of_fields c.after_help.ensures ∙ (ap app_of_fields c.about.ensures ∙ c.new.ensures.app) in
+    let helped : app_of c.after_help.result ≡ new_app (codes "plinq") =
+    ap app_of_fields c.after_help.ensures ∙ (ap app_of_fields c.override_usage.ensures ∙ (ap app_of_fields c.about.ensures ∙ c.new.ensures.app)) in
     let unhelped : app_of c.disable_help_subcommand.result ≡ on_top (λ s. record s { disable_help_subcommand = true }) (new_app (codes "plinq")) =
     ap app_of_fields c.disable_help_subcommand.ensures ∙ ap (on_top (λ s. record s { disable_help_subcommand = true })) helped in
     let bare : app_of c.subcommand_required.result ≡ bare_app =
