@@ -1,5 +1,6 @@
 #!/usr/bin/env python3
-"""Looks whether what the pages name is there: each link's target, and each file that is named by its path in a crate.
+"""Looks whether what the pages name is there: each link's target, and each file that is named by its path in a crate; and
+whether they are short: README in 7,000 bytes, docs/ in 70,000, and no sentence of README of more than 30 words.
 
     python3 tests/pages.py
 """
@@ -25,12 +26,36 @@ def pages():
         yield from (os.path.relpath(os.path.join(at, it), ROOT) for it in sorted(names) if it.endswith(".md"))
 
 
+def sentences(text):
+    """The sentences of a page's paragraphs, and those of each cell of its tables; code that stands apart is left out."""
+    text = re.sub(r"^    .*$", "", re.sub(r"<!--.*?-->", "", text, flags=re.S), flags=re.M)
+    text = re.sub(r"\]\([^)]*\)", "]", text)
+    for part in re.split(r"\n\n|\n(?=[-|>#])", text):
+        for cell in part.split("|") if part.startswith("|") else [part]:
+            yield from re.split(r"(?<=[.:;?!])\s+", cell.strip())
+
+
+def size(page):
+    return os.path.getsize(os.path.join(ROOT, page))
+
+
+def lengths(tests):
+    with open(os.path.join(ROOT, "README.md"), encoding="utf-8") as file:
+        found = list(sentences(file.read()))
+    long = [it for it in found if len(re.findall(r"\S*\w\S*", it)) > 30]
+    tests.check("README.md has sentences, none of more than 30 words", len(found) > 50 and not long, long or len(found))
+    tests.check("README.md has at most 7,000 bytes", size("README.md") <= 7_000, size("README.md"))
+    total = sum(size(it) for it in pages() if it.startswith("docs/"))
+    tests.check("docs/ has at most 70,000 bytes", 0 < total <= 70_000, total)
+
+
 def main():
     tests = Tests()
     for page in pages():
         with open(os.path.join(ROOT, page), encoding="utf-8") as file:
             missing = sorted({it for it in named(page, file.read()) if not os.path.exists(os.path.join(ROOT, it))})
         tests.check(page, not missing, f"names what isn't there: {', '.join(missing)}")
+    lengths(tests)
     tests.end()
 
 
