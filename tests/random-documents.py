@@ -18,14 +18,17 @@ from support.program import PROGRAM, Outcome, Tests, build, run
 FEW = 5
 
 
-def shortened(source):
+def shortened(source, few=FEW):
     """A source of few items, of the same kind."""
+    if "concat" in source:
+        first, second = source["concat"]
+        return {"concat": [shortened(first, few // 2), shortened(second, few - few // 2)]}
     if "list" in source:
-        return source | {"list": source["list"][:FEW]}
+        return source | {"list": source["list"][:few]}
     if "text" in source:
-        return {"text": " ".join(re.findall("[^ \n]+", source["text"])[:FEW])}
+        return {"text": " ".join(re.findall("[^ \n]+", source["text"])[:few])}
     ((kind, (first, count)),) = source.items()
-    return {kind: [first, min(count, FEW)]}
+    return {kind: [first, min(count, few)]}
 
 
 def gives_order_up(steps):
@@ -78,7 +81,10 @@ def some_formula(chance):
     return [name, some_number(chance)]
 
 
-def some_source(chance):
+def some_source(chance, version):
+    """A source that documents of this version may have."""
+    if version == 2 and chance.random() < 0.5:
+        return {"concat": [some_source(chance, 1), some_source(chance, 1)]}
     numbers = [some_number(chance) if chance.random() < 0.3 else chance.randint(-3, 30) for _ in range(chance.choice([0, 1, 3, 8, 20, 150]))]
     kind = chance.choice(["list", "refuse", "text", "range", "repeat"])
     if kind == "list":
@@ -125,7 +131,7 @@ def main():
     seen_endings = set()
     while tests.passed + tests.failed < 1500:
         version = chance.choice([1, 2])
-        source, steps = some_source(chance), some_steps(chance, version)
+        source, steps = some_source(chance, version), some_steps(chance, version)
         if is_too_long(source, steps):
             continue
         command = chance.choice(["run", "run", "run", "seq", "plan", "parts", "history"])

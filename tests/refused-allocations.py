@@ -17,8 +17,8 @@ OUT_OF_MEMORY = b"plinq: out of memory\n"
 NO_THREAD = b"plinq: no thread\n"
 
 
-def document(source, *steps, **more):
-    return json.dumps({"version": 1, "source": source, "query": [["as_ordered"], *steps], **more}).encode()
+def document(source, *steps, version=1, **more):
+    return json.dumps({"version": version, "source": source, "query": [["as_ordered"], *steps], **more}).encode()
 
 
 LIST = {"list": [3, 1, 4]}
@@ -34,6 +34,7 @@ ANSWERED = [
     document({"list": [5, 0, 2]}, ["select", "into", 10]),
     document({"list": [9223372036854775807]}, ["select", "add", 1]),
     document({"list": [9, 3, 8]}, ["filter", "even"], aggregate="max"),
+    document({"concat": [{"list": [3, 1, 4]}, {"text": "1 5 x"}]}, version=2),
 ]
 # (one item, which has one order)
 UNORDERED = b'{"version":1,"source":{"list":[4],"refuse":7},"query":[["select","add",1]]}'

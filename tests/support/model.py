@@ -113,6 +113,9 @@ def through(steps, items, ending):
 
 def given(source):
     """The items of a source, and how it ends."""
+    if "concat" in source:
+        (items, ending), second = map(given, source["concat"])
+        return (items + second[0], second[1]) if ending == "end" else (items, ending)
     if "list" in source:
         return source["list"], f"refused {source['refuse']}" if "refuse" in source else "end"
     if "range" in source:
