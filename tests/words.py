@@ -30,6 +30,8 @@ REFUSED = {
     "run --workers": "error: a value is required for '--workers <N>' but none was supplied\n" + MORE,
     "run --workers 0": "error: invalid value '0' for '--workers <N>': 0 is not in 1..=64\n" + MORE,
     "run --workers 65": "error: invalid value '65' for '--workers <N>': 65 is not in 1..=64\n" + MORE,
+    "run --workers -1": "error: unexpected argument '-1' found\n" + OPTIONS,
+    "run --workers=-1": "error: invalid value '-1' for '--workers <N>': invalid digit found in string\n" + MORE,
     "run --workers x": "error: invalid value 'x' for '--workers <N>': invalid digit found in string\n" + MORE,
     "seq --merge some": "error: invalid value 'some' for '--merge <OPTION>'\n  [possible values: not, auto, full, default]\n" + MORE,
     "run --merge some": "error: invalid value 'some' for '--merge <OPTION>'\n  [possible values: not, auto, full, default]\n" + MORE,
