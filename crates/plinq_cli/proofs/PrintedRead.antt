@@ -15,7 +15,6 @@ use Rattle.plinq_document.specs.Values.{only_whole_number, only_count, only_text
 use Rattle.plinq_document.specs.Formulas.{formula_of, formula_from, formula_alone, formula_with, words_alone, words_with}
 use Rattle.plinq_document.specs.Steps.{call_from, call_named, call_alone, merge_word, merge_words, step_names}
 use Rattle.plinq_document.specs.declared.version.Version.TheVariants.{One, Two}
-use Rattle.plinq_document.specs.declared.step_name.StepName.TheVariants as step
 use Rattle.plinq_document.specs.declared.step_call.StepCall.{StepCall}
 use Rattle.plinq_document.specs.declared.step_call.StepCall.TheVariants as call
 use Rattle.plinq_lines.specs.OpWords.{formula_name, formula_number, op_name}
@@ -219,16 +218,30 @@ first-or_none : (ds : Items) (word : List ℕ) (o : Option StepCall) → option_
 first-or_none ds word None is = refl
 first-or_none ds word (Some c) is = sym (chosen (step_names One) (λ n. call_named n ds) (λ w x. IsFirst x) word c (named-first ds) is)
 
-call_from-word : (ds : Items) (word : List ℕ) → call_from One (item (string word) ds) ≡ in_version_one (call_from Two (item (string word) ds))
-call_from-word ds word = go (bytes_eq word (codes "skip_while")) refl
+abbrev rest_of : {A : Type 0} → List A → List A
+rest_of [] = []
+rest_of (row ∷ rows) = rows
+
+-- the word of a table's first row is in no other, and what stands beside it is no call of version 1
+abbrev IsNew : {A : Type 0} → (A → Option StepCall) → List (List ℕ × A) → Type 0
+IsNew use_of [] = ⊤
+IsNew use_of (row ∷ rows) = (option_and_then use_of (beside rows row.0) ≡ None) × (in_version_one (use_of row.1) ≡ None)
+
+without-new : {A : Type 0} (table : List (List ℕ × A)) (use_of : A → Option StepCall) (word : List ℕ) → IsNew use_of table
+    → ((o : Option StepCall) → option_and_then use_of (beside (rest_of table) word) ≡ o → o ≡ in_version_one o)
+    → option_and_then use_of (beside (rest_of table) word) ≡ in_version_one (option_and_then use_of (beside table word))
+without-new [] use_of word is_new others = refl
+without-new (row ∷ rows) use_of word is_new others = go (bytes_eq word row.0) refl
   where
-    go : (b : Bool) → bytes_eq word (codes "skip_while") ≡ b
-        → option_and_then (λ n. call_named n ds) (beside (step_names One) word)
-        ≡ in_version_one (option_and_then (λ n. call_named n ds) (if b then Some step.SkipWhile else beside (step_names One) word))
+    go : (b : Bool) → bytes_eq word row.0 ≡ b
+        → option_and_then use_of (beside rows word) ≡ in_version_one (option_and_then use_of (if b then Some row.1 else beside rows word))
     go true e =
-        ap (λ w. option_and_then (λ n. call_named n ds) (beside (step_names One) w)) ((bytes_eq-Decides word (codes "skip_while")).0 e)
-        ∙ sym (without_skip_while (formula_of ds))
-    go false e = first-or_none ds word (option_and_then (λ n. call_named n ds) (beside (step_names One) word)) refl
+        ap (λ w. option_and_then use_of (beside rows w)) ((bytes_eq-Decides word row.0).0 e)
+        ∙ is_new.0 ∙ sym is_new.1
+    go false e = others (option_and_then use_of (beside rows word)) refl
+
+call_from-word : (ds : Items) (word : List ℕ) → call_from One (item (string word) ds) ≡ in_version_one (call_from Two (item (string word) ds))
+call_from-word ds word = without-new (step_names Two) (λ n. call_named n ds) word (refl, without_skip_while (formula_of ds)) (first-or_none ds word)
 
 -- version 1 reads what version 2 does, but for a SkipWhile
 pub call_from-first : (ds : Items) → call_from One ds ≡ in_version_one (call_from Two ds)
