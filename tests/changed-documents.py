@@ -106,6 +106,7 @@ LIMITS = [
 ]
 VERSIONS = [
     ("1", "1\nend\n"),
+    ("2", "1\nend\n"),
     ("0", "unknown version"),
     ("-1", "unknown version"),
     ("3", "unknown version"),

@@ -10,7 +10,8 @@ LONGEST = 16_777_216
 DEEPEST = 127
 MOST_STEPS, MOST_ELEMENTS, MOST_WORKERS, LARGEST_CHUNK = 1_000, 2**40, 64, 65_536
 FORMULAS = {"add": 1, "mul": 1, "mod": 1, "into": 1, "below": 1, "above": 1, "equal": 1, "repeat": 1, "even": 0, "up_to": 0}
-WITH_FORMULA = ("select", "filter", "select_many", "take_while")
+# The steps with a formula by the version of the document.
+WITH_FORMULA = {1: ("select", "filter", "select_many", "take_while"), 2: ("select", "filter", "select_many", "take_while", "skip_while")}
 
 
 class Refused(Exception):
@@ -64,7 +65,7 @@ def is_pair(value):
     return isinstance(value, list) and len(value) == 2 and is_whole(value[0]) and is_count(value[1])
 
 
-def read_source(source):
+def has_source_shape(source):
     has_shape(isinstance(source, dict) and set(source) in ({"list"}, {"list", "refuse"}, {"text"}, {"range"}, {"repeat"}))
     if "list" in source:
         has_shape(isinstance(source["list"], list) and all(map(is_whole, source["list"])))
@@ -72,11 +73,28 @@ def read_source(source):
     if "text" in source:
         has_shape(isinstance(source["text"], str))
     for name in ("range", "repeat"):
-        if name in source:
-            has_shape(is_pair(source[name]))
-            first, count = source[name]
-            if count > MOST_ELEMENTS or name == "range" and first + max(count, 1) - 1 > GREATEST:
-                raise Refused("source too large")
+        has_shape(name not in source or is_pair(source[name]))
+
+
+def bound(source):
+    """The most elements that a source of this shape may have, by what its value states."""
+    if "range" in source:
+        first, count = source["range"]
+        if first + max(count, 1) - 1 > GREATEST:
+            raise Refused("source too large")
+    if "text" in source:
+        return len(source["text"].encode())
+    return len(source["list"]) if "list" in source else source.get("range", source.get("repeat"))[1]
+
+
+def read_source(source, version):
+    is_two = version == 2 and isinstance(source, dict) and set(source) == {"concat"}
+    has_shape(not is_two or isinstance(source["concat"], list) and len(source["concat"]) == 2)
+    parts = source["concat"] if is_two else [source]
+    for part in parts:
+        has_source_shape(part)
+    if sum(map(bound, parts)) > MOST_ELEMENTS:
+        raise Refused("source too large")
 
 
 def read_growth(growth):
@@ -89,8 +107,8 @@ def read_growth(growth):
         raise Refused("growth: max too large")
 
 
-def is_known(name, rest):
-    if name in WITH_FORMULA:
+def is_known(name, rest, version):
+    if name in WITH_FORMULA[version]:
         return bool(rest) and isinstance(rest[0], str) and FORMULAS.get(rest[0]) == len(rest) - 1 and all(map(is_whole, rest[1:]))
     if name in ("take", "skip"):
         return len(rest) == 1 and is_whole(rest[0])
@@ -112,10 +130,10 @@ def why_not(name, rest, earlier):
     return None
 
 
-def read_steps(steps):
+def read_steps(steps, version):
     names = []
     for at, step in enumerate(steps):
-        if not isinstance(step, list) or not step or not isinstance(step[0], str) or not is_known(step[0], step[1:]):
+        if not isinstance(step, list) or not step or not isinstance(step[0], str) or not is_known(step[0], step[1:], version):
             raise Refused(f"step {at}: unknown")
         why = why_not(step[0], step[1:], names)
         if why:
@@ -129,14 +147,15 @@ def read(text):
         raise Refused("too long")
     value = json_of(text)
     has_shape(isinstance(value, dict) and is_whole(value.get("version")))
-    if value["version"] != 1:
+    version = value["version"]
+    if version not in (1, 2):
         raise Refused("unknown version")
     has_shape(set(value) <= {"version", "source", "query", "growth", "aggregate"} and "source" in value)
     has_shape(isinstance(value.get("query"), list) and len(value["query"]) <= MOST_STEPS)
     growth = value.setdefault("growth", [1, 3, 512])
     has_shape(isinstance(growth, list) and len(growth) == 3 and all(map(is_count, growth)))
     has_shape("aggregate" not in value or value["aggregate"] in ("sum", "count", "min", "max"))
-    read_source(value["source"])
+    read_source(value["source"], version)
     read_growth(growth)
-    read_steps(value["query"])
+    read_steps(value["query"], version)
     return value
