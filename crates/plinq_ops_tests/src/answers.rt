@@ -204,7 +204,6 @@ fn worked_rows(rt: HostRuntime) -> Result<(), Fail> {
     Ok(())
 }
 
-// What stands behind the last element of a Take still has its say on that element.
 #[test]
 fn from_the_first_that_fails(rt: HostRuntime) -> Result<(), Fail> {
     let below: &[Op<Formula>] = &[Op::SkipWhile(Formula::Below(5))];
@@ -249,6 +248,7 @@ fn from_the_first_that_fails(rt: HostRuntime) -> Result<(), Fail> {
     Ok(())
 }
 
+// What stands behind the last element of a Take still has its say on that element.
 #[test]
 fn behind_a_take(rt: HostRuntime) -> Result<(), Fail> {
     let rows: [Row<'_>; 5] = [
