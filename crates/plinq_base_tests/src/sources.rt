@@ -1,5 +1,6 @@
 use plinq_source::{
-    ListSource, OutOfMemory, RangeSource, RepeatSource, Source, SourceFault, Step, TextSource,
+    ConcatSource, ListSource, OutOfMemory, RangeSource, RepeatSource, Source, SourceFault, Step,
+    TextSource,
 };
 use std::alloc::{AllocError, Global};
 use std::process::Abort;
@@ -125,6 +126,38 @@ fn lists(rt: HostRuntime) -> Result<(), Fail> {
         ListSource::refusing(rt.alloc(), Vec::new(rt.alloc()), 0),
         &[],
         Step::Refused(0),
+    );
+    Ok(())
+}
+
+#[test]
+fn concatenations(rt: HostRuntime) -> Result<(), Fail> {
+    let items = vec![in rt.alloc(); 1, 2]?;
+    walks(
+        &rt,
+        ConcatSource::new(ListSource::new(rt.alloc(), items), RangeSource::new(5, 2)?),
+        &[1, 2, 5, 6],
+        Step::End,
+    );
+    let items = vec![in rt.alloc(); 1]?;
+    walks(
+        &rt,
+        ConcatSource::new(
+            ListSource::refusing(rt.alloc(), items, 7),
+            RangeSource::new(2, 1)?,
+        ),
+        &[1],
+        Step::Refused(7),
+    );
+    let items = vec![in rt.alloc(); 9]?;
+    walks(
+        &rt,
+        ConcatSource::new(
+            RepeatSource::new(5, 0)?,
+            ListSource::refusing(rt.alloc(), items, 1),
+        ),
+        &[9],
+        Step::Refused(1),
     );
     Ok(())
 }
