@@ -169,6 +169,7 @@ REFUSED = [
     ("run", '{"version":1,"source":{"list":[]},"query":[],"growth":[-1,3,512]}', "wrong shape"),
     ("run", '{"version":1,"source":{"range":[0,1099511627777]},"query":[],"growth":[0,3,512]}', "source too large"),
     ("run", '{"version":1,"source":{"list":[]},"query":[["sort"]],"growth":[0,3,512]}', "growth: zero"),
+    ("run", '{"version":2,"source":{"concat":[{"text":"é"},{"range":[0,1099511627775]}]},"query":[]}', "source too large"),
 ]
 
 # Queries of one step that isn't known.
@@ -217,6 +218,9 @@ SHOWN = [
     ("history --workers 1", '{"version":2,"source":{"concat":[{"list":[1]},{"list":[],"refuse":7}]},"query":[]}', ["ticket 0 ask 1 first 0 count 1", "ticket 1 ask 1 first 1 count 0 refused 7", "refused 7"], 3),
     ("seq", '{"version":1,"source":{"list":[1,2,3]},"query":[["take",2]]}', ["1 2", "end"], 0),
     ("run", '{"version":1,"source":{"list":[1],"refuse":4294967295},"query":[]}', ["1", "refused 4294967295"], 3),
+    # Two sources of exactly 2^40 items together, of which a text's are its bytes.
+    ("run", '{"version":2,"source":{"concat":[{"list":[7]},{"range":[0,1099511627775]}]},"query":[["as_ordered"],["take",2]]}', ["7 0", "end"], 0),
+    ("run", '{"version":2,"source":{"concat":[{"text":"é"},{"range":[0,1099511627774]}]},"query":[]}', ["refused 1"], 3),
     ("plan", '{"version":1,"source":{"list":[1]},"query":[],"aggregate":"sum"}', ["workers 4", "merge auto", "order arrival", "worker none", "after none"], 0),
     ("parts --workers 1", '{"version":1,"source":{"list":[4,2]},"query":[],"aggregate":"min"}', ["properties true true true", "0: 0=4 1=2", "end"], 0),
     ("history --workers 1", '{"version":1,"source":{"list":[]},"query":[],"aggregate":"max"}', ["ticket 0 ask 1 first 0 count 0 ended", "end"], 0),
