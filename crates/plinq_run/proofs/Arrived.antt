@@ -12,6 +12,7 @@ use Rattle.plinq_source.specs.declared.ending.Ending.{Ending}
 use Rattle.plinq_source.specs.Trace.{Trace, open_trace, followed}
 use Rattle.plinq_source.proofs.Followed.{trace_of, followed-open_nil}
 use Rattle.plinq_lambda.specs.Meaning.{Meaning}
+use Rattle.plinq_ops.specs.declared.op.Op.{Op}
 use Rattle.plinq_ops.specs.declared.order.Order.TheVariants.{ByArrival}
 use Rattle.plinq_ops.specs.declared.plan.Plan.{Plan}
 use Rattle.plinq_ops.specs.declared.results.ChunkResult.{ChunkResult}
