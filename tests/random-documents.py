@@ -127,9 +127,9 @@ def is_too_long(source, steps):
 def main():
     build()
     tests = Tests()
-    chance = random.Random(4)
+    chance = random.Random(5)
     seen_endings = set()
-    while tests.passed + tests.failed < 1500:
+    while tests.passed + tests.failed < 2000:
         version = chance.choice([1, 2])
         source, steps = some_source(chance, version), some_steps(chance, version)
         if is_too_long(source, steps):
