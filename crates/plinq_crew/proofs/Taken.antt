@@ -6,14 +6,14 @@ use Rattle.std.specs.Prelude.{nat_lt, if◌then◌else◌}
 use Rattle.std.specs.Option.{IfSome}
 use Rattle.plinq_source.specs.declared.ending.Ending.{Ending}
 use Rattle.plinq_source.specs.declared.ending.Ending.TheVariants.{End, Refused, Fault}
-use Rattle.plinq_source.specs.Trace.{Trace}
+use Rattle.plinq_source.specs.Trace.{Trace, items_from}
 use Rattle.plinq_lambda.specs.Meaning.{Meaning}
 use Rattle.plinq_keyed.specs.declared.chunk.Chunk.{Chunk}
 use Rattle.plinq_keyed.specs.declared.event.Event.{Event}
 use Rattle.plinq_keyed.specs.declared.event.Event.TheVariants.{Ask, Close}
 use Rattle.plinq_keyed.specs.declared.record.Record.{Record}
 use Rattle.plinq_keyed.specs.declared.tail.Tail.{Tail}
-use Rattle.plinq_keyed.specs.History.{Place, reply, recorded, ending_tail, items_from}
+use Rattle.plinq_keyed.specs.History.{Place, reply, recorded, ending_tail}
 use Rattle.plinq_enumerator.specs.Growing.{GrowthRule}
 use Rattle.plinq_partition.specs.Partitions.{Holding, IsTaken}
 use Rattle.plinq_ops.specs.declared.order.Order.TheVariants.{ByArrival}

@@ -1,5 +1,5 @@
 use crate::plain_source::PlainSource;
-use plinq_source::{ConcatSource, Source, Step};
+use plinq_source::{ConcatSource, Ending, Source, Step};
 
 /// The source that a document describes.
 #[derive(Drop)]
@@ -29,6 +29,13 @@ impl Source for AnySource {
         match self {
             AnySource::Plain(source) => source.next(),
             AnySource::Concat(source) => source.next(),
+        }
+    }
+
+    fn fill(&mut self, items: &mut Vec<i64>, n: u64) -> Option<Ending> {
+        match self {
+            AnySource::Plain(source) => source.fill(items, n),
+            AnySource::Concat(source) => source.fill(items, n),
         }
     }
 }

@@ -1,4 +1,4 @@
-use plinq_source::{ListSource, RangeSource, RepeatSource, Source, Step, TextSource};
+use plinq_source::{Ending, ListSource, RangeSource, RepeatSource, Source, Step, TextSource};
 
 /// A source of one piece: one of the five that a document may describe, the list that refuses among them.
 #[derive(Drop)]
@@ -28,12 +28,23 @@ impl Source for PlainSource {
 
     ghost within = { λ s. (plain_walked s).within };
 
+    // Inlined, since it runs once an item where a query asks for one at a time.
+    #[inline(always)]
     fn next(&mut self) -> Step<i64> {
         match self {
             PlainSource::List(source) => source.next(),
             PlainSource::Text(source) => source.next(),
             PlainSource::Range(source) => source.next(),
             PlainSource::Repeat(source) => source.next(),
+        }
+    }
+
+    fn fill(&mut self, items: &mut Vec<i64>, n: u64) -> Option<Ending> {
+        match self {
+            PlainSource::List(source) => source.fill(items, n),
+            PlainSource::Text(source) => source.fill(items, n),
+            PlainSource::Range(source) => source.fill(items, n),
+            PlainSource::Repeat(source) => source.fill(items, n),
         }
     }
 }

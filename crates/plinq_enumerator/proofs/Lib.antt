@@ -1,3 +1,2 @@
-pub mod ItemSteps
 pub mod Next
 pub mod Sizes

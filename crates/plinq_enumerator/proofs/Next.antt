@@ -1,12 +1,12 @@
 -- The records that the enumerator writes are those of the answers that it gives.
 use Rattle.std.proofs.Common.{◌≡◌, ℕ, ◌+◌, ◌-◌, true, false, cond, ltb, List, [], ◌∷◌, ◌++◌, length, Option, Some, None, sym, ap, ◌∙◌, add-zero}
-use Rattle.plinq_source.specs.Trace.{Trace}
+use Rattle.plinq_source.specs.Trace.{Trace, items_from}
 use Rattle.plinq_keyed.specs.declared.tail.Tail.{Tail}
 use Rattle.plinq_keyed.specs.declared.tail.Tail.TheVariants.{Closed}
 use Rattle.plinq_keyed.specs.declared.event.Event.{Event}
 use Rattle.plinq_keyed.specs.declared.event.Event.TheVariants.{Ask, Close}
 use Rattle.plinq_keyed.specs.declared.record.Record.{Record}
-use Rattle.plinq_keyed.specs.History.{Place, start, reply, no_items, next_items, items_from, place_behind, place_after, recorded, is_legal_history, next_record, tickets_below, ending_tail}
+use Rattle.plinq_keyed.specs.History.{Place, start, reply, no_items, next_items, place_behind, place_after, recorded, is_legal_history, next_record, tickets_below, ending_tail}
 use Rattle.plinq_keyed.proofs.Legal.{place_after-append, IsLegalHistory-append}
 
 abbrev pub record_of : ℕ → Event → ℕ → ℕ → Option Tail → Record

@@ -1,8 +1,21 @@
 ghost use Rattle.std.specs.Prelude.{◌≡◌, ◌≤◌, ◌+◌, ◌-◌, [], length, vec_capacity, vec_len, nat_lt, if◌then◌else◌};
-ghost use Rattle.plinq_keyed.specs.History.{items_from, ending_tail};
+ghost use Rattle.plinq_source.specs.Trace.{items_from};
+ghost use Rattle.plinq_keyed.specs.History.{ending_tail};
 
 use plinq_keyed::Tail;
-use plinq_source::{Source, Step};
+use plinq_source::{Ending, Source};
+
+// The tail of a chunk with which its source ended so, or didn't yet.
+fn tail_of(ending: Option<Ending>) -> Option<Tail>
+    ensures { result ≡ ending_tail ending }
+{
+    match ending {
+        None => None,
+        Some(Ending::End) => Some(Tail::Ended),
+        Some(Ending::Refused(code)) => Some(Tail::Refused(code)),
+        Some(Ending::Fault(_)) => None,
+    }
+}
 
 // Takes the next `n` items, or what is left of them, into an empty list with that much room; the source's tail where
 // there are fewer.
@@ -19,12 +32,5 @@ pub(crate) fn take_items<S: Source>(
     ensures moved { S.given source.new ≡ S.given source.old + length items.new.items }
     ensures tail { result ≡ (if nat_lt (length (S.whole source.old).items - S.given source.old) n then ending_tail (S.whole source.old).ending else None) }
 {
-    for _taken in 0..n {
-        match source.next() {
-            Step::Item(item) => items.push_reserved(item),
-            Step::End => return Some(Tail::Ended),
-            Step::Refused(code) => return Some(Tail::Refused(code)),
-        }
-    }
-    None
+    tail_of(source.fill(items, n))
 }

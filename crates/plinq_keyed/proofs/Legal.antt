@@ -4,14 +4,14 @@ use Rattle.std.proofs.Math.Bool.{and_assoc, and-true}
 use Rattle.std.proofs.lemmas.Bool.{and_parts, and_from, ltb-true, lt-ltb, le-leb, eqb-true, eq-eqb}
 use Rattle.std.proofs.lemmas.List.{length-take, length-take-le, length-replicate, append-nil, map-append}
 use Rattle.std.proofs.Math.Seq.{take-add}
-use Rattle.plinq_source.specs.Trace.{Trace}
+use Rattle.plinq_source.specs.Trace.{Trace, items_from}
 use Rattle.plinq_keyed.specs.declared.tail.Tail.{Tail}
 use Rattle.plinq_keyed.specs.declared.tail.Tail.TheVariants.{Ended, Refused, Closed}
 use Rattle.plinq_keyed.specs.declared.event.Event.{Event}
 use Rattle.plinq_keyed.specs.declared.event.Event.TheVariants.{Ask, Close}
 use Rattle.plinq_keyed.specs.declared.record.Record.{Record}
 use Rattle.plinq_keyed.specs.Keys.{keyed_from, rises_from, rises}
-use Rattle.plinq_keyed.specs.History.{Place, start, Reply, reply, no_items, next_items, items_from, place_behind, place_after, recorded, same_way, same_tail, tells, is_run, is_legal_history, IsLegalHistory, next_record, with_next, tickets_below, handed_out, IsPrefix, some_source, ending_tail, record_items}
+use Rattle.plinq_keyed.specs.History.{Place, start, Reply, reply, no_items, next_items, place_behind, place_after, recorded, same_way, same_tail, tells, is_run, is_legal_history, IsLegalHistory, next_record, with_next, tickets_below, handed_out, IsPrefix, some_source, ending_tail, record_items}
 
 pub place_after-append : {T : Type 0} (t : Trace T) (p : Place) (h : List Record) (r : Record) → place_after t p (h ++ r ∷ []) ≡ place_behind t (place_after t p h) r.asked
 place_after-append t p [] r = refl

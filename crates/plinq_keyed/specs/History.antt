@@ -1,7 +1,7 @@
 -- What an enumerator answers, and which histories of requests and answers are legal.
-use Rattle.std.specs.Prelude.{◌≡◌, ℕ, ◌+◌, ◌-◌, ◌≤◌, ◌==◌, List, [], ◌∷◌, ◌++◌, length, drop, take, map, replicate, Option, Some, None, Bool, true, false, ◌&&◌, nat_lt, if◌then◌else◌, refl}
+use Rattle.std.specs.Prelude.{◌≡◌, ℕ, ◌+◌, ◌-◌, ◌≤◌, ◌==◌, List, [], ◌∷◌, ◌++◌, length, take, map, replicate, Option, Some, None, Bool, true, false, ◌&&◌, nat_lt, if◌then◌else◌, refl}
 use Rattle.std.specs.List.{list_all}
-use Rattle.plinq_source.specs.Trace.{Trace, ended}
+use Rattle.plinq_source.specs.Trace.{Trace, ended, items_from}
 use Rattle.plinq_source.specs.declared.ending.Ending.{Ending}
 use Rattle.plinq_source.specs.declared.ending.Ending.TheVariants.{End, Refused, Fault}
 use Rattle.plinq_keyed.specs.Keys.{rises, keyed_from}
@@ -34,10 +34,6 @@ ending_tail None = None
 ending_tail (Some End) = Some Ended
 ending_tail (Some (Refused c)) = Some (TailRefused c)
 ending_tail (Some (Fault c)) = None
-
--- the items of a trace from a place on, at most n of them
-abbrev pub items_from : {T : Type 0} → Trace T → ℕ → ℕ → List T
-items_from t g n = take n (drop g t.items)
 
 -- asked for n items: the next n, or what is left, and then with the source's tail
 abbrev pub next_items : {T : Type 0} → Trace T → ℕ → ℕ → Reply T

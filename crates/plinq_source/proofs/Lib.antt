@@ -1,4 +1,5 @@
 pub mod Concats
+pub mod Filling
 pub mod Followed
 pub mod Steps
 pub mod Numerals

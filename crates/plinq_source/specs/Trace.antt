@@ -1,5 +1,5 @@
 -- Traces: what a source or a query gives, item by item, and how it ends.
-use Rattle.std.specs.Prelude.{ℕ, ◌+◌, List, [], ◌∷◌, ◌++◌, length, drop, min, Option, Some, None, ⊤}
+use Rattle.std.specs.Prelude.{ℕ, ◌+◌, ◌-◌, List, [], ◌∷◌, ◌++◌, length, drop, take, min, nat_lt, if◌then◌else◌, Option, Some, None, ⊤}
 use Rattle.plinq_source.specs.declared.ending.Ending.{Ending}
 use Rattle.plinq_source.specs.declared.ending.Ending.TheVariants.{End, Refused, Fault}
 use Rattle.plinq_source.specs.declared.step.Step.{Step}
@@ -49,6 +49,14 @@ step_at t n = step_of (drop n t.items) t.ending
 -- how many items are handed out then: one more, but never more than there are
 abbrev pub given_after : {T : Type 0} → Trace T → ℕ → ℕ
 given_after t n = min (n + 1) (length t.items)
+
+-- the items of a trace from a place on, at most n of them
+abbrev pub items_from : {T : Type 0} → Trace T → ℕ → ℕ → List T
+items_from t g n = take n (drop g t.items)
+
+-- the ending, if fewer than n items are left from that place on
+abbrev pub ending_within : {T : Type 0} → Trace T → ℕ → ℕ → Option Ending
+ending_within t g n = (if nat_lt (length t.items - g) n then t.ending else None)
 
 -- how a list ends: with a refusal, if it has one
 abbrev pub list_ending : Option ℕ → Ending

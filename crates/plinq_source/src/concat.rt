@@ -2,6 +2,7 @@ ghost use Rattle.std.specs.Prelude.{◌≡◌, ◌≤◌, ◌+◌, ◌^◌, true
 ghost use Rattle.plinq_source.specs.Concat.{concat};
 ghost use Rattle.plinq_source.specs.declared.ending.Ending.TheVariants.{End};
 
+use crate::ending::Ending;
 use crate::source::Source;
 use crate::step::Step;
 
@@ -70,6 +71,21 @@ impl<A: Source, B: Source<Item = A::Item>> Source for ConcatSource<A, B> {
                 self.second.next()
             }
             step => step,
+        }
+    }
+
+    fn fill(&mut self, items: &mut Vec<A::Item>, n: u64) -> Option<Ending> {
+        if self.first_ended {
+            return self.second.fill(items, n);
+        }
+        let before = items.len();
+        match self.first.fill(items, n) {
+            Some(Ending::End) => {
+                self.first_ended = true;
+                let filled = (items.len() - before) as u64;
+                self.second.fill(items, n - filled)
+            }
+            ending => ending,
         }
     }
 }

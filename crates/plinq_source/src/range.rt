@@ -3,12 +3,13 @@ ghost use Rattle.plinq_source.specs.Trace.{ended};
 ghost use Rattle.plinq_source.specs.Range.{range_items, is_range};
 ghost use Rattle.plinq_source.specs.declared.ending.Ending.TheVariants.{End};
 
+use crate::ending::Ending;
 use crate::fault::SourceFault;
 use crate::limits::MOST_ITEMS;
 use crate::source::Source;
 use crate::step::Step;
 
-/// Whole numbers one behind another, and then the end (.NET's `Enumerable.Range`). It holds no list.
+/// Whole numbers one after another, and then the end (.NET's `Enumerable.Range`). It holds no list.
 ///
 /// ```text
 /// RangeSource::new(-1, 3)?    // -1, 0, 1, then Step::End
@@ -73,5 +74,15 @@ impl Source for RangeSource {
         } else {
             Step::End
         }
+    }
+
+    fn fill(&mut self, items: &mut Vec<i64>, n: u64) -> Option<Ending> {
+        let left = self.count - self.next;
+        let after = self.next + n.min(left);
+        for place in self.next..after {
+            items.push_reserved(self.start + place as i64);
+        }
+        self.next = after;
+        if n > left { Some(Ending::End) } else { None }
     }
 }

@@ -1,7 +1,8 @@
 use Rattle.std.proofs.Common.{◌≡◌, ◌∙◌, ◌+◌, ◌-◌, ◌++◌, ◌∷◌, [], ap, sym, length, arith, true, false, Some, None, cond, ltb}
 use Rattle.plinq_keyed.specs.declared.event.Event.TheVariants.{Ask}
 use Rattle.plinq_keyed.specs.declared.tail.Tail.TheVariants.{Closed}
-use Rattle.plinq_keyed.specs.History.{Place, place_after, start, is_legal_history, items_from, ending_tail}
+use Rattle.plinq_source.specs.Trace.{items_from}
+use Rattle.plinq_keyed.specs.History.{Place, place_after, start, is_legal_history, ending_tail}
 use Rattle.plinq_enumerator.proofs.Next.{record_of, Grown-from_next, next_record-closed, next_record-open, place_behind-closed, place_behind-open}
 use Rattle.plinq_enumerator.proofs.enumerator.Enumerator.ask.Goals as goal
 
