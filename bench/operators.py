@@ -80,6 +80,12 @@ def main():
         program = build(ROOT, "chunks", folder)
         for work, name in (("selects", "four Selects"), ("mix", "two Selects and Filters in turn")):
             print(f"| `chunk_result`, chunks of 512, {name} | {slope(program, work, 20, 120, 512, 4):.1f} |", flush=True)
+        for work, name, operators in (
+            ("dropping", "a Filter that keeps none", 1),
+            ("skipping", "a SkipWhile that skips all", 1),
+            ("over", "four SkipWhiles that are over", 4),
+        ):
+            print(f"| a pipeline, blocks of 512, {name} | {slope(program, work, 20, 120, 512, operators):.1f} |", flush=True)
         sequential(ROOT, folder, "")
 
 
