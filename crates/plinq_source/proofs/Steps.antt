@@ -26,7 +26,7 @@ take-drop_cons xs n x ys is =
     let first : get_or xs n x ≡ x = let e = drop-cons xs n x within in cc in
     (within, take_more xs n x within ∙ ap (λ y. take n xs ++ y ∷ []) first)
 
-pub step_of-item : {T : Type 0} (ys : List T) (e : Option Ending) (x : T) → step_of ys e ≡ Item x → (zs : List T) × (ys ≡ x ∷ zs)
+step_of-item : {T : Type 0} (ys : List T) (e : Option Ending) (x : T) → step_of ys e ≡ Item x → (zs : List T) × (ys ≡ x ∷ zs)
 step_of-item [] None x is = absurd (cc)
 step_of-item [] (Some End) x is = absurd (cc)
 step_of-item [] (Some (Refused c)) x is = absurd (cc)
