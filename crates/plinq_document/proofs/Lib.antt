@@ -1,3 +1,4 @@
 pub mod Turns
 pub mod Reading
 pub mod TwoSources
+pub mod Bounds

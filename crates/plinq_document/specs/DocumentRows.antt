@@ -4,12 +4,13 @@ use Rattle.serde_json.specs.Data.{Data, null, unsigned, negative, number, string
 use Rattle.serde_json.specs.View.{items_of}
 use Rattle.plinq_source.specs.Trace.{Trace, ended}
 use Rattle.plinq_source.specs.declared.ending.Ending.TheVariants.{End, Refused}
-use Rattle.plinq_lambda.specs.declared.formula.Formula.TheVariants.{Add}
-use Rattle.plinq_ops.specs.declared.op.Op.TheVariants.{Select}
+use Rattle.plinq_lambda.specs.declared.formula.Formula.TheVariants.{Add, Below}
+use Rattle.plinq_ops.specs.declared.op.Op.TheVariants.{Select, SkipWhile}
 use Rattle.plinq_ops.specs.declared.merge_option.MergeOption.TheVariants.{NotBuffered}
 use Rattle.plinq_ops.specs.declared.build_fault.BuildFault.TheVariants.{NotAtSource, MergeTwice, DegreeTwice, DegreeOutOfRange}
 use Rattle.plinq_enumerator.specs.declared.growth_fault.GrowthFault.TheVariants.{Zero}
 use Rattle.plinq_document.specs.Document.{document_meaning}
+use Rattle.plinq_document.specs.Sources.{bound_of, few_together}
 use Rattle.plinq_document.specs.Jobs.{JobView}
 use Rattle.plinq_document.specs.declared.settings.Settings.{Settings}
 use Rattle.plinq_document.specs.declared.kind.Kind.{Kind}
@@ -62,9 +63,12 @@ meaning-empty = refl
 pub meaning-version : document_meaning plain (object (member (codes "version") (whole 3) (member (codes "x") (whole 0) no_members))) ≡ Err Version
 meaning-version = refl
 
--- version 2 has what version 1 has
+-- version 2 has what version 1 has, and asks for a source and a query too
 pub meaning-version_two : document_meaning plain (document [] (list_of []) (whole 2)) ≡ document_meaning plain (document [] (list_of []) (whole 1))
 meaning-version_two = refl
+
+pub meaning-version_two_alone : document_meaning plain (object (member (codes "version") (whole 2) no_members)) ≡ Err Shape
+meaning-version_two_alone = refl
 
 -- {"range":[9223372036854775807,2]}
 pub meaning-large : document_meaning plain (document [] (range_of (whole 9223372036854775807) (whole 2)) (whole 1)) ≡ Err Source
@@ -144,6 +148,9 @@ meaning-average = refl
 abbrev concat_of_both : Data → Data → Data
 concat_of_both first second = object (member (codes "concat") (row (first ∷ second ∷ [])) no_members)
 
+abbrev text_of : List ℕ → Data
+text_of bytes = object (member (codes "text") (word bytes) no_members)
+
 abbrev greatest_range : Data
 greatest_range = range_of (whole 0) (whole 1099511627776)
 
@@ -161,6 +168,10 @@ meaning-concat = refl
 -- {"concat":[{"list":[1],"refuse":7},{"list":[2]}]}
 pub meaning-concat_refused : document_meaning plain (document [] (concat_of_both (object (member (codes "list") (row (whole 1 ∷ [])) (member (codes "refuse") (whole 7) no_members))) (list_of (whole 2 ∷ []))) (whole 2)) ≡ Ok (all_of (ended (pos 1 ∷ []) (Refused 7)))
 meaning-concat_refused = refl
+
+-- {"concat":[{"list":[]},{"text":"x"}]}
+pub meaning-concat_refused_at_once : document_meaning plain (document [] (concat_of_both (list_of []) (text_of (codes "x"))) (whole 2)) ≡ Ok (all_of (ended [] (Refused 1)))
+meaning-concat_refused_at_once = refl
 
 -- version 1 has no concatenation, and none has one inside another
 pub meaning-concat_early : document_meaning plain (document [] (concat_of_both (list_of []) (list_of [])) (whole 1)) ≡ Err Shape
@@ -180,8 +191,16 @@ meaning-concat_of_three = refl
 pub meaning-concat_large : document_meaning plain (document [] (concat_of_both greatest_range greatest_range) (whole 2)) ≡ Err Source
 meaning-concat_large = refl
 
+-- with nothing more it has just few enough
+greatest_and_nothing : few_together (bound_of greatest_range) (bound_of (text_of [])) ≡ true
+greatest_and_nothing = refl
+
+-- a list that refuses counts by its length
+greatest_and_one : few_together (bound_of (object (member (codes "list") (row (whole 1 ∷ [])) (member (codes "refuse") (whole 7) no_members)))) (bound_of greatest_range) ≡ false
+greatest_and_one = refl
+
 -- a text counts by its bytes, of which one is too many here
-pub meaning-concat_text : document_meaning plain (document [] (concat_of_both greatest_range (object (member (codes "text") (word (codes " ")) no_members))) (whole 2)) ≡ Err Source
+pub meaning-concat_text : document_meaning plain (document [] (concat_of_both greatest_range (text_of (codes " "))) (whole 2)) ≡ Err Source
 meaning-concat_text = refl
 
 -- the shape of the second is looked at before the size of the first
@@ -190,3 +209,24 @@ meaning-concat_shape = refl
 
 pub meaning-concat_too_large : document_meaning plain (document [] (concat_of_both too_large (list_of [])) (whole 2)) ≡ Err Source
 meaning-concat_too_large = refl
+
+-- ---- SkipWhile
+
+abbrev skip_while : List Data → Data
+skip_while ds = row (word (codes "skip_while") ∷ ds)
+
+-- [["as_ordered"],["skip_while","below",5]]
+pub meaning-skip_while : document_meaning plain (document (as_ordered ∷ skip_while (word (codes "below") ∷ whole 5 ∷ []) ∷ []) (list_of []) (whole 2))
+    ≡ Ok (record { query = record { ops = SkipWhile (Below (pos 5)) ∷ []; ordered = true; merge = None; degree = None }; source = ended [] End; growth = record { first = 1; repeat = 3; max = 512 }; aggregate = None })
+meaning-skip_while = refl
+
+-- version 1 doesn't know [["skip_while","even"]]
+pub meaning-skip_while_early : document_meaning plain (stepping (skip_while (word (codes "even") ∷ []) ∷ [])) ≡ Err (Step 0 Unknown)
+meaning-skip_while_early = refl
+
+-- without a formula, and with an item after it
+pub meaning-skip_while_of_none : document_meaning plain (document (skip_while [] ∷ []) (list_of []) (whole 2)) ≡ Err (Step 0 Unknown)
+meaning-skip_while_of_none = refl
+
+pub meaning-skip_while_of_two : document_meaning plain (document (skip_while (word (codes "below") ∷ whole 5 ∷ whole 6 ∷ []) ∷ []) (list_of []) (whole 2)) ≡ Err (Step 0 Unknown)
+meaning-skip_while_of_two = refl

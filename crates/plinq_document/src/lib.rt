@@ -3,7 +3,8 @@
 //! `read_document` answers `document_of`, one definition that looks in turn at the length, the JSON, the version, the
 //! names, the steps, the shape of the growth, the aggregate, the source, the growth and the calls of the steps. A `Job` is
 //! seen as its query, the trace of its source, of which nothing is given yet, its growth, and its aggregate, if it has one.
-//! A `Degree` is from 1 to 64. `merge_word` is the merge option of a word, for the command line as for a step.
+//! A `Degree` is from 1 to 64. `merge_word` is the merge option of a word, for the command line as for a step. The [`laws`]
+//! say that a part of a concatenation has a bound, and keeps to it.
 #![tactic(auto)]
 
 mod aggregates;
@@ -16,6 +17,7 @@ mod formulas;
 mod growth_counts;
 mod job;
 mod kind;
+pub mod laws;
 mod plain_source;
 mod plain_sources;
 mod settings;

@@ -1,6 +1,5 @@
 -- Operators that look at no key: where an element stands makes no difference to them.
 use Rattle.std.specs.Prelude.{◌≡◌, ℕ, ◌+◌, ℤ, pos, List, [], ◌∷◌, true, Option, refl}
-use Rattle.std.specs.List.{list_all}
 use Rattle.std.proofs.Common.{◌∙◌, ap}
 use Rattle.std.proofs.lemmas.Bool.{and_parts}
 use Rattle.plinq_source.specs.declared.ending.Ending.{Ending}

@@ -1,6 +1,6 @@
 -- Open answers: an answer stays open only while the trace is, and then what is left of the operators goes on from there.
-use Rattle.std.specs.Prelude.{◌≡◌, ℕ, zero, suc, ◌-◌, List, [], ◌∷◌, ◌++◌, length, take, nat_le, true, false, cond, ◌||◌, Option, Some, None, is_some, ◌⊎◌, refl}
-use Rattle.std.proofs.Common.{sym, ◌∙◌, ap, inl, inr, arith, length-append, append-nil}
+use Rattle.std.specs.Prelude.{◌≡◌, List, [], ◌∷◌, ◌++◌, true, false, ◌||◌, Option, Some, None, is_some, ◌⊎◌, refl}
+use Rattle.std.proofs.Common.{sym, ◌∙◌, ap, inl, inr, append-nil}
 use Rattle.plinq_source.specs.declared.ending.Ending.{Ending}
 use Rattle.plinq_source.specs.declared.ending.Ending.TheVariants.{End}
 use Rattle.plinq_source.specs.Trace.{Trace, open_trace, ended, continued, followed}

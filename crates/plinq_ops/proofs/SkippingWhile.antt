@@ -1,9 +1,8 @@
 -- What is left of a SkipWhile behind items is a SkipWhile that goes on from there.
 use Rattle.std.specs.Prelude.{◌≡◌, ℕ, List, [], ◌∷◌, ◌++◌, Bool, true, false, cond, Option, Some, None, is_some, Result, Ok, Err, refl}
-use Rattle.std.proofs.Common.{◌∙◌, ap, sym}
+use Rattle.std.proofs.Common.{◌∙◌, ap}
 use Rattle.plinq_source.specs.declared.ending.Ending.{Ending}
-use Rattle.plinq_source.specs.declared.ending.Ending.TheVariants.{Fault}
-use Rattle.plinq_source.specs.Trace.{Trace, open_trace, ended, followed}
+use Rattle.plinq_source.specs.Trace.{Trace, followed}
 use Rattle.plinq_ops.specs.SkipWhile.{skipped_from, skipped_while, still_skips, all_pass}
 use Rattle.plinq_ops.specs.Stage.{Stage, skipping_while, unchanged, apply, behind}
 

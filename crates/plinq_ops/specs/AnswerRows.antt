@@ -5,8 +5,8 @@ use Rattle.std.specs.List.{sum_by}
 use Rattle.std.proofs.lemmas.List.Sorted.{length_permutation, sum_by-IsPermutation}
 use Rattle.plinq_source.specs.declared.ending.Ending.TheVariants.{End, Refused}
 use Rattle.plinq_source.specs.Trace.{Trace, ended}
-use Rattle.plinq_ops.specs.declared.op.Op.TheVariants.{Select, Take, AsUnordered}
-use Rattle.plinq_ops.specs.Stage.{taking, seq}
+use Rattle.plinq_ops.specs.declared.op.Op.TheVariants.{Select, Take, SkipWhile, AsUnordered}
+use Rattle.plinq_ops.specs.Stage.{taking, skipping_while, seq}
 use Rattle.plinq_ops.specs.Operator.{example}
 use Rattle.plinq_ops.specs.Sequential.{first_items, IsLeastDeciding}
 use Rattle.plinq_ops.specs.Answer.{Answer}
@@ -33,6 +33,14 @@ as_unordered_behind_a_take = record {
     given = record { items = record { moves = (0, 1) ∷ []; below = (omega arith, omega arith, tt); is = refl }; ending = refl };
     goes_on = refl;
   };
+}
+
+-- SkipWhile begins with the first that fails of any order: here 9, of 1, 9 and 2
+skip_while_of_another_order : Answer {L = ℕ} (λ _. example) false (SkipWhile 0 ∷ []) (ended (1 ∷ 9 ∷ 2 ∷ []) End) (ended (9 ∷ 1 ∷ 2 ∷ []) End)
+skip_while_of_another_order = record {
+  between = ended (9 ∷ 1 ∷ 2 ∷ []) End;
+  given = record { items = record { moves = (0, 1) ∷ []; below = (omega arith, omega arith, tt); is = refl }; ending = refl };
+  goes_on = record { between = ended (9 ∷ 1 ∷ 2 ∷ []) End; given = refl; goes_on = refl };
 }
 
 -- an ordered query has one answer
@@ -72,3 +80,15 @@ one_is_too_few least = let decided = least.decided (omega arith) in absurd (cc)
 
 three_are_too_many : IsLeastDeciding (taking 2 ∷ []) three_items 3 → ⊥
 three_are_too_many least = let decided = least.open_before 2 (omega arith) in absurd (cc)
+
+-- the first that fails a SkipWhile is all that a Take of 1 behind it waits for
+skip_while_and_take : seq (skipping_while example.test ∷ taking 1 ∷ []) (ended (1 ∷ 9 ∷ 3 ∷ []) End) ≡ ended (9 ∷ []) End
+skip_while_and_take = refl
+
+first_that_fails_decides : IsLeastDeciding (skipping_while example.test ∷ taking 1 ∷ []) (ended (1 ∷ 9 ∷ 3 ∷ []) End) 2
+first_that_fails_decides = record { within = omega arith; open_before = open_with; decided = λ fewer. refl }
+  where
+    open_with : (j : ℕ) → j < 2 → (seq (skipping_while example.test ∷ taking 1 ∷ []) (first_items j (ended (1 ∷ 9 ∷ 3 ∷ []) End))).ending ≡ None
+    open_with zero below = refl
+    open_with (suc zero) below = refl
+    open_with (suc (suc j)) below = absurd (omega arith)

@@ -72,6 +72,9 @@ select_many_by_arrival = refl
 skip_while_by_key : worker_part {L = ℕ} ByKey (Select 0 ∷ SkipWhile 1 ∷ Select 0 ∷ []) ≡ Select 0 ∷ []
 skip_while_by_key = refl
 
+after_skip_while_by_key : after_part {L = ℕ} ByKey (Select 0 ∷ SkipWhile 1 ∷ Take (pos 2) ∷ []) ≡ SkipWhile 1 ∷ Take (pos 2) ∷ []
+after_skip_while_by_key = refl
+
 skip_while_by_arrival : after_part {L = ℕ} ByArrival (Select 0 ∷ SkipWhile 1 ∷ Select 0 ∷ []) ≡ SkipWhile 1 ∷ Select 0 ∷ []
 skip_while_by_arrival = refl
 

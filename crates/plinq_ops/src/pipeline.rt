@@ -1,7 +1,8 @@
-ghost use Rattle.std.specs.Prelude.{◌≡◌, [], ◌∷◌, false, IfOk};
+ghost use Rattle.std.specs.Prelude.{◌≡◌, [], ◌∷◌, true, false, IfOk};
 ghost use Rattle.plinq_source.specs.Trace.{open_trace};
 ghost use Rattle.plinq_ops.specs.Stage.{takes_none, some_takes_none};
 ghost use Rattle.plinq_ops.specs.Operator.{stage_left};
+ghost use Rattle.plinq_ops.specs.ByKey.{is_by_key};
 ghost use Rattle.plinq_ops.specs.Feeding.{IsFed};
 ghost use Rattle.plinq_ops.specs.Pipeline.{begun, begun_at, stages};
 
@@ -44,7 +45,7 @@ impl<'a, L: Lambda> Pipeline<'a, L> {
     pub fn new(alloc: Global, ops: &'a [Op<L>]) -> Result<Pipeline<'a, L>, OutOfMemory>
         ensures { IfOk result (λ pipeline. pipeline ≡ begun ops.now) }
     {
-        Pipeline::at_key(alloc, ops, 0)
+        Pipeline::reached(alloc, ops, 0)
     }
 
     /// A pipeline of operators that a worker applies by key, as it stands once the elements of all keys before this one
@@ -54,11 +55,19 @@ impl<'a, L: Lambda> Pipeline<'a, L> {
     ///
     /// [`OutOfMemory`] where there is no room for their counts.
     pub fn at_key(alloc: Global, ops: &'a [Op<L>], key: u64) -> Result<Pipeline<'a, L>, OutOfMemory>
+        requires keyed { is_by_key ops.now ≡ true }
         ensures { IfOk result (λ pipeline. pipeline ≡ begun_at ops.now key) }
+    {
+        Pipeline::reached(alloc, ops, key)
+    }
+
+    // So many elements have reached the first operator, and none was filtered out.
+    fn reached(alloc: Global, ops: &'a [Op<L>], count: u64) -> Result<Pipeline<'a, L>, OutOfMemory>
+        ensures { IfOk result (λ pipeline. pipeline ≡ begun_at ops.now count) }
     {
         Ok(Pipeline {
             ops,
-            left: counts_at(alloc, ops, key)?,
+            left: counts_at(alloc, ops, count)?,
         })
     }
 

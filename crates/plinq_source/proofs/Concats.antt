@@ -1,39 +1,11 @@
 -- What a concatenation says: what its first source says, and from the end of that on what its second says.
-use Rattle.std.proofs.Common.{◌≡◌, ℕ, ◌+◌, ◌-◌, ◌≤◌, List, [], ◌++◌, length, take, drop, Option, Some, None, arith, refl, ap, sym, ◌∙◌, append-nil, length-append, length-drop}
+use Rattle.std.proofs.Common.{◌≡◌, ℕ, ◌+◌, ◌-◌, ◌≤◌, ◌++◌, length, take, drop, Some, arith, ap, sym, ◌∙◌, length-append, length-drop}
 use Rattle.std.proofs.Math.Seq.{drop-append-add, take-append-add}
 use Rattle.std.proofs.lemmas.List.{drop-append-le, take_all}
 use Rattle.plinq_source.specs.Trace.{Trace, step_of, step_at, given_after, items_from}
 use Rattle.plinq_source.specs.Concat.{concat_from, concat}
-use Rattle.plinq_source.specs.declared.ending.Ending.{Ending}
-use Rattle.plinq_source.specs.declared.ending.Ending.TheVariants.{End, Refused, Fault}
-use Rattle.plinq_source.specs.declared.step.Step.TheVariants.{Item}
+use Rattle.plinq_source.specs.declared.ending.Ending.TheVariants.{End}
 use Rattle.plinq_source.proofs.Followed.{trace_of}
-use Rattle.plinq_source.proofs.Steps.{step_of-item}
-
--- the items that come after those of the first
-abbrev after_first : {T : Type 0} (e : Option Ending) (next : Trace T) → List T
-after_first None next = []
-after_first (Some End) next = next.items
-after_first (Some (Refused c)) next = []
-after_first (Some (Fault c)) next = []
-
-items-concat : {T : Type 0} (xs : List T) (e : Option Ending) (next : Trace T) → (concat_from xs e next).items ≡ xs ++ after_first e next
-items-concat xs None next = sym (append-nil xs)
-items-concat xs (Some End) next = refl
-items-concat xs (Some (Refused c)) next = sym (append-nil xs)
-items-concat xs (Some (Fault c)) next = sym (append-nil xs)
-
--- an item of the first
-pub step_at-first : {T : Type 0} (a b : Trace T) (m : ℕ) (x : T) → m ≤ length a.items → step_at a m ≡ Item x → step_at (concat a b) m ≡ Item x
-step_at-first a b m x within is =
-    let first = step_of-item (drop m a.items) a.ending x is in
-    let more = after_first a.ending b in
-    let e = (concat a b).ending in
-    ap (λ xs. step_of (drop m xs) e) (items-concat a.items a.ending b)
-    ∙ ap (λ xs. step_of xs e) (drop-append-le m a.items more within ∙ ap (λ xs. xs ++ more) first.1)
-
-pub given_after-first : {T : Type 0} (a b : Trace T) (m : ℕ) → m + 1 ≤ length a.items → given_after (concat a b) m ≡ m + 1
-given_after-first a b m within = omega (arith, within, ap length (items-concat a.items a.ending b), length-append a.items (after_first a.ending b))
 
 -- the end of the first: from there on the second answers
 pub concat-end : {T : Type 0} (a b : Trace T) → a.ending ≡ Some End → concat a b ≡ trace_of (a.items ++ b.items) b.ending
@@ -48,10 +20,6 @@ step_at-second a b m n all ends =
 pub given_after-second : {T : Type 0} (a b : Trace T) (m n : ℕ) → m ≡ length a.items → a.ending ≡ Some End → given_after (concat a b) (m + n) ≡ m + given_after b n
 given_after-second a b m n all ends =
     omega (arith, all, ap (λ t. length t.items) (concat-end a b ends), length-append a.items b.items)
-
--- a refusal of the first is that of both
-pub concat-refused : {T : Type 0} (a b : Trace T) (code : ℕ) → a.ending ≡ Some (Refused code) → concat a b ≡ a
-concat-refused a b code refuses = ap (λ e. concat_from a.items e b) refuses ∙ ap (trace_of a.items) (sym refuses)
 
 -- asked for several: once the first has ended, the second gives them
 pub items_from-second : {T : Type 0} (a b : Trace T) (g m n : ℕ) → g ≡ length a.items → a.ending ≡ Some End → items_from (concat a b) (g + m) n ≡ items_from b m n

@@ -1,5 +1,5 @@
 -- Concatenations: one source, and where it ends another one.
-use Rattle.std.specs.Prelude.{◌≡◌, ◌≤◌, ◌+◌, ℕ, pos, Bool, true, false, List, [], ◌∷◌, ◌++◌, length, Option, Some, None, refl}
+use Rattle.std.specs.Prelude.{◌≡◌, ◌≤◌, ◌+◌, ℕ, ℤ, pos, Bool, true, false, List, [], ◌∷◌, ◌++◌, length, Option, Some, None, refl}
 use Rattle.std.proofs.Common.{arith, ap, ◌∙◌, length-append}
 use Rattle.plinq_source.specs.Trace.{Trace, ended, open_trace, IsSourceEnding}
 use Rattle.plinq_source.specs.declared.ending.Ending.{Ending}
@@ -22,6 +22,9 @@ concat-row = refl
 -- both end as the second does
 pub concat-refused_second : concat (ended [] End) (ended (pos 5 ∷ []) (Refused 1)) ≡ ended (pos 5 ∷ []) (Refused 1)
 concat-refused_second = refl
+
+pub concat-refused_at_once : concat {T = ℤ} (ended [] End) (ended [] (Refused 1)) ≡ ended [] (Refused 1)
+concat-refused_at_once = refl
 
 -- the second is lost where the first refuses
 pub concat-refused_first : concat (ended (pos 1 ∷ []) (Refused 7)) (ended (pos 2 ∷ []) End) ≡ ended (pos 1 ∷ []) (Refused 7)

@@ -1,5 +1,5 @@
 -- What fills the list is what was asked for, and its ending gives the tail.
-use Rattle.std.proofs.Common.{◌≡◌, ℕ, ◌-◌, ◌++◌, Bool, true, false, cond, ltb, length, Option, Some, None, refl, ap, ◌∙◌}
+use Rattle.std.proofs.Common.{◌≡◌, ◌-◌, ◌++◌, Bool, true, false, cond, ltb, length, Option, None, refl, ap, ◌∙◌}
 use Rattle.plinq_source.specs.Trace.{items_from}
 use Rattle.plinq_source.specs.declared.ending.Ending.{Ending}
 use Rattle.plinq_keyed.specs.History.{ending_tail}
