@@ -1,5 +1,5 @@
 //! A query that threads answer, and beside them one thread.
-ghost use Rattle.std.specs.Prelude.{◌≡◌, ◌≤◌, ◌^◌, vec_len, IfOk};
+ghost use Rattle.std.specs.Prelude.{◌≡◌, ◌≤◌, ◌^◌, length, vec_len, IfOk};
 ghost use Rattle.plinq_source.specs.declared.source.Source.{Ghosts};
 
 use crate::taken::Taken;
@@ -8,7 +8,7 @@ use plinq_lambda::Lambda;
 use plinq_ops::{BuildFault, Built, MergeOption, Op, Query, sequential};
 use plinq_run::{Gate, Report, RunFault, run};
 use plinq_source::{
-    Ending, ListSource, OutOfMemory, RangeSource, RepeatSource, Source, TextSource,
+    ConcatSource, Ending, ListSource, OutOfMemory, RangeSource, RepeatSource, Source, TextSource,
 };
 use std::alloc::{AllocError, Global};
 use std::process::Abort;
@@ -33,6 +33,8 @@ pub(crate) enum Given {
     Text(&'static str),
     Range(i64, u64),
     Repeat(i64, u64),
+    /// The list twice, where each of the two refuses if it has a code.
+    Concat(Option<u32>, Option<u32>),
 }
 
 /// How a query is asked. The sink refuses batch number `refused`.
@@ -178,10 +180,42 @@ where
 }
 
 pub(crate) fn few(rt: &impl Abort, alloc: Global, items: &[i64]) -> Result<Vec<i64>, AllocError>
-    ensures { IfOk result (λ items. vec_len items ≤ 2 ^ 40) }
+    ensures { IfOk result (λ items. vec_len items ≤ 1000) }
 {
     assert!(rt; items.len() <= 1_000);
     Vec::from_slice(alloc, items)
+}
+
+/// A list that ends, or refuses with this code.
+pub(crate) fn list_of(
+    rt: &impl Abort,
+    alloc: Global,
+    items: &[i64],
+    code: Option<u32>,
+) -> Result<ListSource<i64>, AllocError>
+    ensures fresh { IfOk result (λ source. ⟦<ListSource<i64> as Source>⟧.given source ≡ 0) }
+    ensures few { IfOk result (λ source. length (⟦<ListSource<i64> as Source>⟧.whole source).items ≤ 1000) }
+{
+    let items = few(rt, alloc, items)?;
+    match code {
+        None => Ok(ListSource::new(alloc, items)),
+        Some(code) => Ok(ListSource::refusing(alloc, items, code)),
+    }
+}
+
+/// Two of these, one after the other.
+fn two_lists(
+    rt: &impl Abort,
+    alloc: Global,
+    items: &[i64],
+    first: Option<u32>,
+    second: Option<u32>,
+) -> Result<ConcatSource<ListSource<i64>, ListSource<i64>>, AllocError>
+    ensures fresh { IfOk result (λ source. ⟦<ConcatSource<ListSource<i64>, ListSource<i64>> as Source>⟧.given source ≡ 0) }
+{
+    let first = list_of(rt, alloc, items, first)?;
+    let second = list_of(rt, alloc, items, second)?;
+    Ok(ConcatSource::new(first, second))
 }
 
 fn bytes(rt: &impl Abort, alloc: Global, text: &str) -> Result<Vec<u8>, AllocError>
@@ -207,13 +241,13 @@ where
 {
     match given {
         Given::List => {
-            let source = ListSource::new(alloc, few(rt, alloc, items)?);
-            let again = ListSource::new(alloc, few(rt, alloc, items)?);
+            let source = list_of(rt, alloc, items, None)?;
+            let again = list_of(rt, alloc, items, None)?;
             Ok(ask_of(rt, alloc, query, setting, gate, source, again)?)
         }
         Given::Refusing(code) => {
-            let source = ListSource::refusing(alloc, few(rt, alloc, items)?, code);
-            let again = ListSource::refusing(alloc, few(rt, alloc, items)?, code);
+            let source = list_of(rt, alloc, items, Some(code))?;
+            let again = list_of(rt, alloc, items, Some(code))?;
             Ok(ask_of(rt, alloc, query, setting, gate, source, again)?)
         }
         Given::Text(text) => {
@@ -229,6 +263,11 @@ where
         Given::Repeat(value, count) => {
             let source = RepeatSource::new(value, count)?;
             let again = RepeatSource::new(value, count)?;
+            Ok(ask_of(rt, alloc, query, setting, gate, source, again)?)
+        }
+        Given::Concat(first, second) => {
+            let source = two_lists(rt, alloc, items, first, second)?;
+            let again = two_lists(rt, alloc, items, first, second)?;
             Ok(ask_of(rt, alloc, query, setting, gate, source, again)?)
         }
     }

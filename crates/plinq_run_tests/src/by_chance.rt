@@ -1,15 +1,15 @@
 //! Queries that are picked by chance, and workers that are held back by chance: what they deliver, and what they aggregate.
 //! The queries are always the same ones; the order in which threads run isn't.
-ghost use Rattle.std.specs.Prelude.{◌≡◌, ◌≤◌, ◌<◌, IfOk};
+ghost use Rattle.std.specs.Prelude.{◌≤◌, ◌<◌};
 
 use crate::aggregates::Last;
-use crate::asked::{Given, OPTIONS, Setting, ask, few, query_of};
+use crate::asked::{Given, OPTIONS, Setting, ask, list_of, query_of};
 use plinq_aggregate::fold_sequential;
 use plinq_enumerator::{Growth, GrowthFault};
 use plinq_lambda::Formula;
 use plinq_ops::{MergeOption, Op, sequential};
 use plinq_run::{AggregateFault, Gate, aggregate};
-use plinq_source::{Ending, ListSource, Source};
+use plinq_source::{Ending, Source};
 use std::alloc::{AllocError, Global};
 use std::hint::spin_loop;
 use std::process::Abort;
@@ -92,11 +92,14 @@ impl Dice {
     }
 
     fn given(&mut self) -> Given {
-        match self.below(8) {
+        match self.below(12) {
             0 => Given::Range(self.small(), self.below(41)),
             1 => Given::Repeat(self.small(), self.below(41)),
             2 => Given::Text("3 -1 4 1\n-5 9 2 6 5 3 -5 8 9 7 9 three"),
             3 | 4 => Given::Refusing(7),
+            5 | 6 => Given::Concat(None, None),
+            7 => Given::Concat(None, Some(8)),
+            8 => Given::Concat(Some(7), Some(8)),
             _ => Given::List,
         }
     }
@@ -206,22 +209,6 @@ fn any_query_has_the_answer_of_one_thread(rt: HostRuntime) -> Result<(), Fail> {
     Ok(())
 }
 
-/// A list that refuses behind its items, or doesn't.
-fn list(
-    rt: &impl Abort,
-    alloc: Global,
-    items: &[i64],
-    refuses: bool,
-) -> Result<ListSource<i64>, AllocError>
-    ensures { IfOk result (λ source. ⟦<ListSource<i64> as Source>⟧.given source ≡ 0) }
-{
-    let items = few(rt, alloc, items)?;
-    if refuses {
-        return Ok(ListSource::refusing(alloc, items, 7));
-    }
-    Ok(ListSource::new(alloc, items))
-}
-
 /// Asks a query's aggregate of threads and of one thread, and tells whether there is one.
 fn aggregate_any<R: Threads + Wait + Sync + Abort>(
     rt: &R,
@@ -232,12 +219,12 @@ fn aggregate_any<R: Threads + Wait + Sync + Abort>(
 ) -> Result<bool, Fail> {
     let setting = dice.setting(run)?;
     let items = dice.items(alloc)?;
-    let refuses = dice.below(8) == 0;
+    let refused = if dice.below(8) == 0 { Some(7) } else { None };
     let ops = dice.ops(alloc)?;
     let query = query_of(alloc, &ops, setting.option, setting.workers)?;
-    let source = list(rt, alloc, &items, refuses)?;
+    let source = list_of(rt, alloc, &items, refused)?;
     let told = aggregate(rt, alloc, &query, source, setting.growth, gate, &Last);
-    let mut again = list(rt, alloc, &items, refuses)?;
+    let mut again = list_of(rt, alloc, &items, refused)?;
     let (answer, ending) = sequential(alloc, &query, &mut again)?;
     let wanted = match ending {
         Ending::End => Ok(fold_sequential(&Last, &answer)),
@@ -245,7 +232,7 @@ fn aggregate_any<R: Threads + Wait + Sync + Abort>(
     };
     assert!(rt;
         told == wanted,
-        "{told:?} {items:?} {refuses} {ops:?} {setting:?}"
+        "{told:?} {items:?} {refused:?} {ops:?} {setting:?}"
     );
     Ok(told.is_ok())
 }
