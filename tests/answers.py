@@ -104,6 +104,29 @@ AGGREGATES = [
     ('"list":[],"refuse":7', '["take",0]', "sum", "0\nend\n", 0),
 ]
 
+# Runs that may be cancelled: a merge option, after how many batches, a source, the steps after `as_ordered`, what stands
+# behind them in the document, the lines, and whether the run is cancelled.
+ADDED = '"list":[3,1,4]', ',["select","add",1]'
+CANCELLED = [
+    ("not", 0, *ADDED, "", "", True),
+    ("not", 1, *ADDED, "", "4\n", True),
+    ("not", 2, *ADDED, "", "4\n2\n", True),
+    ("not", 3, *ADDED, "", "4\n2\n5\n", True),
+    ("not", 4, *ADDED, "", "4\n2\n5\nend\n", False),
+    ("not", 4294967295, *ADDED, "", "4\n2\n5\nend\n", False),
+    ("auto", 1, *ADDED, "", "4 2 5\n", True),
+    ("full", 0, *ADDED, "", "", True),
+    ("full", 2, *ADDED, "", "4 2 5\nend\n", False),
+    ("auto", 1, '"range":[1,17]', "", "", "1 2 3 4 5 6 7 8 9 10 11 12 13 14 15 16\n", True),
+    ("not", 0, '"list":[]', ',["take",0]', "", "", True),
+    ("not", 1, '"list":[]', ',["take",0]', "", "end\n", False),
+    # A refusal or a fault of the answer is an ending as well.
+    ("not", 1, '"list":[1],"refuse":7', "", "", "1\n", True),
+    ("full", 0, '"list":[1],"refuse":7', "", "", "", True),
+    # With an aggregate the option has no effect.
+    ("not", 0, *ADDED, ',"aggregate":"sum"', "11\nend\n", False),
+]
+
 # Words, a document, and what is said of it.
 REFUSED = [
     ("run --merge not", "[", "not JSON"),
@@ -364,6 +387,11 @@ def main():
         for options in [["--workers", it, "--merge", merge] for it in ("1", "2", "64")] if merge else [[]]:
             seen = run(["run", *options], document.encode())
             tests.check(f"plinq run {' '.join(options)} < {document}", may_come(seen, merge, *wanted), f"wanted {wanted}; seen {seen}")
+    for merge, most, source, steps, more, output, is_cancelled in CANCELLED:
+        document = f'{{"version":1,"source":{{{source}}},"query":[["as_ordered"]{steps}]{more}}}'
+        wanted = Outcome(5, output.encode(), b"plinq: cancelled\n") if is_cancelled else Outcome(0, output.encode(), b"")
+        for workers in ("1", "2", "64"):
+            ends(["run", "--workers", workers, "--merge", merge, "--cancel-after", str(most)], document, wanted)
     for source, steps, aggregate, output, status in AGGREGATES:
         document = f'{{"version":1,"source":{{{source}}},"query":[{steps}],"aggregate":"{aggregate}"}}'
         for command in ("run", "seq"):

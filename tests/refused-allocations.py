@@ -51,6 +51,7 @@ REFUSED = [
 CASES = (
     [(words, it) for it in ANSWERED for words in (["run", "--workers", "2", "--merge", "not"], ["run", "--workers", "1"], ["run", "--workers", "8"], ["plan", "--workers", "2"], ["parts"], ["history", "--workers", "2"])]
     + [(["run", "--workers", "2"], UNORDERED), (["run", "--merge", "full"], ANSWERED[0]), (["seq"], ANSWERED[1]), (["seq", "--merge", "auto"], ANSWERED[6])]
+    + [(["run", "--merge", "not", "--cancel-after", it], ANSWERED[0]) for it in ("1", "9")]
     + [(["run"], it) for it in REFUSED]
     + [(words, ANSWERED[0]) for words in ([], ["walk"], ["run", "--workers", "0"], ["seq", "--merge", "some"], ["plan", "x"])]
     + [(words, b"") for words in (["--help"], ["run", "--help"], ["help"])]

@@ -33,6 +33,11 @@ REFUSED = {
     "run --workers -1": "error: unexpected argument '-1' found\n" + OPTIONS,
     "run --workers=-1": "error: invalid value '-1' for '--workers <N>': invalid digit found in string\n" + MORE,
     "run --workers x": "error: invalid value 'x' for '--workers <N>': invalid digit found in string\n" + MORE,
+    "run --cancel-after -1": "error: unexpected argument '-1' found\n" + OPTIONS,
+    "run --cancel-after=-1": "error: invalid value '-1' for '--cancel-after <N>': invalid digit found in string\n" + MORE,
+    "run --cancel-after 4294967296": "error: invalid value '4294967296' for '--cancel-after <N>': 4294967296 is not in 0..=4294967295\n" + MORE,
+    "run --cancel-after": "error: a value is required for '--cancel-after <N>' but none was supplied\n" + MORE,
+    "seq --cancel-after 1": "error: unexpected argument '--cancel-after' found\n\nUsage: plinq seq [OPTIONS] < DOCUMENT\n" + MORE,
     "seq --merge some": "error: invalid value 'some' for '--merge <OPTION>'\n  [possible values: not, auto, full, default]\n" + MORE,
     "run --merge some": "error: invalid value 'some' for '--merge <OPTION>'\n  [possible values: not, auto, full, default]\n" + MORE,
 }
@@ -57,6 +62,10 @@ Each command takes --workers N, from 1 to 64, and --merge with one of these word
   full     one line of all elements, where there are any and the answer comes to its end
   default  as auto
 
+run takes --cancel-after N too, a whole number of at most 4294967295: once N lines of elements were written it stops, and
+writes "plinq: cancelled" on standard error and no ending. A number that isn't reached has no effect, nor has any with an
+aggregate.
+
 As many workers as there are cores answer soonest, and more cost little. Where --workers isn't given there are 4, or as
 many as the query asks for by with_degree.
 
@@ -70,7 +79,7 @@ Exit status:
   2  the arguments or the document were refused
   3  the source refused
   4  a formula had a fault
-  5  memory ran out, no thread could be started, reading or writing failed, or a run broke off
+  5  memory ran out, no thread could be started, reading or writing failed, or a run broke off or was cancelled
 
 Example, which prints 4, 2, 5 and end, a line each:
   echo '{"version":1,"source":{"list":[3,1,4]},"query":[["as_ordered"],["select","add",1]]}' | plinq run --merge not
@@ -91,6 +100,21 @@ Options:
       --merge <OPTION>  How results are handed over [possible values: not, auto, full, default]
   -h, --help            Print help
 """
+RUN_HELP = """Answers the query
+
+Usage: plinq run [OPTIONS] < DOCUMENT
+
+Options:
+      --workers <N>       The degree of parallelism, from 1 to 64: as many as cores; more cost little
+      --merge <OPTION>    How results are handed over [possible values: not, auto, full, default]
+      --cancel-after <N>  Cancels the run once N lines of elements were written
+  -h, --help              Print help
+"""
+
+
+def help_of(command):
+    """The help of a command, of which `run` alone can be cancelled."""
+    return RUN_HELP if command == "run" else ABOUT[command] + COMMAND_HELP.format(command)
 
 
 def main():
@@ -108,9 +132,9 @@ def main():
         ends(words, no_text)
     for word in ("--help", "-h"):
         ends([word], Outcome(0, HELP.encode(), b""))
-        for command, about in ABOUT.items():
-            ends([command, word], Outcome(0, (about + COMMAND_HELP.format(command)).encode(), b""))
-    ends(["run", "--workers", "2", "--help"], Outcome(0, (ABOUT["run"] + COMMAND_HELP.format("run")).encode(), b""))
+        for command in ABOUT:
+            ends([command, word], Outcome(0, help_of(command).encode(), b""))
+    ends(["run", "--workers", "2", "--help"], Outcome(0, RUN_HELP.encode(), b""))
 
     # (the command as it stands in help, with ./plinq for plinq)
     example = next(line for line in HELP.splitlines() if line.startswith("  echo "))

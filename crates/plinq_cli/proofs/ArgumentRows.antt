@@ -7,15 +7,25 @@ use Rattle.plinq_ops.specs.declared.merge_option.MergeOption.TheVariants.{FullyB
 use Rattle.plinq_cli.specs.Arguments.{arguments_of, kinds_of}
 use Rattle.plinq_cli.specs.declared.command.Command.TheVariants.{Run, Plan}
 
-plain_run : (q : ValueParser) → arguments_of q (codes "plinq" ∷ codes "run" ∷ []) ≡ Some (record { command = Run; settings = record { workers = None; merge = None } })
+plain_run : (q : ValueParser) → arguments_of q (codes "plinq" ∷ codes "run" ∷ []) ≡ Some (record { command = Run; settings = record { workers = None; merge = None; cancel_after = None } })
 unfolding clap_on_literals
 plain_run q = refl
 
 both_options : (q : ValueParser)
     → arguments_of q (codes "plinq" ∷ codes "plan" ∷ codes "--workers=3" ∷ codes "--merge" ∷ codes "full" ∷ [])
-    ≡ Some (record { command = Plan; settings = record { workers = Some 3; merge = Some FullyBuffered } })
+    ≡ Some (record { command = Plan; settings = record { workers = Some 3; merge = Some FullyBuffered; cancel_after = None } })
 unfolding clap_on_literals
 both_options q = refl
+
+cancelled_after_two : (q : ValueParser)
+    → arguments_of q (codes "plinq" ∷ codes "run" ∷ codes "--cancel-after" ∷ codes "2" ∷ [])
+    ≡ Some (record { command = Run; settings = record { workers = None; merge = None; cancel_after = Some 2 } })
+unfolding clap_on_literals
+cancelled_after_two q = refl
+
+only_run_is_cancelled : (q : ValueParser) → kinds_of q (codes "plinq" ∷ codes "seq" ∷ codes "--cancel-after" ∷ codes "1" ∷ []) ≡ UnknownArgument ∷ []
+unfolding clap_on_literals
+only_run_is_cancelled q = refl
 
 taken : (q : ValueParser) → kinds_of q (codes "plinq" ∷ codes "seq" ∷ codes "--workers" ∷ codes "64" ∷ []) ≡ []
 unfolding clap_on_literals

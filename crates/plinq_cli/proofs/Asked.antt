@@ -1,7 +1,7 @@
 -- What the words of a command line ask for, from what `clap` found in them.
-use Rattle.std.proofs.Common.{◌≡◌, ◌∙◌, ℕ, ◌≤◌, List, [], ◌∷◌, Bool, true, false, Option, Some, None, Result, Ok, Err, is_some, map, refl, sym, ap, ap₂, subst, codes, inl, inr, arith}
+use Rattle.std.proofs.Common.{◌≡◌, ◌∙◌, ℕ, ◌≤◌, ◌<◌, List, [], ◌∷◌, Bool, true, false, Option, Some, None, Result, Ok, Err, is_some, map, refl, sym, ap, ap₂, subst, codes, inl, inr, arith}
 use Rattle.std.specs.Borrow.{Bor}
-use Rattle.std.specs.Prelude.{MatchResult, option_map, option_and_then, find, if◌then◌else◌}
+use Rattle.std.specs.Prelude.{MatchResult, option_map, option_and_then, find, nat_le, if◌then◌else◌, not, ◌&&◌}
 use Rattle.std.specs.List.{list_all}
 use Rattle.std.specs.Str.Parse.{ParsesUnsigned, digits_value, without_leading_plus}
 use Rattle.clap.specs.Words.{AddsSubcommand, App, HasKind, HasMatchesOf, IsAmong, Row, Shape, Text, app_of, fault_of, first_value, found_of, is_simple_and_free, is_simple, kind_of, one_text, rows_of, ReadsOne, subcommand_of, subcommand_rows_of, with_subcommand}
@@ -21,8 +21,9 @@ use Rattle.plinq_document.specs.Words.{beside}
 use Rattle.plinq_document.specs.Steps.{merge_word}
 use Rattle.plinq_document.specs.Degrees.{degree_of}
 use Rattle.plinq_ops.specs.Query.{is_degree}
+use Rattle.std.proofs.lemmas.Bool.{le-leb}
 use Rattle.std.proofs.lemmas.Bool.Decides.{nat_tests}
-use Rattle.plinq_cli.specs.Arguments.{AddsItsShape, IsAsked, Refuses, TakesOnly, arguments_in, arguments_of, arguments_with, command_names, kinds_of, merge_of, merge_words, plinq_app, with_command, workers_in, workers_of}
+use Rattle.plinq_cli.specs.Arguments.{AddsItsShape, IsAsked, Refuses, TakesOnly, arguments_in, arguments_of, arguments_with, command_names, kinds_of, cancel_in, cancel_of, merge_of, merge_words, plinq_app, with_command, workers_in, workers_of}
 use Rattle.plinq_cli.specs.declared.arguments.Arguments.{Arguments}
 
 -- the program's command line is one of which `clap` tells the matches and the faults
@@ -91,6 +92,77 @@ workers_read m E G r parses none value = go (one_text (found_of m) (codes "worke
     go : (o : Option Text) → one_text (found_of m) (codes "workers") ≡ o → workers_of (rows_of (found_of m)) ≡ option_and_then degree_of r
     go None e = text_read m None e ∙ sym (ap (option_and_then degree_of) (none e))
     go (Some t) e = text_read m (Some t) e ∙ read_one E G t r (parses t) (value t e)
+
+-- a command that is plain has no global argument
+pub third-false : (a b c d : Bool) → (a && (not b && (not c && d))) ≡ true → c ≡ false
+third-false a b false d is = refl
+third-false true true true d is = cc
+third-false true false true d is = cc
+third-false false b true d is = cc
+
+-- ---- the number of batches
+
+-- a number of batches after which a run can be cancelled
+abbrev pub few_batches : ℕ → Option ℕ
+few_batches n = if nat_le n 4294967295 then Some n else None
+
+pub few-some : (n : ℕ) → n ≤ 4294967295 → few_batches n ≡ Some n
+few-some n few = rw (le-leb n 4294967295 few) refl
+
+pub few-none : (n : ℕ) → 4294967295 < n → few_batches n ≡ None
+few-none n many = go (nat_le n 4294967295) refl
+  where
+    go : (b : Bool) → nat_le n 4294967295 ≡ b → (if b then Some n else None) ≡ None
+    go true e = let few : n ≤ 4294967295 = grind (arith, nat_tests) in absurd (omega (arith, few, many))
+    go false e = refl
+
+cancel_in_range : (E : Type 0) (t : Text) (n : ℕ) → ParsesUnsigned {E = E} 64 10 t (Ok n) → n ≤ 4294967295 → cancel_in t ≡ Some n
+cancel_in_range E t n h high =
+    let value : digits_value 10 (without_leading_plus t) ≡ n = sym h.1 in
+    let low : 0 ≤ n = omega arith in
+    let accepted : is_unsigned_in 0 4294967295 t ≡ true = Accepts-accepts false (parser.Unsigned 0 4294967295) t (h.0.0, h.0.1, rw value low, rw value high) in
+    rw (accepted, value) refl
+
+cancel_out_of_range : (E : Type 0) (t : Text) (n : ℕ) → ParsesUnsigned {E = E} 64 10 t (Ok n) → (n ≤ 4294967295 → ⊥) → cancel_in t ≡ None
+cancel_out_of_range E t n h not_in = go (is_unsigned_in 0 4294967295 t) refl
+  where
+    go : (b : Bool) → is_unsigned_in 0 4294967295 t ≡ b → (if b then Some (digits_value 10 (without_leading_plus t)) else None) ≡ None
+    go true e = let a = accepts-Accepts false (parser.Unsigned 0 4294967295) t e in absurd (not_in (rw h.1 a.3))
+    go false e = refl
+
+cancel_no_number : (E : Type 0) (t : Text) (e : E) → ParsesUnsigned {E = E} 64 10 t (Err e) → cancel_in t ≡ None
+cancel_no_number E t e h = go (is_unsigned_in 0 4294967295 t) refl
+  where
+    go : (b : Bool) → is_unsigned_in 0 4294967295 t ≡ b → (if b then Some (digits_value 10 (without_leading_plus t)) else None) ≡ None
+    go true is = let a = accepts-Accepts false (parser.Unsigned 0 4294967295) t is in absurd (h (a.0, a.1))
+    go false is = refl
+
+cancel_parsed : (E : Type 0) (t : Text) (n : ℕ) → ParsesUnsigned {E = E} 64 10 t (Ok n) → cancel_in t ≡ few_batches n
+cancel_parsed E t n h = go (nat_le n 4294967295) refl
+  where
+    go : (b : Bool) → nat_le n 4294967295 ≡ b → cancel_in t ≡ (if b then Some n else None)
+    go true e = let high : n ≤ 4294967295 = grind (arith, nat_tests) in cancel_in_range E t n h high
+    go false e = cancel_out_of_range E t n h (λ high. grind (arith, nat_tests))
+
+cancel_read_one : (E : Type 0) (G : Text → Result ℕ E → Type 0) (t : Text) (r : Option ℕ) → ((x : Result ℕ E) → G t x → ParsesUnsigned 64 10 t x)
+    → ReadsOne G t r → cancel_in t ≡ option_and_then few_batches r
+cancel_read_one E G t None parses h = cancel_no_number E t h.0 (parses (Err h.0) h.1)
+cancel_read_one E G t (Some n) parses h = cancel_parsed E t n (parses (Ok n) h)
+
+cancel_text_read : (m : ArgMatches) (o : Option Text) → one_text (found_of m) (codes "cancel-after") ≡ o → cancel_of (rows_of (found_of m)) ≡ option_and_then cancel_in o
+cancel_text_read m o is = ap (option_and_then cancel_in) (sym (one_text-rows (found_of m) (codes "cancel-after")) ∙ is)
+
+-- the number that is asked for, from what was read
+pub cancel_read : (m : ArgMatches) (E : Type 0) (G : Text → Result ℕ E → Type 0) (r : Option ℕ)
+    → ((t : Text) (x : Result ℕ E) → G t x → ParsesUnsigned 64 10 t x)
+    → (one_text (found_of m) (codes "cancel-after") ≡ None → r ≡ None)
+    → ((t : Text) → one_text (found_of m) (codes "cancel-after") ≡ Some t → ReadsOne G t r)
+    → cancel_of (rows_of (found_of m)) ≡ option_and_then few_batches r
+cancel_read m E G r parses none value = go (one_text (found_of m) (codes "cancel-after")) refl
+  where
+    go : (o : Option Text) → one_text (found_of m) (codes "cancel-after") ≡ o → cancel_of (rows_of (found_of m)) ≡ option_and_then few_batches r
+    go None e = cancel_text_read m None e ∙ sym (ap (option_and_then few_batches) (none e))
+    go (Some t) e = cancel_text_read m (Some t) e ∙ cancel_read_one E G t r (parses t) (value t e)
 
 -- ---- where `clap` takes the words, they ask for something
 

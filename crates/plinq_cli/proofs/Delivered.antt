@@ -1,5 +1,5 @@
 -- What a run by threads tells, and has written: the lines of the batches of an answer, or where it broke off those of the first.
-use Rattle.std.proofs.Common.{◌≡◌, Bool, ℕ, ℤ, List, ◌++◌, None, Result, Ok, Err, refl, ap, sym, ◌∙◌, subst}
+use Rattle.std.proofs.Common.{◌≡◌, ◌≢◌, Bool, ℕ, ℤ, List, ◌++◌, None, Result, Ok, Err, refl, ap, sym, ◌∙◌, subst}
 use Rattle.std.specs.List.{flat_map}
 use Rattle.std.specs.Result.{IsErr}
 use Rattle.std.specs.Io.KnownBytes.{Appends, Keeps}
@@ -18,10 +18,9 @@ use Rattle.plinq_ops.specs.Batches.{batches}
 use Rattle.plinq_ops.specs.Query.{QueryView, merge_in_force}
 use Rattle.plinq_run.specs.declared.report.Report.{Report}
 use Rattle.plinq_run.specs.declared.run_fault.RunFault.{RunFault}
-use Rattle.plinq_run.specs.declared.run_fault.RunFault.TheVariants.{Memory as RunMemory, Sink, Tickets, Thread, Incomplete}
+use Rattle.plinq_run.specs.declared.run_fault.RunFault.TheVariants.{Memory as RunMemory, Sink, Tickets, Thread, Incomplete, Cancelled}
 use Rattle.plinq_run.specs.Endings.{reported}
-use Rattle.plinq_run.specs.Reports.{Reports}
-use Rattle.plinq_run.specs.Runs.{Runs, told_refusal}
+use Rattle.plinq_run.specs.Runs.{Runs, Other, SinkRefused, cause_of}
 use Rattle.plinq_document.specs.Jobs.{JobView}
 use Rattle.plinq_lines.specs.LineSink.{Lines, TakesLine, RefusesLine}
 use Rattle.plinq_lines.specs.Text.{line, batch_line, ending_words, ending_line, answer_text}
@@ -33,21 +32,36 @@ use Rattle.plinq_cli.specs.declared.serve_fault.ServeFault.{ServeFault}
 use Rattle.plinq_cli.specs.declared.serve_fault.ServeFault.TheVariants.{Memory, Write, Run as NoRun, Take}
 use Rattle.plinq_cli.specs.ServeFaults.{MayFail, serve_fault_of_run}
 use Rattle.plinq_cli.specs.Served.{batch_lines, Delivers, HasDelivered, HasFailed, HasBrokenOff, HasWritten, IsText, LeavesLines, LeavesWholeLines, Serves}
+use Rattle.plinq_cli.specs.Stopped.{Leaves}
 use Rattle.plinq_cli.specs.Told.{told_text}
 use Rattle.plinq_cli.proofs.Answered.{serves-begun}
 
 -- ---- which answer it is
 
+-- a run to a sink of lines ended so or broke off, or it was cancelled after the first batches
+abbrev RunsOrStops : MergeOption → Trace ℤ → Lines → Lines → Result Ending RunFault → Type 0
+RunsOrStops option u s s' (Err Cancelled) = (sent : List (List ℤ)) × (rest : List (List ℤ)) × (batches option u ≡ sent ++ rest) × Leads TakesLine s sent s'
+RunsOrStops option u s s' r = Runs TakesLine RefusesLine option u s s' r
+
 -- a run to a sink of lines, of some answer that threads may give
 pub record HasSome (ordered : Bool) (ops : List (Op Formula)) (option : MergeOption) (t : Trace ℤ) (s s' : Lines) (r : Result Ending RunFault) : Type 0 where
   pub answer : Trace ℤ
   pub may : MayAnswer formula_meaning ordered ops t answer
-  pub runs : Runs TakesLine RefusesLine option answer s s' r
+  pub runs : RunsOrStops option answer s s' r
 
 pub some-answer : (ordered : Bool) (ops : List (Op Formula)) (option : MergeOption) (t : Trace ℤ) (s s' : Lines) (r : Result Report RunFault)
-    → Reports TakesLine RefusesLine option (MayAnswer formula_meaning ordered ops) t s s' r → HasSome ordered ops option t s s' (reported r)
+    → Leaves TakesLine RefusesLine option (MayAnswer formula_meaning ordered ops) t s s' r → HasSome ordered ops option t s s' (reported r)
 some-answer ordered ops option t s s' (Ok report) h = record { answer = h.answer; may = h.may; runs = h.has_run }
-some-answer ordered ops option t s s' (Err fault) h = record { answer = h.answer; may = h.may; runs = h.broken }
+some-answer ordered ops option t s s' (Err Cancelled) h = record { answer = h.answer; may = h.may; runs = (h.sent, h.rest, h.first, h.leads) }
+some-answer ordered ops option t s s' (Err (Sink code)) h = record { answer = h.answer; may = h.may; runs = h.broken }
+some-answer ordered ops option t s s' (Err RunMemory) h = record { answer = h.answer; may = h.may; runs = h.broken }
+some-answer ordered ops option t s s' (Err Tickets) h = record { answer = h.answer; may = h.may; runs = h.broken }
+some-answer ordered ops option t s s' (Err Thread) h = record { answer = h.answer; may = h.may; runs = h.broken }
+some-answer ordered ops option t s s' (Err Incomplete) h = record { answer = h.answer; may = h.may; runs = h.broken }
+
+-- another cause than the sink
+pub not-refused : (fault : RunFault) → cause_of fault ≡ Other → (code : ℕ) → cause_of fault ≢ SinkRefused code
+not-refused fault is code bad = let same : Other ≡ SinkRefused code = sym is ∙ bad in cc
 
 -- ---- what the sink took is written, and the writer comes back as it is
 
@@ -63,9 +77,9 @@ module _ (q : QueryView Formula) (t : Trace ℤ) (a b : Bytes) (s s' : Lines) (s
       )
 
   -- none was refused
-  stopped : (fault : RunFault) → told_refusal fault ≡ None → (h : HasSome q.ordered q.ops (merge_in_force q.merge) t s s' (Err fault))
+  stopped : (fault : RunFault) → ((code : ℕ) → cause_of fault ≢ SinkRefused code) → (h : HasSome q.ordered q.ops (merge_in_force q.merge) t s s' (Err fault))
       → (sent : List (List ℤ)) × (rest : List (List ℤ)) × (batches (merge_in_force q.merge) h.answer ≡ sent ++ rest) × Leads TakesLine s sent s'
-      → ((told_refusal fault ≡ None) × HasBrokenOff q t a b) × (s'.writer ≡ s.writer)
+      → (((code : ℕ) → cause_of fault ≢ SinkRefused code) × HasBrokenOff q t a b) × (s'.writer ≡ s.writer)
   stopped fault none h (sent, rest, first, leads) =
       let taken = taken-lines s s' sent leads in (
         (none, record { answer = h.answer; may = h.may; sent = sent; rest = rest; first = first; lines = appended _ taken.0 }),
@@ -74,10 +88,11 @@ module _ (q : QueryView Formula) (t : Trace ℤ) (a b : Bytes) (s s' : Lines) (s
 
   broken : (fault : RunFault) → HasSome q.ordered q.ops (merge_in_force q.merge) t s s' (Err fault)
       → Delivers q t a b (Err (serve_fault_of_run fault)) × (s'.writer ≡ s.writer)
-  broken RunMemory h = stopped RunMemory refl h h.runs
-  broken Tickets h = stopped Tickets refl h h.runs
-  broken Thread h = stopped Thread refl h h.runs
-  broken Incomplete h = stopped Incomplete refl h h.runs
+  broken RunMemory h = stopped RunMemory (λ code bad. cc) h h.runs
+  broken Tickets h = stopped Tickets (λ code bad. cc) h h.runs
+  broken Thread h = stopped Thread (λ code bad. cc) h h.runs
+  broken Incomplete h = stopped Incomplete (λ code bad. cc) h h.runs
+  broken Cancelled h = stopped Cancelled (λ code bad. cc) h h.runs
   broken (Sink code) h =
       let short = short-lines s s' _ (Refusal code) h.runs in (
         record { answer = h.answer; may = h.may; begun = (short.0.0, appended _ short.0.1) },

@@ -8,3 +8,4 @@ mod HandedOut
 mod Histories
 mod ToldEnding
 mod Turns
+mod Stopped

@@ -42,13 +42,21 @@ merge_rule words = record (new_rule (codes "merge")) {
   parser = Some words;
 }
 
--- a subcommand of this name, which has the two options of the settings
+-- `--cancel-after`, a number of batches
+abbrev pub cancel_rule : Rule
+cancel_rule = record (new_rule (codes "cancel-after")) {
+  long = Some (codes "cancel-after");
+  value_names = 1;
+  parser = Some (parser.Unsigned 0 4294967295);
+}
+
+-- a subcommand of this name, which has the two options of the settings that all have
 abbrev pub subcommand_app : ValueParser → Text → App
 subcommand_app words name = with_rule (with_rule (new_app name) workers_rule) (merge_rule words)
 
--- the five, of which each may have further options
+-- the five, of which `run` can be cancelled
 abbrev pub run_app : ValueParser → App
-run_app words = subcommand_app words (codes "run")
+run_app words = with_rule (subcommand_app words (codes "run")) cancel_rule
 
 abbrev pub seq_app : ValueParser → App
 seq_app words = subcommand_app words (codes "seq")
@@ -95,9 +103,17 @@ workers_of rows = option_and_then workers_in (one_of (codes "workers") rows)
 abbrev pub merge_of : List Row → Option MergeOption
 merge_of rows = option_and_then merge_word (first_of (codes "merge") rows)
 
+-- the number of batches that a text writes
+abbrev pub cancel_in : Text → Option ℕ
+cancel_in text = if is_unsigned_in 0 4294967295 text then Some (digits_value 10 (without_leading_plus text)) else None
+
+-- after how many batches they ask to cancel a run
+abbrev pub cancel_of : List Row → Option ℕ
+cancel_of rows = option_and_then cancel_in (one_of (codes "cancel-after") rows)
+
 -- a command with the settings of its subcommand's matches
 abbrev pub arguments_with : List Row → Command → Arguments
-arguments_with rows command = record { command = command; settings = record { workers = workers_of rows; merge = merge_of rows } }
+arguments_with rows command = record { command = command; settings = record { workers = workers_of rows; merge = merge_of rows; cancel_after = cancel_of rows } }
 
 -- what a subcommand and its matches ask for
 abbrev pub arguments_in : Text × List Row → Option Arguments

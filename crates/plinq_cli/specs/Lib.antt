@@ -2,6 +2,7 @@ pub mod Rounds
 pub mod ServeFaults
 pub mod Told
 pub mod Served
+pub mod Stopped
 pub mod Arguments
 pub mod Performed
 pub mod Printed

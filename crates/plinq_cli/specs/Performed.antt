@@ -12,14 +12,14 @@ use Rattle.plinq_document.specs.declared.doc_fault.DocFault.TheVariants.{TooLong
 use Rattle.plinq_partition.specs.declared.take_fault.TakeFault.{TakeFault}
 use Rattle.plinq_partition.specs.declared.take_fault.TakeFault.TheVariants.{Memory as TakeMemory, Spent, Busy, Incomplete as RecordsMissing, Away}
 use Rattle.plinq_run.specs.declared.run_fault.RunFault.{RunFault}
-use Rattle.plinq_run.specs.declared.run_fault.RunFault.TheVariants.{Memory as RunMemory, Sink as RunSink, Tickets as RunTickets, Thread as RunThread, Incomplete as RunIncomplete}
+use Rattle.plinq_run.specs.declared.run_fault.RunFault.TheVariants.{Memory as RunMemory, Sink as RunSink, Tickets as RunTickets, Thread as RunThread, Incomplete as RunIncomplete, Cancelled as RunCancelled}
 use Rattle.plinq_cli.specs.declared.command.Command.{Command}
 use Rattle.plinq_cli.specs.declared.input_fault.InputFault.{InputFault}
 use Rattle.plinq_cli.specs.declared.input_fault.InputFault.TheVariants.{Read as InputRead, TooLong as InputTooLong, Memory as InputMemory}
 use Rattle.plinq_cli.specs.declared.serve_fault.ServeFault.{ServeFault}
 use Rattle.plinq_cli.specs.declared.serve_fault.ServeFault.TheVariants.{Memory as ServeMemory, Write as ServeWrite, Run as ServeRun, Take}
 use Rattle.plinq_cli.specs.declared.failure.Failure.{Failure}
-use Rattle.plinq_cli.specs.declared.failure.Failure.TheVariants.{Document, Memory, Read, Write, Thread, Tickets, Incomplete}
+use Rattle.plinq_cli.specs.declared.failure.Failure.TheVariants.{Document, Memory, Read, Write, Thread, Tickets, Incomplete, Cancelled}
 use Rattle.plinq_cli.specs.declared.arguments.Arguments.{Arguments}
 use Rattle.plinq_cli.specs.Arguments.{IsAsked, Refuses}
 use Rattle.plinq_cli.specs.Served.{Serves}
@@ -46,6 +46,7 @@ failure_of_run (RunSink code) = Write
 failure_of_run RunTickets = Tickets
 failure_of_run RunThread = Thread
 failure_of_run RunIncomplete = Incomplete
+failure_of_run RunCancelled = Cancelled
 
 abbrev pub failure_of_serve : ServeFault → Failure
 failure_of_serve ServeMemory = Memory
@@ -62,6 +63,7 @@ IfDocument P Write = ⊤
 IfDocument P Thread = ⊤
 IfDocument P Tickets = ⊤
 IfDocument P Incomplete = ⊤
+IfDocument P Cancelled = ⊤
 
 -- a document that is refused has no answer and no text, and the failure says why it is refused
 abbrev pub RefusesDocument : DocFault → Option (List ℕ) → Option (List ℕ) → Result Ending Failure → Type 0
@@ -91,6 +93,7 @@ failure_status Write = 5
 failure_status Thread = 5
 failure_status Tickets = 5
 failure_status Incomplete = 5
+failure_status Cancelled = 5
 
 abbrev pub ending_status : Ending → ℕ
 ending_status End = 0
@@ -153,6 +156,9 @@ at_a_failing_write = refl
 
 pub without_a_thread : status_of (Err (failure_of_serve (ServeRun RunThread))) ≡ 5
 without_a_thread = refl
+
+pub at_a_cancelled_run : status_of (Err (failure_of_serve (ServeRun RunCancelled))) ≡ 5
+at_a_cancelled_run = refl
 
 pub at_spent_tickets : status_of (Err (failure_of_serve (Take Spent))) ≡ 5
 at_spent_tickets = refl

@@ -1,11 +1,11 @@
 -- A fault of a partition or of a run, as a command tells it, and which faults each command may have.
-use Rattle.std.specs.Prelude.{◌≡◌, ◌≢◌, None, ⊤}
+use Rattle.std.specs.Prelude.{◌≡◌, ◌≢◌, ℕ, ⊤}
 use Rattle.plinq_partition.specs.declared.take_fault.TakeFault.{TakeFault}
 use Rattle.plinq_partition.specs.declared.take_fault.TakeFault.TheVariants.{Memory as NoMemory}
 use Rattle.plinq_cli.specs.declared.serve_fault.ServeFault.{ServeFault}
 use Rattle.plinq_run.specs.declared.run_fault.RunFault.{RunFault}
 use Rattle.plinq_run.specs.declared.run_fault.RunFault.TheVariants.{Sink}
-use Rattle.plinq_run.specs.Runs.{told_refusal}
+use Rattle.plinq_run.specs.Runs.{SinkRefused, cause_of}
 use Rattle.plinq_cli.specs.declared.command.Command.{Command}
 use Rattle.plinq_cli.specs.declared.command.Command.TheVariants.{Run as RunQuery, Plan, History}
 use Rattle.plinq_cli.specs.declared.serve_fault.ServeFault.TheVariants.{Memory, Write, Run, Take}
@@ -25,5 +25,5 @@ serve_fault_of_run fault = Run fault
 abbrev pub MayFail : Command → ServeFault → Type 0
 MayFail command Memory = (command ≢ RunQuery) × (command ≢ Plan)
 MayFail command Write = ⊤
-MayFail command (Run fault) = (command ≡ RunQuery) × (told_refusal fault ≡ None)
+MayFail command (Run fault) = (command ≡ RunQuery) × ((code : ℕ) → cause_of fault ≢ SinkRefused code)
 MayFail command (Take fault) = (command ≡ History) × (fault ≢ NoMemory)

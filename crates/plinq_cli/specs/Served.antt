@@ -1,5 +1,5 @@
 -- What each command answers, and the text that it prints.
-use Rattle.std.specs.Prelude.{◌≡◌, ◌⊎◌, ⊤, ℕ, ℤ, pos, List, [], ◌∷◌, ◌++◌, true, false, Option, Some, None, Result, Ok, Err, MatchResult, codes, refl}
+use Rattle.std.specs.Prelude.{◌≡◌, ◌≢◌, ◌⊎◌, ⊤, ℕ, ℤ, pos, List, [], ◌∷◌, ◌++◌, true, false, Option, Some, None, Result, Ok, Err, MatchResult, codes, refl}
 use Rattle.std.proofs.Common.{arith}
 use Rattle.std.specs.Fmt.{digits}
 use Rattle.std.specs.List.{flat_map}
@@ -18,7 +18,7 @@ use Rattle.plinq_ops.specs.Query.{QueryView, merge_in_force, degree_in_force}
 use Rattle.plinq_ops.specs.Answer.{MayAnswer}
 use Rattle.plinq_ops.specs.Sequential.{answer_of}
 use Rattle.plinq_keyed.specs.declared.record.Record.{Record}
-use Rattle.plinq_run.specs.Runs.{told_refusal}
+use Rattle.plinq_run.specs.Runs.{SinkRefused, cause_of}
 use Rattle.plinq_document.specs.declared.kind.Kind.{Kind}
 use Rattle.plinq_document.specs.Jobs.{JobView}
 use Rattle.plinq_cli.specs.declared.command.Command.{Command}
@@ -99,7 +99,7 @@ module _ (q : QueryView Formula) (t : Trace ℤ) (old new : Option (List ℕ)) w
   -- what was written of the batches of a run that ended so, or failed: in writing, or by a fault of its own
   abbrev pub Delivers : Result Ending ServeFault → Type 0
   Delivers (Ok e) = HasDelivered e
-  Delivers (Err (NoRun fault)) = (told_refusal fault ≡ None) × HasBrokenOff
+  Delivers (Err (NoRun fault)) = ((code : ℕ) → cause_of fault ≢ SinkRefused code) × HasBrokenOff
   Delivers (Err Memory) = ⊥
   Delivers (Err Write) = HasFailed
   Delivers (Err (Take fault)) = ⊥
@@ -126,6 +126,7 @@ add_one = record {
   source = ended (pos 3 ∷ pos 1 ∷ pos 4 ∷ []) End;
   growth = record { first = 1; repeat = 3; max = 512 };
   aggregate = None;
+  cancel_after = None;
 }
 
 pub add_one_is_answered : sequential_answer add_one ≡ ended (pos 4 ∷ pos 2 ∷ pos 5 ∷ []) End

@@ -8,7 +8,7 @@ use Rattle.plinq_aggregate.specs.Folding.{aggregated}
 use Rattle.plinq_aggregate.specs.Numbers.{summing, counting, picking}
 use Rattle.plinq_run.specs.declared.aggregate_fault.AggregateFault.{AggregateFault}
 use Rattle.plinq_run.specs.declared.aggregate_fault.AggregateFault.TheVariants.{Ended, Run}
-use Rattle.plinq_run.specs.Runs.{told_refusal}
+use Rattle.plinq_run.specs.Runs.{Other, cause_of}
 use Rattle.plinq_ops.specs.declared.merge_option.MergeOption.{MergeOption}
 use Rattle.plinq_ops.specs.declared.merge_option.MergeOption.TheVariants.{NotBuffered}
 use Rattle.plinq_document.specs.declared.kind.Kind.{Kind}
@@ -32,7 +32,7 @@ told_text (Some kind) option u = aggregate_text (kind_value kind u.items) u.endi
 abbrev pub TellsValue : (List ℤ → Option ℤ) → (Trace ℤ → Type 0) → Result (Option ℤ) AggregateFault → Type 0
 TellsValue value Is (Ok v) = (u : Trace ℤ) × Is u × (v ≡ value u.items) × (u.ending ≡ Some End)
 TellsValue value Is (Err (Ended e)) = (u : Trace ℤ) × Is u × (u.ending ≡ Some e) × (e ≢ End)
-TellsValue value Is (Err (Run fault)) = told_refusal fault ≡ None
+TellsValue value Is (Err (Run fault)) = cause_of fault ≡ Other
 
 -- ---- worked rows
 

@@ -2,7 +2,7 @@ ghost use Rattle.std.specs.Prelude.{◌≡◌, map, option_and_then, IfOk, Match
 ghost use Rattle.std.specs.String.{string_bytes};
 ghost use Rattle.clap.specs.Words.{app_of, found_of, kind_of, rows_of, subcommand_rows_of};
 ghost use Rattle.plinq_document.specs.Words.{beside};
-ghost use Rattle.plinq_cli.specs.Arguments.{AddsItsShape, IsAsked, IsPlinq, Refuses, arguments_in, command_names, merge_of, subcommand_app, workers_of};
+ghost use Rattle.plinq_cli.specs.Arguments.{AddsItsShape, IsAsked, IsPlinq, Refuses, arguments_in, cancel_of, command_names, merge_of, run_app, subcommand_app, workers_of};
 
 use crate::command::Command;
 use clap::builder::ValueParser;
@@ -11,6 +11,9 @@ use clap::{Arg, ArgMatches};
 use plinq_document::{Degree, Settings, merge_word};
 use plinq_ops::MergeOption;
 use std::alloc::{AllocError, Global};
+
+/// The greatest number of batches after which a run can be cancelled.
+const MOST_BATCHES: u64 = 4_294_967_295;
 
 static MERGE_WORDS: [&str; 4] = ["not", "auto", "full", "default"];
 
@@ -21,6 +24,10 @@ const AFTER_HELP: &str =
   auto     lines of 16 elements
   full     one line of all elements, where there are any and the answer comes to its end
   default  as auto
+
+run takes --cancel-after N too, a whole number of at most 4294967295: once N lines of elements were written it stops, and
+writes "plinq: cancelled" on standard error and no ending. A number that isn't reached has no effect, nor has any with an
+aggregate.
 
 As many workers as there are cores answer soonest, and more cost little. Where --workers isn't given there are 4, or as
 many as the query asks for by with_degree.
@@ -35,7 +42,7 @@ Exit status:
   2  the arguments or the document were refused
   3  the source refused
   4  a formula had a fault
-  5  memory ran out, no thread could be started, reading or writing failed, or a run broke off
+  5  memory ran out, no thread could be started, reading or writing failed, or a run broke off or was cancelled
 
 Example, which prints 4, 2, 5 and end, a line each:
   echo '{"version":1,"source":{"list":[3,1,4]},"query":[["as_ordered"],["select","add",1]]}' | plinq run --merge not"#;
@@ -45,7 +52,7 @@ Example, which prints 4, 2, 5 and end, a line each:
 pub struct Arguments {
     /// The subcommand.
     pub command: Command,
-    /// The two options.
+    /// The options.
     pub settings: Settings,
 }
 
@@ -76,13 +83,7 @@ fn command_line<'a>(alloc: Global) -> Result<clap::Command<'a>, AllocError>
         .after_help(AFTER_HELP)
         .disable_help_subcommand(true)
         .subcommand_required(true)
-        .subcommand(subcommand(
-            alloc,
-            "run",
-            "plinq run [OPTIONS] < DOCUMENT",
-            "Answers the query",
-            merge,
-        )?)?
+        .subcommand(run_command(alloc, merge)?)?
         .subcommand(subcommand(
             alloc,
             "seq",
@@ -111,6 +112,28 @@ fn command_line<'a>(alloc: Global) -> Result<clap::Command<'a>, AllocError>
             "Shows the requests of partitions that take from the source in turn",
             merge,
         )?)
+}
+
+// `run`, which alone can be cancelled.
+fn run_command<'a>(
+    alloc: Global,
+    merge_words: ValueParser<'a>,
+) -> Result<clap::Command<'a>, AllocError>
+    ensures { IfOk result (λ s. AddsItsShape s × (app_of s ≡ run_app merge_words.entry)) }
+{
+    let cancel_after = Arg::new(alloc, "cancel-after")
+        .long("cancel-after")
+        .value_name("N")
+        .help("Cancels the run once N lines of elements were written")
+        .value_parser(ValueParser::unsigned(0, MOST_BATCHES));
+    let run = subcommand(
+        alloc,
+        "run",
+        "plinq run [OPTIONS] < DOCUMENT",
+        "Answers the query",
+        merge_words,
+    )?;
+    run.arg(cancel_after)
 }
 
 fn subcommand<'a>(
@@ -149,11 +172,12 @@ fn chosen(matches: &ArgMatches<'_>) -> Option<Arguments>
         settings: Settings {
             workers: workers_of(options),
             merge: merge_of(options),
+            cancel_after: cancel_of(options),
         },
     })
 }
 
-// The command of this subcommand. None has options of its own yet.
+// The command of this subcommand.
 fn command_of(name: &str, _options: &ArgMatches<'_>) -> Option<Command>
     ensures { result ≡ beside (command_names (rows_of (found_of _options.now))) name.now }
 {
@@ -172,6 +196,17 @@ fn workers_of(options: &ArgMatches<'_>) -> Option<Degree>
     ensures { result ≡ workers_of (rows_of (found_of options.now)) }
 {
     Degree::new(options.get_one::<u64>("workers")?)
+}
+
+// Only `run` has the option, and `clap` has refused any other number.
+fn cancel_of(options: &ArgMatches<'_>) -> Option<u64>
+    ensures { result ≡ cancel_of (rows_of (found_of options.now)) }
+{
+    let most = options.get_one::<u64>("cancel-after")?;
+    if most > MOST_BATCHES {
+        return None;
+    }
+    Some(most)
 }
 
 fn merge_of(options: &ArgMatches<'_>) -> Option<MergeOption>

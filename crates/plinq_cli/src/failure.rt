@@ -32,6 +32,9 @@ pub enum Failure {
     /// Records of the history are missing, or the enumerator is, or results of a run.
     #[error("incomplete")]
     Incomplete,
+    /// The run was cancelled.
+    #[error("cancelled")]
+    Cancelled,
 }
 
 impl From<DocFault> for Failure {
@@ -80,6 +83,7 @@ impl From<RunFault> for Failure {
             RunFault::Tickets => Failure::Tickets,
             RunFault::Thread => Failure::Thread,
             RunFault::Incomplete => Failure::Incomplete,
+            RunFault::Cancelled => Failure::Cancelled,
         }
     }
 }

@@ -150,7 +150,7 @@ fn report_failure<E: Write>(failure: Failure, err: &mut E) -> u8
     match failure {
         Failure::Document(_) => 2,
         Failure::Memory | Failure::Read | Failure::Write => 5,
-        Failure::Thread | Failure::Tickets | Failure::Incomplete => 5,
+        Failure::Thread | Failure::Tickets | Failure::Incomplete | Failure::Cancelled => 5,
     }
 }
 

@@ -4,6 +4,10 @@ ghost use Rattle.plinq_partition.specs.Cuts.{cuts};
 ghost use Rattle.plinq_source.specs.Trace.{ended};
 ghost use Rattle.plinq_cli.specs.ServeFaults.{MayFail};
 ghost use Rattle.plinq_cli.specs.Served.{Delivers, LeavesWholeLines, Serves};
+ghost use Rattle.plinq_cli.specs.Stopped.{Leaves};
+ghost use Rattle.plinq_lambda.specs.Formula.{formula_meaning};
+ghost use Rattle.plinq_ops.specs.Answer.{MayAnswer};
+ghost use Rattle.plinq_ops.specs.Query.{merge_in_force};
 
 use crate::aggregating::{value_by_threads, write_told};
 use crate::command::Command;
@@ -16,9 +20,10 @@ use plinq_lambda::Formula;
 use plinq_lines::{
     LineSink, write_aggregate, write_ending, write_history, write_parts, write_plan,
 };
+use plinq_merge::{CancelAfter, Sink};
 use plinq_ops::{Query, sequential};
 use plinq_partition::{OrderablePartitioner, RangeParts};
-use plinq_run::{AggregateFault, OpenGate, run};
+use plinq_run::{AggregateFault, OpenGate, Report, RunFault, run, run_with};
 use plinq_source::{Ending, OutOfMemory, Source};
 use std::alloc::Global;
 use std::io::Write;
@@ -88,9 +93,10 @@ where
         query,
         source,
         growth,
+        cancel_after,
         ..
     } = job;
-    let ending = run_into(rt, &query, source, growth, writer)?;
+    let ending = run_into(rt, &query, source, growth, cancel_after, writer)?;
     write_ending(writer, ending)?;
     Ok(ending)
 }
@@ -130,6 +136,7 @@ fn run_into<R, W>(
     query: &Query<Formula>,
     source: AnySource,
     growth: Growth,
+    cancel_after: Option<u64>,
     writer: &mut W,
 ) -> Result<Ending, ServeFault>
 where
@@ -138,7 +145,7 @@ where
     requires unasked { ⟦<AnySource as Source>⟧.given source ≡ 0 }
     ensures { Delivers query.now (⟦<AnySource as Source>⟧.whole source) (W.contents writer.old) (W.contents writer.new) result }
 {
-    let (ended, _writer) = run_lines(rt, query, source, growth, writer);
+    let (ended, _writer) = run_lines(rt, query, source, growth, cancel_after, writer);
     ended
 }
 
@@ -150,6 +157,7 @@ fn run_lines<'a, R, W>(
     query: &Query<Formula>,
     source: AnySource,
     growth: Growth,
+    cancel_after: Option<u64>,
     writer: &'a mut W,
 ) -> (Result<Ending, ServeFault>, &'a mut W)
 where
@@ -160,7 +168,7 @@ where
     ensures same { result.1.ghost_name ≡ writer.entry.ghost_name }
 {
     let mut sink = LineSink::new(writer);
-    let reported = run(rt, rt.alloc(), query, source, growth, &OpenGate, &mut sink);
+    let reported = run_until(rt, query, source, growth, cancel_after, &mut sink);
     let has_failed = sink.has_failed();
     let writer = sink.into_writer();
     match reported {
@@ -172,6 +180,37 @@ where
         }
         Err(fault) => (Err(ServeFault::from(fault)), writer),
     }
+}
+
+// Runs a query into a sink, and stops after so many batches, if it is to stop at all.
+fn run_until<R, K>(
+    rt: &R,
+    query: &Query<Formula>,
+    source: AnySource,
+    growth: Growth,
+    cancel_after: Option<u64>,
+    sink: &mut K,
+) -> Result<Report, RunFault>
+where
+    R: AllocGlobal + Threads + Wait + Sync,
+    K: Sink<Item = i64>,
+    requires unasked { ⟦<AnySource as Source>⟧.given source ≡ 0 }
+    ensures { Leaves K.accepts K.refuses (merge_in_force query.now.merge) (MayAnswer formula_meaning query.now.ordered query.now.ops) (⟦<AnySource as Source>⟧.whole source) sink.old sink.new result }
+{
+    let Some(most) = cancel_after else {
+        return run(rt, rt.alloc(), query, source, growth, &OpenGate, sink);
+    };
+    let mut token = CancelAfter::new(most);
+    run_with(
+        rt,
+        rt.alloc(),
+        query,
+        source,
+        growth,
+        &OpenGate,
+        &mut token,
+        sink,
+    )
 }
 
 fn serve_sequential<W: Write>(alloc: Global, job: Job, writer: &mut W) -> Result<Ending, ServeFault>

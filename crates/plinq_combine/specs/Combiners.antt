@@ -7,7 +7,7 @@ use Rattle.plinq_aggregate.specs.Folding.{Folding, folded}
 use Rattle.plinq_ops.specs.declared.order.Order.{Order}
 use Rattle.plinq_ops.specs.declared.results.ChunkResult.{ChunkResult}
 use Rattle.plinq_merge.specs.declared.merge_fault.MergeFault.{MergeFault}
-use Rattle.plinq_merge.specs.declared.merge_fault.MergeFault.TheVariants.{Memory, Sink, Twice, Gap, Failed}
+use Rattle.plinq_merge.specs.declared.merge_fault.MergeFault.TheVariants.{Memory, Sink, Twice, Gap, Failed, Cancelled}
 use Rattle.plinq_merge.specs.declared.more.More.{More}
 use Rattle.plinq_merge.specs.declared.more.More.TheVariants.{Yes, No}
 use Rattle.plinq_merge.specs.Keys.{AreNew, IsTwice}
@@ -55,6 +55,7 @@ module _ {F T A O : Type 0} (f : Folding T A O) where
   TakesOffer w c (Err (Sink code)) w' standing' = ⊥
   TakesOffer w c (Err Gap) w' standing' = ⊥
   TakesOffer w c (Err Failed) w' standing' = ⊥
+  TakesOffer w c (Err Cancelled) w' standing' = ⊥
 
   -- a decided combiner answers No, a failed one Failed, and nothing changes
   abbrev pub AnswersOffer : Combining F A → Standing → ChunkResult A → Result More MergeFault → Combining F A → Standing → Type 0

@@ -29,7 +29,7 @@ row ds = array (items_of ds)
 
 -- no setting of the command line
 abbrev plain : Settings
-plain = record { workers = None; merge = None }
+plain = record { workers = None; merge = None; cancel_after = None }
 
 -- the members in the order of their names
 abbrev document : List Data → Data → Data → Data
@@ -52,7 +52,7 @@ select_add_one = row (word (codes "select") ∷ word (codes "add") ∷ whole 1 �
 
 -- {"version":1,"source":{"list":[3,1,4]},"query":[["as_ordered"],["select","add",1]]}
 pub meaning-example : document_meaning plain (document (as_ordered ∷ select_add_one ∷ []) (list_of (whole 3 ∷ whole 1 ∷ whole 4 ∷ [])) (whole 1))
-    ≡ Ok (record { query = record { ops = Select (Add (pos 1)) ∷ []; ordered = true; merge = None; degree = None }; source = ended (pos 3 ∷ pos 1 ∷ pos 4 ∷ []) End; growth = record { first = 1; repeat = 3; max = 512 }; aggregate = None })
+    ≡ Ok (record { query = record { ops = Select (Add (pos 1)) ∷ []; ordered = true; merge = None; degree = None }; source = ended (pos 3 ∷ pos 1 ∷ pos 4 ∷ []) End; growth = record { first = 1; repeat = 3; max = 512 }; aggregate = None; cancel_after = None })
 meaning-example = refl
 
 -- {}
@@ -103,11 +103,11 @@ pub meaning-degree : document_meaning plain (stepping (row (word (codes "with_de
 meaning-degree = refl
 
 -- the command line's merge option, and [["with_merge","full"]]
-pub meaning-merge_twice : document_meaning (record { workers = None; merge = Some NotBuffered }) (stepping (row (word (codes "with_merge") ∷ word (codes "full") ∷ []) ∷ [])) ≡ Err (Step 0 (Build MergeTwice))
+pub meaning-merge_twice : document_meaning (record { workers = None; merge = Some NotBuffered; cancel_after = None }) (stepping (row (word (codes "with_merge") ∷ word (codes "full") ∷ []) ∷ [])) ≡ Err (Step 0 (Build MergeTwice))
 meaning-merge_twice = refl
 
 -- the command line's workers, and [["with_degree",0]]
-pub meaning-degree_twice : document_meaning (record { workers = Some 2; merge = None }) (stepping (row (word (codes "with_degree") ∷ whole 0 ∷ []) ∷ [])) ≡ Err (Step 0 (Build DegreeTwice))
+pub meaning-degree_twice : document_meaning (record { workers = Some 2; merge = None; cancel_after = None }) (stepping (row (word (codes "with_degree") ∷ whole 0 ∷ []) ∷ [])) ≡ Err (Step 0 (Build DegreeTwice))
 meaning-degree_twice = refl
 
 -- ---- aggregates
@@ -118,7 +118,7 @@ aggregating kind = object (member (codes "aggregate") kind (member (codes "query
 
 -- what that asks for
 abbrev with_aggregate : Option Kind → JobView
-with_aggregate kind = record { query = record { ops = []; ordered = false; merge = None; degree = None }; source = ended [] End; growth = record { first = 1; repeat = 3; max = 512 }; aggregate = kind }
+with_aggregate kind = record { query = record { ops = []; ordered = false; merge = None; degree = None }; source = ended [] End; growth = record { first = 1; repeat = 3; max = 512 }; aggregate = kind; cancel_after = None }
 
 pub meaning-sum : document_meaning plain (aggregating (word (codes "sum"))) ≡ Ok (with_aggregate (Some Sum))
 meaning-sum = refl
@@ -159,7 +159,7 @@ too_large = range_of (whole 0) (whole 1099511627777)
 
 -- what a document with this source and no step asks for
 abbrev all_of : Trace ℤ → JobView
-all_of t = record { query = record { ops = []; ordered = false; merge = None; degree = None }; source = t; growth = record { first = 1; repeat = 3; max = 512 }; aggregate = None }
+all_of t = record { query = record { ops = []; ordered = false; merge = None; degree = None }; source = t; growth = record { first = 1; repeat = 3; max = 512 }; aggregate = None; cancel_after = None }
 
 -- {"concat":[{"list":[1,2]},{"range":[5,2]}]}
 pub meaning-concat : document_meaning plain (document [] (concat_of_both (list_of (whole 1 ∷ whole 2 ∷ [])) (range_of (whole 5) (whole 2))) (whole 2)) ≡ Ok (all_of (ended (pos 1 ∷ pos 2 ∷ pos 5 ∷ pos 6 ∷ []) End))

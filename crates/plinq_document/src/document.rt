@@ -27,7 +27,7 @@ const MOST_STEPS: usize = 1_000;
 
 /// Reads a document: one JSON text, of version 1 or 2.
 ///
-/// The settings of the command line count as calls at the head of the query, the workers before the merge option.
+/// The workers and the merge option of the command line count as calls at the head of the query, in this order.
 ///
 /// ```text
 /// {"version": 1, "source": {"list": [3, 1, 4]}, "query": [["as_ordered"], ["select", "add", 1]]}
@@ -72,6 +72,7 @@ fn refusal(error: &serde_json::Error) -> DocFault
 fn job_of(alloc: Global, value: &Value, settings: Settings) -> Result<Job, DocFault>
     ensures { MatchResult result (λ job. document_meaning settings (view value.now) ≡ Ok job) (IfMeant (document_meaning settings (view value.now))) }
 {
+    let cancel_after = settings.cancel_after;
     let version = version_in(value)?;
     check_names(value)?;
     let steps = steps_in(value)?;
@@ -85,6 +86,7 @@ fn job_of(alloc: Global, value: &Value, settings: Settings) -> Result<Job, DocFa
         source,
         growth,
         aggregate,
+        cancel_after,
     })
 }
 

@@ -17,6 +17,8 @@ pub struct Job {
     pub growth: Growth,
     /// What is told of the answer in place of its items; where there is none, the items themselves.
     pub aggregate: Option<Kind>,
+    /// After how many batches a run of it is cancelled, if it is.
+    pub cancel_after: Option<u64>,
 }
 
 impl Model for Job {
@@ -25,7 +27,7 @@ impl Model for Job {
 
     ghost Value = { JobView };
 
-    ghost view = { λ job. record { query = job.query; source = ⟦<AnySource as Source>⟧.whole job.source; growth = job.growth; aggregate = job.aggregate } };
+    ghost view = { λ job. record { query = job.query; source = ⟦<AnySource as Source>⟧.whole job.source; growth = job.growth; aggregate = job.aggregate; cancel_after = job.cancel_after } };
 
     ghost invariant = { λ job. ⟦<AnySource as Source>⟧.given job.source ≡ 0 };
 }

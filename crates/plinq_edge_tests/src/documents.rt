@@ -14,6 +14,7 @@ mod steps;
 const PLAIN: Settings = Settings {
     workers: None,
     merge: None,
+    cancel_after: None,
 };
 
 // In one place, since each call of `read_document` is dear to prove.

@@ -5,7 +5,7 @@ use Rattle.std.specs.Io.KnownBytes.{Appends}
 use Rattle.std.proofs.KnownBytes.{Appends-nil, Appends-trans}
 use Rattle.std.proofs.lemmas.Grind.{flat_map-append}
 use Rattle.plinq_merge.specs.declared.merge_fault.MergeFault.{MergeFault}
-use Rattle.plinq_merge.specs.declared.merge_fault.MergeFault.TheVariants.{Memory, Sink, Twice, Gap, Failed}
+use Rattle.plinq_merge.specs.declared.merge_fault.MergeFault.TheVariants.{Memory, Sink, Twice, Gap, Failed, Cancelled}
 use Rattle.plinq_merge.specs.Sending.{Leads}
 use Rattle.plinq_merge.specs.Mergers.{StopsShort}
 use Rattle.plinq_lines.specs.LineSink.{Lines, TakesLine, RefusesLine}
@@ -47,3 +47,4 @@ short-lines s s' bs (Sink code) (sent, b, rest, m, is, leads, refused) =
 short-lines s s' bs Twice (sent, rest, is, leads) = sent-lines s s' bs sent rest is leads
 short-lines s s' bs Gap (sent, rest, is, leads) = sent-lines s s' bs sent rest is leads
 short-lines s s' bs Failed (sent, rest, is, leads) = sent-lines s s' bs sent rest is leads
+short-lines s s' bs Cancelled (sent, rest, is, leads) = sent-lines s s' bs sent rest is leads

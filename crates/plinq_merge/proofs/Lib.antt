@@ -8,3 +8,8 @@ pub mod Offers
 pub mod Whole
 pub mod Told
 pub mod Mergers
+pub mod Sends
+pub mod Maps
+pub mod Lent
+pub mod Never
+pub mod Asked

@@ -5,7 +5,7 @@ use Rattle.plinq_lambda.specs.Meaning.{Meaning}
 use Rattle.plinq_lambda.specs.declared.lambda.Lambda.{Ghosts}
 use Rattle.plinq_ops.specs.declared.results.ChunkResult.{ChunkResult}
 use Rattle.plinq_merge.specs.declared.merge_fault.MergeFault.{MergeFault}
-use Rattle.plinq_merge.specs.declared.merge_fault.MergeFault.TheVariants.{Memory, Sink, Twice, Gap, Failed}
+use Rattle.plinq_merge.specs.declared.merge_fault.MergeFault.TheVariants.{Memory, Sink, Twice, Gap, Failed, Cancelled}
 use Rattle.plinq_merge.specs.declared.merger.Merger.{Merger}
 use Rattle.plinq_merge.specs.declared.more.More.{More}
 use Rattle.plinq_merge.specs.declared.more.More.TheVariants.{Yes, No}
@@ -90,6 +90,7 @@ module _ {L T K : Type 0} (meaning : L → Meaning T) (accepts : K → List T �
       }
   refused w Open r s1 Gap w' standing' s2 offers stands o = absurd o
   refused w Open r s1 Failed w' standing' s2 offers stands o = absurd o
+  refused w Open r s1 Cancelled w' standing' s2 offers stands o = absurd o
   refused w (Decided e) r s1 fault w' standing' s2 offers stands o = absurd (let bad : Err fault ≡ Ok No = o.0 in cc)
   refused w HasFailed r s1 fault w' standing' s2 offers stands o = absurd stands
 

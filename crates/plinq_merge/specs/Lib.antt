@@ -1,5 +1,8 @@
 pub mod Part
 pub mod Sending
+pub mod Tokens
+pub mod Cancelling
+pub mod Lent
 pub mod Buffer
 pub mod Shown
 pub mod Keys

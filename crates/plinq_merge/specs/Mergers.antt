@@ -1,18 +1,19 @@
 -- What a clause says of a merger.
-use Rattle.std.specs.Prelude.{ℕ, List, Bool, Result}
+use Rattle.std.specs.Prelude.{ℕ, List, Bool, true, false, Result, Ok, Err}
 use Rattle.plinq_source.specs.declared.ending.Ending.{Ending}
 use Rattle.plinq_lambda.specs.declared.lambda.Lambda.{Ghosts}
 use Rattle.plinq_ops.specs.declared.results.ChunkResult.{ChunkResult}
 use Rattle.plinq_merge.specs.declared.merge_fault.MergeFault.{MergeFault}
-use Rattle.plinq_merge.specs.declared.merge_fault.MergeFault.TheVariants.{Memory, Sink, Twice, Gap, Failed}
+use Rattle.plinq_merge.specs.declared.merge_fault.MergeFault.TheVariants.{Memory, Sink, Twice, Gap, Failed, Cancelled}
 use Rattle.plinq_merge.specs.declared.more.More.{More}
 use Rattle.plinq_merge.specs.declared.merger.Merger.{Merger}
 use Rattle.plinq_merge.specs.declared.undelivered.Undelivered.{Undelivered}
 use Rattle.plinq_merge.specs.declared.undelivered.Undelivered.TheVariants.{Memory as NoMemory, Sink as Refusal}
-use Rattle.plinq_merge.specs.Sending.{IsCutOff}
+use Rattle.plinq_merge.specs.Cancelling.{Delivery, Passes, IsRefused, IsKeptBack}
+use Rattle.plinq_merge.specs.Sending.{Leads, IsCutOff}
 use Rattle.plinq_merge.specs.Shown.{Merge}
 use Rattle.plinq_merge.specs.Working.{merge_of}
-use Rattle.plinq_merge.specs.Offering.{StandsFor, Offers, is_decided, finished}
+use Rattle.plinq_merge.specs.Offering.{StandsFor, Offers, OffersWith, is_decided, finished}
 
 module _ {L T : Type 0} {lambda : Ghosts L T} where
   -- what a merger is made for
@@ -28,6 +29,15 @@ module _ {L T : Type 0} {lambda : Ghosts L T} where
       → Merger L T lambda → ChunkResult T → K → Result More MergeFault → Merger L T lambda → K → Type 0
   Takes accepts refuses m r s result m' s' = Offers lambda.meaning accepts refuses m.work m.standing r s result m'.work m'.standing s'
 
+  -- the same of an offer with a token, and of the number of batches
+  abbrev pub TakesWith : {C K : Type 0} → (C → ℕ → Bool → C → Type 0) → (K → List T → K → Type 0) → (K → List T → ℕ → K → Type 0)
+      → Merger L T lambda → ChunkResult T → Delivery C K → Result More MergeFault → Merger L T lambda → Delivery C K → Type 0
+  TakesWith asks accepts refuses m r d result m' d' = OffersWith lambda.meaning asks accepts refuses m.work m.standing r d result m'.work m'.standing d'
+
+  -- how many batches it has delivered, or the greatest number
+  abbrev pub delivered_of : Merger L T lambda → ℕ
+  delivered_of m = m.delivered
+
   -- what it tells of its answer; a failed one tells of none
   abbrev pub tells_decided : Merger L T lambda → Bool
   tells_decided m = is_decided m.standing
@@ -42,7 +52,26 @@ undelivered_of Memory = NoMemory
 undelivered_of Twice = NoMemory
 undelivered_of Gap = NoMemory
 undelivered_of Failed = NoMemory
+undelivered_of Cancelled = NoMemory
 
 -- the sink has taken the first of these batches, and the fault says why not all
 abbrev pub StopsShort : {K B : Type 0} → (K → B → K → Type 0) → (K → B → ℕ → K → Type 0) → K → List B → MergeFault → K → Type 0
 StopsShort accepts refuses s bs fault s' = IsCutOff accepts refuses s bs (undelivered_of fault) s'
+
+-- some batches were delivered, or the first of some
+abbrev pub SendsSome : {K B : Type 0} → (K → B → K → Type 0) → (K → B → ℕ → K → Type 0) → K → Result More MergeFault → K → Type 0
+SendsSome {K} {B} accepts refuses s (Ok more) s' = (bs : List B) × Leads accepts s bs s'
+SendsSome {K} {B} accepts refuses s (Err fault) s' = (bs : List B) × StopsShort accepts refuses s bs fault s'
+
+-- the token was asked before each of them, and where that stopped the delivery, before one more
+abbrev pub AsksEach : {C K T : Type 0} → (C → ℕ → Bool → C → Type 0) → (K → List T → K → Type 0) → (K → List T → ℕ → K → Type 0)
+    → Delivery C K → Result More MergeFault → Delivery C K → Type 0
+AsksEach asks accepts refuses d (Ok more) d' = SendsSome (Passes asks accepts) (IsRefused asks refuses) d (Ok more) d'
+AsksEach {C} {K} {T} asks accepts refuses d (Err Cancelled) d' = (bs : List (List T)) × IsKeptBack asks accepts d bs d'
+AsksEach asks accepts refuses d (Err fault) d' = SendsSome (Passes asks accepts) (IsRefused asks refuses) d (Err fault) d'
+
+-- the token has stopped it
+abbrev pub is_cancelled : Result More MergeFault → Bool
+is_cancelled (Ok more) = false
+is_cancelled (Err Cancelled) = true
+is_cancelled (Err fault) = false

@@ -4,13 +4,14 @@ use Rattle.plinq_source.specs.declared.ending.Ending.{Ending}
 use Rattle.plinq_lambda.specs.Meaning.{Meaning}
 use Rattle.plinq_ops.specs.declared.results.ChunkResult.{ChunkResult}
 use Rattle.plinq_merge.specs.declared.merge_fault.MergeFault.{MergeFault}
-use Rattle.plinq_merge.specs.declared.merge_fault.MergeFault.TheVariants.{Memory, Sink, Twice, Gap, Failed}
+use Rattle.plinq_merge.specs.declared.merge_fault.MergeFault.TheVariants.{Memory, Sink, Twice, Gap, Failed, Cancelled}
 use Rattle.plinq_merge.specs.declared.more.More.{More}
 use Rattle.plinq_merge.specs.declared.more.More.TheVariants.{Yes, No}
 use Rattle.plinq_merge.specs.declared.standing.Standing.{Standing}
 use Rattle.plinq_merge.specs.declared.standing.Standing.TheVariants.{Open, Decided, Failed as HasFailed}
 use Rattle.plinq_merge.specs.declared.undelivered.Undelivered.TheVariants.{Memory as NoMemory, Sink as Refusal}
 use Rattle.plinq_merge.specs.declared.work.Work.{Work}
+use Rattle.plinq_merge.specs.Cancelling.{Delivery, Passes, IsRefused, IsKeptBack}
 use Rattle.plinq_merge.specs.Sending.{Leads, IsCutOff}
 use Rattle.plinq_merge.specs.Shown.{Merge, answer, shown}
 use Rattle.plinq_merge.specs.Keys.{AreNew, IsTwice}
@@ -48,6 +49,7 @@ TakesOffer {L} {K} {T} meaning accepts refuses w r s (Err Twice) w' standing' s'
     (w' ≡ w) × (standing' ≡ Open) × (s' ≡ s) × ((offers : List (ChunkResult T)) → Rests meaning w offers → IsTwice offers r)
 TakesOffer meaning accepts refuses w r s (Err Gap) w' standing' s' = ⊥
 TakesOffer meaning accepts refuses w r s (Err Failed) w' standing' s' = ⊥
+TakesOffer meaning accepts refuses w r s (Err Cancelled) w' standing' s' = ⊥
 
 -- a decided merger answers No, a failed one Failed, and nothing changes
 abbrev pub Offers : {L K T : Type 0} → (L → Meaning T) → (K → List T → K → Type 0) → (K → List T → ℕ → K → Type 0)
@@ -55,6 +57,20 @@ abbrev pub Offers : {L K T : Type 0} → (L → Meaning T) → (K → List T →
 Offers meaning accepts refuses w Open r s result w' standing' s' = TakesOffer meaning accepts refuses w r s result w' standing' s'
 Offers meaning accepts refuses w (Decided e) r s result w' standing' s' = (result ≡ Ok No) × (w' ≡ w) × (standing' ≡ Decided e) × (s' ≡ s)
 Offers meaning accepts refuses w HasFailed r s result w' standing' s' = (result ≡ Err Failed) × (w' ≡ w) × (standing' ≡ HasFailed) × (s' ≡ s)
+
+-- the token kept a batch back: the merger has failed, and of the batches that the definition gains the first were delivered
+abbrev pub IsCancelled : {L C K T : Type 0} → (L → Meaning T) → (C → ℕ → Bool → C → Type 0) → (K → List T → K → Type 0)
+    → Work L T → Standing → ChunkResult T → Delivery C K → Standing → Delivery C K → Type 0
+IsCancelled {L} {C} {K} {T} meaning asks accepts w standing r d standing' d' =
+    (standing ≡ Open) × (standing' ≡ HasFailed) × ((offers : List (ChunkResult T)) → Rests meaning w offers
+    → Brings (merge_of meaning w) offers r (λ gained. IsKeptBack asks accepts d gained d'))
+
+-- the same of an offer with a token, which is asked before each batch
+abbrev pub OffersWith : {L C K T : Type 0} → (L → Meaning T) → (C → ℕ → Bool → C → Type 0) → (K → List T → K → Type 0) → (K → List T → ℕ → K → Type 0)
+    → Work L T → Standing → ChunkResult T → Delivery C K → Result More MergeFault → Work L T → Standing → Delivery C K → Type 0
+OffersWith meaning asks accepts refuses w standing r d (Ok more) w' standing' d' = Offers meaning (Passes asks accepts) (IsRefused asks refuses) w standing r d (Ok more) w' standing' d'
+OffersWith meaning asks accepts refuses w standing r d (Err Cancelled) w' standing' d' = IsCancelled meaning asks accepts w standing r d standing' d'
+OffersWith meaning asks accepts refuses w standing r d (Err fault) w' standing' d' = Offers meaning (Passes asks accepts) (IsRefused asks refuses) w standing r d (Err fault) w' standing' d'
 
 abbrev pub is_decided : Standing → Bool
 is_decided Open = false

@@ -9,25 +9,40 @@
 //!   all was offered ([`laws`]).
 //! - A [`Row`] of keys is what a merger stands on; it only moves what waits in it, and serves whoever merges otherwise.
 //! - A [`Sink`] takes the batches; what it says of a call is `accepts` and `refuses`.
+//! - A [`Cancel`] is asked before each batch (`Merger::offer_with`), and may stop the delivery: what was delivered then are
+//!   the first batches (`IsKeptBack`). [`WithCancellation`] is such a token and a sink as one sink.
 #![tactic(auto)]
 
 mod buffer;
+mod cancel;
+mod cancel_after;
+mod cancel_flag;
+mod flag_token;
 pub mod laws;
 mod merge_fault;
 mod merger;
 mod merging;
 mod more;
+mod never_cancel;
+mod offering;
 mod row;
 mod sending;
 mod sink;
 mod standing;
 mod undelivered;
 mod waiting;
+mod with_cancellation;
 mod work;
 
+pub use cancel::Cancel;
+pub use cancel_after::CancelAfter;
+pub use cancel_flag::CancelFlag;
+pub use flag_token::FlagToken;
 pub use merge_fault::MergeFault;
 pub use merger::Merger;
 pub use more::More;
+pub use never_cancel::NeverCancel;
 pub use row::Row;
 pub use sink::Sink;
 pub use waiting::Waiting;
+pub use with_cancellation::WithCancellation;

@@ -19,9 +19,12 @@ pub enum MergeFault {
     /// The answer isn't decided.
     #[error("results are missing")]
     Gap,
-    /// Memory ran out before, or the sink refused a batch.
+    /// Memory ran out before, the sink refused a batch, or the token stopped the delivery.
     #[error("failed before")]
     Failed,
+    /// The token stopped the delivery.
+    #[error("cancelled")]
+    Cancelled,
 }
 
 impl From<OutOfMemory> for MergeFault {

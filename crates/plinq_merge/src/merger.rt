@@ -21,5 +21,7 @@ use plinq_lambda::Lambda;
 pub struct Merger<'a, L: Lambda> {
     pub(crate) work: Work<'a, L, L::Item>,
     pub(crate) standing: Standing,
+    /// How many batches were delivered, or the greatest number where there were more.
+    pub(crate) delivered: u64,
     ghost ready: { standing ≡ Open → IsReady L.meaning work } by { Prim.hlevel props },
 }

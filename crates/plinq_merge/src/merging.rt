@@ -7,7 +7,7 @@ ghost use Rattle.plinq_merge.specs.declared.merge_fault.MergeFault.TheVariants.{
 ghost use Rattle.plinq_merge.specs.Keys.{is_offered};
 ghost use Rattle.plinq_merge.specs.Shown.{answer, behind_result};
 ghost use Rattle.plinq_merge.specs.Offering.{finish_of};
-ghost use Rattle.plinq_merge.specs.Mergers.{plan_of, IsFor, Takes, tells_decided, tells_ending};
+ghost use Rattle.plinq_merge.specs.Mergers.{plan_of, delivered_of, IsFor, SendsSome, Takes, tells_decided, tells_ending};
 
 use crate::buffer::buffer_of;
 use crate::merge_fault::MergeFault;
@@ -44,6 +44,7 @@ impl<'a, L: Lambda> Merger<'a, L> {
           size = batch_size option;
         }) }
         ensures nothing { IfOk result (λ merger. IsFor merger []) }
+        ensures delivered { IfOk result (λ merger. delivered_of merger ≡ 0) }
         ensures err { IfErr result (λ fault. fault ≡ Memory) }
     {
         let work = Work {
@@ -59,32 +60,27 @@ impl<'a, L: Lambda> Merger<'a, L> {
             return Ok(Merger {
                 work,
                 standing: Standing::Decided(Ending::End),
+                delivered: 0,
             });
         }
         Ok(Merger {
             work,
             standing: Standing::Open,
+            delivered: 0,
         })
     }
 
-    /// Offers the result of a chunk, and delivers the batches that the answer gains by it.
-    ///
-    /// Its keys are below 2^40. Once the answer is decided, nothing more is delivered and
-    /// the answer is [`More::No`]. The last batch is delivered by the call that decides it.
-    ///
-    /// # Errors
-    ///
-    /// [`MergeFault::Twice`] where one of its keys was offered before; the merger is unchanged.
-    /// [`MergeFault::Memory`] and [`MergeFault::Sink`] where a batch couldn't be made or was refused: the batches before
-    /// it were delivered, and the merger has failed. [`MergeFault::Failed`] from then on.
-    pub fn offer<K: Sink<Item = L::Item>>(
+    /// Offers the result of a chunk to this sink, and counts no batch.
+    pub(crate) fn offer_to<K: Sink<Item = L::Item>>(
         &mut self,
         offered: ChunkResult<L::Item>,
         sink: &mut K,
     ) -> Result<More, MergeFault>
         requires { behind_result offered ≤ 2 ^ 40 }
         ensures plan { plan_of self.new ≡ plan_of self.old }
+        ensures delivered { delivered_of self.new ≡ delivered_of self.old }
         ensures takes { Takes K.accepts K.refuses self.old offered sink.old result self.new sink.new }
+        ensures sends { SendsSome K.accepts K.refuses sink.old result sink.new }
     {
         match self.standing {
             Standing::Failed => return Err(MergeFault::Failed),

@@ -4,6 +4,7 @@ ghost use Rattle.plinq_merge.specs.Buffer.{size_of, HasRoom};
 ghost use Rattle.plinq_merge.specs.Shown.{behind_result};
 ghost use Rattle.plinq_merge.specs.Keys.{is_first, IsFresh};
 ghost use Rattle.plinq_merge.specs.Merging.{IsAtGap, Goes, Feeds};
+ghost use Rattle.plinq_merge.specs.Sending.{Sends};
 ghost use Rattle.plinq_merge.specs.Working.{content, IsReady, KeepsPlan, Rests, Gains};
 
 use crate::buffer::Buffer;
@@ -46,6 +47,7 @@ impl<'a, L: Lambda> Work<'a, L, L::Item> {
         requires fresh { IsFresh self.old.row.next self.old.row.waiting.entries offered.first (behind_result offered) }
         ensures ready { result ≡ Ok None → IsReady L.meaning self.new }
         ensures plan { KeepsPlan self.old self.new }
+        ensures sends { Sends K.accepts K.refuses sink.old result sink.new }
         ensures gains { (offers : List (ChunkResult L.Item)) → Rests L.meaning self.old offers →
             Gains L.meaning K.accepts K.refuses self.old offers offered sink.old result self.new sink.new }
     {

@@ -16,3 +16,5 @@ mod orders;
 mod rows;
 #[cfg(test)]
 mod taken;
+#[cfg(test)]
+mod tokens;

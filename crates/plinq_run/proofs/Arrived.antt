@@ -1,5 +1,5 @@
 -- By arrival: what results give is how the glued fragments of the source's items in some order begin.
-use Rattle.std.specs.Prelude.{◌≡◌, ℕ, ◌+◌, ◌<◌, ◌≤◌, ◌^◌, ◌==◌, ◌⊎◌, ℤ, pos, List, [], ◌∷◌, ◌++◌, length, take, drop, true, false, cond, Option, Some, None, All, refl}
+use Rattle.std.specs.Prelude.{◌≡◌, ℕ, ◌+◌, ◌<◌, ◌≤◌, ◌^◌, ◌==◌, ◌⊎◌, List, [], ◌∷◌, ◌++◌, length, take, drop, true, false, cond, Option, Some, None, All, refl}
 use Rattle.std.specs.Option.{IfSome}
 use Rattle.std.specs.Ordering.{nat_cmp, match_ordering}
 use Rattle.std.specs.declared.cmp.Ordering.TheVariants.{Less, Equal, Greater}
@@ -18,8 +18,7 @@ use Rattle.plinq_ops.specs.declared.plan.Plan.{Plan}
 use Rattle.plinq_ops.specs.declared.results.ChunkResult.{ChunkResult}
 use Rattle.plinq_ops.specs.Answer.{IsRearranged}
 use Rattle.plinq_ops.specs.Chunk.{result_trace}
-use Rattle.plinq_ops.specs.Fragment.{fragment_at, fragment_of, glued, glue}
-use Rattle.plinq_ops.specs.Plan.{worker_part}
+use Rattle.plinq_ops.specs.Fragment.{glued, glue}
 use Rattle.plinq_ops.specs.ByKey.{are_keyless}
 use Rattle.plinq_ops.proofs.Keyless.{glued-keyless}
 use Rattle.plinq_ops.proofs.Cut.{undropped-uncut, result-is}

@@ -11,12 +11,12 @@ use Rattle.plinq_merge.specs.Sending.{Leads}
 use Rattle.plinq_ops.specs.declared.merge_option.MergeOption.{MergeOption}
 use Rattle.plinq_ops.specs.Batches.{batch_size, is_full, full_batches, held_back, last_batch, batches}
 use Rattle.plinq_run.specs.declared.run_fault.RunFault.{RunFault}
-use Rattle.plinq_run.specs.declared.run_fault.RunFault.TheVariants.{Memory, Sink, Tickets, Thread, Incomplete}
+use Rattle.plinq_run.specs.declared.run_fault.RunFault.TheVariants.{Memory, Sink, Tickets, Thread, Incomplete, Cancelled}
 use Rattle.plinq_run.specs.declared.report.Report.{Report}
 use Rattle.plinq_run.specs.Endings.{reported}
 use Rattle.plinq_run.specs.Reports.{Reports}
 use Rattle.plinq_run.specs.Aggregates.{Aggregates, AggregatesSome, TakesIn, so_far, aggregate_of}
-use Rattle.plinq_run.specs.Runs.{HasRun, HasBroken, Runs, told_refusal}
+use Rattle.plinq_run.specs.Runs.{HasRun, HasBroken, Other, Runs, cause_of}
 
 -- the items of batches, one batch after another
 abbrev items_of : {T : Type 0} → List (List T) → List T
@@ -85,12 +85,13 @@ module _ {K T A O : Type 0} (folding : K → Folding T A O) (acc : K → Option 
       ∙ ap (λ a. fold (folding s).update (so_far (folding s) a) u.items) none))
 
   -- such a sink refuses nothing
-  refused-none : (option : MergeOption) (u : Trace T) (s s' : K) (fault : RunFault) → HasBroken Takes Refuses option u s s' fault → told_refusal fault ≡ None
+  refused-none : (option : MergeOption) (u : Trace T) (s s' : K) (fault : RunFault) → HasBroken Takes Refuses option u s s' fault → cause_of fault ≡ Other
   refused-none option u s s' (Sink code) h = absurd h.6
   refused-none option u s s' Memory h = refl
   refused-none option u s s' Tickets h = refl
   refused-none option u s s' Thread h = refl
   refused-none option u s s' Incomplete h = refl
+  refused-none option u s s' Cancelled h = absurd h
 
   -- what such a sink tells is the aggregate of the run's answer
   aggregate_of-run : (option : MergeOption) (u : Trace T) (s s' : K) (r : Result Ending RunFault) → acc s ≡ None → Runs Takes Refuses option u s s' r

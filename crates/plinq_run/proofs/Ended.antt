@@ -37,7 +37,7 @@ use Rattle.plinq_merge.specs.declared.merge_fault.MergeFault.{MergeFault}
 use Rattle.plinq_merge.specs.declared.merger.Merger.{Merger}
 use Rattle.plinq_merge.specs.Sending.{Leads}
 use Rattle.plinq_merge.specs.Shown.{Merge, answer, shown}
-use Rattle.plinq_merge.specs.Mergers.{plan_of, IsFor, StopsShort}
+use Rattle.plinq_merge.specs.Mergers.{plan_of, IsFor}
 use Rattle.plinq_merge.proofs.Gains.{answer-open}
 use Rattle.plinq_run.specs.declared.conducting.Ended.{Ended}
 use Rattle.plinq_run.specs.declared.reach.Reach.{Reach}
@@ -51,7 +51,7 @@ use Rattle.plinq_run.specs.Plans.{merged_answer}
 use Rattle.plinq_run.specs.Reaching.{IsOffered, Covers, accounts_for}
 use Rattle.plinq_run.specs.Reports.{MayTake, MayMerge, IsBroken, Ends, HasReported, Reports}
 use Rattle.plinq_crew.specs.Results.{IsResult}
-use Rattle.plinq_run.specs.Runs.{HasRun, HasBroken, Runs, IsReportOf, refusal_of, told_refusal, fault_of}
+use Rattle.plinq_run.specs.Runs.{HasRun, HasBroken, BreaksFor, Other, Runs, IsReportOf, cause_in_merge, cause_of}
 use Rattle.plinq_run.proofs.Handed.{covers-handed}
 use Rattle.plinq_run.proofs.Runs.{whole-run, broken-run}
 
@@ -92,12 +92,12 @@ merged-may meaning plan t = record { taken = t; may = may-same plan.order t; is 
 
 -- before the first offer the first of an answer's batches, none, were delivered
 pub none-ended : {L T K : Type 0} (meaning : L → Meaning T) (accepts : K → List T → K → Type 0) (refuses : K → List T → ℕ → K → Type 0) (option : MergeOption) (plan : Plan L) (t : Trace T) (s : K) (fault : RunFault)
-    → told_refusal fault ≡ None → IsBroken accepts refuses option (MayMerge meaning plan) t s s fault
+    → cause_of fault ≡ Other → IsBroken accepts refuses option (MayMerge meaning plan) t s s fault
 none-ended meaning accepts refuses option plan t s fault told =
     record {
       answer = merged_answer meaning plan t;
       may = merged-may meaning plan t;
-      broken = subst (λ x. StopsShort accepts refuses s (batches option (merged_answer meaning plan t)) (fault_of x) s) (sym told) (none-sent accepts s (batches option (merged_answer meaning plan t)));
+      broken = subst (λ x. BreaksFor accepts refuses x (batches option (merged_answer meaning plan t)) s s) (sym told) (none-sent accepts s (batches option (merged_answer meaning plan t)));
     }
 
 module _ {L T K : Type 0} {lambda : Ghosts L T} (t : Trace T) (accepts : K → List T → K → Type 0) (refuses : K → List T → ℕ → K → Type 0) (few : length t.items ≤ 2 ^ 40) where
@@ -107,7 +107,7 @@ module _ {L T K : Type 0} {lambda : Ghosts L T} (t : Trace T) (accepts : K → L
       → OnOk result (fault ≡ None)
       → IfOk result (λ e. (offers : List (ChunkResult T)) → IsFor m offers → (answer (plan_of m) offers).ending ≡ Some e.ending)
       → IfOk result (λ e. e.reach ≡ reach)
-      → IfErr result (λ f. told_refusal f ≡ refusal_of fault)
+      → IfErr result (λ f. cause_of f ≡ cause_in_merge fault)
       → Ends accepts refuses option (MayMerge lambda.meaning plan) t s s' result
   ended-run plan option s m reach fault s' (Ok e) undecided h none ends is_reach told =
       let P : ChunkResult T → Type 0 = IsOffered (IsResult lambda.meaning plan t) reach in
@@ -143,7 +143,7 @@ module _ {K T : Type 0} (accepts : K → List T → K → Type 0) (refuses : K �
       record {
         answer = h.answer;
         may = h.may;
-        broken = subst (λ x. StopsShort accepts refuses s (batches option h.answer) (fault_of x) s') (sym is) (batches option h.answer, [], sym (append-nil (batches option h.answer)), h.has_run.delivered);
+        broken = subst (λ x. BreaksFor accepts refuses x (batches option h.answer) s s') (sym is) (batches option h.answer, [], sym (append-nil (batches option h.answer)), h.has_run.delivered);
       }
   ends-reported (Err f) (Ok r) h is legal all = absurd is
   ends-reported (Err f) (Err f') h is legal all =

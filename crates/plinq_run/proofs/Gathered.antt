@@ -1,11 +1,11 @@
 -- What a combiner that workers' folds are offered to stands for.
-use Rattle.std.specs.Prelude.{◌≡◌, List, [], ◌∷◌, ◌++◌, Some, None, Result, Ok, Err, refl}
+use Rattle.std.specs.Prelude.{◌≡◌, List, [], ◌∷◌, ◌++◌, Some, Result, Ok, Err, refl}
 use Rattle.std.proofs.Common.{sym, subst, inl, inr}
 use Rattle.plinq_aggregate.specs.declared.aggregator.Aggregator.{Ghosts}
 use Rattle.plinq_aggregate.specs.Folding.{Folding}
 use Rattle.plinq_ops.specs.declared.results.ChunkResult.{ChunkResult}
 use Rattle.plinq_merge.specs.declared.merge_fault.MergeFault.{MergeFault}
-use Rattle.plinq_merge.specs.declared.merge_fault.MergeFault.TheVariants.{Memory, Sink, Twice, Gap, Failed}
+use Rattle.plinq_merge.specs.declared.merge_fault.MergeFault.TheVariants.{Memory, Sink, Twice, Gap, Failed, Cancelled}
 use Rattle.plinq_merge.specs.declared.more.More.{More}
 use Rattle.plinq_merge.specs.declared.more.More.TheVariants.{Yes, No}
 use Rattle.plinq_merge.proofs.Mergers.{AreOneMore}
@@ -15,7 +15,7 @@ use Rattle.plinq_combine.specs.declared.standing.Standing.{Standing}
 use Rattle.plinq_combine.specs.declared.standing.Standing.TheVariants.{Open, Decided, Failed as HasFailed}
 use Rattle.plinq_combine.specs.Combiners.{StandsFor, AnswersOffer, aggregator_of, folding_of, Offers}
 use Rattle.plinq_run.specs.Gathered.{IsGathering, Gathers}
-use Rattle.plinq_run.specs.Runs.{refusal_of}
+use Rattle.plinq_run.specs.Runs.{Other, cause_in_merge}
 use Rattle.plinq_run.proofs.Merged.{are-more, apart-more}
 
 module _ {F T A O : Type 0} (f : Folding T A O) where
@@ -33,14 +33,15 @@ module _ {F T A O : Type 0} (f : Folding T A O) where
 
   -- no sink refuses
   refused-none : (w : Combining F A) (standing : Standing) (c : ChunkResult A) (fault : MergeFault) (w' : Combining F A) (standing' : Standing)
-      → AnswersOffer f w standing c (Err fault) w' standing' → refusal_of (Some fault) ≡ None
+      → AnswersOffer f w standing c (Err fault) w' standing' → cause_in_merge (Some fault) ≡ Other
   refused-none w Open c Memory w' standing' o = refl
   refused-none w Open c (Sink code) w' standing' o = absurd o
   refused-none w Open c Twice w' standing' o = refl
   refused-none w Open c Gap w' standing' o = absurd o
   refused-none w Open c Failed w' standing' o = absurd o
+  refused-none w Open c Cancelled w' standing' o = absurd o
   refused-none w (Decided e) c fault w' standing' o = absurd (let same : Err fault ≡ Ok No = o.0 in cc)
-  refused-none w HasFailed c fault w' standing' o = let same : Err fault ≡ Err Failed = o.0 in subst (λ x. refusal_of (Some x) ≡ None) (sym (err-same same)) refl
+  refused-none w HasFailed c fault w' standing' o = let same : Err fault ≡ Err Failed = o.0 in subst (λ x. cause_in_merge (Some x) ≡ Other) (sym (err-same same)) refl
     where
       err-same : {X : Type 0} {a b : MergeFault} → (let one : Result X MergeFault = Err a in one ≡ Err b) → a ≡ b
       err-same is = cc

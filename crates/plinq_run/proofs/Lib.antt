@@ -7,6 +7,7 @@ mod Handed
 mod Merged
 mod Parts
 mod Runs
+mod Stopping
 mod Told
 mod Unfolded
 mod Without

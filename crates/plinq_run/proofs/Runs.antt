@@ -18,7 +18,7 @@ use Rattle.plinq_ops.specs.Row.{AreOffers}
 use Rattle.plinq_ops.specs.Stage.{seq, seq_behind}
 use Rattle.plinq_ops.proofs.Stages.{seq-followed}
 use Rattle.plinq_merge.specs.declared.merge_fault.MergeFault.{MergeFault}
-use Rattle.plinq_merge.specs.declared.merge_fault.MergeFault.TheVariants.{Memory as NoMemory, Sink as Refusal, Twice, Gap, Failed}
+use Rattle.plinq_merge.specs.declared.merge_fault.MergeFault.TheVariants.{Memory as NoMemory, Sink as Refusal, Twice, Gap, Failed, Cancelled}
 use Rattle.plinq_merge.specs.declared.merger.Merger.{Merger}
 use Rattle.plinq_merge.specs.Sending.{IsCutOff}
 use Rattle.plinq_merge.specs.Shown.{Merge, merged, answer, shown}
@@ -35,7 +35,7 @@ use Rattle.plinq_run.specs.Plans.{merged_answer}
 use Rattle.plinq_run.specs.Reaching.{IsOffered, Covers}
 use Rattle.plinq_run.specs.Reports.{MayTake, MayMerge, IsBroken}
 use Rattle.plinq_crew.specs.Results.{IsResult}
-use Rattle.plinq_run.specs.Runs.{HasRun, refusal_of, told_refusal, fault_of}
+use Rattle.plinq_run.specs.Runs.{HasRun, Cause, SinkRefused, Other, cause_in_merge, cause_of, BreaksFor}
 use Rattle.plinq_run.proofs.Arrived.{arrival-begins}
 use Rattle.plinq_run.proofs.Covered.{result-covered}
 
@@ -131,29 +131,31 @@ module _ {L T K : Type 0} (meaning : L → Meaning T) (plan : Plan L) (option : 
         has_run = record { delivered = h.leads; ending = ended };
       }
 
-  short-of : (reach : Reach) (s : K) (offers : List (ChunkResult T)) (fault : MergeFault) (s' : K) (told : RunFault) → All (IsOffered (IsResult meaning plan t) reach) offers → AreApart offers
-      → StopsShort accepts refuses s (shown (merge_for meaning plan option) offers) fault s' → undelivered_of (fault_of (told_refusal told)) ≡ undelivered_of fault
+  short-of : (reach : Reach) (s : K) (offers : List (ChunkResult T)) (fault : MergeFault) (s' : K) (told : RunFault) (cause : Cause) → All (IsOffered (IsResult meaning plan t) reach) offers → AreApart offers
+      → StopsShort accepts refuses s (shown (merge_for meaning plan option) offers) fault s' → ((bs : List (List T)) → StopsShort accepts refuses s bs fault s' → BreaksFor accepts refuses cause bs s s') → cause_of told ≡ cause
       → IsBroken accepts refuses option (MayMerge meaning plan) t s s' told
-  short-of reach s offers fault s' told are apart short same =
+  short-of reach s offers fault s' told cause are apart short on is =
       let plain = All-weaker (IsOffered (IsResult meaning plan t) reach) (IsResult meaning plan t) (λ r x. x.0) offers are in
       let begun = begun-in meaning plan t plan.order refl few undecided offers plain apart in
       let first = begun-shown meaning plan option undecided t offers begun in
       let sent = cut-before accepts refuses s (shown (merge_for meaning plan option) offers) first.0 (undelivered_of fault) s' short in
+      let all = batches option (merged_answer meaning plan begun.taken) in
       record {
         answer = merged_answer meaning plan begun.taken;
         may = record { taken = begun.taken; may = begun.may; is = refl };
-        broken = subst (λ u. IsCutOff accepts refuses s (batches option (merged_answer meaning plan begun.taken)) u s') (sym same)
-            (subst (λ bs. IsCutOff accepts refuses s bs (undelivered_of fault) s') (sym first.1) sent);
+        broken = subst (λ c. BreaksFor accepts refuses c all s s') (sym is)
+            (on all (subst (λ bs. IsCutOff accepts refuses s bs (undelivered_of fault) s') (sym first.1) sent));
       }
 
   -- it was broken off
   pub broken-run : {L' : Type 0} {lambda : Ghosts L' T} (reach : Reach) (s : K) (m : Merger L' T lambda) (fault : Option MergeFault) (s' : K) (told : RunFault)
-      → Merged reach s m fault s' → told_refusal told ≡ refusal_of fault → IsBroken accepts refuses option (MayMerge meaning plan) t s s' told
+      → Merged reach s m fault s' → cause_of told ≡ cause_in_merge fault → IsBroken accepts refuses option (MayMerge meaning plan) t s s' told
   broken-run reach s m None s' told h is =
       let all : List (List T) = shown (merge_for meaning plan option) h.offers in
-      short-of reach s h.offers NoMemory s' told h.are h.apart (all, [], sym (append-nil all), h.leads) (ap (λ x. undelivered_of (fault_of x)) is)
-  broken-run reach s m (Some (Refusal code)) s' told h is = short-of reach s h.offers (Refusal code) s' told h.are h.apart h.short (ap (λ x. undelivered_of (fault_of x)) is)
-  broken-run reach s m (Some NoMemory) s' told h is = short-of reach s h.offers NoMemory s' told h.are h.apart h.short (ap (λ x. undelivered_of (fault_of x)) is)
-  broken-run reach s m (Some Twice) s' told h is = short-of reach s h.offers Twice s' told h.are h.apart h.short (ap (λ x. undelivered_of (fault_of x)) is)
-  broken-run reach s m (Some Gap) s' told h is = short-of reach s h.offers Gap s' told h.are h.apart h.short (ap (λ x. undelivered_of (fault_of x)) is)
-  broken-run reach s m (Some Failed) s' told h is = short-of reach s h.offers Failed s' told h.are h.apart h.short (ap (λ x. undelivered_of (fault_of x)) is)
+      short-of reach s h.offers NoMemory s' told Other h.are h.apart (all, [], sym (append-nil all), h.leads) (λ bs x. x) is
+  broken-run reach s m (Some (Refusal code)) s' told h is = short-of reach s h.offers (Refusal code) s' told (SinkRefused code) h.are h.apart h.short (λ bs x. x) is
+  broken-run reach s m (Some NoMemory) s' told h is = short-of reach s h.offers NoMemory s' told Other h.are h.apart h.short (λ bs x. x) is
+  broken-run reach s m (Some Twice) s' told h is = short-of reach s h.offers Twice s' told Other h.are h.apart h.short (λ bs x. x) is
+  broken-run reach s m (Some Gap) s' told h is = short-of reach s h.offers Gap s' told Other h.are h.apart h.short (λ bs x. x) is
+  broken-run reach s m (Some Failed) s' told h is = short-of reach s h.offers Failed s' told Other h.are h.apart h.short (λ bs x. x) is
+  broken-run reach s m (Some Cancelled) s' told h is = short-of reach s h.offers Cancelled s' told Other h.are h.apart h.short (λ bs x. x) is

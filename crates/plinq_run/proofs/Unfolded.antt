@@ -29,7 +29,7 @@ use Rattle.plinq_run.specs.declared.run_fault.RunFault.{RunFault}
 use Rattle.plinq_run.specs.Aggregates.{Aggregates, AggregatesSome, value_at}
 use Rattle.plinq_run.specs.Gathered.{IsGathering, Gathers, HasFinished, FoldsSome, untold, value_of}
 use Rattle.plinq_run.specs.Reports.{MayMerge}
-use Rattle.plinq_run.specs.Runs.{refusal_of, told_refusal}
+use Rattle.plinq_run.specs.Runs.{cause_in_merge, cause_of}
 use Rattle.plinq_run.specs.Merged.{merge_for}
 use Rattle.plinq_run.proofs.Runs.{ended-answer}
 
@@ -90,7 +90,7 @@ module _ {L T A O : Type 0} (f : Folding T A O) (meaning : L → Meaning T) (pla
       → length t.items ≤ 2 ^ 40 → IsUndecided plan → plan.after.now ≡ [] → ((x : ChunkResult A) → IsSent x → IsFolded x) → Gathers IsSent c fault
       → OnOk told (fault ≡ None)
       → IfOk told (λ made. (results : List (ChunkResult T)) (offers : List (ChunkResult A)) → AreFoldsOf g results offers → IsFor c offers → HasFinished g (merged order results) made)
-      → IfErr told (λ x. told_refusal x ≡ refusal_of fault)
+      → IfErr told (λ x. cause_of x ≡ cause_in_merge fault)
       → FoldsSome f (MayMerge meaning plan t) told
   gathered-run IsSent c fault (Ok made) g order same_f same_order few undecided alone sent h none finishes same =
       let gathering : IsGathering IsSent c = subst (λ x. Gathers IsSent c x) none h in

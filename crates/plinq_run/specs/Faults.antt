@@ -2,7 +2,7 @@
 use Rattle.std.specs.Prelude.{◌≡◌, refl, Bool, true, false, not, ◌==◌, ◌||◌, if◌then◌else◌, Option, Some, None}
 use Rattle.std.specs.Option.{option_or}
 use Rattle.plinq_merge.specs.declared.merge_fault.MergeFault.{MergeFault}
-use Rattle.plinq_merge.specs.declared.merge_fault.MergeFault.TheVariants.{Memory as NoMemory, Sink as Refusal, Twice, Gap, Failed}
+use Rattle.plinq_merge.specs.declared.merge_fault.MergeFault.TheVariants.{Memory as NoMemory, Sink as Refusal, Twice, Gap, Failed, Cancelled}
 use Rattle.plinq_crew.specs.declared.staff.Staff.{Staff}
 use Rattle.plinq_run.specs.declared.run_fault.RunFault.{RunFault}
 use Rattle.plinq_run.specs.declared.run_fault.RunFault.TheVariants.{Memory, Sink, Tickets, Thread, Incomplete}
@@ -19,6 +19,7 @@ refused_by_sink (Some (Refusal code)) = Some (Sink code)
 refused_by_sink (Some Twice) = None
 refused_by_sink (Some Gap) = None
 refused_by_sink (Some Failed) = None
+refused_by_sink (Some Cancelled) = None
 
 abbrev pub is_out_of_memory : Option MergeFault → Bool
 is_out_of_memory None = false
@@ -27,6 +28,7 @@ is_out_of_memory (Some (Refusal code)) = false
 is_out_of_memory (Some Twice) = false
 is_out_of_memory (Some Gap) = false
 is_out_of_memory (Some Failed) = false
+is_out_of_memory (Some Cancelled) = false
 
 -- a key came twice, or results are missing
 abbrev pub is_incomplete : Option MergeFault → Bool
@@ -36,6 +38,7 @@ is_incomplete (Some (Refusal code)) = false
 is_incomplete (Some Twice) = true
 is_incomplete (Some Gap) = true
 is_incomplete (Some Failed) = true
+is_incomplete (Some Cancelled) = true
 
 -- the first of sink, memory, thread, tickets and missing results for which there is a cause
 abbrev pub first_told : Option MergeFault → Shortages → Staff → Option RunFault

@@ -22,7 +22,7 @@ use Rattle.plinq_run.specs.declared.aggregate_fault.AggregateFault.TheVariants.{
 use Rattle.plinq_run.specs.declared.run_fault.RunFault.{RunFault}
 use Rattle.plinq_run.specs.Aggregates.{value_at}
 use Rattle.plinq_run.specs.Merged.{offer_fault}
-use Rattle.plinq_run.specs.Runs.{refusal_of, told_refusal}
+use Rattle.plinq_run.specs.Runs.{Other, cause_in_merge, cause_of}
 
 module _ {F T A O : Type 0} {aggregator : AggregatorGhosts F T A O} where
   module _ (IsPart : ChunkResult A → Type 0) where
@@ -36,7 +36,7 @@ module _ {F T A O : Type 0} {aggregator : AggregatorGhosts F T A O} where
     -- or one was refused, but by no sink
     abbrev pub Gathers : Combiner F T A O aggregator → Option MergeFault → Type 0
     Gathers c None = IsGathering c
-    Gathers c (Some fault) = refusal_of (Some fault) ≡ None
+    Gathers c (Some fault) = cause_in_merge (Some fault) ≡ Other
 
   -- the fold was offered to the combiner, and how that was answered is known
   pub record WasGathered (c : Combiner F T A O aggregator) (made : ChunkResult A) (c' : Combiner F T A O aggregator) (fault : Option MergeFault) : Type 0 where
@@ -70,7 +70,7 @@ module _ {T A O : Type 0} (f : Folding T A O) where
   -- the accumulator of one of these answers was told, and how it ended; or why there is none, which is never since a sink refused
   abbrev pub FoldsSome : (Trace T → Type 0) → Result (Combined A) RunFault → Type 0
   FoldsSome IsAnswer (Ok made) = (u : Trace T) × IsAnswer u × HasFinished u made
-  FoldsSome IsAnswer (Err fault) = told_refusal fault ≡ None
+  FoldsSome IsAnswer (Err fault) = cause_of fault ≡ Other
 
 -- the caller's thread may start a crew's workers, which send folds, and there are no operators behind the merge
 pub record IsReadyToFold {L S J P T M O : Type 0} {source : Ghosts S T} (meaning : L → Meaning T) (makes : P → ChunkResult T → ChunkResult M → Type 0) (folding : P → Folding T M O)

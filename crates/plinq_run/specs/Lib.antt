@@ -9,3 +9,4 @@ pub mod Reaching
 pub mod Reports
 pub mod RunRows
 pub mod Runs
+pub mod Stopping

@@ -9,7 +9,7 @@ ghost use Rattle.plinq_partition.specs.Partitions.{IsPartitionOf, all_shares};
 ghost use Rattle.plinq_partition.specs.GivenBack.{common_origin};
 ghost use Rattle.plinq_ticket.specs.Shares.{in_ticket_order};
 ghost use Rattle.plinq_source.specs.Trace.{Trace};
-ghost use Rattle.plinq_run.specs.Runs.{refusal_of, told_refusal, IsReportOf};
+ghost use Rattle.plinq_run.specs.Runs.{Other, cause_in_merge, cause_of, IsReportOf};
 ghost use Rattle.plinq_run.specs.Endings.{ending_in, reported};
 ghost use Rattle.plinq_run.specs.Faults.{first_told};
 ghost use Rattle.plinq_run.specs.declared.run_fault.RunFault.TheVariants.{Incomplete, Memory};
@@ -31,7 +31,7 @@ use std::alloc::Global;
 /// The first of the faults that aren't the merging thread's.
 fn shortage(shortages: Shortages, staff: Staff) -> Option<RunFault>
     ensures first { result ≡ first_told None shortages staff }
-    ensures told { IfSome result (λ fault. told_refusal fault ≡ None) }
+    ensures told { IfSome result (λ fault. cause_of fault ≡ Other) }
 {
     if shortages.memory {
         return Some(RunFault::Memory);
@@ -52,7 +52,7 @@ pub(crate) fn first_fault(
     staff: Staff,
 ) -> Option<RunFault>
     ensures first { result ≡ first_told fault shortages staff }
-    ensures told { IfSome result (λ told. told_refusal told ≡ refusal_of fault) }
+    ensures told { IfSome result (λ told. cause_of told ≡ cause_in_merge fault) }
     ensures none { result ≡ None → fault ≡ None }
 {
     match fault {
@@ -89,7 +89,7 @@ pub(crate) fn told<L: Lambda, S: Source>(
     ensures ending { IfOk result (λ ended. (offers : List (ChunkResult L.Item)) → IsFor merging.entry.merger offers → (answer (plan_of merging.entry.merger) offers).ending ≡ Some ended.ending) }
     ensures partitions { IfOk result (λ ended. ended.partitions ≡ partitions) }
     ensures reach { IfOk result (λ ended. ended.reach ≡ merging.entry.reach) }
-    ensures err { IfErr result (λ fault. told_refusal fault ≡ refusal_of merging.entry.fault) }
+    ensures err { IfErr result (λ fault. cause_of fault ≡ cause_in_merge merging.entry.fault) }
     ensures told { IfErr result (λ fault. option_or (first_told merging.entry.fault shortages staff) (Some Incomplete) ≡ Some fault) }
 {
     let Merging {

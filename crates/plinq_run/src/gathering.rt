@@ -8,7 +8,7 @@ ghost use Rattle.plinq_combine.specs.Combiners.{aggregator_of, order_of, tells_d
 ghost use Rattle.plinq_run.specs.Faults.{first_told};
 ghost use Rattle.plinq_run.specs.Gathered.{Gathers, IsGatheredUnless, HasFinished};
 ghost use Rattle.plinq_run.specs.declared.run_fault.RunFault.TheVariants.{Incomplete};
-ghost use Rattle.plinq_run.specs.Runs.{refusal_of, told_refusal};
+ghost use Rattle.plinq_run.specs.Runs.{cause_in_merge, cause_of};
 
 use crate::finishing::first_fault;
 use crate::run_fault::RunFault;
@@ -79,7 +79,7 @@ impl<'a, A: Aggregator> Gathering<'a, A> {
         ensures finishes { IfOk result (λ made. (results : List (ChunkResult A.Item)) (offers : List (ChunkResult A.Acc)) →
             AreFoldsOf (A.folding (aggregator_of self.entry.combiner)) results offers → IsFor self.entry.combiner offers →
             HasFinished (A.folding (aggregator_of self.entry.combiner)) (merged (order_of self.entry.combiner) results) made) }
-        ensures err { IfErr result (λ fault. told_refusal fault ≡ refusal_of self.entry.fault) }
+        ensures err { IfErr result (λ fault. cause_of fault ≡ cause_in_merge self.entry.fault) }
         ensures told { IfErr result (λ fault. option_or (first_told self.entry.fault shortages staff) (Some Incomplete) ≡ Some fault) }
     {
         let Gathering {

@@ -1,8 +1,10 @@
 //! What a run and an aggregate say of a query with `as_ordered`, each the contract of a function with nothing to do.
 //!
 //! Such a query has one answer (`MayAnswer`), so each of them follows from the clause that says it of any query.
-ghost use Rattle.std.specs.Prelude.{◌≡◌, List, ℕ, Result, IfOk, true};
+ghost use Rattle.std.specs.Prelude.{◌≡◌, List, ℕ, Bool, Result, IfOk, true, false};
 ghost use Rattle.plinq_aggregate.specs.Folding.{Folding};
+ghost use Rattle.plinq_merge.specs.declared.never_cancel.NeverCancel.{NeverCancel};
+ghost use Rattle.plinq_merge.specs.Cancelling.{Delivery};
 ghost use Rattle.plinq_ops.specs.declared.merge_option.MergeOption.{MergeOption};
 ghost use Rattle.plinq_ops.specs.declared.op.Op.{Op};
 ghost use Rattle.plinq_ops.specs.Answer.{MayAnswer};
@@ -16,9 +18,10 @@ ghost use Rattle.plinq_run.specs.Endings.{reported};
 ghost use Rattle.plinq_run.specs.Handed.{handed_trace};
 ghost use Rattle.plinq_run.specs.Reports.{Reports};
 ghost use Rattle.plinq_run.specs.Runs.{Runs};
+ghost use Rattle.plinq_run.specs.Stopping.{is_stopped, ReportsWith, RunsWith};
 
 use plinq_lambda::Lambda;
-use plinq_merge::Sink;
+use plinq_merge::{Cancel, NeverCancel, Sink};
 
 /// The sink has taken exactly the batches of the sequential answer, in order, where the run tells its ending, and the first
 /// of them after a fault.
@@ -26,6 +29,28 @@ pub fn ordered_run_is_sequential<L: Lambda, K: Sink<Item = L::Item>>()
     ensures { (option : MergeOption) (ops : List (Op L)) (t : Trace L.Item) (s s' : K) (result : Result Report RunFault) →
         Reports K.accepts K.refuses option (MayAnswer L.meaning true ops) t s s' result →
         Runs K.accepts K.refuses option (answer_of L.meaning ops t) s s' (reported result) }
+{}
+
+/// The same of a run with a token: where that stopped the run, the sink has taken the first batches of the sequential answer,
+/// as many as the token was told.
+pub fn ordered_run_with_is_sequential<L: Lambda, C: Cancel, K: Sink<Item = L::Item>>()
+    ensures { (option : MergeOption) (ops : List (Op L)) (t : Trace L.Item) (d d' : Delivery C K) (result : Result Report RunFault) →
+        ReportsWith C.asks K.accepts K.refuses option (MayAnswer L.meaning true ops) t d d' result →
+        RunsWith C.asks K.accepts K.refuses option (answer_of L.meaning ops t) d d' result }
+{}
+
+/// A run with a token that never stops anything is a run without one.
+pub fn run_with_never_is_run<L: Lambda, K: Sink<Item = L::Item>>()
+    ensures { (option : MergeOption) (ordered : Bool) (ops : List (Op L)) (t : Trace L.Item) (d d' : Delivery NeverCancel K) (result : Result Report RunFault) →
+        ReportsWith ⟦<NeverCancel as Cancel>⟧.asks K.accepts K.refuses option (MayAnswer L.meaning ordered ops) t d d' result →
+        Reports K.accepts K.refuses option (MayAnswer L.meaning ordered ops) t d.sink d'.sink result }
+{}
+
+/// A run without a token is never cancelled.
+pub fn run_is_never_cancelled<L: Lambda, K: Sink<Item = L::Item>>()
+    ensures { (option : MergeOption) (ordered : Bool) (ops : List (Op L)) (t : Trace L.Item) (s s' : K) (result : Result Report RunFault) →
+        Reports K.accepts K.refuses option (MayAnswer L.meaning ordered ops) t s s' result →
+        is_stopped result ≡ false }
 {}
 
 /// What the records hand out has the same answer as the source.

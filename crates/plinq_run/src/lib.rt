@@ -4,6 +4,8 @@
 //! - [`run`] delivers exactly the batches of an answer that the query may have and tells its ending, or after a fault the
 //!   first of these batches (`Reports`), for every number of workers and every order in which results come.
 //! - For a query with `as_ordered` that is the sequential answer ([`laws`]).
+//! - [`run_with`] asks a token before each batch and at the end, and delivers the first batches where that stops it
+//!   (`ReportsWith`).
 //! - The records that it reports are a legal history of the source, which was closed unless the query is decided, and what
 //!   they hand out has the answer that was delivered (`handed_trace`).
 //! - [`aggregate`] tells the value of such an answer's items, or how that answer ended otherwise (`AggregatesSome`).
@@ -15,6 +17,7 @@
 mod accounting;
 mod aggregate_fault;
 mod aggregating;
+mod cancelling;
 mod conducting;
 mod finishing;
 mod folded;
@@ -30,6 +33,7 @@ mod running;
 
 pub use aggregate_fault::AggregateFault;
 pub use aggregating::aggregate;
+pub use cancelling::run_with;
 pub use plinq_crew::{Gate, OpenGate};
 pub use report::Report;
 pub use run_fault::RunFault;

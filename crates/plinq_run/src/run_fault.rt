@@ -1,7 +1,7 @@
 use thiserror::Error;
 
-/// Why a run gives no report. Where there are several causes, the first of sink, memory, thread, tickets and missing
-/// results is told.
+/// Why a run gives no report. Where there are several causes, the first of sink, cancellation, memory, thread, tickets and
+/// missing results is told.
 #[derive(Clone, Copy, Debug, PartialEq, Eq, Error)]
 pub enum RunFault {
     /// Memory ran out.
@@ -19,4 +19,7 @@ pub enum RunFault {
     /// What was given back isn't the whole history, a key came twice, or results are missing.
     #[error("incomplete")]
     Incomplete,
+    /// Its token stopped it.
+    #[error("cancelled")]
+    Cancelled,
 }

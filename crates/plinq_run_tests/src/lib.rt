@@ -16,6 +16,8 @@ mod asked;
 #[cfg(test)]
 mod by_chance;
 #[cfg(test)]
+mod cancelled;
+#[cfg(test)]
 mod cut_off;
 #[cfg(test)]
 mod decided;

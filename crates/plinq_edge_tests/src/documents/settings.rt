@@ -7,6 +7,7 @@ fn counts_settings_as_calls(rt: HostRuntime) {
     let merged = Settings {
         workers: None,
         merge: Some(MergeOption::NotBuffered),
+        cancel_after: None,
     };
     let text = r#"{"version":1,"source":{"list":[]},"query":[["with_merge","full"]]}"#;
     let fault = DocFault::Step {
@@ -18,6 +19,7 @@ fn counts_settings_as_calls(rt: HostRuntime) {
     let working = Settings {
         workers: Degree::new(2),
         merge: None,
+        cancel_after: None,
     };
     let text = r#"{"version":1,"source":{"list":[]},"query":[["with_degree",0]]}"#;
     let fault = DocFault::Step {

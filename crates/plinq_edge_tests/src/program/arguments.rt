@@ -56,11 +56,21 @@ fn reads_words(rt: HostRuntime) -> Result<(), Fail> {
                 command,
                 settings: Settings {
                     workers: workers.and_then(Degree::new),
-                    merge
+                    merge,
+                    cancel_after: None
                 }
             },
             "at {words:?}"
         );
     }
+    Ok(())
+}
+
+#[test]
+fn reads_after_how_many_lines_a_run_is_cancelled(rt: HostRuntime) -> Result<(), Fail> {
+    let alloc = rt.alloc();
+    let words = words_of(alloc, &["plinq", "run", "--cancel-after", "2"])?;
+    let arguments = read_arguments(alloc, words.as_slice())?;
+    assert_eq!(rt; arguments.settings.cancel_after, Some(2));
     Ok(())
 }

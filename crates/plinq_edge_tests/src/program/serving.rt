@@ -1,5 +1,5 @@
 use super::ADD_ONE;
-use plinq_cli::{Command, DocFault, ServeFault, Settings, read_document, serve};
+use plinq_cli::{Command, DocFault, Failure, ServeFault, Settings, read_document, serve};
 use plinq_ops::MergeOption;
 use plinq_source::Ending;
 use std::io::Write;
@@ -11,6 +11,7 @@ use std::thread::Threads;
 const NOT_BUFFERED: Settings = Settings {
     workers: None,
     merge: Some(MergeOption::NotBuffered),
+    cancel_after: None,
 };
 
 // Each command, and its lines.
@@ -68,4 +69,22 @@ fn expect_told(
 
 fn expect_lines(rt: &impl Abort, bytes: &[u8], lines: &str) {
     assert_eq!(rt; bytes, lines.as_bytes());
+}
+
+#[test]
+fn a_cancelled_run_leaves_the_first_lines(rt: HostRuntime) -> Result<(), Fail> {
+    let settings = Settings {
+        workers: None,
+        merge: Some(MergeOption::NotBuffered),
+        cancel_after: Some(2),
+    };
+    let job = read_document(rt.alloc(), ADD_ONE.as_bytes(), settings)?;
+    let mut out = Vec::new(rt.alloc());
+    let told = serve(&rt, Command::Run, job, &mut out);
+    let Err(fault) = told else {
+        panic!(rt; "not cancelled");
+    };
+    assert_eq!(rt; Failure::from(fault), Failure::Cancelled);
+    expect_lines(&rt, &out, "4\n2\n");
+    Ok(())
 }

@@ -19,10 +19,10 @@ returns c =
     ap app_of_fields c.disable_help_subcommand.ensures ∙ ap (on_top (λ s. record s { disable_help_subcommand = true })) helped in
     let bare : app_of c.subcommand_required.result ≡ bare_app =
     ap app_of_fields c.subcommand_required.ensures ∙ ap (on_top (λ s. record s { subcommand_required = true })) unhelped in
-    let run = added _ _ _ _ (run_app q) c.in_ok-subcommand.ensures c.in_ok-subcommand-2.ensures bare in
-    let seq = added _ _ _ _ (seq_app q) c.in_ok-subcommand-3.ensures c.in_ok-subcommand-4.ensures run in
-    let plan = added _ _ _ _ (plan_app q) c.in_ok-subcommand-5.ensures c.in_ok-subcommand-6.ensures seq in
-    let parts = added _ _ _ _ (parts_app q) c.in_ok-subcommand-7.ensures c.in_ok-subcommand-8.ensures plan in
-    IfOk-weaker c.subcommand-10.result _ _
-    (λ line h. (q, takes_only q c.as_slice.result parser_is words_are, added _ _ _ _ (history_app q) c.in_ok-subcommand-9.ensures h parts))
-    c.subcommand-10.ensures
+    let run = added _ _ _ _ (run_app q) c.in_ok-run_command.ensures c.in_ok-subcommand.ensures bare in
+    let seq = added _ _ _ _ (seq_app q) c.in_ok-subcommand-2.ensures c.in_ok-subcommand-3.ensures run in
+    let plan = added _ _ _ _ (plan_app q) c.in_ok-subcommand-4.ensures c.in_ok-subcommand-5.ensures seq in
+    let parts = added _ _ _ _ (parts_app q) c.in_ok-subcommand-6.ensures c.in_ok-subcommand-7.ensures plan in
+    IfOk-weaker c.subcommand-9.result _ _
+    (λ line h. (q, takes_only q c.as_slice.result parser_is words_are, added _ _ _ _ (history_app q) c.in_ok-subcommand-8.ensures h parts))
+    c.subcommand-9.ensures

@@ -1,4 +1,4 @@
-use Rattle.std.proofs.Common.{subst, sym}
+use Rattle.std.proofs.Common.{subst}
 use Rattle.plinq_run.specs.Aggregates.{Aggregates}
 use Rattle.plinq_run.proofs.laws.ordered_aggregate_is_sequential.Goals as goal
 

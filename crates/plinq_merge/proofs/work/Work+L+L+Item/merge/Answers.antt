@@ -8,6 +8,8 @@ use Rattle.plinq_merge.specs.Merging.{Goes, content_of, TakesIn}
 use Rattle.plinq_merge.specs.Working.{content, KeepsPlan}
 use Rattle.plinq_merge.proofs.Gains.{gains-none, gains-taken, some_not_none}
 use Rattle.plinq_merge.proofs.Moves.{goes-behind, goes-for}
+use Rattle.plinq_merge.specs.Sending.{Sends}
+use Rattle.plinq_merge.proofs.Sends.{sends-goes, sends-behind}
 use Rattle.plinq_merge.proofs.work.Work+L+L+Item.merge.Goals as goal
 
 pub returns-in_err-hand-clause-gains : goal.returns-in_err-hand-clause-gains
@@ -67,3 +69,27 @@ returns-clause-gains g c = λ offers rests.
     gains-taken m g.K.Sink.accepts g.K.Sink.refuses w w3 row1 c.in_ok-hand.hand.trace offers c.args.offered c.args.sink.now c.drain.result c.drain.new.sink takes
     (goes-behind g.K.Sink.accepts g.K.Sink.refuses (size_of w.buffer) (content_of row1 (stages m w.pipeline) (held_of w.buffer)) c.in_ok-hand.hand.trace c.args.sink.now (content m w2) c.work_off.new.sink c.drain.result (content m w3) c.drain.new.sink first second)
     c.drain.ensures.gap kept rests
+
+pub returns-in_err-ending-clause-sends : goal.returns-in_err-ending-clause-sends
+returns-in_err-ending-clause-sends g c =
+    let m = g.L.Lambda.meaning in
+    let w = c.args.self.now in
+    let row1 = c.take_in.new.self in
+    let f = c.in_err-ending.field-0.0 in
+    let is : c.from_residual-in_err-ending.result ≡ Err f = search rules in
+    let goes : Goes g.K.Sink.accepts g.K.Sink.refuses (size_of w.buffer) (content_of row1 (stages m w.pipeline) (held_of w.buffer)) c.in_ok-hand.hand.trace c.args.sink.now (Err f) (content m c.work_off.new.self) c.work_off.new.sink = search rules in
+    rw is (sends-goes g.K.Sink.accepts g.K.Sink.refuses (size_of w.buffer) (content_of row1 (stages m w.pipeline) (held_of w.buffer)) c.in_ok-hand.hand.trace c.args.sink.now (Err f) (content m c.work_off.new.self) c.work_off.new.sink goes)
+
+pub returns-clause-sends : goal.returns-clause-sends
+returns-clause-sends g c =
+    let m = g.L.Lambda.meaning in
+    let w = c.args.self.now in
+    let w2 = c.work_off.new.self in
+    let row1 = c.take_in.new.self in
+    let e = c.in_ok-ending.ending in
+    let none : e ≡ None = none-from_is_some _ (search rules) in
+    let goes : Goes g.K.Sink.accepts g.K.Sink.refuses (size_of w.buffer) (content_of row1 (stages m w.pipeline) (held_of w.buffer)) c.in_ok-hand.hand.trace c.args.sink.now (Ok e) (content m w2) c.work_off.new.sink = search rules in
+    let first = goes-for g.K.Sink.accepts g.K.Sink.refuses (size_of w.buffer) (size_of w.buffer) (content_of row1 (stages m w.pipeline) (held_of w.buffer)) c.in_ok-hand.hand.trace c.args.sink.now (Ok e) (Ok None) (content m w2) c.work_off.new.sink refl (ap Ok none) goes in
+    let second : Sends g.K.Sink.accepts g.K.Sink.refuses c.work_off.new.sink c.drain.result c.drain.new.sink =
+    sends-goes g.K.Sink.accepts g.K.Sink.refuses (size_of w2.buffer) (content m w2) (open_trace []) c.work_off.new.sink c.drain.result (content m c.drain.new.self) c.drain.new.sink c.drain.ensures.goes in
+    sends-behind g.K.Sink.accepts g.K.Sink.refuses (size_of w.buffer) (content_of row1 (stages m w.pipeline) (held_of w.buffer)) c.in_ok-hand.hand.trace c.args.sink.now (content m w2) c.work_off.new.sink c.drain.result c.drain.new.sink first second

@@ -1,0 +1,164 @@
+-- A run into a sink with its token, in the words of the token and the sink.
+use Rattle.std.specs.Prelude.{◌≡◌, ℕ, List, [], ◌∷◌, Bool, true, false, ◌||◌, Result, Ok, Err, refl}
+use Rattle.std.proofs.Common.{sym, ◌∙◌, subst, append-nil}
+use Rattle.plinq_source.specs.Trace.{Trace}
+use Rattle.plinq_ops.specs.declared.merge_option.MergeOption.{MergeOption}
+use Rattle.plinq_ops.specs.Batches.{batches}
+use Rattle.plinq_merge.specs.declared.merge_fault.MergeFault.{MergeFault}
+use Rattle.plinq_merge.specs.declared.merge_fault.MergeFault.TheVariants.{Memory as NoMemory, Sink as Refusal}
+use Rattle.plinq_merge.specs.declared.with_cancellation.WithCancellation.{WithCancellation}
+use Rattle.plinq_merge.specs.Cancelling.{Delivery, Passes, IsRefused, IsAsked, IsStopped}
+use Rattle.plinq_merge.specs.Lent.{AreSame, delivery_of, Takes, Refuses}
+use Rattle.plinq_merge.specs.Mergers.{undelivered_of, StopsShort}
+use Rattle.plinq_merge.specs.Sending.{Leads}
+use Rattle.plinq_merge.proofs.Asked.{or-false, or-true, lets-told, stops-told, leads-told, cut-told}
+use Rattle.plinq_merge.proofs.Lent.{leads-on, cut-same, cut-on, cut-kept}
+use Rattle.plinq_merge.proofs.Maps.{leads-map, cut-map}
+use Rattle.plinq_run.specs.declared.report.Report.{Report}
+use Rattle.plinq_run.specs.declared.run_fault.RunFault.{RunFault}
+use Rattle.plinq_run.specs.declared.run_fault.RunFault.TheVariants.{Memory, Sink, Tickets, Thread, Incomplete, Cancelled}
+use Rattle.plinq_run.specs.Reports.{Reports}
+use Rattle.plinq_run.specs.Runs.{HasRun, Cause, SinkRefused, Stopped, Other, cause_of, BreaksFor}
+use Rattle.plinq_run.specs.Stopping.{is_stopped, ReportsWith, RunsWith}
+
+-- a run that broke off was cut off
+breaks-cut : {K T : Type 0} (accepts : K → List T → K → Type 0) (refuses : K → List T → ℕ → K → Type 0) (cause : Cause) (bs : List (List T)) (s s' : K) → BreaksFor accepts refuses cause bs s s'
+    → (fault : MergeFault) × StopsShort accepts refuses s bs fault s'
+breaks-cut accepts refuses (SinkRefused code) bs s s' h = (Refusal code, h)
+breaks-cut accepts refuses Stopped bs s s' h = absurd h
+breaks-cut accepts refuses Other bs s s' h = (NoMemory, h)
+
+-- it never answers that it was cancelled
+pub reports-never : {K T : Type 0} (accepts : K → List T → K → Type 0) (refuses : K → List T → ℕ → K → Type 0) (option : MergeOption) (May : Trace T → Trace T → Type 0) (t : Trace T) (s s' : K) (r : Result Report RunFault)
+    → Reports accepts refuses option May t s s' r → is_stopped r ≡ false
+reports-never accepts refuses option May t s s' (Ok report) h = refl
+reports-never accepts refuses option May t s s' (Err (Sink code)) h = refl
+reports-never accepts refuses option May t s s' (Err Memory) h = refl
+reports-never accepts refuses option May t s s' (Err Tickets) h = refl
+reports-never accepts refuses option May t s s' (Err Thread) h = refl
+reports-never accepts refuses option May t s s' (Err Incomplete) h = refl
+reports-never accepts refuses option May t s s' (Err Cancelled) h = absurd h.broken
+
+module _ {C K T : Type 0} (asks : C → ℕ → Bool → C → Type 0) (accepts : K → List T → K → Type 0) (refuses : K → List T → ℕ → K → Type 0) (option : MergeOption) (May : Trace T → Trace T → Type 0) (t : Trace T) where
+  abbrev Lends : WithCancellation C K → WithCancellation C K → Result Report RunFault → Type 0
+  Lends w w' r = Reports (Takes asks accepts) (Refuses asks refuses) option May t w w' r
+
+  pub reports-same : (w w' : WithCancellation C K) (r : Result Report RunFault) → Lends w w' r → AreSame w w'
+  reports-same w w' (Ok report) h = let on = leads-on asks accepts refuses w (batches option h.answer) w' h.has_run.delivered in on.same
+  reports-same w w' (Err fault) h =
+      let cut = breaks-cut (Takes asks accepts) (Refuses asks refuses) (cause_of fault) (batches option h.answer) w w' h.broken in
+      cut-same asks accepts refuses w (batches option h.answer) (undelivered_of cut.0) w' cut.1
+
+  -- a batch was kept back
+  pub reports-stopped : (w w' : WithCancellation C K) (r : Result Report RunFault) → w.is_stopped ≡ false → w'.is_stopped ≡ true → Lends w w' r
+      → ReportsWith asks accepts refuses option May t (delivery_of w) (delivery_of w') (Err Cancelled)
+  reports-stopped w w' (Ok report) before after h =
+      let on = leads-on asks accepts refuses w (batches option h.answer) w' h.has_run.delivered in
+      absurd (let bad : true ≡ false = sym after ∙ on.still ∙ before in cc)
+  reports-stopped w w' (Err fault) before after h =
+      let cut = breaks-cut (Takes asks accepts) (Refuses asks refuses) (cause_of fault) (batches option h.answer) w w' h.broken in
+      let kept = cut-kept asks accepts refuses w (batches option h.answer) (undelivered_of cut.0) w' before after cut.1 in
+      record {
+        answer = h.answer;
+        may = h.may;
+        stopped = record { sent = kept.sent; rest = kept.kept ∷ kept.rest; parts = kept.parts; last = kept.last; leads = kept.leads; stops = kept.stops };
+      }
+
+  breaks-on : (w w' : WithCancellation C K) (cause : Cause) (bs : List (List T)) → w.is_stopped ≡ false → w'.is_stopped ≡ false → BreaksFor (Takes asks accepts) (Refuses asks refuses) cause bs w w'
+      → BreaksFor (Passes asks accepts) (IsRefused asks refuses) cause bs (delivery_of w) (delivery_of w')
+  breaks-on w w' (SinkRefused code) bs before after h = cut-on asks accepts refuses w bs (undelivered_of (Refusal code)) w' before after h
+  breaks-on w w' Stopped bs before after h = h
+  breaks-on w w' Other bs before after h = cut-on asks accepts refuses w bs (undelivered_of NoMemory) w' before after h
+
+  -- none was
+  pub reports-passed : (w w' : WithCancellation C K) (r : Result Report RunFault) → w.is_stopped ≡ false → w'.is_stopped ≡ false → Lends w w' r
+      → Reports (Passes asks accepts) (IsRefused asks refuses) option May t (delivery_of w) (delivery_of w') r
+  reports-passed w w' (Ok report) before after h =
+      let on = leads-on asks accepts refuses w (batches option h.answer) w' h.has_run.delivered in
+      record { answer = h.answer; may = h.may; accounts = h.accounts; has_run = record { delivered = on.leads; ending = h.has_run.ending } }
+  reports-passed w w' (Err fault) before after h =
+      record { answer = h.answer; may = h.may; broken = breaks-on w w' (cause_of fault) (batches option h.answer) before after h.broken }
+
+  module _ (d d' : Delivery C K) where
+    pub broken-with : (fault : RunFault) → Reports (Passes asks accepts) (IsRefused asks refuses) option May t d d' (Err fault) → ReportsWith asks accepts refuses option May t d d' (Err fault)
+    broken-with (Sink code) h = h
+    broken-with Memory h = h
+    broken-with Tickets h = h
+    broken-with Thread h = h
+    broken-with Incomplete h = h
+    broken-with Cancelled h = absurd h.broken
+
+    -- at the last question
+    pub stopped-last : (report : Report) (last : Delivery C K) → Reports (Passes asks accepts) (IsRefused asks refuses) option May t d last (Ok report) → IsAsked asks true last d'
+        → ReportsWith asks accepts refuses option May t d d' (Err Cancelled)
+    stopped-last report last h stops =
+        record {
+          answer = h.answer;
+          may = h.may;
+          stopped = record { sent = batches option h.answer; rest = []; parts = sym (append-nil (batches option h.answer)); last = last; leads = h.has_run.delivered; stops = stops };
+        }
+
+    pub told-with : (has_told : C → Bool) → ((c : C) (n : ℕ) (answer : Bool) (c' : C) → asks c n answer c' → has_told c' ≡ (has_told c || answer)) → (r : Result Report RunFault)
+        → ReportsWith asks accepts refuses option May t d d' r → has_told d'.token ≡ (has_told d.token || is_stopped r)
+    told-with has_told keeps (Ok report) h =
+        let last = h.last in
+        let reported = h.reported in
+        let lets = h.lets in
+        lets-told asks has_told keeps last.token last.delivered d'.token lets.asked
+        ∙ leads-told asks has_told keeps accepts refuses d (batches option reported.answer) last reported.has_run.delivered
+        ∙ sym (or-false (has_told d.token))
+    told-with has_told keeps (Err Cancelled) h =
+        let stopped = h.stopped in
+        let last = stopped.last in
+        let stops = stopped.stops in
+        stops-told asks has_told keeps last.token last.delivered d'.token stops.asked ∙ sym (or-true (has_told d.token))
+    told-with has_told keeps (Err (Sink code)) h = cut-told asks has_told keeps accepts refuses d (batches option h.answer) (undelivered_of (Refusal code)) d' h.broken ∙ sym (or-false (has_told d.token))
+    told-with has_told keeps (Err Memory) h = cut-told asks has_told keeps accepts refuses d (batches option h.answer) (undelivered_of NoMemory) d' h.broken ∙ sym (or-false (has_told d.token))
+    told-with has_told keeps (Err Tickets) h = cut-told asks has_told keeps accepts refuses d (batches option h.answer) (undelivered_of NoMemory) d' h.broken ∙ sym (or-false (has_told d.token))
+    told-with has_told keeps (Err Thread) h = cut-told asks has_told keeps accepts refuses d (batches option h.answer) (undelivered_of NoMemory) d' h.broken ∙ sym (or-false (has_told d.token))
+    told-with has_told keeps (Err Incomplete) h = cut-told asks has_told keeps accepts refuses d (batches option h.answer) (undelivered_of NoMemory) d' h.broken ∙ sym (or-false (has_told d.token))
+
+    -- where there is one answer
+    pub reports-with-runs : (v : Trace T) (r : Result Report RunFault) → ((u : Trace T) → May t u → u ≡ v) → ReportsWith asks accepts refuses option May t d d' r → RunsWith asks accepts refuses option v d d' r
+    reports-with-runs v (Ok report) only h =
+        let reported = h.reported in
+        (h.last, subst (λ u. HasRun (Passes asks accepts) option u d h.last report.ending) (only reported.answer reported.may) reported.has_run, h.lets)
+    reports-with-runs v (Err Cancelled) only h = subst (λ u. IsStopped asks accepts d (batches option u) d') (only h.answer h.may) h.stopped
+    reports-with-runs v (Err (Sink code)) only h = subst (λ u. BreaksFor (Passes asks accepts) (IsRefused asks refuses) (SinkRefused code) (batches option u) d d') (only h.answer h.may) h.broken
+    reports-with-runs v (Err Memory) only h = subst (λ u. BreaksFor (Passes asks accepts) (IsRefused asks refuses) Other (batches option u) d d') (only h.answer h.may) h.broken
+    reports-with-runs v (Err Tickets) only h = subst (λ u. BreaksFor (Passes asks accepts) (IsRefused asks refuses) Other (batches option u) d d') (only h.answer h.may) h.broken
+    reports-with-runs v (Err Thread) only h = subst (λ u. BreaksFor (Passes asks accepts) (IsRefused asks refuses) Other (batches option u) d d') (only h.answer h.may) h.broken
+    reports-with-runs v (Err Incomplete) only h = subst (λ u. BreaksFor (Passes asks accepts) (IsRefused asks refuses) Other (batches option u) d d') (only h.answer h.may) h.broken
+
+    -- with a token that never stops anything
+    module _ (never : (c c' : C) (n : ℕ) → asks c n true c' → ⊥) where
+      passed-plain : (s : Delivery C K) (b : List T) (s' : Delivery C K) → Passes asks accepts s b s' → accepts s.sink b s'.sink
+      passed-plain s b s' passes = passes.taken
+
+      refused-plain : (s : Delivery C K) (b : List T) (code : ℕ) (s' : Delivery C K) → IsRefused asks refuses s b code s' → refuses s.sink b code s'.sink
+      refused-plain s b code s' refused = refused.refused
+
+      cut-plain : (bs : List (List T)) (fault : MergeFault) → StopsShort (Passes asks accepts) (IsRefused asks refuses) d bs fault d' → StopsShort accepts refuses d.sink bs fault d'.sink
+      cut-plain bs fault = cut-map (λ s. s.sink) (Passes asks accepts) (IsRefused asks refuses) accepts refuses passed-plain refused-plain d bs (undelivered_of fault) d'
+
+      pub reports-plain : (r : Result Report RunFault) → ReportsWith asks accepts refuses option May t d d' r → Reports accepts refuses option May t d.sink d'.sink r
+      reports-plain (Ok report) h =
+          let last = h.last in
+          let reported = h.reported in
+          let lets = h.lets in
+          record {
+            answer = reported.answer;
+            may = reported.may;
+            accounts = reported.accounts;
+            has_run = record {
+              delivered = subst (λ s. Leads accepts d.sink (batches option reported.answer) s) (sym lets.sink)
+                  (leads-map (λ s. s.sink) (Passes asks accepts) accepts passed-plain d (batches option reported.answer) last reported.has_run.delivered);
+              ending = reported.has_run.ending;
+            };
+          }
+      reports-plain (Err Cancelled) h = let stopped = h.stopped in let stops = stopped.stops in absurd (never _ _ _ stops.asked)
+      reports-plain (Err (Sink code)) h = record { answer = h.answer; may = h.may; broken = cut-plain (batches option h.answer) (Refusal code) h.broken }
+      reports-plain (Err Memory) h = record { answer = h.answer; may = h.may; broken = cut-plain (batches option h.answer) NoMemory h.broken }
+      reports-plain (Err Tickets) h = record { answer = h.answer; may = h.may; broken = cut-plain (batches option h.answer) NoMemory h.broken }
+      reports-plain (Err Thread) h = record { answer = h.answer; may = h.may; broken = cut-plain (batches option h.answer) NoMemory h.broken }
+      reports-plain (Err Incomplete) h = record { answer = h.answer; may = h.may; broken = cut-plain (batches option h.answer) NoMemory h.broken }

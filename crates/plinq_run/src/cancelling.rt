@@ -1,0 +1,118 @@
+//! The run of a query that a token may stop.
+ghost use Rattle.std.specs.Prelude.{◌≡◌, ◌||◌, [], true, false, IfOk, IfErr};
+ghost use Rattle.plinq_source.specs.declared.ending.Ending.TheVariants.{End};
+ghost use Rattle.std.specs.List.{list_any};
+ghost use Rattle.plinq_keyed.specs.History.{IsLegalHistory};
+ghost use Rattle.plinq_merge.specs.Lent.{AreSame, delivery_of};
+ghost use Rattle.plinq_ops.specs.Answer.{MayAnswer};
+ghost use Rattle.plinq_ops.specs.Feeding.{is_empty_take};
+ghost use Rattle.plinq_ops.specs.Query.{merge_in_force};
+ghost use Rattle.plinq_run.specs.declared.run_fault.RunFault.TheVariants.{Cancelled};
+ghost use Rattle.plinq_run.specs.Handed.{has_close};
+ghost use Rattle.plinq_run.specs.Stopping.{is_stopped, ReportsSome, ReportsWith};
+
+use crate::report::Report;
+use crate::run_fault::RunFault;
+use crate::running::run;
+use plinq_crew::Gate;
+use plinq_enumerator::Growth;
+use plinq_lambda::Lambda;
+use plinq_merge::{Cancel, Sink, WithCancellation};
+use plinq_ops::Query;
+use plinq_source::Source;
+use std::alloc::Global;
+use std::sync::Wait;
+use std::thread::Threads;
+
+/// Runs a query over a source, as [`run`] does, and asks the token before each batch and once more before it answers how the
+/// answer ended, also of a decided query.
+///
+/// The token is told how many batches were delivered. Once it has answered `true` it isn't asked again, nothing more is
+/// delivered, and the source is closed. While no batch comes it isn't asked: a run that is to stop goes on until its next
+/// batch or its end.
+///
+/// # Errors
+///
+/// [`RunFault::Cancelled`] where the token answered `true`: the batches that were delivered are the first of the answer.
+/// Others are those of [`run`]; after one of them the token isn't asked.
+///
+/// ```text
+/// let flag = CancelFlag::new();    // another thread calls flag.cancel()
+/// let report = run_with(&rt, alloc, &query, source, Growth::DEFAULT, &OpenGate, &mut flag.token(), &mut sink)?;
+/// ```
+pub fn run_with<L, S, G, C, K, R>(
+    rt: &R,
+    alloc: Global,
+    query: &Query<L>,
+    source: S,
+    growth: Growth,
+    gate: &G,
+    token: &mut C,
+    sink: &mut K,
+) -> Result<Report, RunFault>
+where
+    L: Lambda,
+    S: Source<Item = L::Item>,
+    G: Gate,
+    C: Cancel,
+    K: Sink<Item = L::Item>,
+    R: Threads + Wait + Sync,
+    requires unasked { S.given source ≡ 0 }
+    requires untold { C.has_told token.old ≡ false }
+    ensures legal { IfOk result (λ report. IsLegalHistory (S.whole source) report.records.items) }
+    ensures ended { list_any is_empty_take query.now.ops ≡ true → IfOk result (λ report. report.ending ≡ End) }
+    ensures cancelled { list_any is_empty_take query.now.ops ≡ true → IfErr result (λ fault. fault ≡ Cancelled) }
+    ensures untouched { list_any is_empty_take query.now.ops ≡ true → sink.new ≡ sink.old }
+    ensures none { list_any is_empty_take query.now.ops ≡ true → IfOk result (λ report. report.records.items ≡ []) }
+    ensures closed { list_any is_empty_take query.now.ops ≡ false → IfOk result (λ report. has_close report.records.items ≡ true) }
+    ensures told { C.has_told token.new ≡ is_stopped result }
+    ensures reports { ReportsSome C.asks K.accepts K.refuses (merge_in_force query.now.merge) (MayAnswer L.meaning query.now.ordered query.now.ops) (S.whole source) token.old sink.old 0 result token.new sink.new }
+{
+    let mut with = WithCancellation {
+        token,
+        sink,
+        delivered: 0,
+        is_stopped: false,
+    };
+    run_within(rt, alloc, query, source, growth, gate, &mut with)
+}
+
+/// Runs a query into a sink with its token.
+fn run_within<L, S, G, C, K, R>(
+    rt: &R,
+    alloc: Global,
+    query: &Query<L>,
+    source: S,
+    growth: Growth,
+    gate: &G,
+    with: &mut WithCancellation<'_, C, K>,
+) -> Result<Report, RunFault>
+where
+    L: Lambda,
+    S: Source<Item = L::Item>,
+    G: Gate,
+    C: Cancel,
+    K: Sink<Item = L::Item>,
+    R: Threads + Wait + Sync,
+    requires unasked { S.given source ≡ 0 }
+    requires unstopped { with.old.is_stopped ≡ false }
+    ensures same { AreSame with.old with.new }
+    ensures legal { IfOk result (λ report. IsLegalHistory (S.whole source) report.records.items) }
+    ensures ended { list_any is_empty_take query.now.ops ≡ true → IfOk result (λ report. report.ending ≡ End) }
+    ensures cancelled { list_any is_empty_take query.now.ops ≡ true → IfErr result (λ fault. fault ≡ Cancelled) }
+    ensures untouched { list_any is_empty_take query.now.ops ≡ true → with.new.sink.now ≡ with.old.sink.now }
+    ensures none { list_any is_empty_take query.now.ops ≡ true → IfOk result (λ report. report.records.items ≡ []) }
+    ensures closed { list_any is_empty_take query.now.ops ≡ false → IfOk result (λ report. has_close report.records.items ≡ true) }
+    ensures told { C.has_told with.new.token.now ≡ (C.has_told with.old.token.now || is_stopped result) }
+    ensures reports { ReportsWith C.asks K.accepts K.refuses (merge_in_force query.now.merge) (MayAnswer L.meaning query.now.ordered query.now.ops) (S.whole source) (delivery_of with.old) (delivery_of with.new) result }
+{
+    let told = run(rt, alloc, query, source, growth, gate, with);
+    if with.is_stopped {
+        return Err(RunFault::Cancelled);
+    }
+    let report = told?;
+    if with.stops() {
+        return Err(RunFault::Cancelled);
+    }
+    Ok(report)
+}
