@@ -1,6 +1,6 @@
 use plinq_source::{
-    ConcatSource, ListSource, OutOfMemory, RangeSource, RepeatSource, Source, SourceFault, Step,
-    TextSource,
+    ConcatSource, Ending, ListSource, OutOfMemory, RangeSource, RepeatSource, Source, SourceFault,
+    Step, TextSource,
 };
 use std::alloc::{AllocError, Global};
 use std::process::Abort;
@@ -14,6 +14,30 @@ fn walks<S: Source<Item = i64>>(rt: &impl Abort, mut source: S, items: &[i64], e
     for _ in 0..3 {
         assert_eq!(rt; source.next(), ending);
     }
+}
+
+/// Asks a source for so many at once, and between for one, up to its ending.
+fn fills<S: Source<Item = i64>>(
+    rt: &impl Abort,
+    alloc: Global,
+    mut source: S,
+    n: u64,
+    items: &[i64],
+    ending: Ending,
+) -> Result<(), AllocError> {
+    let mut given = Vec::new(alloc);
+    for _ in 0..100 {
+        given.reserve(n as usize)?;
+        if let Some(last) = source.fill(&mut given, n) {
+            assert_eq!(rt; last, ending);
+            assert_eq!(rt; given.as_slice(), items);
+            return Ok(());
+        }
+        if let Step::Item(item) = source.next() {
+            given.push(item)?;
+        }
+    }
+    panic!(rt; "it doesn't end")
 }
 
 fn text_source(rt: &impl Abort, alloc: Global, text: &[u8]) -> Result<TextSource, AllocError> {
@@ -159,6 +183,25 @@ fn concatenations(rt: HostRuntime) -> Result<(), Fail> {
         &[9],
         Step::Refused(1),
     );
+    Ok(())
+}
+
+#[test]
+fn filled_lists(rt: HostRuntime) -> Result<(), Fail> {
+    for n in [1, 2, 3, 9] {
+        let items = vec![in rt.alloc(); 1, 2]?;
+        let list = ListSource::new(rt.alloc(), items);
+        let both = ConcatSource::new(list, RangeSource::new(5, 3)?);
+        fills(&rt, rt.alloc(), both, n, &[1, 2, 5, 6, 7], Ending::End)?;
+        let items = vec![in rt.alloc(); 8]?;
+        let list = ListSource::refusing(rt.alloc(), items, 7);
+        let both = ConcatSource::new(list, RangeSource::new(5, 3)?);
+        fills(&rt, rt.alloc(), both, n, &[8], Ending::Refused(7))?;
+        let both = ConcatSource::new(RangeSource::new(i64::MAX, 1)?, RepeatSource::new(4, 2)?);
+        fills(&rt, rt.alloc(), both, n, &[i64::MAX, 4, 4], Ending::End)?;
+        let text = text_source(&rt, rt.alloc(), b"3 1 x")?;
+        fills(&rt, rt.alloc(), text, n, &[3, 1], Ending::Refused(1))?;
+    }
     Ok(())
 }
 
