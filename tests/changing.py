@@ -1,0 +1,63 @@
+#!/usr/bin/env python3
+"""Compares the lists of docs/CHANGING.md with the crates: the files that a new operator, formula, aggregate or option touches
+are those in whose code a neighbour of it is named.
+
+    python3 tests/changing.py
+"""
+import os
+import re
+
+from support.program import ROOT, Tests
+
+# what is added, a neighbour's names, and the neighbour's own files
+NEIGHBOURS = (
+    ("An operator", r"SkipWhile|skip_while|skipped_while", r"skip_while\.rt|/skip_while/|SkipWhile\.antt|SkippingWhile\.antt"),
+    ("A formula", r"UpTo", None),
+    ("An aggregate", r"Max", None),
+    ("An option of the command line", r"cancel_after", None),
+)
+
+# rows are worked examples, a lib lists what its crate has, and laws retell what is listed
+APART = r"Rows\.antt|/Lib\.antt|/lib\.rt|/laws\.rt"
+
+
+def code(path):
+    """What stands in a file, without comments."""
+    with open(os.path.join(ROOT, path), encoding="utf-8") as file:
+        text = file.read()
+    return re.sub(r"//.*" if path.endswith(".rt") else r"^\s*--.*", "", text, flags=re.M)
+
+
+def files():
+    """The sources, specifications and proofs of the crates that the program is made of."""
+    for crate in sorted(os.listdir(os.path.join(ROOT, "crates"))):
+        if crate.endswith("_tests") or crate in ("plinq_bench", "plinq_log_example"):
+            continue
+        for part in ("src", "specs", "proofs"):
+            for at, _, names in os.walk(os.path.join(ROOT, "crates", crate, part)):
+                yield from (os.path.relpath(os.path.join(at, it), ROOT) for it in sorted(names))
+
+
+def listed(page, what):
+    """The files that the page lists for what is added."""
+    begin = page.index(f"**{what}**")
+    end = page.find("\n**", begin + 1)
+    return {f"crates/{it}" for it in re.findall(r"`(plinq_\w+/(?:src|specs|proofs)/[\w./]+)`", page[begin:end])}
+
+
+def main():
+    tests = Tests()
+    with open(os.path.join(ROOT, "docs", "CHANGING.md"), encoding="utf-8") as file:
+        page = file.read()
+    texts = {it: code(it) for it in files()}
+    for what, names, own in NEIGHBOURS:
+        apart = f"{APART}|{own}" if own else APART
+        named = {it for it, text in texts.items() if re.search(rf"\b(?:{names})\b", text) and not re.search(apart, it)}
+        missing = sorted(named - listed(page, what))
+        tests.check(f"{what}: each of {len(named)} files that know its neighbour is listed", len(named) > 3 and not missing, missing)
+        gone = sorted(it for it in listed(page, what) if not os.path.exists(os.path.join(ROOT, it)))
+        tests.check(f"{what}: each listed file is there", not gone, gone)
+    tests.end()
+
+
+main()
