@@ -6,6 +6,8 @@
 #[cfg(test)]
 mod aggregators;
 #[cfg(test)]
+mod asked;
+#[cfg(test)]
 mod enumerators;
 #[cfg(test)]
 mod formulas;

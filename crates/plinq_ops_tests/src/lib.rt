@@ -16,3 +16,5 @@ mod pipelines;
 mod queries;
 #[cfg(test)]
 mod splits;
+#[cfg(test)]
+mod tested;
