@@ -1,15 +1,16 @@
 -- Documents, as values, and what they ask for.
-use Rattle.std.specs.Prelude.{◌≡◌, ℕ, ℤ, pos, negsuc, List, [], ◌∷◌, Option, Some, None, Ok, Err, true, false, codes, refl}
+use Rattle.std.specs.Prelude.{◌≡◌, ℕ, ℤ, pos, negsuc, Bool, List, [], ◌∷◌, Option, Some, None, Ok, Err, true, false, codes, refl}
 use Rattle.serde_json.specs.Data.{Data, null, unsigned, negative, number, string, array, object, no_members, member}
 use Rattle.serde_json.specs.View.{items_of}
 use Rattle.plinq_source.specs.Trace.{Trace, ended}
 use Rattle.plinq_source.specs.declared.ending.Ending.TheVariants.{End, Refused}
-use Rattle.plinq_lambda.specs.declared.formula.Formula.TheVariants.{Add}
-use Rattle.plinq_ops.specs.declared.op.Op.TheVariants.{Select}
+use Rattle.plinq_lambda.specs.declared.formula.Formula.TheVariants.{Add, Below}
+use Rattle.plinq_ops.specs.declared.op.Op.TheVariants.{Select, SkipWhile}
 use Rattle.plinq_ops.specs.declared.merge_option.MergeOption.TheVariants.{NotBuffered}
 use Rattle.plinq_ops.specs.declared.build_fault.BuildFault.TheVariants.{NotAtSource, MergeTwice, DegreeTwice, DegreeOutOfRange}
 use Rattle.plinq_enumerator.specs.declared.growth_fault.GrowthFault.TheVariants.{Zero}
 use Rattle.plinq_document.specs.Document.{document_meaning}
+use Rattle.plinq_document.specs.Sources.{bound_of, few_together}
 use Rattle.plinq_document.specs.Jobs.{JobView}
 use Rattle.plinq_document.specs.declared.settings.Settings.{Settings}
 use Rattle.plinq_document.specs.declared.kind.Kind.{Kind}
@@ -49,6 +50,9 @@ as_ordered = row (word (codes "as_ordered") ∷ [])
 abbrev select_add_one : Data
 select_add_one = row (word (codes "select") ∷ word (codes "add") ∷ whole 1 ∷ [])
 
+abbrev skip_while_below_five : Data
+skip_while_below_five = row (word (codes "skip_while") ∷ word (codes "below") ∷ whole 5 ∷ [])
+
 -- {"version":1,"source":{"list":[3,1,4]},"query":[["as_ordered"],["select","add",1]]}
 pub meaning-example : document_meaning plain (document (as_ordered ∷ select_add_one ∷ []) (list_of (whole 3 ∷ whole 1 ∷ whole 4 ∷ [])) (whole 1))
     ≡ Ok (record { query = record { ops = Select (Add (pos 1)) ∷ []; ordered = true; merge = None; degree = None }; source = ended (pos 3 ∷ pos 1 ∷ pos 4 ∷ []) End; growth = record { first = 1; repeat = 3; max = 512 }; aggregate = None })
@@ -65,6 +69,17 @@ meaning-version = refl
 -- version 2 has what version 1 has
 pub meaning-version_two : document_meaning plain (document [] (list_of []) (whole 2)) ≡ document_meaning plain (document [] (list_of []) (whole 1))
 meaning-version_two = refl
+
+-- {"version":2}
+pub meaning-version_alone : document_meaning plain (object (member (codes "version") (whole 2) no_members)) ≡ Err Shape
+meaning-version_alone = refl
+
+-- [["skip_while","below",5]], which version 1 doesn't know
+pub meaning-skip_while : document_meaning plain (document (skip_while_below_five ∷ []) (list_of []) (whole 2)) ≡ Ok (record { query = record { ops = SkipWhile (Below (pos 5)) ∷ []; ordered = false; merge = None; degree = None }; source = ended [] End; growth = record { first = 1; repeat = 3; max = 512 }; aggregate = None })
+meaning-skip_while = refl
+
+pub meaning-skip_while_early : document_meaning plain (document (skip_while_below_five ∷ []) (list_of []) (whole 1)) ≡ Err (Step 0 Unknown)
+meaning-skip_while_early = refl
 
 -- {"range":[9223372036854775807,2]}
 pub meaning-large : document_meaning plain (document [] (range_of (whole 9223372036854775807) (whole 2)) (whole 1)) ≡ Err Source
@@ -190,3 +205,36 @@ meaning-concat_shape = refl
 
 pub meaning-concat_too_large : document_meaning plain (document [] (concat_of_both too_large (list_of [])) (whole 2)) ≡ Err Source
 meaning-concat_too_large = refl
+
+-- two sources have few items together where their bounds add up to exactly 2^40: a list that refuses has its length, a
+-- text of one letter the two bytes of that, a repeat its count
+abbrev few_beside : ℕ → Data → Bool
+few_beside count second = few_together (bound_of (range_of (whole 0) (whole count))) (bound_of second)
+
+abbrev refusing_list_of_one : Data
+refusing_list_of_one = object (member (codes "list") (row (whole 9 ∷ [])) (member (codes "refuse") (whole 7) no_members))
+
+abbrev text_of_one_letter : Data
+text_of_one_letter = object (member (codes "text") (word (195 ∷ 169 ∷ [])) no_members)
+
+abbrev repeat_of_three : Data
+repeat_of_three = object (member (codes "repeat") (row (whole 9 ∷ whole 3 ∷ [])) no_members)
+
+pub few-beside_list : few_beside 1099511627775 refusing_list_of_one ≡ true
+few-beside_list = refl
+
+pub few-beside_text : few_beside 1099511627774 text_of_one_letter ≡ true
+few-beside_text = refl
+
+pub few-beside_repeat : few_beside 1099511627773 repeat_of_three ≡ true
+few-beside_repeat = refl
+
+-- and one more is too many
+pub many-beside_list : few_beside 1099511627776 refusing_list_of_one ≡ false
+many-beside_list = refl
+
+pub many-beside_text : few_beside 1099511627775 text_of_one_letter ≡ false
+many-beside_text = refl
+
+pub many-beside_repeat : few_beside 1099511627774 repeat_of_three ≡ false
+many-beside_repeat = refl
