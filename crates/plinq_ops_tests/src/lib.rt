@@ -15,4 +15,6 @@ mod pipelines;
 #[cfg(test)]
 mod queries;
 #[cfg(test)]
+mod refused_room;
+#[cfg(test)]
 mod splits;
