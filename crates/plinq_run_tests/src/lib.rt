@@ -28,6 +28,8 @@ mod full_queue;
 #[cfg(test)]
 mod idle_sinks;
 #[cfg(test)]
+mod items_ahead;
+#[cfg(test)]
 mod late_faults;
 #[cfg(test)]
 mod no_room;
