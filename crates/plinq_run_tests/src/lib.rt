@@ -22,6 +22,8 @@ mod decided;
 #[cfg(test)]
 mod failing_worker;
 #[cfg(test)]
+mod fault_words;
+#[cfg(test)]
 mod folds;
 #[cfg(test)]
 mod full_queue;
