@@ -28,6 +28,8 @@ mod folds;
 #[cfg(test)]
 mod full_queue;
 #[cfg(test)]
+mod held_refusals;
+#[cfg(test)]
 mod idle_sinks;
 #[cfg(test)]
 mod items_ahead;
