@@ -44,6 +44,8 @@ mod records;
 #[cfg(test)]
 mod refused_batches;
 #[cfg(test)]
+mod refused_room;
+#[cfg(test)]
 mod side_by_side;
 #[cfg(test)]
 mod streams;
