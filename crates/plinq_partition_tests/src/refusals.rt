@@ -275,13 +275,13 @@ fn no_ticket_is_left_after_the_last(rt: HostRuntime) {
     assert_eq!(rt; enumerator.records().len(), 0);
 }
 
-// Run with each allocation failing in turn.
+// Of the last two tickets a refused chunk uses up the first. Run with each allocation failing in turn.
 #[test]
 fn a_refused_start_at_a_ticket_is_memory(rt: HostRuntime) {
     let Ok(source) = RangeSource::new(0, 3) else {
         panic!(rt; "no such range");
     };
-    match Chunked::with_first_ticket(rt.alloc(), source, Growth::ONE, LAST) {
+    match Chunked::with_first_ticket(rt.alloc(), source, Growth::ONE, LAST - 1) {
         Ok((chunked, mut partition)) => {
             try_at_last(&rt, &chunked, &mut partition, 0, 0);
         }
