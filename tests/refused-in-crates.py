@@ -11,13 +11,32 @@ import os
 import subprocess
 import tempfile
 
+from concurrent.futures import ThreadPoolExecutor
+
 from support.program import HANGS, ROOT, Tests, shared_library
 
-# The calls that answer where memory runs out, and the test that has them refused.
+# The calls that answer where memory runs out, and the test of a crate that has them refused. Those of the program are tried
+# by refused-allocations.py.
 CALLS = {
-    "TicketLock::new": ("plinq_base_tests", "lock::a_lock_that_is_refused_is_out_of_memory"),
-    "Enumerator::ask and close": ("plinq_base_tests", "enumerators::a_refused_growth_changes_nothing"),
-    "Lambda::expand of Formula": ("plinq_base_tests", "formulas::expands_or_says_that_memory_ran_out"),
+    "TicketLock::new": ("base", "lock::a_lock_that_is_refused_is_out_of_memory"),
+    "Enumerator::ask and close": ("base", "enumerators::a_refused_growth_changes_nothing"),
+    "Lambda::expand of Formula": ("base", "formulas::expands_or_says_that_memory_ran_out"),
+    "Chunked::new and partitions, Partition::take, try_take and stop": ("partition", "refusals::a_refused_allocation_changes_nothing"),
+    "Partition::try_take of a first chunk": ("partition", "refusals::a_refused_first_chunk_uses_up_a_ticket"),
+    "Partition::stop before any take": ("partition", "refusals::a_refused_stop_closes_nothing"),
+    "Chunked::with_first_ticket": ("partition", "refusals::a_refused_start_at_a_ticket_is_memory"),
+    "RangeParts::partitions and PairParts::partitions": ("partition", "lists::a_refused_growth_is_memory"),
+    "the builder calls of Query": ("ops", "refused_room::a_builder_call_that_is_refused_hands_the_query_back"),
+    "sequential": ("ops", "refused_room::an_answer_that_is_refused_is_given_the_next_time"),
+    "chunk_result and fragment": ("ops", "refused_room::a_result_that_is_refused_is_given_the_next_time"),
+    "CutWord::new": ("merge", "cut_words::a_cut_that_is_refused_is_made_the_next_time"),
+    "Merger::new and offer, NotBuffered": ("merge", "memory::no_room_ends_a_merger_that_is_not_buffered"),
+    "Merger::new and offer, AutoBuffered": ("merge", "memory::no_room_ends_a_merger_of_batches"),
+    "Merger::new and offer, FullyBuffered": ("merge", "memory::no_room_ends_a_merger_that_is_fully_buffered"),
+    "fold_result and Combiner::offer": ("merge", "folds::no_room_ends_a_combiner"),
+    "run and aggregate by one worker": ("run", "refused_room::one_worker_may_be_refused_room"),
+    "run and aggregate by two workers": ("run", "refused_room::two_workers_may_be_refused_room"),
+    "run and aggregate by eight workers": ("run", "refused_room::eight_workers_may_be_refused_room"),
 }
 
 
@@ -32,19 +51,29 @@ def refusing(program, name, shim, at):
     return ran.returncode, ran.stdout, bool(met)
 
 
+def each_refused(pool, program, name, shim):
+    """The same for each allocation in turn, as many at once as there are cores, up to one that isn't made any more."""
+    first = 1
+    while True:
+        for at, ended in enumerate(pool.map(lambda at: refusing(program, name, shim, at), range(first, first + 32)), first):
+            yield at, *ended
+            if not ended[-1]:
+                return
+        first += 32
+
+
 def main():
     tests = Tests()
-    with tempfile.TemporaryDirectory() as folder:
+    with tempfile.TemporaryDirectory() as folder, ThreadPoolExecutor(os.cpu_count()) as pool:
         shim = shared_library("refusing.c", folder)
-        for calls, (crate, name) in CALLS.items():
+        for calls, (tested, name) in CALLS.items():
+            crate = f"plinq_{tested}_tests"
             program = os.path.join(ROOT, "crates", crate, "out", f"{crate}_tests")
             if not os.path.exists(program):
                 tests.check(calls, False, f"{program} isn't there: `rt ci` makes it, or `rt test` in crates/{crate}")
                 continue
-            problems, at, met = [], 0, True
-            while met:
-                at += 1
-                status, said, met = refusing(program, name, shim, at)
+            problems, at = [], 0
+            for at, status, said, _ in each_refused(pool, program, name, shim):
                 problems += [f"allocation {at}: status {status}, {said[-200:]!r}"] if status else []
             tests.check(f"{calls}: {name}", not problems, f"{len(problems)} of {at}; the first is {problems[:1]}")
             tests.check(f"{calls}: an allocation was refused", at > 1, "none")

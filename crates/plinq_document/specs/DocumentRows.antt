@@ -1,5 +1,5 @@
 -- Documents, as values, and what they ask for.
-use Rattle.std.specs.Prelude.{◌≡◌, ℕ, ℤ, pos, negsuc, List, [], ◌∷◌, Option, Some, None, Ok, Err, true, false, codes, refl}
+use Rattle.std.specs.Prelude.{◌≡◌, ℕ, ℤ, pos, negsuc, Bool, List, [], ◌∷◌, Option, Some, None, Ok, Err, true, false, codes, refl}
 use Rattle.serde_json.specs.Data.{Data, null, unsigned, negative, number, string, array, object, no_members, member}
 use Rattle.serde_json.specs.View.{items_of}
 use Rattle.plinq_source.specs.Trace.{Trace, ended}
@@ -230,3 +230,36 @@ meaning-skip_while_of_none = refl
 
 pub meaning-skip_while_of_two : document_meaning plain (document (skip_while (word (codes "below") ∷ whole 5 ∷ whole 6 ∷ []) ∷ []) (list_of []) (whole 2)) ≡ Err (Step 0 Unknown)
 meaning-skip_while_of_two = refl
+
+-- two sources have few items together where their bounds add up to exactly 2^40: a list that refuses has its length, a
+-- text of one letter the two bytes of that, a repeat its count
+abbrev few_beside : ℕ → Data → Bool
+few_beside count second = few_together (bound_of (range_of (whole 0) (whole count))) (bound_of second)
+
+abbrev refusing_list_of_one : Data
+refusing_list_of_one = object (member (codes "list") (row (whole 9 ∷ [])) (member (codes "refuse") (whole 7) no_members))
+
+abbrev text_of_one_letter : Data
+text_of_one_letter = object (member (codes "text") (word (195 ∷ 169 ∷ [])) no_members)
+
+abbrev repeat_of_three : Data
+repeat_of_three = object (member (codes "repeat") (row (whole 9 ∷ whole 3 ∷ [])) no_members)
+
+pub few-beside_list : few_beside 1099511627775 refusing_list_of_one ≡ true
+few-beside_list = refl
+
+pub few-beside_text : few_beside 1099511627774 text_of_one_letter ≡ true
+few-beside_text = refl
+
+pub few-beside_repeat : few_beside 1099511627773 repeat_of_three ≡ true
+few-beside_repeat = refl
+
+-- and one more is too many
+pub many-beside_list : few_beside 1099511627776 refusing_list_of_one ≡ false
+many-beside_list = refl
+
+pub many-beside_text : few_beside 1099511627775 text_of_one_letter ≡ false
+many-beside_text = refl
+
+pub many-beside_repeat : few_beside 1099511627774 repeat_of_three ≡ false
+many-beside_repeat = refl

@@ -7,7 +7,7 @@ ghost use Rattle.plinq_ops.specs.Cut.{enders};
 use plinq_cut::{CutWord, Enders};
 use plinq_lambda::{Formula, Lambda};
 use plinq_ops::{BuildFault, Query};
-use plinq_source::RepeatSource;
+use plinq_source::{OutOfMemory, RepeatSource};
 use std::alloc::Global;
 use std::process::Abort;
 use std::test::Fail;
@@ -46,4 +46,23 @@ fn the_least_key_is_read_by_each_pass(rt: HostRuntime) -> Result<(), Fail> {
     cut.lower(&mut both, 0);
     assert_eq!(rt; cut.read(&mut both), 0);
     Ok(())
+}
+
+// Run with each allocation failing in turn.
+#[test]
+fn a_cut_that_is_refused_is_made_the_next_time(rt: HostRuntime) {
+    let Ok(query) = taking_below_0(rt.alloc()) else {
+        return;
+    };
+    let Ok(zeros) = RepeatSource::new(0, 9) else {
+        panic!(rt; "no such source");
+    };
+    let mut refused = 0usize;
+    for _turn in 0..2 {
+        match CutWord::<KeysOfZeros>::new(rt.alloc(), &query.split(), &zeros) {
+            Ok((cut, mut pass)) => assert_eq!(rt; cut.read(&mut pass), u64::MAX),
+            Err(OutOfMemory) => refused = refused.wrapping_add(1),
+        }
+    }
+    assert!(rt; refused <= 1);
 }

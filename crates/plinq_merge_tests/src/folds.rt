@@ -3,7 +3,7 @@ use plinq_aggregate::Sum;
 use plinq_combine::{Combiner, fold_result};
 use plinq_keyed::Tail;
 use plinq_merge::{MergeFault, More};
-use plinq_ops::{FragEnd, Order};
+use plinq_ops::{ChunkResult, FragEnd, Order};
 use plinq_source::Ending;
 use std::alloc::Global;
 use std::process::Abort;
@@ -128,4 +128,46 @@ fn the_first_key_whose_fold_is_missing_is_told(rt: HostRuntime) {
     assert_eq!(rt; offer(&rt, rt.alloc(), &mut combiner, part(0, &[4])), OPEN);
     assert_eq!(rt; combiner.merged(), 2);
     assert!(rt; !combiner.decided());
+}
+
+/// The fold of a result, at the second attempt where the first is refused.
+fn folded(rt: &impl Abort, alloc: Global, offered: Offered<'_, i64>) -> Option<ChunkResult<i128>> {
+    for _turn in 0..2 {
+        let made = result_of(rt, alloc, offered).ok()?;
+        if let Ok(folded) = fold_result(alloc, &Sum, made) {
+            return Some(folded);
+        }
+    }
+    panic!(rt; "refused twice")
+}
+
+/// Asks for an answer that fits whether the combiner has failed before. Answers whether it has now.
+fn fails(rt: &impl Abort, answer: Result<More, MergeFault>, failed: bool) -> bool {
+    match answer {
+        Ok(_) => assert!(rt; !failed),
+        Err(fault) if failed => assert_eq!(rt; fault, MergeFault::Failed),
+        Err(fault) => assert_eq!(rt; fault, MergeFault::Memory),
+    }
+    answer.is_err()
+}
+
+// After an offer with no room the combiner has failed. Run with each allocation failing in turn.
+#[test]
+fn no_room_ends_a_combiner(rt: HostRuntime) {
+    let mut combiner = Combiner::new(rt.alloc(), &Sum, Order::ByKey);
+    let mut failed = false;
+    for offered in [part(2, &[3]), part(0, &[1, 2]), last(3, &[4], Tail::Ended)] {
+        let Some(folded) = folded(&rt, rt.alloc(), offered) else {
+            return;
+        };
+        assert!(rt; folded.first <= 1_000_000 && folded.count <= 1_000_000);
+        failed = fails(&rt, combiner.offer(folded), failed);
+    }
+    match combiner.finish() {
+        Ok(combined) => {
+            assert!(rt; !failed);
+            assert_eq!(rt; (combined.acc, combined.ending), (10, Ending::End));
+        }
+        Err(fault) => assert!(rt; failed && fault == MergeFault::Failed),
+    }
 }

@@ -7,6 +7,8 @@
 #[cfg(test)]
 mod cut_words;
 #[cfg(test)]
+mod fault_words;
+#[cfg(test)]
 mod folds;
 #[cfg(test)]
 mod memory;

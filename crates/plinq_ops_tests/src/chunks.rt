@@ -155,30 +155,3 @@ fn chunk_results(rt: HostRuntime) -> Result<(), Fail> {
     }
     Ok(())
 }
-
-// Also where an allocation fails: run it with each allocation refused in turn.
-#[test]
-fn results_or_want_of_memory(rt: HostRuntime) {
-    let Ok(query) = ordered(rt.alloc(), &[Op::SelectMany(Formula::Repeat(9))]) else {
-        return;
-    };
-    let Ok(items) = Vec::from_slice(rt.alloc(), &[3, 1]) else {
-        return;
-    };
-    assert!(rt; items.len() == 2);
-    let plan = query.split();
-    assert!(rt; !plan.decided);
-    let chunk = Chunk {
-        first: 0,
-        items,
-        tail: None,
-    };
-    if let Ok(given) = chunk_result(rt.alloc(), &plan, &chunk, u64::MAX) {
-        assert_eq!(rt; given.items.len(), 18);
-        assert_eq!(rt; given.ending, FragEnd::More);
-    }
-    if let Ok(given) = fragment(rt.alloc(), plan.worker, 0, 3) {
-        assert_eq!(rt; given.items.len(), 9);
-        assert_eq!(rt; given.ending, FragEnd::More);
-    }
-}

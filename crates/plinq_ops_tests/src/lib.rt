@@ -15,6 +15,8 @@ mod pipelines;
 #[cfg(test)]
 mod queries;
 #[cfg(test)]
+mod refused_room;
+#[cfg(test)]
 mod splits;
 #[cfg(test)]
 mod tested;

@@ -1,11 +1,15 @@
+ghost use Rattle.plinq_partition.specs.Partitions.{IsPartitionOf};
+
 use crate::expecting::{
     expect, expect_records, expect_taken, expect_tried, expect_whole, give_back, range_of,
 };
 use plinq_enumerator::{Growth, replays};
 use plinq_keyed::{Guarded, KeyProperties, Record, Tail};
-use plinq_partition::{Chunked, OrderablePartitioner, PartFault, TakeFault};
-use plinq_source::{Ending, ListSource};
+use plinq_partition::{Chunked, OrderablePartitioner, PartFault, Partition, TakeFault};
+use plinq_source::{Ending, ListSource, RangeSource};
+use std::alloc::Global;
 use std::process::Abort;
+use std::sync::Wait;
 use std::test::Fail;
 
 #[test]
@@ -38,21 +42,55 @@ fn two_partitions_take_in_turn(rt: HostRuntime) -> Result<(), Fail> {
     Ok(())
 }
 
-#[test]
-fn a_dropped_partition_is_missed(rt: HostRuntime) -> Result<(), Fail> {
-    let (chunked, mut first) = range_of(&rt, rt.alloc(), 4, Growth::DEFAULT);
+// Drops the partition at this place, and keeps the others.
+fn without(
+    chunked: &Chunked<RangeSource>,
+    place: u64,
+    first: Partition<RangeSource>,
+    second: Partition<RangeSource>,
+    third: Partition<RangeSource>,
+) -> (Partition<RangeSource>, Partition<RangeSource>)
+    requires first { IsPartitionOf chunked.now first }
+    requires second { IsPartitionOf chunked.now second }
+    requires third { IsPartitionOf chunked.now third }
+    ensures left { IsPartitionOf chunked.now result.0 }
+    ensures right { IsPartitionOf chunked.now result.1 }
+{
+    match place {
+        0 => (second, third),
+        1 => (first, third),
+        _ => (first, second),
+    }
+}
+
+// Three partitions take in turn, the first of them twice; the one at this place is dropped, and the others go on.
+fn drop_one<R: Wait + Abort>(rt: &R, alloc: Global, place: u64, have: u64) -> Result<(), Fail> {
+    let (chunked, mut first) = range_of(rt, alloc, 6, Growth::ONE);
     let mut second = chunked.dynamic(&mut first);
-    expect_taken(&rt, &chunked, &mut first, 0, &[0], None);
-    expect_taken(&rt, &chunked, &mut second, 1, &[1], None);
-    drop(second);
-    let Err((enumerator, fault)) = chunked.give_back(vec![in rt.alloc(); first]?) else {
-        panic!(rt; "whole without one of two");
+    let mut third = chunked.dynamic(&mut second);
+    expect_taken(rt, &chunked, &mut first, 0, &[0], None);
+    expect_taken(rt, &chunked, &mut second, 1, &[1], None);
+    expect_taken(rt, &chunked, &mut third, 2, &[2], None);
+    expect_taken(rt, &chunked, &mut first, 3, &[3], None);
+    let (mut left, mut right) = without(&chunked, place, first, second, third);
+    expect_taken(rt, &chunked, &mut left, 4, &[4], None);
+    expect_tried(rt, &chunked, &mut right, 5, &[5], None);
+    let Err((enumerator, fault)) = chunked.give_back(vec![in alloc; right, left]?) else {
+        panic!(rt; "whole without one of three");
     };
-    assert_eq!(rt; fault, TakeFault::Incomplete { have: 1, all: 2 });
+    assert_eq!(rt; fault, TakeFault::Incomplete { have, all: 6 });
     let Some(enumerator) = enumerator else {
         panic!(rt; "away");
     };
-    expect_records(&rt, enumerator.records(), 2, 4);
+    expect_records(rt, enumerator.records(), 6, 6);
+    Ok(())
+}
+
+#[test]
+fn a_dropped_partition_is_missed(rt: HostRuntime) -> Result<(), Fail> {
+    for (place, have) in [(0, 4), (1, 5), (2, 5)] {
+        drop_one(&rt, rt.alloc(), place, have)?;
+    }
     Ok(())
 }
 

@@ -147,16 +147,41 @@ fn faults_in_words(rt: HostRuntime) {
     expect_words(&rt, rt.alloc(), &PartFault::Memory, "out of memory");
 }
 
+// Counts partitions that were refused since memory ran out: 1, or 0 where they are there and have these keys.
+fn refusals(
+    rt: &impl Abort,
+    told: Result<Vec<Vec<Keyed<u64>>>, PartFault>,
+    keys: &[&[u64]],
+) -> usize {
+    match told {
+        Ok(parts) => {
+            expect_keys(rt, &parts, keys);
+            0
+        }
+        Err(fault) => {
+            assert_eq!(rt; fault, PartFault::Memory);
+            1
+        }
+    }
+}
+
 // A refused growth is Memory, and the next call answers. Run with each allocation failing in turn.
 #[test]
 fn a_refused_growth_is_memory(rt: HostRuntime) {
     let Ok(three) = numbers(rt.alloc(), 3) else {
         return;
     };
+    let Ok(list) = pairs_of(rt.alloc(), &[3, 10, 11]) else {
+        return;
+    };
+    let Ok(pairs) = PairParts::new(rt.alloc(), list) else {
+        panic!(rt; "keys that rise were refused");
+    };
+    let mut refused = 0usize;
     for _turn in 0..2 {
-        match three.partitions(2) {
-            Ok(parts) => expect_keys(&rt, &parts, &[&[0], &[1, 2]]),
-            Err(fault) => assert_eq!(rt; fault, PartFault::Memory),
-        }
+        let of_range = refusals(&rt, three.partitions(2), &[&[0], &[1, 2]]);
+        let of_pairs = refusals(&rt, pairs.partitions(2), &[&[3], &[10, 11]]);
+        refused = refused.wrapping_add(of_range).wrapping_add(of_pairs);
     }
+    assert!(rt; refused <= 1);
 }

@@ -230,19 +230,63 @@ fn with_first_ticket(
     made
 }
 
+// Each call says that no ticket is left, and counts nothing.
+fn expect_spent<R: Wait + Abort>(
+    rt: &R,
+    chunked: &Chunked<RangeSource>,
+    partition: &mut Partition<RangeSource>,
+)
+    requires { IsPartitionOf chunked.now partition.old }
+    ensures { IsPartitionOf chunked.now partition.new }
+{
+    let before = partition.requests();
+    expect_fault(rt, partition.take(rt, chunked), TakeFault::Spent);
+    expect_fault(rt, partition.try_take(chunked), TakeFault::Spent);
+    expect_fault(rt, partition.stop(rt, chunked), TakeFault::Spent);
+    assert_eq!(rt; partition.requests(), before);
+}
+
+// The last ticket of each lock.
+const LAST: u64 = 4_611_686_018_427_387_903;
+
 #[test]
 fn the_last_ticket_is_taken_once(rt: HostRuntime) {
-    let last = 4611686018427387903;
-    let (chunked, mut partition) = with_first_ticket(&rt, rt.alloc(), last);
+    let (chunked, mut partition) = with_first_ticket(&rt, rt.alloc(), LAST - 1);
     expect_taken(&rt, &chunked, &mut partition, 0, &[0], None);
-    expect_fault(&rt, partition.take(&rt, &chunked), TakeFault::Spent);
-    expect_fault(&rt, partition.try_take(&chunked), TakeFault::Spent);
-    expect_fault(&rt, partition.stop(&rt, &chunked), TakeFault::Spent);
-    assert_eq!(rt; partition.requests(), 1);
+    expect_tried(&rt, &chunked, &mut partition, 1, &[1], None);
+    expect_spent(&rt, &chunked, &mut partition);
+    assert_eq!(rt; partition.requests(), 2);
     let Some(enumerator) = give_back(&rt, rt.alloc(), chunked, partition) else {
         panic!(rt; "no room for a list of one");
     };
-    expect_last(&rt, enumerator.records(), 1, last);
+    let first = enumerator.records().first().map(|record| record.ticket);
+    assert_eq!(rt; first, Some(LAST - 1));
+    expect_last(&rt, enumerator.records(), 2, LAST);
+}
+
+#[test]
+fn no_ticket_is_left_after_the_last(rt: HostRuntime) {
+    let (chunked, mut partition) = with_first_ticket(&rt, rt.alloc(), LAST + 1);
+    expect_spent(&rt, &chunked, &mut partition);
+    assert_eq!(rt; partition.requests(), 0);
+    let Some(enumerator) = give_back(&rt, rt.alloc(), chunked, partition) else {
+        panic!(rt; "no room for a list of one");
+    };
+    assert_eq!(rt; enumerator.records().len(), 0);
+}
+
+// Of the last two tickets a refused chunk uses up the first. Run with each allocation failing in turn.
+#[test]
+fn a_refused_start_at_a_ticket_is_memory(rt: HostRuntime) {
+    let Ok(source) = RangeSource::new(0, 3) else {
+        panic!(rt; "no such range");
+    };
+    match Chunked::with_first_ticket(rt.alloc(), source, Growth::ONE, LAST - 1) {
+        Ok((chunked, mut partition)) => {
+            try_at_last(&rt, &chunked, &mut partition, 0, 0);
+        }
+        Err(fault) => assert_eq!(rt; fault, TakeFault::Memory),
+    }
 }
 
 // Asks that a fault of the lock is told as this one.

@@ -193,21 +193,26 @@ fn a_query_ends_with_its_first_fault(rt: HostRuntime) -> Result<(), Fail> {
     Ok(())
 }
 
+/// Refuses behind these items, to each of which one is added.
 fn refuse_behind<R: Threads + Wait + Sync + Abort>(
     rt: &R,
     alloc: Global,
     items: &[i64],
+    more_by_one: &[i64],
 ) -> Result<(), Fail> {
-    let row: Row<'_> = (Given::Refusing(7), items, &[], items, REFUSED);
+    let add_one: &[Op<Formula>] = &[Op::Select(Formula::Add(1))];
+    let row: Row<'_> = (Given::Refusing(7), items, add_one, more_by_one, REFUSED);
     expect_each(rt, alloc, row, Growth::new(1, 1, 4)?)
 }
 
 #[test]
 fn a_list_of_any_length_is_refused_behind_its_items(rt: HostRuntime) -> Result<(), Fail> {
     let mut items = Vec::new(rt.alloc());
+    let mut more_by_one = Vec::new(rt.alloc());
     for next in 1..42 {
-        refuse_behind(&rt, rt.alloc(), items.as_slice())?;
+        refuse_behind(&rt, rt.alloc(), &items, &more_by_one)?;
         items.push(next)?;
+        more_by_one.push(next + 1)?;
     }
     Ok(())
 }

@@ -94,7 +94,9 @@ fn fill_the_queue<R: Threads + Wait + Sync + Abort>(
     };
     let query: Query<Formula> = ordered(alloc, MergeOption::NotBuffered, workers)?;
     let source = RangeSource::new(0, 300)?;
-    let report = run(rt, alloc, &query, source, Growth::ONE, &gate, &mut sink)?;
+    // (the first 64 chunks of a worker have one element; that later ones may have more lets each worker have more chunks waiting)
+    let growth = Growth::new(1, 64, 4)?;
+    let report = run(rt, alloc, &query, source, growth, &gate, &mut sink)?;
     assert_eq!(rt; report.ending, Ending::End);
     assert!(rt; !sink.gave_up && !sink.is_wrong);
     assert_eq!(rt; sink.next, 300);
@@ -103,7 +105,7 @@ fn fill_the_queue<R: Threads + Wait + Sync + Abort>(
 
 #[test]
 fn workers_wait_while_the_queue_is_full(rt: HostRuntime) -> Result<(), Fail> {
-    for workers in [2u64, 8, 64] {
+    for workers in [1u64, 2, 8, 64] {
         fill_the_queue(&rt, rt.alloc(), workers)?;
     }
     Ok(())

@@ -24,11 +24,17 @@ mod decided;
 #[cfg(test)]
 mod failing_worker;
 #[cfg(test)]
+mod fault_words;
+#[cfg(test)]
 mod folds;
 #[cfg(test)]
 mod full_queue;
 #[cfg(test)]
+mod held_refusals;
+#[cfg(test)]
 mod idle_sinks;
+#[cfg(test)]
+mod items_ahead;
 #[cfg(test)]
 mod late_faults;
 #[cfg(test)]
@@ -39,6 +45,8 @@ mod passed_gates;
 mod records;
 #[cfg(test)]
 mod refused_batches;
+#[cfg(test)]
+mod refused_room;
 #[cfg(test)]
 mod side_by_side;
 #[cfg(test)]

@@ -1,9 +1,11 @@
 //! What a gate is told.
-use crate::asked::{Given, Setting, WORKERS, ask};
+use crate::asked::{Given, Setting, WORKERS, ask, built};
+use plinq_aggregate::Sum;
 use plinq_enumerator::Growth;
 use plinq_lambda::Formula;
-use plinq_ops::{MergeOption, Op};
-use plinq_run::Gate;
+use plinq_ops::{BuildFault, MergeOption, Op, Query};
+use plinq_run::{Gate, aggregate};
+use plinq_source::RangeSource;
 use std::alloc::{AllocError, Global};
 use std::process::Abort;
 use std::sync::Wait;
@@ -21,15 +23,17 @@ struct Passed {
 }
 
 /// A gate that notes whether it was told of a number that no worker has, of a chunk without a take before it, or of one whose
-/// first key isn't above those before.
+/// first key isn't above those before, or is within another chunk.
 #[derive(Drop)]
 struct Notes {
     workers: Vec<Passed>,
+    /// The bits of a key that say where it is within its chunk, where all chunks have the same power of two.
+    within: u64,
     is_wrong: AtomicBool,
 }
 
 impl Notes {
-    fn of(alloc: Global, workers: u64) -> Result<Notes, AllocError> {
+    fn of(alloc: Global, workers: u64, within: u64) -> Result<Notes, AllocError> {
         let mut passed = Vec::new(alloc);
         for _ in 0..workers {
             passed.push(Passed {
@@ -40,6 +44,7 @@ impl Notes {
         }
         Ok(Notes {
             workers: passed,
+            within,
             is_wrong: AtomicBool::new(false),
         })
     }
@@ -80,7 +85,7 @@ impl Gate for Notes {
         let before = worker.chunks.fetch_add(1, Ordering::SeqCst);
         self.expect(worker.takes.load(Ordering::SeqCst) == before.wrapping_add(1));
         let least = worker.least.swap(first.wrapping_add(1), Ordering::SeqCst);
-        self.expect(first >= least);
+        self.expect(first >= least && first & self.within == 0);
     }
 }
 
@@ -90,7 +95,7 @@ fn note<R: Threads + Wait + Sync + Abort>(
     alloc: Global,
     setting: Setting,
 ) -> Result<(), Fail> {
-    let gate = Notes::of(alloc, setting.workers)?;
+    let gate = Notes::of(alloc, setting.workers, 0)?;
     let ops = [Op::Filter(Formula::Even)];
     let answers = ask(rt, alloc, Given::Range(0, 200), &[], &ops, setting, &gate)?;
     assert!(rt; answers.are_one(setting.option));
@@ -109,6 +114,58 @@ fn a_gate_is_told_of_each_worker_in_order(rt: HostRuntime) -> Result<(), Fail> {
             refused: usize::MAX,
         };
         note(&rt, rt.alloc(), setting)?;
+    }
+    Ok(())
+}
+
+/// A query for even numbers, with an operator after the merge or none.
+fn evens(
+    alloc: Global,
+    workers: u64,
+    is_by_key: bool,
+    is_cut: bool,
+) -> Result<Query<Formula>, BuildFault> {
+    let query = Query::new(alloc);
+    let query = if is_by_key {
+        built(query.as_ordered())?
+    } else {
+        query
+    };
+    let query = built(query.with_degree(workers))?;
+    let query = built(query.filter(Formula::Even))?;
+    if is_cut {
+        built(query.take(1_000))
+    } else {
+        Ok(query)
+    }
+}
+
+/// An aggregate whose gate takes notes. Each chunk is to have four elements.
+fn note_aggregate<R: Threads + Wait + Sync + Abort>(
+    rt: &R,
+    alloc: Global,
+    workers: u64,
+    is_by_key: bool,
+    is_cut: bool,
+) -> Result<(), Fail> {
+    let gate = Notes::of(alloc, workers, 3)?;
+    let query = evens(alloc, workers, is_by_key, is_cut)?;
+    let source = RangeSource::new(0, 200)?;
+    let growth = Growth::new(4, 1, 4)?;
+    let sum = aggregate(rt, alloc, &query, source, growth, &gate, &Sum);
+    assert_eq!(rt; sum, Ok(9_900));
+    assert!(rt; gate.are_whole(), "{workers} {is_by_key} {is_cut}");
+    Ok(())
+}
+
+#[test]
+fn a_gate_is_told_of_each_worker_of_an_aggregate(rt: HostRuntime) -> Result<(), Fail> {
+    for workers in WORKERS {
+        for is_by_key in [true, false] {
+            for is_cut in [true, false] {
+                note_aggregate(&rt, rt.alloc(), workers, is_by_key, is_cut)?;
+            }
+        }
     }
     Ok(())
 }

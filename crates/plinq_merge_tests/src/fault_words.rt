@@ -1,0 +1,19 @@
+//! How a merger says why it refuses.
+use plinq_merge::MergeFault;
+use std::test::Fail;
+
+#[test]
+fn faults_of_a_merger_in_words(rt: HostRuntime) -> Result<(), Fail> {
+    let rows = [
+        (MergeFault::Memory, "out of memory"),
+        (MergeFault::Sink(4_294_967_295), "sink refused: 4294967295"),
+        (MergeFault::Twice, "offered twice"),
+        (MergeFault::Gap, "results are missing"),
+        (MergeFault::Failed, "failed before"),
+    ];
+    for (fault, text) in rows {
+        let words = format!(in rt.alloc(); "{fault}")?;
+        assert_eq!(rt; words.as_str(), text);
+    }
+    Ok(())
+}

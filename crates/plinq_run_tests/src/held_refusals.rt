@@ -1,0 +1,164 @@
+//! A sink that refuses a batch while workers are held at one of their stations.
+ghost use Rattle.std.specs.Prelude.{⊤};
+ghost use Rattle.plinq_lambda.specs.Formula.{formula_meaning};
+ghost use Rattle.plinq_lambda.specs.Short.{formula_meaning-short};
+
+use crate::asked::{WORKERS, built, ordered};
+use crate::taken::Taken;
+use crate::waiting::waits_for;
+use plinq_enumerator::Growth;
+use plinq_lambda::{ExpandFault, Formula, Lambda};
+use plinq_merge::Sink;
+use plinq_ops::MergeOption;
+use plinq_run::{Gate, RunFault, run};
+use plinq_source::RangeSource;
+use std::alloc::Global;
+use std::process::Abort;
+use std::sync::Wait;
+use std::sync::atomic::{AtomicBool, AtomicU64, Ordering};
+use std::test::*;
+use std::thread::Threads;
+
+/// Where workers are held.
+#[derive(Clone, Copy, Debug, PartialEq)]
+enum Station {
+    BeforeTake,
+    AfterChunk,
+    BeforeSend,
+}
+
+/// Holds all at one station that aren't needed for the batches up to the refused one, until that was refused.
+#[derive(Drop)]
+struct Holds {
+    station: Station,
+    /// The number of the refused batch, which is that of its element.
+    refused: u64,
+    about: AtomicU64,
+    has_refused: AtomicU64,
+    gave_up: AtomicBool,
+}
+
+impl Holds {
+    fn hold(&self, station: Station, number: u64) {
+        let is_held = self.station == station && number > self.refused;
+        if is_held && !waits_for(&self.has_refused, 1) {
+            self.gave_up.store(true, Ordering::SeqCst);
+        }
+    }
+}
+
+impl Gate for Holds {
+    fn before_take(&self, _: u64) {
+        let number = self.about.fetch_add(1, Ordering::SeqCst);
+        self.hold(Station::BeforeTake, number);
+    }
+
+    fn after_chunk(&self, _: u64, first: u64) {
+        self.hold(Station::AfterChunk, first);
+    }
+}
+
+/// A formula at the station before a result is sent.
+#[derive(Clone, Copy)]
+struct Sending<'a> {
+    formula: Formula,
+    holds: &'a Holds,
+}
+
+impl<'a> Lambda for Sending<'a> {
+    type Item = i64;
+
+    ghost meaning = { λ t. formula_meaning t.formula };
+
+    ghost short = { λ t x. formula_meaning-short t.formula x };
+
+    fn map(&self, x: i64) -> Result<i64, u32> {
+        self.holds.hold(Station::BeforeSend, x.unsigned_abs());
+        self.formula.map(x)
+    }
+
+    fn test(&self, x: i64) -> Result<bool, u32> {
+        self.formula.test(x)
+    }
+
+    fn expand(&self, alloc: Global, x: i64) -> Result<Vec<i64>, ExpandFault> {
+        self.formula.expand(alloc, x)
+    }
+}
+
+/// A sink that says when it has refused.
+#[derive(Drop)]
+struct Refusing<'a> {
+    taken: Taken,
+    holds: &'a Holds,
+}
+
+impl<'a> Sink for Refusing<'a> {
+    type Item = i64;
+
+    ghost accepts = { λ _ _ _. ⊤ };
+
+    ghost refuses = { λ _ _ _ _. ⊤ };
+
+    fn batch(&mut self, items: &[i64]) -> Result<(), u32> {
+        let answer = self.taken.batch(items);
+        if answer.is_err() {
+            self.holds.has_refused.store(1, Ordering::SeqCst);
+        }
+        answer
+    }
+}
+
+fn refuse<R: Threads + Wait + Sync + Abort>(
+    rt: &R,
+    alloc: Global,
+    workers: u64,
+    station: Station,
+    refused: u64,
+) -> Result<(), Fail> {
+    let holds = Holds {
+        station,
+        refused,
+        about: AtomicU64::new(0),
+        has_refused: AtomicU64::new(0),
+        gave_up: AtomicBool::new(false),
+    };
+    let query = ordered(alloc, MergeOption::NotBuffered, workers)?;
+    let sending = Sending {
+        formula: Formula::Add(0),
+        holds: &holds,
+    };
+    let query = built(query.select(sending))?;
+    let source = RangeSource::new(0, 100)?;
+    let mut sink = Refusing {
+        taken: Taken::new(alloc, refused as usize),
+        holds: &holds,
+    };
+    let told = run(rt, alloc, &query, source, Growth::ONE, &holds, &mut sink);
+    assert!(rt; matches!(told, Err(RunFault::Sink(9))));
+    assert!(rt; !holds.gave_up.load(Ordering::SeqCst));
+    let Refusing { taken, .. } = sink;
+    let mut next = 0i64;
+    for batch in &taken.batches {
+        assert_eq!(rt; batch.as_slice(), [next].as_slice());
+        next = next.wrapping_add(1);
+    }
+    assert_eq!(rt; taken.batches.len() as u64, refused);
+    Ok(())
+}
+
+#[test]
+fn a_sink_refuses_while_workers_are_held(rt: HostRuntime) -> Result<(), Fail> {
+    for station in [
+        Station::BeforeTake,
+        Station::AfterChunk,
+        Station::BeforeSend,
+    ] {
+        for workers in WORKERS {
+            for refused in [0u64, 1, 16] {
+                refuse(&rt, rt.alloc(), workers, station, refused)?;
+            }
+        }
+    }
+    Ok(())
+}

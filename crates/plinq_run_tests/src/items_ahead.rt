@@ -1,0 +1,148 @@
+//! How many items workers send ahead of what is merged, where each element is expanded to many.
+ghost use Rattle.std.specs.Prelude.{⊤};
+
+use crate::asked::built;
+use crate::waiting::{lingers, waits_for};
+use plinq_enumerator::Growth;
+use plinq_lambda::Formula;
+use plinq_merge::Sink;
+use plinq_ops::{BuildFault, MergeOption, Query};
+use plinq_run::{Gate, run};
+use plinq_source::{Ending, RangeSource};
+use std::alloc::Global;
+use std::process::Abort;
+use std::sync::Wait;
+use std::sync::atomic::{AtomicU64, Ordering};
+use std::test::*;
+use std::thread::Threads;
+
+/// How many numbers from 0 on there are, and what each is expanded to.
+const NUMBERS: u64 = 200;
+
+const COPIES: i64 = 1_000;
+
+const ITEMS: i64 = 200_000;
+
+/// The items of the answer added up: 1,000 times 0 to 199.
+const SUM: i64 = 19_900_000;
+
+/// A gate that counts the chunks that were taken.
+#[derive(Drop)]
+struct Counts<'a> {
+    taken: &'a AtomicU64,
+}
+
+impl<'a> Gate for Counts<'a> {
+    fn before_take(&self, _: u64) {}
+
+    fn after_chunk(&self, _: u64, _: u64) {
+        self.taken.fetch_add(1, Ordering::SeqCst);
+    }
+}
+
+/// A sink that is held with its first batch until each worker has taken, and then for as long as chunks are taken. It counts
+/// and adds up what comes.
+#[derive(Drop)]
+struct Held<'a> {
+    taken: &'a AtomicU64,
+    workers: u64,
+    /// How many chunks were taken when the first batch was let go; 0 before.
+    taken_by_then: u64,
+    count: i64,
+    sum: i64,
+    is_in_order: bool,
+}
+
+impl<'a> Held<'a> {
+    fn hold(&mut self) {
+        waits_for(self.taken, self.workers);
+        let mut last = 0u64;
+        for _turn in 0..NUMBERS {
+            let taken = self.taken.load(Ordering::SeqCst);
+            if taken == last {
+                break;
+            }
+            last = taken;
+            lingers();
+        }
+        self.taken_by_then = last;
+    }
+}
+
+impl<'a> Sink for Held<'a> {
+    type Item = i64;
+
+    ghost accepts = { λ _ _ _. ⊤ };
+
+    ghost refuses = { λ _ _ _ _. ⊤ };
+
+    fn batch(&mut self, items: &[i64]) -> Result<(), u32> {
+        if self.count == 0 {
+            self.hold();
+        }
+        for item in items {
+            if *item != self.count / COPIES {
+                self.is_in_order = false;
+            }
+            self.count = self.count.wrapping_add(1);
+            self.sum = self.sum.wrapping_add(*item);
+        }
+        Ok(())
+    }
+}
+
+/// A query that expands each number, by key or by arrival.
+fn expanding(alloc: Global, workers: u64, by_key: bool) -> Result<Query<Formula>, BuildFault> {
+    let query = Query::new(alloc);
+    let query = if by_key {
+        built(query.as_ordered())?
+    } else {
+        query
+    };
+    let query = built(query.with_merge(MergeOption::AutoBuffered))?;
+    let query = built(query.with_degree(workers))?;
+    built(query.select_many(Formula::Repeat(COPIES)))
+}
+
+fn hold_the_sink<R: Threads + Wait + Sync + Abort>(
+    rt: &R,
+    alloc: Global,
+    workers: u64,
+    by_key: bool,
+) -> Result<(), Fail> {
+    let taken = AtomicU64::new(0);
+    let gate = Counts { taken: &taken };
+    let mut sink = Held {
+        taken: &taken,
+        workers,
+        taken_by_then: 0,
+        count: 0,
+        sum: 0,
+        is_in_order: true,
+    };
+    let query = expanding(alloc, workers, by_key)?;
+    let source = RangeSource::new(0, NUMBERS)?;
+    let report = run(rt, alloc, &query, source, Growth::ONE, &gate, &mut sink)?;
+    assert_eq!(rt; report.ending, Ending::End);
+    assert_eq!(rt; (sink.count, sink.sum), (ITEMS, SUM));
+    assert!(rt; sink.is_in_order || !by_key);
+    // Each worker takes once, and again where its own result is among the first whose items are 64 for each worker at most.
+    let again = workers.saturating_mul(64) / 1_000;
+    let most = workers.saturating_add(again);
+    let by_then = sink.taken_by_then;
+    assert!(rt;
+        workers <= by_then && by_then <= most,
+        "{by_then} of {most}"
+    );
+    Ok(())
+}
+
+#[test]
+fn workers_wait_until_their_items_are_merged(rt: HostRuntime) -> Result<(), Fail> {
+    for workers in [1u64, 2, 8, 64] {
+        for by_key in [true, false] {
+            hold_the_sink(&rt, rt.alloc(), workers, by_key)?;
+        }
+    }
+    Ok(())
+}

@@ -1,0 +1,166 @@
+//! Runs and aggregates that are refused an allocation, and the same once more. Each test is run with each allocation failing
+//! in turn.
+ghost use Rattle.std.specs.Prelude.{⊤};
+
+use crate::asked::built;
+use plinq_aggregate::Sum;
+use plinq_enumerator::Growth;
+use plinq_lambda::Formula;
+use plinq_merge::Sink;
+use plinq_ops::{BuildFault, MergeOption, Query};
+use plinq_run::{AggregateFault, OpenGate, RunFault, aggregate, run};
+use plinq_source::{Ending, RangeSource};
+use std::alloc::Global;
+use std::process::Abort;
+use std::sync::Wait;
+use std::thread::Threads;
+
+/// A sink that wants the numbers from 1 on, by key in their order, and takes no memory.
+#[derive(Drop)]
+struct Counted {
+    is_by_key: bool,
+    count: i64,
+    sum: i64,
+    is_wrong: bool,
+}
+
+impl Sink for Counted {
+    type Item = i64;
+
+    ghost accepts = { λ _ _ _. ⊤ };
+
+    ghost refuses = { λ _ _ _ _. ⊤ };
+
+    fn batch(&mut self, items: &[i64]) -> Result<(), u32> {
+        for item in items {
+            self.count = self.count.wrapping_add(1);
+            self.sum = self.sum.wrapping_add(*item);
+            if self.is_by_key && *item != self.count {
+                self.is_wrong = true;
+            }
+        }
+        Ok(())
+    }
+}
+
+/// How a query is asked.
+#[derive(Clone, Copy)]
+struct Asked {
+    workers: u64,
+    option: MergeOption,
+    is_by_key: bool,
+}
+
+/// The numbers from 1 to 17 as they are.
+fn numbers(alloc: Global, asked: Asked) -> Result<Query<Formula>, BuildFault> {
+    let query = Query::new(alloc);
+    let query = if asked.is_by_key {
+        built(query.as_ordered())?
+    } else {
+        query
+    };
+    let query = built(query.with_merge(asked.option))?;
+    let query = built(query.with_degree(asked.workers))?;
+    built(query.select(Formula::Add(0)))
+}
+
+/// Runs the query. Answers whether it was refused, for want of memory or of a thread alone, with a beginning delivered.
+fn is_refused<R: Threads + Wait + Sync + Abort>(
+    rt: &R,
+    alloc: Global,
+    query: &Query<Formula>,
+    is_by_key: bool,
+) -> bool {
+    let Ok(source) = RangeSource::new(1, 17) else {
+        panic!(rt; "no such range");
+    };
+    let mut sink = Counted {
+        is_by_key,
+        count: 0,
+        sum: 0,
+        is_wrong: false,
+    };
+    let told = run(rt, alloc, query, source, Growth::ONE, &OpenGate, &mut sink);
+    assert!(rt; !sink.is_wrong && sink.count <= 17);
+    match told {
+        Ok(report) => {
+            assert_eq!(rt;
+                (report.ending, sink.count, sink.sum),
+                (Ending::End, 17, 153)
+            );
+            false
+        }
+        Err(fault) => {
+            assert!(rt; matches!(fault, RunFault::Memory | RunFault::Thread));
+            true
+        }
+    }
+}
+
+/// Sums the query's items. Answers whether that was refused, for want of memory or of a thread alone.
+fn is_sum_refused<R: Threads + Wait + Sync + Abort>(
+    rt: &R,
+    alloc: Global,
+    query: &Query<Formula>,
+) -> bool {
+    let Ok(source) = RangeSource::new(1, 17) else {
+        panic!(rt; "no such range");
+    };
+    match aggregate(rt, alloc, query, source, Growth::ONE, &OpenGate, &Sum) {
+        Ok(sum) => {
+            assert_eq!(rt; sum, 153);
+            false
+        }
+        Err(fault) => {
+            let memory = AggregateFault::Run(RunFault::Memory);
+            let thread = AggregateFault::Run(RunFault::Thread);
+            assert!(rt; fault == memory || fault == thread);
+            true
+        }
+    }
+}
+
+/// Asks twice: of the two at most one is refused.
+fn ask_twice<R: Threads + Wait + Sync + Abort>(rt: &R, alloc: Global, asked: Asked) {
+    let Ok(query) = numbers(alloc, asked) else {
+        return;
+    };
+    let first = is_refused(rt, alloc, &query, asked.is_by_key);
+    let second = is_refused(rt, alloc, &query, asked.is_by_key);
+    assert!(rt; !first || !second);
+    let first = is_sum_refused(rt, alloc, &query);
+    let second = is_sum_refused(rt, alloc, &query);
+    assert!(rt; !first || !second);
+}
+
+fn ask_in_all_ways<R: Threads + Wait + Sync + Abort>(rt: &R, alloc: Global, workers: u64) {
+    for option in [
+        MergeOption::NotBuffered,
+        MergeOption::AutoBuffered,
+        MergeOption::FullyBuffered,
+    ] {
+        for is_by_key in [true, false] {
+            let asked = Asked {
+                workers,
+                option,
+                is_by_key,
+            };
+            ask_twice(rt, alloc, asked);
+        }
+    }
+}
+
+#[test]
+fn one_worker_may_be_refused_room(rt: HostRuntime) {
+    ask_in_all_ways(&rt, rt.alloc(), 1);
+}
+
+#[test]
+fn two_workers_may_be_refused_room(rt: HostRuntime) {
+    ask_in_all_ways(&rt, rt.alloc(), 2);
+}
+
+#[test]
+fn eight_workers_may_be_refused_room(rt: HostRuntime) {
+    ask_in_all_ways(&rt, rt.alloc(), 8);
+}
