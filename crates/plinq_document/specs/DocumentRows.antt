@@ -217,7 +217,7 @@ skip_while ds = row (word (codes "skip_while") ∷ ds)
 
 -- [["as_ordered"],["skip_while","below",5]]
 pub meaning-skip_while : document_meaning plain (document (as_ordered ∷ skip_while (word (codes "below") ∷ whole 5 ∷ []) ∷ []) (list_of []) (whole 2))
-    ≡ Ok (record { query = record { ops = SkipWhile (Below (pos 5)) ∷ []; ordered = true; merge = None; degree = None }; source = ended [] End; growth = record { first = 1; repeat = 3; max = 512 }; aggregate = None })
+    ≡ Ok (record { query = record { ops = SkipWhile (Below (pos 5)) ∷ []; ordered = true; merge = None; degree = None }; source = ended [] End; growth = record { first = 1; repeat = 3; max = 512 }; aggregate = None; cancel_after = None })
 meaning-skip_while = refl
 
 -- version 1 doesn't know [["skip_while","even"]]
