@@ -53,15 +53,40 @@ fn reads_each_source(rt: HostRuntime) -> Result<(), Fail> {
         (r#"{"range":[-1,3]}"#, [-1, 0, 1].as_slice(), Step::End),
         (r#"{"repeat":[5,2]}"#, [5, 5].as_slice(), Step::End),
     ] {
-        let mut source = read_source(rt.alloc(), source)?;
+        let mut source = read_source(rt.alloc(), 1, source)?;
         gives(&rt, &mut source, items, ending);
     }
     Ok(())
 }
 
-// The source of a document that has this one.
-fn read_source(alloc: Global, source: &str) -> Result<AnySource, Fail> {
-    let text = format!(in alloc; "{{\"query\":[],\"source\":{source},\"version\":1}}")?;
+#[test]
+fn reads_concatenations(rt: HostRuntime) -> Result<(), Fail> {
+    for (source, items, ending) in [
+        (
+            r#"{"concat":[{"list":[1,2]},{"range":[5,2]}]}"#,
+            [1, 2, 5, 6].as_slice(),
+            Step::End,
+        ),
+        (
+            r#"{"concat":[{"list":[1],"refuse":7},{"list":[2]}]}"#,
+            [1].as_slice(),
+            Step::Refused(7),
+        ),
+        (
+            r#"{"concat":[{"list":[]},{"text":"x"}]}"#,
+            [].as_slice(),
+            Step::Refused(1),
+        ),
+    ] {
+        let mut source = read_source(rt.alloc(), 2, source)?;
+        gives(&rt, &mut source, items, ending);
+    }
+    Ok(())
+}
+
+// The source of a document of this version that has this one.
+fn read_source(alloc: Global, version: u64, source: &str) -> Result<AnySource, Fail> {
+    let text = format!(in alloc; "{{\"query\":[],\"source\":{source},\"version\":{version}}}")?;
     let job = read(alloc, text.as_str(), PLAIN)?;
     Ok(job.source)
 }

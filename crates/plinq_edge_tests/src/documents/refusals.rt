@@ -5,10 +5,23 @@ use plinq_ops::BuildFault;
 use std::test::Fail;
 
 // A document for each fault.
-const REFUSED: [(&str, DocFault); 10] = [
+const REFUSED: [(&str, DocFault); 14] = [
     ("[", DocFault::NotJson),
     ("{}", DocFault::Shape),
     (r#"{"version":3,"x":0}"#, DocFault::Version),
+    (r#"{"version":2}"#, DocFault::Shape),
+    (
+        r#"{"version":1,"source":{"concat":[{"list":[]},{"list":[]}]},"query":[]}"#,
+        DocFault::Shape,
+    ),
+    (
+        r#"{"version":2,"source":{"concat":[{"list":[]},{"concat":[{"list":[]},{"list":[]}]}]},"query":[]}"#,
+        DocFault::Shape,
+    ),
+    (
+        r#"{"version":2,"source":{"concat":[{"range":[0,1099511627776]},{"range":[0,1099511627776]}]},"query":[]}"#,
+        DocFault::Source,
+    ),
     (
         r#"{"version":1,"source":{"range":[9223372036854775807,2]},"query":["sort"]}"#,
         DocFault::Source,

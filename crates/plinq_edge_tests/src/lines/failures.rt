@@ -4,6 +4,7 @@ use plinq_lines::{WriteFault, write_answer, write_batch};
 use plinq_ops::MergeOption;
 use plinq_source::Ending;
 use std::process::Abort;
+use std::test::Fail;
 
 const LINES: &[u8] = b"-12 345\n6\n78\nrefused 9\n";
 
@@ -42,4 +43,11 @@ fn a_writer_that_is_interrupted(rt: HostRuntime) {
     let mut out = Narrow::new(rt.alloc(), 100, 1);
     out.interrupts = true;
     is_written(&rt, out);
+}
+
+#[test]
+fn a_failed_write_in_words(rt: HostRuntime) -> Result<(), Fail> {
+    let words = format!(in rt.alloc(); "{}", WriteFault)?;
+    assert_eq!(rt; words.as_str(), "write failed");
+    Ok(())
 }

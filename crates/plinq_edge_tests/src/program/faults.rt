@@ -1,5 +1,6 @@
 use plinq_cli::{Failure, ServeFault};
 use plinq_partition::TakeFault;
+use plinq_run::RunFault;
 use std::test::Fail;
 
 // One thread meets none of these, so their lines are shown here.
@@ -32,5 +33,21 @@ fn faults_of_partitions_in_words(rt: HostRuntime) -> Result<(), Fail> {
         ServeFault::from(TakeFault::Away),
         ServeFault::Take(TakeFault::Away)
     );
+    Ok(())
+}
+
+// What each says itself, and the line of the program's failure that it becomes.
+#[test]
+fn faults_of_a_command_in_words(rt: HostRuntime) -> Result<(), Fail> {
+    for (fault, text, line) in [
+        (ServeFault::Memory, "out of memory", "out of memory"),
+        (ServeFault::Write, "write failed", "write failed"),
+        (ServeFault::Run(RunFault::Thread), "no thread", "no thread"),
+        (ServeFault::Take(TakeFault::Away), "away", "incomplete"),
+    ] {
+        let failure = Failure::from(fault);
+        assert_eq!(rt; format!(in rt.alloc(); "{fault}")?.as_str(), text);
+        assert_eq!(rt; format!(in rt.alloc(); "{failure}")?.as_str(), line);
+    }
     Ok(())
 }
