@@ -21,6 +21,7 @@ ANSWERS = [
     ("not", '"list":[1,2],"refuse":7', "", "1\n2\nrefused 7\n", 3),
     ("auto", '"list":[1,2],"refuse":7', "", "1 2\nrefused 7\n", 3),
     ("full", '"list":[1,2],"refuse":7', "", "refused 7\n", 3),
+    ("not", '"list":[1],"refuse":4294967295', "", "1\nrefused 4294967295\n", 3),
     ("not", '"list":[1,2],"refuse":7', ',["take",2]', "1\n2\nend\n", 0),
     ("", '"list":[],"refuse":7', ',["take",0]', "end\n", 0),
     ("", '"list":[],"refuse":7', ',["take",-1]', "end\n", 0),

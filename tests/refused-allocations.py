@@ -38,6 +38,9 @@ ANSWERED = [
 ]
 # (one item, which has one order)
 UNORDERED = b'{"version":1,"source":{"list":[4],"refuse":7},"query":[["select","add",1]]}'
+# Seventeen items, each in a chunk of its own; without an order they are the same, so that any order is the same.
+BY_KEY = document({"range": [1, 17]}, growth=[1, 1, 1])
+BY_ARRIVAL = b'{"version":1,"source":{"repeat":[5,17]},"query":[],"growth":[1,1,1]}'
 REFUSED = [
     b'{"version":1,"source":{"list":[3,1,4]',
     b"{}",
@@ -49,8 +52,10 @@ REFUSED = [
     document(LIST, ["take", 1], ["as_ordered"]),
 ]
 CASES = (
-    [(words, it) for it in ANSWERED for words in (["run", "--workers", "2", "--merge", "not"], ["run", "--workers", "1"], ["run", "--workers", "8"], ["plan", "--workers", "2"], ["parts"], ["history", "--workers", "2"])]
-    + [(["run", "--workers", "2"], UNORDERED), (["run", "--merge", "full"], ANSWERED[0]), (["seq"], ANSWERED[1]), (["seq", "--merge", "auto"], ANSWERED[6])]
+    [(words, it) for it in ANSWERED for words in (["run", "--workers", "2", "--merge", "not"], ["run", "--workers", "1"], ["run", "--workers", "8"], ["seq"], ["plan", "--workers", "2"], ["parts"], ["history", "--workers", "2"])]
+    + [(["run", "--workers", workers, "--merge", merge], it) for it in (BY_KEY, BY_ARRIVAL) for workers in ("1", "2", "8") for merge in ("not", "auto", "full")]
+    + [(["run", "--workers", workers], it[:-1] + b',"aggregate":"sum"}') for it in (BY_KEY, BY_ARRIVAL) for workers in ("1", "2", "8")]
+    + [(["run", "--workers", "2"], UNORDERED), (["run", "--merge", "full"], ANSWERED[0]), (["seq", "--merge", "auto"], ANSWERED[6])]
     + [(["run", "--merge", "not", "--cancel-after", it], ANSWERED[0]) for it in ("1", "9")]
     + [(["run"], it) for it in REFUSED]
     + [(words, ANSWERED[0]) for words in ([], ["walk"], ["run", "--workers", "0"], ["seq", "--merge", "some"], ["plan", "x"])]
