@@ -175,8 +175,10 @@ def instructions():
         ("list, add 1, `--merge not`", lambda n: document({"list": numbers(n)}, [["as_ordered"], ["select", "add", 1]]), ["run", "--merge", "not"]),
         ("text, none kept", lambda n: document({"text": " ".join(map(str, numbers(n)))}, [["as_ordered"], ["filter", "below", 0]]), ["run"]),
         ("range, add 1, `--merge auto`", lambda n: document({"range": [0, n]}, [["as_ordered"], ["select", "add", 1]]), ["run", "--merge", "auto"]),
-        ("range, none kept", lambda n: document({"range": [0, n]}, [["as_ordered"], ["filter", "below", 0]]), ["seq"]),
-        ("range, nine operators, none kept", lambda n: document({"range": [0, n]}, [["as_ordered"]] + SELECTS + [["filter", "below", 0]]), ["seq"]),
+        ("range, none kept, by `seq`", lambda n: document({"range": [0, n]}, [["as_ordered"], ["filter", "below", 0]]), ["seq"]),
+        ("two ranges one after the other, none kept, by `seq`", lambda n: document({"concat": [{"range": [0, n // 2]}, {"range": [n // 2, n - n // 2]}]}, [["as_ordered"], ["filter", "below", 0]], version=2), ["seq"]),
+        ("range, a SkipWhile that all pass, by `seq`", lambda n: document({"range": [0, n]}, [["as_ordered"], ["skip_while", "below", 2**40]], version=2), ["seq"]),
+        ("range, nine operators, none kept, by `seq`", lambda n: document({"range": [0, n]}, [["as_ordered"]] + SELECTS + [["filter", "below", 0]]), ["seq"]),
     ):
         print(f"| {name} | {slope(make, [PROGRAM] + words):.0f} |")
     printing()
