@@ -3,7 +3,6 @@ ghost use Rattle.std.specs.Prelude.{⊤};
 
 use crate::asked::{OPTIONS, WORKERS, built, ordered};
 use crate::taken::Taken;
-use crate::waiting::waits_for;
 use plinq_enumerator::Growth;
 use plinq_lambda::Formula;
 use plinq_merge::{Cancel, CancelAfter, CancelFlag, Sink};
@@ -13,9 +12,8 @@ use plinq_source::{Ending, RangeSource};
 use std::alloc::Global;
 use std::process::Abort;
 use std::sync::Wait;
-use std::sync::atomic::{AtomicU64, Ordering};
 use std::test::*;
-use std::thread::{Threads, join};
+use std::thread::Threads;
 
 /// How many numbers are asked for, from 1 on.
 const COUNT: u64 = 17;
@@ -233,69 +231,6 @@ fn a_flag_that_the_second_batch_sets_stops_the_third(rt: HostRuntime) -> Result<
         assert!(&rt; is_cancelled(&told));
         assert_eq!(&rt; sink.taken, 2);
         assert_eq!(&rt; sink.last, 2);
-    }
-    Ok(())
-}
-
-/// A sink that tells other threads how many batches it has taken.
-#[derive(Drop)]
-struct Tells<'a> {
-    taken: &'a AtomicU64,
-}
-
-impl<'a> Sink for Tells<'a> {
-    type Item = i64;
-
-    ghost accepts = { λ _ _ _. ⊤ };
-
-    ghost refuses = { λ _ _ _ _. ⊤ };
-
-    fn batch(&mut self, _: &[i64]) -> Result<(), u32> {
-        self.taken.fetch_add(1, Ordering::SeqCst);
-        Ok(())
-    }
-}
-
-/// How many numbers a run is asked for that another thread stops.
-const MANY: u64 = 4_000_000_000;
-
-/// Whether a run of many numbers is stopped by another thread, which sets the flag once some were delivered.
-fn is_stopped_by_another<R: Threads + Wait + Sync>(
-    rt: &R,
-    alloc: Global,
-    workers: u64,
-) -> Result<bool, Fail> {
-    let query: Query<Formula> = ordered(alloc, MergeOption::NotBuffered, workers)?;
-    let source = RangeSource::new(1, MANY)?;
-    let flag = CancelFlag::new();
-    let taken = AtomicU64::new(0);
-    let running = || {
-        let mut token = flag.token();
-        let mut sink = Tells { taken: &taken };
-        run_with(
-            rt,
-            alloc,
-            &query,
-            source,
-            Growth::DEFAULT,
-            &OpenGate,
-            &mut token,
-            &mut sink,
-        )
-    };
-    let stopping = || {
-        let has_begun = waits_for(&taken, 1_000);
-        flag.cancel();
-        has_begun
-    };
-    let (told, has_begun) = join(rt, running, stopping);
-    Ok(is_cancelled(&told) && has_begun && taken.load(Ordering::SeqCst) < MANY)
-}
-
-#[test]
-fn another_thread_stops_a_run_in_the_middle(rt: HostRuntime) -> Result<(), Fail> {
-    for workers in WORKERS {
-        assert!(&rt; is_stopped_by_another(&rt, rt.alloc(), workers)?);
     }
     Ok(())
 }
