@@ -59,10 +59,6 @@ some-answer ordered ops option t s s' (Err Tickets) h = record { answer = h.answ
 some-answer ordered ops option t s s' (Err Thread) h = record { answer = h.answer; may = h.may; runs = h.broken }
 some-answer ordered ops option t s s' (Err Incomplete) h = record { answer = h.answer; may = h.may; runs = h.broken }
 
--- another cause than the sink
-pub not-refused : (fault : RunFault) → cause_of fault ≡ Other → (code : ℕ) → cause_of fault ≢ SinkRefused code
-not-refused fault is code bad = let same : Other ≡ SinkRefused code = sym is ∙ bad in cc
-
 -- ---- what the sink took is written, and the writer comes back as it is
 
 module _ (q : QueryView Formula) (t : Trace ℤ) (a b : Bytes) (s s' : Lines) (start : s.bytes ≡ a) (keeps : Keeps s'.bytes b) where

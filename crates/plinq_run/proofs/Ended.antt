@@ -236,8 +236,3 @@ decided-reports meaning accepts refuses option ordered ops t s r some ends =
       accounts = subst (λ v. MayAnswer meaning ordered ops first v) (decided-accounts meaning ops first t some) (may-sequential meaning ordered ops first);
       has_run = subst (λ e. HasRun accepts option (answer_of meaning ops t) s s e) (sym ends) (decided-run meaning accepts option ops t s some);
     }
-
--- a weaker fact of an answer
-pub ok-weaker : {X F : Type 0} (P Q : X → Type 0) → ((x : X) → P x → Q x) → (r : Result X F) → IfOk r P → IfOk r Q
-ok-weaker P Q f (Ok x) h = f x h
-ok-weaker P Q f (Err e) h = tt

@@ -66,7 +66,3 @@ covers-handed t reach h legal all =
   where
     end-told : {b told : Bool} → b ≡ true → (not b || told) ≡ true → told ≡ true
     end-told {b} {told} is some = cc
-
--- the source was closed
-pub closed-handed : (reach : Reach) (h : List Record) → accounts_for reach h ≡ true → has_close h ≡ true
-closed-handed reach h all = (and_parts _ (has_close h) all).1
