@@ -1,3 +1,4 @@
+mod After
 mod Arrived
 mod Batches
 mod Covered

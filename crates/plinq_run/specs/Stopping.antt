@@ -1,8 +1,9 @@
 -- What a run with a token delivers and reports.
-use Rattle.std.specs.Prelude.{ℕ, List, Bool, true, false, Result, Ok, Err}
+use Rattle.std.specs.Prelude.{⊤, ℕ, ◌<◌, ◌≤◌, List, length, take, Bool, true, false, Result, Ok, Err}
 use Rattle.plinq_source.specs.Trace.{Trace}
 use Rattle.plinq_ops.specs.declared.merge_option.MergeOption.{MergeOption}
 use Rattle.plinq_ops.specs.Batches.{batches}
+use Rattle.plinq_merge.specs.Sending.{Leads}
 use Rattle.plinq_merge.specs.Cancelling.{Delivery, Passes, IsRefused, IsAsked, IsStopped}
 use Rattle.plinq_run.specs.declared.report.Report.{Report}
 use Rattle.plinq_run.specs.declared.run_fault.RunFault.{RunFault}
@@ -45,3 +46,10 @@ module _ {C K T : Type 0} (asks : C → ℕ → Bool → C → Type 0) (accepts 
   RunsWith u d d' (Ok report) = (last : Delivery C K) × (HasRun (Passes asks accepts) option u d last report.ending) × IsAsked asks false last d'
   RunsWith u d d' (Err Cancelled) = IsStopped asks accepts d (batches option u) d'
   RunsWith u d d' (Err fault) = HasBroken (Passes asks accepts) (IsRefused asks refuses) option u d d' fault
+
+module _ {K T : Type 0} (accepts : K → List T → K → Type 0) (n : ℕ) (bs : List (List T)) (s s' : K) where
+  -- a run that stops after n of an answer's batches: it reports an ending where there are fewer, and is cancelled once n were delivered
+  abbrev pub StopsAfter : Result Report RunFault → Type 0
+  StopsAfter (Ok report) = (length bs < n) × Leads accepts s bs s'
+  StopsAfter (Err Cancelled) = (n ≤ length bs) × Leads accepts s (take n bs) s'
+  StopsAfter (Err fault) = ⊤

@@ -1,0 +1,86 @@
+-- A token that counts batches lets just so many pass.
+use Rattle.std.specs.Prelude.{◌≡◌, ℕ, ◌+◌, ◌<◌, ◌≤◌, List, [], ◌∷◌, ◌++◌, length, take, true, false, nat_le, Result, Ok, Err}
+use Rattle.std.proofs.Common.{sym, ◌∙◌, ap, subst, arith}
+use Rattle.std.proofs.Math.Seq.{take-append_seam}
+use Rattle.std.proofs.lemmas.Bool.Decides.{nat_tests}
+use Rattle.std.proofs.lemmas.List.{length-append}
+use Rattle.plinq_source.specs.Trace.{Trace}
+use Rattle.plinq_ops.specs.declared.merge_option.MergeOption.{MergeOption}
+use Rattle.plinq_ops.specs.Batches.{batches}
+use Rattle.plinq_merge.specs.declared.cancel_after.CancelAfter.{CancelAfter}
+use Rattle.plinq_merge.specs.Cancelling.{Delivery, Passes, IsStopped}
+use Rattle.plinq_merge.specs.Sending.{Leads}
+use Rattle.plinq_merge.specs.Tokens.{AsksAfter, most_of}
+use Rattle.plinq_merge.proofs.Maps.{leads-map}
+use Rattle.plinq_run.specs.declared.report.Report.{Report}
+use Rattle.plinq_run.specs.declared.run_fault.RunFault.{RunFault}
+use Rattle.plinq_run.specs.declared.run_fault.RunFault.TheVariants.{Memory, Sink, Tickets, Thread, Incomplete, Cancelled}
+use Rattle.plinq_run.specs.Stopping.{RunsWith, StopsAfter}
+
+module _ {K T : Type 0} (accepts : K → List T → K → Type 0) where
+  -- where some batches passed, each counts, and the last of them was within the number
+  record HavePassed (d : Delivery CancelAfter K) (n : ℕ) (d' : Delivery CancelAfter K) : Type 0 where
+    counts : d'.delivered ≡ d.delivered + n
+    within : d'.delivered ≤ most_of d.token
+    most : most_of d'.token ≡ most_of d.token
+
+  have-passed : (d : Delivery CancelAfter K) (bs : List (List T)) (d' : Delivery CancelAfter K) → most_of d.token ≤ 18446744073709551615 → d.delivered ≤ most_of d.token
+      → Leads (Passes AsksAfter accepts) d bs d' → HavePassed d (length bs) d'
+  have-passed d [] d' small within leads =
+      let same : d' ≡ d = leads in
+      record { counts = omega (arith, ap (λ x. x.delivered) same); within = omega (arith, within, ap (λ x. x.delivered) same); most = ap (λ x. most_of x.token) same }
+  have-passed d (b ∷ bs) d' small within leads =
+      let m = leads.0 in
+      let step = leads.1 in
+      let asked = step.asked in
+      let before : nat_le (most_of d.token) d.delivered ≡ false = sym asked.is in
+      let under : d.delivered < most_of d.token = grind (arith, nat_tests) in
+      let counts : m.delivered ≡ d.delivered + 1 = omega (arith, step.counts, under, small) in
+      let most : most_of m.token ≡ most_of d.token = asked.most in
+      let on = have-passed m bs d' (omega (arith, small, most)) (omega (arith, counts, under, most)) leads.2 in
+      record { counts = omega (arith, on.counts, counts); within = omega (arith, on.within, most); most = on.most ∙ most }
+
+  taken-alone : (d : Delivery CancelAfter K) (b : List T) (d' : Delivery CancelAfter K) → Passes AsksAfter accepts d b d' → accepts d.sink b d'.sink
+  taken-alone d b d' passes = passes.taken
+
+  pub sinks : (d : Delivery CancelAfter K) (bs : List (List T)) (d' : Delivery CancelAfter K) → Leads (Passes AsksAfter accepts) d bs d' → Leads accepts d.sink bs d'.sink
+  sinks = leads-map (λ (x : Delivery CancelAfter K). x.sink) (Passes AsksAfter accepts) accepts taken-alone
+
+  -- where the token stops a delivery from its beginning on, the number was delivered
+  pub stopped-number : (d : Delivery CancelAfter K) (bs : List (List T)) (d' : Delivery CancelAfter K) → d.delivered ≡ 0 → most_of d.token ≤ 18446744073709551615
+      → (h : IsStopped AsksAfter accepts d bs d') → length h.sent ≡ most_of d.token
+  stopped-number d bs d' start small h =
+      let last = h.last in
+      let stops = h.stops in
+      let on = have-passed d h.sent last small (omega (arith, start)) h.leads in
+      let asked = stops.asked in
+      let over : nat_le (most_of last.token) last.delivered ≡ true = sym asked.is in
+      let reached : most_of last.token ≤ last.delivered = grind (arith, nat_tests) in
+      omega (arith, on.counts, on.within, on.most, reached, start)
+
+  module _ (refuses : K → List T → ℕ → K → Type 0) (option : MergeOption) (u : Trace T) (d d' : Delivery CancelAfter K) (start : d.delivered ≡ 0) (small : most_of d.token ≤ 18446744073709551615) where
+    pub stops-after : (r : Result Report RunFault) → RunsWith AsksAfter accepts refuses option u d d' r → StopsAfter accepts (most_of d.token) (batches option u) d.sink d'.sink r
+    stops-after (Ok report) h =
+        let last = h.0 in
+        let run = h.1 in
+        let lets = h.2 in
+        let on = have-passed d (batches option u) last small (omega (arith, start)) run.delivered in
+        let asked = lets.asked in
+        let open_ : nat_le (most_of last.token) last.delivered ≡ false = sym asked.is in
+        let under : last.delivered < most_of last.token = grind (arith, nat_tests) in
+        (omega (arith, on.counts, on.most, under, start), subst (λ s. Leads accepts d.sink (batches option u) s) (sym lets.sink) (sinks d (batches option u) last run.delivered))
+    stops-after (Err Cancelled) h =
+        let last = h.last in
+        let stops = h.stops in
+        let number = stopped-number d (batches option u) d' start small h in
+        let first : take (most_of d.token) (batches option u) ≡ h.sent =
+            ap (take (most_of d.token)) h.parts ∙ ap (λ n. take n (h.sent ++ h.rest)) (sym number) ∙ take-append_seam h.sent h.rest in
+        let size : length (batches option u) ≡ length h.sent + length h.rest = ap length h.parts ∙ length-append h.sent h.rest in
+        (omega (arith, size, number),
+        subst (λ s. Leads accepts d.sink (take (most_of d.token) (batches option u)) s) (sym stops.sink)
+            (subst (λ l. Leads accepts d.sink l last.sink) (sym first) (sinks d h.sent last h.leads)))
+    stops-after (Err (Sink code)) h = tt
+    stops-after (Err Memory) h = tt
+    stops-after (Err Tickets) h = tt
+    stops-after (Err Thread) h = tt
+    stops-after (Err Incomplete) h = tt
