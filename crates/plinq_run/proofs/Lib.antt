@@ -1,4 +1,4 @@
-mod After
+pub mod After
 mod Arrived
 mod Batches
 mod Covered
