@@ -1,5 +1,5 @@
 -- What a run by threads tells, and has written: the lines of the batches of an answer, or where it broke off those of the first.
-use Rattle.std.proofs.Common.{◌≡◌, ◌≢◌, Bool, ℕ, ℤ, List, ◌++◌, None, Result, Ok, Err, refl, ap, sym, ◌∙◌, subst}
+use Rattle.std.proofs.Common.{◌≡◌, ◌≢◌, Bool, ℕ, ◌<◌, ℤ, List, ◌++◌, length, Option, Some, None, IfSome, Result, Ok, Err, refl, ap, sym, ◌∙◌, subst}
 use Rattle.std.specs.List.{flat_map}
 use Rattle.std.specs.Result.{IsErr}
 use Rattle.std.specs.Io.KnownBytes.{Appends, Keeps}
@@ -20,7 +20,7 @@ use Rattle.plinq_run.specs.declared.report.Report.{Report}
 use Rattle.plinq_run.specs.declared.run_fault.RunFault.{RunFault}
 use Rattle.plinq_run.specs.declared.run_fault.RunFault.TheVariants.{Memory as RunMemory, Sink, Tickets, Thread, Incomplete, Cancelled}
 use Rattle.plinq_run.specs.Endings.{reported}
-use Rattle.plinq_run.specs.Runs.{Runs, Other, SinkRefused, cause_of}
+use Rattle.plinq_run.specs.Runs.{Runs, SinkRefused, cause_of}
 use Rattle.plinq_document.specs.Jobs.{JobView}
 use Rattle.plinq_lines.specs.LineSink.{Lines, TakesLine, RefusesLine}
 use Rattle.plinq_lines.specs.Text.{line, batch_line, ending_words, ending_line, answer_text}
@@ -31,63 +31,65 @@ use Rattle.plinq_cli.specs.declared.command.Command.TheVariants.{Run}
 use Rattle.plinq_cli.specs.declared.serve_fault.ServeFault.{ServeFault}
 use Rattle.plinq_cli.specs.declared.serve_fault.ServeFault.TheVariants.{Memory, Write, Run as NoRun, Take}
 use Rattle.plinq_cli.specs.ServeFaults.{MayFail, serve_fault_of_run}
-use Rattle.plinq_cli.specs.Served.{batch_lines, Delivers, HasDelivered, HasFailed, HasBrokenOff, HasWritten, IsText, LeavesLines, LeavesWholeLines, Serves}
+use Rattle.plinq_cli.specs.Served.{batch_lines, CountsIf, Delivers, EndsInTime, HasDelivered, HasFailed, HasBrokenOff, HasWritten, IsText, LeavesLines, LeavesWholeLines, Serves}
 use Rattle.plinq_cli.specs.Stopped.{Leaves}
 use Rattle.plinq_cli.specs.Told.{told_text}
 use Rattle.plinq_cli.proofs.Answered.{serves-begun}
 
 -- ---- which answer it is
 
--- a run to a sink of lines ended so or broke off, or it was cancelled after the first batches
-abbrev RunsOrStops : MergeOption → Trace ℤ → Lines → Lines → Result Ending RunFault → Type 0
-RunsOrStops option u s s' (Err Cancelled) = (sent : List (List ℤ)) × (rest : List (List ℤ)) × (batches option u ≡ sent ++ rest) × Leads TakesLine s sent s'
-RunsOrStops option u s s' r = Runs TakesLine RefusesLine option u s s' r
+-- a run to a sink of lines ended so with fewer batches or broke off, or it was cancelled after so many
+abbrev RunsOrStops : MergeOption → Option ℕ → Trace ℤ → Lines → Lines → Result Ending RunFault → Type 0
+RunsOrStops option most u s s' (Err Cancelled) = (sent : List (List ℤ)) × (rest : List (List ℤ)) × (batches option u ≡ sent ++ rest) × (most ≡ Some (length sent)) × Leads TakesLine s sent s'
+RunsOrStops option most u s s' (Ok e) = Runs TakesLine RefusesLine option u s s' (Ok e) × IfSome most (λ n. length (batches option u) < n)
+RunsOrStops option most u s s' r = Runs TakesLine RefusesLine option u s s' r
 
 -- a run to a sink of lines, of some answer that threads may give
-pub record HasSome (ordered : Bool) (ops : List (Op Formula)) (option : MergeOption) (t : Trace ℤ) (s s' : Lines) (r : Result Ending RunFault) : Type 0 where
+pub record HasSome (ordered : Bool) (ops : List (Op Formula)) (option : MergeOption) (most : Option ℕ) (t : Trace ℤ) (s s' : Lines) (r : Result Ending RunFault) : Type 0 where
   pub answer : Trace ℤ
   pub may : MayAnswer formula_meaning ordered ops t answer
-  pub runs : RunsOrStops option answer s s' r
+  pub runs : RunsOrStops option most answer s s' r
 
-pub some-answer : (ordered : Bool) (ops : List (Op Formula)) (option : MergeOption) (t : Trace ℤ) (s s' : Lines) (r : Result Report RunFault)
-    → Leaves TakesLine RefusesLine option (MayAnswer formula_meaning ordered ops) t s s' r → HasSome ordered ops option t s s' (reported r)
-some-answer ordered ops option t s s' (Ok report) h = record { answer = h.answer; may = h.may; runs = h.has_run }
-some-answer ordered ops option t s s' (Err Cancelled) h = record { answer = h.answer; may = h.may; runs = (h.sent, h.rest, h.first, h.leads) }
-some-answer ordered ops option t s s' (Err (Sink code)) h = record { answer = h.answer; may = h.may; runs = h.broken }
-some-answer ordered ops option t s s' (Err RunMemory) h = record { answer = h.answer; may = h.may; runs = h.broken }
-some-answer ordered ops option t s s' (Err Tickets) h = record { answer = h.answer; may = h.may; runs = h.broken }
-some-answer ordered ops option t s s' (Err Thread) h = record { answer = h.answer; may = h.may; runs = h.broken }
-some-answer ordered ops option t s s' (Err Incomplete) h = record { answer = h.answer; may = h.may; runs = h.broken }
+pub some-answer : (ordered : Bool) (ops : List (Op Formula)) (option : MergeOption) (most : Option ℕ) (t : Trace ℤ) (s s' : Lines) (r : Result Report RunFault)
+    → Leaves TakesLine RefusesLine option (MayAnswer formula_meaning ordered ops) t most s s' r → HasSome ordered ops option most t s s' (reported r)
+some-answer ordered ops option most t s s' (Ok report) (h, fewer) = record { answer = h.answer; may = h.may; runs = (h.has_run, fewer) }
+some-answer ordered ops option most t s s' (Err Cancelled) h = record { answer = h.answer; may = h.may; runs = (h.sent, h.rest, h.first, h.number, h.leads) }
+some-answer ordered ops option most t s s' (Err (Sink code)) h = record { answer = h.answer; may = h.may; runs = h.broken }
+some-answer ordered ops option most t s s' (Err RunMemory) h = record { answer = h.answer; may = h.may; runs = h.broken }
+some-answer ordered ops option most t s s' (Err Tickets) h = record { answer = h.answer; may = h.may; runs = h.broken }
+some-answer ordered ops option most t s s' (Err Thread) h = record { answer = h.answer; may = h.may; runs = h.broken }
+some-answer ordered ops option most t s s' (Err Incomplete) h = record { answer = h.answer; may = h.may; runs = h.broken }
 
 -- ---- what the sink took is written, and the writer comes back as it is
 
-module _ (q : QueryView Formula) (t : Trace ℤ) (a b : Bytes) (s s' : Lines) (start : s.bytes ≡ a) (keeps : Keeps s'.bytes b) where
+module _ (q : QueryView Formula) (t : Trace ℤ) (most : Option ℕ) (a b : Bytes) (s s' : Lines) (start : s.bytes ≡ a) (keeps : Keeps s'.bytes b) where
   appended : (bytes : List ℕ) → Appends s.bytes s'.bytes bytes → Appends a b bytes
   appended bytes h = let P : Bytes → Type 0 = λ x. Appends x b bytes in subst P start (Appends-kept s.bytes s'.bytes b bytes h keeps)
 
-  pub ran-delivered : (e : Ending) → HasSome q.ordered q.ops (merge_in_force q.merge) t s s' (Ok e) → HasDelivered q t a b e × (s'.writer ≡ s.writer)
+  pub ran-delivered : (e : Ending) → HasSome q.ordered q.ops (merge_in_force q.merge) most t s s' (Ok e) → HasDelivered q t a b most e × (s'.writer ≡ s.writer)
   ran-delivered e h =
-      let taken = taken-lines s s' _ h.runs.delivered in (
-        record { answer = h.answer; may = h.may; lines = appended _ taken.0; ending = h.runs.ending },
+      let run = h.runs.0 in
+      let taken = taken-lines s s' _ run.delivered in (
+        record { answer = h.answer; may = h.may; fewer = h.runs.1; lines = appended _ taken.0; ending = run.ending },
         taken.1,
       )
 
   -- none was refused
-  stopped : (fault : RunFault) → ((code : ℕ) → cause_of fault ≢ SinkRefused code) → (h : HasSome q.ordered q.ops (merge_in_force q.merge) t s s' (Err fault))
-      → (sent : List (List ℤ)) × (rest : List (List ℤ)) × (batches (merge_in_force q.merge) h.answer ≡ sent ++ rest) × Leads TakesLine s sent s'
-      → (((code : ℕ) → cause_of fault ≢ SinkRefused code) × HasBrokenOff q t a b) × (s'.writer ≡ s.writer)
-  stopped fault none h (sent, rest, first, leads) =
+  stopped : (fault : RunFault) → ((code : ℕ) → cause_of fault ≢ SinkRefused code) → (h : HasSome q.ordered q.ops (merge_in_force q.merge) most t s s' (Err fault))
+      → (sent : List (List ℤ)) × (rest : List (List ℤ)) × (batches (merge_in_force q.merge) h.answer ≡ sent ++ rest) × CountsIf fault most (length sent) × Leads TakesLine s sent s'
+      → (((code : ℕ) → cause_of fault ≢ SinkRefused code) × HasBrokenOff q t a b most fault) × (s'.writer ≡ s.writer)
+  stopped fault none h (sent, rest, first, number, leads) =
       let taken = taken-lines s s' sent leads in (
-        (none, record { answer = h.answer; may = h.may; sent = sent; rest = rest; first = first; lines = appended _ taken.0 }),
+        (none, record { answer = h.answer; may = h.may; sent = sent; rest = rest; first = first; number = number; lines = appended _ taken.0 }),
         taken.1,
       )
 
-  broken : (fault : RunFault) → HasSome q.ordered q.ops (merge_in_force q.merge) t s s' (Err fault)
-      → Delivers q t a b (Err (serve_fault_of_run fault)) × (s'.writer ≡ s.writer)
-  broken RunMemory h = stopped RunMemory (λ code bad. cc) h h.runs
-  broken Tickets h = stopped Tickets (λ code bad. cc) h h.runs
-  broken Thread h = stopped Thread (λ code bad. cc) h h.runs
-  broken Incomplete h = stopped Incomplete (λ code bad. cc) h h.runs
+  broken : (fault : RunFault) → HasSome q.ordered q.ops (merge_in_force q.merge) most t s s' (Err fault)
+      → Delivers q t a b most (Err (serve_fault_of_run fault)) × (s'.writer ≡ s.writer)
+  broken RunMemory h = stopped RunMemory (λ code bad. cc) h (h.runs.0, h.runs.1, h.runs.2, tt, h.runs.3)
+  broken Tickets h = stopped Tickets (λ code bad. cc) h (h.runs.0, h.runs.1, h.runs.2, tt, h.runs.3)
+  broken Thread h = stopped Thread (λ code bad. cc) h (h.runs.0, h.runs.1, h.runs.2, tt, h.runs.3)
+  broken Incomplete h = stopped Incomplete (λ code bad. cc) h (h.runs.0, h.runs.1, h.runs.2, tt, h.runs.3)
   broken Cancelled h = stopped Cancelled (λ code bad. cc) h h.runs
   broken (Sink code) h =
       let short = short-lines s s' _ (Refusal code) h.runs in (
@@ -96,27 +98,27 @@ module _ (q : QueryView Formula) (t : Trace ℤ) (a b : Bytes) (s s' : Lines) (s
       )
 
   pub broke-off : (fault : RunFault) (e : ServeFault) → e ≡ serve_fault_of_run fault
-      → HasSome q.ordered q.ops (merge_in_force q.merge) t s s' (Err fault) → Delivers q t a b (Err e) × (s'.writer ≡ s.writer)
-  broke-off fault e is h = let both = broken fault h in (subst (λ x. Delivers q t a b (Err x)) (sym is) both.0, both.1)
+      → HasSome q.ordered q.ops (merge_in_force q.merge) most t s s' (Err fault) → Delivers q t a b most (Err e) × (s'.writer ≡ s.writer)
+  broke-off fault e is h = let both = broken fault h in (subst (λ x. Delivers q t a b most (Err x)) (sym is) both.0, both.1)
 
 -- ---- the line of the ending behind them
 
 module _ (q : QueryView Formula) (t : Trace ℤ) (a b : Bytes) where
   -- a flush that failed behind the last batch
-  pub unflushed : (e : Ending) → HasDelivered q t a b e → HasFailed q t a b
-  unflushed e h = record { answer = h.answer; may = h.may; begun = begins-all a b _ h.lines }
+  pub unflushed : (most : Option ℕ) (e : Ending) → HasDelivered q t a b most e → HasFailed q t a b
+  unflushed most e h = record { answer = h.answer; may = h.may; begun = begins-all a b _ h.lines }
 
   -- where a run failed, a beginning of the lines of its batches is written
-  first-begun : HasBrokenOff q t a b → HasFailed q t a b
-  first-begun h =
+  first-begun : (most : Option ℕ) (fault : RunFault) → HasBrokenOff q t a b most fault → HasFailed q t a b
+  first-begun most fault h =
       let begun = begins-append a b _ (flat_map batch_line h.rest) (begins-all a b _ h.lines) in
       record { answer = h.answer; may = h.may; begun = begins-as a b _ _ (sym (flat_map-append batch_line h.sent h.rest) ∙ ap (flat_map batch_line) (sym h.first)) begun }
 
-  failed-begun : (fault : ServeFault) → Delivers q t a b (Err fault) → HasFailed q t a b
-  failed-begun (NoRun fault) h = first-begun h.1
-  failed-begun Memory h = absurd h
-  failed-begun Write h = h
-  failed-begun (Take fault) h = absurd h
+  failed-begun : (most : Option ℕ) (fault : ServeFault) → Delivers q t a b most (Err fault) → HasFailed q t a b
+  failed-begun most (NoRun fault) h = first-begun most fault h.1
+  failed-begun most Memory h = absurd h
+  failed-begun most Write h = h
+  failed-begun most (Take fault) h = absurd h
 
 abbrev text : QueryView Formula → Trace ℤ → List ℕ
 text q u = answer_text (merge_in_force q.merge) u
@@ -127,43 +129,53 @@ is-text j job u same items = ap (λ kind. told_text kind (merge_in_force j.query
 
 -- where the run fails, a beginning of its lines is written
 pub run-failed : (j job : JobView) (a b : Bytes) (r : Result Ending ServeFault) (fault : ServeFault) → j ≡ job → job.aggregate ≡ None → IsErr r
-    → Delivers j.query j.source a b (Err fault) → Serves Run job a b r
+    → Delivers j.query j.source a b j.cancel_after (Err fault) → Serves Run job a b r
 run-failed j job a b r fault same items failed d =
-    let h = failed-begun j.query j.source a b fault d in
+    let h = failed-begun j.query j.source a b j.cancel_after fault d in
     subst (λ (x : JobView). Serves Run x a b r) same
     (serves-begun Run j a b r h.answer (text j.query h.answer) failed h.may (is-text j job h.answer same items) (begins-append a b _ (ending_line h.answer.ending) h.begun))
 
 -- unless a write failed, these are whole lines
-whole-lines : (job : JobView) (a b : Bytes) (fault : ServeFault) → job.aggregate ≡ None → Delivers job.query job.source a b (Err fault) → LeavesWholeLines job a b (Err fault)
-whole-lines job a b (NoRun fault) items h = subst (λ kind. LeavesLines kind job.query job.source a b) (sym items) h.1
+whole-lines : (job : JobView) (a b : Bytes) (fault : ServeFault) → job.aggregate ≡ None → Delivers job.query job.source a b job.cancel_after (Err fault) → LeavesWholeLines job a b (Err fault)
+whole-lines job a b (NoRun fault) items h = subst (λ kind. LeavesLines kind job.query job.source job.cancel_after fault a b) (sym items) h.1
 whole-lines job a b Memory items h = tt
 whole-lines job a b Write items h = tt
 whole-lines job a b (Take fault) items h = tt
 
 -- only a run that broke off, and a failing write, are told
-pub run-failed-so : (q : QueryView Formula) (t : Trace ℤ) (a b : Bytes) (fault : ServeFault) → Delivers q t a b (Err fault) → MayFail Run fault
-run-failed-so q t a b (NoRun fault) h = (refl, h.0)
-run-failed-so q t a b Memory h = absurd h
-run-failed-so q t a b Write h = tt
-run-failed-so q t a b (Take fault) h = absurd h
+pub run-failed-so : (q : QueryView Formula) (t : Trace ℤ) (a b : Bytes) (most : Option ℕ) (fault : ServeFault) → Delivers q t a b most (Err fault) → MayFail Run fault
+run-failed-so q t a b most (NoRun fault) h = (refl, h.0)
+run-failed-so q t a b most Memory h = absurd h
+run-failed-so q t a b most Write h = tt
+run-failed-so q t a b most (Take fault) h = absurd h
 
 pub run-failed-whole : (j job : JobView) (a b : Bytes) (r : Result Ending ServeFault) (fault : ServeFault) → j ≡ job → job.aggregate ≡ None → r ≡ Err fault
-    → Delivers j.query j.source a b (Err fault) → LeavesWholeLines job a b r
+    → Delivers j.query j.source a b j.cancel_after (Err fault) → LeavesWholeLines job a b r
 run-failed-whole j job a b r fault same items failed d =
-    let Q : JobView → Type 0 = λ x. Delivers x.query x.source a b (Err fault) in
+    let Q : JobView → Type 0 = λ x. Delivers x.query x.source a b x.cancel_after (Err fault) in
     subst (LeavesWholeLines job a b) (sym failed) (whole-lines job a b fault items (subst Q same d))
 
 -- where the line of the ending fails, all lines of batches and a beginning of that one are written
 pub ending-failed : (j job : JobView) (a m b : Bytes) (r : Result Ending ServeFault) (e : Ending) → j ≡ job → job.aggregate ≡ None → IsErr r
-    → Delivers j.query j.source a m (Ok e) → AppendsBeginning m b (line (ending_words e)) → Serves Run job a b r
+    → Delivers j.query j.source a m j.cancel_after (Ok e) → AppendsBeginning m b (line (ending_words e)) → Serves Run job a b r
 ending-failed j job a m b r e same items failed h begun =
     let end = ap (λ x. batch_lines j.query.merge h.answer ++ ending_line x) (sym h.ending) in
     subst (λ (x : JobView). Serves Run x a b r) same
     (serves-begun Run j a b r h.answer (text j.query h.answer) failed h.may (is-text j job h.answer same items) (begins-as a b _ _ end (begins-after a m b _ _ h.lines begun)))
 
 pub ending-written : (j job : JobView) (a m b : Bytes) (e : Ending) → j ≡ job → job.aggregate ≡ None
-    → Delivers j.query j.source a m (Ok e) → Appends m b (line (ending_words e)) → HasWritten Run job a b e
+    → Delivers j.query j.source a m j.cancel_after (Ok e) → Appends m b (line (ending_words e)) → HasWritten Run job a b e
 ending-written j job a m b e same items h written =
     let end = ap (λ x. batch_lines j.query.merge h.answer ++ ending_line x) (sym h.ending) in
     subst (λ (x : JobView). HasWritten Run x a b e) same
     (h.answer, h.may, text j.query h.answer, is-text j job h.answer same items, appends-as a b _ _ end (Appends-trans a m b _ _ h.lines written), h.ending)
+
+-- so the run wasn't to be cancelled before
+pub ending-in_time : (j job : JobView) (a m b : Bytes) (e : Ending) → j ≡ job → job.aggregate ≡ None
+    → Delivers j.query j.source a m j.cancel_after (Ok e) → Appends m b (line (ending_words e)) → LeavesWholeLines job a b (Ok e)
+ending-in_time j job a m b e same items h written =
+    let end = ap (λ x. batch_lines j.query.merge h.answer ++ ending_line x) (sym h.ending) in
+    let none : j.aggregate ≡ None = ap (λ (x : JobView). x.aggregate) same ∙ items in
+    subst (λ (x : JobView). LeavesWholeLines x a b (Ok e)) same
+    (subst (λ kind. EndsInTime kind j.query j.source j.cancel_after a b) (sym none)
+    (h.answer, h.may, h.fewer, appends-as a b _ _ end (Appends-trans a m b _ _ h.lines written)))

@@ -1,5 +1,5 @@
 -- What each command answers, and the text that it prints.
-use Rattle.std.specs.Prelude.{◌≡◌, ◌≢◌, ◌⊎◌, ⊤, ℕ, ℤ, pos, List, [], ◌∷◌, ◌++◌, true, false, Option, Some, None, Result, Ok, Err, MatchResult, codes, refl}
+use Rattle.std.specs.Prelude.{◌≡◌, ◌≢◌, ◌<◌, ◌⊎◌, ⊤, ℕ, ℤ, pos, List, [], ◌∷◌, ◌++◌, length, true, false, Option, Some, None, IfSome, Result, Ok, Err, MatchResult, codes, refl}
 use Rattle.std.proofs.Common.{arith}
 use Rattle.std.specs.Fmt.{digits}
 use Rattle.std.specs.List.{flat_map}
@@ -18,12 +18,14 @@ use Rattle.plinq_ops.specs.Query.{QueryView, merge_in_force, degree_in_force}
 use Rattle.plinq_ops.specs.Answer.{MayAnswer}
 use Rattle.plinq_ops.specs.Sequential.{answer_of}
 use Rattle.plinq_keyed.specs.declared.record.Record.{Record}
+use Rattle.plinq_run.specs.declared.run_fault.RunFault.{RunFault}
+use Rattle.plinq_run.specs.declared.run_fault.RunFault.TheVariants.{Cancelled}
 use Rattle.plinq_run.specs.Runs.{SinkRefused, cause_of}
 use Rattle.plinq_document.specs.declared.kind.Kind.{Kind}
 use Rattle.plinq_document.specs.Jobs.{JobView}
 use Rattle.plinq_cli.specs.declared.command.Command.{Command}
 use Rattle.plinq_cli.specs.declared.command.Command.TheVariants.{Run, Seq, Plan, Parts, History}
-use Rattle.plinq_lines.specs.Text.{batch_line}
+use Rattle.plinq_lines.specs.Text.{batch_line, answer_text}
 use Rattle.plinq_lines.specs.PlanText.{plan_text}
 use Rattle.plinq_lines.specs.PartsText.{parts_text}
 use Rattle.plinq_lines.specs.HistoryText.{history_text}
@@ -73,11 +75,17 @@ Serves command job old new r = MatchResult r (HasWritten command job old new) (�
 
 -- ---- a run that broke off
 
+-- where a run was cancelled, this is the number of batches to cancel it after
+abbrev pub CountsIf : RunFault → Option ℕ → ℕ → Type 0
+CountsIf Cancelled most n = most ≡ Some n
+CountsIf fault most n = ⊤
+
 module _ (q : QueryView Formula) (t : Trace ℤ) (old new : Option (List ℕ)) where
-  -- the lines of the batches of an answer were written, and this is how it ended
-  pub record HasDelivered (e : Ending) : Type 0 where
+  -- the lines of the batches of an answer were written, fewer than it was to be cancelled after, and this is how it ended
+  pub record HasDelivered (most : Option ℕ) (e : Ending) : Type 0 where
     pub answer : Trace ℤ
     pub may : MayAnswer formula_meaning q.ordered q.ops t answer
+    pub fewer : IfSome most (λ n. length (batches (merge_in_force q.merge) answer) < n)
     pub lines : Appends old new (batch_lines q.merge answer)
     pub ending : answer.ending ≡ Some e
 
@@ -87,32 +95,40 @@ module _ (q : QueryView Formula) (t : Trace ℤ) (old new : Option (List ℕ)) w
     pub may : MayAnswer formula_meaning q.ordered q.ops t answer
     pub begun : AppendsBeginning old new (batch_lines q.merge answer)
 
-  -- the lines of the first batches of an answer were written, each whole, and nothing behind them
-  pub record HasBrokenOff : Type 0 where
+  -- the lines of the first batches of an answer were written, each whole, and nothing after them; of a cancelled run as many
+  -- as it was to be cancelled after
+  pub record HasBrokenOff (most : Option ℕ) (fault : RunFault) : Type 0 where
     pub answer : Trace ℤ
     pub may : MayAnswer formula_meaning q.ordered q.ops t answer
     pub sent : List (List ℤ)
     pub rest : List (List ℤ)
     pub first : batches (merge_in_force q.merge) answer ≡ sent ++ rest
+    pub number : CountsIf fault most (length sent)
     pub lines : Appends old new (flat_map batch_line sent)
 
   -- what was written of the batches of a run that ended so, or failed: in writing, or by a fault of its own
-  abbrev pub Delivers : Result Ending ServeFault → Type 0
-  Delivers (Ok e) = HasDelivered e
-  Delivers (Err (NoRun fault)) = ((code : ℕ) → cause_of fault ≢ SinkRefused code) × HasBrokenOff
-  Delivers (Err Memory) = ⊥
-  Delivers (Err Write) = HasFailed
-  Delivers (Err (Take fault)) = ⊥
+  abbrev pub Delivers : Option ℕ → Result Ending ServeFault → Type 0
+  Delivers most (Ok e) = HasDelivered most e
+  Delivers most (Err (NoRun fault)) = ((code : ℕ) → cause_of fault ≢ SinkRefused code) × HasBrokenOff most fault
+  Delivers most (Err Memory) = ⊥
+  Delivers most (Err Write) = HasFailed
+  Delivers most (Err (Take fault)) = ⊥
 
 -- what was written of a run that broke off: the lines of its first batches, and of an aggregate nothing
-abbrev pub LeavesLines : Option Kind → QueryView Formula → Trace ℤ → Option (List ℕ) → Option (List ℕ) → Type 0
-LeavesLines None q t old new = HasBrokenOff q t old new
-LeavesLines (Some kind) q t old new = Keeps old new
+abbrev pub LeavesLines : Option Kind → QueryView Formula → Trace ℤ → Option ℕ → RunFault → Option (List ℕ) → Option (List ℕ) → Type 0
+LeavesLines None q t most fault old new = HasBrokenOff q t old new most fault
+LeavesLines (Some kind) q t most fault old new = Keeps old new
 
--- where the run itself broke off, no line was left half written
+-- the lines of an answer were written, of fewer batches than a run was to be cancelled after; an aggregate isn't cancelled
+abbrev pub EndsInTime : Option Kind → QueryView Formula → Trace ℤ → Option ℕ → Option (List ℕ) → Option (List ℕ) → Type 0
+EndsInTime None q t most old new =
+    (u : Trace ℤ) × MayAnswer formula_meaning q.ordered q.ops t u × IfSome most (λ n. length (batches (merge_in_force q.merge) u) < n) × Appends old new (answer_text (merge_in_force q.merge) u)
+EndsInTime (Some kind) q t most old new = ⊤
+
+-- a run that wasn't cancelled ended in time; where it broke off, no line was left half written
 abbrev pub LeavesWholeLines : JobView → Option (List ℕ) → Option (List ℕ) → Result Ending ServeFault → Type 0
-LeavesWholeLines job old new (Ok e) = ⊤
-LeavesWholeLines job old new (Err (NoRun fault)) = LeavesLines job.aggregate job.query job.source old new
+LeavesWholeLines job old new (Ok e) = EndsInTime job.aggregate job.query job.source job.cancel_after old new
+LeavesWholeLines job old new (Err (NoRun fault)) = LeavesLines job.aggregate job.query job.source job.cancel_after fault old new
 LeavesWholeLines job old new (Err Memory) = ⊤
 LeavesWholeLines job old new (Err Write) = ⊤
 LeavesWholeLines job old new (Err (Take fault)) = ⊤

@@ -143,7 +143,7 @@ where
     R: AllocGlobal + Threads + Wait + Sync,
     W: Write,
     requires unasked { ⟦<AnySource as Source>⟧.given source ≡ 0 }
-    ensures { Delivers query.now (⟦<AnySource as Source>⟧.whole source) (W.contents writer.old) (W.contents writer.new) result }
+    ensures { Delivers query.now (⟦<AnySource as Source>⟧.whole source) (W.contents writer.old) (W.contents writer.new) cancel_after result }
 {
     let (ended, _writer) = run_lines(rt, query, source, growth, cancel_after, writer);
     ended
@@ -164,7 +164,7 @@ where
     R: AllocGlobal + Threads + Wait + Sync,
     W: Write,
     requires unasked { ⟦<AnySource as Source>⟧.given source ≡ 0 }
-    ensures delivers { Delivers query.now (⟦<AnySource as Source>⟧.whole source) (W.contents writer.old) (W.contents result.1.now) result.0 }
+    ensures delivers { Delivers query.now (⟦<AnySource as Source>⟧.whole source) (W.contents writer.old) (W.contents result.1.now) cancel_after result.0 }
     ensures same { result.1.ghost_name ≡ writer.entry.ghost_name }
 {
     let mut sink = LineSink::new(writer);
@@ -195,7 +195,7 @@ where
     R: AllocGlobal + Threads + Wait + Sync,
     K: Sink<Item = i64>,
     requires unasked { ⟦<AnySource as Source>⟧.given source ≡ 0 }
-    ensures { Leaves K.accepts K.refuses (merge_in_force query.now.merge) (MayAnswer formula_meaning query.now.ordered query.now.ops) (⟦<AnySource as Source>⟧.whole source) sink.old sink.new result }
+    ensures { Leaves K.accepts K.refuses (merge_in_force query.now.merge) (MayAnswer formula_meaning query.now.ordered query.now.ops) (⟦<AnySource as Source>⟧.whole source) cancel_after sink.old sink.new result }
 {
     let Some(most) = cancel_after else {
         return run(rt, rt.alloc(), query, source, growth, &OpenGate, sink);

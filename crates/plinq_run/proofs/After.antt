@@ -74,11 +74,12 @@ module _ {K T : Type 0} (accepts : K → List T → K → Type 0) where
         let stops = h.stops in
         let number = stopped-number d (batches option u) d' start small h in
         let first : take (most_of d.token) (batches option u) ≡ h.sent =
-            ap (take (most_of d.token)) h.parts ∙ ap (λ n. take n (h.sent ++ h.rest)) (sym number) ∙ take-append_seam h.sent h.rest in
-        let size : length (batches option u) ≡ length h.sent + length h.rest = ap length h.parts ∙ length-append h.sent h.rest in
-        (omega (arith, size, number),
-        subst (λ s. Leads accepts d.sink (take (most_of d.token) (batches option u)) s) (sym stops.sink)
-            (subst (λ l. Leads accepts d.sink l last.sink) (sym first) (sinks d h.sent last h.leads)))
+        ap (take (most_of d.token)) h.parts ∙ ap (λ n. take n (h.sent ++ h.rest)) (sym number) ∙ take-append_seam h.sent h.rest in
+        let size : length (batches option u) ≡ length h.sent + length h.rest = ap length h.parts ∙ length-append h.sent h.rest in (
+          omega (arith, size, number),
+          subst (λ s. Leads accepts d.sink (take (most_of d.token) (batches option u)) s) (sym stops.sink)
+              (subst (λ l. Leads accepts d.sink l last.sink) (sym first) (sinks d h.sent last h.leads)),
+        )
     stops-after (Err (Sink code)) h = tt
     stops-after (Err Memory) h = tt
     stops-after (Err Tickets) h = tt

@@ -4,7 +4,7 @@ use Rattle.std.proofs.lemmas.Result.{err_from_is_err_and}
 use Rattle.plinq_cli.specs.declared.command.Command.TheVariants.{Run}
 use Rattle.plinq_cli.specs.ServeFaults.{MayFail}
 use Rattle.plinq_cli.specs.Served.{LeavesWholeLines}
-use Rattle.plinq_cli.proofs.Delivered.{run-failed, run-failed-so, run-failed-whole, ending-failed, ending-written}
+use Rattle.plinq_cli.proofs.Delivered.{run-failed, run-failed-so, run-failed-whole, ending-failed, ending-written, ending-in_time}
 use Rattle.plinq_cli.proofs.serving.serve_batches.Goals as goal
 
 pub returns-in_err-ending-clause-written : goal.returns-in_err-ending-clause-written
@@ -19,7 +19,7 @@ returns-in_err-ending-clause-whole g c =
 pub returns-in_err-ending-clause-faults : goal.returns-in_err-ending-clause-faults
 returns-in_err-ending-clause-faults g c =
     let p = err_from_is_err_and c.from_residual.result c.from_residual.ensures.1 in
-    subst (λ r. IfErr r (MayFail Run)) (sym (p.1 ∙ ap Err p.2)) (run-failed-so _ _ _ _ _ c.in_err-ending.ensures)
+    subst (λ r. IfErr r (MayFail Run)) (sym (p.1 ∙ ap Err p.2)) (run-failed-so _ _ _ _ _ _ c.in_err-ending.ensures)
 
 pub returns-in_err-write_ending-clause-written : goal.returns-in_err-write_ending-clause-written
 returns-in_err-write_ending-clause-written g c =
@@ -33,3 +33,7 @@ returns-in_err-write_ending-clause-whole g c =
 pub returns-clause-written : goal.returns-clause-written
 returns-clause-written g c =
     ending-written _ c.args.job _ _ _ _ c.job.view_is c.requires.items c.in_ok-ending.ensures c.in_ok-write_ending.ensures
+
+pub returns-clause-whole : goal.returns-clause-whole
+returns-clause-whole g c =
+    ending-in_time _ c.args.job _ _ _ _ c.job.view_is c.requires.items c.in_ok-ending.ensures c.in_ok-write_ending.ensures
