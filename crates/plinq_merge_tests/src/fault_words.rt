@@ -10,6 +10,7 @@ fn faults_of_a_merger_in_words(rt: HostRuntime) -> Result<(), Fail> {
         (MergeFault::Twice, "offered twice"),
         (MergeFault::Gap, "results are missing"),
         (MergeFault::Failed, "failed before"),
+        (MergeFault::Cancelled, "cancelled"),
     ];
     for (fault, text) in rows {
         let words = format!(in rt.alloc(); "{fault}")?;

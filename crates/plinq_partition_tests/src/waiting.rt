@@ -14,21 +14,25 @@ use std::sync::atomic::{AtomicBool, Ordering};
 use std::thread;
 use std::thread::Threads;
 
-// What two threads tell one another.
+// What two threads tell one another, and whether one has waited for too long.
 #[derive(Drop)]
 struct Signals {
     is_inside: AtomicBool,
     may_leave: AtomicBool,
+    gave_up: AtomicBool,
 }
 
-// Waits for a signal, but not for ever.
-fn wait_for(signal: &AtomicBool) {
-    let backoff = Backoff::new();
-    for _turn in 0..10_000_000 {
-        if signal.load(Ordering::SeqCst) {
-            return;
+impl Signals {
+    // Waits for a signal, but not for ever.
+    fn wait_for(&self, signal: &AtomicBool) {
+        let backoff = Backoff::new();
+        for _turn in 0..10_000_000 {
+            if signal.load(Ordering::SeqCst) {
+                return;
+            }
+            backoff.snooze();
         }
-        backoff.snooze();
+        self.gave_up.store(true, Ordering::SeqCst);
     }
 }
 
@@ -56,7 +60,7 @@ impl<'a> Source for KeepsInside<'a> {
 
     fn next(&mut self) -> Step<i64> {
         self.signals.is_inside.store(true, Ordering::SeqCst);
-        wait_for(&self.signals.may_leave);
+        self.signals.wait_for(&self.signals.may_leave);
         self.range.next()
     }
 }
@@ -81,7 +85,7 @@ fn take_or_try<S: Source<Item = i64>, R: Wait + Abort>(
         expect(rt, partition.take(rt, chunked), 0, &[0], None);
         return;
     }
-    wait_for(&signals.is_inside);
+    signals.wait_for(&signals.is_inside);
     expect_fault(rt, partition.try_take(chunked), BUSY);
     assert_eq!(rt; partition.requests(), 0);
     signals.may_leave.store(true, Ordering::SeqCst);
@@ -114,6 +118,7 @@ fn another_one_is_inside(rt: HostRuntime) {
     let signals = Signals {
         is_inside: AtomicBool::new(false),
         may_leave: AtomicBool::new(false),
+        gave_up: AtomicBool::new(false),
     };
     let Ok(range) = RangeSource::new(0, 3) else {
         panic!(&rt; "no such range");
@@ -129,6 +134,7 @@ fn another_one_is_inside(rt: HostRuntime) {
         panic!(&rt; "no room for two partitions");
     };
     take_and_try(&rt, &chunked, &signals, &mut partitions);
+    assert!(&rt; !signals.gave_up.load(Ordering::SeqCst));
     let [_, second] = partitions.as_mut_slice() else {
         panic!(&rt; "not two");
     };
