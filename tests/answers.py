@@ -191,8 +191,8 @@ REFUSED = [
     ("run", '{"version":2,"source":{"concat":[{"range":[0,1099511627776]},{"range":[0,1099511627776]}]},"query":[],"growth":[1,3]}', "wrong shape"),
     ("run", '{"version":1,"source":{"list":[]},"query":[],"growth":[1,3]}', "wrong shape"),
     ("run", '{"version":1,"source":{"list":[]},"query":[],"growth":[-1,3,512]}', "wrong shape"),
-    ("run", '{"version":1,"source":{"range":[0,1099511627777]},"query":[],"growth":[0,3,512]}', "source too large"),
-    ("run", '{"version":1,"source":{"list":[]},"query":[["sort"]],"growth":[0,3,512]}', "growth: zero"),
+    ("run", '{"version":1,"source":{"range":[0,1099511627777]},"query":[],"growth":[0,1,1]}', "source too large"),
+    ("run", '{"version":1,"source":{"list":[]},"query":[["sort"]],"growth":[0,1,1]}', "growth: zero"),
     ("run", '{"version":2,"source":{"concat":[{"text":"é"},{"range":[0,1099511627775]}]},"query":[]}', "source too large"),
 ]
 

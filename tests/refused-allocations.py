@@ -3,9 +3,9 @@
 
     python3 tests/refused-allocations.py
 
-Each run must end as it does with ample memory, or with status 5, the one line `plinq: out of memory` on standard error, or
-`plinq: no thread` where it starts threads, and a beginning of the right output. A few lines of C, loaded before the C
-library, refuse the allocations.
+Each run must end as it does with ample memory, or with status 5, the one line `plinq: out of memory` on standard error (or
+`plinq: no thread`, of `run` alone, which starts threads), and a beginning of the right output. A few lines of C, loaded before
+the C library, refuse the allocations.
 """
 import json
 import os
@@ -34,10 +34,13 @@ ANSWERED = [
     document({"list": [5, 0, 2]}, ["select", "into", 10]),
     document({"list": [9223372036854775807]}, ["select", "add", 1]),
     document({"list": [9, 3, 8]}, ["filter", "even"], aggregate="max"),
+    # (a Take behind a Filter isn't the workers', so that the caller's thread folds)
+    document({"range": [1, 9]}, ["filter", "even"], ["take", 3], aggregate="sum"),
     document({"concat": [{"list": [3, 1, 4]}, {"text": "1 5 x"}]}, version=2),
 ]
 # (one item, which has one order)
 UNORDERED = b'{"version":1,"source":{"list":[4],"refuse":7},"query":[["select","add",1]]}'
+SEVENTEEN = document({"range": [1, 17]})
 # Four items, each in a chunk of its own; without an order they are the same, so that any order is the same.
 BY_KEY = document({"range": [1, 4]}, growth=[1, 1, 1])
 BY_ARRIVAL = b'{"version":1,"source":{"repeat":[5,4]},"query":[],"growth":[1,1,1]}'
@@ -53,6 +56,7 @@ REFUSED = [
 ]
 CASES = (
     [(words, it) for it in ANSWERED for words in (["run", "--workers", "2", "--merge", "not"], ["run", "--workers", "1"], ["run", "--workers", "8"], ["seq"], ["plan", "--workers", "2"], ["parts"], ["history", "--workers", "2"])]
+    + [(["run", "--workers", workers, "--merge", "not"], SEVENTEEN) for workers in ("1", "2")]
     + [(["run", "--workers", workers, "--merge", merge], it) for it in (BY_KEY, BY_ARRIVAL) for workers in ("1", "2", "8") for merge in ("not", "auto", "full")]
     + [(["run", "--workers", workers], it[:-1] + b',"aggregate":"sum"}') for it in (BY_KEY, BY_ARRIVAL) for workers in ("1", "2", "8")]
     + [(["run", "--workers", "2"], UNORDERED), (["run", "--merge", "full"], ANSWERED[0]), (["seq", "--merge", "auto"], ANSWERED[6])]
@@ -74,11 +78,12 @@ def refusing(words, given, shim, which, at):
     return seen, bool(met)
 
 
-def problem(seen, right):
+def problem(words, seen, right):
     """What is wrong with how a run ended that met a refusal, if anything is."""
+    lines = (OUT_OF_MEMORY, NO_THREAD) if words[:1] == ["run"] else (OUT_OF_MEMORY,)
     if seen == right:
         return None
-    if seen.status != 5 or seen.errors not in (OUT_OF_MEMORY, NO_THREAD):
+    if seen.status != 5 or seen.errors not in lines:
         return f"neither as with ample memory ({right}) nor out of memory: {seen}"
     if not right.output.startswith(seen.output):
         return f"what was written is no beginning of the right output ({right}): {seen}"
@@ -98,7 +103,7 @@ def main():
                 while met:
                     at += 1
                     seen, met = refusing(words, given, shim, which, at)
-                    why = problem(seen, right)
+                    why = problem(words, seen, right)
                     problems += [f"={at}: {why}"] if why else []
                     memory += seen.errors == OUT_OF_MEMORY
                 tests.check(name, not problems, f"{len(problems)} of {at}; the first is {problems[:1]}")

@@ -8,6 +8,7 @@ of a crate as a program, which runs one of them by its name. The few lines of C 
 refused-allocations.py.
 """
 import os
+import re
 import subprocess
 import tempfile
 
@@ -15,8 +16,8 @@ from concurrent.futures import ThreadPoolExecutor
 
 from support.program import HANGS, ROOT, Tests, shared_library
 
-# The calls that answer where memory runs out, and the test of a crate that has them refused. Those of the program are tried
-# by refused-allocations.py.
+# The calls that answer where memory runs out, and the test of a crate that has them refused. Pipelines, rows of keys and streams
+# are refused through the calls that use them, and those of the program by refused-allocations.py.
 CALLS = {
     "TicketLock::new": ("base", "lock::a_lock_that_is_refused_is_out_of_memory"),
     "Enumerator::ask and close": ("base", "enumerators::a_refused_growth_changes_nothing"),
@@ -24,10 +25,11 @@ CALLS = {
     "Chunked::new and partitions, Partition::take, try_take and stop": ("partition", "refusals::a_refused_allocation_changes_nothing"),
     "Partition::try_take of a first chunk": ("partition", "refusals::a_refused_first_chunk_uses_up_a_ticket"),
     "Partition::stop before any take": ("partition", "refusals::a_refused_stop_closes_nothing"),
-    "Chunked::with_first_ticket": ("partition", "refusals::a_refused_start_at_a_ticket_is_memory"),
+    "Chunked::with_first_ticket and TicketLock::with_first_ticket": ("partition", "refusals::a_refused_start_at_a_ticket_is_memory"),
     "RangeParts::partitions and PairParts::partitions": ("partition", "lists::a_refused_growth_is_memory"),
     "the builder calls of Query": ("ops", "refused_room::a_builder_call_that_is_refused_hands_the_query_back"),
     "sequential": ("ops", "refused_room::an_answer_that_is_refused_is_given_the_next_time"),
+    "sequential with a Skip and a Take": ("ops", "answers::answers_or_says_that_memory_ran_out"),
     "chunk_result and fragment": ("ops", "refused_room::a_result_that_is_refused_is_given_the_next_time"),
     "CutWord::new": ("merge", "cut_words::a_cut_that_is_refused_is_made_the_next_time"),
     "Merger::new and offer, NotBuffered": ("merge", "memory::no_room_ends_a_merger_that_is_not_buffered"),
@@ -38,6 +40,28 @@ CALLS = {
     "run and aggregate by two workers": ("run", "refused_room::two_workers_may_be_refused_room"),
     "run and aggregate by eight workers": ("run", "refused_room::eight_workers_may_be_refused_room"),
 }
+
+
+SAYS_SO = r"each\s+allocation\s+(failing|refused)\s+in\s+turn"
+
+
+def words_of(comment):
+    return re.sub(r"^\s*//[/!]?", "", comment, flags=re.M)
+
+
+def tests_that_say_so():
+    """The tests that say of themselves, or whose file says of them, that they are run so."""
+    for crate in {it for it, _ in CALLS.values()}:
+        top = os.path.join(ROOT, "crates", f"plinq_{crate}_tests", "src")
+        for at, _, names in os.walk(top):
+            for name in names:
+                with open(os.path.join(at, name), encoding="utf-8") as file:
+                    text = file.read()
+                module = os.path.relpath(os.path.join(at, name), top).removesuffix(".rt").replace(os.sep, "::")
+                heads = words_of("".join(re.findall(r"^//!.*\n", text, re.M)))
+                for comment, test in re.findall(r"((?:^//.*\n)*)^#\[test\]\nfn (\w+)", text, re.M):
+                    if re.search(SAYS_SO, words_of(comment)) or re.search(SAYS_SO, heads):
+                        yield crate, f"{module}::{test}"
 
 
 def refusing(program, name, shim, at):
@@ -64,6 +88,9 @@ def each_refused(pool, program, name, shim):
 
 def main():
     tests = Tests()
+    say_so = set(tests_that_say_so())
+    missing = sorted(say_so - set(CALLS.values()))
+    tests.check("each test that says that it is run so is run so", len(say_so) > 10 and not missing, missing or len(say_so))
     with tempfile.TemporaryDirectory() as folder, ThreadPoolExecutor(os.cpu_count()) as pool:
         shim = shared_library("refusing.c", folder)
         for calls, (tested, name) in CALLS.items():

@@ -4,7 +4,8 @@
     python3 tests/signals.py
 
 A run that a signal ends has written a beginning of the right output, and a shell sees that signal in its status. A reader
-that leaves is a failing write. Where a thread isn't started the run is refused with the lines before that, or answers.
+that leaves is a failing write. Where a thread isn't started the run is refused with the lines before that. Where memory runs
+out as well, that is told.
 """
 import array
 import fcntl
@@ -19,14 +20,16 @@ import tempfile
 import termios
 import time
 
-from support.program import HANGS, PROGRAM, Outcome, Tests, build, run
+from support.program import HANGS, PROGRAM, Outcome, Tests, build, run, shared_library
 
 # More than any test waits for, in lines that a test can count.
 ENDLESS = {"range": [0, 2**40]}
 ORDERED = ["as_ordered"]
 DEGREES = (1, 2, 8, 64)
 WRITE_FAILED = b"plinq: write failed\n"
-REFUSALS = (b"plinq: no thread\n", b"plinq: out of memory\n")
+NO_THREAD = b"plinq: no thread\n"
+NO_MEMORY = b"plinq: out of memory\n"
+REFUSALS = (NO_THREAD, NO_MEMORY)
 # How many bytes a test reads of the output.
 READ = 100_000
 
@@ -145,11 +148,16 @@ def readers_that_leave(tests):
 
 NUMBERS = 20_000
 RIGHT = Outcome(0, "".join(f"{it}\n" for it in range(NUMBERS)).encode() + b"end\n", b"")
+SUM = Outcome(0, b"%d\nend\n" % sum(range(NUMBERS)), b"")
 MANY = ["run", "--merge", "not", "--workers"]
 
 
 def answers_or_refuses(seen, right):
     return seen == right or seen.status == 5 and seen.errors in REFUSALS and right.output.startswith(seen.output)
+
+
+def has_no_thread(seen, lines):
+    return (seen.status, seen.errors) == (5, NO_THREAD) and lines.startswith(seen.output)
 
 
 def another_user():
@@ -160,28 +168,56 @@ def another_user():
         return None
 
 
-def few_threads(tests):
-    """A limit of the system on threads holds for one user, who isn't root."""
+def leaving(threads):
+    """What leaves a new process so many threads, by a limit of the system that holds for each user but root."""
     user = another_user()
+
+    def limited():
+        resource.setrlimit(resource.RLIMIT_NPROC, (threads, threads))
+        if user:
+            os.setgroups([])
+            os.setgid(user.pw_gid)
+            os.setuid(user.pw_uid)
+
+    return limited
+
+
+def few_threads(tests):
     with tempfile.TemporaryDirectory() as folder:
         os.chmod(folder, 0o755)
         program = shutil.copy(PROGRAM, folder)
-        refused = 0
-        for workers in DEGREES:
-            for threads in sorted({1, 2, workers, workers + 1, workers + 200}):
+        for workers in (*range(1, 9), 64):
+            for threads in sorted({*range(1, min(workers, 8) + 2), workers, workers + 1, workers + 200}):
+                # (one is the caller's; where other processes of this user count as well, fewer are left)
+                are_few = threads <= workers
+                for name, more, right, lines in (("run", {}, RIGHT, RIGHT.output), ("sum", {"aggregate": "sum"}, SUM, b"")):
+                    given = document({"range": [0, NUMBERS]}, **more)
+                    seen = run([*MANY, str(workers)], given, program, preexec_fn=leaving(threads))
+                    is_so = has_no_thread(seen, lines) if are_few else answers_or_refuses(seen, right)
+                    tests.check(f"{threads} threads for {workers} workers: {name}", is_so, seen)
+        no_thread_and_no_memory(tests, folder, program)
 
-                def limited():
-                    resource.setrlimit(resource.RLIMIT_NPROC, (threads, threads))
-                    if user:
-                        os.setgroups([])
-                        os.setgid(user.pw_gid)
-                        os.setuid(user.pw_uid)
 
-                seen = run([*MANY, str(workers)], document({"range": [0, NUMBERS]}), program, preexec_fn=limited)
-                refused += seen.errors == REFUSALS[0]
-                tests.check(f"{threads} threads for {workers} workers", answers_or_refuses(seen, RIGHT), seen)
-        # (where other processes of this user count as well, none may be started at all)
-        tests.check("a thread was refused", refused > 0)
+def no_thread_and_no_memory(tests, folder, program):
+    """No thread is started, and allocations are refused in turn: the last of them is to close the source behind that."""
+    shim = shared_library("refusing.c", folder)
+    for name, more in (("run", {}), ("sum", {"aggregate": "sum"})):
+        seen, met = [], True
+        while met:
+            reading, writing = os.pipe()
+            env = os.environ | {"LD_PRELOAD": shim, "REFUSE_AT": str(len(seen) + 1), "REFUSED_TO": str(writing)}
+            given = document({"range": [0, NUMBERS]}, **more)
+            seen.append(run([*MANY, "2"], given, program, preexec_fn=leaving(1), env=env, pass_fds=(writing,)))
+            os.close(writing)
+            met = os.read(reading, 1)
+            os.close(reading)
+        *refused, ample = seen
+        no_thread, no_memory = Outcome(5, b"", NO_THREAD), Outcome(5, b"", NO_MEMORY)
+        tests.check(f"no thread: {name}", ample == no_thread, ample)
+        others = [it for it in refused if it not in (no_thread, no_memory)]
+        tests.check(f"no thread, and an allocation is refused: {name}", not others, others[:1])
+        is_told = bool(refused) and refused[-1] == no_memory
+        tests.check(f"no thread, and no memory to close the source: {name}", is_told, refused[-1:])
 
 
 def little_memory(tests):
@@ -195,7 +231,7 @@ def little_memory(tests):
             seen = run([*MANY, str(workers)], document({"range": [0, NUMBERS]}), PROGRAM, preexec_fn=limited)
             kinds.add(seen.errors)
             tests.check(f"{limit} MiB for {workers} workers", answers_or_refuses(seen, RIGHT), seen)
-    tests.check("a thread had no memory, and there was enough", {b"", REFUSALS[0]} <= kinds, kinds)
+    tests.check("a thread had no memory, and there was enough", {b"", NO_THREAD} <= kinds, kinds)
 
 
 def main():

@@ -35,6 +35,8 @@ struct Late {
     slow: i64,
     /// Whether the sink is held with its first batch until then.
     is_held: bool,
+    /// Whether key 0 is held back until then.
+    is_first_held: bool,
 }
 
 /// How far a run has come.
@@ -49,6 +51,7 @@ struct Standing {
     taken_by_then: AtomicU64,
     /// 1 once the worker has failed.
     failed: AtomicU64,
+    is_first_held: bool,
     /// Whether somebody has waited for too long.
     gave_up: AtomicBool,
 }
@@ -61,6 +64,7 @@ impl Standing {
             taken: AtomicU64::new(0),
             taken_by_then: AtomicU64::new(0),
             failed: AtomicU64::new(0),
+            is_first_held: late.is_first_held,
             gave_up: AtomicBool::new(false),
         }
     }
@@ -78,7 +82,7 @@ impl Standing {
     }
 }
 
-/// A gate that counts, and holds all keys but the first back until they may pass.
+/// A gate that counts, and holds all keys but the first back until they may pass, and that one where it is to be held.
 #[derive(Drop)]
 struct Counts<'a> {
     standing: &'a Standing,
@@ -93,6 +97,8 @@ impl<'a> Gate for Counts<'a> {
         self.standing.taken.fetch_add(1, Ordering::SeqCst);
         if first > 0 {
             self.standing.awaits(&self.standing.is_open, 1);
+        } else if self.standing.is_first_held {
+            self.standing.awaits_failure();
         }
     }
 }
@@ -288,6 +294,7 @@ fn a_run_ends_whose_workers_sleep_before_the_lock(rt: HostRuntime) -> Result<(),
                 taken: 4,
                 slow: 4,
                 is_held: false,
+                is_first_held: false,
             };
             expect(&rt, rt.alloc(), late, 4, 3)?;
         }
@@ -310,6 +317,7 @@ fn a_run_ends_whose_workers_sleep_before_the_queue(rt: HostRuntime) -> Result<()
                 taken,
                 slow: -1,
                 is_held: true,
+                is_first_held: false,
             };
             expect(&rt, rt.alloc(), late, taken, 1)?;
         }
@@ -332,6 +340,7 @@ fn a_run_ends_whose_workers_sleep_before_the_window(rt: HostRuntime) -> Result<(
             taken,
             slow: -1,
             is_held: false,
+            is_first_held: false,
         };
         let most = taken.saturating_add(workers).saturating_sub(2);
         expect(&rt, rt.alloc(), late, most, 0)?;
@@ -352,10 +361,31 @@ fn a_run_ends_whose_workers_sleep_over_items(rt: HostRuntime) -> Result<(), Fail
             taken: workers,
             slow: -1,
             is_held: false,
+            is_first_held: false,
         };
         // (64 items for each worker, so that some may take a second time)
         let again = workers.saturating_mul(64) / 1_000;
         expect(&rt, rt.alloc(), late, workers.saturating_add(again), 0)?;
+    }
+    Ok(())
+}
+
+/// Number 3 fails while key 0 is held back. That key comes a while later, and is the first that could be delivered.
+#[test]
+fn nothing_is_delivered_behind_a_failed_worker(rt: HostRuntime) -> Result<(), Fail> {
+    for workers in WORKERS {
+        let late = Late {
+            workers,
+            is_by_key: true,
+            formula: ONCE,
+            failing: 3,
+            about: 0,
+            taken: 4,
+            slow: -1,
+            is_held: false,
+            is_first_held: true,
+        };
+        expect(&rt, rt.alloc(), late, u64::MAX, 0)?;
     }
     Ok(())
 }

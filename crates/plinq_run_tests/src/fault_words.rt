@@ -11,6 +11,7 @@ fn faults_of_a_run_in_words(rt: HostRuntime) -> Result<(), Fail> {
         (RunFault::Tickets, "tickets spent"),
         (RunFault::Thread, "no thread"),
         (RunFault::Incomplete, "incomplete"),
+        (RunFault::Cancelled, "cancelled"),
     ];
     for (fault, text) in rows {
         let words = format!(in rt.alloc(); "{fault}")?;

@@ -4,10 +4,11 @@ ghost use Rattle.std.proofs.Common.{arith};
 
 use crate::asked::{WORKERS, built, ordered};
 use crate::taken::Taken;
+use plinq_aggregate::Sum;
 use plinq_enumerator::Growth;
 use plinq_lambda::{ExpandFault, Lambda};
 use plinq_ops::MergeOption;
-use plinq_run::{OpenGate, RunFault, run};
+use plinq_run::{AggregateFault, OpenGate, RunFault, aggregate, run};
 use plinq_source::RangeSource;
 use std::alloc::Global;
 use std::process::Abort;
@@ -66,6 +67,28 @@ fn expand_nothing<R: Threads + Wait + Sync + Abort>(
 fn a_worker_without_room_is_told_as_memory(rt: HostRuntime) -> Result<(), Fail> {
     for workers in WORKERS {
         expand_nothing(&rt, rt.alloc(), workers)?;
+    }
+    Ok(())
+}
+
+/// The workers fold what they compute.
+fn fold_nothing<R: Threads + Wait + Sync + Abort>(
+    rt: &R,
+    alloc: Global,
+    workers: u64,
+) -> Result<(), Fail> {
+    let query = ordered(alloc, MergeOption::Default, workers)?;
+    let query = built(query.select_many(NoRoom))?;
+    let source = RangeSource::new(0, 100)?;
+    let told = aggregate(rt, alloc, &query, source, Growth::DEFAULT, &OpenGate, &Sum);
+    assert_eq!(rt; told, Err(AggregateFault::Run(RunFault::Memory)));
+    Ok(())
+}
+
+#[test]
+fn a_worker_without_room_to_fold_is_told_as_memory(rt: HostRuntime) -> Result<(), Fail> {
+    for workers in WORKERS {
+        fold_nothing(&rt, rt.alloc(), workers)?;
     }
     Ok(())
 }

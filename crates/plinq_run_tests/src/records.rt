@@ -23,6 +23,17 @@ fn closes(records: &[Record]) -> usize {
     found
 }
 
+/// How many requests for items had a tail.
+fn tails(records: &[Record]) -> u64 {
+    let mut found = 0u64;
+    for record in records {
+        if record.asked != Event::Close && record.tail.is_some() {
+            found = found.wrapping_add(1);
+        }
+    }
+    found
+}
+
 /// How many items were handed out.
 fn handed_out(records: &[Record]) -> u64 {
     let mut count = 0u64;
@@ -66,6 +77,7 @@ fn records_are_a_history_with_one_close(rt: HostRuntime) -> Result<(), Fail> {
 }
 
 /// Takes three of a range, and asks that at most as many items were handed out as workers may be ahead, each with a chunk more.
+/// Behind the close each worker asks once more, and is told so; what it asked is reported as well.
 fn take_three<R: Threads + Wait + Sync + Abort>(
     rt: &R,
     alloc: Global,
@@ -74,7 +86,7 @@ fn take_three<R: Threads + Wait + Sync + Abort>(
 ) -> Result<(), Fail> {
     let range = Given::Range(0, count);
     let records = records_of(rt, alloc, range, &[Op::Take(3)], by(workers))?;
-    assert_eq!(rt; closes(&records), 1);
+    assert_eq!(rt; (closes(&records), tails(&records)), (1, workers));
     assert!(rt; handed_out(&records) <= workers.saturating_mul(65 * 512));
     Ok(())
 }

@@ -19,6 +19,8 @@ use std::thread::Threads;
 #[derive(Drop)]
 struct Counted {
     is_by_key: bool,
+    /// How many items a batch has at most.
+    most: usize,
     count: i64,
     sum: i64,
     is_wrong: bool,
@@ -32,6 +34,9 @@ impl Sink for Counted {
     ghost refuses = { λ _ _ _ _. ⊤ };
 
     fn batch(&mut self, items: &[i64]) -> Result<(), u32> {
+        if items.is_empty() || items.len() > self.most {
+            self.is_wrong = true;
+        }
         for item in items {
             self.count = self.count.wrapping_add(1);
             self.sum = self.sum.wrapping_add(*item);
@@ -49,6 +54,17 @@ struct Asked {
     workers: u64,
     option: MergeOption,
     is_by_key: bool,
+}
+
+impl Asked {
+    /// How many items a batch has at most.
+    fn most(&self) -> usize {
+        match self.option {
+            MergeOption::NotBuffered => 1,
+            MergeOption::Default | MergeOption::AutoBuffered => 16,
+            MergeOption::FullyBuffered => 17,
+        }
+    }
 }
 
 /// The numbers from 1 to 17 as they are.
@@ -69,13 +85,14 @@ fn is_refused<R: Threads + Wait + Sync + Abort>(
     rt: &R,
     alloc: Global,
     query: &Query<Formula>,
-    is_by_key: bool,
+    asked: Asked,
 ) -> bool {
     let Ok(source) = RangeSource::new(1, 17) else {
         panic!(rt; "no such range");
     };
     let mut sink = Counted {
-        is_by_key,
+        is_by_key: asked.is_by_key,
+        most: asked.most(),
         count: 0,
         sum: 0,
         is_wrong: false,
@@ -125,8 +142,8 @@ fn ask_twice<R: Threads + Wait + Sync + Abort>(rt: &R, alloc: Global, asked: Ask
     let Ok(query) = numbers(alloc, asked) else {
         return;
     };
-    let first = is_refused(rt, alloc, &query, asked.is_by_key);
-    let second = is_refused(rt, alloc, &query, asked.is_by_key);
+    let first = is_refused(rt, alloc, &query, asked);
+    let second = is_refused(rt, alloc, &query, asked);
     assert!(rt; !first || !second);
     let first = is_sum_refused(rt, alloc, &query);
     let second = is_sum_refused(rt, alloc, &query);

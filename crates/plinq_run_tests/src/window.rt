@@ -1,9 +1,11 @@
 //! How far workers run ahead of what is merged.
-use crate::asked::{Given, Setting, ask};
+use crate::asked::{Given, Setting, ask, ordered};
+use plinq_aggregate::Count;
 use plinq_enumerator::Growth;
 use plinq_lambda::Formula;
-use plinq_ops::{MergeOption, Op};
-use plinq_run::Gate;
+use plinq_ops::{MergeOption, Op, Query};
+use plinq_run::{Gate, aggregate};
+use plinq_source::RangeSource;
 use std::alloc::Global;
 use std::hint::spin_loop;
 use std::process::Abort;
@@ -19,6 +21,23 @@ struct HoldsTheFirst {
     most: u64,
     last: AtomicU64,
     last_by_then: AtomicU64,
+}
+
+impl HoldsTheFirst {
+    /// For so many workers, each of which may take 64 chunks of one element and one more.
+    fn of(workers: u64) -> HoldsTheFirst {
+        HoldsTheFirst {
+            most: workers.saturating_mul(65),
+            last: AtomicU64::new(0),
+            last_by_then: AtomicU64::new(0),
+        }
+    }
+
+    /// Whether a worker has taken a later key meanwhile, and none has taken one that is too late.
+    fn is_kept(&self) -> bool {
+        let last = self.last_by_then.load(Ordering::SeqCst);
+        1 <= last && last <= self.most
+    }
 }
 
 impl Gate for HoldsTheFirst {
@@ -48,13 +67,7 @@ fn hold_the_first<R: Threads + Wait + Sync + Abort>(
     workers: u64,
     count: u64,
 ) -> Result<(), Fail> {
-    // (64 chunks of one element for each worker, and one more)
-    let most = workers.saturating_mul(65);
-    let gate = HoldsTheFirst {
-        most,
-        last: AtomicU64::new(0),
-        last_by_then: AtomicU64::new(0),
-    };
+    let gate = HoldsTheFirst::of(workers);
     let option = MergeOption::NotBuffered;
     let setting = Setting {
         workers,
@@ -65,8 +78,7 @@ fn hold_the_first<R: Threads + Wait + Sync + Abort>(
     let ops = [Op::Filter(Formula::Even), Op::Take(3)];
     let answers = ask(rt, alloc, Given::Range(0, count), &[], &ops, setting, &gate)?;
     assert!(rt; answers.are_one(option));
-    let last = gate.last_by_then.load(Ordering::SeqCst);
-    assert!(rt; 1 <= last && last <= most, "{last}");
+    assert!(rt; gate.is_kept());
     Ok(())
 }
 
@@ -74,6 +86,30 @@ fn hold_the_first<R: Threads + Wait + Sync + Abort>(
 fn workers_wait_for_the_first_key(rt: HostRuntime) -> Result<(), Fail> {
     for workers in [2u64, 64] {
         hold_the_first(&rt, rt.alloc(), workers, 1_099_511_627_776)?;
+    }
+    Ok(())
+}
+
+/// Counts a range whose first number is held back.
+fn hold_the_first_of_a_count<R: Threads + Wait + Sync + Abort>(
+    rt: &R,
+    alloc: Global,
+    workers: u64,
+    count: u64,
+) -> Result<(), Fail> {
+    let gate = HoldsTheFirst::of(workers);
+    let query: Query<Formula> = ordered(alloc, MergeOption::Default, workers)?;
+    let source = RangeSource::new(0, count)?;
+    let told = aggregate(rt, alloc, &query, source, Growth::ONE, &gate, &Count);
+    assert_eq!(rt; told, Ok(count));
+    assert!(rt; gate.is_kept());
+    Ok(())
+}
+
+#[test]
+fn workers_that_fold_wait_for_the_first_key(rt: HostRuntime) -> Result<(), Fail> {
+    for workers in [2u64, 64] {
+        hold_the_first_of_a_count(&rt, rt.alloc(), workers, 10_000)?;
     }
     Ok(())
 }

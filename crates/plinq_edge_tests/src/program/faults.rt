@@ -42,7 +42,27 @@ fn faults_of_a_command_in_words(rt: HostRuntime) -> Result<(), Fail> {
     for (fault, text, line) in [
         (ServeFault::Memory, "out of memory", "out of memory"),
         (ServeFault::Write, "write failed", "write failed"),
+        (
+            ServeFault::Run(RunFault::Memory),
+            "out of memory",
+            "out of memory",
+        ),
         (ServeFault::Run(RunFault::Thread), "no thread", "no thread"),
+        (
+            ServeFault::Run(RunFault::Tickets),
+            "tickets spent",
+            "tickets spent",
+        ),
+        (
+            ServeFault::Run(RunFault::Incomplete),
+            "incomplete",
+            "incomplete",
+        ),
+        (
+            ServeFault::Run(RunFault::Cancelled),
+            "cancelled",
+            "cancelled",
+        ),
         (ServeFault::Take(TakeFault::Away), "away", "incomplete"),
     ] {
         let failure = Failure::from(fault);
