@@ -19,6 +19,6 @@ pub(crate) enum BenchFault {
     Io(#[from] io::Error),
     #[error("the sums differ")]
     Sums,
-    #[error("plinq_bench check | WORKLOAD WORKERS [ITEMS]")]
+    #[error("plinq_bench check | [stop] WORKLOAD WORKERS [ITEMS]")]
     Words,
 }

@@ -2,6 +2,7 @@
 //!
 //!     plinq_bench heavy 4 1000000 5  # a workload, workers, items and rounds, of which the last two may be left out
 //!     plinq_bench check              # each workload with few items: the sums alone
+//!     plinq_bench stop heavy 4       # how long a workload goes on when another thread sets a flag to stop it
 //!
 //! Of several rounds the first isn't counted, since its process is cold, and the best of the others is told. A line has
 //! the workload, what ran it, threads, seconds, items a second, the ratio to the plain loop and the sum of what came, on
@@ -11,6 +12,7 @@
 mod bench_fault;
 mod measuring;
 mod spinning;
+mod stopping;
 mod summed;
 mod total;
 mod work;
@@ -18,6 +20,7 @@ mod workload;
 
 use crate::bench_fault::BenchFault;
 use crate::measuring::{Round, Seen, best_of, run_it};
+use crate::stopping::{MANY, stop_it};
 use crate::workload::Workload;
 use std::alloc::Global;
 use std::io::Print;
@@ -55,6 +58,15 @@ fn bench<R: Threads + Wait + Sync + Clock + Print>(
 ) -> Result<(), BenchFault> {
     match words {
         [_, word] if word.as_str() == "check" => check(rt, alloc),
+        [_, word, name, workers] if word.as_str() == "stop" => {
+            let (workload, workers) = asked(name.as_str(), workers.as_str())?;
+            stop(rt, alloc, workload, workers, MANY)
+        }
+        [_, word, name, workers, items] if word.as_str() == "stop" => {
+            let (workload, workers) = asked(name.as_str(), workers.as_str())?;
+            let items = number(items.as_str())?;
+            stop(rt, alloc, workload, workers, items)
+        }
         [_, name, workers] => {
             let (workload, workers) = asked(name.as_str(), workers.as_str())?;
             measure(rt, alloc, workload, workers, workload.usual_items(), ROUNDS)
@@ -110,6 +122,25 @@ fn measure<R: Threads + Wait + Sync + Clock + Print>(
     let Round { looped, seen } = best_of(rt, alloc, workload, workers, items, rounds)?;
     print(rt, workload, "loop", 1, items, looped, looped.time)?;
     print(rt, workload, "run", workers, items, seen, looped.time)
+}
+
+fn stop<R: Threads + Wait + Sync + Clock + Print>(
+    rt: &R,
+    alloc: Global,
+    workload: Workload,
+    workers: u64,
+    items: i64,
+) -> Result<(), BenchFault> {
+    let name = workload.name();
+    match stop_it(rt, alloc, workload, workers, items)? {
+        Some(time) => {
+            let took = micros(time);
+            let (seconds, rest) = (took / 1_000_000, took % 1_000_000);
+            println!(rt; "{name} plinq:stop {workers} {seconds}.{rest:06}")?;
+        }
+        None => println!(rt; "{name} plinq:stop {workers} ended before the flag was set")?,
+    }
+    Ok(())
 }
 
 fn print<R: Print>(

@@ -54,6 +54,7 @@ fn expect_each<R: Threads + Wait + Sync + Abort>(
                 growth,
                 option,
                 refused: usize::MAX,
+                cancel_after: None,
             };
             expect(rt, alloc, row, setting)?;
         }

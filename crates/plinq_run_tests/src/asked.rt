@@ -5,8 +5,9 @@ ghost use Rattle.plinq_source.specs.declared.source.Source.{Ghosts};
 use crate::taken::Taken;
 use plinq_enumerator::Growth;
 use plinq_lambda::Lambda;
+use plinq_merge::CancelAfter;
 use plinq_ops::{BuildFault, Built, MergeOption, Op, Query, sequential};
-use plinq_run::{Gate, Report, RunFault, run};
+use plinq_run::{Gate, Report, RunFault, run, run_with};
 use plinq_source::{
     ConcatSource, Ending, ListSource, OutOfMemory, RangeSource, RepeatSource, Source, TextSource,
 };
@@ -37,13 +38,15 @@ pub(crate) enum Given {
     Concat(Option<u32>, Option<u32>),
 }
 
-/// How a query is asked. The sink refuses batch number `refused`.
+/// How a query is asked. The sink refuses batch number `refused`, and a token stops the run after `cancel_after` batches, if
+/// there is one.
 #[derive(Clone, Copy, Debug)]
 pub(crate) struct Setting {
     pub(crate) workers: u64,
     pub(crate) growth: Growth,
     pub(crate) option: MergeOption,
     pub(crate) refused: usize,
+    pub(crate) cancel_after: Option<u64>,
 }
 
 /// What the run told, what its sink took, and the answer of one thread.
@@ -61,6 +64,43 @@ impl Answers {
         match &self.told {
             Ok(report) => report.ending == self.ending && self.left(option) == Some(0),
             Err(_) => false,
+        }
+    }
+
+    /// Whether the run was stopped when it had delivered so many batches, the first of the answer.
+    fn are_stopped(&self, option: MergeOption, most: u64) -> bool {
+        match &self.told {
+            Err(RunFault::Cancelled) => {
+                self.batches.len() as u64 == most && self.left(option).is_some()
+            }
+            _ => false,
+        }
+    }
+
+    /// Whether the run was stopped after `cancel_after` batches, if the answer has as many, and else delivered all of it.
+    pub(crate) fn are_right(&self, setting: Setting) -> bool {
+        match setting.cancel_after {
+            Some(most) => {
+                if most <= self.all_batches(setting.option) {
+                    self.are_stopped(setting.option, most)
+                } else {
+                    self.are_one(setting.option)
+                }
+            }
+            None => self.are_one(setting.option),
+        }
+    }
+
+    /// How many batches the answer of one thread has.
+    fn all_batches(&self, option: MergeOption) -> u64 {
+        let items = self.items.len() as u64;
+        match option {
+            MergeOption::NotBuffered => items,
+            MergeOption::Default | MergeOption::AutoBuffered => items.div_ceil(16),
+            MergeOption::FullyBuffered => match self.ending {
+                Ending::End => items.min(1),
+                Ending::Refused(_) | Ending::Fault(_) => 0,
+            },
         }
     }
 
@@ -170,7 +210,22 @@ where
     let mut again = again;
     let (items, ending) = sequential(alloc, query, &mut again)?;
     let mut sink = Taken::new(alloc, setting.refused);
-    let told = run(rt, alloc, query, source, setting.growth, gate, &mut sink);
+    let told = match setting.cancel_after {
+        None => run(rt, alloc, query, source, setting.growth, gate, &mut sink),
+        Some(most) => {
+            let mut token = CancelAfter::new(most);
+            run_with(
+                rt,
+                alloc,
+                query,
+                source,
+                setting.growth,
+                gate,
+                &mut token,
+                &mut sink,
+            )
+        }
+    };
     Ok(Answers {
         told,
         batches: sink.batches,

@@ -1,5 +1,5 @@
-//! Queries that are picked by chance, and workers that are held back by chance: what they deliver, and what they aggregate.
-//! The queries are always the same ones; the order in which threads run isn't.
+//! Queries that are picked by chance, and workers that are held back by chance: what they deliver, also where a token stops
+//! them, and what they aggregate. The queries are always the same ones; the order in which threads run isn't.
 ghost use Rattle.std.specs.Prelude.{◌≤◌, ◌<◌};
 
 use crate::aggregates::Last;
@@ -8,7 +8,7 @@ use plinq_aggregate::fold_sequential;
 use plinq_enumerator::{Growth, GrowthFault};
 use plinq_lambda::Formula;
 use plinq_ops::{MergeOption, Op, sequential};
-use plinq_run::{AggregateFault, Gate, aggregate};
+use plinq_run::{AggregateFault, Gate, RunFault, aggregate};
 use plinq_source::{Ending, Source};
 use std::alloc::{AllocError, Global};
 use std::hint::spin_loop;
@@ -156,6 +156,17 @@ impl Dice {
         }
     }
 
+    /// After how many batches a token stops a run, mostly few of them. Two of three runs have none.
+    fn cancel_after(&mut self) -> Option<u64> {
+        match self.below(3) {
+            0 => {
+                let most = 1 + self.below(21);
+                Some(self.below(most))
+            }
+            _ => None,
+        }
+    }
+
     fn setting(&mut self, run: u64) -> Result<Setting, GrowthFault> {
         let growth = Growth::new(1, 1 + self.below(3), 1 + self.below(8))?;
         Ok(Setting {
@@ -163,28 +174,33 @@ impl Dice {
             growth,
             option: self.option(),
             refused: usize::MAX,
+            cancel_after: None,
         })
     }
 }
 
-/// Asks a query of a run and of one thread, and tells how its answer ends.
+/// Asks a query of a run and of one thread, and tells how the run ended.
 fn ask_any<R: Threads + Wait + Sync + Abort>(
     rt: &R,
     alloc: Global,
     dice: &mut Dice,
     run: u64,
     gate: &Delays,
-) -> Result<Ending, Fail> {
+) -> Result<Result<Ending, RunFault>, Fail> {
     let setting = dice.setting(run)?;
+    let setting = Setting {
+        cancel_after: dice.cancel_after(),
+        ..setting
+    };
     let given = dice.given();
     let items = dice.items(alloc)?;
     let ops = dice.ops(alloc)?;
     let answers = ask(rt, alloc, given, &items, &ops, setting, gate)?;
     assert!(rt;
-        answers.are_one(setting.option),
+        answers.are_right(setting),
         "{given:?} {items:?} {ops:?} {setting:?}"
     );
-    Ok(answers.ending)
+    Ok(answers.told.map(|report| report.ending))
 }
 
 #[test]
@@ -198,14 +214,16 @@ fn any_query_has_the_answer_of_one_thread(rt: HostRuntime) -> Result<(), Fail> {
     let mut ended = 0u64;
     let mut refused = 0u64;
     let mut faulted = 0u64;
+    let mut stopped = 0u64;
     for run in 0..2_000 {
         match ask_any(&rt, rt.alloc(), &mut dice, run, &gate)? {
-            Ending::End => ended = ended.wrapping_add(1),
-            Ending::Refused(_) => refused = refused.wrapping_add(1),
-            Ending::Fault(_) => faulted = faulted.wrapping_add(1),
+            Ok(Ending::End) => ended = ended.wrapping_add(1),
+            Ok(Ending::Refused(_)) => refused = refused.wrapping_add(1),
+            Ok(Ending::Fault(_)) => faulted = faulted.wrapping_add(1),
+            Err(_) => stopped = stopped.wrapping_add(1),
         }
     }
-    assert!(rt; ended >= 100 && refused >= 100 && faulted >= 100);
+    assert!(rt; ended >= 100 && refused >= 100 && faulted >= 100 && stopped >= 100);
     Ok(())
 }
 

@@ -1,8 +1,9 @@
 //! What a run has delivered that its token stopped.
-ghost use Rattle.std.specs.Prelude.{⊤};
+ghost use Rattle.std.specs.Prelude.{◌≡◌, false, ⊤};
 
 use crate::asked::{OPTIONS, WORKERS, built, ordered};
 use crate::taken::Taken;
+use crate::waiting::waits_for;
 use plinq_enumerator::Growth;
 use plinq_lambda::Formula;
 use plinq_merge::{Cancel, CancelAfter, CancelFlag, Sink};
@@ -12,8 +13,9 @@ use plinq_source::{Ending, RangeSource};
 use std::alloc::Global;
 use std::process::Abort;
 use std::sync::Wait;
+use std::sync::atomic::{AtomicU64, Ordering};
 use std::test::*;
-use std::thread::Threads;
+use std::thread::{Threads, join};
 
 /// How many numbers are asked for, from 1 on.
 const COUNT: u64 = 17;
@@ -69,6 +71,36 @@ fn is_at_end(told: &Result<Report, RunFault>) -> bool {
     }
 }
 
+/// What a run of so many numbers tells.
+fn told_of<C, K, R>(
+    rt: &R,
+    alloc: Global,
+    query: &Query<Formula>,
+    count: u64,
+    token: &mut C,
+    sink: &mut K,
+) -> Result<Report, RunFault>
+where
+    C: Cancel,
+    K: Sink<Item = i64>,
+    R: Threads + Wait + Sync,
+    requires untold { C.has_told token.old ≡ false }
+{
+    let Ok(source) = RangeSource::new(1, count) else {
+        return Err(RunFault::Incomplete);
+    };
+    run_with(
+        rt,
+        alloc,
+        query,
+        source,
+        Growth::ONE,
+        &OpenGate,
+        token,
+        sink,
+    )
+}
+
 /// Asks what a run of the numbers delivers where its token stops after so many batches.
 fn expect_first<R: Threads + Wait + Sync + Abort>(
     rt: &R,
@@ -78,19 +110,9 @@ fn expect_first<R: Threads + Wait + Sync + Abort>(
     most: u64,
 ) -> Result<(), Fail> {
     let query: Query<Formula> = ordered(alloc, option, workers)?;
-    let source = RangeSource::new(1, COUNT)?;
     let mut token = CancelAfter::new(most);
     let mut sink = Taken::new(alloc, usize::MAX);
-    let told = run_with(
-        rt,
-        alloc,
-        &query,
-        source,
-        Growth::ONE,
-        &OpenGate,
-        &mut token,
-        &mut sink,
-    );
+    let told = told_of(rt, alloc, &query, COUNT, &mut token, &mut sink);
     let is_stopped = most <= all_batches(option);
     assert_eq!(rt; is_cancelled(&told), is_stopped);
     assert_eq!(rt; is_at_end(&told), !is_stopped);
@@ -128,19 +150,9 @@ fn decided<R: Threads + Wait + Sync + Abort>(
 ) -> Result<Result<Report, RunFault>, Fail> {
     let query: Query<Formula> = ordered(alloc, MergeOption::NotBuffered, 2)?;
     let query = built(query.take(0))?;
-    let source = RangeSource::new(1, COUNT)?;
     let mut token = CancelAfter::new(most);
     let mut sink = Taken::new(alloc, usize::MAX);
-    let told = run_with(
-        rt,
-        alloc,
-        &query,
-        source,
-        Growth::ONE,
-        &OpenGate,
-        &mut token,
-        &mut sink,
-    );
+    let told = told_of(rt, alloc, &query, COUNT, &mut token, &mut sink);
     assert_eq!(rt; sink.batches.len(), 0);
     Ok(told)
 }
@@ -156,21 +168,11 @@ fn a_decided_query_asks_once(rt: HostRuntime) -> Result<(), Fail> {
 fn a_flag_that_was_set_before_stops_the_first_batch(rt: HostRuntime) -> Result<(), Fail> {
     for workers in WORKERS {
         let query: Query<Formula> = ordered(rt.alloc(), MergeOption::NotBuffered, workers)?;
-        let source = RangeSource::new(1, COUNT)?;
         let flag = CancelFlag::new();
         flag.cancel();
         let mut token = flag.token();
         let mut sink = Taken::new(rt.alloc(), usize::MAX);
-        let told = run_with(
-            &rt,
-            rt.alloc(),
-            &query,
-            source,
-            Growth::ONE,
-            &OpenGate,
-            &mut token,
-            &mut sink,
-        );
+        let told = told_of(&rt, rt.alloc(), &query, COUNT, &mut token, &mut sink);
         assert!(&rt; is_cancelled(&told));
         assert_eq!(&rt; sink.batches.len(), 0);
     }
@@ -209,7 +211,6 @@ impl<'a> Sink for Sets<'a> {
 fn a_flag_that_the_second_batch_sets_stops_the_third(rt: HostRuntime) -> Result<(), Fail> {
     for workers in WORKERS {
         let query: Query<Formula> = ordered(rt.alloc(), MergeOption::NotBuffered, workers)?;
-        let source = RangeSource::new(1, COUNT)?;
         let flag = CancelFlag::new();
         let mut token = flag.token();
         let mut sink = Sets {
@@ -218,19 +219,76 @@ fn a_flag_that_the_second_batch_sets_stops_the_third(rt: HostRuntime) -> Result<
             taken: 0,
             last: 0,
         };
-        let told = run_with(
-            &rt,
-            rt.alloc(),
-            &query,
-            source,
-            Growth::ONE,
-            &OpenGate,
-            &mut token,
-            &mut sink,
-        );
+        let told = told_of(&rt, rt.alloc(), &query, COUNT, &mut token, &mut sink);
         assert!(&rt; is_cancelled(&told));
         assert_eq!(&rt; sink.taken, 2);
         assert_eq!(&rt; sink.last, 2);
+    }
+    Ok(())
+}
+
+/// How many numbers a run is asked for that another thread stops.
+const MANY: u64 = 10_000;
+
+/// At which batch that thread sets the flag.
+const STOPPED_AT: u64 = 1_000;
+
+/// A sink that counts batches, and stays with one of them until the flag was set, or for a long time.
+#[derive(Drop)]
+struct Stays<'a> {
+    taken: &'a AtomicU64,
+    /// Whether the flag was set, 1 for yes.
+    set: &'a AtomicU64,
+}
+
+impl<'a> Sink for Stays<'a> {
+    type Item = i64;
+
+    ghost accepts = { λ _ _ _. ⊤ };
+
+    ghost refuses = { λ _ _ _ _. ⊤ };
+
+    fn batch(&mut self, _: &[i64]) -> Result<(), u32> {
+        let before = self.taken.fetch_add(1, Ordering::SeqCst);
+        if before.wrapping_add(1) == STOPPED_AT {
+            waits_for(self.set, 1);
+        }
+        Ok(())
+    }
+}
+
+/// Has another thread set the flag of a run in the middle, and tells whether that was the last batch.
+fn is_stopped_by_another<R: Threads + Wait + Sync>(
+    rt: &R,
+    alloc: Global,
+    workers: u64,
+) -> Result<bool, Fail> {
+    let query: Query<Formula> = ordered(alloc, MergeOption::NotBuffered, workers)?;
+    let flag = CancelFlag::new();
+    let taken = AtomicU64::new(0);
+    let set = AtomicU64::new(0);
+    let running = || {
+        let mut token = flag.token();
+        let mut sink = Stays {
+            taken: &taken,
+            set: &set,
+        };
+        told_of(rt, alloc, &query, MANY, &mut token, &mut sink)
+    };
+    let stopping = || {
+        let has_come = waits_for(&taken, STOPPED_AT);
+        flag.cancel();
+        set.store(1, Ordering::SeqCst);
+        has_come
+    };
+    let (told, has_come) = join(rt, running, stopping);
+    Ok(is_cancelled(&told) && has_come && taken.load(Ordering::SeqCst) == STOPPED_AT)
+}
+
+#[test]
+fn a_flag_that_another_thread_sets_stops_the_next_batch(rt: HostRuntime) -> Result<(), Fail> {
+    for workers in WORKERS {
+        assert!(&rt; is_stopped_by_another(&rt, rt.alloc(), workers)?);
     }
     Ok(())
 }

@@ -110,6 +110,7 @@ fn no_run_tells_a_fault_behind_its_end(rt: HostRuntime) -> Result<(), Fail> {
                 growth,
                 option: MergeOption::NotBuffered,
                 refused: usize::MAX,
+                cancel_after: None,
             };
             end_at_a_worker(&rt, rt.alloc(), setting)?;
             end_at_the_merger(&rt, rt.alloc(), setting)?;

@@ -112,6 +112,7 @@ fn a_gate_is_told_of_each_worker_in_order(rt: HostRuntime) -> Result<(), Fail> {
             growth,
             option: MergeOption::Default,
             refused: usize::MAX,
+            cancel_after: None,
         };
         note(&rt, rt.alloc(), setting)?;
     }

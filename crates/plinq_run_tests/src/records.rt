@@ -63,6 +63,7 @@ fn by(workers: u64) -> Setting {
         growth: Growth::DEFAULT,
         option: MergeOption::Default,
         refused: usize::MAX,
+        cancel_after: None,
     }
 }
 

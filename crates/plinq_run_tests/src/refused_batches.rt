@@ -39,6 +39,7 @@ fn a_sink_that_refuses_any_batch_ends_the_run(rt: HostRuntime) -> Result<(), Fai
                 growth: Growth::ONE,
                 option: MergeOption::NotBuffered,
                 refused,
+                cancel_after: None,
             };
             refuse(&rt, rt.alloc(), 17, setting)?;
         }
@@ -55,6 +56,7 @@ fn the_only_batch_is_refused(rt: HostRuntime) -> Result<(), Fail> {
                 growth: Growth::DEFAULT,
                 option,
                 refused: 0,
+                cancel_after: None,
             };
             refuse(&rt, rt.alloc(), 16, setting)?;
         }

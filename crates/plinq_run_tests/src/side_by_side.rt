@@ -46,6 +46,7 @@ fn meet<R: Threads + Wait + Sync + Abort>(rt: &R, alloc: Global, workers: u64) -
         growth: Growth::ONE,
         option,
         refused: usize::MAX,
+        cancel_after: None,
     };
     let range = Given::Range(0, workers);
     let answers = ask::<Formula, _, _>(rt, alloc, range, &[], &[], setting, &gate)?;

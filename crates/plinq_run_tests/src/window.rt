@@ -74,6 +74,7 @@ fn hold_the_first<R: Threads + Wait + Sync + Abort>(
         growth: Growth::ONE,
         option,
         refused: usize::MAX,
+        cancel_after: None,
     };
     let ops = [Op::Filter(Formula::Even), Op::Take(3)];
     let answers = ask(rt, alloc, Given::Range(0, count), &[], &ops, setting, &gate)?;

@@ -1,0 +1,75 @@
+use crate::bench_fault::BenchFault;
+use crate::summed::Summed;
+use crate::workload::Workload;
+use plinq_enumerator::Growth;
+use plinq_merge::CancelFlag;
+use plinq_run::{OpenGate, RunFault, run_with};
+use plinq_source::RangeSource;
+use std::alloc::Global;
+use std::io;
+use std::sync::Wait;
+use std::thread::{Threads, join, sleep};
+use std::time::{Clock, Duration, Instant};
+
+/// How many items a run is asked for where no number is given, so many that the flag comes first.
+pub(crate) const MANY: i64 = 1_000_000_000;
+
+// How long a run goes on before its flag is set, in milliseconds.
+const BEFORE: u64 = 200;
+
+/// Has another thread set the flag of a workload's run, and answers how long the run went on then. It is `None` where the
+/// run had ended before.
+pub(crate) fn stop_it<R: Threads + Wait + Sync + Clock>(
+    rt: &R,
+    alloc: Global,
+    workload: Workload,
+    workers: u64,
+    items: i64,
+) -> Result<Option<Duration>, BenchFault> {
+    let flag = CancelFlag::new();
+    let (set, stopped) = join(
+        rt,
+        || set_later(rt, &flag),
+        || run_until(rt, alloc, workload, workers, items, &flag),
+    );
+    let (set, stopped) = (set?, stopped?);
+    Ok(stopped.map(|stopped| stopped.saturating_duration_since(set)))
+}
+
+// Sets the flag after a while, and answers when.
+fn set_later<C: Clock>(clock: &C, flag: &CancelFlag) -> io::Result<Instant> {
+    sleep(clock, Duration::from_millis(BEFORE));
+    let set = Instant::now(clock);
+    flag.cancel();
+    set
+}
+
+// Runs a workload, and answers when its flag has stopped it.
+fn run_until<R: Threads + Wait + Sync + Clock>(
+    rt: &R,
+    alloc: Global,
+    workload: Workload,
+    workers: u64,
+    items: i64,
+    flag: &CancelFlag,
+) -> Result<Option<Instant>, BenchFault> {
+    let query = workload.query(alloc, workers, items)?;
+    let source = RangeSource::new(0, workload.source_length(items.unsigned_abs()))?;
+    let mut token = flag.token();
+    let mut sink = Summed::new(rt, Instant::now(rt)?);
+    let told = run_with(
+        rt,
+        alloc,
+        &query,
+        source,
+        Growth::DEFAULT,
+        &OpenGate,
+        &mut token,
+        &mut sink,
+    );
+    match told {
+        Err(RunFault::Cancelled) => Ok(Some(Instant::now(rt)?)),
+        Err(fault) => Err(BenchFault::Run(fault)),
+        Ok(_) => Ok(None),
+    }
+}
