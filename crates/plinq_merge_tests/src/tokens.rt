@@ -1,12 +1,17 @@
 //! Tokens, and offers that they stop.
-use crate::taken::{Taken, last, merger_of, ordered, part, result_of};
+ghost use Rattle.std.specs.Prelude.{⊤};
+
+use crate::taken::{Offered, Taken, last, merger_of, ordered, part, result_of};
 use plinq_keyed::Tail;
 use plinq_lambda::Formula;
-use plinq_merge::{Cancel, CancelAfter, CancelFlag, MergeFault, Merger, More, NeverCancel};
+use plinq_merge::{
+    Cancel, CancelAfter, CancelFlag, MergeFault, Merger, More, NeverCancel, Sink, WithCancellation,
+};
 use plinq_ops::MergeOption;
 use plinq_source::Ending;
 use std::alloc::Global;
 use std::process::Abort;
+use std::sync::atomic::{AtomicU64, Ordering};
 use std::test::Fail;
 
 /// Asks that a token answers so.
@@ -44,6 +49,8 @@ fn each_token_of_a_flag_sees_it(rt: HostRuntime) {
     expect_answers(&rt, &mut early, 0, false);
     flag.cancel();
     expect_told(&rt, &early, false);
+    expect_answers(&rt, &mut early, 0, true);
+    expect_told(&rt, &early, true);
     expect_answers(&rt, &mut early, 0, true);
     expect_told(&rt, &early, true);
     flag.cancel();
@@ -122,4 +129,75 @@ fn offers_without_a_token_count_as_well(rt: HostRuntime) -> Result<(), Fail> {
     assert_eq!(rt; merger.offer(offered, &mut sink), Ok(More::Yes));
     assert_eq!(rt; merger.delivered(), 2);
     Ok(())
+}
+
+/// Offers a part with the token that never stops anything, and asks how that is answered, and how many batches there are then.
+fn expect_offered(
+    rt: &impl Abort,
+    alloc: Global,
+    merger: &mut Merger<'_, Formula>,
+    sink: &mut Taken<i64>,
+    offered: Offered<'_, i64>,
+    (answer, delivered): (Result<More, MergeFault>, u64),
+) -> Result<(), Fail> {
+    let offered = result_of(rt, alloc, offered)?;
+    let told = merger.offer_with(offered, &mut NeverCancel, sink);
+    assert_eq!(rt; told, answer);
+    assert_eq!(rt; merger.delivered(), delivered);
+    assert_eq!(rt; sink.batches.len() as u64, delivered);
+    Ok(())
+}
+
+#[test]
+fn a_token_that_never_stops_changes_no_answer(rt: HostRuntime) -> Result<(), Fail> {
+    let alloc = rt.alloc();
+    let query = ordered(alloc)?;
+    let mut sink = Taken::new(alloc, usize::MAX);
+    let mut merger: Merger<'_, Formula> = merger_of(alloc, &query, MergeOption::NotBuffered)?;
+    let to = &mut merger;
+    expect_offered(&rt, alloc, to, &mut sink, part(1, &[2]), (Ok(More::Yes), 0))?;
+    expect_offered(&rt, alloc, to, &mut sink, part(0, &[4]), (Ok(More::Yes), 2))?;
+    let twice = Err(MergeFault::Twice);
+    expect_offered(&rt, alloc, to, &mut sink, part(0, &[4]), (twice, 2))?;
+    let end = last(2, &[5], Tail::Ended);
+    expect_offered(&rt, alloc, to, &mut sink, end, (Ok(More::No), 3))?;
+    assert_eq!(rt; merger.finish(), Ok(Ending::End));
+    Ok(())
+}
+
+/// A sink that counts how often it is told that nothing comes.
+#[derive(Drop)]
+struct Rests<'a> {
+    times: &'a AtomicU64,
+}
+
+impl<'a> Sink for Rests<'a> {
+    type Item = i64;
+
+    ghost accepts = { λ _ _ _. ⊤ };
+
+    ghost refuses = { λ _ _ _ _. ⊤ };
+
+    fn batch(&mut self, _: &[i64]) -> Result<(), u32> {
+        Ok(())
+    }
+
+    fn idle(&mut self) {
+        self.times.fetch_add(1, Ordering::SeqCst);
+    }
+}
+
+#[test]
+fn a_sink_that_a_token_may_stop_is_told_that_nothing_comes(rt: HostRuntime) {
+    let times = AtomicU64::new(0);
+    let mut sink = Rests { times: &times };
+    let mut token = CancelAfter::new(0);
+    let mut with = WithCancellation {
+        token: &mut token,
+        sink: &mut sink,
+        delivered: 0,
+        is_stopped: false,
+    };
+    with.idle();
+    assert_eq!(rt; times.load(Ordering::SeqCst), 1);
 }
