@@ -156,8 +156,9 @@ def answers_or_refuses(seen, right):
     return seen == right or seen.status == 5 and seen.errors in REFUSALS and right.output.startswith(seen.output)
 
 
-def has_no_thread(seen, lines):
-    return (seen.status, seen.errors) == (5, NO_THREAD) and lines.startswith(seen.output)
+def has_no_thread(name, seen):
+    lines_are_right = is_beginning(name, seen.output) if name == "one by one" else not seen.output
+    return (seen.status, seen.errors) == (5, NO_THREAD) and lines_are_right
 
 
 def another_user():
@@ -188,12 +189,12 @@ def few_threads(tests):
         program = shutil.copy(PROGRAM, folder)
         for workers in (*range(1, 9), 64):
             for threads in sorted({*range(1, min(workers, 8) + 2), workers, workers + 1, workers + 200}):
-                # (one is the caller's; a worker that has ended leaves its place to a later one, and where other processes of
-                # this user count as well, fewer are left)
-                for name, more, right, lines in (("run", {}, RIGHT, RIGHT.output), ("sum", {"aggregate": "sum"}, SUM, b"")):
-                    given = document({"range": [0, NUMBERS]}, **more)
+                for name, more, right in (("one by one", {}, RIGHT), ("a sum", {"aggregate": "sum"}, SUM)):
+                    # (one is the caller's thread; of what never ends no worker has taken all before the last is started)
+                    are_few = threads <= workers
+                    given = document(ENDLESS if are_few else {"range": [0, NUMBERS]}, **more)
                     seen = run([*MANY, str(workers)], given, program, preexec_fn=leaving(threads))
-                    is_so = has_no_thread(seen, lines) or threads > 1 and seen == right
+                    is_so = has_no_thread(name, seen) if are_few else answers_or_refuses(seen, right)
                     tests.check(f"{threads} threads for {workers} workers: {name}", is_so, seen)
         no_thread_and_no_memory(tests, folder, program)
 
