@@ -189,6 +189,7 @@ def main():
 
 
 if __name__ == "__main__":
-    # (a shell that starts this in the background has interrupts ignored, and what is started here would ignore them as well)
+    # (what starts this in the background may have these ignored, and what is started here would ignore them as well)
     signal.signal(signal.SIGINT, signal.default_int_handler)
+    signal.signal(signal.SIGHUP, signal.SIG_DFL)
     main()
