@@ -119,6 +119,8 @@ CANCELLED = [
     ("full", 0, *ADDED, "", "", True),
     ("full", 2, *ADDED, "", "4 2 5\nend\n", False),
     ("auto", 1, '"range":[1,17]', "", "", "1 2 3 4 5 6 7 8 9 10 11 12 13 14 15 16\n", True),
+    # The source is closed then, or such a run wouldn't return.
+    ("not", 2, '"range":[0,1099511627776]', "", "", "0\n1\n", True),
     ("not", 0, '"list":[]', ',["take",0]', "", "", True),
     ("not", 1, '"list":[]', ',["take",0]', "", "end\n", False),
     # A refusal or a fault of the answer is an ending as well.
@@ -126,6 +128,8 @@ CANCELLED = [
     ("full", 0, '"list":[1],"refuse":7', "", "", "", True),
     # With an aggregate the option has no effect.
     ("not", 0, *ADDED, ',"aggregate":"sum"', "11\nend\n", False),
+    ("not", 1, *ADDED, ',"aggregate":"count"', "3\nend\n", False),
+    ("not", 1, '"range":[1,10]', ',["filter","even"],["take",2]', ',"aggregate":"sum"', "6\nend\n", False),
 ]
 
 # Words, a document, and what is said of it.
