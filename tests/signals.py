@@ -246,4 +246,8 @@ def main():
 
 
 if __name__ == "__main__":
+    # (what starts this in the background may have these ignored, and so would the program)
+    signal.signal(signal.SIGINT, signal.default_int_handler)
+    for which in (signal.SIGHUP, signal.SIGQUIT, signal.SIGTERM):
+        signal.signal(which, signal.SIG_DFL)
     main()
