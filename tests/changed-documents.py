@@ -59,6 +59,7 @@ LIMITS = [
     ('{"list":[1e0]}', "", "", "wrong shape"),
     ('{"list":[1e308]}', "", "", "wrong shape"),
     ('{"list":[1e309]}', "", "", "not JSON"),
+    ('{"list":[],"refuse":0}', "", "", "refused 0\n"),
     ('{"list":[],"refuse":4294967295}', "", "", "refused 4294967295\n"),
     ('{"list":[],"refuse":4294967296}', "", "", "wrong shape"),
     ('{"list":[],"refuse":-1}', "", "", "wrong shape"),
@@ -69,16 +70,29 @@ LIMITS = [
     ('{"range":[9223372036854775807,0]}', "", "", "end\n"),
     ('{"range":[9223372036854775808,0]}', "", "", "wrong shape"),
     ('{"range":[-9223372036854775808,1]}', "", "", "-9223372036854775808\nend\n"),
+    ('{"range":[-9223372036854775809,1]}', "", "", "wrong shape"),
+    ('{"range":[0,18446744073709551615]}', "", "", "source too large"),
+    ('{"range":[0,18446744073709551616]}', "", "", "wrong shape"),
     ('{"range":[0,-1]}', "", "", "wrong shape"),
     ('{"repeat":[5,1099511627776]}', '["take",2]', "", "5 5\nend\n"),
     ('{"repeat":[5,1099511627777]}', '["take",2]', "", "source too large"),
     ('{"repeat":[5,18446744073709551615]}', "", "", "source too large"),
     ('{"repeat":[5,18446744073709551616]}', "", "", "wrong shape"),
+    ('{"repeat":[5,0]}', "", "", "end\n"),
+    ('{"repeat":[5,-1]}', "", "", "wrong shape"),
+    ('{"repeat":[9223372036854775807,1]}', "", "", "9223372036854775807\nend\n"),
+    ('{"repeat":[9223372036854775808,1]}', "", "", "wrong shape"),
+    ('{"repeat":[-9223372036854775808,1]}', "", "", "-9223372036854775808\nend\n"),
+    ('{"repeat":[-9223372036854775809,1]}', "", "", "wrong shape"),
     ('{"text":"9223372036854775807 -9223372036854775808"}', "", "", "9223372036854775807 -9223372036854775808\nend\n"),
     ('{"text":"9223372036854775808"}', "", "", "refused 2\n"),
     ('{"text":"-9223372036854775809"}', "", "", "refused 2\n"),
     ('{"list":[1]}', '["take",9223372036854775807]', "", "1\nend\n"),
     ('{"list":[1]}', '["take",9223372036854775808]', "", "step 0: unknown"),
+    ('{"list":[1]}', '["take",-9223372036854775808]', "", "end\n"),
+    ('{"list":[1]}', '["take",-9223372036854775809]', "", "step 0: unknown"),
+    ('{"list":[1]}', '["skip",9223372036854775807]', "", "end\n"),
+    ('{"list":[1]}', '["skip",9223372036854775808]', "", "step 0: unknown"),
     ('{"list":[1]}', '["skip",-9223372036854775808]', "", "1\nend\n"),
     ('{"list":[1]}', '["skip",-9223372036854775809]', "", "step 0: unknown"),
     ('{"list":[0]}', '["select","add",9223372036854775807]', "", "9223372036854775807\nend\n"),
@@ -96,6 +110,10 @@ LIMITS = [
     ('{"list":[1]}', '["with_degree",18446744073709551616]', "", "step 0: unknown"),
     ('{"list":[1]}', "", ',"growth":[65536,1,65536]', "1\nend\n"),
     ('{"list":[1]}', "", ',"growth":[1,1,65537]', "growth: max too large"),
+    ('{"list":[1]}', "", ',"growth":[1,1,18446744073709551615]', "growth: max too large"),
+    ('{"list":[1]}', "", ',"growth":[1,1,18446744073709551616]', "wrong shape"),
+    ('{"list":[1]}', "", ',"growth":[18446744073709551615,1,1]', "growth: first above max"),
+    ('{"list":[1]}', "", ',"growth":[18446744073709551616,1,1]', "wrong shape"),
     ('{"list":[1]}', "", ',"growth":[65536,1,65535]', "growth: first above max"),
     ('{"list":[1]}', "", ',"growth":[65538,1,65537]', "growth: first above max"),
     ('{"list":[1]}', "", ',"growth":[0,1,65537]', "growth: zero"),
@@ -112,6 +130,8 @@ VERSIONS = [
     ("3", "unknown version"),
     ("9223372036854775807", "unknown version"),
     ("9223372036854775808", "wrong shape"),
+    ("-9223372036854775808", "unknown version"),
+    ("-9223372036854775809", "wrong shape"),
     ("1.0", "wrong shape"),
     ("1e0", "wrong shape"),
     ("true", "wrong shape"),
@@ -133,10 +153,14 @@ TWICE = [
     ('{"version":1,"source":{"list":[1],"refuse":7,"list":[2]},"query":[]}', "2\nrefused 7\n"),
     ('{"version":1,"source":{"list":[1],"refuse":-1,"refuse":8},"query":[]}', "1\nrefused 8\n"),
     ('{"version":1,"source":{"range":[1,2],"range":[5,1]},"query":[]}', "5\nend\n"),
+    ('{"version":1,"source":{"repeat":[1,2],"repeat":[5,1]},"query":[]}', "5\nend\n"),
     ('{"version":1,"source":{"text":"1","text":"2"},"query":[]}', "2\nend\n"),
+    ('{"version":2,"source":{"concat":7,"concat":[{"list":[1]},{"list":[2],"list":[3]}]},"query":[]}', "1 3\nend\n"),
     # (also where one of the two is written otherwise)
     ('{"version":1,"source":{"list":[1]},"query":[],"quer\\u0079":[["take",0]]}', "end\n"),
 ]
+# The formulas that have a number.
+WITH_NUMBER = ("add", "mul", "mod", "into", "below", "above", "equal", "repeat")
 STATUS = {"end": 0, "refused": 3, "fault": 4}
 
 
@@ -154,6 +178,19 @@ def limits_and_names(tests):
     for text, line in rows + TWICE:
         wants, seen = answered(line), run(["seq"], text.encode(), PROGRAM)
         tests.check(text, seen == wants, f"wanted {wants}; seen {seen}")
+
+
+# Numbers that a formula may have, and one past each end.
+WITHIN, PAST = (-(2**63), -1, 0, 1, 2**63 - 1), (-(2**63) - 1, 2**63)
+
+
+def numbers_of_formulas(tests):
+    for step in ("select", "filter", "select_many", "take_while", "skip_while"):
+        for name in WITH_NUMBER:
+            texts = [f'{{"version":2,"source":{{"list":[1,-1]}},"query":[["{step}","{name}",{it}]]}}'.encode() for it in WITHIN + PAST]
+            all_as_right(tests, f"{step} {name} with numbers up to each end", texts)
+            seen = [run(["seq"], it, PROGRAM) for it in texts[len(WITHIN) :]]
+            tests.check(f"{step} {name} with a number past an end", seen == [refused("step 0: unknown")] * len(PAST), seen)
 
 
 def deep(tests):
@@ -174,6 +211,7 @@ def main():
     tests = Tests()
     changed_examples(tests)
     limits_and_names(tests)
+    numbers_of_formulas(tests)
     deep(tests)
     tests.end()
 

@@ -34,7 +34,7 @@ AGGREGATED = {
 }
 GROWTHS = {"chunks of one": [1, 1, 1], "great chunks": [64, 1, 65_536], "chunks as they come": None}
 DEGREES = (1, 2, 8, 64)
-MERGES = ("not", "auto", "full")
+MERGES = ("not", "auto", "full", "default")
 
 
 def right(source, steps, merge, aggregate=None):
