@@ -17,7 +17,8 @@ from concurrent.futures import ThreadPoolExecutor
 from support.program import HANGS, ROOT, Tests, shared_library
 
 # The calls that answer where memory runs out, and the test of a crate that has them refused. Pipelines, rows of keys and streams
-# are refused through the calls that use them, and those of the program by refused-allocations.py.
+# are refused through the calls that use them, `offer_with` through `offer`, and `run_with` and those of the program by
+# refused-allocations.py.
 CALLS = {
     "TicketLock::new": ("base", "lock::a_lock_that_is_refused_is_out_of_memory"),
     "Enumerator::ask and close": ("base", "enumerators::a_refused_growth_changes_nothing"),
