@@ -187,8 +187,9 @@ def few_threads(tests):
     with tempfile.TemporaryDirectory() as folder:
         os.chmod(folder, 0o755)
         program = shutil.copy(PROGRAM, folder)
-        for workers in (*range(1, 9), 64):
-            for threads in sorted({*range(1, min(workers, 8) + 2), workers, workers + 1, workers + 200}):
+        for workers in range(1, 65):
+            few = range(1, min(workers, 8) + 2) if workers <= 8 or workers in DEGREES else (1, workers - 1)
+            for threads in sorted({*few, workers, workers + 1, workers + 200}):
                 for name, more, right in (("one by one", {}, RIGHT), ("a sum", {"aggregate": "sum"}, SUM)):
                     # (one is the caller's thread; of what never ends no worker has taken all before the last is started)
                     are_few = threads <= workers
@@ -223,8 +224,10 @@ def no_thread_and_no_memory(tests, folder, program):
 
 def little_memory(tests):
     kinds = set()
-    for workers in DEGREES:
-        for limit in (*range(10, 100, 10), *range(100, 1_000, 100)):
+    for workers in range(1, 65):
+        # (a thread takes some MiB, so that of most numbers of workers some are started and some aren't)
+        some = (10 + 4 * workers, 10 + 8 * workers, 20 + 20 * workers)
+        for limit in (*range(10, 100, 10), *range(100, 1_000, 100)) if workers in DEGREES else some:
 
             def limited():
                 resource.setrlimit(resource.RLIMIT_AS, (limit << 20, limit << 20))
