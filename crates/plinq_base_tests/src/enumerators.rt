@@ -297,7 +297,8 @@ fn expect_behind(rt: &impl Abort, chunk: &Chunk<u64>, first: u64, closed: Option
     assert_eq!(rt; chunk.tail == CLOSED, closed == CLOSED);
 }
 
-// An event with no room changes nothing, and then the next one answers as if it hadn't been. Run with each allocation failing in turn.
+// An event with no room changes nothing, and then the next one answers as if it hadn't been: one is refused at most. Run with
+// each allocation failing in turn.
 #[test]
 fn a_refused_growth_changes_nothing(rt: HostRuntime) {
     let Ok(mut three) = numbers(&rt, rt.alloc(), 3) else {
@@ -309,12 +310,17 @@ fn a_refused_growth_changes_nothing(rt: HostRuntime) {
     }
     let tail = close_or_not(&rt, &mut three, 3);
     let before = three.records().len();
+    // (of three asks and a close)
+    assert!(rt; before >= 3);
     match ask(&rt, &mut three, 4, 1) {
         Ok(chunk) => {
             expect_behind(&rt, &chunk, first, tail);
             expect_count(&rt, &three, before.wrapping_add(1));
         }
-        Err(OutOfMemory) => expect_count(&rt, &three, before),
+        Err(OutOfMemory) => {
+            expect_count(&rt, &three, before);
+            assert_eq!(rt; before, 4);
+        }
     }
     assert!(rt; replays(three.records(), 3, Ending::End));
 }

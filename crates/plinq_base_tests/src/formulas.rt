@@ -224,9 +224,24 @@ fn answers_through_the_bound(rt: HostRuntime) -> Result<(), Fail> {
     Ok(())
 }
 
-// Also where an allocation fails: run it with each allocation refused in turn.
+// Counts expansions of 3 that were refused since memory ran out: 1, or 0 where it has so many items.
+fn refusals(rt: &impl Abort, alloc: Global, formula: Formula, count: usize) -> usize {
+    match formula.expand(alloc, 3) {
+        Ok(items) => {
+            assert_eq!(rt; items.len(), count, "{formula:?}");
+            0
+        }
+        Err(fault) => {
+            assert_eq!(rt; fault, ExpandFault::Memory, "{formula:?}");
+            1
+        }
+    }
+}
+
+// Each is asked twice, and of all of them one is refused at most. Run with each allocation refused in turn.
 #[test]
 fn expands_or_says_that_memory_ran_out(rt: HostRuntime) {
+    let mut refused = 0usize;
     for (formula, count) in [
         (Formula::Add(1), 1),
         (Formula::Even, 1),
@@ -234,11 +249,11 @@ fn expands_or_says_that_memory_ran_out(rt: HostRuntime) {
         (Formula::Repeat(5), 5),
         (Formula::UpTo, 3),
     ] {
-        match formula.expand(rt.alloc(), 3) {
-            Ok(items) => assert_eq!(rt; items.len(), count, "{formula:?}"),
-            Err(fault) => assert_eq!(rt; fault, ExpandFault::Memory, "{formula:?}"),
-        }
+        let first = refusals(&rt, rt.alloc(), formula, count);
+        let second = refusals(&rt, rt.alloc(), formula, count);
+        refused = refused.wrapping_add(first).wrapping_add(second);
     }
+    assert!(rt; refused <= 1);
 }
 
 #[test]

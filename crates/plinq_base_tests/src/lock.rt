@@ -207,16 +207,25 @@ fn a_dropped_pass_takes_its_records_with_it(rt: HostRuntime) {
     assert_eq!(rt; notes.records().len(), 2);
 }
 
+// A lock at the second attempt where the first is refused.
+fn lock_at_last(rt: &impl Abort, alloc: Global) -> (TicketLock<Notes>, Pass<Notes>)
+    ensures { IsPassOf result.0 result.1 }
+{
+    match TicketLock::new(alloc, Notes::new(alloc)) {
+        Ok(made) => made,
+        Err(fault) => {
+            expect_fault(rt, fault, LockFault::Memory);
+            lock_of(rt, alloc)
+        }
+    }
+}
+
 // Run with each allocation failing in turn.
 #[test]
 fn a_lock_that_is_refused_is_out_of_memory(rt: HostRuntime) {
-    match TicketLock::new(rt.alloc(), Notes::new(rt.alloc())) {
-        Err(fault) => expect_fault(&rt, fault, LockFault::Memory),
-        Ok((lock, pass)) => {
-            let (pass, _) = visit(&rt, &lock, pass, Way::InTurn);
-            assert!(rt; lock.finish(pass).is_ok());
-        }
-    }
+    let (lock, pass) = lock_at_last(&rt, rt.alloc());
+    let (pass, _) = visit(&rt, &lock, pass, Way::InTurn);
+    assert!(rt; lock.finish(pass).is_ok());
 }
 
 // Two threads enter many times, each in its own way.

@@ -53,7 +53,10 @@ fn offer_till_failed(rt: &impl Abort, alloc: Global, option: MergeOption) {
     };
     match merger_of::<Formula>(alloc, &query, option) {
         Ok(merger) => offer_all(rt, alloc, merger, results),
-        Err(fault) => assert_eq!(rt; fault, MergeFault::Memory),
+        Err(fault) => {
+            assert_eq!(rt; fault, MergeFault::Memory);
+            assert!(rt; merger_of::<Formula>(alloc, &query, option).is_ok());
+        }
     }
 }
 

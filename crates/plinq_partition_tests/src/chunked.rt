@@ -42,6 +42,24 @@ fn two_partitions_take_in_turn(rt: HostRuntime) -> Result<(), Fail> {
     Ok(())
 }
 
+#[test]
+fn the_second_of_two_is_dropped(rt: HostRuntime) -> Result<(), Fail> {
+    let (chunked, mut first) = range_of(&rt, rt.alloc(), 4, Growth::DEFAULT);
+    let mut second = chunked.dynamic(&mut first);
+    expect_taken(&rt, &chunked, &mut first, 0, &[0], None);
+    expect_taken(&rt, &chunked, &mut second, 1, &[1], None);
+    drop(second);
+    let Err((enumerator, fault)) = chunked.give_back(vec![in rt.alloc(); first]?) else {
+        panic!(rt; "whole without one of two");
+    };
+    assert_eq!(rt; fault, TakeFault::Incomplete { have: 1, all: 2 });
+    let Some(enumerator) = enumerator else {
+        panic!(rt; "away");
+    };
+    expect_records(&rt, enumerator.records(), 2, 4);
+    Ok(())
+}
+
 // Drops the partition at this place, and keeps the others.
 fn without(
     chunked: &Chunked<RangeSource>,

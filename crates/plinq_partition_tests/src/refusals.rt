@@ -26,6 +26,27 @@ fn numbers(
     }
 }
 
+// The same, at the second attempt where the first is refused.
+fn numbers_at_last(
+    rt: &impl Abort,
+    alloc: Global,
+    start: i64,
+    count: u64,
+) -> (Chunked<RangeSource>, Partition<RangeSource>)
+    ensures { IsPartitionOf result.0 result.1 }
+{
+    match numbers(alloc, start, count) {
+        Ok(made) => made,
+        Err(fault) => {
+            assert_eq!(rt; fault, TakeFault::Memory);
+            let Ok(made) = numbers(alloc, start, count) else {
+                panic!(rt; "refused twice");
+            };
+            made
+        }
+    }
+}
+
 pub(crate) fn expect_fault<T: Drop>(rt: &impl Abort, told: Result<T, TakeFault>, fault: TakeFault) {
     let Err(told) = told else {
         panic!(rt; "not refused");
@@ -140,13 +161,7 @@ fn two_at_last(
 // each allocation failing in turn.
 #[test]
 fn a_refused_allocation_changes_nothing(rt: HostRuntime) {
-    let (chunked, mut first) = match numbers(rt.alloc(), 0, 3) {
-        Ok(made) => made,
-        Err(fault) => {
-            assert_eq!(rt; fault, TakeFault::Memory);
-            return;
-        }
-    };
+    let (chunked, mut first) = numbers_at_last(&rt, rt.alloc(), 0, 3);
     let taken = take_at_last(&rt, &chunked, &mut first, 0, 0);
     let mut partitions = two_at_last(&rt, &chunked, first);
     let tried = try_at_last(&rt, &chunked, &mut partitions[1], 1, 1);
@@ -285,7 +300,11 @@ fn a_refused_start_at_a_ticket_is_memory(rt: HostRuntime) {
         Ok((chunked, mut partition)) => {
             try_at_last(&rt, &chunked, &mut partition, 0, 0);
         }
-        Err(fault) => assert_eq!(rt; fault, TakeFault::Memory),
+        Err(fault) => {
+            assert_eq!(rt; fault, TakeFault::Memory);
+            let (chunked, mut partition) = with_first_ticket(&rt, rt.alloc(), LAST - 1);
+            expect_tried(&rt, &chunked, &mut partition, 0, &[1], None);
+        }
     }
 }
 
