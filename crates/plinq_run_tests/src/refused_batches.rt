@@ -1,7 +1,7 @@
 use crate::asked::{Given, OPTIONS, Setting, WORKERS, ask};
 use plinq_enumerator::Growth;
 use plinq_lambda::Formula;
-use plinq_ops::MergeOption;
+use plinq_ops::{MergeOption, Op};
 use plinq_run::OpenGate;
 use std::alloc::Global;
 use std::process::Abort;
@@ -13,18 +13,12 @@ use std::thread::Threads;
 fn refuse<R: Threads + Wait + Sync + Abort>(
     rt: &R,
     alloc: Global,
-    count: u64,
+    given: Given,
+    list: &[i64],
+    ops: &[Op<Formula>],
     setting: Setting,
 ) -> Result<(), Fail> {
-    let answers = ask::<Formula, _, _>(
-        rt,
-        alloc,
-        Given::Range(1, count),
-        &[],
-        &[],
-        setting,
-        &OpenGate,
-    )?;
+    let answers = ask(rt, alloc, given, list, ops, setting, &OpenGate)?;
     let is_told = answers.are_refused(setting.option, setting.refused);
     assert!(rt; is_told, "{setting:?}");
     Ok(())
@@ -41,7 +35,7 @@ fn a_sink_that_refuses_any_batch_ends_the_run(rt: HostRuntime) -> Result<(), Fai
                 refused,
                 cancel_after: None,
             };
-            refuse(&rt, rt.alloc(), 17, setting)?;
+            refuse(&rt, rt.alloc(), Given::Range(1, 17), &[], &[], setting)?;
         }
     }
     Ok(())
@@ -58,8 +52,24 @@ fn the_only_batch_is_refused(rt: HostRuntime) -> Result<(), Fail> {
                 refused: 0,
                 cancel_after: None,
             };
-            refuse(&rt, rt.alloc(), 16, setting)?;
+            refuse(&rt, rt.alloc(), Given::Range(1, 16), &[], &[], setting)?;
         }
+    }
+    Ok(())
+}
+
+#[test]
+fn the_second_of_three_batches_is_refused(rt: HostRuntime) -> Result<(), Fail> {
+    let add_one: &[Op<Formula>] = &[Op::Select(Formula::Add(1))];
+    for workers in WORKERS {
+        let setting = Setting {
+            workers,
+            growth: Growth::DEFAULT,
+            option: MergeOption::NotBuffered,
+            refused: 1,
+            cancel_after: None,
+        };
+        refuse(&rt, rt.alloc(), Given::List, &[3, 1, 4], add_one, setting)?;
     }
     Ok(())
 }
