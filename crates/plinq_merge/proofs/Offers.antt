@@ -11,8 +11,9 @@ use Rattle.plinq_ops.specs.declared.op.Op.{Op}
 use Rattle.plinq_ops.specs.Stage.{some_takes_none}
 use Rattle.plinq_ops.specs.Operator.{stages_of}
 use Rattle.plinq_ops.specs.Feeding.{is_empty_take}
-use Rattle.plinq_ops.specs.Pipeline.{PipelineView, stages, begun}
-use Rattle.plinq_ops.proofs.Counts.{stages_left-counts, some_takes_none-stages_of}
+use Rattle.plinq_ops.specs.Pipeline.{PipelineView, IsReached, stages}
+use Rattle.plinq_ops.proofs.ByKey.{stages-begun}
+use Rattle.plinq_ops.proofs.Counts.{some_takes_none-stages_of}
 use Rattle.plinq_ops.proofs.Open.{seq-nothing}
 use Rattle.plinq_merge.specs.declared.more.More.{More}
 use Rattle.plinq_merge.specs.declared.more.More.TheVariants.{Yes, No}
@@ -138,19 +139,19 @@ taken-begun merge =
     }
 
 -- what is left of operators that have seen nothing
-pub begun-stages : {L T : Type 0} (meaning : L → Meaning T) (p : PipelineView L) (ops : List (Op L)) → p ≡ begun ops → stages meaning p ≡ stages_of meaning p.ops
-begun-stages meaning p ops is = ap (stages meaning) is ∙ stages_left-counts meaning ops ∙ sym (ap (λ q. stages_of meaning q.ops) is)
+pub begun-stages : {L T : Type 0} (meaning : L → Meaning T) (p : PipelineView L) (ops : List (Op L)) → IsReached meaning ops 0 p → stages meaning p ≡ stages_of meaning p.ops
+begun-stages meaning p ops reached = stages-begun meaning ops p reached ∙ sym (ap (stages_of meaning) reached.same)
 
-pub begun-undecided : {L T : Type 0} (meaning : L → Meaning T) (p : PipelineView L) (ops : List (Op L)) → p ≡ begun ops → list_any is_empty_take ops ≡ false → some_takes_none (stages meaning p) ≡ false
-begun-undecided meaning p ops is some = ap some_takes_none (ap (stages meaning) is ∙ stages_left-counts meaning ops) ∙ sym (some_takes_none-stages_of meaning ops) ∙ some
+pub begun-undecided : {L T : Type 0} (meaning : L → Meaning T) (p : PipelineView L) (ops : List (Op L)) → IsReached meaning ops 0 p → list_any is_empty_take ops ≡ false → some_takes_none (stages meaning p) ≡ false
+begun-undecided meaning p ops reached some = ap some_takes_none (stages-begun meaning ops p reached) ∙ sym (some_takes_none-stages_of meaning ops) ∙ some
 
 -- a new merger stands for no offers
-pub begun-rests : {L T : Type 0} (meaning : L → Meaning T) (w : Work L T) (ops : List (Op L)) → w.decided ≡ false → w.pipeline ≡ begun ops → list_any is_empty_take ops ≡ false
+pub begun-rests : {L T : Type 0} (meaning : L → Meaning T) (w : Work L T) (ops : List (Op L)) → w.decided ≡ false → IsReached meaning ops 0 w.pipeline → list_any is_empty_take ops ≡ false
     → w.row.next ≡ 0 → w.row.waiting.entries ≡ [] → w.row.told ≡ None → held_of w.buffer ≡ [] → Rests meaning w []
-begun-rests {L} {T} meaning w ops undecided is some next waiting told held =
+begun-rests {L} {T} meaning w ops undecided reached some next waiting told held =
     let merge : Merge T = merge_of meaning w in
     let m0 : Content T = record { next = 0; waiting = []; told = None; now = merge.after; held = [] } in
-    let now = begun-stages meaning w.pipeline ops is in
+    let now = begun-stages meaning w.pipeline ops reached in
     let same : m0 ≡ content meaning w =
     ap (λ n. record m0 { next = n }) (sym next)
     ∙ ap (λ ps. record m0 { next = w.row.next; waiting = ps }) (sym waiting)
@@ -159,7 +160,7 @@ begun-rests {L} {T} meaning w ops undecided is some next waiting told held =
     ∙ ap (λ h. record m0 { next = w.row.next; waiting = w.row.waiting.entries; told = w.row.told; now = stages meaning w.pipeline; held = h }) (sym held) in
     let P : Content T → Type 0 = λ m. HasTaken merge m (open_trace []) [] [] in
     let Q : Content T → Type 0 = λ m. IsAtGap m in
-    let none : some_takes_none merge.after ≡ false = ap some_takes_none (sym now) ∙ begun-undecided meaning w.pipeline ops is some in
+    let none : some_takes_none merge.after ≡ false = ap some_takes_none (sym now) ∙ begun-undecided meaning w.pipeline ops reached some in
     record {
       undecided = undecided;
       out = [];

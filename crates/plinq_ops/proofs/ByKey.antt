@@ -1,5 +1,5 @@
 -- Operators that a worker applies by key: on the element at a position they do what is left of them there.
-use Rattle.std.specs.Prelude.{◌≡◌, ℕ, zero, suc, ◌+◌, ◌-◌, ◌<◌, ◌≤◌, ℤ, pos, negsuc, ◌+ℤ◌, ◌-ℤ◌, ◌<ℤ◌, List, [], ◌∷◌, length, drop, map, Bool, true, false, Option, Some, None, Result, Ok, Err, ⊤, refl}
+use Rattle.std.specs.Prelude.{◌≡◌, ℕ, zero, suc, ◌+◌, ◌-◌, ◌<◌, ◌≤◌, ℤ, pos, negsuc, ◌+ℤ◌, ◌-ℤ◌, ◌<ℤ◌, List, [], ◌∷◌, length, drop, Bool, true, false, Option, Some, None, Result, Ok, Err, ⊤, refl}
 use Rattle.std.specs.List.{list_any}
 use Rattle.std.proofs.Common.{sym, ◌∙◌, ap, inl, inr, arith}
 use Rattle.std.proofs.lemmas.Int.{ints}
@@ -17,13 +17,13 @@ use Rattle.plinq_ops.specs.declared.op.Op.TheVariants.{Select, Filter, SelectMan
 use Rattle.plinq_ops.specs.declared.known.Known.TheVariants.{Key, Position}
 use Rattle.plinq_ops.specs.Stage.{Stage, taking, skipping, taken, skipped, apply, seq, behind, seq_behind}
 use Rattle.plinq_ops.specs.Operator.{item_count, selected, taken_while, stage_of, stages_of, counted_off, stage_left}
-use Rattle.plinq_ops.specs.Feeding.{stages_left, is_empty_take}
+use Rattle.plinq_ops.specs.Feeding.{is_empty_take}
 use Rattle.plinq_ops.specs.Fragment.{ended_here, taken_at, skipped_at, apply_at, position_behind, fragment_at, fragment_of}
-use Rattle.plinq_ops.specs.Pipeline.{PipelineView, begun_at, stages}
-use Rattle.plinq_ops.specs.ByKey.{can_apply, is_by_key_from, is_by_key, left_at, passed_on, counts_at}
+use Rattle.plinq_ops.specs.Pipeline.{PipelineView, IsReached, stages}
+use Rattle.plinq_ops.specs.ByKey.{can_apply, is_by_key_from, is_by_key, left_at, passed_on, stages_at}
 use Rattle.plinq_ops.proofs.Stages.{taken-short, taken-enough}
 use Rattle.plinq_ops.proofs.Open.{open-from_seq}
-use Rattle.plinq_ops.proofs.Counts.{stages_left-counts}
+use Rattle.plinq_ops.proofs.Operators.{stage_left-counted_off}
 
 -- where positions aren't known no operator goes by them
 fragment_at-any : {L T : Type 0} (meaning : L → Meaning T) (ops : List (Op L)) (p : ℤ) (t : Trace T) → is_by_key_from Key ops ≡ true
@@ -356,12 +356,12 @@ item_count-behind (TakeWhile f) p = refl
 item_count-behind (SkipWhile f) p = refl
 item_count-behind AsUnordered p = refl
 
--- the counts at a position say what is left there
-pub stages_left-counts_at : {L T : Type 0} (meaning : L → Meaning T) (ops : List (Op L)) (p : ℤ) → stages_left meaning ops (counts_at ops (item_count p)) ≡ left_at meaning ops p
-stages_left-counts_at meaning [] p = refl
-stages_left-counts_at meaning (op ∷ ops) p =
+-- what is left once so many elements have reached the operators is what is left at the position of the next
+pub stages_at-position : {L T : Type 0} (meaning : L → Meaning T) (ops : List (Op L)) (p : ℤ) → stages_at meaning ops (item_count p) ≡ left_at meaning ops p
+stages_at-position meaning [] p = refl
+stages_at-position meaning (op ∷ ops) p =
     ap (λ rest. stage_left meaning op (counted_off op - item_count p) ∷ rest)
-    (ap (λ n. stages_left meaning ops (counts_at ops n)) (item_count-behind op p) ∙ stages_left-counts_at meaning ops (position_behind op p))
+    (ap (stages_at meaning ops) (item_count-behind op p) ∙ stages_at-position meaning ops (position_behind op p))
 
 passed_on-none : {L : Type 0} (op : Op L) (n : ℕ) → n ≡ 0 → passed_on op n ≡ 0
 passed_on-none (Select f) n none = none
@@ -374,16 +374,20 @@ passed_on-none (SkipWhile f) n none = none
 passed_on-none AsUnordered n none = none
 
 -- at the start all of the operators is left
-pub counts_at-start : {L : Type 0} (ops : List (Op L)) (n : ℕ) → n ≡ 0 → counts_at ops n ≡ map counted_off ops
-counts_at-start [] n none = refl
-counts_at-start (op ∷ ops) n none =
-    let first : counted_off op - n ≡ counted_off op = omega (arith, none) in
-    let others = counts_at-start ops (passed_on op n) (passed_on-none op n none) in
+pub stages_at-start : {L T : Type 0} (meaning : L → Meaning T) (ops : List (Op L)) (n : ℕ) → n ≡ 0 → stages_at meaning ops n ≡ stages_of meaning ops
+stages_at-start meaning [] n none = refl
+stages_at-start meaning (op ∷ ops) n none =
+    let all : counted_off op - n ≡ counted_off op = omega (arith, none) in
+    let first : stage_left meaning op (counted_off op - n) ≡ stage_of meaning op = ap (stage_left meaning op) all ∙ stage_left-counted_off meaning op in
+    let others = stages_at-start meaning ops (passed_on op n) (passed_on-none op n none) in
     cc
 
 pub left_at-start : {L T : Type 0} (meaning : L → Meaning T) (ops : List (Op L)) → left_at meaning ops (pos 0) ≡ stages_of meaning ops
-left_at-start meaning ops = sym (stages_left-counts_at meaning ops (pos 0)) ∙ ap (stages_left meaning ops) (counts_at-start ops 0 refl) ∙ stages_left-counts meaning ops
+left_at-start meaning ops = sym (stages_at-position meaning ops (pos 0)) ∙ stages_at-start meaning ops 0 refl
 
--- which a pipeline does that begins there
-pub stages-begun_at : {L T : Type 0} (meaning : L → Meaning T) (ops : List (Op L)) (key : ℕ) (p : PipelineView L) → p ≡ begun_at ops key → stages meaning p ≡ left_at meaning ops (pos key)
-stages-begun_at meaning ops key p is = ap (stages meaning) is ∙ stages_left-counts_at meaning ops (pos key)
+-- which a pipeline does that they have reached
+pub stages-reached : {L T : Type 0} (meaning : L → Meaning T) (ops : List (Op L)) (key : ℕ) (p : PipelineView L) → IsReached meaning ops key p → stages meaning p ≡ left_at meaning ops (pos key)
+stages-reached meaning ops key p reached = reached.left ∙ stages_at-position meaning ops (pos key)
+
+pub stages-begun : {L T : Type 0} (meaning : L → Meaning T) (ops : List (Op L)) (p : PipelineView L) → IsReached meaning ops 0 p → stages meaning p ≡ stages_of meaning ops
+stages-begun meaning ops p reached = reached.left ∙ stages_at-start meaning ops 0 refl

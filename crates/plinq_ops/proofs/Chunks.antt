@@ -16,12 +16,12 @@ use Rattle.plinq_ops.specs.declared.fragments.Fragment.{Fragment}
 use Rattle.plinq_ops.specs.Stage.{Stage, seq, seq_behind, some_takes_none}
 use Rattle.plinq_ops.specs.Feeding.{is_empty_take, IsFed}
 use Rattle.plinq_ops.specs.ByKey.{is_by_key, left_at}
-use Rattle.plinq_ops.specs.Pipeline.{PipelineView, begun_at, stages}
+use Rattle.plinq_ops.specs.Pipeline.{PipelineView, IsReached, stages}
 use Rattle.plinq_ops.specs.Fragment.{fragment_of, glued}
 use Rattle.plinq_ops.specs.Chunk.{IsWorkerEnding, IsToldBy, IsFragment, IsStop, ChunkAnswer, no_more, dropped_at, before_answer, chunk_answer, stop_over, BehindItems}
 use Rattle.plinq_ops.proofs.Open.{open-from_continued, open_behind, items-continued}
 use Rattle.plinq_ops.proofs.Answered.{answer-of_none}
-use Rattle.plinq_ops.proofs.ByKey.{fragment_of-keyed, left_at-next, stages-begun_at}
+use Rattle.plinq_ops.proofs.ByKey.{fragment_of-keyed, left_at-next, stages-reached}
 use Rattle.plinq_ops.proofs.Glue.{glued-keyed}
 use Rattle.plinq_ops.proofs.Worker.{seq-ending}
 
@@ -126,13 +126,13 @@ behind-open {L} {T} meaning worker cut key next (x ∷ xs) ys is within is_open 
 
 -- so it is where as many items as the cut reaches were fed as a block, and left the run open
 pub behind-block : {L T : Type 0} (meaning : L → Meaning T) (worker : List (Op L)) (cut key n : ℕ) (items block filled out : List T) (p : PipelineView L) (ss' : List (Stage T)) → is_by_key worker ≡ true → list_any is_empty_take worker ≡ false
-    → n ≤ length items → (0 < n → key + n ≤ cut + 1) → block ≡ take n items → filled ≡ block → p ≡ begun_at worker key → some_takes_none (stages meaning p) ≡ false
+    → n ≤ length items → (0 < n → key + n ≤ cut + 1) → block ≡ take n items → filled ≡ block → IsReached meaning worker key p → some_takes_none (stages meaning p) ≡ false
     → IsFed (stages meaning p) (open_trace filled) [] out ss' None
     → BehindItems [] out (chunk_answer meaning worker cut (key + n) (drop n items)) (chunk_answer meaning worker cut key items)
-behind-block {L} {T} meaning worker cut key n items block filled out p ss' keyed some most within front copied begun undecided fed =
+behind-block {L} {T} meaning worker cut key n items block filled out p ss' keyed some most within front copied reached undecided fed =
     let ss : List (Stage T) = stages meaning p in
     let xs : List T = take n items in
-    let begins : ss ≡ left_at meaning worker (pos key) = stages-begun_at meaning worker key p begun in
+    let begins : ss ≡ left_at meaning worker (pos key) = stages-reached meaning worker key p reached in
     let same : glued meaning worker key xs None ≡ seq ss (open_trace filled) =
     glued-keyed meaning worker key xs None keyed some (ap some_takes_none (sym begins) ∙ undecided) ∙ ap (λ stages. seq stages (open_trace xs)) (sym begins) ∙ ap (λ zs. seq ss (open_trace zs)) (sym (copied ∙ front)) in
     let gives : (glued meaning worker key xs None).items ≡ out = ap (λ t. t.items) same ∙ sym fed.items in

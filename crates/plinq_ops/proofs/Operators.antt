@@ -1,5 +1,5 @@
 -- What is true of each operator, case by case.
-use Rattle.std.specs.Prelude.{◌≡◌, ℕ, zero, suc, ℤ, pos, negsuc, List, [], ◌∷◌, Bool, true, false, cond, Option, Some, None, Result, Ok, Err, ◌==◌, refl}
+use Rattle.std.specs.Prelude.{◌≡◌, ℕ, zero, suc, ℤ, pos, negsuc, List, [], ◌∷◌, Bool, true, false, cond, Option, Some, None, Result, Ok, Err, refl}
 use Rattle.std.proofs.Common.{arith}
 use Rattle.std.proofs.lemmas.Bool.Decides.{nat_tests}
 use Rattle.plinq_source.specs.declared.ending.Ending.{Ending}
@@ -10,7 +10,7 @@ use Rattle.plinq_ops.specs.declared.op.Op.{Op}
 use Rattle.plinq_ops.specs.declared.op.Op.TheVariants.{Select, Filter, SelectMany, Take, Skip, TakeWhile, SkipWhile, AsUnordered}
 use Rattle.plinq_ops.specs.declared.known.Known.TheVariants.{Nothing}
 use Rattle.plinq_ops.specs.SkipWhile.{skipped_from, skipped_while}
-use Rattle.plinq_ops.specs.Stage.{skipping_while, unchanged, joined, apply, takes_none}
+use Rattle.plinq_ops.specs.Stage.{joined, apply, takes_none}
 use Rattle.plinq_ops.specs.Operator.{selected, filtered, selected_many, taken_while, stage_of, counted_off, stage_left}
 use Rattle.plinq_ops.specs.Feeding.{is_empty_take}
 use Rattle.plinq_ops.specs.ByKey.{can_apply}
@@ -85,11 +85,6 @@ skipped_while-ending : {T : Type 0} (test : T → Result Bool ℕ) (xs : List T)
 skipped_while-ending test [] e ending = ending
 skipped_while-ending test (x ∷ xs) e ending = skipped_from-ending (test x) (x ∷ xs) e (skipped_while test xs e) ending (skipped_while-ending test xs e ending)
 
-left_while-ending : {T : Type 0} (test : T → Result Bool ℕ) (is_over : Bool) (t : Trace T) → IsWorkerEnding t.ending
-    → IsWorkerEnding (apply (cond is_over unchanged (skipping_while test)) t).ending
-left_while-ending test true t ending = ending
-left_while-ending test false t ending = skipped_while-ending test t.items t.ending ending
-
 pub apply-ending : {L T : Type 0} (meaning : L → Meaning T) (op : Op L) (count : ℕ) (t : Trace T) → IsWorkerEnding t.ending → IsWorkerEnding (apply (stage_left meaning op count) t).ending
 apply-ending meaning (Select f) count t ending = joined-ending _ t.items t.ending (λ x. selected-ending ((meaning f).map x)) ending
 apply-ending meaning (Filter f) count t ending = joined-ending _ t.items t.ending (λ x. filtered-ending ((meaning f).test x) x) ending
@@ -97,7 +92,7 @@ apply-ending meaning (SelectMany f) count t ending = joined-ending _ t.items t.e
 apply-ending meaning (Take n) count t ending = taken-ending _ _ t ending
 apply-ending meaning (Skip n) count t ending = ending
 apply-ending meaning (TakeWhile f) count t ending = joined-ending _ t.items t.ending (λ x. taken_while-ending ((meaning f).test x) x) ending
-apply-ending meaning (SkipWhile f) count t ending = left_while-ending (meaning f).test (count == 0) t ending
+apply-ending meaning (SkipWhile f) count t ending = skipped_while-ending (meaning f).test t.items t.ending ending
 apply-ending meaning AsUnordered count t ending = ending
 
 -- an operator that looks at no key does the same at each

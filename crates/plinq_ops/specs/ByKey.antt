@@ -68,10 +68,10 @@ abbrev pub passed_on : {L : Type 0} → Op L → ℕ → ℕ
 passed_on (Skip k) n = n - item_count k
 passed_on op n = n
 
--- how many items each Take and each Skip has left, so many elements having reached the first operator
-abbrev pub counts_at : {L : Type 0} → List (Op L) → ℕ → List ℕ
-counts_at [] n = []
-counts_at (op ∷ ops) n = (counted_off op - n) ∷ counts_at ops (passed_on op n)
+-- what is left of the operators, so many elements having reached the first of them
+abbrev pub stages_at : {L T : Type 0} → (L → Meaning T) → List (Op L) → ℕ → List (Stage T)
+stages_at meaning [] n = []
+stages_at meaning (op ∷ ops) n = stage_left meaning op (counted_off op - n) ∷ stages_at meaning ops (passed_on op n)
 
 -- Take and Skip go by key in any order, while nothing before them can change how many elements there are
 take_by_key : is_by_key {L = ℕ} (Skip (pos 1) ∷ Select 0 ∷ TakeWhile 0 ∷ Take (pos 2) ∷ Skip (pos 1) ∷ Filter 0 ∷ TakeWhile 0 ∷ []) ≡ true
@@ -87,11 +87,11 @@ as_unordered_by_key : is_by_key {L = ℕ} (AsUnordered ∷ []) ≡ false
 as_unordered_by_key = refl
 
 -- two elements past a Skip of 3 and a Take of 1 nothing was taken yet
-before_the_skip_ends : counts_at {L = ℕ} (Skip (pos 3) ∷ Take (pos 1) ∷ []) 2 ≡ 1 ∷ 1 ∷ []
+before_the_skip_ends : stages_at {L = ℕ} (λ _. example) (Skip (pos 3) ∷ Take (pos 1) ∷ []) 2 ≡ skipping 1 ∷ taking 1 ∷ []
 before_the_skip_ends = refl
 
 -- a Skip behind another counts from the position behind it
-behind_two_skips : counts_at {L = ℕ} (Skip (pos 1) ∷ Skip (pos 2) ∷ Take (pos 4) ∷ []) 4 ≡ 0 ∷ 0 ∷ 3 ∷ []
+behind_two_skips : stages_at {L = ℕ} (λ _. example) (Skip (pos 1) ∷ Skip (pos 2) ∷ Take (pos 4) ∷ []) 4 ≡ skipping 0 ∷ skipping 0 ∷ taking 3 ∷ []
 behind_two_skips = refl
 
 left_before_the_skip_ends : left_at {L = ℕ} (λ _. example) (Skip (pos 3) ∷ Take (pos 1) ∷ []) (pos 2) ≡ skipping 1 ∷ taking 1 ∷ []

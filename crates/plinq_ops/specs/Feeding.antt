@@ -1,17 +1,11 @@
 -- Feeding: items sent through operators that have seen others before.
-use Rattle.std.specs.Prelude.{◌≡◌, refl, ℕ, pos, negsuc, List, [], ◌∷◌, ◌++◌, Bool, true, false, Option, None, ◌==◌}
+use Rattle.std.specs.Prelude.{◌≡◌, refl, ℕ, pos, negsuc, List, ◌++◌, Bool, true, false, Option, None, ◌==◌}
 use Rattle.plinq_source.specs.declared.ending.Ending.{Ending}
 use Rattle.plinq_source.specs.Trace.{Trace}
-use Rattle.plinq_lambda.specs.Meaning.{Meaning}
 use Rattle.plinq_ops.specs.declared.op.Op.{Op}
 use Rattle.plinq_ops.specs.declared.op.Op.TheVariants.{Take, Skip}
 use Rattle.plinq_ops.specs.Stage.{Stage, seq, seq_behind}
-use Rattle.plinq_ops.specs.Operator.{item_count, stage_left}
-
-abbrev pub stages_left : {L T : Type 0} → (L → Meaning T) → List (Op L) → List ℕ → List (Stage T)
-stages_left meaning [] counts = []
-stages_left meaning (op ∷ ops) [] = []
-stages_left meaning (op ∷ ops) (count ∷ counts) = stage_left meaning op count ∷ stages_left meaning ops counts
+use Rattle.plinq_ops.specs.Operator.{item_count}
 
 -- the answer to a trace that was fed stands behind what was out before, its ending was told, and where there is none
 -- the operators that are left go on

@@ -1,5 +1,5 @@
 -- The operators of a query, by what they do to a trace.
-use Rattle.std.specs.Prelude.{◌≡◌, refl, zero, suc, nat_lt, replicate, ℕ, ℤ, pos, negsuc, List, [], ◌∷◌, Bool, true, false, Option, Some, None, Result, Ok, Err, map, ◌==◌, if◌then◌else◌}
+use Rattle.std.specs.Prelude.{◌≡◌, refl, zero, suc, nat_lt, replicate, ℕ, ℤ, pos, negsuc, List, [], ◌∷◌, Bool, true, false, Option, Some, None, Result, Ok, Err, map}
 use Rattle.plinq_source.specs.declared.ending.Ending.TheVariants.{End, Refused, Fault}
 use Rattle.plinq_source.specs.Trace.{Trace, open_trace, ended}
 use Rattle.plinq_lambda.specs.Meaning.{Meaning}
@@ -50,22 +50,16 @@ stage_of meaning AsUnordered = unchanged
 abbrev pub stages_of : {L T : Type 0} → (L → Meaning T) → List (Op L) → List (Stage T)
 stages_of meaning ops = map (stage_of meaning) ops
 
--- how many items a Take or a Skip counts off, 1 at a SkipWhile, which is over once this is 0; the others count none
+-- how many items a Take or a Skip counts off; the others count none
 abbrev pub counted_off : {L : Type 0} → Op L → ℕ
 counted_off (Take n) = item_count n
 counted_off (Skip n) = item_count n
-counted_off (SkipWhile f) = 1
 counted_off op = 0
 
--- a SkipWhile, which is over where nothing is left to count off
-abbrev pub while_left : {T : Type 0} → (T → Result Bool ℕ) → ℕ → Stage T
-while_left test count = if count == 0 then unchanged else skipping_while test
-
--- what an operator still does, where so much is left to count off
+-- what an operator that goes by key still does, where so much is left to count off
 abbrev pub stage_left : {L T : Type 0} → (L → Meaning T) → Op L → ℕ → Stage T
 stage_left meaning (Take n) count = taking count
 stage_left meaning (Skip n) count = skipping count
-stage_left meaning (SkipWhile f) count = while_left (meaning f).test count
 stage_left meaning op count = stage_of meaning op
 
 -- what a worker must know of the elements that reach an operator to apply it: TakeWhile needs their order, Take and Skip
@@ -141,9 +135,6 @@ skip_while_starts = refl
 
 skip_while_faults : apply (faulting_stage (SkipWhile 0)) (ended (1 ∷ 0 ∷ 9 ∷ []) End) ≡ ended [] (Fault 1)
 skip_while_faults = refl
-
-skip_while_is_over : stage_left {L = ℕ} (λ _. example) (SkipWhile 0) 0 ≡ unchanged
-skip_while_is_over = refl
 
 negative_take : example_stage (Take (negsuc 0)) ≡ taking 0
 negative_take = refl

@@ -2,8 +2,8 @@
 use Rattle.std.specs.Prelude.{[], ◌∷◌, Bool, true, false}
 use Rattle.plinq_source.specs.declared.ending.Ending.TheVariants.{End}
 use Rattle.plinq_source.specs.Trace.{Trace, open_trace, ended}
-use Rattle.plinq_ops.specs.declared.op.Op.{Op}
-use Rattle.plinq_ops.specs.declared.op.Op.TheVariants.{SelectMany}
+use Rattle.plinq_ops.specs.declared.remaining.Remaining.{Remaining}
+use Rattle.plinq_ops.specs.declared.remaining.Remaining.TheVariants.{Expanding}
 use Rattle.plinq_ops.specs.declared.passing.Passed.{Passed}
 use Rattle.plinq_ops.specs.declared.passing.Passed.TheVariants.{Nothing, Item, Last, Ends}
 
@@ -15,6 +15,6 @@ passed_trace Nothing x = open_trace []
 passed_trace (Ends e) x = ended [] e
 
 -- an operator that can give more items than it was given
-abbrev pub expands : {L : Type 0} → Op L → Bool
-expands (SelectMany f) = true
+abbrev pub expands : {L : Type 0} → Remaining L → Bool
+expands (Expanding f) = true
 expands op = false

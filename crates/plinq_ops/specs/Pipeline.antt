@@ -1,25 +1,38 @@
 -- A pipeline: operators that have seen items before.
-use Rattle.std.specs.Prelude.{ℕ, List, map}
+use Rattle.std.specs.Prelude.{◌≡◌, ℕ, List, map}
 use Rattle.plinq_lambda.specs.Meaning.{Meaning}
 use Rattle.plinq_ops.specs.declared.op.Op.{Op}
-use Rattle.plinq_ops.specs.Stage.{Stage}
-use Rattle.plinq_ops.specs.Operator.{counted_off}
-use Rattle.plinq_ops.specs.Feeding.{stages_left}
-use Rattle.plinq_ops.specs.ByKey.{counts_at}
+use Rattle.plinq_ops.specs.declared.op.Op.TheVariants.{Select, Filter, SelectMany, TakeWhile, SkipWhile}
+use Rattle.plinq_ops.specs.declared.remaining.Remaining.{Remaining}
+use Rattle.plinq_ops.specs.declared.remaining.Remaining.TheVariants.{Mapping, Filtering, Expanding, Taking, Skipping, TakingWhile, SkippingWhile, Unchanged}
+use Rattle.plinq_ops.specs.Stage.{Stage, taking, skipping, unchanged}
+use Rattle.plinq_ops.specs.Operator.{stage_of}
+use Rattle.plinq_ops.specs.ByKey.{stages_at}
 
--- the operators, and how much each has left to count off
+-- what an operator still does
+abbrev pub stage_now : {L T : Type 0} → (L → Meaning T) → Remaining L → Stage T
+stage_now meaning (Mapping f) = stage_of meaning (Select f.now)
+stage_now meaning (Filtering f) = stage_of meaning (Filter f.now)
+stage_now meaning (Expanding f) = stage_of meaning (SelectMany f.now)
+stage_now meaning (Taking n) = taking n
+stage_now meaning (Skipping n) = skipping n
+stage_now meaning (TakingWhile f) = stage_of meaning (TakeWhile f.now)
+stage_now meaning (SkippingWhile f) = stage_of meaning (SkipWhile f.now)
+stage_now meaning Unchanged = unchanged
+
+abbrev pub stages_now : {L T : Type 0} → (L → Meaning T) → List (Remaining L) → List (Stage T)
+stages_now meaning ops = map (stage_now meaning) ops
+
+-- the operators, and what each still does
 pub record PipelineView (L : Type 0) : Type 0 where
   pub ops : List (Op L)
-  pub counts : List ℕ
+  pub remaining : List (Remaining L)
 
 -- what a pipeline still does
 abbrev pub stages : {L T : Type 0} → (L → Meaning T) → PipelineView L → List (Stage T)
-stages meaning p = stages_left meaning p.ops p.counts
+stages meaning p = stages_now meaning p.remaining
 
--- the operators before any item has reached them
-abbrev pub begun : {L : Type 0} → List (Op L) → PipelineView L
-begun ops = record { ops = ops; counts = map counted_off ops }
-
--- operators that go by key, before the element of this key
-abbrev pub begun_at : {L : Type 0} → List (Op L) → ℕ → PipelineView L
-begun_at ops key = record { ops = ops; counts = counts_at ops key }
+-- a pipeline of operators that so many elements have reached, none of which was filtered out
+pub record IsReached {L T : Type 0} (meaning : L → Meaning T) (ops : List (Op L)) (count : ℕ) (p : PipelineView L) : Type 0 where
+  pub same : p.ops ≡ ops
+  pub left : stages meaning p ≡ stages_at meaning ops count

@@ -2,40 +2,45 @@ ghost use Rattle.std.specs.Prelude.{◌≡◌, false, drop};
 ghost use Rattle.plinq_source.specs.Trace.{open_trace};
 ghost use Rattle.plinq_ops.specs.declared.op.Op.TheVariants.{Select, Filter, TakeWhile};
 ghost use Rattle.plinq_ops.specs.Stage.{apply, behind, takes_none, taking, skipping};
-ghost use Rattle.plinq_ops.specs.Operator.{stage_of, stage_left};
+ghost use Rattle.plinq_ops.specs.Operator.{stage_of};
 ghost use Rattle.plinq_ops.specs.Passing.{expands};
+ghost use Rattle.plinq_ops.specs.Pipeline.{stage_now};
 
-use crate::op::Op;
-use crate::skip_while::skip_block;
+use crate::remaining::Remaining;
+use crate::skip_while::skip_while;
 use plinq_lambda::Lambda;
 use plinq_source::Ending;
 
-/// Sends a block of items through one operator but SelectMany, of which so much is left; what comes out takes its place.
-/// Answers how the run ended. Takes no memory.
+/// Sends a block of items through one operator but SelectMany; what comes out takes its place. Answers how the run ended.
+/// Takes no memory.
 pub(crate) fn pass_block<L: Lambda>(
-    op: &Op<L>,
-    left: &mut u64,
+    op: &mut Remaining<'_, L>,
     block: &mut Vec<L::Item>,
 ) -> Option<Ending>
-    requires in_place { expands op.now ≡ false }
-    requires takes_some { takes_none (stage_left L.meaning op.now left.old) ≡ false }
+    requires in_place { expands op.old ≡ false }
+    requires takes_some { takes_none (stage_now L.meaning op.old) ≡ false }
     ensures passed { record { items = block.new.items; ending = result }
-        ≡ apply (stage_left L.meaning op.now left.old) (open_trace block.old.items) }
-    ensures left { stage_left L.meaning op.now left.new
-        ≡ behind (stage_left L.meaning op.now left.old) block.old.items }
+        ≡ apply (stage_now L.meaning op.old) (open_trace block.old.items) }
+    ensures left { stage_now L.meaning op.new ≡ behind (stage_now L.meaning op.old) block.old.items }
 {
     match op {
-        Op::Select(f) => select(f, block),
-        Op::Filter(f) => filter(f, block),
-        Op::SelectMany(_) => unreachable!(),
-        Op::Take(_) => take(left, block),
-        Op::Skip(_) => {
+        Remaining::Mapping(f) => select(*f, block),
+        Remaining::Filtering(f) => filter(*f, block),
+        Remaining::Expanding(_) => unreachable!(),
+        Remaining::Taking(left) => take(left, block),
+        Remaining::Skipping(left) => {
             skip(left, block);
             None
         }
-        Op::TakeWhile(f) => take_while(f, block),
-        Op::SkipWhile(f) => skip_block(f, left, block),
-        Op::AsUnordered => None,
+        Remaining::TakingWhile(f) => take_while(*f, block),
+        Remaining::SkippingWhile(f) => {
+            let (all_pass, ending) = skip_while(*f, block);
+            if !all_pass {
+                *op = Remaining::Unchanged;
+            }
+            ending
+        }
+        Remaining::Unchanged => None,
     }
 }
 

@@ -1,13 +1,14 @@
-ghost use Rattle.std.specs.Prelude.{◌≡◌, length, false, IfOk, ◌∷◌, []};
+ghost use Rattle.std.specs.Prelude.{◌≡◌, ◌≤◌, false, IfOk, ◌∷◌, [], length, take, drop};
 ghost use Rattle.plinq_source.specs.Trace.{open_trace};
 ghost use Rattle.plinq_ops.specs.declared.op.Op.TheVariants.{SelectMany};
 ghost use Rattle.plinq_ops.specs.Stage.{some_takes_none};
 ghost use Rattle.plinq_ops.specs.Operator.{stage_of};
-ghost use Rattle.plinq_ops.specs.Feeding.{stages_left, IsFed};
+ghost use Rattle.plinq_ops.specs.Feeding.{IsFed};
+ghost use Rattle.plinq_ops.specs.Pipeline.{stages_now};
 
 use crate::blocks::pass_block;
-use crate::op::Op;
 use crate::passing::{Passed, pass};
+use crate::remaining::Remaining;
 use plinq_lambda::{ExpandFault, Lambda};
 use plinq_source::{Ending, OutOfMemory};
 use std::alloc::Global;
@@ -15,28 +16,24 @@ use std::alloc::Global;
 /// Sends one item through operators, and puts what comes out behind `out`.
 pub(crate) fn feed<L: Lambda>(
     alloc: Global,
-    ops: &[Op<L>],
-    left: &mut [u64],
+    ops: &mut [Remaining<'_, L>],
     item: L::Item,
     out: &mut Vec<L::Item>,
 ) -> Result<Option<Ending>, OutOfMemory>
-    requires counted { length left.old ≡ length ops.now }
-    requires undecided { some_takes_none (stages_left L.meaning ops.now left.old) ≡ false }
+    requires undecided { some_takes_none (stages_now L.meaning ops.old) ≡ false }
     ensures { IfOk result (IsFed
-        (stages_left L.meaning ops.now left.old) (open_trace (item ∷ []))
+        (stages_now L.meaning ops.old) (open_trace (item ∷ []))
         out.old.items out.new.items
-        (stages_left L.meaning ops.now left.new)) }
+        (stages_now L.meaning ops.new)) }
 {
     let mut item = item;
     let mut last = None;
-    for (at, op) in ops.iter().enumerate() {
-        if let Op::SelectMany(f) = op {
-            let (_, ops) = ops.split_at(at + 1);
-            let (_, left) = left.split_at_mut(at + 1);
-            let ending = feed_expansion(alloc, f, ops, left, item, out)?;
+    for at in 0..ops.len() {
+        if let Remaining::Expanding(f) = ops[at] {
+            let ending = feed_expansion(alloc, f, ops, at + 1, item, out)?;
             return Ok(ending.or(last));
         }
-        match pass(op, &mut left[at], &mut item) {
+        match pass(&mut ops[at], &mut item) {
             Passed::Item => {}
             Passed::Last => last = Some(Ending::End),
             Passed::Nothing => return Ok(last),
@@ -47,54 +44,54 @@ pub(crate) fn feed<L: Lambda>(
     Ok(last)
 }
 
-/// Sends a block of items through operators, one operator after another; what comes out takes its place.
+/// Sends a block of items through the operators from one on, one operator after another; what comes out takes its place.
 #[cycle(blocks)]
 pub(crate) fn feed_block<L: Lambda>(
     alloc: Global,
-    ops: &[Op<L>],
-    left: &mut [u64],
+    ops: &mut [Remaining<'_, L>],
+    from: usize,
     block: &mut Vec<L::Item>,
 ) -> Result<Option<Ending>, OutOfMemory>
-    requires counted { length left.old ≡ length ops.now }
-    requires undecided { some_takes_none (stages_left L.meaning ops.now left.old) ≡ false }
-    ensures { IfOk result (IsFed
-        (stages_left L.meaning ops.now left.old) (open_trace block.old.items)
+    requires within { from ≤ length ops.old }
+    requires undecided { some_takes_none (stages_now L.meaning (drop from ops.old)) ≡ false }
+    ensures others { IfOk result (λ _. take from ops.new ≡ take from ops.old) }
+    ensures fed { IfOk result (IsFed
+        (stages_now L.meaning (drop from ops.old)) (open_trace block.old.items)
         [] block.new.items
-        (stages_left L.meaning ops.now left.new)) }
+        (stages_now L.meaning (drop from ops.new))) }
 {
-    let Some((op, ops)) = ops.split_first() else {
+    if from == ops.len() {
         return Ok(None);
-    };
-    if let Op::SelectMany(f) = op {
-        let (_, left) = left.split_at_mut(1);
-        return feed_expansions(alloc, f, ops, left, block);
     }
-    let ending = pass_block(op, &mut left[0], block);
-    let (_, left) = left.split_at_mut(1);
-    let earlier = feed_block(alloc, ops, left, block)?;
+    if let Remaining::Expanding(f) = ops[from] {
+        return feed_expansions(alloc, f, ops, from + 1, block);
+    }
+    let ending = pass_block(&mut ops[from], block);
+    let earlier = feed_block(alloc, ops, from + 1, block)?;
     Ok(earlier.or(ending))
 }
 
-/// Sends the expansions of a block's items through the operators behind a SelectMany, one expansion after another, so
-/// that no more than one is held that they haven't seen.
+/// Sends the expansions of a block's items through the operators from one on, one expansion after another, so that no more
+/// than one is held that they haven't seen.
 #[cycle(blocks)]
 fn feed_expansions<L: Lambda>(
     alloc: Global,
     f: &L,
-    ops: &[Op<L>],
-    left: &mut [u64],
+    ops: &mut [Remaining<'_, L>],
+    from: usize,
     block: &mut Vec<L::Item>,
 ) -> Result<Option<Ending>, OutOfMemory>
-    requires counted { length left.old ≡ length ops.now }
-    requires undecided { some_takes_none (stages_left L.meaning ops.now left.old) ≡ false }
-    ensures { IfOk result (IsFed
-        (stage_of L.meaning (SelectMany f.now) ∷ stages_left L.meaning ops.now left.old) (open_trace block.old.items)
+    requires within { from ≤ length ops.old }
+    requires undecided { some_takes_none (stages_now L.meaning (drop from ops.old)) ≡ false }
+    ensures others { IfOk result (λ _. take from ops.new ≡ take from ops.old) }
+    ensures fed { IfOk result (IsFed
+        (stage_of L.meaning (SelectMany f.now) ∷ stages_now L.meaning (drop from ops.old)) (open_trace block.old.items)
         [] block.new.items
-        (stage_of L.meaning (SelectMany f.now) ∷ stages_left L.meaning ops.now left.new)) }
+        (stage_of L.meaning (SelectMany f.now) ∷ stages_now L.meaning (drop from ops.new))) }
 {
     let items = std::mem::replace(block, Vec::new(alloc));
     for item in items.iter() {
-        let ending = feed_expansion(alloc, f, ops, left, *item, block)?;
+        let ending = feed_expansion(alloc, f, ops, from, *item, block)?;
         if ending.is_some() {
             return Ok(ending);
         }
@@ -102,26 +99,27 @@ fn feed_expansions<L: Lambda>(
     Ok(None)
 }
 
-/// Sends the expansion of one item through the operators behind a SelectMany, and puts what comes out behind `out`.
+/// Sends the expansion of one item through the operators from one on, and puts what comes out behind `out`.
 #[cycle(blocks)]
 fn feed_expansion<L: Lambda>(
     alloc: Global,
     f: &L,
-    ops: &[Op<L>],
-    left: &mut [u64],
+    ops: &mut [Remaining<'_, L>],
+    from: usize,
     item: L::Item,
     out: &mut Vec<L::Item>,
 ) -> Result<Option<Ending>, OutOfMemory>
-    requires counted { length left.old ≡ length ops.now }
-    requires undecided { some_takes_none (stages_left L.meaning ops.now left.old) ≡ false }
-    ensures { IfOk result (IsFed
-        (stage_of L.meaning (SelectMany f.now) ∷ stages_left L.meaning ops.now left.old) (open_trace (item ∷ []))
+    requires within { from ≤ length ops.old }
+    requires undecided { some_takes_none (stages_now L.meaning (drop from ops.old)) ≡ false }
+    ensures others { IfOk result (λ _. take from ops.new ≡ take from ops.old) }
+    ensures fed { IfOk result (IsFed
+        (stage_of L.meaning (SelectMany f.now) ∷ stages_now L.meaning (drop from ops.old)) (open_trace (item ∷ []))
         out.old.items out.new.items
-        (stage_of L.meaning (SelectMany f.now) ∷ stages_left L.meaning ops.now left.new)) }
+        (stage_of L.meaning (SelectMany f.now) ∷ stages_now L.meaning (drop from ops.new))) }
 {
     match f.expand(alloc, item) {
         Ok(mut expansion) => {
-            let ending = feed_block(alloc, ops, left, &mut expansion)?;
+            let ending = feed_block(alloc, ops, from, &mut expansion)?;
             out.append(&mut expansion)?;
             Ok(ending)
         }

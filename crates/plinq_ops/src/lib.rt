@@ -27,6 +27,7 @@ mod passing;
 mod pipeline;
 mod plan;
 mod query;
+mod remaining;
 mod results;
 mod skip_while;
 mod splitting;

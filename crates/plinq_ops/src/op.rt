@@ -25,13 +25,12 @@ pub enum Op<L> {
 }
 
 impl<L> Op<L> {
-    /// How many items a Take or a Skip counts off; 1 at a SkipWhile, which is over once this is 0; 0 at the others.
+    /// How many items a Take or a Skip counts off; 0 at the others.
     pub(crate) fn counted_off(&self) -> u64
         ensures { result ≡ counted_off self.now }
     {
         match self {
             Op::Take(n) | Op::Skip(n) => (*n).max(0) as u64,
-            Op::SkipWhile(_) => 1,
             _ => 0,
         }
     }

@@ -1,14 +1,13 @@
 ghost use Rattle.std.specs.Prelude.{◌≡◌, [], ◌∷◌, true, false, IfOk};
 ghost use Rattle.plinq_source.specs.Trace.{open_trace};
 ghost use Rattle.plinq_ops.specs.Stage.{takes_none, some_takes_none};
-ghost use Rattle.plinq_ops.specs.Operator.{stage_left};
 ghost use Rattle.plinq_ops.specs.ByKey.{is_by_key};
 ghost use Rattle.plinq_ops.specs.Feeding.{IsFed};
-ghost use Rattle.plinq_ops.specs.Pipeline.{begun, begun_at, stages};
+ghost use Rattle.plinq_ops.specs.Pipeline.{IsReached, stage_now, stages};
 
-use crate::decided::counts_at;
 use crate::feeding;
 use crate::op::Op;
+use crate::remaining::{Remaining, passed_on};
 use plinq_lambda::Lambda;
 use plinq_source::{Ending, OutOfMemory};
 use std::alloc::Global;
@@ -22,18 +21,15 @@ use std::marker::Model;
 #[derive(Drop)]
 pub struct Pipeline<'a, L> {
     ops: &'a [Op<L>],
-    left: Vec<u64>,
+    remaining: Vec<Remaining<'a, L>>,
 }
 
 impl<'a, L> Model for Pipeline<'a, L> {
-    ghost use Rattle.std.specs.Prelude.{◌≡◌, length};
     ghost use Rattle.plinq_ops.specs.Pipeline.{PipelineView};
 
     ghost Value = { PipelineView L };
 
-    ghost view = { λ p. record { ops = p.ops.now; counts = p.left.items } };
-
-    ghost invariant = { λ p. length p.left.items ≡ length p.ops.now };
+    ghost view = { λ p. record { ops = p.ops.now; remaining = p.remaining.items } };
 }
 
 impl<'a, L: Lambda> Pipeline<'a, L> {
@@ -41,9 +37,9 @@ impl<'a, L: Lambda> Pipeline<'a, L> {
     ///
     /// # Errors
     ///
-    /// [`OutOfMemory`] where there is no room for their counts.
+    /// [`OutOfMemory`] where there is no room for what is left of them.
     pub fn new(alloc: Global, ops: &'a [Op<L>]) -> Result<Pipeline<'a, L>, OutOfMemory>
-        ensures { IfOk result (λ pipeline. pipeline ≡ begun ops.now) }
+        ensures { IfOk result (IsReached L.meaning ops.now 0) }
     {
         Pipeline::reached(alloc, ops, 0)
     }
@@ -53,30 +49,34 @@ impl<'a, L: Lambda> Pipeline<'a, L> {
     ///
     /// # Errors
     ///
-    /// [`OutOfMemory`] where there is no room for their counts.
+    /// [`OutOfMemory`] where there is no room for what is left of them.
     pub fn at_key(alloc: Global, ops: &'a [Op<L>], key: u64) -> Result<Pipeline<'a, L>, OutOfMemory>
         requires keyed { is_by_key ops.now ≡ true }
-        ensures { IfOk result (λ pipeline. pipeline ≡ begun_at ops.now key) }
+        ensures { IfOk result (IsReached L.meaning ops.now key) }
     {
         Pipeline::reached(alloc, ops, key)
     }
 
     // So many elements have reached the first operator, and none was filtered out.
     fn reached(alloc: Global, ops: &'a [Op<L>], count: u64) -> Result<Pipeline<'a, L>, OutOfMemory>
-        ensures { IfOk result (λ pipeline. pipeline ≡ begun_at ops.now count) }
+        ensures { IfOk result (IsReached L.meaning ops.now count) }
     {
-        Ok(Pipeline {
-            ops,
-            left: counts_at(alloc, ops, count)?,
-        })
+        let mut left = Vec::with_capacity(alloc, ops.len())?;
+        let mut reached = count;
+        for op in ops {
+            left.push(Remaining::of(op, reached))?;
+            reached = passed_on(op, reached);
+        }
+        let remaining = left;
+        Ok(Pipeline { ops, remaining })
     }
 
     /// Whether a Take has no item left to take, so that the run has ended.
     pub fn is_over(&self) -> bool
         ensures { result ≡ some_takes_none (stages L.meaning self.now) }
     {
-        for (at, op) in self.ops.iter().enumerate() {
-            if takes_none(op, self.left[at]) {
+        for op in self.remaining.iter() {
+            if takes_none(op) {
                 return true;
             }
         }
@@ -102,7 +102,7 @@ impl<'a, L: Lambda> Pipeline<'a, L> {
             out.old.items out.new.items
             (stages L.meaning self.new)) }
     {
-        feeding::feed(alloc, self.ops, self.left.as_mut_slice(), item, out)
+        feeding::feed(alloc, self.remaining.as_mut_slice(), item, out)
     }
 
     /// Feeds a block of items, which what comes out takes the place of. Answers how the run ended, or `None` where
@@ -123,13 +123,13 @@ impl<'a, L: Lambda> Pipeline<'a, L> {
             [] block.new.items
             (stages L.meaning self.new)) }
     {
-        feeding::feed_block(alloc, self.ops, self.left.as_mut_slice(), block)
+        feeding::feed_block(alloc, self.remaining.as_mut_slice(), 0, block)
     }
 }
 
 /// Whether an operator is a Take that has no item left to take.
-fn takes_none<L: Lambda>(op: &Op<L>, left: u64) -> bool
-    ensures { result ≡ takes_none (stage_left L.meaning op.now left) }
+fn takes_none<L: Lambda>(op: &Remaining<'_, L>) -> bool
+    ensures { result ≡ takes_none (stage_now L.meaning op.now) }
 {
-    matches!(op, Op::Take(_)) && left == 0
+    matches!(op, Remaining::Taking(0))
 }

@@ -4,7 +4,8 @@ use Rattle.plinq_ops.specs.Stage.{some_takes_none}
 use Rattle.plinq_ops.specs.Operator.{stages_of}
 use Rattle.plinq_ops.specs.Feeding.{is_empty_take}
 use Rattle.plinq_ops.proofs.Answered.{answer-of_none, least-of_none, answer-fed}
-use Rattle.plinq_ops.proofs.Counts.{stages-begun, some_takes_none-stages_of}
+use Rattle.plinq_ops.proofs.ByKey.{stages-begun}
+use Rattle.plinq_ops.proofs.Counts.{some_takes_none-stages_of}
 use Rattle.plinq_ops.proofs.answering.sequential.Goals as goal
 
 pub returns-then-is_decided-clause-answer : goal.returns-then-is_decided-clause-answer

@@ -2,25 +2,25 @@ use Rattle.std.proofs.Common.{rules, ◌≡◌, ◌+◌, [], ◌<◌, length, dr
 use Rattle.std.proofs.lemmas.List.{drop_all}
 use Rattle.plinq_ops.specs.Stage.{some_takes_none}
 use Rattle.plinq_ops.proofs.Fed.{none-from_is_some}
-use Rattle.plinq_ops.proofs.ByKey.{stages-begun_at}
+use Rattle.plinq_ops.proofs.ByKey.{stages-reached}
 use Rattle.plinq_ops.proofs.Chunks.{stop-over, behind-block, behind-none, behind-rest_dropped}
 use Rattle.plinq_ops.proofs.chunking.work.Goals as goal
 
 pub returns-then-is_over-clause-items : goal.returns-then-is_over-clause-items
 returns-then-is_over-clause-items g c =
-    let begins = stages-begun_at g.L.Lambda.meaning c.args.worker.now c.args.first c.in_ok-pipeline.pipeline c.in_ok-pipeline.ensures in
+    let begins = stages-reached g.L.Lambda.meaning c.args.worker.now c.args.first c.in_ok-pipeline.pipeline c.in_ok-pipeline.ensures in
     let stopped = stop-over g.L.Lambda.meaning c.args.worker.now c.args.cut c.args.first c.args.items.now c.requires.keyed c.requires.some (ap some_takes_none (sym begins) ∙ search rules) in
     c.requires.empty ∙ sym stopped.0
 
 pub returns-then-is_over-clause-stop : goal.returns-then-is_over-clause-stop
 returns-then-is_over-clause-stop g c =
-    let begins = stages-begun_at g.L.Lambda.meaning c.args.worker.now c.args.first c.in_ok-pipeline.pipeline c.in_ok-pipeline.ensures in
+    let begins = stages-reached g.L.Lambda.meaning c.args.worker.now c.args.first c.in_ok-pipeline.pipeline c.in_ok-pipeline.ensures in
     let stopped = stop-over g.L.Lambda.meaning c.args.worker.now c.args.cut c.args.first c.args.items.now c.requires.keyed c.requires.some (ap some_takes_none (sym begins) ∙ search rules) in
     rw c.stop_over.ensures stopped.1
 
 pub work_each-requires-clause-undecided : goal.work_each-requires-clause-undecided
 work_each-requires-clause-undecided g c lives within =
-    let begins = stages-begun_at g.L.Lambda.meaning c.args.worker.now c.args.first c.in_ok-pipeline.pipeline c.in_ok-pipeline.ensures in
+    let begins = stages-reached g.L.Lambda.meaning c.args.worker.now c.args.first c.in_ok-pipeline.pipeline c.in_ok-pipeline.ensures in
     ap some_takes_none (sym begins) ∙ search rules
 
 pub returns-then-is_empty-clause-items : goal.returns-then-is_empty-clause-items

@@ -1,6 +1,6 @@
 use Rattle.std.proofs.Common.{rules, ◌≡◌, ◌+◌, ◌≤◌, ◌∷◌, drop, None, is_some, true, sym, ◌∙◌, ap, arith, refl}
 use Rattle.std.proofs.lemmas.List.{drop_more}
-use Rattle.plinq_ops.proofs.ByKey.{stages-begun_at}
+use Rattle.plinq_ops.proofs.ByKey.{stages-reached}
 use Rattle.plinq_ops.proofs.Fed.{none-from_is_some, undecided-left}
 use Rattle.plinq_ops.proofs.Chunks.{fed-fragment, behind-more, behind-dropped, behind-stop, told-stop}
 use Rattle.plinq_ops.proofs.chunking.work_each.Goals as goal
@@ -65,7 +65,7 @@ loop-at-preserved g c =
 pub loop-at-init : goal.loop-at-init
 loop-at-init g c =
     let first : c.args.first + 0 ≡ c.args.first = omega arith in
-    let begins = stages-begun_at g.L.Lambda.meaning c.args.worker.now c.args.first c.in_ok-pipeline.pipeline c.in_ok-pipeline.ensures in
+    let begins = stages-reached g.L.Lambda.meaning c.args.worker.now c.args.first c.in_ok-pipeline.pipeline c.in_ok-pipeline.ensures in
     (rw (first, c.requires.empty) (record { items = refl; ending = refl; dropped = refl; stop = refl }), rw first begins, rw begins c.requires.undecided)
 
 pub returns-then-key-cut-clause-items : goal.returns-then-key-cut-clause-items

@@ -1,22 +1,24 @@
-use Rattle.std.proofs.Common.{◌+◌, ◌*◌, length, take, [], ◌∷◌, None}
+use Rattle.std.proofs.Common.{◌≡◌, ◌+◌, ◌-◌, ◌*◌, length, take, drop, [], ◌∷◌, None}
 use Rattle.plinq_source.specs.Trace.{open_trace}
 use Rattle.plinq_ops.specs.declared.op.Op.TheVariants.{SelectMany}
 use Rattle.plinq_ops.specs.Operator.{stage_of}
-use Rattle.plinq_ops.specs.Feeding.{stages_left, IsFed}
+use Rattle.plinq_ops.specs.Feeding.{IsFed}
+use Rattle.plinq_ops.specs.Pipeline.{stages_now}
 use Rattle.plinq_ops.proofs.feeding.+blocks.Given as goal
 
 abbrev pub decreases-feed_block : goal.decreases-feed_block
-decreases-feed_block g l = 3 * length l.ops.now
+decreases-feed_block g l = 3 * (length l.ops.now - l.from)
 
 -- one more than that of `feed_block` over the same operators, which it calls
 abbrev pub decreases-feed_expansion : goal.decreases-feed_expansion
-decreases-feed_expansion g l = 3 * length l.ops.now + 1
+decreases-feed_expansion g l = 3 * (length l.ops.now - l.from) + 1
 
 -- one more than that of `feed_expansion`
 abbrev pub decreases-feed_expansions : goal.decreases-feed_expansions
-decreases-feed_expansions g l = 3 * length l.ops.now + 2
+decreases-feed_expansions g l = 3 * (length l.ops.now - l.from) + 2
 
 abbrev pub invariant-feed_expansions-loop-item : goal.invariant-feed_expansions-loop-item
 invariant-feed_expansions-loop-item g l =
-    IsFed (stage_of g.L.Lambda.meaning (SelectMany l.f) ∷ stages_left g.L.Lambda.meaning l.ops l.fn.left) (open_trace (take l.item-index l.item-items))
-    [] l.block.items (stage_of g.L.Lambda.meaning (SelectMany l.f) ∷ stages_left g.L.Lambda.meaning l.ops l.left) None
+    IsFed (stage_of g.L.Lambda.meaning (SelectMany l.f) ∷ stages_now g.L.Lambda.meaning (drop l.from l.fn.ops)) (open_trace (take l.item-index l.item-items))
+    [] l.block.items (stage_of g.L.Lambda.meaning (SelectMany l.f) ∷ stages_now g.L.Lambda.meaning (drop l.from l.ops)) None
+    × (take l.from l.ops ≡ take l.from l.fn.ops)
