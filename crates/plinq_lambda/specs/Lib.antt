@@ -1,4 +1,5 @@
 pub mod Formula
 pub mod Meaning
+pub mod Block
 pub mod Short
 pub mod FaultRows

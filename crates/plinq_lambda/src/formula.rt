@@ -1,9 +1,10 @@
-ghost use Rattle.std.specs.Prelude.{◌≡◌, ◌≤◌, IfOk};
-ghost use Rattle.plinq_lambda.specs.Meaning.{most_items};
+ghost use Rattle.std.specs.Prelude.{◌≡◌, ◌≤◌, Ok, IfOk, IfErr};
+ghost use Rattle.plinq_lambda.specs.Meaning.{IsFaultOf, most_items};
 ghost use Rattle.plinq_lambda.specs.Formula.{formula_meaning, quotient, remainder, expansion_length, numbers_up_to};
 ghost use Rattle.plinq_lambda.specs.Short.{formula_meaning-short};
 
 use crate::expand_fault::ExpandFault;
+use crate::kind::Kind;
 use crate::lambda::Lambda;
 use std::alloc::{AllocError, Global};
 
@@ -66,47 +67,108 @@ impl Lambda for Formula {
 
     ghost short = { formula_meaning-short };
 
-    // Inlined, as `test` is: they run for each item, and the call would cost more than the work.
     #[inline(always)]
     fn map(&self, x: i64) -> Result<i64, u32> {
-        match *self {
-            Formula::Add(c) => x.checked_add(c).ok_or(Formula::OVERFLOW),
-            Formula::Mul(c) => x.checked_mul(c).ok_or(Formula::OVERFLOW),
-            Formula::Mod(c) => remainder(x, c),
-            Formula::Into(c) => quotient(c, x),
-            Formula::Below(c) => Ok(i64::from(x < c)),
-            Formula::Above(c) => Ok(i64::from(x > c)),
-            Formula::Equal(c) => Ok(i64::from(x == c)),
-            Formula::Even => Ok(i64::from(x % 2 == 0)),
-            Formula::Repeat(_) | Formula::UpTo => Ok(x),
-        }
+        map_one(*self, x)
     }
 
     #[inline(always)]
     fn test(&self, x: i64) -> Result<bool, u32> {
+        test_one(*self, x)
+    }
+
+    // A loop for each kind, so that none asks for it at each item.
+    fn map_block(&self, block: &mut [i64]) -> (usize, Option<u32>) {
         match *self {
-            Formula::Below(c) => Ok(x < c),
-            Formula::Above(c) => Ok(x > c),
-            Formula::Equal(c) => Ok(x == c),
-            Formula::Even => Ok(x % 2 == 0),
-            _ => Ok(self.map(x)? != 0),
+            Formula::Add(c) => Kind(Formula::Add(c)).map_block(block),
+            Formula::Mul(c) => Kind(Formula::Mul(c)).map_block(block),
+            Formula::Mod(c) => Kind(Formula::Mod(c)).map_block(block),
+            Formula::Into(c) => Kind(Formula::Into(c)).map_block(block),
+            Formula::Below(c) => Kind(Formula::Below(c)).map_block(block),
+            Formula::Above(c) => Kind(Formula::Above(c)).map_block(block),
+            Formula::Equal(c) => Kind(Formula::Equal(c)).map_block(block),
+            Formula::Even => Kind(Formula::Even).map_block(block),
+            f => Kind(f).map_block(block),
+        }
+    }
+
+    fn filter_block(&self, block: &mut [i64]) -> (usize, Option<u32>) {
+        match *self {
+            Formula::Mod(c) => Kind(Formula::Mod(c)).filter_block(block),
+            Formula::Below(c) => Kind(Formula::Below(c)).filter_block(block),
+            Formula::Above(c) => Kind(Formula::Above(c)).filter_block(block),
+            Formula::Equal(c) => Kind(Formula::Equal(c)).filter_block(block),
+            Formula::Even => Kind(Formula::Even).filter_block(block),
+            f => Kind(f).filter_block(block),
+        }
+    }
+
+    fn count_passing(&self, block: &[i64]) -> (usize, Option<u32>) {
+        match *self {
+            Formula::Mod(c) => Kind(Formula::Mod(c)).count_passing(block),
+            Formula::Below(c) => Kind(Formula::Below(c)).count_passing(block),
+            Formula::Above(c) => Kind(Formula::Above(c)).count_passing(block),
+            Formula::Equal(c) => Kind(Formula::Equal(c)).count_passing(block),
+            Formula::Even => Kind(Formula::Even).count_passing(block),
+            f => Kind(f).count_passing(block),
         }
     }
 
     fn expand(&self, alloc: Global, x: i64) -> Result<Vec<i64>, ExpandFault> {
-        match *self {
-            Formula::Repeat(c) => {
-                let count = expansion_length(c).map_err(ExpandFault::Code)?;
-                Ok(vec![in alloc; x; count]?)
-            }
-            Formula::UpTo => {
-                let count = expansion_length(x).map_err(ExpandFault::Code)?;
-                Ok(numbers_up_to(alloc, count)?)
-            }
-            _ => {
-                let y = self.map(x).map_err(ExpandFault::Code)?;
-                Ok(vec![in alloc; y]?)
-            }
+        expand_one(alloc, *self, x)
+    }
+}
+
+// What an element is mapped to. It is inlined, as `test_one` is: they run for each item, and the call would cost more than
+// the work.
+#[inline(always)]
+pub(crate) fn map_one(f: Formula, x: i64) -> Result<i64, u32>
+    ensures { result ≡ (formula_meaning f).map x }
+{
+    match f {
+        Formula::Add(c) => x.checked_add(c).ok_or(Formula::OVERFLOW),
+        Formula::Mul(c) => x.checked_mul(c).ok_or(Formula::OVERFLOW),
+        Formula::Mod(c) => remainder(x, c),
+        Formula::Into(c) => quotient(c, x),
+        Formula::Below(c) => Ok(i64::from(x < c)),
+        Formula::Above(c) => Ok(i64::from(x > c)),
+        Formula::Equal(c) => Ok(i64::from(x == c)),
+        Formula::Even => Ok(i64::from(x % 2 == 0)),
+        Formula::Repeat(_) | Formula::UpTo => Ok(x),
+    }
+}
+
+// Whether an element passes.
+#[inline(always)]
+pub(crate) fn test_one(f: Formula, x: i64) -> Result<bool, u32>
+    ensures { result ≡ (formula_meaning f).test x }
+{
+    match f {
+        Formula::Below(c) => Ok(x < c),
+        Formula::Above(c) => Ok(x > c),
+        Formula::Equal(c) => Ok(x == c),
+        Formula::Even => Ok(x % 2 == 0),
+        _ => Ok(map_one(f, x)? != 0),
+    }
+}
+
+// The items that stand in the place of an element.
+pub(crate) fn expand_one(alloc: Global, f: Formula, x: i64) -> Result<Vec<i64>, ExpandFault>
+    ensures items { IfOk result (λ ys. (formula_meaning f).expand x ≡ Ok ys.items) }
+    ensures fault { IfErr result (IsFaultOf ((formula_meaning f).expand x)) }
+{
+    match f {
+        Formula::Repeat(c) => {
+            let count = expansion_length(c).map_err(ExpandFault::Code)?;
+            Ok(vec![in alloc; x; count]?)
+        }
+        Formula::UpTo => {
+            let count = expansion_length(x).map_err(ExpandFault::Code)?;
+            Ok(numbers_up_to(alloc, count)?)
+        }
+        _ => {
+            let y = map_one(f, x).map_err(ExpandFault::Code)?;
+            Ok(vec![in alloc; y]?)
         }
     }
 }

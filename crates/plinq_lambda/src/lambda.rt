@@ -1,5 +1,6 @@
-ghost use Rattle.std.specs.Prelude.{◌≡◌, ◌≤◌, length, Ok, IfOk, IfErr};
+ghost use Rattle.std.specs.Prelude.{◌≡◌, ◌≤◌, length, take, Ok, IfOk, IfErr};
 ghost use Rattle.plinq_lambda.specs.Meaning.{Meaning, IsFaultOf, most_items};
+ghost use Rattle.plinq_lambda.specs.Block.{mapped_block, filtered_block, passing_block};
 
 use crate::expand_fault::ExpandFault;
 use std::alloc::Global;
@@ -40,6 +41,69 @@ pub trait Lambda: Send + Sync + Drop {
     fn expand(&self, alloc: Global, x: Self::Item) -> Result<Vec<Self::Item>, ExpandFault>
         ensures items { IfOk result (λ ys. (meaning self.now).expand x ≡ Ok ys.items) }
         ensures fault { IfErr result (IsFaultOf ((meaning self.now).expand x)) };
+
+    /// Maps the items of a block in their places, up to the first that faults. Answers how many are mapped, and the code of
+    /// the fault. What stands after them then isn't said.
+    ///
+    /// It is `map` for each; a lambda with a quicker loop has its own. Takes no memory.
+    #[inline(always)]
+    fn map_block(&self, block: &mut [Self::Item]) -> (usize, Option<u32>)
+        ensures within { result.0 ≤ length block.new }
+        ensures mapped { record { items = take result.0 block.new; fault = result.1 }
+            ≡ mapped_block (meaning self.now).map block.old }
+    {
+        for (at, item) in block.iter_mut().enumerate() {
+            match self.map(*item) {
+                Ok(mapped) => *item = mapped,
+                Err(code) => return (at, Some(code)),
+            }
+        }
+        (block.len(), None)
+    }
+
+    /// Brings the items of a block that pass to its front, up to the first that faults. Answers how many pass, and the code
+    /// of the fault. What stands after them then isn't said.
+    ///
+    /// It is `test` for each; a lambda with a quicker loop has its own. Takes no memory.
+    #[inline(always)]
+    fn filter_block(&self, block: &mut [Self::Item]) -> (usize, Option<u32>)
+        ensures within { result.0 ≤ length block.new }
+        ensures filtered { record { items = take result.0 block.new; fault = result.1 }
+            ≡ filtered_block (meaning self.now).test block.old }
+    {
+        let mut kept = 0;
+        for at in 0..block.len() {
+            let item = block[at];
+            match self.test(item) {
+                Ok(passes) => {
+                    block[kept] = item;
+                    kept += usize::from(passes);
+                }
+                Err(code) => return (kept, Some(code)),
+            }
+        }
+        (kept, None)
+    }
+
+    /// How many items of a block pass before the first that fails or faults, and the code of the fault. None after that one
+    /// is tested.
+    ///
+    /// It is `test` for each; a lambda with a quicker loop has its own. Takes no memory.
+    #[inline(always)]
+    fn count_passing(&self, block: &[Self::Item]) -> (usize, Option<u32>)
+        ensures within { result.0 ≤ length block.now }
+        ensures passing { record { items = take result.0 block.now; fault = result.1 }
+            ≡ passing_block (meaning self.now).test block.now }
+    {
+        for at in 0..block.len() {
+            match self.test(block[at]) {
+                Ok(true) => {}
+                Ok(false) => return (at, None),
+                Err(code) => return (at, Some(code)),
+            }
+        }
+        (block.len(), None)
+    }
 
     ghost short: { (f : Self) (x : Self.Item) → IfOk ((meaning f).expand x) (λ ys. length ys ≤ most_items) };
 }

@@ -8,6 +8,7 @@
 
 mod expand_fault;
 mod formula;
+mod kind;
 mod lambda;
 
 pub use expand_fault::ExpandFault;

@@ -1,8 +1,12 @@
 -- What is left of a SkipWhile behind items is a SkipWhile that goes on from there.
-use Rattle.std.specs.Prelude.{◌≡◌, ℕ, List, [], ◌∷◌, ◌++◌, Bool, true, false, cond, Option, Some, None, is_some, Result, Ok, Err, refl}
-use Rattle.std.proofs.Common.{◌∙◌, ap}
+use Rattle.std.specs.Prelude.{◌≡◌, ℕ, List, [], ◌∷◌, ◌++◌, length, take, drop, ◌==◌, Bool, true, false, cond, Option, Some, None, is_some, Result, Ok, Err, refl}
+use Rattle.std.proofs.Common.{◌≤◌, suc, ◌∙◌, ap, sym, arith}
+use Rattle.std.proofs.lemmas.Bool.Decides.{nat_tests}
+use Rattle.std.proofs.lemmas.List.{length-take-le}
 use Rattle.plinq_source.specs.declared.ending.Ending.{Ending}
-use Rattle.plinq_source.specs.Trace.{Trace, followed}
+use Rattle.plinq_source.specs.declared.ending.Ending.TheVariants.{Fault}
+use Rattle.plinq_source.specs.Trace.{Trace, open_trace, ended, followed}
+use Rattle.plinq_lambda.specs.Block.{BlockResult, passing_from, passing_block}
 use Rattle.plinq_ops.specs.SkipWhile.{skipped_from, skipped_while, still_skips, all_pass}
 use Rattle.plinq_ops.specs.Stage.{Stage, skipping_while, unchanged, apply, behind}
 
@@ -56,13 +60,37 @@ pub behind-skipping_while : {T : Type 0} (test : T → Result Bool ℕ) (xs ys :
 behind-skipping_while test [] ys = refl
 behind-skipping_while test (x ∷ xs) ys = behind-first test (test x) (all_pass test xs) (all_pass test (xs ++ ys)) ys (behind-skipping_while test xs ys)
 
--- ---- a block's items, one after another
+-- ---- a block, by the items before the first that fails
 
--- the items so far pass, and these are left
-pub record IsSkippedSoFar {T : Type 0} (test : T → Result Bool ℕ) (xs rest : List T) : Type 0 where
-  pub same : skipped_while test xs None ≡ skipped_while test rest None
-  pub passing : all_pass test xs ≡ all_pass test rest
+pub record IsCounted {T : Type 0} (skipped : Trace T) (all : Bool) (xs : List T) (passing : BlockResult T) : Type 0 where
+  pub faulted : (code : ℕ) → passing.fault ≡ Some code → (skipped ≡ ended [] (Fault code)) × (all ≡ false)
+  pub stopped : passing.fault ≡ None → (skipped ≡ open_trace (drop (length passing.items) xs)) × (all ≡ (length passing.items == length xs))
 
--- where all pass, it goes on
-pub behind-all_pass : {T : Type 0} {test : T → Result Bool ℕ} {xs rest : List T} → IsSkippedSoFar test xs rest → rest ≡ [] → behind (skipping_while test) xs ≡ skipping_while test
-behind-all_pass {T} {test} so_far none = ap (left_while test) (so_far.passing ∙ ap (all_pass test) none)
+fault_is : {a b : ℕ} → Some a ≡ Some b → a ≡ b
+fault_is same = cc
+
+counted-first : {T : Type 0} (r : Result Bool ℕ) (x : T) (xs : List T) (skipped : Trace T) (all : Bool) (passing : BlockResult T) → IsCounted skipped all xs passing
+    → IsCounted (skipped_from r (x ∷ xs) None skipped) (still_skips r all) (x ∷ xs) (passing_from r x passing)
+counted-first (Ok true) x xs skipped all passing rest =
+    let same : (length passing.items == length xs) ≡ (suc (length passing.items) == suc (length xs)) = grind (arith, nat_tests) in
+    record { faulted = rest.faulted; stopped = λ none. let stops = rest.stopped none in (stops.0, stops.1 ∙ same) }
+counted-first (Ok false) x xs skipped all passing rest =
+    let fewer : false ≡ (0 == suc (length xs)) = grind (arith, nat_tests) in
+    record { faulted = λ code bad. absurd (cc); stopped = λ none. (refl, fewer) }
+counted-first (Err code) x xs skipped all passing rest = record { faulted = λ other is. (ap (λ c. ended [] (Fault c)) (fault_is is), refl); stopped = λ bad. absurd (cc) }
+
+pub counted : {T : Type 0} (test : T → Result Bool ℕ) (xs : List T) → IsCounted (skipped_while test xs None) (all_pass test xs) xs (passing_block test xs)
+counted test [] = record { faulted = λ code bad. absurd (cc); stopped = λ none. (refl, refl) }
+counted test (x ∷ xs) = counted-first (test x) x xs (skipped_while test xs None) (all_pass test xs) (passing_block test xs) (counted test xs)
+
+-- so many of a block pass before one faults
+pub skipped-faulted : {T : Type 0} (test : T → Result Bool ℕ) (xs : List T) (n code : ℕ) (fault : Option ℕ) → record { items = take n xs; fault = fault } ≡ passing_block test xs → fault ≡ Some code
+    → (skipped_while test xs None ≡ ended [] (Fault code)) × (all_pass test xs ≡ false)
+skipped-faulted test xs n code fault same is = (counted test xs).faulted code (ap (λ b. b.fault) (sym same) ∙ is)
+
+-- so many pass before one fails, or all
+pub skipped-stopped : {T : Type 0} (test : T → Result Bool ℕ) (xs : List T) (n : ℕ) (fault : Option ℕ) → n ≤ length xs → record { items = take n xs; fault = fault } ≡ passing_block test xs → fault ≡ None
+    → (skipped_while test xs None ≡ open_trace (drop n xs)) × (all_pass test xs ≡ (n == length xs))
+skipped-stopped test xs n fault within same none =
+    let len : length (passing_block test xs).items ≡ n = ap (λ b. length b.items) (sym same) ∙ length-take-le n xs within in
+    rw len at ((counted test xs).stopped (ap (λ b. b.fault) (sym same) ∙ none))

@@ -1,6 +1,7 @@
 -- Passing: what one operator makes of one item.
-use Rattle.std.specs.Prelude.{[], ◌∷◌, Bool, true, false}
-use Rattle.plinq_source.specs.declared.ending.Ending.TheVariants.{End}
+use Rattle.std.specs.Prelude.{ℕ, [], ◌∷◌, Bool, true, false, Option, None, Some}
+use Rattle.plinq_source.specs.declared.ending.Ending.{Ending}
+use Rattle.plinq_source.specs.declared.ending.Ending.TheVariants.{End, Fault}
 use Rattle.plinq_source.specs.Trace.{Trace, open_trace, ended}
 use Rattle.plinq_ops.specs.declared.remaining.Remaining.{Remaining}
 use Rattle.plinq_ops.specs.declared.remaining.Remaining.TheVariants.{Expanding}
@@ -13,6 +14,11 @@ passed_trace Item x = open_trace (x ∷ [])
 passed_trace Last x = ended (x ∷ []) End
 passed_trace Nothing x = open_trace []
 passed_trace (Ends e) x = ended [] e
+
+-- how a run ended by a lambda's fault, if any
+abbrev pub ending_of : Option ℕ → Option Ending
+ending_of None = None
+ending_of (Some code) = Some (Fault code)
 
 -- an operator that can give more items than it was given
 abbrev pub expands : {L : Type 0} → Remaining L → Bool

@@ -1,9 +1,10 @@
-ghost use Rattle.std.specs.Prelude.{◌≡◌, false, drop};
+ghost use Rattle.std.specs.Prelude.{◌≡◌, ◌≤◌, false, length, take, drop};
 ghost use Rattle.plinq_source.specs.Trace.{open_trace};
+ghost use Rattle.plinq_lambda.specs.Block.{mapped_block, filtered_block};
 ghost use Rattle.plinq_ops.specs.declared.op.Op.TheVariants.{Select, Filter, TakeWhile};
 ghost use Rattle.plinq_ops.specs.Stage.{apply, behind, takes_none, taking, skipping};
 ghost use Rattle.plinq_ops.specs.Operator.{stage_of};
-ghost use Rattle.plinq_ops.specs.Passing.{expands};
+ghost use Rattle.plinq_ops.specs.Passing.{ending_of, expands};
 ghost use Rattle.plinq_ops.specs.Pipeline.{stage_now};
 
 use crate::remaining::Remaining;
@@ -49,16 +50,18 @@ fn select<L: Lambda>(f: &L, block: &mut Vec<L::Item>) -> Option<Ending>
     ensures { record { items = block.new.items; ending = result }
         ≡ apply (stage_of L.meaning (Select f.now)) (open_trace block.old.items) }
 {
-    for (at, item) in block.iter_mut().enumerate() {
-        match f.map(*item) {
-            Ok(mapped) => *item = mapped,
-            Err(code) => {
-                block.truncate(at);
-                return Some(Ending::Fault(code));
-            }
-        }
-    }
-    None
+    let (len, fault) = map_items(f, block);
+    block.truncate(len);
+    ending_of(fault)
+}
+
+// The block is lent as a slice here, so that it is whole again where it is cut.
+fn map_items<L: Lambda>(f: &L, block: &mut Vec<L::Item>) -> (usize, Option<u32>)
+    ensures within { result.0 ≤ length block.new.items }
+    ensures mapped { record { items = take result.0 block.new.items; fault = result.1 }
+        ≡ mapped_block (L.meaning f.now).map block.old.items }
+{
+    f.map_block(block.as_mut_slice())
 }
 
 /// Keeps the items that pass, up to the first that faults.
@@ -66,22 +69,28 @@ fn filter<L: Lambda>(f: &L, block: &mut Vec<L::Item>) -> Option<Ending>
     ensures { record { items = block.new.items; ending = result }
         ≡ apply (stage_of L.meaning (Filter f.now)) (open_trace block.old.items) }
 {
-    let mut kept = 0;
-    for at in 0..block.len() {
-        let item = block[at];
-        match f.test(item) {
-            Ok(passes) => {
-                block[kept] = item;
-                kept += usize::from(passes);
-            }
-            Err(code) => {
-                block.truncate(kept);
-                return Some(Ending::Fault(code));
-            }
-        }
+    let (len, fault) = filter_items(f, block);
+    block.truncate(len);
+    ending_of(fault)
+}
+
+// The block is lent as a slice, in the same way.
+fn filter_items<L: Lambda>(f: &L, block: &mut Vec<L::Item>) -> (usize, Option<u32>)
+    ensures within { result.0 ≤ length block.new.items }
+    ensures filtered { record { items = take result.0 block.new.items; fault = result.1 }
+        ≡ filtered_block (L.meaning f.now).test block.old.items }
+{
+    f.filter_block(block.as_mut_slice())
+}
+
+/// How a run ended by a lambda's fault, if any.
+fn ending_of(fault: Option<u32>) -> Option<Ending>
+    ensures { result ≡ ending_of fault }
+{
+    match fault {
+        None => None,
+        Some(code) => Some(Ending::Fault(code)),
     }
-    block.truncate(kept);
-    None
 }
 
 /// Keeps the first `count` items; behind the last of them the run ends.

@@ -12,19 +12,12 @@ pub(crate) fn skip_while<L: Lambda>(f: &L, block: &mut Vec<L::Item>) -> (bool, O
         ≡ skipped_while (L.meaning f.now).test block.old.items None }
     ensures all { result.0 ≡ all_pass (L.meaning f.now).test block.old.items }
 {
-    for at in 0..block.len() {
-        match f.test(block[at]) {
-            Ok(true) => {}
-            Ok(false) => {
-                skip(&mut (at as u64), block);
-                return (false, None);
-            }
-            Err(code) => {
-                block.clear();
-                return (false, Some(Ending::Fault(code)));
-            }
-        }
+    let (len, fault) = f.count_passing(block.as_slice());
+    if let Some(code) = fault {
+        block.clear();
+        return (false, Some(Ending::Fault(code)));
     }
-    block.clear();
-    (true, None)
+    let all_pass = len == block.len();
+    skip(&mut (len as u64), block);
+    (all_pass, None)
 }
