@@ -20,8 +20,9 @@ use Rattle.plinq_ops.specs.Sequential.{answer_of}
 use Rattle.plinq_keyed.specs.declared.record.Record.{Record}
 use Rattle.plinq_run.specs.declared.run_fault.RunFault.{RunFault}
 use Rattle.plinq_run.specs.declared.run_fault.RunFault.TheVariants.{Cancelled}
-use Rattle.plinq_run.specs.Runs.{SinkRefused, cause_of}
+use Rattle.plinq_run.specs.Runs.{SinkRefused, Stopped, Other, cause_of}
 use Rattle.plinq_document.specs.declared.kind.Kind.{Kind}
+use Rattle.plinq_document.specs.declared.kind.Kind.TheVariants.{Sum}
 use Rattle.plinq_document.specs.Jobs.{JobView}
 use Rattle.plinq_cli.specs.declared.command.Command.{Command}
 use Rattle.plinq_cli.specs.declared.command.Command.TheVariants.{Run, Seq, Plan, Parts, History}
@@ -114,10 +115,10 @@ module _ (q : QueryView Formula) (t : Trace ℤ) (old new : Option (List ℕ)) w
   Delivers most (Err Write) = HasFailed
   Delivers most (Err (Take fault)) = ⊥
 
--- what was written of a run that broke off: the lines of its first batches, and of an aggregate nothing
+-- what was written of a run that broke off: the lines of its first batches, and of an aggregate, which isn't cancelled, nothing
 abbrev pub LeavesLines : Option Kind → QueryView Formula → Trace ℤ → Option ℕ → RunFault → Option (List ℕ) → Option (List ℕ) → Type 0
 LeavesLines None q t most fault old new = HasBrokenOff q t old new most fault
-LeavesLines (Some kind) q t most fault old new = Keeps old new
+LeavesLines (Some kind) q t most fault old new = (cause_of fault ≡ Other) × Keeps old new
 
 -- the lines of an answer were written, of fewer batches than a run was to be cancelled after; an aggregate isn't cancelled
 abbrev pub EndsInTime : Option Kind → QueryView Formula → Trace ℤ → Option ℕ → Option (List ℕ) → Option (List ℕ) → Type 0
@@ -151,6 +152,10 @@ add_one_is_answered = refl
 pub add_one_is_printed : IsText Run add_one (sequential_answer add_one) (codes "4\n2\n5\nend\n")
 unfolding digits
 add_one_is_printed = refl
+
+-- whatever number it is to be cancelled after, an aggregate isn't cancelled
+pub sum_is_not_cancelled : (most : Option ℕ) (old new : Option (List ℕ)) → LeavesLines (Some Sum) add_one.query add_one.source most Cancelled old new → ⊥
+sum_is_not_cancelled most old new h = let bad : Stopped ≡ Other = h.0 in cc
 
 -- without `as_ordered` two numbers may change places
 pub two_exchanged : MayAnswer formula_meaning false [] (ended (pos 1 ∷ pos 2 ∷ []) End) (ended (pos 2 ∷ pos 1 ∷ []) End)
