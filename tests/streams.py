@@ -38,6 +38,7 @@ CASES = [
     (["--help"], b""),
     (["plan", "--help"], b""),
     (["history", "--workers", "3"], document(1_000)),
+    (["run", "--merge", "not", "--cancel-after", "2"], document(20_000)),
 ]
 
 
@@ -68,6 +69,15 @@ def closed_and_full(tests):
     ):
         seen = as_shell(line)
         tests.check(line.replace("$0", "plinq"), seen == wanted, f"wanted {wanted}; seen {seen}")
+
+
+def cancelled_into_a_full_device(tests):
+    for workers in ("1", "2", "64"):
+        # With none nothing is written, and so nothing fails.
+        for most, wanted in (("0", b"plinq: cancelled\n"), ("1", WRITE_FAILED), ("5000", WRITE_FAILED)):
+            line = f"$0 run --workers {workers} --merge not --cancel-after {most} >/dev/full"
+            seen = as_shell(line, document(1_000_000))
+            tests.check(line.replace("$0", "plinq"), seen == Outcome(5, b"", wanted), seen)
 
 
 def readers_that_leave(tests):
@@ -161,6 +171,7 @@ def main():
     build()
     tests = Tests()
     closed_and_full(tests)
+    cancelled_into_a_full_device(tests)
     readers_that_leave(tests)
     with tempfile.TemporaryDirectory() as folder:
         shim = shared_library("streams.c", folder)

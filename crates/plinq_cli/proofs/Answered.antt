@@ -16,9 +16,9 @@ use Rattle.plinq_lines.specs.Written.{AppendsBeginning}
 use Rattle.plinq_lines.proofs.WrittenBytes.{Bytes, begins-all}
 use Rattle.plinq_cli.specs.declared.command.Command.{Command}
 use Rattle.plinq_cli.specs.declared.failure.Failure.{Failure}
-use Rattle.plinq_cli.specs.declared.failure.Failure.TheVariants.{Document, Memory, Read, Write}
+use Rattle.plinq_cli.specs.declared.failure.Failure.TheVariants.{Document, Memory, Read, Write, Thread, Tickets, Incomplete, Cancelled}
 use Rattle.plinq_cli.specs.Served.{HasBegun, IsAnswer, IsText, Serves}
-use Rattle.plinq_cli.specs.Performed.{Answers, AnswersMeaning, Flushes, failure_of_document, failure_of_input}
+use Rattle.plinq_cli.specs.Performed.{Answers, AnswersMeaning, Flushes, failure_of_document, failure_of_input, unflushed}
 use Rattle.plinq_cli.specs.declared.arguments.Arguments.{Arguments}
 use Rattle.plinq_cli.specs.declared.input_fault.InputFault.{InputFault}
 use Rattle.plinq_cli.specs.declared.input_fault.InputFault.TheVariants.{Read as InputRead, TooLong as InputTooLong, Memory as InputMemory}
@@ -97,10 +97,26 @@ unkept : (command : Command) (meaning : Result JobView DocFault) (a b : Bytes) (
 unkept command (Ok job) a b e ((u, is, lines, text, written, ends), none) = (inr (u, is, lines, text, begins-all a b _ written), tt)
 unkept command (Err why) a b e h = absurd h
 
+-- the same of one that failed, which says nothing of the document then
+unkept-so : (command : Command) (meaning : Result JobView DocFault) (a b : Bytes) (failure : Failure)
+    → AnswersMeaning command meaning a b (Err failure) → AnswersMeaning command meaning a b (Err Write)
+unkept-so command (Ok job) a b failure h = (h.0, tt)
+unkept-so command (Err why) a b failure h = (h.0, tt)
+
+unflushed-kept : (command : Command) (meaning : Result JobView DocFault) (a b : Bytes) (r : Result Ending Failure)
+    → AnswersMeaning command meaning a b r → AnswersMeaning command meaning a b (unflushed r)
+unflushed-kept command meaning a b (Ok e) h = unkept command meaning a b e h
+unflushed-kept command meaning a b (Err Cancelled) h = unkept-so command meaning a b Cancelled h
+unflushed-kept command meaning a b (Err (Document fault)) h = h
+unflushed-kept command meaning a b (Err Memory) h = h
+unflushed-kept command meaning a b (Err Read) h = h
+unflushed-kept command meaning a b (Err Write) h = h
+unflushed-kept command meaning a b (Err Thread) h = h
+unflushed-kept command meaning a b (Err Tickets) h = h
+unflushed-kept command meaning a b (Err Incomplete) h = h
+
 pub flushed : (command : Command) (meaning : Result JobView DocFault) (a b c : Bytes) (r s : Result Ending Failure)
     → AnswersMeaning command meaning a b r → Keeps b c → Flushes r s → AnswersMeaning command meaning a c s
-flushed command meaning a b c (Ok e) s h k (inl same) = subst (AnswersMeaning command meaning a c) (sym same) (kept command meaning a b c (Ok e) h k)
-flushed command meaning a b c (Ok e) s h k (inr failed) =
-    subst (AnswersMeaning command meaning a c) (sym failed) (unkept command meaning a c e (kept command meaning a b c (Ok e) h k))
-flushed command meaning a b c (Err failure) s h k same =
-    subst (AnswersMeaning command meaning a c) (sym same) (kept command meaning a b c (Err failure) h k)
+flushed command meaning a b c r s h k (inl same) = subst (AnswersMeaning command meaning a c) (sym same) (kept command meaning a b c r h k)
+flushed command meaning a b c r s h k (inr failed) =
+    subst (AnswersMeaning command meaning a c) (sym failed) (unflushed-kept command meaning a c r (kept command meaning a b c r h k))

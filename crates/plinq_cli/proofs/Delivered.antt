@@ -1,4 +1,5 @@
 -- What a run by threads tells, and has written: the lines of the batches of an answer, or where it broke off those of the first.
+use Rattle.std.specs.Prelude.{⊤}
 use Rattle.std.proofs.Common.{◌≡◌, ◌≢◌, Bool, ℕ, ◌<◌, ℤ, List, ◌++◌, length, Option, Some, None, IfSome, Result, Ok, Err, refl, ap, sym, ◌∙◌, subst}
 use Rattle.std.specs.List.{flat_map}
 use Rattle.std.specs.Result.{IsErr}
@@ -22,6 +23,7 @@ use Rattle.plinq_run.specs.declared.run_fault.RunFault.TheVariants.{Memory as Ru
 use Rattle.plinq_run.specs.Endings.{reported}
 use Rattle.plinq_run.specs.Runs.{Runs, SinkRefused, cause_of}
 use Rattle.plinq_document.specs.Jobs.{JobView}
+use Rattle.plinq_lines.specs.declared.write_fault.WriteFault.{WriteFault}
 use Rattle.plinq_lines.specs.LineSink.{Lines, TakesLine, RefusesLine}
 use Rattle.plinq_lines.specs.Text.{line, batch_line, ending_words, ending_line, answer_text}
 use Rattle.plinq_lines.specs.Written.{AppendsBeginning}
@@ -30,7 +32,7 @@ use Rattle.plinq_lines.proofs.WrittenBytes.{Bytes, appends-as, begins-all, begin
 use Rattle.plinq_cli.specs.declared.command.Command.TheVariants.{Run}
 use Rattle.plinq_cli.specs.declared.serve_fault.ServeFault.{ServeFault}
 use Rattle.plinq_cli.specs.declared.serve_fault.ServeFault.TheVariants.{Memory, Write, Run as NoRun, Take}
-use Rattle.plinq_cli.specs.ServeFaults.{MayFail, serve_fault_of_run}
+use Rattle.plinq_cli.specs.ServeFaults.{MayFail, serve_fault_of_run, told_of}
 use Rattle.plinq_cli.specs.Served.{batch_lines, CountsIf, Delivers, EndsInTime, HasDelivered, HasFailed, HasBrokenOff, HasWritten, IsText, LeavesLines, LeavesWholeLines, Serves}
 use Rattle.plinq_cli.specs.Stopped.{Leaves}
 use Rattle.plinq_cli.specs.Told.{told_text}
@@ -50,7 +52,7 @@ pub record HasSome (ordered : Bool) (ops : List (Op Formula)) (option : MergeOpt
   pub may : MayAnswer formula_meaning ordered ops t answer
   pub runs : RunsOrStops option most answer s s' r
 
-pub some-answer : (ordered : Bool) (ops : List (Op Formula)) (option : MergeOption) (most : Option ℕ) (t : Trace ℤ) (s s' : Lines) (r : Result Report RunFault)
+some-answer : (ordered : Bool) (ops : List (Op Formula)) (option : MergeOption) (most : Option ℕ) (t : Trace ℤ) (s s' : Lines) (r : Result Report RunFault)
     → Leaves TakesLine RefusesLine option (MayAnswer formula_meaning ordered ops) t most s s' r → HasSome ordered ops option most t s s' (reported r)
 some-answer ordered ops option most t s s' (Ok report) (h, fewer) = record { answer = h.answer; may = h.may; runs = (h.has_run, fewer) }
 some-answer ordered ops option most t s s' (Err Cancelled) h = record { answer = h.answer; may = h.may; runs = (h.sent, h.rest, h.first, h.number, h.leads) }
@@ -66,7 +68,7 @@ module _ (q : QueryView Formula) (t : Trace ℤ) (most : Option ℕ) (a b : Byte
   appended : (bytes : List ℕ) → Appends s.bytes s'.bytes bytes → Appends a b bytes
   appended bytes h = let P : Bytes → Type 0 = λ x. Appends x b bytes in subst P start (Appends-kept s.bytes s'.bytes b bytes h keeps)
 
-  pub ran-delivered : (e : Ending) → HasSome q.ordered q.ops (merge_in_force q.merge) most t s s' (Ok e) → HasDelivered q t a b most e × (s'.writer ≡ s.writer)
+  ran-delivered : (e : Ending) → HasSome q.ordered q.ops (merge_in_force q.merge) most t s s' (Ok e) → HasDelivered q t a b most e × (s'.writer ≡ s.writer)
   ran-delivered e h =
       let run = h.runs.0 in
       let taken = taken-lines s s' _ run.delivered in (
@@ -97,15 +99,9 @@ module _ (q : QueryView Formula) (t : Trace ℤ) (most : Option ℕ) (a b : Byte
         short.1,
       )
 
-  pub broke-off : (fault : RunFault) (e : ServeFault) → e ≡ serve_fault_of_run fault
-      → HasSome q.ordered q.ops (merge_in_force q.merge) most t s s' (Err fault) → Delivers q t a b most (Err e) × (s'.writer ≡ s.writer)
-  broke-off fault e is h = let both = broken fault h in (subst (λ x. Delivers q t a b most (Err x)) (sym is) both.0, both.1)
-
--- ---- the line of the ending behind them
-
 module _ (q : QueryView Formula) (t : Trace ℤ) (a b : Bytes) where
   -- a flush that failed behind the last batch
-  pub unflushed : (most : Option ℕ) (e : Ending) → HasDelivered q t a b most e → HasFailed q t a b
+  unflushed : (most : Option ℕ) (e : Ending) → HasDelivered q t a b most e → HasFailed q t a b
   unflushed most e h = record { answer = h.answer; may = h.may; begun = begins-all a b _ h.lines }
 
   -- where a run failed, a beginning of the lines of its batches is written
@@ -119,6 +115,28 @@ module _ (q : QueryView Formula) (t : Trace ℤ) (a b : Bytes) where
   failed-begun most Memory h = absurd h
   failed-begun most Write h = h
   failed-begun most (Take fault) h = absurd h
+
+-- what is told of a run where its writer has failed or not
+module _ (q : QueryView Formula) (t : Trace ℤ) (most : Option ℕ) (a b : Bytes) (s s' : Lines) (start : s.bytes ≡ a) (keeps : Keeps s'.bytes b) where
+  abbrev Told : Result Ending ServeFault → Type 0
+  Told r = Delivers q t a b most r × (s'.writer ≡ s.writer)
+
+  tells : (written : Result ⊤ WriteFault) (r : Result Report RunFault) → HasSome q.ordered q.ops (merge_in_force q.merge) most t s s' (reported r) → Told (told_of written r)
+  tells (Ok all) (Ok report) h = ran-delivered q t most a b s s' start keeps report.ending h
+  tells (Ok all) (Err fault) h = broken q t most a b s s' start keeps fault h
+  tells (Err failed) (Ok report) h =
+      let both = ran-delivered q t most a b s s' start keeps report.ending h in
+      (unflushed q t a b most report.ending both.0, both.1)
+  tells (Err failed) (Err fault) h =
+      let both = broken q t most a b s s' start keeps fault h in
+      (failed-begun q t a b most (serve_fault_of_run fault) both.0, both.1)
+
+  pub told-delivered : (written : Result ⊤ WriteFault) (r : Result Report RunFault) (told : Result Ending ServeFault) → told ≡ told_of written r
+      → Leaves TakesLine RefusesLine (merge_in_force q.merge) (MayAnswer formula_meaning q.ordered q.ops) t most s s' r → Told told
+  told-delivered written r told is leaves =
+      subst Told (sym is) (tells written r (some-answer q.ordered q.ops (merge_in_force q.merge) most t s s' r leaves))
+
+-- ---- the line of the ending behind them
 
 abbrev text : QueryView Formula → Trace ℤ → List ℕ
 text q u = answer_text (merge_in_force q.merge) u

@@ -1,5 +1,5 @@
 -- What the program does with a document, and the status that it ends with.
-use Rattle.std.specs.Prelude.{◌≡◌, ℕ, List, Option, Result, Ok, Err, IfSome, IfErr, MatchResult, ⊤, ◌⊎◌, refl}
+use Rattle.std.specs.Prelude.{◌≡◌, ℕ, List, Option, Result, Ok, Err, IfSome, IfErr, ⊤, ◌⊎◌, refl}
 use Rattle.std.specs.Io.KnownBytes.{Keeps}
 use Rattle.clap.specs.declared.error.kind.ErrorKind.{ErrorKind}
 use Rattle.clap.specs.declared.error.kind.ErrorKind.TheVariants.{DisplayHelp, DisplayVersion, OutOfMemory}
@@ -80,9 +80,15 @@ abbrev pub Answers : Arguments → Option (List ℕ) → Option (List ℕ) → O
 Answers arguments told old new r =
     (bytes : List ℕ) × IfSome told (λ all. bytes ≡ all) × AnswersMeaning arguments.command (document_of arguments.settings bytes) old new r
 
--- what is answered once the output was flushed: a flush that fails is a failing write, and what failed before it is answered
+-- what is answered where a flush failed: a failing write, also after a cancelled run, but what failed before it is answered
+abbrev pub unflushed : Result Ending Failure → Result Ending Failure
+unflushed (Ok e) = Err Write
+unflushed (Err Cancelled) = Err Write
+unflushed (Err failure) = Err failure
+
+-- what is answered once the output was flushed, or couldn't be
 abbrev pub Flushes : Result Ending Failure → Result Ending Failure → Type 0
-Flushes before after = MatchResult before (λ e. (after ≡ Ok e) ⊎ (after ≡ Err Write)) (λ failure. after ≡ Err failure)
+Flushes before after = (after ≡ before) ⊎ (after ≡ unflushed before)
 
 -- the status: 0 at the end, 2 for a refused document, 3 for a refusal of the source, 4 for a fault, 5 for anything else
 abbrev pub failure_status : Failure → ℕ
@@ -159,6 +165,12 @@ without_a_thread = refl
 
 pub at_a_cancelled_run : status_of (Err (failure_of_serve (ServeRun RunCancelled))) ≡ 5
 at_a_cancelled_run = refl
+
+pub at_a_cancelled_run_unflushed : unflushed (Err (failure_of_serve (ServeRun RunCancelled))) ≡ Err Write
+at_a_cancelled_run_unflushed = refl
+
+pub out_of_memory_unflushed : unflushed (Err (failure_of_serve (ServeRun RunMemory))) ≡ Err Memory
+out_of_memory_unflushed = refl
 
 pub at_spent_tickets : status_of (Err (failure_of_serve (Take Spent))) ≡ 5
 at_spent_tickets = refl

@@ -1,8 +1,11 @@
--- A fault of a partition or of a run, as a command tells it, and which faults each command may have.
-use Rattle.std.specs.Prelude.{◌≡◌, ◌≢◌, ℕ, ⊤}
+-- A fault of a partition, of a run or of its writer, as a command tells it, and which faults each command may have.
+use Rattle.std.specs.Prelude.{◌≡◌, ◌≢◌, ℕ, ⊤, Result, Ok, Err}
+use Rattle.plinq_source.specs.declared.ending.Ending.{Ending}
 use Rattle.plinq_partition.specs.declared.take_fault.TakeFault.{TakeFault}
 use Rattle.plinq_partition.specs.declared.take_fault.TakeFault.TheVariants.{Memory as NoMemory}
+use Rattle.plinq_lines.specs.declared.write_fault.WriteFault.{WriteFault}
 use Rattle.plinq_cli.specs.declared.serve_fault.ServeFault.{ServeFault}
+use Rattle.plinq_run.specs.declared.report.Report.{Report}
 use Rattle.plinq_run.specs.declared.run_fault.RunFault.{RunFault}
 use Rattle.plinq_run.specs.declared.run_fault.RunFault.TheVariants.{Sink}
 use Rattle.plinq_run.specs.Runs.{SinkRefused, cause_of}
@@ -19,6 +22,12 @@ serve_fault_of fault = Take fault
 abbrev pub serve_fault_of_run : RunFault → ServeFault
 serve_fault_of_run (Sink code) = Write
 serve_fault_of_run fault = Run fault
+
+-- what is told of a run into a writer: a failing write before any fault of the run's own
+abbrev pub told_of : Result ⊤ WriteFault → Result Report RunFault → Result Ending ServeFault
+told_of (Err fault) reported = Err Write
+told_of (Ok all) (Ok report) = Ok report.ending
+told_of (Ok all) (Err fault) = Err (serve_fault_of_run fault)
 
 -- the faults of each command: `plan` takes no memory, and a run tells its own want of it; only `run` has a run that breaks
 -- off, never since the writer took no more, and only `history` has partitions, whose want of memory is the command's

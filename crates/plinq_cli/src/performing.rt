@@ -3,7 +3,7 @@ ghost use Rattle.std.specs.String.{string_bytes};
 ghost use Rattle.std.specs.Io.KnownBytes.{Keeps};
 ghost use Rattle.plinq_document.specs.Document.{document_of};
 ghost use Rattle.clap.specs.Words.{kind_of};
-ghost use Rattle.plinq_cli.specs.Performed.{Answers, AnswersMeaning, Flushes, IsSilent, Performs, PerformsWords, Shows, status_of, failure_status};
+ghost use Rattle.plinq_cli.specs.Performed.{Answers, AnswersMeaning, Flushes, IsSilent, Performs, PerformsWords, Shows, status_of, failure_status, unflushed};
 
 use crate::arguments::{Arguments, read_arguments};
 use crate::failure::Failure;
@@ -20,8 +20,9 @@ use std::thread::Threads;
 /// document from `reader`, writes the answer to `out` and what is wrong to `err`, and answers the exit status.
 ///
 /// The status is 0 at the end of an answer and for help, 2 for refused arguments and documents, 3 where the source
-/// refused, 4 at a fault, and 5 where anything else failed. `out` is flushed before the status is answered, and a
-/// flush that fails is a failing write, unless something has failed before. After a failing write `out` is left alone,
+/// refused, 4 at a fault, and 5 where anything else failed or the run was cancelled. `out` is flushed before the status
+/// is answered, and a flush that fails is a failing write, also of a cancelled run, unless something has failed before.
+/// After a failing write `out` is left alone,
 /// so that a caller who lets go of what it still holds writes nothing after the line of the failure. What fails in
 /// writing to `err` changes nothing.
 pub fn perform<R, I, W, E>(
@@ -108,8 +109,7 @@ where
 
 // What is answered once the output is flushed.
 //
-// After a failing write nothing more may be written, so the output isn't flushed. What failed before a flush is answered
-// also where the flush fails.
+// After a failing write nothing more may be written, so the output isn't flushed.
 fn flush<W: Write>(answered: Result<Ending, Failure>, out: &mut W) -> Result<Ending, Failure>
     ensures answer { Flushes answered result }
     ensures bytes { Keeps (W.contents out.old) (W.contents out.new) }
@@ -117,14 +117,20 @@ fn flush<W: Write>(answered: Result<Ending, Failure>, out: &mut W) -> Result<End
 {
     match answered {
         Err(Failure::Write) => Err(Failure::Write),
-        Err(failure) => {
-            let _ = out.flush();
-            Err(failure)
-        }
-        Ok(ending) => match out.flush() {
-            Ok(()) => Ok(ending),
-            Err(_) => Err(Failure::Write),
+        _ => match out.flush() {
+            Ok(()) => answered,
+            Err(_) => unflushed(answered),
         },
+    }
+}
+
+// What is answered where a flush fails: what has failed before it, and else a failing write. A cancelled run hasn't failed.
+fn unflushed(answered: Result<Ending, Failure>) -> Result<Ending, Failure>
+    ensures { result ≡ unflushed answered }
+{
+    match answered {
+        Ok(_) | Err(Failure::Cancelled) => Err(Failure::Write),
+        Err(failure) => Err(failure),
     }
 }
 

@@ -2,7 +2,7 @@ ghost use Rattle.std.specs.Prelude.{◌≡◌, ◌≤◌, Some, None, IfOk, IfEr
 ghost use Rattle.plinq_keyed.specs.Keys.{keyed_from, element_lists};
 ghost use Rattle.plinq_partition.specs.Cuts.{cuts};
 ghost use Rattle.plinq_source.specs.Trace.{ended};
-ghost use Rattle.plinq_cli.specs.ServeFaults.{MayFail};
+ghost use Rattle.plinq_cli.specs.ServeFaults.{MayFail, told_of};
 ghost use Rattle.plinq_cli.specs.Served.{Delivers, LeavesWholeLines, Serves};
 ghost use Rattle.plinq_cli.specs.Stopped.{Leaves};
 ghost use Rattle.plinq_lambda.specs.Formula.{formula_meaning};
@@ -18,7 +18,7 @@ use plinq_enumerator::Growth;
 use plinq_keyed::{Guarded, Keyed};
 use plinq_lambda::Formula;
 use plinq_lines::{
-    LineSink, write_aggregate, write_ending, write_history, write_parts, write_plan,
+    LineSink, WriteFault, write_aggregate, write_ending, write_history, write_parts, write_plan,
 };
 use plinq_merge::{CancelAfter, Sink};
 use plinq_ops::{Query, sequential};
@@ -43,9 +43,9 @@ use std::thread::Threads;
 /// # Errors
 ///
 /// [`ServeFault::Memory`] where `seq`, `parts` or `history` have no memory for the answer, [`ServeFault::Write`] where the
-/// writer answers an error, or takes none of the bytes that it is given, [`ServeFault::Run`] where a run breaks off for
-/// another cause, also for want of memory, and [`ServeFault::Take`] where the partitions of a history don't get through
-/// for another cause than that.
+/// writer answers an error, also in a flush while nothing comes, or takes none of the bytes that it is given,
+/// [`ServeFault::Run`] where a run breaks off for another cause, also for want of memory, and the writer hasn't failed
+/// before, and [`ServeFault::Take`] where the partitions of a history don't get through for another cause than that.
 pub fn serve<R, W>(rt: &R, command: Command, job: Job, writer: &mut W) -> Result<Ending, ServeFault>
 where
     R: AllocGlobal + Threads + Wait + Sync,
@@ -150,8 +150,6 @@ where
 }
 
 // The same, and the writer, which the lines have gone to.
-//
-// A flush that fails while nothing comes is a failing write, also where no batch comes after it.
 fn run_lines<'a, R, W>(
     rt: &R,
     query: &Query<Formula>,
@@ -169,17 +167,28 @@ where
 {
     let mut sink = LineSink::new(writer);
     let reported = run_until(rt, query, source, growth, cancel_after, &mut sink);
-    let has_failed = sink.has_failed();
-    let writer = sink.into_writer();
-    match reported {
-        Ok(report) => {
-            if has_failed {
-                return (Err(ServeFault::Write), writer);
-            }
-            (Ok(report.ending), writer)
-        }
-        Err(fault) => (Err(ServeFault::from(fault)), writer),
+    let written = written_by(&sink);
+    (tell(written, reported), sink.into_writer())
+}
+
+// Whether the writer took all lines. A flush that fails while nothing comes is a failing write, also where no batch comes
+// after it.
+fn written_by<W: Write>(sink: &LineSink<'_, W>) -> Result<(), WriteFault> {
+    if sink.has_failed() {
+        return Err(WriteFault);
     }
+    Ok(())
+}
+
+// What is told of a run: a failing write before any other fault, so also where the run was cancelled after it.
+fn tell(
+    written: Result<(), WriteFault>,
+    reported: Result<Report, RunFault>,
+) -> Result<Ending, ServeFault>
+    ensures { result ≡ told_of written reported }
+{
+    written?;
+    Ok(reported?.ending)
 }
 
 // Runs a query into a sink, and stops after so many batches, if it is to stop at all.

@@ -30,6 +30,19 @@ fn run_document<R: AllocGlobal + Threads + Wait + Sync, W: Write>(
     Ok(perform(rt, words, &mut document.as_bytes(), out, err))
 }
 
+// The same of a run that is cancelled after so many lines.
+fn run_cancelled<R: AllocGlobal + Threads + Wait + Sync, W: Write>(
+    rt: &R,
+    most: &str,
+    document: &str,
+    out: &mut W,
+    err: &mut Vec<u8>,
+) -> Result<u8, AllocError> {
+    let words = ["plinq", "run", "--merge", "not", "--cancel-after", most];
+    let words = words_of(rt.alloc(), words.as_slice())?;
+    Ok(perform(rt, words, &mut document.as_bytes(), out, err))
+}
+
 // How a run ends that reads a document that is no JSON.
 fn refused<R: AllocGlobal + Threads + Wait + Sync, W: Write, E: Write>(
     rt: &R,
@@ -99,6 +112,50 @@ fn a_flush_that_fails_while_nothing_comes(rt: HostRuntime) -> Result<(), Fail> {
     assert_eq!(rt; err.as_slice(), b"plinq: write failed\n".as_slice());
     assert_eq!(rt; out.taken(), b"5\n".as_slice());
     assert_eq!(rt; out.calls, 2);
+    Ok(())
+}
+
+// The run is cancelled, but what it wrote doesn't get through. Cancelled at once it has written nothing, and all that
+// fails is the last flush.
+#[test]
+fn a_flush_that_fails_after_a_cancelled_run(rt: HostRuntime) -> Result<(), Fail> {
+    for (most, taken) in [("0", ""), ("1", "4\n"), ("3", "4\n2\n5\n")] {
+        let mut out = Narrow::new(rt.alloc(), 100, 100);
+        out.flushes = false;
+        let mut err = Vec::new(rt.alloc());
+        assert_eq!(rt; run_cancelled(&rt, most, ADD_ONE, &mut out, &mut err)?, 5);
+        assert_eq!(rt; err.as_slice(), b"plinq: write failed\n".as_slice());
+        assert!(rt; taken.as_bytes().starts_with(out.taken()));
+    }
+    Ok(())
+}
+
+// What fails is the flush behind the only line, before the token is asked again at the run's end, and later flushes succeed.
+#[test]
+fn a_flush_that_fails_before_a_run_is_cancelled(rt: HostRuntime) -> Result<(), Fail> {
+    let mut out = FailsOnce::new(rt.alloc(), 2);
+    let mut err = Vec::new(rt.alloc());
+    assert_eq!(rt;
+        run_cancelled(&rt, "1", FIRST_OF_MANY, &mut out, &mut err)?,
+        5
+    );
+    assert_eq!(rt; err.as_slice(), b"plinq: write failed\n".as_slice());
+    assert_eq!(rt; out.taken(), b"5\n".as_slice());
+    assert_eq!(rt; out.calls, 2);
+    Ok(())
+}
+
+// A run that is cancelled once all that it wrote got through.
+#[test]
+fn a_cancelled_run_whose_lines_got_through(rt: HostRuntime) -> Result<(), Fail> {
+    for (most, taken) in [("0", ""), ("1", "4\n"), ("3", "4\n2\n5\n")] {
+        let mut out = FailsOnce::new(rt.alloc(), 0);
+        let mut err = Vec::new(rt.alloc());
+        assert_eq!(rt; run_cancelled(&rt, most, ADD_ONE, &mut out, &mut err)?, 5);
+        assert_eq!(rt; err.as_slice(), b"plinq: cancelled\n".as_slice());
+        assert_eq!(rt; out.taken(), taken.as_bytes());
+        assert!(rt; out.flushes >= 1);
+    }
     Ok(())
 }
 
