@@ -10,6 +10,7 @@
 #![tactic(auto)]
 
 mod bench_fault;
+mod item_work;
 mod measuring;
 mod spinning;
 mod stopping;

@@ -1,6 +1,7 @@
 ghost use Rattle.std.specs.Prelude.{◌≡◌};
-ghost use Rattle.plinq_bench.specs.Works.{turns, kept, work_meaning};
+ghost use Rattle.plinq_bench.specs.Works.{turns, kept, mapped, tested, work_meaning};
 
+use crate::item_work::ItemWork;
 use crate::spinning::spin;
 use plinq_lambda::{ExpandFault, Formula, Lambda};
 use std::alloc::Global;
@@ -36,23 +37,59 @@ impl Lambda for Work {
 
     #[inline(always)]
     fn map(&self, x: i64) -> Result<i64, u32> {
-        match *self {
-            Work::Plain(formula) => formula.map(x),
-            Work::Spin(cost) => Ok(spin(x, turns(cost, x))),
-            Work::Keep(turns) => kept(turns, x),
-        }
+        map_one(*self, x)
     }
 
     #[inline(always)]
     fn test(&self, x: i64) -> Result<bool, u32> {
-        match *self {
-            Work::Plain(formula) => formula.test(x),
-            Work::Spin(_) | Work::Keep(_) => Ok(true),
-        }
+        test_one(*self, x)
     }
 
     fn expand(&self, _: Global, _: i64) -> Result<Vec<i64>, ExpandFault> {
         Err(ExpandFault::Code(1))
+    }
+
+    // A formula's loops are its own.
+    fn map_block(&self, block: &mut [i64]) -> (usize, Option<u32>) {
+        match *self {
+            Work::Plain(formula) => formula.map_block(block),
+            work => ItemWork(work).map_block(block),
+        }
+    }
+
+    fn filter_block(&self, block: &mut [i64]) -> (usize, Option<u32>) {
+        match *self {
+            Work::Plain(formula) => formula.filter_block(block),
+            work => ItemWork(work).filter_block(block),
+        }
+    }
+
+    fn count_passing(&self, block: &[i64]) -> (usize, Option<u32>) {
+        match *self {
+            Work::Plain(formula) => formula.count_passing(block),
+            work => ItemWork(work).count_passing(block),
+        }
+    }
+}
+
+#[inline(always)]
+pub(crate) fn map_one(work: Work, x: i64) -> Result<i64, u32>
+    ensures { result ≡ mapped work x }
+{
+    match work {
+        Work::Plain(formula) => formula.map(x),
+        Work::Spin(cost) => Ok(spin(x, turns(cost, x))),
+        Work::Keep(turns) => kept(turns, x),
+    }
+}
+
+#[inline(always)]
+pub(crate) fn test_one(work: Work, x: i64) -> Result<bool, u32>
+    ensures { result ≡ tested work x }
+{
+    match work {
+        Work::Plain(formula) => formula.test(x),
+        Work::Spin(_) | Work::Keep(_) => Ok(true),
     }
 }
 
