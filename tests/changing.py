@@ -11,7 +11,7 @@ from support.program import ROOT, Tests
 
 # what is added, a neighbour's names, and the neighbour's own files
 NEIGHBOURS = (
-    ("An operator", r"SkipWhile|skip_while|skipped_while", r"skip_while\.rt|/skip_while/|SkipWhile\.antt|SkippingWhile\.antt"),
+    ("An operator", r"SkipWhile|SkippingWhile|skip_while|skipped_while", r"skip_while\.rt|/skip_while/|SkipWhile\.antt|SkippingWhile\.antt"),
     ("A formula", r"UpTo", None),
     ("An aggregate", r"Max", None),
     ("An option of the command line", r"cancel_after", r"/plinq_merge/|/plinq_run/|/proofs/arguments/"),
