@@ -101,6 +101,7 @@ impl<V: Guarded> TicketLock<V> {
     ///
     /// [`LockFault::Spent`] where all tickets were drawn; [`LockFault::Busy`] where another pass waits or is inside.
     /// The pass comes back as it was.
+    #[inline(always)]
     pub fn try_enter(&self, pass: Pass<V>) -> Result<Held<V>, (Pass<V>, LockFault)>
         requires { IsPassOf self.now pass }
         ensures ok { IfOk result (λ held. IsHeldOf self.now held × Enters V.origin V.history pass held) }
@@ -152,6 +153,7 @@ impl<V: Guarded> TicketLock<V> {
     }
 
     // Takes the value out of the slot, which is the pass's own.
+    #[inline(always)]
     fn take_value(
         &self,
         mut seat: Seat<Option<V>, View<V::Item>>,

@@ -10,6 +10,7 @@ use plinq_keyed::Guarded;
 
 impl<V: Guarded> TicketLock<V> {
     /// Gives the value back and leaves: the next ticket is served. What was recorded meanwhile is the pass's own.
+    #[inline(always)]
     pub fn leave(&self, held: Held<V>) -> Pass<V>
         requires lock { IsHeldOf self.now held }
         requires origin { V.origin (held_value held) ≡ held_origin held }
