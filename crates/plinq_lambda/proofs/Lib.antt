@@ -1,1 +1,2 @@
+mod Near
 mod SoFar

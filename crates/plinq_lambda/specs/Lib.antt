@@ -3,3 +3,4 @@ pub mod Meaning
 pub mod Block
 pub mod Short
 pub mod FaultRows
+pub mod Sums

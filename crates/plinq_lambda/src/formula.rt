@@ -1,11 +1,14 @@
-ghost use Rattle.std.specs.Prelude.{◌≡◌, ◌≤◌, Ok, IfOk, IfErr};
+ghost use Rattle.std.specs.Prelude.{◌≡◌, ◌≤◌, length, take, Ok, IfOk, IfErr};
+ghost use Rattle.plinq_lambda.specs.Block.{mapped_block};
 ghost use Rattle.plinq_lambda.specs.Meaning.{IsFaultOf, most_items};
 ghost use Rattle.plinq_lambda.specs.Formula.{formula_meaning, quotient, remainder, expansion_length, numbers_up_to};
 ghost use Rattle.plinq_lambda.specs.Short.{formula_meaning-short};
+ghost use Rattle.plinq_lambda.specs.declared.formula.Formula.TheVariants.{Add};
 
 use crate::expand_fault::ExpandFault;
 use crate::kind::Kind;
 use crate::lambda::Lambda;
+use crate::sums::{NEAR, add_each, are_near};
 use std::alloc::{AllocError, Global};
 
 // The most items that an expansion gives.
@@ -80,7 +83,7 @@ impl Lambda for Formula {
     // A loop for each kind, so that none asks for it at each item.
     fn map_block(&self, block: &mut [i64]) -> (usize, Option<u32>) {
         match *self {
-            Formula::Add(c) => Kind(Formula::Add(c)).map_block(block),
+            Formula::Add(c) => map_sums(c, block),
             Formula::Mul(c) => Kind(Formula::Mul(c)).map_block(block),
             Formula::Mod(c) => Kind(Formula::Mod(c)).map_block(block),
             Formula::Into(c) => Kind(Formula::Into(c)).map_block(block),
@@ -117,6 +120,18 @@ impl Lambda for Formula {
     fn expand(&self, alloc: Global, x: i64) -> Result<Vec<i64>, ExpandFault> {
         expand_one(alloc, *self, x)
     }
+}
+
+// One number added to each of a block. Where all are near to zero, no sum is looked at by itself.
+fn map_sums(c: i64, block: &mut [i64]) -> (usize, Option<u32>)
+    ensures within { result.0 ≤ length block.new }
+    ensures mapped { record { items = take result.0 block.new; fault = result.1 } ≡ mapped_block (formula_meaning (Add c)).map block.old }
+{
+    if -NEAR <= c && c <= NEAR && are_near(c, block) {
+        add_each(c, block);
+        return (block.len(), None);
+    }
+    Kind(Formula::Add(c)).map_block(block)
 }
 
 // What an element is mapped to. It is inlined, as `test_one` is: they run for each item, and the call would cost more than

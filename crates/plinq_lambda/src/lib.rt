@@ -10,6 +10,7 @@ mod expand_fault;
 mod formula;
 mod kind;
 mod lambda;
+mod sums;
 
 pub use expand_fault::ExpandFault;
 pub use formula::Formula;

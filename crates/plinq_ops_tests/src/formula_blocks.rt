@@ -3,9 +3,12 @@ use std::alloc::Global;
 use std::process::Abort;
 use std::test::Fail;
 
-const FORMULAS: [Formula; 17] = [
+const FORMULAS: [Formula; 20] = [
     Formula::Add(1),
     Formula::Add(i64::MIN),
+    Formula::Add(1 << 62),
+    Formula::Add(-(1 << 62)),
+    Formula::Add(1 - (1 << 62)),
     Formula::Mul(-1),
     Formula::Mul(i64::MAX),
     Formula::Mod(0),
@@ -23,7 +26,20 @@ const FORMULAS: [Formula; 17] = [
     Formula::UpTo,
 ];
 
-const EDGES: [i64; 8] = [i64::MIN, i64::MIN + 1, -2, -1, 0, 1, i64::MAX - 1, i64::MAX];
+const EDGES: [i64; 12] = [
+    i64::MIN,
+    i64::MIN + 1,
+    -(1 << 62) - 1,
+    -(1 << 62),
+    -2,
+    -1,
+    0,
+    1,
+    (1 << 62) - 1,
+    1 << 62,
+    i64::MAX - 1,
+    i64::MAX,
+];
 
 const LENGTHS: [usize; 6] = [0, 1, 15, 16, 511, 512];
 
@@ -32,7 +48,7 @@ fn block_of(alloc: Global, len: usize, edge: i64, place: Option<usize>) -> Resul
     let mut block = Vec::with_capacity(alloc, len)?;
     for at in 0..len {
         let item = match place {
-            None => EDGES[at % 8],
+            None => EDGES[at % 12],
             Some(place) if place == at => edge,
             Some(_) => 2,
         };
