@@ -46,7 +46,7 @@ summing-lawful = record { joins = sums-join; neutral = λ xs. sums-join [] xs }
 
 -- ---- the number of items
 
-count-from : (n : ℕ) (xs : List ℤ) → fold counting.update (n % 2 ^ 64) xs ≡ (n + length xs) % 2 ^ 64
+pub count-from : (n : ℕ) (xs : List ℤ) → fold counting.update (n % 2 ^ 64) xs ≡ (n + length xs) % 2 ^ 64
 count-from n [] = ap (λ m. m % 2 ^ 64) (sym (add-zero n))
 count-from n (x ∷ xs) =
     ap (λ m. fold counting.update m xs) (mod-add-mod n (2 ^ 64) 1)

@@ -24,6 +24,10 @@ impl Aggregator for Count {
         acc.wrapping_add(1)
     }
 
+    fn update_block(&self, acc: u64, block: &[i64]) -> u64 {
+        acc.wrapping_add(block.len() as u64)
+    }
+
     fn combine(&self, first: u64, second: u64) -> u64 {
         first.wrapping_add(second)
     }

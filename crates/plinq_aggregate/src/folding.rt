@@ -12,9 +12,5 @@ use crate::aggregator::Aggregator;
 pub fn fold_sequential<A: Aggregator>(aggregator: &A, items: &[A::Item]) -> A::Out
     ensures { result ≡ aggregated (A.folding aggregator.now) items.now }
 {
-    let mut acc = aggregator.seed();
-    for item in items {
-        acc = aggregator.update(acc, *item);
-    }
-    aggregator.result(acc)
+    aggregator.result(aggregator.update_block(aggregator.seed(), items))
 }

@@ -117,6 +117,27 @@ fn parts_combine_to_the_whole(rt: HostRuntime) -> Result<(), Fail> {
 }
 
 #[test]
+fn blocks_are_taken_in_as_their_items_are(rt: HostRuntime) -> Result<(), Fail> {
+    let items = [5, -2, 9, 0];
+    for cut in 0..5 {
+        let (first, second) = items.split_at(cut);
+        assert_eq!(rt; Sum.update_block(Sum.update_block(0, first), second), 12);
+        assert_eq!(rt; Count.update_block(Count.update_block(0, first), second), 4);
+        assert_eq!(rt;
+            Min.update_block(Min.update_block(None, first), second),
+            Some(-2)
+        );
+        assert_eq!(rt;
+            Max.update_block(Max.update_block(None, first), second),
+            Some(9)
+        );
+    }
+    assert_eq!(rt; Sum.update_block(i128::MAX, &[1]), i128::MIN);
+    assert_eq!(rt; Count.update_block(u64::MAX, &[7, 7]), 1);
+    Ok(())
+}
+
+#[test]
 fn numbers_of_another_type_are_folded_as_well(rt: HostRuntime) -> Result<(), Fail> {
     assert_eq!(rt; fold_sequential(&MaxOfSmall, &[i32::MIN, 7, 2]), Some(7));
     assert_eq!(rt; in_two_parts(&MaxOfSmall, &[3, 4], &[]), Some(4));

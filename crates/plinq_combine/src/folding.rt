@@ -19,11 +19,7 @@ pub fn fold_result<A: Aggregator>(
     ensures { IfOk result (IsFoldOf (A.folding aggregator.now) made) }
 {
     let mut items = Vec::with_capacity(alloc, 1)?;
-    let mut acc = aggregator.seed();
-    for item in made.items.as_slice() {
-        acc = aggregator.update(acc, *item);
-    }
-    items.push_reserved(acc);
+    items.push_reserved(aggregator.update_block(aggregator.seed(), made.items.as_slice()));
     Ok(ChunkResult {
         first: made.first,
         count: made.count,

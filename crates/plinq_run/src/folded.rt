@@ -11,7 +11,7 @@ use plinq_combine::Combined;
 use plinq_merge::Sink;
 use plinq_source::Ending;
 
-/// What is told of an accumulator whose items' answer ended so.
+/// What is reported of an accumulator whose items' answer ended so.
 fn value_at<A: Aggregator>(
     aggregator: &A,
     acc: A::Acc,
@@ -25,7 +25,7 @@ fn value_at<A: Aggregator>(
     }
 }
 
-/// What is told of a run whose workers folded.
+/// What is reported of a run whose workers folded.
 pub(crate) fn value_of<A: Aggregator>(
     aggregator: &A,
     combined: Result<Combined<A::Acc>, RunFault>,
@@ -38,7 +38,7 @@ pub(crate) fn value_of<A: Aggregator>(
     }
 }
 
-/// A sink that folds what it is handed, and keeps nothing else.
+/// A sink that folds what it gets, and keeps nothing else.
 #[derive(Drop)]
 pub(crate) struct Folded<'a, A: Aggregator> {
     pub(crate) aggregator: &'a A,
@@ -47,7 +47,7 @@ pub(crate) struct Folded<'a, A: Aggregator> {
 }
 
 impl<'a, A: Aggregator> Folded<'a, A> {
-    /// The sink that was handed nothing.
+    /// The sink that got nothing.
     pub(crate) fn new(aggregator: &'a A) -> Folded<'a, A>
         ensures aggregator { result.aggregator.now ≡ aggregator.now }
         ensures nothing { result.acc ≡ None }
@@ -68,7 +68,7 @@ impl<'a, A: Aggregator> Folded<'a, A> {
         }
     }
 
-    /// What is told of a run that ended so and handed it its batches.
+    /// What is reported of a run that ended so and gave it its batches.
     pub(crate) fn told(self, run: Result<Report, RunFault>) -> Result<A::Out, AggregateFault>
         ensures { result ≡ aggregate_of (A.folding self.entry.aggregator.now) self.entry.acc (reported run) }
     {
@@ -89,14 +89,11 @@ impl<'a, A: Aggregator> Sink for Folded<'a, A> {
 
     fn batch(&mut self, items: &[A::Item]) -> Result<(), u32> {
         let aggregator = self.aggregator;
-        let mut acc = match self.acc.take() {
+        let acc = match self.acc.take() {
             Some(acc) => acc,
             None => aggregator.seed(),
         };
-        for item in items {
-            acc = aggregator.update(acc, *item);
-        }
-        self.acc = Some(acc);
+        self.acc = Some(aggregator.update_block(acc, items));
         Ok(())
     }
 }

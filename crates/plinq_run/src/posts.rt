@@ -44,8 +44,8 @@ pub(crate) struct Folds<'a, A, G> {
     pub(crate) gate: &'a G,
 }
 
-// The aggregator, of which nothing is told: a scope's closure stays within the checker's limit of steps where what it runs
-// has one type parameter for post and aggregator, and no type for what is told.
+// The aggregator, of which nothing is reported. A scope's closure stays within the checker's limit of steps where what it runs
+// has one type parameter for post and aggregator, and no type for what is reported.
 impl<'a, A: Aggregator, G: Gate> Aggregator for Folds<'a, A, G> {
     type Item = A::Item;
 
@@ -61,6 +61,10 @@ impl<'a, A: Aggregator, G: Gate> Aggregator for Folds<'a, A, G> {
 
     fn update(&self, acc: A::Acc, x: A::Item) -> A::Acc {
         self.aggregator.update(acc, x)
+    }
+
+    fn update_block(&self, acc: A::Acc, block: &[A::Item]) -> A::Acc {
+        self.aggregator.update_block(acc, block)
     }
 
     fn combine(&self, first: A::Acc, second: A::Acc) -> A::Acc {
@@ -91,11 +95,7 @@ impl<'a, T: Copy, A: Aggregator<Item = T>, G: Gate> Post<T> for Folds<'a, A, G> 
     {
         let aggregator = self.aggregator;
         let mut items = Vec::with_capacity(alloc, 1)?;
-        let mut acc = aggregator.seed();
-        for item in made.items.as_slice() {
-            acc = aggregator.update(acc, *item);
-        }
-        items.push_reserved(acc);
+        items.push_reserved(aggregator.update_block(aggregator.seed(), made.items.as_slice()));
         Ok(ChunkResult {
             first: made.first,
             count: made.count,
