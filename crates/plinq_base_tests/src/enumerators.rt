@@ -74,7 +74,7 @@ fn expect_asked(
     expect(rt, &chunk, first, items, tail);
 }
 
-// Asks that records are so many, told through the bound, and replay over so many units.
+// Asks that records are so many, read from a value of any such type, and replay over so many units.
 fn expect_records<V: Guarded>(rt: &impl Abort, value: &V, count: usize, units: u64, last: Ending)
     requires { IsSourceEnding (Some last) }
 {
@@ -259,7 +259,7 @@ fn expect_count(rt: &impl Abort, numbers: &Enumerator<ListSource<u64>>, count: u
     assert_eq!(rt; numbers.records().len(), count);
 }
 
-// An ask of one that is refused for want of room adds no record. Answers how many items are handed out by now.
+// An ask of one that is refused for lack of room adds no record. Answers how many items are handed out by now.
 fn ask_or_not(
     rt: &impl Abort,
     numbers: &mut Enumerator<ListSource<u64>>,
@@ -276,7 +276,7 @@ fn ask_or_not(
     first.wrapping_add(1)
 }
 
-// So does a close. Answers the tail of an ask behind it.
+// So does a close. Answers the tail of an ask after it.
 fn close_or_not(
     rt: &impl Abort,
     numbers: &mut Enumerator<ListSource<u64>>,
@@ -291,7 +291,7 @@ fn close_or_not(
     CLOSED
 }
 
-// A chunk behind three asks begins there and has the tail of a close, or none but the source's.
+// A chunk after three asks begins there and has the tail of a close, or none but the source's.
 fn expect_behind(rt: &impl Abort, chunk: &Chunk<u64>, first: u64, closed: Option<Tail>) {
     assert_eq!(rt; chunk.first, first);
     assert_eq!(rt; chunk.tail == CLOSED, closed == CLOSED);

@@ -15,6 +15,6 @@ spun h (suc n) = turn (spun h n) n
 abbrev pub spin : ℤ → ℕ → ℤ
 spin x n = cast_signed w64 (spun (cast_unsigned w64 x) n)
 
--- a sum on which the order of the elements tells
+-- a sum that depends on the order of the elements
 abbrev pub mix : ℕ → ℤ → ℕ
 mix sum x = (sum * 31 % 2 ^ 64 + cast_unsigned w64 x) % 2 ^ 64

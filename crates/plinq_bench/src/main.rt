@@ -4,9 +4,9 @@
 //!     plinq_bench check              # each workload with few items: the sums alone
 //!     plinq_bench stop heavy 4       # how long a workload goes on when another thread sets a flag to stop it
 //!
-//! Of several rounds the first isn't counted, since its process is cold, and the best of the others is told. A line has
-//! the workload, what ran it, threads, seconds, items a second, the ratio to the plain loop and the sum of what came, on
-//! which its order tells; of `sum` it is the aggregate.
+//! Of several rounds the first isn't counted, since its process is cold, and the best of the others is reported. A line has
+//! the workload, what ran it, threads, seconds, items a second, the ratio to the plain loop and the sum of what came. That
+//! sum depends on the order of what came; of `sum` it is the aggregate.
 #![tactic(auto)]
 
 mod bench_fault;

@@ -38,7 +38,7 @@ impl Seen {
     }
 }
 
-/// What was seen of a plain loop and of a run behind it, which came to the same sum.
+/// What was seen of a plain loop and of a run after it, which came to the same sum.
 #[derive(Clone, Copy)]
 pub(crate) struct Round {
     pub(crate) looped: Seen,

@@ -30,7 +30,7 @@ fn turn(h: u64, i: u64) -> u64
     (h ^ i).wrapping_mul(FACTOR).wrapping_add(SUMMAND)
 }
 
-/// A sum on which the order of the elements tells, with one more.
+/// A sum that depends on the order of the elements, with one more.
 pub(crate) fn mix(sum: u64, x: i64) -> u64
     ensures { result ≡ mix sum x }
 {

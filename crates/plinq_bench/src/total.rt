@@ -2,7 +2,7 @@ ghost use Rattle.plinq_bench.specs.Totals.{totalling, totalling-lawful};
 
 use plinq_aggregate::Aggregator;
 
-/// The sum of all numbers modulo 2^64, on which their order doesn't tell.
+/// The sum of all numbers modulo 2^64, which doesn't depend on their order.
 #[derive(Drop)]
 pub(crate) struct Total;
 

@@ -26,7 +26,7 @@ use Rattle.std.proofs.lemmas.Bool.Decides.{nat_tests}
 use Rattle.plinq_cli.specs.Arguments.{AddsItsShape, IsAsked, Refuses, TakesOnly, arguments_in, arguments_of, arguments_with, command_names, kinds_of, cancel_in, cancel_of, merge_of, merge_words, plinq_app, with_command, workers_in, workers_of}
 use Rattle.plinq_cli.specs.declared.arguments.Arguments.{Arguments}
 
--- the program's command line is one of which `clap` tells the matches and the faults
+-- the program's command line is one of which `clap` reports the matches and the faults
 pub is_plain : (q : ValueParser) → is_simple_and_free (plinq_app q) ≡ true
 is_plain q = refl
 

@@ -1,4 +1,4 @@
--- What a run by threads tells, and has written: the lines of the batches of an answer, or where it broke off those of the first.
+-- What a run by threads reports, and has written: the lines of an answer's batches, or where it broke off those of the first.
 use Rattle.std.specs.Prelude.{⊤}
 use Rattle.std.proofs.Common.{◌≡◌, ◌≢◌, Bool, ℕ, ◌<◌, ℤ, List, ◌++◌, length, Option, Some, None, IfSome, Result, Ok, Err, refl, ap, sym, ◌∙◌, subst}
 use Rattle.std.specs.List.{flat_map}
@@ -100,7 +100,7 @@ module _ (q : QueryView Formula) (t : Trace ℤ) (most : Option ℕ) (a b : Byte
       )
 
 module _ (q : QueryView Formula) (t : Trace ℤ) (a b : Bytes) where
-  -- a flush that failed behind the last batch
+  -- a flush that failed after the last batch
   unflushed : (most : Option ℕ) (e : Ending) → HasDelivered q t a b most e → HasFailed q t a b
   unflushed most e h = record { answer = h.answer; may = h.may; begun = begins-all a b _ h.lines }
 
@@ -116,7 +116,7 @@ module _ (q : QueryView Formula) (t : Trace ℤ) (a b : Bytes) where
   failed-begun most Write h = h
   failed-begun most (Take fault) h = absurd h
 
--- what is told of a run where its writer has failed or not
+-- what is reported of a run where its writer has failed or not
 module _ (q : QueryView Formula) (t : Trace ℤ) (most : Option ℕ) (a b : Bytes) (s s' : Lines) (start : s.bytes ≡ a) (keeps : Keeps s'.bytes b) where
   abbrev Told : Result Ending ServeFault → Type 0
   Told r = Delivers q t a b most r × (s'.writer ≡ s.writer)
@@ -136,12 +136,12 @@ module _ (q : QueryView Formula) (t : Trace ℤ) (most : Option ℕ) (a b : Byte
   told-delivered written r told is leaves =
       subst Told (sym is) (tells written r (some-answer q.ordered q.ops (merge_in_force q.merge) most t s s' r leaves))
 
--- ---- the line of the ending behind them
+-- ---- the line of the ending after them
 
 abbrev text : QueryView Formula → Trace ℤ → List ℕ
 text q u = answer_text (merge_in_force q.merge) u
 
--- where no aggregate is asked for, these lines are what is told of the answer
+-- where no aggregate is asked for, these lines are what is reported of the answer
 is-text : (j job : JobView) (u : Trace ℤ) → j ≡ job → job.aggregate ≡ None → IsText Run j u (text j.query u)
 is-text j job u same items = ap (λ kind. told_text kind (merge_in_force j.query.merge) u) (sym (ap (λ (x : JobView). x.aggregate) same ∙ items))
 
@@ -160,7 +160,7 @@ whole-lines job a b Memory items h = tt
 whole-lines job a b Write items h = tt
 whole-lines job a b (Take fault) items h = tt
 
--- only a run that broke off, and a failing write, are told
+-- only a run that broke off, and a failing write, are reported
 pub run-failed-so : (q : QueryView Formula) (t : Trace ℤ) (a b : Bytes) (most : Option ℕ) (fault : ServeFault) → Delivers q t a b most (Err fault) → MayFail Run fault
 run-failed-so q t a b most (NoRun fault) h = (refl, h.0)
 run-failed-so q t a b most Memory h = absurd h

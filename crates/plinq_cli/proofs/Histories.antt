@@ -9,7 +9,7 @@ use Rattle.plinq_document.specs.Jobs.{JobView}
 use Rattle.plinq_cli.specs.Rounds.{AreShares, IsHistory, told_ending}
 use Rattle.plinq_cli.proofs.ToldEnding.{told_ending-shares}
 
--- records are a history of a job that tells how its source ends
+-- records are a history of a job that says how its source ends
 pub record Tells (job : JobView) (rs : List Record) : Type 0 where
   pub history : IsHistory (degree_in_force job.query.degree) job.growth job.source rs
   pub told : told_ending rs ≡ job.source.ending

@@ -1,4 +1,4 @@
--- The ending that a legal history tells in which nothing was closed.
+-- The ending that a legal history states in which nothing was closed.
 use Rattle.std.proofs.Common.{◌≡◌, ℕ, ◌+◌, ◌-◌, ◌≤◌, Bool, true, false, cond, ltb, List, [], ◌∷◌, length, Option, Some, None, refl, ap, sym, ◌∙◌, arith}
 use Rattle.std.specs.List.{flat_map}
 use Rattle.std.specs.Prelude.{IsSome}
@@ -31,7 +31,7 @@ ending-some : (tail : Option Tail) → IsSome tail → 1 ≤ ending tail
 ending-some None some = cc
 ending-some (Some tail) some = omega arith
 
--- a tail that the source's ending gives tells that ending
+-- a tail that the source's ending gives states that ending
 tail_ending-source : (e : Option Ending) (tail : Tail) (later : Option Ending) → IsSourceEnding e → Some tail ≡ ending_tail e → tail_ending (Some tail) later ≡ e
 tail_ending-source None tail later ends is = absurd ends
 tail_ending-source (Some End) tail later ends is = ap (λ o. tail_ending o later) is
@@ -92,7 +92,7 @@ shares-tails g (share ∷ shares) some all =
     let both = total-append (λ (r : Record). ending r.tail) share (joined shares) in
     omega arith
 
--- what partitions have left that took until they had a tail tells how the source ends
+-- what partitions have left that took until they had a tail says how the source ends
 pub told_ending-shares : {T : Type 0} (n : ℕ) (g : GrowthRule) (t : Trace T) (h : List Record) → 1 ≤ n → IsSourceEnding t.ending → AreShares n g h → IsLegalHistory t h → told_ending h ≡ t.ending
 told_ending-shares n g t h some ends left legal =
     let count = left.count in

@@ -75,7 +75,7 @@ abbrev pub AnswersMeaning : Command → Result JobView DocFault → Option (List
 AnswersMeaning command (Ok job) old new r = Serves command job old new r × IfErr r (IfDocument (λ fault. ⊥))
 AnswersMeaning command (Err why) old new r = RefusesDocument why old new r
 
--- what it does with the bytes that it reads: those of the reader, where this tells them
+-- what it does with the bytes that it reads: those of the reader, where this reports them
 abbrev pub Answers : Arguments → Option (List ℕ) → Option (List ℕ) → Option (List ℕ) → Result Ending Failure → Type 0
 Answers arguments told old new r =
     (bytes : List ℕ) × IfSome told (λ all. bytes ≡ all) × AnswersMeaning arguments.command (document_of arguments.settings bytes) old new r

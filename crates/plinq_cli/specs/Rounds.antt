@@ -44,14 +44,14 @@ pub record IsHistory {T : Type 0} (n : ℕ) (g : GrowthRule) (t : Trace T) (h : 
   pub left : AreShares n g h
   pub legal : IsLegalHistory t h
 
--- the ending that a tail tells, and where there is none a later one
+-- the ending that a tail gives, and where there is none a later one
 abbrev pub tail_ending : Option Tail → Option Ending → Option Ending
 tail_ending None later = later
 tail_ending (Some Ended) later = Some End
 tail_ending (Some (TailRefused code)) later = Some (Refused code)
 tail_ending (Some Closed) later = None
 
--- the ending that the first tail tells
+-- the ending that the first tail gives
 abbrev pub told_ending : List Record → Option Ending
 told_ending [] = None
 told_ending (r ∷ rs) = tail_ending r.tail (told_ending rs)

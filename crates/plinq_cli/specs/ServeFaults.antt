@@ -1,4 +1,4 @@
--- A fault of a partition, of a run or of its writer, as a command tells it, and which faults each command may have.
+-- A fault of a partition, of a run or of its writer, as a command reports it, and which faults each command may have.
 use Rattle.std.specs.Prelude.{◌≡◌, ◌≢◌, ℕ, ⊤, Result, Ok, Err}
 use Rattle.plinq_source.specs.declared.ending.Ending.{Ending}
 use Rattle.plinq_partition.specs.declared.take_fault.TakeFault.{TakeFault}
@@ -13,7 +13,7 @@ use Rattle.plinq_cli.specs.declared.command.Command.{Command}
 use Rattle.plinq_cli.specs.declared.command.Command.TheVariants.{Run as RunQuery, Plan, History}
 use Rattle.plinq_cli.specs.declared.serve_fault.ServeFault.TheVariants.{Memory, Write, Run, Take}
 
--- memory that ran out is told as the command's
+-- memory that ran out is reported as the command's
 abbrev pub serve_fault_of : TakeFault → ServeFault
 serve_fault_of NoMemory = Memory
 serve_fault_of fault = Take fault
@@ -23,14 +23,14 @@ abbrev pub serve_fault_of_run : RunFault → ServeFault
 serve_fault_of_run (Sink code) = Write
 serve_fault_of_run fault = Run fault
 
--- what is told of a run into a writer: a failing write before any fault of the run's own
+-- what is reported of a run into a writer: a failing write before any fault of the run's own
 abbrev pub told_of : Result ⊤ WriteFault → Result Report RunFault → Result Ending ServeFault
 told_of (Err fault) reported = Err Write
 told_of (Ok all) (Ok report) = Ok report.ending
 told_of (Ok all) (Err fault) = Err (serve_fault_of_run fault)
 
--- the faults of each command: `plan` takes no memory, and a run tells its own want of it; only `run` has a run that breaks
--- off, never since the writer took no more, and only `history` has partitions, whose want of memory is the command's
+-- the faults of each command: `plan` takes no memory, and a run itself reports where memory runs out. Only `run` has a run
+-- that breaks off, never since the writer took no more. Only `history` has partitions; out of memory there is the command's
 abbrev pub MayFail : Command → ServeFault → Type 0
 MayFail command Memory = (command ≢ RunQuery) × (command ≢ Plan)
 MayFail command Write = ⊤

@@ -70,7 +70,7 @@ abbrev pub HasBegun : Command → JobView → Option (List ℕ) → Option (List
 HasBegun command job old new =
     Keeps old new ⊎ ((u : Trace ℤ) × IsAnswer command job u × (lines : List ℕ) × IsText command job u lines × AppendsBeginning old new lines)
 
--- what was written for a job: the lines of an answer with the ending that is told, or after a fault a beginning of such lines
+-- what was written for a job: the lines of an answer with the reported ending, or after a fault a beginning of such lines
 abbrev pub Serves : {E : Type 0} → Command → JobView → Option (List ℕ) → Option (List ℕ) → Result Ending E → Type 0
 Serves command job old new r = MatchResult r (HasWritten command job old new) (λ _. HasBegun command job old new)
 

@@ -1,4 +1,4 @@
--- What is told of a query's answer: its batches, or the value of its aggregate, and what threads tell of the latter.
+-- What is reported of a query's answer: its batches, or the value of its aggregate, and what threads report of the latter.
 use Rattle.std.specs.Prelude.{◌≡◌, ◌≢◌, ℕ, ℤ, pos, negsuc, List, [], ◌∷◌, Option, Some, None, Result, Ok, Err, codes, refl}
 use Rattle.std.specs.Int.{int_wrap, int_min, int_max}
 use Rattle.std.specs.Fmt.{digits}
@@ -28,7 +28,7 @@ abbrev pub told_text : Option Kind → MergeOption → Trace ℤ → List ℕ
 told_text None option u = answer_text option u
 told_text (Some kind) option u = aggregate_text (kind_value kind u.items) u.ending
 
--- of one of these answers its value was told, where it ended well, or else how it ended; or there is none, which is never since a sink refused
+-- the value of one of these answers was reported if it ended well, else how it ended; or none was, never since a sink refused
 abbrev pub TellsValue : (List ℤ → Option ℤ) → (Trace ℤ → Type 0) → Result (Option ℤ) AggregateFault → Type 0
 TellsValue value Is (Ok v) = (u : Trace ℤ) × Is u × (v ≡ value u.items) × (u.ending ≡ Some End)
 TellsValue value Is (Err (Ended e)) = (u : Trace ℤ) × Is u × (u.ending ≡ Some e) × (e ≢ End)

@@ -18,7 +18,7 @@ use std::io::Write;
 use std::sync::Wait;
 use std::thread::Threads;
 
-/// Writes what is told of an answer: the value of its aggregate, or else its batches, and its ending.
+/// Writes what is reported of an answer: the value of its aggregate, or else its batches, and its ending.
 pub(crate) fn write_told<W: Write>(
     writer: &mut W,
     aggregate: Option<Kind>,

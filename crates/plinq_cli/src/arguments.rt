@@ -61,7 +61,7 @@ pub struct Arguments {
 /// # Errors
 ///
 /// What `clap` shows in place of arguments, in its words: why it refuses the command line, the help that this asks for,
-/// or that memory ran out. Its kind tells which.
+/// or that memory ran out. Its kind says which.
 pub fn read_arguments(alloc: Global, words: &[String]) -> Result<Arguments, clap::Error>
     ensures { MatchResult result (IsAsked (map string_bytes words.now)) (λ e. Refuses (map string_bytes words.now) (kind_of e)) }
 {

@@ -19,11 +19,11 @@ const PIECE_BYTES: usize = 65_536;
 ///
 /// # Errors
 ///
-/// [`InputFault::Read`] at the first read that fails, whatever the cause, also one that was only interrupted;
-/// [`InputFault::TooLong`] where there are more bytes, of which no more than one read's are taken; and
+/// [`InputFault::Read`] at the first read that fails, whatever the cause, also one that was only interrupted.
+/// [`InputFault::TooLong`] where there are more bytes, of which no more than one read's are taken.
 /// [`InputFault::Memory`] where there is no memory for them.
 pub fn read_input<R: Read>(alloc: Global, reader: &mut R) -> Result<Vec<u8>, InputFault>
-    // Of a reader that tells its bytes these are all of them, and no byte is left.
+    // Of a reader that reports its bytes these are all of them, and no byte is left.
     ensures bytes { IfOk result (λ v. IfSome (R.remaining reader.old) (λ told. v.items ≡ told)) }
     ensures end { OnOk result (IsAtEnd (R.remaining reader.new)) }
     ensures few { IfOk result (λ v. vec_len v ≤ 2 ^ 24) }

@@ -1,8 +1,8 @@
 //! The words of a command line and the bytes of a document give lines and a status.
 //!
 //! `read_arguments` says what the words ask for by `clap`'s rules, and `read_input` gives a reader's bytes. `serve` writes
-//! the lines of an answer of a job, or of the value of its aggregate, whole or after a fault a beginning of them, and
-//! `perform` does all of it in turn: what it writes is that of the document of the bytes that it read, and its status that
+//! the lines of an answer of a job, or of the value of its aggregate, whole or after a fault a beginning of them.
+//! `perform` does all of it in turn. What it writes is that of the document of the bytes that it read, and its status that
 //! of the outcome. The document's meaning is `plinq_document`'s, the lines are `plinq_lines`'.
 #![tactic(auto)]
 

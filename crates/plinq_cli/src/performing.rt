@@ -17,7 +17,7 @@ use std::sync::Wait;
 use std::thread::Threads;
 
 /// Does what the program does: reads the command line, of which the first word is the program's name, and the
-/// document from `reader`, writes the answer to `out` and what is wrong to `err`, and answers the exit status.
+/// document from `reader`. Writes the answer to `out` and what is wrong to `err`, and answers the exit status.
 ///
 /// The status is 0 at the end of an answer and for help, 2 for refused arguments and documents, 3 where the source
 /// refused, 4 at a fault, and 5 where anything else failed or the run was cancelled. `out` is flushed before the status
@@ -40,7 +40,7 @@ where
     ensures status { result ≤ 5 }
 
     // The answer of the document for what the words ask for, or what `clap` shows of words that it doesn't take. Where
-    // the reader tells its bytes these are the document, else the document is of some bytes.
+    // the reader reports its bytes these are the document, else the document is of some bytes.
     ensures written { PerformsWords (map string_bytes words.items)
         (I.remaining reader.old) (W.contents out.old) (W.contents out.new) result }
     ensures silent { IsSilent (E.contents err.old) (E.contents err.new) result }

@@ -67,7 +67,7 @@ fn take_turns<S: Source>(
     Ok(done)
 }
 
-// Has a partition take once, and tells the tail of its chunk.
+// Has a partition take once, and reports the tail of its chunk.
 fn take_once<S: Source>(
     chunked: &Chunked<S>,
     partition: &mut Partition<S>,
@@ -81,7 +81,7 @@ fn take_once<S: Source>(
     Ok(chunk.tail)
 }
 
-/// How the source ended, by the first record that tells it.
+/// How the source ended, by the first record that gives it.
 pub(crate) fn told_ending(records: &[Record]) -> Option<Ending>
     ensures { result ≡ told_ending records.now }
 {

@@ -42,10 +42,10 @@ use std::thread::Threads;
 ///
 /// # Errors
 ///
-/// [`ServeFault::Memory`] where `seq`, `parts` or `history` have no memory for the answer, [`ServeFault::Write`] where the
-/// writer answers an error, also in a flush while nothing comes, or takes none of the bytes that it is given,
-/// [`ServeFault::Run`] where a run breaks off for another cause, also for want of memory, and the writer hasn't failed
-/// before, and [`ServeFault::Take`] where the partitions of a history don't get through for another cause than that.
+/// [`ServeFault::Memory`] where `seq`, `parts` or `history` have no memory for the answer. [`ServeFault::Write`] where the
+/// writer answers an error, also in a flush while nothing comes, or takes none of the bytes that it is given.
+/// [`ServeFault::Run`] where a run breaks off for another cause, also where memory runs out, and the writer hasn't failed
+/// before. [`ServeFault::Take`] where the partitions of a history don't get through for another cause than that.
 pub fn serve<R, W>(rt: &R, command: Command, job: Job, writer: &mut W) -> Result<Ending, ServeFault>
 where
     R: AllocGlobal + Threads + Wait + Sync,
@@ -180,7 +180,7 @@ fn written_by<W: Write>(sink: &LineSink<'_, W>) -> Result<(), WriteFault> {
     Ok(())
 }
 
-// What is told of a run: a failing write before any other fault, so also where the run was cancelled after it.
+// What is reported of a run: a failing write before any other fault, so also where the run was cancelled after it.
 fn tell(
     written: Result<(), WriteFault>,
     reported: Result<Report, RunFault>,

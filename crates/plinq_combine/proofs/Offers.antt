@@ -1,4 +1,4 @@
--- What an offer answers, by what the work did; what a combiner tells of the answer.
+-- What an offer answers, by what the work did; what a combiner reports of the answer.
 use Rattle.std.specs.Prelude.{◌≡◌, ℕ, ◌<◌, List, [], true, false, Option, Some, None, Result, Ok, Err, is_some, refl}
 use Rattle.std.proofs.Common.{sym, ◌∙◌, ap, subst}
 use Rattle.std.proofs.lemmas.Bool.{or_left, lt-ltb}

@@ -22,12 +22,12 @@ use Rattle.plinq_merge.proofs.Moves.{coming-gap}
 use Rattle.plinq_combine.specs.Folds.{combined}
 use Rattle.plinq_combine.specs.Combining.{merge_of, content, combined_so_far, Holds, Rests, Ends, Stands}
 
--- no operators go on behind an open trace
+-- no operators go on after an open trace
 goes-on : {C : Type 0} (t : Trace C) → t.ending ≡ None → GoesOn [] t t.items None []
 goes-on t none = record { answers = λ rest. ap (λ e. continued t.items e rest) none }
 
 module _ {T A O : Type 0} (f : Folding T A O) where
-  -- accumulators more, behind those that were combined
+  -- accumulators more, after those that were combined
   acc-more : (acc acc' : Option A) (out more : List A) → combined_so_far f acc ≡ combined f out → combined_so_far f acc' ≡ fold f.combine (combined_so_far f acc) more
       → combined_so_far f acc' ≡ combined f (out ++ more)
   acc-more acc acc' out more before is = is ∙ ap (λ a. fold f.combine a more) before ∙ sym (fold-append f.combine f.seed out more)

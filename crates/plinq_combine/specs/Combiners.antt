@@ -30,7 +30,7 @@ finished Open = Err Gap
 finished (Decided e) = Ok e
 finished HasFailed = Err Failed
 
--- the ending in what was told
+-- the ending in what was reported
 abbrev pub ending_in : {A : Type 0} → Result (Combined A) MergeFault → Result Ending MergeFault
 ending_in (Ok made) = Ok made.ending
 ending_in (Err fault) = Err fault
@@ -87,7 +87,7 @@ module _ {F T A O : Type 0} {aggregator : Ghosts F T A O} where
   abbrev pub Offers : Combiner F T A O aggregator → ChunkResult A → Result More MergeFault → Combiner F T A O aggregator → Type 0
   Offers c offered result c' = AnswersOffer (folding_of c) c.work c.standing offered result c'.work c'.standing
 
-  -- what it tells of its answer; a failed one tells of none
+  -- what it reports of its answer; a failed one reports none
   abbrev pub tells_decided : Combiner F T A O aggregator → Bool
   tells_decided c = is_decided c.standing
 

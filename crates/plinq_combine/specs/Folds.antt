@@ -26,7 +26,7 @@ module _ {T A O : Type 0} (f : Folding T A O) where
   AreFoldsOf (r ∷ rs) [] = ⊥
   AreFoldsOf (r ∷ rs) (c ∷ cs) = IsFoldOf r c × AreFoldsOf rs cs
 
-  -- accumulators stand for items: combined behind those of any others, they are that of all
+  -- accumulators stand for items: combined after those of any others, they are that of all
   abbrev pub StandFor : List T → List A → Type 0
   StandFor xs accs = (before : List T) → fold f.combine (folded f before) accs ≡ folded f (before ++ xs)
 

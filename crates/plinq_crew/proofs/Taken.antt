@@ -25,7 +25,7 @@ use Rattle.plinq_merge.specs.Shown.{told_at}
 use Rattle.plinq_merge.specs.Whole.{EndsAt}
 use Rattle.plinq_crew.specs.Results.{IsResult}
 
--- what a tail behind this key tells of the source's end is so
+-- what a tail after this key says of the source's end is so
 abbrev IsToldAt : {T : Type 0} → Trace T → ℕ → Option Tail → Type 0
 IsToldAt t key tail = IfSome (told_at key tail) (EndsAt t)
 
@@ -43,7 +43,7 @@ told-next t g n true is within =
     told-ending t (g + length (items_from t g n)) t.ending (grind (arith, nat_tests)) refl
 told-next t g n false is within = tt
 
--- a reply within the source tells its ending only behind its last item
+-- a reply within the source gives its ending only after its last item
 told-asked : {T : Type 0} (t : Trace T) (given n : ℕ) (closed : Bool) → let r = reply t (record { given = given; closed = closed }) (Ask n) in
     r.first + length r.items ≤ length t.items → IsToldAt t (r.first + length r.items) r.tail
 told-asked t given n true within = tt

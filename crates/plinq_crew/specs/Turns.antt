@@ -25,7 +25,7 @@ module _ {M : Type 0} where
   HasCome a (Nothing sleep) b = b ≡ a
   HasCome a Over b = b ≡ a
 
--- the source is closed once at most, by a close of this share's own, and not where that was done before; where all is over it
+-- the source is closed once at most, by a close of this share's own, and not where that was done before. Where all is over it
 -- was closed by then, or some fault stands noted. Where a turn closes it, what comes from then on is dropped
 abbrev pub ClosesInTime : {T : Type 0} → Bool → Closing → Holding T → Shortages → Closing → Holding T → Type 0
 ClosesInTime is_over before a short' after b =
@@ -37,7 +37,7 @@ ClosesInTime is_over before a short' after b =
     × (before.is_stopped ≡ false → after.is_stopped ≡ true → after.is_closed ≡ true)
 
 -- Something is made by steps of all that was received since some moment, one step for each in the order in which it came,
--- but for the last ones, for which there is none; all of them were taken in where it was not to be closed.
+-- but for the last ones, for which there is none. All of them were taken in where it was not to be closed.
 pub record HasTakenIn {X Y : Type 0} (Step : Y → X → Y → Type 0) (before : List X) (y : Y) (received : List X) (is_closed : Bool) (y' : Y) : Type 0 where
   pub taken : List X
   pub left : List X

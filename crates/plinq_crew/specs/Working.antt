@@ -19,19 +19,19 @@ use Rattle.plinq_crew.specs.declared.starting.Shortages.{Shortages}
 use Rattle.plinq_crew.specs.Short.{has_noted}
 use Rattle.plinq_crew.specs.declared.worker.Worked.{Worked}
 
--- records may have come behind a share
+-- records may have come after a share
 pub record HasLeft (share share' : List Record) : Type 0 where
   pub more : List Record
   pub share_is : share' ≡ share ++ more
 
 module _ {T : Type 0} where
-  -- the result tells of its chunk what the record tells: where it begins, how many items it has, and its tail
+  -- the result says of its chunk what the record says: where it begins, how many items it has, and its tail
   pub record Answers (entry : Record) (r : ChunkResult T) : Type 0 where
     pub first : r.first ≡ entry.first
     pub count : r.count ≡ entry.count
     pub tail : r.tail ≡ entry.tail
 
-  -- more may come behind the result's chunk
+  -- more may come after the result's chunk
   abbrev pub IsOpen : ChunkResult T → Type 0
   IsOpen r = r.tail ≡ None
 
@@ -57,7 +57,7 @@ module _ {T : Type 0} where
     pub are : AllZip Answers answered rs
     pub stops : Stops fault rest rs
 
-  -- one record came behind a share, and this is its chunk's result
+  -- one record came after a share, and this is its chunk's result
   pub record HasTaken (share share' : List Record) (r : ChunkResult T) : Type 0 where
     pub entry : Record
     pub share_is : share' ≡ share ++ entry ∷ []

@@ -49,7 +49,7 @@ impl<S: Source, M: Drop> Caller<S, M> {
     }
 
     /// Closes the source once nothing more is wanted: the answer is decided, or there was a fault. Workers that wait are let
-    /// on behind that, so that they take nothing more. Where there is no memory to close it, it is tried again at the next
+    /// on after that, so that they take nothing more. Where there is no memory to close it, it is tried again at the next
     /// turn.
     fn close_in_time<L, J, P, R>(
         &mut self,
@@ -88,7 +88,7 @@ impl<S: Source, M: Drop> Caller<S, M> {
     }
 
     /// The next result that a worker has sent. Where none comes for a while, the thread is to sleep until something is
-    /// told, so that it takes no processor from a worker.
+    /// reported, so that it takes no processor from a worker.
     pub fn turn<'c, L, J, P, R>(
         &mut self,
         rt: &R,

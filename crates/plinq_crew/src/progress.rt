@@ -83,8 +83,8 @@ impl Progress {
         self.news.wake();
     }
 
-    /// Says that the caller's thread is about to sleep. What is told from now on ends its sleep, so whatever it waits for is
-    /// to be looked at once more before it does.
+    /// Says that the caller's thread is about to sleep. What is reported from now on ends its sleep, so whatever it waits for
+    /// is to be looked at once more before it does.
     pub fn announce_sleep(&self) -> Key<'_> {
         self.news.announce()
     }

@@ -142,7 +142,7 @@ impl Shortages {
     }
 }
 
-/// Joins the workers. Their partitions come behind the one that is given, and their passes are taken in.
+/// Joins the workers. Their partitions come after the one that is given, and their passes are taken in.
 pub fn join_all<S, M, C, R>(
     rt: &R,
     chunked: &Chunked<S>,

@@ -24,7 +24,7 @@ use plinq_source::Source;
 use std::alloc::Global;
 use std::sync::Wait;
 
-/// Where a worker stands whose last result is this one: behind its keys, or behind all keys where the run ends within them or
+/// Where a worker stands whose last result is this one: after its keys, or after all keys where the run ends within them or
 /// before, so that it takes nothing more until the source is closed.
 fn place_behind<T>(made: &ChunkResult<T>) -> u64 {
     match made.ending {

@@ -1,4 +1,4 @@
--- Each step of a pass keeps the cut lawful, and tells what its play says.
+-- Each step of a pass keeps the cut lawful, and reports what its play says.
 use Rattle.std.proofs.Common.{◌≡◌, ℕ, ◌≤◌, ◌==◌, ◌||◌, Bool, true, List, [], ◌∷◌, ◌++◌, set, min, refl, sym, subst, ap, ◌∙◌, arith, ⊎_elim, ◌⊎◌, inl, inr}
 use Rattle.std.proofs.Math.Nat.{min-eq_left, min-eq_right}
 use Rattle.std.proofs.Math.Bool.{or-true}

@@ -1,4 +1,4 @@
--- A cut that several passes share: what holds between any two steps of any passes, and what a step tells the one that makes it.
+-- A cut that several passes share: what holds between any two steps of any passes, and what a step reports to its pass.
 use Rattle.std.specs.Prelude.{◌≡◌, ℕ, ◌≤◌, ◌==◌, ◌||◌, Bool, true, false, List, min, ⊤, refl}
 use mathlib.Core.Option.{some}
 use lib.ListN.{get_elem?}
@@ -33,7 +33,7 @@ pub record IsLawful (is_ender : ℕ → Bool) (word : ℕ) (views : List View) :
   pub cut : is_cut_of is_ender word ≡ true
   pub known : (i : ℕ) (v : View) → get_elem? views i ≡ some v → Knows word v
 
--- what a step of a pass tells that found n: a cut that is at most what it has seen, and the least number that it has then seen
+-- what a step of a pass that found n reports: a cut at most what it has seen, and the least number that it has then seen
 abbrev pub Sees : (ℕ → Bool) → ℕ → ℕ → View → View → Type 0
 Sees is_ender n seen (Passing least) v = (is_cut_of is_ender n ≡ true) × (n ≤ least) × (v ≡ Passing seen)
 Sees is_ender n seen Joined v = ⊤

@@ -1,4 +1,4 @@
--- What a pass's view tells.
+-- What a pass's view says.
 use Rattle.std.specs.Prelude.{ℕ, Bool, true, false}
 use Rattle.plinq_cut.specs.declared.view.View.{View}
 use Rattle.plinq_cut.specs.declared.view.View.TheVariants.{Passing, Joined}

@@ -1,4 +1,4 @@
-//! What each step tells the pass that makes it. These types are for the proofs alone.
+//! What each step reports to the pass that makes it. These types are for the proofs alone.
 ghost use Rattle.std.specs.Prelude.{◌≡◌, min};
 ghost use Rattle.plinq_cut.specs.Cutting.{Sees, together};
 ghost use Rattle.plinq_cut.specs.declared.view.View.TheVariants.{Joined};

@@ -15,7 +15,7 @@ pub struct Job {
     pub source: AnySource,
     /// How the chunks grow that partitions take from the source.
     pub growth: Growth,
-    /// What is told of the answer in place of its items; where there is none, the items themselves.
+    /// What is reported of the answer in place of its items; where there is none, the items themselves.
     pub aggregate: Option<Kind>,
     /// After how many batches a run of it is cancelled, if it is.
     pub cancel_after: Option<u64>,

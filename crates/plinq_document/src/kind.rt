@@ -1,7 +1,7 @@
 ghost use Rattle.std.specs.Prelude.{◌≡◌};
 ghost use Rattle.plinq_document.specs.Aggregates.{kind_word};
 
-/// What is told of an answer's items in their place.
+/// What is reported of an answer's items in their place.
 #[derive(Clone, Copy, Debug, PartialEq, Eq)]
 pub enum Kind {
     /// The sum.

@@ -10,7 +10,7 @@ pub(crate) struct Narrow {
     at_once: usize,
     /// Whether a flush succeeds.
     pub(crate) flushes: bool,
-    /// Whether each write that takes bytes comes behind an interrupted one.
+    /// Whether each write that takes bytes comes after an interrupted one.
     pub(crate) interrupts: bool,
     was_interrupted: bool,
 }

@@ -26,7 +26,7 @@ impl Standing {
         closed: false,
     };
 
-    // Whether a record tells the answer that it would get here, from a source of `len` items with that ending.
+    // Whether a record states the answer that it would get here, from a source of `len` items with that ending.
     pub(crate) fn answers(self, entry: &Record, len: u64, ending: Ending) -> bool
         requires within { self.given ≤ len }
         requires ends { IsSourceEnding (Some ending) }
@@ -67,7 +67,7 @@ impl Standing {
         }
     }
 
-    // Where it stands behind a request that was answered as the record tells.
+    // Where it stands after a request that was answered as the record says.
     pub(crate) fn behind(self, entry: &Record) -> Standing
         requires { self.given + entry.now.count < 2 ^ 64 }
         ensures given { result.given ≡ self.given + entry.now.count }

@@ -50,7 +50,7 @@ tells-recorded : {T : Type 0} (k : ℕ) (e : Event) (a : Reply T) → tells (rec
 tells-recorded k e a =
     and_from _ _ (and_from _ _ (eq-eqb a.first a.first refl) (eq-eqb (length a.items) (length a.items) refl)) (same_tail-refl a.tail)
 
--- behind numbers that rise, and are below it, a number rises too
+-- after numbers that rise, and are below it, a number rises too
 rises_from-append : (least : ℕ) (ks : List Record) (k : ℕ) → least ≤ k → rises_from least (map (λ r. r.ticket) ks) ≡ true → tickets_below k ks ≡ true → rises_from least (map (λ r. r.ticket) ks ++ k ∷ []) ≡ true
 rises_from-append least [] k h e f = and_from _ _ (le-leb least k h) refl
 rises_from-append least (x ∷ ks) k h e f =
@@ -79,7 +79,7 @@ tickets_below-less k l (r ∷ h) few below =
     let less : r.ticket < k = ltb-true r.ticket k p.0 in
     and_from _ _ (lt-ltb r.ticket l (omega arith)) (tickets_below-less k l h few p.1)
 
--- what a record tells: the answer's first, count and tail
+-- what a record says: the answer's first, count and tail
 pub record Told {T : Type 0} (r : Record) (a : Reply T) : Type 0 where
   pub first : r.first ≡ a.first
   pub count : r.count ≡ length a.items
@@ -122,7 +122,7 @@ keyed_from-take xs g m within =
     ∙ keyed_from-append 0 (take g xs) (take m (drop g xs))
     ∙ ap (λ j. keyed_from 0 (take g xs) ++ keyed_from j (take m (drop g xs))) e
 
--- from a place on, a run hands out what stands between that place and the one behind it
+-- from a place on, a run hands out what stands between that place and the one after it
 handed_out-run : {T : Type 0} (t : Trace T) (p : Place) (h : List Record) → p.given ≤ length t.items → is_run t p h ≡ true →
     (keyed_from 0 (take p.given t.items) ++ handed_out t h ≡ keyed_from 0 (take (place_after t p h).given t.items)) × ((place_after t p h).given ≤ length t.items)
 handed_out-run t p [] within run = (append-nil _, within)

@@ -52,7 +52,7 @@ abbrev pub reply : {T : Type 0} → Trace T → Place → Event → Reply T
 reply t p (Ask n) = if p.closed then no_items p.given else next_items t p.given n
 reply t p Close = no_items p.given
 
--- the place behind a request: past the items of its answer, and closed from the first Close on
+-- the place after a request: past the items of its answer, and closed from the first Close on
 abbrev pub place_behind : {T : Type 0} → Trace T → Place → Event → Place
 place_behind t p (Ask n) = record {
   given = p.given + length (reply t p (Ask n)).items;
@@ -60,7 +60,7 @@ place_behind t p (Ask n) = record {
 }
 place_behind t p Close = record { given = p.given; closed = true }
 
--- the place behind all requests of a history
+-- the place after all requests of a history
 abbrev pub place_after : {T : Type 0} → Trace T → Place → List Record → Place
 place_after t p [] = p
 place_after t p (r ∷ rs) = place_after t (place_behind t p r.asked) rs
@@ -88,11 +88,11 @@ same_tail None None = true
 same_tail (Some a) (Some b) = same_way a b
 same_tail _ _ = false
 
--- whether a record tells that answer: its first, how many items it has, and its tail
+-- whether a record states that answer: its first, how many items it has, and its tail
 abbrev pub tells : {T : Type 0} → Record → Reply T → Bool
 tells r a = (r.first == a.first) && (r.count == length a.items) && same_tail r.tail a.tail
 
--- whether each record tells the answer to its request, one behind another from a place on
+-- whether each record states the answer to its request, one after another from a place on
 abbrev pub is_run : {T : Type 0} → Trace T → Place → List Record → Bool
 is_run t p [] = true
 is_run t p (r ∷ rs) = tells r (reply t p r.asked) && is_run t (place_behind t p r.asked) rs
@@ -104,11 +104,11 @@ is_legal_history t h = is_run t start h && rises (map (λ r. r.ticket) h)
 abbrev pub IsLegalHistory : {T : Type 0} → Trace T → List Record → Type 0
 IsLegalHistory t h = is_legal_history t h ≡ true
 
--- what is recorded next, when behind this history a request comes under that ticket
+-- what is recorded next, when after this history a request comes under that ticket
 abbrev pub next_record : {T : Type 0} → Trace T → List Record → ℕ → Event → Record
 next_record t h ticket e = recorded ticket e (reply t (place_after t start h) e)
 
--- a history with the record of one more request behind it
+-- a history with the record of one more request after it
 abbrev pub with_next : {T : Type 0} → Trace T → List Record → ℕ → Event → List Record
 with_next t h ticket e = h ++ next_record t h ticket e ∷ []
 
@@ -172,7 +172,7 @@ with_tickets i j k =
     ∷ record { ticket = k; asked = Ask 1; first = 0; count = 0; tail = Some Closed }
     ∷ []
 
--- a second Close is answered as the first was, and so is an Ask behind them
+-- a second Close is answered as the first was, and so is an Ask after them
 two_closes : is_legal_history one_item (with_tickets 3 4 9) ≡ true
 two_closes = refl
 

@@ -1,14 +1,14 @@
 use crate::tail::Tail;
 
-/// Elements that stand one behind another in a source: item `i` has key `first + i`.
+/// Elements that stand one after another in a source: item `i` has key `first + i`.
 ///
-/// A chunk with a tail is the last one: nothing comes behind its items.
+/// A chunk with a tail is the last one: nothing comes after its items.
 #[derive(Debug, Drop, PartialEq, Eq)]
 pub struct Chunk<T> {
     /// The key of the first item, also where there are none.
     pub first: u64,
     /// The elements, in the source's order.
     pub items: Vec<T>,
-    /// Why nothing comes behind them; none where more may come.
+    /// Why nothing comes after them; none where more may come.
     pub tail: Option<Tail>,
 }

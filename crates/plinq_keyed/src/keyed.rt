@@ -1,4 +1,4 @@
-/// An element with the key that tells its place in the order.
+/// An element with the key that gives its place in the order.
 #[derive(Clone, Copy, Debug, PartialEq, Eq)]
 pub struct Keyed<T> {
     /// Its place: only how keys compare counts, but where they are normalized they are indexes.

@@ -9,7 +9,7 @@ use crate::keyed::Keyed;
 /// Whether the keys of all partitions are the numbers from 0 on, each once (.NET's `KeysNormalized`).
 ///
 /// Takes no memory. Where the keys of each partition rise, as those of every partitioner here do, each two partitions
-/// are walked once, so the steps are at most the elements times the partitions. For keys in no order each is compared
+/// are walked once. So the steps are at most the elements times the partitions. For keys in no order each is compared
 /// with each, so the steps may be the square of the elements.
 pub fn check_normalized<T>(parts: &[Vec<Keyed<T>>]) -> bool
     ensures { result ≡ normalized (key_lists (element_lists parts.now)) }
@@ -108,7 +108,7 @@ fn are_apart<T>(left: &[Keyed<T>], right: &[Keyed<T>]) -> bool
     true
 }
 
-// Whether no key comes twice, each being looked for among all that come behind it.
+// Whether no key comes twice, each being looked for among all that come after it.
 fn keys_differ<T>(parts: &[Vec<Keyed<T>>]) -> bool
     ensures { result ≡ distinct (concat (key_lists (element_lists parts.now))) }
 {

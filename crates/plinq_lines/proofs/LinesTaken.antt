@@ -1,4 +1,4 @@
--- The lines of batches that a sink was handed one after another.
+-- The lines of batches that a sink got one after another.
 use Rattle.std.proofs.Common.{◌≡◌, ℤ, List, [], ◌∷◌, ◌++◌, ap, sym, subst, ◌∙◌}
 use Rattle.std.specs.List.{flat_map}
 use Rattle.std.specs.Io.KnownBytes.{Appends}

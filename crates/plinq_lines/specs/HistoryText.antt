@@ -21,7 +21,7 @@ abbrev pub asked_number : Event → List ℕ
 asked_number (Ask n) = decimal n
 asked_number Close = []
 
--- why no items come behind these, by its word
+-- why no items come after these, by its word
 abbrev pub tail_word : Option Tail → List ℕ
 tail_word None = []
 tail_word (Some Ended) = codes " ended"

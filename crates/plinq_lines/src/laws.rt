@@ -1,4 +1,4 @@
-//! What is written by a sink that was handed batches one after another.
+//! What is written by a sink that got batches one after another.
 ghost use Rattle.std.specs.Prelude.{◌≡◌, ℤ, List};
 ghost use Rattle.std.specs.List.{flat_map};
 ghost use Rattle.std.specs.Io.KnownBytes.{Appends};

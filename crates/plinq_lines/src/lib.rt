@@ -5,7 +5,7 @@
 //! - A [`LineSink`] writes each batch that a run delivers as its line (`TakesLine`, `RefusesLine`): batches that it took
 //!   one after another are their lines ([`laws`]).
 //! - [`write_batch`] writes the line of one batch (`batch_line`), [`write_batches`] those of a whole answer, a line
-//!   each, and [`write_ending`] the line of how it ended (`ending_words`); [`write_answer`] all of it (`answer_text`).
+//!   each, and [`write_ending`] the line of how it ended (`ending_words`). [`write_answer`] writes all of it (`answer_text`).
 //! - [`write_aggregate`] writes an aggregated answer (`aggregate_text`): the value's line, which [`write_value`] writes
 //!   (`value_line`), where it ended well, and the line of its ending.
 //! - [`write_plan`] writes the five lines of a query's plan (`plan_text`), [`write_parts`] those of a source cut into

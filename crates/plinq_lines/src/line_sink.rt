@@ -35,8 +35,8 @@ enum State {
     Failed,
 }
 
-// What contracts see of it is what is known of the writer's bytes. A writer may tell its bytes in mid-life that didn't at
-// first; these aren't told of, so that a flush changes nothing.
+// What contracts see of it is what is known of the writer's bytes. A writer may report its bytes in mid-life that didn't at
+// first; these aren't reported, so that a flush changes nothing.
 impl<'a, W: Write> Model for LineSink<'a, W> {
     ghost use Rattle.plinq_lines.specs.LineSink.{Lines, known_since, StaysKnown};
 

@@ -1,4 +1,4 @@
--- What a token has told, by what it was asked.
+-- What a token has answered, by what it was asked.
 use Rattle.std.specs.Prelude.{◌≡◌, ℕ, List, [], ◌∷◌, Bool, true, false, ◌||◌, Result, Ok, Err, refl}
 use Rattle.std.proofs.Common.{sym, ◌∙◌, ap}
 use Rattle.plinq_merge.specs.declared.merge_fault.MergeFault.{MergeFault}

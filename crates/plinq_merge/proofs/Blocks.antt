@@ -19,7 +19,7 @@ full_batches-short n held (x ∷ xs) short =
     let more : length (held ++ x ∷ []) ≡ length held + 1 = length-append held (x ∷ []) in
     rw (not_full (length held + 1) n (omega arith)) (full_batches-short n (held ++ x ∷ []) xs (omega arith))
 
--- they are held back behind the others
+-- they are held back after the others
 pub held_back-short : {T : Type 0} (n : ℕ) (held xs : List T) → length held + length xs < n → held_back (Some n) held xs ≡ held ++ xs
 held_back-short n held [] short = sym (append-nil held)
 held_back-short n held (x ∷ xs) short =

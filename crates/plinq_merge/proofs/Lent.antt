@@ -1,4 +1,4 @@
--- A token and a sink that are lent as one sink: what was delivered, in the words of a delivery.
+-- A token and a sink that are lent as one sink: what was delivered, in terms of a delivery.
 use Rattle.std.specs.Prelude.{◌≡◌, ℕ, List, [], ◌∷◌, Bool, true, false, Result, Ok, Err, refl}
 use Rattle.std.proofs.Common.{ap, sym, ◌∙◌, subst}
 use Rattle.plinq_lambda.specs.Meaning.{Meaning}

@@ -1,4 +1,4 @@
--- Deliveries seen otherwise: what a sink says of its batches, said of a state in its place.
+-- Deliveries seen otherwise: what a sink says of its batches, stated for a state in its place.
 use Rattle.std.specs.Prelude.{◌≡◌, ℕ, List, [], ◌∷◌, Result, Ok, Err}
 use Rattle.std.proofs.Common.{ap}
 use Rattle.plinq_lambda.specs.Meaning.{Meaning}

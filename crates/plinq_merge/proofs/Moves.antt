@@ -1,4 +1,4 @@
--- What is due, as traces are worked off one behind another.
+-- What is due, as traces are worked off one after another.
 use Rattle.std.specs.Prelude.{◌≡◌, ℕ, ◌<◌, List, [], ◌∷◌, ◌++◌, false, cond, Option, Some, None, Result, Ok, Err, refl}
 use Rattle.std.specs.Option.{option_or}
 use Rattle.std.proofs.Common.{sym, ◌∙◌, ap, subst, append_assoc, append-nil}
@@ -25,11 +25,11 @@ use Rattle.plinq_merge.proofs.Takings.{taken-worked, taken-part, with_next, row-
 last_batch-open : {T : Type 0} (size : Option ℕ) (held : List T) → last_batch size held None ≡ []
 last_batch-open size held = batches_from-open size held []
 
--- what a trace gives that was fed, before what comes behind it
+-- what a trace gives that was fed, before what comes after it
 fed-answer : {T : Type 0} (ss ss' : List (Stage T)) (t : Trace T) (out : List T) (e : Option Ending) → IsFed ss t [] out ss' e → seq ss t ≡ trace_of out e
 fed-answer ss ss' t out e fed = let items = fed.items in let told = fed.told in ap (λ xs. trace_of xs (seq ss t).ending) (sym items) ∙ ap (trace_of out) (sym told)
 
--- the operators go on behind a trace that was fed
+-- the operators go on after a trace that was fed
 pub fed-goes_on : {T : Type 0} (ss ss' : List (Stage T)) (t : Trace T) (out : List T) (e : Option Ending) → IsFed ss t [] out ss' e → GoesOn ss t out e ss'
 fed-goes_on ss ss' t out None fed =
     record {
@@ -128,7 +128,7 @@ goes-cut_last {K} {T} accepts refuses size m t out e now s m1 fault s' on full c
 pub moves-none : {K T : Type 0} (accepts : K → List T → K → Type 0) (size : Option ℕ) (m : Content T) (s : K) → Moves accepts size m (open_trace []) s m s
 moves-none accepts size m s = record { sent = []; due_before = refl; leads = refl; ending = refl; keeps = λ merge offers out is taken. (out, taken) }
 
--- one move behind another
+-- one move after another
 pub goes-behind : {K T : Type 0} (accepts : K → List T → K → Type 0) (refuses : K → List T → ℕ → K → Type 0) (size : Option ℕ) (m : Content T) (t : Trace T) (s : K) (m1 : Content T) (s1 : K)
     (r : Result (Option Ending) Undelivered) (m' : Content T) (s' : K)
     → Moves accepts size m t s m1 s1 → Goes accepts refuses size m1 (open_trace []) s1 r m' s' → Goes accepts refuses size m t s r m' s'
@@ -233,7 +233,7 @@ work-cut {K} {T} accepts refuses size m m1 t xs told fed e s s1 fault s' feeds e
     let R : List T → Type 0 = λ held. IsCutOff accepts refuses s1 (last_batch size held e) fault s' in
     goes-cut_last accepts refuses size m t feeds.0 e m1.now s s1 fault s' (subst P (sym is) (subst Q (sym ends) on)) feeds.3 (subst R feeds.2 cut)
 
--- where the answer is open behind it, none of the operators takes none
+-- where the answer is open after it, none of the operators takes none
 pub work-undecided : {K T : Type 0} (accepts : K → List T → K → Type 0) (refuses : K → List T → ℕ → K → Type 0) (size : Option ℕ) (m m1 : Content T) (xs : List T) (told fed : Option Ending) (s s1 : K)
     → Feeds accepts refuses size m xs s (Ok fed) m1 s1 → option_or fed told ≡ None → some_takes_none m1.now ≡ false
 work-undecided accepts refuses size m m1 xs told None s s1 feeds is_open = undecided-left m.now m1.now (open_trace xs) [] feeds.0 feeds.1

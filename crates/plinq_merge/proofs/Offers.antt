@@ -1,4 +1,4 @@
--- What an offer answers, by what the work did; what a merger tells of the answer.
+-- What an offer answers, by what the work did; what a merger reports of the answer.
 use Rattle.std.specs.Prelude.{◌≡◌, ℕ, ◌<◌, List, [], true, false, nat_lt, Option, Some, None, Result, Ok, Err, is_some, refl}
 use Rattle.std.specs.List.{list_any}
 use Rattle.std.proofs.Common.{sym, ◌∙◌, ap, subst, arith}
@@ -42,14 +42,14 @@ rests-open meaning w offers rests =
     ∙ answer-taken (merge_of meaning w) (content meaning w) (open_trace []) offers rests.out rests.taken
     ∙ ap (followed (open_trace rests.out)) rests.gap.nothing)
 
--- `decided` tells whether the answer has an ending
+-- `decided` reports whether the answer has an ending
 pub decided-answer : {L T : Type 0} (meaning : L → Meaning T) (w : Work L T) (standing : Standing) (offers : List (ChunkResult T)) → StandsFor meaning w standing offers
     → is_decided standing ≡ is_some (answer (merge_of meaning w) offers).ending
 decided-answer meaning w Open offers stands = ap is_some (sym (rests-open meaning w offers stands))
 decided-answer meaning w (Decided e) offers stands = ap is_some (sym stands)
 decided-answer meaning w Failed offers stands = absurd stands
 
--- `finish` tells which
+-- `finish` reports which
 pub finished-answer : {L T : Type 0} (meaning : L → Meaning T) (w : Work L T) (standing : Standing) (offers : List (ChunkResult T)) → StandsFor meaning w standing offers
     → finished standing ≡ finish_of (answer (merge_of meaning w) offers).ending
 finished-answer meaning w Open offers stands = ap finish_of (sym (rests-open meaning w offers stands))

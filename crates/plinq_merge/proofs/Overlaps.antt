@@ -158,7 +158,7 @@ fresh-last next first behind ps front last apart merged is past key within =
     let from_first = within-first first behind key within in
     or_from _ _ (not_merged next first key merged from_first) (here.none key (within-behind first behind key within) (omega arith))
 
--- where it ends behind `first`, one is
+-- where it ends after `first`, one is
 pub repeated-last : {T : Type 0} (next first behind : ℕ) (ps front : List (ℕ × Part T)) (last : ℕ × Part T) → is_apart next ps ≡ true → first < behind
     → entries_between nat_cmp Unbounded (Excluded behind) ps ≡ front ++ last ∷ [] → first < last.1.behind → IsRepeated next ps first behind
 repeated-last next first behind ps front last apart some is overlaps =
@@ -248,7 +248,7 @@ insert-next next q (p ∷ ps) apart some free =
       | further later past ↦ absurd (let from_start = apart-start next p ps apart in omega arith)
     ]
 
--- fresh keys are free, and stand behind those that are merged
+-- fresh keys are free, and stand after those that are merged
 pub free-from_fresh : {T : Type 0} (next first behind : ℕ) (ps : List (ℕ × Part T)) → IsFresh next ps first behind → IsFree ps first behind
 free-from_fresh next first behind ps fresh key within = (or_parts (nat_lt key next) (is_waiting ps key) (fresh key within)).1
 

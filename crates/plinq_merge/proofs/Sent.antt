@@ -34,7 +34,7 @@ cut-behind accepts refuses s bs cs (Sink code) m s' first second = (
   second.6,
 )
 
--- more batches behind those that were cut off
+-- more batches after those that were cut off
 pub cut-before : {K B : Type 0} (accepts : K → B → K → Type 0) (refuses : K → B → ℕ → K → Type 0) (s : K) (bs cs : List B) (fault : Undelivered) (s' : K)
     → IsCutOff accepts refuses s bs fault s' → IsCutOff accepts refuses s (bs ++ cs) fault s'
 cut-before accepts refuses s bs cs Memory s' cut =
@@ -72,7 +72,7 @@ pub delivers-as : {K B A : Type 0} (accepts : K → B → K → Type 0) (refuses
     → bs ≡ cs → Delivers accepts refuses s cs r s' → Delivers accepts refuses s bs r s'
 delivers-as accepts refuses s bs cs r s' same delivers = rw same delivers
 
--- behind batches that were sent
+-- after batches that were sent
 pub delivers-behind : {K B A : Type 0} (accepts : K → B → K → Type 0) (refuses : K → B → ℕ → K → Type 0) (s : K) (bs cs : List B) (m : K) (r : Result A Undelivered) (s' : K)
     → Leads accepts s bs m → Delivers accepts refuses m cs r s' → Delivers accepts refuses s (bs ++ cs) r s'
 delivers-behind accepts refuses s bs cs m (Ok x) s' first second = leads-append accepts s bs cs m s' first second

@@ -53,7 +53,7 @@ row-here told key p ps =
     let here : (key == key) ≡ true = grind (arith, nat_tests) in
     rw here refl
 
--- a later key's place is behind a part
+-- a later key's place is after a part
 insert-later : {T : Type 0} (first : ℕ) (q : Part T) (ps : List (ℕ × Part T)) (key : ℕ) (p : Part T) → first < key
     → insert_entry nat_cmp ((first, q) ∷ ps) key p ≡ (first, q) ∷ insert_entry nat_cmp ps key p
 insert-later first q ps key p later =
@@ -67,7 +67,7 @@ taken-next next p ps key some =
     let first : nat_lt key next || is_within next p.behind key ≡ nat_lt key p.behind = grind (arith, nat_tests) in
     sym (or_assoc (nat_lt key next) (is_within next p.behind key) (is_waiting ps key)) ∙ ap (λ b. b || is_waiting ps key) first
 
--- the state behind the part under the next key
+-- the state after the part under the next key
 abbrev pub with_next : {T : Type 0} → Content T → Part T → List (ℕ × Part T) → Content T
 with_next m p ps = record m { next = p.behind; waiting = ps }
 

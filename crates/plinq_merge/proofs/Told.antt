@@ -1,4 +1,4 @@
--- The tail of a chunk of a legal history tells how its source ends, where it ends.
+-- The tail of a chunk of a legal history says how its source ends, where it ends.
 use Rattle.std.specs.Prelude.{◌≡◌, ℕ, ◌+◌, ◌-◌, ◌<◌, ◌≤◌, List, [], ◌∷◌, length, drop, true, false, cond, nat_lt, Option, Some, None, refl}
 use Rattle.std.specs.List.{Contains}
 use Rattle.std.specs.Option.{IfSome}

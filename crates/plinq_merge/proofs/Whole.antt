@@ -33,7 +33,7 @@ use Rattle.plinq_merge.proofs.Gains.{answer-open}
 use Rattle.plinq_merge.proofs.Overlaps.{IsFree, apart-start, apart-some, apart-rest, apart-insert, waiting-insert, none-before, not_within-before, not_within-behind}
 use Rattle.plinq_merge.proofs.Takings.{arrived-by_key}
 
--- ---- what the tails tell
+-- ---- what the tails say
 
 told-either : {T : Type 0} (t : Trace T) (a b : Option (ℕ × Ending)) → IfSome a (EndsAt t) → IfSome b (EndsAt t) → IfSome (option_or a b) (EndsAt t)
 told-either t None b first second = second
@@ -86,7 +86,7 @@ module _ {L T : Type 0} (meaning : L → Meaning T) (worker : List (Op L)) (t : 
 
   -- ---- the row is how the source's fragments begin
 
-  -- a part behind the items before it
+  -- a part after the items before it
   part-next : (key : ℕ) (p : ℕ × Part T) → length t.items ≤ 2 ^ 40 → p.0 ≡ key → IsPartOf p → followed (before key) p.1.trace ≡ before p.1.behind
   part-next key p few same is =
       ap (λ k. followed (before k) p.1.trace) (sym same ∙ is.first)

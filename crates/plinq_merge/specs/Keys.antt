@@ -50,7 +50,7 @@ abbrev pub is_first : {T : Type 0} → ℕ → List (ℕ × Part T) → Bool
 is_first key [] = false
 is_first key (p ∷ ps) = p.0 == key
 
--- a part comes into the row: the row goes on behind it and hands it back, or it waits
+-- a part comes into the row: the row goes on after it and hands it back, or it waits
 abbrev pub Places : {T : Type 0} → ℕ → List (ℕ × Part T) → ℕ → Part T → Option (Part T) → ℕ → List (ℕ × Part T) → Type 0
 Places next parts first p None next' parts' = (next' ≡ next) × (parts' ≡ insert_entry nat_cmp parts first p)
 Places next parts first p (Some same) next' parts' = (same ≡ p) × (first ≡ next) × (next' ≡ p.behind) × (parts' ≡ parts)

@@ -38,7 +38,7 @@ module _ {L T : Type 0} {lambda : Ghosts L T} where
   abbrev pub delivered_of : Merger L T lambda → ℕ
   delivered_of m = m.delivered
 
-  -- what it tells of its answer; a failed one tells of none
+  -- what it reports of its answer; a failed one reports none
   abbrev pub tells_decided : Merger L T lambda → Bool
   tells_decided m = is_decided m.standing
 

@@ -17,7 +17,7 @@ use Rattle.plinq_merge.specs.Sending.{Leads, IsCutOff}
 use Rattle.plinq_merge.specs.Shown.{Merge, all_placed, all_told, row, arrived}
 use Rattle.plinq_merge.specs.Keys.{is_offered, is_taken}
 
--- what a merger holds: the first key that isn't merged, what waits, where the source ends if that was told, what is left of
+-- what a merger holds: the first key that isn't merged, what waits, where the source ends if that is known, what is left of
 -- the operators, and the items that are held back
 pub record Content (T : Type 0) : Type 0 where
   pub next : ℕ
@@ -26,7 +26,7 @@ pub record Content (T : Type 0) : Type 0 where
   pub now : List (Stage T)
   pub held : List T
 
--- what the answer still gains by what is in hand and by the row behind it
+-- what the answer still gains by what is in hand and by the row after it
 abbrev pub coming : {T : Type 0} → Content T → Trace T → Trace T
 coming m hand = seq m.now (followed hand (row m.told m.next m.waiting))
 
@@ -44,7 +44,7 @@ AreParts order [] = Unit {0}
 AreParts order (p ∷ ps) = IsPart order p.1 × AreParts order ps
 
 -- with this trace in hand, what is held stands for these offers: `done` of the row is merged, and `out` is the answer to it,
--- whatever comes behind
+-- whatever comes after
 pub record HasTaken {T : Type 0} (merge : Merge T) (m : Content T) (hand : Trace T) (offers : List (ChunkResult T)) (out : List T) : Type 0 where
   pub done : List (ℕ × Part T)
   pub placed : all_placed merge.order [] offers ≡ done ++ m.waiting
@@ -98,7 +98,7 @@ TakesIn {T} order before r hand after =
     (merge : Merge T) (now : List (Stage T)) (held : List T) (offers : List (ChunkResult T)) (out : List T) → merge.order ≡ order
     → HasTaken merge (content_of before now held) (open_trace []) offers out → HasTaken merge (content_of after now held) hand (offers ++ r ∷ []) out
 
--- items went through the operators, and the batches that they fill were sent; or they were cut off, whatever comes behind
+-- items went through the operators, and the batches that they fill were sent; or they were cut off, whatever comes after
 abbrev pub Feeds : {K T : Type 0} → (K → List T → K → Type 0) → (K → List T → ℕ → K → Type 0) → Option ℕ → Content T → List T → K
     → Result (Option Ending) Undelivered → Content T → K → Type 0
 Feeds {K} {T} accepts refuses size m xs s (Ok e) m' s' =

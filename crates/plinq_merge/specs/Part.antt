@@ -2,7 +2,7 @@
 use Rattle.std.specs.Prelude.{ℕ}
 use Rattle.plinq_source.specs.Trace.{Trace}
 
--- what waits under its first key: the key behind its last one, and what it gives
+-- what waits under its first key: the key after its last one, and what it gives
 pub record Part (T : Type 0) : Type 0 where
   pub behind : ℕ
   pub trace : Trace T

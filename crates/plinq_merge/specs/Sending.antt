@@ -1,4 +1,4 @@
--- Sending: what a sink is handed, batch by batch.
+-- Sending: what a sink gets, batch by batch.
 use Rattle.std.specs.Prelude.{◌≡◌, ℕ, refl, List, [], ◌∷◌, ◌++◌, Result, MatchResult}
 use Rattle.plinq_merge.specs.declared.undelivered.Undelivered.{Undelivered}
 use Rattle.plinq_merge.specs.declared.undelivered.Undelivered.TheVariants.{Memory, Sink}

@@ -19,7 +19,7 @@ use Rattle.plinq_ops.specs.Batches.{batches_from}
 use Rattle.plinq_ops.specs.Chunk.{result_trace}
 use Rattle.plinq_merge.specs.Part.{Part}
 
--- the first key behind those of a result
+-- the first key after those of a result
 abbrev pub behind_result : {T : Type 0} → ChunkResult T → ℕ
 behind_result r = r.first + r.count
 
@@ -44,14 +44,14 @@ abbrev pub all_placed : {T : Type 0} → Order → List (ℕ × Part T) → List
 all_placed order parts [] = parts
 all_placed order parts (r ∷ rs) = all_placed order (placed order parts r) rs
 
--- where the source ends, and how, if the tail behind these keys tells it
+-- where the source ends, and how, if the tail after these keys says so
 abbrev pub told_at : ℕ → Option Tail → Option (ℕ × Ending)
 told_at key None = None
 told_at key (Some Ended) = Some (key, End)
 told_at key (Some (TailRefused code)) = Some (key, Refused code)
 told_at key (Some Closed) = None
 
--- the first that was told
+-- the first that was reported
 abbrev pub all_told : {T : Type 0} → Option (ℕ × Ending) → List (ChunkResult T) → Option (ℕ × Ending)
 all_told told [] = told
 all_told told (r ∷ rs) = all_told (option_or told (told_at (behind_result r) r.tail)) rs
@@ -61,7 +61,7 @@ abbrev pub ending_at : Option (ℕ × Ending) → ℕ → Option Ending
 ending_at None key = None
 ending_at (Some at) key = if at.0 == key then Some at.1 else None
 
--- the unbroken row of keys from this one on, up to and with the first part that ends the run; behind it the source's
+-- the unbroken row of keys from this one on, up to and with the first part that ends the run; after it the source's
 -- ending, if this is its place
 abbrev pub row : {T : Type 0} → Option (ℕ × Ending) → ℕ → List (ℕ × Part T) → Trace T
 row told key [] = record { items = []; ending = ending_at told key }
@@ -78,7 +78,7 @@ arrived order (r ∷ rs) = followed (at_once order r) (arrived order rs)
 abbrev pub merged : {T : Type 0} → Order → List (ChunkResult T) → Trace T
 merged order offers = followed (arrived order offers) (row (all_told None offers) 0 (all_placed order [] offers))
 
--- what a merger is made for: the operators behind the merge, the order, whether the plan was decided from the start, and
+-- what a merger is made for: the operators after the merge, the order, whether the plan was decided from the start, and
 -- after how many items a batch is full
 pub record Merge (T : Type 0) : Type 0 where
   pub after : List (Stage T)
@@ -113,7 +113,7 @@ row_with_a_gap told =
 up_to_the_gap : row_with_a_gap None ≡ open_trace (4 ∷ 2 ∷ [])
 up_to_the_gap = refl
 
--- a tail behind the gap isn't reached
+-- a tail after the gap isn't reached
 tail_behind_a_gap : row_with_a_gap (Some (4, End)) ≡ open_trace (4 ∷ 2 ∷ [])
 tail_behind_a_gap = refl
 

@@ -11,7 +11,7 @@ use Rattle.plinq_merge.specs.Keys.{is_offered, AreNew}
 abbrev pub EndsAt : {T : Type 0} → Trace T → ℕ × Ending → Type 0
 EndsAt t at = (at.0 ≡ length t.items) × (t.ending ≡ Some at.1)
 
--- what a tail tells of the source's end is so
+-- what a tail says of the source's end is so
 abbrev pub IsTrueTail : {T : Type 0} → Trace T → ChunkResult T → Type 0
 IsTrueTail t r = IfSome (told_at (behind_result r) r.tail) (EndsAt t)
 

@@ -43,7 +43,7 @@ pub fn whole_is_sequential<L, T>()
         answer merge offers ≡ seq merge.after (glue meaning worker t) }
 {}
 
-/// The tail of a legal history's chunk tells the source's end, where it tells one.
+/// The tail of a legal history's chunk gives the source's end, where it gives one.
 pub fn tails_tell_the_end<L, T>()
     ensures { (meaning : L → Meaning T) (worker : List (Op L)) (t : Trace T) (h : List Record) (asked : Record) (r : ChunkResult T) →
         IsLegalHistory t h → Contains h asked → IsResultOf meaning worker t asked r → IsTrueTail t r }

@@ -1,10 +1,10 @@
 //! The merger: results of chunks in any order, batches of the answer in order.
 //!
-//! - A [`Merger`] is for lists of offers (`IsFor`). What they show is the answer so far (`answer`): by key the
-//!   unbroken row of results from key 0 on, by arrival the results as they came, sent through the operators behind the
+//! - A [`Merger`] is for lists of offers (`IsFor`). What they show is the answer so far (`answer`). By key that is the
+//!   unbroken row of results from key 0 on, by arrival the results as they came, sent through the operators after the
 //!   merge.
 //! - Each offer delivers exactly the batches that the answer gains by it, or after a fault the first of them
-//!   (`Merger::offer`); `decided`, `finish` and [`More`] tell whether and how the answer ends.
+//!   (`Merger::offer`). `decided`, `finish` and [`More`] report whether and how the answer ends.
 //! - What offers of one source show by key is at each moment a beginning of the sequential answer, and all of it where
 //!   all was offered ([`laws`]).
 //! - A [`Row`] of keys is what a merger stands on; it only moves what waits in it, and serves whoever merges otherwise.

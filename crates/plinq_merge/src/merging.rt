@@ -26,11 +26,11 @@ use std::alloc::Global;
 impl<'a, L: Lambda> Merger<'a, L> {
     /// The merger of a plan, to which nothing was offered. The answer of a decided plan is decided.
     ///
-    /// Any other plan has no Take of at most 0 behind the merge; `Query::split` gives such plans.
+    /// Any other plan has no Take of at most 0 after the merge; `Query::split` gives such plans.
     ///
     /// # Errors
     ///
-    /// [`MergeFault::Memory`] where there is no room for the operators' counts or for a batch.
+    /// [`MergeFault::Memory`] where there is no room for what is left of the operators or for a batch.
     pub fn new(
         alloc: Global,
         plan: &Plan<'a, L>,
@@ -122,7 +122,7 @@ impl<'a, L: Lambda> Merger<'a, L> {
     }
 
     /// The first key whose result is missing, while the answer is open: all results before it are merged, and what was
-    /// offered behind it waits. Takes no memory.
+    /// offered after it waits. Takes no memory.
     pub fn merged(&self) -> u64
         ensures { (offers : List (ChunkResult L.Item)) → IsFor self.now offers →
             (answer (plan_of self.now) offers).ending ≡ None →

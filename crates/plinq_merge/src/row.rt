@@ -11,7 +11,7 @@ use plinq_source::{Ending, OutOfMemory};
 use std::alloc::Global;
 use std::collections::BTreeMap;
 
-/// The row of keys: those before `next` are merged, others wait, and the end of the source may be told.
+/// The row of keys: those before `next` are merged, others wait, and the end of the source may be known.
 #[derive(Drop)]
 pub struct Row<T> {
     pub next: u64,
@@ -52,7 +52,7 @@ impl<T: Drop> Row<T> {
         }
     }
 
-    /// Notes where the source ends, if a tail behind these keys tells it and none has before.
+    /// Notes where the source ends, if a tail after these keys says so and none has before.
     pub fn hear(&mut self, behind: u64, tail: Option<Tail>)
         ensures next { self.new.next ≡ self.old.next }
         ensures waiting { self.new.waiting ≡ self.old.waiting }
@@ -86,7 +86,7 @@ impl<T: Drop> Row<T> {
         }
     }
 
-    /// Takes what waits under the next key; the row goes on behind it.
+    /// Takes what waits under the next key; the row goes on after it.
     pub fn take_next(&mut self) -> Waiting<T>
         requires { is_first self.old.next self.old.waiting.entries ≡ true }
         ensures parts { self.old.waiting.entries ≡ (self.old.next, result) ∷ self.new.waiting.entries }
@@ -146,7 +146,7 @@ impl<T: Drop> Row<T> {
         }
     }
 
-    /// Takes keys: the row goes on behind them if they are the next ones, and the part is handed back; else it waits.
+    /// Takes keys: the row goes on after them if they are the next ones, and the part is given back; else it waits.
     pub fn place(&mut self, first: u64, part: Waiting<T>) -> Result<Option<Waiting<T>>, OutOfMemory>
         ensures told { OnOk result (self.new.told ≡ self.old.told) }
         ensures placed { IfOk result (λ turn.

@@ -73,7 +73,7 @@ where
     }
 }
 
-/// Fills up the batch that was begun, and goes on with the items behind it.
+/// Fills up the batch that was begun, and goes on with the items after it.
 fn hand_filled<K: Sink>(
     ring: &mut HeapCircularBuffer<K::Item>,
     items: &[K::Item],

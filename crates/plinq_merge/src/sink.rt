@@ -29,7 +29,7 @@ pub trait Sink {
             (λ _. accepts self.old items.now self.new)
             (λ code. refuses self.old items.now code self.new) };
 
-    /// No batch is there to be delivered now, and it may take a while until the next: a sink that holds back what it
+    /// No batch is there to be delivered now, and it may take a while until the next. A sink that holds back what it
     /// took, as a buffer does, hands it on. This delivers nothing.
     fn idle(&mut self)
         ensures { self.new ≡ self.old }

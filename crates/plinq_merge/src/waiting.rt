@@ -4,10 +4,10 @@ use std::marker::Model;
 /// What waits for the turn of its keys.
 #[derive(Drop)]
 pub struct Waiting<T> {
-    /// The key behind the last one.
+    /// The key after the last one.
     pub behind: u64,
     pub items: Vec<T>,
-    /// How the run ends behind the items, if it does.
+    /// How the run ends after the items, if it does.
     pub ending: Option<Ending>,
 }
 

@@ -18,11 +18,11 @@ use plinq_ops::{ChunkResult, Order, Pipeline};
 use plinq_source::Ending;
 use std::alloc::Global;
 
-/// A merger at work: the row of keys, the operators behind the merge, and what is held back.
+/// A merger at work: the row of keys, the operators after the merge, and what is held back.
 #[derive(Drop)]
 pub(crate) struct Work<'a, L, T> {
     pub(crate) alloc: Global,
-    /// The operators behind the merge.
+    /// The operators after the merge.
     pub(crate) pipeline: Pipeline<'a, L>,
     pub(crate) order: Order,
     /// Whether the plan was decided from the start.

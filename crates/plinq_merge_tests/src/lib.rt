@@ -1,5 +1,5 @@
 //! The tests of `plinq_merge`, `plinq_combine` and `plinq_cut`: worked rows of offers, results in all orders beside the
-//! answer on one thread, letters in place of numbers, folds of results, the cut's words, and what comes of want of memory.
+//! answer on one thread, letters in place of numbers, folds of results, the cut's words, and running out of memory.
 //!
 //! They stand in a crate of their own, since a crate with tests is proved twice.
 #![tactic(auto)]

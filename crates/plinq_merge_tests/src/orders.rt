@@ -26,7 +26,7 @@ const OPTIONS: [MergeOption; 3] = [
     MergeOption::FullyBuffered,
 ];
 
-/// A query that is merged by key, with a Filter that keeps all items, behind which no worker can take or skip.
+/// A query that is merged by key, with a Filter that keeps all items, after which no worker can take or skip.
 fn by_key(alloc: Global, after: After) -> Result<Query<Formula>, BuildFault> {
     let query = Query::new(alloc)
         .as_ordered()
@@ -244,7 +244,7 @@ fn expect_as_they_come(
     Ok(())
 }
 
-/// A row, by key and by arrival, with each kind of operators behind the merge.
+/// A row, by key and by arrival, with each kind of operators after the merge.
 fn try_row(rt: &impl Abort, alloc: Global, row: Row) -> Result<(), Fail> {
     for after in AFTERS {
         let keyed = by_key(alloc, after)?;

@@ -96,7 +96,7 @@ pub(crate) struct Offered<'a, T> {
     pub(crate) tail: Option<Tail>,
 }
 
-/// One behind which the run goes on.
+/// One after which the run goes on.
 pub(crate) fn part<T>(first: u64, items: &[T]) -> Offered<'_, T> {
     Offered {
         first,
@@ -116,7 +116,7 @@ pub(crate) fn last<T>(first: u64, items: &[T], tail: Tail) -> Offered<'_, T> {
     }
 }
 
-/// One that tells of its run's ending.
+/// One that reports its run's ending.
 pub(crate) fn ender<T>(first: u64, items: &[T], ending: FragEnd) -> Offered<'_, T> {
     Offered {
         first,
@@ -161,7 +161,7 @@ where
     }
 }
 
-/// What a merger answers to offers, one behind another, and how many batches it has delivered by then; what all of these
+/// What a merger answers to offers, one after another, and how many batches it has delivered by then; what all of these
 /// are, and how the answer ends.
 #[derive(Clone, Copy)]
 pub(crate) struct Case<'a, T> {
@@ -221,7 +221,7 @@ fn expect_answer(
     assert_eq!(rt; told, answer);
 }
 
-/// The same of numbers that are merged by key, behind no operator.
+/// The same of numbers that are merged by key, after no operator.
 pub(crate) fn expect_ordered(rt: &impl Abort, alloc: Global, refused: usize, case: Case<'_, i64>) {
     let Ok(query) = ordered::<Formula>(alloc) else {
         panic!(rt; "no room for a query");

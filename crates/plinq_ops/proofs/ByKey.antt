@@ -264,7 +264,7 @@ fragment_at-keyed meaning (TakeWhile f ∷ ops) p xs e keyed some at =
 fragment_at-keyed meaning (SkipWhile f ∷ ops) p xs e keyed some at = absurd (cc)
 fragment_at-keyed meaning (AsUnordered ∷ ops) p xs e keyed some at = absurd (cc)
 
--- what is left of the operators behind what stands at a position is what is left of them at the next
+-- what is left of the operators after what stands at a position is what is left of them at the next
 item_count-next : {T : Type 0} (p : ℤ) (xs : List T) → IsAt p xs None → item_count (p +ℤ pos 1) ≡ item_count p + length xs
 item_count-next (pos k) [] at = absurd at
 item_count-next (pos k) (x ∷ []) at = refl
@@ -307,7 +307,7 @@ seq_behind-passed {L} {T} meaning op ops p xs applied at passed others is_open =
     ∙ ap (left_at meaning ops) (position_behind-next op p) in
     cc
 
--- an operator behind which positions aren't known
+-- an operator after which positions aren't known
 seq_behind-first : {L T : Type 0} (meaning : L → Meaning T) (op : Op L) (ops : List (Op L)) (p : ℤ) (xs : List T) → can_apply Position op ≡ true → IsAt p xs None → is_by_key_from Key ops ≡ true
     → seq_behind (left_at meaning (op ∷ ops) p) (open_trace xs) ≡ left_at meaning (op ∷ ops) (p +ℤ pos 1)
 seq_behind-first meaning op ops p xs applied at keyed =
@@ -340,7 +340,7 @@ pub fragment_of-keyed : {L T : Type 0} (meaning : L → Meaning T) (ops : List (
     → fragment_of meaning ops key x ≡ seq (left_at meaning ops (pos key)) (open_trace (x ∷ []))
 fragment_of-keyed meaning ops key x keyed some = fragment_at-keyed meaning ops (pos key) (x ∷ []) None keyed some tt
 
--- and leaves behind it what is left at the next key
+-- and leaves after it what is left at the next key
 pub left_at-next : {L T : Type 0} (meaning : L → Meaning T) (ops : List (Op L)) (key : ℕ) (x : T) → is_by_key ops ≡ true → list_any is_empty_take ops ≡ false
     → (seq (left_at meaning ops (pos key)) (open_trace (x ∷ []))).ending ≡ None
     → seq_behind (left_at meaning ops (pos key)) (open_trace (x ∷ [])) ≡ left_at meaning ops (pos (key + 1))

@@ -53,7 +53,7 @@ fragment_of-over : {L T : Type 0} (meaning : L → Meaning T) (worker : List (Op
 fragment_of-over meaning worker key x keyed some over =
     fragment_of-keyed meaning worker key x keyed some ∙ answer-of_none (left_at meaning worker (pos key)) (open_trace (x ∷ [])) over
 
--- a worker's fragment is told where a Take has none left
+-- the fragment of an element at whose key a Take has none left
 pub fragment-over : {L T : Type 0} (meaning : L → Meaning T) (worker : List (Op L)) (key : ℕ) (x : T) (f : Fragment T) → is_by_key worker ≡ true → list_any is_empty_take worker ≡ false
     → some_takes_none (left_at meaning worker (pos key)) ≡ true → f.items.items ≡ [] → f.ending ≡ EndsHere → IsFragment (fragment_of meaning worker key x) f
 fragment-over meaning worker key x f keyed some over none ends = rw (fragment_of-over meaning worker key x keyed some over) (record { items = none; ending = rw ends refl })
@@ -100,7 +100,7 @@ pub behind-rest_dropped : {L T : Type 0} (meaning : L → Meaning T) (worker : L
 behind-rest_dropped meaning worker cut key [] before out all some above behind = absurd (omega arith)
 behind-rest_dropped meaning worker cut key (x ∷ xs) before out all some above behind = behind-dropped meaning worker cut key x xs before out all above behind
 
--- the items that the cut reaches leave the run open: the rest stands behind what they give
+-- the items that the cut reaches leave the run open: the rest stands after what they give
 pub behind-open : {L T : Type 0} (meaning : L → Meaning T) (worker : List (Op L)) (cut key next : ℕ) (xs ys : List T) → next ≡ key + length xs → (0 < length xs → next ≤ cut + 1)
     → (glued meaning worker key xs None).ending ≡ None → BehindItems [] (glued meaning worker key xs None).items (chunk_answer meaning worker cut next ys) (chunk_answer meaning worker cut key (xs ++ ys))
 behind-open meaning worker cut key next [] ys is within is_open =
@@ -188,7 +188,7 @@ behind-stop {L} {T} meaning worker cut key x xs before out out' all ss (Some e) 
       stop = behind.stop ∙ ap (λ a. a.stop) here;
     }
 
--- it is told so
+-- it is reported so
 pub told-stop : {T : Type 0} (key : ℕ) (before out : List T) (ending : Option Ending) (all : ChunkAnswer T) (told : FragEnd) → IsStoppedBy key before out ending all → IsToldBy told ending
     → MatchBool all.dropped (told ≡ Dropped) (IsToldBy told all.trace.ending)
 told-stop key before out ending all told stopped is = rw (stopped.dropped, stopped.ends) is

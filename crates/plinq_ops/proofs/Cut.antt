@@ -52,7 +52,7 @@ enders-none {L} {T} meaning worker key (x ∷ xs) is_open =
     let first : f.ending ≡ None = open-from_continued f.items f.ending rest is_open in
     rw first (enders-none meaning worker (key + 1) xs (open_behind f.items f.ending rest first is_open))
 
--- behind open fragments the keys that end the run are those of the items that follow
+-- after open fragments the keys that end the run are those of the items that follow
 pub enders-behind : {L T : Type 0} (meaning : L → Meaning T) (worker : List (Op L)) (key : ℕ) (xs ys : List T) → (glued meaning worker key xs None).ending ≡ None
     → enders meaning worker key (xs ++ ys) ≡ enders meaning worker (key + length xs) ys
 enders-behind meaning worker key xs ys is_open =
@@ -68,7 +68,7 @@ chunk_answer-above {L} {T} meaning worker cut cut' key (x ∷ xs) above above' =
     ∙ ap (before_answer key f.items f.ending) (chunk_answer-above meaning worker cut cut' (key + 1) xs (omega arith) (omega arith))
     ∙ sym (chunk_answer-cons meaning worker cut' key x xs (omega arith))
 
--- a cut at a key that ends the run of these items and others behind them
+-- a cut at a key that ends the run of these items and others after them
 pub chunk_answer-at_ender : {L T : Type 0} (meaning : L → Meaning T) (worker : List (Op L)) (cut cut' key : ℕ) (xs ys : List T) → is_among (enders meaning worker key (xs ++ ys)) cut ≡ true
     → key + length xs ≤ cut' + 1 → chunk_answer meaning worker cut key xs ≡ chunk_answer meaning worker cut' key xs
 chunk_answer-at_ender meaning worker cut cut' key [] ys ender above = refl
@@ -108,7 +108,7 @@ chunk_answer-reached meaning worker items before xs ys cut cut' first legal part
           chunk_answer-at_ender meaning worker cut cut' first xs ys (ap (λ ks. is_among ks cut) (sym behind) ∙ ender) above
     ]
 
--- what a result tells of its ending
+-- what a result says of its ending
 told-is : (told : FragEnd) (e : Option Ending) → IsToldBy told e → run_ending told ≡ e
 told-is More e is = sym is
 told-is EndsHere e is = sym is
@@ -127,7 +127,7 @@ result-is {L} {T} meaning worker cut chunk r made kept =
     let told : IsToldBy r.ending a.trace.ending = rw kept at made.ending in
     (ap (λ xs. trace_of xs (run_ending r.ending)) made.items ∙ ap (trace_of a.trace.items) (told-is r.ending a.trace.ending told), told-undropped r.ending a.trace.ending told)
 
--- a result that isn't told to be dropped dropped nothing
+-- a result that isn't reported as dropped dropped nothing
 pub kept-from_told : {L T : Type 0} (meaning : L → Meaning T) (worker : List (Op L)) (cut : ℕ) (chunk : Chunk T) (r : ChunkResult T) → IsChunkResult meaning worker cut chunk r → r.ending ≢ Dropped
     → (chunk_answer meaning worker cut chunk.first chunk.items.items).dropped ≡ false
 kept-from_told {L} {T} meaning worker cut chunk r made undropped =

@@ -41,7 +41,7 @@ fed-none ss out undecided =
       left = λ e. sym (seq_behind-nothing ss undecided);
     }
 
--- what is fed behind a trace that left the run open
+-- what is fed after a trace that left the run open
 pub fed-followed : {T : Type 0} (ss ss' ss'' : List (Stage T)) (a b : Trace T) (before between after : List T) (e : Option Ending)
     → IsFed ss a before between ss' None → IsFed ss' b between after ss'' e → IsFed ss (followed a b) before after ss'' e
 fed-followed {T} ss ss' ss'' a b before between after e first second =
@@ -85,7 +85,7 @@ fed-told {T} xs (Some f) ss ss' before after (Some g) fed =
       left = λ bad. absurd (cc);
     }
 
--- a run that has ended stays as it is, whatever comes behind
+-- a run that has ended stays as it is, whatever comes after
 pub fed-ended_before : {T : Type 0} (ss ss' ss'' : List (Stage T)) (a b : Trace T) (before after : List T) (e : Option Ending) → is_some e ≡ true
     → IsFed ss a before after ss' e → IsFed ss (followed a b) before after ss'' e
 fed-ended_before {T} ss ss' ss'' a b before after None ends fed = absurd (let bad : false ≡ true = ends in cc)

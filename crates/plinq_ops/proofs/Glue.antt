@@ -1,4 +1,4 @@
--- Fragments glue to what the worker part gives for the whole, and chunks one behind another glue to the whole.
+-- Fragments glue to what the worker part gives for the whole, and chunks one after another glue to the whole.
 use Rattle.std.specs.Prelude.{◌≡◌, ℕ, suc, ◌+◌, ◌≤◌, pos, List, [], ◌∷◌, ◌++◌, length, true, false, Option, Some, None, refl}
 use Rattle.std.specs.List.{list_any}
 use Rattle.std.proofs.Common.{sym, ◌∙◌, ap, inl, inr, arith}
@@ -65,7 +65,7 @@ answer_of-split meaning order ops t some =
     ∙ seq-append meaning (worker_part order ops) (after_part order ops) t
     ∙ ap (seq (stages_of meaning (after_part order ops))) (sym (glue-keyed meaning (worker_part order ops) t (worker_part-by_key order ops) (parts-undecided order ops some).0))
 
--- chunks one behind another glue to the whole
+-- chunks one after another glue to the whole
 pub glued-append : {L T : Type 0} (meaning : L → Meaning T) (worker : List (Op L)) (key : ℕ) (xs ys : List T) (e : Option Ending)
     → glued meaning worker key (xs ++ ys) e ≡ followed (glued meaning worker key xs None) (glued meaning worker (key + length xs) ys e)
 glued-append meaning worker key [] ys e = ap (λ k. glued meaning worker k ys e) (omega arith)

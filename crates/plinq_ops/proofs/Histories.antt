@@ -17,7 +17,7 @@ use Rattle.plinq_ops.specs.Cut.{most_items}
 use Rattle.plinq_ops.specs.Row.{IsOffer, AreOffers, IsRow, row_trace, IsResultOf, AreResultsOf}
 use Rattle.plinq_ops.proofs.Rows.{row-holds}
 
--- a record that tells the reply at a place: the items of its result's chunk stand there in the source
+-- a record that states the reply at a place: the items of its result's chunk stand there in the source
 record IsResultAt {L T : Type 0} (meaning : L → Meaning T) (worker : List (Op L)) (t : Trace T) (p : Place) (asked : Record) (r : ChunkResult T) : Type 0 where
   pub offer : IsOffer meaning worker t r
   pub first : r.first ≡ p.given

@@ -38,7 +38,7 @@ joined-done {T} {piece} {xs} {done} so_far none =
 
 -- ---- a block at a lambda
 
--- what comes of a block as a trace
+-- the result of a block as a trace
 abbrev pub trace_of_block : {T : Type 0} → BlockResult T → Trace T
 trace_of_block b = record { items = b.items; ending = ending_of b.fault }
 

@@ -47,7 +47,7 @@ pub items-continued : {T : Type 0} (xs : List T) (e : Option Ending) (b : Trace 
 items-continued xs None b is_open = refl
 items-continued xs (Some e) b is_open = absurd (cc)
 
--- what is left behind two traces is what is left of what was left behind the first
+-- what is left after two traces is what is left of what was left after the first
 pub seq_behind-followed : {T : Type 0} (ss : List (Stage T)) (a b : Trace T) → (seq ss a).ending ≡ None
     → seq_behind ss (followed a b) ≡ seq_behind (seq_behind ss a) b
 seq_behind-followed [] a b is_open = refl
@@ -82,7 +82,7 @@ seq-takes_none (s ∷ ss) none =
       | false ↦ λ is none. ap (seq ss) (apply-nothing s None is) ∙ seq-takes_none ss none
     ] refl none
 
--- what is left of the operators behind nothing is all of them
+-- what is left of the operators after nothing is all of them
 pub seq_behind-nothing : {T : Type 0} (ss : List (Stage T)) → some_takes_none ss ≡ false → seq_behind ss (open_trace []) ≡ ss
 seq_behind-nothing [] some = refl
 seq_behind-nothing (s ∷ ss) some =

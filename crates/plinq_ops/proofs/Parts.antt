@@ -14,7 +14,7 @@ use Rattle.plinq_ops.specs.Operator.{needed, keeps_count}
 use Rattle.plinq_ops.specs.ByKey.{suffices, can_apply, are_keyless, known_behind, without_position, is_by_key_from, is_by_key}
 use Rattle.plinq_ops.specs.Plan.{known_at_source, worker_from, after_from, worker_part, after_part}
 
--- both parts, one behind another, are all operators
+-- both parts, one after another, are all operators
 pub worker-after : {L : Type 0} (known : Known) (ops : List (Op L)) → worker_from known ops ++ after_from known ops ≡ ops
 worker-after known [] = refl
 worker-after known (op ∷ ops) =

@@ -23,7 +23,7 @@ use Rattle.plinq_ops.proofs.Open.{none-or_ending}
 use Rattle.plinq_ops.proofs.Glue.{glued-append, chunk_answer-uncut}
 use Rattle.plinq_ops.proofs.Cut.{enders-append, chunk_answer-reached, undropped-uncut, result-is, kept-from_told, stop-is_ender}
 
--- where a chunk stands in its source: items before it, its own, and items behind it
+-- where a chunk stands in its source: items before it, its own, and items after it
 record HasPlace {T : Type 0} (items : List T) (first : ℕ) (xs : List T) : Type 0 where
   pub rest : List T
   pub parts : items ≡ take first items ++ (xs ++ rest)
@@ -40,7 +40,7 @@ has_place items first xs within is =
       joined = take-add first (length xs) items ∙ ap (λ ys. take first items ++ ys) (sym is);
     }
 
--- behind a row that is still open a result gives the glued fragments of its chunk
+-- after a row that is still open a result gives the glued fragments of its chunk
 pub result-behind_open : {L T : Type 0} (meaning : L → Meaning T) (worker : List (Op L)) (t : Trace T) (r : ChunkResult T) → length t.items ≤ most_items → (offer : IsOffer meaning worker t r)
     → (glued meaning worker 0 (take r.first t.items) None).ending ≡ None
     → (result_trace r ≡ glued meaning worker r.first offer.chunk.items.items None) × (r.ending ≢ Dropped)
@@ -97,7 +97,7 @@ pub row-holds : {L T : Type 0} (meaning : L → Meaning T) (worker : List (Op L)
     → row_trace rs ≡ glued meaning worker 0 (take to t.items) None
 row-holds meaning worker t rs to few offers row = row-from meaning worker t rs 0 to few offers row
 
--- all fragments, and behind them how the source ends
+-- all fragments, and after them how the source ends
 pub glue-whole : {L T : Type 0} (meaning : L → Meaning T) (worker : List (Op L)) (t : Trace T) → glue meaning worker t ≡ followed (glued meaning worker 0 t.items None) (trace_of [] t.ending)
 glue-whole meaning worker t =
     ap (λ ys. glued meaning worker 0 ys t.ending) (sym (append-nil t.items)) ∙ glued-append meaning worker 0 t.items [] t.ending

@@ -7,7 +7,7 @@ use Rattle.plinq_ops.specs.declared.merge_option.MergeOption.{MergeOption}
 use Rattle.plinq_ops.specs.declared.merge_option.MergeOption.TheVariants.{Default, NotBuffered, AutoBuffered, FullyBuffered}
 use Rattle.plinq_ops.specs.Batches.{batch_size, is_full, full_batches, held_back, last_batch, batches_from}
 
--- the full batches of items behind others
+-- the full batches of items after others
 pub full_batches-append : {T : Type 0} (size : Option ℕ) (held xs ys : List T)
     → full_batches size held (xs ++ ys) ≡ full_batches size held xs ++ full_batches size (held_back size held xs) ys
 full_batches-append size held [] ys = refl
@@ -19,7 +19,7 @@ full_batches-append size held (x ∷ xs) ys =
       | false ↦ full_batches-append size (held ++ x ∷ []) xs ys
     ]
 
--- what is held back behind others
+-- what is held back after others
 pub held_back-append : {T : Type 0} (size : Option ℕ) (held xs ys : List T) → held_back size held (xs ++ ys) ≡ held_back size (held_back size held xs) ys
 held_back-append size held [] ys = refl
 held_back-append size held (x ∷ xs) ys =
@@ -29,7 +29,7 @@ held_back-append size held (x ∷ xs) ys =
       | false ↦ held_back-append size (held ++ x ∷ []) xs ys
     ]
 
--- the batches of a trace behind open items
+-- the batches of a trace after open items
 pub batches_from-followed : {T : Type 0} (size : Option ℕ) (held xs : List T) (t : Trace T)
     → batches_from size held (followed (open_trace xs) t) ≡ full_batches size held xs ++ batches_from size (held_back size held xs) t
 batches_from-followed size held xs t =
@@ -48,7 +48,7 @@ pub batches_from-open : {T : Type 0} (size : Option ℕ) (held xs : List T) → 
 batches_from-open size held xs =
     ap (λ bs. full_batches size held xs ++ bs) (last_batch-open size (held_back size held xs)) ∙ append-nil (full_batches size held xs)
 
--- the batches of a trace that grows begin with those so far; the rest's, begun with what is held back, come behind them
+-- the batches of a trace that grows begin with those so far; the rest's, begun with what is held back, come after them
 pub batches_from-grown : {T : Type 0} (size : Option ℕ) (held xs : List T) (t : Trace T)
     → batches_from size held (followed (open_trace xs) t) ≡ batches_from size held (open_trace xs) ++ batches_from size (held_back size held xs) t
 batches_from-grown size held xs t =

@@ -1,4 +1,4 @@
--- What is left of a SkipWhile behind items is a SkipWhile that goes on from there.
+-- What is left of a SkipWhile after items is a SkipWhile that goes on from there.
 use Rattle.std.specs.Prelude.{◌≡◌, ℕ, List, [], ◌∷◌, ◌++◌, length, take, drop, ◌==◌, Bool, true, false, cond, Option, Some, None, is_some, Result, Ok, Err, refl}
 use Rattle.std.proofs.Common.{◌≤◌, suc, ◌∙◌, ap, sym, arith}
 use Rattle.std.proofs.lemmas.Bool.Decides.{nat_tests}
@@ -22,7 +22,7 @@ append-first test (Ok true) x xs b rest = rest
 append-first test (Ok false) x xs b rest = refl
 append-first test (Err code) x xs b rest = refl
 
--- a trace behind items
+-- a trace after items
 pub skipped_while-append : {T : Type 0} (test : T → Result Bool ℕ) (xs : List T) (b : Trace T)
     → skipped_while test (xs ++ b.items) b.ending ≡ followed (skipped_while test xs None) (apply (behind (skipping_while test) xs) b)
 skipped_while-append test [] b = refl

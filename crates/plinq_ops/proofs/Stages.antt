@@ -13,7 +13,7 @@ use Rattle.plinq_source.proofs.Followed.{trace_of, followed-followed}
 use Rattle.plinq_ops.specs.Stage.{Stage, pieces, taking, skipping, skipping_while, unchanged, joined, taken, apply, seq, behind, seq_behind, takes_none}
 use Rattle.plinq_ops.proofs.SkippingWhile.{skipped_while-append, skipped_while-ended, is_some-skipped_while, behind-skipping_while}
 
--- the pieces of a list behind another
+-- the pieces of a list after another
 pub joined-append : {T : Type 0} (piece : T → Trace T) (xs ys : List T) (e : Option Ending)
     → joined piece (xs ++ ys) e ≡ followed (joined piece xs None) (joined piece ys e)
 joined-append piece [] ys e = refl
@@ -77,7 +77,7 @@ taken-ended : {T : Type 0} (n : ℕ) (xs : List T) (e : Ending) (b : Trace T)
     → taken n (ended xs e) ≡ followed (taken n (ended xs e)) b
 taken-ended n xs e b = elim (nat_le n (length xs)) as (λ v. cond v (ended (take n xs) End) (ended xs e) ≡ followed (cond v (ended (take n xs) End) (ended xs e)) b) [ true ↦ refl | false ↦ refl ]
 
--- one operator on a trace behind an open or an ended one
+-- one operator on a trace after an open or an ended one
 pub apply-continued : {T : Type 0} (s : Stage T) (xs : List T) (e : Option Ending) (b : Trace T)
     → apply s (continued xs e b) ≡ followed (apply s (trace_of xs e)) (apply (behind s xs) b)
 apply-continued (pieces piece) xs None b = joined-append piece xs b.items b.ending

@@ -81,7 +81,7 @@ one_is_too_few least = let decided = least.decided (omega arith) in absurd (cc)
 three_are_too_many : IsLeastDeciding (taking 2 ∷ []) three_items 3 → ⊥
 three_are_too_many least = let decided = least.open_before 2 (omega arith) in absurd (cc)
 
--- the first that fails a SkipWhile is all that a Take of 1 behind it waits for
+-- the first that fails a SkipWhile is all that a Take of 1 after it waits for
 skip_while_and_take : seq (skipping_while example.test ∷ taking 1 ∷ []) (ended (1 ∷ 9 ∷ 3 ∷ []) End) ≡ ended (9 ∷ []) End
 skip_while_and_take = refl
 

@@ -25,7 +25,7 @@ full_batches size held [] = []
 full_batches size held (x ∷ xs) =
     if is_full size (length held + 1) then (held ++ x ∷ []) ∷ full_batches size [] xs else full_batches size (held ++ x ∷ []) xs
 
--- the items behind the last full batch, which are held back
+-- the items after the last full batch, which are held back
 abbrev pub held_back : {T : Type 0} → Option ℕ → List T → List T → List T
 held_back size held [] = held
 held_back size held (x ∷ xs) =

@@ -45,7 +45,7 @@ without_position Nothing = Nothing
 without_position Key = Key
 without_position Position = Key
 
--- what is known of the elements behind an operator
+-- what is known of the elements after an operator
 abbrev pub known_behind : {L : Type 0} → Known → Op L → Known
 known_behind known op = if keeps_count op then known else without_position known
 
@@ -90,7 +90,7 @@ as_unordered_by_key = refl
 before_the_skip_ends : stages_at {L = ℕ} (λ _. example) (Skip (pos 3) ∷ Take (pos 1) ∷ []) 2 ≡ skipping 1 ∷ taking 1 ∷ []
 before_the_skip_ends = refl
 
--- a Skip behind another counts from the position behind it
+-- a Skip after another counts from the position after it
 behind_two_skips : stages_at {L = ℕ} (λ _. example) (Skip (pos 1) ∷ Skip (pos 2) ∷ Take (pos 4) ∷ []) 4 ≡ skipping 0 ∷ skipping 0 ∷ taking 3 ∷ []
 behind_two_skips = refl
 

@@ -22,14 +22,14 @@ IsWorkerEnding (Some End) = ⊤
 IsWorkerEnding (Some (Refused code)) = ⊥
 IsWorkerEnding (Some (Fault code)) = ⊤
 
--- what a fragment tells of its ending
+-- what a fragment says of its ending
 abbrev pub IsToldBy : FragEnd → Option Ending → Type 0
 IsToldBy More e = e ≡ None
 IsToldBy EndsHere e = e ≡ Some End
 IsToldBy (Faults code) e = e ≡ Some (Fault code)
 IsToldBy Dropped e = ⊥
 
--- nothing is told by Dropped: what was dropped isn't known
+-- nothing is said by Dropped: what was dropped isn't known
 dropped_tells_nothing : IsToldBy Dropped None ≡ ⊥
 dropped_tells_nothing = refl
 
@@ -73,11 +73,11 @@ stopped_by_a_fault = refl
 stopped_by_the_cut : chunk_answer {L = ℕ} (λ _. example) (Select 0 ∷ []) 7 7 (5 ∷ 0 ∷ 2 ∷ []) ≡ record { trace = open_trace (4 ∷ []); dropped = true; stop = Some 8 }
 stopped_by_the_cut = refl
 
--- the element of key 2 is behind the last that is taken, and stops a chunk that begins with it
+-- the element of key 2 is after the last that is taken, and stops a chunk that begins with it
 stopped_behind_a_take : chunk_answer {L = ℕ} (λ _. example) (Take (pos 2) ∷ []) 9 2 (7 ∷ 8 ∷ []) ≡ record { trace = ended [] End; dropped = false; stop = Some 2 }
 stopped_behind_a_take = refl
 
--- a result tells the answer of a chunk: its items, its ending and its stop, beside the chunk's first key, number of
+-- a result reports the answer of a chunk: its items, its ending and its stop, beside the chunk's first key, number of
 -- items and tail
 pub record IsChunkResult {L T : Type 0} (meaning : L → Meaning T) (worker : List (Op L)) (cut : ℕ) (chunk : Chunk T) (r : ChunkResult T) : Type 0 where
   pub first : r.first ≡ chunk.first
@@ -89,7 +89,7 @@ pub record IsChunkResult {L T : Type 0} (meaning : L → Meaning T) (worker : Li
   pub stop : r.stop ≡ (chunk_answer meaning worker cut chunk.first chunk.items.items).stop
   pub tail : r.tail ≡ chunk.tail
 
--- how the run ended, as far as a fragment or a result tells
+-- how the run ended, as far as a fragment or a result says
 abbrev pub run_ending : FragEnd → Option Ending
 run_ending More = None
 run_ending EndsHere = Some End
@@ -103,16 +103,16 @@ dropped_ends_no_run = refl
 abbrev pub result_trace : {T : Type 0} → ChunkResult T → Trace T
 result_trace r = record { items = r.items.items; ending = run_ending r.ending }
 
--- what was told of a chunk's answer: where it stopped, and how it goes on
+-- what was reported of a chunk's answer: where it stopped, and how it goes on
 abbrev pub IsStop : {T : Type 0} → ChunkAnswer T → Option Stop → Type 0
 IsStop a None = (a.stop ≡ None) × (a.dropped ≡ false) × (a.trace.ending ≡ None)
 IsStop a (Some s) = (a.stop ≡ Some s.key) × MatchBool a.dropped (s.ending ≡ Dropped) (IsToldBy s.ending a.trace.ending)
 
--- where so many items stop whose first key stands behind the last item of a Take
+-- where so many items stop whose first key stands after the last item of a Take
 abbrev pub stop_over : ℕ → ℕ → ℕ → Option Stop
 stop_over cut key n = if n == 0 then None else Some (record { key = key; ending = if nat_lt cut key then Dropped else EndsHere })
 
--- between `before` and `out` stand items behind which the answer of the rest gives the answer of all
+-- between `before` and `out` stand items after which the answer of the rest gives the answer of all
 pub record BehindItems {T : Type 0} (before out : List T) (rest all : ChunkAnswer T) : Type 0 where
   pub items : before ++ all.trace.items ≡ out ++ rest.trace.items
   pub ending : all.trace.ending ≡ rest.trace.ending

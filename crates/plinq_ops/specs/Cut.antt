@@ -25,7 +25,7 @@ no_cut = 18446744073709551615
 abbrev pub is_cut : {L T : Type 0} → (L → Meaning T) → List (Op L) → List T → ℕ → Bool
 is_cut meaning worker items cut = cut == no_cut || is_among (enders meaning worker 0 items) cut
 
--- the last item that a Take takes ends the run, and so would each behind it
+-- the last item that a Take takes ends the run, and so would each after it
 ended_by_a_take : enders {L = ℕ} (λ _. example) (Take (pos 2) ∷ []) 0 (5 ∷ 6 ∷ 7 ∷ []) ≡ 1 ∷ 2 ∷ []
 ended_by_a_take = refl
 

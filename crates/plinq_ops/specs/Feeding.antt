@@ -7,7 +7,7 @@ use Rattle.plinq_ops.specs.declared.op.Op.TheVariants.{Take, Skip}
 use Rattle.plinq_ops.specs.Stage.{Stage, seq, seq_behind}
 use Rattle.plinq_ops.specs.Operator.{item_count}
 
--- the answer to a trace that was fed stands behind what was out before, its ending was told, and where there is none
+-- the answer to a trace that was fed stands after what was out before, its ending was reported, and where there is none
 -- the operators that are left go on
 pub record IsFed {T : Type 0} (ss : List (Stage T)) (t : Trace T) (before after : List T) (ss' : List (Stage T)) (ending : Option Ending) : Type 0 where
   pub items : after ≡ before ++ (seq ss t).items

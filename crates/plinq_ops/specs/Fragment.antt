@@ -13,7 +13,7 @@ use Rattle.plinq_ops.specs.Operator.{stage_of, item_count, example}
 abbrev pub ended_here : {T : Type 0} → Trace T → Trace T
 ended_here t = followed t (ended [] End)
 
--- Take at a position: nothing and End behind the first n, and the n-th ends the run after itself
+-- Take at a position: nothing and End after the first n, and the n-th ends the run after itself
 abbrev pub taken_at : {T : Type 0} → ℤ → ℤ → Trace T → Trace T
 taken_at n p t =
     if int_lt p n then (if int_lt p (n -ℤ pos 1) then t else ended_here t) else ended [] End
@@ -28,7 +28,7 @@ apply_at meaning (Take n) p t = taken_at (pos (item_count n)) p t
 apply_at meaning (Skip n) p t = skipped_at (pos (item_count n)) p t
 apply_at meaning op p t = apply (stage_of meaning op) t
 
--- the position behind an operator: a Skip of n moves it back by n, also below 0
+-- the position after an operator: a Skip of n moves it back by n, also below 0
 abbrev pub position_behind : {L : Type 0} → Op L → ℤ → ℤ
 position_behind (Skip n) p = p -ℤ pos (item_count n)
 position_behind op p = p
@@ -93,6 +93,6 @@ glued_to_the_last = refl
 glued_to_the_refusal : glue {L = ℕ} (λ _. example) (Take (pos 3) ∷ []) (ended (4 ∷ 5 ∷ []) (Refused 7)) ≡ ended (4 ∷ 5 ∷ []) (Refused 7)
 glued_to_the_refusal = refl
 
--- the fragments behind a fault are dropped, and so is the ending
+-- the fragments after a fault are dropped, and so is the ending
 glued_to_a_fault : glue {L = ℕ} (λ _. example) (Select 0 ∷ []) (ended (5 ∷ 0 ∷ 2 ∷ []) (Refused 7)) ≡ ended (4 ∷ []) (Fault 1)
 glued_to_a_fault = refl

@@ -75,7 +75,7 @@ needed (TakeWhile f) = Some Key
 needed (SkipWhile f) = None
 needed AsUnordered = None
 
--- whether the key of an element tells how many elements an operator has given before it
+-- whether the key of an element says how many elements an operator has given before it
 abbrev pub keeps_count : {L : Type 0} → Op L → Bool
 keeps_count (Filter f) = false
 keeps_count (SelectMany f) = false
@@ -122,14 +122,14 @@ select_many_joins = refl
 select_many_faults : apply (faulting_stage (SelectMany 0)) (ended (2 ∷ 0 ∷ 1 ∷ []) (Refused 7)) ≡ ended (2 ∷ 2 ∷ []) (Fault 1)
 select_many_faults = refl
 
--- TakeWhile keeps nothing behind the first that fails
+-- TakeWhile keeps nothing after the first that fails
 take_while_stops : apply (example_stage (TakeWhile 0)) (ended (1 ∷ 2 ∷ 9 ∷ 1 ∷ []) (Refused 7)) ≡ ended (1 ∷ 2 ∷ []) End
 take_while_stops = refl
 
 take_while_faults : apply (faulting_stage (TakeWhile 0)) (ended (1 ∷ 0 ∷ 2 ∷ []) End) ≡ ended (1 ∷ []) (Fault 1)
 take_while_faults = refl
 
--- SkipWhile tests nothing behind the first that fails
+-- SkipWhile tests nothing after the first that fails
 skip_while_starts : apply (example_stage (SkipWhile 0)) (ended (1 ∷ 2 ∷ 9 ∷ 1 ∷ []) (Refused 7)) ≡ ended (9 ∷ 1 ∷ []) (Refused 7)
 skip_while_starts = refl
 

@@ -61,14 +61,14 @@ take_while_by_arrival = refl
 take_while_by_key : worker_part {L = ℕ} ByKey (Filter 0 ∷ TakeWhile 1 ∷ []) ≡ Filter 0 ∷ TakeWhile 1 ∷ []
 take_while_by_key = refl
 
--- an expansion goes to the workers in both orders; behind it the order is known, and no position
+-- an expansion goes to the workers in both orders; after it the order is known, and no position
 select_many_by_key : worker_part {L = ℕ} ByKey (SelectMany 0 ∷ TakeWhile 1 ∷ Take (pos 2) ∷ []) ≡ SelectMany 0 ∷ TakeWhile 1 ∷ []
 select_many_by_key = refl
 
 select_many_by_arrival : worker_part {L = ℕ} ByArrival (Select 0 ∷ SelectMany 1 ∷ Take (pos 2) ∷ []) ≡ Select 0 ∷ SelectMany 1 ∷ []
 select_many_by_arrival = refl
 
--- SkipWhile comes after the merge in both orders, and so does all behind it
+-- SkipWhile comes after the merge in both orders, and so does all after it
 skip_while_by_key : worker_part {L = ℕ} ByKey (Select 0 ∷ SkipWhile 1 ∷ Select 0 ∷ []) ≡ Select 0 ∷ []
 skip_while_by_key = refl
 

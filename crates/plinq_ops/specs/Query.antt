@@ -43,7 +43,7 @@ abbrev pub with_degree_of : {L : Type 0} → QueryView L → ℕ → Built L
 with_degree_of q n =
     if is_some q.degree then Err (q, DegreeTwice) else (if is_degree n then Ok (record q { degree = Some n }) else Err (q, DegreeOutOfRange))
 
--- the operator stands behind the others, or memory ran out and nothing has changed
+-- the operator stands after the others, or memory ran out and nothing has changed
 abbrev pub AddsOp : {L : Type 0} → QueryView L → Op L → Built L → Type 0
 AddsOp q op r =
     MatchResult r (λ new. new ≡ record q { ops = q.ops ++ op ∷ [] }) (λ refused. (refused.0 ≡ q) × (refused.1 ≡ Memory))
@@ -94,7 +94,7 @@ degree_of_64 = refl
 degree_of_65 : with_degree_of one_taken 65 ≡ Err (one_taken, DegreeOutOfRange)
 degree_of_65 = refl
 
--- that it was given before is told first
+-- that it was given before is reported first
 degree_twice : with_degree_of (record one_taken { degree = Some 4 }) 0 ≡ Err (record one_taken { degree = Some 4 }, DegreeTwice)
 degree_twice = refl
 

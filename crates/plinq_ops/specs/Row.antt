@@ -1,4 +1,4 @@
--- Rows of results: what workers gave for chunks that stand one behind another, each with a cut of its own.
+-- Rows of results: what workers gave for chunks that stand one after another, each with a cut of its own.
 use Rattle.std.specs.Prelude.{◌≡◌, ℕ, ◌+◌, ◌≤◌, List, [], ◌∷◌, length, map, take, drop, true, ⊤, refl}
 use Rattle.plinq_source.specs.declared.ending.Ending.TheVariants.{End, Fault}
 use Rattle.plinq_source.specs.Trace.{Trace, open_trace, ended, followed}
@@ -24,12 +24,12 @@ abbrev pub AreOffers : {L T : Type 0} → (L → Meaning T) → List (Op L) → 
 AreOffers meaning worker t [] = ⊤
 AreOffers meaning worker t (r ∷ rs) = IsOffer meaning worker t r × AreOffers meaning worker t rs
 
--- results one behind another, from a key up to another
+-- results one after another, from a key up to another
 abbrev pub IsRow : {T : Type 0} → ℕ → List (ChunkResult T) → ℕ → Type 0
 IsRow from [] to = from ≡ to
 IsRow from (r ∷ rs) to = (r.first ≡ from) × IsRow (from + r.count) rs to
 
--- traces one behind another, up to and with the first that has an ending
+-- traces one after another, up to and with the first that has an ending
 abbrev pub all_followed : {T : Type 0} → List (Trace T) → Trace T
 all_followed [] = open_trace []
 all_followed (t ∷ ts) = followed t (all_followed ts)
@@ -37,7 +37,7 @@ all_followed (t ∷ ts) = followed t (all_followed ts)
 nothing_behind_a_fault : all_followed {T = ℕ} (open_trace (4 ∷ []) ∷ ended (5 ∷ []) (Fault 1) ∷ ended (6 ∷ []) End ∷ []) ≡ ended (4 ∷ 5 ∷ []) (Fault 1)
 nothing_behind_a_fault = refl
 
--- what results give one behind another
+-- what results give one after another
 abbrev pub row_trace : {T : Type 0} → List (ChunkResult T) → Trace T
 row_trace rs = all_followed (map result_trace rs)
 

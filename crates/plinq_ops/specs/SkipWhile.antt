@@ -4,7 +4,7 @@ use Rattle.plinq_source.specs.declared.ending.Ending.{Ending}
 use Rattle.plinq_source.specs.declared.ending.Ending.TheVariants.{End, Refused, Fault}
 use Rattle.plinq_source.specs.Trace.{Trace, open_trace, ended}
 
--- by what the test says of the first item: one that passes is left out, behind one that fails nothing is, and a fault
+-- by what the test says of the first item: one that passes is left out, after one that fails nothing is, and a fault
 -- ends the answer
 abbrev pub skipped_from : {T : Type 0} → Result Bool ℕ → List T → Option Ending → Trace T → Trace T
 skipped_from (Ok true) xs e rest = rest

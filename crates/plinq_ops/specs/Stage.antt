@@ -66,7 +66,7 @@ abbrev pub some_takes_none : {T : Type 0} → List (Stage T) → Bool
 some_takes_none [] = false
 some_takes_none (s ∷ ss) = takes_none s || some_takes_none ss
 
--- two of two items taken: End, whatever comes behind them
+-- two of two items taken: End, whatever comes after them
 take_two_of_two : taken {T = ℕ} 2 (ended (1 ∷ 2 ∷ []) (Refused 7)) ≡ ended (1 ∷ 2 ∷ []) End
 take_two_of_two = refl
 
@@ -80,11 +80,11 @@ take_none = refl
 skip_five_of_two : skipped {T = ℕ} 5 (ended (1 ∷ 2 ∷ []) (Refused 7)) ≡ ended [] (Refused 7)
 skip_five_of_two = refl
 
--- of an open trace one more can be taken behind two of three
+-- of an open trace one more can be taken after two of three
 behind_two : seq_behind {T = ℕ} (taking 3 ∷ skipping 1 ∷ []) (open_trace (5 ∷ 6 ∷ [])) ≡ taking 1 ∷ skipping (1 - 2) ∷ []
 behind_two = refl
 
--- behind an item that fails nothing is skipped any more, whatever came before it
+-- after an item that fails nothing is skipped any more, whatever came before it
 abbrev is_less : ℕ → ℕ → Result Bool ℕ
 is_less m n = Ok (nat_lt n m)
 

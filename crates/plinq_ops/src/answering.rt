@@ -20,8 +20,8 @@ use std::alloc::Global;
 ///
 /// # Errors
 ///
-/// [`OutOfMemory`] where there is no room for the operators' counts or for the answer. The source may have given some of
-/// its elements then.
+/// [`OutOfMemory`] where there is no room for what is left of the operators or for the answer. The source may have given
+/// some of its elements then.
 ///
 /// ```text
 /// let query = Query::new(alloc).as_ordered()?.filter(Formula::Even)?.take(2)?;
@@ -51,7 +51,7 @@ pub fn sequential<L: Lambda, S: Source<Item = L::Item>>(
     Ok((items, ending))
 }
 
-/// Sends the items of a source through a pipeline, up to the one that ends the run, and the ending behind them.
+/// Sends the items of a source through a pipeline, up to the one that ends the run, and the ending after them.
 fn feed_all<L: Lambda, S: Source<Item = L::Item>>(
     alloc: Global,
     pipeline: &mut Pipeline<'_, L>,

@@ -12,7 +12,7 @@ use crate::skip_while::skip_while;
 use plinq_lambda::Lambda;
 use plinq_source::Ending;
 
-/// Sends a block of items through one operator but SelectMany; what comes out takes its place. Answers how the run ended.
+/// Sends a block of items through one operator but SelectMany; the results take its place. Answers how the run ended.
 /// Takes no memory.
 pub(crate) fn pass_block<L: Lambda>(
     op: &mut Remaining<'_, L>,
@@ -93,7 +93,7 @@ fn ending_of(fault: Option<u32>) -> Option<Ending>
     }
 }
 
-/// Keeps the first `count` items; behind the last of them the run ends.
+/// Keeps the first `count` items; after the last of them the run ends.
 fn take<T: Copy>(count: &mut u64, block: &mut Vec<T>) -> Option<Ending>
     ensures passed { record { items = block.new.items; ending = result }
         ≡ apply (taking count.old) (open_trace block.old.items) }

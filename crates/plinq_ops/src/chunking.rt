@@ -26,8 +26,8 @@ struct Stop {
 
 /// What the worker part of a plan gives for a chunk, up to the first key above `cut`.
 ///
-/// Memory is taken for the counts and for as many items as the chunk has; a SelectMany can need more, and so does a run
-/// that ends in the chunk.
+/// Memory is taken for what is left of the operators and for as many items as the chunk has. A SelectMany can need more,
+/// and so does a run that ends in the chunk.
 ///
 /// # Errors
 ///
@@ -102,7 +102,7 @@ fn work<L: Lambda>(
     }))
 }
 
-/// Where a chunk stops whose first key stands behind the last item of a Take.
+/// Where a chunk stops whose first key stands after the last item of a Take.
 fn stop_over(cut: u64, first: u64, len: usize) -> Option<Stop>
     ensures { result ≡ stop_over cut first len }
 {

@@ -19,7 +19,7 @@ use std::alloc::Global;
 ///
 /// # Errors
 ///
-/// [`OutOfMemory`] where there is no room for the counts or the items.
+/// [`OutOfMemory`] where there is no room for what is left of the operators or for the items.
 ///
 /// ```text
 /// // as_ordered, skip 1, take 2
@@ -49,7 +49,7 @@ pub fn fragment<L: Lambda>(
     Ok(Fragment { items, ending })
 }
 
-/// A worker part's ending, told by a fragment.
+/// A worker part's ending, as a fragment reports it.
 pub(crate) fn frag_end(ending: Option<Ending>) -> FragEnd
     requires { IsWorkerEnding ending }
     ensures { IsToldBy result ending }

@@ -13,7 +13,7 @@ use plinq_lambda::{ExpandFault, Lambda};
 use plinq_source::{Ending, OutOfMemory};
 use std::alloc::Global;
 
-/// Sends one item through operators, and puts what comes out behind `out`.
+/// Sends one item through operators, and appends the results to `out`.
 pub(crate) fn feed<L: Lambda>(
     alloc: Global,
     ops: &mut [Remaining<'_, L>],
@@ -44,7 +44,7 @@ pub(crate) fn feed<L: Lambda>(
     Ok(last)
 }
 
-/// Sends a block of items through the operators from one on, one operator after another; what comes out takes its place.
+/// Sends a block of items through the operators from one on, one operator after another; the results take its place.
 #[cycle(blocks)]
 pub(crate) fn feed_block<L: Lambda>(
     alloc: Global,
@@ -99,7 +99,7 @@ fn feed_expansions<L: Lambda>(
     Ok(None)
 }
 
-/// Sends the expansion of one item through the operators from one on, and puts what comes out behind `out`.
+/// Sends the expansion of one item through the operators from one on, and appends the results to `out`.
 #[cycle(blocks)]
 fn feed_expansion<L: Lambda>(
     alloc: Global,

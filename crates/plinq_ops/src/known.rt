@@ -10,9 +10,9 @@ use crate::order::Order;
 pub(crate) enum Known {
     /// Nothing.
     Nothing,
-    /// The key of the source's element that it came from, which tells its order among the others.
+    /// The key of the source's element that it came from, which gives its order among the others.
     Key,
-    /// The key, which tells how many elements reach the operator before it, too.
+    /// The key, which says how many elements reach the operator before it, too.
     Position,
 }
 
@@ -39,7 +39,7 @@ impl Known {
         }
     }
 
-    /// What is known behind the operator.
+    /// What is known after the operator.
     pub(crate) fn behind<L>(self, op: &Op<L>) -> Known
         ensures { result ≡ known_behind self op.now }
     {

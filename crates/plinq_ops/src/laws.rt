@@ -26,7 +26,7 @@ ghost use Rattle.plinq_ops.specs.Chunk.{chunk_answer, IsChunkResult, result_trac
 ghost use Rattle.plinq_ops.specs.Cut.{enders, most_items};
 ghost use Rattle.plinq_ops.specs.Row.{IsOffer, AreOffers, IsRow, row_trace, IsResultOf, AreResultsOf};
 
-/// What operators make of a trace that follows another: what they make of the first, and where that is open, behind it
+/// What operators make of a trace that follows another: what they make of the first, and where that is open, after it
 /// what is left of them makes of the second.
 pub fn answer_goes_on<T>()
     ensures { (ss : List (Stage T)) (a b : Trace T) →
@@ -48,14 +48,14 @@ pub fn decided_answer_stays<L, T>()
         seq after (glue meaning worker t) ≡ seq after (glued meaning worker 0 (take k t.items) None) }
 {}
 
-/// Chunks one behind another glue to the whole.
+/// Chunks one after another glue to the whole.
 pub fn chunks_glue<L, T>()
     ensures { (meaning : L → Meaning T) (worker : List (Op L)) (key : ℕ) (xs ys : List T) (e : Option Ending) →
         glued meaning worker key (xs ++ ys) e
         ≡ followed (glued meaning worker key xs None) (glued meaning worker (key + length xs) ys e) }
 {}
 
-/// The source's ending stands behind the glued fragments of its items.
+/// The source's ending stands after the glued fragments of its items.
 pub fn ending_follows<L, T>()
     ensures { (meaning : L → Meaning T) (worker : List (Op L)) (t : Trace T) →
         glue meaning worker t
@@ -83,7 +83,7 @@ pub fn stop_ends_the_run<L, T>()
         is_among (enders meaning worker 0 t.items) k ≡ true }
 {}
 
-/// Behind items whose fragments leave the run open no result is dropped, whatever its cut: it gives the glued fragments
+/// After items whose fragments leave the run open no result is dropped, whatever its cut: it gives the glued fragments
 /// of its chunk.
 pub fn nothing_reached_is_dropped<L, T>()
     ensures { (meaning : L → Meaning T) (worker : List (Op L)) (t : Trace T) (r : ChunkResult T) →
@@ -92,7 +92,7 @@ pub fn nothing_reached_is_dropped<L, T>()
         (result_trace r ≡ glued meaning worker r.first offer.chunk.items.items None) × (r.ending ≢ Dropped) }
 {}
 
-/// One result more: behind the glued fragments of the items before it, a result gives those up to its last.
+/// One result more: after the glued fragments of the items before it, a result gives those up to its last.
 pub fn row_goes_on<L, T>()
     ensures { (meaning : L → Meaning T) (worker : List (Op L)) (t : Trace T) (r : ChunkResult T) →
         length t.items ≤ most_items → IsOffer meaning worker t r →

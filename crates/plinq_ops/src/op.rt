@@ -10,7 +10,7 @@ pub enum Op<L> {
     Select(L),
     /// `Where`: the elements that pass.
     Filter(L),
-    /// `SelectMany`: each element's expansion, one behind another.
+    /// `SelectMany`: each element's expansion, one after another.
     SelectMany(L),
     /// `Take`: the first so many elements, a negative number being none.
     Take(i64),
@@ -47,7 +47,7 @@ impl<L> Op<L> {
         }
     }
 
-    /// Whether the key of an element tells how many elements the operator has given before it.
+    /// Whether the key of an element says how many elements the operator has given before it.
     pub(crate) fn keeps_count(&self) -> bool
         ensures { result ≡ keeps_count self.now }
     {

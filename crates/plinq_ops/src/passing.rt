@@ -13,7 +13,7 @@ use plinq_source::Ending;
 pub(crate) enum Passed {
     /// It goes on.
     Item,
-    /// It goes on, and behind it the operator takes no other.
+    /// It goes on, and after it the operator takes no other.
     Last,
     /// It is dropped.
     Nothing,
@@ -21,7 +21,7 @@ pub(crate) enum Passed {
     Ends(Ending),
 }
 
-/// Sends one item through one operator but SelectMany; what comes out takes its place. Takes no memory.
+/// Sends one item through one operator but SelectMany; the result takes its place. Takes no memory.
 pub(crate) fn pass<L: Lambda>(op: &mut Remaining<'_, L>, item: &mut L::Item) -> Passed
     requires in_place { expands op.old ≡ false }
     requires takes_some { takes_none (stage_now L.meaning op.old) ≡ false }

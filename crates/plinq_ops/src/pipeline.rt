@@ -15,7 +15,7 @@ use std::marker::Model;
 
 /// Operators at work: fed items, alone or by the block, they put out what the query makes of them.
 ///
-/// A pipeline stands for what is left of its operators: behind the items that it was fed, a Take has fewer left to
+/// A pipeline stands for what is left of its operators. After the items that it was fed, a Take has fewer left to
 /// take, a Skip fewer to pass over, and a SkipWhile is over once one has failed. Where the run has ended, it is fed
 /// nothing more.
 #[derive(Drop)]
@@ -83,7 +83,7 @@ impl<'a, L: Lambda> Pipeline<'a, L> {
         false
     }
 
-    /// Feeds one item, and puts what comes out behind `out`. Answers how the run ended, or `None` where more items may
+    /// Feeds one item, and appends the results to `out`. Answers how the run ended, or `None` where more items may
     /// follow.
     ///
     /// # Errors
@@ -105,7 +105,7 @@ impl<'a, L: Lambda> Pipeline<'a, L> {
         feeding::feed(alloc, self.remaining.as_mut_slice(), item, out)
     }
 
-    /// Feeds a block of items, which what comes out takes the place of. Answers how the run ended, or `None` where
+    /// Feeds a block of items, which the results replace. Answers how the run ended, or `None` where
     /// more items may follow.
     ///
     /// # Errors

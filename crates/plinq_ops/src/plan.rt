@@ -7,7 +7,7 @@ use crate::order::Order;
 pub struct Plan<'a, L> {
     /// The operators that a worker applies.
     pub worker: &'a [Op<L>],
-    /// The operators behind them.
+    /// The operators after them.
     pub after: &'a [Op<L>],
     /// In which order the workers' results are merged.
     pub order: Order,

@@ -15,9 +15,9 @@ impl<L> Query<L> {
     /// How the query is shared among workers, who get the longest prefix of operators that they can apply to
     /// elements of their own.
     ///
-    /// These are Select, Where and SelectMany, which look at each element alone; and of a query with `as_ordered`
+    /// These are Select, Where and SelectMany, which look at each element alone. Of a query with `as_ordered` they are also
     /// TakeWhile, since a worker knows the order of its elements, and Take and Skip while no Where or SelectMany
-    /// stands before them, since until then an element's key tells how many stand before it. SkipWhile comes after the
+    /// stands before them. Until then an element's key says how many stand before it. SkipWhile comes after the
     /// merge in any query: the first that fails may be another worker's. Takes no memory.
     ///
     /// ```text

@@ -20,7 +20,7 @@ type Row<'a> = (
     Step<i64>,
 );
 
-/// Asks for this answer, and that the source was asked for no element behind the one that decides it.
+/// Asks for this answer, and that the source was asked for no element after the one that decides it.
 fn answers(rt: &impl Abort, alloc: Global, row: Row<'_>) -> Result<(), Fail> {
     let (list, refusal, ops, items, ending, next) = row;
     let query = ordered(alloc, ops)?;
@@ -32,7 +32,7 @@ fn answers(rt: &impl Abort, alloc: Global, row: Row<'_>) -> Result<(), Fail> {
     Ok(())
 }
 
-/// A source of a list, which refuses behind it where there is a code.
+/// A source of a list, which refuses after it where there is a code.
 fn source_of(
     rt: &impl Abort,
     alloc: Global,
@@ -210,7 +210,7 @@ fn from_the_first_that_fails(rt: HostRuntime) -> Result<(), Fail> {
     let into: &[Op<Formula>] = &[Op::SkipWhile(Formula::Into(6))];
     let rows: [Row<'_>; 6] = [
         (&[1, 2, 9, 3], None, below, &[9, 3], Ending::End, Step::End),
-        // No item behind the first that fails is tested.
+        // No item after the first that fails is tested.
         (&[7, 0], None, into, &[7, 0], Ending::End, Step::End),
         (&[1, 0, 9], None, into, &[], DIVISION, Step::Item(9)),
         (
@@ -248,7 +248,7 @@ fn from_the_first_that_fails(rt: HostRuntime) -> Result<(), Fail> {
     Ok(())
 }
 
-// What stands behind the last element of a Take still has its say on that element.
+// What stands after the last element of a Take still has its say on that element.
 #[test]
 fn behind_a_take(rt: HostRuntime) -> Result<(), Fail> {
     let rows: [Row<'_>; 5] = [

@@ -10,7 +10,7 @@ use std::alloc::Global;
 use std::process::Abort;
 use std::test::Fail;
 
-// Feeds a pipeline a list item by item, and puts what comes out behind `out`.
+// Feeds a pipeline a list item by item, and appends the results to `out`.
 fn feed_items(
     alloc: Global,
     pipeline: &mut Pipeline<'_, Formula>,
@@ -127,7 +127,7 @@ fn items_and_blocks_of_any_size_give_the_same(rt: HostRuntime) -> Result<(), Fai
             &[],
             Some(Ending::Fault(2)),
         ),
-        // The last that is taken still faults, and an earlier ending hides the fault behind it.
+        // The last that is taken still faults, and an earlier ending hides the fault after it.
         (
             &[Op::Select(Formula::Into(42)), Op::Take(2)],
             &[8, 7],
@@ -186,7 +186,7 @@ impl Lambda for Turning {
     }
 }
 
-// as_ordered, take_while, select_many, select; with a Take behind that no worker can apply
+// as_ordered, take_while, select_many, select; with a Take after them that no worker can apply
 fn turned_query(alloc: Global) -> Result<Query<Turning>, Fail> {
     let ops = [
         Op::TakeWhile(Turning),

@@ -5,7 +5,7 @@ use std::alloc::Global;
 use std::process::Abort;
 use std::test::Fail;
 
-/// Asks that a call was refused with this fault, and gives the query that it handed back.
+/// Asks that a call was refused with this fault, and answers the query that it gave back.
 fn refused(rt: &impl Abort, built: Built<Formula>, fault: BuildFault) -> Query<Formula> {
     match built {
         Ok(_) => panic!(rt; "accepted, and not {fault:?}"),

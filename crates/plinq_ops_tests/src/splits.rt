@@ -163,7 +163,7 @@ fn join(
     Ok(given.ending.run_ending())
 }
 
-// The results of a list's chunks, joined up to the first that ends the run: chunks of up to four items, each with a cut
+// The results of a list's chunks, joined up to the first that ends the run. The chunks have up to four items, each with a cut
 // of its own, which is the greatest number or a key whose fragment ends the run.
 fn joined(
     rt: &impl Abort,

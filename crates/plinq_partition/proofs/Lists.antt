@@ -52,7 +52,7 @@ module _ {S T : Type 0} {source : Ghosts S T} where
   pub at-some : (lock : TicketLock (Enumerator S T source) T) (n : ℕ) (o : Option (Token (Enumerator S T source) T)) (q : Token (Enumerator S T source) T) → o ≡ Some q → IsAt lock n o → IsPassAt lock n q
   at-some lock n o q e at = subst (λ x. IsAt lock n x) e at
 
-  -- The records and the origin that a pass has taken in of the partitions behind the rest
+  -- The records and the origin that a pass has taken in of the partitions after the rest
   pub record IsGathered (ps rest : List (Partition S T source)) (q : Token (Enumerator S T source) T) : Type 0 where
     pub shares : all_shares rest ++ pass_share q ≡ all_shares ps
     pub origin : first_origin (pass_origin q) rest ≡ common_origin ps

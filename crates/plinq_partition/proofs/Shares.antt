@@ -1,4 +1,4 @@
--- A share that stands in a legal history: its keys rise, and a record that comes behind the history is above them.
+-- A share that stands in a legal history: its keys rise, and a record that comes after the history is above them.
 use Rattle.std.proofs.Common.{◌≡◌, ℕ, zero, suc, ◌+◌, ◌-◌, ◌≤◌, true, cond, leb, List, [], ◌∷◌, ◌++◌, length, drop, refl, sym, ap, ◌∙◌, arith, length-drop}
 use Rattle.std.specs.List.{range_with_len}
 use Rattle.std.proofs.lemmas.Bool.{and_parts, and_from, leb-true, le-leb}
@@ -36,7 +36,7 @@ place_after-grows t p (r ∷ h) =
     let rest = place_after-grows t (place_behind t p r.asked) h in
     omega arith
 
--- no record of a run ends above the place behind it
+-- no record of a run ends above the place after it
 run-ends : {T : Type 0} (t : Trace T) (p : Place) (h : List Record) (g : ℕ) → is_run t p h ≡ true → (place_after t p h).given ≤ g → total (late g) h ≡ 0
 run-ends t p [] g run within = refl
 run-ends t p (r ∷ h) g run within =
@@ -50,7 +50,7 @@ run-ends t p (r ∷ h) g run within =
     let rest = run-ends t (place_behind t p r.asked) h g parts.1 within in
     omega arith
 
--- behind a share that ends by a key, a record that begins there is above it
+-- after a share that ends by a key, a record that begins there is above it
 rises-behind : (least g : ℕ) (share : List Record) (r : Record) → keys_rise_from least share ≡ true → total (late g) share ≡ 0 → least ≤ g → r.first ≡ g → keys_rise_from least (share ++ r ∷ []) ≡ true
 rises-behind least g [] r rising ends below at = and_from _ _ (le-leb least r.first (omega arith)) refl
 rises-behind least g (x ∷ share) r rising ends below at =
@@ -59,7 +59,7 @@ rises-behind least g (x ∷ share) r rising ends below at =
     let rest : total (late g) share ≡ 0 = omega arith in
     and_from _ _ parts.0 (rises-behind (x.first + x.count) g share r parts.1 rest (late-none g x first) at)
 
--- a share stays one whose keys rise, with a record that comes behind the whole history
+-- a share stays one whose keys rise, with a record that comes after the whole history
 pub rises-next : {T : Type 0} (t : Trace T) (h share : List Record) (ticket : ℕ) (e : Event) → IsLegalHistory t h → Contains h share → keys_rise_from 0 share ≡ true → keys_rise_from 0 (share ++ next_record t h ticket e ∷ []) ≡ true
 rises-next t h share ticket e legal contains rising =
     let run = and_parts (is_run t start h) _ legal in

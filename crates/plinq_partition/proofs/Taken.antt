@@ -16,13 +16,13 @@ use Rattle.plinq_partition.specs.Inside.{IsInside}
 use Rattle.plinq_partition.specs.Shares.{keys_rise_from}
 use Rattle.plinq_partition.proofs.Shares.{rises-next}
 
--- the share after a request: what came behind the history came behind the share
+-- the share after a request: what came after the history came after the share
 next-share : {T : Type 0} (t : Trace T) (h found new share : List Record) (ticket : ℕ) (e : Event) → new ≡ with_next t h ticket e → h ≡ found → share ++ added found new ≡ share ++ next_record t h ticket e ∷ []
 next-share t h found new share ticket e recorded same =
     ap (λ rs. share ++ rs) (ap (λ rs. added rs new) (sym same) ∙ ap (λ rs. added h rs) recorded ∙ added-append h (next_record t h ticket e ∷ []))
 
 module _ {S T : Type 0} {source : Ghosts S T} where
-  -- What is known of the enumerator inside, before a request, and of the share behind it
+  -- What is known of the enumerator inside, before a request, and of the share after it
   pub record Recorded (held : Entry (Enumerator S T source) T) (value : Enumerator S T source) (ticket : ℕ) (e : Event) (after : List Record) : Type 0 where
     pub origin : source.whole (held_source value) ≡ held_origin held
     pub legal : IsLegalHistory (source.whole (held_source value)) (held_records value)

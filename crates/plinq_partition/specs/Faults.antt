@@ -1,4 +1,4 @@
--- A lock's faults, as a partition tells them.
+-- A lock's faults, as a partition reports them.
 use Rattle.std.specs.Prelude.{◌≡◌, refl}
 use Rattle.plinq_ticket.specs.declared.lock_fault.LockFault.{LockFault}
 use Rattle.plinq_ticket.specs.declared.lock_fault.LockFault.TheVariants.{Spent, Busy, Incomplete, Memory, Away}

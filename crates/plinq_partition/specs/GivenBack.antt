@@ -13,7 +13,7 @@ use Rattle.plinq_partition.specs.declared.take_fault.TakeFault.{TakeFault}
 use Rattle.plinq_partition.specs.Faults.{take_fault_of}
 use Rattle.plinq_partition.specs.Partitions.{holding_of, all_shares}
 
--- the lock's answer, as it is told
+-- the lock's answer, as it is reported
 abbrev pub told : {V : Type 0} → Result V (Option V × LockFault) → Result V (Option V × TakeFault)
 told (Ok value) = Ok value
 told (Err refused) = Err (refused.0, take_fault_of refused.1)
@@ -28,7 +28,7 @@ module _ {S T : Type 0} {source : Ghosts S T} where
   abbrev pub common_origin : List (Partition S T source) → Trace T
   common_origin ps = first_origin (open_trace []) ps
 
-  -- The lock was taken apart with all their records: the enumerator is told whole exactly where these are all it has
+  -- The lock was taken apart with all their records: the enumerator is reported whole exactly where these are all it has
   pub record IsGivenBack (ps : List (Partition S T source)) (result : Result (Enumerator S T source) (Option (Enumerator S T source) × TakeFault)) : Type 0 where
     pub pass : Token (Enumerator S T source) T
     pub origin : pass_origin pass ≡ common_origin ps

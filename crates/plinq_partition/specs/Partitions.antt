@@ -24,7 +24,7 @@ pub record Holding (T : Type 0) : Type 0 where
   pub share : List Record
   pub requests : ℕ
 
--- one record came behind a share: it tells what the source replies at the place where the enumerator stood
+-- one record came after a share: it says what the source replies at the place where the enumerator stood
 pub record Adds {T : Type 0} (a b : Holding T) (asked : Event) (entry : Record) : Type 0 where
   pub origin : b.origin ≡ a.origin
   pub share : b.share ≡ a.share ++ entry ∷ []
@@ -33,8 +33,8 @@ pub record Adds {T : Type 0} (a b : Holding T) (asked : Event) (entry : Record) 
   pub replied : entry ≡ recorded entry.ticket entry.asked (reply a.origin place entry.asked)
 
 -- A chunk was taken: it is that of one record more, which asked for as many items as the growth says. So the records of a
--- partition that has only taken ask for chunks number 0, 1, 2 and so on of the growth, and where its caller takes no more
--- behind a tail, the last record alone has one.
+-- partition that has only taken ask for chunks number 0, 1, 2 and so on of the growth. Where its caller takes no more
+-- after a tail, the last record alone has one.
 pub record IsTaken {T : Type 0} (growth : GrowthRule) (a b : Holding T) (chunk : Chunk T) : Type 0 where
   pub entry : Record
   pub adds : Adds a b (Ask (size_at growth a.requests)) entry
@@ -66,7 +66,7 @@ module _ {S T : Type 0} {source : Ghosts S T} where
   abbrev pub growth_of : Chunked S T source → GrowthRule
   growth_of chunked = chunked.growth
 
-  -- a fault is told only for its cause, which the partition has now seen
+  -- a fault is reported only for its cause, which the partition has now seen
   abbrev pub IsCauseOf : Partition S T source → TakeFault → Type 0
   IsCauseOf q Memory = ⊤
   IsCauseOf q Spent = (drawn_at q.pass ≡ 2 ^ 62) ⊎ (served_at q.pass ≡ 2 ^ 62)
@@ -96,7 +96,7 @@ module _ {S T : Type 0} {source : Ghosts S T} where
   all_shares [] = []
   all_shares (p ∷ ps) = share_at p.pass ++ all_shares ps
 
-  -- the elements that each of several partitions was handed
+  -- the elements that each of several partitions got
   abbrev pub lists_of : Trace T → List (Partition S T source) → List (List (Keyed T))
   lists_of t ps = map (λ p. handed_out t (share_at p.pass)) ps
 
@@ -105,7 +105,7 @@ module _ {S T : Type 0} {source : Ghosts S T} where
   KeepsPromise promised = (c : Chunked S T source) (ps : List (Partition S T source)) (t : Trace T)
       → All (IsPartitionOf c) ps → IsLegalHistory t (in_ticket_order (all_shares ps)) → Keeps (promised c) (lists_of t ps)
 
--- those that may wait are never told that others came before
+-- those that may wait are never answered that others came before
 abbrev pub IsNotBusy : TakeFault → Type 0
 IsNotBusy Memory = ⊤
 IsNotBusy Spent = ⊤

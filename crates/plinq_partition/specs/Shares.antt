@@ -1,4 +1,4 @@
--- What a partition has: its records, and the keys that they say it was handed.
+-- What a partition has: its records, and the keys that they say it got.
 use Rattle.std.specs.Prelude.{◌≡◌, ℕ, ◌+◌, ◌≤◌, ◌&&◌, nat_le, List, [], ◌∷◌, Bool, true, false, Option, Some, None, refl}
 use Rattle.plinq_source.specs.Trace.{Trace, open_trace}
 use Rattle.plinq_keyed.specs.declared.event.Event.TheVariants.{Ask}
@@ -7,7 +7,7 @@ use Rattle.plinq_ticket.specs.declared.pass.Token.{Token}
 use Rattle.plinq_ticket.specs.declared.ticket_lock.TicketLock.{TicketLock}
 use Rattle.plinq_ticket.specs.Passes.{IsPassOf, pass_origin, pass_share, pass_drawn, pass_served}
 
--- records one behind another, each of which begins where the one before it ended, or above
+-- records one after another, each of which begins where the one before it ended, or above
 abbrev pub keys_rise_from : ℕ → List Record → Bool
 keys_rise_from least [] = true
 keys_rise_from least (r ∷ rs) = nat_le least r.first && keys_rise_from (r.first + r.count) rs

@@ -10,14 +10,14 @@ use crate::chunked::Chunked;
 use crate::partitioner::OrderablePartitioner;
 use plinq_source::Source;
 
-/// The keys that a partition was handed rise.
+/// The keys that a partition was given rise.
 ///
 /// This function does nothing: it is there for the law in its contract.
 pub fn keys_of_a_partition_rise<T>()
     ensures { (t : Trace T) (share : List Record) → keys_rise_from 0 share ≡ true → ordered_in_each (keys (handed_out t share) ∷ []) ≡ true }
 {}
 
-/// What all partitions together were handed has the keys 0, 1, 2 and so on, each once.
+/// What all partitions together were given has the keys 0, 1, 2 and so on, each once.
 ///
 /// This function does nothing: it is there for the law in its contract.
 pub fn keys_of_all_partitions_are_normalized<T>()
@@ -25,7 +25,7 @@ pub fn keys_of_all_partitions_are_normalized<T>()
 {}
 
 /// What a chunked source promises of its partitions' keys, these have: the keys of each rise, and all together are 0, 1, 2
-/// and so on, each once. That their records together are a legal history is what `Chunked::give_back` and `records` tell.
+/// and so on, each once. That their records together are a legal history is what `Chunked::give_back` and `records` say.
 ///
 /// This function does nothing: it is there for the law in its contract.
 pub fn chunked_keeps_its_promise<S: Source>()

@@ -2,7 +2,7 @@
 //!
 //! - [`RangeParts`] and [`PairParts`] cut a list into a given number of partitions that differ by one element at most.
 //! - [`Chunked`] hands a source out in chunks to partitions that are made on demand, from several threads. A chunk that
-//!   [`Partition::take`] answers is that of the one record that it adds to the partition's share (`IsTaken`), and the
+//!   [`Partition::take`] answers is that of the one record that it adds to the partition's share (`IsTaken`). The
 //!   shares of all partitions are the history of the enumerator, which `Chunked::give_back` hands back (`IsGivenBack`).
 //! - What an [`OrderablePartitioner`] calls true in `properties`, its partitions have: static ones by `partitions`,
 //!   dynamic ones by `chunked_keeps_its_promise`.

@@ -28,7 +28,7 @@ impl<S: Source> Partition<S> {
     /// # Errors
     ///
     /// [`TakeFault::Spent`] where all tickets were drawn, else [`TakeFault::Memory`] where there is no room for the
-    /// chunk, or else for its record. The partition is as it was, and the source wasn't asked; but a refusal for want of
+    /// chunk, or else for its record. The partition is as it was, and the source wasn't asked; but a refusal for lack of
     /// memory uses up a ticket, since it comes from inside the lock.
     pub fn take<R: Wait>(
         &mut self,
@@ -112,7 +112,7 @@ impl<S: Source> Partition<S> {
         }
     }
 
-    // The pass comes back, and the lock's fault is told.
+    // The pass comes back, and the lock's fault is reported.
     fn have_back(&mut self, refusal: (Pass<Enumerator<S>>, LockFault)) -> TakeFault
         ensures pass { self.new.pass ≡ Some refusal.0 }
         ensures requests { self.new.requests ≡ self.old.requests }

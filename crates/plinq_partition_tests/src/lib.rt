@@ -1,4 +1,4 @@
-//! The tests of `plinq_partition`: worked cuts and chunks, many threads that take from one source, what is told where
+//! The tests of `plinq_partition`: worked cuts and chunks, many threads that take from one source, what is reported where
 //! nothing is given, and texts.
 //!
 //! They stand in a crate of their own, since a crate with tests is proved twice.

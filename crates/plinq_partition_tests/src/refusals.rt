@@ -1,4 +1,4 @@
-//! What a partition is told where it is given nothing.
+//! What is reported to a partition where it is given nothing.
 ghost use Rattle.std.specs.Prelude.{◌≡◌, ◌≤◌, ◌^◌, All, length, IfOk};
 ghost use Rattle.plinq_partition.specs.Partitions.{IsPartitionOf};
 
@@ -54,7 +54,7 @@ pub(crate) fn expect_fault<T: Drop>(rt: &impl Abort, told: Result<T, TakeFault>,
     assert_eq!(rt; told, fault);
 }
 
-// A refusal is for want of memory, and the partition's count is as before.
+// A refusal is where memory runs out, and the partition's count is as before.
 fn expect_refusal(rt: &impl Abort, fault: TakeFault, requests: u64, before: u64) {
     assert_eq!(rt; (fault, requests), (TakeFault::Memory, before));
 }
@@ -181,7 +181,7 @@ fn expect_last(rt: &impl Abort, records: &[Record], count: usize, ticket: u64) {
     assert_eq!(rt; (records.len(), last), (count, Some(ticket)));
 }
 
-// A first chunk is refused for want of room for its items, or for its record. Run with each allocation failing in turn.
+// A first chunk is refused for lack of room for its items, or for its record. Run with each allocation failing in turn.
 #[test]
 fn a_refused_first_chunk_uses_up_a_ticket(rt: HostRuntime) {
     let Ok((chunked, mut partition)) = numbers(rt.alloc(), 5, 2) else {
@@ -308,7 +308,7 @@ fn a_refused_start_at_a_ticket_is_memory(rt: HostRuntime) {
     }
 }
 
-// Asks that a fault of the lock is told as this one.
+// Asks that a fault of the lock is reported as this one.
 fn expect_told(rt: &impl Abort, said: LockFault, fault: TakeFault) {
     assert_eq!(rt; TakeFault::from(said), fault);
 }

@@ -1,4 +1,4 @@
--- A run whose batches are folded one after another tells the fold of its answer's items.
+-- A run whose batches are folded one after another reports the fold of its answer's items.
 use Rattle.std.specs.Prelude.{◌≡◌, ℕ, ◌+◌, List, [], ◌∷◌, ◌++◌, length, Option, Some, None, Result, Ok, Err, refl, cond, ⊤}
 use Rattle.std.specs.List.{fold}
 use Rattle.std.proofs.Common.{sym, ◌∙◌, ap, subst, append-nil, append_assoc, true, false}
@@ -93,7 +93,7 @@ module _ {K T A O : Type 0} (folding : K → Folding T A O) (acc : K → Option 
   refused-none option u s s' Incomplete h = refl
   refused-none option u s s' Cancelled h = absurd h
 
-  -- what such a sink tells is the aggregate of the run's answer
+  -- what such a sink reports is the aggregate of the run's answer
   aggregate_of-run : (option : MergeOption) (u : Trace T) (s s' : K) (r : Result Ending RunFault) → acc s ≡ None → Runs Takes Refuses option u s s' r
       → Aggregates (folding s) u (aggregate_of (folding s') (acc s') r)
   aggregate_of-run option u s s' (Ok End) none h = (told-run option u s s' none h, h.ending)

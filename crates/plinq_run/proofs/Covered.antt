@@ -27,7 +27,7 @@ use Rattle.plinq_run.specs.Reaching.{IsOffered, Covers}
 use Rattle.plinq_crew.specs.Results.{IsResult}
 
 module _ {L T : Type 0} (meaning : L → Meaning T) (worker : List (Op L)) where
-  -- a cut of a source is one of its first items, or behind them
+  -- a cut of a source is one of its first items, or after them
   cut-first : (xs ys : List T) (cut : ℕ) → is_cut meaning worker (xs ++ ys) cut ≡ true → (is_cut meaning worker xs cut ≡ true) ⊎ (length xs ≤ cut)
   cut-first xs ys cut is =
       elim (or_cases (cut == no_cut) (is_among (enders meaning worker 0 (xs ++ ys)) cut) is) [
@@ -43,7 +43,7 @@ module _ {L T : Type 0} (meaning : L → Meaning T) (worker : List (Op L)) where
             ]
       ]
 
-  -- a cut behind a chunk cuts nothing off
+  -- a cut after a chunk cuts nothing off
   result-uncut : (cut : ℕ) (chunk : Chunk T) (r : ChunkResult T) → chunk.first + length chunk.items.items ≤ cut → chunk.first + length chunk.items.items ≤ 2 ^ 40
       → IsChunkResult meaning worker cut chunk r → IsChunkResult meaning worker no_cut chunk r
   result-uncut cut chunk r above few made =
@@ -85,7 +85,7 @@ module _ {L T : Type 0} (meaning : L → Meaning T) (worker : List (Op L)) where
         )
       ]
 
-  -- a tail that tells the source's end tells that of its first items, which are all then
+  -- a tail that gives the source's end gives that of its first items, which are all then
   told-first : (t first : Trace T) (key : ℕ) (tail : Option Tail) → length first.items ≤ length t.items → key ≤ length first.items → (is_end tail ≡ true → first.ending ≡ t.ending)
       → IfSome (told_at key tail) (EndsAt t) → IfSome (told_at key tail) (EndsAt first)
   told-first t first key None less within told at = tt

@@ -122,14 +122,14 @@ module _ {L T K : Type 0} {lambda : Ghosts L T} (t : Trace T) (accepts : K → L
   ended-run plan option s m reach fault s' (Err f) undecided h none ends is_reach told =
       broken-run lambda.meaning plan option undecided t few accepts refuses reach s m fault s' f h told
 
--- what holds of the partitions with which it is told
+-- what holds of the partitions with which it is reported
 pub back-as : {X S U : Type 0} {source : SourceGhosts S U} (partitions_of : X → Vec (Partition S U source) Global) (P : Vec (Partition S U source) Global → Type 0) (partitions : Vec (Partition S U source) Global) (result : Result X RunFault)
     → IfOk result (λ x. partitions_of x ≡ partitions) → P partitions → IfOk result (λ x. P (partitions_of x))
 back-as partitions_of P partitions (Ok x) is p = subst P (sym is) p
 back-as partitions_of P partitions (Err f) is p = tt
 
 module _ {K T : Type 0} (accepts : K → List T → K → Type 0) (refuses : K → List T → ℕ → K → Type 0) (option : MergeOption) (May : Trace T → Trace T → Type 0) (t : Trace T) (s s' : K) where
-  -- the report of a run tells of the same answer, which its records account for
+  -- the report of a run is of the same answer, which its records account for
   pub ends-reported : {S U : Type 0} {source : SourceGhosts S U} (a : Result (Ended S U source) RunFault) (b : Result Report RunFault) → Ends accepts refuses option May t s s' a → IsReportOf (ending_in a) (reported b)
       → IfOk b (λ r. IsLegalHistory t r.records.items) → IfOk a (λ e. IfOk b (λ r. accounts_for e.reach r.records.items ≡ true)) → Reports accepts refuses option May t s s' b
   ends-reported (Ok e) (Ok r) h is legal all =

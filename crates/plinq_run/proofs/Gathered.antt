@@ -19,7 +19,7 @@ use Rattle.plinq_run.specs.Runs.{Other, cause_in_merge}
 use Rattle.plinq_run.proofs.Merged.{are-more, apart-more}
 
 module _ {F T A O : Type 0} (f : Folding T A O) where
-  -- what is offered to it comes behind the rest, unless the answer was decided before
+  -- what is offered to it comes after the rest, unless the answer was decided before
   takes-one : (w : Combining F A) (standing : Standing) (c : ChunkResult A) (more : More) (w' : Combining F A) (standing' : Standing) (offers : List (ChunkResult A))
       → StandsFor f w standing offers → AnswersOffer f w standing c (Ok more) w' standing'
       → (offers' : List (ChunkResult A)) × AreOneMore offers c offers' × StandsFor f w' standing' offers'

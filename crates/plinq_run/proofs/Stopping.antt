@@ -1,4 +1,4 @@
--- A run into a sink with its token, in the words of the token and the sink.
+-- A run into a sink with its token, in terms of the token and the sink.
 use Rattle.std.specs.Prelude.{◌≡◌, ℕ, List, [], ◌∷◌, Bool, true, false, ◌||◌, Result, Ok, Err, refl}
 use Rattle.std.proofs.Common.{sym, ◌∙◌, subst, append-nil}
 use Rattle.plinq_source.specs.Trace.{Trace}

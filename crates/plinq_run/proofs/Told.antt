@@ -1,4 +1,4 @@
--- Where a run tells no fault, all that its workers were to send was received.
+-- Where a run reports no fault, all that its workers were to send was received.
 use Rattle.std.proofs.Common.{◌≡◌, ◌||◌, ℕ, List, [], drop, Option, Some, None, is_some, true, false, true≢false, All, Result, Ok, Err, IfOk, OnOk, Vec, not, Bool, refl, sym, ap, subst}
 use Rattle.std.proofs.lemmas.List.Elements.{All-weaker}
 use Rattle.std.specs.Prelude.{◌==◌}
@@ -51,7 +51,7 @@ none-noted fault short staff is =
     let tickets = none-told short.tickets Tickets (none-before _ _ behind-thread) in
     or-none short.memory short.tickets (or-right (is_out_of_memory fault) short.memory memory) tickets
 
--- of what is told with these partitions: a pass of the stream has received all that was sent; and what else is known of it
+-- of what is reported with these partitions: a pass of the stream has received all that was sent; and what else is known of it
 pub told-all : {X S T M : Type 0} {source : SourceGhosts S T} (IsOf : StreamPass (ChunkResult M) → Type 0) (partitions_of : X → Vec (Partition S T source) Global) (Else : X → Known (ChunkResult M) → Type 0)
     (a : Known (ChunkResult M)) (b : StreamPass (ChunkResult M)) (short : Shortages) (fault : Option MergeFault) (staff : Staff) (partitions : Vec (Partition S T source) Global) (r : Result X RunFault)
     → IsOf b → (known b).sent ≡ a.sent → (known b).numbers ≡ a.numbers → OnOk r (first_told fault short staff ≡ None) → IfOk r (λ x. partitions_of x ≡ partitions)
@@ -67,7 +67,7 @@ told-all IsOf partitions_of Else a b short fault staff partitions (Ok x) of sent
 )
 told-all IsOf partitions_of Else a b short fault staff partitions (Err told) of sent numbers none same all answered also = tt
 
--- what was received was offered, where it is told how the answer ended
+-- what was received was offered, where it is reported how the answer ended
 pub told-offered : {X L K T : Type 0} {lambda : Ghosts L T} (accepts : K → List T → K → Type 0) (refuses : K → List T → ℕ → K → Type 0) (merge : Merge T) (received : List (Sent (ChunkResult T))) (s s' : K) (ending_of : X → Ending)
     (first last : Merger L T lambda) (fault : Option MergeFault) (is_closed : Bool) (r : Result X RunFault)
     → plan_of first ≡ merge → IsFor first [] → OnOk r (fault ≡ None)

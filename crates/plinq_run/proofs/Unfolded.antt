@@ -1,4 +1,4 @@
--- A run of folds tells what folding its results' answer would: behind the folds that came stand the results that they are of.
+-- A run of folds reports what folding its results' answer would: behind the folds that came stand the results that they are of.
 use Rattle.std.specs.Prelude.{◌≡◌, ⊤, ℕ, ◌≤◌, ◌^◌, List, [], ◌∷◌, length, ◌||◌, Option, Some, None, Result, Ok, Err, All, IfOk, IfErr, OnOk, refl}
 use Rattle.std.proofs.Common.{sym, ◌∙◌, ap, subst}
 use Rattle.std.proofs.lemmas.List.Elements.{All-cons, All-head, All-tail, All-nil, All-weaker}
@@ -71,7 +71,7 @@ module _ {L T A O : Type 0} (f : Folding T A O) (meaning : L → Meaning T) (pla
       let more = unfolded cs (All-tail IsFolded c cs are) in
       record { results = one.result ∷ more.results; are = All-cons (IsResult meaning plan t) one.result more.results one.is more.are; folds = (one.made, more.folds) }
 
-  -- what a finished combiner tells is so of an answer that the plan may have, where nothing stands behind the merge
+  -- what a finished combiner reports is so of an answer that the plan may have, where nothing stands after the merge
   finished-answer : (made : Combined A) → length t.items ≤ 2 ^ 40 → IsUndecided plan → plan.after.now ≡ [] → (cs : List (ChunkResult A)) → All IsFolded cs → AreApart cs
       → ((results : List (ChunkResult T)) → AreFoldsOf f results cs → HasFinished f (merged plan.order results) made)
       → (u : Trace T) × MayMerge meaning plan t u × HasFinished f u made
@@ -84,7 +84,7 @@ module _ {L T A O : Type 0} (f : Folding T A O) (meaning : L → Meaning T) (pla
       let fin : HasFinished f u made = subst (λ x. HasFinished f x made) (sym same) (finishes un.results un.folds) in
       (u, ended-answer meaning plan FullyBuffered undecided t un.results made.ending few un.are (folds-apart f un.results cs un.folds apart) fin.ending, fin)
 
-  -- what a run of folds tells, whose combiner is for this folding and order
+  -- what a run of folds reports, whose combiner is for this folding and order
   pub gathered-run : {F : Type 0} {aggregator : Ghosts F T A O} (IsSent : ChunkResult A → Type 0) (c : Combiner F T A O aggregator) (fault : Option MergeFault) (told : Result (Combined A) RunFault)
       (g : Folding T A O) (order : Order) → g ≡ f → order ≡ plan.order
       → length t.items ≤ 2 ^ 40 → IsUndecided plan → plan.after.now ≡ [] → ((x : ChunkResult A) → IsSent x → IsFolded x) → Gathers IsSent c fault
@@ -102,7 +102,7 @@ module _ {L T A O : Type 0} (f : Folding T A O) (meaning : L → Meaning T) (pla
   gathered-run IsSent c (Some fault) (Err x) g order same_f same_order few undecided alone sent h none finishes same = same ∙ h
 
 module _ {T A O : Type 0} (f : Folding T A O) where
-  -- the accumulator doesn't depend on what is told of it
+  -- the accumulator doesn't depend on what is reported of it
   pub folds-told : (IsAnswer : Trace T → Type 0) (r : Result (Combined A) RunFault) → FoldsSome (untold f) IsAnswer r → FoldsSome f IsAnswer r
   folds-told IsAnswer (Ok made) h = (h.0, h.1, record { ending = h.2.ending; acc = h.2.acc })
   folds-told IsAnswer (Err fault) h = h

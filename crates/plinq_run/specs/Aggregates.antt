@@ -1,4 +1,4 @@
--- What an aggregate tells, and what a sink that folds has.
+-- What an aggregate reports, and what a sink that folds has.
 use Rattle.std.specs.Prelude.{◌≡◌, ◌≢◌, List, Option, Some, None, Result, Ok, Err}
 use Rattle.std.specs.List.{fold}
 use Rattle.plinq_source.specs.declared.ending.Ending.{Ending}
@@ -10,7 +10,7 @@ use Rattle.plinq_run.specs.declared.aggregate_fault.AggregateFault.TheVariants.{
 use Rattle.plinq_run.specs.declared.run_fault.RunFault.{RunFault}
 use Rattle.plinq_run.specs.Runs.{Other, cause_of}
 
--- an aggregate tells the value of this answer's items, which ended well; or how the answer ended, which isn't well; or why
+-- an aggregate reports the value of this answer's items, which ended well; or how the answer ended, which isn't well; or why
 -- there is none, which is never since a sink refused
 abbrev pub Aggregates : {T A O : Type 0} → Folding T A O → Trace T → Result O AggregateFault → Type 0
 Aggregates f u (Ok out) = (out ≡ aggregated f u.items) × (u.ending ≡ Some End)
@@ -30,13 +30,13 @@ so_far f (Some acc) = acc
 abbrev pub TakesIn : {T A O : Type 0} → Folding T A O → Option A → List T → Folding T A O → Option A → Type 0
 TakesIn f acc b f' acc' = (f' ≡ f) × (so_far f' acc' ≡ fold f.update (so_far f acc) b)
 
--- what is told of an accumulator whose items' answer ended so
+-- what is reported of an accumulator whose items' answer ended so
 abbrev pub value_at : {T A O : Type 0} → Folding T A O → A → Ending → Result O AggregateFault
 value_at f acc End = Ok (f.tell acc)
 value_at f acc (Refused code) = Err (Ended (Refused code))
 value_at f acc (Fault code) = Err (Ended (Fault code))
 
--- what is told where this was taken in and the run ended so
+-- what is reported where this was taken in and the run ended so
 abbrev pub aggregate_of : {T A O : Type 0} → Folding T A O → Option A → Result Ending RunFault → Result O AggregateFault
 aggregate_of f acc (Ok e) = value_at f (so_far f acc) e
 aggregate_of f acc (Err fault) = Err (Run fault)

@@ -1,4 +1,4 @@
--- Which fault a run tells where it has several.
+-- Which fault a run reports where it has several.
 use Rattle.std.specs.Prelude.{◌≡◌, refl, Bool, true, false, not, ◌==◌, ◌||◌, if◌then◌else◌, Option, Some, None}
 use Rattle.std.specs.Option.{option_or}
 use Rattle.plinq_merge.specs.declared.merge_fault.MergeFault.{MergeFault}

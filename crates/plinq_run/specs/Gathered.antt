@@ -1,4 +1,4 @@
--- What the caller's thread has combined so far of the folds that workers send, and what it tells of them.
+-- What the caller's thread has combined so far of the folds that workers send, and what it reports of them.
 use Rattle.std.specs.Prelude.{◌≡◌, ℕ, Bool, List, [], Option, Some, None, Result, Ok, Err, All}
 use Rattle.plinq_source.specs.Trace.{Trace}
 use Rattle.plinq_source.specs.declared.source.Source.{Ghosts}
@@ -53,7 +53,7 @@ module _ {F T A O : Type 0} {aggregator : AggregatorGhosts F T A O} where
   abbrev pub GathersEach : Combiner F T A O aggregator × Option MergeFault → Sent (ChunkResult A) → Combiner F T A O aggregator × Option MergeFault → Type 0
   GathersEach x sent y = IsGatheredUnless x.0 x.1 sent.item y
 
--- the same folding, of which nothing is told
+-- the same folding, of which nothing is reported
 abbrev pub untold : {T A O : Type 0} → Folding T A O → Folding T A (Unit {0})
 untold f = record { seed = f.seed; update = f.update; combine = f.combine; tell = λ _. tt }
 
@@ -67,19 +67,19 @@ module _ {T A O : Type 0} (f : Folding T A O) where
     pub ending : u.ending ≡ Some made.ending
     pub acc : made.acc ≡ folded f u.items
 
-  -- the accumulator of one of these answers was told, and how it ended; or why there is none, which is never since a sink refused
+  -- the accumulator of one of these answers was reported, and how it ended; or why there is none, never since a sink refused
   abbrev pub FoldsSome : (Trace T → Type 0) → Result (Combined A) RunFault → Type 0
   FoldsSome IsAnswer (Ok made) = (u : Trace T) × IsAnswer u × HasFinished u made
   FoldsSome IsAnswer (Err fault) = cause_of fault ≡ Other
 
--- the caller's thread may start a crew's workers, which send folds, and there are no operators behind the merge
+-- the caller's thread may start a crew's workers, which send folds, and there are no operators after the merge
 pub record IsReadyToFold {L S J P T M O : Type 0} {source : Ghosts S T} (meaning : L → Meaning T) (makes : P → ChunkResult T → ChunkResult M → Type 0) (folding : P → Folding T M O)
     (MaySend : ChunkResult M → Type 0) (is_ender : ℕ → Bool) (crew : Crew L S J P T T M source) (own : Equipment S M T source) : Type 0 where
   pub ready : IsReady meaning makes MaySend is_ender crew own
   pub folds : (r : ChunkResult T) (c : ChunkResult M) → makes crew.post.now r c → IsFoldOf (folding crew.post.now) r c
   pub alone : crew.plan.now.after.now ≡ []
 
--- what is told of a combined answer
+-- what is reported of a combined answer
 abbrev pub value_of : {T A O : Type 0} → Folding T A O → Result (Combined A) RunFault → Result O AggregateFault
 value_of f (Ok made) = value_at f made.acc made.ending
 value_of f (Err fault) = Err (Run fault)

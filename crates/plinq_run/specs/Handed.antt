@@ -10,7 +10,7 @@ use Rattle.plinq_keyed.specs.declared.tail.Tail.{Tail}
 use Rattle.plinq_keyed.specs.declared.tail.Tail.TheVariants.{Ended, Refused, Closed}
 use Rattle.plinq_keyed.specs.History.{handed_out}
 
--- whether a tail tells how the source ended
+-- whether a tail says how the source ended
 abbrev pub is_end : Option Tail → Bool
 is_end None = false
 is_end (Some Ended) = true
@@ -21,7 +21,7 @@ abbrev pub is_close : Event → Bool
 is_close (Ask n) = false
 is_close Close = true
 
--- whether some record tells how the source ended
+-- whether some record says how the source ended
 abbrev pub tells_end : List Record → Bool
 tells_end h = list_any (λ r. is_end r.tail) h
 
@@ -29,11 +29,11 @@ tells_end h = list_any (λ r. is_end r.tail) h
 abbrev pub has_close : List Record → Bool
 has_close h = list_any (λ r. is_close r.asked) h
 
--- whether some record's keys end there or behind
+-- whether some record's keys end there or later
 abbrev pub hands_out_to : ℕ → List Record → Bool
 hands_out_to behind h = behind == 0 || list_any (λ r. nat_le behind (r.first + r.count)) h
 
--- the items that records hand out, with the source's ending where one of them tells it
+-- the items that records hand out, with the source's ending where one of them gives it
 abbrev pub handed_trace : {T : Type 0} → Trace T → List Record → Trace T
 handed_trace t h = record { items = map (λ x. x.value) (handed_out t h); ending = if tells_end h then t.ending else None }
 

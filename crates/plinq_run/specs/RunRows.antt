@@ -103,7 +103,7 @@ no_records records are report =
 first_two_cover : Covers {T = ℕ} (ended (3 ∷ 1 ∷ 4 ∷ []) End) (record { behind = 2; is_told = false }) (open_trace (3 ∷ 1 ∷ []))
 first_two_cover = record { items = refl; within = omega arith; behind = omega arith; told = λ told. absurd (cc) }
 
--- where the end was told, they don't
+-- where the end was reported, they don't
 end_isnt_covered : Covers {T = ℕ} (ended (3 ∷ 1 ∷ []) End) (record { behind = 2; is_told = true }) (open_trace (3 ∷ 1 ∷ [])) → ⊥
 end_isnt_covered covers = let same = covers.told refl in absurd (cc)
 

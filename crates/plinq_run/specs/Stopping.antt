@@ -19,7 +19,7 @@ is_stopped (Err fault) = false
 
 module _ {C K T : Type 0} (asks : C → ℕ → Bool → C → Type 0) (accepts : K → List T → K → Type 0) (refuses : K → List T → ℕ → K → Type 0) (option : MergeOption) where
   module _ (May : Trace T → Trace T → Type 0) (t : Trace T) (d d' : Delivery C K) where
-    -- an answer was delivered, and then the token let its ending be told
+    -- an answer was delivered, and then the token let its ending be reported
     pub record HasReportedWith (report : Report) : Type 0 where
       pub last : Delivery C K
       pub reported : HasReported (Passes asks accepts) (IsRefused asks refuses) option May t d last report

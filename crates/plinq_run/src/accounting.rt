@@ -6,7 +6,7 @@ ghost use Rattle.plinq_run.specs.Reaching.{accounts_for};
 use crate::reach::{Reach, tells_end};
 use plinq_keyed::{Event, Record};
 
-/// Whether some record tells the source's end.
+/// Whether some record gives the source's end.
 fn end_is_told(records: &[Record]) -> bool
     ensures { result ≡ tells_end records.now }
 {

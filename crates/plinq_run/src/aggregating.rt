@@ -24,15 +24,15 @@ use std::thread::Threads;
 /// The aggregate of a query's answer (.NET's `Aggregate` with a seed, an update, a combine and a result selector).
 ///
 /// As many workers as the query's degree take chunks that grow so. Where all operators are the workers' own, each of them
-/// folds its chunks' results from the seed, and the caller's thread combines the accumulators: by key, or without
-/// `as_ordered` as they come. Where operators stand behind the merge, it folds the batches that leave these as they come.
+/// folds its chunks' results from the seed. The caller's thread combines the accumulators: by key, or without
+/// `as_ordered` as they come. Where operators stand after the merge, it folds the batches that leave these as they come.
 /// How long batches would be, by the query's merge option, doesn't change the value. A decided query asks the source for
 /// nothing, and its value is that of no items.
 ///
 /// # Errors
 ///
 /// [`AggregateFault::Ended`] where the answer doesn't end well, [`AggregateFault::Run`] where there is none, as
-/// [`run`](crate::run) tells it; never since a sink refused.
+/// [`run`](crate::run) reports it; never since a sink refused.
 ///
 /// ```text
 /// let sum = aggregate(&rt, alloc, &query, source, Growth::DEFAULT, &OpenGate, &Sum)?;

@@ -27,7 +27,7 @@ use std::thread::Threads;
 /// Runs a query over a source, as [`run`] does, and asks the token before each batch and once more before it answers how the
 /// answer ended, also of a decided query.
 ///
-/// The token is told how many batches were delivered. Once it has answered `true` it isn't asked again, nothing more is
+/// The token gets the number of batches delivered. Once it has answered `true` it isn't asked again, nothing more is
 /// delivered, and the source is closed. While no batch comes it isn't asked: a run that is to stop goes on until its next
 /// batch or its end.
 ///

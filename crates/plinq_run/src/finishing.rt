@@ -1,4 +1,4 @@
-//! What is told when all workers have been joined.
+//! What is reported when all workers have been joined.
 ghost use Rattle.std.specs.Prelude.{◌≡◌, ◌≤◌, List, length, true, Some, None, All, IfOk, IfErr, IfSome, OnOk, Ok};
 ghost use Rattle.std.specs.Option.{option_or};
 ghost use Rattle.plinq_keyed.specs.History.{IsLegalHistory};

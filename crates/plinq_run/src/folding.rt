@@ -187,7 +187,7 @@ where
     )
 }
 
-/// Runs a plan that isn't decided and has no operator behind the merge, with workers that fold: the accumulator of its
+/// Runs a plan that isn't decided and has no operator after the merge, with workers that fold: the accumulator of its
 /// answer, and how that ended.
 pub(crate) fn fold_plan<J, L, S, G, A, R>(
     rt: &R,

@@ -26,7 +26,7 @@ ghost use Rattle.plinq_run.specs.Stopping.{is_stopped, ReportsWith, RunsWith, St
 use plinq_lambda::Lambda;
 use plinq_merge::{Cancel, CancelAfter, NeverCancel, Sink};
 
-/// The sink has taken exactly the batches of the sequential answer, in order, where the run tells its ending, and the first
+/// The sink has taken exactly the batches of the sequential answer, in order, where the run reports its ending, and the first
 /// of them after a fault.
 pub fn ordered_run_is_sequential<L: Lambda, K: Sink<Item = L::Item>>()
     ensures { (option : MergeOption) (ops : List (Op L)) (t : Trace L.Item) (s s' : K) (result : Result Report RunFault) →
@@ -34,8 +34,8 @@ pub fn ordered_run_is_sequential<L: Lambda, K: Sink<Item = L::Item>>()
         Runs K.accepts K.refuses option (answer_of L.meaning ops t) s s' (reported result) }
 {}
 
-/// The same of a run with a token: where that stopped the run, the sink has taken the first batches of the sequential answer,
-/// as many as the token was told.
+/// The same of a run with a token. Where that stopped the run, the sink has taken the first batches of the sequential answer,
+/// as many as were reported to the token.
 pub fn ordered_run_with_is_sequential<L: Lambda, C: Cancel, K: Sink<Item = L::Item>>()
     ensures { (option : MergeOption) (ops : List (Op L)) (t : Trace L.Item) (d d' : Delivery C K) (result : Result Report RunFault) →
         ReportsWith C.asks K.accepts K.refuses option (MayAnswer L.meaning true ops) t d d' result →
@@ -72,7 +72,7 @@ pub fn records_account_for_the_answer<L: Lambda, K: Sink<Item = L::Item>>()
         IfOk result (λ report. answer_of L.meaning ops (handed_trace t report.records.items) ≡ answer_of L.meaning ops t) }
 {}
 
-/// The value is that of the sequential answer's items, or the fault tells how that answer ended.
+/// The value is that of the sequential answer's items, or the fault says how that answer ended.
 pub fn ordered_aggregate_is_sequential<L: Lambda, A, O>()
     ensures { (f : Folding L.Item A O) (ops : List (Op L)) (t : Trace L.Item) (result : Result O AggregateFault) →
         AggregatesSome f (MayAnswer L.meaning true ops t) result →

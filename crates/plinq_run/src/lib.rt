@@ -1,15 +1,15 @@
 //! The run of a query: workers take chunks from one source and turn them into results, and the caller's thread merges
 //! these.
 //!
-//! - [`run`] delivers exactly the batches of an answer that the query may have and tells its ending, or after a fault the
-//!   first of these batches (`Reports`), for every number of workers and every order in which results come.
+//! - [`run`] delivers exactly the batches of an answer that the query may have and reports its ending, or after a fault the
+//!   first of these batches (`Reports`). That holds for every number of workers and every order in which results come.
 //! - For a query with `as_ordered` that is the sequential answer ([`laws`]).
 //! - [`run_with`] asks a token before each batch and at the end, and delivers the first batches where that stops it
 //!   (`ReportsWith`).
-//! - The records that it reports are a legal history of the source, which was closed unless the query is decided, and what
+//! - The records that it reports are a legal history of the source, which was closed unless the query is decided. What
 //!   they hand out has the answer that was delivered (`handed_trace`).
-//! - [`aggregate`] tells the value of such an answer's items, or how that answer ended otherwise (`AggregatesSome`).
-//! - Workers send results of chunks of the source as they are, or for an aggregate with nothing behind the merge the fold of
+//! - [`aggregate`] reports the value of such an answer's items, or how that answer ended otherwise (`AggregatesSome`).
+//! - Workers send results of chunks of the source as they are, or for an aggregate with nothing after the merge the fold of
 //!   each in its place (`IsPart` of `plinq_crew`).
 //! - A [`Gate`] is what workers pass on their way.
 #![tactic(auto)]

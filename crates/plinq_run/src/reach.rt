@@ -6,14 +6,14 @@ ghost use Rattle.plinq_run.specs.Reaching.{Grows, Reaches};
 use plinq_keyed::Tail;
 use plinq_ops::ChunkResult;
 
-/// How far the results reach that were offered: the first key behind them all, and whether one tells the source's end.
+/// How far the results reach that were offered: the first key after them all, and whether one gives the source's end.
 #[derive(Clone, Copy)]
 pub(crate) struct Reach {
     pub(crate) behind: u64,
     pub(crate) is_told: bool,
 }
 
-/// Whether a tail tells the source's end.
+/// Whether a tail gives the source's end.
 pub(crate) fn tells_end(tail: Option<Tail>) -> bool
     ensures { result ≡ is_end tail }
 {

@@ -1,7 +1,7 @@
 use plinq_keyed::Record;
 use plinq_source::Ending;
 
-/// What a run tells when it has delivered its answer.
+/// What a run reports when it has delivered its answer.
 #[derive(Debug, Drop)]
 pub struct Report {
     /// How the answer ended.

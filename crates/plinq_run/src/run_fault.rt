@@ -1,7 +1,7 @@
 use thiserror::Error;
 
 /// Why a run gives no report. Where there are several causes, the first of sink, cancellation, memory, thread, tickets and
-/// missing results is told.
+/// missing results is reported.
 #[derive(Clone, Copy, Debug, PartialEq, Eq, Error)]
 pub enum RunFault {
     /// Memory ran out.

@@ -146,7 +146,7 @@ where
     report(alloc, chunked, ended)
 }
 
-/// Runs a query over a source: as many workers as its degree take chunks that grow so, and the sink is handed the batches
+/// Runs a query over a source: as many workers as its degree take chunks that grow so, and the sink gets the batches
 /// of the answer as they are computed.
 ///
 /// The caller's thread merges, and no thread is left when it returns. A decided query asks the source for nothing.

@@ -194,7 +194,7 @@ fn a_query_ends_with_its_first_fault(rt: HostRuntime) -> Result<(), Fail> {
     Ok(())
 }
 
-/// Refuses behind these items, to each of which one is added.
+/// Refuses after these items, to each of which one is added.
 fn refuse_behind<R: Threads + Wait + Sync + Abort>(
     rt: &R,
     alloc: Global,

@@ -49,7 +49,7 @@ pub(crate) struct Setting {
     pub(crate) cancel_after: Option<u64>,
 }
 
-/// What the run told, what its sink took, and the answer of one thread.
+/// What the run reported, what its sink took, and the answer of one thread.
 #[derive(Debug, Drop)]
 pub(crate) struct Answers {
     pub(crate) told: Result<Report, RunFault>,
@@ -59,7 +59,7 @@ pub(crate) struct Answers {
 }
 
 impl Answers {
-    /// Whether the run delivered the answer of one thread in batches of this kind, and told how it ends.
+    /// Whether the run delivered the answer of one thread in batches of this kind, and reported how it ends.
     pub(crate) fn are_one(&self, option: MergeOption) -> bool {
         match &self.told {
             Ok(report) => report.ending == self.ending && self.left(option) == Some(0),
@@ -112,7 +112,7 @@ impl Answers {
         }
     }
 
-    /// How many items are left behind the batches, if these are the first of the answer.
+    /// How many items are left after the batches, if these are the first of the answer.
     pub(crate) fn left(&self, option: MergeOption) -> Option<usize> {
         match option {
             MergeOption::NotBuffered => left_behind(&self.batches, &self.items, 1),
@@ -127,7 +127,7 @@ impl Answers {
     }
 }
 
-/// How many items are left behind batches, if these are the items cut into batches of that size.
+/// How many items are left after batches, if these are the items cut into batches of that size.
 fn left_behind(batches: &[Vec<i64>], items: &[i64], size: usize) -> Option<usize> {
     let mut left = items;
     for batch in batches {

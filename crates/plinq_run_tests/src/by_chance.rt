@@ -18,7 +18,7 @@ use std::sync::atomic::{AtomicU64, Ordering};
 use std::test::*;
 use std::thread::{Threads, yield_now};
 
-/// The number behind this one, in a walk through all numbers but 0 that looks like chance (xorshift).
+/// The number after this one, in a walk through all numbers but 0 that looks like chance (xorshift).
 fn number_behind(number: u64) -> u64 {
     let mixed = number ^ (number << 13);
     let mixed = mixed ^ (mixed >> 7);
@@ -179,7 +179,7 @@ impl Dice {
     }
 }
 
-/// Asks a query of a run and of one thread, and tells how the run ended.
+/// Asks a query of a run and of one thread, and reports how the run ended.
 fn ask_any<R: Threads + Wait + Sync + Abort>(
     rt: &R,
     alloc: Global,
@@ -227,7 +227,7 @@ fn any_query_has_the_answer_of_one_thread(rt: HostRuntime) -> Result<(), Fail> {
     Ok(())
 }
 
-/// Asks a query's aggregate of threads and of one thread, and tells whether there is one.
+/// Asks a query's aggregate of threads and of one thread, and reports whether there is one.
 fn aggregate_any<R: Threads + Wait + Sync + Abort>(
     rt: &R,
     alloc: Global,

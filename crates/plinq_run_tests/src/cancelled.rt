@@ -71,7 +71,7 @@ fn is_at_end(told: &Result<Report, RunFault>) -> bool {
     }
 }
 
-/// What a run of so many numbers tells.
+/// What a run of so many numbers reports.
 fn told_of<C, K, R>(
     rt: &R,
     alloc: Global,
@@ -142,7 +142,7 @@ fn the_first_batches_are_delivered_in_each_size(rt: HostRuntime) -> Result<(), F
     Ok(())
 }
 
-/// What a run of a decided query tells whose token stops after so many batches.
+/// What a run of a decided query reports whose token stops after so many batches.
 fn decided<R: Threads + Wait + Sync + Abort>(
     rt: &R,
     alloc: Global,
@@ -257,7 +257,7 @@ impl<'a> Sink for Stays<'a> {
     }
 }
 
-/// Has another thread set the flag of a run in the middle, and tells whether that was the last batch.
+/// Has another thread set the flag of a run in the middle, and reports whether that was the last batch.
 fn is_stopped_by_another<R: Threads + Wait + Sync>(
     rt: &R,
     alloc: Global,

@@ -1,4 +1,4 @@
-//! What workers do behind a key that ends the run.
+//! What workers do after a key that ends the run.
 ghost use Rattle.std.specs.Prelude.{Ok, Err, false};
 
 use crate::asked::built;
@@ -43,8 +43,8 @@ impl<'a> Lambda for Noting<'a> {
     }
 }
 
-/// A gate for two workers: the one with key 0 goes on once the other has key 1, and that one once the first has its result
-/// behind it and would take again.
+/// A gate for two workers. The one with key 0 goes on once the other has key 1, and that one once the first has its result
+/// after it and would take again.
 #[derive(Drop)]
 struct OneAfterAnother {
     /// The worker with key 0, and one more; 0 as long as none has it.
@@ -88,7 +88,7 @@ fn taking_while(alloc: Global, greatest: &AtomicU64) -> Result<Query<Noting<'_>>
     built(query.take_while(Noting { greatest }))
 }
 
-/// Whether a run told an answer that ended well.
+/// Whether a run reported an answer that ended well.
 fn is_well(told: &Result<Report, RunFault>) -> bool {
     match told {
         Ok(report) => report.ending == Ending::End,

@@ -14,7 +14,7 @@ use std::sync::atomic::{AtomicBool, Ordering};
 use std::test::*;
 use std::thread::Threads;
 
-/// A range that tells when it is asked.
+/// A range that reports when it is asked.
 #[derive(Drop)]
 struct Watched<'a> {
     range: RangeSource,

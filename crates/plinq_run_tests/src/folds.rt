@@ -1,4 +1,4 @@
-//! That workers fold what they compute, that a source is closed in time, and that what stands behind the merge is folded as
+//! That workers fold what they compute, that a source is closed in time, and that what stands after the merge is folded as
 //! well.
 ghost use Rattle.plinq_aggregate.specs.Numbers.{counting};
 ghost use Rattle.plinq_aggregate.specs.Lawful.{counting-lawful};
@@ -79,7 +79,7 @@ impl<'a> Gate for HoldsTheFirst<'a> {
     }
 }
 
-/// Counts a range whose first number is held back, and tells how many others were taken in by then.
+/// Counts a range whose first number is held back, and reports how many others were taken in by then.
 fn held_back<R: Threads + Wait + Sync + Abort>(
     rt: &R,
     alloc: Global,
@@ -160,7 +160,7 @@ fn an_aggregate_closes_a_long_range_long_before_its_end(rt: HostRuntime) -> Resu
     Ok(())
 }
 
-/// Folds the first three even numbers of a range: taking them stands behind the merge.
+/// Folds the first three even numbers of a range: taking them stands after the merge.
 fn behind_the_merge<R: Threads + Wait + Sync + Abort>(
     rt: &R,
     alloc: Global,

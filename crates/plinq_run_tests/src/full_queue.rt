@@ -72,7 +72,7 @@ impl<'a> Sink for Held<'a> {
     }
 }
 
-/// The sink is held until the queue is full of the results behind its batch, and each worker has taken one chunk more.
+/// The sink is held until the queue is full of the results after its batch, and each worker has taken one chunk more.
 fn fill_the_queue<R: Threads + Wait + Sync + Abort>(
     rt: &R,
     alloc: Global,

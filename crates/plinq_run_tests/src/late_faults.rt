@@ -1,4 +1,4 @@
-//! Faults behind the element that ends the run, which are there before that end is known.
+//! Faults after the element that ends the run, which are there before that end is known.
 ghost use Rattle.plinq_lambda.specs.Formula.{formula_meaning};
 ghost use Rattle.plinq_lambda.specs.Short.{formula_meaning-short};
 
@@ -15,7 +15,7 @@ use std::sync::atomic::{AtomicU64, Ordering};
 use std::test::*;
 use std::thread::Threads;
 
-/// A formula that tells when it has faulted.
+/// A formula that reports when it has faulted.
 #[derive(Clone, Copy)]
 struct Telling<'a> {
     formula: Formula,

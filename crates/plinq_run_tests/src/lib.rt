@@ -1,7 +1,7 @@
 //! The tests of runs and of their aggregates, each of what no contract says: that runs succeed with ample memory and
-//! threads, that workers run side by side, fold what they compute and wait while the queue is full, that batches come while
-//! some are held back, that a source is closed long before its end, and what a gate, a sink and the source of a decided query
-//! are asked.
+//! threads, that workers run side by side, fold what they compute and wait while the queue is full. They also test that
+//! batches come while some are held back, that a source is closed long before its end, and what a gate, a sink and the
+//! source of a decided query are asked.
 //!
 //! They stand in a crate of their own, since a crate with tests is proved twice. What they share is `asked`, one query
 //! that threads and one thread answer, `taken`, the batches of a run, and `waiting`, the gate that keeps a worker back.

@@ -1,4 +1,4 @@
-//! What a gate is told.
+//! What is reported to a gate.
 use crate::asked::{Given, Setting, WORKERS, ask, built};
 use plinq_aggregate::Sum;
 use plinq_enumerator::Growth;
@@ -13,7 +13,7 @@ use std::sync::atomic::{AtomicBool, AtomicU64, Ordering};
 use std::test::*;
 use std::thread::Threads;
 
-/// What the gate was told of one worker.
+/// What was reported to the gate of one worker.
 #[derive(Drop)]
 struct Passed {
     takes: AtomicU64,
@@ -22,7 +22,7 @@ struct Passed {
     least: AtomicU64,
 }
 
-/// A gate that notes whether it was told of a number that no worker has, of a chunk without a take before it, or of one whose
+/// A gate that notes whether it got a number that no worker has, a chunk without a take before it, or one whose
 /// first key isn't above those before, or is within another chunk.
 #[derive(Drop)]
 struct Notes {

@@ -78,7 +78,7 @@ fn records_are_a_history_with_one_close(rt: HostRuntime) -> Result<(), Fail> {
 }
 
 /// Takes three of a range, and asks that at most as many items were handed out as workers may be ahead, each with a chunk more.
-/// Behind the close each worker asks once more, and is told so; what it asked is reported as well.
+/// After the close each worker asks once more, and is answered so; what it asked is reported as well.
 fn take_three<R: Threads + Wait + Sync + Abort>(
     rt: &R,
     alloc: Global,

@@ -9,7 +9,7 @@ use std::sync::Wait;
 use std::test::*;
 use std::thread::Threads;
 
-/// Asks that a run tells of the batch that its sink refuses, and has delivered those before it.
+/// Asks that a run reports the batch that its sink refuses, and has delivered those before it.
 fn refuse<R: Threads + Wait + Sync + Abort>(
     rt: &R,
     alloc: Global,

@@ -80,7 +80,7 @@ fn numbers(alloc: Global, asked: Asked) -> Result<Query<Formula>, BuildFault> {
     built(query.select(Formula::Add(0)))
 }
 
-/// Runs the query. Answers whether it was refused, for want of memory or of a thread alone, with a beginning delivered.
+/// Runs the query. Answers whether it was refused, for lack of memory or of a thread alone, with a beginning delivered.
 fn is_refused<R: Threads + Wait + Sync + Abort>(
     rt: &R,
     alloc: Global,
@@ -114,7 +114,7 @@ fn is_refused<R: Threads + Wait + Sync + Abort>(
     }
 }
 
-/// Sums the query's items. Answers whether that was refused, for want of memory or of a thread alone.
+/// Sums the query's items. Answers whether that was refused, for lack of memory or of a thread alone.
 fn is_sum_refused<R: Threads + Wait + Sync + Abort>(
     rt: &R,
     alloc: Global,

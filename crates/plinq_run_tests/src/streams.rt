@@ -15,7 +15,7 @@ use std::sync::atomic::{AtomicU64, Ordering};
 use std::test::*;
 use std::thread::Threads;
 
-/// A sink that tells how many batches it has taken.
+/// A sink that reports how many batches it has taken.
 #[derive(Drop)]
 struct HandsOn<'a> {
     handed_on: &'a AtomicU64,

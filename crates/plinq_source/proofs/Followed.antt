@@ -22,7 +22,7 @@ continued-continued xs None ys None c = ap (λ zs. trace_of zs c.ending) (append
 continued-continued xs None ys (Some f) c = refl
 continued-continued xs (Some e) ys f c = refl
 
--- three traces one behind another, however they are put together
+-- three traces one after another, however they are put together
 pub followed-followed : {T : Type 0} (a b c : Trace T) → followed (followed a b) c ≡ followed a (followed b c)
 followed-followed a b c = continued-continued a.items a.ending b.items b.ending c
 

@@ -6,7 +6,7 @@ use Rattle.std.specs.List.{list_all}
 use Rattle.std.proofs.lemmas.List.{drop_more}
 use Rattle.plinq_source.specs.Text.{is_separator, token_ahead, number_of}
 
--- a digit behind a number
+-- a digit after a number
 abbrev pub digit_step : ℕ → ℕ → ℕ
 digit_step n b = 10 * n + (b - 48)
 

@@ -21,7 +21,7 @@ some-bytes : (bs : List ℕ) → false ≡ (length bs == 0) → is_some_bytes bs
 some-bytes [] h = cc
 some-bytes (b ∷ bs) h = refl
 
--- `rest` is the text from a place on, behind the blanks that stand there, and isn't empty: a token is ahead
+-- `rest` is the text from a place on, after the blanks that stand there, and isn't empty: a token is ahead
 pub record StandsAhead (text : List ℕ) (at skipped : ℕ) (left rest : List ℕ) : Type 0 where
   pub here : left ≡ drop at text
   pub behind : rest ≡ drop skipped left

@@ -1,4 +1,4 @@
--- What a source's answer tells of the trace that it walks.
+-- What a source's answer says of the trace that it walks.
 use Rattle.std.specs.Prelude.{◌≡◌, ℕ, ◌+◌, ◌<◌, ◌≤◌, List, [], ◌∷◌, ◌++◌, length, take, drop, Option, Some, None, refl}
 use Rattle.std.proofs.Common.{◌∙◌, ap, arith, length-drop, get_or}
 use Rattle.std.proofs.Math.Seq.{drop-cons}

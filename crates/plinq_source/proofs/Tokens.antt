@@ -1,4 +1,4 @@
--- A text token by token: what stands ahead, and what is left behind it.
+-- A text token by token: what stands ahead, and what is left after it.
 use Rattle.std.proofs.Common.{◌≡◌, ℕ, suc, ◌≤◌, Bool, true, false, cond, List, [], ◌∷◌, length, drop, filter, refl, sym, ap, ◌∙◌, arith}
 use Rattle.std.specs.List.{slice_split, onto_first}
 use Rattle.std.proofs.lemmas.List.Splits.{slice_split-cons_yes}
@@ -8,7 +8,7 @@ use Rattle.plinq_source.specs.Text.{is_separator, is_some_bytes, tokens, token_a
 pub tokens-separator : (b : ℕ) (bs : List ℕ) → is_separator b ≡ true → tokens (b ∷ bs) ≡ tokens bs
 tokens-separator b bs h = ap (filter is_some_bytes) (slice_split-cons_yes is_separator b bs h)
 
--- the parts of a text behind the token that stands ahead
+-- the parts of a text after the token that stands ahead
 parts_behind : List ℕ → List (List ℕ)
 parts_behind [] = []
 parts_behind (b ∷ bs) = cond (is_separator b) (slice_split is_separator bs) (parts_behind bs)

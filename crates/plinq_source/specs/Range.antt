@@ -1,4 +1,4 @@
--- Ranges: whole numbers one behind another.
+-- Ranges: whole numbers one after another.
 use Rattle.std.specs.Prelude.{◌≡◌, ℕ, ◌+◌, ◌-◌, ◌^◌, ◌+ℤ◌, ◌||◌, ◌&&◌, ◌==◌, ℤ, pos, negsuc, Bool, true, false, List, [], ◌∷◌, map, refl, nat_le, int_le}
 use Rattle.std.specs.List.{range_with_len}
 
@@ -13,7 +13,7 @@ is_range start count = nat_le count (2 ^ 40) && ((count == 0) || int_le (start +
 pub range_items-row : range_items (negsuc 0) 3 ≡ negsuc 0 ∷ pos 0 ∷ pos 1 ∷ []
 range_items-row = refl
 
--- the greatest `i64`, alone, with one behind it, and no number from there on
+-- the greatest `i64`, alone, with one after it, and no number from there on
 pub is_range-one : is_range (pos (2 ^ 63 - 1)) 1 ≡ true
 is_range-one = refl
 

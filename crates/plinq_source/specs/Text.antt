@@ -56,7 +56,7 @@ abbrev pub values : List (List ℕ) → List ℤ
 values [] = []
 values (t ∷ ts) = value_before (token_value t) (values ts)
 
--- a token's refusal, or else that of those behind it
+-- a token's refusal, or else that of those after it
 abbrev pub refusal_before : Result ℤ ℕ → Option ℕ → Option ℕ
 refusal_before (Ok z) behind = behind
 refusal_before (Err code) behind = Some code

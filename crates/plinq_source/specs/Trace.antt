@@ -23,7 +23,7 @@ abbrev pub continued : {T : Type 0} → List T → Option Ending → Trace T →
 continued xs None after = record { items = xs ++ after.items; ending = after.ending }
 continued xs (Some e) after = ended xs e
 
--- the first trace, and where it is open the second behind it
+-- the first trace, and where it is open the second after it
 abbrev pub followed : {T : Type 0} → Trace T → Trace T → Trace T
 followed before after = continued before.items before.ending after
 

@@ -22,7 +22,7 @@ pub(crate) fn read_digits(text: &[u8]) -> Option<Digits>
     for (n, byte) in text.iter().enumerate() {
         match *byte {
             b' ' | b'\n' => return Some(Digits { value, length: n }),
-            // The number stays at the greatest once it is there; what comes behind may still be malformed.
+            // The number stays at the greatest once it is there; what comes after may still be malformed.
             b'0'..=b'9' => {
                 let digit = (*byte - b'0') as u64;
                 value = value.saturating_mul(10).saturating_add(digit);

@@ -6,7 +6,7 @@
 //! - Each constructor says what is walked and that nothing was handed out yet (`whole`, `fresh`), and those that refuse
 //!   say exactly when (`made`): [`ListSource`], [`TextSource`], [`RangeSource`], [`RepeatSource`], and of two sources
 //!   [`ConcatSource`].
-//! - `specs/Trace.antt` has the words of traces for all layers above.
+//! - `specs/Trace.antt` has the definitions of traces for all layers above.
 #![tactic(auto)]
 
 mod concat;

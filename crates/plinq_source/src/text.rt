@@ -17,7 +17,7 @@ use std::alloc::Global;
 /// - [`Step::Refused`] with 1 at a token that is no number,
 /// - [`Step::Refused`] with 2 at a number that is no `i64`.
 ///
-/// A refusing token stays where it is, and what stands behind it is never read.
+/// A refusing token stays where it is, and what stands after it is never read.
 ///
 /// ```text
 /// 7 -007      7, -7, then Step::End

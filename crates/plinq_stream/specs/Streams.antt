@@ -16,7 +16,7 @@ under n [] = []
 under n (s ∷ ss) = if s.number == n then s.item ∷ under n ss else under n ss
 
 module _ {T : Type 0} where
-  -- What holds of one pass. `seat` tells which pass has each number, and `stream` is what was received and then what the
+  -- What holds of one pass. `seat` says which pass has each number, and `stream` is what was received and then what the
   -- queue holds.
   pub record Fits (seat : ℕ → ℕ) (reader : ℕ) (received stream : List (Sent T)) (pass : ℕ) (a : Known T) : Type 0 where
     -- its numbers are its own

@@ -3,7 +3,7 @@
 //! Between any two steps of any passes these hold ([`Stream`]'s rule, `IsStream`):
 //! - No number stands in two passes, and a pass has sent only under its own numbers.
 //! - What was received and then what the queue holds has under each number exactly what the pass with that number has sent
-//!   under it, in that order, and under a number that no pass has nothing.
+//!   under it, in that order. Under a number that no pass has there is nothing.
 //! - One pass receives, and it has received all that ever was. Each item is one that the stream's user picks ([`Carries`]).
 //!
 //! So, once all passes were joined and the queue was found empty ([`Stream::receive`]), what was received under each number

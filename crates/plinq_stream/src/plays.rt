@@ -1,4 +1,4 @@
-//! What each step tells the pass that makes it. These types are for the proofs alone.
+//! What each step reports to the pass that makes it. These types are for the proofs alone.
 ghost use Rattle.std.specs.Prelude.{◌≡◌};
 ghost use Rattle.plinq_stream.specs.Knowing.{with_sent, with_received, without_first, with_first, together, nothing_known};
 ghost use Rattle.plinq_stream.specs.Streams.{HasReceived};

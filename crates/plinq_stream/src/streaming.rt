@@ -32,7 +32,7 @@ impl<T: Drop, C: Carries<T>> Stream<T, C> {
         Ok((stream, StreamPass { pass }))
     }
 
-    /// Sends an item under a number of the pass, and waits while the queue is full: for a while it tries again, and then it
+    /// Sends an item under a number of the pass, and waits while the queue is full. For a while it tries again, and then it
     /// sleeps until an item was received.
     pub fn send<R: Wait>(&self, rt: &R, pass: &mut StreamPass<T>, number: u64, item: T)
         requires pass { IsPassOf self.now pass.old }

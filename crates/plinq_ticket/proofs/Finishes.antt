@@ -11,7 +11,7 @@ use Rattle.plinq_ticket.specs.Shares.{Contains}
 use Rattle.plinq_ticket.proofs.LastState.{Counted, Last, counted-from_last, history_of-whole}
 
 module _ {V T : Type 0} (origin : V → Trace T) (history : V → List Record) (p : Token V T) where
-  -- the state in which the lock was taken apart answers for what is told
+  -- the state in which the lock was taken apart answers for what is reported
   pub finished-by : (drawn served : ℕ) (slot : Option V) (result : Result V (Option V × LockFault)) → Last origin history p.seat.id p.seat.me.0 drawn served slot → IsAnswer origin history p drawn served result
       → IsFinished origin history p result
   finished-by drawn served slot result last answer =

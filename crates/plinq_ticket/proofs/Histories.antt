@@ -55,7 +55,7 @@ module _ {T : Type 0} where
       let was = total-history_of f views in
       omega arith)
 
-  -- a pass takes records in behind the history
+  -- a pass takes records in after the history
   pub history_of-more : (views : List (View T)) (i : ℕ) (v w : View T) (new h : List Record) → rises (map (λ r. r.ticket) h) ≡ true → get_elem? views i ≡ some v → w.share ≡ v.share ++ new
       → h ≡ history_of views ++ new → history_of (set views i w) ≡ h
   history_of-more views i v w new h up at share is = history_of-weights (set views i w) h up (λ f.

@@ -26,7 +26,7 @@ row_busy = (omega arith, omega arith, refl, refl)
 row_nobody_there : IsCause (seen 5 5) (Busy 5 5) → ⊥
 row_nobody_there cause = omega (arith, cause.0)
 
--- the numbers that are told are those that were seen
+-- the numbers that are reported are those that were seen
 row_other_numbers : IsCause (seen 5 3) (Busy 4 5) → ⊥
 row_other_numbers cause = omega (arith, cause.2)
 

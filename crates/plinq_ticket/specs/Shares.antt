@@ -19,11 +19,11 @@ in_ticket_order (r ∷ rs) = placed r (in_ticket_order rs)
 abbrev pub Contains : List Record → List Record → Type 0
 Contains history share = (weight : Record → ℕ) → total weight share ≤ total weight history
 
--- the records that came behind a history
+-- the records that came after a history
 abbrev pub added : List Record → List Record → List Record
 added old new = drop (length old) new
 
--- at most one record came behind a history, and it has that ticket
+-- at most one record came after a history, and it has that ticket
 abbrev pub AddsAtMostOne : ℕ → List Record → List Record → Type 0
 AddsAtMostOne ticket old new = (new ≡ old) ⊎ ((r : Record) × (new ≡ old ++ r ∷ []) × (r.ticket ≡ ticket))
 

@@ -1,4 +1,4 @@
--- What each step tells the pass that makes it: its view and its slot before and after.
+-- What each step reports to the pass that makes it: its view and its slot before and after.
 use Rattle.std.specs.Prelude.{◌≡◌, ◌≢◌, ℕ, List, [], ◌∷◌, ◌++◌, Option, Some, None, true, refl}
 use Rattle.atomic_table.specs.Table.{Me, rest}
 use Rattle.plinq_source.specs.Trace.{Trace, open_trace}

@@ -69,7 +69,7 @@ called n Joined = Joined
 abbrev pub seeing_served : ℕ → Standing → Standing
 seeing_served n a = record { phase = called n a.phase; drawn = a.drawn; served = n }
 
--- a pass that has left, behind which that ticket is served
+-- a pass that has left, after which that ticket is served
 abbrev pub leaving : ℕ → Standing → Standing
 leaving n a = record { phase = Idle; drawn = a.drawn; served = n }
 
@@ -84,27 +84,27 @@ NotPassed n (Waiting t) = n ≤ t
 NotPassed n (Inside t) = n ≡ t
 NotPassed n Joined = Unit {0}
 
--- what a load of `next` tells: n were drawn
+-- what a load of `next` reports: n were drawn
 pub record SawNext (n : ℕ) (a b : Standing) : Type 0 where
   pub risen : a.drawn ≤ n
   pub within : n ≤ tickets_end
   pub after : b ≡ seeing_drawn n a
 
--- what a compare-exchange of `next` from t tells, which found n
+-- what a compare-exchange of `next` from t reports, which found n
 pub record SawDrawn (t n : ℕ) (a b : Standing) : Type 0 where
   pub risen : a.drawn ≤ n
   pub order : a.served ≤ n
   pub within : n ≤ tickets_end
   pub after : b ≡ (if n == t then drawing t a else seeing_drawn n a)
 
--- what a load of `serving` tells: n were served
+-- what a load of `serving` reports: n were served
 pub record SawServing (n : ℕ) (a b : Standing) : Type 0 where
   pub risen : a.served ≤ n
   pub within : n ≤ tickets_end
   pub turn : NotPassed n a.phase
   pub after : b ≡ seeing_served n a
 
--- what a store of `serving` tells
+-- what a store of `serving` reports
 pub record SawLeft (n : ℕ) (a b : Standing) : Type 0 where
   pub after : b ≡ leaving n a
 

@@ -1,4 +1,4 @@
-//! What each step tells the pass that makes it. These types are for the proofs alone.
+//! What each step reports to the pass that makes it. These types are for the proofs alone.
 ghost use Rattle.plinq_ticket.specs.Steps.{SeesNext, Draws, SeesServing, Leaves, cut, together_with, spent};
 
 use crate::view::View;
@@ -12,7 +12,7 @@ impl<V, T> Play<Option<V>, View<T>> for SeeNext {
     ghost then = { λ s a n b. SeesNext n a b };
 }
 
-// A compare-exchange of `next`, from a ticket to the one behind it.
+// A compare-exchange of `next`, from a ticket to the one after it.
 pub struct Draw;
 
 impl<V, T> Play<Option<V>, View<T>> for Draw {

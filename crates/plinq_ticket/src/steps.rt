@@ -49,7 +49,7 @@ impl<V: Guarded> TicketLock<V> {
         self.table.shared.load::<SeeServing>(seat, SERVING)
     }
 
-    // The ticket behind this one is served, and the slot is home again.
+    // The ticket after this one is served, and the slot is home again.
     pub(crate) fn serve_next(&self, seat: &mut Seat<Option<V>, View<V::Item>>, ticket: u64)
         requires lock { IsLockAt (lock_id self.now) seat.old.table_id }
         requires inside { seat.old.me.0.standing.phase ≡ Inside ticket }

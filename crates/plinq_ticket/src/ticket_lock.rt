@@ -17,7 +17,7 @@ impl<V: Guarded> TableRule<Option<V>, View<V::Item>, Snapshot<V>> for Keeps {
     ghost first = { λ key. first_view (V.origin key.value) (V.history key.value) };
 }
 
-/// A lock round a value that keeps its history. Passes enter it in the order of the tickets that they draw: by
+/// A lock round a value that keeps its history. Passes enter it in the order of the tickets that they draw. By
 /// [`TicketLock::enter`] a pass draws one and waits for its turn, by [`TicketLock::enter_when_free`] it waits for the lock to be
 /// free and draws one then.
 #[derive(Drop)]

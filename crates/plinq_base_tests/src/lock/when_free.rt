@@ -65,7 +65,7 @@ fn linger() {
     }
 }
 
-// How many tickets a pass is told that were drawn, while another one is inside.
+// How many tickets were drawn, as reported to a pass, while another one is inside.
 fn drawn_now(rt: &impl Abort, lock: &TicketLock<Notes>, pass: Pass<Notes>) -> (Pass<Notes>, u64)
     requires { IsPassOf lock.now pass }
     ensures { IsPassOf lock.now result.0 }

@@ -87,7 +87,7 @@ fn writes_that_fail(rt: HostRuntime) -> Result<(), Fail> {
     Ok(())
 }
 
-// It fails while the run waits for a batch, or behind the last line.
+// It fails while the run waits for a batch, or after the last line.
 #[test]
 fn a_flush_that_fails(rt: HostRuntime) -> Result<(), Fail> {
     let mut out = Narrow::new(rt.alloc(), 100, 100);
@@ -103,7 +103,7 @@ fn a_flush_that_fails(rt: HostRuntime) -> Result<(), Fail> {
 const FIRST_OF_MANY: &str =
     r#"{"version":1,"source":{"range":[5,1000000]},"query":[["as_ordered"],["filter","equal",5]]}"#;
 
-// What fails is the flush behind the only line, though no line of a batch comes after it and later flushes succeed.
+// What fails is the flush after the only line, though no line of a batch comes after it and later flushes succeed.
 #[test]
 fn a_flush_that_fails_while_nothing_comes(rt: HostRuntime) -> Result<(), Fail> {
     let mut out = FailsOnce::new(rt.alloc(), 2);
@@ -130,7 +130,7 @@ fn a_flush_that_fails_after_a_cancelled_run(rt: HostRuntime) -> Result<(), Fail>
     Ok(())
 }
 
-// What fails is the flush behind the only line, before the token is asked again at the run's end, and later flushes succeed.
+// What fails is the flush after the only line, before the token is asked again at the run's end, and later flushes succeed.
 #[test]
 fn a_flush_that_fails_before_a_run_is_cancelled(rt: HostRuntime) -> Result<(), Fail> {
     let mut out = FailsOnce::new(rt.alloc(), 2);

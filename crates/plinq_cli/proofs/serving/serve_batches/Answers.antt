@@ -1,4 +1,4 @@
--- the lines of batches are written where the run gets through, and the line of the ending behind them
+-- the lines of batches are written where the run gets through, and the line of the ending after them
 use Rattle.std.proofs.Common.{Err, IfErr, ap, sym, ◌∙◌, subst}
 use Rattle.std.proofs.lemmas.Result.{err_from_is_err_and}
 use Rattle.plinq_cli.specs.declared.command.Command.TheVariants.{Run}

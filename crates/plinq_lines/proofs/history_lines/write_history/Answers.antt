@@ -1,4 +1,4 @@
--- the records and the ending, one behind another
+-- the records and the ending, one after another
 use Rattle.std.proofs.Common.{refl}
 use Rattle.plinq_lines.specs.HistoryText.{record_lines}
 use Rattle.plinq_lines.specs.Text.{line, ending_words}

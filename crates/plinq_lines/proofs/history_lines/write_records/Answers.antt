@@ -1,4 +1,4 @@
--- a record is written behind those before it
+-- a record is written after those before it
 use Rattle.std.proofs.lemmas.List.{at_drop_more}
 use Rattle.plinq_lines.specs.HistoryText.{record_lines}
 use Rattle.plinq_lines.proofs.PartWritten.{piece-failed, piece-written}

@@ -5,7 +5,7 @@ use Rattle.plinq_ops.specs.Pipeline.{stages}
 use Rattle.plinq_ops.specs.Chunk.{chunk_answer, BehindItems}
 use Rattle.plinq_ops.proofs.chunking.work_each.Given as goal
 
--- what is out, and behind it what the rest gives, is what the chunk gives
+-- what is out, and after it what the rest gives, is what the chunk gives
 abbrev pub invariant-loop-at : goal.invariant-loop-at
 invariant-loop-at g l =
     BehindItems [] l.out.items
