@@ -1,17 +1,23 @@
 -- Filling a list: each item that the source gives comes after those taken, and where it ends, all that is left was taken.
-use Rattle.std.proofs.Common.{◌≡◌, ℕ, ◌+◌, ◌-◌, ◌<◌, ◌≤◌, [], ◌∷◌, ◌++◌, length, take, drop, Some, None, Bool, cond, ltb, true, false, refl, arith, ap, sym, ◌∙◌, length-drop}
+use Rattle.std.proofs.Common.{◌≡◌, ℕ, List, ◌+◌, ◌-◌, ◌<◌, ◌≤◌, [], ◌∷◌, ◌++◌, length, take, drop, Some, None, Bool, cond, ltb, true, false, refl, arith, ap, sym, ◌∙◌, length-drop}
 use Rattle.std.proofs.lemmas.Bool.{lt-ltb, le-ltb, ltb-true}
-use Rattle.std.proofs.lemmas.List.{drop-drop, take_all, length-take-le}
+use Rattle.std.proofs.lemmas.List.{append_assoc, drop-drop, take_all, length-take-le}
 use Rattle.std.proofs.Math.Seq.{take-add}
 use Rattle.plinq_source.specs.Trace.{Trace, step_at, items_from, ending_within}
 use Rattle.plinq_source.specs.declared.ending.Ending.{Ending}
 use Rattle.plinq_source.specs.declared.step.Step.TheVariants.{Item}
 use Rattle.plinq_source.proofs.Steps.{step_of-item}
 
-pub items_from-more : {T : Type 0} (t : Trace T) (g m : ℕ) (x : T) → step_at t (g + m) ≡ Item x → items_from t g (m + 1) ≡ items_from t g m ++ x ∷ []
+items_from-more : {T : Type 0} (t : Trace T) (g m : ℕ) (x : T) → step_at t (g + m) ≡ Item x → items_from t g (m + 1) ≡ items_from t g m ++ x ∷ []
 items_from-more t g m x h =
     let next = step_of-item (drop (g + m) t.items) t.ending x h in
     take-add m 1 (drop g t.items) ∙ ap (λ ys. items_from t g m ++ take 1 ys) (drop-drop m g t.items ∙ next.1)
+
+-- one item more was added to a list
+pub filled-more : {T : Type 0} (t : Trace T) (g m : ℕ) (before now after : List T) (x : T) → step_at t (g + m) ≡ Item x
+    → now ≡ before ++ items_from t g m → after ≡ now ++ x ∷ [] → after ≡ before ++ items_from t g (m + 1)
+filled-more t g m before now after x step filled added =
+    added ∙ ap (λ xs. xs ++ x ∷ []) filled ∙ append_assoc before (items_from t g m) (x ∷ []) ∙ ap (λ xs. before ++ xs) (sym (items_from-more t g m x step))
 
 -- the last m items were taken, and n were wanted
 pub record IsLast {T : Type 0} (t : Trace T) (g m n : ℕ) (e : Ending) : Type 0 where

@@ -1,6 +1,7 @@
 ghost use Rattle.std.specs.Prelude.{◌≡◌, ◌≤◌, ◌^◌, vec_len, length, Some, None};
 ghost use Rattle.plinq_source.specs.Trace.{ended, list_ending};
 
+use crate::ending::Ending;
 use crate::source::Source;
 use crate::step::Step;
 use std::alloc::Global;
@@ -80,6 +81,22 @@ impl<T: Copy + Send> Source for ListSource<T> {
                 None => Step::End,
                 Some(code) => Step::Refused(code),
             }
+        }
+    }
+
+    fn fill(&mut self, items: &mut Vec<T>, n: u64) -> Option<Ending> {
+        let left = (self.items.len() - self.next) as u64;
+        let after = self.next + n.min(left) as usize;
+        for place in self.next..after {
+            items.push_reserved(self.items[place]);
+        }
+        self.next = after;
+        if n <= left {
+            return None;
+        }
+        match self.refusal {
+            None => Some(Ending::End),
+            Some(code) => Some(Ending::Refused(code)),
         }
     }
 }

@@ -3,6 +3,7 @@ ghost use Rattle.plinq_source.specs.Trace.{ended};
 ghost use Rattle.plinq_source.specs.Repeat.{is_repeat};
 ghost use Rattle.plinq_source.specs.declared.ending.Ending.TheVariants.{End};
 
+use crate::ending::Ending;
 use crate::fault::SourceFault;
 use crate::limits::MOST_ITEMS;
 use crate::source::Source;
@@ -67,5 +68,15 @@ impl Source for RepeatSource {
         } else {
             Step::End
         }
+    }
+
+    fn fill(&mut self, items: &mut Vec<i64>, n: u64) -> Option<Ending> {
+        let left = self.count - self.next;
+        let after = self.next + n.min(left);
+        for _place in self.next..after {
+            items.push_reserved(self.value);
+        }
+        self.next = after;
+        if n > left { Some(Ending::End) } else { None }
     }
 }

@@ -1,12 +1,11 @@
 -- A range's items are its start and their places added.
-use Rattle.std.proofs.Common.{◌≡◌, ◌+◌, ◌-◌, ◌+ℤ◌, ◌++◌, ◌∷◌, [], pos, w64, to_z, of_z, arith, refl, sym, ap, ◌∙◌}
+use Rattle.std.proofs.Common.{◌≡◌, ◌+◌, ◌-◌, ◌+ℤ◌, ◌++◌, pos, w64, to_z, of_z, arith, refl, sym, ap, ◌∙◌}
 use Rattle.std.proofs.lemmas.Int.{ints}
-use Rattle.std.proofs.lemmas.List.{append_assoc}
 use Rattle.plinq_source.specs.Trace.{items_from, step_at}
 use Rattle.plinq_source.specs.Walked.{range_whole}
 use Rattle.plinq_source.specs.declared.ending.Ending.TheVariants.{End}
 use Rattle.plinq_source.specs.declared.step.Step.TheVariants.{Item}
-use Rattle.plinq_source.proofs.Filling.{items_from-more, IsLast, last_items, AreEnough, enough_items}
+use Rattle.plinq_source.proofs.Filling.{filled-more, IsLast, last_items, AreEnough, enough_items}
 use Rattle.plinq_source.proofs.Walks.{step_at-range, length-range_items}
 use Rattle.plinq_source.proofs.range.RangeSourceSource.fill.Goals as goal
 
@@ -17,17 +16,14 @@ loop-place-preserved c =
     let i = c.loop-place.invariant in
     let place = c.loop-place.place in
     let m = place - s.next in
-    let x = s.start +ℤ pos place in
-    let y = to_z w64 (of_z w64 (to_z w64 (of_z w64 s.start) +ℤ to_z w64 place)) in
-    let sum : y ≡ x = omega (arith, ints) in
+    let x = to_z w64 (of_z w64 (to_z w64 (of_z w64 s.start) +ℤ to_z w64 place)) in
+    let sum : x ≡ s.start +ℤ pos place = omega (arith, ints) in
     let at : place ≡ s.next + m = omega (arith, i.from) in
-    let step : step_at t (s.next + m) ≡ Item x = ap (step_at t) (sym at) ∙ step_at-range s.start s.count place (omega arith) in
+    let step : step_at t (s.next + m) ≡ Item x = ap (step_at t) (sym at) ∙ step_at-range s.start s.count place (omega arith) ∙ ap Item (sym sum) in
     let one_more : m + 1 ≡ place + 1 - s.next = omega (arith, i.from) in
     record {
-      filled = c.push_reserved.ensures.items ∙ ap (λ xs. xs ++ y ∷ []) i.filled
-          ∙ append_assoc c.args.items.now.items (items_from t s.next m) (y ∷ [])
-          ∙ ap (λ z. c.args.items.now.items ++ (items_from t s.next m ++ z ∷ [])) sum
-          ∙ ap (λ xs. c.args.items.now.items ++ xs) (sym (items_from-more t s.next m x step) ∙ ap (items_from t s.next) one_more);
+      filled = filled-more t s.next m c.args.items.now.items c.loop-place.items.items c.push_reserved.new.self.items x step i.filled c.push_reserved.ensures.items
+          ∙ ap (λ k. c.args.items.now.items ++ items_from t s.next k) one_more;
       counted = omega (arith, c.push_reserved.ensures.len);
       capacity = c.push_reserved.ensures.capacity ∙ i.capacity;
       from = omega arith;

@@ -1,8 +1,8 @@
-use Rattle.std.proofs.Common.{◌≡◌, ◌∙◌, ◌+◌, length, ap, sym, arith, ◌++◌, ◌∷◌, [], append_assoc}
-use Rattle.plinq_source.specs.Trace.{step_at, items_from}
+use Rattle.std.proofs.Common.{◌≡◌, ◌∙◌, ◌+◌, length, ap, sym, arith, ◌++◌}
+use Rattle.plinq_source.specs.Trace.{step_at}
 use Rattle.plinq_source.specs.declared.ending.Ending.TheVariants.{End, Refused}
 use Rattle.plinq_source.specs.declared.step.Step.TheVariants.{Item}
-use Rattle.plinq_source.proofs.Filling.{items_from-more, IsLast, last_items}
+use Rattle.plinq_source.proofs.Filling.{filled-more, IsLast, last_items}
 use Rattle.plinq_source.proofs.Steps.{next_item, at_end, at_refusal}
 use Rattle.plinq_source.proofs.source.Source.fill.Goals as goal
 
@@ -19,9 +19,7 @@ loop-filled-preserved g c =
     let few = ap (λ w. length w.items) i.same in
     record {
       same = c.in-Item.ensures.same ∙ i.same;
-      filled = c.push_reserved.ensures.items ∙ ap (λ xs. xs ++ x ∷ []) i.filled
-          ∙ append_assoc c.args.items.now.items (items_from t from m) (x ∷ [])
-          ∙ ap (λ xs. c.args.items.now.items ++ xs) (sym (items_from-more t from m x step));
+      filled = filled-more t from m c.args.items.now.items c.loop-filled.items.items c.push_reserved.new.self.items x step i.filled c.push_reserved.ensures.items;
       counted = omega (arith, c.push_reserved.ensures.len);
       capacity = c.push_reserved.ensures.capacity ∙ i.capacity;
       moved = omega (arith, c.in-Item.ensures.moved);
