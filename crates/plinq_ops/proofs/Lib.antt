@@ -1,3 +1,4 @@
+pub mod TakingWhile
 pub mod SkippingWhile
 pub mod Stages
 pub mod Open

@@ -131,14 +131,12 @@ fn take_while<L: Lambda>(f: &L, block: &mut Vec<L::Item>) -> Option<Ending>
     ensures { record { items = block.new.items; ending = result }
         ≡ apply (stage_of L.meaning (TakeWhile f.now)) (open_trace block.old.items) }
 {
-    for at in 0..block.len() {
-        let ending = match f.test(block[at]) {
-            Ok(true) => continue,
-            Ok(false) => Ending::End,
-            Err(code) => Ending::Fault(code),
-        };
-        block.truncate(at);
-        return Some(ending);
+    let (len, fault) = f.count_passing(block.as_slice());
+    let all_pass = len == block.len();
+    block.truncate(len);
+    match fault {
+        Some(code) => Some(Ending::Fault(code)),
+        None if all_pass => None,
+        None => Some(Ending::End),
     }
-    None
 }

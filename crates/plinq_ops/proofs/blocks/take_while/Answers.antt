@@ -1,22 +1,25 @@
-use Rattle.std.proofs.Common.{rules, arith, ◌≡◌, ◌∷◌, [], ◌∙◌, ◌+◌, take, drop, ap, sym}
-use Rattle.std.proofs.lemmas.List.{drop_more, drop_all, take_all}
-use Rattle.plinq_source.specs.Trace.{ended}
-use Rattle.plinq_ops.proofs.Joined.{joined-last, joined-done, take_while_piece}
-use Rattle.plinq_ops.proofs.blocks.take_while.Goals.{in-Ok-false, in-Err}
+use Rattle.std.proofs.Common.{◌≡◌, ◌∙◌, ◌<◌, ◌≤◌, take, length, ap, sym, arith}
+use Rattle.std.proofs.lemmas.List.{length-take-le}
+use Rattle.plinq_source.specs.declared.ending.Ending.TheVariants.{End, Fault}
+use Rattle.plinq_source.specs.Trace.{ended, open_trace}
+use Rattle.plinq_ops.proofs.TakingWhile.{taken-passing}
 use Rattle.plinq_ops.proofs.blocks.take_while.Goals as goal
 
-pub returns-in-loop-at : goal.returns-in-loop-at
-returns-in-loop-at g c =
-    let x = c.index.result.now in
-    let here : drop c.loop-at.at c.loop-at.block.items ≡ x ∷ drop (c.loop-at.at + 1) c.loop-at.block.items = drop_more c.loop-at.block.items c.loop-at.at x (search rules) ∙ ap (λ y. y ∷ drop (c.loop-at.at + 1) c.loop-at.block.items) (sym c.index.ensures) in
-    let ends : take_while_piece g.L.Lambda.meaning c.args.f.now x ≡ ended [] c.match-test.ending =
-    elim c.match-test.branch [
-      | in-Ok-false w ↦ search rules
-      | in-Err w ↦ search rules
-    ] in
-    rw c.truncate.ensures.items (sym (joined-last x _ c.match-test.ending c.loop-at.invariant.0 here ends))
+pub returns-in-Some : goal.returns-in-Some
+returns-in-Some g c =
+    let taken = taken-passing _ c.args.block.now.items _ _ (rw c.as_slice.ensures.value at c.count_passing-len.ensures.passing) in
+    ap (λ xs. ended xs (Fault c.in-Some.code)) c.truncate.ensures.items ∙ sym (taken.faulted c.in-Some.code c.in-Some.is)
 
-pub returns : goal.returns
-returns g c =
-    let all : take c.loop-at.at c.loop-at.block.items ≡ c.loop-at.block.items = take_all c.loop-at.at c.loop-at.block.items (omega (arith, c.len-at-end.ensures, c.loop-at-test.false)) in
-    rw (← all) (sym (joined-done c.loop-at.invariant.0 (drop_all c.loop-at.at c.loop-at.block.items (search rules))))
+pub returns-in-None : goal.returns-in-None
+returns-in-None g c =
+    let taken = taken-passing _ c.args.block.now.items _ _ (rw c.as_slice.ensures.value at c.count_passing-len.ensures.passing) in
+    let within : c.count_passing-len.result.0 ≤ length c.args.block.now.items = rw c.as_slice.ensures.value at c.count_passing-len.ensures.within in
+    let all : length (take c.count_passing-len.result.0 c.args.block.now.items) ≡ length c.args.block.now.items = omega (arith, length-take-le _ _ within, c.if-all_pass.true, c.len.ensures) in
+    ap open_trace c.truncate.ensures.items ∙ sym (taken.whole c.in-None.is all)
+
+pub returns-in-None-2 : goal.returns-in-None-2
+returns-in-None-2 g c =
+    let taken = taken-passing _ c.args.block.now.items _ _ (rw c.as_slice.ensures.value at c.count_passing-len.ensures.passing) in
+    let within : c.count_passing-len.result.0 ≤ length c.args.block.now.items = rw c.as_slice.ensures.value at c.count_passing-len.ensures.within in
+    let fewer : length (take c.count_passing-len.result.0 c.args.block.now.items) < length c.args.block.now.items = omega (arith, length-take-le _ _ within, within, c.if-all_pass.false, c.len.ensures) in
+    ap (λ xs. ended xs End) c.truncate.ensures.items ∙ sym (taken.stopped c.in-None.is fewer)
