@@ -9,20 +9,20 @@
 
 Each takes `--program PATH`, another program to measure in place of its own; the last three `--workers NUMBERS`, such as 4,64.
 
-`times` runs each workload by 1, 2 and 4 workers, each in a process of its own, which tells the best of its rounds. PEERS is a
+`times` runs each workload by 1, 2 and 4 workers, each in a process of its own, which reports the best of its rounds. PEERS is a
 file of such lines that other programs printed, of the same workloads or of those that a NAME there stands for: the sums have to
-be the same, and of each workload the shortest times of both are told. `instructions` prints where the instructions of `cheap` go
+be the same, and of each workload the shortest times of both are reported. `instructions` prints where the instructions of `cheap` go
 by one worker: callgrind's slope between two counts of items, by the functions of the program.
 
 `load` runs five workloads by 1 to 64 workers, each in a process of its own, with nothing beside them and then beside four
 processes that only burn a core, and prints a table of each. A COMMAND is another program that takes turns with plinq: its words,
 without a shell, in which {workload}, {workers}, {items} and {rounds} stand for what is asked. It prints such lines, one of its
-plain loop (`..:loop`) and one of its run, and the sums have to be the same. `load` tells the seconds of the best round and their
+plain loop (`..:loop`) and one of its run, and the sums have to be the same. `load` reports the seconds of the best round and their
 ratio to the loop of the same process; user and system seconds are those of the whole process, with its loops and the rounds that
 aren't counted, divided by its rounds. NAMES are workloads, such as cheap,heavy; S is the part of the usual items.
 
 `reader` and `beside` measure crates/plinq/out/plinq over a range. `reader` is a reader of `plinq run --merge not` that falls
-asleep for four seconds once the pipe is full, and tells what processor time the run took in them. `beside` tells how long
+asleep for four seconds once the pipe is full, and reports what processor time the run took in them. `beside` reports how long
 `plinq run` and `plinq seq` take, with nothing beside them and beside the four processes: the best of three rounds in which all
 take turns.
 
