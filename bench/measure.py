@@ -128,17 +128,21 @@ def memory():
     # (a text is nested at most 127 deep, of which the document's own objects and list take three)
     nested = b'{"":' * 124 + b"0" + b"}" * 124
     print("| document | bytes | peak | times its bytes | status |\n|---|---|---|---|---|")
-    for name, text in (
-        ("list of objects, nested as deep as can be", filled(nested)),
-        ('list of `{"":0}`', filled(b'{"":0}')),
-        ("list of `[0]`", filled(b"[0]")),
-        ("list of `0`", filled(b"0")),
-        ("998 nested `select_many` of `repeat` 65,536, the first element taken", document({"list": [0]}, [["select_many", "repeat", 65536]] * 998 + [["take", 1]])),
-        ("one `select_many` of `repeat` 65,536 over 2,000 elements", document({"repeat": [7, 2_000]}, EXPANDED)),
-        ("the same over 1,000,000 elements, the first 100,000,000 taken", document({"repeat": [7, 1_000_000]}, EXPANDED + [["take", 100_000_000]])),
-        ("range of 3,000,000 in chunks of one element", document({"range": [0, 3_000_000]}, [["as_ordered"], ["filter", "below", 0]], growth=[1, 1, 1])),
+    nested_expansions = document({"list": [0]}, [["select_many", "repeat", 65536]] * 998 + [["take", 1]])
+    run, seq = [PROGRAM, "run"], [PROGRAM, "seq"]
+    limited = ["bash", "-c", 'ulimit -v 4000000; exec "$0" run', PROGRAM]
+    for name, words, text in (
+        ("list of objects, nested as deep as can be", run, filled(nested)),
+        ('list of `{"":0}`', run, filled(b'{"":0}')),
+        ("list of `[0]`", run, filled(b"[0]")),
+        ("list of `0`", run, filled(b"0")),
+        ("998 nested `select_many` of `repeat` 65,536, the first element taken, by `seq`", seq, nested_expansions),
+        ("the same by `run`, within 4,000,000 KiB", limited, nested_expansions),
+        ("one `select_many` of `repeat` 65,536 over 2,000 elements", run, document({"repeat": [7, 2_000]}, EXPANDED)),
+        ("the same over 1,000,000 elements, the first 100,000,000 taken", run, document({"repeat": [7, 1_000_000]}, EXPANDED + [["take", 100_000_000]])),
+        ("range of 3,000,000 in chunks of one element", run, document({"range": [0, 3_000_000]}, [["as_ordered"], ["filter", "below", 0]], growth=[1, 1, 1])),
     ):
-        seen = Measured([PROGRAM, "run"], text)
+        seen = Measured(words, text)
         print(f"| {name} | {len(text):,} | {seen.peak:,.0f} MB | {seen.peak * 2**20 / len(text):,.0f} | {seen.status} |")
 
 
