@@ -1,8 +1,9 @@
 -- Filling a list: each item that the source gives comes after those taken, and where it ends, all that is left was taken.
-use Rattle.std.proofs.Common.{◌≡◌, ℕ, List, ◌+◌, ◌-◌, ◌<◌, ◌≤◌, [], ◌∷◌, ◌++◌, length, take, drop, Some, None, Bool, cond, ltb, true, false, refl, arith, ap, sym, ◌∙◌, length-drop}
+use Rattle.std.proofs.Common.{◌≡◌, ℕ, List, ◌+◌, ◌-◌, ◌<◌, ◌≤◌, [], ◌∷◌, ◌++◌, length, take, drop, Some, None, Bool, cond, ltb, true, false, refl, arith, ap, sym, ◌∙◌, length-drop, vec_len, vec_capacity}
 use Rattle.std.proofs.lemmas.Bool.{lt-ltb, le-ltb, ltb-true}
 use Rattle.std.proofs.lemmas.List.{append_assoc, drop-drop, take_all, length-take-le}
 use Rattle.std.proofs.Math.Seq.{take-add}
+use Rattle.std.specs.Global.{Vec}
 use Rattle.plinq_source.specs.Trace.{Trace, step_at, items_from, ending_within}
 use Rattle.plinq_source.specs.declared.ending.Ending.{Ending}
 use Rattle.plinq_source.specs.declared.step.Step.TheVariants.{Item}
@@ -18,6 +19,27 @@ pub filled-more : {T : Type 0} (t : Trace T) (g m : ℕ) (before now after : Lis
     → now ≡ before ++ items_from t g m → after ≡ now ++ x ∷ [] → after ≡ before ++ items_from t g (m + 1)
 filled-more t g m before now after x step filled added =
     added ∙ ap (λ xs. xs ++ x ∷ []) filled ∙ append_assoc before (items_from t g m) (x ∷ []) ∙ ap (λ xs. before ++ xs) (sym (items_from-more t g m x step))
+
+-- a loop over the places from g on stands before this one: it added the items of those before
+pub record IsFilled {T : Type 0} (t : Trace T) (g place : ℕ) (before now : Vec T) : Type 0 where
+  pub filled : now.items ≡ before.items ++ items_from t g (place - g)
+  pub counted : vec_len now + g ≡ vec_len before + place
+  pub capacity : vec_capacity now ≡ vec_capacity before
+  pub from : g ≤ place
+
+-- and it adds that of this place
+pub filled_on : {T : Type 0} (t : Trace T) (g place : ℕ) (before now after : Vec T) (x : T) → IsFilled t g place before now → step_at t place ≡ Item x
+    → after.items ≡ now.items ++ x ∷ [] → vec_len after ≡ vec_len now + 1 → vec_capacity after ≡ vec_capacity now → IsFilled t g (place + 1) before after
+filled_on t g place before now after x i step added longer same =
+    let m = place - g in
+    let at : place ≡ g + m = omega (arith, i.from) in
+    let one_more : m + 1 ≡ place + 1 - g = omega (arith, i.from) in
+    record {
+      filled = filled-more t g m before.items now.items after.items x (ap (step_at t) (sym at) ∙ step) i.filled added ∙ ap (λ k. before.items ++ items_from t g k) one_more;
+      counted = omega (arith, longer, i.counted);
+      capacity = same ∙ i.capacity;
+      from = omega (arith, i.from);
+    }
 
 -- the last m items were taken, and n were wanted
 pub record IsLast {T : Type 0} (t : Trace T) (g m n : ℕ) (e : Ending) : Type 0 where

@@ -1,11 +1,11 @@
 -- A range's items are its start and their places added.
-use Rattle.std.proofs.Common.{◌≡◌, ◌+◌, ◌-◌, ◌+ℤ◌, ◌++◌, pos, w64, to_z, of_z, arith, refl, sym, ap, ◌∙◌}
+use Rattle.std.proofs.Common.{◌≡◌, ◌-◌, ◌+ℤ◌, ◌++◌, pos, w64, to_z, of_z, arith, refl, sym, ap, ◌∙◌}
 use Rattle.std.proofs.lemmas.Int.{ints}
 use Rattle.plinq_source.specs.Trace.{items_from, step_at}
 use Rattle.plinq_source.specs.Walked.{range_whole}
 use Rattle.plinq_source.specs.declared.ending.Ending.TheVariants.{End}
 use Rattle.plinq_source.specs.declared.step.Step.TheVariants.{Item}
-use Rattle.plinq_source.proofs.Filling.{filled-more, IsLast, last_items, AreEnough, enough_items}
+use Rattle.plinq_source.proofs.Filling.{filled_on, IsLast, last_items, AreEnough, enough_items}
 use Rattle.plinq_source.proofs.Walks.{step_at-range, length-range_items}
 use Rattle.plinq_source.proofs.range.RangeSourceSource.fill.Goals as goal
 
@@ -13,21 +13,12 @@ pub loop-place-preserved : goal.loop-place-preserved
 loop-place-preserved c =
     let s = c.args.self.now in
     let t = range_whole s in
-    let i = c.loop-place.invariant in
     let place = c.loop-place.place in
-    let m = place - s.next in
     let x = to_z w64 (of_z w64 (to_z w64 (of_z w64 s.start) +ℤ to_z w64 place)) in
     let sum : x ≡ s.start +ℤ pos place = omega (arith, ints) in
-    let at : place ≡ s.next + m = omega (arith, i.from) in
-    let step : step_at t (s.next + m) ≡ Item x = ap (step_at t) (sym at) ∙ step_at-range s.start s.count place (omega arith) ∙ ap Item (sym sum) in
-    let one_more : m + 1 ≡ place + 1 - s.next = omega (arith, i.from) in
-    record {
-      filled = filled-more t s.next m c.args.items.now.items c.loop-place.items.items c.push_reserved.new.self.items x step i.filled c.push_reserved.ensures.items
-          ∙ ap (λ k. c.args.items.now.items ++ items_from t s.next k) one_more;
-      counted = omega (arith, c.push_reserved.ensures.len);
-      capacity = c.push_reserved.ensures.capacity ∙ i.capacity;
-      from = omega arith;
-    }
+    let step : step_at t place ≡ Item x = step_at-range s.start s.count place (omega arith) ∙ ap Item (sym sum) in
+    filled_on t s.next place c.args.items.now c.loop-place.items c.push_reserved.new.self x c.loop-place.invariant step
+    c.push_reserved.ensures.items c.push_reserved.ensures.len c.push_reserved.ensures.capacity
 
 last : (c : goal.Then-n-left) → IsLast (range_whole c.args.self.now) c.args.self.now.next (c.args.self.now.count - c.args.self.now.next) c.args.n End
 last c =

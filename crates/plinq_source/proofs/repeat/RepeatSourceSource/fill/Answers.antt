@@ -1,12 +1,12 @@
 -- A repeat's items are its value again and again.
-use Rattle.std.proofs.Common.{◌≡◌, ◌+◌, ◌-◌, ◌++◌, w64, to_z, of_z, arith, refl, sym, ap, ◌∙◌}
+use Rattle.std.proofs.Common.{◌≡◌, ◌-◌, ◌++◌, w64, to_z, of_z, arith, refl, sym, ap, ◌∙◌}
 use Rattle.std.proofs.lemmas.Int.{ints}
 use Rattle.std.proofs.Math.ListN.{length-replicate}
 use Rattle.plinq_source.specs.Trace.{items_from, step_at}
 use Rattle.plinq_source.specs.Walked.{repeat_whole}
 use Rattle.plinq_source.specs.declared.ending.Ending.TheVariants.{End}
 use Rattle.plinq_source.specs.declared.step.Step.TheVariants.{Item}
-use Rattle.plinq_source.proofs.Filling.{filled-more, IsLast, last_items, AreEnough, enough_items}
+use Rattle.plinq_source.proofs.Filling.{filled_on, IsLast, last_items, AreEnough, enough_items}
 use Rattle.plinq_source.proofs.Walks.{step_at-replicate}
 use Rattle.plinq_source.proofs.repeat.RepeatSourceSource.fill.Goals as goal
 
@@ -14,21 +14,12 @@ pub loop-place-preserved : goal.loop-place-preserved
 loop-place-preserved c =
     let s = c.args.self.now in
     let t = repeat_whole s in
-    let i = c.loop-place.invariant in
     let place = c.loop-place._place in
-    let m = place - s.next in
     let x = to_z w64 (of_z w64 s.value) in
     let same : x ≡ s.value = omega (arith, ints) in
-    let at : place ≡ s.next + m = omega (arith, i.from) in
-    let step : step_at t (s.next + m) ≡ Item x = ap (step_at t) (sym at) ∙ step_at-replicate s.count s.value place (omega arith) ∙ ap Item (sym same) in
-    let one_more : m + 1 ≡ place + 1 - s.next = omega (arith, i.from) in
-    record {
-      filled = filled-more t s.next m c.args.items.now.items c.loop-place.items.items c.push_reserved.new.self.items x step i.filled c.push_reserved.ensures.items
-          ∙ ap (λ k. c.args.items.now.items ++ items_from t s.next k) one_more;
-      counted = omega (arith, c.push_reserved.ensures.len);
-      capacity = c.push_reserved.ensures.capacity ∙ i.capacity;
-      from = omega arith;
-    }
+    let step : step_at t place ≡ Item x = step_at-replicate s.count s.value place (omega arith) ∙ ap Item (sym same) in
+    filled_on t s.next place c.args.items.now c.loop-place.items c.push_reserved.new.self x c.loop-place.invariant step
+    c.push_reserved.ensures.items c.push_reserved.ensures.len c.push_reserved.ensures.capacity
 
 last : (c : goal.Then-n-left) → IsLast (repeat_whole c.args.self.now) c.args.self.now.next (c.args.self.now.count - c.args.self.now.next) c.args.n End
 last c =
