@@ -96,6 +96,7 @@ where
         self.post.after_chunk(worker, chunk.first);
         let cut = cut_now(self.plan, self.cut, pass);
         let made = chunk_result(self.alloc, self.plan, &chunk, cut)?;
+        partition.reuse(chunk.items);
         cut_off(self.plan, self.cut, pass, &made);
         let part = self.post.make(self.alloc, made)?;
         Ok(part)

@@ -79,6 +79,33 @@ impl<S: Source> Enumerator<S> {
             IfOk result (IsChunkOf (held.origin self.old) (next_record (held.origin self.old) (held.history self.old) ticket (Ask n))) }
         ensures unchanged { OnErr result (⟦<Enumerator<S> as Guarded>⟧.history self.new ≡ ⟦<Enumerator<S> as Guarded>⟧.history self.old) }
     {
+        self.ask_into(ticket, n, Vec::new(self.alloc))
+    }
+
+    /// The same, where the chunk takes this list's room, and more only where it has too little. What was in the list goes.
+    ///
+    /// # Errors
+    ///
+    /// Those of [`Enumerator::ask`]. The list is dropped then.
+    pub fn ask_into(
+        &mut self,
+        ticket: u64,
+        n: u64,
+        list: Vec<S::Item>,
+    ) -> Result<Chunk<S::Item>, OutOfMemory>
+        requires least { 1 ≤ n }
+        requires most { n ≤ 65536 }
+        requires rising { tickets_below ticket (⟦<Enumerator<S> as Guarded>⟧.history self.old) ≡ true }
+        ensures origin { ⟦<Enumerator<S> as Guarded>⟧.origin self.new ≡ ⟦<Enumerator<S> as Guarded>⟧.origin self.old }
+        ensures legal { let held = ⟦<Enumerator<S> as Guarded>⟧ in IsLegalHistory (held.origin self.new) (held.history self.new) }
+        ensures recorded { let held = ⟦<Enumerator<S> as Guarded>⟧ in
+            OnOk result (held.history self.new ≡ with_next (held.origin self.old) (held.history self.old) ticket (Ask n)) }
+        ensures chunk { let held = ⟦<Enumerator<S> as Guarded>⟧ in
+            IfOk result (IsChunkOf (held.origin self.old) (next_record (held.origin self.old) (held.history self.old) ticket (Ask n))) }
+        ensures unchanged { OnErr result (⟦<Enumerator<S> as Guarded>⟧.history self.new ≡ ⟦<Enumerator<S> as Guarded>⟧.history self.old) }
+    {
+        let mut items = list;
+        items.clear();
         if self.closed {
             self.records.reserve(1)?;
             self.records.push_reserved(Record {
@@ -90,11 +117,11 @@ impl<S: Source> Enumerator<S> {
             });
             return Ok(Chunk {
                 first: self.given,
-                items: Vec::new(self.alloc),
+                items,
                 tail: Some(Tail::Closed),
             });
         }
-        let mut items = Vec::with_capacity(self.alloc, n as usize)?;
+        items.reserve(n as usize)?;
         self.records.reserve(1)?;
         let first = self.given;
         let tail = take_items(&mut self.source, &mut items, n);

@@ -62,6 +62,10 @@ module _ {S T : Type 0} {source : Ghosts S T} where
   abbrev pub IsPartitionOf : Chunked S T source → Partition S T source → Type 0
   IsPartitionOf chunked p = IsAt chunked.lock p.requests p.pass
 
+  -- it is a partition of whatever source it was one of
+  abbrev pub StaysOf : Partition S T source → Partition S T source → Type 0
+  StaysOf p q = (chunked : Chunked S T source) → IsPartitionOf chunked p → IsPartitionOf chunked q
+
   -- how the chunks of its partitions grow
   abbrev pub growth_of : Chunked S T source → GrowthRule
   growth_of chunked = chunked.growth

@@ -11,4 +11,6 @@ pub struct Partition<S: Source> {
     // It is away only while the partition is inside the lock.
     pub(crate) pass: Option<Pass<Enumerator<S>>>,
     pub(crate) requests: u64,
+    // A list whose room the next chunk takes.
+    pub(crate) spare: Option<Vec<S::Item>>,
 }

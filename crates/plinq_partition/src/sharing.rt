@@ -63,6 +63,7 @@ impl<S: Source> Chunked<S> {
         let partition = Partition {
             pass: Some(pass),
             requests: 0,
+            spare: None,
         };
         Ok((chunked, partition))
     }
@@ -80,6 +81,7 @@ impl<S: Source> Chunked<S> {
         Partition {
             pass: Some(other),
             requests: 0,
+            spare: None,
         }
     }
 

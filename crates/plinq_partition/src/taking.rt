@@ -1,7 +1,7 @@
 ghost use Rattle.std.specs.Prelude.{◌≡◌, ◌+◌, Some, IsSome, IfOk, IfErr, OnOk, OnErr};
 ghost use Rattle.plinq_partition.specs.Faults.{take_fault_of};
 ghost use Rattle.plinq_partition.specs.Inside.{IsInside, holding_inside};
-ghost use Rattle.plinq_partition.specs.Partitions.{IsPartitionOf, IsTaken, IsStopped, IsRefused, IsNotBusy, growth_of, holding_of};
+ghost use Rattle.plinq_partition.specs.Partitions.{IsPartitionOf, IsTaken, IsStopped, IsRefused, IsNotBusy, StaysOf, growth_of, holding_of};
 ghost use Rattle.plinq_partition.specs.Shares.{drawn_at, served_at};
 ghost use Rattle.plinq_ticket.specs.Passes.{held_drawn, held_ticket};
 
@@ -12,6 +12,7 @@ use plinq_enumerator::Enumerator;
 use plinq_keyed::Chunk;
 use plinq_source::Source;
 use plinq_ticket::{Held, LockFault, Pass};
+use std::alloc::Global;
 use std::sync::Wait;
 
 impl<S: Source> Partition<S> {
@@ -89,12 +90,28 @@ impl<S: Source> Partition<S> {
         }
     }
 
+    /// Keeps the list of a chunk that was worked off: the next chunk takes its room. So whoever gives each list back takes
+    /// memory for the largest chunk alone. Takes no memory.
+    ///
+    /// ```text
+    /// let chunk = partition.take(&rt, &chunked)?;
+    /// ..
+    /// partition.reuse(chunk.items);
+    /// ```
+    pub fn reuse(&mut self, list: Vec<S::Item>)
+        ensures of { StaysOf self.old self.new }
+        ensures same { holding_of self.new ≡ holding_of self.old }
+    {
+        self.spare = Some(list);
+    }
+
     // The pass, for good.
     pub(crate) fn into_pass(self) -> Pass<Enumerator<S>>
         requires there { IsSome self.pass }
         ensures { self.pass ≡ Some result }
     {
-        match self.pass {
+        let Partition { pass, .. } = self;
+        match pass {
             Some(pass) => pass,
             None => unreachable!(),
         }
@@ -123,6 +140,17 @@ impl<S: Source> Partition<S> {
         TakeFault::from(fault)
     }
 
+    // The list that was kept, or one without room.
+    fn spare_list(&mut self, alloc: Global) -> Vec<S::Item>
+        ensures pass { self.new.pass ≡ self.old.pass }
+        ensures requests { self.new.requests ≡ self.old.requests }
+    {
+        match self.spare.take() {
+            Some(list) => list,
+            None => Vec::new(alloc),
+        }
+    }
+
     // Takes the chunk of the next request while inside, and leaves.
     fn ask(
         &mut self,
@@ -139,7 +167,8 @@ impl<S: Source> Partition<S> {
         let mut held = held;
         let ticket = held.ticket();
         let n = chunked.growth.size(self.requests);
-        let asked = held.value_mut().ask(ticket, n);
+        let list = self.spare_list(chunked.alloc);
+        let asked = held.value_mut().ask_into(ticket, n, list);
         self.pass = Some(chunked.lock.leave(held));
         let chunk = asked?;
         self.requests += 1;

@@ -112,6 +112,47 @@ fn a_dropped_partition_is_missed(rt: HostRuntime) -> Result<(), Fail> {
     Ok(())
 }
 
+// Lends a list to a partition's next chunk.
+fn lend(chunked: &Chunked<RangeSource>, partition: &mut Partition<RangeSource>, list: Vec<i64>)
+    requires { IsPartitionOf chunked.now partition.old }
+    ensures { IsPartitionOf chunked.now partition.new }
+{
+    partition.reuse(list);
+}
+
+#[test]
+fn a_chunk_takes_the_room_of_a_list_that_was_given_back(rt: HostRuntime) -> Result<(), Fail> {
+    let (chunked, mut partition) = range_of(&rt, rt.alloc(), 2, Growth::ONE);
+    lend(&chunked, &mut partition, vec![in rt.alloc(); 7, 8, 9]?);
+    let Ok(chunk) = partition.take(&rt, &chunked) else {
+        panic!(rt; "no chunk");
+    };
+    assert_eq!(rt;
+        (chunk.items.as_slice(), chunk.items.capacity()),
+        ([0].as_slice(), 3)
+    );
+    lend(&chunked, &mut partition, chunk.items);
+    expect_tried(&rt, &chunked, &mut partition, 1, &[1], None);
+    lend(&chunked, &mut partition, vec![in rt.alloc(); 7]?);
+    expect_taken(&rt, &chunked, &mut partition, 2, &[], Some(Tail::Ended));
+    lend(&chunked, &mut partition, vec![in rt.alloc(); 7]?);
+    assert_eq!(rt; partition.stop(&rt, &chunked), Ok(()));
+    expect_taken(&rt, &chunked, &mut partition, 2, &[], Some(Tail::Closed));
+    Ok(())
+}
+
+#[test]
+fn a_list_that_is_too_small_grows(rt: HostRuntime) -> Result<(), Fail> {
+    let (chunked, mut partition) = range_of(&rt, rt.alloc(), 5, Growth::DEFAULT);
+    lend(&chunked, &mut partition, vec![in rt.alloc(); 7]?);
+    expect_taken(&rt, &chunked, &mut partition, 0, &[0], None);
+    expect_taken(&rt, &chunked, &mut partition, 1, &[1], None);
+    expect_taken(&rt, &chunked, &mut partition, 2, &[2], None);
+    lend(&chunked, &mut partition, vec![in rt.alloc(); 7]?);
+    expect_taken(&rt, &chunked, &mut partition, 3, &[3, 4], None);
+    Ok(())
+}
+
 #[test]
 fn a_stopped_source_gives_nothing_more(rt: HostRuntime) {
     let (chunked, mut partition) = range_of(&rt, rt.alloc(), 1, Growth::DEFAULT);

@@ -1,4 +1,6 @@
+use Rattle.std.proofs.Common.{sym, subst}
 use Rattle.plinq_partition.specs.Partitions.{holding_of}
+use Rattle.plinq_crew.specs.Working.{HasTaken}
 use Rattle.plinq_crew.proofs.Cuts.{cut-read, stop-ender}
 use Rattle.plinq_crew.proofs.Taken.{result-from_taken}
 use Rattle.plinq_crew.proofs.Working.{taken-result, taken-part}
@@ -29,4 +31,10 @@ returns-clause-result g c =
 
 pub returns-clause-taken : goal.returns-clause-taken
 returns-clause-taken g c =
-    taken-part _ _ c.in_ok-made.made c.in_ok-part.part (taken-result g.L.Lambda.meaning _ _ _ _ _ c.in_ok-chunk.chunk c.in_ok-made.made c.in_ok-chunk.ensures.taken c.in_ok-made.ensures) c.in_ok-part.ensures.same
+    subst (λ h. HasTaken (holding_of c.args.partition.now).share h.share c.in_ok-part.part) (sym c.reuse.ensures.same) (taken-part _ _ c.in_ok-made.made c.in_ok-part.part (taken-result g.L.Lambda.meaning _ _ _ _ _ c.in_ok-chunk.chunk c.in_ok-made.made c.in_ok-chunk.ensures.taken c.in_ok-made.ensures) c.in_ok-part.ensures.same)
+
+pub returns-clause-of : goal.returns-clause-of
+returns-clause-of g c = c.reuse.ensures.of c.args.self.now.chunked.now c.take.ensures.of
+
+pub returns-in_err-part-clause-of : goal.returns-in_err-part-clause-of
+returns-in_err-part-clause-of g c = c.reuse.ensures.of c.args.self.now.chunked.now c.take.ensures.of

@@ -1,4 +1,4 @@
-use Rattle.std.proofs.Common.{◌+◌, ◌≤◌, length, ap, arith, refl, subst}
+use Rattle.std.proofs.Common.{◌+◌, ◌≤◌, length, ap, arith, subst}
 use Rattle.plinq_source.specs.Trace.{Trace}
 use Rattle.plinq_keyed.specs.declared.event.Event.TheVariants.{Ask}
 use Rattle.plinq_keyed.specs.History.{start, place_after, reply, recorded, next_record, IsChunkOf}
@@ -44,5 +44,5 @@ returns-clause-taken g c =
       of = rw (← left.origin) of;
       counted = sized.0;
       within = subst Within left.origin sized.1;
-      requests = refl;
+      requests = ap (λ n. n + 1) c.spare_list-list.ensures.requests;
     }

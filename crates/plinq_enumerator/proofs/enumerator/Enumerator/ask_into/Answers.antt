@@ -4,7 +4,7 @@ use Rattle.plinq_keyed.specs.declared.tail.Tail.TheVariants.{Closed}
 use Rattle.plinq_source.specs.Trace.{items_from}
 use Rattle.plinq_keyed.specs.History.{Place, place_after, start, is_legal_history, ending_tail}
 use Rattle.plinq_enumerator.proofs.Next.{record_of, Grown-from_next, next_record-closed, next_record-open, place_behind-closed, place_behind-open}
-use Rattle.plinq_enumerator.proofs.enumerator.Enumerator.ask.Goals as goal
+use Rattle.plinq_enumerator.proofs.enumerator.Enumerator.ask_into.Goals as goal
 
 pub invariant_of-self-then-self : goal.invariant_of-self-then-self
 invariant_of-self-then-self g c =
@@ -41,7 +41,7 @@ invariant_of-self-2 g c =
     let counted : m ≡ length (items_from t g0 n) = omega (arith, c.len-count.ensures, c.take_items-tail.ensures.counted, ap length taken) in
     let tailed : tail ≡ cond (ltb (length t.items - g0) n) (ending_tail t.ending) None = c.take_items-tail.ensures.tail ∙ ap (λ f. cond (ltb (length t.items - f) n) (ending_tail t.ending) None) old.walked in
     let r = record_of k (Ask n) g0 m tail in
-    let added : c.push_reserved-2.new.self.items ≡ h ++ r ∷ [] = c.push_reserved-2.ensures.items ∙ ap (λ xs. xs ++ r ∷ []) c.in_ok-reserve-2.ensures.items in
+    let added : c.push_reserved-2.new.self.items ≡ h ++ r ∷ [] = c.push_reserved-2.ensures.items ∙ ap (λ xs. xs ++ r ∷ []) c.in_ok-reserve-3.ensures.items in
     let grown = Grown-from_next t h c.push_reserved-2.new.self.items k (Ask n) r added (next_record-open t h k n g0 m tail old.at shut counted tailed) old.legal c.requires.rising in
     let moved : (place_after t start c.push_reserved-2.new.self.items).given ≡ g0 + m =
     ap (λ (p : Place). p.given) grown.place
