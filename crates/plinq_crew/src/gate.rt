@@ -6,6 +6,12 @@ pub trait Gate: Sync {
 
     /// A worker has taken the chunk whose first key is `first`, and computes its result next.
     fn after_chunk(&self, worker: u64, first: u64);
+
+    /// Whether it may hold a worker back until another one has passed. Then all workers are at work at once, also where they are
+    /// many more than there are cores.
+    fn holds_back(&self) -> bool {
+        true
+    }
 }
 
 /// A gate that lets every worker pass.
@@ -16,4 +22,8 @@ impl Gate for OpenGate {
     fn before_take(&self, _worker: u64) {}
 
     fn after_chunk(&self, _worker: u64, _first: u64) {}
+
+    fn holds_back(&self) -> bool {
+        false
+    }
 }

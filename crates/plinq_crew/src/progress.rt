@@ -4,6 +4,9 @@ use plinq_wait::WaitQueue;
 use std::sync::Wait;
 use std::sync::atomic::{AtomicBool, AtomicU64, Ordering};
 
+// So often the caller's thread lacks a result before that counts.
+const LACKS: u64 = 64;
+
 /// How far the threads of a run are. It only tells the caller's thread when to sleep and when to join the workers, and the
 /// workers when to wait and when to go on; no answer rests on it.
 #[derive(Drop)]
@@ -15,6 +18,15 @@ pub struct Progress {
     sent: AtomicU64,
     ended: AtomicU64,
     failed: AtomicBool,
+    /// How many workers are at work at once.
+    at_once: AtomicU64,
+    /// How many are where the caller's thread mostly waits for them.
+    at_most: u64,
+    /// How many results were sent, and how often the caller's thread was about to sleep since there was none.
+    results: AtomicU64,
+    lacks: AtomicU64,
+    /// What those sleep on that aren't at work yet.
+    start: WaitQueue,
     /// What the caller's thread sleeps on.
     news: WaitQueue,
     /// What the workers sleep on that are too far ahead.
@@ -22,14 +34,20 @@ pub struct Progress {
 }
 
 impl Progress {
-    /// Nothing is merged yet, and workers may be so many keys above it, and so many items.
-    pub fn new(keys: u64, items: u64) -> Progress {
+    /// Nothing is merged yet, and workers may be so many keys above it, and so many items. So many of them are at work at once,
+    /// and half as many more where the caller's thread mostly waits for them.
+    pub fn new(keys: u64, items: u64, at_once: u64) -> Progress {
         Progress {
             keys: Ahead::new(keys),
             items: Ahead::new(items),
             sent: AtomicU64::new(0),
             ended: AtomicU64::new(0),
             failed: AtomicBool::new(false),
+            at_once: AtomicU64::new(at_once),
+            at_most: at_once.saturating_add(at_once / 2),
+            results: AtomicU64::new(0),
+            lacks: AtomicU64::new(0),
+            start: WaitQueue::new(),
             news: WaitQueue::new(),
             merged: WaitQueue::new(),
         }
@@ -48,9 +66,10 @@ impl Progress {
         self.move_to(u64::MAX, u64::MAX);
     }
 
-    /// So many items are about to be sent.
+    /// A result with so many items is about to be sent.
     pub fn count_in(&self, items: u64) {
         self.sent.fetch_add(items, Ordering::SeqCst);
+        self.results.fetch_add(1, Ordering::SeqCst);
     }
 
     /// Waits while a worker stands so far above what is merged that it may not take more, or while too many items wait to be
@@ -66,9 +85,39 @@ impl Progress {
         }
     }
 
+    /// Before a worker takes its first chunk: where enough others are at work, it sleeps until one of them has ended. Then the
+    /// source has nothing more, or the run is over, and it finds that out itself.
+    pub fn wait_to_begin<R: Wait>(&self, rt: &R, worker: u64) {
+        let waiter = self.start.waiter();
+        for _ in rt.forever() {
+            let sleep = waiter.prepare();
+            if self.may_begin(worker) {
+                return;
+            }
+            waiter.pause(rt, sleep);
+        }
+    }
+
+    fn may_begin(&self, worker: u64) -> bool {
+        worker < self.at_once.load(Ordering::SeqCst) || self.ended.load(Ordering::SeqCst) > 0
+    }
+
+    /// The caller's thread lacks a result. Where that is so for every second one, workers are what it waits for, and some more
+    /// begin: a busy machine shares its cores out by threads.
+    fn note_lack(&self) {
+        let lacks = self.lacks.fetch_add(1, Ordering::SeqCst);
+        let is_slow = lacks >= LACKS
+            && lacks.saturating_mul(2) >= self.results.load(Ordering::SeqCst);
+        if is_slow && self.at_once.load(Ordering::SeqCst) < self.at_most {
+            self.at_once.store(self.at_most, Ordering::SeqCst);
+            self.start.wake();
+        }
+    }
+
     /// A worker has ended.
     pub fn end(&self) {
         self.ended.fetch_add(1, Ordering::SeqCst);
+        self.start.wake();
         self.tell();
     }
 
@@ -86,6 +135,7 @@ impl Progress {
     /// Says that the caller's thread is about to sleep. What is reported from now on ends its sleep, so whatever it waits for
     /// is to be looked at once more before it does.
     pub fn announce_sleep(&self) -> Key<'_> {
+        self.note_lack();
         self.news.announce()
     }
 

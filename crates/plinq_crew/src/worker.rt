@@ -122,6 +122,7 @@ where
             mut stream,
             mut cut,
         } = own;
+        self.progress.wait_to_begin(rt, worker);
         for _ in rt.forever() {
             match self.next_result(rt, worker, &mut partition, &mut cut) {
                 Ok(made) => {

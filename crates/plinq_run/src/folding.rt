@@ -224,7 +224,7 @@ where
     let Ok((stream, pass)) = ResultStream::<A::Acc, J>::new(alloc, ROOM) else {
         return Err(RunFault::Memory);
     };
-    let progress = progress_of(plan.order, workers, growth);
+    let progress = progress_of(rt, gate, plan.order, workers, growth);
     let post = Folds { aggregator, gate };
     let crew = Crew {
         alloc,

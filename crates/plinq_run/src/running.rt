@@ -34,7 +34,7 @@ use std::alloc::Global;
 use std::marker::Brand;
 use std::sync::Wait;
 use std::thread;
-use std::thread::Threads;
+use std::thread::{Threads, available_parallelism};
 
 // How many results the queue has room for.
 pub(crate) const ROOM: usize = 64;
@@ -42,14 +42,34 @@ pub(crate) const ROOM: usize = 64;
 // How many chunks of the largest size workers may be ahead of what is merged, for each worker.
 const CHUNKS_AHEAD: u64 = 64;
 
-/// How far workers may be ahead of what is merged: how many keys above it, and how many items may be sent that aren't merged
-/// yet. By arrival each result is merged at once, so there is no bound on keys.
-pub(crate) fn progress_of(order: Order, workers: u64, growth: Growth) -> Progress {
+/// How many workers are at work at once: one for each core, since more only take cores from one another. A gate that holds some
+/// back may need all of them.
+fn at_once<G: Gate, R: Threads>(rt: &R, gate: &G) -> u64 {
+    if gate.holds_back() {
+        return u64::MAX;
+    }
+    match available_parallelism(rt) {
+        Ok(cores) => cores.get() as u64,
+        Err(_) => u64::MAX,
+    }
+}
+
+/// How many workers are at work at once, and how far they may be ahead of what is merged: how many keys above it, and how many
+/// items may be sent that aren't merged yet. By arrival each result is merged at once, so there is no bound on keys.
+pub(crate) fn progress_of<G: Gate, R: Threads>(
+    rt: &R,
+    gate: &G,
+    order: Order,
+    workers: u64,
+    growth: Growth,
+) -> Progress {
+    let at_once = at_once(rt, gate);
     let largest = growth.size(u64::MAX);
-    let most = largest.saturating_mul(CHUNKS_AHEAD).saturating_mul(workers);
+    let ahead = largest.saturating_mul(CHUNKS_AHEAD);
+    let most = ahead.saturating_mul(workers.min(at_once.saturating_add(at_once / 2)));
     match order {
-        Order::ByKey => Progress::new(most, most),
-        Order::ByArrival => Progress::new(u64::MAX, most),
+        Order::ByKey => Progress::new(most, most, at_once),
+        Order::ByArrival => Progress::new(u64::MAX, most, at_once),
     }
 }
 
@@ -125,7 +145,7 @@ where
     let Ok((stream, pass)) = ResultStream::<L::Item, J>::new(alloc, ROOM) else {
         return Err(RunFault::Memory);
     };
-    let progress = progress_of(plan.order, workers, growth);
+    let progress = progress_of(rt, gate, plan.order, workers, growth);
     let post = Whole { gate };
     let crew = Crew {
         alloc,
