@@ -21,7 +21,7 @@ PROGRAM = """
 #![tactic(auto)]
 
 ghost use Rattle.std.specs.Prelude.{◌≤◌, ◌<◌, ◌^◌, ⊤, length, IfOk};
-ghost use Rattle.plinq_merge.specs.Shown.{behind_result};
+ghost use Rattle.plinq_merge.specs.Shown.{end_of_result};
 
 use plinq_keyed::Tail;
 use plinq_lambda::Formula;
@@ -89,7 +89,7 @@ fn result_of(
     items: &[i64],
 ) -> Result<ChunkResult<i64>, AllocError>
     requires { at < count × count ≤ 10000000 × length items.now ≤ 512 }
-    ensures { IfOk result (λ made. behind_result made ≤ 2 ^ 40) }
+    ensures { IfOk result (λ made. end_of_result made ≤ 2 ^ 40) }
 {
     let length = items.len() as u64;
     let tail = if at + 1 == count {

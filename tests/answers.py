@@ -106,7 +106,7 @@ AGGREGATES = [
 ]
 
 # Runs that may be cancelled: a merge option, after how many batches, a source, the steps after `as_ordered`, what stands
-# behind them in the document, the lines, and whether the run is cancelled.
+# after them in the document, the lines, and whether the run is cancelled.
 ADDED = '"list":[3,1,4]', ',["select","add",1]'
 CANCELLED = [
     ("not", 0, *ADDED, "", "", True),

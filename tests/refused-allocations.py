@@ -34,7 +34,7 @@ ANSWERED = [
     document({"list": [5, 0, 2]}, ["select", "into", 10]),
     document({"list": [9223372036854775807]}, ["select", "add", 1]),
     document({"list": [9, 3, 8]}, ["filter", "even"], aggregate="max"),
-    # (a Take behind a Filter isn't the workers', so that the caller's thread folds)
+    # (a Take after a Filter isn't the workers', so that the caller's thread folds)
     document({"range": [1, 9]}, ["filter", "even"], ["take", 3], aggregate="sum"),
     document({"concat": [{"list": [3, 1, 4]}, {"text": "1 5 x"}]}, version=2),
 ]

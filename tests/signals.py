@@ -201,7 +201,7 @@ def few_threads(tests):
 
 
 def no_thread_and_no_memory(tests, folder, program):
-    """No thread is started, and allocations are refused in turn: the last of them is to close the source behind that."""
+    """No thread is started, and allocations are refused in turn: the last of them is to close the source after that."""
     shim = shared_library("refusing.c", folder)
     for name, more in (("run", {}), ("sum", {"aggregate": "sum"})):
         seen, met = [], True

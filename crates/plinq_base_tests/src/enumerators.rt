@@ -182,7 +182,7 @@ fn expect_second_in_place(rt: &impl Abort, records: &[Record]) {
 }
 
 #[test]
-fn nothing_is_handed_out_behind_a_close(rt: HostRuntime) -> Result<(), Fail> {
+fn nothing_is_handed_out_after_a_close(rt: HostRuntime) -> Result<(), Fail> {
     let mut one = numbers(&rt, rt.alloc(), 1)?;
     expect_asked(&rt, &mut one, 0, 1, 0, &[0], None);
     assert!(rt; close(&rt, &mut one, 4).is_ok());
@@ -204,7 +204,7 @@ fn expect_many(rt: &impl Abort, chunk: &Chunk<u64>, first: u64, count: usize, ta
 
 // A history of many records and a chunk of many items take no other path than short ones.
 #[test]
-fn many_are_handed_out_behind_many_records(rt: HostRuntime) -> Result<(), Fail> {
+fn many_are_handed_out_after_many_records(rt: HostRuntime) -> Result<(), Fail> {
     let mut many = numbers(&rt, rt.alloc(), 10_000)?;
     for ticket in 0..101 {
         expect_asked(&rt, &mut many, ticket, 1, ticket, &[ticket], None);
@@ -292,7 +292,7 @@ fn close_or_not(
 }
 
 // A chunk after three asks begins there and has the tail of a close, or none but the source's.
-fn expect_behind(rt: &impl Abort, chunk: &Chunk<u64>, first: u64, closed: Option<Tail>) {
+fn expect_after(rt: &impl Abort, chunk: &Chunk<u64>, first: u64, closed: Option<Tail>) {
     assert_eq!(rt; chunk.first, first);
     assert_eq!(rt; chunk.tail == CLOSED, closed == CLOSED);
 }
@@ -314,7 +314,7 @@ fn a_refused_growth_changes_nothing(rt: HostRuntime) {
     assert!(rt; before >= 3);
     match ask(&rt, &mut three, 4, 1) {
         Ok(chunk) => {
-            expect_behind(&rt, &chunk, first, tail);
+            expect_after(&rt, &chunk, first, tail);
             expect_count(&rt, &three, before.wrapping_add(1));
         }
         Err(OutOfMemory) => {

@@ -213,11 +213,11 @@ level_enters s names h words has below needed none =
     let checks = check_fault s (finished s.rules end) has in
     let defaults = defaults_fault (settled s.rules end).rows s.rules in
     let settling = settle_fault s.rules s.args_override_self end in
-    let behind_walk : or_else below (or_else settling (or_else defaults checks)) ≡ [] =
+    let after_walk : or_else below (or_else settling (or_else defaults checks)) ≡ [] =
     last_empty (walk_fault s names (walk_from h) words) (or_else below (or_else settling (or_else defaults checks))) none in
-    let behind_level : or_else settling (or_else defaults checks) ≡ [] = last_empty below (or_else settling (or_else defaults checks)) behind_walk in
-    let behind_settling : or_else defaults checks ≡ [] = last_empty settling (or_else defaults checks) behind_level in
-    has_subcommand s (finished s.rules end) has needed (last_empty defaults checks behind_settling)
+    let after_level : or_else settling (or_else defaults checks) ≡ [] = last_empty below (or_else settling (or_else defaults checks)) after_walk in
+    let after_settling : or_else defaults checks ≡ [] = last_empty settling (or_else defaults checks) after_level in
+    has_subcommand s (finished s.rules end) has needed (last_empty defaults checks after_settling)
 
 pub asks : (q : ValueParser) (words : List Text) → kinds_of q words ≡ [] → is_some (arguments_of q words) ≡ true
 asks q words none =

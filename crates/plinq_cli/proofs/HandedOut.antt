@@ -51,7 +51,7 @@ module _ {S T : Type 0} {source : Ghosts S T} where
       → total (λ x. suc (left_of x)) new < total (λ x. suc (left_of x)) old
   less-after p q old rest new was is less =
       let before = ap (total (λ (x : Partition S T source). suc (left_of x))) was in
-      let behind = ap (total (λ (x : Partition S T source). suc (left_of x))) is in
+      let past = ap (total (λ (x : Partition S T source). suc (left_of x))) is in
       let both = total-append (λ (x : Partition S T source). suc (left_of x)) rest (q ∷ []) in
       omega arith
 

@@ -6,7 +6,7 @@ use Rattle.plinq_merge.specs.declared.merge_fault.MergeFault.{MergeFault}
 use Rattle.plinq_merge.specs.declared.merge_fault.MergeFault.TheVariants.{Memory as NoMemory, Sink as Refusal}
 use Rattle.plinq_merge.specs.declared.cancel_after.CancelAfter.{CancelAfter}
 use Rattle.plinq_merge.specs.Cancelling.{Delivery, Passes, IsRefused}
-use Rattle.plinq_merge.specs.Mergers.{undelivered_of, StopsShort}
+use Rattle.plinq_merge.specs.Mergers.{delivery_fault_of, StopsShort}
 use Rattle.plinq_merge.specs.Sending.{Leads}
 use Rattle.plinq_merge.specs.Tokens.{AsksAfter, most_of}
 use Rattle.plinq_merge.proofs.Maps.{cut-map}
@@ -37,7 +37,7 @@ module _ {K T : Type 0} (accepts : K → List T → K → Type 0) (refuses : K �
   refused d b code d' refusal = refusal.refused
 
   cut : (d : Delivery CancelAfter K) (bs : List (List T)) (fault : MergeFault) (d' : Delivery CancelAfter K) → StopsShort (Passes AsksAfter accepts) (IsRefused AsksAfter refuses) d bs fault d' → StopsShort accepts refuses d.sink bs fault d'.sink
-  cut d bs fault d' = cut-map (λ x. x.sink) (Passes AsksAfter accepts) (IsRefused AsksAfter refuses) accepts refuses passed refused d bs (undelivered_of fault) d'
+  cut d bs fault d' = cut-map (λ x. x.sink) (Passes AsksAfter accepts) (IsRefused AsksAfter refuses) accepts refuses passed refused d bs (delivery_fault_of fault) d'
 
   module _ (c c' : CancelAfter) (n : ℕ) (small : n ≤ 18446744073709551615) (is : most_of c ≡ n) where
     abbrev before : Delivery CancelAfter K

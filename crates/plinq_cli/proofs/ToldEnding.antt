@@ -10,7 +10,7 @@ use Rattle.plinq_keyed.specs.declared.event.Event.{Event}
 use Rattle.plinq_keyed.specs.declared.event.Event.TheVariants.{Ask, Close}
 use Rattle.plinq_keyed.specs.declared.record.Record.{Record}
 use Rattle.plinq_keyed.specs.declared.tail.Tail.{Tail}
-use Rattle.plinq_keyed.specs.History.{Place, start, reply, place_behind, tells, is_run, IsLegalHistory, ending_tail, next_items, no_items}
+use Rattle.plinq_keyed.specs.History.{Place, start, reply, next_place, tells, is_run, IsLegalHistory, ending_tail, next_items, no_items}
 use Rattle.plinq_keyed.proofs.Legal.{Told-from_tells}
 use Rattle.plinq_enumerator.specs.Growing.{GrowthRule}
 use Rattle.plinq_ticket.specs.Weights.{total}
@@ -44,19 +44,19 @@ told_ending-run : {T : Type 0} (t : Trace T) (p : Place) (h : List Record) → I
 told_ending-run t p [] ends still run asks tails = absurd (omega arith)
 told_ending-run {T = T} t p (r ∷ h) ends still run asks tails =
     let parts = and_parts (tells r (reply t p r.asked)) _ run in
-    at_event r.asked refl (Told-from_tells r (reply t p r.asked) parts.0).tail (λ closed none some. told_ending-run t (place_behind t p r.asked) h ends closed parts.1 none some)
+    at_event r.asked refl (Told-from_tells r (reply t p r.asked) parts.0).tail (λ closed none some. told_ending-run t (next_place t p r.asked) h ends closed parts.1 none some)
   where
     at_tail : (o : Option Tail) → r.tail ≡ o → (n : ℕ) (b : Bool) → r.asked ≡ Ask n → r.tail ≡ cond b (ending_tail t.ending) None
-        → ((place_behind t p r.asked).closed ≡ false → total (λ (x : Record). closing x.asked) h ≡ 0 → 1 ≤ total (λ (x : Record). ending x.tail) h → told_ending h ≡ t.ending) → told_ending (r ∷ h) ≡ t.ending
+        → ((next_place t p r.asked).closed ≡ false → total (λ (x : Record). closing x.asked) h ≡ 0 → 1 ≤ total (λ (x : Record). ending x.tail) h → told_ending h ≡ t.ending) → told_ending (r ∷ h) ≡ t.ending
     at_tail None none n b is answer rest =
         let nothing = ap ending none in
         let asked = ap closing is in
-        ap (λ o. tail_ending o (told_ending h)) none ∙ rest (ap (λ (e : Event). (place_behind t p e).closed) is ∙ still) (omega arith) (omega arith)
+        ap (λ o. tail_ending o (told_ending h)) none ∙ rest (ap (λ (e : Event). (next_place t p e).closed) is ∙ still) (omega arith) (omega arith)
     at_tail (Some x) some n true is answer rest = ap (λ o. tail_ending o (told_ending h)) some ∙ tail_ending-source t.ending x (told_ending h) ends (sym some ∙ answer)
     at_tail (Some x) some n false is answer rest = let bad : Some x ≡ None = sym some ∙ answer in cc
 
     at_event : (e : Event) → r.asked ≡ e → r.tail ≡ (reply t p r.asked).tail
-        → ((place_behind t p r.asked).closed ≡ false → total (λ (x : Record). closing x.asked) h ≡ 0 → 1 ≤ total (λ (x : Record). ending x.tail) h → told_ending h ≡ t.ending) → told_ending (r ∷ h) ≡ t.ending
+        → ((next_place t p r.asked).closed ≡ false → total (λ (x : Record). closing x.asked) h ≡ 0 → 1 ≤ total (λ (x : Record). ending x.tail) h → told_ending h ≡ t.ending) → told_ending (r ∷ h) ≡ t.ending
     at_event Close is tail rest = let one = ap closing is in absurd (omega arith)
     at_event (Ask n) is tail rest =
         at_tail r.tail refl n (ltb (length t.items - p.given) n) is

@@ -17,7 +17,7 @@ use std::collections::VecDeque;
 ///
 /// [`TakeFault::Memory`] where there is no room for the partitions or a chunk. The other faults are those of a lock that
 /// others take as well, which nobody does here.
-pub(crate) fn hand_out<S: Source>(
+pub(crate) fn drive_partitions<S: Source>(
     alloc: Global,
     source: S,
     growth: Growth,

@@ -11,7 +11,7 @@ ghost use Rattle.plinq_ops.specs.Query.{merge_in_force};
 
 use crate::aggregating::{value_by_threads, write_told};
 use crate::command::Command;
-use crate::rounds::{hand_out, told_ending};
+use crate::rounds::{drive_partitions, told_ending};
 use crate::serve_fault::ServeFault;
 use plinq_document::{AnySource, Job, Kind};
 use plinq_enumerator::Growth;
@@ -272,7 +272,7 @@ fn serve_history<W: Write>(alloc: Global, job: Job, writer: &mut W) -> Result<En
         growth,
         ..
     } = job;
-    let enumerator = hand_out(alloc, source, growth, query.degree())?;
+    let enumerator = drive_partitions(alloc, source, growth, query.degree())?;
     let records = enumerator.records();
     let Some(ending) = told_ending(records) else {
         unreachable!()

@@ -15,7 +15,7 @@ use Rattle.plinq_ops.specs.declared.order.Order.TheVariants.{ByKey, ByArrival}
 use Rattle.plinq_ops.specs.declared.results.ChunkResult.{ChunkResult}
 use Rattle.plinq_ops.specs.Chunk.{result_trace, run_ending}
 use Rattle.plinq_merge.specs.Part.{Part}
-use Rattle.plinq_merge.specs.Shown.{behind_result, at_once, waiting_trace, part_of, placed, all_placed, told_at, all_told, ending_at, row, arrived, merged}
+use Rattle.plinq_merge.specs.Shown.{end_of_result, at_once, waiting_trace, part_of, placed, all_placed, told_at, all_told, ending_at, row, arrived, merged}
 use Rattle.plinq_combine.specs.Folds.{combined, IsFoldOf, AreFoldsOf, StandFor, IsFolded}
 
 module _ {T A O : Type 0} (f : Folding T A O) where
@@ -46,7 +46,7 @@ module _ {T A O : Type 0} (f : Folding T A O) where
   -- a part of a row of keys, and one of folds
   record ArePartsAlike (p : ℕ × Part T) (q : ℕ × Part A) : Type 0 where
     pub key : q.0 ≡ p.0
-    pub behind : q.1.behind ≡ p.1.behind
+    pub end : q.1.end ≡ p.1.end
     pub trace : IsFolded f p.1.trace q.1.trace
 
   abbrev AreRowsAlike : List (ℕ × Part T) → List (ℕ × Part A) → Type 0
@@ -61,29 +61,29 @@ module _ {T A O : Type 0} (f : Folding T A O) where
   row-folded told key (p ∷ ps) [] alike = absurd alike
   row-folded told key (p ∷ ps) (q ∷ qs) alike =
       let one = alike.0 in
-      let rest : IsFolded f (row told p.1.behind ps) (row told q.1.behind qs) =
-      subst (λ k. IsFolded f (row told p.1.behind ps) (row told k qs)) (sym one.behind) (row-folded told p.1.behind ps qs alike.1) in
-      let both = followed-folded p.1.trace (row told p.1.behind ps) q.1.trace (row told q.1.behind qs) one.trace rest in
+      let rest : IsFolded f (row told p.1.end ps) (row told q.1.end qs) =
+      subst (λ k. IsFolded f (row told p.1.end ps) (row told k qs)) (sym one.end) (row-folded told p.1.end ps qs alike.1) in
+      let both = followed-folded p.1.trace (row told p.1.end ps) q.1.trace (row told q.1.end qs) one.trace rest in
       let gap = folded-ending (ending_at told key) in
-      let here : (b : Bool) → IsFolded f (cond b (followed p.1.trace (row told p.1.behind ps)) (record { items = []; ending = ending_at told key }))
-      (cond b (followed q.1.trace (row told q.1.behind qs)) (record { items = []; ending = ending_at told key })) = elim [ true ↦ both | false ↦ gap ] in
-      subst (λ k. IsFolded f (cond (p.0 == key) (followed p.1.trace (row told p.1.behind ps)) (record { items = []; ending = ending_at told key }))
-      (cond (k == key) (followed q.1.trace (row told q.1.behind qs)) (record { items = []; ending = ending_at told key }))) (sym one.key) (here (p.0 == key))
+      let here : (b : Bool) → IsFolded f (cond b (followed p.1.trace (row told p.1.end ps)) (record { items = []; ending = ending_at told key }))
+      (cond b (followed q.1.trace (row told q.1.end qs)) (record { items = []; ending = ending_at told key })) = elim [ true ↦ both | false ↦ gap ] in
+      subst (λ k. IsFolded f (cond (p.0 == key) (followed p.1.trace (row told p.1.end ps)) (record { items = []; ending = ending_at told key }))
+      (cond (k == key) (followed q.1.trace (row told q.1.end qs)) (record { items = []; ending = ending_at told key }))) (sym one.key) (here (p.0 == key))
 
-  insert-alike : (ps : List (ℕ × Part T)) (qs : List (ℕ × Part A)) (key : ℕ) (p : Part T) (q : Part A) → AreRowsAlike ps qs → q.behind ≡ p.behind → IsFolded f p.trace q.trace
+  insert-alike : (ps : List (ℕ × Part T)) (qs : List (ℕ × Part A)) (key : ℕ) (p : Part T) (q : Part A) → AreRowsAlike ps qs → q.end ≡ p.end → IsFolded f p.trace q.trace
       → AreRowsAlike (insert_entry nat_cmp ps key p) (insert_entry nat_cmp qs key q)
-  insert-alike [] [] key p q alike behind trace = (record { key = refl; behind = behind; trace = trace }, tt)
-  insert-alike [] (b ∷ bs) key p q alike behind trace = absurd alike
-  insert-alike (a ∷ ps) [] key p q alike behind trace = absurd alike
-  insert-alike (a ∷ ps) (b ∷ qs) key p q alike behind trace =
+  insert-alike [] [] key p q alike end trace = (record { key = refl; end = end; trace = trace }, tt)
+  insert-alike [] (b ∷ bs) key p q alike end trace = absurd alike
+  insert-alike (a ∷ ps) [] key p q alike end trace = absurd alike
+  insert-alike (a ∷ ps) (b ∷ qs) key p q alike end trace =
       let one = alike.0 in
-      let later = insert-alike ps qs key p q alike.1 behind trace in
+      let later = insert-alike ps qs key p q alike.1 end trace in
       let here : AreRowsAlike (match_ordering (nat_cmp key a.0) ((key, p) ∷ a ∷ ps) ((a.0, p) ∷ ps) (a ∷ insert_entry nat_cmp ps key p))
       (match_ordering (nat_cmp key a.0) ((key, q) ∷ b ∷ qs) ((b.0, q) ∷ qs) (b ∷ insert_entry nat_cmp qs key q)) =
       elim (nat_cmp key a.0) as (λ o. AreRowsAlike (match_ordering o ((key, p) ∷ a ∷ ps) ((a.0, p) ∷ ps) (a ∷ insert_entry nat_cmp ps key p))
       (match_ordering o ((key, q) ∷ b ∷ qs) ((b.0, q) ∷ qs) (b ∷ insert_entry nat_cmp qs key q))) [
-        | Less ↦ (record { key = refl; behind = behind; trace = trace }, alike)
-        | Equal ↦ (record { key = one.key; behind = behind; trace = trace }, alike.1)
+        | Less ↦ (record { key = refl; end = end; trace = trace }, alike)
+        | Equal ↦ (record { key = one.key; end = end; trace = trace }, alike.1)
         | Greater ↦ (one, later)
       ] in
       subst (λ k. AreRowsAlike (match_ordering (nat_cmp key a.0) ((key, p) ∷ a ∷ ps) ((a.0, p) ∷ ps) (a ∷ insert_entry nat_cmp ps key p))
@@ -96,8 +96,8 @@ module _ {T A O : Type 0} (f : Folding T A O) where
         ending = ap run_ending is.ending;
       }
 
-  behind-alike : (r : ChunkResult T) (c : ChunkResult A) → IsFoldOf f r c → behind_result c ≡ behind_result r
-  behind-alike r c is = ap (λ n. n + c.count) is.first ∙ ap (λ n. r.first + n) is.count
+  after-alike : (r : ChunkResult T) (c : ChunkResult A) → IsFoldOf f r c → end_of_result c ≡ end_of_result r
+  after-alike r c is = ap (λ n. n + c.count) is.first ∙ ap (λ n. r.first + n) is.count
 
   waiting-folded : IsFolding f → (order : Order) (r : ChunkResult T) (c : ChunkResult A) → IsFoldOf f r c → IsFolded f (waiting_trace order r) (waiting_trace order c)
   waiting-folded lawful ByKey r c is = result-folded lawful r c is
@@ -110,7 +110,7 @@ module _ {T A O : Type 0} (f : Folding T A O) where
   placed-alike : IsFolding f → (order : Order) (ps : List (ℕ × Part T)) (qs : List (ℕ × Part A)) (r : ChunkResult T) (c : ChunkResult A) → AreRowsAlike ps qs → IsFoldOf f r c
       → AreRowsAlike (placed order ps r) (placed order qs c)
   placed-alike lawful order ps qs r c alike is =
-      let inserted = insert-alike ps qs r.first (part_of order r) (part_of order c) alike (behind-alike r c is) (waiting-folded lawful order r c is) in
+      let inserted = insert-alike ps qs r.first (part_of order r) (part_of order c) alike (after-alike r c is) (waiting-folded lawful order r c is) in
       let here : (b : Bool) → AreRowsAlike (cond b ps (insert_entry nat_cmp ps r.first (part_of order r))) (cond b qs (insert_entry nat_cmp qs r.first (part_of order c))) =
       elim [ true ↦ alike | false ↦ inserted ] in
       subst (λ n. AreRowsAlike (placed order ps r) (cond (n == 0) qs (insert_entry nat_cmp qs c.first (part_of order c)))) (sym is.count)
@@ -130,9 +130,9 @@ module _ {T A O : Type 0} (f : Folding T A O) where
   all_told-alike told (r ∷ rs) [] are = absurd are
   all_told-alike told (r ∷ rs) (c ∷ cs) are =
       let is = are.0 in
-      ap (λ k. all_told (option_or told (told_at k c.tail)) cs) (behind-alike r c is)
-      ∙ ap (λ tail. all_told (option_or told (told_at (behind_result r) tail)) cs) is.tail
-      ∙ all_told-alike (option_or told (told_at (behind_result r) r.tail)) rs cs are.1
+      ap (λ k. all_told (option_or told (told_at k c.tail)) cs) (after-alike r c is)
+      ∙ ap (λ tail. all_told (option_or told (told_at (end_of_result r) tail)) cs) is.tail
+      ∙ all_told-alike (option_or told (told_at (end_of_result r) r.tail)) rs cs are.1
 
   arrived-folded : IsFolding f → (order : Order) (rs : List (ChunkResult T)) (cs : List (ChunkResult A)) → AreFoldsOf f rs cs → IsFolded f (arrived order rs) (arrived order cs)
   arrived-folded lawful order [] [] are = folded-nothing

@@ -12,7 +12,7 @@ use Rattle.plinq_merge.specs.declared.merge_fault.MergeFault.TheVariants.{Memory
 use Rattle.plinq_merge.specs.declared.more.More.{More}
 use Rattle.plinq_merge.specs.declared.more.More.TheVariants.{Yes, No}
 use Rattle.plinq_merge.specs.declared.row.Row.{Row}
-use Rattle.plinq_merge.specs.Shown.{behind_result, merged}
+use Rattle.plinq_merge.specs.Shown.{end_of_result, merged}
 use Rattle.plinq_merge.specs.Keys.{is_offered, AreNew, IsFresh, IsRepeated}
 use Rattle.plinq_merge.specs.Merging.{Content, HasTaken, IsAtGap}
 use Rattle.plinq_merge.proofs.Offers.{taken-begun}
@@ -38,11 +38,11 @@ standing_by (Ok (Some e)) = Decided e
 standing_by (Err fault) = Failed
 
 module _ {F T A O : Type 0} (f : Folding T A O) where
-  are-new : (w : Combining F A) (cs : List (ChunkResult A)) (c : ChunkResult A) → IsFresh w.row.next w.row.waiting.entries c.first (behind_result c) → Rests f w.order w.row w.acc cs → AreNew cs c
+  are-new : (w : Combining F A) (cs : List (ChunkResult A)) (c : ChunkResult A) → IsFresh w.row.next w.row.waiting.entries c.first (end_of_result c) → Rests f w.order w.row w.acc cs → AreNew cs c
   are-new w cs c fresh rests key within = let taken = rests.holds.taken in taken.keys key ∙ fresh key within
 
   pub offers-by : (E : Type 0) (w : Combining F A) (standing : Standing) (c : ChunkResult A) (result : Result (Option Ending) E) (w' : Combining F A) → standing ≡ Open
-      → IsFresh w.row.next w.row.waiting.entries c.first (behind_result c) → ((offers : List (ChunkResult A)) → Takes f w offers c result w')
+      → IsFresh w.row.next w.row.waiting.entries c.first (end_of_result c) → ((offers : List (ChunkResult A)) → Takes f w offers c result w')
       → AnswersOffer f w standing c (answer_by result) w' (standing_by result)
   offers-by E w Open c (Ok None) w' is fresh takes = (refl, λ offers rests. (are-new w offers c fresh rests, takes offers rests))
   offers-by E w Open c (Ok (Some e)) w' is fresh takes = (e, refl, λ offers rests. (are-new w offers c fresh rests, takes offers rests))
@@ -52,7 +52,7 @@ module _ {F T A O : Type 0} (f : Folding T A O) where
 
   -- a key of it was offered before: nothing changes
   pub offers-twice : (w : Combining F A) (standing : Standing) (c : ChunkResult A) → standing ≡ Open
-      → IsRepeated w.row.next w.row.waiting.entries c.first (behind_result c) → AnswersOffer f w standing c (Err Twice) w standing
+      → IsRepeated w.row.next w.row.waiting.entries c.first (end_of_result c) → AnswersOffer f w standing c (Err Twice) w standing
   offers-twice w Open c is repeated =
       (refl, refl, λ offers rests. let taken = rests.holds.taken in (repeated.0, repeated.1, taken.keys repeated.0 ∙ repeated.2))
   offers-twice w (Decided e) c is repeated = absurd (cc)

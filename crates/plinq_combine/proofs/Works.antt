@@ -83,7 +83,7 @@ module _ {T A O : Type 0} (f : Folding T A O) where
 
   -- the part under the next key comes into hand
   pub next-holds : (order : Order) (row row' : Row A) (acc : Option A) (p : Part A) (offers : List (ChunkResult A)) → row.waiting.entries ≡ (row.next, p) ∷ row'.waiting.entries
-      → row'.next ≡ p.behind → row'.told ≡ row.told → row.next < p.behind → Holds f order row acc (open_trace []) offers → Holds f order row' acc p.trace offers
+      → row'.next ≡ p.end → row'.told ≡ row.told → row.next < p.end → Holds f order row acc (open_trace []) offers → Holds f order row' acc p.trace offers
   next-holds order row row' acc p offers parts next told some h =
       let m : Content A = content row h.out in
       let m' : Content A = content row' h.out in

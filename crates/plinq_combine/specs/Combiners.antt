@@ -10,7 +10,7 @@ use Rattle.plinq_merge.specs.declared.merge_fault.MergeFault.{MergeFault}
 use Rattle.plinq_merge.specs.declared.merge_fault.MergeFault.TheVariants.{Memory, Sink, Twice, Gap, Failed, Cancelled}
 use Rattle.plinq_merge.specs.declared.more.More.{More}
 use Rattle.plinq_merge.specs.declared.more.More.TheVariants.{Yes, No}
-use Rattle.plinq_merge.specs.Keys.{AreNew, IsTwice}
+use Rattle.plinq_merge.specs.Keys.{AreNew, IsDuplicate}
 use Rattle.plinq_combine.specs.declared.combined.Combined.{Combined}
 use Rattle.plinq_combine.specs.declared.combiner.Combiner.{Combiner}
 use Rattle.plinq_combine.specs.declared.combining.Combining.{Combining}
@@ -51,7 +51,7 @@ module _ {F T A O : Type 0} (f : Folding T A O) where
       × ((offers : List (ChunkResult A)) → StandsFor w Open offers → AreNew offers c × StandsFor w' (Decided e) (offers ++ c ∷ []))
   TakesOffer w c (Err Memory) w' standing' = (standing' ≡ HasFailed) × ((offers : List (ChunkResult A)) → StandsFor w Open offers → AreNew offers c)
   TakesOffer w c (Err Twice) w' standing' =
-      (w' ≡ w) × (standing' ≡ Open) × ((offers : List (ChunkResult A)) → StandsFor w Open offers → IsTwice offers c)
+      (w' ≡ w) × (standing' ≡ Open) × ((offers : List (ChunkResult A)) → StandsFor w Open offers → IsDuplicate offers c)
   TakesOffer w c (Err (Sink code)) w' standing' = ⊥
   TakesOffer w c (Err Gap) w' standing' = ⊥
   TakesOffer w c (Err Failed) w' standing' = ⊥

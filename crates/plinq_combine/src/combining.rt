@@ -2,7 +2,7 @@ ghost use Rattle.std.specs.Prelude.{◌≡◌, ◌≤◌, ◌<◌, ◌^◌, List
 ghost use Rattle.std.specs.List.{fold};
 ghost use Rattle.plinq_ops.specs.declared.results.ChunkResult.{ChunkResult};
 ghost use Rattle.plinq_source.specs.Trace.{open_trace};
-ghost use Rattle.plinq_merge.specs.Shown.{behind_result};
+ghost use Rattle.plinq_merge.specs.Shown.{end_of_result};
 ghost use Rattle.plinq_merge.specs.Keys.{is_apart, is_first, IsFresh};
 ghost use Rattle.plinq_combine.specs.Combining.{combined_so_far, KeepsOn, Goes, Takes};
 
@@ -32,7 +32,7 @@ pub(crate) fn so_far<A: Aggregator>(aggregator: &A, acc: Option<A::Acc>) -> A::A
     }
 }
 
-/// The accumulators of parts, combined one after another behind that one.
+/// The accumulators of parts, combined one after another, from that one on.
 fn combine_all<A: Aggregator>(aggregator: &A, acc: A::Acc, parts: Vec<A::Acc>) -> A::Acc
     ensures { result ≡ fold (A.folding aggregator.now).combine acc parts.items }
 {
@@ -52,14 +52,14 @@ impl<'a, A: Aggregator> Combining<'a, A, A::Acc> {
         offered: ChunkResult<A::Acc>,
     ) -> Result<Option<Ending>, OutOfMemory>
         requires apart { is_apart self.old.row.next self.old.row.waiting.entries ≡ true }
-        requires within { behind_result offered ≤ 2 ^ 40 }
-        requires fresh { IsFresh self.old.row.next self.old.row.waiting.entries offered.first (behind_result offered) }
+        requires within { end_of_result offered ≤ 2 ^ 40 }
+        requires fresh { IsFresh self.old.row.next self.old.row.waiting.entries offered.first (end_of_result offered) }
         ensures apart { result ≡ Ok None → is_apart self.new.row.next self.new.row.waiting.entries ≡ true }
         ensures keeps { KeepsOn self.old self.new }
         ensures takes { (offers : List (ChunkResult A.Acc)) → Takes (A.folding self.old.aggregator.now) self.old offers offered result self.new }
     {
-        let hand = self.row.take_in(self.alloc, self.order, offered)?;
-        let ending = self.work_off(hand);
+        let hand = self.row.accept(self.alloc, self.order, offered)?;
+        let ending = self.process(hand);
         if ending.is_some() {
             return Ok(ending);
         }
@@ -75,7 +75,7 @@ impl<'a, A: Aggregator> Combining<'a, A, A::Acc> {
     {
         while self.row.is_next_there() {
             let part = self.row.take_next();
-            let ending = self.work_off(part);
+            let ending = self.process(part);
             if ending.is_some() {
                 return ending;
             }
@@ -84,7 +84,7 @@ impl<'a, A: Aggregator> Combining<'a, A, A::Acc> {
     }
 
     /// Combines a part whose turn has come. Answers how it ends the answer, if it does.
-    fn work_off(&mut self, hand: Waiting<A::Acc>) -> Option<Ending>
+    fn process(&mut self, hand: Waiting<A::Acc>) -> Option<Ending>
         ensures row { self.new.row ≡ self.old.row }
         ensures keeps { KeepsOn self.old self.new }
         ensures ending { result ≡ hand.trace.ending }

@@ -2,7 +2,7 @@
 //!
 //! - [`fold_result`] puts the fold of a result's items in their place (`IsFoldOf`).
 //! - A [`Combiner`] is for lists of offers of folded results (`IsFor`). It combines them in the order in which a merger with
-//!   no operators behind it merges results: by key up to the first that ends the run, or as they come.
+//!   no operators after it merges results: by key up to the first that ends the run, or as they come.
 //! - [`Combiner::finish`] answers how the answer to the results ends whose folds these are, and the accumulator of its
 //!   items (`Finishes`); `decided` and `merged` tell what a merger tells.
 #![tactic(auto)]

@@ -1,7 +1,7 @@
 ghost use Rattle.std.specs.Prelude.{◌≡◌, ◌≤◌, ◌<◌, ◌^◌, ℕ, List, [], true, false, None, is_some};
 ghost use Rattle.plinq_ops.specs.declared.results.ChunkResult.{ChunkResult};
 ghost use Rattle.plinq_merge.specs.Keys.{is_offered};
-ghost use Rattle.plinq_merge.specs.Shown.{merged, behind_result};
+ghost use Rattle.plinq_merge.specs.Shown.{merged, end_of_result};
 ghost use Rattle.plinq_combine.specs.Folds.{AreFoldsOf};
 ghost use Rattle.plinq_combine.specs.Combiners.{aggregator_of, order_of, IsFor, Offers, tells_decided, tells_ending, ending_in, Finishes};
 
@@ -43,7 +43,7 @@ impl<'a, A: Aggregator> Combiner<'a, A> {
     /// [`MergeFault::Twice`] where one of its keys was offered before; the combiner is unchanged.
     /// [`MergeFault::Memory`] where it couldn't be kept; the combiner has failed. [`MergeFault::Failed`] from then on.
     pub fn offer(&mut self, offered: ChunkResult<A::Acc>) -> Result<More, MergeFault>
-        requires { behind_result offered ≤ 2 ^ 40 }
+        requires { end_of_result offered ≤ 2 ^ 40 }
         ensures aggregator { aggregator_of self.new ≡ aggregator_of self.old }
         ensures order { order_of self.new ≡ order_of self.old }
         ensures takes { Offers self.old offered result self.new }
@@ -53,8 +53,8 @@ impl<'a, A: Aggregator> Combiner<'a, A> {
             Standing::Decided(_) => return Ok(More::No),
             Standing::Open => {}
         }
-        let behind = offered.first + offered.count;
-        if self.work.row.was_offered(offered.first, behind) {
+        let end = offered.first + offered.count;
+        if self.work.row.was_offered(offered.first, end) {
             return Err(MergeFault::Twice);
         }
         match self.work.merge(offered) {
@@ -84,7 +84,7 @@ impl<'a, A: Aggregator> Combiner<'a, A> {
     }
 
     /// The first key whose result is missing, while the answer is open: all before it are combined, and what was offered
-    /// behind it waits. Takes no memory.
+    /// after it waits. Takes no memory.
     pub fn merged(&self) -> u64
         ensures { (offers : List (ChunkResult A.Acc)) → IsFor self.now offers → (merged (order_of self.now) offers).ending ≡ None →
             ((key : ℕ) → key < result → is_offered offers key ≡ true) × (is_offered offers result ≡ false) }

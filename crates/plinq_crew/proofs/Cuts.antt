@@ -16,25 +16,25 @@ use Rattle.plinq_cut.specs.Passes.{IsPassOf}
 use Rattle.plinq_partition.specs.declared.chunked.Chunked.{Chunked}
 use Rattle.plinq_partition.specs.declared.partition.Partition.{Partition}
 use Rattle.plinq_partition.specs.Partitions.{IsPartitionOf, holding_of}
-use Rattle.plinq_cut.specs.OfPlan.{AreEnders}
+use Rattle.plinq_cut.specs.OfPlan.{AreStopKeys}
 use Rattle.plinq_crew.specs.Equipped.{IsEquipped}
 use Rattle.plinq_crew.specs.Results.{IsResult, IsPart}
 
-module _ {L T : Type 0} (meaning : L → Meaning T) (plan : Plan L) (t : Trace T) (is_ender : ℕ → Bool) (are : AreEnders meaning plan t is_ender) where
+module _ {L T : Type 0} (meaning : L → Meaning T) (plan : Plan L) (t : Trace T) (stops_at : ℕ → Bool) (are : AreStopKeys meaning plan t stops_at) where
   -- a cut that was read is one of the source
-  pub cut-read : (cut : ℕ) → is_cut_of is_ender cut ≡ true → is_cut meaning plan.worker.now t.items cut ≡ true
+  pub cut-read : (cut : ℕ) → is_cut_of stops_at cut ≡ true → is_cut meaning plan.worker.now t.items cut ≡ true
   cut-read cut is = ap (λ b. (cut == no_cut) || b) (sym (are cut)) ∙ is
 
   -- the key at which a result stopped that dropped nothing ends the run
-  pub stop-ender : (r : ChunkResult T) (key : ℕ) → IsResult meaning plan t r → r.ending ≢ Dropped → r.stop ≡ Some key → is_ender key ≡ true
-  stop-ender r key is kept stop = are key ∙ stop-ends meaning plan.worker.now t r key is.offer kept stop
+  pub stop-stop_key : (r : ChunkResult T) (key : ℕ) → IsResult meaning plan t r → r.ending ≢ Dropped → r.stop ≡ Some key → stops_at key ≡ true
+  stop-stop_key r key is kept stop = are key ∙ stop-ends meaning plan.worker.now t r key is.offer kept stop
 
 -- what a worker is started with stands beside what another was started with
-pub equipped-beside : {L S T M E : Type 0} {source : Ghosts S T} (meaning : L → Meaning T) (makes : ChunkResult T → ChunkResult M → Type 0) (MaySend : ChunkResult M → Type 0) (is_ender : ℕ → Bool) (plan : Plan L)
-    (chunked : Chunked S T source) (cut : CutWord E) (own partition : Partition S T source) (mine pass : CutPass) → IsEquipped meaning makes MaySend is_ender plan chunked cut own mine
+pub equipped-beside : {L S T M E : Type 0} {source : Ghosts S T} (meaning : L → Meaning T) (makes : ChunkResult T → ChunkResult M → Type 0) (MaySend : ChunkResult M → Type 0) (stops_at : ℕ → Bool) (plan : Plan L)
+    (chunked : Chunked S T source) (cut : CutWord E) (own partition : Partition S T source) (mine pass : CutPass) → IsEquipped meaning makes MaySend stops_at plan chunked cut own mine
     → IsPartitionOf chunked partition → (holding_of partition).origin ≡ (holding_of own).origin → IsPassOf cut pass
-    → IsEquipped meaning makes MaySend is_ender plan chunked cut partition pass
-equipped-beside meaning makes MaySend is_ender plan chunked cut own partition mine pass h of at is =
+    → IsEquipped meaning makes MaySend stops_at plan chunked cut partition pass
+equipped-beside meaning makes MaySend stops_at plan chunked cut own partition mine pass h of at is =
     record {
       of = of;
       few = subst (λ t. length t.items ≤ 2 ^ 40) (sym at) h.few;
@@ -42,5 +42,5 @@ equipped-beside meaning makes MaySend is_ender plan chunked cut own partition mi
       parts = λ r x. h.parts r (subst (λ t. IsPart meaning makes plan t r) at x);
       sent = λ r x. subst (λ t. IsPart meaning makes plan t r) (sym at) (h.sent r x);
       sees = is;
-      enders = subst (λ t. AreEnders meaning plan t is_ender) (sym at) h.enders;
+      stop_keys = subst (λ t. AreStopKeys meaning plan t stops_at) (sym at) h.stop_keys;
     }

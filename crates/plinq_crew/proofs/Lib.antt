@@ -1,5 +1,5 @@
 mod Cuts
-mod Hands
+mod Handles
 mod Taken
-pub mod Turns
+pub mod Polls
 pub mod Working

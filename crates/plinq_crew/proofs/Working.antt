@@ -12,16 +12,16 @@ use Rattle.plinq_ops.specs.declared.results.ChunkResult.{ChunkResult}
 use Rattle.plinq_ops.specs.Chunk.{IsChunkResult}
 use Rattle.plinq_partition.specs.declared.take_fault.TakeFault.{TakeFault}
 use Rattle.plinq_partition.specs.Partitions.{Holding, IsTaken, holding_of}
-use Rattle.plinq_stream.specs.declared.known.Known.{Known}
+use Rattle.plinq_stream.specs.declared.known.PassKnowledge.{PassKnowledge}
 use Rattle.plinq_stream.specs.declared.sent.Sent.{Sent}
 use Rattle.plinq_stream.specs.Knowing.{with_sent, with_first, without_first, together}
 use Rattle.plinq_stream.specs.Streams.{has, under}
 use Rattle.plinq_stream.proofs.Numbers.{first-of, rest-of}
 use Rattle.plinq_stream.proofs.Under.{has-append, or-first, or-second, under-append, under-own, under-none}
-use Rattle.plinq_crew.specs.Working.{Answers, IsOpen, Follows, HasTaken, HasLeft, sender, IsAtWork, HasWorked, IsAnsweredBy, IsWhollyAnsweredBy, receiver_from}
-use Rattle.plinq_crew.specs.Short.{is_short, lacks_room, has_noted, StaysNoted}
+use Rattle.plinq_crew.specs.Working.{Answers, IsOpen, Follows, HasTakenChunk, HasLeft, sender, IsAtWork, HasWorked, IsAnsweredBy, IsWhollyAnsweredBy, receiver_from}
+use Rattle.plinq_crew.specs.Noted.{has_worker_fault, lacks_room, has_noted, StaysNoted}
 use Rattle.plinq_crew.specs.Results.{IsOfSameChunk}
-use Rattle.plinq_crew.specs.declared.starting.Shortages.{Shortages}
+use Rattle.plinq_crew.specs.declared.starting.WorkerFaults.{WorkerFaults}
 use Rattle.plinq_source.specs.declared.source.Source.{Ghosts}
 use Rattle.plinq_partition.specs.declared.partition.Partition.{Partition}
 
@@ -33,7 +33,7 @@ AllZip-more R (a ∷ xs) (b ∷ ys) x y all is = (all.0, AllZip-more R xs ys x y
 
 -- the chunk of a record was taken, and this is its result
 pub taken-result : {L T : Type 0} (meaning : L → Meaning T) (worker : List (Op L)) (growth : GrowthRule) (a b : Holding T) (cut : ℕ) (chunk : Chunk T) (r : ChunkResult T)
-    → IsTaken growth a b chunk → IsChunkResult meaning worker cut chunk r → HasTaken a.share b.share r
+    → IsTaken growth a b chunk → IsChunkResult meaning worker cut chunk r → HasTakenChunk a.share b.share r
 taken-result meaning worker growth a b cut chunk r taken made = record {
   entry = taken.entry;
   share_is = taken.adds.share;
@@ -41,7 +41,7 @@ taken-result meaning worker growth a b cut chunk r taken made = record {
 }
 
 -- and so is what was made of that result
-pub taken-part : {T M : Type 0} (share share' : List Record) (r : ChunkResult T) (c : ChunkResult M) → HasTaken share share' r → IsOfSameChunk r c → HasTaken share share' c
+pub taken-part : {T M : Type 0} (share share' : List Record) (r : ChunkResult T) (c : ChunkResult M) → HasTakenChunk share share' r → IsOfSameChunk r c → HasTakenChunk share share' c
 taken-part share share' r c taken same = record {
   entry = taken.entry;
   share_is = taken.share_is;
@@ -49,9 +49,9 @@ taken-part share share' r c taken same = record {
 }
 
 module _ {T : Type 0} (number : ℕ) where
-  pub begins-work : (share : List Record) (a : Known (ChunkResult T)) → share ≡ [] → a ≡ sender number [] → IsAtWork number share a
+  pub begins-work : (share : List Record) (a : PassKnowledge (ChunkResult T)) → share ≡ [] → a ≡ sender number [] → IsAtWork number share a
   begins-work share a none knows =
-      let sent : a.sent ≡ [] = ap (λ (k : Known (ChunkResult T)). k.sent) knows in
+      let sent : a.sent ≡ [] = ap (λ (k : PassKnowledge (ChunkResult T)). k.sent) knows in
       record {
         knows = knows ∙ ap (sender number) (sym sent);
         own = subst (All (λ s. s.number ≡ number)) (sym sent) (All-nil (λ (s : Sent (ChunkResult T)). s.number ≡ number));
@@ -59,16 +59,16 @@ module _ {T : Type 0} (number : ℕ) where
         opens = subst (λ l. All IsOpen (under number l)) (sym sent) (All-nil IsOpen);
       }
 
-  module _ (share share' : List Record) (a b : Known (ChunkResult T)) (r : ChunkResult T) (h : IsAtWork number share a) (taken : HasTaken share share' r)
+  module _ (share share' : List Record) (a b : PassKnowledge (ChunkResult T)) (r : ChunkResult T) (h : IsAtWork number share a) (taken : HasTakenChunk share share' r)
       (is : b ≡ with_sent a (record { number = number; item = r })) where
     sent-is : b.sent ≡ a.sent ++ record { number = number; item = r } ∷ []
-    sent-is = ap (λ (k : Known (ChunkResult T)). k.sent) is
+    sent-is = ap (λ (k : PassKnowledge (ChunkResult T)). k.sent) is
 
     under-sent : under number b.sent ≡ under number a.sent ++ r ∷ []
     under-sent = ap (under number) sent-is ∙ under-append number a.sent (record { number = number; item = r } ∷ []) ∙ ap (λ l. under number a.sent ++ l) (under-own number r)
 
     knows-sent : b ≡ sender number b.sent
-    knows-sent = is ∙ ap (λ (k : Known (ChunkResult T)). with_sent k (record { number = number; item = r })) h.knows ∙ ap (sender number) (sym sent-is)
+    knows-sent = is ∙ ap (λ (k : PassKnowledge (ChunkResult T)). with_sent k (record { number = number; item = r })) h.knows ∙ ap (sender number) (sym sent-is)
 
     own-sent : All (λ s. s.number ≡ number) b.sent
     own-sent = subst (All (λ s. s.number ≡ number)) (sym sent-is) (All-push (λ (s : Sent (ChunkResult T)). s.number ≡ number) a.sent (record { number = number; item = r }) h.own refl)
@@ -101,7 +101,7 @@ module _ {T : Type 0} (number : ℕ) where
       };
     }
 
-  pub breaks-work : (share share' : List Record) (a : Known (ChunkResult T)) (fault : TakeFault) → IsAtWork number share a → HasLeft share share' → HasWorked number share' (Some fault) a
+  pub breaks-work : (share share' : List Record) (a : PassKnowledge (ChunkResult T)) (fault : TakeFault) → IsAtWork number share a → HasLeft share share' → HasWorked number share' (Some fault) a
   breaks-work share share' a fault h left = record {
     knows = h.knows;
     own = h.own;
@@ -109,66 +109,66 @@ module _ {T : Type 0} (number : ℕ) where
   }
 
 -- what holds of each item that a worker has sent holds of one more
-pub each-sent : {X : Type 0} (P : X → Type 0) (number : ℕ) (x : X) (a b : Known X) → b ≡ with_sent a (record { number = number; item = x }) → All (λ s. P s.item) a.sent → P x → All (λ s. P s.item) b.sent
+pub each-sent : {X : Type 0} (P : X → Type 0) (number : ℕ) (x : X) (a b : PassKnowledge X) → b ≡ with_sent a (record { number = number; item = x }) → All (λ s. P s.item) a.sent → P x → All (λ s. P s.item) b.sent
 each-sent {X} P number x a b is all one =
-    subst (All (λ s. P s.item)) (sym (ap (λ (k : Known X). k.sent) is)) (All-push (λ (s : Sent X). P s.item) a.sent (record { number = number; item = x }) all one)
+    subst (All (λ s. P s.item)) (sym (ap (λ (k : PassKnowledge X). k.sent) is)) (All-push (λ (s : Sent X). P s.item) a.sent (record { number = number; item = x }) all one)
 
 -- ---- numbers are handed out one after another
 
-pub first-handed : {T : Type 0} (n : ℕ) (a b : Known (ChunkResult T)) → n < 64 → a ≡ receiver_from n → b ≡ with_first a → b ≡ sender n []
+pub first-handed : {T : Type 0} (n : ℕ) (a b : PassKnowledge (ChunkResult T)) → n < 64 → a ≡ receiver_from n → b ≡ with_first a → b ≡ sender n []
 first-handed n a b less is made =
     made ∙ ap with_first is ∙ ap (λ l. record { numbers = l; sent = []; receives = false; received = [] }) (first-of n 64 less)
 
-pub rest-handed : {T : Type 0} (n : ℕ) (a b : Known (ChunkResult T)) → n < 64 → a ≡ receiver_from n → b ≡ without_first a → b ≡ receiver_from (n + 1)
+pub rest-handed : {T : Type 0} (n : ℕ) (a b : PassKnowledge (ChunkResult T)) → n < 64 → a ≡ receiver_from n → b ≡ without_first a → b ≡ receiver_from (n + 1)
 rest-handed n a b less is made =
     made ∙ ap without_first is ∙ ap (λ l. record { numbers = l; sent = []; receives = true; received = [] }) (rest-of n 64 less)
 
 -- ---- a worker's pass is taken in, whose number is below those that were taken in before
 
-module _ {T : Type 0} (a b c : Known (ChunkResult T)) (is : c ≡ together a b) where
+module _ {T : Type 0} (a b c : PassKnowledge (ChunkResult T)) (is : c ≡ together a b) where
   under-both : (k : ℕ) → under k c.sent ≡ under k a.sent ++ under k b.sent
-  under-both k = ap (λ (x : Known (ChunkResult T)). under k x.sent) is ∙ under-append k a.sent b.sent
+  under-both k = ap (λ (x : PassKnowledge (ChunkResult T)). under k x.sent) is ∙ under-append k a.sent b.sent
 
   has-both : (k : ℕ) → has k c.numbers ≡ (has k a.numbers || has k b.numbers)
-  has-both k = ap (λ (x : Known (ChunkResult T)). has k x.numbers) is ∙ has-append k a.numbers b.numbers
+  has-both k = ap (λ (x : PassKnowledge (ChunkResult T)). has k x.numbers) is ∙ has-append k a.numbers b.numbers
 
   pub above-both : (n least : ℕ) → least ≡ n + 1 → All (λ s. least ≤ s.number) a.sent → All (λ s. s.number ≡ n) b.sent → All (λ s. n ≤ s.number) c.sent
   above-both n least next above own =
-      subst (All (λ s. n ≤ s.number)) (sym (ap (λ (x : Known (ChunkResult T)). x.sent) is))
+      subst (All (λ s. n ≤ s.number)) (sym (ap (λ (x : PassKnowledge (ChunkResult T)). x.sent) is))
       (All-append (λ (s : Sent (ChunkResult T)). n ≤ s.number) a.sent b.sent
       (All-weaker (λ (s : Sent (ChunkResult T)). least ≤ s.number) (λ s. n ≤ s.number) (λ s h. omega arith) a.sent above)
       (All-weaker (λ (s : Sent (ChunkResult T)). s.number ≡ n) (λ s. n ≤ s.number) (λ s h. omega arith) b.sent own))
 
 -- a fault that was noted is noted still
-still-noted : (old short : Shortages) → StaysNoted old short → (fault : Option TakeFault) → IfSome fault (λ f. has_noted old f ≡ true) → IfSome fault (λ f. has_noted short f ≡ true)
-still-noted old short kept None noted = tt
-still-noted old short kept (Some fault) noted = by-kind (lacks_room fault) noted
+still-noted : (old faults : WorkerFaults) → StaysNoted old faults → (fault : Option TakeFault) → IfSome fault (λ f. has_noted old f ≡ true) → IfSome fault (λ f. has_noted faults f ≡ true)
+still-noted old faults kept None noted = tt
+still-noted old faults kept (Some fault) noted = by-kind (lacks_room fault) noted
   where
-    by-kind : (b : Bool) → (if b then old.memory else old.tickets) ≡ true → (if b then short.memory else short.tickets) ≡ true
+    by-kind : (b : Bool) → (if b then old.memory else old.tickets) ≡ true → (if b then faults.memory else faults.tickets) ≡ true
     by-kind true = kept.0
     by-kind false = kept.1
 
-short-by : (short : Shortages) (b : Bool) → (if b then short.memory else short.tickets) ≡ true → is_short short ≡ true
-short-by short true is = or-first short.memory short.tickets is
-short-by short false is = or-second short.memory short.tickets is
+faults-by : (faults : WorkerFaults) (b : Bool) → (if b then faults.memory else faults.tickets) ≡ true → has_worker_fault faults ≡ true
+faults-by faults true is = or-first faults.memory faults.tickets is
+faults-by faults false is = or-second faults.memory faults.tickets is
 
 module _ {S T M : Type 0} {source : Ghosts S T} where
   -- without a fault all records are answered
-  pub answered-wholly : (a b : Known (ChunkResult M)) (short : Shortages) → b.sent ≡ a.sent → b.numbers ≡ a.numbers → is_short short ≡ false → (p : Partition S T source)
-      → IsAnsweredBy 0 a short p → IsWhollyAnsweredBy b p
-  answered-wholly a b short sent numbers none p h = record {
+  pub answered-wholly : (a b : PassKnowledge (ChunkResult M)) (faults : WorkerFaults) → b.sent ≡ a.sent → b.numbers ≡ a.numbers → has_worker_fault faults ≡ false → (p : Partition S T source)
+      → IsAnsweredBy 0 a faults p → IsWhollyAnsweredBy b p
+  answered-wholly a b faults sent numbers none p h = record {
     number = h.number;
     own = ap (has h.number) numbers ∙ h.own;
     follows = subst (λ l. Follows (holding_of p).share None (under h.number l)) (sym sent) (whole h.fault h.noted h.follows);
   }
     where
-      whole : (fault : Option TakeFault) → IfSome fault (λ f. has_noted short f ≡ true) → Follows (holding_of p).share fault (under h.number a.sent)
+      whole : (fault : Option TakeFault) → IfSome fault (λ f. has_noted faults f ≡ true) → Follows (holding_of p).share fault (under h.number a.sent)
           → Follows (holding_of p).share None (under h.number a.sent)
       whole None noted follows = follows
-      whole (Some fault) noted follows = absurd (true≢false (sym (short-by short (lacks_room fault) noted) ∙ none))
+      whole (Some fault) noted follows = absurd (true≢false (sym (faults-by faults (lacks_room fault) noted) ∙ none))
 
-  module _ (n least : ℕ) (next : least ≡ n + 1) (a b c : Known (ChunkResult M)) (is : c ≡ together a b) (old short : Shortages) (kept : StaysNoted old short) where
-    pub answered-before : All (λ s. s.number ≡ n) b.sent → (p : Partition S T source) → IsAnsweredBy least a old p → IsAnsweredBy n c short p
+  module _ (n least : ℕ) (next : least ≡ n + 1) (a b c : PassKnowledge (ChunkResult M)) (is : c ≡ together a b) (old faults : WorkerFaults) (kept : StaysNoted old faults) where
+    pub answered-before : All (λ s. s.number ≡ n) b.sent → (p : Partition S T source) → IsAnsweredBy least a old p → IsAnsweredBy n c faults p
     answered-before own p h =
         let k = h.number in
         let none : under k b.sent ≡ [] =
@@ -178,17 +178,17 @@ module _ {S T M : Type 0} {source : Ghosts S T} where
           above = (let far : least ≤ k = h.above in omega arith);
           own = has-both a b c is k ∙ or-first (has k a.numbers) (has k b.numbers) h.own;
           fault = h.fault;
-          noted = still-noted old short kept h.fault h.noted;
+          noted = still-noted old faults kept h.fault h.noted;
           follows = subst (Follows (holding_of p).share h.fault) (sym (under-both a b c is k ∙ ap (λ l. under k a.sent ++ l) none ∙ append-nil (under k a.sent))) h.follows;
         }
 
-    pub answered-now : All (λ s. least ≤ s.number) a.sent → (p : Partition S T source) (fault : Option TakeFault) → IfSome fault (λ f. has_noted short f ≡ true) → HasWorked n (holding_of p).share fault b → IsAnsweredBy n c short p
+    pub answered-now : All (λ s. least ≤ s.number) a.sent → (p : Partition S T source) (fault : Option TakeFault) → IfSome fault (λ f. has_noted faults f ≡ true) → HasWorked n (holding_of p).share fault b → IsAnsweredBy n c faults p
     answered-now above p fault noted h =
         let none : under n a.sent ≡ [] = under-none n a.sent (All-weaker (λ (s : Sent (ChunkResult M)). least ≤ s.number) (λ s. s.number ≢ n) (λ s e same. omega arith) a.sent above) in
         record {
           number = n;
           above = omega arith;
-          own = has-both a b c is n ∙ or-second (has n a.numbers) (has n b.numbers) (ap (λ (x : Known (ChunkResult M)). has n x.numbers) h.knows ∙ or-first (n == n) false (eq-eqb n n refl));
+          own = has-both a b c is n ∙ or-second (has n a.numbers) (has n b.numbers) (ap (λ (x : PassKnowledge (ChunkResult M)). has n x.numbers) h.knows ∙ or-first (n == n) false (eq-eqb n n refl));
           fault = fault;
           noted = noted;
           follows = subst (Follows (holding_of p).share fault) (sym (under-both a b c is n ∙ ap (λ l. l ++ under n b.sent) none)) h.follows;

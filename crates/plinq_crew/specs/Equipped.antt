@@ -10,16 +10,16 @@ use Rattle.plinq_cut.specs.Passes.{IsPassOf}
 use Rattle.plinq_partition.specs.declared.chunked.Chunked.{Chunked}
 use Rattle.plinq_partition.specs.declared.partition.Partition.{Partition}
 use Rattle.plinq_partition.specs.Partitions.{IsPartitionOf, holding_of}
-use Rattle.plinq_cut.specs.OfPlan.{AreEnders}
+use Rattle.plinq_cut.specs.OfPlan.{AreStopKeys}
 use Rattle.plinq_stream.specs.Passes.{IsPassOf as IsStreamPassOf, known}
 use Rattle.plinq_crew.specs.Plans.{IsUndecided}
 use Rattle.plinq_crew.specs.declared.worker.Crew.{Crew}
-use Rattle.plinq_crew.specs.declared.worker.Equipment.{Equipment}
+use Rattle.plinq_crew.specs.declared.worker.WorkerContext.{WorkerContext}
 use Rattle.plinq_crew.specs.Results.{IsPart}
 use Rattle.plinq_crew.specs.Working.{receiver_from}
 
 -- a partition of a source and a pass of a cut of a plan over that source; what is made of its results is what may be sent
-pub record IsEquipped {L S T M E : Type 0} {source : Ghosts S T} (meaning : L → Meaning T) (makes : ChunkResult T → ChunkResult M → Type 0) (MaySend : ChunkResult M → Type 0) (is_ender : ℕ → Bool) (plan : Plan L)
+pub record IsEquipped {L S T M E : Type 0} {source : Ghosts S T} (meaning : L → Meaning T) (makes : ChunkResult T → ChunkResult M → Type 0) (MaySend : ChunkResult M → Type 0) (stops_at : ℕ → Bool) (plan : Plan L)
     (chunked : Chunked S T source) (cut : CutWord E) (partition : Partition S T source) (pass : CutPass) : Type 0 where
   pub of : IsPartitionOf chunked partition
   pub few : length (holding_of partition).origin.items ≤ 2 ^ 40
@@ -27,12 +27,12 @@ pub record IsEquipped {L S T M E : Type 0} {source : Ghosts S T} (meaning : L �
   pub parts : (c : ChunkResult M) → IsPart meaning makes plan (holding_of partition).origin c → MaySend c
   pub sent : (c : ChunkResult M) → MaySend c → IsPart meaning makes plan (holding_of partition).origin c
   pub sees : IsPassOf cut pass
-  pub enders : AreEnders meaning plan (holding_of partition).origin is_ender
+  pub stop_keys : AreStopKeys meaning plan (holding_of partition).origin stops_at
 
 -- the caller's thread may start a crew's workers: it is equipped, and its pass of the stream is the first one
-pub record IsReady {L S J P T M : Type 0} {source : Ghosts S T} (meaning : L → Meaning T) (makes : P → ChunkResult T → ChunkResult M → Type 0) (MaySend : ChunkResult M → Type 0) (is_ender : ℕ → Bool)
-    (crew : Crew L S J P T T M source) (own : Equipment S M T source) : Type 0 where
-  pub equipped : IsEquipped meaning (makes crew.post.now) MaySend is_ender crew.plan.now crew.chunked.now crew.cut.now own.partition own.cut
+pub record IsReady {L S J P T M : Type 0} {source : Ghosts S T} (meaning : L → Meaning T) (makes : P → ChunkResult T → ChunkResult M → Type 0) (MaySend : ChunkResult M → Type 0) (stops_at : ℕ → Bool)
+    (crew : Crew L S J P T T M source) (own : WorkerContext S M T source) : Type 0 where
+  pub equipped : IsEquipped meaning (makes crew.task.now) MaySend stops_at crew.plan.now crew.chunked.now crew.cut.now own.partition own.cut
   pub stream_of : IsStreamPassOf crew.stream.now own.stream
   pub knows : known own.stream ≡ receiver_from 0
   pub few : crew.workers ≤ 64

@@ -1,7 +1,7 @@
 pub mod Equipped
-pub mod Hands
+pub mod Handles
 pub mod Plans
 pub mod Results
-pub mod Short
-pub mod Turns
+pub mod Noted
+pub mod Polls
 pub mod Working

@@ -8,7 +8,7 @@ use Rattle.plinq_ops.specs.declared.plan.Plan.{Plan}
 use Rattle.plinq_ops.specs.declared.results.ChunkResult.{ChunkResult}
 use Rattle.plinq_ops.specs.Cut.{no_cut}
 use Rattle.plinq_ops.specs.Row.{IsOffer}
-use Rattle.plinq_merge.specs.Shown.{told_at, behind_result}
+use Rattle.plinq_merge.specs.Shown.{told_at, end_of_result}
 use Rattle.plinq_merge.specs.Whole.{EndsAt}
 
 -- The result of a chunk of the source, under a cut of its own: no cut, or by key also a key whose fragment ends the run.
@@ -16,8 +16,8 @@ use Rattle.plinq_merge.specs.Whole.{EndsAt}
 pub record IsResult {L T : Type 0} (meaning : L → Meaning T) (plan : Plan L) (t : Trace T) (r : ChunkResult T) : Type 0 where
   pub offer : IsOffer meaning plan.worker.now t r
   pub uncut : plan.order ≡ ByArrival → offer.cut ≡ no_cut
-  pub tail : IfSome (told_at (behind_result r) r.tail) (EndsAt t)
-  pub within : behind_result r ≤ length t.items
+  pub tail : IfSome (told_at (end_of_result r) r.tail) (EndsAt t)
+  pub within : end_of_result r ≤ length t.items
 
 -- what was made of a result is of the same chunk, and ends as the result does
 pub record IsOfSameChunk {T M : Type 0} (r : ChunkResult T) (c : ChunkResult M) : Type 0 where

@@ -8,15 +8,15 @@ use Rattle.plinq_partition.specs.declared.partition.Partition.{Partition}
 use Rattle.plinq_partition.specs.declared.take_fault.TakeFault.{TakeFault}
 use Rattle.plinq_partition.specs.declared.chunked.Chunked.{Chunked}
 use Rattle.plinq_partition.specs.Partitions.{IsPartitionOf, holding_of}
-use Rattle.plinq_stream.specs.declared.known.Known.{Known}
+use Rattle.plinq_stream.specs.declared.known.PassKnowledge.{PassKnowledge}
 use Rattle.plinq_stream.specs.declared.sent.Sent.{Sent}
 use Rattle.plinq_stream.specs.declared.stream.Stream.{Stream}
 use Rattle.plinq_stream.specs.declared.stream_pass.StreamPass.{StreamPass}
 use Rattle.plinq_stream.specs.Knowing.{numbers_from}
 use Rattle.plinq_stream.specs.Passes.{IsPassOf, IsBeside, known}
 use Rattle.plinq_stream.specs.Streams.{has, under}
-use Rattle.plinq_crew.specs.declared.starting.Shortages.{Shortages}
-use Rattle.plinq_crew.specs.Short.{has_noted}
+use Rattle.plinq_crew.specs.declared.starting.WorkerFaults.{WorkerFaults}
+use Rattle.plinq_crew.specs.Noted.{has_noted}
 use Rattle.plinq_crew.specs.declared.worker.Worked.{Worked}
 
 -- records may have come after a share
@@ -58,35 +58,35 @@ module _ {T : Type 0} where
     pub stops : Stops fault rest rs
 
   -- one record came after a share, and this is its chunk's result
-  pub record HasTaken (share share' : List Record) (r : ChunkResult T) : Type 0 where
+  pub record HasTakenChunk (share share' : List Record) (r : ChunkResult T) : Type 0 where
     pub entry : Record
     pub share_is : share' ≡ share ++ entry ∷ []
     pub answers : Answers entry r
 
   -- all that the pass knows is that it may send under this number alone, and has sent these
-  abbrev pub sender : ℕ → List (Sent (ChunkResult T)) → Known (ChunkResult T)
+  abbrev pub sender : ℕ → List (Sent (ChunkResult T)) → PassKnowledge (ChunkResult T)
   sender number sent = record { numbers = number ∷ []; sent = sent; receives = false; received = [] }
 
   -- a worker that goes on: it has sent the results of all its records, under its number and nothing under any other, and none
   -- has a tail
-  pub record IsAtWork (number : ℕ) (share : List Record) (a : Known (ChunkResult T)) : Type 0 where
+  pub record IsAtWork (number : ℕ) (share : List Record) (a : PassKnowledge (ChunkResult T)) : Type 0 where
     pub knows : a ≡ sender number a.sent
     pub own : All (λ s. s.number ≡ number) a.sent
     pub are : AllZip Answers share (under number a.sent)
     pub opens : All IsOpen (under number a.sent)
 
   -- a worker has sent so under its number, and nothing under any other
-  pub record HasWorked (number : ℕ) (share : List Record) (fault : Option TakeFault) (a : Known (ChunkResult T)) : Type 0 where
+  pub record HasWorked (number : ℕ) (share : List Record) (fault : Option TakeFault) (a : PassKnowledge (ChunkResult T)) : Type 0 where
     pub knows : a ≡ sender number a.sent
     pub own : All (λ s. s.number ≡ number) a.sent
     pub follows : Follows share fault (under number a.sent)
 
   -- the receiving pass while numbers are handed out: it has those from this one on, and has sent and received nothing
-  abbrev pub receiver_from : ℕ → Known (ChunkResult T)
+  abbrev pub receiver_from : ℕ → PassKnowledge (ChunkResult T)
   receiver_from number = record { numbers = numbers_from number (64 - number); sent = []; receives = true; received = [] }
 
   -- the receiving pass has sent nothing
-  pub record IsReceiver (a : Known (ChunkResult T)) : Type 0 where
+  pub record IsReceiver (a : PassKnowledge (ChunkResult T)) : Type 0 where
     pub receives : a.receives ≡ true
     pub sent : a.sent ≡ []
 
@@ -106,16 +106,16 @@ module _ {S T M : Type 0} {source : Ghosts S T} where
 
   -- what was sent under one of the pass's numbers, which is at least that, are the results of the first records of this
   -- partition, and of all of them unless there was a fault, which was noted
-  pub record IsAnsweredBy (least : ℕ) (a : Known (ChunkResult M)) (short : Shortages) (p : Partition S T source) : Type 0 where
+  pub record IsAnsweredBy (least : ℕ) (a : PassKnowledge (ChunkResult M)) (faults : WorkerFaults) (p : Partition S T source) : Type 0 where
     pub number : ℕ
     pub above : least ≤ number
     pub own : has number a.numbers ≡ true
     pub fault : Option TakeFault
-    pub noted : IfSome fault (λ f. has_noted short f ≡ true)
+    pub noted : IfSome fault (λ f. has_noted faults f ≡ true)
     pub follows : Follows (holding_of p).share fault (under number a.sent)
 
   -- what was sent under one of the pass's numbers are the results of all records of this partition
-  pub record IsWhollyAnsweredBy (a : Known (ChunkResult M)) (p : Partition S T source) : Type 0 where
+  pub record IsWhollyAnsweredBy (a : PassKnowledge (ChunkResult M)) (p : Partition S T source) : Type 0 where
     pub number : ℕ
     pub own : has number a.numbers ≡ true
     pub follows : Follows (holding_of p).share None (under number a.sent)

@@ -4,20 +4,20 @@ ghost use Rattle.std.specs.Prelude.{◌≡◌, false};
 #[derive(Clone, Copy)]
 pub struct Closing {
     /// Whether it is to be closed: what comes from now on is dropped.
+    pub wants_close: bool,
+    /// Whether a poll has closed it.
     pub is_closed: bool,
-    /// Whether a turn has closed it.
-    pub is_stopped: bool,
 }
 
 impl Closing {
     /// More is wanted.
     pub fn none() -> Closing
-        ensures open { result.is_closed ≡ false }
-        ensures unstopped { result.is_stopped ≡ false }
+        ensures open { result.wants_close ≡ false }
+        ensures unclosed { result.is_closed ≡ false }
     {
         Closing {
+            wants_close: false,
             is_closed: false,
-            is_stopped: false,
         }
     }
 }

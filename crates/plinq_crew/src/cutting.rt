@@ -6,19 +6,19 @@ ghost use Rattle.plinq_ops.specs.Cut.{no_cut};
 ghost use Rattle.plinq_ops.specs.declared.frag_end.FragEnd.TheVariants.{Dropped, More};
 ghost use Rattle.plinq_ops.specs.declared.order.Order.TheVariants.{ByArrival, ByKey};
 
-use plinq_cut::{CutPass, CutWord, Enders};
+use plinq_cut::{CutPass, CutWord, StopKeys};
 use plinq_lambda::Lambda;
 use plinq_ops::{ChunkResult, FragEnd, Order, Plan};
 
 /// The cut under which a worker looks at its next chunk: none by arrival, where no key stands before another.
-pub(crate) fn cut_now<L: Lambda, E: Enders>(
+pub(crate) fn cut_now<L: Lambda, E: StopKeys>(
     plan: &Plan<'_, L>,
     cut: &CutWord<E>,
     pass: &mut CutPass,
 ) -> u64
     requires { IsPassOf cut.now pass.old }
     ensures pass { IsPassOf cut.now pass.new }
-    ensures cut { is_cut_of E.is_ender result ≡ true }
+    ensures cut { is_cut_of E.stops_at result ≡ true }
     ensures seen { plan.now.order ≡ ByKey → result ≤ least pass.old }
     ensures least { plan.now.order ≡ ByKey → least pass.new ≡ result }
     ensures uncut { plan.now.order ≡ ByArrival → result ≡ no_cut }
@@ -30,14 +30,14 @@ pub(crate) fn cut_now<L: Lambda, E: Enders>(
 }
 
 /// Lowers the cut to the key at which a result ends the run, by key.
-pub(crate) fn cut_off<L: Lambda, E: Enders>(
+pub(crate) fn cut_off<L: Lambda, E: StopKeys>(
     plan: &Plan<'_, L>,
     cut: &CutWord<E>,
     pass: &mut CutPass,
     made: &ChunkResult<L::Item>,
 )
     requires pass { IsPassOf cut.now pass.old }
-    requires ender { (key : ℕ) → made.now.ending ≢ Dropped → made.now.stop ≡ Some key → E.is_ender key ≡ true }
+    requires stop_key { (key : ℕ) → made.now.ending ≢ Dropped → made.now.stop ≡ Some key → E.stops_at key ≡ true }
     ensures pass { IsPassOf cut.now pass.new }
     ensures lowers { (key : ℕ) → plan.now.order ≡ ByKey → made.now.ending ≢ More → made.now.ending ≢ Dropped → made.now.stop ≡ Some key → least pass.new ≤ key }
     ensures seen { least pass.new ≤ least pass.old }

@@ -74,7 +74,7 @@ impl Progress {
 
     /// Waits while a worker stands so far above what is merged that it may not take more, or while too many items wait to be
     /// merged. Where that takes long, it sleeps.
-    pub fn wait_at<R: Wait>(&self, rt: &R, key: u64) {
+    pub fn wait_until_within_window<R: Wait>(&self, rt: &R, key: u64) {
         let waiter = self.merged.waiter();
         for _ in rt.forever() {
             let sleep = waiter.prepare();

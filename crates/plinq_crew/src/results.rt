@@ -2,31 +2,31 @@
 ghost use Rattle.std.specs.Prelude.{⊤, ℕ, Bool, false};
 ghost use Rattle.plinq_ops.specs.declared.results.ChunkResult.{ChunkResult};
 
-use plinq_cut::Enders;
+use plinq_cut::StopKeys;
 use plinq_ops::ChunkResult;
 use plinq_stream::{Stream, StreamPass};
 use std::marker::{Brand, PhantomData};
 
 /// Which results go through a run's stream, and which keys end the run. Each run picks it.
-pub trait Carries<T> {
+pub trait RunSpec<T> {
     ghost is_result: { ChunkResult T → Type 0 };
 
-    ghost is_ender: { ℕ → Bool };
+    ghost stops_at: { ℕ → Bool };
 }
 
-impl<T> Carries<T> for Brand {
+impl<T> RunSpec<T> for Brand {
     ghost is_result = { λ _. ⊤ };
 
-    ghost is_ender = { λ _. false };
+    ghost stops_at = { λ _. false };
 }
 
 /// The keys that end a run, for its cut.
-pub struct RunEnders<T, J> {
+pub struct RunStopKeys<T, J> {
     of: PhantomData<(T, J)>,
 }
 
-impl<T, J: Carries<T>> Enders for RunEnders<T, J> {
-    ghost is_ender = { J.is_ender };
+impl<T, J: RunSpec<T>> StopKeys for RunStopKeys<T, J> {
+    ghost stops_at = { J.stops_at };
 }
 
 /// The results of a run, for its stream.
@@ -34,8 +34,8 @@ pub struct RunResults<T, J> {
     of: PhantomData<(T, J)>,
 }
 
-impl<T, J: Carries<T>> plinq_stream::Carries<ChunkResult<T>> for RunResults<T, J> {
-    ghost carries = { J.is_result };
+impl<T, J: RunSpec<T>> plinq_stream::Admits<ChunkResult<T>> for RunResults<T, J> {
+    ghost admits = { J.is_result };
 }
 
 /// What a worker sends to the caller's thread goes through such a stream, under the worker's number.

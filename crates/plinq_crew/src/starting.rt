@@ -3,15 +3,15 @@ ghost use Rattle.std.specs.Prelude.{◌≡◌, ◌≤◌, ◌<◌, ◌^◌, ◌+
 ghost use Rattle.plinq_partition.specs.Partitions.{IsPartitionOf, holding_of};
 ghost use Rattle.plinq_partition.specs.GivenBack.{common_origin};
 ghost use Rattle.plinq_crew.specs.Equipped.{IsEquipped};
-ghost use Rattle.plinq_crew.specs.Short.{lacks_room, is_short, has_noted, StaysNoted};
-ghost use Rattle.plinq_crew.specs.Hands.{IsHandOf, AreNumbered};
+ghost use Rattle.plinq_crew.specs.Noted.{lacks_room, has_worker_fault, has_noted, StaysNoted};
+ghost use Rattle.plinq_crew.specs.Handles.{IsHandleOf, AreNumbered};
 ghost use Rattle.plinq_crew.specs.Working.{IsNewcomer, IsReceiver, IsBack, IsAnsweredBy, receiver_from};
 ghost use Rattle.plinq_stream.specs.Passes.{IsPassOf, known};
 
-use crate::hand::{ComesBack, Hand};
-use crate::post::Post;
-use crate::results::{Carries, ResultPass};
-use crate::worker::{Crew, Equipment, Worked};
+use crate::handle::{WorkerHandle, WorkerPromise};
+use crate::results::{ResultPass, RunSpec};
+use crate::task::Task;
+use crate::worker::{Crew, Worked, WorkerContext};
 use plinq_lambda::Lambda;
 use plinq_ops::ChunkResult;
 use plinq_partition::{Chunked, Partition, TakeFault};
@@ -27,33 +27,33 @@ fn start<'s, Env, L, S, J, P, R>(
     rt: &'s R,
     crew: &'s Crew<'s, L, S, J, P>,
     worker: u64,
-    own: Equipment<S, P::Part>,
-) -> Option<Hand<S, P::Part>>
+    own: WorkerContext<S, P::Part>,
+) -> Option<WorkerHandle<S, P::Part>>
 where
     L: Lambda,
     S: Source<Item = L::Item>,
-    J: Carries<P::Part> + Send + Sync,
-    P: Post<L::Item>,
+    J: RunSpec<P::Part> + Send + Sync,
+    P: Task<L::Item>,
     R: Threads + Wait + Sync,
     requires new { IsNewcomer crew.now.stream.now worker own.partition own.stream }
-    requires equipped { IsEquipped L.meaning (P.makes crew.now.post.now) J.is_result J.is_ender crew.now.plan.now crew.now.chunked.now crew.now.cut.now own.partition own.cut }
-    ensures hand { IfSome result (IsHandOf crew.now.chunked.now crew.now.stream.now) }
-    ensures number { IfSome result (λ hand. hand.promise.number ≡ worker) }
+    requires equipped { IsEquipped L.meaning (P.makes crew.now.task.now) J.is_result J.stops_at crew.now.plan.now crew.now.chunked.now crew.now.cut.now own.partition own.cut }
+    ensures handle { IfSome result (IsHandleOf crew.now.chunked.now crew.now.stream.now) }
+    ensures number { IfSome result (λ handle. handle.promise.number ≡ worker) }
 {
-    let promise = ComesBack {
+    let promise = WorkerPromise {
         chunked: Snapshot::of(crew.chunked),
         given: Snapshot::of(&own.stream),
         number: worker,
     };
-    let hand = scope.spawn_with(
+    let handle = scope.spawn_with(
         promise,
         move || -> Worked<S, P::Part>
             requires new { IsNewcomer crew.now.stream.now worker own.partition own.stream }
-            requires equipped { IsEquipped L.meaning (P.makes crew.now.post.now) J.is_result J.is_ender crew.now.plan.now crew.now.chunked.now crew.now.cut.now own.partition own.cut }
+            requires equipped { IsEquipped L.meaning (P.makes crew.now.task.now) J.is_result J.stops_at crew.now.plan.now crew.now.chunked.now crew.now.cut.now own.partition own.cut }
             ensures { IsBack crew.entry.now.chunked.now own.stream worker result }
         { crew.work(rt, worker, own) },
     );
-    hand.ok()
+    handle.ok()
 }
 
 /// Starts so many workers, each with a new partition beside this one and a number of its own, or as many as there are threads
@@ -63,18 +63,18 @@ pub fn start_all<'s, Env, L, S, J, P, R>(
     rt: &'s R,
     crew: &'s Crew<'s, L, S, J, P>,
     workers: u64,
-    own: &mut Equipment<S, P::Part>,
-    room: Vec<Hand<S, P::Part>>,
-) -> Vec<Hand<S, P::Part>>
+    own: &mut WorkerContext<S, P::Part>,
+    room: Vec<WorkerHandle<S, P::Part>>,
+) -> Vec<WorkerHandle<S, P::Part>>
 where
     L: Lambda,
     S: Source<Item = L::Item>,
-    J: Carries<P::Part> + Send + Sync,
-    P: Post<L::Item>,
+    J: RunSpec<P::Part> + Send + Sync,
+    P: Task<L::Item>,
     R: Threads + Wait + Sync,
     requires stream { IsPassOf crew.now.stream.now own.old.stream }
     requires first { known own.old.stream ≡ receiver_from 0 }
-    requires equipped { IsEquipped L.meaning (P.makes crew.now.post.now) J.is_result J.is_ender crew.now.plan.now crew.now.chunked.now crew.now.cut.now own.old.partition own.old.cut }
+    requires equipped { IsEquipped L.meaning (P.makes crew.now.task.now) J.is_result J.stops_at crew.now.plan.now crew.now.chunked.now crew.now.cut.now own.old.partition own.old.cut }
     requires few { workers ≤ 64 }
     requires empty { room.items ≡ [] }
     requires room { workers ≤ vec_capacity room }
@@ -83,37 +83,37 @@ where
     ensures stream { IsPassOf crew.now.stream.now own.new.stream }
     ensures receiver { IsReceiver (known own.new.stream) }
     ensures nothing { (known own.new.stream).received ≡ [] }
-    ensures hands { All (IsHandOf crew.now.chunked.now crew.now.stream.now) result.items }
+    ensures handles { All (IsHandleOf crew.now.chunked.now crew.now.stream.now) result.items }
     ensures numbered { AreNumbered 0 result.items }
     ensures count { length result.items ≤ workers }
 {
-    let mut hands = room;
+    let mut handles = room;
     for worker in 0..workers {
-        let theirs = Equipment {
+        let theirs = WorkerContext {
             partition: crew.chunked.dynamic(&mut own.partition),
-            stream: crew.stream.hand_out(&mut own.stream),
+            stream: crew.stream.give_number(&mut own.stream),
             cut: crew.cut.split(&mut own.cut),
         };
-        let Some(hand) = start(scope, rt, crew, worker, theirs) else {
-            return hands;
+        let Some(handle) = start(scope, rt, crew, worker, theirs) else {
+            return handles;
         };
-        hands.push_reserved(hand);
+        handles.push_reserved(handle);
     }
-    hands
+    handles
 }
 
 /// Why workers ended before they saw a tail.
 #[derive(Clone, Copy)]
-pub struct Shortages {
+pub struct WorkerFaults {
     pub memory: bool,
     pub tickets: bool,
 }
 
-impl Shortages {
-    pub fn none() -> Shortages
-        ensures { is_short result ≡ false }
+impl WorkerFaults {
+    pub fn none() -> WorkerFaults
+        ensures { has_worker_fault result ≡ false }
     {
-        Shortages {
+        WorkerFaults {
             memory: false,
             tickets: false,
         }
@@ -149,37 +149,37 @@ pub fn join_all<S, M, C, R>(
     stream: &Stream<ChunkResult<M>, C>,
     own: Partition<S>,
     pass: &mut ResultPass<M>,
-    hands: Vec<Hand<S, M>>,
+    handles: Vec<WorkerHandle<S, M>>,
     room: Vec<Partition<S>>,
-    shortages: &mut Shortages,
+    worker_faults: &mut WorkerFaults,
 ) -> Vec<Partition<S>>
 where
     S: Source,
     M: Drop,
-    C: plinq_stream::Carries<ChunkResult<M>>,
+    C: plinq_stream::Admits<ChunkResult<M>>,
     R: Threads,
     requires of { IsPartitionOf chunked.now own }
     requires pass { IsPassOf stream.now pass.old }
     requires receiver { IsReceiver (known pass.old) }
-    requires hands { All (IsHandOf chunked.now stream.now) hands.items }
-    requires numbered { AreNumbered 0 hands.items }
+    requires handles { All (IsHandleOf chunked.now stream.now) handles.items }
+    requires numbered { AreNumbered 0 handles.items }
     requires empty { room.items ≡ [] }
-    requires room { length hands.items < vec_capacity room }
-    ensures count { length result.items ≡ length hands.items + 1 }
+    requires room { length handles.items < vec_capacity room }
+    ensures count { length result.items ≡ length handles.items + 1 }
     ensures of { All (IsPartitionOf chunked.now) result.items }
     ensures origin { common_origin result.items ≡ (holding_of own).origin }
     ensures pass { IsPassOf stream.now pass.new }
     ensures receives { (known pass.new).receives ≡ true }
     ensures received { (known pass.new).received ≡ (known pass.old).received }
-    ensures answered { All (IsAnsweredBy 0 (known pass.new) shortages.new) (drop 1 result.items) }
-    ensures kept { StaysNoted shortages.old shortages.new }
+    ensures answered { All (IsAnsweredBy 0 (known pass.new) worker_faults.new) (drop 1 result.items) }
+    ensures kept { StaysNoted worker_faults.old worker_faults.new }
 {
-    let mut hands = hands;
+    let mut handles = handles;
     let mut partitions = room;
     partitions.push_reserved(own);
-    while let Some(hand) = hands.pop() {
-        let worked = hand.join(rt);
-        shortages.note_any(worked.fault);
+    while let Some(handle) = handles.pop() {
+        let worked = handle.join(rt);
+        worker_faults.note_any(worked.fault);
         stream.join(pass, worked.stream);
         partitions.push_reserved(worked.partition);
     }

@@ -6,16 +6,16 @@ ghost use Rattle.plinq_ops.specs.Feeding.{is_empty_take};
 ghost use Rattle.plinq_ops.specs.ByKey.{is_by_key};
 ghost use Rattle.plinq_ops.specs.declared.results.ChunkResult.{ChunkResult};
 ghost use Rattle.plinq_partition.specs.Partitions.{IsPartitionOf, holding_of};
-ghost use Rattle.plinq_cut.specs.OfPlan.{AreEnders};
+ghost use Rattle.plinq_cut.specs.OfPlan.{AreStopKeys};
 ghost use Rattle.plinq_crew.specs.Equipped.{IsEquipped};
 ghost use Rattle.plinq_crew.specs.Results.{IsPart};
-ghost use Rattle.plinq_crew.specs.Working.{IsNewcomer, HasWorked, HasTaken, HasLeft};
+ghost use Rattle.plinq_crew.specs.Working.{IsNewcomer, HasWorked, HasTakenChunk, HasLeft};
 ghost use Rattle.plinq_stream.specs.Passes.{IsPassOf, known};
 
 use crate::cutting::{cut_now, cut_off};
-use crate::post::Post;
 use crate::progress::Progress;
-use crate::results::{Carries, ResultPass, ResultStream, RunEnders};
+use crate::results::{ResultPass, ResultStream, RunSpec, RunStopKeys};
+use crate::task::Task;
 use plinq_cut::{CutPass, CutWord};
 use plinq_lambda::Lambda;
 use plinq_ops::{ChunkResult, FragEnd, Plan, chunk_result};
@@ -26,7 +26,7 @@ use std::sync::Wait;
 
 /// Where a worker stands whose last result is this one: after its keys, or after all keys where the run ends within them or
 /// before, so that it takes nothing more until the source is closed.
-fn place_behind<T>(made: &ChunkResult<T>) -> u64 {
+fn next_place<T>(made: &ChunkResult<T>) -> u64 {
     match made.ending {
         FragEnd::More => made.first.saturating_add(made.count),
         _ => u64::MAX,
@@ -43,7 +43,7 @@ pub struct Worked<S: Source, M> {
 
 /// What a thread of a run has of its own: a partition, and a pass of the stream and of the cut.
 #[derive(Drop)]
-pub struct Equipment<S: Source, M> {
+pub struct WorkerContext<S: Source, M> {
     pub partition: Partition<S>,
     pub stream: ResultPass<M>,
     pub cut: CutPass,
@@ -51,13 +51,13 @@ pub struct Equipment<S: Source, M> {
 
 /// What the workers of a run share.
 #[derive(Drop)]
-pub struct Crew<'a, L: Lambda, S: Source, J: Carries<P::Part>, P: Post<L::Item>> {
+pub struct Crew<'a, L: Lambda, S: Source, J: RunSpec<P::Part>, P: Task<L::Item>> {
     pub alloc: Global,
     pub plan: &'a Plan<'a, L>,
     pub chunked: &'a Chunked<S>,
     pub stream: &'a ResultStream<P::Part, J>,
-    pub cut: &'a CutWord<RunEnders<P::Part, J>>,
-    pub post: &'a P,
+    pub cut: &'a CutWord<RunStopKeys<P::Part, J>>,
+    pub task: &'a P,
     pub progress: &'a Progress,
     pub workers: u64,
 }
@@ -66,8 +66,8 @@ impl<'a, L, S, J, P> Crew<'a, L, S, J, P>
 where
     L: Lambda,
     S: Source<Item = L::Item>,
-    J: Carries<P::Part>,
-    P: Post<L::Item>,
+    J: RunSpec<P::Part>,
+    P: Task<L::Item>,
 {
     /// Takes the next chunk, and gives what is sent of its result under the cut that all share, which it lowers where the run
     /// ends.
@@ -80,25 +80,25 @@ where
     ) -> Result<ChunkResult<P::Part>, TakeFault>
         requires of { IsPartitionOf self.now.chunked.now partition.old }
         requires cut { IsCutPassOf self.now.cut.now pass.old }
-        requires enders { AreEnders L.meaning self.now.plan.now (holding_of partition.old).origin J.is_ender }
+        requires stop_keys { AreStopKeys L.meaning self.now.plan.now (holding_of partition.old).origin J.stops_at }
         requires keyed { is_by_key self.now.plan.now.worker.now ≡ true }
         requires some { list_any is_empty_take self.now.plan.now.worker.now ≡ false }
         requires few { length (holding_of partition.old).origin.items ≤ 2 ^ 40 }
         ensures of { IsPartitionOf self.now.chunked.now partition.new }
         ensures origin { (holding_of partition.new).origin ≡ (holding_of partition.old).origin }
         ensures cut { IsCutPassOf self.now.cut.now pass.new }
-        ensures result { IfOk result (IsPart L.meaning (P.makes self.now.post.now) self.now.plan.now (holding_of partition.old).origin) }
-        ensures taken { IfOk result (HasTaken (holding_of partition.old).share (holding_of partition.new).share) }
+        ensures result { IfOk result (IsPart L.meaning (P.makes self.now.task.now) self.now.plan.now (holding_of partition.old).origin) }
+        ensures taken { IfOk result (HasTakenChunk (holding_of partition.old).share (holding_of partition.new).share) }
         ensures left { IfErr result (λ fault. HasLeft (holding_of partition.old).share (holding_of partition.new).share) }
     {
-        self.post.before_take(worker);
+        self.task.before_take(worker);
         let chunk = partition.take(rt, self.chunked)?;
-        self.post.after_chunk(worker, chunk.first);
+        self.task.after_chunk(worker, chunk.first);
         let cut = cut_now(self.plan, self.cut, pass);
         let made = chunk_result(self.alloc, self.plan, &chunk, cut)?;
         partition.reuse(chunk.items);
         cut_off(self.plan, self.cut, pass, &made);
-        let part = self.post.make(self.alloc, made)?;
+        let part = self.task.make(self.alloc, made)?;
         Ok(part)
     }
 
@@ -107,17 +107,17 @@ where
         &self,
         rt: &R,
         worker: u64,
-        own: Equipment<S, P::Part>,
+        own: WorkerContext<S, P::Part>,
     ) -> Worked<S, P::Part>
         requires new { IsNewcomer self.now.stream.now worker own.partition own.stream }
-        requires equipped { IsEquipped L.meaning (P.makes self.now.post.now) J.is_result J.is_ender self.now.plan.now self.now.chunked.now self.now.cut.now own.partition own.cut }
+        requires equipped { IsEquipped L.meaning (P.makes self.now.task.now) J.is_result J.stops_at self.now.plan.now self.now.chunked.now self.now.cut.now own.partition own.cut }
         ensures of { IsPartitionOf self.now.chunked.now result.partition }
         ensures origin { (holding_of result.partition).origin ≡ (holding_of own.partition).origin }
         ensures stream { IsPassOf self.now.stream.now result.stream }
         ensures worked { HasWorked worker (holding_of result.partition).share result.fault (known result.stream) }
-        ensures results { All (λ s. IsPart L.meaning (P.makes self.now.post.now) self.now.plan.now (holding_of own.partition).origin s.item) (known result.stream).sent }
+        ensures results { All (λ s. IsPart L.meaning (P.makes self.now.task.now) self.now.plan.now (holding_of own.partition).origin s.item) (known result.stream).sent }
     {
-        let Equipment {
+        let WorkerContext {
             mut partition,
             mut stream,
             mut cut,
@@ -127,7 +127,7 @@ where
             match self.next_result(rt, worker, &mut partition, &mut cut) {
                 Ok(made) => {
                     let is_last = made.tail.is_some();
-                    let place = place_behind(&made);
+                    let place = next_place(&made);
                     self.progress.count_in(made.items.len() as u64);
                     self.stream.send(rt, &mut stream, worker, made);
                     self.progress.tell();
@@ -139,7 +139,7 @@ where
                             fault: None,
                         };
                     }
-                    self.progress.wait_at(rt, place);
+                    self.progress.wait_until_within_window(rt, place);
                 }
                 Err(fault) => {
                     self.progress.fail();

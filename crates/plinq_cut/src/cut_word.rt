@@ -1,7 +1,7 @@
 ghost use Rattle.std.specs.Prelude.{◌≡◌};
 ghost use Rattle.plinq_ops.specs.Cut.{no_cut};
 
-use crate::enders::Enders;
+use crate::stop_keys::StopKeys;
 use crate::view::View;
 use atomic_table::{Table, TableRule};
 use std::alloc::Global;
@@ -14,12 +14,12 @@ pub struct Cuts<E> {
     of: PhantomData<E>,
 }
 
-impl<E: Enders> TableRule<(), View, ()> for Cuts<E> {
+impl<E: StopKeys> TableRule<(), View, ()> for Cuts<E> {
     ghost use Rattle.plinq_cut.specs.OneWord.{OfOneWord};
     ghost use Rattle.plinq_cut.specs.Cutting.{IsLawful};
     ghost use Rattle.plinq_cut.specs.declared.view.View.TheVariants.{Passing};
 
-    ghost holds = { λ _. OfOneWord (IsLawful E.is_ender) };
+    ghost holds = { λ _. OfOneWord (IsLawful E.stops_at) };
 
     ghost first = { λ _. Passing no_cut };
 }
@@ -34,7 +34,7 @@ impl<E: Enders> TableRule<(), View, ()> for Cuts<E> {
 /// cut.read(&mut other)                                             // 5
 /// ```
 #[derive(Drop)]
-pub struct CutWord<E: Enders> {
+pub struct CutWord<E: StopKeys> {
     pub(crate) table: Table<(), View, (), Cuts<E>, Global>,
     ghost one: { table.shared.table_id.words ≡ 1 },
 }

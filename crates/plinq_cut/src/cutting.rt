@@ -1,20 +1,20 @@
 ghost use Rattle.std.specs.Prelude.{◌≡◌, ◌≤◌, true, IfOk, min};
 ghost use Rattle.plinq_ops.specs.Cut.{no_cut};
 ghost use Rattle.plinq_cut.specs.Cutting.{is_cut_of};
-ghost use Rattle.plinq_cut.specs.OfPlan.{AreEnders};
+ghost use Rattle.plinq_cut.specs.OfPlan.{AreStopKeys};
 ghost use Rattle.plinq_cut.specs.Passes.{IsPassOf, least};
 
 use crate::cut_pass::CutPass;
 use crate::cut_word::{CutWord, WORD};
-use crate::enders::Enders;
 use crate::plays::{Cut, Glue, Lower, See};
+use crate::stop_keys::StopKeys;
 use atomic_table::Table;
 use plinq_lambda::Lambda;
 use plinq_ops::Plan;
 use plinq_source::{OutOfMemory, Source};
 use std::alloc::Global;
 
-impl<E: Enders> CutWord<E> {
+impl<E: StopKeys> CutWord<E> {
     /// A cut that cuts off nothing yet, and a pass. The plan and the source only say which keys end the run, for life.
     ///
     /// # Errors
@@ -25,7 +25,7 @@ impl<E: Enders> CutWord<E> {
         _plan: &Plan<'_, L>,
         _source: &S,
     ) -> Result<(CutWord<E>, CutPass), OutOfMemory>
-        requires enders { AreEnders L.meaning _plan.now (S.whole _source.now) E.is_ender }
+        requires stop_keys { AreStopKeys L.meaning _plan.now (S.whole _source.now) E.stops_at }
         ensures pass { IfOk result (λ made. IsPassOf made.0 made.1) }
         ensures nothing { IfOk result (λ made. least made.1 ≡ no_cut) }
     {
@@ -39,7 +39,7 @@ impl<E: Enders> CutWord<E> {
     pub fn read(&self, pass: &mut CutPass) -> u64
         requires { IsPassOf self.now pass.old }
         ensures pass { IsPassOf self.now pass.new }
-        ensures cut { is_cut_of E.is_ender result ≡ true }
+        ensures cut { is_cut_of E.stops_at result ≡ true }
         ensures seen { result ≤ least pass.old }
         ensures least { least pass.new ≡ result }
     {
@@ -49,9 +49,9 @@ impl<E: Enders> CutWord<E> {
     /// Lowers the cut to a key that ends the run, where it is above.
     pub fn lower(&self, pass: &mut CutPass, key: u64)
         requires pass { IsPassOf self.now pass.old }
-        requires ender { E.is_ender key ≡ true }
+        requires stop_key { E.stops_at key ≡ true }
         ensures pass { IsPassOf self.now pass.new }
-        ensures cut { is_cut_of E.is_ender (least pass.new) ≡ true }
+        ensures cut { is_cut_of E.stops_at (least pass.new) ≡ true }
         ensures seen { least pass.new ≤ min key (least pass.old) }
     {
         self.table

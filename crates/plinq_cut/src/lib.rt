@@ -12,10 +12,10 @@
 mod cut_pass;
 mod cut_word;
 mod cutting;
-mod enders;
 mod plays;
+mod stop_keys;
 mod view;
 
 pub use cut_pass::CutPass;
 pub use cut_word::CutWord;
-pub use enders::Enders;
+pub use stop_keys::StopKeys;

@@ -3,7 +3,7 @@ ghost use Rattle.std.specs.Prelude.{◌≡◌, min};
 ghost use Rattle.plinq_cut.specs.Cutting.{Sees, together};
 ghost use Rattle.plinq_cut.specs.declared.view.View.TheVariants.{Joined};
 
-use crate::enders::Enders;
+use crate::stop_keys::StopKeys;
 use crate::view::View;
 use atomic_table::{Join, Play, Split};
 use std::marker::PhantomData;
@@ -13,8 +13,8 @@ pub struct See<E> {
     of: PhantomData<E>,
 }
 
-impl<E: Enders> Play<(), View> for See<E> {
-    ghost then = { λ s a n b. Sees E.is_ender n n a.0 b.0 × (b.1 ≡ a.1) };
+impl<E: StopKeys> Play<(), View> for See<E> {
+    ghost then = { λ s a n b. Sees E.stops_at n n a.0 b.0 × (b.1 ≡ a.1) };
 }
 
 // The word becomes the lesser of itself and a key.
@@ -22,8 +22,8 @@ pub struct Lower<E> {
     of: PhantomData<E>,
 }
 
-impl<E: Enders> Play<(), View> for Lower<E> {
-    ghost then = { λ s a n b. Sees E.is_ender n (min n s.first) a.0 b.0 × (b.1 ≡ a.1) };
+impl<E: StopKeys> Play<(), View> for Lower<E> {
+    ghost then = { λ s a n b. Sees E.stops_at n (min n s.first) a.0 b.0 × (b.1 ≡ a.1) };
 }
 
 // A pass becomes two.

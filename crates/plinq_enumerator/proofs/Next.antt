@@ -6,7 +6,7 @@ use Rattle.plinq_keyed.specs.declared.tail.Tail.TheVariants.{Closed}
 use Rattle.plinq_keyed.specs.declared.event.Event.{Event}
 use Rattle.plinq_keyed.specs.declared.event.Event.TheVariants.{Ask, Close}
 use Rattle.plinq_keyed.specs.declared.record.Record.{Record}
-use Rattle.plinq_keyed.specs.History.{Place, start, reply, no_items, next_items, place_behind, place_after, recorded, is_legal_history, next_record, tickets_below, ending_tail}
+use Rattle.plinq_keyed.specs.History.{Place, start, reply, no_items, next_items, next_place, place_after, recorded, is_legal_history, next_record, tickets_below, ending_tail}
 use Rattle.plinq_keyed.proofs.Legal.{place_after-append, IsLegalHistory-append}
 
 abbrev pub record_of : ℕ → Event → ℕ → ℕ → Option Tail → Record
@@ -14,7 +14,7 @@ record_of ticket e first count tail = record { ticket = ticket; asked = e; first
 
 -- a history that has grown by the next record: where it stands, and that it is legal
 pub record Grown {T : Type 0} (t : Trace T) (h grown : List Record) (e : Event) : Type 0 where
-  pub place : place_after t start grown ≡ place_behind t (place_after t start h) e
+  pub place : place_after t start grown ≡ next_place t (place_after t start h) e
   pub legal : is_legal_history t grown ≡ true
 
 pub Grown-from_next : {T : Type 0} (t : Trace T) (h grown : List Record) (k : ℕ) (e : Event) (r : Record) → grown ≡ h ++ r ∷ [] → r ≡ next_record t h k e → is_legal_history t h ≡ true → tickets_below k h ≡ true → Grown t h grown e
@@ -50,10 +50,10 @@ next_record-open t h k n g m tail at shut counted tailed =
     ∙ ap (λ f. recorded k (Ask n) (next_items t f n)) (sym at)
     ∙ ap (recorded k (Ask n)) (sym (open_reply t (place_after t start h) n shut))
 
-pub place_behind-closed : {T : Type 0} (t : Trace T) (p : Place) (n : ℕ) → p.closed ≡ true → place_behind t p (Ask n) ≡ p
-place_behind-closed t p n shut =
+pub next_place-closed : {T : Type 0} (t : Trace T) (p : Place) (n : ℕ) → p.closed ≡ true → next_place t p (Ask n) ≡ p
+next_place-closed t p n shut =
     let none : p.given + length (reply t p (Ask n)).items ≡ p.given = ap (λ a. p.given + length a.items) (closed_reply t p n shut) ∙ add-zero p.given in
     ap (λ (g : ℕ). let q : Place = record { given = g; closed = p.closed } in q) none
 
-pub place_behind-open : {T : Type 0} (t : Trace T) (p : Place) (n : ℕ) → p.closed ≡ false → (place_behind t p (Ask n)).given ≡ p.given + length (items_from t p.given n)
-place_behind-open t p n shut = ap (λ a. p.given + length a.items) (open_reply t p n shut)
+pub next_place-open : {T : Type 0} (t : Trace T) (p : Place) (n : ℕ) → p.closed ≡ false → (next_place t p (Ask n)).given ≡ p.given + length (items_from t p.given n)
+next_place-open t p n shut = ap (λ a. p.given + length a.items) (open_reply t p n shut)

@@ -1,3 +1,3 @@
 pub mod Growing
-pub mod Standings
+pub mod Replays
 pub mod Held

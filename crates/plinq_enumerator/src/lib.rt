@@ -9,8 +9,8 @@
 mod enumerator;
 mod growth;
 mod growth_fault;
+mod replay;
 mod replaying;
-mod standing;
 mod taking;
 
 pub use enumerator::Enumerator;

@@ -2,7 +2,7 @@ ghost use Rattle.std.specs.Prelude.{◌≡◌};
 ghost use Rattle.plinq_source.specs.Trace.{IsSourceEnding};
 ghost use Rattle.plinq_keyed.specs.History.{is_legal_history, some_source};
 
-use crate::standing::Standing;
+use crate::replay::Replay;
 use plinq_keyed::Record;
 use plinq_source::Ending;
 
@@ -14,15 +14,15 @@ pub fn replays(records: &[Record], len: u64, ending: Ending) -> bool
     requires { IsSourceEnding (Some ending) }
     ensures { result ≡ is_legal_history (some_source len (Some ending)) records.now }
 {
-    let mut standing = Standing::START;
+    let mut replay = Replay::START;
     let mut least: u128 = 0;
     for entry in records {
         let ticket = u128::from(entry.ticket);
-        if ticket < least || !standing.answers(entry, len, ending) {
+        if ticket < least || !replay.answers(entry, len, ending) {
             return false;
         }
         least = ticket + 1;
-        standing = standing.behind(entry);
+        replay = replay.after(entry);
     }
     true
 }

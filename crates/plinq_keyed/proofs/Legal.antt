@@ -11,16 +11,16 @@ use Rattle.plinq_keyed.specs.declared.event.Event.{Event}
 use Rattle.plinq_keyed.specs.declared.event.Event.TheVariants.{Ask, Close}
 use Rattle.plinq_keyed.specs.declared.record.Record.{Record}
 use Rattle.plinq_keyed.specs.Keys.{keyed_from, rises_from, rises}
-use Rattle.plinq_keyed.specs.History.{Place, start, Reply, reply, no_items, next_items, place_behind, place_after, recorded, same_way, same_tail, tells, is_run, is_legal_history, IsLegalHistory, next_record, with_next, tickets_below, handed_out, IsPrefix, some_source, ending_tail, record_items}
+use Rattle.plinq_keyed.specs.History.{Place, start, Reply, reply, no_items, next_items, next_place, place_after, recorded, same_way, same_tail, tells, is_run, is_legal_history, IsLegalHistory, next_record, with_next, tickets_below, handed_out, IsPrefix, some_source, ending_tail, record_items}
 
-pub place_after-append : {T : Type 0} (t : Trace T) (p : Place) (h : List Record) (r : Record) → place_after t p (h ++ r ∷ []) ≡ place_behind t (place_after t p h) r.asked
+pub place_after-append : {T : Type 0} (t : Trace T) (p : Place) (h : List Record) (r : Record) → place_after t p (h ++ r ∷ []) ≡ next_place t (place_after t p h) r.asked
 place_after-append t p [] r = refl
-place_after-append t p (x ∷ h) r = place_after-append t (place_behind t p x.asked) h r
+place_after-append t p (x ∷ h) r = place_after-append t (next_place t p x.asked) h r
 
 pub is_run-append : {T : Type 0} (t : Trace T) (p : Place) (h : List Record) (r : Record) → is_run t p (h ++ r ∷ []) ≡ (is_run t p h && tells r (reply t (place_after t p h) r.asked))
 is_run-append t p [] r = and-true (tells r (reply t p r.asked))
 is_run-append t p (x ∷ h) r =
-    ap (λ b. tells x (reply t p x.asked) && b) (is_run-append t (place_behind t p x.asked) h r)
+    ap (λ b. tells x (reply t p x.asked) && b) (is_run-append t (next_place t p x.asked) h r)
     ∙ sym (and_assoc (tells x (reply t p x.asked)) _ _)
 
 same_tail-refl : (a : Option Tail) → same_tail a a ≡ true
@@ -95,9 +95,9 @@ pub reply-first : {T : Type 0} (t : Trace T) (p : Place) (e : Event) → (reply 
 reply-first t p (Ask n) = elim p.closed as (λ c. (cond c (no_items p.given) (next_items t p.given n)).first ≡ p.given) [ true ↦ refl | false ↦ refl ]
 reply-first t p Close = refl
 
-pub place_behind-given : {T : Type 0} (t : Trace T) (p : Place) (e : Event) → (place_behind t p e).given ≡ p.given + length (reply t p e).items
-place_behind-given t p (Ask n) = refl
-place_behind-given t p Close = sym (add-zero p.given)
+pub next_place-given : {T : Type 0} (t : Trace T) (p : Place) (e : Event) → (next_place t p e).given ≡ p.given + length (reply t p e).items
+next_place-given t p (Ask n) = refl
+next_place-given t p Close = sym (add-zero p.given)
 
 -- no answer has more items than are left
 pub length-reply : {T : Type 0} (t : Trace T) (p : Place) (e : Event) → length (reply t p e).items ≤ length t.items - p.given
@@ -131,8 +131,8 @@ handed_out-run t p (r ∷ h) within run =
     let told = Told-from_tells r (reply t p r.asked) parts.0 in
     let m = length (reply t p r.asked).items in
     let few : m ≤ length t.items - p.given = length-reply t p r.asked in
-    let moved : (place_behind t p r.asked).given ≡ p.given + m = place_behind-given t p r.asked in
-    let rest = handed_out-run t (place_behind t p r.asked) h (omega arith) parts.1 in
+    let moved : (next_place t p r.asked).given ≡ p.given + m = next_place-given t p r.asked in
+    let rest = handed_out-run t (next_place t p r.asked) h (omega arith) parts.1 in
     let first : r.first ≡ p.given = told.first ∙ reply-first t p r.asked in
     let here : keyed_from r.first (record_items t r) ≡ keyed_from p.given (items_from t p.given m) = cc (told.count) in
     let joined = keyed_from-take t.items p.given m within in (
@@ -168,9 +168,9 @@ reply-tail-alike t u p (Ask n) l e =
     ]
 reply-tail-alike t u p Close l e = refl
 
-place_behind-alike : {T U : Type 0} (t : Trace T) (u : Trace U) (p : Place) (e : Event) → length t.items ≡ length u.items → place_behind t p e ≡ place_behind u p e
-place_behind-alike t u p (Ask n) l = ap (λ (m : ℕ). let q : Place = record { given = p.given + m; closed = p.closed } in q) (length-reply-alike t u p (Ask n) l)
-place_behind-alike t u p Close l = refl
+next_place-alike : {T U : Type 0} (t : Trace T) (u : Trace U) (p : Place) (e : Event) → length t.items ≡ length u.items → next_place t p e ≡ next_place u p e
+next_place-alike t u p (Ask n) l = ap (λ (m : ℕ). let q : Place = record { given = p.given + m; closed = p.closed } in q) (length-reply-alike t u p (Ask n) l)
+next_place-alike t u p Close l = refl
 
 tells-alike : {T U : Type 0} (r : Record) (a : Reply T) (b : Reply U) → a.first ≡ b.first → length a.items ≡ length b.items → a.tail ≡ b.tail → tells r a ≡ tells r b
 tells-alike r a b f l e = cc
@@ -179,10 +179,10 @@ is_run-alike : {T U : Type 0} (t : Trace T) (u : Trace U) (p : Place) (h : List 
 is_run-alike t u p [] l e = refl
 is_run-alike t u p (r ∷ h) l e =
     let here = tells-alike r (reply t p r.asked) (reply u p r.asked) (reply-first t p r.asked ∙ sym (reply-first u p r.asked)) (length-reply-alike t u p r.asked l) (reply-tail-alike t u p r.asked l e) in
-    let rest = is_run-alike t u (place_behind t p r.asked) h l e in
-    let behind = place_behind-alike t u p r.asked l in
-    ap (λ b. b && is_run t (place_behind t p r.asked) h) here
-    ∙ ap (λ b. tells r (reply u p r.asked) && b) (rest ∙ ap (λ q. is_run u q h) behind)
+    let rest = is_run-alike t u (next_place t p r.asked) h l e in
+    let past = next_place-alike t u p r.asked l in
+    ap (λ b. b && is_run t (next_place t p r.asked) h) here
+    ∙ ap (λ b. tells r (reply u p r.asked) && b) (rest ∙ ap (λ q. is_run u q h) past)
 
 -- legality looks at how many items there are and how they end, and at nothing else of them
 pub is_legal_history-alike : {T U : Type 0} (t : Trace T) (u : Trace U) (h : List Record) → length t.items ≡ length u.items → t.ending ≡ u.ending → is_legal_history t h ≡ is_legal_history u h

@@ -53,17 +53,17 @@ reply t p (Ask n) = if p.closed then no_items p.given else next_items t p.given 
 reply t p Close = no_items p.given
 
 -- the place after a request: past the items of its answer, and closed from the first Close on
-abbrev pub place_behind : {T : Type 0} → Trace T → Place → Event → Place
-place_behind t p (Ask n) = record {
+abbrev pub next_place : {T : Type 0} → Trace T → Place → Event → Place
+next_place t p (Ask n) = record {
   given = p.given + length (reply t p (Ask n)).items;
   closed = p.closed;
 }
-place_behind t p Close = record { given = p.given; closed = true }
+next_place t p Close = record { given = p.given; closed = true }
 
 -- the place after all requests of a history
 abbrev pub place_after : {T : Type 0} → Trace T → Place → List Record → Place
 place_after t p [] = p
-place_after t p (r ∷ rs) = place_after t (place_behind t p r.asked) rs
+place_after t p (r ∷ rs) = place_after t (next_place t p r.asked) rs
 
 -- the record of a request and its answer
 abbrev pub recorded : {T : Type 0} → ℕ → Event → Reply T → Record
@@ -95,7 +95,7 @@ tells r a = (r.first == a.first) && (r.count == length a.items) && same_tail r.t
 -- whether each record states the answer to its request, one after another from a place on
 abbrev pub is_run : {T : Type 0} → Trace T → Place → List Record → Bool
 is_run t p [] = true
-is_run t p (r ∷ rs) = tells r (reply t p r.asked) && is_run t (place_behind t p r.asked) rs
+is_run t p (r ∷ rs) = tells r (reply t p r.asked) && is_run t (next_place t p r.asked) rs
 
 -- whether a history is legal for a trace: a run from the start, under tickets that rise
 abbrev pub is_legal_history : {T : Type 0} → Trace T → List Record → Bool

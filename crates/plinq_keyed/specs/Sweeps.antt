@@ -16,6 +16,6 @@ abbrev pub apart : List ℕ → List ℕ → Bool
 apart ks js = list_all (λ k. not (is_among js k)) ks
 
 -- the least number that is above each of these, and not below the one that is given
-abbrev pub least_behind : ℕ → List ℕ → ℕ
-least_behind least [] = least
-least_behind least (k ∷ ks) = least_behind (max least (k + 1)) ks
+abbrev pub least_after : ℕ → List ℕ → ℕ
+least_after least [] = least
+least_after least (k ∷ ks) = least_after (max least (k + 1)) ks

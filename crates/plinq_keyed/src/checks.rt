@@ -1,6 +1,6 @@
 ghost use Rattle.std.specs.Prelude.{◌≡◌, ◌<◌, ◌^◌};
 ghost use Rattle.plinq_keyed.specs.Keys.{element_lists, key_lists, keys, ordered_in_each, ordered_across, rises};
-ghost use Rattle.plinq_keyed.specs.Sweeps.{all_from, least_behind};
+ghost use Rattle.plinq_keyed.specs.Sweeps.{all_from, least_after};
 
 use crate::keyed::Keyed;
 
@@ -65,7 +65,7 @@ fn keys_from<T>(part: &[Keyed<T>], least: u128) -> bool
 // The least number that is above each key, and not below the one that is given.
 fn least_above<T>(part: &[Keyed<T>], given: u128) -> u128
     requires { given < 2 ^ 65 }
-    ensures least { result ≡ least_behind given (keys part.now) }
+    ensures least { result ≡ least_after given (keys part.now) }
     ensures small { result < 2 ^ 65 }
 {
     let mut least = given;

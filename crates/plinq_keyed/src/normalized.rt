@@ -127,8 +127,8 @@ fn are_found_once<T>(part: &[Keyed<T>], later: &[Vec<Keyed<T>>]) -> bool
 {
     for place in 0..part.len() {
         let key = part[place].key;
-        let (_, behind) = part.split_at(place + 1);
-        if has_key(behind, key) || some_has_key(later, key) {
+        let (_, following) = part.split_at(place + 1);
+        if has_key(following, key) || some_has_key(later, key) {
             return false;
         }
     }

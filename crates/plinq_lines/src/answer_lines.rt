@@ -73,9 +73,9 @@ fn write_runs<W: Write>(writer: &mut W, size: usize, items: &[i64]) -> Result<()
 {
     let mut rest = items;
     while !rest.is_empty() {
-        let (batch, behind) = rest.split_at(size.min(rest.len()));
+        let (batch, following) = rest.split_at(size.min(rest.len()));
         write_batch(writer, batch)?;
-        rest = behind;
+        rest = following;
     }
     Ok(())
 }

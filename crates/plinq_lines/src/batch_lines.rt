@@ -77,9 +77,9 @@ fn write_further_numbers<W: Write>(writer: &mut W, further: &[i64]) -> Result<()
 {
     let mut rest = further;
     while !rest.is_empty() {
-        let (numbers, behind) = rest.split_at(MOST_PLACED.min(rest.len()));
+        let (numbers, following) = rest.split_at(MOST_PLACED.min(rest.len()));
         write_few_numbers(writer, numbers)?;
-        rest = behind;
+        rest = following;
     }
     write_bytes(writer, b"\n")
 }

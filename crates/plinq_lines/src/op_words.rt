@@ -32,9 +32,9 @@ fn write_further_ops<W: Write>(writer: &mut W, further: &[Op<Formula>]) -> Resul
     ensures { Writes (W.contents writer.old) (W.contents writer.new) result (line (flat_map further_op further.now)) }
 {
     let mut rest = further;
-    while let Some((op, behind)) = rest.split_first() {
+    while let Some((op, following)) = rest.split_first() {
         write_op(writer, ", ", op)?;
-        rest = behind;
+        rest = following;
     }
     write_pieces(writer, &[Piece::Text("\n")])
 }

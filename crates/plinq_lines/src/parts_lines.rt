@@ -70,10 +70,10 @@ fn write_partitions<W: Write>(
 {
     let mut number = 0;
     let mut rest = partitions;
-    while let Some((part, behind)) = rest.split_first() {
+    while let Some((part, following)) = rest.split_first() {
         write_partition(writer, number, part.as_slice())?;
         number += 1;
-        rest = behind;
+        rest = following;
     }
     Ok(())
 }
@@ -94,9 +94,9 @@ fn write_elements<W: Write>(writer: &mut W, elements: &[Keyed<i64>]) -> Result<(
     ensures { Writes (W.contents writer.old) (W.contents writer.new) result (line (flat_map element_words elements.now)) }
 {
     let mut rest = elements;
-    while let Some((element, behind)) = rest.split_first() {
+    while let Some((element, following)) = rest.split_first() {
         write_element(writer, *element)?;
-        rest = behind;
+        rest = following;
     }
     write_pieces(writer, &[Piece::Text("\n")])
 }

@@ -67,6 +67,6 @@ pub(crate) fn place_line(batch: &[i64], text: &mut [u8], end: usize) -> usize
     let Some((first, further)) = batch.split_first() else {
         return end - 1;
     };
-    let behind = place_further_numbers(further, text, end - 1);
-    place_number(*first, text, behind)
+    let following = place_further_numbers(further, text, end - 1);
+    place_number(*first, text, following)
 }

@@ -4,8 +4,8 @@ use Rattle.std.proofs.Common.{sym, ◌∙◌, ap}
 use Rattle.plinq_merge.specs.declared.merge_fault.MergeFault.{MergeFault}
 use Rattle.plinq_merge.specs.declared.merge_fault.MergeFault.TheVariants.{Memory, Sink, Twice, Gap, Failed, Cancelled}
 use Rattle.plinq_merge.specs.declared.more.More.{More}
-use Rattle.plinq_merge.specs.declared.undelivered.Undelivered.{Undelivered}
-use Rattle.plinq_merge.specs.declared.undelivered.Undelivered.TheVariants.{Memory as NoMemory, Sink as Refusal}
+use Rattle.plinq_merge.specs.declared.delivery_fault.DeliveryFault.{DeliveryFault}
+use Rattle.plinq_merge.specs.declared.delivery_fault.DeliveryFault.TheVariants.{Memory as NoMemory, Sink as Refusal}
 use Rattle.plinq_merge.specs.Cancelling.{Delivery, Passes, IsRefused}
 use Rattle.plinq_merge.specs.Mergers.{AsksEach, is_cancelled}
 use Rattle.plinq_merge.specs.Sending.{Leads, IsCutOff}
@@ -34,7 +34,7 @@ module _ {C : Type 0} (asks : C → ℕ → Bool → C → Type 0) (has_told : C
         let passes = leads.1 in
         leads-told m bs d' leads.2 ∙ lets-told d.token d.delivered m.token passes.asked
 
-    pub cut-told : (d : Delivery C K) (bs : List (List T)) (fault : Undelivered) (d' : Delivery C K) → IsCutOff (Passes asks accepts) (IsRefused asks refuses) d bs fault d' → has_told d'.token ≡ has_told d.token
+    pub cut-told : (d : Delivery C K) (bs : List (List T)) (fault : DeliveryFault) (d' : Delivery C K) → IsCutOff (Passes asks accepts) (IsRefused asks refuses) d bs fault d' → has_told d'.token ≡ has_told d.token
     cut-told d bs NoMemory d' cut = leads-told d cut.0 d' cut.3
     cut-told d bs (Refusal code) d' cut =
         let m = cut.3 in

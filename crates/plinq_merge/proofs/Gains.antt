@@ -10,13 +10,13 @@ use Rattle.plinq_ops.specs.Stage.{seq}
 use Rattle.plinq_ops.specs.Operator.{stages_of}
 use Rattle.plinq_ops.specs.Batches.{full_batches, batches_from}
 use Rattle.plinq_ops.proofs.Runs.{batches_from-open}
-use Rattle.plinq_merge.specs.declared.undelivered.Undelivered.{Undelivered}
-use Rattle.plinq_merge.specs.declared.undelivered.Undelivered.TheVariants.{Memory}
+use Rattle.plinq_merge.specs.declared.delivery_fault.DeliveryFault.{DeliveryFault}
+use Rattle.plinq_merge.specs.declared.delivery_fault.DeliveryFault.TheVariants.{Memory}
 use Rattle.plinq_merge.specs.declared.row.Row.{Row}
 use Rattle.plinq_merge.specs.declared.work.Work.{Work}
 use Rattle.plinq_merge.specs.Buffer.{held_of, size_of}
 use Rattle.plinq_merge.specs.Sending.{Leads, Delivers}
-use Rattle.plinq_merge.specs.Shown.{Merge, merged, answer, shown, behind_result}
+use Rattle.plinq_merge.specs.Shown.{Merge, merged, answer, shown, end_of_result}
 use Rattle.plinq_merge.specs.Keys.{is_apart, IsFresh}
 use Rattle.plinq_merge.specs.Merging.{Content, content_of, coming, due, HasTaken, IsAtGap, TakesIn, Goes}
 use Rattle.plinq_merge.specs.Working.{operators_left, content, merge_of, KeepsPlan, Rests, Stands, Gains}
@@ -47,7 +47,7 @@ gained-due merge m m1 hand offers r out undecided before rests after =
 
 -- with a result of fresh keys, what is held stands for one offer more
 any-taken : {T : Type 0} (merge : Merge T) (m : Content T) (offers : List (ChunkResult T)) (r : ChunkResult T) (out : List T) → is_apart m.next m.waiting ≡ true
-    → IsFresh m.next m.waiting r.first (behind_result r) → HasTaken merge m (open_trace []) offers out
+    → IsFresh m.next m.waiting r.first (end_of_result r) → HasTaken merge m (open_trace []) offers out
     → (m1 : Content T) × (hand : Trace T) × HasTaken merge m1 hand (offers ++ r ∷ []) out
 any-taken merge m offers r out apart fresh taken =
     elim (none_or_some r.count) [
@@ -61,7 +61,7 @@ any-taken merge m offers r out apart fresh taken =
 -- where memory ran out before anything was sent
 pub gains-none : {L K T : Type 0} (meaning : L → Meaning T) (accepts : K → List T → K → Type 0) (refuses : K → List T → ℕ → K → Type 0) (w w' : Work L T)
     (offers : List (ChunkResult T)) (r : ChunkResult T) (s s' : K)
-    → is_apart w.row.next w.row.waiting.entries ≡ true → IsFresh w.row.next w.row.waiting.entries r.first (behind_result r) → s' ≡ s
+    → is_apart w.row.next w.row.waiting.entries ≡ true → IsFresh w.row.next w.row.waiting.entries r.first (end_of_result r) → s' ≡ s
     → Rests meaning w offers → Gains meaning accepts refuses w offers r s (Err Memory) w' s'
 gains-none meaning accepts refuses w w' offers r s s' apart fresh same rests =
     let after = any-taken (merge_of meaning w) (content meaning w) offers r rests.out apart fresh rests.taken in
@@ -73,7 +73,7 @@ gains-none meaning accepts refuses w w' offers r s s' apart fresh same rests =
     }
 
 sends-due : {K T : Type 0} (accepts : K → List T → K → Type 0) (refuses : K → List T → ℕ → K → Type 0) (size : Option ℕ) (m : Content T) (hand : Trace T) (s : K)
-    (result : Result (Option Ending) Undelivered) (m' : Content T) (s' : K)
+    (result : Result (Option Ending) DeliveryFault) (m' : Content T) (s' : K)
     → Goes accepts refuses size m hand s result m' s' → (result ≡ Ok None → coming m' (open_trace []) ≡ open_trace []) → Delivers accepts refuses s (due size m hand) result s'
 sends-due {K} {T} accepts refuses size m hand s (Ok None) m' s' goes rests =
     let all : due size m hand ≡ goes.sent = goes.due_before ∙ ap (λ bs. goes.sent ++ bs) (due-nothing size m' (rests refl)) ∙ append-nil goes.sent in
@@ -91,7 +91,7 @@ merge-same {L} {T} meaning w w' plan =
     ∙ ap (λ n. record m { after = stages_of meaning w'.pipeline.ops; order = w'.order; decided = w'.decided; size = n }) (sym plan.size)
 
 stands-then : {L K T : Type 0} (meaning : L → Meaning T) (accepts : K → List T → K → Type 0) (refuses : K → List T → ℕ → K → Type 0) (w w' : Work L T) (m : Content T) (hand : Trace T)
-    (offers : List (ChunkResult T)) (out : List T) (s : K) (result : Result (Option Ending) Undelivered) (s' : K)
+    (offers : List (ChunkResult T)) (out : List T) (s : K) (result : Result (Option Ending) DeliveryFault) (s' : K)
     → w.decided ≡ false → HasTaken (merge_of meaning w) m hand offers out → Goes accepts refuses (size_of w.buffer) m hand s result (content meaning w') s'
     → (result ≡ Ok None → IsAtGap (content meaning w')) → KeepsPlan w w' → Stands meaning w w' offers result
 stands-then {L} {K} {T} meaning accepts refuses w w' m hand offers out s (Ok None) s' undecided taken goes gap plan =
@@ -109,7 +109,7 @@ stands-then {L} {K} {T} meaning accepts refuses w w' m hand offers out s (Err fa
 
 -- what the result taken in brings
 pub gains-taken : {L K T : Type 0} (meaning : L → Meaning T) (accepts : K → List T → K → Type 0) (refuses : K → List T → ℕ → K → Type 0) (w w' : Work L T) (row1 : Row T) (hand : Trace T)
-    (offers : List (ChunkResult T)) (r : ChunkResult T) (s : K) (result : Result (Option Ending) Undelivered) (s' : K)
+    (offers : List (ChunkResult T)) (r : ChunkResult T) (s : K) (result : Result (Option Ending) DeliveryFault) (s' : K)
     → TakesIn w.order w.row r hand row1
     → Goes accepts refuses (size_of w.buffer) (content_of row1 (operators_left meaning w) (held_of w.buffer)) hand s result (content meaning w') s'
     → (result ≡ Ok None → IsAtGap (content meaning w')) → KeepsPlan w w'
@@ -124,7 +124,7 @@ gains-taken {L} {K} {T} meaning accepts refuses w w' row1 hand offers r s result
       stands = stands-then meaning accepts refuses w w' m1 hand (offers ++ r ∷ []) rests.out s result s' rests.undecided taken goes at_gap plan;
     }
 
-abbrev answered : Option Ending → Result (Option Ending) Undelivered
+abbrev answered : Option Ending → Result (Option Ending) DeliveryFault
 answered e = Ok e
 
 -- an answer that has ended isn't open

@@ -9,13 +9,13 @@ use Rattle.plinq_merge.specs.declared.more.More.{More}
 use Rattle.plinq_merge.specs.declared.more.More.TheVariants.{No}
 use Rattle.plinq_merge.specs.declared.standing.Standing.{Standing}
 use Rattle.plinq_merge.specs.declared.standing.Standing.TheVariants.{Open, Decided, Failed as HasFailed}
-use Rattle.plinq_merge.specs.declared.undelivered.Undelivered.{Undelivered}
-use Rattle.plinq_merge.specs.declared.undelivered.Undelivered.TheVariants.{Memory as NoMemory, Sink as Refusal}
+use Rattle.plinq_merge.specs.declared.delivery_fault.DeliveryFault.{DeliveryFault}
+use Rattle.plinq_merge.specs.declared.delivery_fault.DeliveryFault.TheVariants.{Memory as NoMemory, Sink as Refusal}
 use Rattle.plinq_merge.specs.declared.with_cancellation.WithCancellation.{WithCancellation}
 use Rattle.plinq_merge.specs.declared.work.Work.{Work}
 use Rattle.plinq_merge.specs.Cancelling.{Delivery, Passes, IsRefused, IsKeptBack}
 use Rattle.plinq_merge.specs.Lent.{AreSame, delivery_of, Takes, KeptOrRefused, Refuses}
-use Rattle.plinq_merge.specs.Mergers.{SendsSome, AsksEach, undelivered_of}
+use Rattle.plinq_merge.specs.Mergers.{SendsSome, AsksEach, delivery_fault_of}
 use Rattle.plinq_merge.specs.Offering.{Offers, OffersWith, IsCancelled}
 use Rattle.plinq_merge.specs.Sending.{Leads, IsCutOff}
 use Rattle.plinq_merge.proofs.Maps.{brings-map, offers-map}
@@ -45,12 +45,12 @@ module _ {C K T : Type 0} (asks : C → ℕ → Bool → C → Type 0) (accepts 
         still = on.still ∙ step.goes_on;
       }
 
-  pub cut-same : (w : WithCancellation C K) (bs : List (List T)) (fault : Undelivered) (w' : WithCancellation C K) → IsCutOff (Takes asks accepts) (Refuses asks refuses) w bs fault w' → AreSame w w'
+  pub cut-same : (w : WithCancellation C K) (bs : List (List T)) (fault : DeliveryFault) (w' : WithCancellation C K) → IsCutOff (Takes asks accepts) (Refuses asks refuses) w bs fault w' → AreSame w w'
   cut-same w bs NoMemory w' cut = let on = leads-on w cut.0 w' cut.3 in on.same
   cut-same w bs (Refusal code) w' cut = let on = leads-on w cut.0 cut.3 cut.5 in let end = cut.6 in same-on w cut.3 w' on.same end.same
 
   -- the sink was refused memory, or refused a batch, and no batch was kept back
-  pub cut-on : (w : WithCancellation C K) (bs : List (List T)) (fault : Undelivered) (w' : WithCancellation C K) → w.is_stopped ≡ false → w'.is_stopped ≡ false
+  pub cut-on : (w : WithCancellation C K) (bs : List (List T)) (fault : DeliveryFault) (w' : WithCancellation C K) → w.is_stopped ≡ false → w'.is_stopped ≡ false
       → IsCutOff (Takes asks accepts) (Refuses asks refuses) w bs fault w' → IsCutOff (Passes asks accepts) (IsRefused asks refuses) (delivery_of w) bs fault (delivery_of w')
   cut-on w bs NoMemory w' before after cut = let on = leads-on w cut.0 w' cut.3 in (cut.0, cut.1, cut.2, on.leads)
   cut-on w bs (Refusal code) w' before after cut =
@@ -61,7 +61,7 @@ module _ {C K T : Type 0} (asks : C → ℕ → Bool → C → Type 0) (accepts 
       (cut.0, cut.1, cut.2, delivery_of m, cut.4, on.leads, subst P after (end.was (on.still ∙ before)))
 
   -- a batch was kept back
-  pub cut-kept : (w : WithCancellation C K) (bs : List (List T)) (fault : Undelivered) (w' : WithCancellation C K) → w.is_stopped ≡ false → w'.is_stopped ≡ true
+  pub cut-kept : (w : WithCancellation C K) (bs : List (List T)) (fault : DeliveryFault) (w' : WithCancellation C K) → w.is_stopped ≡ false → w'.is_stopped ≡ true
       → IsCutOff (Takes asks accepts) (Refuses asks refuses) w bs fault w' → IsKeptBack asks accepts (delivery_of w) bs (delivery_of w')
   cut-kept w bs NoMemory w' before after cut = let on = leads-on w cut.0 w' cut.3 in absurd (let bad : true ≡ false = sym after ∙ on.still ∙ before in cc)
   cut-kept w bs (Refusal code) w' before after cut =
@@ -73,12 +73,12 @@ module _ {C K T : Type 0} (asks : C → ℕ → Bool → C → Type 0) (accepts 
 
   pub sends-same : (w : WithCancellation C K) (r : Result More MergeFault) (w' : WithCancellation C K) → SendsSome (Takes asks accepts) (Refuses asks refuses) w r w' → AreSame w w'
   sends-same w (Ok more) w' sends = let on = leads-on w sends.0 w' sends.1 in on.same
-  sends-same w (Err fault) w' sends = cut-same w sends.0 (undelivered_of fault) w' sends.1
+  sends-same w (Err fault) w' sends = cut-same w sends.0 (delivery_fault_of fault) w' sends.1
 
   pub asks-stopped : (w : WithCancellation C K) (r : Result More MergeFault) (w' : WithCancellation C K) → w.is_stopped ≡ false → w'.is_stopped ≡ true
       → SendsSome (Takes asks accepts) (Refuses asks refuses) w r w' → AsksEach asks accepts refuses (delivery_of w) (Err Cancelled) (delivery_of w')
   asks-stopped w (Ok more) w' before after sends = let on = leads-on w sends.0 w' sends.1 in absurd (let bad : true ≡ false = sym after ∙ on.still ∙ before in cc)
-  asks-stopped w (Err fault) w' before after sends = (sends.0, cut-kept w sends.0 (undelivered_of fault) w' before after sends.1)
+  asks-stopped w (Err fault) w' before after sends = (sends.0, cut-kept w sends.0 (delivery_fault_of fault) w' before after sends.1)
 
   pub asks-on : (w : WithCancellation C K) (r : Result More MergeFault) (w' : WithCancellation C K) → w.is_stopped ≡ false → w'.is_stopped ≡ false → (r ≡ Err Cancelled → ⊥)
       → SendsSome (Takes asks accepts) (Refuses asks refuses) w r w' → AsksEach asks accepts refuses (delivery_of w) r (delivery_of w')

@@ -9,8 +9,8 @@ use Rattle.plinq_merge.specs.declared.more.More.{More}
 use Rattle.plinq_merge.specs.declared.more.More.TheVariants.{Yes, No}
 use Rattle.plinq_merge.specs.declared.standing.Standing.{Standing}
 use Rattle.plinq_merge.specs.declared.standing.Standing.TheVariants.{Open, Decided, Failed as HasFailed}
-use Rattle.plinq_merge.specs.declared.undelivered.Undelivered.{Undelivered}
-use Rattle.plinq_merge.specs.declared.undelivered.Undelivered.TheVariants.{Memory as NoMemory, Sink as Refusal}
+use Rattle.plinq_merge.specs.declared.delivery_fault.DeliveryFault.{DeliveryFault}
+use Rattle.plinq_merge.specs.declared.delivery_fault.DeliveryFault.TheVariants.{Memory as NoMemory, Sink as Refusal}
 use Rattle.plinq_merge.specs.declared.work.Work.{Work}
 use Rattle.plinq_merge.specs.Sending.{Leads, IsCutOff}
 use Rattle.plinq_merge.specs.Shown.{Merge}
@@ -23,7 +23,7 @@ leads-map f accepts accepts' takes s (b ∷ bs) s' leads = (f leads.0, takes s b
 
 pub cut-map : {K M B : Type 0} (f : K → M) (accepts : K → B → K → Type 0) (refuses : K → B → ℕ → K → Type 0) (accepts' : M → B → M → Type 0) (refuses' : M → B → ℕ → M → Type 0)
     → ((s : K) (b : B) (s' : K) → accepts s b s' → accepts' (f s) b (f s')) → ((s : K) (b : B) (code : ℕ) (s' : K) → refuses s b code s' → refuses' (f s) b code (f s'))
-    → (s : K) (bs : List B) (fault : Undelivered) (s' : K) → IsCutOff accepts refuses s bs fault s' → IsCutOff accepts' refuses' (f s) bs fault (f s')
+    → (s : K) (bs : List B) (fault : DeliveryFault) (s' : K) → IsCutOff accepts refuses s bs fault s' → IsCutOff accepts' refuses' (f s) bs fault (f s')
 cut-map f accepts refuses accepts' refuses' takes refused s bs NoMemory s' cut = (cut.0, cut.1, cut.2, leads-map f accepts accepts' takes s cut.0 s' cut.3)
 cut-map f accepts refuses accepts' refuses' takes refused s bs (Refusal code) s' cut =
     (cut.0, cut.1, cut.2, f cut.3, cut.4, leads-map f accepts accepts' takes s cut.0 cut.3 cut.5, refused cut.3 cut.1 code s' cut.6)
@@ -35,7 +35,7 @@ brings-map merge offers r P Q on brings = record { are_new = brings.are_new; gai
 -- an offer, where what is delivered goes from s to s', and in the other words from t to t'
 pub offers-map : {L K M T : Type 0} (meaning : L → Meaning T) (accepts : K → List T → K → Type 0) (refuses : K → List T → ℕ → K → Type 0) (accepts' : M → List T → M → Type 0) (refuses' : M → List T → ℕ → M → Type 0)
     (s s' : K) (t t' : M) → ((bs : List (List T)) → Leads accepts s bs s' → Leads accepts' t bs t')
-    → ((bs : List (List T)) (fault : Undelivered) → IsCutOff accepts refuses s bs fault s' → IsCutOff accepts' refuses' t bs fault t') → (s' ≡ s → t' ≡ t)
+    → ((bs : List (List T)) (fault : DeliveryFault) → IsCutOff accepts refuses s bs fault s' → IsCutOff accepts' refuses' t bs fault t') → (s' ≡ s → t' ≡ t)
     → (w : Work L T) (standing : Standing) (r : ChunkResult T) (result : Result More MergeFault) (w' : Work L T) (standing' : Standing)
     → Offers meaning accepts refuses w standing r s result w' standing' s' → Offers meaning accepts' refuses' w standing r t result w' standing' t'
 offers-map meaning accepts refuses accepts' refuses' s s' t t' leads cuts same w Open r (Ok Yes) w' standing' o =

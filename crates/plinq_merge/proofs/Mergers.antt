@@ -17,8 +17,8 @@ use Rattle.plinq_merge.specs.Keys.{AreNew}
 use Rattle.plinq_merge.specs.Shown.{Merge, answer, shown}
 use Rattle.plinq_merge.specs.Working.{merge_of}
 use Rattle.plinq_merge.specs.Offering.{StandsFor, Offers}
-use Rattle.plinq_merge.specs.Mergers.{plan_of, IsFor, Takes, undelivered_of, StopsShort}
-use Rattle.plinq_merge.proofs.Sent.{leads-append, cut-behind}
+use Rattle.plinq_merge.specs.Mergers.{plan_of, IsFor, Takes, delivery_fault_of, StopsShort}
+use Rattle.plinq_merge.proofs.Sent.{leads-append, cut-after}
 
 -- the offers so far, or these and one more, of which no key was offered before
 abbrev pub AreOneMore : {T : Type 0} → List (ChunkResult T) → ChunkResult T → List (ChunkResult T) → Type 0
@@ -69,8 +69,8 @@ module _ {L T K : Type 0} (meaning : L → Meaning T) (accepts : K → List T �
         offers' = offers ++ r ∷ [];
         more = inr (refl, brings.are_new);
         stands = tt;
-        goes = λ s leads. subst (λ bs. IsCutOff accepts refuses s bs (undelivered_of Memory) s2) (sym brings.grows)
-            (cut-behind accepts refuses s (shown (merge_of meaning w) offers) brings.gained (undelivered_of Memory) s1 s2 leads brings.sent);
+        goes = λ s leads. subst (λ bs. IsCutOff accepts refuses s bs (delivery_fault_of Memory) s2) (sym brings.grows)
+            (cut-after accepts refuses s (shown (merge_of meaning w) offers) brings.gained (delivery_fault_of Memory) s1 s2 leads brings.sent);
       }
   refused w Open r s1 (Sink code) w' standing' s2 offers stands o =
       let brings = o.1 offers stands in
@@ -78,8 +78,8 @@ module _ {L T K : Type 0} (meaning : L → Meaning T) (accepts : K → List T �
         offers' = offers ++ r ∷ [];
         more = inr (refl, brings.are_new);
         stands = tt;
-        goes = λ s leads. subst (λ bs. IsCutOff accepts refuses s bs (undelivered_of (Sink code)) s2) (sym brings.grows)
-            (cut-behind accepts refuses s (shown (merge_of meaning w) offers) brings.gained (undelivered_of (Sink code)) s1 s2 leads brings.sent);
+        goes = λ s leads. subst (λ bs. IsCutOff accepts refuses s bs (delivery_fault_of (Sink code)) s2) (sym brings.grows)
+            (cut-after accepts refuses s (shown (merge_of meaning w) offers) brings.gained (delivery_fault_of (Sink code)) s1 s2 leads brings.sent);
       }
   refused w Open r s1 Twice w' standing' s2 offers stands o =
       record {

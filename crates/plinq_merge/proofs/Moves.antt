@@ -5,21 +5,21 @@ use Rattle.std.proofs.Common.{sym, ◌∙◌, ap, subst, append_assoc, append-ni
 use Rattle.plinq_source.specs.declared.ending.Ending.{Ending}
 use Rattle.plinq_source.specs.Trace.{Trace, open_trace, ended, followed}
 use Rattle.plinq_source.proofs.Followed.{trace_of}
-use Rattle.plinq_ops.specs.Stage.{Stage, seq, seq_behind, some_takes_none}
+use Rattle.plinq_ops.specs.Stage.{Stage, seq, seq_after, some_takes_none}
 use Rattle.plinq_ops.specs.Feeding.{IsFed}
 use Rattle.plinq_ops.specs.Batches.{full_batches, held_back, last_batch, batches_from}
 use Rattle.plinq_ops.proofs.Stages.{seq-followed}
 use Rattle.plinq_ops.proofs.Fed.{fed-told, undecided-left}
 use Rattle.plinq_ops.proofs.Open.{seq-nothing}
 use Rattle.plinq_ops.proofs.Runs.{batches_from-followed, batches_from-open}
-use Rattle.plinq_merge.specs.declared.undelivered.Undelivered.{Undelivered}
-use Rattle.plinq_merge.specs.declared.undelivered.Undelivered.TheVariants.{Memory}
+use Rattle.plinq_merge.specs.declared.delivery_fault.DeliveryFault.{DeliveryFault}
+use Rattle.plinq_merge.specs.declared.delivery_fault.DeliveryFault.TheVariants.{Memory}
 use Rattle.plinq_merge.specs.Part.{Part}
 use Rattle.plinq_merge.specs.Sending.{Leads, IsCutOff}
 use Rattle.plinq_merge.specs.Shown.{row, ending_at}
 use Rattle.plinq_merge.specs.Keys.{is_first}
 use Rattle.plinq_merge.specs.Merging.{Content, coming, due, GoesOn, Moves, Goes, Feeds}
-use Rattle.plinq_merge.proofs.Sent.{leads-append, cut-behind, cut-before}
+use Rattle.plinq_merge.proofs.Sent.{leads-append, cut-after, cut-before}
 use Rattle.plinq_merge.proofs.Takings.{taken-worked, taken-part, with_next, row-here}
 
 last_batch-open : {T : Type 0} (size : Option ℕ) (held : List T) → last_batch size held None ≡ []
@@ -35,11 +35,11 @@ fed-goes_on ss ss' t out None fed =
     record {
       answers = λ rest.
           seq-followed ss t rest
-          ∙ ap (λ u. followed u (seq (seq_behind ss t) rest)) (fed-answer ss ss' t out None fed)
+          ∙ ap (λ u. followed u (seq (seq_after ss t) rest)) (fed-answer ss ss' t out None fed)
           ∙ ap (λ left. followed (open_trace out) (seq left rest)) (sym (fed.left refl));
     }
 fed-goes_on ss ss' t out (Some e) fed =
-    record { answers = λ rest. seq-followed ss t rest ∙ ap (λ u. followed u (seq (seq_behind ss t) rest)) (fed-answer ss ss' t out (Some e) fed) }
+    record { answers = λ rest. seq-followed ss t rest ∙ ap (λ u. followed u (seq (seq_after ss t) rest)) (fed-answer ss ss' t out (Some e) fed) }
 
 -- the batches of a trace that others follow begin with its full ones
 batches-begin : {T : Type 0} (size : Option ℕ) (held out : List T) (e : Option Ending) (t : Trace T)
@@ -56,7 +56,7 @@ pub cut-none : {K T : Type 0} (accepts : K → List T → K → Type 0) (refuses
 cut-none accepts refuses s bs s' same = ([], bs, refl, same)
 
 -- the full batches were cut off
-pub fed-cut : {K T : Type 0} (accepts : K → List T → K → Type 0) (refuses : K → List T → ℕ → K → Type 0) (size : Option ℕ) (ss ss' : List (Stage T)) (held xs out : List T) (e : Option Ending) (s : K) (fault : Undelivered) (s' : K)
+pub fed-cut : {K T : Type 0} (accepts : K → List T → K → Type 0) (refuses : K → List T → ℕ → K → Type 0) (size : Option ℕ) (ss ss' : List (Stage T)) (held xs out : List T) (e : Option Ending) (s : K) (fault : DeliveryFault) (s' : K)
     → IsFed ss (open_trace xs) [] out ss' e → IsCutOff accepts refuses s (full_batches size held out) fault s'
     → (rest : Trace T) → IsCutOff accepts refuses s (batches_from size held (seq ss (followed (open_trace xs) rest))) fault s'
 fed-cut {K} {T} accepts refuses size ss ss' held xs out e s fault s' fed cut rest =
@@ -73,7 +73,7 @@ parted xs None rest = refl
 parted xs (Some e) rest = ap (λ zs. ended zs e) (sym (append-nil xs))
 
 -- a trace whose items were cut off
-pub goes-cut : {K T : Type 0} (accepts : K → List T → K → Type 0) (refuses : K → List T → ℕ → K → Type 0) (size : Option ℕ) (m m' : Content T) (xs : List T) (e : Option Ending) (s : K) (fault : Undelivered) (s' : K)
+pub goes-cut : {K T : Type 0} (accepts : K → List T → K → Type 0) (refuses : K → List T → ℕ → K → Type 0) (size : Option ℕ) (m m' : Content T) (xs : List T) (e : Option Ending) (s : K) (fault : DeliveryFault) (s' : K)
     → ((rest : Trace T) → IsCutOff accepts refuses s (batches_from size m.held (seq m.now (followed (open_trace xs) rest))) fault s')
     → IsCutOff accepts refuses s (due size m (trace_of xs e)) fault s'
 goes-cut {K} {T} accepts refuses size m m' xs e s fault s' cut =
@@ -113,7 +113,7 @@ goes-worked {K} {T} accepts refuses size m t out (Some e) now held s m1 s' on ke
 
 -- the last batch was cut off
 pub goes-cut_last : {K T : Type 0} (accepts : K → List T → K → Type 0) (refuses : K → List T → ℕ → K → Type 0) (size : Option ℕ) (m : Content T) (t : Trace T) (out : List T) (e : Option Ending)
-    (now : List (Stage T)) (s m1 : K) (fault : Undelivered) (s' : K)
+    (now : List (Stage T)) (s m1 : K) (fault : DeliveryFault) (s' : K)
     → GoesOn m.now t out e now → Leads accepts s (full_batches size m.held out) m1
     → IsCutOff accepts refuses m1 (last_batch size (held_back size m.held out) e) fault s'
     → IsCutOff accepts refuses s (due size m t) fault s'
@@ -123,16 +123,16 @@ goes-cut_last {K} {T} accepts refuses size m t out e now s m1 fault s' on full c
     let P : List (List T) → Type 0 = λ bs. IsCutOff accepts refuses s bs fault s' in
     subst P (sym (ap (batches_from size m.held) (on.answers R) ∙ begins.1))
     (cut-before accepts refuses s (full_batches size m.held out ++ last_batch size (held_back size m.held out) e) begins.0 fault s'
-    (cut-behind accepts refuses s (full_batches size m.held out) (last_batch size (held_back size m.held out) e) fault m1 s' full cut))
+    (cut-after accepts refuses s (full_batches size m.held out) (last_batch size (held_back size m.held out) e) fault m1 s' full cut))
 
 pub moves-none : {K T : Type 0} (accepts : K → List T → K → Type 0) (size : Option ℕ) (m : Content T) (s : K) → Moves accepts size m (open_trace []) s m s
 moves-none accepts size m s = record { sent = []; due_before = refl; leads = refl; ending = refl; keeps = λ merge offers out is taken. (out, taken) }
 
 -- one move after another
-pub goes-behind : {K T : Type 0} (accepts : K → List T → K → Type 0) (refuses : K → List T → ℕ → K → Type 0) (size : Option ℕ) (m : Content T) (t : Trace T) (s : K) (m1 : Content T) (s1 : K)
-    (r : Result (Option Ending) Undelivered) (m' : Content T) (s' : K)
+pub goes-after : {K T : Type 0} (accepts : K → List T → K → Type 0) (refuses : K → List T → ℕ → K → Type 0) (size : Option ℕ) (m : Content T) (t : Trace T) (s : K) (m1 : Content T) (s1 : K)
+    (r : Result (Option Ending) DeliveryFault) (m' : Content T) (s' : K)
     → Moves accepts size m t s m1 s1 → Goes accepts refuses size m1 (open_trace []) s1 r m' s' → Goes accepts refuses size m t s r m' s'
-goes-behind accepts refuses size m t s m1 s1 (Ok None) m' s' first second =
+goes-after accepts refuses size m t s m1 s1 (Ok None) m' s' first second =
     record {
       sent = first.sent ++ second.sent;
       due_before =
@@ -141,19 +141,19 @@ goes-behind accepts refuses size m t s m1 s1 (Ok None) m' s' first second =
       ending = first.ending ∙ second.ending;
       keeps = λ merge offers out is taken. let between = first.keeps merge offers out is taken in second.keeps merge offers between.0 is between.1;
     }
-goes-behind {K} {T} accepts refuses size m t s m1 s1 (Ok (Some e)) m' s' first second =
+goes-after {K} {T} accepts refuses size m t s m1 s1 (Ok (Some e)) m' s' first second =
     let P : List (List T) → Type 0 = λ bs. Leads accepts s bs s' in
     (first.ending ∙ second.0, subst P (sym first.due_before) (leads-append accepts s first.sent (due size m1 (open_trace [])) s1 s' first.leads second.1))
-goes-behind {K} {T} accepts refuses size m t s m1 s1 (Err fault) m' s' first second =
+goes-after {K} {T} accepts refuses size m t s m1 s1 (Err fault) m' s' first second =
     let P : List (List T) → Type 0 = λ bs. IsCutOff accepts refuses s bs fault s' in
-    subst P (sym first.due_before) (cut-behind accepts refuses s first.sent (due size m1 (open_trace [])) fault s1 s' first.leads second)
+    subst P (sym first.due_before) (cut-after accepts refuses s first.sent (due size m1 (open_trace [])) fault s1 s' first.leads second)
 
 coming-next : {T : Type 0} (m : Content T) (p : Part T) (ps : List (ℕ × Part T)) → m.waiting ≡ (m.next, p) ∷ ps → coming m (open_trace []) ≡ coming (with_next m p ps) p.trace
 coming-next m p ps is = ap (λ qs. seq m.now (row m.told m.next qs)) is ∙ ap (seq m.now) (row-here m.told m.next p ps)
 
 goes-next_here : {K T : Type 0} (accepts : K → List T → K → Type 0) (refuses : K → List T → ℕ → K → Type 0) (size : Option ℕ) (m : Content T) (p : Part T) (ps : List (ℕ × Part T)) (s : K)
-    (r : Result (Option Ending) Undelivered) (m' : Content T) (s' : K)
-    → m.waiting ≡ (m.next, p) ∷ ps → m.next < p.behind → Goes accepts refuses size (with_next m p ps) p.trace s r m' s' → Goes accepts refuses size m (open_trace []) s r m' s'
+    (r : Result (Option Ending) DeliveryFault) (m' : Content T) (s' : K)
+    → m.waiting ≡ (m.next, p) ∷ ps → m.next < p.end → Goes accepts refuses size (with_next m p ps) p.trace s r m' s' → Goes accepts refuses size m (open_trace []) s r m' s'
 goes-next_here accepts refuses size m p ps s (Ok None) m' s' is some goes =
     record {
       sent = goes.sent;
@@ -171,15 +171,15 @@ goes-next_here {K} {T} accepts refuses size m p ps s (Err fault) m' s' is some g
 
 -- the part under the next key was merged
 pub goes-next : {K T : Type 0} (accepts : K → List T → K → Type 0) (refuses : K → List T → ℕ → K → Type 0) (size : Option ℕ) (m m1 : Content T) (p : Part T) (ps : List (ℕ × Part T)) (s : K)
-    (r : Result (Option Ending) Undelivered) (m' : Content T) (s' : K)
-    → m1 ≡ with_next m p ps → m.waiting ≡ (m.next, p) ∷ ps → m.next < p.behind → Goes accepts refuses size m1 p.trace s r m' s' → Goes accepts refuses size m (open_trace []) s r m' s'
+    (r : Result (Option Ending) DeliveryFault) (m' : Content T) (s' : K)
+    → m1 ≡ with_next m p ps → m.waiting ≡ (m.next, p) ∷ ps → m.next < p.end → Goes accepts refuses size m1 p.trace s r m' s' → Goes accepts refuses size m (open_trace []) s r m' s'
 goes-next {K} {T} accepts refuses size m m1 p ps s r m' s' same is some goes =
     let P : Content T → Type 0 = λ n. Goes accepts refuses size n p.trace s r m' s' in
     goes-next_here accepts refuses size m p ps s r m' s' is some (subst P same goes)
 
 row-gap : {T : Type 0} (told : Option (ℕ × Ending)) (next : ℕ) (ps : List (ℕ × Part T)) → is_first next ps ≡ false → row told next ps ≡ trace_of [] (ending_at told next)
 row-gap told next [] gap = refl
-row-gap told next (p ∷ ps) gap = ap (λ b. cond b (followed p.1.trace (row told p.1.behind ps)) (trace_of [] (ending_at told next))) gap
+row-gap told next (p ∷ ps) gap = ap (λ b. cond b (followed p.1.trace (row told p.1.end ps)) (trace_of [] (ending_at told next))) gap
 
 -- what is coming where the next key is missing: the source's ending, if this is its place
 pub coming-gap : {T : Type 0} (m : Content T) → is_first m.next m.waiting ≡ false → some_takes_none m.now ≡ false → coming m (open_trace []) ≡ trace_of [] (ending_at m.told m.next)
@@ -198,7 +198,7 @@ goes-end {K} {T} accepts refuses size m s (Some e) m' s' gap same leads =
     let P : List (List T) → Type 0 = λ bs. Leads accepts s bs s' in
     (ap (λ t. t.ending) gap, subst P (sym (ap (batches_from size m.held) gap)) leads)
 
-pub goes-end_cut : {K T : Type 0} (accepts : K → List T → K → Type 0) (refuses : K → List T → ℕ → K → Type 0) (size : Option ℕ) (m : Content T) (s : K) (e : Option Ending) (fault : Undelivered) (s' : K)
+pub goes-end_cut : {K T : Type 0} (accepts : K → List T → K → Type 0) (refuses : K → List T → ℕ → K → Type 0) (size : Option ℕ) (m : Content T) (s : K) (e : Option Ending) (fault : DeliveryFault) (s' : K)
     → coming m (open_trace []) ≡ trace_of [] e → IsCutOff accepts refuses s (last_batch size m.held e) fault s' → IsCutOff accepts refuses s (due size m (open_trace [])) fault s'
 goes-end_cut {K} {T} accepts refuses size m s e fault s' gap cut =
     let P : List (List T) → Type 0 = λ bs. IsCutOff accepts refuses s bs fault s' in
@@ -223,7 +223,7 @@ work-goes {K} {T} accepts refuses size m m1 m' t xs told fed e s s1 s' feeds end
     goes-as accepts refuses size m t s e (record m { now = m1.now; held = m1.held }) m' s' (λ none. same none ∙ row_same)
     (goes-worked accepts refuses size m t feeds.0 e m1.now m1.held s s1 s' (subst P (sym is) (subst Q (sym ends) on)) feeds.2 feeds.3 (subst R feeds.2 last))
 
-pub work-cut : {K T : Type 0} (accepts : K → List T → K → Type 0) (refuses : K → List T → ℕ → K → Type 0) (size : Option ℕ) (m m1 : Content T) (t : Trace T) (xs : List T) (told fed e : Option Ending) (s s1 : K) (fault : Undelivered) (s' : K)
+pub work-cut : {K T : Type 0} (accepts : K → List T → K → Type 0) (refuses : K → List T → ℕ → K → Type 0) (size : Option ℕ) (m m1 : Content T) (t : Trace T) (xs : List T) (told fed e : Option Ending) (s s1 : K) (fault : DeliveryFault) (s' : K)
     → Feeds accepts refuses size m xs s (Ok fed) m1 s1 → e ≡ option_or fed told → t ≡ trace_of xs told
     → IsCutOff accepts refuses s1 (last_batch size m1.held e) fault s' → IsCutOff accepts refuses s (due size m t) fault s'
 work-cut {K} {T} accepts refuses size m m1 t xs told fed e s s1 fault s' feeds ends is cut =
@@ -241,9 +241,9 @@ work-undecided accepts refuses size m m1 xs told (Some e) s s1 feeds is_open = a
 
 -- for an equal size of batches, and an equal result
 pub goes-for : {K T : Type 0} (accepts : K → List T → K → Type 0) (refuses : K → List T → ℕ → K → Type 0) (size size' : Option ℕ) (m : Content T) (t : Trace T) (s : K)
-    (r r' : Result (Option Ending) Undelivered) (m' : Content T) (s' : K)
+    (r r' : Result (Option Ending) DeliveryFault) (m' : Content T) (s' : K)
     → size ≡ size' → r ≡ r' → Goes accepts refuses size m t s r m' s' → Goes accepts refuses size' m t s r' m' s'
 goes-for {K} {T} accepts refuses size size' m t s r r' m' s' same is goes =
     let P : Option ℕ → Type 0 = λ n. Goes accepts refuses n m t s r m' s' in
-    let Q : Result (Option Ending) Undelivered → Type 0 = λ o. Goes accepts refuses size' m t s o m' s' in
+    let Q : Result (Option Ending) DeliveryFault → Type 0 = λ o. Goes accepts refuses size' m t s o m' s' in
     subst Q is (subst P same goes)

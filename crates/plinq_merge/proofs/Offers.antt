@@ -19,15 +19,15 @@ use Rattle.plinq_merge.specs.declared.more.More.{More}
 use Rattle.plinq_merge.specs.declared.more.More.TheVariants.{Yes, No}
 use Rattle.plinq_merge.specs.declared.merge_fault.MergeFault.{MergeFault}
 use Rattle.plinq_merge.specs.declared.merge_fault.MergeFault.TheVariants.{Memory, Sink, Twice}
-use Rattle.plinq_merge.specs.declared.undelivered.Undelivered.TheVariants.{Memory as NoMemory, Sink as Refusal}
+use Rattle.plinq_merge.specs.declared.delivery_fault.DeliveryFault.TheVariants.{Memory as NoMemory, Sink as Refusal}
 use Rattle.plinq_merge.specs.declared.standing.Standing.{Standing}
 use Rattle.plinq_merge.specs.declared.standing.Standing.TheVariants.{Open, Decided, Failed}
 use Rattle.plinq_merge.specs.declared.work.Work.{Work}
-use Rattle.plinq_merge.specs.Shown.{Merge, answer, behind_result}
+use Rattle.plinq_merge.specs.Shown.{Merge, answer, end_of_result}
 use Rattle.plinq_merge.specs.Keys.{is_offered, AreNew, IsFresh, IsRepeated}
 use Rattle.plinq_merge.specs.Merging.{Content, HasTaken, IsAtGap}
 use Rattle.plinq_merge.specs.Buffer.{held_of}
-use Rattle.plinq_merge.specs.declared.undelivered.Undelivered.{Undelivered}
+use Rattle.plinq_merge.specs.declared.delivery_fault.DeliveryFault.{DeliveryFault}
 use Rattle.plinq_merge.specs.Working.{content, merge_of, Rests, Gains}
 use Rattle.plinq_merge.specs.Sending.{Delivers}
 use Rattle.plinq_merge.specs.Offering.{StandsFor, Brings, Offers, finished, finish_of, is_decided}
@@ -71,31 +71,31 @@ next-is_missing meaning w Open offers stands still = (merged-offered meaning w o
 next-is_missing meaning w (Decided e) offers stands still = absurd (let bad : Some e ≡ None = sym stands ∙ still in cc)
 next-is_missing meaning w Failed offers stands still = absurd stands
 
-are-new : {L T : Type 0} (meaning : L → Meaning T) (w : Work L T) (offers : List (ChunkResult T)) (r : ChunkResult T) → IsFresh w.row.next w.row.waiting.entries r.first (behind_result r)
+are-new : {L T : Type 0} (meaning : L → Meaning T) (w : Work L T) (offers : List (ChunkResult T)) (r : ChunkResult T) → IsFresh w.row.next w.row.waiting.entries r.first (end_of_result r)
     → Rests meaning w offers → AreNew offers r
 are-new meaning w offers r fresh rests key within = let taken = rests.taken in taken.keys key ∙ fresh key within
 
 -- what an offer answers, by what the work did
-abbrev pub answer_by : Result (Option Ending) Undelivered → Result More MergeFault
+abbrev pub answer_by : Result (Option Ending) DeliveryFault → Result More MergeFault
 answer_by (Ok None) = Ok Yes
 answer_by (Ok (Some e)) = Ok No
 answer_by (Err NoMemory) = Err Memory
 answer_by (Err (Refusal code)) = Err (Sink code)
 
 -- and how the merger stands then
-abbrev pub standing_by : Result (Option Ending) Undelivered → Standing
+abbrev pub standing_by : Result (Option Ending) DeliveryFault → Standing
 standing_by (Ok None) = Open
 standing_by (Ok (Some e)) = Decided e
 standing_by (Err fault) = Failed
 
 -- the result is new, and of what it gains as much was sent as the work says
 brings-by : {L K T : Type 0} (meaning : L → Meaning T) (accepts : K → List T → K → Type 0) (refuses : K → List T → ℕ → K → Type 0) (w : Work L T) (offers : List (ChunkResult T)) (r : ChunkResult T) (s : K)
-    (result : Result (Option Ending) Undelivered) (w' : Work L T) (s' : K) → IsFresh w.row.next w.row.waiting.entries r.first (behind_result r) → Rests meaning w offers → Gains meaning accepts refuses w offers r s result w' s'
+    (result : Result (Option Ending) DeliveryFault) (w' : Work L T) (s' : K) → IsFresh w.row.next w.row.waiting.entries r.first (end_of_result r) → Rests meaning w offers → Gains meaning accepts refuses w offers r s result w' s'
     → Brings (merge_of meaning w) offers r (λ gained. Delivers accepts refuses s gained result s')
 brings-by meaning accepts refuses w offers r s result w' s' fresh rests gains = record { are_new = are-new meaning w offers r fresh rests; gained = gains.gained; grows = gains.grows; sent = gains.sends }
 
 pub offers-by : {L K T : Type 0} (meaning : L → Meaning T) (accepts : K → List T → K → Type 0) (refuses : K → List T → ℕ → K → Type 0) (w : Work L T) (standing : Standing) (r : ChunkResult T) (s : K)
-    (result : Result (Option Ending) Undelivered) (w' : Work L T) (s' : K) → standing ≡ Open → IsFresh w.row.next w.row.waiting.entries r.first (behind_result r)
+    (result : Result (Option Ending) DeliveryFault) (w' : Work L T) (s' : K) → standing ≡ Open → IsFresh w.row.next w.row.waiting.entries r.first (end_of_result r)
     → ((offers : List (ChunkResult T)) → Rests meaning w offers → Gains meaning accepts refuses w offers r s result w' s')
     → Offers meaning accepts refuses w standing r s (answer_by result) w' (standing_by result) s'
 offers-by meaning accepts refuses w Open r s (Ok None) w' s' is fresh gains =
@@ -109,7 +109,7 @@ offers-by meaning accepts refuses w Failed r s result w' s' is fresh gains = abs
 
 -- a key of it was offered before: nothing changes
 pub offers-twice : {L K T : Type 0} (meaning : L → Meaning T) (accepts : K → List T → K → Type 0) (refuses : K → List T → ℕ → K → Type 0) (w : Work L T) (standing : Standing) (r : ChunkResult T) (s : K) (w' : Work L T) (standing' : Standing) (s' : K)
-    → standing ≡ Open → w' ≡ w → standing' ≡ standing → s' ≡ s → IsRepeated w.row.next w.row.waiting.entries r.first (behind_result r)
+    → standing ≡ Open → w' ≡ w → standing' ≡ standing → s' ≡ s → IsRepeated w.row.next w.row.waiting.entries r.first (end_of_result r)
     → Offers meaning accepts refuses w standing r s (Err Twice) w' standing' s'
 offers-twice meaning accepts refuses w Open r s w' standing' s' is same still taken repeated =
     (same, still, taken, λ offers rests. let held = rests.taken in (repeated.0, repeated.1, held.keys repeated.0 ∙ repeated.2))
@@ -117,11 +117,11 @@ offers-twice meaning accepts refuses w (Decided e) r s w' standing' s' is same s
 offers-twice meaning accepts refuses w Failed r s w' standing' s' is same still taken repeated = absurd (cc)
 
 pub gains-as : {L K T : Type 0} (meaning : L → Meaning T) (accepts : K → List T → K → Type 0) (refuses : K → List T → ℕ → K → Type 0) (w : Work L T) (r : ChunkResult T) (s : K)
-    (result result' : Result (Option Ending) Undelivered) (w' : Work L T) (s' : K) → result ≡ result'
+    (result result' : Result (Option Ending) DeliveryFault) (w' : Work L T) (s' : K) → result ≡ result'
     → ((offers : List (ChunkResult T)) → Rests meaning w offers → Gains meaning accepts refuses w offers r s result w' s')
     → (offers : List (ChunkResult T)) → Rests meaning w offers → Gains meaning accepts refuses w offers r s result' w' s'
 gains-as meaning accepts refuses w r s result result' w' s' same gains offers rests =
-    let P : Result (Option Ending) Undelivered → Type 0 = λ o. Gains meaning accepts refuses w offers r s o w' s' in
+    let P : Result (Option Ending) DeliveryFault → Type 0 = λ o. Gains meaning accepts refuses w offers r s o w' s' in
     subst P same (gains offers rests)
 
 -- nothing was offered to a new merger

@@ -19,9 +19,9 @@ use Rattle.plinq_ops.proofs.Runs.{held_back-append, batches_from-followed}
 use Rattle.plinq_merge.specs.declared.row.Row.{Row}
 use Rattle.plinq_merge.specs.Part.{Part}
 use Rattle.plinq_ops.specs.Chunk.{result_trace}
-use Rattle.plinq_merge.specs.Shown.{Merge, at_once, behind_result, part_of, waiting_trace, placed, all_placed, told_at, all_told, row, arrived, merged}
+use Rattle.plinq_merge.specs.Shown.{Merge, at_once, end_of_result, part_of, waiting_trace, placed, all_placed, told_at, all_told, row, arrived, merged}
 use Rattle.plinq_merge.specs.Keys.{is_within, is_offered, is_waiting, is_taken, is_apart, IsFresh, Places}
-use Rattle.plinq_merge.proofs.Overlaps.{IsFree, free-from_fresh, behind-next, waiting-insert, insert-next}
+use Rattle.plinq_merge.proofs.Overlaps.{IsFree, free-from_fresh, after-next, waiting-insert, insert-next}
 use Rattle.plinq_merge.specs.Merging.{Content, coming, due, IsPart, AreParts, HasTaken, GoesOn, content_of, TakesIn}
 
 -- one offer more
@@ -31,9 +31,9 @@ all_placed-append order parts [] r = refl
 all_placed-append order parts (o ∷ os) r = all_placed-append order (placed order parts o) os r
 
 pub all_told-append : {T : Type 0} (told : Option (ℕ × Ending)) (offers : List (ChunkResult T)) (r : ChunkResult T)
-    → all_told told (offers ++ r ∷ []) ≡ option_or (all_told told offers) (told_at (behind_result r) r.tail)
+    → all_told told (offers ++ r ∷ []) ≡ option_or (all_told told offers) (told_at (end_of_result r) r.tail)
 all_told-append told [] r = refl
-all_told-append told (o ∷ os) r = all_told-append (option_or told (told_at (behind_result o) o.tail)) os r
+all_told-append told (o ∷ os) r = all_told-append (option_or told (told_at (end_of_result o) o.tail)) os r
 
 -- by key nothing is merged at once
 pub arrived-by_key : {T : Type 0} (offers : List (ChunkResult T)) → arrived ByKey offers ≡ open_trace []
@@ -48,7 +48,7 @@ swap ByArrival p offers t part = rw part refl
 
 -- the part under the next key
 pub row-here : {T : Type 0} (told : Option (ℕ × Ending)) (key : ℕ) (p : Part T) (ps : List (ℕ × Part T))
-    → row told key ((key, p) ∷ ps) ≡ followed p.trace (row told p.behind ps)
+    → row told key ((key, p) ∷ ps) ≡ followed p.trace (row told p.end ps)
 row-here told key p ps =
     let here : (key == key) ≡ true = grind (arith, nat_tests) in
     rw here refl
@@ -61,19 +61,19 @@ insert-later first q ps key p later =
     let apart : (key == first) ≡ false = grind (arith, nat_tests) in
     rw (past, apart) refl
 
-taken-next : {T : Type 0} (next : ℕ) (p : Part T) (ps : List (ℕ × Part T)) (key : ℕ) → next < p.behind
-    → is_taken next ((next, p) ∷ ps) key ≡ is_taken p.behind ps key
+taken-next : {T : Type 0} (next : ℕ) (p : Part T) (ps : List (ℕ × Part T)) (key : ℕ) → next < p.end
+    → is_taken next ((next, p) ∷ ps) key ≡ is_taken p.end ps key
 taken-next next p ps key some =
-    let first : nat_lt key next || is_within next p.behind key ≡ nat_lt key p.behind = grind (arith, nat_tests) in
-    sym (or_assoc (nat_lt key next) (is_within next p.behind key) (is_waiting ps key)) ∙ ap (λ b. b || is_waiting ps key) first
+    let first : nat_lt key next || is_within next p.end key ≡ nat_lt key p.end = grind (arith, nat_tests) in
+    sym (or_assoc (nat_lt key next) (is_within next p.end key) (is_waiting ps key)) ∙ ap (λ b. b || is_waiting ps key) first
 
 -- the state after the part under the next key
 abbrev pub with_next : {T : Type 0} → Content T → Part T → List (ℕ × Part T) → Content T
-with_next m p ps = record m { next = p.behind; waiting = ps }
+with_next m p ps = record m { next = p.end; waiting = ps }
 
 -- the part under the next key comes into hand
 pub taken-part : {T : Type 0} (merge : Merge T) (m : Content T) (hand : Trace T) (offers : List (ChunkResult T)) (out : List T) (p : Part T) (ps : List (ℕ × Part T))
-    → m.waiting ≡ (m.next, p) ∷ ps → m.next < p.behind → HasTaken merge m hand offers out → HasTaken merge (with_next m p ps) (followed hand p.trace) offers out
+    → m.waiting ≡ (m.next, p) ∷ ps → m.next < p.end → HasTaken merge m hand offers out → HasTaken merge (with_next m p ps) (followed hand p.trace) offers out
 taken-part {T} merge m hand offers out p ps is some taken =
     let done = taken.done in
     let parts : AreParts merge.order ((m.next, p) ∷ ps) = subst (AreParts merge.order) is taken.parts in
@@ -88,7 +88,7 @@ taken-part {T} merge m hand offers out p ps is some taken =
           ap (λ qs. seq merge.after (followed (arrived merge.order (offers ++ later)) (row told 0 qs))) (append_assoc done ((m.next, p) ∷ []) rest)
           ∙ taken.answers later told ((m.next, p) ∷ rest)
           ∙ ap (λ R. followed (open_trace out) (seq m.now (followed hand (followed (arrived merge.order later) R)))) here
-          ∙ ap (λ t. followed (open_trace out) (seq m.now t)) (around (row told p.behind rest));
+          ∙ ap (λ t. followed (open_trace out) (seq m.now t)) (around (row told p.end rest));
       before = λ rest key q past.
           let earlier : m.next ≤ key = omega arith in
           ap (λ qs. insert_entry nat_cmp qs key q) (append_assoc done ((m.next, p) ∷ []) rest)
@@ -120,11 +120,11 @@ taken-worked {T} merge m hand offers out more now held on kept taken =
       keys = taken.keys;
     }
 
-pub is_offered-append : {T : Type 0} (offers : List (ChunkResult T)) (r : ChunkResult T) (key : ℕ) → is_offered (offers ++ r ∷ []) key ≡ is_offered offers key || is_within r.first (behind_result r) key
-is_offered-append [] r key = or-false (is_within r.first (behind_result r) key)
+pub is_offered-append : {T : Type 0} (offers : List (ChunkResult T)) (r : ChunkResult T) (key : ℕ) → is_offered (offers ++ r ∷ []) key ≡ is_offered offers key || is_within r.first (end_of_result r) key
+is_offered-append [] r key = or-false (is_within r.first (end_of_result r) key)
 is_offered-append (o ∷ os) r key =
-    ap (λ b. is_within o.first (behind_result o) key || b) (is_offered-append os r key)
-    ∙ sym (or_assoc (is_within o.first (behind_result o) key) (is_offered os key) (is_within r.first (behind_result r) key))
+    ap (λ b. is_within o.first (end_of_result o) key || b) (is_offered-append os r key)
+    ∙ sym (or_assoc (is_within o.first (end_of_result o) key) (is_offered os key) (is_within r.first (end_of_result r) key))
 
 part-of : {T : Type 0} (order : Order) (r : ChunkResult T) → IsPart order (part_of order r)
 part-of ByKey r = tt
@@ -141,7 +141,7 @@ parts-insert order (q ∷ qs) key p parts part =
 
 -- the state with one result more that waits
 abbrev pub with_waiting : {T : Type 0} → Content T → List (ℕ × Part T) → ChunkResult T → Content T
-with_waiting m parts r = record m { waiting = parts; told = option_or m.told (told_at (behind_result r) r.tail) }
+with_waiting m parts r = record m { waiting = parts; told = option_or m.told (told_at (end_of_result r) r.tail) }
 
 -- what is held stands for one offer more, whose part is placed among those that wait
 taken-placed : {T : Type 0} (merge : Merge T) (m : Content T) (offers : List (ChunkResult T)) (out : List T) (r : ChunkResult T) (parts : List (ℕ × Part T))
@@ -149,13 +149,13 @@ taken-placed : {T : Type 0} (merge : Merge T) (m : Content T) (offers : List (Ch
     → ((rest : List (ℕ × Part T)) (key : ℕ) (p : Part T) → m.next ≤ key → insert_entry nat_cmp (done ++ rest) key p ≡ done ++ insert_entry nat_cmp rest key p)
     → placed merge.order (done ++ m.waiting) r ≡ done ++ parts)
     → AreParts merge.order parts
-    → ((key : ℕ) → is_taken m.next parts key ≡ is_taken m.next m.waiting key || is_within r.first (behind_result r) key)
+    → ((key : ℕ) → is_taken m.next parts key ≡ is_taken m.next m.waiting key || is_within r.first (end_of_result r) key)
     → HasTaken merge m (open_trace []) offers out → HasTaken merge (with_waiting m parts r) (at_once merge.order r) (offers ++ r ∷ []) out
 taken-placed {T} merge m offers out r parts place are_parts keys taken =
     record {
       done = taken.done;
       placed = all_placed-append merge.order [] offers r ∙ ap (λ qs. placed merge.order qs r) taken.placed ∙ place taken.done taken.placed taken.before;
-      told = all_told-append None offers r ∙ ap (λ t. option_or t (told_at (behind_result r) r.tail)) taken.told;
+      told = all_told-append None offers r ∙ ap (λ t. option_or t (told_at (end_of_result r) r.tail)) taken.told;
       answers = λ later told rest.
           ap (λ os. seq merge.after (followed (arrived merge.order os) (row told 0 (taken.done ++ rest)))) (append_assoc offers (r ∷ []) later)
           ∙ taken.answers (r ∷ later) told rest
@@ -163,7 +163,7 @@ taken-placed {T} merge m offers out r parts place are_parts keys taken =
       before = taken.before;
       held = taken.held;
       parts = are_parts;
-      keys = λ key. is_offered-append offers r key ∙ ap (λ b. b || is_within r.first (behind_result r) key) (taken.keys key) ∙ sym (keys key);
+      keys = λ key. is_offered-append offers r key ∙ ap (λ b. b || is_within r.first (end_of_result r) key) (taken.keys key) ∙ sym (keys key);
     }
 
 -- a result of no keys waits nowhere
@@ -171,7 +171,7 @@ pub taken-none : {T : Type 0} (merge : Merge T) (m : Content T) (offers : List (
     → HasTaken merge m (open_trace []) offers out → HasTaken merge (with_waiting m m.waiting r) (at_once merge.order r) (offers ++ r ∷ []) out
 taken-none {T} merge m offers out r none taken =
     let no_place : (qs : List (ℕ × Part T)) → placed merge.order qs r ≡ qs = λ qs. rw none refl in
-    let no_key : (key : ℕ) → is_within r.first (behind_result r) key ≡ false = λ key.
+    let no_key : (key : ℕ) → is_within r.first (end_of_result r) key ≡ false = λ key.
     let test : nat_le r.first key && nat_lt key (r.first + r.count) ≡ false = grind (arith, nat_tests) in
     test in
     taken-placed merge m offers out r m.waiting (λ done is before. no_place (done ++ m.waiting)) taken.parts
@@ -179,19 +179,19 @@ taken-none {T} merge m offers out r none taken =
 
 -- a result of fresh keys waits among the others
 pub taken-waits : {T : Type 0} (merge : Merge T) (m : Content T) (offers : List (ChunkResult T)) (out : List T) (r : ChunkResult T) → 0 < r.count
-    → is_apart m.next m.waiting ≡ true → IsFresh m.next m.waiting r.first (behind_result r) → HasTaken merge m (open_trace []) offers out
+    → is_apart m.next m.waiting ≡ true → IsFresh m.next m.waiting r.first (end_of_result r) → HasTaken merge m (open_trace []) offers out
     → HasTaken merge (with_waiting m (insert_entry nat_cmp m.waiting r.first (part_of merge.order r)) r) (at_once merge.order r) (offers ++ r ∷ []) out
 taken-waits {T} merge m offers out r some apart fresh taken =
-    let first : r.first < behind_result r = omega arith in
-    let later : m.next ≤ r.first = behind-next m.next r.first (behind_result r) m.waiting fresh first in
-    let free = free-from_fresh m.next r.first (behind_result r) m.waiting fresh in
+    let first : r.first < end_of_result r = omega arith in
+    let later : m.next ≤ r.first = after-next m.next r.first (end_of_result r) m.waiting fresh first in
+    let free = free-from_fresh m.next r.first (end_of_result r) m.waiting fresh in
     let test : (r.count == 0) ≡ false = grind (arith, nat_tests) in
     let p : Part T = part_of merge.order r in
     taken-placed merge m offers out r (insert_entry nat_cmp m.waiting r.first p)
     (λ done is before. ap (λ b. cond b (done ++ m.waiting) (insert_entry nat_cmp (done ++ m.waiting) r.first p)) test ∙ before m.waiting r.first p later)
     (parts-insert merge.order m.waiting r.first p taken.parts (part-of merge.order r))
     (λ key. ap (λ b. nat_lt key m.next || b) (waiting-insert m.next r.first p m.waiting key apart first free)
-    ∙ sym (or_assoc (nat_lt key m.next) (is_waiting m.waiting key) (is_within r.first (behind_result r) key)))
+    ∙ sym (or_assoc (nat_lt key m.next) (is_waiting m.waiting key) (is_within r.first (end_of_result r) key)))
     taken
 
 in_hand : {T : Type 0} (order : Order) (r : ChunkResult T) → followed (at_once order r) (waiting_trace order r) ≡ result_trace r
@@ -200,19 +200,19 @@ in_hand ByArrival r = followed-open_nil (result_trace r)
 
 -- a result whose turn has come is in hand at once
 pub taken-turn : {T : Type 0} (merge : Merge T) (m : Content T) (offers : List (ChunkResult T)) (out : List T) (r : ChunkResult T) → 0 < r.count → r.first ≡ m.next
-    → is_apart m.next m.waiting ≡ true → IsFresh m.next m.waiting r.first (behind_result r) → HasTaken merge m (open_trace []) offers out
-    → HasTaken merge (with_waiting (record m { next = behind_result r }) m.waiting r) (result_trace r) (offers ++ r ∷ []) out
+    → is_apart m.next m.waiting ≡ true → IsFresh m.next m.waiting r.first (end_of_result r) → HasTaken merge m (open_trace []) offers out
+    → HasTaken merge (with_waiting (record m { next = end_of_result r }) m.waiting r) (result_trace r) (offers ++ r ∷ []) out
 taken-turn {T} merge m offers out r some turn apart fresh taken =
     let p : Part T = part_of merge.order r in
-    let first : m.next < behind_result r = omega arith in
-    let free = free-from_fresh m.next r.first (behind_result r) m.waiting fresh in
-    let Q : ℕ → Type 0 = λ k. IsFree m.waiting k (behind_result r) in
-    let free_next : IsFree m.waiting m.next (behind_result r) = subst Q turn free in
+    let first : m.next < end_of_result r = omega arith in
+    let free = free-from_fresh m.next r.first (end_of_result r) m.waiting fresh in
+    let Q : ℕ → Type 0 = λ k. IsFree m.waiting k (end_of_result r) in
+    let free_next : IsFree m.waiting m.next (end_of_result r) = subst Q turn free in
     let is : insert_entry nat_cmp m.waiting r.first p ≡ (m.next, p) ∷ m.waiting =
     ap (λ k. insert_entry nat_cmp m.waiting k p) turn ∙ insert-next m.next p m.waiting apart first free_next in
     let now = taken-part merge (with_waiting m (insert_entry nat_cmp m.waiting r.first p) r) (at_once merge.order r) (offers ++ r ∷ []) out p m.waiting is first
     (taken-waits merge m offers out r some apart fresh taken) in
-    let P : Trace T → Type 0 = λ t. HasTaken merge (with_waiting (record m { next = behind_result r }) m.waiting r) t (offers ++ r ∷ []) out in
+    let P : Trace T → Type 0 = λ t. HasTaken merge (with_waiting (record m { next = end_of_result r }) m.waiting r) t (offers ++ r ∷ []) out in
     subst P (in_hand merge.order r) now
 
 -- what the row hands back
@@ -233,7 +233,7 @@ taken-as {T} merge m m' hand hand' offers out same same_hand taken =
 
 -- a result of no keys came into the row
 pub taken-none_row : {T : Type 0} (order : Order) (before : Row T) (r : ChunkResult T) (hand : Trace T) (after : Row T) → r.count ≡ 0
-    → after.next ≡ before.next → after.waiting.entries ≡ before.waiting.entries → after.told ≡ option_or before.told (told_at (behind_result r) r.tail) → hand ≡ at_once order r
+    → after.next ≡ before.next → after.waiting.entries ≡ before.waiting.entries → after.told ≡ option_or before.told (told_at (end_of_result r) r.tail) → hand ≡ at_once order r
     → TakesIn order before r hand after
 taken-none_row order before r hand after none next parts told is merge now held offers out same taken =
     taken-as merge _ (content_of after now held) _ hand (offers ++ r ∷ []) out
@@ -243,9 +243,9 @@ taken-none_row order before r hand after none next parts told is merge now held 
 
 -- a result of fresh keys came into the row
 pub taken-row : {T : Type 0} (order : Order) (before : Row T) (r : ChunkResult T) (hand : Trace T) (turn : Option (Part T)) (after : Row T) → 0 < r.count
-    → is_apart before.next before.waiting.entries ≡ true → IsFresh before.next before.waiting.entries r.first (behind_result r)
+    → is_apart before.next before.waiting.entries ≡ true → IsFresh before.next before.waiting.entries r.first (end_of_result r)
     → Places before.next before.waiting.entries r.first (part_of order r) turn after.next after.waiting.entries
-    → after.told ≡ option_or before.told (told_at (behind_result r) r.tail) → hand ≡ followed (at_once order r) (handed_back turn)
+    → after.told ≡ option_or before.told (told_at (end_of_result r) r.tail) → hand ≡ followed (at_once order r) (handed_back turn)
     → TakesIn order before r hand after
 taken-row order before r hand None after some apart fresh placed told is merge now held offers out same taken =
     taken-as merge _ (content_of after now held) _ hand (offers ++ r ∷ []) out
@@ -255,7 +255,7 @@ taken-row order before r hand None after some apart fresh placed told is merge n
     (taken-waits merge (content_of before now held) offers out r some apart fresh taken)
 taken-row order before r hand (Some p) after some apart fresh placed told is merge now held offers out same taken =
     taken-as merge _ (content_of after now held) _ hand (offers ++ r ∷ []) out
-    (content-same (content_of before now held) (behind_result r) after.next before.waiting.entries after.waiting.entries _ after.told (sym placed.2) (sym placed.3) (sym told))
+    (content-same (content_of before now held) (end_of_result r) after.next before.waiting.entries after.waiting.entries _ after.told (sym placed.2) (sym placed.3) (sym told))
     (sym (is ∙ ap (λ q. followed (at_once order r) q.trace) placed.0 ∙ in_hand order r))
     (taken-turn merge (content_of before now held) offers out r some placed.1 apart fresh taken)
 

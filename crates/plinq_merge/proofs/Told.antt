@@ -14,12 +14,12 @@ use Rattle.plinq_keyed.specs.declared.event.Event.{Event}
 use Rattle.plinq_keyed.specs.declared.event.Event.TheVariants.{Ask, Close}
 use Rattle.plinq_keyed.specs.declared.record.Record.{Record}
 use Rattle.plinq_keyed.specs.declared.tail.Tail.{Tail}
-use Rattle.plinq_keyed.specs.History.{Place, start, ending_tail, no_items, next_items, reply, place_behind, tells, is_run, IsLegalHistory}
-use Rattle.plinq_keyed.proofs.Legal.{Told-from_tells, reply-first, place_behind-given, length-reply}
+use Rattle.plinq_keyed.specs.History.{Place, start, ending_tail, no_items, next_items, reply, next_place, tells, is_run, IsLegalHistory}
+use Rattle.plinq_keyed.proofs.Legal.{Told-from_tells, reply-first, next_place-given, length-reply}
 use Rattle.plinq_ops.specs.declared.op.Op.{Op}
 use Rattle.plinq_ops.specs.declared.results.ChunkResult.{ChunkResult}
 use Rattle.plinq_ops.specs.Row.{IsResultOf}
-use Rattle.plinq_merge.specs.Shown.{behind_result, told_at}
+use Rattle.plinq_merge.specs.Shown.{end_of_result, told_at}
 use Rattle.plinq_merge.specs.Whole.{EndsAt, IsTrueTail}
 
 ending-told : {T : Type 0} (t : Trace T) (at : ℕ) (e : Option Ending) → t.ending ≡ e → at ≡ length t.items → IfSome (told_at at (ending_tail e)) (EndsAt t)
@@ -50,10 +50,10 @@ answer-told meaning worker t p asked r within tells_it answer =
     let first : asked.first ≡ p.given = told.first ∙ reply-first t p asked.asked in
     let count : length answer.chunk.items.items ≡ asked.count =
     ap length answer.of.items ∙ length-take-le asked.count (drop asked.first t.items) (omega (arith, length-drop asked.first t.items, first, told.count, few, within)) in
-    let at : behind_result r ≡ p.given + length (reply t p asked.asked).items = omega (arith, answer.made.first, answer.of.first, first, answer.made.count, count, told.count) in
+    let at : end_of_result r ≡ p.given + length (reply t p asked.asked).items = omega (arith, answer.made.first, answer.of.first, first, answer.made.count, count, told.count) in
     let tail : r.tail ≡ (reply t p asked.asked).tail = answer.made.tail ∙ answer.of.tail ∙ told.tail in
-    let P : Option Tail → Type 0 = λ o. IfSome (told_at (behind_result r) o) (EndsAt t) in
-    subst P (sym tail) (reply-told t p asked.asked (behind_result r) within at)
+    let P : Option Tail → Type 0 = λ o. IfSome (told_at (end_of_result r) o) (EndsAt t) in
+    subst P (sym tail) (reply-told t p asked.asked (end_of_result r) within at)
 
 only-one : {A : Type 0} (x y : A) → Contains (x ∷ []) y → x ≡ y
 only-one x y there = elim (Contains-push_cases [] x y there) [ inl none ↦ absurd (omega (arith, none.1)) | inr is ↦ is ]
@@ -68,9 +68,9 @@ told-of_run meaning worker t p (first ∷ h) asked r within run there answer =
           let same : first ≡ asked = only-one first asked here in
           answer-told meaning worker t p asked r within (ap (λ x. tells x (reply t p x.asked)) (sym same) ∙ parts.0) answer
       | inr later ↦
-          let moved = place_behind-given t p first.asked in
+          let moved = next_place-given t p first.asked in
           let few = length-reply t p first.asked in
-          told-of_run meaning worker t (place_behind t p first.asked) h asked r (omega (arith, moved, few, within)) parts.1 later answer
+          told-of_run meaning worker t (next_place t p first.asked) h asked r (omega (arith, moved, few, within)) parts.1 later answer
     ]
 
 pub told-of_record : {L T : Type 0} (meaning : L → Meaning T) (worker : List (Op L)) (t : Trace T) (h : List Record) (asked : Record) (r : ChunkResult T) → IsLegalHistory t h

@@ -17,7 +17,7 @@ use Rattle.plinq_lambda.specs.Meaning.{Meaning}
 use Rattle.plinq_ops.specs.declared.op.Op.{Op}
 use Rattle.plinq_ops.specs.declared.order.Order.TheVariants.{ByKey}
 use Rattle.plinq_ops.specs.declared.results.ChunkResult.{ChunkResult}
-use Rattle.plinq_ops.specs.Stage.{seq, seq_behind}
+use Rattle.plinq_ops.specs.Stage.{seq, seq_after}
 use Rattle.plinq_ops.specs.Fragment.{glued, glue}
 use Rattle.plinq_ops.specs.Batches.{batches_from}
 use Rattle.plinq_ops.specs.Row.{IsOffer, AreOffers}
@@ -26,11 +26,11 @@ use Rattle.plinq_ops.proofs.Rows.{row-next, glue-whole}
 use Rattle.plinq_ops.proofs.Runs.{batches_from-grown}
 use Rattle.plinq_ops.proofs.Stages.{seq-followed}
 use Rattle.plinq_merge.specs.Part.{Part}
-use Rattle.plinq_merge.specs.Shown.{Merge, behind_result, part_of, placed, all_placed, told_at, all_told, ending_at, row, merged, answer, shown}
+use Rattle.plinq_merge.specs.Shown.{Merge, end_of_result, part_of, placed, all_placed, told_at, all_told, ending_at, row, merged, answer, shown}
 use Rattle.plinq_merge.specs.Keys.{is_within, is_offered, is_waiting, is_apart}
 use Rattle.plinq_merge.specs.Whole.{EndsAt, AreTrueTails, AreApart, AreWhole, AreFirstOf}
 use Rattle.plinq_merge.proofs.Gains.{answer-open}
-use Rattle.plinq_merge.proofs.Overlaps.{IsFree, apart-start, apart-some, apart-rest, apart-insert, waiting-insert, none-before, not_within-before, not_within-behind}
+use Rattle.plinq_merge.proofs.Overlaps.{IsFree, apart-start, apart-some, apart-rest, apart-insert, waiting-insert, none-before, not_within-before, not_within-after}
 use Rattle.plinq_merge.proofs.Takings.{arrived-by_key}
 
 -- ---- what the tails say
@@ -42,7 +42,7 @@ told-either t (Some at) b first second = first
 pub told-true : {T : Type 0} (t : Trace T) (told : Option (ℕ × Ending)) (offers : List (ChunkResult T)) → IfSome told (EndsAt t) → AreTrueTails t offers → IfSome (all_told told offers) (EndsAt t)
 told-true t told [] here tails = here
 told-true t told (r ∷ rs) here tails =
-    told-true t (option_or told (told_at (behind_result r) r.tail)) rs (told-either t told (told_at (behind_result r) r.tail) here tails.0) tails.1
+    told-true t (option_or told (told_at (end_of_result r) r.tail)) rs (told-either t told (told_at (end_of_result r) r.tail) here tails.0) tails.1
 
 told-some : {T : Type 0} (t : Trace T) (told : Option (ℕ × Ending)) → is_some told ≡ true → IfSome told (EndsAt t) → (at : ℕ × Ending) × (told ≡ Some at) × EndsAt t at
 told-some t None some is = absurd (let bad : false ≡ true = some in cc)
@@ -87,12 +87,12 @@ module _ {L T : Type 0} (meaning : L → Meaning T) (worker : List (Op L)) (t : 
   -- ---- the row is how the source's fragments begin
 
   -- a part after the items before it
-  part-next : (key : ℕ) (p : ℕ × Part T) → length t.items ≤ 2 ^ 40 → p.0 ≡ key → IsPartOf p → followed (before key) p.1.trace ≡ before p.1.behind
+  part-next : (key : ℕ) (p : ℕ × Part T) → length t.items ≤ 2 ^ 40 → p.0 ≡ key → IsPartOf p → followed (before key) p.1.trace ≡ before p.1.end
   part-next key p few same is =
       ap (λ k. followed (before k) p.1.trace) (sym same ∙ is.first)
       ∙ ap (λ q. followed (before is.of.first) q.trace) is.part
       ∙ row-next meaning worker t is.of few is.offer
-      ∙ ap (λ q. before q.behind) (sym is.part)
+      ∙ ap (λ q. before q.end) (sym is.part)
 
   abbrev pub Begins : Trace T → Type 0
   Begins first = (rest : Trace T) × (glue meaning worker t ≡ followed first rest)
@@ -128,13 +128,13 @@ module _ {L T : Type 0} (meaning : L → Meaning T) (worker : List (Op L)) (t : 
   row-begins : (told : Option (ℕ × Ending)) (key : ℕ) (ps : List (ℕ × Part T)) → length t.items ≤ 2 ^ 40 → IfSome told (EndsAt t) → ArePartsOf ps → Begins (followed (before key) (row told key ps))
   row-begins told key [] few is parts = gap-begins told key is
   row-begins told key (p ∷ ps) few is parts =
-      elim (p.0 == key) as (λ v. v ≡ (p.0 == key) → Begins (followed (before key) (cond v (followed p.1.trace (row told p.1.behind ps)) (trace_of [] (ending_at told key))))) [
+      elim (p.0 == key) as (λ v. v ≡ (p.0 == key) → Begins (followed (before key) (cond v (followed p.1.trace (row told p.1.end ps)) (trace_of [] (ending_at told key))))) [
         | true ↦ λ test.
-            let later = row-begins told p.1.behind ps few is parts.1 in (
+            let later = row-begins told p.1.end ps few is parts.1 in (
               later.0,
               later.1
-                  ∙ ap (λ u. followed (followed u (row told p.1.behind ps)) later.0) (sym (part-next key p few (same_key p.0 key test) parts.0))
-                  ∙ ap (λ u. followed u later.0) (followed-followed (before key) p.1.trace (row told p.1.behind ps)),
+                  ∙ ap (λ u. followed (followed u (row told p.1.end ps)) later.0) (sym (part-next key p few (same_key p.0 key test) parts.0))
+                  ∙ ap (λ u. followed u later.0) (followed-followed (before key) p.1.trace (row told p.1.end ps)),
             )
         | false ↦ λ test. gap-begins told key is
       ] refl
@@ -168,31 +168,31 @@ module _ {L T : Type 0} (meaning : L → Meaning T) (worker : List (Op L)) (t : 
   row-whole told at key (p ∷ ps) few is ends parts apart within covered =
       let start = apart-start key p ps apart in
       let some = apart-some key p ps apart in
-      let behind_within : p.1.behind ≤ length t.items = part-within p parts.0 in
+      let after_within : p.1.end ≤ length t.items = part-within p parts.0 in
       let same : p.0 ≡ key =
       elim (cases_lt key p.0) [
-        | inl less ↦ absurd (let bad : false ≡ true = sym (or_from _ _ (not_within-before p.0 p.1.behind key less) (none-before p.1.behind key ps (apart-rest key p ps apart) (omega arith))) ∙ covered key (omega arith) (omega arith) in cc)
+        | inl less ↦ absurd (let bad : false ≡ true = sym (or_from _ _ (not_within-before p.0 p.1.end key less) (none-before p.1.end key ps (apart-rest key p ps apart) (omega arith))) ∙ covered key (omega arith) (omega arith) in cc)
         | inr past ↦ omega arith
       ] in
       let test : (p.0 == key) ≡ true = same_test p.0 key same in
-      ap (λ v. followed (before key) (cond v (followed p.1.trace (row told p.1.behind ps)) (trace_of [] (ending_at told key)))) test
-      ∙ sym (followed-followed (before key) p.1.trace (row told p.1.behind ps))
-      ∙ ap (λ u. followed u (row told p.1.behind ps)) (part-next key p few same parts.0)
-      ∙ row-whole told at p.1.behind ps few is ends parts.1 (apart-rest key p ps apart) behind_within
-      (λ k past below. ap (λ b. b || is_waiting ps k) (sym (not_within-behind p.0 p.1.behind k past)) ∙ covered k (omega arith) below)
+      ap (λ v. followed (before key) (cond v (followed p.1.trace (row told p.1.end ps)) (trace_of [] (ending_at told key)))) test
+      ∙ sym (followed-followed (before key) p.1.trace (row told p.1.end ps))
+      ∙ ap (λ u. followed u (row told p.1.end ps)) (part-next key p few same parts.0)
+      ∙ row-whole told at p.1.end ps few is ends parts.1 (apart-rest key p ps apart) after_within
+      (λ k past below. ap (λ b. b || is_waiting ps k) (sym (not_within-after p.0 p.1.end k past)) ∙ covered k (omega arith) below)
     where
       same_test : (a b : ℕ) → a ≡ b → (a == b) ≡ true
       same_test a b is = grind (arith, nat_tests)
 
-      part-within : (p : ℕ × Part T) → IsPartOf p → p.1.behind ≤ length t.items
+      part-within : (p : ℕ × Part T) → IsPartOf p → p.1.end ≤ length t.items
       part-within p part =
-          let behind : p.1.behind ≡ part.of.first + part.of.count = ap (λ q. q.behind) part.part in
-          omega (arith, behind, part.offer.made.first, part.offer.made.count, part.offer.within)
+          let end : p.1.end ≡ part.of.first + part.of.count = ap (λ q. q.end) part.part in
+          omega (arith, end, part.offer.made.first, part.offer.made.count, part.offer.within)
 
 -- ---- where the offers stand in the row
 
 -- a result of no keys has none
-no-key : {T : Type 0} (r : ChunkResult T) (key : ℕ) → r.count ≡ 0 → is_within r.first (behind_result r) key ≡ false
+no-key : {T : Type 0} (r : ChunkResult T) (key : ℕ) → r.count ≡ 0 → is_within r.first (end_of_result r) key ≡ false
 no-key r key none =
     let test : nat_le r.first key && nat_lt key (r.first + r.count) ≡ false = grind (arith, nat_tests) in
     test
@@ -202,16 +202,16 @@ record ArePlaced {T : Type 0} (before : List (ℕ × Part T)) (offers : List (Ch
   pub apart : is_apart 0 after ≡ true
   pub waiting : (key : ℕ) → is_waiting after key ≡ is_waiting before key || is_offered offers key
 
-placed-apart : {T : Type 0} (ps : List (ℕ × Part T)) (r : ChunkResult T) → is_apart 0 ps ≡ true → IsFree ps r.first (behind_result r)
-    → (is_apart 0 (placed ByKey ps r) ≡ true) × ((key : ℕ) → is_waiting (placed ByKey ps r) key ≡ is_waiting ps key || is_within r.first (behind_result r) key)
+placed-apart : {T : Type 0} (ps : List (ℕ × Part T)) (r : ChunkResult T) → is_apart 0 ps ≡ true → IsFree ps r.first (end_of_result r)
+    → (is_apart 0 (placed ByKey ps r) ≡ true) × ((key : ℕ) → is_waiting (placed ByKey ps r) key ≡ is_waiting ps key || is_within r.first (end_of_result r) key)
 placed-apart {T} ps r apart free =
     let p : Part T = part_of ByKey r in
     elim (r.count == 0) as (λ v. v ≡ (r.count == 0)
     → (is_apart 0 (cond v ps (insert_entry nat_cmp ps r.first p)) ≡ true)
-    × ((key : ℕ) → is_waiting (cond v ps (insert_entry nat_cmp ps r.first p)) key ≡ is_waiting ps key || is_within r.first (behind_result r) key)) [
+    × ((key : ℕ) → is_waiting (cond v ps (insert_entry nat_cmp ps r.first p)) key ≡ is_waiting ps key || is_within r.first (end_of_result r) key)) [
       | true ↦ λ is. (apart, λ key. sym (ap (λ b. is_waiting ps key || b) (no-key r key (none r.count is)) ∙ or-false (is_waiting ps key)))
       | false ↦ λ is.
-          let first : r.first < behind_result r = some r.first r.count is in
+          let first : r.first < end_of_result r = some r.first r.count is in
           (apart-insert 0 r.first p ps apart (omega arith) first free, λ key. waiting-insert 0 r.first p ps key apart first free)
     ] refl
   where
@@ -230,7 +230,7 @@ placed-all ps (r ∷ rs) apart new free =
     (λ key there. one.1 key ∙ or_from _ _ (free key (or_right _ _ there)) (false_from_ne_true _ (λ within. let bad : true ≡ false = sym there ∙ new.0 key within in cc))) in
     record {
       apart = others.apart;
-      waiting = λ key. others.waiting key ∙ ap (λ b. b || is_offered rs key) (one.1 key) ∙ or_assoc (is_waiting ps key) (is_within r.first (behind_result r) key) (is_offered rs key);
+      waiting = λ key. others.waiting key ∙ ap (λ b. b || is_offered rs key) (one.1 key) ∙ or_assoc (is_waiting ps key) (is_within r.first (end_of_result r) key) (is_offered rs key);
     }
 
 -- ---- the answer
@@ -254,7 +254,7 @@ answer-begins : {L T : Type 0} (meaning : L → Meaning T) (worker : List (Op L)
 answer-begins {L} {T} meaning worker t merge offers few by_key undecided are tails =
     let first : Trace T = merged ByKey offers in
     let begins = merged-begins meaning worker t offers few are tails in
-    let rest : Trace T = seq (seq_behind merge.after first) begins.0 in (
+    let rest : Trace T = seq (seq_after merge.after first) begins.0 in (
       rest,
       ap (seq merge.after) begins.1
           ∙ seq-followed merge.after first begins.0

@@ -7,8 +7,8 @@ use Rattle.plinq_merge.specs.declared.merge_fault.MergeFault.{MergeFault}
 use Rattle.plinq_merge.specs.declared.merge_fault.MergeFault.TheVariants.{Memory, Sink, Twice, Gap, Failed, Cancelled}
 use Rattle.plinq_merge.specs.declared.more.More.{More}
 use Rattle.plinq_merge.specs.declared.merger.Merger.{Merger}
-use Rattle.plinq_merge.specs.declared.undelivered.Undelivered.{Undelivered}
-use Rattle.plinq_merge.specs.declared.undelivered.Undelivered.TheVariants.{Memory as NoMemory, Sink as Refusal}
+use Rattle.plinq_merge.specs.declared.delivery_fault.DeliveryFault.{DeliveryFault}
+use Rattle.plinq_merge.specs.declared.delivery_fault.DeliveryFault.TheVariants.{Memory as NoMemory, Sink as Refusal}
 use Rattle.plinq_merge.specs.Cancelling.{Delivery, Passes, IsRefused, IsKeptBack}
 use Rattle.plinq_merge.specs.Sending.{Leads, IsCutOff}
 use Rattle.plinq_merge.specs.Shown.{Merge}
@@ -46,17 +46,17 @@ module _ {L T : Type 0} {lambda : Ghosts L T} where
   tells_ending m = finished m.standing
 
 -- what a fault says of the batches that weren't delivered: the sink refused the next one, or it wasn't tried
-abbrev pub undelivered_of : MergeFault → Undelivered
-undelivered_of (Sink code) = Refusal code
-undelivered_of Memory = NoMemory
-undelivered_of Twice = NoMemory
-undelivered_of Gap = NoMemory
-undelivered_of Failed = NoMemory
-undelivered_of Cancelled = NoMemory
+abbrev pub delivery_fault_of : MergeFault → DeliveryFault
+delivery_fault_of (Sink code) = Refusal code
+delivery_fault_of Memory = NoMemory
+delivery_fault_of Twice = NoMemory
+delivery_fault_of Gap = NoMemory
+delivery_fault_of Failed = NoMemory
+delivery_fault_of Cancelled = NoMemory
 
 -- the sink has taken the first of these batches, and the fault says why not all
 abbrev pub StopsShort : {K B : Type 0} → (K → B → K → Type 0) → (K → B → ℕ → K → Type 0) → K → List B → MergeFault → K → Type 0
-StopsShort accepts refuses s bs fault s' = IsCutOff accepts refuses s bs (undelivered_of fault) s'
+StopsShort accepts refuses s bs fault s' = IsCutOff accepts refuses s bs (delivery_fault_of fault) s'
 
 -- some batches were delivered, or the first of some
 abbrev pub SendsSome : {K B : Type 0} → (K → B → K → Type 0) → (K → B → ℕ → K → Type 0) → K → Result More MergeFault → K → Type 0

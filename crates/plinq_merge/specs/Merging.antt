@@ -11,7 +11,7 @@ use Rattle.plinq_ops.specs.Stage.{Stage, seq}
 use Rattle.plinq_ops.specs.Feeding.{IsFed}
 use Rattle.plinq_ops.specs.Batches.{full_batches, held_back, batches_from}
 use Rattle.plinq_merge.specs.declared.row.Row.{Row}
-use Rattle.plinq_merge.specs.declared.undelivered.Undelivered.{Undelivered}
+use Rattle.plinq_merge.specs.declared.delivery_fault.DeliveryFault.{DeliveryFault}
 use Rattle.plinq_merge.specs.Part.{Part}
 use Rattle.plinq_merge.specs.Sending.{Leads, IsCutOff}
 use Rattle.plinq_merge.specs.Shown.{Merge, all_placed, all_told, row, arrived}
@@ -83,7 +83,7 @@ pub record Moves {K T : Type 0} (accepts : K → List T → K → Type 0) (size 
 
 -- it is merged and the answer goes on, or the answer has ended and all batches were sent, or they were cut off
 abbrev pub Goes : {K T : Type 0} → (K → List T → K → Type 0) → (K → List T → ℕ → K → Type 0) → Option ℕ → Content T → Trace T → K
-    → Result (Option Ending) Undelivered → Content T → K → Type 0
+    → Result (Option Ending) DeliveryFault → Content T → K → Type 0
 Goes accepts refuses size m hand s (Ok None) m' s' = Moves accepts size m hand s m' s'
 Goes accepts refuses size m hand s (Ok (Some e)) m' s' = ((coming m hand).ending ≡ Some e) × Leads accepts s (due size m hand) s'
 Goes accepts refuses size m hand s (Err fault) m' s' = IsCutOff accepts refuses s (due size m hand) fault s'
@@ -100,7 +100,7 @@ TakesIn {T} order before r hand after =
 
 -- items went through the operators, and the batches that they fill were sent; or they were cut off, whatever comes after
 abbrev pub Feeds : {K T : Type 0} → (K → List T → K → Type 0) → (K → List T → ℕ → K → Type 0) → Option ℕ → Content T → List T → K
-    → Result (Option Ending) Undelivered → Content T → K → Type 0
+    → Result (Option Ending) DeliveryFault → Content T → K → Type 0
 Feeds {K} {T} accepts refuses size m xs s (Ok e) m' s' =
     (out : List T) × (IsFed m.now (open_trace xs) [] out m'.now e) × (m'.held ≡ held_back size m.held out) × Leads accepts s (full_batches size m.held out) s'
 Feeds {K} {T} accepts refuses size m xs s (Err fault) m' s' =

@@ -9,12 +9,12 @@ use Rattle.plinq_merge.specs.declared.more.More.{More}
 use Rattle.plinq_merge.specs.declared.more.More.TheVariants.{Yes, No}
 use Rattle.plinq_merge.specs.declared.standing.Standing.{Standing}
 use Rattle.plinq_merge.specs.declared.standing.Standing.TheVariants.{Open, Decided, Failed as HasFailed}
-use Rattle.plinq_merge.specs.declared.undelivered.Undelivered.TheVariants.{Memory as NoMemory, Sink as Refusal}
+use Rattle.plinq_merge.specs.declared.delivery_fault.DeliveryFault.TheVariants.{Memory as NoMemory, Sink as Refusal}
 use Rattle.plinq_merge.specs.declared.work.Work.{Work}
 use Rattle.plinq_merge.specs.Cancelling.{Delivery, Passes, IsRefused, IsKeptBack}
 use Rattle.plinq_merge.specs.Sending.{Leads, IsCutOff}
 use Rattle.plinq_merge.specs.Shown.{Merge, answer, shown}
-use Rattle.plinq_merge.specs.Keys.{AreNew, IsTwice}
+use Rattle.plinq_merge.specs.Keys.{AreNew, IsDuplicate}
 use Rattle.plinq_merge.specs.Working.{merge_of, Rests}
 
 -- the merger stands for these offers: with them the answer is open, or it has this ending; a failed one stands for none
@@ -46,7 +46,7 @@ TakesOffer {L} {K} {T} meaning accepts refuses w r s (Err (Sink code)) w' standi
     (standing' ≡ HasFailed) × ((offers : List (ChunkResult T)) → Rests meaning w offers
     → Brings (merge_of meaning w) offers r (λ gained. IsCutOff accepts refuses s gained (Refusal code) s'))
 TakesOffer {L} {K} {T} meaning accepts refuses w r s (Err Twice) w' standing' s' =
-    (w' ≡ w) × (standing' ≡ Open) × (s' ≡ s) × ((offers : List (ChunkResult T)) → Rests meaning w offers → IsTwice offers r)
+    (w' ≡ w) × (standing' ≡ Open) × (s' ≡ s) × ((offers : List (ChunkResult T)) → Rests meaning w offers → IsDuplicate offers r)
 TakesOffer meaning accepts refuses w r s (Err Gap) w' standing' s' = ⊥
 TakesOffer meaning accepts refuses w r s (Err Failed) w' standing' s' = ⊥
 TakesOffer meaning accepts refuses w r s (Err Cancelled) w' standing' s' = ⊥

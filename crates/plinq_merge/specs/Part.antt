@@ -4,5 +4,5 @@ use Rattle.plinq_source.specs.Trace.{Trace}
 
 -- what waits under its first key: the key after its last one, and what it gives
 pub record Part (T : Type 0) : Type 0 where
-  pub behind : ℕ
+  pub end : ℕ
   pub trace : Trace T

@@ -1,7 +1,7 @@
 -- Sending: what a sink gets, batch by batch.
 use Rattle.std.specs.Prelude.{◌≡◌, ℕ, refl, List, [], ◌∷◌, ◌++◌, Result, MatchResult}
-use Rattle.plinq_merge.specs.declared.undelivered.Undelivered.{Undelivered}
-use Rattle.plinq_merge.specs.declared.undelivered.Undelivered.TheVariants.{Memory, Sink}
+use Rattle.plinq_merge.specs.declared.delivery_fault.DeliveryFault.{DeliveryFault}
+use Rattle.plinq_merge.specs.declared.delivery_fault.DeliveryFault.TheVariants.{Memory, Sink}
 
 -- the sink takes these batches one after another, and that leads from s to s'
 abbrev pub Leads : {K B : Type 0} → (K → B → K → Type 0) → K → List B → K → Type 0
@@ -9,17 +9,17 @@ Leads accepts s [] s' = s' ≡ s
 Leads {K} accepts s (b ∷ bs) s' = (m : K) × (accepts s b m) × Leads accepts m bs s'
 
 -- the sink has taken the first of these batches, and then memory ran out, or it refused the next one
-abbrev pub IsCutOff : {K B : Type 0} → (K → B → K → Type 0) → (K → B → ℕ → K → Type 0) → K → List B → Undelivered → K → Type 0
+abbrev pub IsCutOff : {K B : Type 0} → (K → B → K → Type 0) → (K → B → ℕ → K → Type 0) → K → List B → DeliveryFault → K → Type 0
 IsCutOff {K} {B} accepts refuses s bs Memory s' = (sent : List B) × (rest : List B) × (bs ≡ sent ++ rest) × Leads accepts s sent s'
 IsCutOff {K} {B} accepts refuses s bs (Sink code) s' =
     (sent : List B) × (b : B) × (rest : List B) × (m : K) × (bs ≡ sent ++ b ∷ rest) × (Leads accepts s sent m) × refuses m b code s'
 
 -- all of these batches are delivered, or the first of them are and the fault says why not all
-abbrev pub Delivers : {K B A : Type 0} → (K → B → K → Type 0) → (K → B → ℕ → K → Type 0) → K → List B → Result A Undelivered → K → Type 0
+abbrev pub Delivers : {K B A : Type 0} → (K → B → K → Type 0) → (K → B → ℕ → K → Type 0) → K → List B → Result A DeliveryFault → K → Type 0
 Delivers accepts refuses s bs r s' = MatchResult r (λ _. Leads accepts s bs s') (λ fault. IsCutOff accepts refuses s bs fault s')
 
 -- some batches are delivered so
-abbrev pub Sends : {K B A : Type 0} → (K → B → K → Type 0) → (K → B → ℕ → K → Type 0) → K → Result A Undelivered → K → Type 0
+abbrev pub Sends : {K B A : Type 0} → (K → B → K → Type 0) → (K → B → ℕ → K → Type 0) → K → Result A DeliveryFault → K → Type 0
 Sends {K} {B} accepts refuses s r s' = (bs : List B) × Delivers accepts refuses s bs r s'
 
 -- a sink that keeps the items of its batches

@@ -20,8 +20,8 @@ use Rattle.plinq_ops.specs.Chunk.{result_trace}
 use Rattle.plinq_merge.specs.Part.{Part}
 
 -- the first key after those of a result
-abbrev pub behind_result : {T : Type 0} → ChunkResult T → ℕ
-behind_result r = r.first + r.count
+abbrev pub end_of_result : {T : Type 0} → ChunkResult T → ℕ
+end_of_result r = r.first + r.count
 
 -- what is merged as soon as it arrives: nothing by key, the result by arrival
 abbrev pub at_once : {T : Type 0} → Order → ChunkResult T → Trace T
@@ -34,7 +34,7 @@ waiting_trace ByKey r = result_trace r
 waiting_trace ByArrival r = open_trace []
 
 abbrev pub part_of : {T : Type 0} → Order → ChunkResult T → Part T
-part_of order r = record { behind = behind_result r; trace = waiting_trace order r }
+part_of order r = record { end = end_of_result r; trace = waiting_trace order r }
 
 -- the place of a result among the others, by its first key; one of no keys has none
 abbrev pub placed : {T : Type 0} → Order → List (ℕ × Part T) → ChunkResult T → List (ℕ × Part T)
@@ -54,7 +54,7 @@ told_at key (Some Closed) = None
 -- the first that was reported
 abbrev pub all_told : {T : Type 0} → Option (ℕ × Ending) → List (ChunkResult T) → Option (ℕ × Ending)
 all_told told [] = told
-all_told told (r ∷ rs) = all_told (option_or told (told_at (behind_result r) r.tail)) rs
+all_told told (r ∷ rs) = all_told (option_or told (told_at (end_of_result r) r.tail)) rs
 
 -- the source's ending, if this is its place
 abbrev pub ending_at : Option (ℕ × Ending) → ℕ → Option Ending
@@ -66,7 +66,7 @@ ending_at (Some at) key = if at.0 == key then Some at.1 else None
 abbrev pub row : {T : Type 0} → Option (ℕ × Ending) → ℕ → List (ℕ × Part T) → Trace T
 row told key [] = record { items = []; ending = ending_at told key }
 row told key (p ∷ ps) =
-    if p.0 == key then followed p.1.trace (row told p.1.behind ps) else record { items = []; ending = ending_at told key }
+    if p.0 == key then followed p.1.trace (row told p.1.end ps) else record { items = []; ending = ending_at told key }
 
 -- what was merged at once, in the order of arrival
 abbrev pub arrived : {T : Type 0} → Order → List (ChunkResult T) → Trace T
@@ -108,21 +108,21 @@ closed_tells_nothing = refl
 -- keys 0 and 1, a gap at 2, and key 3
 abbrev row_with_a_gap : Option (ℕ × Ending) → Trace ℕ
 row_with_a_gap told =
-    row told 0 ((0, record { behind = 2; trace = open_trace (4 ∷ 2 ∷ []) }) ∷ (3, record { behind = 4; trace = open_trace (9 ∷ []) }) ∷ [])
+    row told 0 ((0, record { end = 2; trace = open_trace (4 ∷ 2 ∷ []) }) ∷ (3, record { end = 4; trace = open_trace (9 ∷ []) }) ∷ [])
 
 up_to_the_gap : row_with_a_gap None ≡ open_trace (4 ∷ 2 ∷ [])
 up_to_the_gap = refl
 
 -- a tail after the gap isn't reached
-tail_behind_a_gap : row_with_a_gap (Some (4, End)) ≡ open_trace (4 ∷ 2 ∷ [])
-tail_behind_a_gap = refl
+tail_after_a_gap : row_with_a_gap (Some (4, End)) ≡ open_trace (4 ∷ 2 ∷ [])
+tail_after_a_gap = refl
 
 tail_in_its_place : row_with_a_gap (Some (2, Refused 3)) ≡ ended (4 ∷ 2 ∷ []) (Refused 3)
 tail_in_its_place = refl
 
-nothing_behind_a_fault : row {T = ℕ} (Some (2, End)) 0 ((0, record { behind = 1; trace = ended (4 ∷ []) (Fault 1) }) ∷ (1, record { behind = 2; trace = open_trace (2 ∷ []) }) ∷ [])
+nothing_after_a_fault : row {T = ℕ} (Some (2, End)) 0 ((0, record { end = 1; trace = ended (4 ∷ []) (Fault 1) }) ∷ (1, record { end = 2; trace = open_trace (2 ∷ []) }) ∷ [])
     ≡ ended (4 ∷ []) (Fault 1)
-nothing_behind_a_fault = refl
+nothing_after_a_fault = refl
 
 -- the result of one element
 abbrev one_element : ℕ → Vec ℕ → FragEnd → Option Tail → ChunkResult ℕ

@@ -4,7 +4,7 @@ use Rattle.std.specs.Option.{IfSome, IsSome}
 use Rattle.plinq_source.specs.declared.ending.Ending.{Ending}
 use Rattle.plinq_source.specs.Trace.{Trace}
 use Rattle.plinq_ops.specs.declared.results.ChunkResult.{ChunkResult}
-use Rattle.plinq_merge.specs.Shown.{told_at, all_told, behind_result}
+use Rattle.plinq_merge.specs.Shown.{told_at, all_told, end_of_result}
 use Rattle.plinq_merge.specs.Keys.{is_offered, AreNew}
 
 -- the source ends there, and so
@@ -13,7 +13,7 @@ EndsAt t at = (at.0 ≡ length t.items) × (t.ending ≡ Some at.1)
 
 -- what a tail says of the source's end is so
 abbrev pub IsTrueTail : {T : Type 0} → Trace T → ChunkResult T → Type 0
-IsTrueTail t r = IfSome (told_at (behind_result r) r.tail) (EndsAt t)
+IsTrueTail t r = IfSome (told_at (end_of_result r) r.tail) (EndsAt t)
 
 abbrev pub AreTrueTails : {T : Type 0} → Trace T → List (ChunkResult T) → Type 0
 AreTrueTails t [] = ⊤

@@ -7,7 +7,7 @@ use Rattle.plinq_ops.specs.declared.results.ChunkResult.{ChunkResult}
 use Rattle.plinq_ops.specs.Stage.{Stage, some_takes_none}
 use Rattle.plinq_ops.specs.Operator.{stages_of}
 use Rattle.plinq_ops.specs.Pipeline.{stages}
-use Rattle.plinq_merge.specs.declared.undelivered.Undelivered.{Undelivered}
+use Rattle.plinq_merge.specs.declared.delivery_fault.DeliveryFault.{DeliveryFault}
 use Rattle.plinq_merge.specs.declared.work.Work.{Work}
 use Rattle.plinq_merge.specs.Buffer.{held_of, size_of, HasRoom}
 use Rattle.plinq_merge.specs.Sending.{Delivers}
@@ -47,14 +47,14 @@ pub record Rests {L T : Type 0} (meaning : L → Meaning T) (w : Work L T) (offe
   pub gap : IsAtGap (content meaning w)
 
 -- how it stands then
-abbrev pub Stands : {L T : Type 0} → (L → Meaning T) → Work L T → Work L T → List (ChunkResult T) → Result (Option Ending) Undelivered → Type 0
+abbrev pub Stands : {L T : Type 0} → (L → Meaning T) → Work L T → Work L T → List (ChunkResult T) → Result (Option Ending) DeliveryFault → Type 0
 Stands meaning w w' offers (Ok None) = Rests meaning w' offers
 Stands meaning w w' offers (Ok (Some e)) = (answer (merge_of meaning w) offers).ending ≡ Some e
 Stands meaning w w' offers (Err fault) = Unit {0}
 
 -- one offer more brings the batches that the definition gains by it
 pub record Gains {L K T : Type 0} (meaning : L → Meaning T) (accepts : K → List T → K → Type 0) (refuses : K → List T → ℕ → K → Type 0)
-    (w : Work L T) (offers : List (ChunkResult T)) (r : ChunkResult T) (s : K) (result : Result (Option Ending) Undelivered) (w' : Work L T) (s' : K) : Type 0 where
+    (w : Work L T) (offers : List (ChunkResult T)) (r : ChunkResult T) (s : K) (result : Result (Option Ending) DeliveryFault) (w' : Work L T) (s' : K) : Type 0 where
   pub gained : List (List T)
   pub grows : shown (merge_of meaning w) (offers ++ r ∷ []) ≡ shown (merge_of meaning w) offers ++ gained
   pub sends : Delivers accepts refuses s gained result s'

@@ -5,18 +5,18 @@ ghost use Rattle.plinq_ops.specs.Operator.{stages_of};
 ghost use Rattle.plinq_ops.specs.Feeding.{is_empty_take};
 ghost use Rattle.plinq_merge.specs.declared.merge_fault.MergeFault.TheVariants.{Memory};
 ghost use Rattle.plinq_merge.specs.Keys.{is_offered};
-ghost use Rattle.plinq_merge.specs.Shown.{answer, behind_result};
+ghost use Rattle.plinq_merge.specs.Shown.{answer, end_of_result};
 ghost use Rattle.plinq_merge.specs.Offering.{finish_of};
 ghost use Rattle.plinq_merge.specs.Mergers.{plan_of, delivered_of, IsFor, SendsSome, Takes, tells_decided, tells_ending};
 
 use crate::buffer::buffer_of;
+use crate::delivery_fault::DeliveryFault;
 use crate::merge_fault::MergeFault;
 use crate::merger::Merger;
 use crate::more::More;
 use crate::row::Row;
 use crate::sink::Sink;
 use crate::standing::Standing;
-use crate::undelivered::Undelivered;
 use crate::work::Work;
 use plinq_lambda::Lambda;
 use plinq_ops::{ChunkResult, MergeOption, Pipeline, Plan};
@@ -76,7 +76,7 @@ impl<'a, L: Lambda> Merger<'a, L> {
         offered: ChunkResult<L::Item>,
         sink: &mut K,
     ) -> Result<More, MergeFault>
-        requires { behind_result offered ≤ 2 ^ 40 }
+        requires { end_of_result offered ≤ 2 ^ 40 }
         ensures plan { plan_of self.new ≡ plan_of self.old }
         ensures delivered { delivered_of self.new ≡ delivered_of self.old }
         ensures takes { Takes K.accepts K.refuses self.old offered sink.old result self.new sink.new }
@@ -87,8 +87,8 @@ impl<'a, L: Lambda> Merger<'a, L> {
             Standing::Decided(_) => return Ok(More::No),
             Standing::Open => {}
         }
-        let behind = offered.first + offered.count;
-        if self.work.row.was_offered(offered.first, behind) {
+        let end = offered.first + offered.count;
+        if self.work.row.was_offered(offered.first, end) {
             return Err(MergeFault::Twice);
         }
         match self.work.merge(offered, sink) {
@@ -97,11 +97,11 @@ impl<'a, L: Lambda> Merger<'a, L> {
                 self.standing = Standing::Decided(ending);
                 Ok(More::No)
             }
-            Err(Undelivered::Memory) => {
+            Err(DeliveryFault::Memory) => {
                 self.standing = Standing::Failed;
                 Err(MergeFault::Memory)
             }
-            Err(Undelivered::Sink(code)) => {
+            Err(DeliveryFault::Sink(code)) => {
                 self.standing = Standing::Failed;
                 Err(MergeFault::Sink(code))
             }

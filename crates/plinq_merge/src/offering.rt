@@ -3,7 +3,7 @@ ghost use Rattle.std.specs.Prelude.{◌≡◌, ◌≤◌, ◌^◌, ◌||◌, fal
 ghost use Rattle.plinq_merge.specs.Cancelling.{Counts, CountsNot};
 ghost use Rattle.plinq_merge.specs.Lent.{AreSame, delivery_of};
 ghost use Rattle.plinq_merge.specs.Mergers.{plan_of, delivered_of, is_cancelled, AsksEach, Takes, TakesWith};
-ghost use Rattle.plinq_merge.specs.Shown.{behind_result};
+ghost use Rattle.plinq_merge.specs.Shown.{end_of_result};
 
 use crate::cancel::Cancel;
 use crate::merge_fault::MergeFault;
@@ -31,7 +31,7 @@ impl<'a, L: Lambda> Merger<'a, L> {
         offered: ChunkResult<L::Item>,
         sink: &mut K,
     ) -> Result<More, MergeFault>
-        requires { behind_result offered ≤ 2 ^ 40 }
+        requires { end_of_result offered ≤ 2 ^ 40 }
         ensures plan { plan_of self.new ≡ plan_of self.old }
         ensures takes { Takes K.accepts K.refuses self.old offered sink.old result self.new sink.new }
         ensures counts { Takes (Counts K.accepts) (CountsNot K.refuses) self.old offered (record { sink = sink.old; delivered = delivered_of self.old }) result self.new (record { sink = sink.new; delivered = delivered_of self.new }) }
@@ -55,7 +55,7 @@ impl<'a, L: Lambda> Merger<'a, L> {
         token: &mut C,
         sink: &mut K,
     ) -> Result<More, MergeFault>
-        requires { behind_result offered ≤ 2 ^ 40 }
+        requires { end_of_result offered ≤ 2 ^ 40 }
         ensures plan { plan_of self.new ≡ plan_of self.old }
         ensures asks { AsksEach C.asks K.accepts K.refuses (record { token = token.old; sink = sink.old; delivered = delivered_of self.old }) result (record { token = token.new; sink = sink.new; delivered = delivered_of self.new }) }
         ensures told { C.has_told token.new ≡ (C.has_told token.old || is_cancelled result) }
@@ -78,7 +78,7 @@ impl<'a, L: Lambda> Merger<'a, L> {
         offered: ChunkResult<L::Item>,
         with: &mut WithCancellation<'_, C, K>,
     ) -> Result<More, MergeFault>
-        requires within { behind_result offered ≤ 2 ^ 40 }
+        requires within { end_of_result offered ≤ 2 ^ 40 }
         requires unstopped { with.old.is_stopped ≡ false }
         ensures same { AreSame with.old with.new }
         ensures plan { plan_of self.new ≡ plan_of self.old }

@@ -1,6 +1,6 @@
 ghost use Rattle.std.specs.Prelude.{◌≡◌, ◌<◌, ◌≤◌, ◌^◌, [], ◌∷◌, true, false, None, MatchBool, OnOk, IfOk};
 ghost use Rattle.std.specs.Option.{option_or};
-ghost use Rattle.plinq_merge.specs.Shown.{told_at, ending_at, behind_result};
+ghost use Rattle.plinq_merge.specs.Shown.{told_at, ending_at, end_of_result};
 ghost use Rattle.plinq_merge.specs.Merging.{TakesIn};
 ghost use Rattle.plinq_merge.specs.Keys.{is_apart, is_first, IsFresh, IsRepeated, Places};
 
@@ -33,34 +33,34 @@ impl<T: Drop> Row<T> {
         }
     }
 
-    /// Whether one of the keys from `first` up to, not including, `behind` is merged or waits.
-    pub fn was_offered(&self, first: u64, behind: u64) -> bool
+    /// Whether one of the keys from `first` up to, not including, `end` is merged or waits.
+    pub fn was_offered(&self, first: u64, end: u64) -> bool
         requires { is_apart self.now.next self.now.waiting.entries ≡ true }
         ensures { MatchBool result
-            (IsRepeated self.now.next self.now.waiting.entries first behind)
-            (IsFresh self.now.next self.now.waiting.entries first behind) }
+            (IsRepeated self.now.next self.now.waiting.entries first end)
+            (IsFresh self.now.next self.now.waiting.entries first end) }
     {
-        if behind <= first {
+        if end <= first {
             return false;
         }
         if first < self.next {
             return true;
         }
-        match self.waiting.range(..behind).next_back() {
+        match self.waiting.range(..end).next_back() {
             None => false,
-            Some((_, last)) => first < last.behind,
+            Some((_, last)) => first < last.end,
         }
     }
 
     /// Notes where the source ends, if a tail after these keys says so and none has before.
-    pub fn hear(&mut self, behind: u64, tail: Option<Tail>)
+    pub fn note_tail(&mut self, end: u64, tail: Option<Tail>)
         ensures next { self.new.next ≡ self.old.next }
         ensures waiting { self.new.waiting ≡ self.old.waiting }
-        ensures told { self.new.told ≡ option_or self.old.told (told_at behind tail) }
+        ensures told { self.new.told ≡ option_or self.old.told (told_at end tail) }
     {
         let told = match tail {
-            Some(Tail::Ended) => Some((behind, Ending::End)),
-            Some(Tail::Refused(code)) => Some((behind, Ending::Refused(code))),
+            Some(Tail::Ended) => Some((end, Ending::End)),
+            Some(Tail::Refused(code)) => Some((end, Ending::Refused(code))),
             Some(Tail::Closed) | None => None,
         };
         self.told = self.told.or(told);
@@ -90,12 +90,12 @@ impl<T: Drop> Row<T> {
     pub fn take_next(&mut self) -> Waiting<T>
         requires { is_first self.old.next self.old.waiting.entries ≡ true }
         ensures parts { self.old.waiting.entries ≡ (self.old.next, result) ∷ self.new.waiting.entries }
-        ensures next { self.new.next ≡ result.behind }
+        ensures next { self.new.next ≡ result.end }
         ensures told { self.new.told ≡ self.old.told }
     {
         match self.waiting.pop_first() {
             Some((_, part)) => {
-                self.next = part.behind;
+                self.next = part.end;
                 part
             }
             None => unreachable!(),
@@ -103,29 +103,29 @@ impl<T: Drop> Row<T> {
     }
 
     /// Takes in a result of keys that weren't offered before. What it answers is in hand: it is to be merged at once.
-    pub fn take_in(
+    pub fn accept(
         &mut self,
         alloc: Global,
         order: Order,
         offered: ChunkResult<T>,
     ) -> Result<Waiting<T>, OutOfMemory>
-        requires within { behind_result offered ≤ 2 ^ 40 }
+        requires within { end_of_result offered ≤ 2 ^ 40 }
         requires apart { is_apart self.old.next self.old.waiting.entries ≡ true }
-        requires fresh { IsFresh self.old.next self.old.waiting.entries offered.first (behind_result offered) }
+        requires fresh { IsFresh self.old.next self.old.waiting.entries offered.first (end_of_result offered) }
         ensures apart { OnOk result (is_apart self.new.next self.new.waiting.entries ≡ true) }
         ensures taken { IfOk result (λ hand. TakesIn order self.old offered hand.trace self.new) }
     {
         let first = offered.first;
         let count = offered.count;
-        let behind = first + count;
-        self.hear(behind, offered.tail);
+        let end = first + count;
+        self.note_tail(end, offered.tail);
         let nothing = Waiting {
-            behind,
+            end,
             items: Vec::new(alloc),
             ending: None,
         };
         let whole = Waiting {
-            behind,
+            end,
             items: offered.items,
             ending: offered.ending.run_ending(),
         };
@@ -153,7 +153,7 @@ impl<T: Drop> Row<T> {
             Places self.old.next self.old.waiting.entries first part turn self.new.next self.new.waiting.entries) }
     {
         if first == self.next {
-            self.next = part.behind;
+            self.next = part.end;
             return Ok(Some(part));
         }
         self.waiting.insert(first, part)?;

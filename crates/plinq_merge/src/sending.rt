@@ -4,27 +4,27 @@ ghost use Rattle.plinq_merge.specs.Buffer.{held_of, size_of, HasRoom};
 ghost use Rattle.plinq_merge.specs.Sending.{Delivers};
 
 use crate::buffer::Buffer;
+use crate::delivery_fault::DeliveryFault;
 use crate::sink::Sink;
-use crate::undelivered::Undelivered;
 use circular_buffer::HeapCircularBuffer;
 use plinq_source::Ending;
 
 /// Hands one batch to the sink.
-fn send<K: Sink>(batch: &[K::Item], sink: &mut K) -> Result<(), Undelivered>
+fn send<K: Sink>(batch: &[K::Item], sink: &mut K) -> Result<(), DeliveryFault>
     ensures { Delivers K.accepts K.refuses sink.old (batch.now ∷ []) result sink.new }
 {
     match sink.batch(batch) {
         Ok(()) => Ok(()),
-        Err(code) => Err(Undelivered::Sink(code)),
+        Err(code) => Err(DeliveryFault::Sink(code)),
     }
 }
 
 /// Hands out what is left in the buffer, if the answer ends and as its ending says.
-pub(crate) fn hand_last<K: Sink>(
+pub(crate) fn deliver_last<K: Sink>(
     buffer: &mut Buffer<K::Item>,
     ending: Option<Ending>,
     sink: &mut K,
-) -> Result<(), Undelivered>
+) -> Result<(), DeliveryFault>
     ensures same { ending ≡ None → buffer.new ≡ buffer.old }
     ensures size { size_of buffer.new ≡ size_of buffer.old }
     ensures sent { Delivers K.accepts K.refuses sink.old
@@ -50,11 +50,11 @@ pub(crate) fn hand_last<K: Sink>(
 }
 
 /// Hands out the batches that these items fill, and holds the rest back.
-pub(crate) fn hand_out<K: Sink>(
+pub(crate) fn deliver_full<K: Sink>(
     buffer: &mut Buffer<K::Item>,
     items: &[K::Item],
     sink: &mut K,
-) -> Result<(), Undelivered>
+) -> Result<(), DeliveryFault>
 where
     K::Item: Copy,
     requires { HasRoom buffer.old }
@@ -65,7 +65,7 @@ where
         (full_batches (size_of buffer.old) (held_of buffer.old) items.now) result sink.new }
 {
     match buffer {
-        Buffer::Ring(ring) => hand_filled(ring, items, sink),
+        Buffer::Ring(ring) => deliver_filled(ring, items, sink),
         Buffer::All(held) => {
             held.extend_from_slice(items)?;
             Ok(())
@@ -74,11 +74,11 @@ where
 }
 
 /// Fills up the batch that was begun, and goes on with the items after it.
-fn hand_filled<K: Sink>(
+fn deliver_filled<K: Sink>(
     ring: &mut HeapCircularBuffer<K::Item>,
     items: &[K::Item],
     sink: &mut K,
-) -> Result<(), Undelivered>
+) -> Result<(), DeliveryFault>
 where
     K::Item: Copy,
     requires { length ring.old.items < ring.old.capacity }
@@ -107,7 +107,7 @@ fn hand_whole<K: Sink>(
     ring: &mut HeapCircularBuffer<K::Item>,
     items: &[K::Item],
     sink: &mut K,
-) -> Result<(), Undelivered>
+) -> Result<(), DeliveryFault>
 where
     K::Item: Copy,
     requires empty { ring.old.items ≡ [] }

@@ -5,7 +5,7 @@ use std::marker::Model;
 #[derive(Drop)]
 pub struct Waiting<T> {
     /// The key after the last one.
-    pub behind: u64,
+    pub end: u64,
     pub items: Vec<T>,
     /// How the run ends after the items, if it does.
     pub ending: Option<Ending>,
@@ -16,5 +16,5 @@ impl<T> Model for Waiting<T> {
 
     ghost Value = { Part T };
 
-    ghost view = { λ w. record { behind = w.behind; trace = record { items = w.items.items; ending = w.ending } } };
+    ghost view = { λ w. record { end = w.end; trace = record { items = w.items.items; ending = w.ending } } };
 }

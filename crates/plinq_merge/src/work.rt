@@ -1,17 +1,17 @@
 ghost use Rattle.std.specs.Prelude.{◌≡◌, ◌<◌, ◌≤◌, ◌^◌, List, [], true, Ok, None, OnOk, length};
 ghost use Rattle.plinq_source.specs.Trace.{open_trace};
 ghost use Rattle.plinq_merge.specs.Buffer.{size_of, HasRoom};
-ghost use Rattle.plinq_merge.specs.Shown.{behind_result};
+ghost use Rattle.plinq_merge.specs.Shown.{end_of_result};
 ghost use Rattle.plinq_merge.specs.Keys.{is_first, IsFresh};
 ghost use Rattle.plinq_merge.specs.Merging.{IsAtGap, Goes, Feeds};
 ghost use Rattle.plinq_merge.specs.Sending.{Sends};
 ghost use Rattle.plinq_merge.specs.Working.{content, IsReady, KeepsPlan, Rests, Gains};
 
 use crate::buffer::Buffer;
+use crate::delivery_fault::DeliveryFault;
 use crate::row::Row;
-use crate::sending::{hand_last, hand_out};
+use crate::sending::{deliver_full, deliver_last};
 use crate::sink::Sink;
-use crate::undelivered::Undelivered;
 use crate::waiting::Waiting;
 use plinq_lambda::Lambda;
 use plinq_ops::{ChunkResult, Order, Pipeline};
@@ -41,18 +41,18 @@ impl<'a, L: Lambda> Work<'a, L, L::Item> {
         &mut self,
         offered: ChunkResult<L::Item>,
         sink: &mut K,
-    ) -> Result<Option<Ending>, Undelivered>
+    ) -> Result<Option<Ending>, DeliveryFault>
         requires ready { IsReady L.meaning self.old }
-        requires within { behind_result offered ≤ 2 ^ 40 }
-        requires fresh { IsFresh self.old.row.next self.old.row.waiting.entries offered.first (behind_result offered) }
+        requires within { end_of_result offered ≤ 2 ^ 40 }
+        requires fresh { IsFresh self.old.row.next self.old.row.waiting.entries offered.first (end_of_result offered) }
         ensures ready { result ≡ Ok None → IsReady L.meaning self.new }
         ensures plan { KeepsPlan self.old self.new }
         ensures sends { Sends K.accepts K.refuses sink.old result sink.new }
         ensures gains { (offers : List (ChunkResult L.Item)) → Rests L.meaning self.old offers →
             Gains L.meaning K.accepts K.refuses self.old offers offered sink.old result self.new sink.new }
     {
-        let hand = self.row.take_in(self.alloc, self.order, offered)?;
-        let ending = self.work_off(hand, sink)?;
+        let hand = self.row.accept(self.alloc, self.order, offered)?;
+        let ending = self.process(hand, sink)?;
         if ending.is_some() {
             return Ok(ending);
         }
@@ -63,7 +63,7 @@ impl<'a, L: Lambda> Work<'a, L, L::Item> {
     fn drain<K: Sink<Item = L::Item>>(
         &mut self,
         sink: &mut K,
-    ) -> Result<Option<Ending>, Undelivered>
+    ) -> Result<Option<Ending>, DeliveryFault>
         requires ready { IsReady L.meaning self.old }
         ensures ready { result ≡ Ok None → IsReady L.meaning self.new }
         ensures plan { KeepsPlan self.old self.new }
@@ -78,7 +78,7 @@ impl<'a, L: Lambda> Work<'a, L, L::Item> {
             }
         }
         let ending = self.row.ending();
-        hand_last(&mut self.buffer, ending, sink)?;
+        deliver_last(&mut self.buffer, ending, sink)?;
         Ok(ending)
     }
 
@@ -86,7 +86,7 @@ impl<'a, L: Lambda> Work<'a, L, L::Item> {
     fn advance<K: Sink<Item = L::Item>>(
         &mut self,
         sink: &mut K,
-    ) -> Result<Option<Ending>, Undelivered>
+    ) -> Result<Option<Ending>, DeliveryFault>
         requires ready { IsReady L.meaning self.old }
         requires there { is_first self.old.row.next self.old.row.waiting.entries ≡ true }
         ensures ready { result ≡ Ok None → IsReady L.meaning self.new }
@@ -96,17 +96,17 @@ impl<'a, L: Lambda> Work<'a, L, L::Item> {
             sink.old result (content L.meaning self.new) sink.new }
     {
         let part = self.row.take_next();
-        self.work_off(part, sink)
+        self.process(part, sink)
     }
 
     /// Sends a trace through the operators, and delivers the batches that come out.
     ///
     /// Answers how the answer ends, or `None` where more may follow.
-    fn work_off<K: Sink<Item = L::Item>>(
+    fn process<K: Sink<Item = L::Item>>(
         &mut self,
         hand: Waiting<L::Item>,
         sink: &mut K,
-    ) -> Result<Option<Ending>, Undelivered>
+    ) -> Result<Option<Ending>, DeliveryFault>
         requires ready { IsReady L.meaning self.old }
         ensures ready { result ≡ Ok None → IsReady L.meaning self.new }
         ensures plan { KeepsPlan self.old self.new }
@@ -116,7 +116,7 @@ impl<'a, L: Lambda> Work<'a, L, L::Item> {
     {
         self.items = self.items.saturating_add(hand.items.len() as u64);
         let ending = self.feed(hand.items, sink)?.or(hand.ending);
-        hand_last(&mut self.buffer, ending, sink)?;
+        deliver_last(&mut self.buffer, ending, sink)?;
         Ok(ending)
     }
 
@@ -127,7 +127,7 @@ impl<'a, L: Lambda> Work<'a, L, L::Item> {
         &mut self,
         items: Vec<L::Item>,
         sink: &mut K,
-    ) -> Result<Option<Ending>, Undelivered>
+    ) -> Result<Option<Ending>, DeliveryFault>
         requires ready { IsReady L.meaning self.old }
         ensures room { OnOk result (HasRoom self.new.buffer) }
         ensures plan { KeepsPlan self.old self.new }
@@ -137,7 +137,7 @@ impl<'a, L: Lambda> Work<'a, L, L::Item> {
     {
         let mut block = items;
         let ending = self.pipeline.feed_block(self.alloc, &mut block)?;
-        hand_out(&mut self.buffer, block.as_slice(), sink)?;
+        deliver_full(&mut self.buffer, block.as_slice(), sink)?;
         Ok(ending)
     }
 }

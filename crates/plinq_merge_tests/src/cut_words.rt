@@ -2,9 +2,9 @@ ghost use Rattle.std.specs.Prelude.{◌≡◌, pos, true, [], ◌∷◌, replica
 ghost use Rattle.plinq_keyed.specs.Keys.{is_among};
 ghost use Rattle.plinq_lambda.specs.declared.formula.Formula.TheVariants.{Below};
 ghost use Rattle.plinq_ops.specs.declared.op.Op.TheVariants.{TakeWhile};
-ghost use Rattle.plinq_ops.specs.Cut.{enders};
+ghost use Rattle.plinq_ops.specs.Cut.{stop_keys};
 
-use plinq_cut::{CutWord, Enders};
+use plinq_cut::{CutWord, StopKeys};
 use plinq_lambda::{Formula, Lambda};
 use plinq_ops::{BuildFault, Query};
 use plinq_source::{OutOfMemory, RepeatSource};
@@ -15,8 +15,8 @@ use std::test::Fail;
 // The keys of nine zeros at which a query ends that takes while they are below 0.
 struct KeysOfZeros;
 
-impl Enders for KeysOfZeros {
-    ghost is_ender = { is_among (enders ⟦<Formula as Lambda>⟧.meaning (TakeWhile (Below (pos 0)) ∷ []) 0 (replicate 9 (pos 0))) };
+impl StopKeys for KeysOfZeros {
+    ghost stops_at = { is_among (stop_keys ⟦<Formula as Lambda>⟧.meaning (TakeWhile (Below (pos 0)) ∷ []) 0 (replicate 9 (pos 0))) };
 }
 
 // A query that keeps the order, and takes while an element is below 0.

@@ -1,4 +1,4 @@
-use crate::taken::{Offered, ender, last, part, result_of};
+use crate::taken::{Offered, last, part, result_of, stop_key};
 use plinq_aggregate::Sum;
 use plinq_combine::{Combiner, fold_result};
 use plinq_keyed::Tail;
@@ -69,12 +69,12 @@ fn folds_out_of_turn_wait(rt: HostRuntime) {
 }
 
 #[test]
-fn by_key_nothing_behind_a_fault_is_combined(rt: HostRuntime) {
+fn by_key_nothing_after_a_fault_is_combined(rt: HostRuntime) {
     let case = Case {
         order: Order::ByKey,
         turns: &[
             (part(2, &[100]), OPEN),
-            (ender(1, &[4], FragEnd::Fault(3)), OPEN),
+            (stop_key(1, &[4], FragEnd::Fault(3)), OPEN),
             (part(0, &[1]), DECIDED),
         ],
         sum: 5,
@@ -89,7 +89,7 @@ fn by_arrival_folds_are_combined_as_they_come(rt: HostRuntime) {
         order: Order::ByArrival,
         turns: &[
             (part(2, &[100]), OPEN),
-            (ender(1, &[4], FragEnd::Fault(3)), DECIDED),
+            (stop_key(1, &[4], FragEnd::Fault(3)), DECIDED),
             (part(0, &[1]), DECIDED),
         ],
         sum: 104,

@@ -20,7 +20,7 @@ fn results_of(
 }
 
 // Asks that the batches have the items from 1 on, and answers which item comes next.
-fn item_behind(rt: &impl Abort, batches: &[Vec<i64>]) -> i64 {
+fn item_after(rt: &impl Abort, batches: &[Vec<i64>]) -> i64 {
     let mut next: i64 = 1;
     for batch in batches {
         for item in batch {
@@ -73,7 +73,7 @@ fn offer_all(
         assert!(rt; result.first <= 1_000_000 && result.count <= 1_000_000);
         failed = fails(rt, merger.offer(result, &mut sink), failed);
     }
-    let next = item_behind(rt, &sink.batches);
+    let next = item_after(rt, &sink.batches);
     assert!(rt; failed || next == 5);
     assert!(rt; merger.decided() != failed);
     let ending = if failed {

@@ -1,5 +1,5 @@
 use crate::taken::{
-    Case, Same, Taken, ender, expect_case, expect_ordered, last, merger_of, offer, ordered, part,
+    Case, Same, Taken, expect_case, expect_ordered, last, merger_of, offer, ordered, part, stop_key,
 };
 use plinq_keyed::Tail;
 use plinq_lambda::Formula;
@@ -103,8 +103,8 @@ fn what_was_dropped_is_never_reached(rt: HostRuntime) {
     let case = Case {
         option: MergeOption::NotBuffered,
         turns: &[
-            (ender(2, &[7], FragEnd::Dropped), OPEN, 0),
-            (ender(0, &[4, 5], FragEnd::Fault(3)), DECIDED, 2),
+            (stop_key(2, &[7], FragEnd::Dropped), OPEN, 0),
+            (stop_key(0, &[4, 5], FragEnd::Fault(3)), DECIDED, 2),
         ],
         batches: &[&[4], &[5]],
         ending: Ok(Ending::Fault(3)),
@@ -140,7 +140,7 @@ fn a_decided_plan_wants_nothing(rt: HostRuntime) -> Result<(), Fail> {
     assert!(rt; query.split().decided);
     let case = Case {
         option: MergeOption::FullyBuffered,
-        turns: &[(ender(0, &[4], FragEnd::Fault(1)), DECIDED, 0)],
+        turns: &[(stop_key(0, &[4], FragEnd::Fault(1)), DECIDED, 0)],
         batches: &[],
         ending: Ok(Ending::End),
     };

@@ -1,5 +1,5 @@
 ghost use Rattle.std.specs.Prelude.{◌≤◌, ◌^◌, ⊤, Ok, Err, true, IfOk};
-ghost use Rattle.plinq_merge.specs.Shown.{behind_result};
+ghost use Rattle.plinq_merge.specs.Shown.{end_of_result};
 
 use plinq_keyed::Tail;
 use plinq_lambda::{ExpandFault, Formula, Lambda};
@@ -117,7 +117,7 @@ pub(crate) fn last<T>(first: u64, items: &[T], tail: Tail) -> Offered<'_, T> {
 }
 
 /// One that reports its run's ending.
-pub(crate) fn ender<T>(first: u64, items: &[T], ending: FragEnd) -> Offered<'_, T> {
+pub(crate) fn stop_key<T>(first: u64, items: &[T], ending: FragEnd) -> Offered<'_, T> {
     Offered {
         first,
         items,
@@ -132,7 +132,7 @@ pub(crate) fn result_of<T: Copy>(
     alloc: Global,
     offered: Offered<'_, T>,
 ) -> Result<ChunkResult<T>, AllocError>
-    ensures { IfOk result (λ made. behind_result made ≤ 2 ^ 40) }
+    ensures { IfOk result (λ made. end_of_result made ≤ 2 ^ 40) }
 {
     assert!(rt; offered.first <= 1_000_000 && offered.items.len() <= 1_000_000);
     Ok(ChunkResult {

@@ -72,8 +72,8 @@ fn stops(rt: &impl Abort, alloc: Global, most: u64, taken: usize) -> Result<(), 
     assert_eq!(rt; sink.batches.len(), taken);
     assert_eq!(rt; merger.delivered(), taken as u64);
     expect_told(rt, &token, true);
-    let behind = result_of(rt, alloc, part(3, &[6]))?;
-    let told = merger.offer_with(behind, &mut token, &mut sink);
+    let following = result_of(rt, alloc, part(3, &[6]))?;
+    let told = merger.offer_with(following, &mut token, &mut sink);
     assert_eq!(rt; told, Err(MergeFault::Failed));
     assert_eq!(rt; sink.batches.len(), taken);
     assert_eq!(rt; merger.finish(), Err(MergeFault::Failed));

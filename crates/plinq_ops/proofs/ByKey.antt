@@ -15,10 +15,10 @@ use Rattle.plinq_lambda.specs.Meaning.{Meaning}
 use Rattle.plinq_ops.specs.declared.op.Op.{Op}
 use Rattle.plinq_ops.specs.declared.op.Op.TheVariants.{Select, Filter, SelectMany, Take, Skip, TakeWhile, SkipWhile, AsUnordered}
 use Rattle.plinq_ops.specs.declared.known.Known.TheVariants.{Key, Position}
-use Rattle.plinq_ops.specs.Stage.{Stage, taking, skipping, taken, skipped, apply, seq, behind, seq_behind}
+use Rattle.plinq_ops.specs.Stage.{Stage, taking, skipping, taken, skipped, apply, seq, stage_after, seq_after}
 use Rattle.plinq_ops.specs.Operator.{item_count, selected, taken_while, stage_of, stages_of, counted_off, stage_left}
 use Rattle.plinq_ops.specs.Feeding.{is_empty_take}
-use Rattle.plinq_ops.specs.Fragment.{ended_here, taken_at, skipped_at, apply_at, position_behind, fragment_at, fragment_of}
+use Rattle.plinq_ops.specs.Fragment.{ended_here, taken_at, skipped_at, apply_at, position_after, fragment_at, fragment_of}
 use Rattle.plinq_ops.specs.Pipeline.{PipelineView, IsReached, stages}
 use Rattle.plinq_ops.specs.ByKey.{can_apply, is_by_key_from, is_by_key, left_at, passed_on, stages_at}
 use Rattle.plinq_ops.proofs.Stages.{taken-short, taken-enough}
@@ -38,21 +38,21 @@ fragment_at-any meaning (TakeWhile f ∷ ops) p t keyed = fragment_at-any meanin
 fragment_at-any meaning (SkipWhile f ∷ ops) p t keyed = absurd (cc)
 fragment_at-any meaning (AsUnordered ∷ ops) p t keyed = absurd (cc)
 
-seq_behind-any : {L T : Type 0} (meaning : L → Meaning T) (ops : List (Op L)) (p q : ℤ) (t : Trace T) → is_by_key_from Key ops ≡ true
-    → seq_behind (left_at meaning ops p) t ≡ left_at meaning ops q
-seq_behind-any meaning [] p q t keyed = refl
-seq_behind-any meaning (Select f ∷ ops) p q t keyed =
-    ap (λ rest. stage_of meaning (Select f) ∷ rest) (seq_behind-any meaning ops p q (apply (stage_of meaning (Select f)) t) keyed)
-seq_behind-any meaning (Filter f ∷ ops) p q t keyed =
-    ap (λ rest. stage_of meaning (Filter f) ∷ rest) (seq_behind-any meaning ops p q (apply (stage_of meaning (Filter f)) t) keyed)
-seq_behind-any meaning (SelectMany f ∷ ops) p q t keyed =
-    ap (λ rest. stage_of meaning (SelectMany f) ∷ rest) (seq_behind-any meaning ops p q (apply (stage_of meaning (SelectMany f)) t) keyed)
-seq_behind-any meaning (Take n ∷ ops) p q t keyed = absurd (cc)
-seq_behind-any meaning (Skip n ∷ ops) p q t keyed = absurd (cc)
-seq_behind-any meaning (TakeWhile f ∷ ops) p q t keyed =
-    ap (λ rest. stage_of meaning (TakeWhile f) ∷ rest) (seq_behind-any meaning ops p q (apply (stage_of meaning (TakeWhile f)) t) keyed)
-seq_behind-any meaning (SkipWhile f ∷ ops) p q t keyed = absurd (cc)
-seq_behind-any meaning (AsUnordered ∷ ops) p q t keyed = absurd (cc)
+seq_after-any : {L T : Type 0} (meaning : L → Meaning T) (ops : List (Op L)) (p q : ℤ) (t : Trace T) → is_by_key_from Key ops ≡ true
+    → seq_after (left_at meaning ops p) t ≡ left_at meaning ops q
+seq_after-any meaning [] p q t keyed = refl
+seq_after-any meaning (Select f ∷ ops) p q t keyed =
+    ap (λ rest. stage_of meaning (Select f) ∷ rest) (seq_after-any meaning ops p q (apply (stage_of meaning (Select f)) t) keyed)
+seq_after-any meaning (Filter f ∷ ops) p q t keyed =
+    ap (λ rest. stage_of meaning (Filter f) ∷ rest) (seq_after-any meaning ops p q (apply (stage_of meaning (Filter f)) t) keyed)
+seq_after-any meaning (SelectMany f ∷ ops) p q t keyed =
+    ap (λ rest. stage_of meaning (SelectMany f) ∷ rest) (seq_after-any meaning ops p q (apply (stage_of meaning (SelectMany f)) t) keyed)
+seq_after-any meaning (Take n ∷ ops) p q t keyed = absurd (cc)
+seq_after-any meaning (Skip n ∷ ops) p q t keyed = absurd (cc)
+seq_after-any meaning (TakeWhile f ∷ ops) p q t keyed =
+    ap (λ rest. stage_of meaning (TakeWhile f) ∷ rest) (seq_after-any meaning ops p q (apply (stage_of meaning (TakeWhile f)) t) keyed)
+seq_after-any meaning (SkipWhile f ∷ ops) p q t keyed = absurd (cc)
+seq_after-any meaning (AsUnordered ∷ ops) p q t keyed = absurd (cc)
 
 -- what may stand at a position on the way through operators by key: the one item, open or the last; no item, and an
 -- ending; before position 0 no item
@@ -70,7 +70,7 @@ IsAt (negsuc k) (x ∷ xs) e = ⊥
 -- an operator makes of what stands at a position what is left of it there makes of it
 record IsPassedAt {L T : Type 0} (meaning : L → Meaning T) (op : Op L) (p : ℤ) (t : Trace T) : Type 0 where
   pub same : apply_at meaning op p t ≡ apply (stage_left meaning op (counted_off op - item_count p)) t
-  pub at : IsAt (position_behind op p) (apply_at meaning op p t).items (apply_at meaning op p t).ending
+  pub at : IsAt (position_after op p) (apply_at meaning op p t).items (apply_at meaning op p t).ending
 
 selected-at : {T : Type 0} (k : ℕ) (r : Result T ℕ) → IsAt (pos k) (followed (selected r) (open_trace [])).items (followed (selected r) (open_trace [])).ending
 selected-at k (Ok y) = tt
@@ -241,10 +241,10 @@ passed-skip {L} {T} meaning n (negsuc k) [] e at =
 passed-skip meaning n (negsuc k) (x ∷ xs) e at = absurd at
 
 fragment_at-passed : {L T : Type 0} (meaning : L → Meaning T) (op : Op L) (ops : List (Op L)) (p : ℤ) (t : Trace T) → IsPassedAt meaning op p t
-    → ((ys : List T) (o : Option Ending) → IsAt (position_behind op p) ys o → fragment_at meaning ops (position_behind op p) (trace_of ys o) ≡ seq (left_at meaning ops (position_behind op p)) (trace_of ys o))
+    → ((ys : List T) (o : Option Ending) → IsAt (position_after op p) ys o → fragment_at meaning ops (position_after op p) (trace_of ys o) ≡ seq (left_at meaning ops (position_after op p)) (trace_of ys o))
     → fragment_at meaning (op ∷ ops) p t ≡ seq (left_at meaning (op ∷ ops) p) t
 fragment_at-passed meaning op ops p t passed others =
-    others (apply_at meaning op p t).items (apply_at meaning op p t).ending passed.at ∙ ap (seq (left_at meaning ops (position_behind op p))) passed.same
+    others (apply_at meaning op p t).items (apply_at meaning op p t).ending passed.at ∙ ap (seq (left_at meaning ops (position_after op p))) passed.same
 
 -- the fragment of what stands at a position is what is left of the operators there makes of it
 pub fragment_at-keyed : {L T : Type 0} (meaning : L → Meaning T) (ops : List (Op L)) (p : ℤ) (xs : List T) (e : Option Ending)
@@ -272,68 +272,68 @@ item_count-next (pos k) (x ∷ y ∷ xs) at = absurd at
 item_count-next (negsuc k) [] at = item_count-difference 1 k ∙ (let none : 1 - suc k ≡ 0 + 0 = omega arith in none)
 item_count-next (negsuc k) (x ∷ xs) at = absurd at
 
-behind-at : {L T : Type 0} (meaning : L → Meaning T) (op : Op L) (p : ℤ) (xs : List T) → can_apply Position op ≡ true → IsAt p xs None
-    → behind (stage_left meaning op (counted_off op - item_count p)) xs ≡ stage_left meaning op (counted_off op - item_count (p +ℤ pos 1))
-behind-at meaning (Select f) p xs keyed at = refl
-behind-at meaning (Filter f) p xs keyed at = refl
-behind-at meaning (SelectMany f) p xs keyed at = refl
-behind-at meaning (Take n) p xs keyed at = let fewer : (item_count n - item_count p) - length xs ≡ item_count n - item_count (p +ℤ pos 1) = omega (arith, item_count-next p xs at) in ap taking fewer
-behind-at meaning (Skip n) p xs keyed at = let fewer : (item_count n - item_count p) - length xs ≡ item_count n - item_count (p +ℤ pos 1) = omega (arith, item_count-next p xs at) in ap skipping fewer
-behind-at meaning (TakeWhile f) p xs keyed at = refl
-behind-at meaning (SkipWhile f) p xs keyed at = absurd (cc)
-behind-at meaning AsUnordered p xs keyed at = refl
+after-at : {L T : Type 0} (meaning : L → Meaning T) (op : Op L) (p : ℤ) (xs : List T) → can_apply Position op ≡ true → IsAt p xs None
+    → stage_after (stage_left meaning op (counted_off op - item_count p)) xs ≡ stage_left meaning op (counted_off op - item_count (p +ℤ pos 1))
+after-at meaning (Select f) p xs keyed at = refl
+after-at meaning (Filter f) p xs keyed at = refl
+after-at meaning (SelectMany f) p xs keyed at = refl
+after-at meaning (Take n) p xs keyed at = let fewer : (item_count n - item_count p) - length xs ≡ item_count n - item_count (p +ℤ pos 1) = omega (arith, item_count-next p xs at) in ap taking fewer
+after-at meaning (Skip n) p xs keyed at = let fewer : (item_count n - item_count p) - length xs ≡ item_count n - item_count (p +ℤ pos 1) = omega (arith, item_count-next p xs at) in ap skipping fewer
+after-at meaning (TakeWhile f) p xs keyed at = refl
+after-at meaning (SkipWhile f) p xs keyed at = absurd (cc)
+after-at meaning AsUnordered p xs keyed at = refl
 
-position_behind-next : {L : Type 0} (op : Op L) (p : ℤ) → position_behind op p +ℤ pos 1 ≡ position_behind op (p +ℤ pos 1)
-position_behind-next (Select f) p = refl
-position_behind-next (Filter f) p = refl
-position_behind-next (SelectMany f) p = refl
-position_behind-next (Take n) p = refl
-position_behind-next (Skip n) p = omega (arith, ints)
-position_behind-next (TakeWhile f) p = refl
-position_behind-next (SkipWhile f) p = refl
-position_behind-next AsUnordered p = refl
+position_after-next : {L : Type 0} (op : Op L) (p : ℤ) → position_after op p +ℤ pos 1 ≡ position_after op (p +ℤ pos 1)
+position_after-next (Select f) p = refl
+position_after-next (Filter f) p = refl
+position_after-next (SelectMany f) p = refl
+position_after-next (Take n) p = refl
+position_after-next (Skip n) p = omega (arith, ints)
+position_after-next (TakeWhile f) p = refl
+position_after-next (SkipWhile f) p = refl
+position_after-next AsUnordered p = refl
 
-seq_behind-passed : {L T : Type 0} (meaning : L → Meaning T) (op : Op L) (ops : List (Op L)) (p : ℤ) (xs : List T) → can_apply Position op ≡ true → IsAt p xs None → IsPassedAt meaning op p (open_trace xs)
-    → ((ys : List T) (o : Option Ending) → IsAt (position_behind op p) ys o → (seq (left_at meaning ops (position_behind op p)) (trace_of ys o)).ending ≡ None
-    → seq_behind (left_at meaning ops (position_behind op p)) (trace_of ys o) ≡ left_at meaning ops (position_behind op p +ℤ pos 1))
-    → (seq (left_at meaning (op ∷ ops) p) (open_trace xs)).ending ≡ None → seq_behind (left_at meaning (op ∷ ops) p) (open_trace xs) ≡ left_at meaning (op ∷ ops) (p +ℤ pos 1)
-seq_behind-passed {L} {T} meaning op ops p xs applied at passed others is_open =
+seq_after-passed : {L T : Type 0} (meaning : L → Meaning T) (op : Op L) (ops : List (Op L)) (p : ℤ) (xs : List T) → can_apply Position op ≡ true → IsAt p xs None → IsPassedAt meaning op p (open_trace xs)
+    → ((ys : List T) (o : Option Ending) → IsAt (position_after op p) ys o → (seq (left_at meaning ops (position_after op p)) (trace_of ys o)).ending ≡ None
+    → seq_after (left_at meaning ops (position_after op p)) (trace_of ys o) ≡ left_at meaning ops (position_after op p +ℤ pos 1))
+    → (seq (left_at meaning (op ∷ ops) p) (open_trace xs)).ending ≡ None → seq_after (left_at meaning (op ∷ ops) p) (open_trace xs) ≡ left_at meaning (op ∷ ops) (p +ℤ pos 1)
+seq_after-passed {L} {T} meaning op ops p xs applied at passed others is_open =
     let t : Trace T = apply_at meaning op p (open_trace xs) in
-    let left : List (Stage T) = left_at meaning ops (position_behind op p) in
-    let first = behind-at meaning op p xs applied at in
-    let rest : seq_behind left (apply (stage_left meaning op (counted_off op - item_count p)) (open_trace xs)) ≡ left_at meaning ops (position_behind op (p +ℤ pos 1)) =
-    ap (seq_behind left) (sym passed.same)
+    let left : List (Stage T) = left_at meaning ops (position_after op p) in
+    let first = after-at meaning op p xs applied at in
+    let rest : seq_after left (apply (stage_left meaning op (counted_off op - item_count p)) (open_trace xs)) ≡ left_at meaning ops (position_after op (p +ℤ pos 1)) =
+    ap (seq_after left) (sym passed.same)
     ∙ others t.items t.ending passed.at (ap (λ u. (seq left u).ending) passed.same ∙ is_open)
-    ∙ ap (left_at meaning ops) (position_behind-next op p) in
+    ∙ ap (left_at meaning ops) (position_after-next op p) in
     cc
 
 -- an operator after which positions aren't known
-seq_behind-first : {L T : Type 0} (meaning : L → Meaning T) (op : Op L) (ops : List (Op L)) (p : ℤ) (xs : List T) → can_apply Position op ≡ true → IsAt p xs None → is_by_key_from Key ops ≡ true
-    → seq_behind (left_at meaning (op ∷ ops) p) (open_trace xs) ≡ left_at meaning (op ∷ ops) (p +ℤ pos 1)
-seq_behind-first meaning op ops p xs applied at keyed =
-    let first = behind-at meaning op p xs applied at in
-    let rest = seq_behind-any meaning ops (position_behind op p) (position_behind op (p +ℤ pos 1)) (apply (stage_left meaning op (counted_off op - item_count p)) (open_trace xs)) keyed in
+seq_after-first : {L T : Type 0} (meaning : L → Meaning T) (op : Op L) (ops : List (Op L)) (p : ℤ) (xs : List T) → can_apply Position op ≡ true → IsAt p xs None → is_by_key_from Key ops ≡ true
+    → seq_after (left_at meaning (op ∷ ops) p) (open_trace xs) ≡ left_at meaning (op ∷ ops) (p +ℤ pos 1)
+seq_after-first meaning op ops p xs applied at keyed =
+    let first = after-at meaning op p xs applied at in
+    let rest = seq_after-any meaning ops (position_after op p) (position_after op (p +ℤ pos 1)) (apply (stage_left meaning op (counted_off op - item_count p)) (open_trace xs)) keyed in
     cc
 
 -- where what stands at a position leaves the run open, what is left of the operators then is what is left at the next
-pub seq_behind-keyed : {L T : Type 0} (meaning : L → Meaning T) (ops : List (Op L)) (p : ℤ) (xs : List T) (e : Option Ending)
+pub seq_after-keyed : {L T : Type 0} (meaning : L → Meaning T) (ops : List (Op L)) (p : ℤ) (xs : List T) (e : Option Ending)
     → is_by_key ops ≡ true → list_any is_empty_take ops ≡ false → IsAt p xs e → (seq (left_at meaning ops p) (trace_of xs e)).ending ≡ None
-    → seq_behind (left_at meaning ops p) (trace_of xs e) ≡ left_at meaning ops (p +ℤ pos 1)
-seq_behind-keyed meaning ops p xs (Some f) keyed some at is_open = absurd (let bad : Some f ≡ None = open-from_seq (left_at meaning ops p) (ended xs f) is_open in cc)
-seq_behind-keyed meaning [] p xs None keyed some at is_open = refl
-seq_behind-keyed meaning (Select f ∷ ops) p xs None keyed some at is_open =
-    seq_behind-passed meaning (Select f) ops p xs refl at (passed-select meaning f p xs None at) (λ ys o. seq_behind-keyed meaning ops p ys o keyed some) is_open
-seq_behind-keyed meaning (Filter f ∷ ops) p xs None keyed some at is_open = seq_behind-first meaning (Filter f) ops p xs refl at keyed
-seq_behind-keyed meaning (SelectMany f ∷ ops) p xs None keyed some at is_open = seq_behind-first meaning (SelectMany f) ops p xs refl at keyed
-seq_behind-keyed meaning (Take n ∷ ops) p xs None keyed some at is_open =
+    → seq_after (left_at meaning ops p) (trace_of xs e) ≡ left_at meaning ops (p +ℤ pos 1)
+seq_after-keyed meaning ops p xs (Some f) keyed some at is_open = absurd (let bad : Some f ≡ None = open-from_seq (left_at meaning ops p) (ended xs f) is_open in cc)
+seq_after-keyed meaning [] p xs None keyed some at is_open = refl
+seq_after-keyed meaning (Select f ∷ ops) p xs None keyed some at is_open =
+    seq_after-passed meaning (Select f) ops p xs refl at (passed-select meaning f p xs None at) (λ ys o. seq_after-keyed meaning ops p ys o keyed some) is_open
+seq_after-keyed meaning (Filter f ∷ ops) p xs None keyed some at is_open = seq_after-first meaning (Filter f) ops p xs refl at keyed
+seq_after-keyed meaning (SelectMany f ∷ ops) p xs None keyed some at is_open = seq_after-first meaning (SelectMany f) ops p xs refl at keyed
+seq_after-keyed meaning (Take n ∷ ops) p xs None keyed some at is_open =
     let none = or_parts _ _ some in
-    seq_behind-passed meaning (Take n) ops p xs refl at (passed-take meaning n p xs None none.0 at) (λ ys o. seq_behind-keyed meaning ops p ys o keyed none.1) is_open
-seq_behind-keyed meaning (Skip n ∷ ops) p xs None keyed some at is_open =
-    seq_behind-passed meaning (Skip n) ops p xs refl at (passed-skip meaning n p xs None at) (λ ys o. seq_behind-keyed meaning ops (p -ℤ pos (item_count n)) ys o keyed some) is_open
-seq_behind-keyed meaning (TakeWhile f ∷ ops) p xs None keyed some at is_open =
-    seq_behind-passed meaning (TakeWhile f) ops p xs refl at (passed-take_while meaning f p xs None at) (λ ys o. seq_behind-keyed meaning ops p ys o keyed some) is_open
-seq_behind-keyed meaning (SkipWhile f ∷ ops) p xs None keyed some at is_open = absurd (cc)
-seq_behind-keyed meaning (AsUnordered ∷ ops) p xs None keyed some at is_open = absurd (cc)
+    seq_after-passed meaning (Take n) ops p xs refl at (passed-take meaning n p xs None none.0 at) (λ ys o. seq_after-keyed meaning ops p ys o keyed none.1) is_open
+seq_after-keyed meaning (Skip n ∷ ops) p xs None keyed some at is_open =
+    seq_after-passed meaning (Skip n) ops p xs refl at (passed-skip meaning n p xs None at) (λ ys o. seq_after-keyed meaning ops (p -ℤ pos (item_count n)) ys o keyed some) is_open
+seq_after-keyed meaning (TakeWhile f ∷ ops) p xs None keyed some at is_open =
+    seq_after-passed meaning (TakeWhile f) ops p xs refl at (passed-take_while meaning f p xs None at) (λ ys o. seq_after-keyed meaning ops p ys o keyed some) is_open
+seq_after-keyed meaning (SkipWhile f ∷ ops) p xs None keyed some at is_open = absurd (cc)
+seq_after-keyed meaning (AsUnordered ∷ ops) p xs None keyed some at is_open = absurd (cc)
 
 -- the element of a key gives its fragment
 pub fragment_of-keyed : {L T : Type 0} (meaning : L → Meaning T) (ops : List (Op L)) (key : ℕ) (x : T) → is_by_key ops ≡ true → list_any is_empty_take ops ≡ false
@@ -343,25 +343,25 @@ fragment_of-keyed meaning ops key x keyed some = fragment_at-keyed meaning ops (
 -- and leaves after it what is left at the next key
 pub left_at-next : {L T : Type 0} (meaning : L → Meaning T) (ops : List (Op L)) (key : ℕ) (x : T) → is_by_key ops ≡ true → list_any is_empty_take ops ≡ false
     → (seq (left_at meaning ops (pos key)) (open_trace (x ∷ []))).ending ≡ None
-    → seq_behind (left_at meaning ops (pos key)) (open_trace (x ∷ [])) ≡ left_at meaning ops (pos (key + 1))
-left_at-next meaning ops key x keyed some is_open = seq_behind-keyed meaning ops (pos key) (x ∷ []) None keyed some tt is_open
+    → seq_after (left_at meaning ops (pos key)) (open_trace (x ∷ [])) ≡ left_at meaning ops (pos (key + 1))
+left_at-next meaning ops key x keyed some is_open = seq_after-keyed meaning ops (pos key) (x ∷ []) None keyed some tt is_open
 
-item_count-behind : {L : Type 0} (op : Op L) (p : ℤ) → passed_on op (item_count p) ≡ item_count (position_behind op p)
-item_count-behind (Select f) p = refl
-item_count-behind (Filter f) p = refl
-item_count-behind (SelectMany f) p = refl
-item_count-behind (Take n) p = refl
-item_count-behind (Skip n) p = sym (item_count-less p (item_count n))
-item_count-behind (TakeWhile f) p = refl
-item_count-behind (SkipWhile f) p = refl
-item_count-behind AsUnordered p = refl
+item_count-after : {L : Type 0} (op : Op L) (p : ℤ) → passed_on op (item_count p) ≡ item_count (position_after op p)
+item_count-after (Select f) p = refl
+item_count-after (Filter f) p = refl
+item_count-after (SelectMany f) p = refl
+item_count-after (Take n) p = refl
+item_count-after (Skip n) p = sym (item_count-less p (item_count n))
+item_count-after (TakeWhile f) p = refl
+item_count-after (SkipWhile f) p = refl
+item_count-after AsUnordered p = refl
 
 -- what is left once so many elements have reached the operators is what is left at the position of the next
 pub stages_at-position : {L T : Type 0} (meaning : L → Meaning T) (ops : List (Op L)) (p : ℤ) → stages_at meaning ops (item_count p) ≡ left_at meaning ops p
 stages_at-position meaning [] p = refl
 stages_at-position meaning (op ∷ ops) p =
     ap (λ rest. stage_left meaning op (counted_off op - item_count p) ∷ rest)
-    (ap (stages_at meaning ops) (item_count-behind op p) ∙ stages_at-position meaning ops (position_behind op p))
+    (ap (stages_at meaning ops) (item_count-after op p) ∙ stages_at-position meaning ops (position_after op p))
 
 passed_on-none : {L : Type 0} (op : Op L) (n : ℕ) → n ≡ 0 → passed_on op n ≡ 0
 passed_on-none (Select f) n none = none

@@ -13,13 +13,13 @@ use Rattle.plinq_ops.specs.declared.op.Op.{Op}
 use Rattle.plinq_ops.specs.declared.frag_end.FragEnd.{FragEnd}
 use Rattle.plinq_ops.specs.declared.frag_end.FragEnd.TheVariants.{End as EndsHere, Dropped}
 use Rattle.plinq_ops.specs.declared.fragments.Fragment.{Fragment}
-use Rattle.plinq_ops.specs.Stage.{Stage, seq, seq_behind, some_takes_none}
+use Rattle.plinq_ops.specs.Stage.{Stage, seq, seq_after, some_takes_none}
 use Rattle.plinq_ops.specs.Feeding.{is_empty_take, IsFed}
 use Rattle.plinq_ops.specs.ByKey.{is_by_key, left_at}
 use Rattle.plinq_ops.specs.Pipeline.{PipelineView, IsReached, stages}
 use Rattle.plinq_ops.specs.Fragment.{fragment_of, glued}
-use Rattle.plinq_ops.specs.Chunk.{IsWorkerEnding, IsToldBy, IsFragment, IsStop, ChunkAnswer, no_more, dropped_at, before_answer, chunk_answer, stop_over, BehindItems}
-use Rattle.plinq_ops.proofs.Open.{open-from_continued, open_behind, items-continued}
+use Rattle.plinq_ops.specs.Chunk.{IsWorkerEnding, IsToldBy, IsFragment, IsStop, ChunkAnswer, no_more, dropped_at, before_answer, chunk_answer, stop_over, AfterItems}
+use Rattle.plinq_ops.proofs.Open.{open-from_continued, open_after, items-continued}
 use Rattle.plinq_ops.proofs.Answered.{answer-of_none}
 use Rattle.plinq_ops.proofs.ByKey.{fragment_of-keyed, left_at-next, stages-reached}
 use Rattle.plinq_ops.proofs.Glue.{glued-keyed}
@@ -44,7 +44,7 @@ fed-fragment {L} {T} meaning worker key x before after ss ss' ending is keyed so
       items = fed.items ∙ ap (λ u. before ++ u.items) same;
       told = fed.told ∙ ap (λ u. u.ending) same;
       sound = rw told sound;
-      left = λ goes_on. fed.left goes_on ∙ ap (λ stages. seq_behind stages t) is ∙ left_at-next meaning worker key x keyed some (sym told ∙ goes_on);
+      left = λ goes_on. fed.left goes_on ∙ ap (λ stages. seq_after stages t) is ∙ left_at-next meaning worker key x keyed some (sym told ∙ goes_on);
     }
 
 -- where a Take has none left at a key, the run ends there
@@ -69,11 +69,11 @@ chunk_answer-above : {L T : Type 0} (meaning : L → Meaning T) (worker : List (
 chunk_answer-above meaning worker cut key x xs above = rw (le-leb (suc cut) key (omega arith))
 
 -- there the rest is dropped
-pub behind-dropped : {L T : Type 0} (meaning : L → Meaning T) (worker : List (Op L)) (cut key : ℕ) (x : T) (xs before out : List T) (all : ChunkAnswer T) → cut < key
-    → BehindItems before out (chunk_answer meaning worker cut key (x ∷ xs)) all → (out ≡ before ++ all.trace.items) × (all.stop ≡ Some key) × (all.dropped ≡ true)
-behind-dropped meaning worker cut key x xs before out all above behind =
+pub after-dropped : {L T : Type 0} (meaning : L → Meaning T) (worker : List (Op L)) (cut key : ℕ) (x : T) (xs before out : List T) (all : ChunkAnswer T) → cut < key
+    → AfterItems before out (chunk_answer meaning worker cut key (x ∷ xs)) all → (out ≡ before ++ all.trace.items) × (all.stop ≡ Some key) × (all.dropped ≡ true)
+after-dropped meaning worker cut key x xs before out all above past =
     let here = chunk_answer-above meaning worker cut key x xs above in
-    (sym (behind.items ∙ ap (λ a. out ++ a.trace.items) here ∙ append-nil out), behind.stop ∙ ap (λ a. a.stop) here, behind.dropped ∙ ap (λ a. a.dropped) here)
+    (sym (past.items ∙ ap (λ a. out ++ a.trace.items) here ∙ append-nil out), past.stop ∙ ap (λ a. a.stop) here, past.dropped ∙ ap (λ a. a.dropped) here)
 
 -- a chunk that begins where a Take has none left
 pub stop-over : {L T : Type 0} (meaning : L → Meaning T) (worker : List (Op L)) (cut key : ℕ) (xs : List T) → is_by_key worker ≡ true → list_any is_empty_take worker ≡ false
@@ -95,25 +95,25 @@ stop-over {L} {T} meaning worker cut key (x ∷ xs) keyed some over =
     ])
 
 -- also where no more is known of the items than that there are some
-pub behind-rest_dropped : {L T : Type 0} (meaning : L → Meaning T) (worker : List (Op L)) (cut key : ℕ) (xs before out : List T) (all : ChunkAnswer T) → 0 < length xs → cut < key
-    → BehindItems before out (chunk_answer meaning worker cut key xs) all → (out ≡ before ++ all.trace.items) × (all.stop ≡ Some key) × (all.dropped ≡ true)
-behind-rest_dropped meaning worker cut key [] before out all some above behind = absurd (omega arith)
-behind-rest_dropped meaning worker cut key (x ∷ xs) before out all some above behind = behind-dropped meaning worker cut key x xs before out all above behind
+pub after-rest_dropped : {L T : Type 0} (meaning : L → Meaning T) (worker : List (Op L)) (cut key : ℕ) (xs before out : List T) (all : ChunkAnswer T) → 0 < length xs → cut < key
+    → AfterItems before out (chunk_answer meaning worker cut key xs) all → (out ≡ before ++ all.trace.items) × (all.stop ≡ Some key) × (all.dropped ≡ true)
+after-rest_dropped meaning worker cut key [] before out all some above past = absurd (omega arith)
+after-rest_dropped meaning worker cut key (x ∷ xs) before out all some above past = after-dropped meaning worker cut key x xs before out all above past
 
 -- the items that the cut reaches leave the run open: the rest stands after what they give
-pub behind-open : {L T : Type 0} (meaning : L → Meaning T) (worker : List (Op L)) (cut key next : ℕ) (xs ys : List T) → next ≡ key + length xs → (0 < length xs → next ≤ cut + 1)
-    → (glued meaning worker key xs None).ending ≡ None → BehindItems [] (glued meaning worker key xs None).items (chunk_answer meaning worker cut next ys) (chunk_answer meaning worker cut key (xs ++ ys))
-behind-open meaning worker cut key next [] ys is within is_open =
+pub after-open : {L T : Type 0} (meaning : L → Meaning T) (worker : List (Op L)) (cut key next : ℕ) (xs ys : List T) → next ≡ key + length xs → (0 < length xs → next ≤ cut + 1)
+    → (glued meaning worker key xs None).ending ≡ None → AfterItems [] (glued meaning worker key xs None).items (chunk_answer meaning worker cut next ys) (chunk_answer meaning worker cut key (xs ++ ys))
+after-open meaning worker cut key next [] ys is within is_open =
     let same : next ≡ key = is ∙ (let e : key + 0 ≡ key = omega arith in e) in
     rw same (record { items = refl; ending = refl; dropped = refl; stop = refl })
-behind-open {L} {T} meaning worker cut key next (x ∷ xs) ys is within is_open =
+after-open {L} {T} meaning worker cut key next (x ∷ xs) ys is within is_open =
     let f : Trace T = fragment_of meaning worker key x in
     let g : Trace T = glued meaning worker (key + 1) xs None in
     let a : ChunkAnswer T = chunk_answer meaning worker cut (key + 1) (xs ++ ys) in
     let rest : ChunkAnswer T = chunk_answer meaning worker cut next ys in
     let reaches : next ≤ cut + 1 = within (omega arith) in
     let first_open : f.ending ≡ None = open-from_continued f.items f.ending g is_open in
-    let others : BehindItems [] g.items rest a = behind-open meaning worker cut (key + 1) next xs ys (omega (arith, is)) (λ some. reaches) (open_behind f.items f.ending g first_open is_open) in
+    let others : AfterItems [] g.items rest a = after-open meaning worker cut (key + 1) next xs ys (omega (arith, is)) (λ some. reaches) (open_after f.items f.ending g first_open is_open) in
     let here : chunk_answer meaning worker cut key (x ∷ (xs ++ ys)) ≡ before_answer key f.items None a =
     chunk_answer-cons meaning worker cut key x (xs ++ ys) (omega (arith, is, reaches)) ∙ ap (λ e. before_answer key f.items e a) first_open in
     let out : (followed f g).items ≡ f.items ++ g.items = items-continued f.items f.ending g first_open in
@@ -125,11 +125,11 @@ behind-open {L} {T} meaning worker cut key next (x ∷ xs) ys is within is_open 
     }
 
 -- so it is where as many items as the cut reaches were fed as a block, and left the run open
-pub behind-block : {L T : Type 0} (meaning : L → Meaning T) (worker : List (Op L)) (cut key n : ℕ) (items block filled out : List T) (p : PipelineView L) (ss' : List (Stage T)) → is_by_key worker ≡ true → list_any is_empty_take worker ≡ false
+pub after-block : {L T : Type 0} (meaning : L → Meaning T) (worker : List (Op L)) (cut key n : ℕ) (items block filled out : List T) (p : PipelineView L) (ss' : List (Stage T)) → is_by_key worker ≡ true → list_any is_empty_take worker ≡ false
     → n ≤ length items → (0 < n → key + n ≤ cut + 1) → block ≡ take n items → filled ≡ block → IsReached meaning worker key p → some_takes_none (stages meaning p) ≡ false
     → IsFed (stages meaning p) (open_trace filled) [] out ss' None
-    → BehindItems [] out (chunk_answer meaning worker cut (key + n) (drop n items)) (chunk_answer meaning worker cut key items)
-behind-block {L} {T} meaning worker cut key n items block filled out p ss' keyed some most within front copied reached undecided fed =
+    → AfterItems [] out (chunk_answer meaning worker cut (key + n) (drop n items)) (chunk_answer meaning worker cut key items)
+after-block {L} {T} meaning worker cut key n items block filled out p ss' keyed some most within front copied reached undecided fed =
     let ss : List (Stage T) = stages meaning p in
     let xs : List T = take n items in
     let begins : ss ≡ left_at meaning worker (pos key) = stages-reached meaning worker key p reached in
@@ -137,32 +137,32 @@ behind-block {L} {T} meaning worker cut key n items block filled out p ss' keyed
     glued-keyed meaning worker key xs None keyed some (ap some_takes_none (sym begins) ∙ undecided) ∙ ap (λ stages. seq stages (open_trace xs)) (sym begins) ∙ ap (λ zs. seq ss (open_trace zs)) (sym (copied ∙ front)) in
     let gives : (glued meaning worker key xs None).items ≡ out = ap (λ t. t.items) same ∙ sym fed.items in
     let long : length xs ≡ n = length-take-le n items most in
-    let behind = behind-open meaning worker cut key (key + n) xs (drop n items) (omega (arith, long)) (λ some. within (omega (arith, long))) (ap (λ t. t.ending) same ∙ sym fed.told) in
-    rw (gives, take-append-drop) at behind
+    let past = after-open meaning worker cut key (key + n) xs (drop n items) (omega (arith, long)) (λ some. within (omega (arith, long))) (ap (λ t. t.ending) same ∙ sym fed.told) in
+    rw (gives, take-append-drop) at past
 
 -- no item is left
-pub behind-none : {L T : Type 0} (meaning : L → Meaning T) (worker : List (Op L)) (cut next : ℕ) (ys before out : List T) (all : ChunkAnswer T) → ys ≡ []
-    → BehindItems before out (chunk_answer meaning worker cut next ys) all → (out ≡ before ++ all.trace.items) × IsStop all None
-behind-none meaning worker cut next ys before out all none behind =
+pub after-none : {L T : Type 0} (meaning : L → Meaning T) (worker : List (Op L)) (cut next : ℕ) (ys before out : List T) (all : ChunkAnswer T) → ys ≡ []
+    → AfterItems before out (chunk_answer meaning worker cut next ys) all → (out ≡ before ++ all.trace.items) × IsStop all None
+after-none meaning worker cut next ys before out all none past =
     let here : chunk_answer meaning worker cut next ys ≡ no_more = ap (chunk_answer meaning worker cut next) none in (
-      sym (behind.items ∙ ap (λ a. out ++ a.trace.items) here ∙ append-nil out),
-      (behind.stop ∙ ap (λ a. a.stop) here, behind.dropped ∙ ap (λ a. a.dropped) here, behind.ending ∙ ap (λ a. a.trace.ending) here),
+      sym (past.items ∙ ap (λ a. out ++ a.trace.items) here ∙ append-nil out),
+      (past.stop ∙ ap (λ a. a.stop) here, past.dropped ∙ ap (λ a. a.dropped) here, past.ending ∙ ap (λ a. a.trace.ending) here),
     )
 
 -- the fragment leaves the run open: it stands with the items before
-pub behind-more : {L T : Type 0} (meaning : L → Meaning T) (worker : List (Op L)) (cut key : ℕ) (x : T) (xs before out out' : List T) (all : ChunkAnswer T) (ss : List (Stage T)) → key ≤ cut
-    → BehindItems before out (chunk_answer meaning worker cut key (x ∷ xs)) all → IsFragmentFed meaning worker key x out out' ss None
-    → BehindItems before out' (chunk_answer meaning worker cut (key + 1) xs) all
-behind-more {L} {T} meaning worker cut key x xs before out out' all ss within behind fed =
+pub after-more : {L T : Type 0} (meaning : L → Meaning T) (worker : List (Op L)) (cut key : ℕ) (x : T) (xs before out out' : List T) (all : ChunkAnswer T) (ss : List (Stage T)) → key ≤ cut
+    → AfterItems before out (chunk_answer meaning worker cut key (x ∷ xs)) all → IsFragmentFed meaning worker key x out out' ss None
+    → AfterItems before out' (chunk_answer meaning worker cut (key + 1) xs) all
+after-more {L} {T} meaning worker cut key x xs before out out' all ss within past fed =
     let f : Trace T = fragment_of meaning worker key x in
     let rest : ChunkAnswer T = chunk_answer meaning worker cut (key + 1) xs in
     let here : chunk_answer meaning worker cut key (x ∷ xs) ≡ before_answer key f.items None rest =
     chunk_answer-cons meaning worker cut key x xs within ∙ ap (λ e. before_answer key f.items e rest) (sym fed.told) in
     record {
-      items = behind.items ∙ ap (λ a. out ++ a.trace.items) here ∙ sym (append_assoc out f.items rest.trace.items) ∙ ap (λ zs. zs ++ rest.trace.items) (sym fed.items);
-      ending = behind.ending ∙ ap (λ a. a.trace.ending) here;
-      dropped = behind.dropped ∙ ap (λ a. a.dropped) here;
-      stop = behind.stop ∙ ap (λ a. a.stop) here;
+      items = past.items ∙ ap (λ a. out ++ a.trace.items) here ∙ sym (append_assoc out f.items rest.trace.items) ∙ ap (λ zs. zs ++ rest.trace.items) (sym fed.items);
+      ending = past.ending ∙ ap (λ a. a.trace.ending) here;
+      dropped = past.dropped ∙ ap (λ a. a.dropped) here;
+      stop = past.stop ∙ ap (λ a. a.stop) here;
     }
 
 -- the fragment ends the run: the answer is what is out then
@@ -172,20 +172,20 @@ pub record IsStoppedBy {T : Type 0} (key : ℕ) (before out : List T) (ending : 
   pub dropped : all.dropped ≡ false
   pub stop : all.stop ≡ Some key
 
-pub behind-stop : {L T : Type 0} (meaning : L → Meaning T) (worker : List (Op L)) (cut key : ℕ) (x : T) (xs before out out' : List T) (all : ChunkAnswer T) (ss : List (Stage T)) (ending : Option Ending)
-    → key ≤ cut → is_some ending ≡ true → BehindItems before out (chunk_answer meaning worker cut key (x ∷ xs)) all → IsFragmentFed meaning worker key x out out' ss ending
+pub after-stop : {L T : Type 0} (meaning : L → Meaning T) (worker : List (Op L)) (cut key : ℕ) (x : T) (xs before out out' : List T) (all : ChunkAnswer T) (ss : List (Stage T)) (ending : Option Ending)
+    → key ≤ cut → is_some ending ≡ true → AfterItems before out (chunk_answer meaning worker cut key (x ∷ xs)) all → IsFragmentFed meaning worker key x out out' ss ending
     → IsStoppedBy key before out' ending all
-behind-stop meaning worker cut key x xs before out out' all ss None within ends behind fed = absurd (let bad : false ≡ true = ends in cc)
-behind-stop {L} {T} meaning worker cut key x xs before out out' all ss (Some e) within ends behind fed =
+after-stop meaning worker cut key x xs before out out' all ss None within ends past fed = absurd (let bad : false ≡ true = ends in cc)
+after-stop {L} {T} meaning worker cut key x xs before out out' all ss (Some e) within ends past fed =
     let f : Trace T = fragment_of meaning worker key x in
     let rest : ChunkAnswer T = chunk_answer meaning worker cut (key + 1) xs in
     let here : chunk_answer meaning worker cut key (x ∷ xs) ≡ before_answer key f.items (Some e) rest =
     chunk_answer-cons meaning worker cut key x xs within ∙ ap (λ o. before_answer key f.items o rest) (sym fed.told) in
     record {
-      items = fed.items ∙ sym (behind.items ∙ ap (λ a. out ++ a.trace.items) here);
-      ends = behind.ending ∙ ap (λ a. a.trace.ending) here;
-      dropped = behind.dropped ∙ ap (λ a. a.dropped) here;
-      stop = behind.stop ∙ ap (λ a. a.stop) here;
+      items = fed.items ∙ sym (past.items ∙ ap (λ a. out ++ a.trace.items) here);
+      ends = past.ending ∙ ap (λ a. a.trace.ending) here;
+      dropped = past.dropped ∙ ap (λ a. a.dropped) here;
+      stop = past.stop ∙ ap (λ a. a.stop) here;
     }
 
 -- it is reported so

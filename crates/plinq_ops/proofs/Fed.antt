@@ -5,10 +5,10 @@ use Rattle.std.proofs.Common.{sym, ◌∙◌, ap, append-nil, append_assoc}
 use Rattle.plinq_source.specs.declared.ending.Ending.{Ending}
 use Rattle.plinq_source.specs.Trace.{Trace, open_trace, ended, continued, followed}
 use Rattle.plinq_source.proofs.Followed.{trace_of, followed-ended, followed-open_nil}
-use Rattle.plinq_ops.specs.Stage.{Stage, pieces, apply, seq, behind, seq_behind, some_takes_none}
+use Rattle.plinq_ops.specs.Stage.{Stage, pieces, apply, seq, stage_after, seq_after, some_takes_none}
 use Rattle.plinq_ops.specs.Feeding.{IsFed}
 use Rattle.plinq_ops.proofs.Stages.{seq-followed}
-use Rattle.plinq_ops.proofs.Open.{seq-nothing, seq_behind-nothing, seq_behind-followed, seq-ending_of_open, some-where_open, seq_behind-open}
+use Rattle.plinq_ops.proofs.Open.{seq-nothing, seq_after-nothing, seq_after-followed, seq-ending_of_open, some-where_open, seq_after-open}
 
 -- a trace that ends with no item
 pub fed-ending : {T : Type 0} (ss ss' : List (Stage T)) (out : List T) (e : Ending) → some_takes_none ss ≡ false → IsFed ss (ended [] e) out out ss' (Some e)
@@ -21,14 +21,14 @@ fed-ending ss ss' out e undecided =
 
 -- the operators but the first see this trace in the place of the items
 pub fed-through : {T : Type 0} (s s' : Stage T) (xs : List T) (t : Trace T) (ss ss' : List (Stage T)) (before after : List T) (e : Option Ending)
-    → apply s (open_trace xs) ≡ t → behind s xs ≡ s' → IsFed ss t before after ss' e
+    → apply s (open_trace xs) ≡ t → stage_after s xs ≡ s' → IsFed ss t before after ss' e
     → IsFed (s ∷ ss) (open_trace xs) before after (s' ∷ ss') e
 fed-through s s' xs t ss ss' before after e is rest fed =
     record {
       items = fed.items ∙ ap (λ u. before ++ (seq ss u).items) (sym is);
       told = fed.told ∙ ap (λ u. (seq ss u).ending) (sym is);
       left = λ goes_on.
-          let others : ss' ≡ seq_behind ss (apply s (open_trace xs)) = fed.left goes_on ∙ ap (seq_behind ss) (sym is) in
+          let others : ss' ≡ seq_after ss (apply s (open_trace xs)) = fed.left goes_on ∙ ap (seq_after ss) (sym is) in
           cc;
     }
 
@@ -38,7 +38,7 @@ fed-none ss out undecided =
     record {
       items = sym (append-nil out) ∙ ap (λ t. out ++ t.items) (sym (seq-nothing ss None undecided));
       told = ap (λ t. t.ending) (sym (seq-nothing ss None undecided));
-      left = λ e. sym (seq_behind-nothing ss undecided);
+      left = λ e. sym (seq_after-nothing ss undecided);
     }
 
 -- what is fed after a trace that left the run open
@@ -53,13 +53,13 @@ fed-followed {T} ss ss' ss'' a b before between after e first second =
     record {
       items = second.items ∙ ap (λ zs. zs ++ (seq ss' b).items) first.items ∙ append_assoc before _ _ ∙ ap (λ t. before ++ t.items) (sym through);
       told = second.told ∙ ap (λ t. t.ending) (sym through);
-      left = λ goes_on. second.left goes_on ∙ ap (λ left. seq_behind left b) (first.left refl) ∙ sym (seq_behind-followed ss a b is_open);
+      left = λ goes_on. second.left goes_on ∙ ap (λ left. seq_after left b) (first.left refl) ∙ sym (seq_after-followed ss a b is_open);
     }
 
 -- operators that left the run open have no Take of none
 pub undecided-left : {T : Type 0} (ss ss' : List (Stage T)) (a : Trace T) (before after : List T) → IsFed ss a before after ss' None → some_takes_none ss' ≡ false
 undecided-left ss ss' a before after fed =
-    ap some_takes_none (fed.left refl) ∙ some-where_open (seq_behind ss a) (seq_behind-open ss a (sym fed.told))
+    ap some_takes_none (fed.left refl) ∙ some-where_open (seq_after ss a) (seq_after-open ss a (sym fed.told))
 
 -- the items end so: an operator that ended the run before has the last word
 pub fed-told : {T : Type 0} (xs : List T) (told : Option Ending) (ss ss' : List (Stage T)) (before after : List T) (e : Option Ending)
@@ -78,7 +78,7 @@ fed-told {T} xs (Some f) ss ss' before after None fed =
 fed-told {T} xs (Some f) ss ss' before after (Some g) fed =
     let whole : ended (xs ++ []) f ≡ ended xs f = ap (λ zs. ended zs f) (append-nil xs) in
     let answer : seq ss (ended xs f) ≡ seq ss (open_trace xs) =
-    ap (seq ss) (sym whole) ∙ seq-followed ss (open_trace xs) (ended [] f) ∙ followed-ended (seq ss (open_trace xs)) (seq (seq_behind ss (open_trace xs)) (ended [] f)) g (sym fed.told) in
+    ap (seq ss) (sym whole) ∙ seq-followed ss (open_trace xs) (ended [] f) ∙ followed-ended (seq ss (open_trace xs)) (seq (seq_after ss (open_trace xs)) (ended [] f)) g (sym fed.told) in
     record {
       items = fed.items ∙ ap (λ u. before ++ u.items) (sym answer);
       told = fed.told ∙ ap (λ u. u.ending) (sym answer);
@@ -90,7 +90,7 @@ pub fed-ended_before : {T : Type 0} (ss ss' ss'' : List (Stage T)) (a b : Trace 
     → IsFed ss a before after ss' e → IsFed ss (followed a b) before after ss'' e
 fed-ended_before {T} ss ss' ss'' a b before after None ends fed = absurd (let bad : false ≡ true = ends in cc)
 fed-ended_before {T} ss ss' ss'' a b before after (Some e) ends fed =
-    let same : seq ss (followed a b) ≡ seq ss a = seq-followed ss a b ∙ followed-ended (seq ss a) (seq (seq_behind ss a) b) e (sym fed.told) in
+    let same : seq ss (followed a b) ≡ seq ss a = seq-followed ss a b ∙ followed-ended (seq ss a) (seq (seq_after ss a) b) e (sym fed.told) in
     record {
       items = fed.items ∙ ap (λ t. before ++ t.items) (sym same);
       told = fed.told ∙ ap (λ t. t.ending) (sym same);

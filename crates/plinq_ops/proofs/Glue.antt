@@ -8,7 +8,7 @@ use Rattle.plinq_source.specs.Trace.{Trace, open_trace, followed, continued}
 use Rattle.plinq_source.proofs.Followed.{trace_of, followed-ended, followed-followed}
 use Rattle.plinq_lambda.specs.Meaning.{Meaning}
 use Rattle.plinq_ops.specs.declared.op.Op.{Op}
-use Rattle.plinq_ops.specs.Stage.{Stage, apply, seq, seq_behind, some_takes_none}
+use Rattle.plinq_ops.specs.Stage.{Stage, apply, seq, seq_after, some_takes_none}
 use Rattle.plinq_ops.specs.Operator.{stage_of, stages_of}
 use Rattle.plinq_ops.specs.Sequential.{answer_of}
 use Rattle.plinq_ops.specs.declared.order.Order.{Order}
@@ -18,7 +18,7 @@ use Rattle.plinq_ops.specs.Plan.{known_at_source, worker_part, after_part}
 use Rattle.plinq_ops.specs.Fragment.{fragment_of, glued, glue}
 use Rattle.plinq_ops.specs.Chunk.{ChunkAnswer, before_answer, chunk_answer}
 use Rattle.plinq_ops.proofs.Stages.{seq-followed}
-use Rattle.plinq_ops.proofs.Open.{none-or_ending, seq-nothing, some-where_open, seq_behind-open}
+use Rattle.plinq_ops.proofs.Open.{none-or_ending, seq-nothing, some-where_open, seq_after-open}
 use Rattle.plinq_ops.proofs.Counts.{some_takes_none-stages_of}
 use Rattle.plinq_ops.proofs.Parts.{worker-after, worker_part-by_key, parts-undecided}
 use Rattle.plinq_ops.proofs.ByKey.{fragment_of-keyed, left_at-next, left_at-start}
@@ -30,13 +30,13 @@ glued-keyed meaning worker key [] e keyed some undecided = sym (seq-nothing (lef
 glued-keyed {L} {T} meaning worker key (x ∷ xs) e keyed some undecided =
     let ss : List (Stage T) = left_at meaning worker (pos key) in
     let first : Trace T = seq ss (open_trace (x ∷ [])) in
-    let rest : Trace T = seq (seq_behind ss (open_trace (x ∷ []))) (trace_of xs e) in
+    let rest : Trace T = seq (seq_after ss (open_trace (x ∷ []))) (trace_of xs e) in
     let others : followed first (glued meaning worker (key + 1) xs e) ≡ followed first rest =
     elim (none-or_ending first.ending) [
       | inl is_open ↦
           let next = left_at-next meaning worker key x keyed some is_open in
           let undecided_next : some_takes_none (left_at meaning worker (pos (key + 1))) ≡ false =
-          ap some_takes_none (sym next) ∙ some-where_open (seq_behind ss (open_trace (x ∷ []))) (seq_behind-open ss (open_trace (x ∷ [])) is_open) in
+          ap some_takes_none (sym next) ∙ some-where_open (seq_after ss (open_trace (x ∷ []))) (seq_after-open ss (open_trace (x ∷ [])) is_open) in
           ap (followed first) (glued-keyed meaning worker (key + 1) xs e keyed some undecided_next ∙ ap (λ left. seq left (trace_of xs e)) (sym next))
       | inr ends ↦ followed-ended first (glued meaning worker (key + 1) xs e) ends.0 ends.1 ∙ sym (followed-ended first rest ends.0 ends.1)
     ] in

@@ -8,8 +8,8 @@ use Rattle.std.proofs.lemmas.List.Elements.{Contains-push_cases, Contains-append
 use Rattle.plinq_source.specs.Trace.{Trace}
 use Rattle.plinq_lambda.specs.Meaning.{Meaning}
 use Rattle.plinq_keyed.specs.declared.record.Record.{Record}
-use Rattle.plinq_keyed.specs.History.{Place, start, reply, place_behind, place_after, tells, is_run, IsLegalHistory, given_by}
-use Rattle.plinq_keyed.proofs.Legal.{Told-from_tells, reply-first, place_behind-given, length-reply}
+use Rattle.plinq_keyed.specs.History.{Place, start, reply, next_place, place_after, tells, is_run, IsLegalHistory, given_by}
+use Rattle.plinq_keyed.proofs.Legal.{Told-from_tells, reply-first, next_place-given, length-reply}
 use Rattle.plinq_ops.specs.declared.op.Op.{Op}
 use Rattle.plinq_ops.specs.declared.results.ChunkResult.{ChunkResult}
 use Rattle.plinq_ops.specs.Fragment.{glued}
@@ -21,8 +21,8 @@ use Rattle.plinq_ops.proofs.Rows.{row-holds}
 record IsResultAt {L T : Type 0} (meaning : L → Meaning T) (worker : List (Op L)) (t : Trace T) (p : Place) (asked : Record) (r : ChunkResult T) : Type 0 where
   pub offer : IsOffer meaning worker t r
   pub first : r.first ≡ p.given
-  pub behind : p.given + r.count ≡ (place_behind t p asked.asked).given
-  pub within : (place_behind t p asked.asked).given ≤ length t.items
+  pub end : p.given + r.count ≡ (next_place t p asked.asked).given
+  pub within : (next_place t p asked.asked).given ≤ length t.items
 
 result-at : {L T : Type 0} (meaning : L → Meaning T) (worker : List (Op L)) (t : Trace T) (p : Place) (asked : Record) (r : ChunkResult T) → p.given ≤ length t.items
     → tells asked (reply t p asked.asked) ≡ true → IsResultOf meaning worker t asked r → IsResultAt meaning worker t p asked r
@@ -32,7 +32,7 @@ result-at {L} {T} meaning worker t p asked r within tells_it answer =
     let first : asked.first ≡ p.given = told.first ∙ reply-first t p asked.asked in
     let count : length answer.chunk.items.items ≡ asked.count =
     ap length answer.of.items ∙ length-take-le asked.count (drop asked.first t.items) (omega (arith, length-drop asked.first t.items, first, told.count, few, within)) in
-    let moved = place_behind-given t p asked.asked in
+    let moved = next_place-given t p asked.asked in
     let place : answer.chunk.first ≡ p.given = answer.of.first ∙ first in
     record {
       offer = record {
@@ -44,7 +44,7 @@ result-at {L} {T} meaning worker t p asked r within tells_it answer =
         made = answer.made;
       };
       first = answer.made.first ∙ place;
-      behind = omega (arith, moved, answer.made.count, count, told.count);
+      end = omega (arith, moved, answer.made.count, count, told.count);
       within = omega (arith, moved, few, within);
     }
 
@@ -57,8 +57,8 @@ offers-of_run meaning worker t p (asked ∷ h) [] within run answers = absurd an
 offers-of_run {L} {T} meaning worker t p (asked ∷ h) (r ∷ rs) within run answers =
     let parts = and_parts (tells asked (reply t p asked.asked)) _ run in
     let here = result-at meaning worker t p asked r within parts.0 answers.0 in
-    let rest = offers-of_run meaning worker t (place_behind t p asked.asked) h rs here.within parts.1 answers.1 in
-    ((here.offer, rest.0), (here.first, rw here.behind rest.1))
+    let rest = offers-of_run meaning worker t (next_place t p asked.asked) h rs here.within parts.1 answers.1 in
+    ((here.offer, rest.0), (here.first, rw here.end rest.1))
 
 -- the results of the records of a legal history give the glued fragments of what it handed out
 pub row-of_history : {L T : Type 0} (meaning : L → Meaning T) (worker : List (Op L)) (t : Trace T) (h : List Record) (rs : List (ChunkResult T)) → length t.items ≤ most_items → IsLegalHistory t h
@@ -82,9 +82,9 @@ offer-of_run {L} {T} meaning worker t p (first ∷ h) asked r within run there a
           let same : first ≡ asked = is_first first asked here in
           (result-at meaning worker t p asked r within (ap (λ x. tells x (reply t p x.asked)) (sym same) ∙ parts.0) answer).offer
       | inr later ↦
-          let moved = place_behind-given t p first.asked in
+          let moved = next_place-given t p first.asked in
           let few = length-reply t p first.asked in
-          offer-of_run meaning worker t (place_behind t p first.asked) h asked r (omega (arith, moved, few, within)) parts.1 later answer
+          offer-of_run meaning worker t (next_place t p first.asked) h asked r (omega (arith, moved, few, within)) parts.1 later answer
     ]
 
 pub offer-of_record : {L T : Type 0} (meaning : L → Meaning T) (worker : List (Op L)) (t : Trace T) (h : List Record) (asked : Record) (r : ChunkResult T) → IsLegalHistory t h

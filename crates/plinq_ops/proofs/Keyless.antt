@@ -6,7 +6,7 @@ use Rattle.plinq_source.specs.declared.ending.Ending.{Ending}
 use Rattle.plinq_source.specs.Trace.{Trace, open_trace, followed}
 use Rattle.plinq_lambda.specs.Meaning.{Meaning}
 use Rattle.plinq_ops.specs.declared.op.Op.{Op}
-use Rattle.plinq_ops.specs.Fragment.{apply_at, position_behind, fragment_at, fragment_of, glued}
+use Rattle.plinq_ops.specs.Fragment.{apply_at, position_after, fragment_at, fragment_of, glued}
 use Rattle.plinq_ops.specs.ByKey.{is_keyless, are_keyless}
 use Rattle.plinq_ops.proofs.Operators.{apply_at-keyless}
 
@@ -15,8 +15,8 @@ module _ {L T : Type 0} (meaning : L → Meaning T) where
   fragment_at-keyless [] p q t keyless = refl
   fragment_at-keyless (op ∷ ops) p q t keyless =
       let both = and_parts (is_keyless op) (are_keyless ops) keyless in
-      fragment_at-keyless ops (position_behind op p) (position_behind op q) (apply_at meaning op p t) both.1
-      ∙ ap (fragment_at meaning ops (position_behind op q)) (apply_at-keyless meaning op p q t both.0)
+      fragment_at-keyless ops (position_after op p) (position_after op q) (apply_at meaning op p t) both.1
+      ∙ ap (fragment_at meaning ops (position_after op q)) (apply_at-keyless meaning op p q t both.0)
 
   -- the fragments of items are glued alike from each key on
   pub glued-keyless : (worker : List (Op L)) (j k : ℕ) (xs : List T) (e : Option Ending) → are_keyless worker ≡ true → glued meaning worker j xs e ≡ glued meaning worker k xs e

@@ -5,8 +5,8 @@ use Rattle.plinq_source.specs.declared.ending.Ending.{Ending}
 use Rattle.plinq_source.specs.declared.ending.Ending.TheVariants.{End}
 use Rattle.plinq_source.specs.Trace.{Trace, open_trace, ended, continued, followed}
 use Rattle.plinq_source.proofs.Followed.{trace_of, followed-open_nil}
-use Rattle.plinq_ops.specs.Stage.{Stage, apply, seq, behind, seq_behind, takes_none, some_takes_none}
-use Rattle.plinq_ops.proofs.Stages.{is_some-apply, apply-followed, behind-behind, behind-nothing, apply-nothing, apply-takes_none, apply-ended_nil, seq-followed}
+use Rattle.plinq_ops.specs.Stage.{Stage, apply, seq, stage_after, seq_after, takes_none, some_takes_none}
+use Rattle.plinq_ops.proofs.Stages.{is_some-apply, apply-followed, after-after, after-nothing, apply-nothing, apply-takes_none, apply-ended_nil, seq-followed}
 
 pub is_some-seq : {T : Type 0} (ss : List (Stage T)) (t : Trace T) → is_some t.ending ≡ true → is_some (seq ss t).ending ≡ true
 is_some-seq [] t ends = ends
@@ -33,14 +33,14 @@ pub open-from_continued : {T : Type 0} (xs : List T) (e : Option Ending) (b : Tr
 open-from_continued xs None b is_open = refl
 open-from_continued xs (Some e) b is_open = is_open
 
-pub open_behind : {T : Type 0} (xs : List T) (e : Option Ending) (b : Trace T) → e ≡ None → (continued xs e b).ending ≡ None → b.ending ≡ None
-open_behind xs None b first both = both
-open_behind xs (Some e) b first both = absurd (cc)
+pub open_after : {T : Type 0} (xs : List T) (e : Option Ending) (b : Trace T) → e ≡ None → (continued xs e b).ending ≡ None → b.ending ≡ None
+open_after xs None b first both = both
+open_after xs (Some e) b first both = absurd (cc)
 
 -- where more items leave the answer open, fewer do
 pub seq-open_before : {T : Type 0} (ss : List (Stage T)) (a b : Trace T) → (seq ss (followed a b)).ending ≡ None → (seq ss a).ending ≡ None
 seq-open_before {T} ss a b is_open =
-    let t : Trace T = seq (seq_behind ss a) b in
+    let t : Trace T = seq (seq_after ss a) b in
     open-from_continued (seq ss a).items (seq ss a).ending t (sym (ap (λ u. u.ending) (seq-followed ss a b)) ∙ is_open)
 
 pub items-continued : {T : Type 0} (xs : List T) (e : Option Ending) (b : Trace T) → e ≡ None → (continued xs e b).items ≡ xs ++ b.items
@@ -48,15 +48,15 @@ items-continued xs None b is_open = refl
 items-continued xs (Some e) b is_open = absurd (cc)
 
 -- what is left after two traces is what is left of what was left after the first
-pub seq_behind-followed : {T : Type 0} (ss : List (Stage T)) (a b : Trace T) → (seq ss a).ending ≡ None
-    → seq_behind ss (followed a b) ≡ seq_behind (seq_behind ss a) b
-seq_behind-followed [] a b is_open = refl
-seq_behind-followed (s ∷ ss) a b is_open =
+pub seq_after-followed : {T : Type 0} (ss : List (Stage T)) (a b : Trace T) → (seq ss a).ending ≡ None
+    → seq_after ss (followed a b) ≡ seq_after (seq_after ss a) b
+seq_after-followed [] a b is_open = refl
+seq_after-followed (s ∷ ss) a b is_open =
     let first_open : a.ending ≡ None = open-from_seq (s ∷ ss) a is_open in
-    let first : behind s (followed a b).items ≡ behind (behind s a.items) b.items =
-    ap (behind s) (items-continued a.items a.ending b first_open) ∙ sym (behind-behind s a.items b.items) in
-    let others : seq_behind ss (apply s (followed a b)) ≡ seq_behind (seq_behind ss (apply s a)) (apply (behind s a.items) b) =
-    ap (seq_behind ss) (apply-followed s a b) ∙ seq_behind-followed ss (apply s a) (apply (behind s a.items) b) is_open in
+    let first : stage_after s (followed a b).items ≡ stage_after (stage_after s a.items) b.items =
+    ap (stage_after s) (items-continued a.items a.ending b first_open) ∙ sym (after-after s a.items b.items) in
+    let others : seq_after ss (apply s (followed a b)) ≡ seq_after (seq_after ss (apply s a)) (apply (stage_after s a.items) b) =
+    ap (seq_after ss) (apply-followed s a b) ∙ seq_after-followed ss (apply s a) (apply (stage_after s a.items) b) is_open in
     cc
 
 -- nothing but the end stays that
@@ -83,15 +83,15 @@ seq-takes_none (s ∷ ss) none =
     ] refl none
 
 -- what is left of the operators after nothing is all of them
-pub seq_behind-nothing : {T : Type 0} (ss : List (Stage T)) → some_takes_none ss ≡ false → seq_behind ss (open_trace []) ≡ ss
-seq_behind-nothing [] some = refl
-seq_behind-nothing (s ∷ ss) some =
-    elim (takes_none s) as (λ v. v ≡ takes_none s → v || some_takes_none ss ≡ false → behind s [] ∷ seq_behind ss (apply s (open_trace [])) ≡ s ∷ ss) [
+pub seq_after-nothing : {T : Type 0} (ss : List (Stage T)) → some_takes_none ss ≡ false → seq_after ss (open_trace []) ≡ ss
+seq_after-nothing [] some = refl
+seq_after-nothing (s ∷ ss) some =
+    elim (takes_none s) as (λ v. v ≡ takes_none s → v || some_takes_none ss ≡ false → stage_after s [] ∷ seq_after ss (apply s (open_trace [])) ≡ s ∷ ss) [
       | true ↦ λ is bad. absurd (cc)
       | false ↦ λ is rest.
-          let same : behind s [] ≡ s = behind-nothing s in
-          let others : seq_behind ss (apply s (open_trace [])) ≡ ss =
-          ap (seq_behind ss) (apply-nothing s None (sym is)) ∙ seq_behind-nothing ss rest in
+          let same : stage_after s [] ≡ s = after-nothing s in
+          let others : seq_after ss (apply s (open_trace [])) ≡ ss =
+          ap (seq_after ss) (apply-nothing s None (sym is)) ∙ seq_after-nothing ss rest in
           cc
     ] refl some
 
@@ -104,19 +104,19 @@ some-where_open ss is_open =
     ] refl
 
 -- what is left of operators whose answer is open leaves nothing open too
-pub seq_behind-open : {T : Type 0} (ss : List (Stage T)) (a : Trace T) → (seq ss a).ending ≡ None → (seq (seq_behind ss a) (open_trace [])).ending ≡ None
-seq_behind-open {T} ss a is_open =
-    let left : List (Stage T) = seq_behind ss a in
+pub seq_after-open : {T : Type 0} (ss : List (Stage T)) (a : Trace T) → (seq ss a).ending ≡ None → (seq (seq_after ss a) (open_trace [])).ending ≡ None
+seq_after-open {T} ss a is_open =
+    let left : List (Stage T) = seq_after ss a in
     let again : followed (seq ss a) (seq left (open_trace [])) ≡ seq ss a =
     sym (seq-followed ss a (open_trace [])) ∙ ap (seq ss) (followed-open_nil a) in
-    open_behind (seq ss a).items (seq ss a).ending (seq left (open_trace [])) is_open (ap (λ t. t.ending) again ∙ is_open)
+    open_after (seq ss a).items (seq ss a).ending (seq left (open_trace [])) is_open (ap (λ t. t.ending) again ∙ is_open)
 
 -- where the answer is open so far, it ends as the trace does
 pub seq-ending_of_open : {T : Type 0} (ss : List (Stage T)) (a : Trace T) (xs : List T) (e : Ending) → seq ss a ≡ open_trace xs
     → seq ss (followed a (ended [] e)) ≡ ended xs e
 seq-ending_of_open {T} ss a xs e is =
-    let left : List (Stage T) = seq_behind ss a in
-    let left_open : (seq left (open_trace [])).ending ≡ None = seq_behind-open ss a (ap (λ t. t.ending) is) in
+    let left : List (Stage T) = seq_after ss a in
+    let left_open : (seq left (open_trace [])).ending ≡ None = seq_after-open ss a (ap (λ t. t.ending) is) in
     seq-followed ss a (ended [] e)
     ∙ ap (λ t. followed t (seq left (ended [] e))) is
     ∙ ap (followed (open_trace xs)) (seq-nothing left (Some e) (some-where_open left left_open))

@@ -13,15 +13,15 @@ use Rattle.plinq_keyed.specs.Keys.{is_among}
 use Rattle.plinq_ops.specs.declared.op.Op.{Op}
 use Rattle.plinq_ops.specs.declared.frag_end.FragEnd.TheVariants.{Dropped}
 use Rattle.plinq_ops.specs.declared.results.ChunkResult.{ChunkResult}
-use Rattle.plinq_ops.specs.Stage.{Stage, seq, seq_behind}
+use Rattle.plinq_ops.specs.Stage.{Stage, seq, seq_after}
 use Rattle.plinq_ops.specs.Fragment.{glued, glue}
 use Rattle.plinq_ops.specs.Chunk.{result_trace, chunk_answer}
-use Rattle.plinq_ops.specs.Cut.{enders, most_items}
+use Rattle.plinq_ops.specs.Cut.{stop_keys, most_items}
 use Rattle.plinq_ops.specs.Row.{IsOffer, AreOffers, IsRow, row_trace}
 use Rattle.plinq_ops.proofs.Stages.{seq-followed}
 use Rattle.plinq_ops.proofs.Open.{none-or_ending}
 use Rattle.plinq_ops.proofs.Glue.{glued-append, chunk_answer-uncut}
-use Rattle.plinq_ops.proofs.Cut.{enders-append, chunk_answer-reached, undropped-uncut, result-is, kept-from_told, stop-is_ender}
+use Rattle.plinq_ops.proofs.Cut.{stop_keys-append, chunk_answer-reached, undropped-uncut, result-is, kept-from_told, stop-stops_at}
 
 -- where a chunk stands in its source: items before it, its own, and items after it
 record HasPlace {T : Type 0} (items : List T) (first : ℕ) (xs : List T) : Type 0 where
@@ -41,10 +41,10 @@ has_place items first xs within is =
     }
 
 -- after a row that is still open a result gives the glued fragments of its chunk
-pub result-behind_open : {L T : Type 0} (meaning : L → Meaning T) (worker : List (Op L)) (t : Trace T) (r : ChunkResult T) → length t.items ≤ most_items → (offer : IsOffer meaning worker t r)
+pub result-after_open : {L T : Type 0} (meaning : L → Meaning T) (worker : List (Op L)) (t : Trace T) (r : ChunkResult T) → length t.items ≤ most_items → (offer : IsOffer meaning worker t r)
     → (glued meaning worker 0 (take r.first t.items) None).ending ≡ None
     → (result_trace r ≡ glued meaning worker r.first offer.chunk.items.items None) × (r.ending ≢ Dropped)
-result-behind_open {L} {T} meaning worker t r few offer is_open =
+result-after_open {L} {T} meaning worker t r few offer is_open =
     let xs : List T = offer.chunk.items.items in
     let first : ℕ = offer.chunk.first in
     let place = has_place t.items first xs offer.within offer.items in
@@ -74,7 +74,7 @@ row-next {L} {T} meaning worker t r few offer =
     ∙ glued-append meaning worker 0 (take r.first t.items) xs None
     ∙ ap (λ k. followed before (glued meaning worker k xs None)) (let same : 0 + length (take r.first t.items) ≡ r.first = omega (arith, place.place) in same) in
     elim (none-or_ending before.ending) [
-      | inl is_open ↦ ap (followed before) (result-behind_open meaning worker t r few offer is_open).0 ∙ sym all
+      | inl is_open ↦ ap (followed before) (result-after_open meaning worker t r few offer is_open).0 ∙ sym all
       | inr ends ↦ followed-ended before (result_trace r) ends.0 ends.1 ∙ sym (followed-ended before here ends.0 ends.1) ∙ sym all
     ]
 
@@ -111,25 +111,25 @@ answer-decided {L} {T} meaning worker after t k e ends =
     ap (λ ys. seq after (glued meaning worker 0 ys t.ending)) (sym (take-append-drop k t.items))
     ∙ ap (seq after) (glued-append meaning worker 0 (take k t.items) (drop k t.items) t.ending)
     ∙ seq-followed after first rest
-    ∙ followed-ended (seq after first) (seq (seq_behind after first) rest) e ends
+    ∙ followed-ended (seq after first) (seq (seq_after after first) rest) e ends
 
 among-append : (js ks : List ℕ) (k : ℕ) → is_among (js ++ ks) k ≡ (is_among js k || is_among ks k)
 among-append js ks k = list_any-append (λ j. k == j) js ks
 
 -- the key at which a result stopped that dropped nothing ends the run
 pub stop-ends : {L T : Type 0} (meaning : L → Meaning T) (worker : List (Op L)) (t : Trace T) (r : ChunkResult T) (k : ℕ) → IsOffer meaning worker t r → r.ending ≢ Dropped → r.stop ≡ Some k
-    → is_among (enders meaning worker 0 t.items) k ≡ true
+    → is_among (stop_keys meaning worker 0 t.items) k ≡ true
 stop-ends {L} {T} meaning worker t r k offer kept stop =
     let xs : List T = offer.chunk.items.items in
     let first : ℕ = offer.chunk.first in
     let place = has_place t.items first xs offer.within offer.items in
-    let here : is_among (enders meaning worker first xs) k ≡ true =
-    stop-is_ender meaning worker offer.cut first xs k (kept-from_told meaning worker offer.cut offer.chunk r offer.made kept) (sym offer.made.stop ∙ stop) in
-    let all : enders meaning worker 0 t.items ≡ enders meaning worker 0 (take first t.items) ++ (enders meaning worker first xs ++ enders meaning worker (first + length xs) place.rest) =
-    ap (enders meaning worker 0) place.parts
-    ∙ enders-append meaning worker 0 (take first t.items) (xs ++ place.rest)
-    ∙ ap (λ j. enders meaning worker 0 (take first t.items) ++ enders meaning worker j (xs ++ place.rest)) (let same : 0 + length (take first t.items) ≡ first = omega (arith, place.place) in same)
-    ∙ ap (λ ks. enders meaning worker 0 (take first t.items) ++ ks) (enders-append meaning worker first xs place.rest) in
+    let here : is_among (stop_keys meaning worker first xs) k ≡ true =
+    stop-stops_at meaning worker offer.cut first xs k (kept-from_told meaning worker offer.cut offer.chunk r offer.made kept) (sym offer.made.stop ∙ stop) in
+    let all : stop_keys meaning worker 0 t.items ≡ stop_keys meaning worker 0 (take first t.items) ++ (stop_keys meaning worker first xs ++ stop_keys meaning worker (first + length xs) place.rest) =
+    ap (stop_keys meaning worker 0) place.parts
+    ∙ stop_keys-append meaning worker 0 (take first t.items) (xs ++ place.rest)
+    ∙ ap (λ j. stop_keys meaning worker 0 (take first t.items) ++ stop_keys meaning worker j (xs ++ place.rest)) (let same : 0 + length (take first t.items) ≡ first = omega (arith, place.place) in same)
+    ∙ ap (λ ks. stop_keys meaning worker 0 (take first t.items) ++ ks) (stop_keys-append meaning worker first xs place.rest) in
     ap (λ ks. is_among ks k) all
-    ∙ among-append (enders meaning worker 0 (take first t.items)) (enders meaning worker first xs ++ enders meaning worker (first + length xs) place.rest) k
-    ∙ or_right _ _ (among-append (enders meaning worker first xs) (enders meaning worker (first + length xs) place.rest) k ∙ or_left _ _ here)
+    ∙ among-append (stop_keys meaning worker 0 (take first t.items)) (stop_keys meaning worker first xs ++ stop_keys meaning worker (first + length xs) place.rest) k
+    ∙ or_right _ _ (among-append (stop_keys meaning worker first xs) (stop_keys meaning worker (first + length xs) place.rest) k ∙ or_left _ _ here)

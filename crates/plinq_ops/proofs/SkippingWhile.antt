@@ -8,7 +8,7 @@ use Rattle.plinq_source.specs.declared.ending.Ending.TheVariants.{Fault}
 use Rattle.plinq_source.specs.Trace.{Trace, open_trace, ended, followed}
 use Rattle.plinq_lambda.specs.Block.{BlockResult, passing_from, passing_block}
 use Rattle.plinq_ops.specs.SkipWhile.{skipped_from, skipped_while, still_skips, all_pass}
-use Rattle.plinq_ops.specs.Stage.{Stage, skipping_while, unchanged, apply, behind}
+use Rattle.plinq_ops.specs.Stage.{Stage, skipping_while, unchanged, apply, stage_after}
 
 -- what is left where all items so far pass, or not
 abbrev pub left_while : {T : Type 0} → (T → Result Bool ℕ) → Bool → Stage T
@@ -24,7 +24,7 @@ append-first test (Err code) x xs b rest = refl
 
 -- a trace after items
 pub skipped_while-append : {T : Type 0} (test : T → Result Bool ℕ) (xs : List T) (b : Trace T)
-    → skipped_while test (xs ++ b.items) b.ending ≡ followed (skipped_while test xs None) (apply (behind (skipping_while test) xs) b)
+    → skipped_while test (xs ++ b.items) b.ending ≡ followed (skipped_while test xs None) (apply (stage_after (skipping_while test) xs) b)
 skipped_while-append test [] b = refl
 skipped_while-append test (x ∷ xs) b = append-first test (test x) x xs b (skipped_while-append test xs b)
 
@@ -50,15 +50,15 @@ pub is_some-skipped_while : {T : Type 0} (test : T → Result Bool ℕ) (xs : Li
 is_some-skipped_while test [] e ends = ends
 is_some-skipped_while test (x ∷ xs) e ends = is_some-first (test x) (x ∷ xs) e (skipped_while test xs e) ends (is_some-skipped_while test xs e ends)
 
-behind-first : {T : Type 0} (test : T → Result Bool ℕ) (r : Result Bool ℕ) (now all : Bool) (ys : List T)
-    → behind (left_while test now) ys ≡ left_while test all → behind (left_while test (still_skips r now)) ys ≡ left_while test (still_skips r all)
-behind-first test (Ok true) now all ys rest = rest
-behind-first test (Ok false) now all ys rest = refl
-behind-first test (Err code) now all ys rest = refl
+after-first : {T : Type 0} (test : T → Result Bool ℕ) (r : Result Bool ℕ) (now all : Bool) (ys : List T)
+    → stage_after (left_while test now) ys ≡ left_while test all → stage_after (left_while test (still_skips r now)) ys ≡ left_while test (still_skips r all)
+after-first test (Ok true) now all ys rest = rest
+after-first test (Ok false) now all ys rest = refl
+after-first test (Err code) now all ys rest = refl
 
-pub behind-skipping_while : {T : Type 0} (test : T → Result Bool ℕ) (xs ys : List T) → behind (behind (skipping_while test) xs) ys ≡ behind (skipping_while test) (xs ++ ys)
-behind-skipping_while test [] ys = refl
-behind-skipping_while test (x ∷ xs) ys = behind-first test (test x) (all_pass test xs) (all_pass test (xs ++ ys)) ys (behind-skipping_while test xs ys)
+pub after-skipping_while : {T : Type 0} (test : T → Result Bool ℕ) (xs ys : List T) → stage_after (stage_after (skipping_while test) xs) ys ≡ stage_after (skipping_while test) (xs ++ ys)
+after-skipping_while test [] ys = refl
+after-skipping_while test (x ∷ xs) ys = after-first test (test x) (all_pass test xs) (all_pass test (xs ++ ys)) ys (after-skipping_while test xs ys)
 
 -- ---- a block, by the items before the first that fails
 

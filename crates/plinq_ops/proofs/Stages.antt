@@ -10,8 +10,8 @@ use Rattle.plinq_source.specs.declared.ending.Ending.{Ending}
 use Rattle.plinq_source.specs.declared.ending.Ending.TheVariants.{End}
 use Rattle.plinq_source.specs.Trace.{Trace, open_trace, ended, continued, followed}
 use Rattle.plinq_source.proofs.Followed.{trace_of, followed-followed}
-use Rattle.plinq_ops.specs.Stage.{Stage, pieces, taking, skipping, skipping_while, unchanged, joined, taken, apply, seq, behind, seq_behind, takes_none}
-use Rattle.plinq_ops.proofs.SkippingWhile.{skipped_while-append, skipped_while-ended, is_some-skipped_while, behind-skipping_while}
+use Rattle.plinq_ops.specs.Stage.{Stage, pieces, taking, skipping, skipping_while, unchanged, joined, taken, apply, seq, stage_after, seq_after, takes_none}
+use Rattle.plinq_ops.proofs.SkippingWhile.{skipped_while-append, skipped_while-ended, is_some-skipped_while, after-skipping_while}
 
 -- the pieces of a list after another
 pub joined-append : {T : Type 0} (piece : T → Trace T) (xs ys : List T) (e : Option Ending)
@@ -79,7 +79,7 @@ taken-ended n xs e b = elim (nat_le n (length xs)) as (λ v. cond v (ended (take
 
 -- one operator on a trace after an open or an ended one
 pub apply-continued : {T : Type 0} (s : Stage T) (xs : List T) (e : Option Ending) (b : Trace T)
-    → apply s (continued xs e b) ≡ followed (apply s (trace_of xs e)) (apply (behind s xs) b)
+    → apply s (continued xs e b) ≡ followed (apply s (trace_of xs e)) (apply (stage_after s xs) b)
 apply-continued (pieces piece) xs None b = joined-append piece xs b.items b.ending
 apply-continued (pieces piece) xs (Some e) b = sym (followed-joined piece xs e (joined piece b.items b.ending))
 apply-continued (taking n) xs None b = taken-append n xs b
@@ -87,12 +87,12 @@ apply-continued (taking n) xs (Some e) b = taken-ended n xs e (taken (n - length
 apply-continued (skipping n) xs None b = ap (λ zs. trace_of zs b.ending) (drop-append n xs b.items)
 apply-continued (skipping n) xs (Some e) b = refl
 apply-continued (skipping_while test) xs None b = skipped_while-append test xs b
-apply-continued (skipping_while test) xs (Some e) b = skipped_while-ended test xs e (apply (behind (skipping_while test) xs) b)
+apply-continued (skipping_while test) xs (Some e) b = skipped_while-ended test xs e (apply (stage_after (skipping_while test) xs) b)
 apply-continued unchanged xs None b = refl
 apply-continued unchanged xs (Some e) b = refl
 
 pub apply-followed : {T : Type 0} (s : Stage T) (a b : Trace T)
-    → apply s (followed a b) ≡ followed (apply s a) (apply (behind s a.items) b)
+    → apply s (followed a b) ≡ followed (apply s a) (apply (stage_after s a.items) b)
 apply-followed s a b = apply-continued s a.items a.ending b
 
 -- what follows decides whether there is an ending, unless there is one already
@@ -117,19 +117,19 @@ is_some-apply unchanged t ends = ends
 less-less : {T : Type 0} (k : ℕ) (xs ys : List T) → (k - length xs) - length ys ≡ k - length (xs ++ ys)
 less-less k xs ys = omega (arith, length-append xs ys)
 
-pub behind-behind : {T : Type 0} (s : Stage T) (xs ys : List T) → behind (behind s xs) ys ≡ behind s (xs ++ ys)
-behind-behind (pieces piece) xs ys = refl
-behind-behind (taking k) xs ys = ap taking (less-less k xs ys)
-behind-behind (skipping k) xs ys = ap skipping (less-less k xs ys)
-behind-behind (skipping_while test) xs ys = behind-skipping_while test xs ys
-behind-behind unchanged xs ys = refl
+pub after-after : {T : Type 0} (s : Stage T) (xs ys : List T) → stage_after (stage_after s xs) ys ≡ stage_after s (xs ++ ys)
+after-after (pieces piece) xs ys = refl
+after-after (taking k) xs ys = ap taking (less-less k xs ys)
+after-after (skipping k) xs ys = ap skipping (less-less k xs ys)
+after-after (skipping_while test) xs ys = after-skipping_while test xs ys
+after-after unchanged xs ys = refl
 
-pub behind-nothing : {T : Type 0} (s : Stage T) → behind s [] ≡ s
-behind-nothing (pieces piece) = refl
-behind-nothing (taking k) = ap taking (sub-zero k)
-behind-nothing (skipping k) = ap skipping (sub-zero k)
-behind-nothing (skipping_while test) = refl
-behind-nothing unchanged = refl
+pub after-nothing : {T : Type 0} (s : Stage T) → stage_after s [] ≡ s
+after-nothing (pieces piece) = refl
+after-nothing (taking k) = ap taking (sub-zero k)
+after-nothing (skipping k) = ap skipping (sub-zero k)
+after-nothing (skipping_while test) = refl
+after-nothing unchanged = refl
 
 pub apply-nothing : {T : Type 0} (s : Stage T) (e : Option Ending) → takes_none s ≡ false → apply s (trace_of [] e) ≡ trace_of [] e
 apply-nothing (pieces piece) e some = refl
@@ -158,7 +158,7 @@ apply-takes_none unchanged none = absurd (let bad : false ≡ true = none in cc)
 
 -- the operators on a trace that follows another
 pub seq-followed : {T : Type 0} (ss : List (Stage T)) (a b : Trace T)
-    → seq ss (followed a b) ≡ followed (seq ss a) (seq (seq_behind ss a) b)
+    → seq ss (followed a b) ≡ followed (seq ss a) (seq (seq_after ss a) b)
 seq-followed [] a b = refl
 seq-followed (s ∷ ss) a b =
-    ap (seq ss) (apply-followed s a b) ∙ seq-followed ss (apply s a) (apply (behind s a.items) b)
+    ap (seq ss) (apply-followed s a b) ∙ seq-followed ss (apply s a) (apply (stage_after s a.items) b)

@@ -9,7 +9,7 @@ use Rattle.plinq_source.specs.declared.ending.Ending.TheVariants.{End}
 use Rattle.plinq_source.specs.Trace.{Trace, open_trace, ended}
 use Rattle.plinq_lambda.specs.Meaning.{Meaning}
 use Rattle.plinq_ops.specs.declared.remaining.Remaining.{Remaining}
-use Rattle.plinq_ops.specs.Stage.{Stage, apply, behind, takes_none, some_takes_none}
+use Rattle.plinq_ops.specs.Stage.{Stage, apply, stage_after, takes_none, some_takes_none}
 use Rattle.plinq_ops.specs.Feeding.{IsFed}
 use Rattle.plinq_ops.specs.Pipeline.{stage_now, stages_now}
 use Rattle.plinq_ops.proofs.Fed.{fed-through, fed-told, fed-none, fed-ending}
@@ -33,7 +33,7 @@ pub record IsAt {L T : Type 0} (meaning : L → Meaning T) (ops : List (Remainin
   pub undecided : some_takes_none (stages_now meaning (drop (i + 1) now)) ≡ false
   pub passed : (t : Trace T) (op' : Remaining L) (rest : List (Remaining L)) (after : List T) (e : Option Ending)
       → t ≡ apply (stage_now meaning op) (open_trace (y ∷ []))
-      → stage_now meaning op' ≡ behind (stage_now meaning op) (y ∷ [])
+      → stage_now meaning op' ≡ stage_after (stage_now meaning op) (y ∷ [])
       → IsFed (stages_now meaning (drop (i + 1) now)) t out after (stages_now meaning rest) e
       → IsFed (stages_now meaning ops) (open_trace (x ∷ [])) before after (stages_now meaning (take i now ++ op' ∷ rest)) (option_or e last)
 
@@ -85,41 +85,41 @@ at-op {L} {T} {meaning} {ops} {x} {before} {out} {i} {op} {now} {y} {last} d wit
       within = within;
       takes_some = first_false _ _ undecided;
       undecided = second_false _ _ undecided;
-      passed = λ t op' rest after e gives behind fed.
+      passed = λ t op' rest after e gives stage_after fed.
           through.goes_on (op' ∷ rest) after e
           (rw here
           (fed-through (stage_now meaning op) (stage_now meaning op') (y ∷ []) t (stages_now meaning (drop (i + 1) now))
-          (stages_now meaning rest) out after e (sym gives) (sym behind) fed));
+          (stages_now meaning rest) out after e (sym gives) (sym stage_after) fed));
     }
 
 -- the operator gives one item
 pub through-item : {L T : Type 0} {meaning : L → Meaning T} {ops : List (Remaining L)} {x : T} {before out : List T} {i : ℕ} {op : Remaining L} {now : List (Remaining L)} {y : T} {last : Option Ending}
     (y' : T) (op' : Remaining L) → IsAt meaning ops x before out i op now y last
-    → open_trace (y' ∷ []) ≡ apply (stage_now meaning op) (open_trace (y ∷ [])) → stage_now meaning op' ≡ behind (stage_now meaning op) (y ∷ [])
+    → open_trace (y' ∷ []) ≡ apply (stage_now meaning op) (open_trace (y ∷ [])) → stage_now meaning op' ≡ stage_after (stage_now meaning op) (y ∷ [])
     → IsThrough meaning ops x before out (i + 1) (set now i op') y' last
-through-item {L} {T} {meaning} {ops} {x} {before} {out} {i} {op} {now} y' op' here gives behind =
+through-item {L} {T} {meaning} {ops} {x} {before} {out} {i} {op} {now} y' op' here gives stage_after =
     let others : drop (i + 1) (set now i op') ≡ drop (i + 1) now = drop-set-lt (i + 1) now i op' (omega arith) in
     record {
       same = here.same;
       undecided = rw others here.undecided;
       goes_on = λ rest after e fed.
           rw (take_more_set now i op' here.within, append_assoc (take i now) (op' ∷ []) rest)
-          (here.passed (open_trace (y' ∷ [])) op' rest after e gives behind (rw others at fed));
+          (here.passed (open_trace (y' ∷ [])) op' rest after e gives stage_after (rw others at fed));
     }
 
 -- the operator gives its last item
 pub through-last : {L T : Type 0} {meaning : L → Meaning T} {ops : List (Remaining L)} {x : T} {before out : List T} {i : ℕ} {op : Remaining L} {now : List (Remaining L)} {y : T} {last : Option Ending}
     (y' : T) (op' : Remaining L) → IsAt meaning ops x before out i op now y last
-    → ended (y' ∷ []) End ≡ apply (stage_now meaning op) (open_trace (y ∷ [])) → stage_now meaning op' ≡ behind (stage_now meaning op) (y ∷ [])
+    → ended (y' ∷ []) End ≡ apply (stage_now meaning op) (open_trace (y ∷ [])) → stage_now meaning op' ≡ stage_after (stage_now meaning op) (y ∷ [])
     → IsThrough meaning ops x before out (i + 1) (set now i op') y' (Some End)
-through-last {L} {T} {meaning} {ops} {x} {before} {out} {i} {op} {now} {y} {last} y' op' here gives behind =
+through-last {L} {T} {meaning} {ops} {x} {before} {out} {i} {op} {now} {y} {last} y' op' here gives stage_after =
     let others : drop (i + 1) (set now i op') ≡ drop (i + 1) now = drop-set-lt (i + 1) now i op' (omega arith) in
     record {
       same = here.same;
       undecided = rw others here.undecided;
       goes_on = λ rest after e fed.
           rw (take_more_set now i op' here.within, append_assoc (take i now) (op' ∷ []) rest, ← or_some e End last)
-          (here.passed (ended (y' ∷ []) End) op' rest after (option_or e (Some End)) gives behind
+          (here.passed (ended (y' ∷ []) End) op' rest after (option_or e (Some End)) gives stage_after
           (fed-told (y' ∷ []) (Some End) (stages_now meaning (drop (i + 1) now)) (stages_now meaning rest) out after e (rw others at fed)));
     }
 
@@ -147,21 +147,21 @@ set-parts now i op within = rw add-one (set_split now i op within)
 -- the operator gives nothing
 pub through-nothing : {L T : Type 0} {meaning : L → Meaning T} {ops : List (Remaining L)} {x : T} {before out : List T} {i : ℕ} {op : Remaining L} {now : List (Remaining L)} {y : T} {last : Option Ending}
     (op' : Remaining L) → IsAt meaning ops x before out i op now y last
-    → open_trace [] ≡ apply (stage_now meaning op) (open_trace (y ∷ [])) → stage_now meaning op' ≡ behind (stage_now meaning op) (y ∷ [])
+    → open_trace [] ≡ apply (stage_now meaning op) (open_trace (y ∷ [])) → stage_now meaning op' ≡ stage_after (stage_now meaning op) (y ∷ [])
     → IsFed (stages_now meaning ops) (open_trace (x ∷ [])) before out (stages_now meaning (set now i op')) last
-through-nothing {L} {T} {meaning} {ops} {x} {before} {out} {i} {op} {now} op' here gives behind =
+through-nothing {L} {T} {meaning} {ops} {x} {before} {out} {i} {op} {now} op' here gives stage_after =
     rw (set-parts now i op' here.within)
-    (here.passed (open_trace []) op' (drop (i + 1) now) out None gives behind (fed-none (stages_now meaning (drop (i + 1) now)) out here.undecided))
+    (here.passed (open_trace []) op' (drop (i + 1) now) out None gives stage_after (fed-none (stages_now meaning (drop (i + 1) now)) out here.undecided))
 
 -- the operator ends the run
 pub through-ending : {L T : Type 0} {meaning : L → Meaning T} {ops : List (Remaining L)} {x : T} {before out : List T} {i : ℕ} {op : Remaining L} {now : List (Remaining L)} {y : T} {last : Option Ending}
     (e : Ending) (op' : Remaining L) → IsAt meaning ops x before out i op now y last
-    → ended [] e ≡ apply (stage_now meaning op) (open_trace (y ∷ [])) → stage_now meaning op' ≡ behind (stage_now meaning op) (y ∷ [])
+    → ended [] e ≡ apply (stage_now meaning op) (open_trace (y ∷ [])) → stage_now meaning op' ≡ stage_after (stage_now meaning op) (y ∷ [])
     → IsFed (stages_now meaning ops) (open_trace (x ∷ [])) before out (stages_now meaning (set now i op')) (Some e)
-through-ending {L} {T} {meaning} {ops} {x} {before} {out} {i} {op} {now} e op' here gives behind =
+through-ending {L} {T} {meaning} {ops} {x} {before} {out} {i} {op} {now} e op' here gives stage_after =
     let others = stages_now meaning (drop (i + 1) now) in
     rw (set-parts now i op' here.within)
-    (here.passed (ended [] e) op' (drop (i + 1) now) out (Some e) gives behind (fed-ending others others out e here.undecided))
+    (here.passed (ended [] e) op' (drop (i + 1) now) out (Some e) gives stage_after (fed-ending others others out e here.undecided))
 
 -- ---- a block, from an operator on
 
@@ -177,11 +177,11 @@ take-one xs ys i x within same =
 -- what an operator makes of the items goes on through those after it
 pub through-first : {L T : Type 0} (meaning : L → Meaning T) (op op' : Remaining L) (ops ops' : List (Remaining L)) (i : ℕ) (xs : List T) (t : Trace T) (before after : List T) (e : Option Ending) (d : Remaining L)
     → i < length ops → op ≡ get_or ops i d → take (i + 1) ops' ≡ take (i + 1) (set ops i op')
-    → t ≡ apply (stage_now meaning op) (open_trace xs) → stage_now meaning op' ≡ behind (stage_now meaning op) xs
+    → t ≡ apply (stage_now meaning op) (open_trace xs) → stage_now meaning op' ≡ stage_after (stage_now meaning op) xs
     → IsFed (stages_now meaning (drop (i + 1) (set ops i op'))) t before after (stages_now meaning (drop (i + 1) ops')) e
     → IsFed (stages_now meaning (drop i ops)) (open_trace xs) before after (stages_now meaning (drop i ops')) e
-through-first {L} {T} meaning op op' ops ops' i xs t before after e d within is same gives behind fed =
+through-first {L} {T} meaning op op' ops ops' i xs t before after e d within is same gives stage_after fed =
     let here : drop i ops ≡ op ∷ drop (i + 1) ops = drop_more ops i d within ∙ ap (λ o. o ∷ drop (i + 1) ops) (sym is) in
     let others : drop (i + 1) (set ops i op') ≡ drop (i + 1) ops = drop-set-lt (i + 1) ops i op' (omega arith) in
     rw (here, drop-one ops ops' i op' within same)
-    (fed-through (stage_now meaning op) (stage_now meaning op') xs t (stages_now meaning (drop (i + 1) ops)) (stages_now meaning (drop (i + 1) ops')) before after e (sym gives) (sym behind) (rw others at fed))
+    (fed-through (stage_now meaning op) (stage_now meaning op') xs t (stages_now meaning (drop (i + 1) ops)) (stages_now meaning (drop (i + 1) ops')) before after e (sym gives) (sym stage_after) (rw others at fed))

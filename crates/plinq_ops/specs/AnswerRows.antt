@@ -24,8 +24,8 @@ take_any_two = record {
 }
 
 -- the first two of three, in any order
-as_unordered_behind_a_take : Answer {L = ℕ} (λ _. example) true (Take (pos 2) ∷ AsUnordered ∷ []) three_items (ended (2 ∷ 1 ∷ []) End)
-as_unordered_behind_a_take = record {
+as_unordered_after_a_take : Answer {L = ℕ} (λ _. example) true (Take (pos 2) ∷ AsUnordered ∷ []) three_items (ended (2 ∷ 1 ∷ []) End)
+as_unordered_after_a_take = record {
   between = ended (1 ∷ 2 ∷ []) End;
   given = refl;
   goes_on = record {

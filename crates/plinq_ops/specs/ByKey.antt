@@ -8,7 +8,7 @@ use Rattle.plinq_ops.specs.declared.known.Known.{Known}
 use Rattle.plinq_ops.specs.declared.known.Known.TheVariants.{Nothing, Key, Position}
 use Rattle.plinq_ops.specs.Stage.{Stage, taking, skipping}
 use Rattle.plinq_ops.specs.Operator.{item_count, counted_off, stage_left, needed, keeps_count, example}
-use Rattle.plinq_ops.specs.Fragment.{position_behind}
+use Rattle.plinq_ops.specs.Fragment.{position_after}
 
 -- the order of the elements is known
 abbrev pub knows_order : Known → Bool
@@ -46,12 +46,12 @@ without_position Key = Key
 without_position Position = Key
 
 -- what is known of the elements after an operator
-abbrev pub known_behind : {L : Type 0} → Known → Op L → Known
-known_behind known op = if keeps_count op then known else without_position known
+abbrev pub known_after : {L : Type 0} → Known → Op L → Known
+known_after known op = if keeps_count op then known else without_position known
 
 abbrev pub is_by_key_from : {L : Type 0} → Known → List (Op L) → Bool
 is_by_key_from known [] = true
-is_by_key_from known (op ∷ ops) = can_apply known op && is_by_key_from (known_behind known op) ops
+is_by_key_from known (op ∷ ops) = can_apply known op && is_by_key_from (known_after known op) ops
 
 -- whether a worker can apply all the operators to elements whose keys are their positions
 abbrev pub is_by_key : {L : Type 0} → List (Op L) → Bool
@@ -61,7 +61,7 @@ is_by_key ops = is_by_key_from Position ops
 abbrev pub left_at : {L T : Type 0} → (L → Meaning T) → List (Op L) → ℤ → List (Stage T)
 left_at meaning [] p = []
 left_at meaning (op ∷ ops) p =
-    stage_left meaning op (counted_off op - item_count p) ∷ left_at meaning ops (position_behind op p)
+    stage_left meaning op (counted_off op - item_count p) ∷ left_at meaning ops (position_after op p)
 
 -- how many elements have got past an operator, where so many have reached it and none was filtered out
 abbrev pub passed_on : {L : Type 0} → Op L → ℕ → ℕ
@@ -77,11 +77,11 @@ stages_at meaning (op ∷ ops) n = stage_left meaning op (counted_off op - n) �
 take_by_key : is_by_key {L = ℕ} (Skip (pos 1) ∷ Select 0 ∷ TakeWhile 0 ∷ Take (pos 2) ∷ Skip (pos 1) ∷ Filter 0 ∷ TakeWhile 0 ∷ []) ≡ true
 take_by_key = refl
 
-take_behind_a_filter : is_by_key {L = ℕ} (Filter 0 ∷ Take (pos 2) ∷ []) ≡ false
-take_behind_a_filter = refl
+take_after_a_filter : is_by_key {L = ℕ} (Filter 0 ∷ Take (pos 2) ∷ []) ≡ false
+take_after_a_filter = refl
 
-skip_behind_an_expansion : is_by_key {L = ℕ} (SelectMany 0 ∷ Skip (pos 2) ∷ []) ≡ false
-skip_behind_an_expansion = refl
+skip_after_an_expansion : is_by_key {L = ℕ} (SelectMany 0 ∷ Skip (pos 2) ∷ []) ≡ false
+skip_after_an_expansion = refl
 
 as_unordered_by_key : is_by_key {L = ℕ} (AsUnordered ∷ []) ≡ false
 as_unordered_by_key = refl
@@ -91,8 +91,8 @@ before_the_skip_ends : stages_at {L = ℕ} (λ _. example) (Skip (pos 3) ∷ Tak
 before_the_skip_ends = refl
 
 -- a Skip after another counts from the position after it
-behind_two_skips : stages_at {L = ℕ} (λ _. example) (Skip (pos 1) ∷ Skip (pos 2) ∷ Take (pos 4) ∷ []) 4 ≡ skipping 0 ∷ skipping 0 ∷ taking 3 ∷ []
-behind_two_skips = refl
+after_two_skips : stages_at {L = ℕ} (λ _. example) (Skip (pos 1) ∷ Skip (pos 2) ∷ Take (pos 4) ∷ []) 4 ≡ skipping 0 ∷ skipping 0 ∷ taking 3 ∷ []
+after_two_skips = refl
 
 left_before_the_skip_ends : left_at {L = ℕ} (λ _. example) (Skip (pos 3) ∷ Take (pos 1) ∷ []) (pos 2) ≡ skipping 1 ∷ taking 1 ∷ []
 left_before_the_skip_ends = refl

@@ -74,8 +74,8 @@ stopped_by_the_cut : chunk_answer {L = ℕ} (λ _. example) (Select 0 ∷ []) 7 
 stopped_by_the_cut = refl
 
 -- the element of key 2 is after the last that is taken, and stops a chunk that begins with it
-stopped_behind_a_take : chunk_answer {L = ℕ} (λ _. example) (Take (pos 2) ∷ []) 9 2 (7 ∷ 8 ∷ []) ≡ record { trace = ended [] End; dropped = false; stop = Some 2 }
-stopped_behind_a_take = refl
+stopped_after_a_take : chunk_answer {L = ℕ} (λ _. example) (Take (pos 2) ∷ []) 9 2 (7 ∷ 8 ∷ []) ≡ record { trace = ended [] End; dropped = false; stop = Some 2 }
+stopped_after_a_take = refl
 
 -- a result reports the answer of a chunk: its items, its ending and its stop, beside the chunk's first key, number of
 -- items and tail
@@ -113,7 +113,7 @@ abbrev pub stop_over : ℕ → ℕ → ℕ → Option Stop
 stop_over cut key n = if n == 0 then None else Some (record { key = key; ending = if nat_lt cut key then Dropped else EndsHere })
 
 -- between `before` and `out` stand items after which the answer of the rest gives the answer of all
-pub record BehindItems {T : Type 0} (before out : List T) (rest all : ChunkAnswer T) : Type 0 where
+pub record AfterItems {T : Type 0} (before out : List T) (rest all : ChunkAnswer T) : Type 0 where
   pub items : before ++ all.trace.items ≡ out ++ rest.trace.items
   pub ending : all.trace.ending ≡ rest.trace.ending
   pub dropped : all.dropped ≡ rest.dropped

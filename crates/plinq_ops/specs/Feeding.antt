@@ -4,7 +4,7 @@ use Rattle.plinq_source.specs.declared.ending.Ending.{Ending}
 use Rattle.plinq_source.specs.Trace.{Trace}
 use Rattle.plinq_ops.specs.declared.op.Op.{Op}
 use Rattle.plinq_ops.specs.declared.op.Op.TheVariants.{Take, Skip}
-use Rattle.plinq_ops.specs.Stage.{Stage, seq, seq_behind}
+use Rattle.plinq_ops.specs.Stage.{Stage, seq, seq_after}
 use Rattle.plinq_ops.specs.Operator.{item_count}
 
 -- the answer to a trace that was fed stands after what was out before, its ending was reported, and where there is none
@@ -12,7 +12,7 @@ use Rattle.plinq_ops.specs.Operator.{item_count}
 pub record IsFed {T : Type 0} (ss : List (Stage T)) (t : Trace T) (before after : List T) (ss' : List (Stage T)) (ending : Option Ending) : Type 0 where
   pub items : after ≡ before ++ (seq ss t).items
   pub told : ending ≡ (seq ss t).ending
-  pub left : ending ≡ None → ss' ≡ seq_behind ss t
+  pub left : ending ≡ None → ss' ≡ seq_after ss t
 
 -- a Take of at most 0
 abbrev pub is_empty_take : {L : Type 0} → Op L → Bool

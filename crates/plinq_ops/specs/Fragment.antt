@@ -29,14 +29,14 @@ apply_at meaning (Skip n) p t = skipped_at (pos (item_count n)) p t
 apply_at meaning op p t = apply (stage_of meaning op) t
 
 -- the position after an operator: a Skip of n moves it back by n, also below 0
-abbrev pub position_behind : {L : Type 0} → Op L → ℤ → ℤ
-position_behind (Skip n) p = p -ℤ pos (item_count n)
-position_behind op p = p
+abbrev pub position_after : {L : Type 0} → Op L → ℤ → ℤ
+position_after (Skip n) p = p -ℤ pos (item_count n)
+position_after op p = p
 
 -- the operators one after another on what they see of the element at a position
 abbrev pub fragment_at : {L T : Type 0} → (L → Meaning T) → List (Op L) → ℤ → Trace T → Trace T
 fragment_at meaning [] p t = t
-fragment_at meaning (op ∷ ops) p t = fragment_at meaning ops (position_behind op p) (apply_at meaning op p t)
+fragment_at meaning (op ∷ ops) p t = fragment_at meaning ops (position_after op p) (apply_at meaning op p t)
 
 -- what the worker part gives for the element of a key
 abbrev pub fragment_of : {L T : Type 0} → (L → Meaning T) → List (Op L) → ℕ → T → Trace T
@@ -64,8 +64,8 @@ first_taken = refl
 last_taken : example_fragment (Skip (pos 1) ∷ Take (pos 2) ∷ Select 0 ∷ []) 2 6 ≡ ended (5 ∷ []) End
 last_taken = refl
 
-behind_the_last : example_fragment (Skip (pos 1) ∷ Take (pos 2) ∷ Select 0 ∷ []) 3 7 ≡ ended [] End
-behind_the_last = refl
+after_the_last : example_fragment (Skip (pos 1) ∷ Take (pos 2) ∷ Select 0 ∷ []) 3 7 ≡ ended [] End
+after_the_last = refl
 
 -- before the Skip has passed its number the position is below 0, where a Take is far from its last
 before_the_first : example_fragment (Skip (pos 1) ∷ Take (pos 1) ∷ []) 0 5 ≡ open_trace []
@@ -79,11 +79,11 @@ fault_of_the_last : example_fragment (Select 0 ∷ Take (pos 1) ∷ []) 0 0 ≡ 
 fault_of_the_last = refl
 
 -- a TakeWhile and a Take leave the positions as they are
-behind_a_take_while : example_fragment (TakeWhile 0 ∷ Take (pos 2) ∷ []) 1 2 ≡ ended (2 ∷ []) End
-behind_a_take_while = refl
+after_a_take_while : example_fragment (TakeWhile 0 ∷ Take (pos 2) ∷ []) 1 2 ≡ ended (2 ∷ []) End
+after_a_take_while = refl
 
-behind_a_take : example_fragment (Take (pos 3) ∷ Skip (pos 1) ∷ []) 1 5 ≡ open_trace (5 ∷ [])
-behind_a_take = refl
+after_a_take : example_fragment (Take (pos 3) ∷ Skip (pos 1) ∷ []) 1 5 ≡ open_trace (5 ∷ [])
+after_a_take = refl
 
 -- the element of key 0 is the first: it alone is taken, and the refusal isn't reached
 glued_to_the_last : glue {L = ℕ} (λ _. example) (Take (pos 1) ∷ []) (ended (4 ∷ 5 ∷ []) (Refused 7)) ≡ ended (4 ∷ []) End

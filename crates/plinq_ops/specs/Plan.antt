@@ -10,7 +10,7 @@ use Rattle.plinq_ops.specs.declared.known.Known.TheVariants.{Nothing, Position}
 use Rattle.plinq_ops.specs.declared.plan.Plan.{Plan}
 use Rattle.plinq_ops.specs.Query.{QueryView}
 use Rattle.plinq_ops.specs.Feeding.{is_empty_take}
-use Rattle.plinq_ops.specs.ByKey.{can_apply, known_behind}
+use Rattle.plinq_ops.specs.ByKey.{can_apply, known_after}
 
 -- an ordered query is merged by key, any other by arrival
 abbrev pub order_of : Bool → Order
@@ -25,12 +25,12 @@ known_at_source ByArrival = Nothing
 -- the longest prefix that a worker can apply
 abbrev pub worker_from : {L : Type 0} → Known → List (Op L) → List (Op L)
 worker_from known [] = []
-worker_from known (op ∷ ops) = if can_apply known op then op ∷ worker_from (known_behind known op) ops else []
+worker_from known (op ∷ ops) = if can_apply known op then op ∷ worker_from (known_after known op) ops else []
 
 -- the rest
 abbrev pub after_from : {L : Type 0} → Known → List (Op L) → List (Op L)
 after_from known [] = []
-after_from known (op ∷ ops) = if can_apply known op then after_from (known_behind known op) ops else op ∷ ops
+after_from known (op ∷ ops) = if can_apply known op then after_from (known_after known op) ops else op ∷ ops
 
 abbrev pub worker_part : {L : Type 0} → Order → List (Op L) → List (Op L)
 worker_part order ops = worker_from (known_at_source order) ops

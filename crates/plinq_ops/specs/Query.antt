@@ -69,14 +69,14 @@ one_taken = record empty_query { ops = Take (pos 1) ∷ [] }
 order_at_the_source : with_order {L = ℕ} empty_query ≡ Ok (record empty_query { ordered = true })
 order_at_the_source = refl
 
-order_behind_an_operator : with_order one_taken ≡ Err (one_taken, NotAtSource)
-order_behind_an_operator = refl
+order_after_an_operator : with_order one_taken ≡ Err (one_taken, NotAtSource)
+order_after_an_operator = refl
 
 order_twice : with_order {L = ℕ} (record empty_query { ordered = true }) ≡ Err (record empty_query { ordered = true }, NotAtSource)
 order_twice = refl
 
-option_behind_an_operator : with_option one_taken NotBuffered ≡ Ok (record one_taken { merge = Some NotBuffered })
-option_behind_an_operator = refl
+option_after_an_operator : with_option one_taken NotBuffered ≡ Ok (record one_taken { merge = Some NotBuffered })
+option_after_an_operator = refl
 
 -- the default, where it was given, is an option that was given
 option_twice : with_option (record one_taken { merge = Some Default }) NotBuffered ≡ Err (record one_taken { merge = Some Default }, MergeTwice)

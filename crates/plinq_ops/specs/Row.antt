@@ -34,8 +34,8 @@ abbrev pub all_followed : {T : Type 0} → List (Trace T) → Trace T
 all_followed [] = open_trace []
 all_followed (t ∷ ts) = followed t (all_followed ts)
 
-nothing_behind_a_fault : all_followed {T = ℕ} (open_trace (4 ∷ []) ∷ ended (5 ∷ []) (Fault 1) ∷ ended (6 ∷ []) End ∷ []) ≡ ended (4 ∷ 5 ∷ []) (Fault 1)
-nothing_behind_a_fault = refl
+nothing_after_a_fault : all_followed {T = ℕ} (open_trace (4 ∷ []) ∷ ended (5 ∷ []) (Fault 1) ∷ ended (6 ∷ []) End ∷ []) ≡ ended (4 ∷ 5 ∷ []) (Fault 1)
+nothing_after_a_fault = refl
 
 -- what results give one after another
 abbrev pub row_trace : {T : Type 0} → List (ChunkResult T) → Trace T

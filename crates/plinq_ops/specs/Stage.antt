@@ -41,17 +41,17 @@ seq [] t = t
 seq (s ∷ ss) t = seq ss (apply s t)
 
 -- what is left of an operator once these items have reached it
-abbrev pub behind : {T : Type 0} → Stage T → List T → Stage T
-behind (pieces piece) xs = pieces piece
-behind (taking k) xs = taking (k - length xs)
-behind (skipping k) xs = skipping (k - length xs)
-behind (skipping_while test) xs = if all_pass test xs then skipping_while test else unchanged
-behind unchanged xs = unchanged
+abbrev pub stage_after : {T : Type 0} → Stage T → List T → Stage T
+stage_after (pieces piece) xs = pieces piece
+stage_after (taking k) xs = taking (k - length xs)
+stage_after (skipping k) xs = skipping (k - length xs)
+stage_after (skipping_while test) xs = if all_pass test xs then skipping_while test else unchanged
+stage_after unchanged xs = unchanged
 
 -- what is left of the operators once this trace has gone through them
-abbrev pub seq_behind : {T : Type 0} → List (Stage T) → Trace T → List (Stage T)
-seq_behind [] t = []
-seq_behind (s ∷ ss) t = behind s t.items ∷ seq_behind ss (apply s t)
+abbrev pub seq_after : {T : Type 0} → List (Stage T) → Trace T → List (Stage T)
+seq_after [] t = []
+seq_after (s ∷ ss) t = stage_after s t.items ∷ seq_after ss (apply s t)
 
 -- a Take of none decides the answer before any item
 abbrev pub takes_none : {T : Type 0} → Stage T → Bool
@@ -81,15 +81,15 @@ skip_five_of_two : skipped {T = ℕ} 5 (ended (1 ∷ 2 ∷ []) (Refused 7)) ≡ 
 skip_five_of_two = refl
 
 -- of an open trace one more can be taken after two of three
-behind_two : seq_behind {T = ℕ} (taking 3 ∷ skipping 1 ∷ []) (open_trace (5 ∷ 6 ∷ [])) ≡ taking 1 ∷ skipping (1 - 2) ∷ []
-behind_two = refl
+after_two : seq_after {T = ℕ} (taking 3 ∷ skipping 1 ∷ []) (open_trace (5 ∷ 6 ∷ [])) ≡ taking 1 ∷ skipping (1 - 2) ∷ []
+after_two = refl
 
 -- after an item that fails nothing is skipped any more, whatever came before it
 abbrev is_less : ℕ → ℕ → Result Bool ℕ
 is_less m n = Ok (nat_lt n m)
 
-behind_one_that_fails : seq_behind {T = ℕ} (skipping_while (is_less 5) ∷ taking 3 ∷ []) (open_trace (1 ∷ 9 ∷ 2 ∷ [])) ≡ unchanged ∷ taking 1 ∷ []
-behind_one_that_fails = refl
+after_one_that_fails : seq_after {T = ℕ} (skipping_while (is_less 5) ∷ taking 3 ∷ []) (open_trace (1 ∷ 9 ∷ 2 ∷ [])) ≡ unchanged ∷ taking 1 ∷ []
+after_one_that_fails = refl
 
-behind_two_that_pass : seq_behind {T = ℕ} (skipping_while (is_less 5) ∷ taking 3 ∷ []) (open_trace (1 ∷ 2 ∷ [])) ≡ skipping_while (is_less 5) ∷ taking 3 ∷ []
-behind_two_that_pass = refl
+after_two_that_pass : seq_after {T = ℕ} (skipping_while (is_less 5) ∷ taking 3 ∷ []) (open_trace (1 ∷ 2 ∷ [])) ≡ skipping_while (is_less 5) ∷ taking 3 ∷ []
+after_two_that_pass = refl

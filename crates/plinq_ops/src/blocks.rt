@@ -2,7 +2,7 @@ ghost use Rattle.std.specs.Prelude.{◌≡◌, ◌≤◌, false, length, take, d
 ghost use Rattle.plinq_source.specs.Trace.{open_trace};
 ghost use Rattle.plinq_lambda.specs.Block.{mapped_block, filtered_block};
 ghost use Rattle.plinq_ops.specs.declared.op.Op.TheVariants.{Select, Filter, TakeWhile};
-ghost use Rattle.plinq_ops.specs.Stage.{apply, behind, takes_none, taking, skipping};
+ghost use Rattle.plinq_ops.specs.Stage.{apply, stage_after, takes_none, taking, skipping};
 ghost use Rattle.plinq_ops.specs.Operator.{stage_of};
 ghost use Rattle.plinq_ops.specs.Passing.{ending_of, expands};
 ghost use Rattle.plinq_ops.specs.Pipeline.{stage_now};
@@ -22,7 +22,7 @@ pub(crate) fn pass_block<L: Lambda>(
     requires takes_some { takes_none (stage_now L.meaning op.old) ≡ false }
     ensures passed { record { items = block.new.items; ending = result }
         ≡ apply (stage_now L.meaning op.old) (open_trace block.old.items) }
-    ensures left { stage_now L.meaning op.new ≡ behind (stage_now L.meaning op.old) block.old.items }
+    ensures left { stage_now L.meaning op.new ≡ stage_after (stage_now L.meaning op.old) block.old.items }
 {
     match op {
         Remaining::Mapping(f) => select(*f, block),
@@ -97,7 +97,7 @@ fn ending_of(fault: Option<u32>) -> Option<Ending>
 fn take<T: Copy>(count: &mut u64, block: &mut Vec<T>) -> Option<Ending>
     ensures passed { record { items = block.new.items; ending = result }
         ≡ apply (taking count.old) (open_trace block.old.items) }
-    ensures left { taking count.new ≡ behind (taking count.old) block.old.items }
+    ensures left { taking count.new ≡ stage_after (taking count.old) block.old.items }
 {
     let len = block.len() as u64;
     if *count <= len {
@@ -112,7 +112,7 @@ fn take<T: Copy>(count: &mut u64, block: &mut Vec<T>) -> Option<Ending>
 /// Passes over the first `count` items.
 pub(crate) fn skip<T: Copy>(count: &mut u64, block: &mut Vec<T>)
     ensures passed { block.new.items ≡ drop count.old block.old.items }
-    ensures left { skipping count.new ≡ behind (skipping count.old) block.old.items }
+    ensures left { skipping count.new ≡ stage_after (skipping count.old) block.old.items }
 {
     let len = block.len();
     if *count >= len as u64 {

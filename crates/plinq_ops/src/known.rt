@@ -1,5 +1,5 @@
 ghost use Rattle.std.specs.Prelude.{◌≡◌};
-ghost use Rattle.plinq_ops.specs.ByKey.{can_apply, known_behind};
+ghost use Rattle.plinq_ops.specs.ByKey.{can_apply, known_after};
 ghost use Rattle.plinq_ops.specs.Plan.{known_at_source};
 
 use crate::op::Op;
@@ -40,8 +40,8 @@ impl Known {
     }
 
     /// What is known after the operator.
-    pub(crate) fn behind<L>(self, op: &Op<L>) -> Known
-        ensures { result ≡ known_behind self op.now }
+    pub(crate) fn past<L>(self, op: &Op<L>) -> Known
+        ensures { result ≡ known_after self op.now }
     {
         if self == Known::Position && !op.keeps_count() {
             return Known::Key;

@@ -15,7 +15,7 @@ ghost use Rattle.plinq_ops.specs.declared.order.Order.{Order};
 ghost use Rattle.plinq_ops.specs.declared.merge_option.MergeOption.{MergeOption};
 ghost use Rattle.plinq_ops.specs.declared.frag_end.FragEnd.TheVariants.{Dropped};
 ghost use Rattle.plinq_ops.specs.declared.results.ChunkResult.{ChunkResult};
-ghost use Rattle.plinq_ops.specs.Stage.{Stage, seq, seq_behind};
+ghost use Rattle.plinq_ops.specs.Stage.{Stage, seq, seq_after};
 ghost use Rattle.plinq_ops.specs.Feeding.{is_empty_take};
 ghost use Rattle.plinq_ops.specs.Sequential.{answer_of};
 ghost use Rattle.plinq_ops.specs.Batches.{batch_size, batches, batches_from, held_back};
@@ -23,14 +23,14 @@ ghost use Rattle.plinq_ops.specs.Answer.{Answer, keeps_order};
 ghost use Rattle.plinq_ops.specs.Plan.{worker_part, after_part};
 ghost use Rattle.plinq_ops.specs.Fragment.{glue, glued};
 ghost use Rattle.plinq_ops.specs.Chunk.{chunk_answer, IsChunkResult, result_trace};
-ghost use Rattle.plinq_ops.specs.Cut.{enders, most_items};
+ghost use Rattle.plinq_ops.specs.Cut.{stop_keys, most_items};
 ghost use Rattle.plinq_ops.specs.Row.{IsOffer, AreOffers, IsRow, row_trace, IsResultOf, AreResultsOf};
 
 /// What operators make of a trace that follows another: what they make of the first, and where that is open, after it
 /// what is left of them makes of the second.
 pub fn answer_goes_on<T>()
     ensures { (ss : List (Stage T)) (a b : Trace T) →
-        seq ss (followed a b) ≡ followed (seq ss a) (seq (seq_behind ss a) b) }
+        seq ss (followed a b) ≡ followed (seq ss a) (seq (seq_after ss a) b) }
 {}
 
 /// The split law: operators answer what their after part answers to the glued fragments of their worker part, by key
@@ -80,7 +80,7 @@ pub fn result_gives_its_answer<L, T>()
 pub fn stop_ends_the_run<L, T>()
     ensures { (meaning : L → Meaning T) (worker : List (Op L)) (t : Trace T) (r : ChunkResult T) (k : ℕ) →
         IsOffer meaning worker t r → r.ending ≢ Dropped → r.stop ≡ Some k →
-        is_among (enders meaning worker 0 t.items) k ≡ true }
+        is_among (stop_keys meaning worker 0 t.items) k ≡ true }
 {}
 
 /// After items whose fragments leave the run open no result is dropped, whatever its cut: it gives the glued fragments

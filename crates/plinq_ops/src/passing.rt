@@ -1,6 +1,6 @@
 ghost use Rattle.std.specs.Prelude.{◌≡◌, false, ◌∷◌, []};
 ghost use Rattle.plinq_source.specs.Trace.{open_trace};
-ghost use Rattle.plinq_ops.specs.Stage.{apply, behind, takes_none};
+ghost use Rattle.plinq_ops.specs.Stage.{apply, stage_after, takes_none};
 ghost use Rattle.plinq_ops.specs.Pipeline.{stage_now};
 ghost use Rattle.plinq_ops.specs.Passing.{passed_trace, expands};
 
@@ -27,7 +27,7 @@ pub(crate) fn pass<L: Lambda>(op: &mut Remaining<'_, L>, item: &mut L::Item) -> 
     requires takes_some { takes_none (stage_now L.meaning op.old) ≡ false }
     ensures passed { passed_trace result item.new
         ≡ apply (stage_now L.meaning op.old) (open_trace (item.old ∷ [])) }
-    ensures left { stage_now L.meaning op.new ≡ behind (stage_now L.meaning op.old) (item.old ∷ []) }
+    ensures left { stage_now L.meaning op.new ≡ stage_after (stage_now L.meaning op.old) (item.old ∷ []) }
 {
     match op {
         Remaining::Mapping(f) => match f.map(*item) {

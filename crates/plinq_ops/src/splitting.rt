@@ -62,7 +62,7 @@ fn worker_len<L>(ops: &[Op<L>], order: Order) -> usize
         if !known.can_apply(op) {
             return at;
         }
-        known = known.behind(op);
+        known = known.past(op);
     }
     ops.len()
 }

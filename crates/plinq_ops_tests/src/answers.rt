@@ -250,7 +250,7 @@ fn from_the_first_that_fails(rt: HostRuntime) -> Result<(), Fail> {
 
 // What stands after the last element of a Take still has its say on that element.
 #[test]
-fn behind_a_take(rt: HostRuntime) -> Result<(), Fail> {
+fn after_a_take(rt: HostRuntime) -> Result<(), Fail> {
     let rows: [Row<'_>; 5] = [
         (
             &[1, 2],

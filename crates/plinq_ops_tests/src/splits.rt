@@ -121,7 +121,7 @@ fn answer(
 }
 
 // The keys whose fragments end the run.
-fn enders(alloc: Global, plan: &Plan<'_, Formula>, list: &[i64]) -> Result<Vec<u64>, OutOfMemory>
+fn stop_keys(alloc: Global, plan: &Plan<'_, Formula>, list: &[i64]) -> Result<Vec<u64>, OutOfMemory>
     requires by_key { is_by_key plan.now.worker.now ≡ true }
     requires some { list_any is_empty_take plan.now.worker.now ≡ false }
 {
@@ -176,12 +176,12 @@ fn joined(
     requires by_key { is_by_key plan.now.worker.now ≡ true }
     requires some { list_any is_empty_take plan.now.worker.now ≡ false }
 {
-    let cuts = enders(alloc, plan, list)?;
+    let cuts = stop_keys(alloc, plan, list)?;
     let mut items = Vec::new(alloc);
     let mut rest = list;
     for _chunk in 0..100 {
         let first = list.len().wrapping_sub(rest.len()) as u64;
-        let (front, behind) = rest.split_at(rest.len().min(dice.below(5) as usize));
+        let (front, following) = rest.split_at(rest.len().min(dice.below(5) as usize));
         let cut = cuts
             .get(dice.below(12) as usize)
             .copied()
@@ -190,7 +190,7 @@ fn joined(
         if let Some(told) = told {
             return Ok((items, told));
         }
-        rest = behind;
+        rest = following;
     }
     assert!(rt; rest.is_empty());
     Ok((items, ending))

@@ -10,8 +10,8 @@ use Rattle.plinq_keyed.specs.declared.event.Event.{Event}
 use Rattle.plinq_keyed.specs.declared.keyed.Keyed.{Keyed}
 use Rattle.plinq_keyed.specs.declared.record.Record.{Record}
 use Rattle.plinq_keyed.specs.Keys.{keys, keyed_from, rises_from, ordered_in_each, normalized, counts_up}
-use Rattle.plinq_keyed.specs.History.{Place, start, reply, place_behind, place_after, tells, is_run, IsLegalHistory, next_record, handed_out, given_by, record_items, IsChunkOf}
-use Rattle.plinq_keyed.proofs.Legal.{Told-from_tells, reply-first, place_behind-given, length-reply, IsPrefix-from_legal}
+use Rattle.plinq_keyed.specs.History.{Place, start, reply, next_place, place_after, tells, is_run, IsLegalHistory, next_record, handed_out, given_by, record_items, IsChunkOf}
+use Rattle.plinq_keyed.proofs.Legal.{Told-from_tells, reply-first, next_place-given, length-reply, IsPrefix-from_legal}
 use Rattle.plinq_keyed.proofs.Rising.{keys-keyed_from, counts_up-range, keys-handed_out}
 use Rattle.plinq_keyed.proofs.Distinct.{rises_from-less}
 use Rattle.plinq_ticket.specs.Weights.{total}
@@ -32,8 +32,8 @@ none-late g r h = ap (λ b. cond b 0 1) (le-leb (r.first + r.count) g h)
 place_after-grows : {T : Type 0} (t : Trace T) (p : Place) (h : List Record) → p.given ≤ (place_after t p h).given
 place_after-grows t p [] = omega arith
 place_after-grows t p (r ∷ h) =
-    let moved = place_behind-given t p r.asked in
-    let rest = place_after-grows t (place_behind t p r.asked) h in
+    let moved = next_place-given t p r.asked in
+    let rest = place_after-grows t (next_place t p r.asked) h in
     omega arith
 
 -- no record of a run ends above the place after it
@@ -43,21 +43,21 @@ run-ends t p (r ∷ h) g run within =
     let parts = and_parts (tells r (reply t p r.asked)) _ run in
     let told = Told-from_tells r (reply t p r.asked) parts.0 in
     let first : r.first ≡ p.given = told.first ∙ reply-first t p r.asked in
-    let moved = place_behind-given t p r.asked in
-    let grows = place_after-grows t (place_behind t p r.asked) h in
+    let moved = next_place-given t p r.asked in
+    let grows = place_after-grows t (next_place t p r.asked) h in
     let count = told.count in
     let here : late g r ≡ 0 = none-late g r (omega arith) in
-    let rest = run-ends t (place_behind t p r.asked) h g parts.1 within in
+    let rest = run-ends t (next_place t p r.asked) h g parts.1 within in
     omega arith
 
 -- after a share that ends by a key, a record that begins there is above it
-rises-behind : (least g : ℕ) (share : List Record) (r : Record) → keys_rise_from least share ≡ true → total (late g) share ≡ 0 → least ≤ g → r.first ≡ g → keys_rise_from least (share ++ r ∷ []) ≡ true
-rises-behind least g [] r rising ends below at = and_from _ _ (le-leb least r.first (omega arith)) refl
-rises-behind least g (x ∷ share) r rising ends below at =
+rises-after : (least g : ℕ) (share : List Record) (r : Record) → keys_rise_from least share ≡ true → total (late g) share ≡ 0 → least ≤ g → r.first ≡ g → keys_rise_from least (share ++ r ∷ []) ≡ true
+rises-after least g [] r rising ends below at = and_from _ _ (le-leb least r.first (omega arith)) refl
+rises-after least g (x ∷ share) r rising ends below at =
     let parts = and_parts (leb least x.first) _ rising in
     let first : late g x ≡ 0 = omega arith in
     let rest : total (late g) share ≡ 0 = omega arith in
-    and_from _ _ parts.0 (rises-behind (x.first + x.count) g share r parts.1 rest (late-none g x first) at)
+    and_from _ _ parts.0 (rises-after (x.first + x.count) g share r parts.1 rest (late-none g x first) at)
 
 -- a share stays one whose keys rise, with a record that comes after the whole history
 pub rises-next : {T : Type 0} (t : Trace T) (h share : List Record) (ticket : ℕ) (e : Event) → IsLegalHistory t h → Contains h share → keys_rise_from 0 share ≡ true → keys_rise_from 0 (share ++ next_record t h ticket e ∷ []) ≡ true
@@ -66,7 +66,7 @@ rises-next t h share ticket e legal contains rising =
     let all = run-ends t start h (given_by t h) run.0 (omega arith) in
     let some_of = contains (late (given_by t h)) in
     let none : total (late (given_by t h)) share ≡ 0 = omega arith in
-    rises-behind 0 (given_by t h) share (next_record t h ticket e) rising none (omega arith) (reply-first t (place_after t start h) e)
+    rises-after 0 (given_by t h) share (next_record t h ticket e) rising none (omega arith) (reply-first t (place_after t start h) e)
 
 -- a chunk of what is recorded next has as many items as the record says, and lies within its source
 pub chunk-within : {T : Type 0} (t : Trace T) (h : List Record) (ticket : ℕ) (e : Event) (chunk : Chunk T) → IsLegalHistory t h → IsChunkOf t (next_record t h ticket e) chunk →
@@ -97,9 +97,9 @@ rises-share t least (r ∷ share) rising =
     let items = record_items t r in
     let most = length-take r.count (drop r.first t.items) in
     let rest = rises-share t (r.first + r.count) share parts.1 in
-    let behind = rises_from-less (r.first + r.count) (r.first + length items) (keys (handed_out t share)) (omega arith) rest in
+    let past = rises_from-less (r.first + r.count) (r.first + length items) (keys (handed_out t share)) (omega arith) rest in
     ap (rises_from least) (map-append (λ (x : Keyed _). x.key) (keyed_from r.first items) (handed_out t share) ∙ ap (λ ks. ks ++ keys (handed_out t share)) (keys-keyed_from r.first items))
-    ∙ rises-range least r.first (length items) (keys (handed_out t share)) (leb-true least r.first parts.0) behind
+    ∙ rises-range least r.first (length items) (keys (handed_out t share)) (leb-true least r.first parts.0) past
 
 pub ordered-share : {T : Type 0} (t : Trace T) (share : List Record) → keys_rise_from 0 share ≡ true → ordered_in_each (keys (handed_out t share) ∷ []) ≡ true
 ordered-share t share rising = and_from _ _ (rises-share t 0 share rising) refl

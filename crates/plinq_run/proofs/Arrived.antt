@@ -74,7 +74,7 @@ module _ {T : Type 0} (offers : List (ChunkResult T)) where
   -- a part that gives nothing, all whose keys were offered
   record IsPlaced (p : ℕ × Part T) : Type 0 where
     pub empty : p.1.trace ≡ open_trace []
-    pub keys : (key : ℕ) → is_within p.0 p.1.behind key ≡ true → is_offered offers key ≡ true
+    pub keys : (key : ℕ) → is_within p.0 p.1.end key ≡ true → is_offered offers key ≡ true
 
   abbrev ArePlaced : List (ℕ × Part T) → Type 0
   ArePlaced [] = Unit {0}
@@ -126,17 +126,17 @@ module _ {T : Type 0} (offers : List (ChunkResult T)) where
   row-comes : (told : Option (ℕ × Ending)) (key : ℕ) (ps : List (ℕ × Part T)) → ArePlaced ps → Comes told key (row told key ps)
   row-comes told key [] are = gap-comes told key
   row-comes told key (p ∷ ps) are =
-      elim (p.0 == key) as (λ v. v ≡ (p.0 == key) → Comes told key (cond v (followed p.1.trace (row told p.1.behind ps)) (trace_of [] (ending_at told key)))) [
+      elim (p.0 == key) as (λ v. v ≡ (p.0 == key) → Comes told key (cond v (followed p.1.trace (row told p.1.end ps)) (trace_of [] (ending_at told key)))) [
         | true ↦ λ test.
-            let next : followed p.1.trace (row told p.1.behind ps) ≡ row told p.1.behind ps = ap (λ u. followed u (row told p.1.behind ps)) are.0.empty in
-            elim (row-comes told p.1.behind ps are.1) [
+            let next : followed p.1.trace (row told p.1.end ps) ≡ row told p.1.end ps = ap (λ u. followed u (row told p.1.end ps)) are.0.empty in
+            elim (row-comes told p.1.end ps are.1) [
               | inl none ↦ inl (next ∙ none)
               | inr come ↦ inr (record {
                 place = come.place;
                 told_is = come.told_is;
                 is = next ∙ come.is;
-                keys = λ k from below. elim (cases_lt k p.1.behind) [
-                  | inl here ↦ are.0.keys k (within-from p.0 p.1.behind k (omega (arith, same_key p.0 key test, from)) here)
+                keys = λ k from below. elim (cases_lt k p.1.end) [
+                  | inl here ↦ are.0.keys k (within-from p.0 p.1.end k (omega (arith, same_key p.0 key test, from)) here)
                   | inr past ↦ come.keys k past below
                 ];
               })

@@ -16,12 +16,12 @@ use Rattle.plinq_ops.specs.declared.op.Op.{Op}
 use Rattle.plinq_ops.specs.declared.plan.Plan.{Plan}
 use Rattle.plinq_ops.specs.declared.results.ChunkResult.{ChunkResult}
 use Rattle.plinq_ops.specs.Chunk.{ChunkAnswer, IsToldBy, IsChunkResult}
-use Rattle.plinq_ops.specs.Cut.{enders, no_cut, is_cut}
+use Rattle.plinq_ops.specs.Cut.{stop_keys, no_cut, is_cut}
 use Rattle.plinq_ops.specs.Row.{IsOffer}
-use Rattle.plinq_ops.proofs.Cut.{enders-above, enders-append, chunk_answer-above}
-use Rattle.plinq_merge.specs.Shown.{told_at, behind_result}
+use Rattle.plinq_ops.proofs.Cut.{stop_keys-above, stop_keys-append, chunk_answer-above}
+use Rattle.plinq_merge.specs.Shown.{told_at, end_of_result}
 use Rattle.plinq_merge.specs.Whole.{EndsAt}
-use Rattle.plinq_run.specs.declared.reach.Reach.{Reach}
+use Rattle.plinq_run.specs.declared.coverage.Coverage.{Coverage}
 use Rattle.plinq_run.specs.Handed.{is_end}
 use Rattle.plinq_run.specs.Reaching.{IsOffered, Covers}
 use Rattle.plinq_crew.specs.Results.{IsResult}
@@ -30,16 +30,16 @@ module _ {L T : Type 0} (meaning : L → Meaning T) (worker : List (Op L)) where
   -- a cut of a source is one of its first items, or after them
   cut-first : (xs ys : List T) (cut : ℕ) → is_cut meaning worker (xs ++ ys) cut ≡ true → (is_cut meaning worker xs cut ≡ true) ⊎ (length xs ≤ cut)
   cut-first xs ys cut is =
-      elim (or_cases (cut == no_cut) (is_among (enders meaning worker 0 (xs ++ ys)) cut) is) [
+      elim (or_cases (cut == no_cut) (is_among (stop_keys meaning worker 0 (xs ++ ys)) cut) is) [
         | inl none ↦ inl (or_left (cut == no_cut) _ none)
-        | inr ender ↦
-            let both : (is_among (enders meaning worker 0 xs) cut || is_among (enders meaning worker (0 + length xs) ys) cut) ≡ true =
-            sym (list_any-append (λ j. cut == j) (enders meaning worker 0 xs) (enders meaning worker (0 + length xs) ys))
-            ∙ ap (λ ks. is_among ks cut) (sym (enders-append meaning worker 0 xs ys))
-            ∙ ender in
-            elim (or_cases (is_among (enders meaning worker 0 xs) cut) (is_among (enders meaning worker (0 + length xs) ys) cut) both) [
+        | inr stop_key ↦
+            let both : (is_among (stop_keys meaning worker 0 xs) cut || is_among (stop_keys meaning worker (0 + length xs) ys) cut) ≡ true =
+            sym (list_any-append (λ j. cut == j) (stop_keys meaning worker 0 xs) (stop_keys meaning worker (0 + length xs) ys))
+            ∙ ap (λ ks. is_among ks cut) (sym (stop_keys-append meaning worker 0 xs ys))
+            ∙ stop_key in
+            elim (or_cases (is_among (stop_keys meaning worker 0 xs) cut) (is_among (stop_keys meaning worker (0 + length xs) ys) cut) both) [
               | inl here ↦ inl (or_right (cut == no_cut) _ here)
-              | inr later ↦ inr (omega (arith, enders-above meaning worker (0 + length xs) ys cut later))
+              | inr later ↦ inr (omega (arith, stop_keys-above meaning worker (0 + length xs) ys cut later))
             ]
       ]
 
@@ -57,7 +57,7 @@ module _ {L T : Type 0} (meaning : L → Meaning T) (worker : List (Op L)) where
         tail = made.tail;
       }
 
-  offer-first : (t first : Trace T) (r : ChunkResult T) → length t.items ≤ 2 ^ 40 → first.items ≡ take (length first.items) t.items → behind_result r ≤ length first.items
+  offer-first : (t first : Trace T) (r : ChunkResult T) → length t.items ≤ 2 ^ 40 → first.items ≡ take (length first.items) t.items → end_of_result r ≤ length first.items
       → (offer : IsOffer meaning worker t r) → (now : IsOffer meaning worker first r) × (offer.cut ≡ no_cut → now.cut ≡ no_cut)
   offer-first t first r few is within offer =
       let xs : List T = offer.chunk.items.items in
@@ -93,14 +93,14 @@ module _ {L T : Type 0} (meaning : L → Meaning T) (worker : List (Op L)) where
   told-first t first key (Some (Refused code)) less within told at = (omega (arith, less, within, at.0), told refl ∙ at.1)
   told-first t first key (Some Closed) less within told at = tt
 
-pub result-covered : {L T : Type 0} (meaning : L → Meaning T) (plan : Plan L) (t first : Trace T) (reach : Reach) (r : ChunkResult T) → length t.items ≤ 2 ^ 40 → Covers t reach first
-    → IsOffered (IsResult meaning plan t) reach r → IsResult meaning plan first r
-result-covered meaning plan t first reach r few covers offered =
-    let within : behind_result r ≤ length first.items = omega (arith, offered.1.behind, covers.behind) in
+pub result-covered : {L T : Type 0} (meaning : L → Meaning T) (plan : Plan L) (t first : Trace T) (coverage : Coverage) (r : ChunkResult T) → length t.items ≤ 2 ^ 40 → Covers t coverage first
+    → IsOffered (IsResult meaning plan t) coverage r → IsResult meaning plan first r
+result-covered meaning plan t first coverage r few covers offered =
+    let within : end_of_result r ≤ length first.items = omega (arith, offered.1.end, covers.end) in
     let offer = offer-first meaning plan.worker.now t first r few covers.items within offered.0.offer in
     record {
       offer = offer.0;
       uncut = λ by. offer.1 (offered.0.uncut by);
-      tail = told-first meaning plan.worker.now t first (behind_result r) r.tail covers.within within (λ is. covers.told (offered.1.told is)) offered.0.tail;
+      tail = told-first meaning plan.worker.now t first (end_of_result r) r.tail covers.within within (λ is. covers.told (offered.1.told is)) offered.0.tail;
       within = within;
     }

@@ -40,7 +40,7 @@ use Rattle.plinq_merge.specs.Shown.{Merge, answer, shown}
 use Rattle.plinq_merge.specs.Mergers.{plan_of, IsFor}
 use Rattle.plinq_merge.proofs.Gains.{answer-open}
 use Rattle.plinq_run.specs.declared.conducting.Ended.{Ended}
-use Rattle.plinq_run.specs.declared.reach.Reach.{Reach}
+use Rattle.plinq_run.specs.declared.coverage.Coverage.{Coverage}
 use Rattle.plinq_run.specs.declared.report.Report.{Report}
 use Rattle.plinq_run.specs.declared.run_fault.RunFault.{RunFault}
 use Rattle.plinq_run.specs.Endings.{ending_in, reported}
@@ -102,25 +102,25 @@ none-ended meaning accepts refuses option plan t s fault told =
 
 module _ {L T K : Type 0} {lambda : Ghosts L T} (t : Trace T) (accepts : K → List T → K → Type 0) (refuses : K → List T → ℕ → K → Type 0) (few : length t.items ≤ 2 ^ 40) where
   -- a run ends with a whole answer, or with the first batches of one
-  pub ended-run : {S U : Type 0} {source : SourceGhosts S U} (plan : Plan L) (option : MergeOption) (s : K) (m : Merger L T lambda) (reach : Reach) (fault : Option MergeFault) (s' : K) (result : Result (Ended S U source) RunFault)
-      → IsUndecided plan → Merges (IsOffered (IsResult lambda.meaning plan t) reach) accepts refuses (merge_for lambda.meaning plan option) s m fault s'
+  pub ended-run : {S U : Type 0} {source : SourceGhosts S U} (plan : Plan L) (option : MergeOption) (s : K) (m : Merger L T lambda) (coverage : Coverage) (fault : Option MergeFault) (s' : K) (result : Result (Ended S U source) RunFault)
+      → IsUndecided plan → Merges (IsOffered (IsResult lambda.meaning plan t) coverage) accepts refuses (merge_for lambda.meaning plan option) s m fault s'
       → OnOk result (fault ≡ None)
       → IfOk result (λ e. (offers : List (ChunkResult T)) → IsFor m offers → (answer (plan_of m) offers).ending ≡ Some e.ending)
-      → IfOk result (λ e. e.reach ≡ reach)
+      → IfOk result (λ e. e.coverage ≡ coverage)
       → IfErr result (λ f. cause_of f ≡ cause_in_merge fault)
       → Ends accepts refuses option (MayMerge lambda.meaning plan) t s s' result
-  ended-run plan option s m reach fault s' (Ok e) undecided h none ends is_reach told =
-      let P : ChunkResult T → Type 0 = IsOffered (IsResult lambda.meaning plan t) reach in
-      let whole = whole-run lambda.meaning plan option undecided t few accepts refuses reach s m s' e.ending
+  ended-run plan option s m coverage fault s' (Ok e) undecided h none ends is_coverage told =
+      let P : ChunkResult T → Type 0 = IsOffered (IsResult lambda.meaning plan t) coverage in
+      let whole = whole-run lambda.meaning plan option undecided t few accepts refuses coverage s m s' e.ending
       (subst (λ f. Merges P accepts refuses (merge_for lambda.meaning plan option) s m f s') none h) ends in
       record {
         answer = whole.answer;
         may = whole.may;
-        accounts = λ first covers. whole.accounts first (subst (λ x. Covers t x first) is_reach covers);
+        accounts = λ first covers. whole.accounts first (subst (λ x. Covers t x first) is_coverage covers);
         has_run = whole.has_run;
       }
-  ended-run plan option s m reach fault s' (Err f) undecided h none ends is_reach told =
-      broken-run lambda.meaning plan option undecided t few accepts refuses reach s m fault s' f h told
+  ended-run plan option s m coverage fault s' (Err f) undecided h none ends is_coverage told =
+      broken-run lambda.meaning plan option undecided t few accepts refuses coverage s m fault s' f h told
 
 -- what holds of the partitions with which it is reported
 pub back-as : {X S U : Type 0} {source : SourceGhosts S U} (partitions_of : X → Vec (Partition S U source) Global) (P : Vec (Partition S U source) Global → Type 0) (partitions : Vec (Partition S U source) Global) (result : Result X RunFault)
@@ -131,12 +131,12 @@ back-as partitions_of P partitions (Err f) is p = tt
 module _ {K T : Type 0} (accepts : K → List T → K → Type 0) (refuses : K → List T → ℕ → K → Type 0) (option : MergeOption) (May : Trace T → Trace T → Type 0) (t : Trace T) (s s' : K) where
   -- the report of a run is of the same answer, which its records account for
   pub ends-reported : {S U : Type 0} {source : SourceGhosts S U} (a : Result (Ended S U source) RunFault) (b : Result Report RunFault) → Ends accepts refuses option May t s s' a → IsReportOf (ending_in a) (reported b)
-      → IfOk b (λ r. IsLegalHistory t r.records.items) → IfOk a (λ e. IfOk b (λ r. accounts_for e.reach r.records.items ≡ true)) → Reports accepts refuses option May t s s' b
+      → IfOk b (λ r. IsLegalHistory t r.records.items) → IfOk a (λ e. IfOk b (λ r. accounts_for e.coverage r.records.items ≡ true)) → Reports accepts refuses option May t s s' b
   ends-reported (Ok e) (Ok r) h is legal all =
       record {
         answer = h.answer;
         may = h.may;
-        accounts = h.accounts (handed_trace t r.records.items) (covers-handed t e.reach r.records.items legal all);
+        accounts = h.accounts (handed_trace t r.records.items) (covers-handed t e.coverage r.records.items legal all);
         has_run = subst (λ x. HasRun accepts option h.answer s s' x) (sym is) h.has_run;
       }
   ends-reported (Ok e) (Err f) h is legal all =

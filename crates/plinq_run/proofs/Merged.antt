@@ -12,7 +12,7 @@ use Rattle.plinq_merge.specs.Shown.{Merge, shown}
 use Rattle.plinq_merge.specs.Mergers.{plan_of, Takes, StopsShort}
 use Rattle.plinq_merge.specs.Whole.{AreApart}
 use Rattle.plinq_merge.proofs.Mergers.{AreOneMore, takes-ok, takes-err}
-use Rattle.plinq_run.specs.declared.reach.Reach.{Reach}
+use Rattle.plinq_run.specs.declared.coverage.Coverage.{Coverage}
 use Rattle.plinq_run.specs.Merged.{IsMerging, HasStopped, Merges}
 use Rattle.plinq_run.specs.Reaching.{IsOffered, Grows}
 use Rattle.plinq_run.proofs.Without.{apart-push}
@@ -64,13 +64,13 @@ module _ {L T K : Type 0} {lambda : Ghosts L T} (P : ChunkResult T → Type 0) (
   merges-weaker Q f merge s m (Some fault) s' h = record { offers = h.offers; are = All-weaker P Q f h.offers h.are; apart = h.apart; short = h.short }
 
 -- what is within a reach is so when it has grown
-reaches-more : {T : Type 0} (P : ChunkResult T → Type 0) (reach reach' : Reach) → Grows reach reach' → (r : ChunkResult T) → IsOffered P reach r → IsOffered P reach' r
-reaches-more P reach reach' grows r x = (x.0, record { behind = omega (arith, x.1.behind, grows.behind); told = λ is. grows.told (x.1.told is) })
+reaches-more : {T : Type 0} (P : ChunkResult T → Type 0) (coverage coverage' : Coverage) → Grows coverage coverage' → (r : ChunkResult T) → IsOffered P coverage r → IsOffered P coverage' r
+reaches-more P coverage coverage' grows r x = (x.0, record { end = omega (arith, x.1.end, grows.end); told = λ is. grows.told (x.1.told is) })
 
 pub offered-more : {L T K : Type 0} {lambda : Ghosts L T} (P : ChunkResult T → Type 0) (accepts : K → List T → K → Type 0) (refuses : K → List T → ℕ → K → Type 0)
-    (reach reach' : Reach) → Grows reach reach' → (merge : Merge T) (s : K) (m : Merger L T lambda) (fault : Option MergeFault) (s' : K)
-    → Merges (IsOffered P reach) accepts refuses merge s m fault s' → Merges (IsOffered P reach') accepts refuses merge s m fault s'
-offered-more P accepts refuses reach reach' grows merge s m fault s' h = merges-weaker (IsOffered P reach) accepts refuses (IsOffered P reach') (reaches-more P reach reach' grows) merge s m fault s' h
+    (coverage coverage' : Coverage) → Grows coverage coverage' → (merge : Merge T) (s : K) (m : Merger L T lambda) (fault : Option MergeFault) (s' : K)
+    → Merges (IsOffered P coverage) accepts refuses merge s m fault s' → Merges (IsOffered P coverage') accepts refuses merge s m fault s'
+offered-more P accepts refuses coverage coverage' grows merge s m fault s' h = merges-weaker (IsOffered P coverage) accepts refuses (IsOffered P coverage') (reaches-more P coverage coverage' grows) merge s m fault s' h
 
 pub same-state : {M F K : Type 0} (m m' : M) (f f' : F) (s s' : K) → m' ≡ m → f' ≡ f → s' ≡ s → (let one : M × (F × K) = (m', (f', s')) in one ≡ (m, (f, s)))
 same-state m m' f f' s s' merger fault sink = rw (merger, fault, sink) refl

@@ -15,19 +15,19 @@ use Rattle.plinq_ops.specs.declared.results.ChunkResult.{ChunkResult}
 use Rattle.plinq_ops.specs.Batches.{batch_size, batches, batches_from}
 use Rattle.plinq_ops.specs.Fragment.{glue}
 use Rattle.plinq_ops.specs.Row.{AreOffers}
-use Rattle.plinq_ops.specs.Stage.{seq, seq_behind}
+use Rattle.plinq_ops.specs.Stage.{seq, seq_after}
 use Rattle.plinq_ops.proofs.Stages.{seq-followed}
 use Rattle.plinq_merge.specs.declared.merge_fault.MergeFault.{MergeFault}
 use Rattle.plinq_merge.specs.declared.merge_fault.MergeFault.TheVariants.{Memory as NoMemory, Sink as Refusal, Twice, Gap, Failed, Cancelled}
 use Rattle.plinq_merge.specs.declared.merger.Merger.{Merger}
 use Rattle.plinq_merge.specs.Sending.{IsCutOff}
 use Rattle.plinq_merge.specs.Shown.{Merge, merged, answer, shown}
-use Rattle.plinq_merge.specs.Mergers.{plan_of, IsFor, undelivered_of, StopsShort}
+use Rattle.plinq_merge.specs.Mergers.{plan_of, IsFor, delivery_fault_of, StopsShort}
 use Rattle.plinq_merge.specs.Whole.{AreTrueTails, AreApart, AreFirstOf}
 use Rattle.plinq_merge.proofs.Gains.{answer-open}
 use Rattle.plinq_merge.proofs.Sent.{cut-before}
 use Rattle.plinq_merge.proofs.Whole.{merged-begins, batches-first}
-use Rattle.plinq_run.specs.declared.reach.Reach.{Reach}
+use Rattle.plinq_run.specs.declared.coverage.Coverage.{Coverage}
 use Rattle.plinq_run.specs.declared.run_fault.RunFault.{RunFault}
 use Rattle.plinq_run.specs.Merged.{merge_for, Merges}
 use Rattle.plinq_crew.specs.Plans.{IsUndecided}
@@ -81,7 +81,7 @@ module _ {L T : Type 0} (meaning : L → Meaning T) (plan : Plan L) (option : Me
   begun-answer : (t : Trace T) (offers : List (ChunkResult T)) → (begun : HasBegun meaning plan t offers) → (rest : Trace T) × (merged_answer meaning plan begun.taken ≡ followed (answer Made offers) rest)
   begun-answer t offers begun =
       let first : Trace T = merged plan.order offers in
-      let rest : Trace T = seq (seq_behind Made.after first) begun.rest in (
+      let rest : Trace T = seq (seq_after Made.after first) begun.rest in (
         rest,
         ap (seq Made.after) begun.is
             ∙ seq-followed Made.after first begun.rest
@@ -105,57 +105,57 @@ module _ {L T : Type 0} (meaning : L → Meaning T) (plan : Plan L) (option : Me
 
 module _ {L T K : Type 0} (meaning : L → Meaning T) (plan : Plan L) (option : MergeOption) (undecided : IsUndecided plan) (t : Trace T) (few : length t.items ≤ 2 ^ 40)
     (accepts : K → List T → K → Type 0) (refuses : K → List T → ℕ → K → Type 0) where
-  abbrev Merged : {L' : Type 0} {lambda : Ghosts L' T} → Reach → K → Merger L' T lambda → Option MergeFault → K → Type 0
-  Merged reach s m fault s' = Merges (IsOffered (IsResult meaning plan t) reach) accepts refuses (merge_for meaning plan option) s m fault s'
+  abbrev Merged : {L' : Type 0} {lambda : Ghosts L' T} → Coverage → K → Merger L' T lambda → Option MergeFault → K → Type 0
+  Merged coverage s m fault s' = Merges (IsOffered (IsResult meaning plan t) coverage) accepts refuses (merge_for meaning plan option) s m fault s'
 
   abbrev Ended : {L' : Type 0} {lambda : Ghosts L' T} → Merger L' T lambda → Ending → Type 0
   Ended m e = (offers : List (ChunkResult T)) → IsFor m offers → (answer (plan_of m) offers).ending ≡ Some e
 
   -- an answer was delivered, and what has all that was offered of the source has it too
-  pub record IsWhole (reach : Reach) (s s' : K) (e : Ending) : Type 0 where
+  pub record IsWhole (coverage : Coverage) (s s' : K) (e : Ending) : Type 0 where
     pub answer : Trace T
     pub may : MayMerge meaning plan t answer
-    pub accounts : (first : Trace T) → Covers t reach first → MayMerge meaning plan first answer
+    pub accounts : (first : Trace T) → Covers t coverage first → MayMerge meaning plan first answer
     pub has_run : HasRun accepts option answer s s' e
 
-  pub whole-run : {L' : Type 0} {lambda : Ghosts L' T} (reach : Reach) (s : K) (m : Merger L' T lambda) (s' : K) (e : Ending) → Merged reach s m None s' → Ended m e → IsWhole reach s s' e
-  whole-run reach s m s' e h ends =
+  pub whole-run : {L' : Type 0} {lambda : Ghosts L' T} (coverage : Coverage) (s : K) (m : Merger L' T lambda) (s' : K) (e : Ending) → Merged coverage s m None s' → Ended m e → IsWhole coverage s s' e
+  whole-run coverage s m s' e h ends =
       let made : Merge T = merge_for meaning plan option in
       let ended : (answer made h.offers).ending ≡ Some e = ap (λ x. (answer x h.offers).ending) (sym h.plan) ∙ ends h.offers h.stands in
       record {
         answer = answer made h.offers;
         may = ended-answer meaning plan option undecided t h.offers e few
-            (All-weaker (IsOffered (IsResult meaning plan t) reach) (IsResult meaning plan t) (λ r x. x.0) h.offers h.are) h.apart ended;
+            (All-weaker (IsOffered (IsResult meaning plan t) coverage) (IsResult meaning plan t) (λ r x. x.0) h.offers h.are) h.apart ended;
         accounts = λ first covers. ended-answer meaning plan option undecided first h.offers e (omega (arith, few, covers.within))
-            (All-weaker (IsOffered (IsResult meaning plan t) reach) (IsResult meaning plan first) (λ r x. result-covered meaning plan t first reach r few covers x) h.offers h.are) h.apart ended;
+            (All-weaker (IsOffered (IsResult meaning plan t) coverage) (IsResult meaning plan first) (λ r x. result-covered meaning plan t first coverage r few covers x) h.offers h.are) h.apart ended;
         has_run = record { delivered = h.leads; ending = ended };
       }
 
-  short-of : (reach : Reach) (s : K) (offers : List (ChunkResult T)) (fault : MergeFault) (s' : K) (told : RunFault) (cause : Cause) → All (IsOffered (IsResult meaning plan t) reach) offers → AreApart offers
+  short-of : (coverage : Coverage) (s : K) (offers : List (ChunkResult T)) (fault : MergeFault) (s' : K) (told : RunFault) (cause : Cause) → All (IsOffered (IsResult meaning plan t) coverage) offers → AreApart offers
       → StopsShort accepts refuses s (shown (merge_for meaning plan option) offers) fault s' → ((bs : List (List T)) → StopsShort accepts refuses s bs fault s' → BreaksFor accepts refuses cause bs s s') → cause_of told ≡ cause
       → IsBroken accepts refuses option (MayMerge meaning plan) t s s' told
-  short-of reach s offers fault s' told cause are apart short on is =
-      let plain = All-weaker (IsOffered (IsResult meaning plan t) reach) (IsResult meaning plan t) (λ r x. x.0) offers are in
+  short-of coverage s offers fault s' told cause are apart short on is =
+      let plain = All-weaker (IsOffered (IsResult meaning plan t) coverage) (IsResult meaning plan t) (λ r x. x.0) offers are in
       let begun = begun-in meaning plan t plan.order refl few undecided offers plain apart in
       let first = begun-shown meaning plan option undecided t offers begun in
-      let sent = cut-before accepts refuses s (shown (merge_for meaning plan option) offers) first.0 (undelivered_of fault) s' short in
+      let sent = cut-before accepts refuses s (shown (merge_for meaning plan option) offers) first.0 (delivery_fault_of fault) s' short in
       let all = batches option (merged_answer meaning plan begun.taken) in
       record {
         answer = merged_answer meaning plan begun.taken;
         may = record { taken = begun.taken; may = begun.may; is = refl };
         broken = subst (λ c. BreaksFor accepts refuses c all s s') (sym is)
-            (on all (subst (λ bs. IsCutOff accepts refuses s bs (undelivered_of fault) s') (sym first.1) sent));
+            (on all (subst (λ bs. IsCutOff accepts refuses s bs (delivery_fault_of fault) s') (sym first.1) sent));
       }
 
   -- it was broken off
-  pub broken-run : {L' : Type 0} {lambda : Ghosts L' T} (reach : Reach) (s : K) (m : Merger L' T lambda) (fault : Option MergeFault) (s' : K) (told : RunFault)
-      → Merged reach s m fault s' → cause_of told ≡ cause_in_merge fault → IsBroken accepts refuses option (MayMerge meaning plan) t s s' told
-  broken-run reach s m None s' told h is =
+  pub broken-run : {L' : Type 0} {lambda : Ghosts L' T} (coverage : Coverage) (s : K) (m : Merger L' T lambda) (fault : Option MergeFault) (s' : K) (told : RunFault)
+      → Merged coverage s m fault s' → cause_of told ≡ cause_in_merge fault → IsBroken accepts refuses option (MayMerge meaning plan) t s s' told
+  broken-run coverage s m None s' told h is =
       let all : List (List T) = shown (merge_for meaning plan option) h.offers in
-      short-of reach s h.offers NoMemory s' told Other h.are h.apart (all, [], sym (append-nil all), h.leads) (λ bs x. x) is
-  broken-run reach s m (Some (Refusal code)) s' told h is = short-of reach s h.offers (Refusal code) s' told (SinkRefused code) h.are h.apart h.short (λ bs x. x) is
-  broken-run reach s m (Some NoMemory) s' told h is = short-of reach s h.offers NoMemory s' told Other h.are h.apart h.short (λ bs x. x) is
-  broken-run reach s m (Some Twice) s' told h is = short-of reach s h.offers Twice s' told Other h.are h.apart h.short (λ bs x. x) is
-  broken-run reach s m (Some Gap) s' told h is = short-of reach s h.offers Gap s' told Other h.are h.apart h.short (λ bs x. x) is
-  broken-run reach s m (Some Failed) s' told h is = short-of reach s h.offers Failed s' told Other h.are h.apart h.short (λ bs x. x) is
-  broken-run reach s m (Some Cancelled) s' told h is = short-of reach s h.offers Cancelled s' told Other h.are h.apart h.short (λ bs x. x) is
+      short-of coverage s h.offers NoMemory s' told Other h.are h.apart (all, [], sym (append-nil all), h.leads) (λ bs x. x) is
+  broken-run coverage s m (Some (Refusal code)) s' told h is = short-of coverage s h.offers (Refusal code) s' told (SinkRefused code) h.are h.apart h.short (λ bs x. x) is
+  broken-run coverage s m (Some NoMemory) s' told h is = short-of coverage s h.offers NoMemory s' told Other h.are h.apart h.short (λ bs x. x) is
+  broken-run coverage s m (Some Twice) s' told h is = short-of coverage s h.offers Twice s' told Other h.are h.apart h.short (λ bs x. x) is
+  broken-run coverage s m (Some Gap) s' told h is = short-of coverage s h.offers Gap s' told Other h.are h.apart h.short (λ bs x. x) is
+  broken-run coverage s m (Some Failed) s' told h is = short-of coverage s h.offers Failed s' told Other h.are h.apart h.short (λ bs x. x) is
+  broken-run coverage s m (Some Cancelled) s' told h is = short-of coverage s h.offers Cancelled s' told Other h.are h.apart h.short (λ bs x. x) is

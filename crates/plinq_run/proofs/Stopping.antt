@@ -9,7 +9,7 @@ use Rattle.plinq_merge.specs.declared.merge_fault.MergeFault.TheVariants.{Memory
 use Rattle.plinq_merge.specs.declared.with_cancellation.WithCancellation.{WithCancellation}
 use Rattle.plinq_merge.specs.Cancelling.{Delivery, Passes, IsRefused, IsAsked, IsStopped}
 use Rattle.plinq_merge.specs.Lent.{AreSame, delivery_of, Takes, Refuses}
-use Rattle.plinq_merge.specs.Mergers.{undelivered_of, StopsShort}
+use Rattle.plinq_merge.specs.Mergers.{delivery_fault_of, StopsShort}
 use Rattle.plinq_merge.specs.Sending.{Leads}
 use Rattle.plinq_merge.proofs.Asked.{or-false, or-true, lets-told, stops-told, leads-told, cut-told}
 use Rattle.plinq_merge.proofs.Lent.{leads-on, cut-same, cut-on, cut-kept}
@@ -47,7 +47,7 @@ module _ {C K T : Type 0} (asks : C → ℕ → Bool → C → Type 0) (accepts 
   reports-same w w' (Ok report) h = let on = leads-on asks accepts refuses w (batches option h.answer) w' h.has_run.delivered in on.same
   reports-same w w' (Err fault) h =
       let cut = breaks-cut (Takes asks accepts) (Refuses asks refuses) (cause_of fault) (batches option h.answer) w w' h.broken in
-      cut-same asks accepts refuses w (batches option h.answer) (undelivered_of cut.0) w' cut.1
+      cut-same asks accepts refuses w (batches option h.answer) (delivery_fault_of cut.0) w' cut.1
 
   -- a batch was kept back
   pub reports-stopped : (w w' : WithCancellation C K) (r : Result Report RunFault) → w.is_stopped ≡ false → w'.is_stopped ≡ true → Lends w w' r
@@ -57,7 +57,7 @@ module _ {C K T : Type 0} (asks : C → ℕ → Bool → C → Type 0) (accepts 
       absurd (let bad : true ≡ false = sym after ∙ on.still ∙ before in cc)
   reports-stopped w w' (Err fault) before after h =
       let cut = breaks-cut (Takes asks accepts) (Refuses asks refuses) (cause_of fault) (batches option h.answer) w w' h.broken in
-      let kept = cut-kept asks accepts refuses w (batches option h.answer) (undelivered_of cut.0) w' before after cut.1 in
+      let kept = cut-kept asks accepts refuses w (batches option h.answer) (delivery_fault_of cut.0) w' before after cut.1 in
       record {
         answer = h.answer;
         may = h.may;
@@ -66,9 +66,9 @@ module _ {C K T : Type 0} (asks : C → ℕ → Bool → C → Type 0) (accepts 
 
   breaks-on : (w w' : WithCancellation C K) (cause : Cause) (bs : List (List T)) → w.is_stopped ≡ false → w'.is_stopped ≡ false → BreaksFor (Takes asks accepts) (Refuses asks refuses) cause bs w w'
       → BreaksFor (Passes asks accepts) (IsRefused asks refuses) cause bs (delivery_of w) (delivery_of w')
-  breaks-on w w' (SinkRefused code) bs before after h = cut-on asks accepts refuses w bs (undelivered_of (Refusal code)) w' before after h
+  breaks-on w w' (SinkRefused code) bs before after h = cut-on asks accepts refuses w bs (delivery_fault_of (Refusal code)) w' before after h
   breaks-on w w' Stopped bs before after h = h
-  breaks-on w w' Other bs before after h = cut-on asks accepts refuses w bs (undelivered_of NoMemory) w' before after h
+  breaks-on w w' Other bs before after h = cut-on asks accepts refuses w bs (delivery_fault_of NoMemory) w' before after h
 
   -- none was
   pub reports-passed : (w w' : WithCancellation C K) (r : Result Report RunFault) → w.is_stopped ≡ false → w'.is_stopped ≡ false → Lends w w' r
@@ -112,11 +112,11 @@ module _ {C K T : Type 0} (asks : C → ℕ → Bool → C → Type 0) (accepts 
         let last = stopped.last in
         let stops = stopped.stops in
         stops-told asks has_told keeps last.token last.delivered d'.token stops.asked ∙ sym (or-true (has_told d.token))
-    told-with has_told keeps (Err (Sink code)) h = cut-told asks has_told keeps accepts refuses d (batches option h.answer) (undelivered_of (Refusal code)) d' h.broken ∙ sym (or-false (has_told d.token))
-    told-with has_told keeps (Err Memory) h = cut-told asks has_told keeps accepts refuses d (batches option h.answer) (undelivered_of NoMemory) d' h.broken ∙ sym (or-false (has_told d.token))
-    told-with has_told keeps (Err Tickets) h = cut-told asks has_told keeps accepts refuses d (batches option h.answer) (undelivered_of NoMemory) d' h.broken ∙ sym (or-false (has_told d.token))
-    told-with has_told keeps (Err Thread) h = cut-told asks has_told keeps accepts refuses d (batches option h.answer) (undelivered_of NoMemory) d' h.broken ∙ sym (or-false (has_told d.token))
-    told-with has_told keeps (Err Incomplete) h = cut-told asks has_told keeps accepts refuses d (batches option h.answer) (undelivered_of NoMemory) d' h.broken ∙ sym (or-false (has_told d.token))
+    told-with has_told keeps (Err (Sink code)) h = cut-told asks has_told keeps accepts refuses d (batches option h.answer) (delivery_fault_of (Refusal code)) d' h.broken ∙ sym (or-false (has_told d.token))
+    told-with has_told keeps (Err Memory) h = cut-told asks has_told keeps accepts refuses d (batches option h.answer) (delivery_fault_of NoMemory) d' h.broken ∙ sym (or-false (has_told d.token))
+    told-with has_told keeps (Err Tickets) h = cut-told asks has_told keeps accepts refuses d (batches option h.answer) (delivery_fault_of NoMemory) d' h.broken ∙ sym (or-false (has_told d.token))
+    told-with has_told keeps (Err Thread) h = cut-told asks has_told keeps accepts refuses d (batches option h.answer) (delivery_fault_of NoMemory) d' h.broken ∙ sym (or-false (has_told d.token))
+    told-with has_told keeps (Err Incomplete) h = cut-told asks has_told keeps accepts refuses d (batches option h.answer) (delivery_fault_of NoMemory) d' h.broken ∙ sym (or-false (has_told d.token))
 
     -- where there is one answer
     pub reports-with-runs : (v : Trace T) (r : Result Report RunFault) → ((u : Trace T) → May t u → u ≡ v) → ReportsWith asks accepts refuses option May t d d' r → RunsWith asks accepts refuses option v d d' r
@@ -139,7 +139,7 @@ module _ {C K T : Type 0} (asks : C → ℕ → Bool → C → Type 0) (accepts 
       refused-plain s b code s' refused = refused.refused
 
       cut-plain : (bs : List (List T)) (fault : MergeFault) → StopsShort (Passes asks accepts) (IsRefused asks refuses) d bs fault d' → StopsShort accepts refuses d.sink bs fault d'.sink
-      cut-plain bs fault = cut-map (λ s. s.sink) (Passes asks accepts) (IsRefused asks refuses) accepts refuses passed-plain refused-plain d bs (undelivered_of fault) d'
+      cut-plain bs fault = cut-map (λ s. s.sink) (Passes asks accepts) (IsRefused asks refuses) accepts refuses passed-plain refused-plain d bs (delivery_fault_of fault) d'
 
       pub reports-plain : (r : Result Report RunFault) → ReportsWith asks accepts refuses option May t d d' r → Reports accepts refuses option May t d.sink d'.sink r
       reports-plain (Ok report) h =

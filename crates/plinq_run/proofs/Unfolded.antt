@@ -1,4 +1,4 @@
--- A run of folds reports what folding its results' answer would: behind the folds that came stand the results that they are of.
+-- A run of folds reports what folding its results' answer would: after the folds that came stand the results that they are of.
 use Rattle.std.specs.Prelude.{◌≡◌, ⊤, ℕ, ◌≤◌, ◌^◌, List, [], ◌∷◌, length, ◌||◌, Option, Some, None, Result, Ok, Err, All, IfOk, IfErr, OnOk, refl}
 use Rattle.std.proofs.Common.{sym, ◌∙◌, ap, subst}
 use Rattle.std.proofs.lemmas.List.Elements.{All-cons, All-head, All-tail, All-nil, All-weaker}
@@ -16,7 +16,7 @@ use Rattle.plinq_ops.specs.Operator.{stages_of}
 use Rattle.plinq_ops.specs.Stage.{seq}
 use Rattle.plinq_merge.specs.declared.merge_fault.MergeFault.{MergeFault}
 use Rattle.plinq_merge.specs.Keys.{is_within, is_offered}
-use Rattle.plinq_merge.specs.Shown.{merged, answer, behind_result}
+use Rattle.plinq_merge.specs.Shown.{merged, answer, end_of_result}
 use Rattle.plinq_merge.specs.Whole.{AreApart}
 use Rattle.plinq_merge.proofs.Gains.{answer-open}
 use Rattle.plinq_combine.specs.declared.combined.Combined.{Combined}
@@ -27,7 +27,7 @@ use Rattle.plinq_crew.specs.Plans.{IsUndecided}
 use Rattle.plinq_crew.specs.Results.{IsResult, IsPart}
 use Rattle.plinq_run.specs.declared.run_fault.RunFault.{RunFault}
 use Rattle.plinq_run.specs.Aggregates.{Aggregates, AggregatesSome, value_at}
-use Rattle.plinq_run.specs.Gathered.{IsGathering, Gathers, HasFinished, FoldsSome, untold, value_of}
+use Rattle.plinq_run.specs.Gathered.{IsGathering, Gathers, HasFinished, FoldsSome, without_result, value_of}
 use Rattle.plinq_run.specs.Reports.{MayMerge}
 use Rattle.plinq_run.specs.Runs.{cause_in_merge, cause_of}
 use Rattle.plinq_run.specs.Merged.{merge_for}
@@ -35,7 +35,7 @@ use Rattle.plinq_run.proofs.Runs.{ended-answer}
 
 module _ {T A O : Type 0} (f : Folding T A O) where
   -- folds have the keys of their results
-  folds-within : (r : ChunkResult T) (c : ChunkResult A) → IsFoldOf f r c → (key : ℕ) → is_within c.first (behind_result c) key ≡ is_within r.first (behind_result r) key
+  folds-within : (r : ChunkResult T) (c : ChunkResult A) → IsFoldOf f r c → (key : ℕ) → is_within c.first (end_of_result c) key ≡ is_within r.first (end_of_result r) key
   folds-within r c is key = rw (is.first, is.count) refl
 
   folds-offered : (rs : List (ChunkResult T)) (cs : List (ChunkResult A)) → AreFoldsOf f rs cs → (key : ℕ) → is_offered cs key ≡ is_offered rs key
@@ -43,7 +43,7 @@ module _ {T A O : Type 0} (f : Folding T A O) where
   folds-offered [] (c ∷ cs) are key = absurd are
   folds-offered (r ∷ rs) [] are key = absurd are
   folds-offered (r ∷ rs) (c ∷ cs) are key =
-      ap (λ b. b || is_offered cs key) (folds-within r c are.0 key) ∙ ap (λ b. is_within r.first (behind_result r) key || b) (folds-offered rs cs are.1 key)
+      ap (λ b. b || is_offered cs key) (folds-within r c are.0 key) ∙ ap (λ b. is_within r.first (end_of_result r) key || b) (folds-offered rs cs are.1 key)
 
   folds-apart : (rs : List (ChunkResult T)) (cs : List (ChunkResult A)) → AreFoldsOf f rs cs → AreApart cs → AreApart rs
   folds-apart [] [] are apart = tt
@@ -103,7 +103,7 @@ module _ {L T A O : Type 0} (f : Folding T A O) (meaning : L → Meaning T) (pla
 
 module _ {T A O : Type 0} (f : Folding T A O) where
   -- the accumulator doesn't depend on what is reported of it
-  pub folds-told : (IsAnswer : Trace T → Type 0) (r : Result (Combined A) RunFault) → FoldsSome (untold f) IsAnswer r → FoldsSome f IsAnswer r
+  pub folds-told : (IsAnswer : Trace T → Type 0) (r : Result (Combined A) RunFault) → FoldsSome (without_result f) IsAnswer r → FoldsSome f IsAnswer r
   folds-told IsAnswer (Ok made) h = (h.0, h.1, record { ending = h.2.ending; acc = h.2.acc })
   folds-told IsAnswer (Err fault) h = h
 

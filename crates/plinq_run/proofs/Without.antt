@@ -5,10 +5,10 @@ use Rattle.std.proofs.lemmas.Bool.{or_parts, or_from, false_from_ne_true}
 use Rattle.std.proofs.lemmas.List.{take-append-drop, length-take-le, length-drop}
 use Rattle.std.proofs.lemmas.List.Sorted.{IsPermutation-refl, IsPermutation-trans, IsPermutation-append_comm, IsPermutation-append_left}
 use Rattle.plinq_ops.specs.declared.results.ChunkResult.{ChunkResult}
-use Rattle.plinq_merge.specs.Shown.{behind_result}
+use Rattle.plinq_merge.specs.Shown.{end_of_result}
 use Rattle.plinq_merge.specs.Keys.{is_within, is_offered, AreNew}
 use Rattle.plinq_merge.specs.Whole.{AreApart}
-use Rattle.plinq_merge.proofs.Overlaps.{within-from, not_within-before, not_within-behind}
+use Rattle.plinq_merge.proofs.Overlaps.{within-from, not_within-before, not_within-after}
 use Rattle.plinq_merge.proofs.Takings.{is_offered-append}
 
 -- the items that aren't at these places, counted from k
@@ -55,11 +55,11 @@ taken_by xs (r ∷ rs) = take r.count (drop r.first xs) ++ taken_by xs rs
 -- the results are of items that there are
 abbrev pub AreWithin : {T : Type 0} → List T → List (ChunkResult T) → Type 0
 AreWithin xs [] = Unit {0}
-AreWithin xs (r ∷ rs) = (behind_result r ≤ length xs) × AreWithin xs rs
+AreWithin xs (r ∷ rs) = (end_of_result r ≤ length xs) × AreWithin xs rs
 
 -- one result more, no key of which was offered, is taken from what is left
-without-result : {T : Type 0} (xs : List T) (r : ChunkResult T) (rs : List (ChunkResult T)) → behind_result r ≤ length xs → AreNew rs r
-    → (before : List T) × (behind : List T) × (without (is_offered rs) 0 xs ≡ before ++ (take r.count (drop r.first xs) ++ behind)) × (without (is_offered (r ∷ rs)) 0 xs ≡ before ++ behind)
+without-result : {T : Type 0} (xs : List T) (r : ChunkResult T) (rs : List (ChunkResult T)) → end_of_result r ≤ length xs → AreNew rs r
+    → (before : List T) × (end : List T) × (without (is_offered rs) 0 xs ≡ before ++ (take r.count (drop r.first xs) ++ end)) × (without (is_offered (r ∷ rs)) 0 xs ≡ before ++ end)
 without-result {T} xs r rs within new =
     let f : ℕ = r.first in
     let c : ℕ = r.count in
@@ -80,7 +80,7 @@ without-result {T} xs r rs within new =
     let free : without old f S ≡ S = without-as old (λ _. false) f S (λ j from below. new j (within-from f (f + c) j from (omega (arith, below, size_s)))) ∙ without-none f S in
     let gone : without all f S ≡ [] = without-all all f S (λ j from below. ap (λ v. v || is_offered rs j) (within-from f (f + c) j from (omega (arith, below, size_s)))) in
     let same_a : without all 0 A ≡ without old 0 A = without-as all old 0 A (λ j from below. ap (λ v. v || is_offered rs j) (not_within-before f (f + c) j (omega (arith, below, size_a)))) in
-    let same_b : without all (f + c) B ≡ without old (f + c) B = without-as all old (f + c) B (λ j from below. ap (λ v. v || is_offered rs j) (not_within-behind f (f + c) j from)) in (
+    let same_b : without all (f + c) B ≡ without old (f + c) B = without-as all old (f + c) B (λ j from below. ap (λ v. v || is_offered rs j) (not_within-after f (f + c) j from)) in (
       without old 0 A,
       without old (f + c) B,
       split old ∙ ap (λ ys. without old 0 A ++ (ys ++ without old (f + c) B)) free,
@@ -112,8 +112,8 @@ pub apart-push : {T : Type 0} (offers : List (ChunkResult T)) (r : ChunkResult T
 apart-push [] r apart new = (λ key within. refl, tt)
 apart-push (q ∷ qs) r apart new = (
   λ key within. is_offered-append qs r key ∙ or_from (is_offered qs key) _ (apart.0 key within) (false_from_ne_true _ (λ there. let bad : true ≡ false = twice key within there in cc)),
-  apart-push qs r apart.1 (λ key within. (or_parts (is_within q.first (behind_result q) key) (is_offered qs key) (new key within)).1),
+  apart-push qs r apart.1 (λ key within. (or_parts (is_within q.first (end_of_result q) key) (is_offered qs key) (new key within)).1),
 )
   where
-    twice : (key : ℕ) → is_within q.first (behind_result q) key ≡ true → is_within r.first (behind_result r) key ≡ true → true ≡ false
-    twice key within there = sym within ∙ (or_parts (is_within q.first (behind_result q) key) (is_offered qs key) (new key there)).0
+    twice : (key : ℕ) → is_within q.first (end_of_result q) key ≡ true → is_within r.first (end_of_result r) key ≡ true → true ≡ false
+    twice key within there = sym within ∙ (or_parts (is_within q.first (end_of_result q) key) (is_offered qs key) (new key there)).0

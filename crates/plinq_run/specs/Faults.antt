@@ -3,10 +3,10 @@ use Rattle.std.specs.Prelude.{◌≡◌, refl, Bool, true, false, not, ◌==◌,
 use Rattle.std.specs.Option.{option_or}
 use Rattle.plinq_merge.specs.declared.merge_fault.MergeFault.{MergeFault}
 use Rattle.plinq_merge.specs.declared.merge_fault.MergeFault.TheVariants.{Memory as NoMemory, Sink as Refusal, Twice, Gap, Failed, Cancelled}
-use Rattle.plinq_crew.specs.declared.staff.Staff.{Staff}
+use Rattle.plinq_crew.specs.declared.worker_count.WorkerCount.{WorkerCount}
 use Rattle.plinq_run.specs.declared.run_fault.RunFault.{RunFault}
 use Rattle.plinq_run.specs.declared.run_fault.RunFault.TheVariants.{Memory, Sink, Tickets, Thread, Incomplete}
-use Rattle.plinq_crew.specs.declared.starting.Shortages.{Shortages}
+use Rattle.plinq_crew.specs.declared.starting.WorkerFaults.{WorkerFaults}
 
 -- the fault, if there is a cause for it
 abbrev pub told_if : Bool → RunFault → Option RunFault
@@ -41,23 +41,23 @@ is_incomplete (Some Failed) = true
 is_incomplete (Some Cancelled) = true
 
 -- the first of sink, memory, thread, tickets and missing results for which there is a cause
-abbrev pub first_told : Option MergeFault → Shortages → Staff → Option RunFault
-first_told fault short staff =
+abbrev pub first_told : Option MergeFault → WorkerFaults → WorkerCount → Option RunFault
+first_told fault faults worker_count =
     option_or (refused_by_sink fault)
-    (option_or (told_if (is_out_of_memory fault || short.memory) Memory)
-    (option_or (told_if (not (staff.started == staff.wanted)) Thread)
-    (option_or (told_if short.tickets Tickets)
+    (option_or (told_if (is_out_of_memory fault || faults.memory) Memory)
+    (option_or (told_if (not (worker_count.started == worker_count.wanted)) Thread)
+    (option_or (told_if faults.tickets Tickets)
     (told_if (is_incomplete fault) Incomplete))))
 
 -- ---- worked rows
 
-abbrev short_of : Bool → Bool → Shortages
+abbrev short_of : Bool → Bool → WorkerFaults
 short_of memory tickets = record { memory = memory; tickets = tickets }
 
-abbrev three_of_four : Staff
+abbrev three_of_four : WorkerCount
 three_of_four = record { wanted = 4; started = 3 }
 
-abbrev all_four : Staff
+abbrev all_four : WorkerCount
 all_four = record { wanted = 4; started = 4 }
 
 the_sink_comes_first : first_told (Some (Refusal 9)) (short_of true true) three_of_four ≡ Some (Sink 9)

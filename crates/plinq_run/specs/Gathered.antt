@@ -15,7 +15,7 @@ use Rattle.plinq_combine.specs.declared.combiner.Combiner.{Combiner}
 use Rattle.plinq_combine.specs.Combiners.{IsFor, Offers}
 use Rattle.plinq_combine.specs.Folds.{IsFoldOf}
 use Rattle.plinq_crew.specs.declared.worker.Crew.{Crew}
-use Rattle.plinq_crew.specs.declared.worker.Equipment.{Equipment}
+use Rattle.plinq_crew.specs.declared.worker.WorkerContext.{WorkerContext}
 use Rattle.plinq_crew.specs.Equipped.{IsReady}
 use Rattle.plinq_run.specs.declared.aggregate_fault.AggregateFault.{AggregateFault}
 use Rattle.plinq_run.specs.declared.aggregate_fault.AggregateFault.TheVariants.{Run}
@@ -54,12 +54,12 @@ module _ {F T A O : Type 0} {aggregator : AggregatorGhosts F T A O} where
   GathersEach x sent y = IsGatheredUnless x.0 x.1 sent.item y
 
 -- the same folding, of which nothing is reported
-abbrev pub untold : {T A O : Type 0} → Folding T A O → Folding T A (Unit {0})
-untold f = record { seed = f.seed; update = f.update; combine = f.combine; tell = λ _. tt }
+abbrev pub without_result : {T A O : Type 0} → Folding T A O → Folding T A (Unit {0})
+without_result f = record { seed = f.seed; update = f.update; combine = f.combine; tell = λ _. tt }
 
 -- it keeps the laws
-pub untold-lawful : {T A O : Type 0} {f : Folding T A O} → IsFolding f → IsFolding (untold f)
-untold-lawful lawful = record { joins = lawful.joins; neutral = lawful.neutral }
+pub without_result-lawful : {T A O : Type 0} {f : Folding T A O} → IsFolding f → IsFolding (without_result f)
+without_result-lawful lawful = record { joins = lawful.joins; neutral = lawful.neutral }
 
 module _ {T A O : Type 0} (f : Folding T A O) where
   -- the accumulator is that of an answer's items, which ended so
@@ -74,9 +74,9 @@ module _ {T A O : Type 0} (f : Folding T A O) where
 
 -- the caller's thread may start a crew's workers, which send folds, and there are no operators after the merge
 pub record IsReadyToFold {L S J P T M O : Type 0} {source : Ghosts S T} (meaning : L → Meaning T) (makes : P → ChunkResult T → ChunkResult M → Type 0) (folding : P → Folding T M O)
-    (MaySend : ChunkResult M → Type 0) (is_ender : ℕ → Bool) (crew : Crew L S J P T T M source) (own : Equipment S M T source) : Type 0 where
-  pub ready : IsReady meaning makes MaySend is_ender crew own
-  pub folds : (r : ChunkResult T) (c : ChunkResult M) → makes crew.post.now r c → IsFoldOf (folding crew.post.now) r c
+    (MaySend : ChunkResult M → Type 0) (stops_at : ℕ → Bool) (crew : Crew L S J P T T M source) (own : WorkerContext S M T source) : Type 0 where
+  pub ready : IsReady meaning makes MaySend stops_at crew own
+  pub folds : (r : ChunkResult T) (c : ChunkResult M) → makes crew.task.now r c → IsFoldOf (folding crew.task.now) r c
   pub alone : crew.plan.now.after.now ≡ []
 
 -- what is reported of a combined answer

@@ -31,7 +31,7 @@ has_close h = list_any (λ r. is_close r.asked) h
 
 -- whether some record's keys end there or later
 abbrev pub hands_out_to : ℕ → List Record → Bool
-hands_out_to behind h = behind == 0 || list_any (λ r. nat_le behind (r.first + r.count)) h
+hands_out_to end h = end == 0 || list_any (λ r. nat_le end (r.first + r.count)) h
 
 -- the items that records hand out, with the source's ending where one of them gives it
 abbrev pub handed_trace : {T : Type 0} → Trace T → List Record → Trace T
@@ -70,8 +70,8 @@ closed_by_a_request = refl
 up_to_the_last_item : hands_out_to 2 (two_requests 1 None) ≡ true
 up_to_the_last_item = refl
 
-behind_the_last_item : hands_out_to 3 (two_requests 1 None) ≡ false
-behind_the_last_item = refl
+after_the_last_item : hands_out_to 3 (two_requests 1 None) ≡ false
+after_the_last_item = refl
 
 no_item_without_a_request : hands_out_to 1 [] ≡ false
 no_item_without_a_request = refl

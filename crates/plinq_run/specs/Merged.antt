@@ -16,7 +16,7 @@ use Rattle.plinq_merge.specs.Shown.{Merge, answer, shown}
 use Rattle.plinq_merge.specs.Mergers.{plan_of, IsFor, Takes, StopsShort}
 use Rattle.plinq_merge.specs.Whole.{AreApart}
 use Rattle.plinq_stream.specs.declared.sent.Sent.{Sent}
-use Rattle.plinq_crew.specs.Turns.{HasTakenIn}
+use Rattle.plinq_crew.specs.Polls.{HasAccepted}
 
 -- what a merger of this plan is made for
 abbrev pub merge_for : {L T : Type 0} → (L → Meaning T) → Plan L → MergeOption → Merge T
@@ -75,5 +75,5 @@ pub record WereOffered {L K T : Type 0} (lambda : Ghosts L T) (accepts : K → L
   pub begun : IsFor first []
   pub last : Merger L T lambda
   pub ends : (offers : List (ChunkResult T)) → IsFor last offers → (answer (plan_of last) offers).ending ≡ Some ending
-  pub is_closed : Bool
-  pub taken : HasTakenIn (OffersEach accepts refuses) [] (first, (None, s)) received is_closed (last, (None, s'))
+  pub wants_close : Bool
+  pub taken : HasAccepted (OffersEach accepts refuses) [] (first, (None, s)) received wants_close (last, (None, s'))

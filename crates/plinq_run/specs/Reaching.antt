@@ -6,38 +6,38 @@ use Rattle.plinq_keyed.specs.declared.record.Record.{Record}
 use Rattle.plinq_keyed.specs.declared.tail.Tail.{Tail}
 use Rattle.plinq_keyed.specs.declared.tail.Tail.TheVariants.{Ended, Refused, Closed}
 use Rattle.plinq_ops.specs.declared.results.ChunkResult.{ChunkResult}
-use Rattle.plinq_merge.specs.Shown.{behind_result}
-use Rattle.plinq_run.specs.declared.reach.Reach.{Reach}
+use Rattle.plinq_merge.specs.Shown.{end_of_result}
+use Rattle.plinq_run.specs.declared.coverage.Coverage.{Coverage}
 use Rattle.plinq_run.specs.Handed.{is_end, tells_end, has_close, hands_out_to}
 
 -- the result is within that reach
-pub record Reaches {T : Type 0} (reach : Reach) (r : ChunkResult T) : Type 0 where
-  pub behind : behind_result r ≤ reach.behind
-  pub told : is_end r.tail ≡ true → reach.is_told ≡ true
+pub record Reaches {T : Type 0} (coverage : Coverage) (r : ChunkResult T) : Type 0 where
+  pub end : end_of_result r ≤ coverage.end
+  pub told : is_end r.tail ≡ true → coverage.is_told ≡ true
 
-pub record Grows (reach reach' : Reach) : Type 0 where
-  pub behind : reach.behind ≤ reach'.behind
-  pub told : reach.is_told ≡ true → reach'.is_told ≡ true
+pub record Grows (coverage coverage' : Coverage) : Type 0 where
+  pub end : coverage.end ≤ coverage'.end
+  pub told : coverage.is_told ≡ true → coverage'.is_told ≡ true
 
 -- a result that was offered
-abbrev pub IsOffered : {T : Type 0} → (ChunkResult T → Type 0) → Reach → ChunkResult T → Type 0
-IsOffered IsResult reach r = IsResult r × Reaches reach r
+abbrev pub IsOffered : {T : Type 0} → (ChunkResult T → Type 0) → Coverage → ChunkResult T → Type 0
+IsOffered IsResult coverage r = IsResult r × Reaches coverage r
 
 -- the first items of a source have all that is within that reach
-pub record Covers {T : Type 0} (t : Trace T) (reach : Reach) (first : Trace T) : Type 0 where
+pub record Covers {T : Type 0} (t : Trace T) (coverage : Coverage) (first : Trace T) : Type 0 where
   pub items : first.items ≡ take (length first.items) t.items
   pub within : length first.items ≤ length t.items
-  pub behind : reach.behind ≤ length first.items
-  pub told : reach.is_told ≡ true → first.ending ≡ t.ending
+  pub end : coverage.end ≤ length first.items
+  pub told : coverage.is_told ≡ true → first.ending ≡ t.ending
 
 -- whether the source was closed, and the records hand out all that is within that reach
-abbrev pub accounts_for : Reach → List Record → Bool
-accounts_for reach h = hands_out_to reach.behind h && (not reach.is_told || tells_end h) && has_close h
+abbrev pub accounts_for : Coverage → List Record → Bool
+accounts_for coverage h = hands_out_to coverage.end h && (not coverage.is_told || tells_end h) && has_close h
 
 -- ---- worked rows
 
-abbrev up_to : ℕ → Bool → Reach
-up_to behind is_told = record { behind = behind; is_told = is_told }
+abbrev up_to : ℕ → Bool → Coverage
+up_to end is_told = record { end = end; is_told = is_told }
 
 -- one item was asked for, then two, of which one came with this tail
 abbrev two_items : Option Tail → List Record

@@ -36,7 +36,7 @@ module _ {K T : Type 0} (accepts : K → List T → K → Type 0) (refuses : K �
   pub record HasEnded {S U : Type 0} {source : Ghosts S U} (ended : Ended S U source) : Type 0 where
     pub answer : Trace T
     pub may : May t answer
-    pub accounts : (first : Trace T) → Covers t ended.reach first → May first answer
+    pub accounts : (first : Trace T) → Covers t ended.coverage first → May first answer
     pub has_run : HasRun accepts option answer s s' ended.ending
 
   -- the first batches of an answer were delivered

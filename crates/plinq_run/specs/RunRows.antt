@@ -38,8 +38,8 @@ all_batches_in_order = record { delivered = (4 ∷ [], refl, (4 ∷ 2 ∷ [], re
 refused_second : Runs keeps refuses_with_9 NotBuffered four_two_five [] (4 ∷ []) (Err (Sink 9))
 refused_second = (((4 ∷ []) ∷ []), 2 ∷ [], ((5 ∷ []) ∷ []), 4 ∷ [], refl, (4 ∷ [], refl, refl), (refl, refl))
 
-no_memory_behind_the_first : Runs keeps refuses_with_9 NotBuffered four_two_five [] (4 ∷ []) (Err Memory)
-no_memory_behind_the_first = (((4 ∷ []) ∷ []), ((2 ∷ []) ∷ (5 ∷ []) ∷ []), refl, (4 ∷ [], refl, refl))
+no_memory_after_the_first : Runs keeps refuses_with_9 NotBuffered four_two_five [] (4 ∷ []) (Err Memory)
+no_memory_after_the_first = (((4 ∷ []) ∷ []), ((2 ∷ []) ∷ (5 ∷ []) ∷ []), refl, (4 ∷ [], refl, refl))
 
 another_order : Runs keeps refuses_with_9 NotBuffered four_two_five [] (2 ∷ 4 ∷ 5 ∷ []) (Ok End) → ⊥
 another_order run =
@@ -100,15 +100,15 @@ no_records records are report =
 -- ---- how far results reach
 
 -- three items, of which the first two have all that is offered
-first_two_cover : Covers {T = ℕ} (ended (3 ∷ 1 ∷ 4 ∷ []) End) (record { behind = 2; is_told = false }) (open_trace (3 ∷ 1 ∷ []))
-first_two_cover = record { items = refl; within = omega arith; behind = omega arith; told = λ told. absurd (cc) }
+first_two_cover : Covers {T = ℕ} (ended (3 ∷ 1 ∷ 4 ∷ []) End) (record { end = 2; is_told = false }) (open_trace (3 ∷ 1 ∷ []))
+first_two_cover = record { items = refl; within = omega arith; end = omega arith; told = λ told. absurd (cc) }
 
 -- where the end was reported, they don't
-end_isnt_covered : Covers {T = ℕ} (ended (3 ∷ 1 ∷ []) End) (record { behind = 2; is_told = true }) (open_trace (3 ∷ 1 ∷ [])) → ⊥
+end_isnt_covered : Covers {T = ℕ} (ended (3 ∷ 1 ∷ []) End) (record { end = 2; is_told = true }) (open_trace (3 ∷ 1 ∷ [])) → ⊥
 end_isnt_covered covers = let same = covers.told refl in absurd (cc)
 
-third_isnt_covered : Covers {T = ℕ} (ended (3 ∷ 1 ∷ 4 ∷ []) End) (record { behind = 3; is_told = false }) (open_trace (3 ∷ 1 ∷ [])) → ⊥
-third_isnt_covered covers = absurd (omega (arith, covers.behind))
+third_isnt_covered : Covers {T = ℕ} (ended (3 ∷ 1 ∷ 4 ∷ []) End) (record { end = 3; is_told = false }) (open_trace (3 ∷ 1 ∷ [])) → ⊥
+third_isnt_covered covers = absurd (omega (arith, covers.end))
 
 -- ---- aggregates
 

@@ -3,7 +3,7 @@ ghost use Rattle.std.specs.Prelude.{◌≡◌, ◌+◌, nat_le};
 ghost use Rattle.plinq_run.specs.Handed.{tells_end, has_close, hands_out_to};
 ghost use Rattle.plinq_run.specs.Reaching.{accounts_for};
 
-use crate::reach::{Reach, tells_end};
+use crate::coverage::{Coverage, tells_end};
 use plinq_keyed::{Event, Record};
 
 /// Whether some record gives the source's end.
@@ -31,21 +31,21 @@ fn is_closed(records: &[Record]) -> bool
 }
 
 /// Whether this record's keys end at that one or later.
-fn reaches(entry: &Record, behind: u64) -> bool
-    ensures { result ≡ nat_le behind (entry.now.first + entry.now.count) }
+fn reaches(entry: &Record, end: u64) -> bool
+    ensures { result ≡ nat_le end (entry.now.first + entry.now.count) }
 {
-    behind <= entry.first.saturating_add(entry.count)
+    end <= entry.first.saturating_add(entry.count)
 }
 
 /// Whether all keys before this one were handed out.
-fn are_handed_out(records: &[Record], behind: u64) -> bool
-    ensures { result ≡ hands_out_to behind records.now }
+fn are_handed_out(records: &[Record], end: u64) -> bool
+    ensures { result ≡ hands_out_to end records.now }
 {
-    if behind == 0 {
+    if end == 0 {
         return true;
     }
     for record in records {
-        if reaches(record, behind) {
+        if reaches(record, end) {
             return true;
         }
     }
@@ -53,10 +53,10 @@ fn are_handed_out(records: &[Record], behind: u64) -> bool
 }
 
 /// Whether the source was closed, and results that reach so far are of items that these records hand out.
-pub(crate) fn account_for(records: &[Record], reach: Reach) -> bool
-    ensures { result ≡ accounts_for reach records.now }
+pub(crate) fn account_for(records: &[Record], coverage: Coverage) -> bool
+    ensures { result ≡ accounts_for coverage records.now }
 {
-    are_handed_out(records, reach.behind)
-        && (!reach.is_told || end_is_told(records))
+    are_handed_out(records, coverage.end)
+        && (!coverage.is_told || end_is_told(records))
         && is_closed(records)
 }

@@ -7,7 +7,7 @@ ghost use Rattle.plinq_ops.specs.Feeding.{is_empty_take};
 ghost use Rattle.plinq_run.specs.Aggregates.{AggregatesSome};
 
 use crate::aggregate_fault::AggregateFault;
-use crate::folded::{Folded, value_of};
+use crate::fold_sink::{FoldSink, value_of};
 use crate::folding::fold_plan;
 use crate::running::run;
 use plinq_aggregate::Aggregator;
@@ -58,7 +58,7 @@ where
 {
     let plan = query.split();
     if plan.decided || !plan.after.is_empty() {
-        let mut sink = Folded::new(aggregator);
+        let mut sink = FoldSink::new(aggregator);
         let report = run(rt, alloc, query, source, growth, gate, &mut sink);
         return sink.told(report);
     }

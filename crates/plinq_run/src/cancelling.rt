@@ -58,7 +58,7 @@ where
     K: Sink<Item = L::Item>,
     R: Threads + Wait + Sync,
     requires unasked { S.given source ≡ 0 }
-    requires untold { C.has_told token.old ≡ false }
+    requires without_result { C.has_told token.old ≡ false }
     ensures legal { IfOk result (λ report. IsLegalHistory (S.whole source) report.records.items) }
     ensures ended { list_any is_empty_take query.now.ops ≡ true → IfOk result (λ report. report.ending ≡ End) }
     ensures cancelled { list_any is_empty_take query.now.ops ≡ true → IfErr result (λ fault. fault ≡ Cancelled) }

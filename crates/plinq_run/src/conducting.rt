@@ -5,9 +5,9 @@ ghost use Rattle.plinq_ops.specs.Feeding.{is_empty_take};
 ghost use Rattle.plinq_ops.specs.ByKey.{is_by_key};
 ghost use Rattle.plinq_ops.specs.declared.results.ChunkResult.{ChunkResult};
 ghost use Rattle.plinq_crew.specs.Equipped.{IsReady};
-ghost use Rattle.plinq_crew.specs.Turns.{HasTakenIn};
+ghost use Rattle.plinq_crew.specs.Polls.{HasAccepted};
 ghost use Rattle.plinq_crew.specs.Working.{IsReceiver, IsWhollyAnsweredBy};
-ghost use Rattle.plinq_merge.specs.Shown.{Merge, behind_result};
+ghost use Rattle.plinq_merge.specs.Shown.{Merge, end_of_result};
 ghost use Rattle.plinq_partition.specs.Partitions.{IsPartitionOf, holding_of};
 ghost use Rattle.plinq_partition.specs.GivenBack.{common_origin};
 ghost use Rattle.plinq_run.specs.Merged.{merge_for, Merges, OffersEach, WereOffered};
@@ -17,13 +17,14 @@ ghost use Rattle.plinq_stream.specs.declared.stream_pass.StreamPass.{StreamPass}
 ghost use Rattle.plinq_stream.specs.Passes.{IsPassOf, known};
 ghost use Rattle.plinq_stream.specs.Streams.{HasReceivedAll};
 
+use crate::coverage::Coverage;
 use crate::finishing::told;
 use crate::merging::Merging;
-use crate::posts::Whole;
-use crate::reach::Reach;
 use crate::run_fault::RunFault;
+use crate::tasks::Unchanged;
 use plinq_crew::{
-    Caller, Carries, Closing, Crew, Equipment, Gate, ResultPass, Staff, Turn, join_all, start_all,
+    Closing, Coordinator, Crew, Gate, Poll, ResultPass, RunSpec, WorkerContext, WorkerCount,
+    join_all, start_all,
 };
 use plinq_lambda::Lambda;
 use plinq_merge::{Merger, Sink};
@@ -39,51 +40,51 @@ use std::thread::{Scope, Threads};
 pub(crate) struct Ended<S: Source> {
     pub(crate) partitions: Vec<Partition<S>>,
     pub(crate) ending: Ending,
-    pub(crate) reach: Reach,
+    pub(crate) coverage: Coverage,
 }
 
 /// Merges what the workers send, until all have ended and nothing seems to be left in the queue.
 fn merge_all<L, S, J, G, K, R>(
     rt: &R,
-    crew: &Crew<'_, L, S, J, Whole<'_, G>>,
-    caller: &mut Caller<S, L::Item>,
+    crew: &Crew<'_, L, S, J, Unchanged<'_, G>>,
+    coordinator: &mut Coordinator<S, L::Item>,
     merging: &mut Merging<'_, L>,
     sink: &mut K,
 )
 where
     L: Lambda,
     S: Source<Item = L::Item>,
-    J: Carries<L::Item>,
+    J: RunSpec<L::Item>,
     G: Gate,
     K: Sink<Item = L::Item>,
     R: Wait,
-    requires of { IsPartitionOf crew.now.chunked.now caller.old.partition }
-    requires stream { IsPassOf crew.now.stream.now caller.old.stream }
-    requires receiver { IsReceiver (known caller.old.stream) }
-    requires within { (r : ChunkResult L.Item) → J.is_result r → behind_result r ≤ 2 ^ 40 }
-    ensures of { IsPartitionOf crew.now.chunked.now caller.new.partition }
-    ensures origin { (holding_of caller.new.partition).origin ≡ (holding_of caller.old.partition).origin }
-    ensures stream { IsPassOf crew.now.stream.now caller.new.stream }
-    ensures receiver { IsReceiver (known caller.new.stream) }
-    ensures merges { (merge : Merge L.Item) (s : K) → Merges (IsOffered J.is_result merging.old.reach) K.accepts K.refuses merge s merging.old.merger merging.old.fault sink.old
-        → Merges (IsOffered J.is_result merging.new.reach) K.accepts K.refuses merge s merging.new.merger merging.new.fault sink.new }
-    ensures offers { (before : _) (start : _) → HasTakenIn (OffersEach K.accepts K.refuses) before start (known caller.old.stream).received merging.old.closing.is_closed (merging.old.merger, (merging.old.fault, sink.old))
-        → HasTakenIn (OffersEach K.accepts K.refuses) before start (known caller.new.stream).received merging.new.closing.is_closed (merging.new.merger, (merging.new.fault, sink.new)) }
+    requires of { IsPartitionOf crew.now.chunked.now coordinator.old.partition }
+    requires stream { IsPassOf crew.now.stream.now coordinator.old.stream }
+    requires receiver { IsReceiver (known coordinator.old.stream) }
+    requires within { (r : ChunkResult L.Item) → J.is_result r → end_of_result r ≤ 2 ^ 40 }
+    ensures of { IsPartitionOf crew.now.chunked.now coordinator.new.partition }
+    ensures origin { (holding_of coordinator.new.partition).origin ≡ (holding_of coordinator.old.partition).origin }
+    ensures stream { IsPassOf crew.now.stream.now coordinator.new.stream }
+    ensures receiver { IsReceiver (known coordinator.new.stream) }
+    ensures merges { (merge : Merge L.Item) (s : K) → Merges (IsOffered J.is_result merging.old.coverage) K.accepts K.refuses merge s merging.old.merger merging.old.fault sink.old
+        → Merges (IsOffered J.is_result merging.new.coverage) K.accepts K.refuses merge s merging.new.merger merging.new.fault sink.new }
+    ensures offers { (before : _) (start : _) → HasAccepted (OffersEach K.accepts K.refuses) before start (known coordinator.old.stream).received merging.old.closing.wants_close (merging.old.merger, (merging.old.fault, sink.old))
+        → HasAccepted (OffersEach K.accepts K.refuses) before start (known coordinator.new.stream).received merging.new.closing.wants_close (merging.new.merger, (merging.new.fault, sink.new)) }
 {
     for _ in rt.forever() {
         let is_over = merging.is_over();
-        match caller.turn(rt, crew, is_over, &mut merging.closing) {
-            Turn::Came(made) => {
-                merging.take_in::<J, K>(made, sink);
+        match coordinator.poll(rt, crew, is_over, &mut merging.closing) {
+            Poll::Came(made) => {
+                merging.accept::<J, K>(made, sink);
                 let merger = &merging.merger;
                 crew.progress
                     .move_to(merger.merged(), merger.merged_items());
             }
-            Turn::Nothing(sleep) => {
+            Poll::Nothing(sleep) => {
                 merging.rest(sink);
-                caller.wait(rt, sleep);
+                coordinator.wait(rt, sleep);
             }
-            Turn::Over => return,
+            Poll::Over => return,
         }
     }
 }
@@ -91,7 +92,7 @@ where
 /// Merges what is left once all workers were joined, until the queue is empty.
 fn merge_rest<L, S, J, G, K, R>(
     rt: &R,
-    crew: &Crew<'_, L, S, J, Whole<'_, G>>,
+    crew: &Crew<'_, L, S, J, Unchanged<'_, G>>,
     pass: &mut ResultPass<L::Item>,
     merging: &mut Merging<'_, L>,
     sink: &mut K,
@@ -99,25 +100,25 @@ fn merge_rest<L, S, J, G, K, R>(
 where
     L: Lambda,
     S: Source<Item = L::Item>,
-    J: Carries<L::Item>,
+    J: RunSpec<L::Item>,
     G: Gate,
     K: Sink<Item = L::Item>,
     R: Wait,
     requires stream { IsPassOf crew.now.stream.now pass.old }
     requires receives { (known pass.old).receives ≡ true }
-    requires within { (r : ChunkResult L.Item) → J.is_result r → behind_result r ≤ 2 ^ 40 }
+    requires within { (r : ChunkResult L.Item) → J.is_result r → end_of_result r ≤ 2 ^ 40 }
     ensures stream { IsPassOf crew.now.stream.now pass.new }
     ensures all { HasReceivedAll (known pass.new) }
     ensures sent { (known pass.new).sent ≡ (known pass.old).sent }
     ensures numbers { (known pass.new).numbers ≡ (known pass.old).numbers }
-    ensures merges { (merge : Merge L.Item) (s : K) → Merges (IsOffered J.is_result merging.old.reach) K.accepts K.refuses merge s merging.old.merger merging.old.fault sink.old
-        → Merges (IsOffered J.is_result merging.new.reach) K.accepts K.refuses merge s merging.new.merger merging.new.fault sink.new }
-    ensures offers { (before : _) (start : _) → HasTakenIn (OffersEach K.accepts K.refuses) before start (known pass.old).received merging.old.closing.is_closed (merging.old.merger, (merging.old.fault, sink.old))
-        → HasTakenIn (OffersEach K.accepts K.refuses) before start (known pass.new).received merging.new.closing.is_closed (merging.new.merger, (merging.new.fault, sink.new)) }
+    ensures merges { (merge : Merge L.Item) (s : K) → Merges (IsOffered J.is_result merging.old.coverage) K.accepts K.refuses merge s merging.old.merger merging.old.fault sink.old
+        → Merges (IsOffered J.is_result merging.new.coverage) K.accepts K.refuses merge s merging.new.merger merging.new.fault sink.new }
+    ensures offers { (before : _) (start : _) → HasAccepted (OffersEach K.accepts K.refuses) before start (known pass.old).received merging.old.closing.wants_close (merging.old.merger, (merging.old.fault, sink.old))
+        → HasAccepted (OffersEach K.accepts K.refuses) before start (known pass.new).received merging.new.closing.wants_close (merging.new.merger, (merging.new.fault, sink.new)) }
 {
     for _ in rt.forever() {
         match crew.stream.receive(rt, pass) {
-            Some(sent) => merging.take_in::<J, K>(sent.item, sink),
+            Some(sent) => merging.accept::<J, K>(sent.item, sink),
             None => return,
         }
     }
@@ -127,26 +128,26 @@ where
 pub(crate) fn conduct<'s, Env, L, S, J, G, K, R>(
     scope: &Scope<'s, Env>,
     rt: &'s R,
-    crew: &'s Crew<'s, L, S, J, Whole<'s, G>>,
-    own: Equipment<S, L::Item>,
+    crew: &'s Crew<'s, L, S, J, Unchanged<'s, G>>,
+    own: WorkerContext<S, L::Item>,
     option: MergeOption,
     sink: &mut K,
 ) -> Result<Ended<S>, RunFault>
 where
     L: Lambda,
     S: Source<Item = L::Item>,
-    J: Carries<L::Item> + Send + Sync,
+    J: RunSpec<L::Item> + Send + Sync,
     G: Gate,
     K: Sink<Item = L::Item>,
     R: Threads + Wait + Sync,
-    requires ready { IsReady L.meaning (λ p r c. c ≡ r) J.is_result J.is_ender crew.now own }
+    requires ready { IsReady L.meaning (λ p r c. c ≡ r) J.is_result J.stops_at crew.now own }
     ensures back { IfOk result (λ ended. (1 ≤ length ended.partitions.items) × All (IsPartitionOf crew.now.chunked.now) ended.partitions.items × (common_origin ended.partitions.items ≡ (holding_of own.partition).origin)) }
     ensures started { IfOk result (λ ended. length ended.partitions.items ≡ crew.now.workers + 1) }
     ensures all { IfOk result (λ ended. (pass : StreamPass (ChunkResult L.Item)) × IsPassOf crew.now.stream.now pass × HasReceivedAll (known pass) × All (IsWhollyAnsweredBy (known pass)) (drop 1 ended.partitions.items)
         × WereOffered L.Lambda K.accepts K.refuses (merge_for L.meaning crew.now.plan.now option) (known pass).received ended.ending sink.old sink.new) }
     ensures ends { Ends K.accepts K.refuses option (MayMerge L.meaning crew.now.plan.now) (holding_of own.partition).origin sink.old sink.new result }
 {
-    let Ok(hands) = Vec::with_capacity(crew.alloc, crew.workers as usize) else {
+    let Ok(handles) = Vec::with_capacity(crew.alloc, crew.workers as usize) else {
         return Err(RunFault::Memory);
     };
     let Ok(room) = Vec::with_capacity(crew.alloc, crew.workers as usize + 1) else {
@@ -157,39 +158,39 @@ where
     };
     let mut merging = Merging {
         merger,
-        reach: Reach::none(),
+        coverage: Coverage::none(),
         fault: None,
         closing: Closing::none(),
     };
     let mut own = own;
-    let hands = start_all(scope, rt, crew, crew.workers, &mut own, hands);
-    let Equipment {
+    let handles = start_all(scope, rt, crew, crew.workers, &mut own, handles);
+    let WorkerContext {
         partition,
         stream,
         ..
     } = own;
-    let staff = Staff {
+    let worker_count = WorkerCount {
         wanted: crew.workers,
-        started: hands.len() as u64,
+        started: handles.len() as u64,
     };
-    let mut caller = Caller::new(partition, stream, staff);
-    merge_all(rt, crew, &mut caller, &mut merging, sink);
-    let Caller {
+    let mut coordinator = Coordinator::new(partition, stream, worker_count);
+    merge_all(rt, crew, &mut coordinator, &mut merging, sink);
+    let Coordinator {
         partition,
         mut stream,
-        mut shortages,
+        mut worker_faults,
         ..
-    } = caller;
+    } = coordinator;
     let partitions = join_all(
         rt,
         crew.chunked,
         crew.stream,
         partition,
         &mut stream,
-        hands,
+        handles,
         room,
-        &mut shortages,
+        &mut worker_faults,
     );
     merge_rest(rt, crew, &mut stream, &mut merging, sink);
-    told(merging, shortages, staff, partitions)
+    told(merging, worker_faults, worker_count, partitions)
 }

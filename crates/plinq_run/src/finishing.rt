@@ -20,7 +20,7 @@ use crate::conducting::Ended;
 use crate::merging::Merging;
 use crate::report::Report;
 use crate::run_fault::RunFault;
-use plinq_crew::{Shortages, Staff};
+use plinq_crew::{WorkerCount, WorkerFaults};
 use plinq_keyed::{Guarded, Record};
 use plinq_lambda::Lambda;
 use plinq_merge::MergeFault;
@@ -29,17 +29,17 @@ use plinq_source::Source;
 use std::alloc::Global;
 
 /// The first of the faults that aren't the merging thread's.
-fn shortage(shortages: Shortages, staff: Staff) -> Option<RunFault>
-    ensures first { result ≡ first_told None shortages staff }
+fn worker_fault(worker_faults: WorkerFaults, worker_count: WorkerCount) -> Option<RunFault>
+    ensures first { result ≡ first_told None worker_faults worker_count }
     ensures told { IfSome result (λ fault. cause_of fault ≡ Other) }
 {
-    if shortages.memory {
+    if worker_faults.memory {
         return Some(RunFault::Memory);
     }
-    if staff.started != staff.wanted {
+    if worker_count.started != worker_count.wanted {
         return Some(RunFault::Thread);
     }
-    if shortages.tickets {
+    if worker_faults.tickets {
         return Some(RunFault::Tickets);
     }
     None
@@ -48,21 +48,21 @@ fn shortage(shortages: Shortages, staff: Staff) -> Option<RunFault>
 /// The first of all faults.
 pub(crate) fn first_fault(
     fault: Option<MergeFault>,
-    shortages: Shortages,
-    staff: Staff,
+    worker_faults: WorkerFaults,
+    worker_count: WorkerCount,
 ) -> Option<RunFault>
-    ensures first { result ≡ first_told fault shortages staff }
+    ensures first { result ≡ first_told fault worker_faults worker_count }
     ensures told { IfSome result (λ told. cause_of told ≡ cause_in_merge fault) }
     ensures none { result ≡ None → fault ≡ None }
 {
     match fault {
         Some(MergeFault::Sink(code)) => Some(RunFault::Sink(code)),
         Some(MergeFault::Memory) => Some(RunFault::Memory),
-        Some(_) => match shortage(shortages, staff) {
+        Some(_) => match worker_fault(worker_faults, worker_count) {
             Some(fault) => Some(fault),
             None => Some(RunFault::Incomplete),
         },
-        None => shortage(shortages, staff),
+        None => worker_fault(worker_faults, worker_count),
     }
 }
 
@@ -80,25 +80,25 @@ fn copied(alloc: Global, records: &[Record]) -> Result<Vec<Record>, RunFault>
 /// How the answer ended, or the first of all faults.
 pub(crate) fn told<L: Lambda, S: Source>(
     merging: Merging<'_, L>,
-    shortages: Shortages,
-    staff: Staff,
+    worker_faults: WorkerFaults,
+    worker_count: WorkerCount,
     partitions: Vec<Partition<S>>,
 ) -> Result<Ended<S>, RunFault>
     ensures none { OnOk result (merging.entry.fault ≡ None) }
-    ensures first { OnOk result (first_told merging.entry.fault shortages staff ≡ None) }
+    ensures first { OnOk result (first_told merging.entry.fault worker_faults worker_count ≡ None) }
     ensures ending { IfOk result (λ ended. (offers : List (ChunkResult L.Item)) → IsFor merging.entry.merger offers → (answer (plan_of merging.entry.merger) offers).ending ≡ Some ended.ending) }
     ensures partitions { IfOk result (λ ended. ended.partitions ≡ partitions) }
-    ensures reach { IfOk result (λ ended. ended.reach ≡ merging.entry.reach) }
+    ensures coverage { IfOk result (λ ended. ended.coverage ≡ merging.entry.coverage) }
     ensures err { IfErr result (λ fault. cause_of fault ≡ cause_in_merge merging.entry.fault) }
-    ensures told { IfErr result (λ fault. option_or (first_told merging.entry.fault shortages staff) (Some Incomplete) ≡ Some fault) }
+    ensures told { IfErr result (λ fault. option_or (first_told merging.entry.fault worker_faults worker_count) (Some Incomplete) ≡ Some fault) }
 {
     let Merging {
         merger,
-        reach,
+        coverage,
         fault,
         ..
     } = merging;
-    if let Some(first) = first_fault(fault, shortages, staff) {
+    if let Some(first) = first_fault(fault, worker_faults, worker_count) {
         return Err(first);
     }
     let Ok(ending) = merger.finish() else {
@@ -107,7 +107,7 @@ pub(crate) fn told<L: Lambda, S: Source>(
     Ok(Ended {
         partitions,
         ending,
-        reach,
+        coverage,
     })
 }
 
@@ -122,18 +122,18 @@ pub(crate) fn report_of<S: Source>(
     ensures told { IsReportOf (Ok ended.ending) (reported result) }
     ensures legal { IfOk result (λ report. IsLegalHistory (common_origin ended.partitions.items) report.records.items) }
     ensures records { IfOk result (λ report. report.records.items ≡ in_ticket_order (all_shares ended.partitions.items)) }
-    ensures accounted { IfOk result (λ report. accounts_for ended.reach report.records.items ≡ true) }
+    ensures accounted { IfOk result (λ report. accounts_for ended.coverage report.records.items ≡ true) }
 {
     let Ended {
         partitions,
         ending,
-        reach,
+        coverage,
     } = ended;
     let Ok(enumerator) = chunked.give_back(partitions) else {
         return Err(RunFault::Incomplete);
     };
     let records = copied(alloc, enumerator.records())?;
-    if !account_for(&records, reach) {
+    if !account_for(&records, coverage) {
         return Err(RunFault::Incomplete);
     }
     Ok(Report { ending, records })
@@ -149,7 +149,7 @@ pub(crate) fn report<S: Source>(
     requires of { IfOk ended (λ e. All (IsPartitionOf chunked) e.partitions.items) }
     ensures told { IsReportOf (ending_in ended) (reported result) }
     ensures records { IfOk ended (λ e. IfOk result (λ report. report.records.items ≡ in_ticket_order (all_shares e.partitions.items))) }
-    ensures accounted { IfOk ended (λ e. IfOk result (λ report. accounts_for e.reach report.records.items ≡ true)) }
+    ensures accounted { IfOk ended (λ e. IfOk result (λ report. accounts_for e.coverage report.records.items ≡ true)) }
     ensures legal { (t : Trace S.Item) → IfOk ended (λ e. common_origin e.partitions.items ≡ t) → IfOk result (λ report. IsLegalHistory t report.records.items) }
 {
     match ended {

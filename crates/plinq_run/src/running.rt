@@ -9,7 +9,7 @@ ghost use Rattle.plinq_ops.specs.Feeding.{is_empty_take};
 ghost use Rattle.plinq_ops.specs.Query.{merge_in_force};
 ghost use Rattle.plinq_partition.specs.Partitions.{IsPartitionOf, holding_of};
 ghost use Rattle.plinq_partition.specs.GivenBack.{common_origin};
-ghost use Rattle.plinq_cut.specs.OfPlan.{AreEnders};
+ghost use Rattle.plinq_cut.specs.OfPlan.{AreStopKeys};
 ghost use Rattle.plinq_run.specs.Endings.{reported};
 ghost use Rattle.plinq_crew.specs.Equipped.{IsReady};
 ghost use Rattle.plinq_run.specs.Handed.{has_close};
@@ -19,10 +19,10 @@ ghost use Rattle.plinq_crew.specs.Results.{IsResult};
 
 use crate::conducting::{Ended, conduct};
 use crate::finishing::report;
-use crate::posts::Whole;
 use crate::report::Report;
 use crate::run_fault::RunFault;
-use plinq_crew::{Carries, Crew, Equipment, Gate, Progress, ResultStream, RunEnders};
+use crate::tasks::Unchanged;
+use plinq_crew::{Crew, Gate, Progress, ResultStream, RunSpec, RunStopKeys, WorkerContext};
 use plinq_cut::CutWord;
 use plinq_enumerator::Growth;
 use plinq_lambda::Lambda;
@@ -76,19 +76,19 @@ pub(crate) fn progress_of<G: Gate, R: Threads>(
 /// Runs a crew in a scope of threads.
 fn run_crew<J, L, S, G, K, R>(
     rt: &R,
-    crew: &Crew<'_, L, S, J, Whole<'_, G>>,
-    own: Equipment<S, L::Item>,
+    crew: &Crew<'_, L, S, J, Unchanged<'_, G>>,
+    own: WorkerContext<S, L::Item>,
     option: MergeOption,
     sink: &mut K,
 ) -> Result<Ended<S>, RunFault>
 where
-    J: Carries<L::Item> + Send + Sync,
+    J: RunSpec<L::Item> + Send + Sync,
     L: Lambda,
     S: Source<Item = L::Item>,
     G: Gate,
     K: Sink<Item = L::Item>,
     R: Threads + Wait + Sync,
-    requires ready { IsReady L.meaning (λ p r c. c ≡ r) J.is_result J.is_ender crew.now own }
+    requires ready { IsReady L.meaning (λ p r c. c ≡ r) J.is_result J.stops_at crew.now own }
     ensures { IsConducted K.accepts K.refuses option (MayMerge L.meaning crew.now.plan.now) crew.now.chunked.now (holding_of own.partition).origin sink.old sink.new result }
 {
     let lent = &mut *sink;
@@ -96,7 +96,7 @@ where
         thread::scope_env(),
         rt,
         move |scope| -> (Result<Ended<S>, RunFault>, &mut K)
-            requires ready { IsReady L.meaning (λ p r c. c ≡ r) J.is_result J.is_ender crew.now own }
+            requires ready { IsReady L.meaning (λ p r c. c ≡ r) J.is_result J.stops_at crew.now own }
             ensures same { result.1.ghost_name ≡ lent.entry.ghost_name }
             ensures conducted { IsConducted K.accepts K.refuses option (MayMerge L.meaning crew.entry.now.plan.now) crew.entry.now.chunked.now (holding_of own.partition).origin lent.entry.now result.1.now result.0 }
         {
@@ -120,7 +120,7 @@ fn run_plan<J, L, S, G, K, R>(
     sink: &mut K,
 ) -> Result<Report, RunFault>
 where
-    J: Carries<L::Item> + Send + Sync,
+    J: RunSpec<L::Item> + Send + Sync,
     L: Lambda,
     S: Source<Item = L::Item>,
     G: Gate,
@@ -131,12 +131,12 @@ where
     requires few { workers ≤ 64 }
     requires carries { (r : ChunkResult L.Item) → IsResult L.meaning plan.now (S.whole source) r → J.is_result r }
     requires carried { (r : ChunkResult L.Item) → J.is_result r → IsResult L.meaning plan.now (S.whole source) r }
-    requires enders { AreEnders L.meaning plan.now (S.whole source) J.is_ender }
+    requires stop_keys { AreStopKeys L.meaning plan.now (S.whole source) J.stops_at }
     ensures legal { IfOk result (λ report. IsLegalHistory (S.whole source) report.records.items) }
     ensures closed { IfOk result (λ report. has_close report.records.items ≡ true) }
     ensures reports { Reports K.accepts K.refuses option (MayMerge L.meaning plan.now) (S.whole source) sink.old sink.new result }
 {
-    let Ok((cut, cut_pass)) = CutWord::<RunEnders<L::Item, J>>::new(alloc, plan, &source) else {
+    let Ok((cut, cut_pass)) = CutWord::<RunStopKeys<L::Item, J>>::new(alloc, plan, &source) else {
         return Err(RunFault::Memory);
     };
     let Ok((chunked, partition)) = Chunked::new(alloc, source, growth) else {
@@ -146,18 +146,18 @@ where
         return Err(RunFault::Memory);
     };
     let progress = progress_of(rt, gate, plan.order, workers, growth);
-    let post = Whole { gate };
+    let task = Unchanged { gate };
     let crew = Crew {
         alloc,
         plan,
         chunked: &chunked,
         stream: &stream,
         cut: &cut,
-        post: &post,
+        task: &task,
         progress: &progress,
         workers,
     };
-    let own = Equipment {
+    let own = WorkerContext {
         partition,
         stream: pass,
         cut: cut_pass,

@@ -195,7 +195,7 @@ fn a_query_ends_with_its_first_fault(rt: HostRuntime) -> Result<(), Fail> {
 }
 
 /// Refuses after these items, to each of which one is added.
-fn refuse_behind<R: Threads + Wait + Sync + Abort>(
+fn refuse_after<R: Threads + Wait + Sync + Abort>(
     rt: &R,
     alloc: Global,
     items: &[i64],
@@ -207,11 +207,11 @@ fn refuse_behind<R: Threads + Wait + Sync + Abort>(
 }
 
 #[test]
-fn a_list_of_any_length_is_refused_behind_its_items(rt: HostRuntime) -> Result<(), Fail> {
+fn a_list_of_any_length_is_refused_after_its_items(rt: HostRuntime) -> Result<(), Fail> {
     let mut items = Vec::new(rt.alloc());
     let mut more_by_one = Vec::new(rt.alloc());
     for next in 1..42 {
-        refuse_behind(&rt, rt.alloc(), &items, &more_by_one)?;
+        refuse_after(&rt, rt.alloc(), &items, &more_by_one)?;
         items.push(next)?;
         more_by_one.push(next + 1)?;
     }

@@ -115,27 +115,27 @@ impl Answers {
     /// How many items are left after the batches, if these are the first of the answer.
     pub(crate) fn left(&self, option: MergeOption) -> Option<usize> {
         match option {
-            MergeOption::NotBuffered => left_behind(&self.batches, &self.items, 1),
+            MergeOption::NotBuffered => left_after(&self.batches, &self.items, 1),
             MergeOption::Default | MergeOption::AutoBuffered => {
-                left_behind(&self.batches, &self.items, 16)
+                left_after(&self.batches, &self.items, 16)
             }
             MergeOption::FullyBuffered => match self.ending {
-                Ending::End => left_behind(&self.batches, &self.items, usize::MAX),
-                Ending::Refused(_) | Ending::Fault(_) => left_behind(&self.batches, &[], 1),
+                Ending::End => left_after(&self.batches, &self.items, usize::MAX),
+                Ending::Refused(_) | Ending::Fault(_) => left_after(&self.batches, &[], 1),
             },
         }
     }
 }
 
 /// How many items are left after batches, if these are the items cut into batches of that size.
-fn left_behind(batches: &[Vec<i64>], items: &[i64], size: usize) -> Option<usize> {
+fn left_after(batches: &[Vec<i64>], items: &[i64], size: usize) -> Option<usize> {
     let mut left = items;
     for batch in batches {
-        let (next, behind) = left.split_at(left.len().min(size));
+        let (next, following) = left.split_at(left.len().min(size));
         if next.is_empty() || batch.as_slice() != next {
             return None;
         }
-        left = behind;
+        left = following;
     }
     Some(left.len())
 }

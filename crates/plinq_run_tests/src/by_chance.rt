@@ -19,7 +19,7 @@ use std::test::*;
 use std::thread::{Threads, yield_now};
 
 /// The number after this one, in a walk through all numbers but 0 that looks like chance (xorshift).
-fn number_behind(number: u64) -> u64 {
+fn number_after(number: u64) -> u64 {
     let mixed = number ^ (number << 13);
     let mixed = mixed ^ (mixed >> 7);
     mixed ^ (mixed << 17)
@@ -33,7 +33,7 @@ struct Delays {
 
 impl Delays {
     fn delay(&self) {
-        let number = number_behind(self.number.load(Ordering::SeqCst));
+        let number = number_after(self.number.load(Ordering::SeqCst));
         self.number.store(number, Ordering::SeqCst);
         for _turn in 0..(number >> 52) >> (number % 13) {
             spin_loop();
@@ -66,7 +66,7 @@ impl Dice {
         requires { 1 ≤ sides }
         ensures { result < sides }
     {
-        self.number = number_behind(self.number);
+        self.number = number_after(self.number);
         (self.number >> 16) % sides
     }
 

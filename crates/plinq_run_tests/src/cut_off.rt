@@ -116,7 +116,7 @@ fn greatest_tested<R: Threads + Wait + Sync + Abort>(rt: &R, alloc: Global) -> R
 }
 
 #[test]
-fn nothing_is_tested_behind_a_known_end(rt: HostRuntime) -> Result<(), Fail> {
+fn nothing_is_tested_after_a_known_end(rt: HostRuntime) -> Result<(), Fail> {
     assert_eq!(rt; greatest_tested(&rt, rt.alloc())?, 1);
     Ok(())
 }

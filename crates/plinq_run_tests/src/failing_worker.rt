@@ -372,7 +372,7 @@ fn a_run_ends_whose_workers_sleep_over_items(rt: HostRuntime) -> Result<(), Fail
 
 /// Number 3 fails while key 0 is held back. That key comes a while later, and is the first that could be delivered.
 #[test]
-fn nothing_is_delivered_behind_a_failed_worker(rt: HostRuntime) -> Result<(), Fail> {
+fn nothing_is_delivered_after_a_failed_worker(rt: HostRuntime) -> Result<(), Fail> {
     for workers in WORKERS {
         let late = Late {
             workers,

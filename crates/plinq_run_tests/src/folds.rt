@@ -161,7 +161,7 @@ fn an_aggregate_closes_a_long_range_long_before_its_end(rt: HostRuntime) -> Resu
 }
 
 /// Folds the first three even numbers of a range: taking them stands after the merge.
-fn behind_the_merge<R: Threads + Wait + Sync + Abort>(
+fn after_the_merge<R: Threads + Wait + Sync + Abort>(
     rt: &R,
     alloc: Global,
     workers: u64,
@@ -179,9 +179,9 @@ fn behind_the_merge<R: Threads + Wait + Sync + Abort>(
 }
 
 #[test]
-fn what_stands_behind_the_merge_is_folded_too(rt: HostRuntime) -> Result<(), Fail> {
+fn what_stands_after_the_merge_is_folded_too(rt: HostRuntime) -> Result<(), Fail> {
     for workers in WORKERS {
-        behind_the_merge(&rt, rt.alloc(), workers, 1_000)?;
+        after_the_merge(&rt, rt.alloc(), workers, 1_000)?;
     }
     Ok(())
 }

@@ -102,7 +102,7 @@ fn end_at_the_merger<R: Threads + Wait + Sync + Abort>(
 }
 
 #[test]
-fn no_run_tells_a_fault_behind_its_end(rt: HostRuntime) -> Result<(), Fail> {
+fn no_run_tells_a_fault_after_its_end(rt: HostRuntime) -> Result<(), Fail> {
     for growth in [Growth::ONE, Growth::DEFAULT, Growth::new(1, 1, 4)?] {
         for workers in [1u64, 2, 8, 64] {
             let setting = Setting {

@@ -24,13 +24,13 @@ some-bytes (b ∷ bs) h = refl
 -- `rest` is the text from a place on, after the blanks that stand there, and isn't empty: a token is ahead
 pub record StandsAhead (text : List ℕ) (at skipped : ℕ) (left rest : List ℕ) : Type 0 where
   pub here : left ≡ drop at text
-  pub behind : rest ≡ drop skipped left
+  pub past : rest ≡ drop skipped left
   pub same : tokens (drop skipped left) ≡ tokens left
   pub ahead : is_some_bytes (token_ahead (drop skipped left)) ≡ is_some_bytes (drop skipped left)
   pub more : false ≡ (length rest == 0)
 
 pub standing : (text slice : List ℕ) (at skipped : ℕ) (left rest : List ℕ) → slice ≡ text → left ≡ drop at slice → rest ≡ drop skipped left → tokens (drop skipped left) ≡ tokens left → is_some_bytes (token_ahead (drop skipped left)) ≡ is_some_bytes (drop skipped left) → false ≡ (length rest == 0) → StandsAhead text at skipped left rest
-standing text slice at skipped left rest e here behind same ahead more = record { here = here ∙ ap (drop at) e; behind = behind; same = same; ahead = ahead; more = more }
+standing text slice at skipped left rest e here past same ahead more = record { here = here ∙ ap (drop at) e; past = past; same = same; ahead = ahead; more = more }
 
 -- to pass over the blanks changes nothing
 pub unmoved : (text : List ℕ) (at skipped : ℕ) (left rest : List ℕ) → StandsAhead text at skipped left rest → tokens (drop (at + skipped) text) ≡ tokens (drop at text)
@@ -39,10 +39,10 @@ unmoved text at skipped left rest s = ap tokens (sym (ap (drop skipped) s.here �
 first-token : (text : List ℕ) (at skipped : ℕ) (left rest : List ℕ) → StandsAhead text at skipped left rest → tokens (drop at text) ≡ token_ahead rest ∷ tokens (drop (at + skipped + length (token_ahead rest)) text)
 first-token text at skipped left rest s =
     let n : ℕ = length (token_ahead rest) in
-    let where_rest : rest ≡ drop (at + skipped) text = s.behind ∙ ap (drop skipped) s.here ∙ drop-drop skipped at text in
+    let where_rest : rest ≡ drop (at + skipped) text = s.past ∙ ap (drop skipped) s.here ∙ drop-drop skipped at text in
     let where_after : drop n rest ≡ drop (at + skipped + n) text = ap (drop n) where_rest ∙ drop-drop n (at + skipped) text in
-    let some : is_some_bytes (token_ahead rest) ≡ true = ap (λ bs. is_some_bytes (token_ahead bs)) s.behind ∙ s.ahead ∙ ap is_some_bytes (sym s.behind) ∙ some-bytes rest s.more in
-    ap tokens (sym s.here) ∙ sym s.same ∙ ap tokens (sym s.behind) ∙ tokens-ahead rest some ∙ ap (λ bs. token_ahead rest ∷ tokens bs) where_after
+    let some : is_some_bytes (token_ahead rest) ≡ true = ap (λ bs. is_some_bytes (token_ahead bs)) s.past ∙ s.ahead ∙ ap is_some_bytes (sym s.past) ∙ some-bytes rest s.more in
+    ap tokens (sym s.here) ∙ sym s.same ∙ ap tokens (sym s.past) ∙ tokens-ahead rest some ∙ ap (λ bs. token_ahead rest ∷ tokens bs) where_after
 
 pub reads_value : (text : List ℕ) (at skipped : ℕ) (left rest : List ℕ) (n : ℕ) (z : ℤ) → StandsAhead text at skipped left rest → n ≡ length (token_ahead rest) → Ok z ≡ token_value (token_ahead rest) → ReadsValue text at z (at + skipped + n)
 reads_value text at skipped left rest n z s long said =

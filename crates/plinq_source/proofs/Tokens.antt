@@ -9,27 +9,27 @@ pub tokens-separator : (b : ℕ) (bs : List ℕ) → is_separator b ≡ true →
 tokens-separator b bs h = ap (filter is_some_bytes) (slice_split-cons_yes is_separator b bs h)
 
 -- the parts of a text after the token that stands ahead
-parts_behind : List ℕ → List (List ℕ)
-parts_behind [] = []
-parts_behind (b ∷ bs) = cond (is_separator b) (slice_split is_separator bs) (parts_behind bs)
+parts_after : List ℕ → List (List ℕ)
+parts_after [] = []
+parts_after (b ∷ bs) = cond (is_separator b) (slice_split is_separator bs) (parts_after bs)
 
-split-cases : (s : Bool) (b : ℕ) (bs : List ℕ) → slice_split is_separator bs ≡ token_ahead bs ∷ parts_behind bs → cond s ([] ∷ slice_split is_separator bs) (onto_first b (slice_split is_separator bs)) ≡ cond s [] (b ∷ token_ahead bs) ∷ cond s (slice_split is_separator bs) (parts_behind bs)
+split-cases : (s : Bool) (b : ℕ) (bs : List ℕ) → slice_split is_separator bs ≡ token_ahead bs ∷ parts_after bs → cond s ([] ∷ slice_split is_separator bs) (onto_first b (slice_split is_separator bs)) ≡ cond s [] (b ∷ token_ahead bs) ∷ cond s (slice_split is_separator bs) (parts_after bs)
 split-cases true b bs ih = refl
 split-cases false b bs ih = ap (onto_first b) ih
 
-split-ahead : (text : List ℕ) → slice_split is_separator text ≡ token_ahead text ∷ parts_behind text
-unfolding parts_behind
+split-ahead : (text : List ℕ) → slice_split is_separator text ≡ token_ahead text ∷ parts_after text
+unfolding parts_after
 split-ahead [] = refl
 split-ahead (b ∷ bs) = split-cases (is_separator b) b bs (split-ahead bs)
 
-behind-cases : (s : Bool) (b : ℕ) (bs : List ℕ) → is_separator b ≡ s → filter is_some_bytes (parts_behind bs) ≡ tokens (drop (length (token_ahead bs)) bs) → filter is_some_bytes (cond s (slice_split is_separator bs) (parts_behind bs)) ≡ tokens (drop (length (cond s [] (b ∷ token_ahead bs))) (b ∷ bs))
-behind-cases true b bs e ih = sym (tokens-separator b bs e)
-behind-cases false b bs e ih = ih
+after-cases : (s : Bool) (b : ℕ) (bs : List ℕ) → is_separator b ≡ s → filter is_some_bytes (parts_after bs) ≡ tokens (drop (length (token_ahead bs)) bs) → filter is_some_bytes (cond s (slice_split is_separator bs) (parts_after bs)) ≡ tokens (drop (length (cond s [] (b ∷ token_ahead bs))) (b ∷ bs))
+after-cases true b bs e ih = sym (tokens-separator b bs e)
+after-cases false b bs e ih = ih
 
-tokens-behind : (text : List ℕ) → filter is_some_bytes (parts_behind text) ≡ tokens (drop (length (token_ahead text)) text)
-unfolding parts_behind
-tokens-behind [] = refl
-tokens-behind (b ∷ bs) = behind-cases (is_separator b) b bs refl (tokens-behind bs)
+tokens-after : (text : List ℕ) → filter is_some_bytes (parts_after text) ≡ tokens (drop (length (token_ahead text)) text)
+unfolding parts_after
+tokens-after [] = refl
+tokens-after (b ∷ bs) = after-cases (is_separator b) b bs refl (tokens-after bs)
 
 some-first : (t : List ℕ) (ts : List (List ℕ)) → is_some_bytes t ≡ true → filter is_some_bytes (t ∷ ts) ≡ t ∷ filter is_some_bytes ts
 some-first t ts h = ap (λ s. cond s (t ∷ filter is_some_bytes ts) (filter is_some_bytes ts)) h
@@ -38,8 +38,8 @@ some-first t ts h = ap (λ s. cond s (t ∷ filter is_some_bytes ts) (filter is_
 pub tokens-ahead : (text : List ℕ) → is_some_bytes (token_ahead text) ≡ true → tokens text ≡ token_ahead text ∷ tokens (drop (length (token_ahead text)) text)
 tokens-ahead text h =
     ap (filter is_some_bytes) (split-ahead text)
-    ∙ some-first (token_ahead text) (parts_behind text) h
-    ∙ ap (λ ts. token_ahead text ∷ ts) (tokens-behind text)
+    ∙ some-first (token_ahead text) (parts_after text) h
+    ∙ ap (λ ts. token_ahead text ∷ ts) (tokens-after text)
 
 -- a token that stands ahead has no more bytes than the text
 pub length-token_ahead : (text : List ℕ) → length (token_ahead text) ≤ length text

@@ -58,8 +58,8 @@ values (t ∷ ts) = value_before (token_value t) (values ts)
 
 -- a token's refusal, or else that of those after it
 abbrev pub refusal_before : Result ℤ ℕ → Option ℕ → Option ℕ
-refusal_before (Ok z) behind = behind
-refusal_before (Err code) behind = Some code
+refusal_before (Ok z) past = past
+refusal_before (Err code) past = Some code
 
 -- the code of the first token that is refused
 abbrev pub refusal : List (List ℕ) → Option ℕ

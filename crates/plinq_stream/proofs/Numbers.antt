@@ -1,6 +1,6 @@
 -- Numbers one after another.
 use Rattle.std.proofs.Common.{◌≡◌, ℕ, zero, suc, ◌+◌, ◌-◌, ◌<◌, ◌≤◌, ◌==◌, eqb-true, true, false, true≢false, [], ◌∷◌, take, drop, sym, ap, ◌∙◌, ⊎_elim, arith}
-use Rattle.plinq_stream.specs.declared.known.Known.{Known}
+use Rattle.plinq_stream.specs.declared.known.PassKnowledge.{PassKnowledge}
 use Rattle.plinq_stream.specs.Knowing.{numbers_from}
 use Rattle.plinq_stream.specs.Streams.{has, under, MayHandOut}
 use Rattle.plinq_stream.proofs.Under.{either-way, or-cases}
@@ -11,14 +11,14 @@ from-above n m zero is = absurd (true≢false (sym is))
 from-above n m (suc count) is = ⊎_elim (λ e. let same : n ≡ m = eqb-true n m e in omega arith) (λ e. let rest = from-above (n + 1) m count e in omega arith) (or-cases (n == m) (has m (numbers_from (n + 1) count)) is)
 
 -- so many are left, and then one fewer
-left-behind : (n most : ℕ) → n < most → most - n ≡ suc (most - (n + 1))
-left-behind n most less = omega arith
+left-after : (n most : ℕ) → n < most → most - n ≡ suc (most - (n + 1))
+left-after n most less = omega arith
 
 pub first-of : (n most : ℕ) → n < most → take 1 (numbers_from n (most - n)) ≡ n ∷ []
-first-of n most less = ap (λ k. take 1 (numbers_from n k)) (left-behind n most less)
+first-of n most less = ap (λ k. take 1 (numbers_from n k)) (left-after n most less)
 
 pub rest-of : (n most : ℕ) → n < most → drop 1 (numbers_from n (most - n)) ≡ numbers_from (n + 1) (most - (n + 1))
-rest-of n most less = ap (λ k. drop 1 (numbers_from n k)) (left-behind n most less)
+rest-of n most less = ap (λ k. drop 1 (numbers_from n k)) (left-after n most less)
 
 -- the first isn't among the rest
 first-once : (n m count : ℕ) → has m (n ∷ []) ≡ true → has m (numbers_from (n + 1) count) ≡ false
@@ -27,8 +27,8 @@ first-once n m count is = ⊎_elim
     (λ e. absurd (true≢false (sym e))) (or-cases (n == m) false is)
 
 -- a pass with such numbers that has sent nothing may hand out the first
-pub may-hand_out : {T : Type 0} (a : Known T) (n most : ℕ) → n < most → a.numbers ≡ numbers_from n (most - n) → a.sent ≡ [] → MayHandOut a
-may-hand_out a n most less are none = record {
+pub may-give_number : {T : Type 0} (a : PassKnowledge T) (n most : ℕ) → n < most → a.numbers ≡ numbers_from n (most - n) → a.sent ≡ [] → MayHandOut a
+may-give_number a n most less are none = record {
   unsent = λ m is. ap (under m) none;
   once = λ m is.
       let first = ap (λ l. has m (take 1 l)) are ∙ ap (has m) (first-of n most less) in

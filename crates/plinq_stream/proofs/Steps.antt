@@ -9,7 +9,7 @@ use native.Mathlib.Decide.{ℕ_discrete}
 use lib.ListN.{get_elem?}
 use Rattle.crossbeam_queue.proofs.Lists.{at_set, set_else, at_longer, at_last}
 use Rattle.crossbeam_queue.specs.Fifo.{Pushes, Pops, Forks, Merges, Learns, Held}
-use Rattle.plinq_stream.specs.declared.known.Known.{Known}
+use Rattle.plinq_stream.specs.declared.known.PassKnowledge.{PassKnowledge}
 use Rattle.plinq_stream.specs.declared.sent.Sent.{Sent}
 use Rattle.plinq_stream.specs.Knowing.{nothing_known, first_known, with_sent, with_received, without_first, with_first, together}
 use Rattle.plinq_stream.proofs.Under.{has-append, or-left, or-right, or-cases, or-none, or-first, or-second, either-way, has-split, under-append, under-apart}
@@ -39,9 +39,9 @@ module _ {A : Type 0} where
       (λ is. subst F (some-injective v u (sym at ∙ subst (λ k. get_elem? l k ≡ some u) is e)) own)
       (λ not. all j u (set_else l i j w not ∙ e))
 
-All-behind : {X : Type 0} (P : X → Type 0) (xs ys : List X) → All P (xs ++ ys) → All P ys
-All-behind P [] ys all = all
-All-behind P (x ∷ xs) ys all = All-behind P xs ys (All-tail P x (xs ++ ys) all)
+All-after : {X : Type 0} (P : X → Type 0) (xs ys : List X) → All P (xs ++ ys) → All P ys
+All-after P [] ys all = all
+All-after P (x ∷ xs) ys all = All-after P xs ys (All-tail P x (xs ++ ys) all)
 
 module _ {T : Type 0} (Carried : T → Type 0) where
   pub begins : IsStream Carried [] (first_known ∷ [])
@@ -49,20 +49,20 @@ module _ {T : Type 0} (Carried : T → Type 0) where
     received = [];
     seat = λ n. 0;
     reader = 0;
-    each = λ pass a at. let is = alone pass a at in subst (λ (x : ℕ × Known T). Fits (λ n. 0) 0 [] [] x.0 x.1) (λ i. (is.0 i, is.1 i))
+    each = λ pass a at. let is = alone pass a at in subst (λ (x : ℕ × PassKnowledge T). Fits (λ n. 0) 0 [] [] x.0 x.1) (λ i. (is.0 i, is.1 i))
         (record { alone = λ n h. refl; sent = λ n h. refl; only = λ n h. refl; received_all = λ h. (refl, refl) });
     others = λ n h. refl;
     carried = All-nil (λ s. Carried s.item);
   }
     where
-      alone : (pass : ℕ) (a : Known T) → get_elem? (first_known ∷ []) pass ≡ some a → (0 ≡ pass) × (first_known ≡ a)
+      alone : (pass : ℕ) (a : PassKnowledge T) → get_elem? (first_known ∷ []) pass ≡ some a → (0 ≡ pass) × (first_known ≡ a)
       alone zero a at = (refl, some-injective first_known a at)
       alone (suc pass) a at = absurd (some-ne-none a (sym at))
 
-  module _ (pass : ℕ) (a : Known T) where
+  module _ (pass : ℕ) (a : PassKnowledge T) where
     pub sends : (room : ℕ) (s : Sent T) → has s.number a.numbers ≡ true → Carried s.item → Pushes (IsStream Carried) room pass a s (λ b. b ≡ with_sent a s)
-    sends room s own carries items views short h at =
-        let b : Known T = with_sent a s in
+    sends room s own admits items views short h at =
+        let b : PassKnowledge T = with_sent a s in
         let before = h.received ++ items in
         let after = h.received ++ (items ++ s ∷ []) in
         let longer : before ++ s ∷ [] ≡ after = append_assoc h.received items (s ∷ []) in
@@ -81,7 +81,7 @@ module _ {T : Type 0} (Carried : T → Type 0) where
             received = h.received;
             seat = h.seat;
             reader = h.reader;
-            each = λ j u e. ⊎_elim (λ (x : (j ≡ pass) × (b ≡ u)). subst (λ (y : ℕ × Known T). Fits h.seat h.reader h.received after y.0 y.1) (λ i. (sym x.0 i, x.1 i)) fits)
+            each = λ j u e. ⊎_elim (λ (x : (j ≡ pass) × (b ≡ u)). subst (λ (y : ℕ × PassKnowledge T). Fits h.seat h.reader h.received after y.0 y.1) (λ i. (sym x.0 i, x.1 i)) fits)
                 (λ (x : (j ≢ pass) × (get_elem? views j ≡ some u)).
                 let theirs = h.each j u x.1 in
                 let apart : (n : ℕ) → has n u.numbers ≡ true → has n a.numbers ≡ false =
@@ -91,14 +91,14 @@ module _ {T : Type 0} (Carried : T → Type 0) where
             others = λ n nobody.
                 let not : has n a.numbers ≡ false = nobody pass b (set_at views pass a b at) in
                 same n not ∙ h.others n (each-unset (λ u. has n u.numbers ≡ false) views pass a b at not nobody);
-            carried = subst (All (λ x. Carried x.item)) longer (All-push (λ x. Carried x.item) before s h.carried carries);
+            carried = subst (All (λ x. Carried x.item)) longer (All-push (λ x. Carried x.item) before s h.carried admits);
           },
           refl,
         )
 
     pub comes : a.receives ≡ true → Pops (IsStream Carried) pass a (λ s b. (b ≡ with_received a s) × Carried s.item)
     comes may s items views h at =
-        let b : Known T = with_received a s in
+        let b : PassKnowledge T = with_received a s in
         let received = h.received ++ s ∷ [] in
         let stream = h.received ++ s ∷ items in
         let same : stream ≡ received ++ items = sym (append_assoc h.received (s ∷ []) items) in
@@ -110,8 +110,8 @@ module _ {T : Type 0} (Carried : T → Type 0) where
           only = mine.only;
           received_all = λ _. (mine_all.0, ap (λ l. l ++ s ∷ []) mine_all.1);
         } in
-        let each : (j : ℕ) (u : Known T) → get_elem? (set views pass b) j ≡ some u → Fits h.seat h.reader received stream j u =
-        λ j u e. ⊎_elim (λ (x : (j ≡ pass) × (b ≡ u)). subst (λ (y : ℕ × Known T). Fits h.seat h.reader received stream y.0 y.1) (λ i. (sym x.0 i, x.1 i)) fits)
+        let each : (j : ℕ) (u : PassKnowledge T) → get_elem? (set views pass b) j ≡ some u → Fits h.seat h.reader received stream j u =
+        λ j u e. ⊎_elim (λ (x : (j ≡ pass) × (b ≡ u)). subst (λ (y : ℕ × PassKnowledge T). Fits h.seat h.reader received stream y.0 y.1) (λ i. (sym x.0 i, x.1 i)) fits)
         (λ (x : (j ≢ pass) × (get_elem? views j ≡ some u)).
         let theirs = h.each j u x.1 in
         record { alone = theirs.alone; sent = theirs.sent; only = theirs.only; received_all = λ is. absurd (x.0 ((theirs.received_all is).0 ∙ sym mine_all.0)) })
@@ -127,13 +127,13 @@ module _ {T : Type 0} (Carried : T → Type 0) where
             others = λ n nobody. ap (under n) (sym same) ∙ others n nobody;
             carried = subst (All (λ x. Carried x.item)) same h.carried;
           },
-          (refl, All-head (λ x. Carried x.item) s items (All-behind (λ x. Carried x.item) h.received (s ∷ items) h.carried)),
+          (refl, All-head (λ x. Carried x.item) s items (All-after (λ x. Carried x.item) h.received (s ∷ items) h.carried)),
         )
 
     pub hands_out : MayHandOut a → Forks (IsStream Carried) pass a (without_first a) (with_first a)
     hands_out may items views h at =
-        let left : Known T = without_first a in
-        let right : Known T = with_first a in
+        let left : PassKnowledge T = without_first a in
+        let right : PassKnowledge T = with_first a in
         let made = set views pass left in
         let stream = h.received ++ items in
         let mine = h.each pass a at in
@@ -161,7 +161,7 @@ module _ {T : Type 0} (Carried : T → Type 0) where
           reader = h.reader;
           each = λ j u e. ⊎_elim
               (λ (old : get_elem? made j ≡ some u). ⊎_elim
-              (λ (x : (j ≡ pass) × (left ≡ u)). subst (λ (y : ℕ × Known T). Fits seat h.reader h.received stream y.0 y.1) (λ i. (sym x.0 i, x.1 i)) fits-left)
+              (λ (x : (j ≡ pass) × (left ≡ u)). subst (λ (y : ℕ × PassKnowledge T). Fits seat h.reader h.received stream y.0 y.1) (λ i. (sym x.0 i, x.1 i)) fits-left)
               (λ (x : (j ≢ pass) × (get_elem? views j ≡ some u)).
               let theirs = h.each j u x.1 in
               record {
@@ -172,7 +172,7 @@ module _ {T : Type 0} (Carried : T → Type 0) where
                 received_all = theirs.received_all;
               })
               (at_set views pass j left u old))
-              (λ (x : (j ≡ length made) × (right ≡ u)). subst (λ (y : ℕ × Known T). Fits seat h.reader h.received stream y.0 y.1) (λ i. (sym x.0 i, x.1 i)) fits-right)
+              (λ (x : (j ≡ length made) × (right ≡ u)). subst (λ (y : ℕ × PassKnowledge T). Fits seat h.reader h.received stream y.0 y.1) (λ i. (sym x.0 i, x.1 i)) fits-right)
               (at_end made right u j e);
           others = λ n nobody.
               let old : IsNobodys made n = λ j u e. nobody j u (at_longer made (right ∷ []) j u e) in
@@ -183,9 +183,9 @@ module _ {T : Type 0} (Carried : T → Type 0) where
           carried = h.carried;
         }
 
-    pub takes_in : (other : ℕ) (b : Known T) → b.receives ≡ false → Merges (IsStream Carried) pass a other b (together a b) nothing_known
+    pub takes_in : (other : ℕ) (b : PassKnowledge T) → b.receives ≡ false → Merges (IsStream Carried) pass a other b (together a b) nothing_known
     takes_in other b sender items views h at two at' =
-        let both : Known T = together a b in
+        let both : PassKnowledge T = together a b in
         let made = set views pass both in
         let stream = h.received ++ items in
         let was : get_elem? views other ≡ some b = ⊎_elim (λ x. absurd (two x.0)) (λ x. x.1) (at_set views pass other both b at') in
@@ -218,9 +218,9 @@ module _ {T : Type 0} (Carried : T → Type 0) where
           received = h.received;
           seat = seat;
           reader = h.reader;
-          each = λ j u e. ⊎_elim (λ (x : (j ≡ other) × (nothing_known ≡ u)). subst (λ (y : ℕ × Known T). Fits seat h.reader h.received stream y.0 y.1) (λ i. (sym x.0 i, x.1 i)) spent)
+          each = λ j u e. ⊎_elim (λ (x : (j ≡ other) × (nothing_known ≡ u)). subst (λ (y : ℕ × PassKnowledge T). Fits seat h.reader h.received stream y.0 y.1) (λ i. (sym x.0 i, x.1 i)) spent)
               (λ (far : (j ≢ other) × (get_elem? made j ≡ some u)). ⊎_elim
-              (λ (x : (j ≡ pass) × (both ≡ u)). subst (λ (y : ℕ × Known T). Fits seat h.reader h.received stream y.0 y.1) (λ i. (sym x.0 i, x.1 i)) fits)
+              (λ (x : (j ≡ pass) × (both ≡ u)). subst (λ (y : ℕ × PassKnowledge T). Fits seat h.reader h.received stream y.0 y.1) (λ i. (sym x.0 i, x.1 i)) fits)
               (λ (x : (j ≢ pass) × (get_elem? views j ≡ some u)).
               let here = h.each j u x.1 in
               record {
@@ -236,7 +236,7 @@ module _ {T : Type 0} (Carried : T → Type 0) where
               let none' = sym (has-append n a.numbers b.numbers) ∙ none in
               let own = or-left (has n a.numbers) (has n b.numbers) none' in
               let theirs' = or-right (has n a.numbers) (has n b.numbers) none' in
-              let F : Known T → Type 0 = λ u. has n u.numbers ≡ false in
+              let F : PassKnowledge T → Type 0 = λ u. has n u.numbers ≡ false in
               h.others n (each-unset F views pass a both at own (each-unset F made other b nothing_known at' theirs' nobody));
           carried = h.carried;
         }
@@ -248,10 +248,10 @@ module _ {T : Type 0} (Carried : T → Type 0) where
 
 -- at a moment at which the queue holds nothing, all has come
 module _ {T : Type 0} where
-  come-at_empty : (a b : Known T) → b ≡ a → (items : List (Sent T)) → length items ≡ 0 → HasReceived a items → HasReceivedAll b
+  come-at_empty : (a b : PassKnowledge T) → b ≡ a → (items : List (Sent T)) → length items ≡ 0 → HasReceived a items → HasReceivedAll b
   come-at_empty a b same [] none come = subst HasReceivedAll (sym same) (λ n is. sym (come n is ∙ ap (under n) (append-nil a.received)))
   come-at_empty a b same (x ∷ items) none come = absurd (omega arith)
 
-  pub all-come : (P : Sent T → Type 0) (a b : Known T) (result : Option (Sent T)) → MatchOption result ((b ≡ a) × Held 0 (HasReceived a)) P → IfNone result (HasReceivedAll b)
+  pub all-come : (P : Sent T → Type 0) (a b : PassKnowledge T) (result : Option (Sent T)) → MatchOption result ((b ≡ a) × Held 0 (HasReceived a)) P → IfNone result (HasReceivedAll b)
   all-come P a b None h = come-at_empty a b h.0 h.1.0 h.1.1 h.1.2
   all-come P a b (Some s) h = tt

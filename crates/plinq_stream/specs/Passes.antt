@@ -1,12 +1,12 @@
 -- What a clause says of a stream and its passes.
 use Rattle.std.specs.Prelude.{◌≡◌, []}
 use Rattle.crossbeam_queue.specs.Passes.{view, IsPassOf as IsQueuePassOf}
-use Rattle.plinq_stream.specs.declared.known.Known.{Known}
+use Rattle.plinq_stream.specs.declared.known.PassKnowledge.{PassKnowledge}
 use Rattle.plinq_stream.specs.declared.stream.Stream.{Stream}
 use Rattle.plinq_stream.specs.declared.stream_pass.StreamPass.{StreamPass}
 
 -- what the pass knows
-abbrev pub known : {T : Type 0} → StreamPass T → Known T
+abbrev pub known : {T : Type 0} → StreamPass T → PassKnowledge T
 known p = view p.pass
 
 -- a pass of this stream

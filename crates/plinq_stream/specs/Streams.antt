@@ -3,7 +3,7 @@ use Rattle.std.specs.Prelude.{◌≡◌, refl, ℕ, ◌==◌, List, [], ◌∷�
 use Rattle.std.specs.List.{list_any}
 use mathlib.Core.Option.{some}
 use lib.ListN.{get_elem?}
-use Rattle.plinq_stream.specs.declared.known.Known.{Known}
+use Rattle.plinq_stream.specs.declared.known.PassKnowledge.{PassKnowledge}
 use Rattle.plinq_stream.specs.declared.sent.Sent.{Sent}
 
 -- whether a number is one of these
@@ -18,7 +18,7 @@ under n (s ∷ ss) = if s.number == n then s.item ∷ under n ss else under n ss
 module _ {T : Type 0} where
   -- What holds of one pass. `seat` says which pass has each number, and `stream` is what was received and then what the
   -- queue holds.
-  pub record Fits (seat : ℕ → ℕ) (reader : ℕ) (received stream : List (Sent T)) (pass : ℕ) (a : Known T) : Type 0 where
+  pub record Fits (seat : ℕ → ℕ) (reader : ℕ) (received stream : List (Sent T)) (pass : ℕ) (a : PassKnowledge T) : Type 0 where
     -- its numbers are its own
     pub alone : (n : ℕ) → has n a.numbers ≡ true → seat n ≡ pass
     -- under each of them the stream has what it sent, in that order
@@ -29,28 +29,28 @@ module _ {T : Type 0} where
     pub received_all : a.receives ≡ true → (pass ≡ reader) × (a.received ≡ received)
 
   -- no pass has this number
-  abbrev pub IsNobodys : List (Known T) → ℕ → Type 0
-  IsNobodys views n = (pass : ℕ) (a : Known T) → get_elem? views pass ≡ some a → has n a.numbers ≡ false
+  abbrev pub IsNobodys : List (PassKnowledge T) → ℕ → Type 0
+  IsNobodys views n = (pass : ℕ) (a : PassKnowledge T) → get_elem? views pass ≡ some a → has n a.numbers ≡ false
 
-  pub record IsStream (Carried : T → Type 0) (items : List (Sent T)) (views : List (Known T)) : Type 0 where
+  pub record IsStream (Carried : T → Type 0) (items : List (Sent T)) (views : List (PassKnowledge T)) : Type 0 where
     pub received : List (Sent T)
     pub seat : ℕ → ℕ
     pub reader : ℕ
-    pub each : (pass : ℕ) (a : Known T) → get_elem? views pass ≡ some a → Fits seat reader received (received ++ items) pass a
+    pub each : (pass : ℕ) (a : PassKnowledge T) → get_elem? views pass ≡ some a → Fits seat reader received (received ++ items) pass a
     pub others : (n : ℕ) → IsNobodys views n → under n (received ++ items) ≡ []
     pub carried : All (λ s. Carried s.item) (received ++ items)
 
   -- the pass has sent nothing under its first number, which it has once
-  pub record MayHandOut (a : Known T) : Type 0 where
+  pub record MayHandOut (a : PassKnowledge T) : Type 0 where
     pub unsent : (n : ℕ) → has n (take 1 a.numbers) ≡ true → under n a.sent ≡ []
     pub once : (n : ℕ) → has n (take 1 a.numbers) ≡ true → has n (drop 1 a.numbers) ≡ false
 
   -- what was sent under each of the pass's numbers is what it received under it, and then what these have
-  abbrev pub HasReceived : Known T → List (Sent T) → Type 0
+  abbrev pub HasReceived : PassKnowledge T → List (Sent T) → Type 0
   HasReceived a items = (n : ℕ) → has n a.numbers ≡ true → under n a.sent ≡ under n (a.received ++ items)
 
   -- what was sent under each of the pass's numbers is what it received under it, in that order
-  abbrev pub HasReceivedAll : Known T → Type 0
+  abbrev pub HasReceivedAll : PassKnowledge T → Type 0
   HasReceivedAll a = (n : ℕ) → has n a.numbers ≡ true → under n a.received ≡ under n a.sent
 
 -- ---- worked rows

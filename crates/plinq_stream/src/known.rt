@@ -2,7 +2,7 @@ use crate::sent::Sent;
 use std::collections::LinkedList;
 
 // What a pass knows. No value of it is made.
-pub struct Known<T> {
+pub struct PassKnowledge<T> {
     // Under which numbers it may send.
     pub numbers: LinkedList<u64>,
     // What it sent, and what those did that it took in.

@@ -3,8 +3,8 @@ ghost use Rattle.std.specs.Prelude.{◌≡◌};
 ghost use Rattle.plinq_stream.specs.Knowing.{with_sent, with_received, without_first, with_first, together, nothing_known};
 ghost use Rattle.plinq_stream.specs.Streams.{HasReceived};
 
-use crate::carries::Carries;
-use crate::known::Known;
+use crate::admits::Admits;
+use crate::known::PassKnowledge;
 use crate::sent::Sent;
 use crossbeam_queue::protocol::{Join, Lesson, Outcome, Split};
 use std::marker::PhantomData;
@@ -12,7 +12,7 @@ use std::marker::PhantomData;
 // An item was sent.
 pub struct Sends;
 
-impl<T> Outcome<Sent<T>, Known<T>> for Sends {
+impl<T> Outcome<Sent<T>, PassKnowledge<T>> for Sends {
     ghost then = { λ a s b. b ≡ with_sent a s };
 }
 
@@ -21,18 +21,18 @@ pub struct Comes<C> {
     of: PhantomData<C>,
 }
 
-impl<T, C: Carries<T>> Outcome<Sent<T>, Known<T>> for Comes<C> {
-    ghost then = { λ a s b. (b ≡ with_received a s) × C.carries s.item };
+impl<T, C: Admits<T>> Outcome<Sent<T>, PassKnowledge<T>> for Comes<C> {
+    ghost then = { λ a s b. (b ≡ with_received a s) × C.admits s.item };
 }
 
-impl<T, C: Carries<T>> Lesson<Sent<T>, Known<T>> for Comes<C> {
+impl<T, C: Admits<T>> Lesson<Sent<T>, PassKnowledge<T>> for Comes<C> {
     ghost fact = { HasReceived };
 }
 
 // A pass with the first number leaves.
 pub struct HandsOut;
 
-impl<T> Split<Known<T>> for HandsOut {
+impl<T> Split<PassKnowledge<T>> for HandsOut {
     ghost left = { without_first };
 
     ghost right = { with_first };
@@ -41,7 +41,7 @@ impl<T> Split<Known<T>> for HandsOut {
 // A pass is taken in.
 pub struct TakesIn;
 
-impl<T> Join<Known<T>> for TakesIn {
+impl<T> Join<PassKnowledge<T>> for TakesIn {
     ghost both = { together };
 
     ghost spent = { nothing_known };

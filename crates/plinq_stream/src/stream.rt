@@ -1,5 +1,5 @@
-use crate::carries::Carries;
-use crate::known::Known;
+use crate::admits::Admits;
+use crate::known::PassKnowledge;
 use crate::sent::Sent;
 use crossbeam_queue::RuledArrayQueue;
 use crossbeam_queue::protocol::Protocol;
@@ -11,11 +11,11 @@ pub struct InOrder<C> {
     of: PhantomData<C>,
 }
 
-impl<T, C: Carries<T>> Protocol<Sent<T>, Known<T>> for InOrder<C> {
+impl<T, C: Admits<T>> Protocol<Sent<T>, PassKnowledge<T>> for InOrder<C> {
     ghost use Rattle.plinq_stream.specs.Knowing.{first_known};
     ghost use Rattle.plinq_stream.specs.Streams.{IsStream};
 
-    ghost holds = { IsStream C.carries };
+    ghost holds = { IsStream C.admits };
 
     ghost first = { first_known };
 }
@@ -24,13 +24,13 @@ impl<T, C: Carries<T>> Protocol<Sent<T>, Known<T>> for InOrder<C> {
 ///
 /// ```text
 /// let (stream, mut mine) = Stream::<u64, C>::new(alloc, 64)?;     // receives, and has the numbers 0 to 63
-/// let mut theirs = stream.hand_out(&mut mine);                    // may send under number 0
+/// let mut theirs = stream.give_number(&mut mine);                    // may send under number 0
 /// stream.send(&rt, &mut theirs, 0, 5);
 /// stream.receive(&rt, &mut mine)                                  // 5, under number 0
 /// ```
 #[derive(Drop)]
-pub struct Stream<T, C: Carries<T>> {
-    pub(crate) queue: RuledArrayQueue<Sent<T>, Known<T>, InOrder<C>>,
+pub struct Stream<T, C: Admits<T>> {
+    pub(crate) queue: RuledArrayQueue<Sent<T>, PassKnowledge<T>, InOrder<C>>,
     /// Those that wait for room to send.
     pub(crate) room: WaitQueue,
 }

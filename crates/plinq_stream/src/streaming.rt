@@ -3,7 +3,7 @@ ghost use Rattle.plinq_stream.specs.Knowing.{first_known, with_sent, with_receiv
 ghost use Rattle.plinq_stream.specs.Passes.{IsPassOf, known};
 ghost use Rattle.plinq_stream.specs.Streams.{has, MayHandOut, HasReceivedAll};
 
-use crate::carries::Carries;
+use crate::admits::Admits;
 use crate::plays::{Comes, HandsOut, Sends, TakesIn};
 use crate::sent::Sent;
 use crate::stream::Stream;
@@ -13,7 +13,7 @@ use plinq_wait::WaitQueue;
 use std::alloc::{AllocError, Global};
 use std::sync::Wait;
 
-impl<T: Drop, C: Carries<T>> Stream<T, C> {
+impl<T: Drop, C: Admits<T>> Stream<T, C> {
     /// A stream with room for so many items, and the pass that receives, which has the numbers 0 to 63.
     ///
     /// # Errors
@@ -37,7 +37,7 @@ impl<T: Drop, C: Carries<T>> Stream<T, C> {
     pub fn send<R: Wait>(&self, rt: &R, pass: &mut StreamPass<T>, number: u64, item: T)
         requires pass { IsPassOf self.now pass.old }
         requires own { has number (known pass.old).numbers ≡ true }
-        requires carried { C.carries item }
+        requires carried { C.admits item }
         ensures pass { IsPassOf self.now pass.new }
         ensures sent { known pass.new ≡ with_sent (known pass.old) (record { number = number; item = item }) }
     {
@@ -59,7 +59,7 @@ impl<T: Drop, C: Carries<T>> Stream<T, C> {
         requires receives { (known pass.old).receives ≡ true }
         ensures pass { IsPassOf self.now pass.new }
         ensures received { MatchOption result (known pass.new ≡ known pass.old) (λ s. known pass.new ≡ with_received (known pass.old) s) }
-        ensures carried { IfSome result (λ s. C.carries s.item) }
+        ensures carried { IfSome result (λ s. C.admits s.item) }
     {
         let received = self.queue.try_pop_as::<Comes<C>>(&mut pass.pass);
         self.room.wake();
@@ -72,7 +72,7 @@ impl<T: Drop, C: Carries<T>> Stream<T, C> {
         requires receives { (known pass.old).receives ≡ true }
         ensures pass { IsPassOf self.now pass.new }
         ensures received { MatchOption result (known pass.new ≡ known pass.old) (λ s. known pass.new ≡ with_received (known pass.old) s) }
-        ensures carried { IfSome result (λ s. C.carries s.item) }
+        ensures carried { IfSome result (λ s. C.admits s.item) }
         ensures all { IfNone result (HasReceivedAll (known pass.new)) }
     {
         let received = self.queue.pop_as::<Comes<C>, R>(rt, &mut pass.pass);
@@ -81,7 +81,7 @@ impl<T: Drop, C: Carries<T>> Stream<T, C> {
     }
 
     /// A pass with the first number that this one has, which may send under it in place of this one.
-    pub fn hand_out(&self, pass: &mut StreamPass<T>) -> StreamPass<T>
+    pub fn give_number(&self, pass: &mut StreamPass<T>) -> StreamPass<T>
         requires pass { IsPassOf self.now pass.old }
         requires first { MayHandOut (known pass.old) }
         ensures pass { IsPassOf self.now pass.new }

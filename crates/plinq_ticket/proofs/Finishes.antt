@@ -29,9 +29,9 @@ module _ {V T : Type 0} (origin : V → Trace T) (history : V → List Record) (
   pub home-from_last : (drawn served : ℕ) (slot : Option V) (value : V) (records : ℕ) (last : Last origin history p.seat.id p.seat.me.0 drawn served slot) → drawn ≤ served → slot ≡ Some value
       → length (history value) < 2 ^ 64 → records ≡ min (length (pass_share p)) (2 ^ 64 - 1)
       → (served ≡ drawn) × Counted origin history p.seat.me.0 value records last.views
-  home-from_last drawn served slot value records last behind is small count =
+  home-from_last drawn served slot value records last past is small count =
       let order = last.lawful.turns.order in
-      let all : served ≡ drawn = omega (arith, order, behind) in
+      let all : served ≡ drawn = omega (arith, order, past) in
       (all, counted-from_last origin history p.seat.id p.seat.me.0 drawn served slot value records last all is small count)
 
   -- a pass that has as many records as the value has all of them

@@ -4,52 +4,52 @@ use Rattle.std.proofs.lemmas.List.Elements.{All-pop, All-push, All-weaker}
 use Rattle.plinq_partition.specs.Partitions.{IsPartitionOf, holding_of}
 use Rattle.plinq_partition.specs.GivenBack.{common_origin}
 use Rattle.plinq_stream.specs.Passes.{known}
-use Rattle.plinq_crew.specs.Hands.{IsHandOf, AreNumbered}
+use Rattle.plinq_crew.specs.Handles.{IsHandleOf, AreNumbered}
 use Rattle.plinq_crew.specs.Working.{IsAnsweredBy, HasWorked}
-use Rattle.plinq_crew.proofs.Hands.{common_origin-push, drop-push, numbered-pop}
+use Rattle.plinq_crew.proofs.Handles.{common_origin-push, drop-push, numbered-pop}
 use Rattle.plinq_crew.proofs.Working.{above-both, answered-before, answered-now}
 use Rattle.plinq_crew.proofs.starting.join_all.Goals as goal
 
-pub loop-hand-preserved : goal.loop-hand-preserved
-loop-hand-preserved g c =
+pub loop-handle-preserved : goal.loop-handle-preserved
+loop-handle-preserved g c =
     let chunked = c.args.chunked.now in
     let stream = c.args.stream.now in
-    let before = c.loop-hand.partitions.items in
+    let before = c.loop-handle.partitions.items in
     let left = c.pop.new.self.items in
-    let hand = c.in-Some.hand in
+    let handle = c.in-Some.handle in
     let worked = c.join-worked.result in
-    let a = known c.loop-hand.pass in
+    let a = known c.loop-handle.pass in
     let b = known worked.stream in
     let both = known c.join.new.pass in
-    let last : c.loop-hand.hands.items ≡ left ++ hand ∷ [] = c.in-Some.ensures.items in
-    let popped = All-pop (IsHandOf chunked stream) c.loop-hand.hands.items left (Some hand) last c.loop-hand.invariant.hands in
-    let numbered = numbered-pop 0 left hand (subst (AreNumbered 0) last c.loop-hand.invariant.numbered) in
-    let number : hand.promise.number ≡ length left = (let at : hand.promise.number ≡ 0 + length left = numbered.1 in omega (arith, at)) in
-    let next : length c.loop-hand.hands.items ≡ length left + 1 = ap length last ∙ length-append left (hand ∷ []) in
+    let last : c.loop-handle.handles.items ≡ left ++ handle ∷ [] = c.in-Some.ensures.items in
+    let popped = All-pop (IsHandleOf chunked stream) c.loop-handle.handles.items left (Some handle) last c.loop-handle.invariant.handles in
+    let numbered = numbered-pop 0 left handle (subst (AreNumbered 0) last c.loop-handle.invariant.numbered) in
+    let number : handle.promise.number ≡ length left = (let at : handle.promise.number ≡ 0 + length left = numbered.1 in omega (arith, at)) in
+    let next : length c.loop-handle.handles.items ≡ length left + 1 = ap length last ∙ length-append left (handle ∷ []) in
     let pushed : c.push_reserved-in-Some.new.self.items ≡ before ++ worked.partition ∷ [] = c.push_reserved-in-Some.ensures.items in
     let of : IsPartitionOf chunked worked.partition = subst (λ x. IsPartitionOf x worked.partition) popped.1.0 c.join-worked.ensures.of in
     let work : HasWorked (length left) (holding_of worked.partition).share worked.fault b =
     subst (λ n. HasWorked n (holding_of worked.partition).share worked.fault b) number c.join-worked.ensures.worked in
     let is = c.join.ensures.both in
     let n = length left in
-    let short = c.note_any.new.self in
-    let old = c.loop-hand.shortages in
-    let least = length c.loop-hand.hands.items in
+    let faults = c.note_any.new.self in
+    let old = c.loop-handle.worker_faults in
+    let least = length c.loop-handle.handles.items in
     record {
-      hands = popped.0;
+      handles = popped.0;
       numbered = numbered.0;
       some = search rules;
-      count = (let at : length c.push_reserved-in-Some.new.self.items ≡ length before + 1 = ap length pushed ∙ length-append before (worked.partition ∷ []) in let sum = c.loop-hand.invariant.count in omega (arith, at, sum, next));
-      of = rw pushed (All-push (IsPartitionOf chunked) before worked.partition c.loop-hand.invariant.of of);
-      origin = ap common_origin pushed ∙ common_origin-push before worked.partition c.loop-hand.invariant.some ∙ c.loop-hand.invariant.origin;
+      count = (let at : length c.push_reserved-in-Some.new.self.items ≡ length before + 1 = ap length pushed ∙ length-append before (worked.partition ∷ []) in let sum = c.loop-handle.invariant.count in omega (arith, at, sum, next));
+      of = rw pushed (All-push (IsPartitionOf chunked) before worked.partition c.loop-handle.invariant.of of);
+      origin = ap common_origin pushed ∙ common_origin-push before worked.partition c.loop-handle.invariant.some ∙ c.loop-handle.invariant.origin;
       room = search rules;
       pass = c.join.ensures.pass;
-      receives = ap (λ k. k.receives) is ∙ c.loop-hand.invariant.receives;
-      received = ap (λ k. k.received) is ∙ c.loop-hand.invariant.received;
-      above = above-both a b both is n least next c.loop-hand.invariant.above work.own;
-      answered = subst (All (IsAnsweredBy n both short)) (sym (ap (drop 1) pushed ∙ drop-push before worked.partition c.loop-hand.invariant.some))
-          (All-push (IsAnsweredBy n both short) (drop 1 before) worked.partition
-          (All-weaker (IsAnsweredBy least a old) (IsAnsweredBy n both short) (answered-before n least next a b both is old short c.note_any.ensures.kept work.own) (drop 1 before) c.loop-hand.invariant.answered)
-          (answered-now n least next a b both is old short c.note_any.ensures.kept c.loop-hand.invariant.above worked.partition worked.fault c.note_any.ensures.noted work));
-      kept = (λ is. c.note_any.ensures.kept.0 (c.loop-hand.invariant.kept.0 is), λ is. c.note_any.ensures.kept.1 (c.loop-hand.invariant.kept.1 is));
+      receives = ap (λ k. k.receives) is ∙ c.loop-handle.invariant.receives;
+      received = ap (λ k. k.received) is ∙ c.loop-handle.invariant.received;
+      above = above-both a b both is n least next c.loop-handle.invariant.above work.own;
+      answered = subst (All (IsAnsweredBy n both faults)) (sym (ap (drop 1) pushed ∙ drop-push before worked.partition c.loop-handle.invariant.some))
+          (All-push (IsAnsweredBy n both faults) (drop 1 before) worked.partition
+          (All-weaker (IsAnsweredBy least a old) (IsAnsweredBy n both faults) (answered-before n least next a b both is old faults c.note_any.ensures.kept work.own) (drop 1 before) c.loop-handle.invariant.answered)
+          (answered-now n least next a b both is old faults c.note_any.ensures.kept c.loop-handle.invariant.above worked.partition worked.fault c.note_any.ensures.noted work));
+      kept = (λ is. c.note_any.ensures.kept.0 (c.loop-handle.invariant.kept.0 is), λ is. c.note_any.ensures.kept.1 (c.loop-handle.invariant.kept.1 is));
     }

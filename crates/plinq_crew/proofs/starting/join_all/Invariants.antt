@@ -2,27 +2,27 @@ use Rattle.std.proofs.Common.{◌≡◌, ◌≤◌, ◌+◌, All, true, length, 
 use Rattle.plinq_partition.specs.Partitions.{IsPartitionOf, holding_of}
 use Rattle.plinq_partition.specs.GivenBack.{common_origin}
 use Rattle.plinq_stream.specs.Passes.{IsPassOf, known}
-use Rattle.plinq_crew.specs.Hands.{IsHandOf, AreNumbered}
-use Rattle.plinq_crew.specs.Short.{StaysNoted}
+use Rattle.plinq_crew.specs.Handles.{IsHandleOf, AreNumbered}
+use Rattle.plinq_crew.specs.Noted.{StaysNoted}
 use Rattle.plinq_crew.specs.Working.{IsAnsweredBy}
 use Rattle.plinq_crew.proofs.starting.join_all.Given as goal
 
-abbrev pub invariant-loop-hand : goal.invariant-loop-hand
-invariant-loop-hand g l = record {
-  hands : All (IsHandOf l.chunked l.stream) l.hands.items;
-  numbered : AreNumbered 0 l.hands.items;
+abbrev pub invariant-loop-handle : goal.invariant-loop-handle
+invariant-loop-handle g l = record {
+  handles : All (IsHandleOf l.chunked l.stream) l.handles.items;
+  numbered : AreNumbered 0 l.handles.items;
   some : 1 ≤ length l.partitions.items;
-  count : length l.partitions.items + length l.hands.items ≡ length l.fn.hands.items + 1;
+  count : length l.partitions.items + length l.handles.items ≡ length l.fn.handles.items + 1;
   of : All (IsPartitionOf l.chunked) l.partitions.items;
   origin : common_origin l.partitions.items ≡ (holding_of l.fn.own).origin;
-  room : length l.hands.items + length l.partitions.items ≤ vec_capacity l.partitions;
+  room : length l.handles.items + length l.partitions.items ≤ vec_capacity l.partitions;
   pass : IsPassOf l.stream l.pass;
   receives : (known l.pass).receives ≡ true;
   received : (known l.pass).received ≡ (known l.fn.pass).received;
-  above : All (λ s. length l.hands.items ≤ s.number) (known l.pass).sent;
-  answered : All (IsAnsweredBy (length l.hands.items) (known l.pass) l.shortages) (drop 1 l.partitions.items);
-  kept : StaysNoted l.fn.shortages l.shortages;
+  above : All (λ s. length l.handles.items ≤ s.number) (known l.pass).sent;
+  answered : All (IsAnsweredBy (length l.handles.items) (known l.pass) l.worker_faults) (drop 1 l.partitions.items);
+  kept : StaysNoted l.fn.worker_faults l.worker_faults;
 }
 
-abbrev pub decreases-loop-hand : goal.decreases-loop-hand
-decreases-loop-hand g l = vec_len l.hands
+abbrev pub decreases-loop-handle : goal.decreases-loop-handle
+decreases-loop-handle g l = vec_len l.handles

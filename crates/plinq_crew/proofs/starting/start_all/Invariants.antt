@@ -2,7 +2,7 @@ use Rattle.std.proofs.Common.{◌≡◌, ◌≤◌, All, length, vec_capacity}
 use Rattle.plinq_cut.specs.Passes.{IsPassOf as IsCutPassOf}
 use Rattle.plinq_partition.specs.Partitions.{IsPartitionOf, holding_of}
 use Rattle.plinq_stream.specs.Passes.{IsPassOf, known}
-use Rattle.plinq_crew.specs.Hands.{IsHandOf, AreNumbered}
+use Rattle.plinq_crew.specs.Handles.{IsHandleOf, AreNumbered}
 use Rattle.plinq_crew.specs.Working.{receiver_from}
 use Rattle.plinq_crew.proofs.starting.start_all.Given as goal
 
@@ -13,8 +13,8 @@ invariant-loop-worker g l = record {
   stream : IsPassOf l.crew.stream.now l.own.stream;
   known : known l.own.stream ≡ receiver_from l.worker;
   cut : IsCutPassOf l.crew.cut.now l.own.cut;
-  hands : All (IsHandOf l.crew.chunked.now l.crew.stream.now) l.hands.items;
-  numbered : AreNumbered 0 l.hands.items;
-  counted : length l.hands.items ≡ l.worker;
-  room : l.workers ≤ vec_capacity l.hands;
+  handles : All (IsHandleOf l.crew.chunked.now l.crew.stream.now) l.handles.items;
+  numbered : AreNumbered 0 l.handles.items;
+  counted : length l.handles.items ≡ l.worker;
+  room : l.workers ≤ vec_capacity l.handles;
 }

@@ -2,7 +2,7 @@ use Rattle.std.proofs.Common.{◌≡◌, ◌∙◌, ◌&&◌, ◌+◌, ◌∷◌
 use Rattle.std.specs.List.{concat}
 use Rattle.std.proofs.lemmas.List.{drop_more}
 use Rattle.plinq_keyed.specs.Keys.{key_lists, element_lists, ordered_across, keys}
-use Rattle.plinq_keyed.specs.Sweeps.{all_from, least_behind}
+use Rattle.plinq_keyed.specs.Sweeps.{all_from, least_after}
 use Rattle.plinq_keyed.proofs.Across.{across-step, all_from-zero}
 use Rattle.plinq_keyed.proofs.checks.check_across.Goals as goal
 
@@ -21,7 +21,7 @@ loop-part-preserved g c =
     let rest = key_lists (element_lists (drop (i + 1) parts)) in
     let here : drop i parts ≡ part ∷ drop (i + 1) parts = drop_more parts i part c.loop-part-test.true ∙ ap (λ v. v ∷ drop (i + 1) parts) (sym c.part-item.is) in
     let passed : all_from least (keys part.items) ≡ true = cc in
-    let moved : c.least_above-least.result ≡ least_behind least (keys part.items) = cc in
+    let moved : c.least_above-least.result ≡ least_after least (keys part.items) = cc in
     record {
       rest =
           ap (λ n. all_from n (concat rest) && ordered_across rest) moved

@@ -3,7 +3,7 @@ use Rattle.std.proofs.lemmas.List.{drop_all}
 use Rattle.plinq_ops.specs.Stage.{some_takes_none}
 use Rattle.plinq_ops.proofs.Fed.{none-from_is_some}
 use Rattle.plinq_ops.proofs.ByKey.{stages-reached}
-use Rattle.plinq_ops.proofs.Chunks.{stop-over, behind-block, behind-none, behind-rest_dropped}
+use Rattle.plinq_ops.proofs.Chunks.{stop-over, after-block, after-none, after-rest_dropped}
 use Rattle.plinq_ops.proofs.chunking.work.Goals as goal
 
 pub returns-then-is_over-clause-items : goal.returns-then-is_over-clause-items
@@ -27,41 +27,41 @@ pub returns-then-is_empty-clause-items : goal.returns-then-is_empty-clause-items
 returns-then-is_empty-clause-items g c =
     let open_still : c.in_ok-feed_block.field-0 ≡ None = none-from_is_some _ (search rules) in
     let copied : c.extend_from_slice.new.self.items ≡ c.split_at.result.0.now = search rules in
-    let behind = behind-block g.L.Lambda.meaning c.args.worker.now c.args.cut c.args.first c.count_within-reached.result c.args.items.now c.split_at.result.0.now c.extend_from_slice.new.self.items c.feed_block.new.block.items
+    let past = after-block g.L.Lambda.meaning c.args.worker.now c.args.cut c.args.first c.count_within-reached.result c.args.items.now c.split_at.result.0.now c.extend_from_slice.new.self.items c.feed_block.new.block.items
     c.in_ok-pipeline.pipeline _ c.requires.keyed c.requires.some c.count_within-reached.ensures.most c.count_within-reached.ensures.below c.split_at.ensures.front copied c.in_ok-pipeline.ensures (search rules)
     (rw open_still at c.in_ok-feed_block.ensures.fed) in
     let none : drop c.count_within-reached.result c.args.items.now ≡ [] = drop_all c.count_within-reached.result c.args.items.now (search rules) in
-    (behind-none g.L.Lambda.meaning c.args.worker.now c.args.cut (c.args.first + c.count_within-reached.result) (drop c.count_within-reached.result c.args.items.now) [] c.feed_block.new.block.items _ none behind).0
+    (after-none g.L.Lambda.meaning c.args.worker.now c.args.cut (c.args.first + c.count_within-reached.result) (drop c.count_within-reached.result c.args.items.now) [] c.feed_block.new.block.items _ none past).0
 
 pub returns-then-is_empty-clause-stop : goal.returns-then-is_empty-clause-stop
 returns-then-is_empty-clause-stop g c =
     let open_still : c.in_ok-feed_block.field-0 ≡ None = none-from_is_some _ (search rules) in
     let copied : c.extend_from_slice.new.self.items ≡ c.split_at.result.0.now = search rules in
-    let behind = behind-block g.L.Lambda.meaning c.args.worker.now c.args.cut c.args.first c.count_within-reached.result c.args.items.now c.split_at.result.0.now c.extend_from_slice.new.self.items c.feed_block.new.block.items
+    let past = after-block g.L.Lambda.meaning c.args.worker.now c.args.cut c.args.first c.count_within-reached.result c.args.items.now c.split_at.result.0.now c.extend_from_slice.new.self.items c.feed_block.new.block.items
     c.in_ok-pipeline.pipeline _ c.requires.keyed c.requires.some c.count_within-reached.ensures.most c.count_within-reached.ensures.below c.split_at.ensures.front copied c.in_ok-pipeline.ensures (search rules)
     (rw open_still at c.in_ok-feed_block.ensures.fed) in
     let none : drop c.count_within-reached.result c.args.items.now ≡ [] = drop_all c.count_within-reached.result c.args.items.now (search rules) in
-    (behind-none g.L.Lambda.meaning c.args.worker.now c.args.cut (c.args.first + c.count_within-reached.result) (drop c.count_within-reached.result c.args.items.now) [] c.feed_block.new.block.items _ none behind).1
+    (after-none g.L.Lambda.meaning c.args.worker.now c.args.cut (c.args.first + c.count_within-reached.result) (drop c.count_within-reached.result c.args.items.now) [] c.feed_block.new.block.items _ none past).1
 
 pub returns-clause-items : goal.returns-clause-items
 returns-clause-items g c =
     let open_still : c.in_ok-feed_block.field-0 ≡ None = none-from_is_some _ (search rules) in
     let copied : c.extend_from_slice.new.self.items ≡ c.split_at.result.0.now = search rules in
-    let behind = behind-block g.L.Lambda.meaning c.args.worker.now c.args.cut c.args.first c.count_within-reached.result c.args.items.now c.split_at.result.0.now c.extend_from_slice.new.self.items c.feed_block.new.block.items
+    let past = after-block g.L.Lambda.meaning c.args.worker.now c.args.cut c.args.first c.count_within-reached.result c.args.items.now c.split_at.result.0.now c.extend_from_slice.new.self.items c.feed_block.new.block.items
     c.in_ok-pipeline.pipeline _ c.requires.keyed c.requires.some c.count_within-reached.ensures.most c.count_within-reached.ensures.below c.split_at.ensures.front copied c.in_ok-pipeline.ensures (search rules)
     (rw open_still at c.in_ok-feed_block.ensures.fed) in
     let some : 0 < length (drop c.count_within-reached.result c.args.items.now) = search rules in
     let more : c.count_within-reached.result < length c.args.items.now = search rules in
-    (behind-rest_dropped g.L.Lambda.meaning c.args.worker.now c.args.cut (c.args.first + c.count_within-reached.result) (drop c.count_within-reached.result c.args.items.now) [] c.feed_block.new.block.items _ some (c.count_within-reached.ensures.above more) behind).0
+    (after-rest_dropped g.L.Lambda.meaning c.args.worker.now c.args.cut (c.args.first + c.count_within-reached.result) (drop c.count_within-reached.result c.args.items.now) [] c.feed_block.new.block.items _ some (c.count_within-reached.ensures.above more) past).0
 
 pub returns-clause-stop : goal.returns-clause-stop
 returns-clause-stop g c =
     let open_still : c.in_ok-feed_block.field-0 ≡ None = none-from_is_some _ (search rules) in
     let copied : c.extend_from_slice.new.self.items ≡ c.split_at.result.0.now = search rules in
-    let behind = behind-block g.L.Lambda.meaning c.args.worker.now c.args.cut c.args.first c.count_within-reached.result c.args.items.now c.split_at.result.0.now c.extend_from_slice.new.self.items c.feed_block.new.block.items
+    let past = after-block g.L.Lambda.meaning c.args.worker.now c.args.cut c.args.first c.count_within-reached.result c.args.items.now c.split_at.result.0.now c.extend_from_slice.new.self.items c.feed_block.new.block.items
     c.in_ok-pipeline.pipeline _ c.requires.keyed c.requires.some c.count_within-reached.ensures.most c.count_within-reached.ensures.below c.split_at.ensures.front copied c.in_ok-pipeline.ensures (search rules)
     (rw open_still at c.in_ok-feed_block.ensures.fed) in
     let some : 0 < length (drop c.count_within-reached.result c.args.items.now) = search rules in
     let more : c.count_within-reached.result < length c.args.items.now = search rules in
-    let dropped = behind-rest_dropped g.L.Lambda.meaning c.args.worker.now c.args.cut (c.args.first + c.count_within-reached.result) (drop c.count_within-reached.result c.args.items.now) [] c.feed_block.new.block.items _ some (c.count_within-reached.ensures.above more) behind in
+    let dropped = after-rest_dropped g.L.Lambda.meaning c.args.worker.now c.args.cut (c.args.first + c.count_within-reached.result) (drop c.count_within-reached.result c.args.items.now) [] c.feed_block.new.block.items _ some (c.count_within-reached.ensures.above more) past in
     (dropped.1, rw dropped.2 refl)

@@ -2,7 +2,7 @@ use Rattle.std.proofs.Common.{rules, ◌≡◌, ◌+◌, ◌≤◌, ◌∷◌, d
 use Rattle.std.proofs.lemmas.List.{drop_more}
 use Rattle.plinq_ops.proofs.ByKey.{stages-reached}
 use Rattle.plinq_ops.proofs.Fed.{none-from_is_some, undecided-left}
-use Rattle.plinq_ops.proofs.Chunks.{fed-fragment, behind-more, behind-dropped, behind-stop, told-stop}
+use Rattle.plinq_ops.proofs.Chunks.{fed-fragment, after-more, after-dropped, after-stop, told-stop}
 use Rattle.plinq_ops.proofs.chunking.work_each.Goals as goal
 
 pub feed-requires-clause-undecided : goal.feed-requires-clause-undecided
@@ -23,10 +23,10 @@ returns-then-is_some-clause-items g c =
     let x = c.index-items-at.result in
     let within : key ≤ c.args.cut = omega (arith, c.if-key-cut.false) in
     let here : drop i items ≡ x ∷ drop (i + 1) items = drop_more items i x c.loop-at-test.true ∙ ap (λ y. y ∷ drop (i + 1) items) (sym c.index-items-at.is) in
-    let behind = rw here at c.loop-at.invariant.0 in
+    let past = rw here at c.loop-at.invariant.0 in
     let ends : is_some c.in_ok-ending.ending ≡ true = search rules in
     let fed = fed-fragment m worker key x _ _ _ _ _ c.loop-at.invariant.1 c.requires.keyed c.requires.some c.in_ok-ending.ensures.fed in
-    let stopped = behind-stop m worker c.args.cut key x (drop (i + 1) items) _ _ _ _ _ _ within ends behind fed in
+    let stopped = after-stop m worker c.args.cut key x (drop (i + 1) items) _ _ _ _ _ _ within ends past fed in
     stopped.items
 
 pub returns-then-is_some-clause-stop : goal.returns-then-is_some-clause-stop
@@ -39,10 +39,10 @@ returns-then-is_some-clause-stop g c =
     let x = c.index-items-at.result in
     let within : key ≤ c.args.cut = omega (arith, c.if-key-cut.false) in
     let here : drop i items ≡ x ∷ drop (i + 1) items = drop_more items i x c.loop-at-test.true ∙ ap (λ y. y ∷ drop (i + 1) items) (sym c.index-items-at.is) in
-    let behind = rw here at c.loop-at.invariant.0 in
+    let past = rw here at c.loop-at.invariant.0 in
     let ends : is_some c.in_ok-ending.ending ≡ true = search rules in
     let fed = fed-fragment m worker key x _ _ _ _ _ c.loop-at.invariant.1 c.requires.keyed c.requires.some c.in_ok-ending.ensures.fed in
-    let stopped = behind-stop m worker c.args.cut key x (drop (i + 1) items) _ _ _ _ _ _ within ends behind fed in
+    let stopped = after-stop m worker c.args.cut key x (drop (i + 1) items) _ _ _ _ _ _ within ends past fed in
     (stopped.stop, told-stop _ _ _ _ _ c.frag_end-ending.result stopped c.frag_end-ending.ensures)
 
 pub loop-at-preserved : goal.loop-at-preserved
@@ -55,12 +55,12 @@ loop-at-preserved g c =
     let x = c.index-items-at.result in
     let within : key ≤ c.args.cut = omega (arith, c.if-key-cut.false) in
     let here : drop i items ≡ x ∷ drop (i + 1) items = drop_more items i x c.loop-at-test.true ∙ ap (λ y. y ∷ drop (i + 1) items) (sym c.index-items-at.is) in
-    let behind = rw here at c.loop-at.invariant.0 in
+    let past = rw here at c.loop-at.invariant.0 in
     let open_still : c.in_ok-ending.ending ≡ None = none-from_is_some _ (search rules) in
     let fed = rw open_still at (fed-fragment m worker key x _ _ _ _ _ c.loop-at.invariant.1 c.requires.keyed c.requires.some c.in_ok-ending.ensures.fed) in
     let next : key + 1 ≡ c.args.first + (i + 1) = omega arith in
     let left = fed.left refl in
-    (rw (← next) (behind-more m worker c.args.cut key x (drop (i + 1) items) _ _ _ _ _ within behind fed), rw (← next) left, undecided-left _ _ _ _ _ (rw open_still at c.in_ok-ending.ensures.fed))
+    (rw (← next) (after-more m worker c.args.cut key x (drop (i + 1) items) _ _ _ _ _ within past fed), rw (← next) left, undecided-left _ _ _ _ _ (rw open_still at c.in_ok-ending.ensures.fed))
 
 pub loop-at-init : goal.loop-at-init
 loop-at-init g c =
@@ -74,7 +74,7 @@ returns-then-key-cut-clause-items g c =
     let i = c.loop-at.at in
     let x = c.index-items-at.result in
     let here : drop i items ≡ x ∷ drop (i + 1) items = drop_more items i x c.loop-at-test.true ∙ ap (λ y. y ∷ drop (i + 1) items) (sym c.index-items-at.is) in
-    (behind-dropped g.L.Lambda.meaning c.args.worker.now c.args.cut (c.args.first + i) x (drop (i + 1) items) _ _ _ (omega (arith, c.if-key-cut.true)) (rw here at c.loop-at.invariant.0)).0
+    (after-dropped g.L.Lambda.meaning c.args.worker.now c.args.cut (c.args.first + i) x (drop (i + 1) items) _ _ _ (omega (arith, c.if-key-cut.true)) (rw here at c.loop-at.invariant.0)).0
 
 pub returns-then-key-cut-clause-stop : goal.returns-then-key-cut-clause-stop
 returns-then-key-cut-clause-stop g c =
@@ -82,5 +82,5 @@ returns-then-key-cut-clause-stop g c =
     let i = c.loop-at.at in
     let x = c.index-items-at.result in
     let here : drop i items ≡ x ∷ drop (i + 1) items = drop_more items i x c.loop-at-test.true ∙ ap (λ y. y ∷ drop (i + 1) items) (sym c.index-items-at.is) in
-    let dropped = behind-dropped g.L.Lambda.meaning c.args.worker.now c.args.cut (c.args.first + i) x (drop (i + 1) items) _ _ _ (omega (arith, c.if-key-cut.true)) (rw here at c.loop-at.invariant.0) in
+    let dropped = after-dropped g.L.Lambda.meaning c.args.worker.now c.args.cut (c.args.first + i) x (drop (i + 1) items) _ _ _ (omega (arith, c.if-key-cut.true)) (rw here at c.loop-at.invariant.0) in
     (dropped.1, rw dropped.2 refl)

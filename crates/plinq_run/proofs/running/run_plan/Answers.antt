@@ -3,7 +3,7 @@ use Rattle.std.proofs.lemmas.Result.{IfOk-weaker}
 use Rattle.plinq_keyed.specs.History.{IsLegalHistory}
 use Rattle.plinq_partition.specs.GivenBack.{common_origin}
 use Rattle.plinq_partition.specs.Partitions.{holding_of}
-use Rattle.plinq_cut.specs.OfPlan.{AreEnders}
+use Rattle.plinq_cut.specs.OfPlan.{AreStopKeys}
 use Rattle.plinq_run.specs.Reports.{MayMerge, Ends}
 use Rattle.plinq_crew.specs.Results.{IsResult}
 use Rattle.plinq_run.proofs.Ended.{none-ended, ends-reported}
@@ -23,7 +23,7 @@ run_crew-ended-requires-clause-ready g c lifetimes outlive =
         parts = λ r is. c.requires.carries r (subst (λ t. IsResult meaning plan t r) origin (plain-part meaning plan _ r is));
         sent = λ r is. part-plain meaning plan _ r (subst (λ t. IsResult meaning plan t r) (sym origin) (c.requires.carried r is));
         sees = c.in-Ok.ensures.pass;
-        enders = subst (λ t. AreEnders meaning plan t g.J.Carries.is_ender) (sym origin) c.requires.enders;
+        stop_keys = subst (λ t. AreStopKeys meaning plan t g.J.RunSpec.stops_at) (sym origin) c.requires.stop_keys;
       };
       stream_of = c.in-Ok-new-2.ensures.pass;
       knows = c.in-Ok-new-2.ensures.first;

@@ -20,15 +20,15 @@ returns-then-is_some-clause-goes g c = λ offers h.
     let p = c.take_next-part.result in
     let row1 = c.take_next-part.new.self in
     let part = c.take_next-part.ensures in
-    let w2 = c.work_off-ending.new.self in
-    let worked = c.work_off-ending.ensures in
-    let some : is_some c.work_off-ending.result ≡ true = search rules in
+    let w2 = c.process-ending.new.self in
+    let worked = c.process-ending.ensures in
+    let some : is_some c.process-ending.result ≡ true = search rules in
     let same = ap (λ r. g.A.Aggregator.folding r.now) before.keeps.aggregator in
     let acc = subst (λ n. combined_so_far n w2.acc ≡ fold n.combine (combined_so_far n wl.acc) p.trace.items) same worked.acc in
     let apart : is_apart wl.row.next ((wl.row.next, p) ∷ row1.waiting.entries) ≡ true = ap (is_apart wl.row.next) (sym part.parts) ∙ before.apart in
     let here = next-holds f wl.order wl.row row1 wl.acc p offers part.parts part.next part.told (apart-some wl.row.next (wl.row.next, p) row1.waiting.entries apart) (before.holds offers h) in
-    stands-as f wl.order w2.order w2.row w2.row w2.acc offers c.work_off-ending.result (sym worked.keeps.order) refl
-    (work-decided f wl.order row1 w2.row wl.acc w2.acc p.trace offers c.work_off-ending.result worked.ending some acc here)
+    stands-as f wl.order w2.order w2.row w2.row w2.acc offers c.process-ending.result (sym worked.keeps.order) refl
+    (work-decided f wl.order row1 w2.row wl.acc w2.acc p.trace offers c.process-ending.result worked.ending some acc here)
 
 pub loop-self-preserved : goal.loop-self-preserved
 loop-self-preserved g c =
@@ -38,9 +38,9 @@ loop-self-preserved g c =
     let p = c.take_next-part.result in
     let row1 = c.take_next-part.new.self in
     let part = c.take_next-part.ensures in
-    let w2 = c.work_off-ending.new.self in
-    let worked = c.work_off-ending.ensures in
-    let none : c.work_off-ending.result ≡ None = none-from_is_some _ (search rules) in
+    let w2 = c.process-ending.new.self in
+    let worked = c.process-ending.ensures in
+    let none : c.process-ending.result ≡ None = none-from_is_some _ (search rules) in
     let same = ap (λ r. g.A.Aggregator.folding r.now) before.keeps.aggregator in
     let acc = subst (λ n. combined_so_far n w2.acc ≡ fold n.combine (combined_so_far n wl.acc) p.trace.items) same worked.acc in
     let apart : is_apart wl.row.next ((wl.row.next, p) ∷ row1.waiting.entries) ≡ true = ap (is_apart wl.row.next) (sym part.parts) ∙ before.apart in

@@ -10,25 +10,25 @@ pub returns-then-is_some-clause-takes : goal.returns-then-is_some-clause-takes
 returns-then-is_some-clause-takes g c = λ offers rests.
     let f = g.A.Aggregator.folding c.args.self.now.aggregator.now in
     let w = c.args.self.now in
-    let row1 = c.take_in.new.self in
+    let row1 = c.accept.new.self in
     let hand = c.in_ok-hand.hand.trace in
-    let w2 = c.work_off-ending.new.self in
-    let worked = c.work_off-ending.ensures in
-    let some : is_some c.work_off-ending.result ≡ true = search rules in
+    let w2 = c.process-ending.new.self in
+    let worked = c.process-ending.ensures in
+    let some : is_some c.process-ending.result ≡ true = search rules in
     let takes : TakesIn w.order w.row c.args.offered hand row1 = search rules in
-    stands-as f w.order w2.order w2.row w2.row w2.acc (offers ++ c.args.offered ∷ []) c.work_off-ending.result (sym worked.keeps.order) refl
-    (work-decided f w.order row1 w2.row w.acc w2.acc hand (offers ++ c.args.offered ∷ []) c.work_off-ending.result worked.ending some worked.acc
+    stands-as f w.order w2.order w2.row w2.row w2.acc (offers ++ c.args.offered ∷ []) c.process-ending.result (sym worked.keeps.order) refl
+    (work-decided f w.order row1 w2.row w.acc w2.acc hand (offers ++ c.args.offered ∷ []) c.process-ending.result worked.ending some worked.acc
     (taken-holds f w.order w.row row1 w.acc hand offers c.args.offered takes rests))
 
 pub returns-clause-takes : goal.returns-clause-takes
 returns-clause-takes g c = λ offers rests.
     let f = g.A.Aggregator.folding c.args.self.now.aggregator.now in
     let w = c.args.self.now in
-    let row1 = c.take_in.new.self in
+    let row1 = c.accept.new.self in
     let hand = c.in_ok-hand.hand.trace in
-    let w2 = c.work_off-ending.new.self in
-    let worked = c.work_off-ending.ensures in
-    let none : c.work_off-ending.result ≡ None = none-from_is_some _ (search rules) in
+    let w2 = c.process-ending.new.self in
+    let worked = c.process-ending.ensures in
+    let none : c.process-ending.result ≡ None = none-from_is_some _ (search rules) in
     let takes : TakesIn w.order w.row c.args.offered hand row1 = search rules in
     let more = offers ++ c.args.offered ∷ [] in
     let same = ap (λ r. g.A.Aggregator.folding r.now) worked.keeps.aggregator in

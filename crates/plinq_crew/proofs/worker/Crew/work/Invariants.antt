@@ -15,5 +15,5 @@ invariant-loop g l = record {
   cut : IsCutPassOf l.self.cut.now l.cut;
   stream : IsPassOf l.self.stream.now l.stream;
   work : IsAtWork l.worker (holding_of l.partition).share (known l.stream);
-  results : All (λ s. IsPart g.L.Lambda.meaning (g.P.Post.makes l.self.post.now) l.self.plan.now (holding_of l.fn.own.partition).origin s.item) (known l.stream).sent;
+  results : All (λ s. IsPart g.L.Lambda.meaning (g.P.Task.makes l.self.task.now) l.self.plan.now (holding_of l.fn.own.partition).origin s.item) (known l.stream).sent;
 }

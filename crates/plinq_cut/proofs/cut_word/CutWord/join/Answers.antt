@@ -5,4 +5,4 @@ use Rattle.plinq_cut.proofs.cut_word.CutWord.join.Goals as goal
 pub join_seat-requires : goal.join_seat-requires
 join_seat-requires g c =
     let one = c.args.self.now.one in
-    (c.requires.0, c.requires.1, c.args.second.empty, omega arith, joins g.E.Enders.is_ender _ _ _ _)
+    (c.requires.0, c.requires.1, c.args.second.empty, omega arith, joins g.E.StopKeys.stops_at _ _ _ _)

@@ -5,4 +5,4 @@ use Rattle.plinq_cut.proofs.cut_word.CutWord.split.Goals as goal
 pub split_seat-seat-requires : goal.split_seat-seat-requires
 split_seat-seat-requires g c =
     let one = c.args.self.now.one in
-    (c.requires, omega arith, splits g.E.Enders.is_ender _ _)
+    (c.requires, omega arith, splits g.E.StopKeys.stops_at _ _)

@@ -3,7 +3,7 @@ use Rattle.plinq_keyed.specs.declared.event.Event.TheVariants.{Ask}
 use Rattle.plinq_keyed.specs.declared.tail.Tail.TheVariants.{Closed}
 use Rattle.plinq_source.specs.Trace.{items_from}
 use Rattle.plinq_keyed.specs.History.{Place, place_after, start, is_legal_history, ending_tail}
-use Rattle.plinq_enumerator.proofs.Next.{record_of, Grown-from_next, next_record-closed, next_record-open, place_behind-closed, place_behind-open}
+use Rattle.plinq_enumerator.proofs.Next.{record_of, Grown-from_next, next_record-closed, next_record-open, next_place-closed, next_place-open}
 use Rattle.plinq_enumerator.proofs.enumerator.Enumerator.ask_into.Goals as goal
 
 pub invariant_of-self-then-self : goal.invariant_of-self-then-self
@@ -17,7 +17,7 @@ invariant_of-self-then-self g c =
     let r = record_of k (Ask n) old.given 0 (Some Closed) in
     let added : c.push_reserved.new.self.items ≡ h ++ r ∷ [] = c.push_reserved.ensures.items ∙ ap (λ xs. xs ++ r ∷ []) c.in_ok-reserve.ensures.items in
     let grown = Grown-from_next t h c.push_reserved.new.self.items k (Ask n) r added (next_record-closed t h k n old.given old.at shut) old.legal c.requires.rising in
-    let place = grown.place ∙ place_behind-closed t (place_after t start h) n shut in
+    let place = grown.place ∙ next_place-closed t (place_after t start h) n shut in
     record {
       walked = old.walked;
       at = ap (λ (p : Place). p.given) place ∙ old.at;
@@ -45,7 +45,7 @@ invariant_of-self-2 g c =
     let grown = Grown-from_next t h c.push_reserved-2.new.self.items k (Ask n) r added (next_record-open t h k n g0 m tail old.at shut counted tailed) old.legal c.requires.rising in
     let moved : (place_after t start c.push_reserved-2.new.self.items).given ≡ g0 + m =
     ap (λ (p : Place). p.given) grown.place
-    ∙ place_behind-open t (place_after t start h) n shut
+    ∙ next_place-open t (place_after t start h) n shut
     ∙ ap (λ f. f + length (items_from t f n)) old.at
     ∙ ap (λ x. g0 + x) (sym counted) in
     record {

@@ -2,8 +2,8 @@ use Rattle.std.proofs.Common.{rules, ◌≡◌, Ok, Err, Some, None, refl, sym, 
 use Rattle.plinq_merge.specs.declared.more.More.TheVariants.{Yes}
 use Rattle.plinq_merge.specs.declared.standing.Standing.{Standing}
 use Rattle.plinq_merge.specs.declared.standing.Standing.TheVariants.{Open}
-use Rattle.plinq_merge.specs.declared.undelivered.Undelivered.TheVariants.{Memory, Sink}
-use Rattle.plinq_merge.specs.Shown.{behind_result}
+use Rattle.plinq_merge.specs.declared.delivery_fault.DeliveryFault.TheVariants.{Memory, Sink}
+use Rattle.plinq_merge.specs.Shown.{end_of_result}
 use Rattle.plinq_merge.specs.Keys.{IsFresh, IsRepeated}
 use Rattle.plinq_merge.specs.Offering.{Offers}
 use Rattle.plinq_merge.proofs.Gains.{merge-same}
@@ -15,7 +15,7 @@ returns-in-Ok-None-clause-takes g c =
     let w = c.args.self.now.work in
     let r = c.args.offered in
     let is_open : c.args.self.now.standing ≡ Open = search rules in
-    let fresh : IsFresh w.row.next w.row.waiting.entries r.first (behind_result r) = search rules in
+    let fresh : IsFresh w.row.next w.row.waiting.entries r.first (end_of_result r) = search rules in
     let is : c.merge.result ≡ Ok None = search rules in
     let P : Standing → Type 0 = λ x. Offers g.L.Lambda.meaning g.K.Sink.accepts g.K.Sink.refuses w c.args.self.now.standing r c.args.sink.now (Ok Yes) c.merge.new.self x c.merge.new.sink in
     subst P (sym is_open)
@@ -27,7 +27,7 @@ returns-in-Ok-Some-clause-takes g c =
     let w = c.args.self.now.work in
     let r = c.args.offered in
     let is_open : c.args.self.now.standing ≡ Open = search rules in
-    let fresh : IsFresh w.row.next w.row.waiting.entries r.first (behind_result r) = search rules in
+    let fresh : IsFresh w.row.next w.row.waiting.entries r.first (end_of_result r) = search rules in
     let is : c.merge.result ≡ Ok (Some c.in-Ok-Some.ending) = search rules in
     offers-by g.L.Lambda.meaning g.K.Sink.accepts g.K.Sink.refuses w c.args.self.now.standing r c.args.sink.now (Ok (Some c.in-Ok-Some.ending)) c.merge.new.self c.merge.new.sink is_open fresh
     (gains-as g.L.Lambda.meaning g.K.Sink.accepts g.K.Sink.refuses w r c.args.sink.now c.merge.result (Ok (Some c.in-Ok-Some.ending)) c.merge.new.self c.merge.new.sink is c.merge.ensures.gains)
@@ -37,7 +37,7 @@ returns-in-Err-Memory-clause-takes g c =
     let w = c.args.self.now.work in
     let r = c.args.offered in
     let is_open : c.args.self.now.standing ≡ Open = search rules in
-    let fresh : IsFresh w.row.next w.row.waiting.entries r.first (behind_result r) = search rules in
+    let fresh : IsFresh w.row.next w.row.waiting.entries r.first (end_of_result r) = search rules in
     let is : c.merge.result ≡ Err Memory = search rules in
     offers-by g.L.Lambda.meaning g.K.Sink.accepts g.K.Sink.refuses w c.args.self.now.standing r c.args.sink.now (Err Memory) c.merge.new.self c.merge.new.sink is_open fresh
     (gains-as g.L.Lambda.meaning g.K.Sink.accepts g.K.Sink.refuses w r c.args.sink.now c.merge.result (Err Memory) c.merge.new.self c.merge.new.sink is c.merge.ensures.gains)
@@ -47,7 +47,7 @@ returns-in-Err-Sink-clause-takes g c =
     let w = c.args.self.now.work in
     let r = c.args.offered in
     let is_open : c.args.self.now.standing ≡ Open = search rules in
-    let fresh : IsFresh w.row.next w.row.waiting.entries r.first (behind_result r) = search rules in
+    let fresh : IsFresh w.row.next w.row.waiting.entries r.first (end_of_result r) = search rules in
     let is : c.merge.result ≡ Err (Sink c.in-Err-Sink.code) = search rules in
     offers-by g.L.Lambda.meaning g.K.Sink.accepts g.K.Sink.refuses w c.args.self.now.standing r c.args.sink.now (Err (Sink c.in-Err-Sink.code)) c.merge.new.self c.merge.new.sink is_open fresh
     (gains-as g.L.Lambda.meaning g.K.Sink.accepts g.K.Sink.refuses w r c.args.sink.now c.merge.result (Err (Sink c.in-Err-Sink.code)) c.merge.new.self c.merge.new.sink is c.merge.ensures.gains)
@@ -68,5 +68,5 @@ pub returns-then-was_offered-clause-takes : goal.returns-then-was_offered-clause
 returns-then-was_offered-clause-takes g c =
     let w = c.args.self.now.work in
     let r = c.args.offered in
-    let repeated : IsRepeated w.row.next w.row.waiting.entries r.first (behind_result r) = search rules in
+    let repeated : IsRepeated w.row.next w.row.waiting.entries r.first (end_of_result r) = search rules in
     offers-twice g.L.Lambda.meaning g.K.Sink.accepts g.K.Sink.refuses w c.args.self.now.standing r c.args.sink.now w c.args.self.now.standing c.args.sink.now c.in-Open.is refl refl refl repeated

@@ -20,5 +20,5 @@ returns-clause-goes g c =
     let w1 : Content g.row.L-Item.Denot = content_of row1 (stages m w.pipeline) (held_of w.buffer) in
     let same : w1 ≡ with_next (content m w) p row1.waiting.entries =
     ap (λ n. record w1 { next = n }) c.take_next-part.ensures.next ∙ ap (λ t. record (with_next (content m w) p row1.waiting.entries) { told = t }) c.take_next-part.ensures.told in
-    goes-next g.K.Sink.accepts g.K.Sink.refuses (size_of w.buffer) (content m w) w1 p row1.waiting.entries c.args.sink.now c.work_off.result (content m c.work_off.new.self) c.work_off.new.sink
-    same parts (apart-some w.row.next (w.row.next, p) row1.waiting.entries apart) c.work_off.ensures.goes
+    goes-next g.K.Sink.accepts g.K.Sink.refuses (size_of w.buffer) (content m w) w1 p row1.waiting.entries c.args.sink.now c.process.result (content m c.process.new.self) c.process.new.sink
+    same parts (apart-some w.row.next (w.row.next, p) row1.waiting.entries apart) c.process.ensures.goes
