@@ -177,13 +177,17 @@ where
     requires ready { IsReadyToFold L.meaning P.makes P.folding J.is_result J.stops_at crew.now own }
     ensures { FoldsSome (P.folding crew.now.task.now) (MayMerge L.meaning crew.now.plan.now (holding_of own.partition).origin) result }
 {
+    let taken = (rt, crew, own);
     thread::scope(
         thread::scope_env(),
         rt,
         move |scope| -> Result<Combined<P::Part>, RunFault>
-            requires ready { IsReadyToFold L.meaning P.makes P.folding J.is_result J.stops_at crew.now own }
-            ensures { FoldsSome (P.folding crew.entry.now.task.now) (MayMerge L.meaning crew.entry.now.plan.now (holding_of own.partition).origin) result }
-        { conduct_folds(scope, rt, crew, own) },
+            requires ready { IsReadyToFold L.meaning P.makes P.folding J.is_result J.stops_at taken.1.now taken.2 }
+            ensures { FoldsSome (P.folding taken.entry.1.now.task.now) (MayMerge L.meaning taken.entry.1.now.plan.now (holding_of taken.entry.2.partition).origin) result }
+        {
+            let (rt, crew, own) = taken;
+            conduct_folds(scope, rt, crew, own)
+        },
     )
 }
 

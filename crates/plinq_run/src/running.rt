@@ -91,15 +91,17 @@ where
     requires ready { IsReady L.meaning (λ p r c. c ≡ r) J.is_result J.stops_at crew.now own }
     ensures { IsConducted K.accepts K.refuses option (MayMerge L.meaning crew.now.plan.now) crew.now.chunked.now (holding_of own.partition).origin sink.old sink.new result }
 {
-    let lent = &mut *sink;
+    // (one value, since a closure's proof costs with each that it captures)
+    let taken = (rt, crew, own, option, &mut *sink);
     let (ended, _lent) = thread::scope(
         thread::scope_env(),
         rt,
         move |scope| -> (Result<Ended<S>, RunFault>, &mut K)
-            requires ready { IsReady L.meaning (λ p r c. c ≡ r) J.is_result J.stops_at crew.now own }
-            ensures same { result.1.ghost_name ≡ lent.entry.ghost_name }
-            ensures conducted { IsConducted K.accepts K.refuses option (MayMerge L.meaning crew.entry.now.plan.now) crew.entry.now.chunked.now (holding_of own.partition).origin lent.entry.now result.1.now result.0 }
+            requires ready { IsReady L.meaning (λ p r c. c ≡ r) J.is_result J.stops_at taken.1.now taken.2 }
+            ensures same { result.1.ghost_name ≡ taken.entry.4.ghost_name }
+            ensures conducted { IsConducted K.accepts K.refuses taken.entry.3 (MayMerge L.meaning taken.entry.1.now.plan.now) taken.entry.1.now.chunked.now (holding_of taken.entry.2.partition).origin taken.entry.4.now result.1.now result.0 }
         {
+            let (rt, crew, own, option, lent) = taken;
             let ended = conduct(scope, rt, crew, own, option, lent);
             (ended, lent)
         },
