@@ -1,4 +1,4 @@
-ghost use Rattle.std.specs.Prelude.{◌≡◌, ◌≤◌, [], true, OnOk, OnErr, IfOk};
+ghost use Rattle.std.specs.Prelude.{◌≡◌, ◌≤◌, [], true, OnOk, OnErr, IfOk, vec_capacity};
 ghost use Rattle.plinq_keyed.specs.declared.event.Event.TheVariants.{Ask, Close};
 ghost use Rattle.plinq_keyed.specs.History.{is_legal_history, IsLegalHistory, place_after, start, next_record, with_next, tickets_below, IsChunkOf};
 
@@ -102,6 +102,7 @@ impl<S: Source> Enumerator<S> {
             OnOk result (held.history self.new ≡ with_next (held.origin self.old) (held.history self.old) ticket (Ask n)) }
         ensures chunk { let held = ⟦<Enumerator<S> as Guarded>⟧ in
             IfOk result (IsChunkOf (held.origin self.old) (next_record (held.origin self.old) (held.history self.old) ticket (Ask n))) }
+        ensures room { IfOk result (λ chunk. vec_capacity list ≤ vec_capacity chunk.items) }
         ensures unchanged { OnErr result (⟦<Enumerator<S> as Guarded>⟧.history self.new ≡ ⟦<Enumerator<S> as Guarded>⟧.history self.old) }
     {
         let mut items = list;

@@ -29,6 +29,7 @@ pub(crate) fn take_items<S: Source>(
     ensures same { S.whole source.new ≡ S.whole source.old }
     ensures taken { items.new.items ≡ items_from (S.whole source.old) (S.given source.old) n }
     ensures counted { vec_len items.new ≡ length items.new.items }
+    ensures capacity { vec_capacity items.new ≡ vec_capacity items.old }
     ensures moved { S.given source.new ≡ S.given source.old + length items.new.items }
     ensures tail { result ≡ (if nat_lt (length (S.whole source.old).items - S.given source.old) n then ending_tail (S.whole source.old).ending else None) }
 {
