@@ -25,7 +25,7 @@ use std::alloc::Global;
 use std::sync::Wait;
 
 /// Where a worker stands whose last result is this one: after its keys, or after all keys where the run ends within them or
-/// before, so that it takes nothing more until the source is closed.
+/// before, so that by key it takes nothing more until the source is closed.
 fn next_place<T>(made: &ChunkResult<T>) -> u64 {
     match made.ending {
         FragEnd::More => made.first.saturating_add(made.count),

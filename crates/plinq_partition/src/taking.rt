@@ -24,7 +24,8 @@ impl<S: Source> Partition<S> {
     }
 
     /// The next chunk of the source, of as many items as the growth says for this request; the last one may be shorter
-    /// and has the source's tail. Waits until the partitions before it have taken theirs.
+    /// and has the source's tail. Waits while another partition is inside, or waits with a ticket; those that take wait in no
+    /// order.
     ///
     /// # Errors
     ///
