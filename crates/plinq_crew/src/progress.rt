@@ -4,8 +4,10 @@ use plinq_wait::WaitQueue;
 use std::sync::Wait;
 use std::sync::atomic::{AtomicBool, AtomicU64, Ordering};
 
-// So often the caller's thread lacks a result before that counts.
+// So often the caller's thread lacks a result before that counts, and before it counts for more.
 const LACKS: u64 = 64;
+
+const MANY_LACKS: u64 = 2_048;
 
 /// How far the threads of a run are. It only tells the caller's thread when to sleep and when to join the workers, and the
 /// workers when to wait and when to go on; no answer rests on it.
@@ -18,10 +20,9 @@ pub struct Progress {
     sent: AtomicU64,
     ended: AtomicU64,
     failed: AtomicBool,
-    /// How many workers are at work at once.
+    /// How many workers are at work at once, and how many were at first.
     at_once: AtomicU64,
-    /// How many are where the caller's thread mostly waits for them.
-    at_most: u64,
+    at_first: u64,
     /// How many results were sent, and how often the caller's thread was about to sleep since there was none.
     results: AtomicU64,
     lacks: AtomicU64,
@@ -34,8 +35,8 @@ pub struct Progress {
 }
 
 impl Progress {
-    /// Nothing is merged yet, and workers may be so many keys above it, and so many items. So many of them are at work at once,
-    /// and half as many more where the caller's thread mostly waits for them.
+    /// Nothing is merged yet, and workers may be so many keys above it, and so many items. So many of them are at work at once;
+    /// where the caller's thread mostly waits for them half as many more, and in a long run three times as many.
     pub fn new(keys: u64, items: u64, at_once: u64) -> Progress {
         Progress {
             keys: Ahead::new(keys),
@@ -44,7 +45,7 @@ impl Progress {
             ended: AtomicU64::new(0),
             failed: AtomicBool::new(false),
             at_once: AtomicU64::new(at_once),
-            at_most: at_once.saturating_add(at_once / 2),
+            at_first: at_once,
             results: AtomicU64::new(0),
             lacks: AtomicU64::new(0),
             start: WaitQueue::new(),
@@ -106,10 +107,16 @@ impl Progress {
     /// begin: a busy machine shares its cores out by threads.
     fn note_lack(&self) {
         let lacks = self.lacks.fetch_add(1, Ordering::SeqCst);
-        let is_slow = lacks >= LACKS
-            && lacks.saturating_mul(2) >= self.results.load(Ordering::SeqCst);
-        if is_slow && self.at_once.load(Ordering::SeqCst) < self.at_most {
-            self.at_once.store(self.at_most, Ordering::SeqCst);
+        if lacks < LACKS || lacks.saturating_mul(2) < self.results.load(Ordering::SeqCst) {
+            return;
+        }
+        let wanted = if lacks < MANY_LACKS {
+            self.at_first.saturating_add(self.at_first / 2)
+        } else {
+            self.at_first.saturating_mul(3)
+        };
+        if self.at_once.load(Ordering::SeqCst) < wanted {
+            self.at_once.store(wanted, Ordering::SeqCst);
             self.start.wake();
         }
     }
