@@ -1,3 +1,2 @@
 pub mod Folds
-pub mod Works
 pub mod Offers

@@ -1,3 +1,4 @@
 pub mod Folds
 pub mod Combining
+pub mod Lawful
 pub mod Combiners

@@ -1,11 +1,10 @@
-ghost use Rattle.std.specs.Prelude.{◌≡◌, true};
 ghost use Rattle.std.proofs.Props.{props};
-ghost use Rattle.plinq_merge.specs.Keys.{is_apart};
-ghost use Rattle.plinq_combine.specs.declared.standing.Standing.TheVariants.{Open};
+ghost use Rattle.plinq_merge.specs.Joining.{IsReady};
+ghost use Rattle.plinq_combine.specs.Combining.{takes_all};
 
-use crate::combining::Combining;
-use crate::standing::Standing;
+use crate::fold::Fold;
 use plinq_aggregate::Aggregator;
+use plinq_merge::Joiner;
 
 /// Combines the folds of chunk results, in whatever order they come, to the fold of the answer: by key up to the first
 /// result that ends the run, or as they come. What waits for earlier keys is one accumulator a result.
@@ -17,7 +16,6 @@ use plinq_aggregate::Aggregator;
 /// ```
 #[derive(Drop)]
 pub struct Combiner<'a, A: Aggregator> {
-    pub(crate) work: Combining<'a, A, A::Acc>,
-    pub(crate) standing: Standing,
-    ghost ready: { standing ≡ Open → is_apart work.row.next work.row.waiting.entries ≡ true } by { Prim.hlevel props },
+    pub(crate) joiner: Joiner<Fold<'a, A, A::Acc>, A::Acc>,
+    ghost ready: { IsReady takes_all joiner } by { Prim.hlevel props },
 }

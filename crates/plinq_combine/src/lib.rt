@@ -9,10 +9,9 @@
 
 mod combined;
 mod combiner;
-mod combining;
+mod fold;
 mod folding;
 mod offering;
-mod standing;
 
 pub use combined::Combined;
 pub use combiner::Combiner;

@@ -7,10 +7,9 @@ ghost use Rattle.plinq_combine.specs.Combiners.{aggregator_of, order_of, IsFor, 
 
 use crate::combined::Combined;
 use crate::combiner::Combiner;
-use crate::combining::{Combining, so_far};
-use crate::standing::Standing;
+use crate::fold::Fold;
 use plinq_aggregate::Aggregator;
-use plinq_merge::{MergeFault, More, Row};
+use plinq_merge::{Joiner, MergeFault, More};
 use plinq_ops::{ChunkResult, Order};
 use std::alloc::Global;
 
@@ -21,16 +20,12 @@ impl<'a, A: Aggregator> Combiner<'a, A> {
         ensures order { order_of result ≡ order }
         ensures nothing { IsFor result [] }
     {
-        let work = Combining {
-            alloc,
+        let fold = Fold {
             aggregator,
-            order,
-            row: Row::new(alloc),
             acc: None,
         };
         Combiner {
-            work,
-            standing: Standing::Open,
+            joiner: Joiner::new(alloc, order, fold),
         }
     }
 
@@ -48,26 +43,7 @@ impl<'a, A: Aggregator> Combiner<'a, A> {
         ensures order { order_of self.new ≡ order_of self.old }
         ensures takes { Offers self.old offered result self.new }
     {
-        match self.standing {
-            Standing::Failed => return Err(MergeFault::Failed),
-            Standing::Decided(_) => return Ok(More::No),
-            Standing::Open => {}
-        }
-        let end = offered.first + offered.count;
-        if self.work.row.was_offered(offered.first, end) {
-            return Err(MergeFault::Twice);
-        }
-        match self.work.merge(offered) {
-            Ok(None) => Ok(More::Yes),
-            Ok(Some(ending)) => {
-                self.standing = Standing::Decided(ending);
-                Ok(More::No)
-            }
-            Err(_) => {
-                self.standing = Standing::Failed;
-                Err(MergeFault::Memory)
-            }
-        }
+        self.joiner.offer(offered, &mut ())
     }
 
     /// Whether the answer is decided; not after a failure. Takes no memory.
@@ -76,11 +52,7 @@ impl<'a, A: Aggregator> Combiner<'a, A> {
         ensures answer { (offers : List (ChunkResult A.Acc)) → IsFor self.now offers →
             result ≡ is_some (merged (order_of self.now) offers).ending }
     {
-        match self.standing {
-            Standing::Open => false,
-            Standing::Decided(_) => true,
-            Standing::Failed => false,
-        }
+        self.joiner.decided()
     }
 
     /// The first key whose result is missing, while the answer is open: all before it are combined, and what was offered
@@ -89,7 +61,7 @@ impl<'a, A: Aggregator> Combiner<'a, A> {
         ensures { (offers : List (ChunkResult A.Acc)) → IsFor self.now offers → (merged (order_of self.now) offers).ending ≡ None →
             ((key : ℕ) → key < result → is_offered offers key ≡ true) × (is_offered offers result ≡ false) }
     {
-        self.work.row.next
+        self.joiner.merged()
     }
 
     /// How the answer to the results ends whose folds were offered, and the accumulator of its items. Takes no memory.
@@ -103,12 +75,10 @@ impl<'a, A: Aggregator> Combiner<'a, A> {
             AreFoldsOf (A.folding (aggregator_of self.entry)) results offers → IsFor self.entry offers →
             Finishes (A.folding (aggregator_of self.entry)) (merged (order_of self.entry) results) result }
     {
-        let Combiner { work, standing, .. } = self;
-        let acc = so_far(work.aggregator, work.acc);
-        match standing {
-            Standing::Open => Err(MergeFault::Gap),
-            Standing::Failed => Err(MergeFault::Failed),
-            Standing::Decided(ending) => Ok(Combined { acc, ending }),
-        }
+        let joined = self.joiner.finish()?;
+        Ok(Combined {
+            acc: joined.taker.so_far(),
+            ending: joined.ending,
+        })
     }
 }

@@ -12,7 +12,7 @@ use crate::handle::{WorkerHandle, WorkerPromise};
 use crate::results::{ResultPass, RunSpec};
 use crate::task::Task;
 use crate::worker::{Crew, Worked, WorkerContext};
-use plinq_lambda::Lambda;
+use plinq_lambda::SharedLambda;
 use plinq_ops::ChunkResult;
 use plinq_partition::{Chunked, Partition, TakeFault};
 use plinq_source::Source;
@@ -30,7 +30,7 @@ fn start<'s, Env, L, S, J, P, R>(
     own: WorkerContext<S, P::Part>,
 ) -> Option<WorkerHandle<S, P::Part>>
 where
-    L: Lambda,
+    L: SharedLambda,
     S: Source<Item = L::Item>,
     J: RunSpec<P::Part> + Send + Sync,
     P: Task<L::Item>,
@@ -67,7 +67,7 @@ pub fn start_all<'s, Env, L, S, J, P, R>(
     room: Vec<WorkerHandle<S, P::Part>>,
 ) -> Vec<WorkerHandle<S, P::Part>>
 where
-    L: Lambda,
+    L: SharedLambda,
     S: Source<Item = L::Item>,
     J: RunSpec<P::Part> + Send + Sync,
     P: Task<L::Item>,

@@ -8,10 +8,10 @@ use std::alloc::Global;
 /// What a query's operators do to one element: `Select` maps it, `Where`, `TakeWhile` and `SkipWhile` test it,
 /// `SelectMany` expands it. Each answers a value, or faults with a code of the lambda's own.
 ///
-/// A lambda is shared by the workers of a query, so its answers depend on the element alone.
-pub trait Lambda: Send + Sync + Drop {
+/// Its answers depend on the element alone, so that the workers of a query can share it ([`SharedLambda`]).
+pub trait Lambda: Drop {
     /// The elements that it takes and gives.
-    type Item: Copy + Send;
+    type Item: Copy;
 
     // The three functions that the methods compute.
     ghost meaning: { Self → Meaning Self.Item };
@@ -107,3 +107,8 @@ pub trait Lambda: Send + Sync + Drop {
 
     ghost short: { (f : Self) (x : Self.Item) → IfOk ((meaning f).expand x) (λ ys. length ys ≤ most_items) };
 }
+
+/// A lambda that the workers of a run share.
+pub trait SharedLambda: Lambda<Item: Send> + Send + Sync {}
+
+impl<L: Lambda<Item: Send> + Send + Sync> SharedLambda for L {}

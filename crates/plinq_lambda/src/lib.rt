@@ -2,6 +2,7 @@
 //!
 //! A [`Lambda`] maps, tests and expands an element, and each answer is the value of its `meaning`, three pure
 //! functions (`Lambda::map`, `Lambda::test`, `Lambda::expand`). An expansion has at most 65,536 items (`short`).
+//! A [`SharedLambda`] is one that threads may share.
 //! A [`Formula`] is the lambda over `i64` that a document can name; its meaning is `formula_meaning`, over whole
 //! numbers with a check of the range at the end. Only `expand` takes memory, and that at once.
 #![tactic(auto)]
@@ -14,4 +15,4 @@ mod sums;
 
 pub use expand_fault::ExpandFault;
 pub use formula::Formula;
-pub use lambda::Lambda;
+pub use lambda::{Lambda, SharedLambda};

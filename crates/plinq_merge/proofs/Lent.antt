@@ -12,10 +12,10 @@ use Rattle.plinq_merge.specs.declared.standing.Standing.TheVariants.{Open, Decid
 use Rattle.plinq_merge.specs.declared.delivery_fault.DeliveryFault.{DeliveryFault}
 use Rattle.plinq_merge.specs.declared.delivery_fault.DeliveryFault.TheVariants.{Memory as NoMemory, Sink as Refusal}
 use Rattle.plinq_merge.specs.declared.with_cancellation.WithCancellation.{WithCancellation}
-use Rattle.plinq_merge.specs.declared.work.Work.{Work}
 use Rattle.plinq_merge.specs.Cancelling.{Delivery, Passes, IsRefused, IsKeptBack}
 use Rattle.plinq_merge.specs.Lent.{AreSame, delivery_of, Takes, KeptOrRefused, Refuses}
 use Rattle.plinq_merge.specs.Mergers.{SendsSome, AsksEach, delivery_fault_of}
+use Rattle.plinq_merge.specs.Working.{Work}
 use Rattle.plinq_merge.specs.Offering.{Offers, OffersWith, IsCancelled}
 use Rattle.plinq_merge.specs.Sending.{Leads, IsCutOff}
 use Rattle.plinq_merge.proofs.Maps.{brings-map, offers-map}
@@ -90,10 +90,10 @@ module _ {C K T : Type 0} (asks : C → ℕ → Bool → C → Type 0) (accepts 
   asks-on w (Err Failed) w' before after never sends = (sends.0, cut-on w sends.0 NoMemory w' before after sends.1)
   asks-on w (Err Cancelled) w' before after never sends = absurd (never refl)
 
-  module _ {L : Type 0} (meaning : L → Meaning T) where
+  module _ {L : Type 0} (meaning : L → Meaning T) (decided : Bool) where
     -- without a token no offer is cancelled
     pub offers-never : (x : Work L T) (standing : Standing) (r : ChunkResult T) (w : WithCancellation C K) (told : Result More MergeFault) (x' : Work L T) (standing' : Standing) (w' : WithCancellation C K)
-        → Offers meaning (Takes asks accepts) (Refuses asks refuses) x standing r w told x' standing' w' → told ≡ Err Cancelled → ⊥
+        → Offers meaning decided (Takes asks accepts) (Refuses asks refuses) x standing r w told x' standing' w' → told ≡ Err Cancelled → ⊥
     offers-never x Open r w (Ok more) x' standing' w' o is = cc
     offers-never x Open r w (Err Memory) x' standing' w' o is = cc
     offers-never x Open r w (Err (Sink code)) x' standing' w' o is = cc
@@ -106,7 +106,7 @@ module _ {C K T : Type 0} (asks : C → ℕ → Bool → C → Type 0) (accepts 
 
     pub offers-stopped : (x : Work L T) (standing : Standing) (r : ChunkResult T) (w : WithCancellation C K) (told : Result More MergeFault) (x' : Work L T) (standing' : Standing) (w' : WithCancellation C K)
         → w.is_stopped ≡ false → w'.is_stopped ≡ true → SendsSome (Takes asks accepts) (Refuses asks refuses) w told w'
-        → Offers meaning (Takes asks accepts) (Refuses asks refuses) x standing r w told x' standing' w' → IsCancelled meaning asks accepts x standing r (delivery_of w) standing' (delivery_of w')
+        → Offers meaning decided (Takes asks accepts) (Refuses asks refuses) x standing r w told x' standing' w' → IsCancelled meaning decided asks accepts x standing r (delivery_of w) standing' (delivery_of w')
     offers-stopped x Open r w (Ok more) x' standing' w' before after sends o = let on = leads-on w sends.0 w' sends.1 in absurd (let bad : true ≡ false = sym after ∙ on.still ∙ before in cc)
     offers-stopped x Open r w (Err Memory) x' standing' w' before after sends o =
         (refl, o.0, λ offers rests. brings-map _ offers r _ _ (λ bs. cut-kept w bs NoMemory w' before after) (o.1 offers rests))
@@ -120,17 +120,17 @@ module _ {C K T : Type 0} (asks : C → ℕ → Bool → C → Type 0) (accepts 
     offers-stopped x HasFailed r w told x' standing' w' before after sends o = absurd (let bad : true ≡ false = sym after ∙ ap (λ y. y.is_stopped) o.3 ∙ before in cc)
 
     pub offers-passed : (x : Work L T) (standing : Standing) (r : ChunkResult T) (w : WithCancellation C K) (told : Result More MergeFault) (x' : Work L T) (standing' : Standing) (w' : WithCancellation C K)
-        → w.is_stopped ≡ false → w'.is_stopped ≡ false → Offers meaning (Takes asks accepts) (Refuses asks refuses) x standing r w told x' standing' w'
-        → Offers meaning (Passes asks accepts) (IsRefused asks refuses) x standing r (delivery_of w) told x' standing' (delivery_of w')
+        → w.is_stopped ≡ false → w'.is_stopped ≡ false → Offers meaning decided (Takes asks accepts) (Refuses asks refuses) x standing r w told x' standing' w'
+        → Offers meaning decided (Passes asks accepts) (IsRefused asks refuses) x standing r (delivery_of w) told x' standing' (delivery_of w')
     offers-passed x standing r w told x' standing' w' before after o =
-        offers-map meaning (Takes asks accepts) (Refuses asks refuses) (Passes asks accepts) (IsRefused asks refuses) w w' (delivery_of w) (delivery_of w')
+        offers-map meaning decided (Takes asks accepts) (Refuses asks refuses) (Passes asks accepts) (IsRefused asks refuses) w w' (delivery_of w) (delivery_of w')
         (λ bs leads. let on = leads-on w bs w' leads in on.leads) (λ bs fault cut. cut-on w bs fault w' before after cut) (λ is. ap delivery_of is)
         x standing r told x' standing' o
 
-module _ {C K T L : Type 0} (asks : C → ℕ → Bool → C → Type 0) (accepts : K → List T → K → Type 0) (refuses : K → List T → ℕ → K → Type 0) (meaning : L → Meaning T) where
+module _ {C K T L : Type 0} (asks : C → ℕ → Bool → C → Type 0) (accepts : K → List T → K → Type 0) (refuses : K → List T → ℕ → K → Type 0) (meaning : L → Meaning T) (decided : Bool) where
   -- an offer that wasn't cancelled
   pub offers-with : (x : Work L T) (standing : Standing) (r : ChunkResult T) (d : Delivery C K) (told : Result More MergeFault) (x' : Work L T) (standing' : Standing) (d' : Delivery C K) → (told ≡ Err Cancelled → ⊥)
-      → Offers meaning (Passes asks accepts) (IsRefused asks refuses) x standing r d told x' standing' d' → OffersWith meaning asks accepts refuses x standing r d told x' standing' d'
+      → Offers meaning decided (Passes asks accepts) (IsRefused asks refuses) x standing r d told x' standing' d' → OffersWith meaning decided asks accepts refuses x standing r d told x' standing' d'
   offers-with x standing r d (Ok more) x' standing' d' never o = o
   offers-with x standing r d (Err Memory) x' standing' d' never o = o
   offers-with x standing r d (Err (Sink code)) x' standing' d' never o = o
@@ -141,8 +141,8 @@ module _ {C K T L : Type 0} (asks : C → ℕ → Bool → C → Type 0) (accept
 
   -- an offer with a token that never stops
   pub offers-without : ((c c' : C) (n : ℕ) → asks c n true c' → ⊥) → (x : Work L T) (standing : Standing) (r : ChunkResult T) (d : Delivery C K) (told : Result More MergeFault) (x' : Work L T) (standing' : Standing) (d' : Delivery C K)
-      → AsksEach asks accepts refuses d told d' → OffersWith meaning asks accepts refuses x standing r d told x' standing' d'
-      → Offers meaning (Passes asks accepts) (IsRefused asks refuses) x standing r d told x' standing' d'
+      → AsksEach asks accepts refuses d told d' → OffersWith meaning decided asks accepts refuses x standing r d told x' standing' d'
+      → Offers meaning decided (Passes asks accepts) (IsRefused asks refuses) x standing r d told x' standing' d'
   offers-without never x standing r d (Ok more) x' standing' d' asked o = o
   offers-without never x standing r d (Err Memory) x' standing' d' asked o = o
   offers-without never x standing r d (Err (Sink code)) x' standing' d' asked o = o

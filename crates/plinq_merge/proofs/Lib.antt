@@ -1,14 +1,14 @@
 pub mod Blocks
-pub mod Sent
 pub mod Overlaps
 pub mod Takings
-pub mod Moves
 pub mod Gains
+pub mod Joins
+pub mod Delivered
 pub mod Offers
 pub mod Whole
 pub mod Told
 pub mod Mergers
-pub mod Sends
+pub mod Joiners
 pub mod Maps
 pub mod Lent
 pub mod Never

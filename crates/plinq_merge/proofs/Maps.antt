@@ -1,5 +1,5 @@
 -- Deliveries seen otherwise: what a sink says of its batches, stated for a state in its place.
-use Rattle.std.specs.Prelude.{◌≡◌, ℕ, List, [], ◌∷◌, Result, Ok, Err}
+use Rattle.std.specs.Prelude.{◌≡◌, ℕ, List, [], ◌∷◌, Bool, Result, Ok, Err}
 use Rattle.std.proofs.Common.{ap}
 use Rattle.plinq_lambda.specs.Meaning.{Meaning}
 use Rattle.plinq_ops.specs.declared.results.ChunkResult.{ChunkResult}
@@ -11,9 +11,9 @@ use Rattle.plinq_merge.specs.declared.standing.Standing.{Standing}
 use Rattle.plinq_merge.specs.declared.standing.Standing.TheVariants.{Open, Decided, Failed as HasFailed}
 use Rattle.plinq_merge.specs.declared.delivery_fault.DeliveryFault.{DeliveryFault}
 use Rattle.plinq_merge.specs.declared.delivery_fault.DeliveryFault.TheVariants.{Memory as NoMemory, Sink as Refusal}
-use Rattle.plinq_merge.specs.declared.work.Work.{Work}
 use Rattle.plinq_merge.specs.Sending.{Leads, IsCutOff}
 use Rattle.plinq_merge.specs.Shown.{Merge}
+use Rattle.plinq_merge.specs.Working.{Work}
 use Rattle.plinq_merge.specs.Offering.{Brings, Offers}
 
 pub leads-map : {K M B : Type 0} (f : K → M) (accepts : K → B → K → Type 0) (accepts' : M → B → M → Type 0) → ((s : K) (b : B) (s' : K) → accepts s b s' → accepts' (f s) b (f s'))
@@ -33,22 +33,22 @@ pub brings-map : {T : Type 0} (merge : Merge T) (offers : List (ChunkResult T)) 
 brings-map merge offers r P Q on brings = record { are_new = brings.are_new; gained = brings.gained; grows = brings.grows; sent = on brings.gained brings.sent }
 
 -- an offer, where what is delivered goes from s to s', and in the other words from t to t'
-pub offers-map : {L K M T : Type 0} (meaning : L → Meaning T) (accepts : K → List T → K → Type 0) (refuses : K → List T → ℕ → K → Type 0) (accepts' : M → List T → M → Type 0) (refuses' : M → List T → ℕ → M → Type 0)
+pub offers-map : {L K M T : Type 0} (meaning : L → Meaning T) (decided : Bool) (accepts : K → List T → K → Type 0) (refuses : K → List T → ℕ → K → Type 0) (accepts' : M → List T → M → Type 0) (refuses' : M → List T → ℕ → M → Type 0)
     (s s' : K) (t t' : M) → ((bs : List (List T)) → Leads accepts s bs s' → Leads accepts' t bs t')
     → ((bs : List (List T)) (fault : DeliveryFault) → IsCutOff accepts refuses s bs fault s' → IsCutOff accepts' refuses' t bs fault t') → (s' ≡ s → t' ≡ t)
     → (w : Work L T) (standing : Standing) (r : ChunkResult T) (result : Result More MergeFault) (w' : Work L T) (standing' : Standing)
-    → Offers meaning accepts refuses w standing r s result w' standing' s' → Offers meaning accepts' refuses' w standing r t result w' standing' t'
-offers-map meaning accepts refuses accepts' refuses' s s' t t' leads cuts same w Open r (Ok Yes) w' standing' o =
+    → Offers meaning decided accepts refuses w standing r s result w' standing' s' → Offers meaning decided accepts' refuses' w standing r t result w' standing' t'
+offers-map meaning decided accepts refuses accepts' refuses' s s' t t' leads cuts same w Open r (Ok Yes) w' standing' o =
     (o.0, λ offers rests. let on = o.1 offers rests in (brings-map _ offers r _ _ leads on.0, on.1))
-offers-map meaning accepts refuses accepts' refuses' s s' t t' leads cuts same w Open r (Ok No) w' standing' o =
+offers-map meaning decided accepts refuses accepts' refuses' s s' t t' leads cuts same w Open r (Ok No) w' standing' o =
     (o.0, o.1, λ offers rests. let on = o.2 offers rests in (brings-map _ offers r _ _ leads on.0, on.1))
-offers-map meaning accepts refuses accepts' refuses' s s' t t' leads cuts same w Open r (Err Memory) w' standing' o =
+offers-map meaning decided accepts refuses accepts' refuses' s s' t t' leads cuts same w Open r (Err Memory) w' standing' o =
     (o.0, λ offers rests. brings-map _ offers r _ _ (λ bs. cuts bs NoMemory) (o.1 offers rests))
-offers-map meaning accepts refuses accepts' refuses' s s' t t' leads cuts same w Open r (Err (Sink code)) w' standing' o =
+offers-map meaning decided accepts refuses accepts' refuses' s s' t t' leads cuts same w Open r (Err (Sink code)) w' standing' o =
     (o.0, λ offers rests. brings-map _ offers r _ _ (λ bs. cuts bs (Refusal code)) (o.1 offers rests))
-offers-map meaning accepts refuses accepts' refuses' s s' t t' leads cuts same w Open r (Err Twice) w' standing' o = (o.0, o.1, same o.2, o.3)
-offers-map meaning accepts refuses accepts' refuses' s s' t t' leads cuts same w Open r (Err Gap) w' standing' o = absurd o
-offers-map meaning accepts refuses accepts' refuses' s s' t t' leads cuts same w Open r (Err Failed) w' standing' o = absurd o
-offers-map meaning accepts refuses accepts' refuses' s s' t t' leads cuts same w Open r (Err Cancelled) w' standing' o = absurd o
-offers-map meaning accepts refuses accepts' refuses' s s' t t' leads cuts same w (Decided e) r result w' standing' o = (o.0, o.1, o.2, same o.3)
-offers-map meaning accepts refuses accepts' refuses' s s' t t' leads cuts same w HasFailed r result w' standing' o = (o.0, o.1, o.2, same o.3)
+offers-map meaning decided accepts refuses accepts' refuses' s s' t t' leads cuts same w Open r (Err Twice) w' standing' o = (o.0, o.1, same o.2, o.3)
+offers-map meaning decided accepts refuses accepts' refuses' s s' t t' leads cuts same w Open r (Err Gap) w' standing' o = absurd o
+offers-map meaning decided accepts refuses accepts' refuses' s s' t t' leads cuts same w Open r (Err Failed) w' standing' o = absurd o
+offers-map meaning decided accepts refuses accepts' refuses' s s' t t' leads cuts same w Open r (Err Cancelled) w' standing' o = absurd o
+offers-map meaning decided accepts refuses accepts' refuses' s s' t t' leads cuts same w (Decided e) r result w' standing' o = (o.0, o.1, o.2, same o.3)
+offers-map meaning decided accepts refuses accepts' refuses' s s' t t' leads cuts same w HasFailed r result w' standing' o = (o.0, o.1, o.2, same o.3)

@@ -6,23 +6,21 @@ use Rattle.std.specs.declared.cmp.Ordering.TheVariants.{Less, Equal, Greater}
 use Rattle.std.specs.BTreeMap.{insert_entry}
 use Rattle.std.proofs.Common.{sym, ◌∙◌, ap, subst, arith, append_assoc, append-nil}
 use Rattle.std.proofs.lemmas.Bool.Decides.{nat_tests}
+use Rattle.std.proofs.lemmas.Bool.{or_from, le-ltb}
 use Rattle.std.proofs.Math.Bool.{or_assoc, or-false}
 use Rattle.plinq_source.specs.declared.ending.Ending.{Ending}
-use Rattle.plinq_source.specs.Trace.{Trace, open_trace, followed}
-use Rattle.plinq_source.proofs.Followed.{followed-followed, followed-open_nil}
+use Rattle.plinq_source.specs.Trace.{Trace, open_trace, continued, followed}
+use Rattle.plinq_source.proofs.Followed.{trace_of, followed-followed, followed-open_nil}
 use Rattle.plinq_ops.specs.declared.order.Order.{Order}
 use Rattle.plinq_ops.specs.declared.order.Order.TheVariants.{ByKey, ByArrival}
 use Rattle.plinq_ops.specs.declared.results.ChunkResult.{ChunkResult}
-use Rattle.plinq_ops.specs.Stage.{Stage, seq}
-use Rattle.plinq_ops.specs.Batches.{full_batches, held_back, batches_from}
-use Rattle.plinq_ops.proofs.Runs.{held_back-append, batches_from-followed}
 use Rattle.plinq_merge.specs.declared.row.Row.{Row}
 use Rattle.plinq_merge.specs.Part.{Part}
 use Rattle.plinq_ops.specs.Chunk.{result_trace}
-use Rattle.plinq_merge.specs.Shown.{Merge, at_once, end_of_result, part_of, waiting_trace, placed, all_placed, told_at, all_told, row, arrived, merged}
-use Rattle.plinq_merge.specs.Keys.{is_within, is_offered, is_waiting, is_taken, is_apart, IsFresh, Places}
+use Rattle.plinq_merge.specs.Shown.{at_once, end_of_result, part_of, waiting_trace, placed, all_placed, told_at, all_told, ending_at, row, arrived, merged}
+use Rattle.plinq_merge.specs.Keys.{is_within, is_offered, is_waiting, is_taken, is_apart, is_first, IsFresh, Places}
 use Rattle.plinq_merge.proofs.Overlaps.{IsFree, free-from_fresh, after-next, waiting-insert, insert-next}
-use Rattle.plinq_merge.specs.Merging.{Content, coming, due, IsPart, AreParts, HasTaken, GoesOn, content_of, TakesIn}
+use Rattle.plinq_merge.specs.Merging.{Content, coming, IsPart, AreParts, HasTaken, content_of, TakesIn}
 
 -- one offer more
 pub all_placed-append : {T : Type 0} (order : Order) (parts : List (ℕ × Part T)) (offers : List (ChunkResult T)) (r : ChunkResult T)
@@ -72,50 +70,47 @@ abbrev pub with_next : {T : Type 0} → Content T → Part T → List (ℕ × Pa
 with_next m p ps = record m { next = p.end; waiting = ps }
 
 -- the part under the next key comes into hand
-pub taken-part : {T : Type 0} (merge : Merge T) (m : Content T) (hand : Trace T) (offers : List (ChunkResult T)) (out : List T) (p : Part T) (ps : List (ℕ × Part T))
-    → m.waiting ≡ (m.next, p) ∷ ps → m.next < p.end → HasTaken merge m hand offers out → HasTaken merge (with_next m p ps) (followed hand p.trace) offers out
-taken-part {T} merge m hand offers out p ps is some taken =
+pub taken-part : {T : Type 0} (order : Order) (m : Content T) (hand : Trace T) (offers : List (ChunkResult T)) (out : List T) (p : Part T) (ps : List (ℕ × Part T))
+    → m.waiting ≡ (m.next, p) ∷ ps → m.next < p.end → HasTaken order m hand offers out → HasTaken order (with_next m p ps) (followed hand p.trace) offers out
+taken-part {T} order m hand offers out p ps is some taken =
     let done = taken.done in
-    let parts : AreParts merge.order ((m.next, p) ∷ ps) = subst (AreParts merge.order) is taken.parts in
+    let parts : AreParts order ((m.next, p) ∷ ps) = subst (AreParts order) is taken.parts in
     record {
       done = done ++ (m.next, p) ∷ [];
       placed = taken.placed ∙ ap (λ qs. done ++ qs) is ∙ sym (append_assoc done ((m.next, p) ∷ []) ps);
       told = taken.told;
       answers = λ later told rest.
           let here = row-here told m.next p rest in
-          let around : (R : Trace T) → followed hand (followed (arrived merge.order later) (followed p.trace R)) ≡ followed (followed hand p.trace) (followed (arrived merge.order later) R) =
-          λ R. ap (followed hand) (swap merge.order p later R parts.0) ∙ sym (followed-followed hand p.trace (followed (arrived merge.order later) R)) in
-          ap (λ qs. seq merge.after (followed (arrived merge.order (offers ++ later)) (row told 0 qs))) (append_assoc done ((m.next, p) ∷ []) rest)
+          let around : (R : Trace T) → followed hand (followed (arrived order later) (followed p.trace R)) ≡ followed (followed hand p.trace) (followed (arrived order later) R) =
+          λ R. ap (followed hand) (swap order p later R parts.0) ∙ sym (followed-followed hand p.trace (followed (arrived order later) R)) in
+          ap (λ qs. followed (arrived order (offers ++ later)) (row told 0 qs)) (append_assoc done ((m.next, p) ∷ []) rest)
           ∙ taken.answers later told ((m.next, p) ∷ rest)
-          ∙ ap (λ R. followed (open_trace out) (seq m.now (followed hand (followed (arrived merge.order later) R)))) here
-          ∙ ap (λ t. followed (open_trace out) (seq m.now t)) (around (row told p.end rest));
+          ∙ ap (λ R. followed (open_trace out) (followed hand (followed (arrived order later) R))) here
+          ∙ ap (followed (open_trace out)) (around (row told p.end rest));
       before = λ rest key q past.
           let earlier : m.next ≤ key = omega arith in
           ap (λ qs. insert_entry nat_cmp qs key q) (append_assoc done ((m.next, p) ∷ []) rest)
           ∙ taken.before ((m.next, p) ∷ rest) key q earlier
           ∙ ap (λ qs. done ++ qs) (insert-later m.next p rest key q (omega arith))
           ∙ sym (append_assoc done ((m.next, p) ∷ []) (insert_entry nat_cmp rest key q));
-      held = taken.held;
       parts = parts.1;
       keys = λ key. taken.keys key ∙ ap (λ qs. is_taken m.next qs key) is ∙ taken-next m.next p ps key some;
     }
 
--- what was in hand is worked off
-pub taken-worked : {T : Type 0} (merge : Merge T) (m : Content T) (hand : Trace T) (offers : List (ChunkResult T)) (out more : List T) (now : List (Stage T)) (held : List T)
-    → GoesOn m.now hand more None now → held ≡ held_back merge.size m.held more → HasTaken merge m hand offers out
-    → HasTaken merge (record m { now = now; held = held }) (open_trace []) offers (out ++ more)
-taken-worked {T} merge m hand offers out more now held on kept taken =
+-- what was in hand, and is open, is worked off
+pub taken-worked : {T : Type 0} (order : Order) (m : Content T) (hand : Trace T) (offers : List (ChunkResult T)) (out : List T) → hand.ending ≡ None → HasTaken order m hand offers out
+    → HasTaken order m (open_trace []) offers (out ++ hand.items)
+taken-worked {T} order m hand offers out none taken =
     record {
       done = taken.done;
       placed = taken.placed;
       told = taken.told;
       answers = λ later told rest.
-          let R : Trace T = followed (arrived merge.order later) (row told m.next rest) in
+          let R : Trace T = followed (arrived order later) (row told m.next rest) in
           taken.answers later told rest
-          ∙ ap (followed (open_trace out)) (on.answers R)
-          ∙ sym (followed-followed (open_trace out) (open_trace more) (seq now R));
+          ∙ ap (λ e. followed (open_trace out) (continued hand.items e R)) none
+          ∙ sym (followed-followed (open_trace out) (open_trace hand.items) R);
       before = taken.before;
-      held = kept ∙ ap (λ xs. held_back merge.size xs more) taken.held ∙ sym (held_back-append merge.size [] out more);
       parts = taken.parts;
       keys = taken.keys;
     }
@@ -144,52 +139,51 @@ abbrev pub with_waiting : {T : Type 0} → Content T → List (ℕ × Part T) �
 with_waiting m parts r = record m { waiting = parts; told = option_or m.told (told_at (end_of_result r) r.tail) }
 
 -- what is held stands for one offer more, whose part is placed among those that wait
-taken-placed : {T : Type 0} (merge : Merge T) (m : Content T) (offers : List (ChunkResult T)) (out : List T) (r : ChunkResult T) (parts : List (ℕ × Part T))
-    → ((done : List (ℕ × Part T)) → all_placed merge.order [] offers ≡ done ++ m.waiting
+taken-placed : {T : Type 0} (order : Order) (m : Content T) (offers : List (ChunkResult T)) (out : List T) (r : ChunkResult T) (parts : List (ℕ × Part T))
+    → ((done : List (ℕ × Part T)) → all_placed order [] offers ≡ done ++ m.waiting
     → ((rest : List (ℕ × Part T)) (key : ℕ) (p : Part T) → m.next ≤ key → insert_entry nat_cmp (done ++ rest) key p ≡ done ++ insert_entry nat_cmp rest key p)
-    → placed merge.order (done ++ m.waiting) r ≡ done ++ parts)
-    → AreParts merge.order parts
+    → placed order (done ++ m.waiting) r ≡ done ++ parts)
+    → AreParts order parts
     → ((key : ℕ) → is_taken m.next parts key ≡ is_taken m.next m.waiting key || is_within r.first (end_of_result r) key)
-    → HasTaken merge m (open_trace []) offers out → HasTaken merge (with_waiting m parts r) (at_once merge.order r) (offers ++ r ∷ []) out
-taken-placed {T} merge m offers out r parts place are_parts keys taken =
+    → HasTaken order m (open_trace []) offers out → HasTaken order (with_waiting m parts r) (at_once order r) (offers ++ r ∷ []) out
+taken-placed {T} order m offers out r parts place are_parts keys taken =
     record {
       done = taken.done;
-      placed = all_placed-append merge.order [] offers r ∙ ap (λ qs. placed merge.order qs r) taken.placed ∙ place taken.done taken.placed taken.before;
+      placed = all_placed-append order [] offers r ∙ ap (λ qs. placed order qs r) taken.placed ∙ place taken.done taken.placed taken.before;
       told = all_told-append None offers r ∙ ap (λ t. option_or t (told_at (end_of_result r) r.tail)) taken.told;
       answers = λ later told rest.
-          ap (λ os. seq merge.after (followed (arrived merge.order os) (row told 0 (taken.done ++ rest)))) (append_assoc offers (r ∷ []) later)
+          ap (λ os. followed (arrived order os) (row told 0 (taken.done ++ rest))) (append_assoc offers (r ∷ []) later)
           ∙ taken.answers (r ∷ later) told rest
-          ∙ ap (λ t. followed (open_trace out) (seq m.now t)) (followed-followed (at_once merge.order r) (arrived merge.order later) (row told m.next rest));
+          ∙ ap (followed (open_trace out)) (followed-followed (at_once order r) (arrived order later) (row told m.next rest));
       before = taken.before;
-      held = taken.held;
       parts = are_parts;
       keys = λ key. is_offered-append offers r key ∙ ap (λ b. b || is_within r.first (end_of_result r) key) (taken.keys key) ∙ sym (keys key);
     }
 
 -- a result of no keys waits nowhere
-pub taken-none : {T : Type 0} (merge : Merge T) (m : Content T) (offers : List (ChunkResult T)) (out : List T) (r : ChunkResult T) → r.count ≡ 0
-    → HasTaken merge m (open_trace []) offers out → HasTaken merge (with_waiting m m.waiting r) (at_once merge.order r) (offers ++ r ∷ []) out
-taken-none {T} merge m offers out r none taken =
-    let no_place : (qs : List (ℕ × Part T)) → placed merge.order qs r ≡ qs = λ qs. rw none refl in
+pub taken-none : {T : Type 0} (order : Order) (m : Content T) (offers : List (ChunkResult T)) (out : List T) (r : ChunkResult T) → r.count ≡ 0
+    → HasTaken order m (open_trace []) offers out → HasTaken order (with_waiting m m.waiting r) (at_once order r) (offers ++ r ∷ []) out
+taken-none {T} order m offers out r none taken =
+    let no_place : (qs : List (ℕ × Part T)) → placed order qs r ≡ qs = λ qs. rw none refl in
     let no_key : (key : ℕ) → is_within r.first (end_of_result r) key ≡ false = λ key.
     let test : nat_le r.first key && nat_lt key (r.first + r.count) ≡ false = grind (arith, nat_tests) in
     test in
-    taken-placed merge m offers out r m.waiting (λ done is before. no_place (done ++ m.waiting)) taken.parts
+    taken-placed order m offers out r m.waiting (λ done is before. no_place (done ++ m.waiting)) taken.parts
     (λ key. sym (ap (λ b. is_taken m.next m.waiting key || b) (no_key key) ∙ or-false (is_taken m.next m.waiting key))) taken
 
 -- a result of fresh keys waits among the others
-pub taken-waits : {T : Type 0} (merge : Merge T) (m : Content T) (offers : List (ChunkResult T)) (out : List T) (r : ChunkResult T) → 0 < r.count
-    → is_apart m.next m.waiting ≡ true → IsFresh m.next m.waiting r.first (end_of_result r) → HasTaken merge m (open_trace []) offers out
-    → HasTaken merge (with_waiting m (insert_entry nat_cmp m.waiting r.first (part_of merge.order r)) r) (at_once merge.order r) (offers ++ r ∷ []) out
-taken-waits {T} merge m offers out r some apart fresh taken =
+pub taken-waits : {T : Type 0} (order : Order) (m : Content T) (offers : List (ChunkResult T)) (out : List T) (r : ChunkResult T) → 0 < r.count
+    → is_apart m.next m.waiting ≡ true → IsFresh m.next m.waiting r.first (end_of_result r) → HasTaken order m (open_trace []) offers out
+    → HasTaken order (with_waiting m (insert_entry nat_cmp m.waiting r.first (part_of order r)) r) (at_once order r) (offers ++ r ∷ []) out
+taken-waits {T} order m offers out r some apart fresh taken =
     let first : r.first < end_of_result r = omega arith in
     let later : m.next ≤ r.first = after-next m.next r.first (end_of_result r) m.waiting fresh first in
     let free = free-from_fresh m.next r.first (end_of_result r) m.waiting fresh in
     let test : (r.count == 0) ≡ false = grind (arith, nat_tests) in
-    let p : Part T = part_of merge.order r in
-    taken-placed merge m offers out r (insert_entry nat_cmp m.waiting r.first p)
+    let p : Part T = part_of order r in
+    taken-placed order m offers out r (insert_entry nat_cmp m.waiting r.first p)
     (λ done is before. ap (λ b. cond b (done ++ m.waiting) (insert_entry nat_cmp (done ++ m.waiting) r.first p)) test ∙ before m.waiting r.first p later)
-    (parts-insert merge.order m.waiting r.first p taken.parts (part-of merge.order r))
+    (parts-insert order m.waiting r.first p taken.parts (part-of order r))
     (λ key. ap (λ b. nat_lt key m.next || b) (waiting-insert m.next r.first p m.waiting key apart first free)
     ∙ sym (or_assoc (nat_lt key m.next) (is_waiting m.waiting key) (is_within r.first (end_of_result r) key)))
     taken
@@ -199,21 +193,21 @@ in_hand ByKey r = refl
 in_hand ByArrival r = followed-open_nil (result_trace r)
 
 -- a result whose turn has come is in hand at once
-pub taken-turn : {T : Type 0} (merge : Merge T) (m : Content T) (offers : List (ChunkResult T)) (out : List T) (r : ChunkResult T) → 0 < r.count → r.first ≡ m.next
-    → is_apart m.next m.waiting ≡ true → IsFresh m.next m.waiting r.first (end_of_result r) → HasTaken merge m (open_trace []) offers out
-    → HasTaken merge (with_waiting (record m { next = end_of_result r }) m.waiting r) (result_trace r) (offers ++ r ∷ []) out
-taken-turn {T} merge m offers out r some turn apart fresh taken =
-    let p : Part T = part_of merge.order r in
+pub taken-turn : {T : Type 0} (order : Order) (m : Content T) (offers : List (ChunkResult T)) (out : List T) (r : ChunkResult T) → 0 < r.count → r.first ≡ m.next
+    → is_apart m.next m.waiting ≡ true → IsFresh m.next m.waiting r.first (end_of_result r) → HasTaken order m (open_trace []) offers out
+    → HasTaken order (with_waiting (record m { next = end_of_result r }) m.waiting r) (result_trace r) (offers ++ r ∷ []) out
+taken-turn {T} order m offers out r some turn apart fresh taken =
+    let p : Part T = part_of order r in
     let first : m.next < end_of_result r = omega arith in
     let free = free-from_fresh m.next r.first (end_of_result r) m.waiting fresh in
     let Q : ℕ → Type 0 = λ k. IsFree m.waiting k (end_of_result r) in
     let free_next : IsFree m.waiting m.next (end_of_result r) = subst Q turn free in
     let is : insert_entry nat_cmp m.waiting r.first p ≡ (m.next, p) ∷ m.waiting =
     ap (λ k. insert_entry nat_cmp m.waiting k p) turn ∙ insert-next m.next p m.waiting apart first free_next in
-    let now = taken-part merge (with_waiting m (insert_entry nat_cmp m.waiting r.first p) r) (at_once merge.order r) (offers ++ r ∷ []) out p m.waiting is first
-    (taken-waits merge m offers out r some apart fresh taken) in
-    let P : Trace T → Type 0 = λ t. HasTaken merge (with_waiting (record m { next = end_of_result r }) m.waiting r) t (offers ++ r ∷ []) out in
-    subst P (in_hand merge.order r) now
+    let now = taken-part order (with_waiting m (insert_entry nat_cmp m.waiting r.first p) r) (at_once order r) (offers ++ r ∷ []) out p m.waiting is first
+    (taken-waits order m offers out r some apart fresh taken) in
+    let P : Trace T → Type 0 = λ t. HasTaken order (with_waiting (record m { next = end_of_result r }) m.waiting r) t (offers ++ r ∷ []) out in
+    subst P (in_hand order r) now
 
 -- what the row hands back
 abbrev pub handed_back : {T : Type 0} → Option (Part T) → Trace T
@@ -224,22 +218,22 @@ content-same : {T : Type 0} (m : Content T) (next next' : ℕ) (ps ps' : List (�
     → record m { next = next; waiting = ps; told = told } ≡ record m { next = next'; waiting = ps'; told = told' }
 content-same m next next' ps ps' told told' same_next same_parts same_told = rw (same_next, same_parts, same_told) refl
 
-pub taken-as : {T : Type 0} (merge : Merge T) (m m' : Content T) (hand hand' : Trace T) (offers : List (ChunkResult T)) (out : List T)
-    → m ≡ m' → hand ≡ hand' → HasTaken merge m hand offers out → HasTaken merge m' hand' offers out
-taken-as {T} merge m m' hand hand' offers out same same_hand taken =
-    let P : Content T → Type 0 = λ n. HasTaken merge n hand offers out in
-    let Q : Trace T → Type 0 = λ t. HasTaken merge m' t offers out in
+pub taken-as : {T : Type 0} (order : Order) (m m' : Content T) (hand hand' : Trace T) (offers : List (ChunkResult T)) (out : List T)
+    → m ≡ m' → hand ≡ hand' → HasTaken order m hand offers out → HasTaken order m' hand' offers out
+taken-as {T} order m m' hand hand' offers out same same_hand taken =
+    let P : Content T → Type 0 = λ n. HasTaken order n hand offers out in
+    let Q : Trace T → Type 0 = λ t. HasTaken order m' t offers out in
     subst Q same_hand (subst P same taken)
 
 -- a result of no keys came into the row
 pub taken-none_row : {T : Type 0} (order : Order) (before : Row T) (r : ChunkResult T) (hand : Trace T) (after : Row T) → r.count ≡ 0
     → after.next ≡ before.next → after.waiting.entries ≡ before.waiting.entries → after.told ≡ option_or before.told (told_at (end_of_result r) r.tail) → hand ≡ at_once order r
     → TakesIn order before r hand after
-taken-none_row order before r hand after none next parts told is merge now held offers out same taken =
-    taken-as merge _ (content_of after now held) _ hand (offers ++ r ∷ []) out
-    (content-same (content_of before now held) before.next after.next before.waiting.entries after.waiting.entries _ after.told (sym next) (sym parts) (sym told))
-    (ap (λ o. at_once o r) same ∙ sym is)
-    (taken-none merge (content_of before now held) offers out r none taken)
+taken-none_row order before r hand after none next parts told is offers out taken =
+    taken-as order _ (content_of after) _ hand (offers ++ r ∷ []) out
+    (content-same (content_of before) before.next after.next before.waiting.entries after.waiting.entries _ after.told (sym next) (sym parts) (sym told))
+    (sym is)
+    (taken-none order (content_of before) offers out r none taken)
 
 -- a result of fresh keys came into the row
 pub taken-row : {T : Type 0} (order : Order) (before : Row T) (r : ChunkResult T) (hand : Trace T) (turn : Option (Part T)) (after : Row T) → 0 < r.count
@@ -247,17 +241,17 @@ pub taken-row : {T : Type 0} (order : Order) (before : Row T) (r : ChunkResult T
     → Places before.next before.waiting.entries r.first (part_of order r) turn after.next after.waiting.entries
     → after.told ≡ option_or before.told (told_at (end_of_result r) r.tail) → hand ≡ followed (at_once order r) (handed_back turn)
     → TakesIn order before r hand after
-taken-row order before r hand None after some apart fresh placed told is merge now held offers out same taken =
-    taken-as merge _ (content_of after now held) _ hand (offers ++ r ∷ []) out
-    (content-same (content_of before now held) before.next after.next _ after.waiting.entries _ after.told (sym placed.0)
-    (ap (λ o. insert_entry nat_cmp before.waiting.entries r.first (part_of o r)) same ∙ sym placed.1) (sym told))
-    (ap (λ o. at_once o r) same ∙ sym (is ∙ followed-open_nil (at_once order r)))
-    (taken-waits merge (content_of before now held) offers out r some apart fresh taken)
-taken-row order before r hand (Some p) after some apart fresh placed told is merge now held offers out same taken =
-    taken-as merge _ (content_of after now held) _ hand (offers ++ r ∷ []) out
-    (content-same (content_of before now held) (end_of_result r) after.next before.waiting.entries after.waiting.entries _ after.told (sym placed.2) (sym placed.3) (sym told))
+taken-row order before r hand None after some apart fresh placed told is offers out taken =
+    taken-as order _ (content_of after) _ hand (offers ++ r ∷ []) out
+    (content-same (content_of before) before.next after.next _ after.waiting.entries _ after.told (sym placed.0)
+    (sym placed.1) (sym told))
+    (sym (is ∙ followed-open_nil (at_once order r)))
+    (taken-waits order (content_of before) offers out r some apart fresh taken)
+taken-row order before r hand (Some p) after some apart fresh placed told is offers out taken =
+    taken-as order _ (content_of after) _ hand (offers ++ r ∷ []) out
+    (content-same (content_of before) (end_of_result r) after.next before.waiting.entries after.waiting.entries _ after.told (sym placed.2) (sym placed.3) (sym told))
     (sym (is ∙ ap (λ q. followed (at_once order r) q.trace) placed.0 ∙ in_hand order r))
-    (taken-turn merge (content_of before now held) offers out r some placed.1 apart fresh taken)
+    (taken-turn order (content_of before) offers out r some placed.1 apart fresh taken)
 
 -- what is in hand by key: what the row hands back, or nothing
 pub by_key-hand : {T : Type 0} (turn : Option (Part T)) (nothing : Part T) → nothing.trace ≡ open_trace [] → (unwrap_or turn nothing).trace ≡ handed_back turn
@@ -271,19 +265,29 @@ by_arrival-hand r next ps None next' ps' placed = sym (followed-open_nil (result
 by_arrival-hand r next ps (Some p) next' ps' placed =
     sym (ap (λ q. followed (result_trace r) q.trace) placed.0 ∙ followed-open_nil (result_trace r))
 
--- the answer to the offers, by what is held
-pub answer-taken : {T : Type 0} (merge : Merge T) (m : Content T) (hand : Trace T) (offers : List (ChunkResult T)) (out : List T) → HasTaken merge m hand offers out
-    → seq merge.after (merged merge.order offers) ≡ followed (open_trace out) (coming m hand)
-answer-taken {T} merge m hand offers out taken =
-    ap (λ os. seq merge.after (followed (arrived merge.order os) (row (all_told None offers) 0 (all_placed merge.order [] offers)))) (sym (append-nil offers))
-    ∙ ap (λ ps. seq merge.after (followed (arrived merge.order (offers ++ [])) (row (all_told None offers) 0 ps))) taken.placed
-    ∙ ap (λ t. seq merge.after (followed (arrived merge.order (offers ++ [])) (row t 0 (taken.done ++ m.waiting)))) taken.told
+-- what the offers merge to, by what is held
+pub merged-taken : {T : Type 0} (order : Order) (m : Content T) (hand : Trace T) (offers : List (ChunkResult T)) (out : List T) → HasTaken order m hand offers out
+    → merged order offers ≡ followed (open_trace out) (coming m hand)
+merged-taken {T} order m hand offers out taken =
+    ap (λ os. followed (arrived order os) (row (all_told None offers) 0 (all_placed order [] offers))) (sym (append-nil offers))
+    ∙ ap (λ ps. followed (arrived order (offers ++ [])) (row (all_told None offers) 0 ps)) taken.placed
+    ∙ ap (λ t. followed (arrived order (offers ++ [])) (row t 0 (taken.done ++ m.waiting))) taken.told
     ∙ taken.answers [] m.told m.waiting
 
--- its batches
-pub batches-taken : {T : Type 0} (merge : Merge T) (m : Content T) (hand : Trace T) (offers : List (ChunkResult T)) (out : List T) → HasTaken merge m hand offers out
-    → batches_from merge.size [] (seq merge.after (merged merge.order offers)) ≡ full_batches merge.size [] out ++ due merge.size m hand
-batches-taken {T} merge m hand offers out taken =
-    ap (batches_from merge.size []) (answer-taken merge m hand offers out taken)
-    ∙ batches_from-followed merge.size [] out (coming m hand)
-    ∙ ap (λ h. full_batches merge.size [] out ++ batches_from merge.size h (coming m hand)) (sym taken.held)
+-- nothing was offered yet
+pub taken-begun : {T : Type 0} (order : Order) → HasTaken {T = T} order (record { next = 0; waiting = []; told = None }) (open_trace []) [] []
+taken-begun order =
+    record {
+      done = [];
+      placed = refl;
+      told = refl;
+      answers = λ later told rest. refl;
+      before = λ rest key p past. refl;
+      parts = tt;
+      keys = λ key. sym (or_from (nat_lt key 0) false (le-ltb key 0 (omega arith)) refl);
+    }
+
+-- at a gap the row gives no more than the source's ending
+pub row-gap : {T : Type 0} (told : Option (ℕ × Ending)) (next : ℕ) (ps : List (ℕ × Part T)) → is_first next ps ≡ false → row told next ps ≡ trace_of [] (ending_at told next)
+row-gap told next [] gap = refl
+row-gap told next (p ∷ ps) gap = ap (λ b. cond b (followed p.1.trace (row told p.1.end ps)) (trace_of [] (ending_at told next))) gap

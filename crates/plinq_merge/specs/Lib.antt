@@ -1,5 +1,6 @@
 pub mod Part
 pub mod Sending
+pub mod Sent
 pub mod Tokens
 pub mod Cancelling
 pub mod Lent
@@ -7,7 +8,12 @@ pub mod Buffer
 pub mod Shown
 pub mod Keys
 pub mod Merging
+pub mod Taking
+pub mod Joining
+pub mod Delivering
+pub mod Deliveries
 pub mod Working
 pub mod Offering
+pub mod Joiners
 pub mod Whole
 pub mod Mergers

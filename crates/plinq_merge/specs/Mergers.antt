@@ -13,26 +13,27 @@ use Rattle.plinq_merge.specs.Cancelling.{Delivery, Passes, IsRefused, IsKeptBack
 use Rattle.plinq_merge.specs.Sending.{Leads, IsCutOff}
 use Rattle.plinq_merge.specs.Shown.{Merge}
 use Rattle.plinq_merge.specs.Working.{merge_of}
-use Rattle.plinq_merge.specs.Offering.{StandsFor, Offers, OffersWith, is_decided, finished}
+use Rattle.plinq_merge.specs.Offering.{StandsFor, Offers, OffersWith}
+use Rattle.plinq_merge.specs.Joiners.{has_decided, ending_of}
 
 module _ {L T : Type 0} {lambda : Ghosts L T} where
   -- what a merger is made for
   abbrev pub plan_of : Merger L T lambda → Merge T
-  plan_of m = merge_of lambda.meaning m.work
+  plan_of m = merge_of lambda.meaning m.decided m.joiner.work
 
   -- it stands for these offers; a failed one stands for none
   abbrev pub IsFor : Merger L T lambda → List (ChunkResult T) → Type 0
-  IsFor m offers = StandsFor lambda.meaning m.work m.standing offers
+  IsFor m offers = StandsFor lambda.meaning m.decided m.joiner.work m.joiner.standing offers
 
   -- what an offer answers, and what it does to the merger and to the sink
   abbrev pub Takes : {K : Type 0} → (K → List T → K → Type 0) → (K → List T → ℕ → K → Type 0)
       → Merger L T lambda → ChunkResult T → K → Result More MergeFault → Merger L T lambda → K → Type 0
-  Takes accepts refuses m r s result m' s' = Offers lambda.meaning accepts refuses m.work m.standing r s result m'.work m'.standing s'
+  Takes accepts refuses m r s result m' s' = Offers lambda.meaning m.decided accepts refuses m.joiner.work m.joiner.standing r s result m'.joiner.work m'.joiner.standing s'
 
   -- the same of an offer with a token, and of the number of batches
   abbrev pub TakesWith : {C K : Type 0} → (C → ℕ → Bool → C → Type 0) → (K → List T → K → Type 0) → (K → List T → ℕ → K → Type 0)
       → Merger L T lambda → ChunkResult T → Delivery C K → Result More MergeFault → Merger L T lambda → Delivery C K → Type 0
-  TakesWith asks accepts refuses m r d result m' d' = OffersWith lambda.meaning asks accepts refuses m.work m.standing r d result m'.work m'.standing d'
+  TakesWith asks accepts refuses m r d result m' d' = OffersWith lambda.meaning m.decided asks accepts refuses m.joiner.work m.joiner.standing r d result m'.joiner.work m'.joiner.standing d'
 
   -- how many batches it has delivered, or the greatest number
   abbrev pub delivered_of : Merger L T lambda → ℕ
@@ -40,10 +41,10 @@ module _ {L T : Type 0} {lambda : Ghosts L T} where
 
   -- what it reports of its answer; a failed one reports none
   abbrev pub tells_decided : Merger L T lambda → Bool
-  tells_decided m = is_decided m.standing
+  tells_decided m = has_decided m.joiner
 
   abbrev pub tells_ending : Merger L T lambda → Result Ending MergeFault
-  tells_ending m = finished m.standing
+  tells_ending m = ending_of m.joiner
 
 -- what a fault says of the batches that weren't delivered: the sink refused the next one, or it wasn't tried
 abbrev pub delivery_fault_of : MergeFault → DeliveryFault

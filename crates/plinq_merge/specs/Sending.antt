@@ -18,10 +18,6 @@ IsCutOff {K} {B} accepts refuses s bs (Sink code) s' =
 abbrev pub Delivers : {K B A : Type 0} → (K → B → K → Type 0) → (K → B → ℕ → K → Type 0) → K → List B → Result A DeliveryFault → K → Type 0
 Delivers accepts refuses s bs r s' = MatchResult r (λ _. Leads accepts s bs s') (λ fault. IsCutOff accepts refuses s bs fault s')
 
--- some batches are delivered so
-abbrev pub Sends : {K B A : Type 0} → (K → B → K → Type 0) → (K → B → ℕ → K → Type 0) → K → Result A DeliveryFault → K → Type 0
-Sends {K} {B} accepts refuses s r s' = (bs : List B) × Delivers accepts refuses s bs r s'
-
 -- a sink that keeps the items of its batches
 abbrev keeps_items : List ℕ → List ℕ → List ℕ → Type 0
 keeps_items s b s' = s' ≡ s ++ b

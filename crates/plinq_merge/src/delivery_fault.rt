@@ -6,7 +6,7 @@ use std::alloc::{AllocError, AllocFailed};
 
 /// Why batches weren't all delivered.
 #[derive(Clone, Copy, Debug, PartialEq, Eq)]
-pub(crate) enum DeliveryFault {
+pub enum DeliveryFault {
     /// Memory ran out.
     Memory,
     /// The sink refused a batch, with its code.

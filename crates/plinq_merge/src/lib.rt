@@ -7,7 +7,8 @@
 //!   (`Merger::offer`). `decided`, `finish` and [`More`] report whether and how the answer ends.
 //! - What offers of one source show by key is at each moment a beginning of the sequential answer, and all of it where
 //!   all was offered ([`laws`]).
-//! - A [`Row`] of keys is what a merger stands on; it only moves what waits in it, and serves whoever merges otherwise.
+//! - A [`Joiner`] is what a merger stands on: it joins results by key for a [`Taker`] of the items whose turn has come. A
+//!   merger's taker is a [`Deliver`]; one that folds them is in `plinq_combine`.
 //! - A [`Sink`] takes the batches; what it says of a call is `accepts` and `refuses`.
 //! - A [`Cancel`] is asked before each batch (`Merger::offer_with`), and may stop the delivery: what was delivered then are
 //!   the first batches (`IsKeptBack`). [`WithCancellation`] is such a token and a sink as one sink.
@@ -17,8 +18,12 @@ mod buffer;
 mod cancel;
 mod cancel_after;
 mod cancel_flag;
+mod deliver;
 mod delivery_fault;
 mod flag_token;
+mod joined;
+mod joiner;
+mod joining;
 pub mod laws;
 mod merge_fault;
 mod merger;
@@ -30,19 +35,22 @@ mod row;
 mod sending;
 mod sink;
 mod standing;
+mod taker;
 mod waiting;
 mod with_cancellation;
-mod work;
 
 pub use cancel::Cancel;
 pub use cancel_after::CancelAfter;
 pub use cancel_flag::CancelFlag;
+pub use deliver::Deliver;
+pub use delivery_fault::DeliveryFault;
 pub use flag_token::FlagToken;
+pub use joined::Joined;
+pub use joiner::Joiner;
 pub use merge_fault::MergeFault;
 pub use merger::Merger;
 pub use more::More;
 pub use never_cancel::NeverCancel;
-pub use row::Row;
 pub use sink::Sink;
-pub use waiting::Waiting;
+pub use taker::{TakeInto, Taker};
 pub use with_cancellation::WithCancellation;

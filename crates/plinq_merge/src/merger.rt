@@ -1,10 +1,9 @@
-ghost use Rattle.std.specs.Prelude.{◌≡◌};
 ghost use Rattle.std.proofs.Props.{props};
-ghost use Rattle.plinq_merge.specs.declared.standing.Standing.TheVariants.{Open};
-ghost use Rattle.plinq_merge.specs.Working.{IsReady};
+ghost use Rattle.plinq_merge.specs.Delivering.{can_deliver};
+ghost use Rattle.plinq_merge.specs.Joining.{IsReady};
 
-use crate::standing::Standing;
-use crate::work::Work;
+use crate::deliver::Deliver;
+use crate::joiner::Joiner;
 use plinq_lambda::Lambda;
 
 /// Merges the results of a plan's workers, in whatever order they come, and delivers the batches of the answer.
@@ -19,9 +18,10 @@ use plinq_lambda::Lambda;
 /// ```
 #[derive(Drop)]
 pub struct Merger<'a, L: Lambda> {
-    pub(crate) work: Work<'a, L, L::Item>,
-    pub(crate) standing: Standing,
+    pub(crate) joiner: Joiner<Deliver<'a, L, L::Item>, L::Item>,
+    /// Whether the plan was decided from the start.
+    pub(crate) decided: bool,
     /// How many batches were delivered, or the greatest number where there were more.
     pub(crate) delivered: u64,
-    ghost ready: { standing ≡ Open → IsReady L.meaning work } by { Prim.hlevel props },
+    ghost ready: { IsReady (can_deliver L.meaning) joiner } by { Prim.hlevel props },
 }

@@ -9,17 +9,14 @@ ghost use Rattle.plinq_merge.specs.Shown.{answer, end_of_result};
 ghost use Rattle.plinq_merge.specs.Offering.{finish_of};
 ghost use Rattle.plinq_merge.specs.Mergers.{plan_of, delivered_of, IsFor, SendsSome, Takes, tells_decided, tells_ending};
 
-use crate::buffer::buffer_of;
-use crate::delivery_fault::DeliveryFault;
+use crate::deliver::Deliver;
+use crate::joiner::Joiner;
 use crate::merge_fault::MergeFault;
 use crate::merger::Merger;
 use crate::more::More;
-use crate::row::Row;
 use crate::sink::Sink;
-use crate::standing::Standing;
-use crate::work::Work;
 use plinq_lambda::Lambda;
-use plinq_ops::{ChunkResult, MergeOption, Pipeline, Plan};
+use plinq_ops::{ChunkResult, MergeOption, Plan};
 use plinq_source::Ending;
 use std::alloc::Global;
 
@@ -47,25 +44,17 @@ impl<'a, L: Lambda> Merger<'a, L> {
         ensures delivered { IfOk result (λ merger. delivered_of merger ≡ 0) }
         ensures err { IfErr result (λ fault. fault ≡ Memory) }
     {
-        let work = Work {
-            alloc,
-            pipeline: Pipeline::new(alloc, plan.after)?,
-            order: plan.order,
-            decided: plan.decided,
-            row: Row::new(alloc),
-            buffer: buffer_of(alloc, option)?,
-            items: 0,
-        };
+        let taker = Deliver::new(alloc, plan.after, option)?;
         if plan.decided {
             return Ok(Merger {
-                work,
-                standing: Standing::Decided(Ending::End),
+                joiner: Joiner::decided_by(alloc, plan.order, taker, Ending::End),
+                decided: true,
                 delivered: 0,
             });
         }
         Ok(Merger {
-            work,
-            standing: Standing::Open,
+            joiner: Joiner::new(alloc, plan.order, taker),
+            decided: false,
             delivered: 0,
         })
     }
@@ -82,30 +71,7 @@ impl<'a, L: Lambda> Merger<'a, L> {
         ensures takes { Takes K.accepts K.refuses self.old offered sink.old result self.new sink.new }
         ensures sends { SendsSome K.accepts K.refuses sink.old result sink.new }
     {
-        match self.standing {
-            Standing::Failed => return Err(MergeFault::Failed),
-            Standing::Decided(_) => return Ok(More::No),
-            Standing::Open => {}
-        }
-        let end = offered.first + offered.count;
-        if self.work.row.was_offered(offered.first, end) {
-            return Err(MergeFault::Twice);
-        }
-        match self.work.merge(offered, sink) {
-            Ok(None) => Ok(More::Yes),
-            Ok(Some(ending)) => {
-                self.standing = Standing::Decided(ending);
-                Ok(More::No)
-            }
-            Err(DeliveryFault::Memory) => {
-                self.standing = Standing::Failed;
-                Err(MergeFault::Memory)
-            }
-            Err(DeliveryFault::Sink(code)) => {
-                self.standing = Standing::Failed;
-                Err(MergeFault::Sink(code))
-            }
-        }
+        self.joiner.offer(offered, sink)
     }
 
     /// Whether the answer is decided; not after a failure. Takes no memory.
@@ -114,11 +80,7 @@ impl<'a, L: Lambda> Merger<'a, L> {
         ensures answer { (offers : List (ChunkResult L.Item)) → IsFor self.now offers →
             result ≡ is_some (answer (plan_of self.now) offers).ending }
     {
-        match self.standing {
-            Standing::Open => false,
-            Standing::Decided(_) => true,
-            Standing::Failed => false,
-        }
+        self.joiner.decided()
     }
 
     /// The first key whose result is missing, while the answer is open: all results before it are merged, and what was
@@ -128,12 +90,12 @@ impl<'a, L: Lambda> Merger<'a, L> {
             (answer (plan_of self.now) offers).ending ≡ None →
             ((key : ℕ) → key < result → is_offered offers key ≡ true) × (is_offered offers result ≡ false) }
     {
-        self.work.row.next
+        self.joiner.work.row.next
     }
 
     /// How many items of results were merged so far; those of other results wait. Takes no memory.
     pub fn merged_items(&self) -> u64 {
-        self.work.items
+        self.joiner.joined_items()
     }
 
     /// How the answer ends. Takes no memory.
@@ -146,10 +108,6 @@ impl<'a, L: Lambda> Merger<'a, L> {
         ensures answer { (offers : List (ChunkResult L.Item)) → IsFor self.entry offers →
             result ≡ finish_of (answer (plan_of self.entry) offers).ending }
     {
-        match self.standing {
-            Standing::Open => Err(MergeFault::Gap),
-            Standing::Decided(ending) => Ok(ending),
-            Standing::Failed => Err(MergeFault::Failed),
-        }
+        self.joiner.ending()
     }
 }

@@ -25,7 +25,7 @@ use Rattle.plinq_merge.specs.Shown.{Merge, merged, answer, shown}
 use Rattle.plinq_merge.specs.Mergers.{plan_of, IsFor, delivery_fault_of, StopsShort}
 use Rattle.plinq_merge.specs.Whole.{AreTrueTails, AreApart, AreFirstOf}
 use Rattle.plinq_merge.proofs.Gains.{answer-open}
-use Rattle.plinq_merge.proofs.Sent.{cut-before}
+use Rattle.plinq_merge.specs.Sent.{cut-before}
 use Rattle.plinq_merge.proofs.Whole.{merged-begins, batches-first}
 use Rattle.plinq_run.specs.declared.coverage.Coverage.{Coverage}
 use Rattle.plinq_run.specs.declared.run_fault.RunFault.{RunFault}

@@ -13,7 +13,7 @@ use crate::running::run;
 use plinq_aggregate::Aggregator;
 use plinq_crew::Gate;
 use plinq_enumerator::Growth;
-use plinq_lambda::Lambda;
+use plinq_lambda::SharedLambda;
 use plinq_ops::Query;
 use plinq_source::Source;
 use std::alloc::Global;
@@ -47,7 +47,7 @@ pub fn aggregate<L, S, G, A, R>(
     aggregator: &A,
 ) -> Result<A::Out, AggregateFault>
 where
-    L: Lambda,
+    L: SharedLambda,
     S: Source<Item = L::Item>,
     G: Gate,
     A: Aggregator<Item = L::Item>,

@@ -16,7 +16,7 @@ use crate::run_fault::RunFault;
 use crate::running::run;
 use plinq_crew::Gate;
 use plinq_enumerator::Growth;
-use plinq_lambda::Lambda;
+use plinq_lambda::SharedLambda;
 use plinq_merge::{Cancel, Sink, WithCancellation};
 use plinq_ops::Query;
 use plinq_source::Source;
@@ -51,7 +51,7 @@ pub fn run_with<L, S, G, C, K, R>(
     sink: &mut K,
 ) -> Result<Report, RunFault>
 where
-    L: Lambda,
+    L: SharedLambda,
     S: Source<Item = L::Item>,
     G: Gate,
     C: Cancel,
@@ -88,7 +88,7 @@ fn run_within<L, S, G, C, K, R>(
     with: &mut WithCancellation<'_, C, K>,
 ) -> Result<Report, RunFault>
 where
-    L: Lambda,
+    L: SharedLambda,
     S: Source<Item = L::Item>,
     G: Gate,
     C: Cancel,

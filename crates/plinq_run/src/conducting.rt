@@ -26,7 +26,7 @@ use plinq_crew::{
     Closing, Coordinator, Crew, Gate, Poll, ResultPass, RunSpec, WorkerContext, WorkerCount,
     join_all, start_all,
 };
-use plinq_lambda::Lambda;
+use plinq_lambda::SharedLambda;
 use plinq_merge::{Merger, Sink};
 use plinq_ops::MergeOption;
 use plinq_partition::Partition;
@@ -52,7 +52,7 @@ fn merge_all<L, S, J, G, K, R>(
     sink: &mut K,
 )
 where
-    L: Lambda,
+    L: SharedLambda,
     S: Source<Item = L::Item>,
     J: RunSpec<L::Item>,
     G: Gate,
@@ -98,7 +98,7 @@ fn merge_rest<L, S, J, G, K, R>(
     sink: &mut K,
 )
 where
-    L: Lambda,
+    L: SharedLambda,
     S: Source<Item = L::Item>,
     J: RunSpec<L::Item>,
     G: Gate,
@@ -134,7 +134,7 @@ pub(crate) fn conduct<'s, Env, L, S, J, G, K, R>(
     sink: &mut K,
 ) -> Result<Ended<S>, RunFault>
 where
-    L: Lambda,
+    L: SharedLambda,
     S: Source<Item = L::Item>,
     J: RunSpec<L::Item> + Send + Sync,
     G: Gate,

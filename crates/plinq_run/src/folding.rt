@@ -27,7 +27,7 @@ use plinq_crew::{
 };
 use plinq_cut::CutWord;
 use plinq_enumerator::Growth;
-use plinq_lambda::Lambda;
+use plinq_lambda::SharedLambda;
 use plinq_ops::Plan;
 use plinq_partition::Chunked;
 use plinq_source::Source;
@@ -44,7 +44,7 @@ fn gather_all<L, S, J, P, R>(
     gathering: &mut Gathering<'_, P>,
 )
 where
-    L: Lambda,
+    L: SharedLambda,
     S: Source<Item = L::Item>,
     J: RunSpec<P::Part>,
     P: Task<L::Item> + Aggregator<Item = L::Item, Acc = <P as Task<L::Item>>::Part, Out = ()>,
@@ -83,7 +83,7 @@ fn gather_rest<L, S, J, P, R>(
     gathering: &mut Gathering<'_, P>,
 )
 where
-    L: Lambda,
+    L: SharedLambda,
     S: Source<Item = L::Item>,
     J: RunSpec<P::Part>,
     P: Task<L::Item> + Aggregator<Item = L::Item, Acc = <P as Task<L::Item>>::Part, Out = ()>,
@@ -114,7 +114,7 @@ fn conduct_folds<'s, Env, L, S, J, P, R>(
     own: WorkerContext<S, P::Part>,
 ) -> Result<Combined<P::Part>, RunFault>
 where
-    L: Lambda,
+    L: SharedLambda,
     S: Source<Item = L::Item>,
     J: RunSpec<P::Part> + Send + Sync,
     P: Task<L::Item> + Aggregator<Item = L::Item, Acc = <P as Task<L::Item>>::Part, Out = ()>,
@@ -170,7 +170,7 @@ fn run_folds<J, L, S, P, R>(
 ) -> Result<Combined<P::Part>, RunFault>
 where
     J: RunSpec<P::Part> + Send + Sync,
-    L: Lambda,
+    L: SharedLambda,
     S: Source<Item = L::Item>,
     P: Task<L::Item> + Aggregator<Item = L::Item, Acc = <P as Task<L::Item>>::Part, Out = ()>,
     R: Threads + Wait + Sync,
@@ -205,7 +205,7 @@ pub(crate) fn fold_plan<J, L, S, G, A, R>(
 ) -> Result<Combined<A::Acc>, RunFault>
 where
     J: RunSpec<A::Acc> + Send + Sync,
-    L: Lambda,
+    L: SharedLambda,
     S: Source<Item = L::Item>,
     G: Gate,
     A: Aggregator<Item = L::Item>,

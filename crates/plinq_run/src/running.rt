@@ -25,7 +25,7 @@ use crate::tasks::Unchanged;
 use plinq_crew::{Crew, Gate, Progress, ResultStream, RunSpec, RunStopKeys, WorkerContext};
 use plinq_cut::CutWord;
 use plinq_enumerator::Growth;
-use plinq_lambda::Lambda;
+use plinq_lambda::SharedLambda;
 use plinq_merge::Sink;
 use plinq_ops::{MergeOption, Order, Plan, Query};
 use plinq_partition::Chunked;
@@ -83,7 +83,7 @@ fn run_crew<J, L, S, G, K, R>(
 ) -> Result<Ended<S>, RunFault>
 where
     J: RunSpec<L::Item> + Send + Sync,
-    L: Lambda,
+    L: SharedLambda,
     S: Source<Item = L::Item>,
     G: Gate,
     K: Sink<Item = L::Item>,
@@ -123,7 +123,7 @@ fn run_plan<J, L, S, G, K, R>(
 ) -> Result<Report, RunFault>
 where
     J: RunSpec<L::Item> + Send + Sync,
-    L: Lambda,
+    L: SharedLambda,
     S: Source<Item = L::Item>,
     G: Gate,
     K: Sink<Item = L::Item>,
@@ -193,7 +193,7 @@ pub fn run<L, S, G, K, R>(
     sink: &mut K,
 ) -> Result<Report, RunFault>
 where
-    L: Lambda,
+    L: SharedLambda,
     S: Source<Item = L::Item>,
     G: Gate,
     K: Sink<Item = L::Item>,

@@ -4,7 +4,7 @@ ghost use Rattle.plinq_source.specs.declared.source.Source.{Ghosts};
 
 use crate::taken::Taken;
 use plinq_enumerator::Growth;
-use plinq_lambda::Lambda;
+use plinq_lambda::{Lambda, SharedLambda};
 use plinq_merge::CancelAfter;
 use plinq_ops::{BuildFault, Built, MergeOption, Op, Query, sequential};
 use plinq_run::{Gate, Report, RunFault, run, run_with};
@@ -200,7 +200,7 @@ pub(crate) fn ask_of<L, S, G, R>(
     again: S,
 ) -> Result<Answers, OutOfMemory>
 where
-    L: Lambda<Item = i64>,
+    L: SharedLambda<Item = i64>,
     S: Source<Item = i64>,
     G: Gate,
     R: Threads + Wait + Sync,
@@ -290,7 +290,7 @@ fn ask_given<L, G, R>(
     gate: &G,
 ) -> Result<Answers, Fail>
 where
-    L: Lambda<Item = i64>,
+    L: SharedLambda<Item = i64>,
     G: Gate,
     R: Threads + Wait + Sync + Abort,
 {
@@ -339,7 +339,7 @@ pub(crate) fn ask<L, G, R>(
     gate: &G,
 ) -> Result<Answers, Fail>
 where
-    L: Lambda<Item = i64> + Copy,
+    L: SharedLambda<Item = i64> + Copy,
     G: Gate,
     R: Threads + Wait + Sync + Abort,
 {

@@ -11,8 +11,8 @@ use Rattle.plinq_ops.proofs.answering.feed_all.Goals as goal
 pub loop-item-init : goal.loop-item-init
 loop-item-init g c = (refl, rw c.requires.fresh (fed-none _ _ c.requires.undecided))
 
-pub feed-requires-clause-undecided : goal.feed-requires-clause-undecided
-feed-requires-clause-undecided g c lives within = undecided-left _ _ _ _ _ c.loop-item.invariant.1
+pub feed-requires : goal.feed-requires
+feed-requires g c = record { undecided = undecided-left _ _ _ _ _ c.loop-item.invariant.1 }
 
 -- an item that decides the answer
 pub returns-in-Some-clause-fed : goal.returns-in-Some-clause-fed

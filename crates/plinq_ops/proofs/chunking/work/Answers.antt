@@ -19,7 +19,7 @@ returns-then-is_over-clause-stop g c =
     rw c.stop_over.ensures stopped.1
 
 pub work_each-requires-clause-undecided : goal.work_each-requires-clause-undecided
-work_each-requires-clause-undecided g c lives within =
+work_each-requires-clause-undecided g c =
     let begins = stages-reached g.L.Lambda.meaning c.args.worker.now c.args.first c.in_ok-pipeline.pipeline c.in_ok-pipeline.ensures in
     ap some_takes_none (sym begins) ∙ search rules
 

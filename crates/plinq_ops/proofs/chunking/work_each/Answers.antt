@@ -5,9 +5,8 @@ use Rattle.plinq_ops.proofs.Fed.{none-from_is_some, undecided-left}
 use Rattle.plinq_ops.proofs.Chunks.{fed-fragment, after-more, after-dropped, after-stop, told-stop}
 use Rattle.plinq_ops.proofs.chunking.work_each.Goals as goal
 
-pub feed-requires-clause-undecided : goal.feed-requires-clause-undecided
-feed-requires-clause-undecided g c lives within =
-    c.loop-at.invariant.2
+pub feed-requires : goal.feed-requires
+feed-requires g c = record { undecided = c.loop-at.invariant.2 }
 
 pub frag_end-ending-requires : goal.frag_end-ending-requires
 frag_end-ending-requires g c =

@@ -1,7 +1,8 @@
-use Rattle.std.proofs.Common.{rules, arith, length, ◌<◌, ◌≡◌, ◌∷◌, [], ◌++◌, ◌+◌, ◌∙◌, refl, ap, sym, take, drop, is_some, true, Some, None}
+use Rattle.std.proofs.Common.{rules, arith, length, ◌<◌, ◌≡◌, ◌∷◌, [], ◌++◌, ◌+◌, ◌∙◌, refl, ap, sym, take, drop, is_some, true, false, Some, None}
 use Rattle.std.proofs.lemmas.List.{take_more, take_all, take-append-drop}
 use Rattle.plinq_source.specs.Trace.{open_trace, ended}
 use Rattle.plinq_source.specs.declared.ending.Ending.TheVariants.{Fault}
+use Rattle.plinq_ops.specs.Stage.{some_takes_none}
 use Rattle.plinq_ops.specs.Operator.{selected_many}
 use Rattle.plinq_ops.specs.Pipeline.{stages_now}
 use Rattle.plinq_ops.proofs.Fed.{fed-none, fed-ending, fed-ended_before, undecided-left, none-from_is_some, fed-told, fed-followed, fed-expansion}
@@ -20,8 +21,10 @@ feed_expansion-returns-in-Err-Code-clause-fed g t c =
 pub feed_expansions-loop-item-init : goal.feed_expansions-loop-item-init
 feed_expansions-loop-item-init g t c = (rw (c.replace-items.ensures.after, c.new.ensures.items) (fed-none _ [] c.requires.undecided), refl)
 
-pub feed_expansions-feed_expansion-requires-clause-undecided : goal.feed_expansions-feed_expansion-requires-clause-undecided
-feed_expansions-feed_expansion-requires-clause-undecided g t c = λ lives outlive. undecided-left _ _ _ _ _ c.loop-item.invariant.0
+pub feed_expansions-feed_expansion-requires : goal.feed_expansions-feed_expansion-requires
+feed_expansions-feed_expansion-requires g t c =
+    let undecided : some_takes_none (stages_now g.L.Lambda.meaning (drop c.args.from c.loop-item.ops)) ≡ false = undecided-left _ _ _ _ _ c.loop-item.invariant.0 in
+    search rules
 
 pub feed_block-returns : goal.feed_block-returns
 feed_block-returns g t c =

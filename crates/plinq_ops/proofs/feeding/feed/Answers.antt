@@ -8,7 +8,7 @@ pub loop-at-init : goal.loop-at-init
 loop-at-init g c = through-none _ _ _ _ c.requires.undecided
 
 pub feed_expansion-requires-clause-undecided : goal.feed_expansion-requires-clause-undecided
-feed_expansion-requires-clause-undecided g c = λ lives outlive.
+feed_expansion-requires-clause-undecided g c =
     (at-op _ (omega (arith, c.loop-at-test.true, c.loop-at.auto.ops)) (sym c.in-Expanding.is) c.loop-at.invariant).undecided
 
 pub returns-in-Expanding : goal.returns-in-Expanding

@@ -7,7 +7,7 @@ use Rattle.plinq_crew.proofs.Working.{taken-result, taken-part}
 use Rattle.plinq_crew.proofs.worker.Crew.next_result.Goals as goal
 
 pub cut_off-requires-clause-stop_key : goal.cut_off-requires-clause-stop_key
-cut_off-requires-clause-stop_key g c κs within key kept stop =
+cut_off-requires-clause-stop_key g c key kept stop =
     let meaning = g.L.Lambda.meaning in
     let plan = c.args.self.now.plan.now in
     let t = (holding_of c.args.partition.now).origin in

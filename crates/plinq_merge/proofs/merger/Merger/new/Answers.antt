@@ -1,27 +1,18 @@
-use Rattle.std.proofs.Common.{rules, ◌≡◌, [], false, refl}
-use Rattle.std.specs.List.{list_any}
-use Rattle.plinq_ops.specs.Feeding.{is_empty_take}
-use Rattle.plinq_ops.specs.Pipeline.{IsReached}
-use Rattle.plinq_merge.specs.Buffer.{held_of, HasRoom}
-use Rattle.plinq_merge.proofs.Offers.{begun-rests, begun-undecided}
+use Rattle.std.proofs.Common.{rules, ◌≡◌, [], true, false, refl, sym, subst}
+use Rattle.plinq_ops.specs.Batches.{batch_size}
+use Rattle.plinq_ops.specs.Operator.{stages_of}
+use Rattle.plinq_merge.specs.Delivering.{line_of, can_deliver}
+use Rattle.plinq_merge.specs.Offering.{StandsFor}
+use Rattle.plinq_merge.proofs.Offers.{begun-rests}
 use Rattle.plinq_merge.proofs.merger.Merger.new.Goals as goal
-
-pub invariant_of-result-2 : goal.invariant_of-result-2
-invariant_of-result-2 g c =
-    let pipeline : IsReached g.L.Lambda.meaning c.args.plan.now.after.now 0 c.in_ok-new.field-0 = search rules in
-    let some : list_any is_empty_take c.args.plan.now.after.now ≡ false = c.requires.undecided c.if-plan.false in
-    let room : HasRoom c.in_ok-buffer_of.field-0 = search rules in
-    record {
-      ready = λ is_open. record {
-        undecided = begun-undecided g.L.Lambda.meaning c.in_ok-new.field-0 c.args.plan.now.after.now pipeline some;
-        room = room;
-        apart = rw (c.new-2.ensures.waiting) refl;
-      };
-    }
 
 pub returns-clause-nothing : goal.returns-clause-nothing
 returns-clause-nothing g c =
-    let pipeline : IsReached g.L.Lambda.meaning c.args.plan.now.after.now 0 c.in_ok-new.field-0 = search rules in
-    let some : list_any is_empty_take c.args.plan.now.after.now ≡ false = c.requires.undecided c.if-plan.false in
-    let held : held_of c.in_ok-buffer_of.field-0 ≡ [] = search rules in
-    begun-rests g.L.Lambda.meaning _ c.args.plan.now.after.now c.if-plan.false pipeline some c.new-2.ensures.next c.new-2.ensures.waiting c.new-2.ensures.told held
+    let m = g.L.Lambda.meaning in
+    let d = c.in_ok-taker.taker in
+    let ops = c.args.plan.now.after.now in
+    let begun : line_of m d ≡ record { after = stages_of m ops; now = stages_of m ops; held = []; size = batch_size c.args.option } = search rules in
+    let can : can_deliver m d ≡ true = search rules in
+    let made = c.new-2.ensures in
+    let w = c.new-2.result.work in
+    subst (λ x. StandsFor m false w x []) (sym made.still) (begun-rests m false w d ops (batch_size c.args.option) refl made.nothing made.taker can begun)

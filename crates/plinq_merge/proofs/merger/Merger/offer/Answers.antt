@@ -13,10 +13,10 @@ pub returns-clause-takes : goal.returns-clause-takes
 returns-clause-takes g c =
     let m = c.args.self.now in
     let m' = c.offer_with.new.self in
-    offers-plain never g.K.Sink.accepts g.K.Sink.refuses g.L.Lambda.meaning nothing-stops m.work m.standing c.args.offered _ c.offer_with.result m'.work m'.standing _ c.offer_with.ensures.asks c.offer_with.ensures.takes
+    offers-plain never g.K.Sink.accepts g.K.Sink.refuses g.L.Lambda.meaning m.decided nothing-stops m.joiner.work m.joiner.standing c.args.offered _ c.offer_with.result m'.joiner.work m'.joiner.standing _ c.offer_with.ensures.asks c.offer_with.ensures.takes
 
 pub returns-clause-counts : goal.returns-clause-counts
 returns-clause-counts g c =
     let m = c.args.self.now in
     let m' = c.offer_with.new.self in
-    offers-counted never g.K.Sink.accepts g.K.Sink.refuses g.L.Lambda.meaning nothing-stops m.work m.standing c.args.offered _ c.offer_with.result m'.work m'.standing _ c.offer_with.ensures.asks c.offer_with.ensures.takes
+    offers-counted never g.K.Sink.accepts g.K.Sink.refuses g.L.Lambda.meaning m.decided nothing-stops m.joiner.work m.joiner.standing c.args.offered _ c.offer_with.result m'.joiner.work m'.joiner.standing _ c.offer_with.ensures.asks c.offer_with.ensures.takes

@@ -17,7 +17,7 @@ pub returns-then-with-clause-takes : goal.returns-then-with-clause-takes
 returns-then-with-clause-takes g c =
     let m = c.args.self.now in
     let m' = c.offer_to-told.new.self in
-    offers-stopped g.C.Cancel.asks g.K.Sink.accepts g.K.Sink.refuses g.L.Lambda.meaning m.work m.standing c.args.offered c.args.with.now c.offer_to-told.result m'.work m'.standing c.offer_to-told.new.sink
+    offers-stopped g.C.Cancel.asks g.K.Sink.accepts g.K.Sink.refuses g.L.Lambda.meaning m.decided m.joiner.work m.joiner.standing c.args.offered c.args.with.now c.offer_to-told.result m'.joiner.work m'.joiner.standing c.offer_to-told.new.sink
     c.requires.unstopped c.if-with.true c.offer_to-told.ensures.sends c.offer_to-told.ensures.takes
 
 pub returns-clause-same : goal.returns-clause-same
@@ -29,7 +29,7 @@ returns-clause-asks g c =
     let m = c.args.self.now in
     let m' = c.offer_to-told.new.self in
     asks-on g.C.Cancel.asks g.K.Sink.accepts g.K.Sink.refuses c.args.with.now c.offer_to-told.result c.offer_to-told.new.sink c.requires.unstopped c.if-with.false
-    (offers-never g.C.Cancel.asks g.K.Sink.accepts g.K.Sink.refuses g.L.Lambda.meaning m.work m.standing c.args.offered c.args.with.now c.offer_to-told.result m'.work m'.standing c.offer_to-told.new.sink c.offer_to-told.ensures.takes)
+    (offers-never g.C.Cancel.asks g.K.Sink.accepts g.K.Sink.refuses g.L.Lambda.meaning m.decided m.joiner.work m.joiner.standing c.args.offered c.args.with.now c.offer_to-told.result m'.joiner.work m'.joiner.standing c.offer_to-told.new.sink c.offer_to-told.ensures.takes)
     c.offer_to-told.ensures.sends
 
 pub returns-clause-takes : goal.returns-clause-takes
@@ -39,9 +39,9 @@ returns-clause-takes g c =
     let asks = g.C.Cancel.asks in
     let accepts = g.K.Sink.accepts in
     let refuses = g.K.Sink.refuses in
-    offers-with asks accepts refuses g.L.Lambda.meaning m.work m.standing c.args.offered (delivery_of c.args.with.now) c.offer_to-told.result m'.work m'.standing (delivery_of c.offer_to-told.new.sink)
-    (offers-never asks accepts refuses g.L.Lambda.meaning m.work m.standing c.args.offered c.args.with.now c.offer_to-told.result m'.work m'.standing c.offer_to-told.new.sink c.offer_to-told.ensures.takes)
-    (offers-passed asks accepts refuses g.L.Lambda.meaning m.work m.standing c.args.offered c.args.with.now c.offer_to-told.result m'.work m'.standing c.offer_to-told.new.sink c.requires.unstopped c.if-with.false c.offer_to-told.ensures.takes)
+    offers-with asks accepts refuses g.L.Lambda.meaning m.decided m.joiner.work m.joiner.standing c.args.offered (delivery_of c.args.with.now) c.offer_to-told.result m'.joiner.work m'.joiner.standing (delivery_of c.offer_to-told.new.sink)
+    (offers-never asks accepts refuses g.L.Lambda.meaning m.decided m.joiner.work m.joiner.standing c.args.offered c.args.with.now c.offer_to-told.result m'.joiner.work m'.joiner.standing c.offer_to-told.new.sink c.offer_to-told.ensures.takes)
+    (offers-passed asks accepts refuses g.L.Lambda.meaning m.decided m.joiner.work m.joiner.standing c.args.offered c.args.with.now c.offer_to-told.result m'.joiner.work m'.joiner.standing c.offer_to-told.new.sink c.requires.unstopped c.if-with.false c.offer_to-told.ensures.takes)
 
 pub returns-then-with-clause-told : goal.returns-then-with-clause-told
 returns-then-with-clause-told g c =
@@ -57,5 +57,5 @@ returns-clause-told g c =
     let refuses = g.K.Sink.refuses in
     asks-told asks g.C.Cancel.has_told g.met.C.Cancel.keeps_told accepts refuses (delivery_of c.args.with.now) c.offer_to-told.result (delivery_of c.offer_to-told.new.sink)
     (asks-on asks accepts refuses c.args.with.now c.offer_to-told.result c.offer_to-told.new.sink c.requires.unstopped c.if-with.false
-    (offers-never asks accepts refuses g.L.Lambda.meaning m.work m.standing c.args.offered c.args.with.now c.offer_to-told.result m'.work m'.standing c.offer_to-told.new.sink c.offer_to-told.ensures.takes)
+    (offers-never asks accepts refuses g.L.Lambda.meaning m.decided m.joiner.work m.joiner.standing c.args.offered c.args.with.now c.offer_to-told.result m'.joiner.work m'.joiner.standing c.offer_to-told.new.sink c.offer_to-told.ensures.takes)
     c.offer_to-told.ensures.sends)

@@ -12,7 +12,7 @@ returns-in_default-clause-gathers g c h =
     let P = g.J.RunSpec.is_result in
     let none : c.args.self.now.fault ≡ None = search rules in
     subst (λ f. Gathers P c.offer.new.self f) (sym none)
-    (gathers-ok P m c.args.made c.in_default.field-0 c.offer.new.self c.in_default.ensures.aggregator c.in_default.ensures.takes c.requires.part (subst (λ f. Gathers P m f) none h))
+    (gathers-ok P m c.args.made c.in_default.field-0 c.offer.new.self c.in_default.ensures.order c.in_default.ensures.takes c.requires.part (subst (λ f. Gathers P m f) none h))
 
 pub returns-in-Err-clause-offered : goal.returns-in-Err-clause-offered
 returns-in-Err-clause-offered g c wanted =

@@ -1,0 +1,112 @@
+-- What a joiner stands for with one offer more, for whoever sees it by its words alone.
+use Rattle.std.specs.Prelude.{◌≡◌, ℕ, List, [], ◌∷◌, ◌++◌, Option, true, false, Some, None, Result, Ok, Err, ◌⊎◌, refl}
+use Rattle.std.proofs.Common.{sym, ap, subst, inl, inr}
+use Rattle.plinq_source.specs.declared.ending.Ending.{Ending}
+use Rattle.plinq_source.specs.Trace.{Trace}
+use Rattle.plinq_ops.specs.declared.results.ChunkResult.{ChunkResult}
+use Rattle.plinq_merge.specs.declared.delivery_fault.DeliveryFault.{DeliveryFault}
+use Rattle.plinq_merge.specs.declared.delivery_fault.DeliveryFault.TheVariants.{Memory as NoMemory, Sink as Refusal}
+use Rattle.plinq_merge.specs.declared.merge_fault.MergeFault.{MergeFault}
+use Rattle.plinq_merge.specs.declared.merge_fault.MergeFault.TheVariants.{Memory, Sink, Twice, Gap, Failed, Cancelled}
+use Rattle.plinq_merge.specs.declared.more.More.{More}
+use Rattle.plinq_merge.specs.declared.more.More.TheVariants.{Yes, No}
+use Rattle.plinq_merge.specs.declared.standing.Standing.{Standing}
+use Rattle.plinq_merge.specs.declared.standing.Standing.TheVariants.{Open, Decided, Failed as HasFailed}
+use Rattle.plinq_merge.specs.declared.joiner.Joiner.{Joiner}
+use Rattle.plinq_merge.specs.declared.joining.Joining.{Joining}
+use Rattle.plinq_merge.specs.Shown.{merged}
+use Rattle.plinq_merge.specs.Offering.{is_decided, finished}
+use Rattle.plinq_merge.specs.Taking.{IsTaking}
+use Rattle.plinq_merge.specs.Joining.{Waits, Joins, AnswersOffer}
+use Rattle.plinq_merge.specs.Joiners.{taker_of, order_of, WaitsFor, has_decided, ending_of, Takes, HasJoinedAt, HasJoined}
+use Rattle.plinq_merge.proofs.Joins.{merged-waits, taken-after}
+use Rattle.plinq_merge.proofs.Mergers.{AreOneMore}
+
+module _ {W O T : Type 0} (made : W → O → Trace T → Result (Option Ending) DeliveryFault → W → O → Type 0) where
+  refused-at : (w : Joining W T) (standing : Standing) (r : ChunkResult T) (y : O) (code : ℕ) (w' : Joining W T) (standing' : Standing) (y' : O)
+      → AnswersOffer made w standing r y (Err (Sink code)) w' standing' y' → (gained : Trace T) × made w.taker y gained (Err (Refusal code)) w'.taker y'
+  refused-at w Open r y code w' standing' y' o = let joins = o.1 in (joins.gained, joins.taken)
+  refused-at w (Decided e) r y code w' standing' y' o = absurd (let bad : Err (Sink code) ≡ Ok No = o.0 in cc)
+  refused-at w HasFailed r y code w' standing' y' o = absurd (cc)
+
+  -- the taker has taken something, or nothing changed
+  pub moved-at : (w : Joining W T) (standing : Standing) (r : ChunkResult T) (y : O) (result : Result More MergeFault) (w' : Joining W T) (standing' : Standing) (y' : O)
+      → AnswersOffer made w standing r y result w' standing' y' → (w' ≡ w) ⊎ ((gained : Trace T) × (how : Result (Option Ending) DeliveryFault) × made w.taker y gained how w'.taker y')
+  moved-at w Open r y (Ok Yes) w' standing' y' o = let joins = o.1 in inr (joins.gained, Ok None, joins.taken)
+  moved-at w Open r y (Ok No) w' standing' y' o = let joins = o.2 in inr (joins.gained, Ok (Some o.0), joins.taken)
+  moved-at w Open r y (Err Memory) w' standing' y' o = let joins = o.1 in inr (joins.gained, Err NoMemory, joins.taken)
+  moved-at w Open r y (Err (Sink code)) w' standing' y' o = let joins = o.1 in inr (joins.gained, Err (Refusal code), joins.taken)
+  moved-at w Open r y (Err Twice) w' standing' y' o = inl o.0
+  moved-at w Open r y (Err Gap) w' standing' y' o = absurd o
+  moved-at w Open r y (Err Failed) w' standing' y' o = absurd o
+  moved-at w Open r y (Err Cancelled) w' standing' y' o = absurd o
+  moved-at w (Decided e) r y result w' standing' y' o = inl o.1
+  moved-at w HasFailed r y result w' standing' y' o = inl o.1
+
+  pub takes-moved : (j : Joiner W T) (r : ChunkResult T) (y : O) (result : Result More MergeFault) (j' : Joiner W T) (y' : O) → Takes made j r y result j' y'
+      → (taker_of j' ≡ taker_of j) ⊎ ((gained : Trace T) × (how : Result (Option Ending) DeliveryFault) × made (taker_of j) y gained how (taker_of j') y')
+  takes-moved j r y result j' y' o =
+      elim (moved-at j.work j.standing r y result j'.work j'.standing y' o) [ inl same ↦ inl (ap (λ w. w.taker) same) | inr moved ↦ inr moved ]
+
+  -- a refusal is the taker's own
+  pub takes-refused : (j : Joiner W T) (r : ChunkResult T) (y : O) (code : ℕ) (j' : Joiner W T) (y' : O) → Takes made j r y (Err (Sink code)) j' y'
+      → (gained : Trace T) × made (taker_of j) y gained (Err (Refusal code)) (taker_of j') y'
+  takes-refused j r y code j' y' o = refused-at j.work j.standing r y code j'.work j'.standing y' o
+
+  module _ (a : W) (x : O) where
+    cases-at : {P : Type 0} (w : Joining W T) (standing : Standing) (y : O) (offers : List (ChunkResult T)) → HasJoinedAt made a x w standing y offers
+        → (is_decided standing ≡ false → finished standing ≡ Err Gap → Waits w.order w.row offers → made a x (merged w.order offers) (Ok None) w.taker y → P)
+        → ((e : Ending) → is_decided standing ≡ true → finished standing ≡ Ok e → made a x (merged w.order offers) (Ok (Some e)) w.taker y → P) → P
+    cases-at w Open y offers joined still ended = still refl refl joined.0 joined.1
+    cases-at w (Decided e) y offers joined still ended = ended e refl refl joined
+    cases-at w HasFailed y offers joined still ended = absurd joined
+
+    -- its answer is open, or has ended
+    pub joined-cases : {P : Type 0} (j : Joiner W T) (y : O) (offers : List (ChunkResult T)) → HasJoined made a x j y offers
+        → (has_decided j ≡ false → ending_of j ≡ Err Gap → WaitsFor j offers → made a x (merged (order_of j) offers) (Ok None) (taker_of j) y → P)
+        → ((e : Ending) → has_decided j ≡ true → ending_of j ≡ Ok e → made a x (merged (order_of j) offers) (Ok (Some e)) (taker_of j) y → P) → P
+    joined-cases j y offers joined still ended = cases-at j.work j.standing y offers joined still ended
+
+    module _ (lawful : IsTaking made) where
+      -- with one offer more the taker has taken what they merge to then
+      made-grown : (w : Joining W T) (r : ChunkResult T) (y : O) (result : Result (Option Ending) DeliveryFault) (w' : Joining W T) (y' : O) (offers : List (ChunkResult T)) → w'.order ≡ w.order
+          → Waits w.order w.row offers → made a x (merged w.order offers) (Ok None) w.taker y → Joins made w r y result w' y'
+          → made a x (merged w'.order (offers ++ r ∷ [])) result w'.taker y'
+      made-grown w r y result w' y' offers same waits before joins =
+          subst (λ o. made a x (merged o (offers ++ r ∷ [])) result w'.taker y') (sym same)
+          (taken-after made lawful a x (merged w.order offers) joins.gained (merged w.order (offers ++ r ∷ [])) w.taker y result w'.taker y'
+          (ap (λ t. t.ending) (merged-waits w.order w.row offers waits)) before joins.taken (joins.grows offers waits))
+
+      takes-at : (w : Joining W T) (standing : Standing) (r : ChunkResult T) (y : O) (more : More) (w' : Joining W T) (standing' : Standing) (y' : O) (offers : List (ChunkResult T)) → w'.order ≡ w.order
+          → HasJoinedAt made a x w standing y offers → AnswersOffer made w standing r y (Ok more) w' standing' y'
+          → (offers' : List (ChunkResult T)) × AreOneMore offers r offers' × HasJoinedAt made a x w' standing' y' offers'
+      takes-at w Open r y Yes w' standing' y' offers same joined o =
+          let joins = o.1 in (
+            offers ++ r ∷ [],
+            inr (refl, joins.are_new offers joined.0),
+            subst (λ s. HasJoinedAt made a x w' s y' (offers ++ r ∷ [])) (sym o.0)
+                (joins.waits refl offers joined.0, made-grown w r y (Ok None) w' y' offers same joined.0 joined.1 joins),
+          )
+      takes-at w Open r y No w' standing' y' offers same joined o =
+          let joins = o.2 in (
+            offers ++ r ∷ [],
+            inr (refl, joins.are_new offers joined.0),
+            subst (λ s. HasJoinedAt made a x w' s y' (offers ++ r ∷ [])) (sym o.1) (made-grown w r y (Ok (Some o.0)) w' y' offers same joined.0 joined.1 joins),
+          )
+      takes-at w (Decided e) r y more w' standing' y' offers same joined o = (
+        offers,
+        inl refl,
+        subst (λ s. HasJoinedAt made a x w' s y' offers) (sym o.2)
+            (subst (λ v. HasJoinedAt made a x v (Decided e) y' offers) (sym o.1) (subst (λ z. HasJoinedAt made a x w (Decided e) z offers) (sym o.3) joined)),
+      )
+      takes-at w HasFailed r y more w' standing' y' offers same joined o = absurd joined
+
+      -- an offer that was taken in
+      pub takes-joined : (j : Joiner W T) (r : ChunkResult T) (y : O) (more : More) (j' : Joiner W T) (y' : O) (offers : List (ChunkResult T)) → order_of j' ≡ order_of j
+          → HasJoined made a x j y offers → Takes made j r y (Ok more) j' y' → (offers' : List (ChunkResult T)) × AreOneMore offers r offers' × HasJoined made a x j' y' offers'
+      takes-joined j r y more j' y' offers same joined o = takes-at j.work j.standing r y more j'.work j'.standing y' offers same joined o
+
+  module _ (lawful : IsTaking made) where
+    -- nothing was offered to a new joiner
+    pub begun-joined : (j : Joiner W T) (x : O) → j.standing ≡ Open → WaitsFor j [] → HasJoined made (taker_of j) x j x []
+    begun-joined j x still waits = subst (λ s. HasJoinedAt made (taker_of j) x j.work s x []) (sym still) (waits, lawful.begins (taker_of j) x)

@@ -1,0 +1,79 @@
+-- Joining: which offers a row of keys stands for, and what one more brings to its taker.
+use Rattle.std.specs.Prelude.{◌≡◌, List, [], ◌∷◌, ◌++◌, Bool, true, Option, Some, None, Result, Ok, Err}
+use Rattle.plinq_source.specs.declared.ending.Ending.{Ending}
+use Rattle.plinq_source.specs.Trace.{Trace, open_trace, followed}
+use Rattle.plinq_ops.specs.declared.order.Order.{Order}
+use Rattle.plinq_ops.specs.declared.results.ChunkResult.{ChunkResult}
+use Rattle.plinq_merge.specs.declared.delivery_fault.DeliveryFault.{DeliveryFault}
+use Rattle.plinq_merge.specs.declared.delivery_fault.DeliveryFault.TheVariants.{Memory as NoMemory, Sink as Refusal}
+use Rattle.plinq_merge.specs.declared.merge_fault.MergeFault.{MergeFault}
+use Rattle.plinq_merge.specs.declared.merge_fault.MergeFault.TheVariants.{Memory, Sink, Twice, Gap, Failed, Cancelled}
+use Rattle.plinq_merge.specs.declared.more.More.{More}
+use Rattle.plinq_merge.specs.declared.more.More.TheVariants.{Yes, No}
+use Rattle.plinq_merge.specs.declared.standing.Standing.{Standing}
+use Rattle.plinq_merge.specs.declared.standing.Standing.TheVariants.{Open, Decided, Failed as HasFailed}
+use Rattle.plinq_merge.specs.declared.row.Row.{Row}
+use Rattle.plinq_merge.specs.declared.joiner.Joiner.{Joiner}
+use Rattle.plinq_merge.specs.declared.joining.Joining.{Joining}
+use Rattle.plinq_merge.specs.Shown.{row as row_of, merged}
+use Rattle.plinq_merge.specs.Keys.{is_apart, AreNew, IsDuplicate}
+use Rattle.plinq_merge.specs.Merging.{content_of, HasTaken, IsAtGap}
+
+-- what the row still gives: what waits under the next keys, and the source's ending if this is its place
+abbrev pub rest_of : {T : Type 0} → Row T → Trace T
+rest_of row = row_of row.told row.next row.waiting.entries
+
+-- with this trace in hand, the row stands for these offers: `out` is what was taken of what they merge to
+pub record Holds {T : Type 0} (order : Order) (row : Row T) (hand : Trace T) (offers : List (ChunkResult T)) : Type 0 where
+  pub out : List T
+  pub taken : HasTaken order (content_of row) hand offers out
+
+-- the row stands for these offers, and the next key is missing
+pub record Waits {T : Type 0} (order : Order) (row : Row T) (offers : List (ChunkResult T)) : Type 0 where
+  pub holds : Holds order row (open_trace []) offers
+  pub gap : IsAtGap (content_of row)
+
+-- one result more can be joined
+pub record CanJoin {W T : Type 0} (can_take : W → Bool) (w : Joining W T) : Type 0 where
+  pub taker : can_take w.taker ≡ true
+  pub apart : is_apart w.row.next w.row.waiting.entries ≡ true
+
+-- where its answer is open
+abbrev pub IsReady : {W T : Type 0} → (W → Bool) → Joiner W T → Type 0
+IsReady can_take j = j.standing ≡ Open → CanJoin can_take j.work
+
+module _ {W O T : Type 0} (made : W → O → Trace T → Result (Option Ending) DeliveryFault → W → O → Type 0) where
+  -- the taker has taken the first items that the row gives, and the row stands for the same offers without them
+  pub record HasMoved (w : Joining W T) (y : O) (w' : Joining W T) (y' : O) : Type 0 where
+    pub items : List T
+    pub taken : made w.taker y (open_trace items) (Ok None) w'.taker y'
+    pub rest : rest_of w.row ≡ followed (open_trace items) (rest_of w'.row)
+    pub order : w'.order ≡ w.order
+    pub holds : (offers : List (ChunkResult T)) → Holds w.order w.row (open_trace []) offers → Holds w'.order w'.row (open_trace []) offers
+
+  -- a result of new keys was joined: the taker has taken what the offers gain by it, and where more may follow, the row
+  -- waits for it
+  pub record Joins (w : Joining W T) (r : ChunkResult T) (y : O) (result : Result (Option Ending) DeliveryFault) (w' : Joining W T) (y' : O) : Type 0 where
+    pub gained : Trace T
+    pub taken : made w.taker y gained result w'.taker y'
+    pub are_new : (offers : List (ChunkResult T)) → Waits w.order w.row offers → AreNew offers r
+    pub grows : (offers : List (ChunkResult T)) → Waits w.order w.row offers → merged w.order (offers ++ r ∷ []) ≡ followed (merged w.order offers) gained
+    pub waits : result ≡ Ok None → (offers : List (ChunkResult T)) → Waits w.order w.row offers → Waits w'.order w'.row (offers ++ r ∷ [])
+
+  -- what an offer answers and does, where the answer is open
+  abbrev pub JoinsOffer : Joining W T → ChunkResult T → O → Result More MergeFault → Joining W T → Standing → O → Type 0
+  JoinsOffer w r y (Ok Yes) w' standing' y' = (standing' ≡ Open) × Joins w r y (Ok None) w' y'
+  JoinsOffer w r y (Ok No) w' standing' y' = (e : Ending) × (standing' ≡ Decided e) × Joins w r y (Ok (Some e)) w' y'
+  JoinsOffer w r y (Err Memory) w' standing' y' = (standing' ≡ HasFailed) × Joins w r y (Err NoMemory) w' y'
+  JoinsOffer w r y (Err (Sink code)) w' standing' y' = (standing' ≡ HasFailed) × Joins w r y (Err (Refusal code)) w' y'
+  JoinsOffer w r y (Err Twice) w' standing' y' =
+      (w' ≡ w) × (standing' ≡ Open) × (y' ≡ y) × ((offers : List (ChunkResult T)) → Waits w.order w.row offers → IsDuplicate offers r)
+  JoinsOffer w r y (Err Gap) w' standing' y' = ⊥
+  JoinsOffer w r y (Err Failed) w' standing' y' = ⊥
+  JoinsOffer w r y (Err Cancelled) w' standing' y' = ⊥
+
+  -- a decided joiner answers No, a failed one Failed, and nothing changes
+  abbrev pub AnswersOffer : Joining W T → Standing → ChunkResult T → O → Result More MergeFault → Joining W T → Standing → O → Type 0
+  AnswersOffer w Open r y result w' standing' y' = JoinsOffer w r y result w' standing' y'
+  AnswersOffer w (Decided e) r y result w' standing' y' = (result ≡ Ok No) × (w' ≡ w) × (standing' ≡ Decided e) × (y' ≡ y)
+  AnswersOffer w HasFailed r y result w' standing' y' = (result ≡ Err Failed) × (w' ≡ w) × (standing' ≡ HasFailed) × (y' ≡ y)

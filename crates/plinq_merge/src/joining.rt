@@ -1,0 +1,112 @@
+ghost use Rattle.std.specs.Prelude.{◌≡◌, ◌≤◌, ◌^◌, List, [], true, Ok, None};
+ghost use Rattle.plinq_ops.specs.declared.results.ChunkResult.{ChunkResult};
+ghost use Rattle.plinq_source.specs.Trace.{open_trace};
+ghost use Rattle.plinq_merge.specs.Shown.{end_of_result};
+ghost use Rattle.plinq_merge.specs.Keys.{is_apart, IsFresh};
+ghost use Rattle.plinq_merge.specs.Joining.{rest_of, CanJoin, Holds, Waits, Joins};
+
+use crate::delivery_fault::DeliveryFault;
+use crate::row::Row;
+use crate::taker::{TakeInto, Taker};
+use crate::waiting::Waiting;
+use plinq_ops::{ChunkResult, Order};
+use plinq_source::Ending;
+use std::alloc::Global;
+
+/// Results that are joined by key: the row of keys, and what takes the items whose turn has come.
+#[derive(Drop)]
+pub(crate) struct Joining<W, T> {
+    pub(crate) alloc: Global,
+    pub(crate) order: Order,
+    pub(crate) row: Row<T>,
+    pub(crate) taker: W,
+    /// How many items had their turn, or the greatest number where there were more.
+    pub(crate) items: u64,
+}
+
+impl<W: Taker> Joining<W, W::Item> {
+    /// Results of which none was offered yet.
+    pub(crate) fn new(alloc: Global, order: Order, taker: W) -> Joining<W, W::Item>
+        ensures order { result.order ≡ order }
+        ensures taker { result.taker ≡ taker }
+        ensures apart { is_apart result.row.next result.row.waiting.entries ≡ true }
+        ensures nothing { Waits result.order result.row [] }
+    {
+        Joining {
+            alloc,
+            order,
+            row: Row::new(alloc),
+            taker,
+            items: 0,
+        }
+    }
+
+    /// Joins a result of keys that weren't offered before, and gives the taker the items whose turn it brings.
+    ///
+    /// Answers how the answer ends, or `None` where it is still open.
+    pub(crate) fn join<O>(
+        &mut self,
+        offered: ChunkResult<W::Item>,
+        out: &mut O,
+    ) -> Result<Option<Ending>, DeliveryFault>
+    where
+        W: TakeInto<O>,
+        requires ready { CanJoin W.can_take self.old }
+        requires within { end_of_result offered ≤ 2 ^ 40 }
+        requires fresh { IsFresh self.old.row.next self.old.row.waiting.entries offered.first (end_of_result offered) }
+        ensures ready { result ≡ Ok None → CanJoin W.can_take self.new }
+        ensures order { self.new.order ≡ self.old.order }
+        ensures joins { Joins W.made self.old offered out.old result self.new out.new }
+    {
+        let hand = self.row.accept(self.alloc, self.order, offered)?;
+        let ending = self.take(hand, out)?;
+        if ending.is_some() {
+            return Ok(ending);
+        }
+        self.drain(out)
+    }
+
+    /// Gives the taker what waits under the next keys, up to a gap or to the end of the answer.
+    fn drain<O>(&mut self, out: &mut O) -> Result<Option<Ending>, DeliveryFault>
+    where
+        W: TakeInto<O>,
+        requires ready { CanJoin W.can_take self.old }
+        ensures ready { result ≡ Ok None → CanJoin W.can_take self.new }
+        ensures order { self.new.order ≡ self.old.order }
+        ensures takes { W.made self.old.taker out.old (rest_of self.old.row) result self.new.taker out.new }
+        ensures waits { result ≡ Ok None → (offers : List (ChunkResult W.Item)) →
+            Holds self.old.order self.old.row (open_trace []) offers → Waits self.new.order self.new.row offers }
+    {
+        while self.row.is_next_there() {
+            let part = self.row.take_next();
+            let ending = self.take(part, out)?;
+            if ending.is_some() {
+                return Ok(ending);
+            }
+        }
+        let ending = self.row.ending();
+        if ending.is_none() {
+            return Ok(None);
+        }
+        self.taker.take(Vec::new(self.alloc), ending, out)
+    }
+
+    /// Gives the taker items whose turn has come.
+    fn take<O>(
+        &mut self,
+        hand: Waiting<W::Item>,
+        out: &mut O,
+    ) -> Result<Option<Ending>, DeliveryFault>
+    where
+        W: TakeInto<O>,
+        requires { W.can_take self.old.taker ≡ true }
+        ensures ready { result ≡ Ok None → W.can_take self.new.taker ≡ true }
+        ensures row { self.new.row ≡ self.old.row }
+        ensures order { self.new.order ≡ self.old.order }
+        ensures last { result ≡ Ok None → hand.trace.ending ≡ None }
+        ensures takes { W.made self.old.taker out.old hand.trace result self.new.taker out.new }
+    {
+        self.items = self.items.saturating_add(hand.items.len() as u64);
+        self.taker.take(hand.items, hand.ending, out)
+    }
+}
