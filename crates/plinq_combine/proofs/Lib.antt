@@ -1,2 +1,2 @@
 pub mod Folds
-pub mod Offers
+pub mod Finished

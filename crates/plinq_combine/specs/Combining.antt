@@ -13,6 +13,17 @@ abbrev pub combined_so_far : {T A O : Type 0} → Folding T A O → Option A →
 combined_so_far f None = f.seed
 combined_so_far f (Some acc) = acc
 
+-- by what it combines, and what it has so far
+abbrev pub aggregator_of : {F A : Type 0} → Fold F A → F
+aggregator_of d = d.aggregator.now
+
+abbrev pub acc_of : {F T A O : Type 0} → (F → Folding T A O) → Fold F A → A
+acc_of folding d = combined_so_far (folding (aggregator_of d)) d.acc
+
+-- nothing was combined
+abbrev pub IsEmpty : {F A : Type 0} → Fold F A → Type 0
+IsEmpty d = d.acc ≡ None
+
 -- whatever comes can be combined
 abbrev pub takes_all : {F A : Type 0} → Fold F A → Bool
 takes_all d = true

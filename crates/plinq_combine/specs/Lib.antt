@@ -1,4 +1,3 @@
 pub mod Folds
 pub mod Combining
 pub mod Lawful
-pub mod Combiners

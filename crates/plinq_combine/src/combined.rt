@@ -1,6 +1,6 @@
 use plinq_source::Ending;
 
-/// What a combiner has made of an answer.
+/// What a fold has made of an answer.
 #[derive(Debug, Drop)]
 pub struct Combined<C> {
     /// The accumulator of the answer's items.

@@ -1,5 +1,5 @@
 ghost use Rattle.std.specs.Prelude.{◌≡◌, true, Ok, None};
-ghost use Rattle.plinq_combine.specs.Combining.{combined_so_far, takes_all, MadeBy};
+ghost use Rattle.plinq_combine.specs.Combining.{acc_of, aggregator_of, takes_all, IsEmpty, MadeBy};
 ghost use Rattle.plinq_combine.specs.Lawful.{made-lawful};
 
 use plinq_aggregate::Aggregator;
@@ -7,17 +7,34 @@ use plinq_merge::{DeliveryFault, TakeInto, Taker};
 use plinq_source::Ending;
 
 /// Combines the accumulators whose turn has come, one after another.
+///
+/// ```text
+/// let mut folds = Joiner::new(alloc, Order::ByKey, Fold::new(&Sum));
+/// while let More::Yes = folds.offer(results.next(), &mut ())? {}
+/// let sum = folds.finish()?.taker.so_far();
+/// ```
 #[derive(Drop)]
-pub(crate) struct Fold<'a, A, C> {
+pub struct Fold<'a, A, C> {
     pub(crate) aggregator: &'a A,
     /// The accumulator of what was combined, if anything was.
     pub(crate) acc: Option<C>,
 }
 
 impl<'a, A: Aggregator> Fold<'a, A, A::Acc> {
+    /// Combines by this aggregator; nothing was taken yet.
+    pub fn new(aggregator: &'a A) -> Fold<'a, A, A::Acc>
+        ensures aggregator { aggregator_of result ≡ aggregator.now }
+        ensures nothing { IsEmpty result }
+    {
+        Fold {
+            aggregator,
+            acc: None,
+        }
+    }
+
     /// The accumulator of what was combined: the seed before anything was.
-    pub(crate) fn so_far(self) -> A::Acc
-        ensures { result ≡ combined_so_far (A.folding self.entry.aggregator.now) self.entry.acc }
+    pub fn so_far(self) -> A::Acc
+        ensures { result ≡ acc_of A.folding self.entry }
     {
         match self.acc {
             Some(acc) => acc,
@@ -57,6 +74,10 @@ impl<'a, A: Aggregator> TakeInto<()> for Fold<'a, A, A::Acc> {
         self.acc = Some(acc);
         Ok(ending)
     }
+
+    fn idle(&self, out: &mut ())
+        ensures { out.new ≡ out.old }
+    {}
 
     ghost lawful = { made-lawful A.folding };
 }

@@ -1,18 +1,16 @@
-//! The combiner: folds of chunk results in any order, the fold of their answer.
+//! Folds of chunk results, combined to the fold of their answer.
 //!
 //! - [`fold_result`] puts the fold of a result's items in their place (`IsFoldOf`).
-//! - A [`Combiner`] is for lists of offers of folded results (`IsFor`). It combines them in the order in which a merger with
-//!   no operators after it merges results: by key up to the first that ends the run, or as they come.
-//! - [`Combiner::finish`] answers how the answer to the results ends whose folds these are, and the accumulator of its
-//!   items (`Finishes`); `decided` and `merged` tell what a merger tells.
+//! - A [`Fold`] takes such folds from a joiner, and combines them in the order in which it joins results: by key up to the
+//!   first that ends the run, or as they come (`MadeBy`).
+//! - What folds of results merge to has the fold of what the results merge to ([`laws`]).
 #![tactic(auto)]
 
 mod combined;
-mod combiner;
 mod fold;
 mod folding;
-mod offering;
+pub mod laws;
 
 pub use combined::Combined;
-pub use combiner::Combiner;
+pub use fold::Fold;
 pub use folding::fold_result;

@@ -1,8 +1,9 @@
 -- What a joiner stands for with one offer more, for whoever sees it by its words alone.
-use Rattle.std.specs.Prelude.{◌≡◌, ℕ, List, [], ◌∷◌, ◌++◌, Option, true, false, Some, None, Result, Ok, Err, ◌⊎◌, refl}
-use Rattle.std.proofs.Common.{sym, ap, subst, inl, inr}
+use Rattle.std.specs.Prelude.{◌≡◌, List, [], ◌∷◌, ◌++◌, Option, true, false, Some, None, Result, Ok, Err, ◌⊎◌, refl}
+use Rattle.std.proofs.Common.{sym, ◌∙◌, ap, subst, inl, inr}
 use Rattle.plinq_source.specs.declared.ending.Ending.{Ending}
-use Rattle.plinq_source.specs.Trace.{Trace}
+use Rattle.plinq_source.specs.Trace.{Trace, open_trace}
+use Rattle.plinq_source.proofs.Followed.{followed-open_nil}
 use Rattle.plinq_ops.specs.declared.results.ChunkResult.{ChunkResult}
 use Rattle.plinq_merge.specs.declared.delivery_fault.DeliveryFault.{DeliveryFault}
 use Rattle.plinq_merge.specs.declared.delivery_fault.DeliveryFault.TheVariants.{Memory as NoMemory, Sink as Refusal}
@@ -14,21 +15,20 @@ use Rattle.plinq_merge.specs.declared.standing.Standing.{Standing}
 use Rattle.plinq_merge.specs.declared.standing.Standing.TheVariants.{Open, Decided, Failed as HasFailed}
 use Rattle.plinq_merge.specs.declared.joiner.Joiner.{Joiner}
 use Rattle.plinq_merge.specs.declared.joining.Joining.{Joining}
+use Rattle.plinq_merge.specs.Keys.{AreNew}
 use Rattle.plinq_merge.specs.Shown.{merged}
 use Rattle.plinq_merge.specs.Offering.{is_decided, finished}
 use Rattle.plinq_merge.specs.Taking.{IsTaking}
 use Rattle.plinq_merge.specs.Joining.{Waits, Joins, AnswersOffer}
 use Rattle.plinq_merge.specs.Joiners.{taker_of, order_of, WaitsFor, has_decided, ending_of, Takes, HasJoinedAt, HasJoined}
+use Rattle.plinq_merge.specs.Mergers.{delivery_fault_of}
 use Rattle.plinq_merge.proofs.Joins.{merged-waits, taken-after}
-use Rattle.plinq_merge.proofs.Mergers.{AreOneMore}
+
+-- the offers so far, or these and one more, of which no key was offered before
+abbrev pub AreOneMore : {T : Type 0} → List (ChunkResult T) → ChunkResult T → List (ChunkResult T) → Type 0
+AreOneMore offers r offers' = (offers' ≡ offers) ⊎ ((offers' ≡ offers ++ r ∷ []) × AreNew offers r)
 
 module _ {W O T : Type 0} (made : W → O → Trace T → Result (Option Ending) DeliveryFault → W → O → Type 0) where
-  refused-at : (w : Joining W T) (standing : Standing) (r : ChunkResult T) (y : O) (code : ℕ) (w' : Joining W T) (standing' : Standing) (y' : O)
-      → AnswersOffer made w standing r y (Err (Sink code)) w' standing' y' → (gained : Trace T) × made w.taker y gained (Err (Refusal code)) w'.taker y'
-  refused-at w Open r y code w' standing' y' o = let joins = o.1 in (joins.gained, joins.taken)
-  refused-at w (Decided e) r y code w' standing' y' o = absurd (let bad : Err (Sink code) ≡ Ok No = o.0 in cc)
-  refused-at w HasFailed r y code w' standing' y' o = absurd (cc)
-
   -- the taker has taken something, or nothing changed
   pub moved-at : (w : Joining W T) (standing : Standing) (r : ChunkResult T) (y : O) (result : Result More MergeFault) (w' : Joining W T) (standing' : Standing) (y' : O)
       → AnswersOffer made w standing r y result w' standing' y' → (w' ≡ w) ⊎ ((gained : Trace T) × (how : Result (Option Ending) DeliveryFault) × made w.taker y gained how w'.taker y')
@@ -42,16 +42,6 @@ module _ {W O T : Type 0} (made : W → O → Trace T → Result (Option Ending)
   moved-at w Open r y (Err Cancelled) w' standing' y' o = absurd o
   moved-at w (Decided e) r y result w' standing' y' o = inl o.1
   moved-at w HasFailed r y result w' standing' y' o = inl o.1
-
-  pub takes-moved : (j : Joiner W T) (r : ChunkResult T) (y : O) (result : Result More MergeFault) (j' : Joiner W T) (y' : O) → Takes made j r y result j' y'
-      → (taker_of j' ≡ taker_of j) ⊎ ((gained : Trace T) × (how : Result (Option Ending) DeliveryFault) × made (taker_of j) y gained how (taker_of j') y')
-  takes-moved j r y result j' y' o =
-      elim (moved-at j.work j.standing r y result j'.work j'.standing y' o) [ inl same ↦ inl (ap (λ w. w.taker) same) | inr moved ↦ inr moved ]
-
-  -- a refusal is the taker's own
-  pub takes-refused : (j : Joiner W T) (r : ChunkResult T) (y : O) (code : ℕ) (j' : Joiner W T) (y' : O) → Takes made j r y (Err (Sink code)) j' y'
-      → (gained : Trace T) × made (taker_of j) y gained (Err (Refusal code)) (taker_of j') y'
-  takes-refused j r y code j' y' o = refused-at j.work j.standing r y code j'.work j'.standing y' o
 
   module _ (a : W) (x : O) where
     cases-at : {P : Type 0} (w : Joining W T) (standing : Standing) (y : O) (offers : List (ChunkResult T)) → HasJoinedAt made a x w standing y offers
@@ -105,6 +95,47 @@ module _ {W O T : Type 0} (made : W → O → Trace T → Result (Option Ending)
       pub takes-joined : (j : Joiner W T) (r : ChunkResult T) (y : O) (more : More) (j' : Joiner W T) (y' : O) (offers : List (ChunkResult T)) → order_of j' ≡ order_of j
           → HasJoined made a x j y offers → Takes made j r y (Ok more) j' y' → (offers' : List (ChunkResult T)) × AreOneMore offers r offers' × HasJoined made a x j' y' offers'
       takes-joined j r y more j' y' offers same joined o = takes-at j.work j.standing r y more j'.work j'.standing y' offers same joined o
+
+      -- what waits for more may have broken off there for lack of memory
+      stopped-at : (w : Joining W T) (y : O) (offers : List (ChunkResult T)) → Waits w.order w.row offers → made a x (merged w.order offers) (Ok None) w.taker y
+          → made a x (merged w.order offers) (Err NoMemory) w.taker y
+      stopped-at w y offers waits before =
+          let is = merged-waits w.order w.row offers waits in
+          subst (λ t. made a x t (Err NoMemory) w.taker y) (followed-open_nil (open_trace waits.holds.out) ∙ sym is)
+          (lawful.stops a x waits.holds.out w.taker y (open_trace []) (subst (λ t. made a x t (Ok None) w.taker y) is before))
+
+      pub joined-stopped : (j : Joiner W T) (y : O) (offers : List (ChunkResult T)) → WaitsFor j offers → made a x (merged (order_of j) offers) (Ok None) (taker_of j) y
+          → made a x (merged (order_of j) offers) (Err NoMemory) (taker_of j) y
+      joined-stopped j y offers waits before = stopped-at j.work y offers waits before
+
+      breaks-at : (w : Joining W T) (standing : Standing) (r : ChunkResult T) (y : O) (fault : MergeFault) (w' : Joining W T) (standing' : Standing) (y' : O) (offers : List (ChunkResult T)) → w'.order ≡ w.order
+          → HasJoinedAt made a x w standing y offers → AnswersOffer made w standing r y (Err fault) w' standing' y'
+          → (offers' : List (ChunkResult T)) × AreOneMore offers r offers' × ((last : W) × made a x (merged w.order offers') (Err (delivery_fault_of fault)) last y')
+      breaks-at w Open r y Memory w' standing' y' offers same joined o =
+          let joins = o.1 in (
+            offers ++ r ∷ [],
+            inr (refl, joins.are_new offers joined.0),
+            (w'.taker, subst (λ k. made a x (merged k (offers ++ r ∷ [])) (Err NoMemory) w'.taker y') same (made-grown w r y (Err NoMemory) w' y' offers same joined.0 joined.1 joins)),
+          )
+      breaks-at w Open r y (Sink code) w' standing' y' offers same joined o =
+          let joins = o.1 in (
+            offers ++ r ∷ [],
+            inr (refl, joins.are_new offers joined.0),
+            (w'.taker, subst (λ k. made a x (merged k (offers ++ r ∷ [])) (Err (Refusal code)) w'.taker y') same (made-grown w r y (Err (Refusal code)) w' y' offers same joined.0 joined.1 joins)),
+          )
+      breaks-at w Open r y Twice w' standing' y' offers same joined o =
+          (offers, inl refl, (w.taker, subst (λ z. made a x (merged w.order offers) (Err NoMemory) w.taker z) (sym o.2) (stopped-at w y offers joined.0 joined.1)))
+      breaks-at w Open r y Gap w' standing' y' offers same joined o = absurd o
+      breaks-at w Open r y Failed w' standing' y' offers same joined o = absurd o
+      breaks-at w Open r y Cancelled w' standing' y' offers same joined o = absurd o
+      breaks-at w (Decided e) r y fault w' standing' y' offers same joined o = absurd (let bad : Err fault ≡ Ok No = o.0 in cc)
+      breaks-at w HasFailed r y fault w' standing' y' offers same joined o = absurd joined
+
+      -- an offer that was refused: the taker broke off what is merged then
+      pub takes-broken : (j : Joiner W T) (r : ChunkResult T) (y : O) (fault : MergeFault) (j' : Joiner W T) (y' : O) (offers : List (ChunkResult T)) → order_of j' ≡ order_of j
+          → HasJoined made a x j y offers → Takes made j r y (Err fault) j' y'
+          → (offers' : List (ChunkResult T)) × AreOneMore offers r offers' × ((last : W) × made a x (merged (order_of j) offers') (Err (delivery_fault_of fault)) last y')
+      takes-broken j r y fault j' y' offers same joined o = breaks-at j.work j.standing r y fault j'.work j'.standing y' offers same joined o
 
   module _ (lawful : IsTaking made) where
     -- nothing was offered to a new joiner

@@ -7,7 +7,6 @@ pub mod Delivered
 pub mod Offers
 pub mod Whole
 pub mod Told
-pub mod Mergers
 pub mod Joiners
 pub mod Maps
 pub mod Lent

@@ -83,5 +83,11 @@ impl<'a, L: Lambda, K: Sink<Item = L::Item>> TakeInto<K> for Deliver<'a, L, L::I
         Ok(ending)
     }
 
+    fn idle(&self, out: &mut K)
+        ensures { out.new ≡ out.old }
+    {
+        out.idle();
+    }
+
     ghost lawful = { made-lawful K.accepts K.refuses (line_of L.meaning) };
 }

@@ -102,6 +102,15 @@ impl<W: Taker> Joiner<W, W::Item> {
         }
     }
 
+    /// Reports where its taker puts things that nothing comes for now.
+    pub fn idle<O>(&self, out: &mut O)
+    where
+        W: TakeInto<O>,
+        ensures { out.new ≡ out.old }
+    {
+        self.work.taker.idle(out);
+    }
+
     /// Whether the answer is decided; not after a failure. Takes no memory.
     pub fn decided(&self) -> bool
         ensures { result ≡ has_decided self.now }

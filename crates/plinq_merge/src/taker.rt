@@ -40,6 +40,10 @@ pub trait TakeInto<O>: Taker {
         ensures last { result ≡ Ok None → ending ≡ None }
         ensures made { made self.old out.old (record { items = items.items; ending = ending }) result self.new out.new };
 
+    /// Reports where it puts things that nothing comes for now.
+    fn idle(&self, out: &mut O)
+        ensures { out.new ≡ out.old };
+
     // One trace after another.
     ghost lawful: { IsTaking made };
 }

@@ -1,8 +1,14 @@
+ghost use Rattle.std.specs.Prelude.{◌≤◌, ◌^◌};
+ghost use Rattle.std.proofs.Props.{props};
+ghost use Rattle.plinq_combine.specs.Combining.{takes_all};
+ghost use Rattle.plinq_merge.specs.Joining.{IsReady};
+ghost use Rattle.plinq_merge.specs.Shown.{end_of_result};
+
 use crate::taken::{Offered, last, part, result_of, stop_key};
 use plinq_aggregate::Sum;
-use plinq_combine::{Combiner, fold_result};
+use plinq_combine::{Fold, fold_result};
 use plinq_keyed::Tail;
-use plinq_merge::{MergeFault, More};
+use plinq_merge::{Joiner, MergeFault, More};
 use plinq_ops::{ChunkResult, FragEnd, Order};
 use plinq_source::Ending;
 use std::alloc::Global;
@@ -23,11 +29,38 @@ struct Case<'a> {
     ending: Result<Ending, MergeFault>,
 }
 
-/// Offers the fold of a result to a combiner.
+/// A joiner of folds, which is always ready for one more.
+#[derive(Drop)]
+struct Folds<'a> {
+    joiner: Joiner<Fold<'a, Sum, i128>, i128>,
+    ghost ready: { IsReady takes_all joiner } by { Prim.hlevel props },
+}
+
+impl<'a> Folds<'a> {
+    fn new(alloc: Global, sum: &'a Sum, order: Order) -> Folds<'a> {
+        Folds {
+            joiner: Joiner::new(alloc, order, Fold::new(sum)),
+        }
+    }
+
+    fn offer(&mut self, offered: ChunkResult<i128>) -> Result<More, MergeFault>
+        requires { end_of_result offered ≤ 2 ^ 40 }
+    {
+        self.joiner.offer(offered, &mut ())
+    }
+
+    /// The sum of what was combined, and how the answer ends.
+    fn finish(self) -> Result<(i128, Ending), MergeFault> {
+        let joined = self.joiner.finish()?;
+        Ok((joined.taker.so_far(), joined.ending))
+    }
+}
+
+/// Offers the fold of a result.
 fn offer(
     rt: &impl Abort,
     alloc: Global,
-    combiner: &mut Combiner<'_, Sum>,
+    folds: &mut Folds<'_>,
     offered: Offered<'_, i64>,
 ) -> Result<More, MergeFault> {
     let Ok(made) = result_of(rt, alloc, offered) else {
@@ -35,18 +68,18 @@ fn offer(
     };
     let folded = fold_result(alloc, &Sum, made)?;
     assert!(rt; folded.first <= 1_000_000 && folded.count <= 1_000_000);
-    combiner.offer(folded)
+    folds.offer(folded)
 }
 
 fn expect(rt: &impl Abort, alloc: Global, case: Case<'_>) {
-    let mut combiner = Combiner::new(alloc, &Sum, case.order);
+    let mut folds = Folds::new(alloc, &Sum, case.order);
     for (offered, answer) in case.turns {
-        assert_eq!(rt; offer(rt, alloc, &mut combiner, *offered), *answer);
+        assert_eq!(rt; offer(rt, alloc, &mut folds, *offered), *answer);
     }
-    match combiner.finish() {
-        Ok(combined) => {
-            assert_eq!(rt; combined.acc, case.sum);
-            assert_eq!(rt; Ok(combined.ending), case.ending);
+    match folds.finish() {
+        Ok((sum, ending)) => {
+            assert_eq!(rt; sum, case.sum);
+            assert_eq!(rt; Ok(ending), case.ending);
         }
         Err(fault) => assert_eq!(rt; Err(fault), case.ending),
     }
@@ -122,12 +155,12 @@ fn the_fold_of_nothing_is_the_seed(rt: HostRuntime) {
 
 #[test]
 fn the_first_key_whose_fold_is_missing_is_told(rt: HostRuntime) {
-    let mut combiner = Combiner::new(rt.alloc(), &Sum, Order::ByKey);
-    assert_eq!(rt; offer(&rt, rt.alloc(), &mut combiner, part(1, &[2])), OPEN);
-    assert_eq!(rt; combiner.merged(), 0);
-    assert_eq!(rt; offer(&rt, rt.alloc(), &mut combiner, part(0, &[4])), OPEN);
-    assert_eq!(rt; combiner.merged(), 2);
-    assert!(rt; !combiner.decided());
+    let mut folds = Folds::new(rt.alloc(), &Sum, Order::ByKey);
+    assert_eq!(rt; offer(&rt, rt.alloc(), &mut folds, part(1, &[2])), OPEN);
+    assert_eq!(rt; folds.joiner.merged(), 0);
+    assert_eq!(rt; offer(&rt, rt.alloc(), &mut folds, part(0, &[4])), OPEN);
+    assert_eq!(rt; folds.joiner.merged(), 2);
+    assert!(rt; !folds.joiner.decided());
 }
 
 /// The fold of a result, at the second attempt where the first is refused.
@@ -141,7 +174,7 @@ fn folded(rt: &impl Abort, alloc: Global, offered: Offered<'_, i64>) -> Option<C
     panic!(rt; "refused twice")
 }
 
-/// Asks for an answer that fits whether the combiner has failed before. Answers whether it has now.
+/// Asks for an answer that fits whether the joiner has failed before. Answers whether it has now.
 fn fails(rt: &impl Abort, answer: Result<More, MergeFault>, failed: bool) -> bool {
     match answer {
         Ok(_) => assert!(rt; !failed),
@@ -151,22 +184,22 @@ fn fails(rt: &impl Abort, answer: Result<More, MergeFault>, failed: bool) -> boo
     answer.is_err()
 }
 
-// After an offer with no room the combiner has failed. Run with each allocation failing in turn.
+// After an offer with no room the joiner has failed. Run with each allocation failing in turn.
 #[test]
-fn no_room_ends_a_combiner(rt: HostRuntime) {
-    let mut combiner = Combiner::new(rt.alloc(), &Sum, Order::ByKey);
+fn no_room_ends_a_joiner_of_folds(rt: HostRuntime) {
+    let mut folds = Folds::new(rt.alloc(), &Sum, Order::ByKey);
     let mut failed = false;
     for offered in [part(2, &[3]), part(0, &[1, 2]), last(3, &[4], Tail::Ended)] {
         let Some(folded) = folded(&rt, rt.alloc(), offered) else {
             return;
         };
         assert!(rt; folded.first <= 1_000_000 && folded.count <= 1_000_000);
-        failed = fails(&rt, combiner.offer(folded), failed);
+        failed = fails(&rt, folds.offer(folded), failed);
     }
-    match combiner.finish() {
-        Ok(combined) => {
+    match folds.finish() {
+        Ok(sum) => {
             assert!(rt; !failed);
-            assert_eq!(rt; (combined.acc, combined.ending), (10, Ending::End));
+            assert_eq!(rt; sum, (10, Ending::End));
         }
         Err(fault) => assert!(rt; failed && fault == MergeFault::Failed),
     }

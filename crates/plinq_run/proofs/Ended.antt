@@ -1,23 +1,21 @@
 -- How a run ends: from its first offer to its report.
-use Rattle.std.specs.Prelude.{◌≡◌, ℕ, ◌≤◌, ◌^◌, List, [], ◌++◌, length, Bool, true, false, Option, Some, None, Result, Ok, Err, IfOk, IfErr, OnOk, refl}
+use Rattle.std.specs.Prelude.{◌≡◌, ℕ, ◌≤◌, ◌^◌, List, [], ◌++◌, length, Bool, true, false, Some, Result, Ok, Err, IfOk, refl}
 use Rattle.std.specs.List.{list_any}
-use Rattle.std.specs.declared.alloc.Global.{Global}
-use Rattle.std.proofs.Common.{sym, ◌∙◌, ap, subst, append-nil, Vec}
-use Rattle.std.proofs.lemmas.List.Elements.{All-nil}
+use Rattle.std.proofs.Common.{sym, ◌∙◌, ap, subst, append-nil}
+use Rattle.std.proofs.lemmas.List.Elements.{All-weaker}
+use Rattle.plinq_source.specs.declared.ending.Ending.{Ending}
 use Rattle.plinq_source.specs.declared.ending.Ending.TheVariants.{End}
 use Rattle.plinq_source.specs.declared.source.Source.{Ghosts as SourceGhosts}
 use Rattle.plinq_source.specs.Trace.{Trace, ended}
 use Rattle.plinq_lambda.specs.Meaning.{Meaning}
-use Rattle.plinq_lambda.specs.declared.lambda.Lambda.{Ghosts}
 use Rattle.plinq_keyed.specs.History.{IsLegalHistory}
-use Rattle.plinq_partition.specs.declared.partition.Partition.{Partition}
 use Rattle.plinq_ops.specs.declared.merge_option.MergeOption.{MergeOption}
 use Rattle.plinq_ops.specs.declared.op.Op.{Op}
 use Rattle.plinq_ops.specs.declared.order.Order.{Order}
 use Rattle.plinq_ops.specs.declared.order.Order.TheVariants.{ByKey, ByArrival}
 use Rattle.plinq_ops.specs.declared.plan.Plan.{Plan}
 use Rattle.plinq_ops.specs.declared.results.ChunkResult.{ChunkResult}
-use Rattle.plinq_ops.specs.Batches.{batches, batches_from}
+use Rattle.plinq_ops.specs.Batches.{batches}
 use Rattle.plinq_ops.specs.ByKey.{are_keyless, is_by_key}
 use Rattle.plinq_ops.specs.Feeding.{is_empty_take}
 use Rattle.plinq_ops.specs.Fragment.{glue}
@@ -31,51 +29,30 @@ use Rattle.plinq_ops.proofs.Answered.{answer-of_none}
 use Rattle.plinq_ops.proofs.Answers.{IsRearranged-refl, Answer-rearranged, Answer-sequential}
 use Rattle.plinq_ops.proofs.Counts.{some_takes_none-stages_of}
 use Rattle.plinq_ops.proofs.Glue.{answer_of-split}
-use Rattle.plinq_ops.proofs.Open.{seq-nothing}
 use Rattle.plinq_ops.proofs.Parts.{worker-keyless}
-use Rattle.plinq_merge.specs.declared.merge_fault.MergeFault.{MergeFault}
-use Rattle.plinq_merge.specs.declared.merger.Merger.{Merger}
+use Rattle.plinq_merge.specs.declared.deliver.Deliver.{Deliver}
+use Rattle.plinq_merge.specs.Delivering.{line_of, Gives, MadeBy}
 use Rattle.plinq_merge.specs.Sending.{Leads}
-use Rattle.plinq_merge.specs.Shown.{Merge, answer, shown}
-use Rattle.plinq_merge.specs.Mergers.{plan_of, IsFor}
-use Rattle.plinq_merge.proofs.Gains.{answer-open}
-use Rattle.plinq_run.specs.declared.conducting.Ended.{Ended}
+use Rattle.plinq_merge.specs.Shown.{merged}
+use Rattle.plinq_run.specs.declared.planning.Ended.{Ended}
 use Rattle.plinq_run.specs.declared.coverage.Coverage.{Coverage}
 use Rattle.plinq_run.specs.declared.report.Report.{Report}
 use Rattle.plinq_run.specs.declared.run_fault.RunFault.{RunFault}
-use Rattle.plinq_run.specs.Endings.{ending_in, reported}
+use Rattle.plinq_run.specs.Endings.{reported}
 use Rattle.plinq_run.specs.Handed.{handed_trace}
-use Rattle.plinq_run.specs.Merged.{merge_for, IsMerging, Merges}
+use Rattle.plinq_run.specs.Merged.{HasEnded, HasBrokenOff}
 use Rattle.plinq_crew.specs.Plans.{IsUndecided}
 use Rattle.plinq_run.specs.Plans.{merged_answer}
-use Rattle.plinq_run.specs.Reaching.{IsOffered, Covers, accounts_for}
-use Rattle.plinq_run.specs.Reports.{MayTake, MayMerge, IsBroken, Ends, HasReported, Reports}
+use Rattle.plinq_run.specs.Reaching.{IsOffered, accounts_for}
+use Rattle.plinq_run.specs.Reports.{MayTake, MayMerge, IsBroken, HasReported, Reports}
 use Rattle.plinq_crew.specs.Results.{IsResult}
-use Rattle.plinq_run.specs.Runs.{HasRun, HasBroken, BreaksFor, Other, Runs, IsReportOf, cause_in_merge, cause_of}
+use Rattle.plinq_run.specs.Runs.{HasRun, HasBroken, BreaksFor, Other, Runs, IsReportOf, cause_of}
 use Rattle.plinq_run.proofs.Handed.{covers-handed}
-use Rattle.plinq_run.proofs.Runs.{whole-run, broken-run}
+use Rattle.plinq_run.proofs.Runs.{begun_line, IsWhole, whole-run, broken-run}
 
 -- nothing was sent yet
 pub none-sent : {K B : Type 0} (accepts : K → B → K → Type 0) (s : K) (bs : List B) → (x : List B) × (x' : List B) × (bs ≡ x ++ x') × Leads accepts s x s
 none-sent accepts s bs = ([], bs, refl, refl)
-
--- before the first offer nothing is shown
-shown-nothing : {T : Type 0} (merge : Merge T) → merge.decided ≡ false → some_takes_none merge.after ≡ false → shown merge [] ≡ []
-shown-nothing merge undecided takes = ap (λ u. batches_from merge.size [] u) (answer-open merge [] undecided ∙ seq-nothing merge.after None takes)
-
-module _ {L T K : Type 0} {lambda : Ghosts L T} (P : ChunkResult T → Type 0) (accepts : K → List T → K → Type 0) (refuses : K → List T → ℕ → K → Type 0) where
-  -- a new merger
-  pub begins-merging : (plan : Plan L) (option : MergeOption) (s : K) (m : Merger L T lambda) → IsUndecided plan → plan_of m ≡ merge_for lambda.meaning plan option → IsFor m []
-      → IsMerging P accepts refuses (merge_for lambda.meaning plan option) s m s
-  begins-merging plan option s m undecided is stands = record {
-    offers = [];
-    are = All-nil P;
-    apart = tt;
-    plan = is;
-    stands = stands;
-    leads = subst (λ bs. Leads accepts s bs s)
-        (sym (shown-nothing (merge_for lambda.meaning plan option) undecided.undecided (sym (some_takes_none-stages_of lambda.meaning plan.after.now) ∙ undecided.after))) refl;
-  }
 
 -- by key the items are taken in their order
 by_key-merged : {L T : Type 0} (meaning : L → Meaning T) (plan : Plan L) (t u : Trace T) → plan.order ≡ ByKey → MayMerge meaning plan t u → u ≡ merged_answer meaning plan t
@@ -100,55 +77,42 @@ none-ended meaning accepts refuses option plan t s fault told =
       broken = subst (λ x. BreaksFor accepts refuses x (batches option (merged_answer meaning plan t)) s s) (sym told) (none-sent accepts s (batches option (merged_answer meaning plan t)));
     }
 
-module _ {L T K : Type 0} {lambda : Ghosts L T} (t : Trace T) (accepts : K → List T → K → Type 0) (refuses : K → List T → ℕ → K → Type 0) (few : length t.items ≤ 2 ^ 40) where
-  -- a run ends with a whole answer, or with the first batches of one
-  pub ended-run : {S U : Type 0} {source : SourceGhosts S U} (plan : Plan L) (option : MergeOption) (s : K) (m : Merger L T lambda) (coverage : Coverage) (fault : Option MergeFault) (s' : K) (result : Result (Ended S U source) RunFault)
-      → IsUndecided plan → Merges (IsOffered (IsResult lambda.meaning plan t) coverage) accepts refuses (merge_for lambda.meaning plan option) s m fault s'
-      → OnOk result (fault ≡ None)
-      → IfOk result (λ e. (offers : List (ChunkResult T)) → IsFor m offers → (answer (plan_of m) offers).ending ≡ Some e.ending)
-      → IfOk result (λ e. e.coverage ≡ coverage)
-      → IfErr result (λ f. cause_of f ≡ cause_in_merge fault)
-      → Ends accepts refuses option (MayMerge lambda.meaning plan) t s s' result
-  ended-run plan option s m coverage fault s' (Ok e) undecided h none ends is_coverage told =
-      let P : ChunkResult T → Type 0 = IsOffered (IsResult lambda.meaning plan t) coverage in
-      let whole = whole-run lambda.meaning plan option undecided t few accepts refuses coverage s m s' e.ending
-      (subst (λ f. Merges P accepts refuses (merge_for lambda.meaning plan option) s m f s') none h) ends in
-      record {
-        answer = whole.answer;
-        may = whole.may;
-        accounts = λ first covers. whole.accounts first (subst (λ x. Covers t x first) is_coverage covers);
-        has_run = whole.has_run;
-      }
-  ended-run plan option s m coverage fault s' (Err f) undecided h none ends is_coverage told =
-      broken-run lambda.meaning plan option undecided t few accepts refuses coverage s m fault s' f h told
+-- a run that delivers
+module _ {L T K : Type 0} (meaning : L → Meaning T) (plan : Plan L) (option : MergeOption) (undecided : IsUndecided plan) (t : Trace T) (few : length t.items ≤ 2 ^ 40)
+    (accepts : K → List T → K → Type 0) (refuses : K → List T → ℕ → K → Type 0) where
+  module _ (P : ChunkResult T → Type 0) (plain : (r : ChunkResult T) → P r → IsResult meaning plan t r) (first : Deliver L T) (begun : line_of meaning first ≡ begun_line meaning plan option) where
+    -- it has delivered an answer
+    pub whole-delivered : {S U : Type 0} {source : SourceGhosts S U} (s s' : K) (ended : Ended S (Deliver L T) U source) → HasEnded (MadeBy accepts refuses meaning) P plan.order first s ended s'
+        → IsWhole meaning plan option undecided t few accepts refuses ended.coverage s s' ended.joined.ending
+    whole-delivered s s' ended h =
+        whole-run meaning plan option undecided t few accepts refuses ended.coverage s s' ended.joined.ending h.offers (line_of meaning ended.joined.taker)
+        (All-weaker (IsOffered P ended.coverage) (IsOffered (IsResult meaning plan t) ended.coverage) (λ r x. (plain r x.0, x.1)) h.offers h.are) h.apart
+        (subst (λ l. Gives accepts refuses l s (merged plan.order h.offers) (Ok (Some ended.joined.ending)) (line_of meaning ended.joined.taker) s') begun (let taken = h.taken in taken.gives))
 
--- what holds of the partitions with which it is reported
-pub back-as : {X S U : Type 0} {source : SourceGhosts S U} (partitions_of : X → Vec (Partition S U source) Global) (P : Vec (Partition S U source) Global → Type 0) (partitions : Vec (Partition S U source) Global) (result : Result X RunFault)
-    → IfOk result (λ x. partitions_of x ≡ partitions) → P partitions → IfOk result (λ x. P (partitions_of x))
-back-as partitions_of P partitions (Ok x) is p = subst P (sym is) p
-back-as partitions_of P partitions (Err f) is p = tt
+    -- or the first batches of one
+    pub broken-delivered : (s s' : K) (fault : RunFault) → HasBrokenOff (MadeBy accepts refuses meaning) P plan.order first s fault s' → IsBroken accepts refuses option (MayMerge meaning plan) t s s' fault
+    broken-delivered s s' fault h =
+        broken-run meaning plan option undecided t few accepts refuses h.how s s' fault h.offers (line_of meaning h.last) (All-weaker P (IsResult meaning plan t) plain h.offers h.are) h.apart
+        (subst (λ l. Gives accepts refuses l s (merged plan.order h.offers) h.how (line_of meaning h.last) s') begun (let taken = h.taken in taken.gives)) h.breaks
 
-module _ {K T : Type 0} (accepts : K → List T → K → Type 0) (refuses : K → List T → ℕ → K → Type 0) (option : MergeOption) (May : Trace T → Trace T → Type 0) (t : Trace T) (s s' : K) where
   -- the report of a run is of the same answer, which its records account for
-  pub ends-reported : {S U : Type 0} {source : SourceGhosts S U} (a : Result (Ended S U source) RunFault) (b : Result Report RunFault) → Ends accepts refuses option May t s s' a → IsReportOf (ending_in a) (reported b)
-      → IfOk b (λ r. IsLegalHistory t r.records.items) → IfOk a (λ e. IfOk b (λ r. accounts_for e.coverage r.records.items ≡ true)) → Reports accepts refuses option May t s s' b
-  ends-reported (Ok e) (Ok r) h is legal all =
+  pub whole-reported : (coverage : Coverage) (s s' : K) (e : Ending) (b : Result Report RunFault) → IsWhole meaning plan option undecided t few accepts refuses coverage s s' e → IsReportOf (Ok e) (reported b)
+      → IfOk b (λ r. IsLegalHistory t r.records.items) → IfOk b (λ r. accounts_for coverage r.records.items ≡ true) → Reports accepts refuses option (MayMerge meaning plan) t s s' b
+  whole-reported coverage s s' e (Ok r) h is legal all =
       record {
         answer = h.answer;
         may = h.may;
-        accounts = h.accounts (handed_trace t r.records.items) (covers-handed t e.coverage r.records.items legal all);
+        accounts = h.accounts (handed_trace t r.records.items) (covers-handed t coverage r.records.items legal all);
         has_run = subst (λ x. HasRun accepts option h.answer s s' x) (sym is) h.has_run;
       }
-  ends-reported (Ok e) (Err f) h is legal all =
+  whole-reported coverage s s' e (Err f) h is legal all =
       record {
         answer = h.answer;
         may = h.may;
         broken = subst (λ x. BreaksFor accepts refuses x (batches option h.answer) s s') (sym is) (batches option h.answer, [], sym (append-nil (batches option h.answer)), h.has_run.delivered);
       }
-  ends-reported (Err f) (Ok r) h is legal all = absurd is
-  ends-reported (Err f) (Err f') h is legal all =
-      record { answer = h.answer; may = h.may; broken = subst (λ x. HasBroken accepts refuses option h.answer s s' x) (sym is) h.broken }
 
+module _ {K T : Type 0} (accepts : K → List T → K → Type 0) (refuses : K → List T → ℕ → K → Type 0) (option : MergeOption) (May : Trace T → Trace T → Type 0) (t : Trace T) (s s' : K) where
   -- what is answered to more is answered here
   pub reports-weaker : (May' : Trace T → Trace T → Type 0) (b : Result Report RunFault) → ((x u : Trace T) → May x u → May' x u) → Reports accepts refuses option May t s s' b
       → Reports accepts refuses option May' t s s' b

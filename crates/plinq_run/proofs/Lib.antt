@@ -3,7 +3,6 @@ mod Arrived
 mod Batches
 mod Covered
 mod Ended
-mod Gathered
 mod Handed
 mod Merged
 mod Parts

@@ -1,76 +1,227 @@
--- One result more.
-use Rattle.std.specs.Prelude.{◌≡◌, ℕ, List, Option, Some, None, Ok, Err, All}
-use Rattle.std.proofs.Common.{refl, sym, ◌∙◌, subst, inl, inr, arith}
-use Rattle.std.proofs.lemmas.List.Elements.{All-push, All-weaker}
-use Rattle.plinq_lambda.specs.declared.lambda.Lambda.{Ghosts}
+-- One part more, and all that were accepted.
+use Rattle.std.specs.Prelude.{◌≡◌, List, [], Bool, Option, Some, None, Result, Ok, Err, All, IfOk, IfErr, OnOk}
+use Rattle.std.proofs.Common.{refl, sym, ◌∙◌, ap, subst, inl, inr, arith}
+use Rattle.std.proofs.lemmas.Fn.{chained_keeps}
+use Rattle.std.proofs.lemmas.List.Elements.{All-nil, All-push, All-weaker}
+use Rattle.plinq_source.specs.declared.ending.Ending.{Ending}
+use Rattle.plinq_source.specs.declared.source.Source.{Ghosts as SourceGhosts}
+use Rattle.plinq_source.specs.Trace.{Trace, open_trace}
+use Rattle.plinq_ops.specs.declared.order.Order.{Order}
 use Rattle.plinq_ops.specs.declared.results.ChunkResult.{ChunkResult}
+use Rattle.plinq_merge.specs.declared.delivery_fault.DeliveryFault.{DeliveryFault}
+use Rattle.plinq_merge.specs.declared.delivery_fault.DeliveryFault.TheVariants.{Memory as NoMemory}
 use Rattle.plinq_merge.specs.declared.merge_fault.MergeFault.{MergeFault}
-use Rattle.plinq_merge.specs.declared.merger.Merger.{Merger}
+use Rattle.plinq_merge.specs.declared.merge_fault.MergeFault.TheVariants.{Memory, Sink, Twice, Gap, Failed, Cancelled}
 use Rattle.plinq_merge.specs.declared.more.More.{More}
-use Rattle.plinq_merge.specs.Sending.{Leads}
-use Rattle.plinq_merge.specs.Shown.{Merge, shown}
-use Rattle.plinq_merge.specs.Mergers.{plan_of, Takes, StopsShort}
+use Rattle.plinq_merge.specs.Joiners.{taker_of, order_of, ending_of, Takes}
+use Rattle.plinq_merge.specs.Mergers.{delivery_fault_of}
+use Rattle.plinq_merge.specs.Shown.{merged}
+use Rattle.plinq_merge.specs.Taking.{IsTaking}
 use Rattle.plinq_merge.specs.Whole.{AreApart}
-use Rattle.plinq_merge.proofs.Mergers.{AreOneMore, takes-ok, takes-err}
+use Rattle.plinq_merge.proofs.Joiners.{AreOneMore, joined-cases, takes-joined, takes-broken, joined-stopped}
+use Rattle.plinq_stream.specs.declared.sent.Sent.{Sent}
+use Rattle.plinq_crew.specs.declared.worker.Crew.{Crew}
+use Rattle.plinq_crew.specs.declared.worker.WorkerContext.{WorkerContext}
+use Rattle.plinq_crew.specs.Polls.{HasAccepted}
+use Rattle.plinq_run.specs.declared.conducting.Returned.{Returned}
+use Rattle.plinq_run.specs.declared.planning.Ended.{Ended}
 use Rattle.plinq_run.specs.declared.coverage.Coverage.{Coverage}
-use Rattle.plinq_run.specs.Merged.{IsMerging, HasStopped, Merges}
-use Rattle.plinq_run.specs.Reaching.{IsOffered, Grows}
+use Rattle.plinq_run.specs.declared.merging.Merging.{Merging}
+use Rattle.plinq_run.specs.declared.merging.MergingInto.{MergingInto}
+use Rattle.plinq_run.specs.declared.run_fault.RunFault.{RunFault}
+use Rattle.plinq_run.specs.declared.run_fault.RunFault.TheVariants.{Memory as NoRoom}
+use Rattle.plinq_run.specs.Conducting.{AcceptsEach, HasReturned, Conducts}
+use Rattle.plinq_run.specs.Merged.{offer_fault, Breaks, AcceptsAfter, AreSame, AcceptsInto, Stands, HasMerged, HasBrokenOff, EndsSo, HasOffered}
+use Rattle.plinq_run.specs.Reaching.{IsOffered, Grows, Reaches}
+use Rattle.plinq_run.specs.Runs.{Cause, Other, cause_in_merge, cause_of}
 use Rattle.plinq_run.proofs.Without.{apart-push}
 
-pub are-more : {T : Type 0} (IsResult : ChunkResult T → Type 0) (offers : List (ChunkResult T)) (r : ChunkResult T) (offers' : List (ChunkResult T))
-    → AreOneMore offers r offers' → All IsResult offers → IsResult r → All IsResult offers'
-are-more IsResult offers r offers' (inl same) are good = subst (All IsResult) (sym same) are
-are-more IsResult offers r offers' (inr more) are good = subst (All IsResult) (sym more.0) (All-push IsResult offers r are good)
+are-more : {T : Type 0} (IsPart : ChunkResult T → Type 0) (offers : List (ChunkResult T)) (r : ChunkResult T) (offers' : List (ChunkResult T))
+    → AreOneMore offers r offers' → All IsPart offers → IsPart r → All IsPart offers'
+are-more IsPart offers r offers' (inl same) are good = subst (All IsPart) (sym same) are
+are-more IsPart offers r offers' (inr more) are good = subst (All IsPart) (sym more.0) (All-push IsPart offers r are good)
 
-pub apart-more : {T : Type 0} (offers : List (ChunkResult T)) (r : ChunkResult T) (offers' : List (ChunkResult T)) → AreOneMore offers r offers' → AreApart offers → AreApart offers'
+apart-more : {T : Type 0} (offers : List (ChunkResult T)) (r : ChunkResult T) (offers' : List (ChunkResult T)) → AreOneMore offers r offers' → AreApart offers → AreApart offers'
 apart-more offers r offers' (inl same) apart = subst AreApart (sym same) apart
 apart-more offers r offers' (inr more) apart = subst AreApart (sym more.0) (apart-push offers r apart more.1)
-
-module _ {L T K : Type 0} {lambda : Ghosts L T} (IsResult : ChunkResult T → Type 0) (accepts : K → List T → K → Type 0) (refuses : K → List T → ℕ → K → Type 0)
-    (merge : Merge T) (s : K) where
-  -- a result that the merger takes in
-  pub merges-ok : (m : Merger L T lambda) (r : ChunkResult T) (s1 : K) (more : More) (m' : Merger L T lambda) (s2 : K)
-      → plan_of m' ≡ plan_of m → Takes accepts refuses m r s1 (Ok more) m' s2 → IsResult r → IsMerging IsResult accepts refuses merge s m s1
-      → IsMerging IsResult accepts refuses merge s m' s2
-  merges-ok m r s1 more m' s2 same takes good h =
-      let on = takes-ok accepts refuses m r s1 more m' s2 h.offers same h.stands takes in
-      record {
-        offers = on.0;
-        are = are-more IsResult h.offers r on.0 on.1 h.are good;
-        apart = apart-more h.offers r on.0 on.1 h.apart;
-        plan = same ∙ h.plan;
-        stands = on.2;
-        leads = subst (λ x. Leads accepts s (shown x on.0) s2) h.plan (on.3 s (subst (λ x. Leads accepts s (shown x h.offers) s1) (sym h.plan) h.leads));
-      }
-
-  -- a result that it refuses
-  pub merges-err : (m : Merger L T lambda) (r : ChunkResult T) (s1 : K) (fault : MergeFault) (m' : Merger L T lambda) (s2 : K)
-      → Takes accepts refuses m r s1 (Err fault) m' s2 → IsResult r → IsMerging IsResult accepts refuses merge s m s1
-      → HasStopped IsResult accepts refuses merge s fault s2
-  merges-err m r s1 fault m' s2 takes good h =
-      let on = takes-err accepts refuses m r s1 fault m' s2 h.offers h.stands takes in
-      record {
-        offers = on.0;
-        are = are-more IsResult h.offers r on.0 on.1 h.are good;
-        apart = apart-more h.offers r on.0 on.1 h.apart;
-        short = subst (λ x. StopsShort accepts refuses s (shown x on.0) fault s2) h.plan (on.2 s (subst (λ x. Leads accepts s (shown x h.offers) s1) (sym h.plan) h.leads));
-      }
-
-module _ {L T K : Type 0} {lambda : Ghosts L T} (P : ChunkResult T → Type 0) (accepts : K → List T → K → Type 0) (refuses : K → List T → ℕ → K → Type 0) where
-  -- results of which less is said
-  pub merges-weaker : (Q : ChunkResult T → Type 0) → ((r : ChunkResult T) → P r → Q r) → (merge : Merge T) (s : K) (m : Merger L T lambda) (fault : Option MergeFault) (s' : K)
-      → Merges P accepts refuses merge s m fault s' → Merges Q accepts refuses merge s m fault s'
-  merges-weaker Q f merge s m None s' h = record { offers = h.offers; are = All-weaker P Q f h.offers h.are; apart = h.apart; plan = h.plan; stands = h.stands; leads = h.leads }
-  merges-weaker Q f merge s m (Some fault) s' h = record { offers = h.offers; are = All-weaker P Q f h.offers h.are; apart = h.apart; short = h.short }
 
 -- what is within a reach is so when it has grown
 reaches-more : {T : Type 0} (P : ChunkResult T → Type 0) (coverage coverage' : Coverage) → Grows coverage coverage' → (r : ChunkResult T) → IsOffered P coverage r → IsOffered P coverage' r
 reaches-more P coverage coverage' grows r x = (x.0, record { end = omega (arith, x.1.end, grows.end); told = λ is. grows.told (x.1.told is) })
 
-pub offered-more : {L T K : Type 0} {lambda : Ghosts L T} (P : ChunkResult T → Type 0) (accepts : K → List T → K → Type 0) (refuses : K → List T → ℕ → K → Type 0)
-    (coverage coverage' : Coverage) → Grows coverage coverage' → (merge : Merge T) (s : K) (m : Merger L T lambda) (fault : Option MergeFault) (s' : K)
-    → Merges (IsOffered P coverage) accepts refuses merge s m fault s' → Merges (IsOffered P coverage') accepts refuses merge s m fault s'
-offered-more P accepts refuses coverage coverage' grows merge s m fault s' h = merges-weaker (IsOffered P coverage) accepts refuses (IsOffered P coverage') (reaches-more P coverage coverage' grows) merge s m fault s' h
+-- a fault of the merge has the cause for which the taker broke off
+breaks-by : (fault : MergeFault) (cause : Cause) → cause ≡ cause_in_merge (Some fault) → Breaks (Err (delivery_fault_of fault)) cause
+breaks-by Memory cause is = is
+breaks-by (Sink code) cause is = is
+breaks-by Twice cause is = is
+breaks-by Gap cause is = is
+breaks-by Failed cause is = is
+breaks-by Cancelled cause is = is
 
-pub same-state : {M F K : Type 0} (m m' : M) (f f' : F) (s s' : K) → m' ≡ m → f' ≡ f → s' ≡ s → (let one : M × (F × K) = (m', (f', s')) in one ≡ (m, (f, s)))
-same-state m m' f f' s s' merger fault sink = rw (merger, fault, sink) refl
+ok-same : {a b : Ending} → (let one : Result Ending MergeFault = Ok a in one ≡ Ok b) → a ≡ b
+ok-same same = cc
+
+gap-not_ok : (e : Ending) → (let one : Result Ending MergeFault = Ok e in one ≡ Err Gap) → ⊥
+gap-not_ok e bad = cc
+
+module _ {W O T : Type 0} (made : W → O → Trace T → Result (Option Ending) DeliveryFault → W → O → Type 0) (lawful : IsTaking made) (IsPart : ChunkResult T → Type 0) (order : Order) (a : W) (x : O) where
+  -- a part was offered to a joiner that had no fault
+  offered-by : (told : Result More MergeFault) (m : Merging W T) (y : O) (part : ChunkResult T) (m' : Merging W T) (y' : O) → Takes made m.joiner part y told m'.joiner y'
+      → order_of m'.joiner ≡ order_of m.joiner → m'.fault ≡ offer_fault told → Grows m.coverage m'.coverage → Reaches m'.coverage part → IsPart part
+      → (offers : List (ChunkResult T)) → All (IsOffered IsPart m.coverage) offers → AreApart offers → Stands made IsPart order a x None m.joiner y offers
+      → HasMerged made IsPart order a x m' y'
+  offered-by (Ok more) m y part m' y' takes same kept grows reaches is offers are apart stands =
+      let on = takes-joined made a x lawful m.joiner part y more m'.joiner y' offers same stands.1 takes in
+      record {
+        offers = on.0;
+        are = are-more (IsOffered IsPart m'.coverage) offers part on.0 on.1
+            (All-weaker (IsOffered IsPart m.coverage) (IsOffered IsPart m'.coverage) (reaches-more IsPart m.coverage m'.coverage grows) offers are) (is, reaches);
+        apart = apart-more offers part on.0 on.1 apart;
+        stands = subst (λ f. Stands made IsPart order a x f m'.joiner y' on.0) (sym kept) (same ∙ stands.0, on.2);
+      }
+  offered-by (Err fault) m y part m' y' takes same kept grows reaches is offers are apart stands =
+      let on = takes-broken made a x lawful m.joiner part y fault m'.joiner y' offers same stands.1 takes in
+      record {
+        offers = on.0;
+        are = are-more (IsOffered IsPart m'.coverage) offers part on.0 on.1
+            (All-weaker (IsOffered IsPart m.coverage) (IsOffered IsPart m'.coverage) (reaches-more IsPart m.coverage m'.coverage grows) offers are) (is, reaches);
+        apart = apart-more offers part on.0 on.1 apart;
+        stands = subst (λ f. Stands made IsPart order a x f m'.joiner y' on.0) (sym kept)
+            (on.2.0, subst (λ o. made a x (merged o on.0) (Err (delivery_fault_of fault)) on.2.0 y') stands.0 on.2.1);
+      }
+
+  accepted-by : (fault : Option MergeFault) (m : Merging W T) (y : O) (part : ChunkResult T) (m' : Merging W T) (y' : O) → m.fault ≡ fault → AcceptsAfter made fault m y part m' y' → IsPart part
+      → (offers : List (ChunkResult T)) → All (IsOffered IsPart m.coverage) offers → AreApart offers → Stands made IsPart order a x fault m.joiner y offers
+      → HasMerged made IsPart order a x m' y'
+  accepted-by None m y part m' y' same accepts is offers are apart stands =
+      offered-by accepts.told m y part m' y' accepts.takes accepts.order accepts.kept accepts.grows accepts.reaches is offers are apart stands
+  accepted-by (Some fault) m y part m' y' same accepts is offers are apart stands =
+      subst (λ n. HasMerged made IsPart order a x n y') (sym accepts.0)
+      (subst (λ z. HasMerged made IsPart order a x m z) (sym accepts.1)
+      (record { offers = offers; are = are; apart = apart; stands = subst (λ f. Stands made IsPart order a x f m.joiner y offers) (sym same) stands }))
+
+  -- all that were accepted
+  pub accepted-all : (before : List (Sent (ChunkResult T))) (received : List (Sent (ChunkResult T))) (wants_close : Bool) (m m' : MergingInto W T O)
+      → HasAccepted (AcceptsEach (AcceptsInto made) IsPart) before m received wants_close m' → HasMerged made IsPart order a x m.merging.now m.out.now
+      → HasMerged made IsPart order a x m'.merging.now m'.out.now
+  accepted-all before received wants_close m m' accepted h =
+      chained_keeps (AcceptsEach (AcceptsInto made) IsPart) (λ xs z. HasMerged made IsPart order a x z.merging.now z.out.now)
+      (λ xs z sent z' from step.
+      let so = step.1 in
+      accepted-by z.merging.now.fault z.merging.now z.out.now sent.item z'.merging.now z'.out.now refl so.accepts step.0 from.offers from.are from.apart from.stands)
+      accepted.taken m m' h accepted.steps
+
+  -- nothing was offered yet
+  pub begun-merged : (m : Merging W T) (y : O) → m.fault ≡ None → Stands made IsPart order a x None m.joiner y [] → HasMerged made IsPart order a x m y
+  begun-merged m y none stands =
+      record { offers = []; are = All-nil (IsOffered IsPart m.coverage); apart = tt; stands = subst (λ f. Stands made IsPart order a x f m.joiner y []) (sym none) stands }
+
+  -- a run that ends before anything was offered
+  pub none-broken : (fault : RunFault) → cause_of fault ≡ Other → HasBrokenOff made IsPart order a x fault x
+  none-broken fault is =
+      record {
+        offers = [];
+        are = All-nil IsPart;
+        apart = tt;
+        last = a;
+        how = Err NoMemory;
+        taken = nothing-merged order (lawful.stops a x [] a x (open_trace []) (lawful.begins a x));
+        breaks = is;
+      }
+    where
+      nothing-merged : (o : Order) → made a x (open_trace []) (Err NoMemory) a x → made a x (merged o []) (Err NoMemory) a x
+      nothing-merged o h = h
+
+  broken-by : (fault : Option MergeFault) (m : Merging W T) (y : O) (told : RunFault) → cause_of told ≡ cause_in_merge fault
+      → (offers : List (ChunkResult T)) → All IsPart offers → AreApart offers → Stands made IsPart order a x fault m.joiner y offers → HasBrokenOff made IsPart order a x told y
+  broken-by None m y told is offers are apart stands =
+      joined-cases made a x m.joiner y offers stands.1
+      (λ no gap waits before.
+      record {
+        offers = offers;
+        are = are;
+        apart = apart;
+        last = taker_of m.joiner;
+        how = Err NoMemory;
+        taken = subst (λ o. made a x (merged o offers) (Err NoMemory) (taker_of m.joiner) y) stands.0 (joined-stopped made a x lawful m.joiner y offers waits before);
+        breaks = is;
+      })
+      (λ e yes ok all.
+      record {
+        offers = offers;
+        are = are;
+        apart = apart;
+        last = taker_of m.joiner;
+        how = Ok (Some e);
+        taken = subst (λ o. made a x (merged o offers) (Ok (Some e)) (taker_of m.joiner) y) stands.0 all;
+        breaks = is;
+      })
+  broken-by (Some fault) m y told is offers are apart stands =
+      record { offers = offers; are = are; apart = apart; last = stands.0; how = Err (delivery_fault_of fault); taken = stands.1; breaks = breaks-by fault (cause_of told) is }
+
+  -- what is reported of what was merged
+  pub merged-ended : {S U : Type 0} {source : SourceGhosts S U} (m : Merging W T) (y : O) (result : Result (Ended S W U source) RunFault) → HasMerged made IsPart order a x m y
+      → OnOk result (m.fault ≡ None) → IfOk result (λ ended. ended.joined.taker ≡ taker_of m.joiner) → IfOk result (λ ended. ending_of m.joiner ≡ Ok ended.joined.ending)
+      → IfOk result (λ ended. ended.coverage ≡ m.coverage) → IfErr result (λ fault. cause_of fault ≡ cause_in_merge m.fault) → EndsSo made IsPart order a x result y
+  merged-ended m y (Ok ended) h none taker ending coverage err =
+      let stands = subst (λ f. Stands made IsPart order a x f m.joiner y h.offers) none h.stands in
+      record {
+        offers = h.offers;
+        are = subst (λ c. All (IsOffered IsPart c) h.offers) (sym coverage) h.are;
+        apart = h.apart;
+        taken = subst (λ b. made a x (merged order h.offers) (Ok (Some ended.joined.ending)) b y) (sym taker)
+            (joined-cases made a x m.joiner y h.offers stands.1
+            (λ no gap waits before. absurd (gap-not_ok ended.joined.ending (sym ending ∙ gap)))
+            (λ e yes ok all. subst (λ o. made a x (merged o h.offers) (Ok (Some ended.joined.ending)) (taker_of m.joiner) y) stands.0
+            (subst (λ e'. made a x (merged (order_of m.joiner) h.offers) (Ok (Some e')) (taker_of m.joiner) y) (ok-same (sym ok ∙ ending)) all)));
+      }
+  merged-ended m y (Err fault) h none taker ending coverage err =
+      broken-by m.fault m y fault err h.offers (All-weaker (IsOffered IsPart m.coverage) IsPart (λ r is. is.0) h.offers h.are) h.apart h.stands
+
+-- parts of which less is said
+module _ {W O T : Type 0} (made : W → O → Trace T → Result (Option Ending) DeliveryFault → W → O → Type 0) (P Q : ChunkResult T → Type 0) (on : (c : ChunkResult T) → P c → Q c) (order : Order) (a : W) (x : O) where
+  pub ends-weaker : {S U : Type 0} {source : SourceGhosts S U} (result : Result (Ended S W U source) RunFault) (y : O) → EndsSo made P order a x result y → EndsSo made Q order a x result y
+  ends-weaker (Ok ended) y h =
+      record {
+        offers = h.offers;
+        are = All-weaker (IsOffered P ended.coverage) (IsOffered Q ended.coverage) (λ c is. (on c is.0, is.1)) h.offers h.are;
+        apart = h.apart;
+        taken = h.taken;
+      }
+  ends-weaker (Err fault) y h =
+      record { offers = h.offers; are = All-weaker P Q on h.offers h.are; apart = h.apart; last = h.last; how = h.how; taken = h.taken; breaks = h.breaks }
+
+-- what was lent stays the same
+pub conducts-same : {L S J P U W O T : Type 0} {source : SourceGhosts S U} (made : W → O → Trace T → Result (Option Ending) DeliveryFault → W → O → Type 0) (IsPart : ChunkResult T → Type 0) (crew : Crew L S J P U U T source) (own : WorkerContext S T U source)
+    (m m' : MergingInto W T O) (result : Result (Returned S U source) RunFault) → Conducts (AcceptsInto made) IsPart crew own m m' result → AreSame m m'
+conducts-same made IsPart crew own m m' (Ok back) h =
+    let accepted = h.accepted in
+    chained_keeps (AcceptsEach (AcceptsInto made) IsPart) (λ xs z. AreSame m z)
+    (λ xs z sent z' at step. let so = step.1 in record { merging = so.same.merging ∙ at.merging; out = so.same.out ∙ at.out }) accepted.taken m m' (record { merging = refl; out = refl }) accepted.steps
+conducts-same made IsPart crew own m m' (Err fault) h = record { merging = ap (λ x. x.merging.ghost_name) h.1; out = ap (λ x. x.out.ghost_name) h.1 }
+
+module _ {L S J P U W O T : Type 0} {source : SourceGhosts S U} (made : W → O → Trace T → Result (Option Ending) DeliveryFault → W → O → Type 0) (IsPart : ChunkResult T → Type 0) (crew : Crew L S J P U U T source) (own : WorkerContext S T U source) where
+  -- what was lent is as it is given back
+  pub conducts-offered : (first last : MergingInto W T O) {m m' : Merging W T} {x y : O} {result : Result (Returned S U source) RunFault} → first.merging.now ≡ m → first.out.now ≡ x → last.merging.now ≡ m' → last.out.now ≡ y
+      → Conducts (AcceptsInto made) IsPart crew own first last result → HasOffered made IsPart crew own m x m' y result
+  conducts-offered first last a b c d h = record { first = first; begun = (a, b); last = last; ended = (c, d); conducts = h }
+
+  pub offered-ok : (m m' : Merging W T) (x y : O) (result : Result (Returned S U source) RunFault) (back : Returned S U source) → result ≡ Ok back → (h : HasOffered made IsPart crew own m x m' y result)
+      → HasReturned (AcceptsInto made) IsPart crew own h.first h.last back
+  offered-ok m m' x y result back is h = subst (Conducts (AcceptsInto made) IsPart crew own h.first h.last) is h.conducts
+
+  -- without room nothing changes
+  pub offered-none : (m m' : Merging W T) (x y : O) (result : Result (Returned S U source) RunFault) (fault : RunFault) → result ≡ Err fault → HasOffered made IsPart crew own m x m' y result → (fault ≡ NoRoom) × (y ≡ x)
+  offered-none m m' x y result fault is h =
+      let none = subst (Conducts (AcceptsInto made) IsPart crew own h.first h.last) is h.conducts in
+      (none.0, sym h.ended.1 ∙ ap (λ l. l.out.now) none.1 ∙ h.begun.1)
+
+  module _ (lawful : IsTaking made) (order : Order) (a : W) where
+    -- what stands for the offers
+    pub offered-merged : (m m' : Merging W T) (x y : O) (result : Result (Returned S U source) RunFault) (back : Returned S U source) → result ≡ Ok back → HasOffered made IsPart crew own m x m' y result
+        → HasMerged made IsPart order a x m x → HasMerged made IsPart order a x m' y
+    offered-merged m m' x y result back is h begun =
+        let returned = offered-ok m m' x y result back is h in
+        let start = subst (λ z. HasMerged made IsPart order a x h.first.merging.now z) (sym h.begun.1) (subst (λ n. HasMerged made IsPart order a x n x) (sym h.begun.0) begun) in
+        let all = accepted-all made lawful IsPart order a x [] _ _ h.first h.last returned.accepted start in
+        subst (λ n. HasMerged made IsPart order a x n y) h.ended.0 (subst (λ z. HasMerged made IsPart order a x h.last.merging.now z) h.ended.1 all)

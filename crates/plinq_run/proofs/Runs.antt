@@ -1,12 +1,11 @@
 -- What was merged is how an answer begins, and all of it where the answer has ended.
-use Rattle.std.specs.Prelude.{◌≡◌, ℕ, ◌≤◌, ◌^◌, List, [], ◌∷◌, length, Option, Some, None, All, refl}
+use Rattle.std.specs.Prelude.{◌≡◌, ℕ, ◌≤◌, ◌^◌, List, [], ◌∷◌, length, Option, Some, None, Result, Ok, Err, All, refl}
 use Rattle.std.proofs.Common.{sym, ◌∙◌, ap, subst, append-nil, arith}
 use Rattle.std.proofs.lemmas.List.Elements.{All-head, All-tail, All-weaker}
 use Rattle.plinq_source.specs.declared.ending.Ending.{Ending}
 use Rattle.plinq_source.specs.Trace.{Trace, followed}
 use Rattle.plinq_source.proofs.Followed.{followed-ended}
 use Rattle.plinq_lambda.specs.Meaning.{Meaning}
-use Rattle.plinq_lambda.specs.declared.lambda.Lambda.{Ghosts}
 use Rattle.plinq_ops.specs.declared.merge_option.MergeOption.{MergeOption}
 use Rattle.plinq_ops.specs.declared.order.Order.{Order}
 use Rattle.plinq_ops.specs.declared.order.Order.TheVariants.{ByKey, ByArrival}
@@ -14,28 +13,28 @@ use Rattle.plinq_ops.specs.declared.plan.Plan.{Plan}
 use Rattle.plinq_ops.specs.declared.results.ChunkResult.{ChunkResult}
 use Rattle.plinq_ops.specs.Batches.{batch_size, batches, batches_from}
 use Rattle.plinq_ops.specs.Fragment.{glue}
+use Rattle.plinq_ops.specs.Operator.{stages_of}
 use Rattle.plinq_ops.specs.Row.{AreOffers}
 use Rattle.plinq_ops.specs.Stage.{seq, seq_after}
 use Rattle.plinq_ops.proofs.Stages.{seq-followed}
-use Rattle.plinq_merge.specs.declared.merge_fault.MergeFault.{MergeFault}
-use Rattle.plinq_merge.specs.declared.merge_fault.MergeFault.TheVariants.{Memory as NoMemory, Sink as Refusal, Twice, Gap, Failed, Cancelled}
-use Rattle.plinq_merge.specs.declared.merger.Merger.{Merger}
-use Rattle.plinq_merge.specs.Sending.{IsCutOff}
+use Rattle.plinq_merge.specs.declared.delivery_fault.DeliveryFault.{DeliveryFault}
+use Rattle.plinq_merge.specs.declared.delivery_fault.DeliveryFault.TheVariants.{Memory as NoMemory, Sink as Refusal}
+use Rattle.plinq_merge.specs.Delivering.{Line, Gives}
+use Rattle.plinq_merge.specs.Sending.{Leads, IsCutOff}
 use Rattle.plinq_merge.specs.Shown.{Merge, merged, answer, shown}
-use Rattle.plinq_merge.specs.Mergers.{plan_of, IsFor, delivery_fault_of, StopsShort}
 use Rattle.plinq_merge.specs.Whole.{AreTrueTails, AreApart, AreFirstOf}
 use Rattle.plinq_merge.proofs.Gains.{answer-open}
 use Rattle.plinq_merge.specs.Sent.{cut-before}
 use Rattle.plinq_merge.proofs.Whole.{merged-begins, batches-first}
 use Rattle.plinq_run.specs.declared.coverage.Coverage.{Coverage}
 use Rattle.plinq_run.specs.declared.run_fault.RunFault.{RunFault}
-use Rattle.plinq_run.specs.Merged.{merge_for, Merges}
+use Rattle.plinq_run.specs.Merged.{merge_for, Breaks}
 use Rattle.plinq_crew.specs.Plans.{IsUndecided}
 use Rattle.plinq_run.specs.Plans.{merged_answer}
 use Rattle.plinq_run.specs.Reaching.{IsOffered, Covers}
 use Rattle.plinq_run.specs.Reports.{MayTake, MayMerge, IsBroken}
 use Rattle.plinq_crew.specs.Results.{IsResult}
-use Rattle.plinq_run.specs.Runs.{HasRun, Cause, SinkRefused, Other, cause_in_merge, cause_of, BreaksFor}
+use Rattle.plinq_run.specs.Runs.{HasRun, Cause, SinkRefused, Other, cause_of, BreaksFor}
 use Rattle.plinq_run.proofs.Arrived.{arrival-begins}
 use Rattle.plinq_run.proofs.Covered.{result-covered}
 
@@ -103,14 +102,12 @@ module _ {L T : Type 0} (meaning : L → Meaning T) (plan : Plan L) (option : Me
       let first = batches-first (batch_size option) (answer Made offers).items (answer Made offers).ending begins.0 in
       (first.0, ap (batches_from (batch_size option) []) begins.1 ∙ first.1)
 
+-- what begins to deliver the answer of this plan
+abbrev pub begun_line : {L T : Type 0} → (L → Meaning T) → Plan L → MergeOption → Line T
+begun_line meaning plan option = record { after = stages_of meaning plan.after.now; now = stages_of meaning plan.after.now; held = []; size = batch_size option }
+
 module _ {L T K : Type 0} (meaning : L → Meaning T) (plan : Plan L) (option : MergeOption) (undecided : IsUndecided plan) (t : Trace T) (few : length t.items ≤ 2 ^ 40)
     (accepts : K → List T → K → Type 0) (refuses : K → List T → ℕ → K → Type 0) where
-  abbrev Merged : {L' : Type 0} {lambda : Ghosts L' T} → Coverage → K → Merger L' T lambda → Option MergeFault → K → Type 0
-  Merged coverage s m fault s' = Merges (IsOffered (IsResult meaning plan t) coverage) accepts refuses (merge_for meaning plan option) s m fault s'
-
-  abbrev Ended : {L' : Type 0} {lambda : Ghosts L' T} → Merger L' T lambda → Ending → Type 0
-  Ended m e = (offers : List (ChunkResult T)) → IsFor m offers → (answer (plan_of m) offers).ending ≡ Some e
-
   -- an answer was delivered, and what has all that was offered of the source has it too
   pub record IsWhole (coverage : Coverage) (s s' : K) (e : Ending) : Type 0 where
     pub answer : Trace T
@@ -118,44 +115,43 @@ module _ {L T K : Type 0} (meaning : L → Meaning T) (plan : Plan L) (option : 
     pub accounts : (first : Trace T) → Covers t coverage first → MayMerge meaning plan first answer
     pub has_run : HasRun accepts option answer s s' e
 
-  pub whole-run : {L' : Type 0} {lambda : Ghosts L' T} (coverage : Coverage) (s : K) (m : Merger L' T lambda) (s' : K) (e : Ending) → Merged coverage s m None s' → Ended m e → IsWhole coverage s s' e
-  whole-run coverage s m s' e h ends =
+  pub whole-run : (coverage : Coverage) (s : K) (s' : K) (e : Ending) (offers : List (ChunkResult T)) (l' : Line T) → All (IsOffered (IsResult meaning plan t) coverage) offers → AreApart offers
+      → Gives accepts refuses (begun_line meaning plan option) s (merged plan.order offers) (Ok (Some e)) l' s' → IsWhole coverage s s' e
+  whole-run coverage s s' e offers l' are apart gives =
       let made : Merge T = merge_for meaning plan option in
-      let ended : (answer made h.offers).ending ≡ Some e = ap (λ x. (answer x h.offers).ending) (sym h.plan) ∙ ends h.offers h.stands in
+      let open_now : answer made offers ≡ seq made.after (merged plan.order offers) = answer-open made offers undecided.undecided in
+      let ended : (answer made offers).ending ≡ Some e = ap (λ u. u.ending) open_now ∙ gives.0 in
       record {
-        answer = answer made h.offers;
-        may = ended-answer meaning plan option undecided t h.offers e few
-            (All-weaker (IsOffered (IsResult meaning plan t) coverage) (IsResult meaning plan t) (λ r x. x.0) h.offers h.are) h.apart ended;
-        accounts = λ first covers. ended-answer meaning plan option undecided first h.offers e (omega (arith, few, covers.within))
-            (All-weaker (IsOffered (IsResult meaning plan t) coverage) (IsResult meaning plan first) (λ r x. result-covered meaning plan t first coverage r few covers x) h.offers h.are) h.apart ended;
-        has_run = record { delivered = h.leads; ending = ended };
+        answer = answer made offers;
+        may = ended-answer meaning plan option undecided t offers e few (All-weaker (IsOffered (IsResult meaning plan t) coverage) (IsResult meaning plan t) (λ r x. x.0) offers are) apart ended;
+        accounts = λ first covers. ended-answer meaning plan option undecided first offers e (omega (arith, few, covers.within))
+            (All-weaker (IsOffered (IsResult meaning plan t) coverage) (IsResult meaning plan first) (λ r x. result-covered meaning plan t first coverage r few covers x) offers are) apart ended;
+        has_run = record { delivered = subst (λ u. Leads accepts s (batches option u) s') (sym open_now) gives.1; ending = ended };
       }
 
-  short-of : (coverage : Coverage) (s : K) (offers : List (ChunkResult T)) (fault : MergeFault) (s' : K) (told : RunFault) (cause : Cause) → All (IsOffered (IsResult meaning plan t) coverage) offers → AreApart offers
-      → StopsShort accepts refuses s (shown (merge_for meaning plan option) offers) fault s' → ((bs : List (List T)) → StopsShort accepts refuses s bs fault s' → BreaksFor accepts refuses cause bs s s') → cause_of told ≡ cause
+  short-of : (s : K) (offers : List (ChunkResult T)) (fault : DeliveryFault) (s' : K) (told : RunFault) (cause : Cause) → All (IsResult meaning plan t) offers → AreApart offers
+      → IsCutOff accepts refuses s (batches_from (batch_size option) [] (seq (stages_of meaning plan.after.now) (merged plan.order offers))) fault s'
+      → ((bs : List (List T)) → IsCutOff accepts refuses s bs fault s' → BreaksFor accepts refuses cause bs s s') → cause_of told ≡ cause
       → IsBroken accepts refuses option (MayMerge meaning plan) t s s' told
-  short-of coverage s offers fault s' told cause are apart short on is =
-      let plain = All-weaker (IsOffered (IsResult meaning plan t) coverage) (IsResult meaning plan t) (λ r x. x.0) offers are in
-      let begun = begun-in meaning plan t plan.order refl few undecided offers plain apart in
+  short-of s offers fault s' told cause are apart short on is =
+      let made : Merge T = merge_for meaning plan option in
+      let begun = begun-in meaning plan t plan.order refl few undecided offers are apart in
       let first = begun-shown meaning plan option undecided t offers begun in
-      let sent = cut-before accepts refuses s (shown (merge_for meaning plan option) offers) first.0 (delivery_fault_of fault) s' short in
+      let shown-so = subst (λ u. IsCutOff accepts refuses s (batches_from (batch_size option) [] u) fault s') (sym (answer-open made offers undecided.undecided)) short in
+      let sent = cut-before accepts refuses s (shown made offers) first.0 fault s' shown-so in
       let all = batches option (merged_answer meaning plan begun.taken) in
       record {
         answer = merged_answer meaning plan begun.taken;
         may = record { taken = begun.taken; may = begun.may; is = refl };
-        broken = subst (λ c. BreaksFor accepts refuses c all s s') (sym is)
-            (on all (subst (λ bs. IsCutOff accepts refuses s bs (delivery_fault_of fault) s') (sym first.1) sent));
+        broken = subst (λ c. BreaksFor accepts refuses c all s s') (sym is) (on all (subst (λ bs. IsCutOff accepts refuses s bs fault s') (sym first.1) sent));
       }
 
   -- it was broken off
-  pub broken-run : {L' : Type 0} {lambda : Ghosts L' T} (coverage : Coverage) (s : K) (m : Merger L' T lambda) (fault : Option MergeFault) (s' : K) (told : RunFault)
-      → Merged coverage s m fault s' → cause_of told ≡ cause_in_merge fault → IsBroken accepts refuses option (MayMerge meaning plan) t s s' told
-  broken-run coverage s m None s' told h is =
-      let all : List (List T) = shown (merge_for meaning plan option) h.offers in
-      short-of coverage s h.offers NoMemory s' told Other h.are h.apart (all, [], sym (append-nil all), h.leads) (λ bs x. x) is
-  broken-run coverage s m (Some (Refusal code)) s' told h is = short-of coverage s h.offers (Refusal code) s' told (SinkRefused code) h.are h.apart h.short (λ bs x. x) is
-  broken-run coverage s m (Some NoMemory) s' told h is = short-of coverage s h.offers NoMemory s' told Other h.are h.apart h.short (λ bs x. x) is
-  broken-run coverage s m (Some Twice) s' told h is = short-of coverage s h.offers Twice s' told Other h.are h.apart h.short (λ bs x. x) is
-  broken-run coverage s m (Some Gap) s' told h is = short-of coverage s h.offers Gap s' told Other h.are h.apart h.short (λ bs x. x) is
-  broken-run coverage s m (Some Failed) s' told h is = short-of coverage s h.offers Failed s' told Other h.are h.apart h.short (λ bs x. x) is
-  broken-run coverage s m (Some Cancelled) s' told h is = short-of coverage s h.offers Cancelled s' told Other h.are h.apart h.short (λ bs x. x) is
+  pub broken-run : (how : Result (Option Ending) DeliveryFault) (s : K) (s' : K) (told : RunFault) (offers : List (ChunkResult T)) (l' : Line T) → All (IsResult meaning plan t) offers → AreApart offers
+      → Gives accepts refuses (begun_line meaning plan option) s (merged plan.order offers) how l' s' → Breaks how (cause_of told) → IsBroken accepts refuses option (MayMerge meaning plan) t s s' told
+  broken-run (Ok None) s s' told offers l' are apart gives breaks = absurd breaks
+  broken-run (Ok (Some e)) s s' told offers l' are apart gives breaks =
+      let all : List (List T) = batches_from (batch_size option) [] (seq (stages_of meaning plan.after.now) (merged plan.order offers)) in
+      short-of s offers NoMemory s' told Other are apart (all, [], sym (append-nil all), gives.1) (λ bs x. x) breaks
+  broken-run (Err NoMemory) s s' told offers l' are apart gives breaks = short-of s offers NoMemory s' told Other are apart gives (λ bs x. x) breaks
+  broken-run (Err (Refusal code)) s s' told offers l' are apart gives breaks = short-of s offers (Refusal code) s' told (SinkRefused code) are apart gives (λ bs x. x) breaks

@@ -1,33 +1,38 @@
 -- Where a run reports no fault, all that its workers were to send was received.
-use Rattle.std.proofs.Common.{◌≡◌, ◌||◌, ℕ, List, [], drop, Option, Some, None, is_some, true, false, true≢false, All, Result, Ok, Err, IfOk, OnOk, Vec, not, Bool, refl, sym, ap, subst}
+use Rattle.std.proofs.Common.{◌≡◌, ◌||◌, List, [], drop, Option, Some, None, is_some, true, false, true≢false, All, Result, Ok, Err, IfOk, OnOk, Vec, not, Bool, refl, sym, ap, ◌∙◌, subst}
 use Rattle.std.proofs.lemmas.List.Elements.{All-weaker}
 use Rattle.std.specs.Prelude.{◌==◌}
 use Rattle.std.specs.Option.{option_or}
 use Rattle.std.specs.declared.alloc.Global.{Global}
 use Rattle.plinq_source.specs.declared.ending.Ending.{Ending}
 use Rattle.plinq_source.specs.declared.source.Source.{Ghosts as SourceGhosts}
-use Rattle.plinq_lambda.specs.declared.lambda.Lambda.{Ghosts}
+use Rattle.plinq_source.specs.Trace.{Trace}
+use Rattle.plinq_ops.specs.declared.order.Order.{Order}
 use Rattle.plinq_ops.specs.declared.results.ChunkResult.{ChunkResult}
 use Rattle.plinq_merge.specs.declared.merge_fault.MergeFault.{MergeFault}
-use Rattle.plinq_merge.specs.declared.merger.Merger.{Merger}
-use Rattle.plinq_merge.specs.Mergers.{plan_of, IsFor}
-use Rattle.plinq_merge.specs.Shown.{Merge, answer}
+use Rattle.plinq_merge.specs.declared.delivery_fault.DeliveryFault.{DeliveryFault}
+use Rattle.plinq_merge.specs.Joiners.{taker_of, ending_of}
 use Rattle.plinq_partition.specs.declared.partition.Partition.{Partition}
 use Rattle.plinq_stream.specs.declared.known.PassKnowledge.{PassKnowledge}
 use Rattle.plinq_stream.specs.declared.sent.Sent.{Sent}
 use Rattle.plinq_stream.specs.declared.stream_pass.StreamPass.{StreamPass}
 use Rattle.plinq_stream.specs.Passes.{known}
-use Rattle.plinq_stream.specs.Streams.{HasReceivedAll}
+use Rattle.plinq_stream.specs.Streams.{has, under, HasReceivedAll}
 use Rattle.plinq_stream.proofs.Under.{or-none, or-right}
 use Rattle.plinq_crew.specs.declared.starting.WorkerFaults.{WorkerFaults}
 use Rattle.plinq_crew.specs.Noted.{has_worker_fault}
-use Rattle.plinq_crew.specs.Working.{IsAnsweredBy, IsWhollyAnsweredBy}
+use Rattle.plinq_crew.specs.Working.{IsAnsweredBy, IsWhollyAnsweredBy, Follows}
+use Rattle.plinq_partition.specs.Partitions.{holding_of}
 use Rattle.plinq_crew.proofs.Working.{answered-wholly}
 use Rattle.plinq_crew.specs.declared.worker_count.WorkerCount.{WorkerCount}
 use Rattle.plinq_run.specs.declared.run_fault.RunFault.{RunFault}
 use Rattle.plinq_run.specs.declared.run_fault.RunFault.TheVariants.{Memory, Thread, Tickets}
 use Rattle.plinq_crew.specs.Polls.{HasAccepted}
-use Rattle.plinq_run.specs.Merged.{OffersEach, WereOffered}
+use Rattle.plinq_run.specs.declared.planning.Ended.{Ended}
+use Rattle.plinq_run.specs.declared.merging.Merging.{Merging}
+use Rattle.plinq_run.specs.declared.merging.MergingInto.{MergingInto}
+use Rattle.plinq_run.specs.Conducting.{AcceptsEach}
+use Rattle.plinq_run.specs.Merged.{AcceptsInto, Stands, WereAccepted}
 use Rattle.plinq_run.specs.Faults.{first_told, told_if, refused_by_sink, is_out_of_memory}
 
 none-before : {A : Type 0} (x y : Option A) → option_or x y ≡ None → x ≡ None
@@ -67,20 +72,38 @@ told-all IsOf partitions_of Else a b faults fault worker_count partitions (Ok x)
 )
 told-all IsOf partitions_of Else a b faults fault worker_count partitions (Err told) of sent numbers none same all answered also = tt
 
--- what was received was offered, where it is reported how the answer ended
-pub told-offered : {X L K T : Type 0} {lambda : Ghosts L T} (accepts : K → List T → K → Type 0) (refuses : K → List T → ℕ → K → Type 0) (merge : Merge T) (received : List (Sent (ChunkResult T))) (s s' : K) (ending_of : X → Ending)
-    (first last : Merger L T lambda) (fault : Option MergeFault) (wants_close : Bool) (r : Result X RunFault)
-    → plan_of first ≡ merge → IsFor first [] → OnOk r (fault ≡ None)
-    → IfOk r (λ x. (offers : List (ChunkResult T)) → IsFor last offers → (answer (plan_of last) offers).ending ≡ Some (ending_of x))
-    → HasAccepted (OffersEach accepts refuses) [] (first, (None, s)) received wants_close (last, (fault, s'))
-    → IfOk r (λ x. WereOffered lambda accepts refuses merge received (ending_of x) s s')
-told-offered accepts refuses merge received s s' ending_of first last fault wants_close (Ok x) plan begun none ends taken = record {
-  first = first;
-  plan = plan;
-  begun = begun;
-  last = last;
-  ends = ends;
-  wants_close = wants_close;
-  taken = subst (λ f. HasAccepted (OffersEach accepts refuses) [] (first, (None, s)) received wants_close (last, (f, s'))) none taken;
-}
-told-offered accepts refuses merge received s s' ending_of first last fault wants_close (Err told) plan begun none ends taken = tt
+-- what a pass has answered is answered by one that knows the same
+pub answered-same : {S T M : Type 0} {source : SourceGhosts S T} (a b : PassKnowledge (ChunkResult M)) (faults : WorkerFaults) (ps : List (Partition S T source)) → b.sent ≡ a.sent → b.numbers ≡ a.numbers
+    → All (IsAnsweredBy 0 a faults) ps → All (IsAnsweredBy 0 b faults) ps
+answered-same a b faults ps sent numbers answered =
+    All-weaker (IsAnsweredBy 0 a faults) (IsAnsweredBy 0 b faults)
+    (λ p h. record {
+      number = h.number;
+      above = h.above;
+      own = ap (has h.number) numbers ∙ h.own;
+      fault = h.fault;
+      noted = h.noted;
+      follows = subst (λ l. Follows (holding_of p).share h.fault (under h.number l)) (sym sent) h.follows;
+    }) ps answered
+
+-- what was received was accepted, where it is reported how the answer ended
+pub told-accepted : {S U W O T : Type 0} {source : SourceGhosts S U} (made : W → O → Trace T → Result (Option Ending) DeliveryFault → W → O → Type 0) (IsPart : ChunkResult T → Type 0) (order : Order) (a : W) (m m' : Merging W T) (x y : O)
+    (received : List (Sent (ChunkResult T))) (first last : MergingInto W T O) (wants_close : Bool) (r : Result (Ended S W U source) RunFault) → (first.merging.now ≡ m) × (first.out.now ≡ x) → (last.merging.now ≡ m') × (last.out.now ≡ y)
+    → Stands made IsPart order a x None m.joiner x [] → m.fault ≡ None → OnOk r (m'.fault ≡ None)
+    → IfOk r (λ ended. ended.joined.taker ≡ taker_of m'.joiner) → IfOk r (λ ended. ending_of m'.joiner ≡ Ok ended.joined.ending)
+    → HasAccepted (AcceptsEach (AcceptsInto made) IsPart) [] first received wants_close last
+    → IfOk r (λ ended. WereAccepted made IsPart order a x received ended.joined y)
+told-accepted made IsPart order a m m' x y received first last wants_close (Ok ended) begun same new sound none taker ending taken =
+    record {
+      first = first;
+      new = subst (λ n. Stands made IsPart order a x None n.joiner x []) (sym begun.0) new;
+      sound = ap (λ n. n.fault) begun.0 ∙ sound;
+      last = last;
+      still = ap (λ n. n.fault) same.0 ∙ none;
+      ending = ap (λ n. ending_of n.joiner) same.0 ∙ ending;
+      taker = taker ∙ ap (λ n. taker_of n.joiner) (sym same.0);
+      out = (begun.1, same.1);
+      wants_close = wants_close;
+      taken = taken;
+    }
+told-accepted made IsPart order a m m' x y received first last wants_close (Err told) begun same new sound none taker ending taken = tt

@@ -1,36 +1,39 @@
 -- A run of folds reports what folding its results' answer would: after the folds that came stand the results that they are of.
-use Rattle.std.specs.Prelude.{◌≡◌, ⊤, ℕ, ◌≤◌, ◌^◌, List, [], ◌∷◌, length, ◌||◌, Option, Some, None, Result, Ok, Err, All, IfOk, IfErr, OnOk, refl}
+use Rattle.std.specs.Prelude.{◌≡◌, ⊤, ℕ, ◌≤◌, ◌^◌, List, [], ◌∷◌, length, ◌||◌, Option, Some, None, Result, Ok, Err, All, refl}
 use Rattle.std.proofs.Common.{sym, ◌∙◌, ap, subst}
 use Rattle.std.proofs.lemmas.List.Elements.{All-cons, All-head, All-tail, All-nil, All-weaker}
 use Rattle.plinq_source.specs.declared.ending.Ending.{Ending}
 use Rattle.plinq_source.specs.declared.ending.Ending.TheVariants.{End, Refused, Fault}
 use Rattle.plinq_source.specs.Trace.{Trace}
 use Rattle.plinq_lambda.specs.Meaning.{Meaning}
-use Rattle.plinq_aggregate.specs.declared.aggregator.Aggregator.{Ghosts}
-use Rattle.plinq_aggregate.specs.Folding.{Folding}
+use Rattle.plinq_source.specs.declared.source.Source.{Ghosts as SourceGhosts}
+use Rattle.plinq_aggregate.specs.Folding.{Folding, folded, IsFolding}
 use Rattle.plinq_ops.specs.declared.merge_option.MergeOption.TheVariants.{FullyBuffered}
-use Rattle.plinq_ops.specs.declared.order.Order.{Order}
 use Rattle.plinq_ops.specs.declared.plan.Plan.{Plan}
 use Rattle.plinq_ops.specs.declared.results.ChunkResult.{ChunkResult}
 use Rattle.plinq_ops.specs.Operator.{stages_of}
 use Rattle.plinq_ops.specs.Stage.{seq}
-use Rattle.plinq_merge.specs.declared.merge_fault.MergeFault.{MergeFault}
+use Rattle.plinq_merge.specs.declared.delivery_fault.DeliveryFault.{DeliveryFault}
+use Rattle.plinq_merge.specs.declared.delivery_fault.DeliveryFault.TheVariants.{Memory as NoMemory, Sink as Refusal}
 use Rattle.plinq_merge.specs.Keys.{is_within, is_offered}
 use Rattle.plinq_merge.specs.Shown.{merged, answer, end_of_result}
 use Rattle.plinq_merge.specs.Whole.{AreApart}
 use Rattle.plinq_merge.proofs.Gains.{answer-open}
 use Rattle.plinq_combine.specs.declared.combined.Combined.{Combined}
-use Rattle.plinq_combine.specs.declared.combiner.Combiner.{Combiner}
-use Rattle.plinq_combine.specs.Combiners.{IsFor}
+use Rattle.plinq_combine.specs.declared.fold.Fold.{Fold}
+use Rattle.plinq_combine.specs.Combining.{aggregator_of, acc_of, IsEmpty, Made, MadeBy}
 use Rattle.plinq_combine.specs.Folds.{IsFoldOf, AreFoldsOf}
+use Rattle.plinq_combine.proofs.Finished.{fold-finished}
 use Rattle.plinq_crew.specs.Plans.{IsUndecided}
 use Rattle.plinq_crew.specs.Results.{IsResult, IsPart}
+use Rattle.plinq_run.specs.declared.planning.Ended.{Ended}
 use Rattle.plinq_run.specs.declared.run_fault.RunFault.{RunFault}
 use Rattle.plinq_run.specs.Aggregates.{Aggregates, AggregatesSome, value_at}
-use Rattle.plinq_run.specs.Gathered.{IsGathering, Gathers, HasFinished, FoldsSome, without_result, value_of}
+use Rattle.plinq_run.specs.Folded.{HasFinished, FoldsSome, value_of}
+use Rattle.plinq_run.specs.Merged.{merge_for, Breaks, HasEnded, HasBrokenOff}
+use Rattle.plinq_run.specs.Reaching.{IsOffered}
 use Rattle.plinq_run.specs.Reports.{MayMerge}
-use Rattle.plinq_run.specs.Runs.{cause_in_merge, cause_of}
-use Rattle.plinq_run.specs.Merged.{merge_for}
+use Rattle.plinq_run.specs.Runs.{Cause, Other, cause_of}
 use Rattle.plinq_run.proofs.Runs.{ended-answer}
 
 module _ {T A O : Type 0} (f : Folding T A O) where
@@ -71,7 +74,7 @@ module _ {L T A O : Type 0} (f : Folding T A O) (meaning : L → Meaning T) (pla
       let more = unfolded cs (All-tail IsFolded c cs are) in
       record { results = one.result ∷ more.results; are = All-cons (IsResult meaning plan t) one.result more.results one.is more.are; folds = (one.made, more.folds) }
 
-  -- what a finished combiner reports is so of an answer that the plan may have, where nothing stands after the merge
+  -- what a finished fold reports is so of an answer that the plan may have, where nothing stands after the merge
   finished-answer : (made : Combined A) → length t.items ≤ 2 ^ 40 → IsUndecided plan → plan.after.now ≡ [] → (cs : List (ChunkResult A)) → All IsFolded cs → AreApart cs
       → ((results : List (ChunkResult T)) → AreFoldsOf f results cs → HasFinished f (merged plan.order results) made)
       → (u : Trace T) × MayMerge meaning plan t u × HasFinished f u made
@@ -84,29 +87,28 @@ module _ {L T A O : Type 0} (f : Folding T A O) (meaning : L → Meaning T) (pla
       let fin : HasFinished f u made = subst (λ x. HasFinished f x made) (sym same) (finishes un.results un.folds) in
       (u, ended-answer meaning plan FullyBuffered undecided t un.results made.ending few un.are (folds-apart f un.results cs un.folds apart) fin.ending, fin)
 
-  -- what a run of folds reports, whose combiner is for this folding and order
-  pub gathered-run : {F : Type 0} {aggregator : Ghosts F T A O} (IsSent : ChunkResult A → Type 0) (c : Combiner F T A O aggregator) (fault : Option MergeFault) (told : Result (Combined A) RunFault)
-      (g : Folding T A O) (order : Order) → g ≡ f → order ≡ plan.order
-      → length t.items ≤ 2 ^ 40 → IsUndecided plan → plan.after.now ≡ [] → ((x : ChunkResult A) → IsSent x → IsFolded x) → Gathers IsSent c fault
-      → OnOk told (fault ≡ None)
-      → IfOk told (λ made. (results : List (ChunkResult T)) (offers : List (ChunkResult A)) → AreFoldsOf g results offers → IsFor c offers → HasFinished g (merged order results) made)
-      → IfErr told (λ x. cause_of x ≡ cause_in_merge fault)
-      → FoldsSome f (MayMerge meaning plan t) told
-  gathered-run IsSent c fault (Ok made) g order same_f same_order few undecided alone sent h none finishes same =
-      let gathering : IsGathering IsSent c = subst (λ x. Gathers IsSent c x) none h in
-      finished-answer made few undecided alone gathering.offers (All-weaker IsSent IsFolded sent gathering.offers gathering.are) gathering.apart
-      (λ results folds. subst (λ o. HasFinished f (merged o results) made) same_order
-      (subst (λ x. HasFinished x (merged order results) made) same_f
-      (finishes results gathering.offers (subst (λ x. AreFoldsOf x results gathering.offers) (sym same_f) folds) gathering.stands)))
-  gathered-run IsSent c None (Err x) g order same_f same_order few undecided alone sent h none finishes same = same
-  gathered-run IsSent c (Some fault) (Err x) g order same_f same_order few undecided alone sent h none finishes same = same ∙ h
+  module _ {F : Type 0} (folding : F → Folding T A O) (first : Fold F A) (same : folding (aggregator_of first) ≡ f) where
+    -- a run of folds that has an answer reports the fold of its items
+    pub folded-ended : {S U : Type 0} {source : SourceGhosts S U} (ended : Ended S (Fold F A) U source) (acc : A) → IsFolding f → IsEmpty first → length t.items ≤ 2 ^ 40 → IsUndecided plan → plan.after.now ≡ []
+        → acc ≡ acc_of folding ended.joined.taker → HasEnded (MadeBy folding) IsFolded plan.order first tt ended tt
+        → (u : Trace T) × MayMerge meaning plan t u × HasFinished f u (record { acc = acc; ending = ended.joined.ending })
+    folded-ended ended acc lawful empty few undecided alone is h =
+        finished-answer (record { acc = acc; ending = ended.joined.ending }) few undecided alone h.offers (All-weaker (IsOffered IsFolded ended.coverage) IsFolded (λ c x. x.0) h.offers h.are) h.apart
+        (λ results folds.
+        let fin = fold-finished folding first ended.joined.taker plan.order results h.offers ended.joined.ending (subst IsFolding (sym same) lawful) (subst (λ g. AreFoldsOf g results h.offers) (sym same) folds) empty h.taken in
+        record { ending = fin.0; acc = is ∙ fin.1 ∙ ap (λ g. folded g (merged plan.order results).items) same })
+
+    breaks-other : (u : Trace A) (how : Result (Option Ending) DeliveryFault) (last : Fold F A) (cause : Cause) → Made folding first u how last → Breaks how cause → cause ≡ Other
+    breaks-other u (Ok None) last cause made breaks = absurd breaks
+    breaks-other u (Ok (Some e)) last cause made breaks = breaks
+    breaks-other u (Err NoMemory) last cause made breaks = breaks
+    breaks-other u (Err (Refusal code)) last cause made breaks = absurd made.combines
+
+    -- no sink refuses
+    pub folded-broken : (fault : RunFault) → HasBrokenOff (MadeBy folding) IsFolded plan.order first tt fault tt → cause_of fault ≡ Other
+    folded-broken fault h = breaks-other (merged plan.order h.offers) h.how h.last (cause_of fault) h.taken h.breaks
 
 module _ {T A O : Type 0} (f : Folding T A O) where
-  -- the accumulator doesn't depend on what is reported of it
-  pub folds-told : (IsAnswer : Trace T → Type 0) (r : Result (Combined A) RunFault) → FoldsSome (without_result f) IsAnswer r → FoldsSome f IsAnswer r
-  folds-told IsAnswer (Ok made) h = (h.0, h.1, record { ending = h.2.ending; acc = h.2.acc })
-  folds-told IsAnswer (Err fault) h = h
-
   abbrev ends_well : Ending → Type 0
   ends_well End = ⊤
   ends_well (Refused code) = ⊥

@@ -1,7 +1,9 @@
 pub mod Aggregates
+pub mod Conducted
+pub mod Conducting
 pub mod Endings
 pub mod Faults
-pub mod Gathered
+pub mod Folded
 pub mod Handed
 pub mod Merged
 pub mod Plans
@@ -9,4 +11,5 @@ pub mod Reaching
 pub mod Reports
 pub mod RunRows
 pub mod Runs
+pub mod Scoped
 pub mod Stopping

@@ -1,79 +1,134 @@
--- What the merging thread has done so far.
-use Rattle.std.specs.Prelude.{◌≡◌, ℕ, Bool, List, [], Option, Some, None, Result, Ok, Err, All}
+-- What the caller's thread has joined so far of the parts that workers send.
+use Rattle.std.specs.Prelude.{◌≡◌, Bool, List, [], Option, Some, None, Result, Ok, Err, All}
 use Rattle.plinq_source.specs.declared.ending.Ending.{Ending}
+use Rattle.plinq_source.specs.declared.source.Source.{Ghosts as SourceGhosts}
+use Rattle.plinq_source.specs.Trace.{Trace}
 use Rattle.plinq_lambda.specs.Meaning.{Meaning}
-use Rattle.plinq_lambda.specs.declared.lambda.Lambda.{Ghosts}
 use Rattle.plinq_ops.specs.declared.merge_option.MergeOption.{MergeOption}
+use Rattle.plinq_ops.specs.declared.order.Order.{Order}
 use Rattle.plinq_ops.specs.declared.plan.Plan.{Plan}
 use Rattle.plinq_ops.specs.declared.results.ChunkResult.{ChunkResult}
 use Rattle.plinq_ops.specs.Batches.{batch_size}
 use Rattle.plinq_ops.specs.Operator.{stages_of}
+use Rattle.plinq_merge.specs.declared.delivery_fault.DeliveryFault.{DeliveryFault}
+use Rattle.plinq_merge.specs.declared.delivery_fault.DeliveryFault.TheVariants.{Memory as NoMemory, Sink as Refusal}
+use Rattle.plinq_merge.specs.declared.joined.Joined.{Joined}
+use Rattle.plinq_merge.specs.declared.joiner.Joiner.{Joiner}
 use Rattle.plinq_merge.specs.declared.merge_fault.MergeFault.{MergeFault}
-use Rattle.plinq_merge.specs.declared.merger.Merger.{Merger}
 use Rattle.plinq_merge.specs.declared.more.More.{More}
-use Rattle.plinq_merge.specs.Sending.{Leads}
-use Rattle.plinq_merge.specs.Shown.{Merge, answer, shown}
-use Rattle.plinq_merge.specs.Mergers.{plan_of, IsFor, Takes, StopsShort}
+use Rattle.plinq_merge.specs.Joiners.{taker_of, order_of, ending_of, Takes, HasJoined}
+use Rattle.plinq_merge.specs.Mergers.{delivery_fault_of}
+use Rattle.plinq_merge.specs.Shown.{Merge, merged}
 use Rattle.plinq_merge.specs.Whole.{AreApart}
 use Rattle.plinq_stream.specs.declared.sent.Sent.{Sent}
+use Rattle.plinq_crew.specs.declared.worker.Crew.{Crew}
+use Rattle.plinq_crew.specs.declared.worker.WorkerContext.{WorkerContext}
 use Rattle.plinq_crew.specs.Polls.{HasAccepted}
+use Rattle.plinq_run.specs.declared.conducting.Returned.{Returned}
+use Rattle.plinq_run.specs.declared.planning.Ended.{Ended}
+use Rattle.plinq_run.specs.declared.merging.Merging.{Merging}
+use Rattle.plinq_run.specs.declared.merging.MergingInto.{MergingInto}
+use Rattle.plinq_run.specs.declared.run_fault.RunFault.{RunFault}
+use Rattle.plinq_run.specs.Conducting.{AcceptsEach, Conducts}
+use Rattle.plinq_run.specs.Reaching.{IsOffered, Grows, Reaches}
+use Rattle.plinq_run.specs.Runs.{Cause, SinkRefused, Other, cause_of}
 
--- what a merger of this plan is made for
+-- what the results of this plan's workers are merged by
 abbrev pub merge_for : {L T : Type 0} → (L → Meaning T) → Plan L → MergeOption → Merge T
 merge_for meaning plan option = record { after = stages_of meaning plan.after.now; order = plan.order; decided = plan.decided; size = batch_size option }
-
-module _ {T K : Type 0} (IsResult : ChunkResult T → Type 0) (accepts : K → List T → K → Type 0) (refuses : K → List T → ℕ → K → Type 0)
-    (merge : Merge T) (s : K) where
-  -- results were offered, of which no key is in two, and the sink has the first batches of what they show
-  pub record HasStopped (fault : MergeFault) (s' : K) : Type 0 where
-    pub offers : List (ChunkResult T)
-    pub are : All IsResult offers
-    pub apart : AreApart offers
-    pub short : StopsShort accepts refuses s (shown merge offers) fault s'
-
-  module _ {L : Type 0} {lambda : Ghosts L T} where
-    -- results were offered, of which no key is in two, and the sink has what they show
-    pub record IsMerging (m : Merger L T lambda) (s' : K) : Type 0 where
-      pub offers : List (ChunkResult T)
-      pub are : All IsResult offers
-      pub apart : AreApart offers
-      pub plan : plan_of m ≡ merge
-      pub stands : IsFor m offers
-      pub leads : Leads accepts s (shown merge offers) s'
-
-    abbrev pub Merges : Merger L T lambda → Option MergeFault → K → Type 0
-    Merges m None s' = IsMerging m s'
-    Merges m (Some fault) s' = HasStopped fault s'
 
 -- the fault with which an offer was answered, if it was
 abbrev pub offer_fault : Result More MergeFault → Option MergeFault
 offer_fault (Ok more) = None
 offer_fault (Err fault) = Some fault
 
--- the result was offered to the merger, and how that was answered is known
-pub record WasOffered {L K T : Type 0} {lambda : Ghosts L T} (accepts : K → List T → K → Type 0) (refuses : K → List T → ℕ → K → Type 0)
-    (m : Merger L T lambda) (made : ChunkResult T) (s : K) (m' : Merger L T lambda) (fault : Option MergeFault) (s' : K) : Type 0 where
-  pub told : Result More MergeFault
-  pub takes : Takes accepts refuses m made s told m' s'
-  pub kept : fault ≡ offer_fault told
+-- what a trace that was taken says of why a run breaks off: what ended or ran out of memory has another cause than a sink
+abbrev pub Breaks : Result (Option Ending) DeliveryFault → Cause → Type 0
+Breaks (Ok None) cause = ⊥
+Breaks (Ok (Some e)) cause = cause ≡ Other
+Breaks (Err NoMemory) cause = cause ≡ Other
+Breaks (Err (Refusal code)) cause = cause ≡ SinkRefused code
 
-module _ {L K T : Type 0} {lambda : Ghosts L T} (accepts : K → List T → K → Type 0) (refuses : K → List T → ℕ → K → Type 0) where
-  -- a result is offered, unless there was a fault before: then nothing changes
-  abbrev pub IsOfferedUnless : Merger L T lambda → Option MergeFault → K → ChunkResult T → Merger L T lambda × (Option MergeFault × K) → Type 0
-  IsOfferedUnless m None s made y = WasOffered accepts refuses m made s y.0 y.1.0 y.1.1
-  IsOfferedUnless m (Some fault) s made y = y ≡ (m, (Some fault, s))
+-- the same joiner is lent, and the same place where its taker puts things
+pub record AreSame {W T O : Type 0} (m m' : MergingInto W T O) : Type 0 where
+  pub merging : m'.merging.ghost_name ≡ m.merging.ghost_name
+  pub out : m'.out.ghost_name ≡ m.out.ghost_name
 
-  -- the same of a merger, its fault and the sink, and of what was sent
-  abbrev pub OffersEach : Merger L T lambda × (Option MergeFault × K) → Sent (ChunkResult T) → Merger L T lambda × (Option MergeFault × K) → Type 0
-  OffersEach x sent y = IsOfferedUnless x.0 x.1.0 x.1.1 sent.item y
+module _ {W O T : Type 0} (made : W → O → Trace T → Result (Option Ending) DeliveryFault → W → O → Type 0) where
+  -- the part was offered to the joiner, and how that was answered is known
+  pub record WasOffered (m : Merging W T) (y : O) (part : ChunkResult T) (m' : Merging W T) (y' : O) : Type 0 where
+    pub told : Result More MergeFault
+    pub takes : Takes made m.joiner part y told m'.joiner y'
+    pub order : order_of m'.joiner ≡ order_of m.joiner
+    pub kept : m'.fault ≡ offer_fault told
+    pub grows : Grows m.coverage m'.coverage
+    pub reaches : Reaches m'.coverage part
 
--- All of these were offered to a new merger of this plan, first to last, but for some of the last ones. No offer was answered
--- with a fault, the merger has left the sink so, and the answer to what it was offered has ended so.
-pub record WereOffered {L K T : Type 0} (lambda : Ghosts L T) (accepts : K → List T → K → Type 0) (refuses : K → List T → ℕ → K → Type 0) (merge : Merge T) (received : List (Sent (ChunkResult T))) (ending : Ending) (s s' : K) : Type 0 where
-  pub first : Merger L T lambda
-  pub plan : plan_of first ≡ merge
-  pub begun : IsFor first []
-  pub last : Merger L T lambda
-  pub ends : (offers : List (ChunkResult T)) → IsFor last offers → (answer (plan_of last) offers).ending ≡ Some ending
-  pub wants_close : Bool
-  pub taken : HasAccepted (OffersEach accepts refuses) [] (first, (None, s)) received wants_close (last, (None, s'))
+  abbrev pub AcceptsAfter : Option MergeFault → Merging W T → O → ChunkResult T → Merging W T → O → Type 0
+  AcceptsAfter None m y part m' y' = WasOffered m y part m' y'
+  AcceptsAfter (Some fault) m y part m' y' = (m' ≡ m) × (y' ≡ y)
+
+  -- a part is offered, unless there was a fault before: then nothing changes
+  abbrev pub Accepts : Merging W T → O → ChunkResult T → Merging W T → O → Type 0
+  Accepts m y part m' y' = AcceptsAfter m.fault m y part m' y'
+
+  -- the same, with where the taker puts things
+  pub record AcceptsInto (m : MergingInto W T O) (part : ChunkResult T) (m' : MergingInto W T O) : Type 0 where
+    pub same : AreSame m m'
+    pub accepts : Accepts m.merging.now m.out.now part m'.merging.now m'.out.now
+
+  module _ (IsPart : ChunkResult T → Type 0) (order : Order) (a : W) (x : O) where
+    abbrev pub Stands : Option MergeFault → Joiner W T → O → List (ChunkResult T) → Type 0
+    Stands None j y offers = (order_of j ≡ order) × HasJoined made a x j y offers
+    Stands (Some fault) j y offers = (last : W) × made a x (merged order offers) (Err (delivery_fault_of fault)) last y
+
+    -- such parts were offered, of which no key is in two: they are joined, or the taker broke off what they merge to
+    pub record HasMerged (m : Merging W T) (y : O) : Type 0 where
+      pub offers : List (ChunkResult T)
+      pub are : All (IsOffered IsPart m.coverage) offers
+      pub apart : AreApart offers
+      pub stands : Stands m.fault m.joiner y offers
+
+    -- the taker has taken all that they merge to, and the answer has ended so
+    pub record HasEnded {S U : Type 0} {source : SourceGhosts S U} (ended : Ended S W U source) (y : O) : Type 0 where
+      pub offers : List (ChunkResult T)
+      pub are : All (IsOffered IsPart ended.coverage) offers
+      pub apart : AreApart offers
+      pub taken : made a x (merged order offers) (Ok (Some ended.joined.ending)) ended.joined.taker y
+
+    -- there is a fault, for which the taker may have broken it off
+    pub record HasBrokenOff (fault : RunFault) (y : O) : Type 0 where
+      pub offers : List (ChunkResult T)
+      pub are : All IsPart offers
+      pub apart : AreApart offers
+      pub last : W
+      pub how : Result (Option Ending) DeliveryFault
+      pub taken : made a x (merged order offers) how last y
+      pub breaks : Breaks how (cause_of fault)
+
+    abbrev pub EndsSo : {S U : Type 0} {source : SourceGhosts S U} → Result (Ended S W U source) RunFault → O → Type 0
+    EndsSo (Ok ended) y = HasEnded ended y
+    EndsSo (Err fault) y = HasBrokenOff fault y
+
+    -- All of these were accepted one after another, first to last, but for some of the last ones, by a joiner to which
+    -- nothing was offered before. No offer was answered with a fault, and the joiner has finished so.
+    pub record WereAccepted (received : List (Sent (ChunkResult T))) (joined : Joined W) (y : O) : Type 0 where
+      pub first : MergingInto W T O
+      pub new : Stands None first.merging.now.joiner x []
+      pub sound : first.merging.now.fault ≡ None
+      pub last : MergingInto W T O
+      pub still : last.merging.now.fault ≡ None
+      pub ending : ending_of last.merging.now.joiner ≡ Ok joined.ending
+      pub taker : joined.taker ≡ taker_of last.merging.now.joiner
+      pub out : (first.out.now ≡ x) × (last.out.now ≡ y)
+      pub wants_close : Bool
+      pub taken : HasAccepted (AcceptsEach AcceptsInto IsPart) [] first received wants_close last
+
+-- the workers were joined, and what they sent was offered to this joiner
+pub record HasOffered {L S J P W O U T : Type 0} {source : SourceGhosts S U} (made : W → O → Trace T → Result (Option Ending) DeliveryFault → W → O → Type 0) (IsPart : ChunkResult T → Type 0)
+    (crew : Crew L S J P U U T source) (own : WorkerContext S T U source) (m : Merging W T) (x : O) (m' : Merging W T) (y : O) (result : Result (Returned S U source) RunFault) : Type 0 where
+  pub first : MergingInto W T O
+  pub begun : (first.merging.now ≡ m) × (first.out.now ≡ x)
+  pub last : MergingInto W T O
+  pub ended : (last.merging.now ≡ m') × (last.out.now ≡ y)
+  pub conducts : Conducts (AcceptsInto made) IsPart crew own first last result

@@ -1,22 +1,16 @@
 -- What a run delivers and reports: one of the answers that it may have.
-use Rattle.std.specs.Prelude.{◌≡◌, ◌≤◌, ℕ, List, length, Result, Ok, Err, All, IfOk}
-use Rattle.plinq_source.specs.declared.source.Source.{Ghosts}
+use Rattle.std.specs.Prelude.{◌≡◌, ℕ, List, Result, Ok, Err}
 use Rattle.plinq_source.specs.Trace.{Trace}
 use Rattle.plinq_lambda.specs.Meaning.{Meaning}
-use Rattle.plinq_partition.specs.declared.chunked.Chunked.{Chunked}
-use Rattle.plinq_partition.specs.GivenBack.{common_origin}
-use Rattle.plinq_partition.specs.Partitions.{IsPartitionOf}
 use Rattle.plinq_ops.specs.declared.merge_option.MergeOption.{MergeOption}
 use Rattle.plinq_ops.specs.declared.order.Order.{Order}
 use Rattle.plinq_ops.specs.declared.order.Order.TheVariants.{ByKey, ByArrival}
 use Rattle.plinq_ops.specs.declared.plan.Plan.{Plan}
 use Rattle.plinq_ops.specs.Answer.{IsRearranged}
-use Rattle.plinq_run.specs.declared.conducting.Ended.{Ended}
 use Rattle.plinq_run.specs.declared.report.Report.{Report}
 use Rattle.plinq_run.specs.declared.run_fault.RunFault.{RunFault}
 use Rattle.plinq_run.specs.Handed.{handed_trace}
 use Rattle.plinq_run.specs.Plans.{merged_answer}
-use Rattle.plinq_run.specs.Reaching.{Covers}
 use Rattle.plinq_run.specs.Runs.{HasRun, HasBroken}
 
 -- in which order a merge may take the items of a source
@@ -32,22 +26,11 @@ pub record MayMerge {L T : Type 0} (meaning : L → Meaning T) (plan : Plan L) (
 
 module _ {K T : Type 0} (accepts : K → List T → K → Type 0) (refuses : K → List T → ℕ → K → Type 0) (option : MergeOption)
     (May : Trace T → Trace T → Type 0) (t : Trace T) (s s' : K) where
-  -- an answer was delivered: it is one of the source, and of all that has what was offered of it
-  pub record HasEnded {S U : Type 0} {source : Ghosts S U} (ended : Ended S U source) : Type 0 where
-    pub answer : Trace T
-    pub may : May t answer
-    pub accounts : (first : Trace T) → Covers t ended.coverage first → May first answer
-    pub has_run : HasRun accepts option answer s s' ended.ending
-
   -- the first batches of an answer were delivered
   pub record IsBroken (fault : RunFault) : Type 0 where
     pub answer : Trace T
     pub may : May t answer
     pub broken : HasBroken accepts refuses option answer s s' fault
-
-  abbrev pub Ends : {S U : Type 0} {source : Ghosts S U} → Result (Ended S U source) RunFault → Type 0
-  Ends (Ok ended) = HasEnded ended
-  Ends (Err fault) = IsBroken fault
 
   -- an answer was delivered: it is one of the source, and of what the records hand out
   pub record HasReported (report : Report) : Type 0 where
@@ -59,9 +42,3 @@ module _ {K T : Type 0} (accepts : K → List T → K → Type 0) (refuses : K �
   abbrev pub Reports : Result Report RunFault → Type 0
   Reports (Ok report) = HasReported report
   Reports (Err fault) = IsBroken fault
-
--- a run was conducted: the partitions of one with an answer have shared this source, and what was delivered is of an answer
-pub record IsConducted {K S T : Type 0} {source : Ghosts S T} (accepts : K → List T → K → Type 0) (refuses : K → List T → ℕ → K → Type 0) (option : MergeOption)
-    (May : Trace T → Trace T → Type 0) (chunked : Chunked S T source) (t : Trace T) (s s' : K) (result : Result (Ended S T source) RunFault) : Type 0 where
-  pub back : IfOk result (λ ended. (1 ≤ length ended.partitions.items) × All (IsPartitionOf chunked) ended.partitions.items × (common_origin ended.partitions.items ≡ t))
-  pub ends : Ends accepts refuses option May t s s' result

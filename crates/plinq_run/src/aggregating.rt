@@ -17,7 +17,6 @@ use plinq_lambda::SharedLambda;
 use plinq_ops::Query;
 use plinq_source::Source;
 use std::alloc::Global;
-use std::marker::Brand;
 use std::sync::Wait;
 use std::thread::Threads;
 
@@ -62,7 +61,7 @@ where
         let report = run(rt, alloc, query, source, growth, gate, &mut sink);
         return sink.told(report);
     }
-    let combined = fold_plan::<Brand, L, S, G, A, R>(
+    let combined = fold_plan(
         rt,
         alloc,
         &plan,

@@ -1,30 +1,26 @@
 //! What is reported when all workers have been joined.
-ghost use Rattle.std.specs.Prelude.{◌≡◌, ◌≤◌, List, length, true, Some, None, All, IfOk, IfErr, IfSome, OnOk, Ok};
+ghost use Rattle.std.specs.Prelude.{◌≡◌, ◌≤◌, length, true, Some, None, All, IfOk, IfErr, IfSome, OnOk, Ok};
 ghost use Rattle.std.specs.Option.{option_or};
 ghost use Rattle.plinq_keyed.specs.History.{IsLegalHistory};
-ghost use Rattle.plinq_ops.specs.declared.results.ChunkResult.{ChunkResult};
-ghost use Rattle.plinq_merge.specs.Shown.{answer};
-ghost use Rattle.plinq_merge.specs.Mergers.{plan_of, IsFor};
+ghost use Rattle.plinq_merge.specs.Joiners.{taker_of, ending_of};
 ghost use Rattle.plinq_partition.specs.Partitions.{IsPartitionOf, all_shares};
 ghost use Rattle.plinq_partition.specs.GivenBack.{common_origin};
 ghost use Rattle.plinq_ticket.specs.Shares.{in_ticket_order};
-ghost use Rattle.plinq_source.specs.Trace.{Trace};
 ghost use Rattle.plinq_run.specs.Runs.{Other, cause_in_merge, cause_of, IsReportOf};
-ghost use Rattle.plinq_run.specs.Endings.{ending_in, reported};
+ghost use Rattle.plinq_run.specs.Endings.{reported};
 ghost use Rattle.plinq_run.specs.Faults.{first_told};
 ghost use Rattle.plinq_run.specs.declared.run_fault.RunFault.TheVariants.{Incomplete, Memory};
 ghost use Rattle.plinq_run.specs.Reaching.{accounts_for};
 
 use crate::accounting::account_for;
-use crate::conducting::Ended;
 use crate::merging::Merging;
+use crate::planning::{Conducted, Ended};
 use crate::report::Report;
 use crate::run_fault::RunFault;
 use plinq_crew::{WorkerCount, WorkerFaults};
 use plinq_keyed::{Guarded, Record};
-use plinq_lambda::Lambda;
-use plinq_merge::MergeFault;
-use plinq_partition::{Chunked, Partition};
+use plinq_merge::{MergeFault, Taker};
+use plinq_partition::Partition;
 use plinq_source::Source;
 use std::alloc::Global;
 
@@ -77,56 +73,56 @@ fn copied(alloc: Global, records: &[Record]) -> Result<Vec<Record>, RunFault>
     }
 }
 
-/// How the answer ended, or the first of all faults.
-pub(crate) fn told<L: Lambda, S: Source>(
-    merging: Merging<'_, L>,
+/// What has taken the answer's items and how it ended, or the first of all faults.
+pub(crate) fn told<W: Taker, S: Source>(
+    merging: Merging<W, W::Item>,
     worker_faults: WorkerFaults,
     worker_count: WorkerCount,
     partitions: Vec<Partition<S>>,
-) -> Result<Ended<S>, RunFault>
-    ensures none { OnOk result (merging.entry.fault ≡ None) }
-    ensures first { OnOk result (first_told merging.entry.fault worker_faults worker_count ≡ None) }
-    ensures ending { IfOk result (λ ended. (offers : List (ChunkResult L.Item)) → IsFor merging.entry.merger offers → (answer (plan_of merging.entry.merger) offers).ending ≡ Some ended.ending) }
+) -> Result<Ended<S, W>, RunFault>
+    ensures none { OnOk result (merging.fault ≡ None) }
+    ensures first { OnOk result (first_told merging.fault worker_faults worker_count ≡ None) }
+    ensures taker { IfOk result (λ ended. ended.joined.taker ≡ taker_of merging.joiner) }
+    ensures ending { IfOk result (λ ended. ending_of merging.joiner ≡ Ok ended.joined.ending) }
     ensures partitions { IfOk result (λ ended. ended.partitions ≡ partitions) }
-    ensures coverage { IfOk result (λ ended. ended.coverage ≡ merging.entry.coverage) }
-    ensures err { IfErr result (λ fault. cause_of fault ≡ cause_in_merge merging.entry.fault) }
-    ensures told { IfErr result (λ fault. option_or (first_told merging.entry.fault worker_faults worker_count) (Some Incomplete) ≡ Some fault) }
+    ensures coverage { IfOk result (λ ended. ended.coverage ≡ merging.coverage) }
+    ensures err { IfErr result (λ fault. cause_of fault ≡ cause_in_merge merging.fault) }
+    ensures told { IfErr result (λ fault. option_or (first_told merging.fault worker_faults worker_count) (Some Incomplete) ≡ Some fault) }
 {
     let Merging {
-        merger,
+        joiner,
         coverage,
         fault,
-        ..
     } = merging;
     if let Some(first) = first_fault(fault, worker_faults, worker_count) {
         return Err(first);
     }
-    let Ok(ending) = merger.finish() else {
+    let Ok(joined) = joiner.finish() else {
         return Err(RunFault::Incomplete);
     };
     Ok(Ended {
         partitions,
-        ending,
+        joined,
         coverage,
     })
 }
 
 /// The report of a run that has an answer, if the records account for it.
-pub(crate) fn report_of<S: Source>(
+pub(crate) fn report<S: Source, W: Taker>(
     alloc: Global,
-    chunked: Chunked<S>,
-    ended: Ended<S>,
+    conducted: Conducted<S, W>,
 ) -> Result<Report, RunFault>
-    requires some { 1 ≤ length ended.partitions.items }
-    requires of { All (IsPartitionOf chunked) ended.partitions.items }
-    ensures told { IsReportOf (Ok ended.ending) (reported result) }
-    ensures legal { IfOk result (λ report. IsLegalHistory (common_origin ended.partitions.items) report.records.items) }
-    ensures records { IfOk result (λ report. report.records.items ≡ in_ticket_order (all_shares ended.partitions.items)) }
-    ensures accounted { IfOk result (λ report. accounts_for ended.coverage report.records.items ≡ true) }
+    requires some { 1 ≤ length conducted.ended.partitions.items }
+    requires of { All (IsPartitionOf conducted.chunked) conducted.ended.partitions.items }
+    ensures told { IsReportOf (Ok conducted.ended.joined.ending) (reported result) }
+    ensures legal { IfOk result (λ report. IsLegalHistory (common_origin conducted.ended.partitions.items) report.records.items) }
+    ensures records { IfOk result (λ report. report.records.items ≡ in_ticket_order (all_shares conducted.ended.partitions.items)) }
+    ensures accounted { IfOk result (λ report. accounts_for conducted.ended.coverage report.records.items ≡ true) }
 {
+    let Conducted { chunked, ended } = conducted;
     let Ended {
         partitions,
-        ending,
+        joined,
         coverage,
     } = ended;
     let Ok(enumerator) = chunked.give_back(partitions) else {
@@ -136,24 +132,8 @@ pub(crate) fn report_of<S: Source>(
     if !account_for(&records, coverage) {
         return Err(RunFault::Incomplete);
     }
-    Ok(Report { ending, records })
-}
-
-/// The report of a run, if it has an answer.
-pub(crate) fn report<S: Source>(
-    alloc: Global,
-    chunked: Chunked<S>,
-    ended: Result<Ended<S>, RunFault>,
-) -> Result<Report, RunFault>
-    requires some { IfOk ended (λ e. 1 ≤ length e.partitions.items) }
-    requires of { IfOk ended (λ e. All (IsPartitionOf chunked) e.partitions.items) }
-    ensures told { IsReportOf (ending_in ended) (reported result) }
-    ensures records { IfOk ended (λ e. IfOk result (λ report. report.records.items ≡ in_ticket_order (all_shares e.partitions.items))) }
-    ensures accounted { IfOk ended (λ e. IfOk result (λ report. accounts_for e.coverage report.records.items ≡ true)) }
-    ensures legal { (t : Trace S.Item) → IfOk ended (λ e. common_origin e.partitions.items ≡ t) → IfOk result (λ report. IsLegalHistory t report.records.items) }
-{
-    match ended {
-        Ok(ended) => report_of(alloc, chunked, ended),
-        Err(fault) => Err(fault),
-    }
+    Ok(Report {
+        ending: joined.ending,
+        records,
+    })
 }

@@ -1,6 +1,6 @@
 ghost use Rattle.std.specs.Prelude.{◌≡◌, None};
 ghost use Rattle.plinq_run.specs.Aggregates.{TakesIn, aggregate_of, so_far, value_at};
-ghost use Rattle.plinq_run.specs.Gathered.{value_of};
+ghost use Rattle.plinq_run.specs.Folded.{value_of};
 ghost use Rattle.plinq_run.specs.Endings.{reported};
 
 use crate::aggregate_fault::AggregateFault;

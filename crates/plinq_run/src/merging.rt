@@ -1,63 +1,88 @@
-//! What the merging thread does with the results that come.
-ghost use Rattle.std.specs.Prelude.{◌≡◌, ◌≤◌, ◌^◌, ◌||◌, true, false, None, is_some};
-ghost use Rattle.plinq_merge.specs.Mergers.{tells_decided};
-ghost use Rattle.plinq_merge.specs.Shown.{Merge, end_of_result};
-ghost use Rattle.plinq_run.specs.Merged.{Merges, IsOfferedUnless};
-ghost use Rattle.plinq_run.specs.Reaching.{IsOffered};
+//! What the caller's thread does with the parts that workers send.
+ghost use Rattle.std.specs.Prelude.{◌≡◌, ◌≤◌, ◌^◌, ◌||◌, is_some};
+ghost use Rattle.plinq_merge.specs.Joiners.{has_decided};
+ghost use Rattle.plinq_merge.specs.Joining.{IsReady};
+ghost use Rattle.plinq_merge.specs.Shown.{end_of_result};
+ghost use Rattle.plinq_run.specs.Merged.{Accepts, AcceptsInto};
 
 use crate::coverage::Coverage;
-use plinq_crew::{Closing, RunSpec};
-use plinq_lambda::Lambda;
-use plinq_merge::{MergeFault, Merger, Sink};
+use crate::receiver::Receiver;
+use plinq_merge::{Joiner, MergeFault, TakeInto, Taker};
 use plinq_ops::ChunkResult;
 
-/// A merger, how far what it was offered reaches, the fault after which it is offered nothing more, and whether the source
-/// was closed.
+/// A joiner, how far what it was offered reaches, and the fault after which it is offered nothing more.
 #[derive(Drop)]
-pub(crate) struct Merging<'a, L: Lambda> {
-    pub(crate) merger: Merger<'a, L>,
+pub(crate) struct Merging<W, T> {
+    pub(crate) joiner: Joiner<W, T>,
     pub(crate) coverage: Coverage,
     pub(crate) fault: Option<MergeFault>,
-    pub(crate) closing: Closing,
 }
 
-impl<'a, L: Lambda> Merging<'a, L> {
-    /// Offers a result, unless nothing more is wanted.
-    pub(crate) fn accept<J: RunSpec<L::Item>, K: Sink<Item = L::Item>>(
-        &mut self,
-        made: ChunkResult<L::Item>,
-        sink: &mut K,
-    )
-        requires within { end_of_result made ≤ 2 ^ 40 }
-        requires result { J.is_result made }
-        ensures closing { self.new.closing ≡ self.old.closing }
-        ensures offered { self.old.closing.wants_close ≡ false → IsOfferedUnless K.accepts K.refuses self.old.merger self.old.fault sink.old made (self.new.merger, (self.new.fault, sink.new)) }
-        ensures over { self.old.closing.wants_close ≡ true → (self.new ≡ self.old) × (sink.new ≡ sink.old) }
-        ensures merges { (merge : Merge L.Item) (s : K) → Merges (IsOffered J.is_result self.old.coverage) K.accepts K.refuses merge s self.old.merger self.old.fault sink.old
-            → Merges (IsOffered J.is_result self.new.coverage) K.accepts K.refuses merge s self.new.merger self.new.fault sink.new }
+impl<W: Taker> Merging<W, W::Item> {
+    /// Offers a part, unless there was a fault before.
+    fn accept<O>(&mut self, part: ChunkResult<W::Item>, out: &mut O)
+    where
+        W: TakeInto<O>,
+        requires ready { IsReady W.can_take self.old.joiner }
+        requires within { end_of_result part ≤ 2 ^ 40 }
+        ensures ready { IsReady W.can_take self.new.joiner }
+        ensures accepts { Accepts W.made self.old out.old part self.new out.new }
     {
-        if self.closing.wants_close || self.fault.is_some() {
+        if self.fault.is_some() {
             return;
         }
-        self.coverage.extend(&made);
-        if let Err(fault) = self.merger.offer(made, sink) {
+        self.coverage.extend(&part);
+        if let Err(fault) = self.joiner.offer(part, out) {
             self.fault = Some(fault);
         }
     }
 
-    /// Tells the sink that no batch is there now, unless one couldn't be delivered.
-    pub(crate) fn rest<K: Sink<Item = L::Item>>(&self, sink: &mut K)
-        ensures { sink.new ≡ sink.old }
+    /// Whether it is offered nothing more, or wants nothing more.
+    fn is_over(&self) -> bool
+        ensures { result ≡ (is_some self.now.fault || has_decided self.now.joiner) }
     {
-        if self.fault.is_none() {
-            sink.idle();
+        self.fault.is_some() || self.joiner.decided()
+    }
+}
+
+/// The same, lent together with where its taker puts things.
+#[derive(Drop)]
+pub(crate) struct MergingInto<'a, 'b, W, T, O> {
+    pub(crate) merging: &'a mut Merging<W, T>,
+    pub(crate) out: &'b mut O,
+}
+
+impl<'a, 'b, W: TakeInto<O>, O> Receiver<W::Item> for MergingInto<'a, 'b, W, W::Item, O> {
+    ghost is_ready = { λ m. IsReady W.can_take m.merging.now.joiner };
+
+    ghost accepts = { λ m part m'. AcceptsInto W.made m part m' };
+
+    fn accept(&mut self, part: ChunkResult<W::Item>)
+        requires ready { IsReady W.can_take self.old.merging.now.joiner }
+        requires within { end_of_result part ≤ 2 ^ 40 }
+        ensures ready { IsReady W.can_take self.new.merging.now.joiner }
+        ensures accepts { AcceptsInto W.made self.old part self.new }
+    {
+        self.merging.accept(part, self.out);
+    }
+
+    fn idle(&mut self)
+        ensures { self.new ≡ self.old }
+    {
+        if self.merging.fault.is_none() {
+            self.merging.joiner.idle(self.out);
         }
     }
 
-    /// Whether it is offered nothing more, or wants nothing more.
-    pub(crate) fn is_over(&self) -> bool
-        ensures { result ≡ (is_some self.now.fault || tells_decided self.now.merger) }
-    {
-        self.fault.is_some() || self.merger.decided()
+    fn is_over(&self) -> bool {
+        self.merging.is_over()
+    }
+
+    fn merged(&self) -> u64 {
+        self.merging.joiner.merged()
+    }
+
+    fn merged_items(&self) -> u64 {
+        self.merging.joiner.joined_items()
     }
 }

@@ -2,7 +2,6 @@
 ghost use Rattle.std.specs.Prelude.{◌≡◌, IfOk};
 ghost use Rattle.plinq_combine.specs.Folds.{IsFoldOf};
 ghost use Rattle.plinq_crew.specs.Results.{IsOfSameChunk};
-ghost use Rattle.plinq_run.specs.Gathered.{without_result, without_result-lawful};
 
 use plinq_aggregate::Aggregator;
 use plinq_crew::{Gate, Task};
@@ -37,49 +36,17 @@ impl<'a, T: Copy + Send, G: Gate> Task<T> for Unchanged<'a, G> {
     }
 }
 
-/// The task of a worker that sends the fold of each result's items in their place, and how such folds are combined.
+/// The task of a worker that sends the fold of each result's items in their place.
 #[derive(Drop)]
 pub(crate) struct FoldChunks<'a, A, G> {
     pub(crate) aggregator: &'a A,
     pub(crate) gate: &'a G,
 }
 
-// The aggregator, of which nothing is reported. A scope's closure stays within the checker's limit of steps where what it runs
-// has one type parameter for task and aggregator, and no type for what is reported.
-impl<'a, A: Aggregator, G: Gate> Aggregator for FoldChunks<'a, A, G> {
-    type Item = A::Item;
-
-    type Acc = A::Acc;
-
-    type Out = ();
-
-    ghost folding = { λ s. without_result (A.folding s.aggregator.now) };
-
-    fn seed(&self) -> A::Acc {
-        self.aggregator.seed()
-    }
-
-    fn update(&self, acc: A::Acc, x: A::Item) -> A::Acc {
-        self.aggregator.update(acc, x)
-    }
-
-    fn update_block(&self, acc: A::Acc, block: &[A::Item]) -> A::Acc {
-        self.aggregator.update_block(acc, block)
-    }
-
-    fn combine(&self, first: A::Acc, second: A::Acc) -> A::Acc {
-        self.aggregator.combine(first, second)
-    }
-
-    fn result(&self, _acc: A::Acc) {}
-
-    ghost lawful = { λ s. without_result-lawful (A.lawful s.aggregator.now) };
-}
-
 impl<'a, T: Copy, A: Aggregator<Item = T>, G: Gate> Task<T> for FoldChunks<'a, A, G> {
     type Part = A::Acc;
 
-    ghost makes = { λ s r c. IsFoldOf (without_result (A.folding s.aggregator.now)) r c };
+    ghost makes = { λ s r c. IsFoldOf (A.folding s.aggregator.now) r c };
 
     fn before_take(&self, worker: u64) {
         self.gate.before_take(worker);
@@ -90,7 +57,7 @@ impl<'a, T: Copy, A: Aggregator<Item = T>, G: Gate> Task<T> for FoldChunks<'a, A
     }
 
     fn make(&self, alloc: Global, made: ChunkResult<T>) -> Result<ChunkResult<A::Acc>, OutOfMemory>
-        ensures makes { IfOk result (IsFoldOf (without_result (A.folding self.now.aggregator.now)) made) }
+        ensures makes { IfOk result (IsFoldOf (A.folding self.now.aggregator.now) made) }
         ensures same { IfOk result (IsOfSameChunk made) }
     {
         let aggregator = self.aggregator;

@@ -1,41 +1,37 @@
-use Rattle.std.proofs.Common.{rules, ◌≡◌, ◌≤◌, ◌^◌, length, sym, subst}
-use Rattle.plinq_partition.specs.Partitions.{holding_of}
+use Rattle.std.proofs.Common.{rules, ◌≡◌, ◌≤◌, ◌^◌, Err, length, sym, ap, subst}
+use Rattle.plinq_combine.specs.Combining.{aggregator_of, MadeBy}
 use Rattle.plinq_combine.specs.Folds.{IsFoldOf}
-use Rattle.plinq_cut.specs.OfPlan.{AreStopKeys}
 use Rattle.plinq_crew.specs.Results.{IsPart}
-use Rattle.plinq_run.specs.Gathered.{FoldsSome, without_result}
+use Rattle.plinq_run.specs.Conducted.{HasConducted}
+use Rattle.plinq_run.specs.Folded.{FoldsSome}
 use Rattle.plinq_run.specs.Reports.{MayMerge}
-use Rattle.plinq_run.proofs.Unfolded.{folds-told}
+use Rattle.plinq_run.proofs.Unfolded.{folded-ended, folded-broken}
 use Rattle.plinq_run.proofs.folding.fold_plan.Goals as goal
 
-pub run_folds-requires-clause-ready : goal.run_folds-requires-clause-ready
-run_folds-requires-clause-ready g c lifetimes outlive =
+pub returns-in_err-conducted : goal.returns-in_err-conducted
+returns-in_err-conducted g c =
     let meaning = g.L.Lambda.meaning in
     let plan = c.args.plan.now in
-    let makes = IsFoldOf (without_result (g.A.Aggregator.folding c.args.aggregator.now)) in
-    let origin : (holding_of c.in-Ok-new.partition).origin ≡ g.S.Source.whole c.args.source = search rules in
-    record {
-      ready = record {
-        equipped = record {
-          of = c.in-Ok-new.ensures.of;
-          few = subst (λ t. length t.items ≤ 2 ^ 40) (sym origin) ((g.met.S.Source g.world.𝓛 g.world.𝓜 g.world.𝓡 (λ s a. a, λ a. a, λ a. a, λ a. a)).few c.args.source);
-          undecided = c.requires.plan;
-          parts = λ x is. c.requires.carries x (subst (λ t. IsPart meaning makes plan t x) origin is);
-          sent = λ x is. subst (λ t. IsPart meaning makes plan t x) (sym origin) (c.requires.carried x is);
-          sees = c.in-Ok.ensures.pass;
-          stop_keys = subst (λ t. AreStopKeys meaning plan t g.J.RunSpec.stops_at) (sym origin) c.requires.stop_keys;
-        };
-        stream_of = c.in-Ok-new-2.ensures.pass;
-        knows = c.in-Ok-new-2.ensures.first;
-        few = c.requires.few;
-      };
-      folds = λ r x made. made;
-      alone = c.requires.alone;
-    }
+    let t = g.S.Source.whole c.args.source in
+    let folding = g.A.Aggregator.folding in
+    let f = folding c.args.aggregator.now in
+    let first = c.new.result in
+    let same : folding (aggregator_of first) ≡ f = ap folding c.new.ensures.aggregator in
+    let fault = c.in_err-conducted.field-0.0 in
+    let is : c.from_residual.result ≡ Err fault = search rules in
+    let h = subst (λ r. HasConducted (MadeBy folding) (IsPart meaning (IsFoldOf f) plan t) plan.order t first tt r tt) c.in_err-conducted.was c.conduct_plan.ensures in
+    subst (λ r. FoldsSome f (MayMerge meaning plan t) r) (sym is) (folded-broken f meaning plan t folding first same fault h)
 
 pub returns : goal.returns
 returns g c =
-    let f = g.A.Aggregator.folding c.args.aggregator.now in
-    let origin : (holding_of c.in-Ok-new.partition).origin ≡ g.S.Source.whole c.args.source = search rules in
-    folds-told f (MayMerge g.L.Lambda.meaning c.args.plan.now (g.S.Source.whole c.args.source)) c.run_folds.result
-    (subst (λ t. FoldsSome (without_result f) (MayMerge g.L.Lambda.meaning c.args.plan.now t) c.run_folds.result) origin c.run_folds.ensures)
+    let meaning = g.L.Lambda.meaning in
+    let plan = c.args.plan.now in
+    let t = g.S.Source.whole c.args.source in
+    let few : length t.items ≤ 2 ^ 40 = (g.met.S.Source g.world.𝓛 g.world.𝓜 g.world.𝓡 (λ s a. a, λ a. a, λ a. a, λ a. a)).few c.args.source in
+    let folding = g.A.Aggregator.folding in
+    let f = folding c.args.aggregator.now in
+    let lawful = (g.met.A.Aggregator g.world.𝓛 g.world.𝓜 g.world.𝓡 (λ s a. a, λ a. a, λ a. a, λ a. a)).lawful c.args.aggregator.now in
+    let first = c.new.result in
+    let same : folding (aggregator_of first) ≡ f = ap folding c.new.ensures.aggregator in
+    let h = subst (λ r. HasConducted (MadeBy folding) (IsPart meaning (IsFoldOf f) plan t) plan.order t first tt r tt) c.in_ok-conducted.was c.conduct_plan.ensures in
+    folded-ended f meaning plan t folding first same c.in_ok-conducted.conducted.ended c.so_far.result lawful c.new.ensures.nothing few c.requires.plan c.requires.alone c.so_far.ensures h.1
