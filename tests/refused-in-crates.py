@@ -36,7 +36,6 @@ CALLS = {
     "Merger::new and offer, NotBuffered": ("merge", "memory::no_room_ends_a_merger_that_is_not_buffered"),
     "Merger::new and offer, AutoBuffered": ("merge", "memory::no_room_ends_a_merger_of_batches"),
     "Merger::new and offer, FullyBuffered": ("merge", "memory::no_room_ends_a_merger_that_is_fully_buffered"),
-    "fold_result and Joiner::offer of folds": ("merge", "folds::no_room_ends_a_joiner_of_folds"),
     "run and aggregate by one worker": ("run", "refused_room::one_worker_may_be_refused_room"),
     "run and aggregate by two workers": ("run", "refused_room::two_workers_may_be_refused_room"),
     "run and aggregate by eight workers": ("run", "refused_room::eight_workers_may_be_refused_room"),

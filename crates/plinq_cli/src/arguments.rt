@@ -65,16 +65,16 @@ pub struct Arguments {
 pub fn read_arguments(alloc: Global, words: &[String]) -> Result<Arguments, clap::Error>
     ensures { MatchResult result (IsAsked (map string_bytes words.now)) (λ e. Refuses (map string_bytes words.now) (kind_of e)) }
 {
-    let mut line = command_line(alloc)?;
-    let matches = line.try_get_matches_from_mut(words)?;
+    let mut app = command_line(alloc)?;
+    let matches = app.try_get_matches_from_mut(words)?;
     match chosen(&matches) {
         Some(arguments) => Ok(arguments),
-        None => Err(line.error(ErrorKind::MissingSubcommand, "a command is needed")?),
+        None => Err(app.error(ErrorKind::MissingSubcommand, "a command is needed")?),
     }
 }
 
 fn command_line<'a>(alloc: Global) -> Result<clap::Command<'a>, AllocError>
-    ensures { IfOk result (λ line. IsPlinq (app_of line)) }
+    ensures { IfOk result (λ app. IsPlinq (app_of app)) }
 {
     let merge = ValueParser::from(MERGE_WORDS.as_slice());
     clap::Command::new(alloc, "plinq")

@@ -193,3 +193,17 @@ module _ {S T M : Type 0} {source : Ghosts S T} where
           noted = noted;
           follows = subst (Follows (holding_of p).share fault) (sym (under-both a b c is n ∙ ap (λ l. l ++ under n b.sent) none)) h.follows;
         }
+
+-- what a pass has answered is answered by one that knows the same
+pub answered-same : {S T M : Type 0} {source : Ghosts S T} (a b : PassKnowledge (ChunkResult M)) (faults : WorkerFaults) (ps : List (Partition S T source)) → b.sent ≡ a.sent → b.numbers ≡ a.numbers
+    → All (IsAnsweredBy 0 a faults) ps → All (IsAnsweredBy 0 b faults) ps
+answered-same a b faults ps sent numbers answered =
+    All-weaker (IsAnsweredBy 0 a faults) (IsAnsweredBy 0 b faults)
+    (λ p h. record {
+      number = h.number;
+      above = h.above;
+      own = ap (has h.number) numbers ∙ h.own;
+      fault = h.fault;
+      noted = h.noted;
+      follows = subst (λ l. Follows (holding_of p).share h.fault (under h.number l)) (sym sent) h.follows;
+    }) ps answered

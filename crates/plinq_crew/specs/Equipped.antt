@@ -31,8 +31,8 @@ pub record IsEquipped {L S T M E : Type 0} {source : Ghosts S T} (meaning : L �
 
 -- the caller's thread may start a crew's workers: it is equipped, and its pass of the stream is the first one
 pub record IsReady {L S J P T M : Type 0} {source : Ghosts S T} (meaning : L → Meaning T) (makes : P → ChunkResult T → ChunkResult M → Type 0) (MaySend : ChunkResult M → Type 0) (stops_at : ℕ → Bool)
-    (crew : Crew L S J P T T M source) (own : WorkerContext S M T source) : Type 0 where
-  pub equipped : IsEquipped meaning (makes crew.task.now) MaySend stops_at crew.plan.now crew.chunked.now crew.cut.now own.partition own.cut
-  pub stream_of : IsStreamPassOf crew.stream.now own.stream
-  pub knows : known own.stream ≡ receiver_from 0
+    (crew : Crew L S J P T T M source) (context : WorkerContext S M T source) : Type 0 where
+  pub equipped : IsEquipped meaning (makes crew.task.now) MaySend stops_at crew.plan.now crew.chunked.now crew.cut.now context.partition context.cut
+  pub stream_of : IsStreamPassOf crew.stream.now context.stream
+  pub knows : known context.stream ≡ receiver_from 0
   pub few : crew.workers ≤ 64

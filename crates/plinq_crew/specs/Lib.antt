@@ -1,3 +1,4 @@
+pub mod Conducting
 pub mod Equipped
 pub mod Handles
 pub mod Plans
@@ -5,3 +6,4 @@ pub mod Results
 pub mod Noted
 pub mod Polls
 pub mod Working
+pub mod Scoped

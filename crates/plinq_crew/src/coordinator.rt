@@ -24,16 +24,16 @@ use std::sync::Wait;
 
 /// What the caller's thread has of its own while workers send.
 #[derive(Drop)]
-pub struct Coordinator<S: Source, M> {
-    pub partition: Partition<S>,
-    pub stream: ResultPass<M>,
-    pub worker_count: WorkerCount,
-    pub worker_faults: WorkerFaults,
-    pub patience: Patience,
+pub(crate) struct Coordinator<S: Source, M> {
+    pub(crate) partition: Partition<S>,
+    pub(crate) stream: ResultPass<M>,
+    pub(crate) worker_count: WorkerCount,
+    pub(crate) worker_faults: WorkerFaults,
+    pub(crate) patience: Patience,
 }
 
 impl<S: Source, M: Drop> Coordinator<S, M> {
-    pub fn new(
+    pub(crate) fn new(
         partition: Partition<S>,
         stream: ResultPass<M>,
         worker_count: WorkerCount,
@@ -94,7 +94,7 @@ impl<S: Source, M: Drop> Coordinator<S, M> {
 
     /// The next result that a worker has sent. Where none comes for a while, the thread is to sleep until something is
     /// reported, so that it takes no processor from a worker.
-    pub fn poll<'c, L, J, P, R>(
+    pub(crate) fn poll<'c, L, J, P, R>(
         &mut self,
         rt: &R,
         crew: &Crew<'c, L, S, J, P>,
@@ -142,7 +142,7 @@ impl<S: Source, M: Drop> Coordinator<S, M> {
     }
 
     /// Spins for a moment, or sleeps, where nothing was there at a poll.
-    pub fn wait<R: Wait>(&mut self, rt: &R, sleep: Option<Key<'_>>)
+    pub(crate) fn wait<R: Wait>(&mut self, rt: &R, sleep: Option<Key<'_>>)
         ensures partition { self.new.partition ≡ self.old.partition }
         ensures stream { self.new.stream ≡ self.old.stream }
         ensures worker_count { self.new.worker_count ≡ self.old.worker_count }

@@ -8,10 +8,10 @@ use std::thread::{Promise, PromisedHandle};
 /// That a worker brings back a partition of the same source and a pass of the same stream, and has sent under its number what
 /// that partition's records say.
 #[derive(Drop)]
-pub struct WorkerPromise<S: Source, M> {
-    pub chunked: Snapshot<Chunked<S>>,
-    pub given: Snapshot<ResultPass<M>>,
-    pub number: u64,
+pub(crate) struct WorkerPromise<S: Source, M> {
+    pub(crate) chunked: Snapshot<Chunked<S>>,
+    pub(crate) given: Snapshot<ResultPass<M>>,
+    pub(crate) number: u64,
 }
 
 impl<S: Source, M> Promise<Worked<S, M>> for WorkerPromise<S, M> {
@@ -21,4 +21,4 @@ impl<S: Source, M> Promise<Worked<S, M>> for WorkerPromise<S, M> {
 }
 
 /// A worker that was started.
-pub type WorkerHandle<S, M> = PromisedHandle<Worked<S, M>, WorkerPromise<S, M>>;
+pub(crate) type WorkerHandle<S, M> = PromisedHandle<Worked<S, M>, WorkerPromise<S, M>>;

@@ -3,7 +3,7 @@ use plinq_ops::ChunkResult;
 
 /// What the caller's thread finds at a poll.
 #[derive(Drop)]
-pub enum Poll<'a, M> {
+pub(crate) enum Poll<'a, M> {
     /// A worker has sent this.
     Came(ChunkResult<M>),
     /// Nothing is there; where that has been so for a while, the thread is to sleep.

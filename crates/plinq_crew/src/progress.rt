@@ -55,7 +55,7 @@ impl Progress {
     }
 
     /// All keys below this one are merged, and so many items; where they are the greatest numbers, nothing more is wanted.
-    pub fn move_to(&self, key: u64, items: u64) {
+    pub(crate) fn move_to(&self, key: u64, items: u64) {
         let is_raised = self.keys.move_to(key);
         if self.items.move_to(items) || is_raised {
             self.merged.wake();
@@ -63,19 +63,19 @@ impl Progress {
     }
 
     /// Nothing more is wanted: no worker waits from now on.
-    pub fn let_all_on(&self) {
+    pub(crate) fn let_all_on(&self) {
         self.move_to(u64::MAX, u64::MAX);
     }
 
     /// A result with so many items is about to be sent.
-    pub fn count_in(&self, items: u64) {
+    pub(crate) fn count_in(&self, items: u64) {
         self.sent.fetch_add(items, Ordering::SeqCst);
         self.results.fetch_add(1, Ordering::SeqCst);
     }
 
     /// Waits while a worker stands so far above what is merged that it may not take more, or while too many items wait to be
     /// merged. Where that takes long, it sleeps.
-    pub fn wait_until_within_window<R: Wait>(&self, rt: &R, key: u64) {
+    pub(crate) fn wait_until_within_window<R: Wait>(&self, rt: &R, key: u64) {
         let waiter = self.merged.waiter();
         for _ in rt.forever() {
             let sleep = waiter.prepare();
@@ -88,7 +88,7 @@ impl Progress {
 
     /// Before a worker takes its first chunk: where enough others are at work, it sleeps until one of them has ended. Then the
     /// source has nothing more, or the run is over, and it finds that out itself.
-    pub fn wait_to_begin<R: Wait>(&self, rt: &R, worker: u64) {
+    pub(crate) fn wait_to_begin<R: Wait>(&self, rt: &R, worker: u64) {
         let waiter = self.start.waiter();
         for _ in rt.forever() {
             let sleep = waiter.prepare();
@@ -122,37 +122,37 @@ impl Progress {
     }
 
     /// A worker has ended.
-    pub fn end(&self) {
+    pub(crate) fn end(&self) {
         self.ended.fetch_add(1, Ordering::SeqCst);
         self.start.wake();
         self.tell();
     }
 
     /// A worker ends before it has seen a tail.
-    pub fn fail(&self) {
+    pub(crate) fn fail(&self) {
         self.failed.store(true, Ordering::SeqCst);
         self.tell();
     }
 
     /// Wakes the caller's thread, since a result was sent, or a worker has ended or failed.
-    pub fn tell(&self) {
+    pub(crate) fn tell(&self) {
         self.news.wake();
     }
 
     /// Says that the caller's thread is about to sleep. What is reported from now on ends its sleep, so whatever it waits for
     /// is to be looked at once more before it does.
-    pub fn announce_sleep(&self) -> Key<'_> {
+    pub(crate) fn announce_sleep(&self) -> Key<'_> {
         self.note_lack();
         self.news.announce()
     }
 
     /// Whether so many workers have ended.
-    pub fn have_ended(&self, workers: u64) -> bool {
+    pub(crate) fn have_ended(&self, workers: u64) -> bool {
         self.ended.load(Ordering::SeqCst) >= workers
     }
 
     /// Whether a worker has failed.
-    pub fn has_failed(&self) -> bool {
+    pub(crate) fn has_failed(&self) -> bool {
         self.failed.load(Ordering::SeqCst)
     }
 }

@@ -27,7 +27,7 @@ fn start<'s, Env, L, S, J, P, R>(
     rt: &'s R,
     crew: &'s Crew<'s, L, S, J, P>,
     worker: u64,
-    own: WorkerContext<S, P::Part>,
+    context: WorkerContext<S, P::Part>,
 ) -> Option<WorkerHandle<S, P::Part>>
 where
     L: SharedLambda,
@@ -35,35 +35,35 @@ where
     J: RunSpec<P::Part> + Send + Sync,
     P: Task<L::Item>,
     R: Threads + Wait + Sync,
-    requires new { IsNewcomer crew.now.stream.now worker own.partition own.stream }
-    requires equipped { IsEquipped L.meaning (P.makes crew.now.task.now) J.is_result J.stops_at crew.now.plan.now crew.now.chunked.now crew.now.cut.now own.partition own.cut }
+    requires new { IsNewcomer crew.now.stream.now worker context.partition context.stream }
+    requires equipped { IsEquipped L.meaning (P.makes crew.now.task.now) J.is_result J.stops_at crew.now.plan.now crew.now.chunked.now crew.now.cut.now context.partition context.cut }
     ensures handle { IfSome result (IsHandleOf crew.now.chunked.now crew.now.stream.now) }
     ensures number { IfSome result (λ handle. handle.promise.number ≡ worker) }
 {
     let promise = WorkerPromise {
         chunked: Snapshot::of(crew.chunked),
-        given: Snapshot::of(&own.stream),
+        given: Snapshot::of(&context.stream),
         number: worker,
     };
     let handle = scope.spawn_with(
         promise,
         move || -> Worked<S, P::Part>
-            requires new { IsNewcomer crew.now.stream.now worker own.partition own.stream }
-            requires equipped { IsEquipped L.meaning (P.makes crew.now.task.now) J.is_result J.stops_at crew.now.plan.now crew.now.chunked.now crew.now.cut.now own.partition own.cut }
-            ensures { IsBack crew.entry.now.chunked.now own.stream worker result }
-        { crew.work(rt, worker, own) },
+            requires new { IsNewcomer crew.now.stream.now worker context.partition context.stream }
+            requires equipped { IsEquipped L.meaning (P.makes crew.now.task.now) J.is_result J.stops_at crew.now.plan.now crew.now.chunked.now crew.now.cut.now context.partition context.cut }
+            ensures { IsBack crew.entry.now.chunked.now context.stream worker result }
+        { crew.work(rt, worker, context) },
     );
     handle.ok()
 }
 
 /// Starts so many workers, each with a new partition beside this one and a number of its own, or as many as there are threads
 /// to be had.
-pub fn start_all<'s, Env, L, S, J, P, R>(
+pub(crate) fn start_all<'s, Env, L, S, J, P, R>(
     scope: &Scope<'s, Env>,
     rt: &'s R,
     crew: &'s Crew<'s, L, S, J, P>,
     workers: u64,
-    own: &mut WorkerContext<S, P::Part>,
+    context: &mut WorkerContext<S, P::Part>,
     room: Vec<WorkerHandle<S, P::Part>>,
 ) -> Vec<WorkerHandle<S, P::Part>>
 where
@@ -72,17 +72,17 @@ where
     J: RunSpec<P::Part> + Send + Sync,
     P: Task<L::Item>,
     R: Threads + Wait + Sync,
-    requires stream { IsPassOf crew.now.stream.now own.old.stream }
-    requires first { known own.old.stream ≡ receiver_from 0 }
-    requires equipped { IsEquipped L.meaning (P.makes crew.now.task.now) J.is_result J.stops_at crew.now.plan.now crew.now.chunked.now crew.now.cut.now own.old.partition own.old.cut }
+    requires stream { IsPassOf crew.now.stream.now context.old.stream }
+    requires first { known context.old.stream ≡ receiver_from 0 }
+    requires equipped { IsEquipped L.meaning (P.makes crew.now.task.now) J.is_result J.stops_at crew.now.plan.now crew.now.chunked.now crew.now.cut.now context.old.partition context.old.cut }
     requires few { workers ≤ 64 }
     requires empty { room.items ≡ [] }
     requires room { workers ≤ vec_capacity room }
-    ensures of { IsPartitionOf crew.now.chunked.now own.new.partition }
-    ensures same { holding_of own.new.partition ≡ holding_of own.old.partition }
-    ensures stream { IsPassOf crew.now.stream.now own.new.stream }
-    ensures receiver { IsReceiver (known own.new.stream) }
-    ensures nothing { (known own.new.stream).received ≡ [] }
+    ensures of { IsPartitionOf crew.now.chunked.now context.new.partition }
+    ensures same { holding_of context.new.partition ≡ holding_of context.old.partition }
+    ensures stream { IsPassOf crew.now.stream.now context.new.stream }
+    ensures receiver { IsReceiver (known context.new.stream) }
+    ensures nothing { (known context.new.stream).received ≡ [] }
     ensures handles { All (IsHandleOf crew.now.chunked.now crew.now.stream.now) result.items }
     ensures numbered { AreNumbered 0 result.items }
     ensures count { length result.items ≤ workers }
@@ -90,9 +90,9 @@ where
     let mut handles = room;
     for worker in 0..workers {
         let theirs = WorkerContext {
-            partition: crew.chunked.dynamic(&mut own.partition),
-            stream: crew.stream.give_number(&mut own.stream),
-            cut: crew.cut.split(&mut own.cut),
+            partition: crew.chunked.dynamic(&mut context.partition),
+            stream: crew.stream.give_number(&mut context.stream),
+            cut: crew.cut.split(&mut context.cut),
         };
         let Some(handle) = start(scope, rt, crew, worker, theirs) else {
             return handles;
@@ -110,7 +110,7 @@ pub struct WorkerFaults {
 }
 
 impl WorkerFaults {
-    pub fn none() -> WorkerFaults
+    pub(crate) fn none() -> WorkerFaults
         ensures { has_worker_fault result ≡ false }
     {
         WorkerFaults {
@@ -119,7 +119,7 @@ impl WorkerFaults {
         }
     }
 
-    pub fn note(&mut self, fault: TakeFault)
+    pub(crate) fn note(&mut self, fault: TakeFault)
         ensures memory { self.new.memory ≡ (self.old.memory || lacks_room fault) }
         ensures tickets { self.new.tickets ≡ (self.old.tickets || not (lacks_room fault)) }
         ensures kept { StaysNoted self.old self.new }
@@ -143,11 +143,11 @@ impl WorkerFaults {
 }
 
 /// Joins the workers. Their partitions come after the one that is given, and their passes are taken in.
-pub fn join_all<S, M, C, R>(
+pub(crate) fn join_all<S, M, C, R>(
     rt: &R,
     chunked: &Chunked<S>,
     stream: &Stream<ChunkResult<M>, C>,
-    own: Partition<S>,
+    first: Partition<S>,
     pass: &mut ResultPass<M>,
     handles: Vec<WorkerHandle<S, M>>,
     room: Vec<Partition<S>>,
@@ -158,7 +158,7 @@ where
     M: Drop,
     C: plinq_stream::Admits<ChunkResult<M>>,
     R: Threads,
-    requires of { IsPartitionOf chunked.now own }
+    requires of { IsPartitionOf chunked.now first }
     requires pass { IsPassOf stream.now pass.old }
     requires receiver { IsReceiver (known pass.old) }
     requires handles { All (IsHandleOf chunked.now stream.now) handles.items }
@@ -167,7 +167,7 @@ where
     requires room { length handles.items < vec_capacity room }
     ensures count { length result.items ≡ length handles.items + 1 }
     ensures of { All (IsPartitionOf chunked.now) result.items }
-    ensures origin { common_origin result.items ≡ (holding_of own).origin }
+    ensures origin { common_origin result.items ≡ (holding_of first).origin }
     ensures pass { IsPassOf stream.now pass.new }
     ensures receives { (known pass.new).receives ≡ true }
     ensures received { (known pass.new).received ≡ (known pass.old).received }
@@ -176,7 +176,7 @@ where
 {
     let mut handles = handles;
     let mut partitions = room;
-    partitions.push_reserved(own);
+    partitions.push_reserved(first);
     while let Some(handle) = handles.pop() {
         let worked = handle.join(rt);
         worker_faults.note_any(worked.fault);

@@ -35,10 +35,10 @@ fn next_place<T>(made: &ChunkResult<T>) -> u64 {
 
 /// What a worker brings back: its partition and its pass of the stream, and why it ended before it saw a tail, if it did.
 #[derive(Drop)]
-pub struct Worked<S: Source, M> {
-    pub partition: Partition<S>,
-    pub stream: ResultPass<M>,
-    pub fault: Option<TakeFault>,
+pub(crate) struct Worked<S: Source, M> {
+    pub(crate) partition: Partition<S>,
+    pub(crate) stream: ResultPass<M>,
+    pub(crate) fault: Option<TakeFault>,
 }
 
 /// What a thread of a run has of its own: a partition, and a pass of the stream and of the cut.
@@ -103,25 +103,25 @@ where
     }
 
     /// Takes chunks and sends their results, until one has a tail.
-    pub fn work<R: Wait>(
+    pub(crate) fn work<R: Wait>(
         &self,
         rt: &R,
         worker: u64,
-        own: WorkerContext<S, P::Part>,
+        context: WorkerContext<S, P::Part>,
     ) -> Worked<S, P::Part>
-        requires new { IsNewcomer self.now.stream.now worker own.partition own.stream }
-        requires equipped { IsEquipped L.meaning (P.makes self.now.task.now) J.is_result J.stops_at self.now.plan.now self.now.chunked.now self.now.cut.now own.partition own.cut }
+        requires new { IsNewcomer self.now.stream.now worker context.partition context.stream }
+        requires equipped { IsEquipped L.meaning (P.makes self.now.task.now) J.is_result J.stops_at self.now.plan.now self.now.chunked.now self.now.cut.now context.partition context.cut }
         ensures of { IsPartitionOf self.now.chunked.now result.partition }
-        ensures origin { (holding_of result.partition).origin ≡ (holding_of own.partition).origin }
+        ensures origin { (holding_of result.partition).origin ≡ (holding_of context.partition).origin }
         ensures stream { IsPassOf self.now.stream.now result.stream }
         ensures worked { HasWorked worker (holding_of result.partition).share result.fault (known result.stream) }
-        ensures results { All (λ s. IsPart L.meaning (P.makes self.now.task.now) self.now.plan.now (holding_of own.partition).origin s.item) (known result.stream).sent }
+        ensures results { All (λ s. IsPart L.meaning (P.makes self.now.task.now) self.now.plan.now (holding_of context.partition).origin s.item) (known result.stream).sent }
     {
         let WorkerContext {
             mut partition,
             mut stream,
             mut cut,
-        } = own;
+        } = context;
         self.progress.wait_to_begin(rt, worker);
         for _ in rt.forever() {
             match self.next_result(rt, worker, &mut partition, &mut cut) {

@@ -161,4 +161,12 @@ impl<S: Source> Enumerator<S> {
         self.closed = true;
         Ok(())
     }
+
+    /// Gives up the records of all requests, by ticket, and drops the source. Takes no memory.
+    pub fn into_records(self) -> Vec<Record>
+        ensures records { result.items ≡ ⟦<Enumerator<S> as Guarded>⟧.history self }
+        ensures legal { IsLegalHistory (⟦<Enumerator<S> as Guarded>⟧.origin self) result.items }
+    {
+        self.records
+    }
 }

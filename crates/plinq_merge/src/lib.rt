@@ -8,7 +8,7 @@
 //! - What offers of one source show by key is at each moment a beginning of the sequential answer, and all of it where
 //!   all was offered ([`laws`]).
 //! - A [`Joiner`] is what a merger stands on: it joins results by key for a [`Taker`] of the items whose turn has come. A
-//!   merger's taker is a [`Deliver`], and so is a run's; one that folds them is in `plinq_combine`.
+//!   merger's taker is a [`Deliver`], and so is a run's; a run of folds has one that combines them.
 //! - A [`Sink`] takes the batches; what it says of a call is `accepts` and `refuses`.
 //! - A [`Cancel`] is asked before each batch (`Merger::offer_with`), and may stop the delivery: what was delivered then are
 //!   the first batches (`IsKeptBack`). [`WithCancellation`] is such a token and a sink as one sink.

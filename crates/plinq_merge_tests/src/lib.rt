@@ -1,5 +1,5 @@
-//! The tests of `plinq_merge`, `plinq_combine` and `plinq_cut`: worked rows of offers, results in all orders beside the
-//! answer on one thread, letters in place of numbers, folds of results, the cut's words, and running out of memory.
+//! The tests of `plinq_merge` and `plinq_cut`: worked rows of offers, results in all orders beside the answer on one thread,
+//! letters in place of numbers, the cut's words, and running out of memory.
 //!
 //! They stand in a crate of their own, since a crate with tests is proved twice.
 #![tactic(auto)]
@@ -8,8 +8,6 @@
 mod cut_words;
 #[cfg(test)]
 mod fault_words;
-#[cfg(test)]
-mod folds;
 #[cfg(test)]
 mod memory;
 #[cfg(test)]

@@ -3,6 +3,8 @@ mod Arrived
 mod Batches
 mod Covered
 mod Ended
+mod Finished
+mod Folds
 mod Handed
 mod Merged
 mod Parts

@@ -4,6 +4,7 @@ use Rattle.std.proofs.Common.{refl, sym, ◌∙◌, ap, subst, inl, inr, arith}
 use Rattle.std.proofs.lemmas.Fn.{chained_keeps}
 use Rattle.std.proofs.lemmas.List.Elements.{All-nil, All-push, All-weaker}
 use Rattle.plinq_source.specs.declared.ending.Ending.{Ending}
+use Rattle.plinq_source.specs.declared.memory.OutOfMemory.{OutOfMemory}
 use Rattle.plinq_source.specs.declared.source.Source.{Ghosts as SourceGhosts}
 use Rattle.plinq_source.specs.Trace.{Trace, open_trace}
 use Rattle.plinq_ops.specs.declared.order.Order.{Order}
@@ -20,17 +21,16 @@ use Rattle.plinq_merge.specs.Taking.{IsTaking}
 use Rattle.plinq_merge.specs.Whole.{AreApart}
 use Rattle.plinq_merge.proofs.Joiners.{AreOneMore, joined-cases, takes-joined, takes-broken, joined-stopped}
 use Rattle.plinq_stream.specs.declared.sent.Sent.{Sent}
+use Rattle.plinq_crew.specs.declared.conducting.Returned.{Returned}
 use Rattle.plinq_crew.specs.declared.worker.Crew.{Crew}
 use Rattle.plinq_crew.specs.declared.worker.WorkerContext.{WorkerContext}
+use Rattle.plinq_crew.specs.Conducting.{AcceptsEach, HasReturned, Conducts}
 use Rattle.plinq_crew.specs.Polls.{HasAccepted}
-use Rattle.plinq_run.specs.declared.conducting.Returned.{Returned}
 use Rattle.plinq_run.specs.declared.planning.Ended.{Ended}
 use Rattle.plinq_run.specs.declared.coverage.Coverage.{Coverage}
 use Rattle.plinq_run.specs.declared.merging.Merging.{Merging}
 use Rattle.plinq_run.specs.declared.merging.MergingInto.{MergingInto}
 use Rattle.plinq_run.specs.declared.run_fault.RunFault.{RunFault}
-use Rattle.plinq_run.specs.declared.run_fault.RunFault.TheVariants.{Memory as NoRoom}
-use Rattle.plinq_run.specs.Conducting.{AcceptsEach, HasReturned, Conducts}
 use Rattle.plinq_run.specs.Merged.{offer_fault, Breaks, AcceptsAfter, AreSame, AcceptsInto, Stands, HasMerged, HasBrokenOff, EndsSo, HasOffered}
 use Rattle.plinq_run.specs.Reaching.{IsOffered, Grows, Reaches}
 use Rattle.plinq_run.specs.Runs.{Cause, Other, cause_in_merge, cause_of}
@@ -192,33 +192,31 @@ module _ {W O T : Type 0} (made : W → O → Trace T → Result (Option Ending)
       record { offers = h.offers; are = All-weaker P Q on h.offers h.are; apart = h.apart; last = h.last; how = h.how; taken = h.taken; breaks = h.breaks }
 
 -- what was lent stays the same
-pub conducts-same : {L S J P U W O T : Type 0} {source : SourceGhosts S U} (made : W → O → Trace T → Result (Option Ending) DeliveryFault → W → O → Type 0) (IsPart : ChunkResult T → Type 0) (crew : Crew L S J P U U T source) (own : WorkerContext S T U source)
-    (m m' : MergingInto W T O) (result : Result (Returned S U source) RunFault) → Conducts (AcceptsInto made) IsPart crew own m m' result → AreSame m m'
-conducts-same made IsPart crew own m m' (Ok back) h =
+pub conducts-same : {L S J P U W O T : Type 0} {source : SourceGhosts S U} (made : W → O → Trace T → Result (Option Ending) DeliveryFault → W → O → Type 0) (IsPart : ChunkResult T → Type 0) (crew : Crew L S J P U U T source) (context : WorkerContext S T U source)
+    (m m' : MergingInto W T O) (result : Result (Returned S U source) OutOfMemory) → Conducts (AcceptsInto made) IsPart crew context m m' result → AreSame m m'
+conducts-same made IsPart crew context m m' (Ok back) h =
     let accepted = h.accepted in
     chained_keeps (AcceptsEach (AcceptsInto made) IsPart) (λ xs z. AreSame m z)
     (λ xs z sent z' at step. let so = step.1 in record { merging = so.same.merging ∙ at.merging; out = so.same.out ∙ at.out }) accepted.taken m m' (record { merging = refl; out = refl }) accepted.steps
-conducts-same made IsPart crew own m m' (Err fault) h = record { merging = ap (λ x. x.merging.ghost_name) h.1; out = ap (λ x. x.out.ghost_name) h.1 }
+conducts-same made IsPart crew context m m' (Err fault) h = record { merging = ap (λ x. x.merging.ghost_name) h; out = ap (λ x. x.out.ghost_name) h }
 
-module _ {L S J P U W O T : Type 0} {source : SourceGhosts S U} (made : W → O → Trace T → Result (Option Ending) DeliveryFault → W → O → Type 0) (IsPart : ChunkResult T → Type 0) (crew : Crew L S J P U U T source) (own : WorkerContext S T U source) where
+module _ {L S J P U W O T : Type 0} {source : SourceGhosts S U} (made : W → O → Trace T → Result (Option Ending) DeliveryFault → W → O → Type 0) (IsPart : ChunkResult T → Type 0) (crew : Crew L S J P U U T source) (context : WorkerContext S T U source) where
   -- what was lent is as it is given back
-  pub conducts-offered : (first last : MergingInto W T O) {m m' : Merging W T} {x y : O} {result : Result (Returned S U source) RunFault} → first.merging.now ≡ m → first.out.now ≡ x → last.merging.now ≡ m' → last.out.now ≡ y
-      → Conducts (AcceptsInto made) IsPart crew own first last result → HasOffered made IsPart crew own m x m' y result
+  pub conducts-offered : (first last : MergingInto W T O) {m m' : Merging W T} {x y : O} {result : Result (Returned S U source) OutOfMemory} → first.merging.now ≡ m → first.out.now ≡ x → last.merging.now ≡ m' → last.out.now ≡ y
+      → Conducts (AcceptsInto made) IsPart crew context first last result → HasOffered made IsPart crew context m x m' y result
   conducts-offered first last a b c d h = record { first = first; begun = (a, b); last = last; ended = (c, d); conducts = h }
 
-  pub offered-ok : (m m' : Merging W T) (x y : O) (result : Result (Returned S U source) RunFault) (back : Returned S U source) → result ≡ Ok back → (h : HasOffered made IsPart crew own m x m' y result)
-      → HasReturned (AcceptsInto made) IsPart crew own h.first h.last back
-  offered-ok m m' x y result back is h = subst (Conducts (AcceptsInto made) IsPart crew own h.first h.last) is h.conducts
+  pub offered-ok : (m m' : Merging W T) (x y : O) (result : Result (Returned S U source) OutOfMemory) (back : Returned S U source) → result ≡ Ok back → (h : HasOffered made IsPart crew context m x m' y result)
+      → HasReturned (AcceptsInto made) IsPart crew context h.first h.last back
+  offered-ok m m' x y result back is h = subst (Conducts (AcceptsInto made) IsPart crew context h.first h.last) is h.conducts
 
   -- without room nothing changes
-  pub offered-none : (m m' : Merging W T) (x y : O) (result : Result (Returned S U source) RunFault) (fault : RunFault) → result ≡ Err fault → HasOffered made IsPart crew own m x m' y result → (fault ≡ NoRoom) × (y ≡ x)
-  offered-none m m' x y result fault is h =
-      let none = subst (Conducts (AcceptsInto made) IsPart crew own h.first h.last) is h.conducts in
-      (none.0, sym h.ended.1 ∙ ap (λ l. l.out.now) none.1 ∙ h.begun.1)
+  pub offered-none : (m m' : Merging W T) (x y : O) (result : Result (Returned S U source) OutOfMemory) (fault : OutOfMemory) → result ≡ Err fault → HasOffered made IsPart crew context m x m' y result → y ≡ x
+  offered-none m m' x y result fault is h = sym h.ended.1 ∙ ap (λ l. l.out.now) (subst (Conducts (AcceptsInto made) IsPart crew context h.first h.last) is h.conducts) ∙ h.begun.1
 
   module _ (lawful : IsTaking made) (order : Order) (a : W) where
     -- what stands for the offers
-    pub offered-merged : (m m' : Merging W T) (x y : O) (result : Result (Returned S U source) RunFault) (back : Returned S U source) → result ≡ Ok back → HasOffered made IsPart crew own m x m' y result
+    pub offered-merged : (m m' : Merging W T) (x y : O) (result : Result (Returned S U source) OutOfMemory) (back : Returned S U source) → result ≡ Ok back → HasOffered made IsPart crew context m x m' y result
         → HasMerged made IsPart order a x m x → HasMerged made IsPart order a x m' y
     offered-merged m m' x y result back is h begun =
         let returned = offered-ok m m' x y result back is h in

@@ -1,5 +1,5 @@
 -- What is sent as it is.
-use Rattle.std.specs.Prelude.{◌≡◌, refl}
+use Rattle.std.specs.Prelude.{◌≡◌}
 use Rattle.std.proofs.Common.{sym, subst}
 use Rattle.plinq_source.specs.Trace.{Trace}
 use Rattle.plinq_lambda.specs.Meaning.{Meaning}
@@ -13,6 +13,3 @@ module _ {L T : Type 0} (meaning : L → Meaning T) (plan : Plan L) (t : Trace T
 
   pub plain-part : IsPart meaning IsSame plan t r → IsResult meaning plan t r
   plain-part h = subst (IsResult meaning plan t) (sym h.made) h.is
-
-  pub part-plain : IsResult meaning plan t r → IsPart meaning IsSame plan t r
-  part-plain is = record { result = r; is = is; made = refl; same = record { first = refl; count = refl; ending = refl; stop = refl; tail = refl } }

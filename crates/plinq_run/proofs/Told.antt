@@ -17,12 +17,11 @@ use Rattle.plinq_stream.specs.declared.known.PassKnowledge.{PassKnowledge}
 use Rattle.plinq_stream.specs.declared.sent.Sent.{Sent}
 use Rattle.plinq_stream.specs.declared.stream_pass.StreamPass.{StreamPass}
 use Rattle.plinq_stream.specs.Passes.{known}
-use Rattle.plinq_stream.specs.Streams.{has, under, HasReceivedAll}
+use Rattle.plinq_stream.specs.Streams.{HasReceivedAll}
 use Rattle.plinq_stream.proofs.Under.{or-none, or-right}
 use Rattle.plinq_crew.specs.declared.starting.WorkerFaults.{WorkerFaults}
 use Rattle.plinq_crew.specs.Noted.{has_worker_fault}
-use Rattle.plinq_crew.specs.Working.{IsAnsweredBy, IsWhollyAnsweredBy, Follows}
-use Rattle.plinq_partition.specs.Partitions.{holding_of}
+use Rattle.plinq_crew.specs.Working.{IsAnsweredBy, IsWhollyAnsweredBy}
 use Rattle.plinq_crew.proofs.Working.{answered-wholly}
 use Rattle.plinq_crew.specs.declared.worker_count.WorkerCount.{WorkerCount}
 use Rattle.plinq_run.specs.declared.run_fault.RunFault.{RunFault}
@@ -31,9 +30,9 @@ use Rattle.plinq_crew.specs.Polls.{HasAccepted}
 use Rattle.plinq_run.specs.declared.planning.Ended.{Ended}
 use Rattle.plinq_run.specs.declared.merging.Merging.{Merging}
 use Rattle.plinq_run.specs.declared.merging.MergingInto.{MergingInto}
-use Rattle.plinq_run.specs.Conducting.{AcceptsEach}
+use Rattle.plinq_crew.specs.Conducting.{AcceptsEach}
 use Rattle.plinq_run.specs.Merged.{AcceptsInto, Stands, WereAccepted}
-use Rattle.plinq_run.specs.Faults.{first_told, told_if, refused_by_sink, is_out_of_memory}
+use Rattle.plinq_run.specs.Faults.{first_reported, reported_if, refused_by_sink, is_out_of_memory}
 
 none-before : {A : Type 0} (x y : Option A) → option_or x y ≡ None → x ≡ None
 none-before None y is = refl
@@ -43,23 +42,23 @@ none-after : {A : Type 0} (x y : Option A) → option_or x y ≡ None → y ≡ 
 none-after None y is = is
 none-after (Some x) y is = absurd (true≢false (ap is_some is))
 
-none-told : (b : Bool) (fault : RunFault) → told_if b fault ≡ None → b ≡ false
+none-told : (b : Bool) (fault : RunFault) → reported_if b fault ≡ None → b ≡ false
 none-told true fault is = absurd (true≢false (ap is_some is))
 none-told false fault is = refl
 
-none-noted : (fault : Option MergeFault) (faults : WorkerFaults) (worker_count : WorkerCount) → first_told fault faults worker_count ≡ None → has_worker_fault faults ≡ false
+none-noted : (fault : Option MergeFault) (faults : WorkerFaults) (worker_count : WorkerCount) → first_reported fault faults worker_count ≡ None → has_worker_fault faults ≡ false
 none-noted fault faults worker_count is =
     let after-sink = none-after (refused_by_sink fault) _ is in
     let memory = none-told (is_out_of_memory fault || faults.memory) Memory (none-before _ _ after-sink) in
-    let after-memory = none-after (told_if (is_out_of_memory fault || faults.memory) Memory) _ after-sink in
-    let after-thread = none-after (told_if (not (worker_count.started == worker_count.wanted)) Thread) _ after-memory in
+    let after-memory = none-after (reported_if (is_out_of_memory fault || faults.memory) Memory) _ after-sink in
+    let after-thread = none-after (reported_if (not (worker_count.started == worker_count.wanted)) Thread) _ after-memory in
     let tickets = none-told faults.tickets Tickets (none-before _ _ after-thread) in
     or-none faults.memory faults.tickets (or-right (is_out_of_memory fault) faults.memory memory) tickets
 
 -- of what is reported with these partitions: a pass of the stream has received all that was sent; and what else is known of it
 pub told-all : {X S T M : Type 0} {source : SourceGhosts S T} (IsOf : StreamPass (ChunkResult M) → Type 0) (partitions_of : X → Vec (Partition S T source) Global) (Else : X → PassKnowledge (ChunkResult M) → Type 0)
     (a : PassKnowledge (ChunkResult M)) (b : StreamPass (ChunkResult M)) (faults : WorkerFaults) (fault : Option MergeFault) (worker_count : WorkerCount) (partitions : Vec (Partition S T source) Global) (r : Result X RunFault)
-    → IsOf b → (known b).sent ≡ a.sent → (known b).numbers ≡ a.numbers → OnOk r (first_told fault faults worker_count ≡ None) → IfOk r (λ x. partitions_of x ≡ partitions)
+    → IsOf b → (known b).sent ≡ a.sent → (known b).numbers ≡ a.numbers → OnOk r (first_reported fault faults worker_count ≡ None) → IfOk r (λ x. partitions_of x ≡ partitions)
     → HasReceivedAll (known b) → All (IsAnsweredBy 0 a faults) (drop 1 partitions.items) → IfOk r (λ x. Else x (known b))
     → IfOk r (λ x. (p : StreamPass (ChunkResult M)) × IsOf p × HasReceivedAll (known p) × All (IsWhollyAnsweredBy (known p)) (drop 1 (partitions_of x).items) × Else x (known p))
 told-all IsOf partitions_of Else a b faults fault worker_count partitions (Ok x) of sent numbers none same all answered also = (
@@ -71,20 +70,6 @@ told-all IsOf partitions_of Else a b faults fault worker_count partitions (Ok x)
   also,
 )
 told-all IsOf partitions_of Else a b faults fault worker_count partitions (Err told) of sent numbers none same all answered also = tt
-
--- what a pass has answered is answered by one that knows the same
-pub answered-same : {S T M : Type 0} {source : SourceGhosts S T} (a b : PassKnowledge (ChunkResult M)) (faults : WorkerFaults) (ps : List (Partition S T source)) → b.sent ≡ a.sent → b.numbers ≡ a.numbers
-    → All (IsAnsweredBy 0 a faults) ps → All (IsAnsweredBy 0 b faults) ps
-answered-same a b faults ps sent numbers answered =
-    All-weaker (IsAnsweredBy 0 a faults) (IsAnsweredBy 0 b faults)
-    (λ p h. record {
-      number = h.number;
-      above = h.above;
-      own = ap (has h.number) numbers ∙ h.own;
-      fault = h.fault;
-      noted = h.noted;
-      follows = subst (λ l. Follows (holding_of p).share h.fault (under h.number l)) (sym sent) h.follows;
-    }) ps answered
 
 -- what was received was accepted, where it is reported how the answer ended
 pub told-accepted : {S U W O T : Type 0} {source : SourceGhosts S U} (made : W → O → Trace T → Result (Option Ending) DeliveryFault → W → O → Type 0) (IsPart : ChunkResult T → Type 0) (order : Order) (a : W) (m m' : Merging W T) (x y : O)

@@ -19,16 +19,16 @@ use Rattle.plinq_merge.specs.Keys.{is_within, is_offered}
 use Rattle.plinq_merge.specs.Shown.{merged, answer, end_of_result}
 use Rattle.plinq_merge.specs.Whole.{AreApart}
 use Rattle.plinq_merge.proofs.Gains.{answer-open}
-use Rattle.plinq_combine.specs.declared.combined.Combined.{Combined}
-use Rattle.plinq_combine.specs.declared.fold.Fold.{Fold}
-use Rattle.plinq_combine.specs.Combining.{aggregator_of, acc_of, IsEmpty, Made, MadeBy}
-use Rattle.plinq_combine.specs.Folds.{IsFoldOf, AreFoldsOf}
-use Rattle.plinq_combine.proofs.Finished.{fold-finished}
+use Rattle.plinq_run.specs.declared.combined.Combined.{Combined}
+use Rattle.plinq_run.specs.declared.fold.Fold.{Fold}
+use Rattle.plinq_run.specs.Combining.{Made, MadeBy}
+use Rattle.plinq_run.specs.Folds.{IsFoldOf, AreFoldsOf}
+use Rattle.plinq_run.proofs.Finished.{fold-finished}
 use Rattle.plinq_crew.specs.Plans.{IsUndecided}
 use Rattle.plinq_crew.specs.Results.{IsResult, IsPart}
 use Rattle.plinq_run.specs.declared.planning.Ended.{Ended}
 use Rattle.plinq_run.specs.declared.run_fault.RunFault.{RunFault}
-use Rattle.plinq_run.specs.Aggregates.{Aggregates, AggregatesSome, value_at}
+use Rattle.plinq_run.specs.Aggregates.{Aggregates, AggregatesSome, so_far, value_at}
 use Rattle.plinq_run.specs.Folded.{HasFinished, FoldsSome, value_of}
 use Rattle.plinq_run.specs.Merged.{merge_for, Breaks, HasEnded, HasBrokenOff}
 use Rattle.plinq_run.specs.Reaching.{IsOffered}
@@ -87,10 +87,10 @@ module _ {L T A O : Type 0} (f : Folding T A O) (meaning : L → Meaning T) (pla
       let fin : HasFinished f u made = subst (λ x. HasFinished f x made) (sym same) (finishes un.results un.folds) in
       (u, ended-answer meaning plan FullyBuffered undecided t un.results made.ending few un.are (folds-apart f un.results cs un.folds apart) fin.ending, fin)
 
-  module _ {F : Type 0} (folding : F → Folding T A O) (first : Fold F A) (same : folding (aggregator_of first) ≡ f) where
+  module _ {F : Type 0} (folding : F → Folding T A O) (first : Fold F A) (same : folding (first.aggregator.now) ≡ f) where
     -- a run of folds that has an answer reports the fold of its items
-    pub folded-ended : {S U : Type 0} {source : SourceGhosts S U} (ended : Ended S (Fold F A) U source) (acc : A) → IsFolding f → IsEmpty first → length t.items ≤ 2 ^ 40 → IsUndecided plan → plan.after.now ≡ []
-        → acc ≡ acc_of folding ended.joined.taker → HasEnded (MadeBy folding) IsFolded plan.order first tt ended tt
+    pub folded-ended : {S U : Type 0} {source : SourceGhosts S U} (ended : Ended S (Fold F A) U source) (acc : A) → IsFolding f → first.acc ≡ None → length t.items ≤ 2 ^ 40 → IsUndecided plan → plan.after.now ≡ []
+        → acc ≡ so_far (folding ended.joined.taker.aggregator.now) ended.joined.taker.acc → HasEnded (MadeBy folding) IsFolded plan.order first tt ended tt
         → (u : Trace T) × MayMerge meaning plan t u × HasFinished f u (record { acc = acc; ending = ended.joined.ending })
     folded-ended ended acc lawful empty few undecided alone is h =
         finished-answer (record { acc = acc; ending = ended.joined.ending }) few undecided alone h.offers (All-weaker (IsOffered IsFolded ended.coverage) IsFolded (λ c x. x.0) h.offers h.are) h.apart

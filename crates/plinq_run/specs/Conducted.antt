@@ -13,7 +13,7 @@ use Rattle.plinq_run.specs.declared.run_fault.RunFault.{RunFault}
 use Rattle.plinq_run.specs.Merged.{HasEnded, HasBrokenOff}
 
 -- the partitions have shared the source
-pub record IsBack {S T W : Type 0} {source : Ghosts S T} (t : Trace T) (c : Conducted S W T source) : Type 0 where
+pub record HaveShared {S T W : Type 0} {source : Ghosts S T} (t : Trace T) (c : Conducted S W T source) : Type 0 where
   pub some : 1 ≤ length c.ended.partitions.items
   pub of : All (IsPartitionOf c.chunked) c.ended.partitions.items
   pub origin : common_origin c.ended.partitions.items ≡ t
@@ -21,5 +21,5 @@ pub record IsBack {S T W : Type 0} {source : Ghosts S T} (t : Trace T) (c : Cond
 -- and the taker has taken what the parts merge to; or there is a fault, for which it may have broken off
 abbrev pub HasConducted : {S T M W O : Type 0} {source : Ghosts S T} → (W → O → Trace M → Result (Option Ending) DeliveryFault → W → O → Type 0) → (ChunkResult M → Type 0)
     → Order → Trace T → W → O → Result (Conducted S W T source) RunFault → O → Type 0
-HasConducted made IsPart order t a x (Ok c) y = IsBack t c × HasEnded made IsPart order a x c.ended y
+HasConducted made IsPart order t a x (Ok c) y = HaveShared t c × HasEnded made IsPart order a x c.ended y
 HasConducted made IsPart order t a x (Err fault) y = HasBrokenOff made IsPart order a x fault y

@@ -9,8 +9,8 @@ use Rattle.plinq_run.specs.declared.run_fault.RunFault.TheVariants.{Memory, Sink
 use Rattle.plinq_crew.specs.declared.starting.WorkerFaults.{WorkerFaults}
 
 -- the fault, if there is a cause for it
-abbrev pub told_if : Bool → RunFault → Option RunFault
-told_if is_cause fault = if is_cause then Some fault else None
+abbrev pub reported_if : Bool → RunFault → Option RunFault
+reported_if is_cause fault = if is_cause then Some fault else None
 
 abbrev pub refused_by_sink : Option MergeFault → Option RunFault
 refused_by_sink None = None
@@ -41,13 +41,13 @@ is_incomplete (Some Failed) = true
 is_incomplete (Some Cancelled) = true
 
 -- the first of sink, memory, thread, tickets and missing results for which there is a cause
-abbrev pub first_told : Option MergeFault → WorkerFaults → WorkerCount → Option RunFault
-first_told fault faults worker_count =
+abbrev pub first_reported : Option MergeFault → WorkerFaults → WorkerCount → Option RunFault
+first_reported fault faults worker_count =
     option_or (refused_by_sink fault)
-    (option_or (told_if (is_out_of_memory fault || faults.memory) Memory)
-    (option_or (told_if (not (worker_count.started == worker_count.wanted)) Thread)
-    (option_or (told_if faults.tickets Tickets)
-    (told_if (is_incomplete fault) Incomplete))))
+    (option_or (reported_if (is_out_of_memory fault || faults.memory) Memory)
+    (option_or (reported_if (not (worker_count.started == worker_count.wanted)) Thread)
+    (option_or (reported_if faults.tickets Tickets)
+    (reported_if (is_incomplete fault) Incomplete))))
 
 -- ---- worked rows
 
@@ -60,23 +60,23 @@ three_of_four = record { wanted = 4; started = 3 }
 abbrev all_four : WorkerCount
 all_four = record { wanted = 4; started = 4 }
 
-the_sink_comes_first : first_told (Some (Refusal 9)) (short_of true true) three_of_four ≡ Some (Sink 9)
+the_sink_comes_first : first_reported (Some (Refusal 9)) (short_of true true) three_of_four ≡ Some (Sink 9)
 the_sink_comes_first = refl
 
-memory_before_a_thread : first_told None (short_of true false) three_of_four ≡ Some Memory
+memory_before_a_thread : first_reported None (short_of true false) three_of_four ≡ Some Memory
 memory_before_a_thread = refl
 
-the_mergers_memory_too : first_told (Some NoMemory) (short_of false true) three_of_four ≡ Some Memory
+the_mergers_memory_too : first_reported (Some NoMemory) (short_of false true) three_of_four ≡ Some Memory
 the_mergers_memory_too = refl
 
-a_thread_before_tickets : first_told None (short_of false true) three_of_four ≡ Some Thread
+a_thread_before_tickets : first_reported None (short_of false true) three_of_four ≡ Some Thread
 a_thread_before_tickets = refl
 
-tickets_before_what_they_bring_about : first_told (Some Gap) (short_of false true) all_four ≡ Some Tickets
+tickets_before_what_they_bring_about : first_reported (Some Gap) (short_of false true) all_four ≡ Some Tickets
 tickets_before_what_they_bring_about = refl
 
-a_key_that_came_twice : first_told (Some Twice) (short_of false false) all_four ≡ Some Incomplete
+a_key_that_came_twice : first_reported (Some Twice) (short_of false false) all_four ≡ Some Incomplete
 a_key_that_came_twice = refl
 
-no_fault : first_told None (short_of false false) all_four ≡ None
+no_fault : first_reported None (short_of false false) all_four ≡ None
 no_fault = refl

@@ -2,7 +2,7 @@
 use Rattle.std.specs.Prelude.{◌≡◌, Some, Result, Ok, Err}
 use Rattle.plinq_source.specs.Trace.{Trace}
 use Rattle.plinq_aggregate.specs.Folding.{Folding, folded}
-use Rattle.plinq_combine.specs.declared.combined.Combined.{Combined}
+use Rattle.plinq_run.specs.declared.combined.Combined.{Combined}
 use Rattle.plinq_run.specs.declared.aggregate_fault.AggregateFault.{AggregateFault}
 use Rattle.plinq_run.specs.declared.aggregate_fault.AggregateFault.TheVariants.{Run}
 use Rattle.plinq_run.specs.declared.run_fault.RunFault.{RunFault}

@@ -1,9 +1,11 @@
 pub mod Aggregates
+pub mod Combining
+pub mod CombiningLawful
 pub mod Conducted
-pub mod Conducting
 pub mod Endings
 pub mod Faults
 pub mod Folded
+pub mod Folds
 pub mod Handed
 pub mod Merged
 pub mod Plans
@@ -11,5 +13,4 @@ pub mod Reaching
 pub mod Reports
 pub mod RunRows
 pub mod Runs
-pub mod Scoped
 pub mod Stopping

@@ -7,9 +7,10 @@ ghost use Rattle.plinq_ops.specs.Feeding.{is_empty_take};
 ghost use Rattle.plinq_run.specs.Aggregates.{AggregatesSome};
 
 use crate::aggregate_fault::AggregateFault;
-use crate::fold_sink::{FoldSink, value_of};
+use crate::fold::Fold;
 use crate::folding::fold_plan;
 use crate::running::run;
+use crate::valuing::{value_after, value_of};
 use plinq_aggregate::Aggregator;
 use plinq_crew::Gate;
 use plinq_enumerator::Growth;
@@ -57,9 +58,9 @@ where
 {
     let plan = query.split();
     if plan.decided || !plan.after.is_empty() {
-        let mut sink = FoldSink::new(aggregator);
-        let report = run(rt, alloc, query, source, growth, gate, &mut sink);
-        return sink.told(report);
+        let mut fold = Fold::new(aggregator);
+        let report = run(rt, alloc, query, source, growth, gate, &mut fold);
+        return value_after(fold, report);
     }
     let combined = fold_plan(
         rt,

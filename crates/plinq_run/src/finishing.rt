@@ -8,8 +8,8 @@ ghost use Rattle.plinq_partition.specs.GivenBack.{common_origin};
 ghost use Rattle.plinq_ticket.specs.Shares.{in_ticket_order};
 ghost use Rattle.plinq_run.specs.Runs.{Other, cause_in_merge, cause_of, IsReportOf};
 ghost use Rattle.plinq_run.specs.Endings.{reported};
-ghost use Rattle.plinq_run.specs.Faults.{first_told};
-ghost use Rattle.plinq_run.specs.declared.run_fault.RunFault.TheVariants.{Incomplete, Memory};
+ghost use Rattle.plinq_run.specs.Faults.{first_reported};
+ghost use Rattle.plinq_run.specs.declared.run_fault.RunFault.TheVariants.{Incomplete};
 ghost use Rattle.plinq_run.specs.Reaching.{accounts_for};
 
 use crate::accounting::account_for;
@@ -18,15 +18,13 @@ use crate::planning::{Conducted, Ended};
 use crate::report::Report;
 use crate::run_fault::RunFault;
 use plinq_crew::{WorkerCount, WorkerFaults};
-use plinq_keyed::{Guarded, Record};
 use plinq_merge::{MergeFault, Taker};
 use plinq_partition::Partition;
 use plinq_source::Source;
-use std::alloc::Global;
 
 /// The first of the faults that aren't the merging thread's.
 fn worker_fault(worker_faults: WorkerFaults, worker_count: WorkerCount) -> Option<RunFault>
-    ensures first { result ≡ first_told None worker_faults worker_count }
+    ensures first { result ≡ first_reported None worker_faults worker_count }
     ensures told { IfSome result (λ fault. cause_of fault ≡ Other) }
 {
     if worker_faults.memory {
@@ -47,7 +45,7 @@ pub(crate) fn first_fault(
     worker_faults: WorkerFaults,
     worker_count: WorkerCount,
 ) -> Option<RunFault>
-    ensures first { result ≡ first_told fault worker_faults worker_count }
+    ensures first { result ≡ first_reported fault worker_faults worker_count }
     ensures told { IfSome result (λ told. cause_of told ≡ cause_in_merge fault) }
     ensures none { result ≡ None → fault ≡ None }
 {
@@ -62,32 +60,21 @@ pub(crate) fn first_fault(
     }
 }
 
-/// The records of the history.
-fn copied(alloc: Global, records: &[Record]) -> Result<Vec<Record>, RunFault>
-    ensures ok { IfOk result (λ copy. copy.items ≡ records.now) }
-    ensures err { IfErr result (λ fault. fault ≡ Memory) }
-{
-    match Vec::from_slice(alloc, records) {
-        Ok(copy) => Ok(copy),
-        Err(_) => Err(RunFault::Memory),
-    }
-}
-
 /// What has taken the answer's items and how it ended, or the first of all faults.
-pub(crate) fn told<W: Taker, S: Source>(
+pub(crate) fn finish<W: Taker, S: Source>(
     merging: Merging<W, W::Item>,
     worker_faults: WorkerFaults,
     worker_count: WorkerCount,
     partitions: Vec<Partition<S>>,
 ) -> Result<Ended<S, W>, RunFault>
     ensures none { OnOk result (merging.fault ≡ None) }
-    ensures first { OnOk result (first_told merging.fault worker_faults worker_count ≡ None) }
+    ensures first { OnOk result (first_reported merging.fault worker_faults worker_count ≡ None) }
     ensures taker { IfOk result (λ ended. ended.joined.taker ≡ taker_of merging.joiner) }
     ensures ending { IfOk result (λ ended. ending_of merging.joiner ≡ Ok ended.joined.ending) }
     ensures partitions { IfOk result (λ ended. ended.partitions ≡ partitions) }
     ensures coverage { IfOk result (λ ended. ended.coverage ≡ merging.coverage) }
     ensures err { IfErr result (λ fault. cause_of fault ≡ cause_in_merge merging.fault) }
-    ensures told { IfErr result (λ fault. option_or (first_told merging.fault worker_faults worker_count) (Some Incomplete) ≡ Some fault) }
+    ensures told { IfErr result (λ fault. option_or (first_reported merging.fault worker_faults worker_count) (Some Incomplete) ≡ Some fault) }
 {
     let Merging {
         joiner,
@@ -108,10 +95,7 @@ pub(crate) fn told<W: Taker, S: Source>(
 }
 
 /// The report of a run that has an answer, if the records account for it.
-pub(crate) fn report<S: Source, W: Taker>(
-    alloc: Global,
-    conducted: Conducted<S, W>,
-) -> Result<Report, RunFault>
+pub(crate) fn report<S: Source, W: Taker>(conducted: Conducted<S, W>) -> Result<Report, RunFault>
     requires some { 1 ≤ length conducted.ended.partitions.items }
     requires of { All (IsPartitionOf conducted.chunked) conducted.ended.partitions.items }
     ensures told { IsReportOf (Ok conducted.ended.joined.ending) (reported result) }
@@ -125,15 +109,13 @@ pub(crate) fn report<S: Source, W: Taker>(
         joined,
         coverage,
     } = ended;
+    let ending = joined.ending;
     let Ok(enumerator) = chunked.give_back(partitions) else {
         return Err(RunFault::Incomplete);
     };
-    let records = copied(alloc, enumerator.records())?;
+    let records = enumerator.into_records();
     if !account_for(&records, coverage) {
         return Err(RunFault::Incomplete);
     }
-    Ok(Report {
-        ending: joined.ending,
-        records,
-    })
+    Ok(Report { ending, records })
 }

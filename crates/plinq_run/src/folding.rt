@@ -1,15 +1,17 @@
-//! A run whose workers fold what they compute: they send an accumulator a result, and the caller's thread combines these.
-ghost use Rattle.std.specs.Prelude.{◌≡◌, ◌≤◌, [], IfOk};
+//! A run whose workers fold what they compute: they send one accumulator for each result, and the caller's thread combines
+//! these.
+ghost use Rattle.std.specs.Prelude.{◌≡◌, ◌≤◌, []};
 ghost use Rattle.plinq_crew.specs.Plans.{IsUndecided};
 ghost use Rattle.plinq_run.specs.Folded.{FoldsSome};
 ghost use Rattle.plinq_run.specs.Reports.{MayMerge};
 
+use crate::combined::Combined;
+use crate::fold::Fold;
 use crate::planning::{Conducted, Ended, conduct_plan};
 use crate::run_fault::RunFault;
 use crate::running::progress_of;
 use crate::tasks::FoldChunks;
 use plinq_aggregate::Aggregator;
-use plinq_combine::{Combined, Fold};
 use plinq_crew::Gate;
 use plinq_enumerator::Growth;
 use plinq_lambda::SharedLambda;

@@ -1,12 +1,14 @@
 //! What the caller's thread does with the parts that workers send.
-ghost use Rattle.std.specs.Prelude.{◌≡◌, ◌≤◌, ◌^◌, ◌||◌, is_some};
-ghost use Rattle.plinq_merge.specs.Joiners.{has_decided};
+ghost use Rattle.std.specs.Prelude.{◌≡◌, ◌≤◌, ◌<◌, ◌^◌, ℕ, List, true, false, ◌||◌, is_some};
+ghost use Rattle.plinq_ops.specs.declared.results.ChunkResult.{ChunkResult};
+ghost use Rattle.plinq_merge.specs.Joiners.{WaitsFor, has_decided};
+ghost use Rattle.plinq_merge.specs.Keys.{is_offered};
 ghost use Rattle.plinq_merge.specs.Joining.{IsReady};
 ghost use Rattle.plinq_merge.specs.Shown.{end_of_result};
 ghost use Rattle.plinq_run.specs.Merged.{Accepts, AcceptsInto};
 
 use crate::coverage::Coverage;
-use crate::receiver::Receiver;
+use plinq_crew::Consumer;
 use plinq_merge::{Joiner, MergeFault, TakeInto, Taker};
 use plinq_ops::ChunkResult;
 
@@ -45,15 +47,17 @@ impl<W: Taker> Merging<W, W::Item> {
     }
 }
 
-/// The same, lent together with where its taker puts things.
+/// A joiner with its faults, and where its taker puts things, both lent.
 #[derive(Drop)]
 pub(crate) struct MergingInto<'a, 'b, W, T, O> {
     pub(crate) merging: &'a mut Merging<W, T>,
     pub(crate) out: &'b mut O,
 }
 
-impl<'a, 'b, W: TakeInto<O>, O> Receiver<W::Item> for MergingInto<'a, 'b, W, W::Item, O> {
+impl<'a, 'b, W: TakeInto<O>, O> Consumer<W::Item> for MergingInto<'a, 'b, W, W::Item, O> {
     ghost is_ready = { λ m. IsReady W.can_take m.merging.now.joiner };
+
+    ghost wants_no_more = { λ m. is_some m.merging.now.fault || has_decided m.merging.now.joiner };
 
     ghost accepts = { λ m part m'. AcceptsInto W.made m part m' };
 
@@ -78,7 +82,10 @@ impl<'a, 'b, W: TakeInto<O>, O> Receiver<W::Item> for MergingInto<'a, 'b, W, W::
         self.merging.is_over()
     }
 
-    fn merged(&self) -> u64 {
+    fn merged(&self) -> u64
+        ensures { (offers : List (ChunkResult W.Item)) → WaitsFor self.now.merging.now.joiner offers →
+            ((key : ℕ) → key < result → is_offered offers key ≡ true) × (is_offered offers result ≡ false) }
+    {
         self.merging.joiner.merged()
     }
 

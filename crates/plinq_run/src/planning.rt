@@ -1,4 +1,4 @@
-//! The run of a plan by a crew: what its workers share is made here, and what they send goes to a taker.
+//! The run of a plan: what its workers share is made here, and what they send goes to a taker.
 ghost use Rattle.std.specs.Prelude.{◌≡◌, ◌≤◌, ◌+◌, drop, length, true, All, IfOk};
 ghost use Rattle.plinq_ops.specs.declared.results.ChunkResult.{ChunkResult};
 ghost use Rattle.plinq_cut.specs.OfPlan.{AreStopKeys};
@@ -7,28 +7,29 @@ ghost use Rattle.plinq_partition.specs.GivenBack.{common_origin};
 ghost use Rattle.plinq_stream.specs.declared.stream_pass.StreamPass.{StreamPass};
 ghost use Rattle.plinq_stream.specs.Passes.{IsPassOf, known};
 ghost use Rattle.plinq_stream.specs.Streams.{HasReceivedAll};
+ghost use Rattle.plinq_crew.specs.Conducting.{Conducts};
 ghost use Rattle.plinq_crew.specs.Equipped.{IsReady};
 ghost use Rattle.plinq_crew.specs.Plans.{IsUndecided};
 ghost use Rattle.plinq_crew.specs.Results.{IsPart};
 ghost use Rattle.plinq_crew.specs.Working.{IsWhollyAnsweredBy};
 ghost use Rattle.plinq_run.specs.Conducted.{HasConducted};
 ghost use Rattle.plinq_merge.specs.Joining.{IsReady as CanAccept};
-ghost use Rattle.plinq_run.specs.Conducting.{Conducts};
 ghost use Rattle.plinq_run.specs.Merged.{AcceptsInto, AreSame, HasOffered, WereAccepted, EndsSo};
 
-use crate::conducting::{Returned, in_scope};
 use crate::coverage::Coverage;
-use crate::finishing::told;
+use crate::finishing::finish;
 use crate::merging::{Merging, MergingInto};
 use crate::run_fault::RunFault;
-use plinq_crew::{Crew, Progress, ResultStream, RunSpec, RunStopKeys, Task, WorkerContext};
+use plinq_crew::{
+    Crew, Progress, ResultStream, Returned, RunSpec, RunStopKeys, Task, WorkerContext, conduct,
+};
 use plinq_cut::CutWord;
 use plinq_enumerator::Growth;
 use plinq_lambda::SharedLambda;
 use plinq_merge::{Joined, Joiner, TakeInto, Taker};
 use plinq_ops::Plan;
 use plinq_partition::{Chunked, Partition};
-use plinq_source::Source;
+use plinq_source::{OutOfMemory, Source};
 use std::alloc::Global;
 use std::sync::Wait;
 use std::thread::Threads;
@@ -45,20 +46,20 @@ pub(crate) struct Ended<S: Source, W> {
     pub(crate) coverage: Coverage,
 }
 
-/// The same, beside what the partitions have shared.
+/// A run that has an answer, and the source that its partitions have shared.
 #[derive(Drop)]
 pub(crate) struct Conducted<S: Source, W> {
     pub(crate) chunked: Chunked<S>,
     pub(crate) ended: Ended<S, W>,
 }
 
-/// Runs a crew, and offers what it sends to a joiner.
+/// Runs a crew, and offers what it sends to the joiner that is lent.
 fn join_crew<'x, J, L, S, P, W, O, R>(
     rt: &'x R,
     crew: &'x Crew<'x, L, S, J, P>,
-    own: WorkerContext<S, P::Part>,
+    context: WorkerContext<S, P::Part>,
     into: &mut MergingInto<'_, '_, W, P::Part, O>,
-) -> Result<Returned<S>, RunFault>
+) -> Result<Returned<S>, OutOfMemory>
 where
     J: RunSpec<P::Part> + Send + Sync,
     L: SharedLambda,
@@ -66,22 +67,22 @@ where
     P: Task<L::Item>,
     W: Taker<Item = <P as Task<L::Item>>::Part> + TakeInto<O>,
     R: Threads + Wait + Sync,
-    requires ready { IsReady L.meaning P.makes J.is_result J.stops_at crew.now own }
+    requires ready { IsReady L.meaning P.makes J.is_result J.stops_at crew.now context }
     requires joiner { CanAccept W.can_take into.old.merging.now.joiner }
     ensures same { AreSame into.old into.new }
-    ensures conducts { Conducts (AcceptsInto W.made) J.is_result crew.now own into.old into.new result }
+    ensures conducts { Conducts (AcceptsInto W.made) J.is_result crew.now context into.old into.new result }
 {
-    in_scope(rt, crew, own, into)
+    conduct(rt, crew, context, into)
 }
 
-/// The same, by a joiner of its own, which it gives back.
+/// Runs a crew, offers what it sends to this joiner, and gives the joiner back.
 fn offer_parts<'x, J, L, S, P, W, O, R>(
     rt: &'x R,
     crew: &'x Crew<'x, L, S, J, P>,
-    own: WorkerContext<S, P::Part>,
+    context: WorkerContext<S, P::Part>,
     begun: Merging<W, P::Part>,
     out: &mut O,
-) -> (Merging<W, P::Part>, Result<Returned<S>, RunFault>)
+) -> (Merging<W, P::Part>, Result<Returned<S>, OutOfMemory>)
 where
     J: RunSpec<P::Part> + Send + Sync,
     L: SharedLambda,
@@ -89,16 +90,16 @@ where
     P: Task<L::Item>,
     W: Taker<Item = <P as Task<L::Item>>::Part> + TakeInto<O>,
     R: Threads + Wait + Sync,
-    requires ready { IsReady L.meaning P.makes J.is_result J.stops_at crew.now own }
+    requires ready { IsReady L.meaning P.makes J.is_result J.stops_at crew.now context }
     requires joiner { CanAccept W.can_take begun.joiner }
-    ensures { HasOffered W.made J.is_result crew.now own begun out.old result.0 out.new result.1 }
+    ensures { HasOffered W.made J.is_result crew.now context begun out.old result.0 out.new result.1 }
 {
     let mut merging = begun;
     let mut into = MergingInto {
         merging: &mut merging,
         out,
     };
-    let returned = join_crew(rt, crew, own, &mut into);
+    let returned = join_crew(rt, crew, context, &mut into);
     (merging, returned)
 }
 
@@ -106,7 +107,7 @@ where
 fn run_crew<'x, J, L, S, P, W, O, R>(
     rt: &'x R,
     crew: &'x Crew<'x, L, S, J, P>,
-    own: WorkerContext<S, P::Part>,
+    context: WorkerContext<S, P::Part>,
     taker: W,
     out: &mut O,
 ) -> Result<Ended<S, W>, RunFault>
@@ -117,9 +118,9 @@ where
     P: Task<L::Item>,
     W: Taker<Item = <P as Task<L::Item>>::Part> + TakeInto<O>,
     R: Threads + Wait + Sync,
-    requires ready { IsReady L.meaning P.makes J.is_result J.stops_at crew.now own }
+    requires ready { IsReady L.meaning P.makes J.is_result J.stops_at crew.now context }
     requires takes { W.can_take taker ≡ true }
-    ensures back { IfOk result (λ ended. (1 ≤ length ended.partitions.items) × All (IsPartitionOf crew.now.chunked.now) ended.partitions.items × (common_origin ended.partitions.items ≡ (holding_of own.partition).origin)) }
+    ensures back { IfOk result (λ ended. (1 ≤ length ended.partitions.items) × All (IsPartitionOf crew.now.chunked.now) ended.partitions.items × (common_origin ended.partitions.items ≡ (holding_of context.partition).origin)) }
     ensures started { IfOk result (λ ended. length ended.partitions.items ≡ crew.now.workers + 1) }
     ensures all { IfOk result (λ ended. (pass : StreamPass (ChunkResult P.Part)) × IsPassOf crew.now.stream.now pass × HasReceivedAll (known pass) × All (IsWhollyAnsweredBy (known pass)) (drop 1 ended.partitions.items)
         × WereAccepted W.made J.is_result crew.now.plan.now.order taker out.old (known pass).received ended.joined out.new) }
@@ -130,9 +131,11 @@ where
         coverage: Coverage::none(),
         fault: None,
     };
-    let (merging, returned) = offer_parts(rt, crew, own, begun, out);
-    let back = returned?;
-    told(
+    let (merging, returned) = offer_parts(rt, crew, context, begun, out);
+    let Ok(back) = returned else {
+        return Err(RunFault::Memory);
+    };
+    finish(
         merging,
         back.worker_faults,
         back.worker_count,
@@ -188,12 +191,12 @@ where
         progress,
         workers,
     };
-    let own = WorkerContext {
+    let context = WorkerContext {
         partition,
         stream: pass,
         cut: cut_pass,
     };
-    match run_crew(rt, &crew, own, taker, out) {
+    match run_crew(rt, &crew, context, taker, out) {
         Ok(ended) => Ok(Conducted { chunked, ended }),
         Err(fault) => Err(fault),
     }

@@ -94,7 +94,7 @@ where
     let conducted = conduct_plan::<Brand, L, S, Unchanged<'_, G>, Deliver<'_, L, L::Item>, K, R>(
         rt, alloc, plan, workers, source, growth, &progress, &task, taker, sink,
     )?;
-    report(alloc, conducted)
+    report(conducted)
 }
 
 /// Runs a query over a source: as many workers as its degree take chunks that grow so, and the sink gets the batches

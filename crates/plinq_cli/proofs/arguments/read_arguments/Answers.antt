@@ -7,26 +7,26 @@ use Rattle.plinq_cli.proofs.arguments.read_arguments.Goals as goal
 
 pub returns-in_err-matches : goal.returns-in_err-matches
 returns-in_err-matches c =
-    let line = c.in_ok-line.ensures in
+    let app = c.in_ok-app.ensures in
     let p = err_from_is_err_and c.from_residual-in_err-matches.result c.from_residual-in_err-matches.ensures.1 in
-    refused line.0 (app_of c.in_ok-line.line) (map string_bytes c.args.words.now) _ p.0 c.in_err-matches.field-0.0 line.1 line.2 c.in_err-matches.ensures.kinds p.1 p.2
+    refused app.0 (app_of c.in_ok-app.app) (map string_bytes c.args.words.now) _ p.0 c.in_err-matches.field-0.0 app.1 app.2 c.in_err-matches.ensures.kinds p.1 p.2
 
 pub returns-in-Some : goal.returns-in-Some
 returns-in-Some c =
-    let line = c.in_ok-line.ensures in
+    let app = c.in_ok-app.ensures in
     let words = map string_bytes c.args.words.now in
     let chosen_is : c.chosen.result ≡ Some c.in-Some.arguments = search rules in (
-      line.0,
-      line.1,
-      no_fault line.0 (app_of c.in_ok-line.line) words line.2 c.in_ok-matches.ensures.kinds,
-      asked line.0 (app_of c.in_ok-line.line) words c.in_ok-matches.matches (Some c.in-Some.arguments) line.2 c.in_ok-matches.ensures.ok.2 (search rules),
+      app.0,
+      app.1,
+      no_fault app.0 (app_of c.in_ok-app.app) words app.2 c.in_ok-matches.ensures.kinds,
+      asked app.0 (app_of c.in_ok-app.app) words c.in_ok-matches.matches (Some c.in-Some.arguments) app.2 c.in_ok-matches.ensures.ok.2 (search rules),
     )
 
 pub returns : goal.returns
 returns c =
-    let line = c.in_ok-line.ensures in
+    let app = c.in_ok-app.ensures in
     let words = map string_bytes c.args.words.now in
     let nothing : c.chosen.result ≡ None = search rules in
-    absurd (never_nothing line.0 words c.chosen.result
-    (asked line.0 (app_of c.in_ok-line.line) words c.in_ok-matches.matches c.chosen.result line.2 c.in_ok-matches.ensures.ok.2 c.chosen.ensures) nothing
-    (no_fault line.0 (app_of c.in_ok-line.line) words line.2 c.in_ok-matches.ensures.kinds))
+    absurd (never_nothing app.0 words c.chosen.result
+    (asked app.0 (app_of c.in_ok-app.app) words c.in_ok-matches.matches c.chosen.result app.2 c.in_ok-matches.ensures.ok.2 c.chosen.ensures) nothing
+    (no_fault app.0 (app_of c.in_ok-app.app) words app.2 c.in_ok-matches.ensures.kinds))

@@ -14,7 +14,7 @@ invariant-loop-handle g l = record {
   some : 1 ≤ length l.partitions.items;
   count : length l.partitions.items + length l.handles.items ≡ length l.fn.handles.items + 1;
   of : All (IsPartitionOf l.chunked) l.partitions.items;
-  origin : common_origin l.partitions.items ≡ (holding_of l.fn.own).origin;
+  origin : common_origin l.partitions.items ≡ (holding_of l.fn.first).origin;
   room : length l.handles.items + length l.partitions.items ≤ vec_capacity l.partitions;
   pass : IsPassOf l.stream l.pass;
   receives : (known l.pass).receives ≡ true;

@@ -12,8 +12,8 @@ use Rattle.plinq_crew.proofs.starting.start_all.Goals as goal
 pub start-requires-clause-equipped : goal.start-requires-clause-equipped
 start-requires-clause-equipped g c κs within =
     let crew = c.args.crew.now in
-    let at : (holding_of c.dynamic.result).origin ≡ (holding_of c.args.own.now.partition).origin = search rules in
-    equipped-beside g.L.Lambda.meaning (g.P.Task.makes crew.task.now) g.J.RunSpec.is_result g.J.RunSpec.stops_at crew.plan.now crew.chunked.now crew.cut.now c.args.own.now.partition c.dynamic.result c.args.own.now.cut c.split.result
+    let at : (holding_of c.dynamic.result).origin ≡ (holding_of c.args.context.now.partition).origin = search rules in
+    equipped-beside g.L.Lambda.meaning (g.P.Task.makes crew.task.now) g.J.RunSpec.is_result g.J.RunSpec.stops_at crew.plan.now crew.chunked.now crew.cut.now c.args.context.now.partition c.dynamic.result c.args.context.now.cut c.split.result
     c.requires.equipped c.dynamic.ensures.of.1 at c.split.ensures.passes.1
 
 pub give_number-requires-clause-first : goal.give_number-requires-clause-first

@@ -8,11 +8,11 @@ use Rattle.plinq_crew.proofs.starting.start_all.Given as goal
 
 abbrev pub invariant-loop-worker : goal.invariant-loop-worker
 invariant-loop-worker g l = record {
-  of : IsPartitionOf l.crew.chunked.now l.own.partition;
-  same : holding_of l.own.partition ≡ holding_of l.fn.own.partition;
-  stream : IsPassOf l.crew.stream.now l.own.stream;
-  known : known l.own.stream ≡ receiver_from l.worker;
-  cut : IsCutPassOf l.crew.cut.now l.own.cut;
+  of : IsPartitionOf l.crew.chunked.now l.context.partition;
+  same : holding_of l.context.partition ≡ holding_of l.fn.context.partition;
+  stream : IsPassOf l.crew.stream.now l.context.stream;
+  known : known l.context.stream ≡ receiver_from l.worker;
+  cut : IsCutPassOf l.crew.cut.now l.context.cut;
   handles : All (IsHandleOf l.crew.chunked.now l.crew.stream.now) l.handles.items;
   numbered : AreNumbered 0 l.handles.items;
   counted : length l.handles.items ≡ l.worker;

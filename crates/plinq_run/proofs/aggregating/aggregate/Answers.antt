@@ -16,11 +16,11 @@ returns-then-plan-clause-value g c =
     let folding = g.A.Aggregator.folding in
     let t = g.S.Source.whole c.args.source in
     let May = MayAnswer g.L.Lambda.meaning q.ordered q.ops in
-    let s = c.new-sink.result in
-    let same : folding s.aggregator.now ≡ folding c.args.aggregator.now = ap folding c.new-sink.ensures.aggregator in
-    subst (λ f. AggregatesSome f (May t) c.told.result) same
-    (subst (λ r. AggregatesSome (folding s.aggregator.now) (May t) r) (sym c.told.ensures)
-    (aggregate_of-reports (λ x. folding x.aggregator.now) (λ x. x.acc) (merge_in_force q.merge) May t s c.run-report.new.sink c.run-report.result c.new-sink.ensures.nothing
+    let s = c.new-fold.result in
+    let same : folding s.aggregator.now ≡ folding c.args.aggregator.now = ap folding c.new-fold.ensures.aggregator in
+    subst (λ f. AggregatesSome f (May t) c.value_after.result) same
+    (subst (λ r. AggregatesSome (folding s.aggregator.now) (May t) r) (sym c.value_after.ensures)
+    (aggregate_of-reports (λ x. folding x.aggregator.now) (λ x. x.acc) (merge_in_force q.merge) May t s c.run-report.new.sink c.run-report.result c.new-fold.ensures.nothing
     c.run-report.ensures.reports))
 
 pub fold_plan-combined-requires-clause-plan : goal.fold_plan-combined-requires-clause-plan

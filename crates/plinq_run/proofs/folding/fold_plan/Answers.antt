@@ -1,6 +1,6 @@
 use Rattle.std.proofs.Common.{rules, ◌≡◌, ◌≤◌, ◌^◌, Err, length, sym, ap, subst}
-use Rattle.plinq_combine.specs.Combining.{aggregator_of, MadeBy}
-use Rattle.plinq_combine.specs.Folds.{IsFoldOf}
+use Rattle.plinq_run.specs.Combining.{MadeBy}
+use Rattle.plinq_run.specs.Folds.{IsFoldOf}
 use Rattle.plinq_crew.specs.Results.{IsPart}
 use Rattle.plinq_run.specs.Conducted.{HasConducted}
 use Rattle.plinq_run.specs.Folded.{FoldsSome}
@@ -16,7 +16,7 @@ returns-in_err-conducted g c =
     let folding = g.A.Aggregator.folding in
     let f = folding c.args.aggregator.now in
     let first = c.new.result in
-    let same : folding (aggregator_of first) ≡ f = ap folding c.new.ensures.aggregator in
+    let same : folding (first.aggregator.now) ≡ f = ap folding c.new.ensures.aggregator in
     let fault = c.in_err-conducted.field-0.0 in
     let is : c.from_residual.result ≡ Err fault = search rules in
     let h = subst (λ r. HasConducted (MadeBy folding) (IsPart meaning (IsFoldOf f) plan t) plan.order t first tt r tt) c.in_err-conducted.was c.conduct_plan.ensures in
@@ -32,6 +32,6 @@ returns g c =
     let f = folding c.args.aggregator.now in
     let lawful = (g.met.A.Aggregator g.world.𝓛 g.world.𝓜 g.world.𝓡 (λ s a. a, λ a. a, λ a. a, λ a. a)).lawful c.args.aggregator.now in
     let first = c.new.result in
-    let same : folding (aggregator_of first) ≡ f = ap folding c.new.ensures.aggregator in
+    let same : folding (first.aggregator.now) ≡ f = ap folding c.new.ensures.aggregator in
     let h = subst (λ r. HasConducted (MadeBy folding) (IsPart meaning (IsFoldOf f) plan t) plan.order t first tt r tt) c.in_ok-conducted.was c.conduct_plan.ensures in
     folded-ended f meaning plan t folding first same c.in_ok-conducted.conducted.ended c.so_far.result lawful c.new.ensures.nothing few c.requires.plan c.requires.alone c.so_far.ensures h.1

@@ -9,14 +9,14 @@ returns-then-is_last-clause-worked g c = ends-work c.args.worker _ _ _ _ c.in-Ok
 
 pub returns-then-is_last-clause-results : goal.returns-then-is_last-clause-results
 returns-then-is_last-clause-results g c =
-    let t = (holding_of c.args.own.partition).origin in
+    let t = (holding_of c.args.context.partition).origin in
     let P = IsPart g.L.Lambda.meaning (g.P.Task.makes c.args.self.now.task.now) c.args.self.now.plan.now t in
     let one = subst (λ x. IsPart g.L.Lambda.meaning (g.P.Task.makes c.args.self.now.task.now) c.args.self.now.plan.now x c.in-Ok.made) c.loop.invariant.origin c.in-Ok.ensures.result in
     each-sent P c.args.worker c.in-Ok.made _ _ c.send.ensures.sent c.loop.invariant.results one
 
 pub loop-preserved : goal.loop-preserved
 loop-preserved g c =
-    let t = (holding_of c.args.own.partition).origin in
+    let t = (holding_of c.args.context.partition).origin in
     let P = IsPart g.L.Lambda.meaning (g.P.Task.makes c.args.self.now.task.now) c.args.self.now.plan.now t in
     let one = subst (λ x. IsPart g.L.Lambda.meaning (g.P.Task.makes c.args.self.now.task.now) c.args.self.now.plan.now x c.in-Ok.made) c.loop.invariant.origin c.in-Ok.ensures.result in
     record {

@@ -11,9 +11,9 @@ invariant-loop g l = record {
   can : (goal.iterator-loop g).can_next l.iterator';
   finite : (goal.iterator-loop g).is_finite l.iterator';
   of : IsPartitionOf l.self.chunked.now l.partition;
-  origin : (holding_of l.partition).origin ≡ (holding_of l.fn.own.partition).origin;
+  origin : (holding_of l.partition).origin ≡ (holding_of l.fn.context.partition).origin;
   cut : IsCutPassOf l.self.cut.now l.cut;
   stream : IsPassOf l.self.stream.now l.stream;
   work : IsAtWork l.worker (holding_of l.partition).share (known l.stream);
-  results : All (λ s. IsPart g.L.Lambda.meaning (g.P.Task.makes l.self.task.now) l.self.plan.now (holding_of l.fn.own.partition).origin s.item) (known l.stream).sent;
+  results : All (λ s. IsPart g.L.Lambda.meaning (g.P.Task.makes l.self.task.now) l.self.plan.now (holding_of l.fn.context.partition).origin s.item) (known l.stream).sent;
 }

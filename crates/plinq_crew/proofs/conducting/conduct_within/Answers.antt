@@ -1,0 +1,30 @@
+use Rattle.std.proofs.Common.{rules, [], refl, sym, ap, ◌∙◌, subst, arith}
+use Rattle.plinq_partition.specs.Partitions.{holding_of}
+use Rattle.plinq_stream.specs.Passes.{known}
+use Rattle.plinq_crew.specs.Polls.{HasAccepted}
+use Rattle.plinq_crew.specs.Conducting.{AcceptsEach}
+use Rattle.plinq_crew.proofs.Working.{answered-same}
+use Rattle.plinq_crew.proofs.conducting.conduct_within.Goals as goal
+
+pub returns : goal.returns
+returns g c =
+    let Step = AcceptsEach g.X.Consumer.accepts g.J.RunSpec.is_result in
+    let x = c.args.consumer.now in
+    let partitions = c.join_all-partitions.result in
+    let count = c.join_all-partitions.ensures.count in
+    let none = ap (λ p. (known p).received) c.new-coordinator.ensures.stream ∙ c.start_all-handles.ensures.nothing in
+    let among = c.accept_all.ensures.accepted [] x (record { taken = []; left = []; came = none; steps = refl; all = λ _. refl }) in
+    record {
+      some = omega (arith, count);
+      of = c.join_all-partitions.ensures.of;
+      origin = c.join_all-partitions.ensures.origin ∙ c.accept_all.ensures.origin ∙ ap (λ p. (holding_of p).origin) c.new-coordinator.ensures.partition ∙ ap (λ h. h.origin) c.start_all-handles.ensures.same;
+      started = search rules;
+      wanted = refl;
+      pass = c.accept_rest.new.pass;
+      of_stream = c.accept_rest.ensures.stream;
+      all = c.accept_rest.ensures.all;
+      answered = answered-same (known c.join_all-partitions.new.pass) (known c.accept_rest.new.pass) c.join_all-partitions.new.worker_faults _ c.accept_rest.ensures.sent c.accept_rest.ensures.numbers c.join_all-partitions.ensures.answered;
+      wants_close = c.accept_all.new.closing.wants_close;
+      accepted = c.accept_rest.ensures.accepted [] x
+          (subst (λ xs. HasAccepted Step [] x xs c.accept_all.new.closing.wants_close c.accept_all.new.consumer) (sym c.join_all-partitions.ensures.received) among);
+    }

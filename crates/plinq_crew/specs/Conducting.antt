@@ -1,0 +1,41 @@
+-- What the caller's thread has accepted of what workers send, and what it leaves once they were joined.
+use Rattle.std.specs.Prelude.{◌≡◌, ◌≤◌, ◌+◌, [], drop, length, Bool, Result, Ok, Err, All}
+use Rattle.plinq_source.specs.declared.source.Source.{Ghosts}
+use Rattle.plinq_ops.specs.declared.results.ChunkResult.{ChunkResult}
+use Rattle.plinq_partition.specs.GivenBack.{common_origin}
+use Rattle.plinq_partition.specs.Partitions.{IsPartitionOf, holding_of}
+use Rattle.plinq_stream.specs.declared.sent.Sent.{Sent}
+use Rattle.plinq_stream.specs.declared.stream_pass.StreamPass.{StreamPass}
+use Rattle.plinq_stream.specs.Passes.{IsPassOf, known}
+use Rattle.plinq_stream.specs.Streams.{HasReceivedAll}
+use Rattle.plinq_crew.specs.declared.worker.Crew.{Crew}
+use Rattle.plinq_crew.specs.declared.worker.WorkerContext.{WorkerContext}
+use Rattle.plinq_crew.specs.Polls.{HasAccepted}
+use Rattle.plinq_crew.specs.Working.{IsAnsweredBy}
+use Rattle.plinq_crew.specs.declared.conducting.Returned.{Returned}
+use Rattle.plinq_source.specs.declared.memory.OutOfMemory.{OutOfMemory}
+
+-- what was sent is such a part, and was accepted so
+abbrev pub AcceptsEach : {X M : Type 0} → (X → ChunkResult M → X → Type 0) → (ChunkResult M → Type 0) → X → Sent (ChunkResult M) → X → Type 0
+AcceptsEach accepts IsPart x sent x' = IsPart sent.item × accepts x sent.item x'
+
+module _ {L S J P T M X : Type 0} {source : Ghosts S T} (accepts : X → ChunkResult M → X → Type 0) (IsPart : ChunkResult M → Type 0) (crew : Crew L S J P T T M source) (context : WorkerContext S M T source) (x x' : X) where
+  -- all workers were joined: their partitions have shared the source, a pass of the stream has received all that was sent, as
+  -- the partitions' records say, and that was accepted one part after another, but for some of the last ones
+  pub record HasReturned (back : Returned S T source) : Type 0 where
+    pub some : 1 ≤ length back.partitions.items
+    pub of : All (IsPartitionOf crew.chunked.now) back.partitions.items
+    pub origin : common_origin back.partitions.items ≡ (holding_of context.partition).origin
+    pub started : length back.partitions.items ≡ back.worker_count.started + 1
+    pub wanted : back.worker_count.wanted ≡ crew.workers
+    pub pass : StreamPass (ChunkResult M)
+    pub of_stream : IsPassOf crew.stream.now pass
+    pub all : HasReceivedAll (known pass)
+    pub answered : All (IsAnsweredBy 0 (known pass) back.worker_faults) (drop 1 back.partitions.items)
+    pub wants_close : Bool
+    pub accepted : HasAccepted (AcceptsEach accepts IsPart) [] x (known pass).received wants_close x'
+
+  -- or there was no room, and no worker was started
+  abbrev pub Conducts : Result (Returned S T source) OutOfMemory → Type 0
+  Conducts (Ok back) = HasReturned back
+  Conducts (Err fault) = x' ≡ x

@@ -1,0 +1,230 @@
+//! What the caller's thread does among its workers: it starts them, passes what they send to a consumer, and joins them.
+ghost use Rattle.std.specs.Prelude.{◌≡◌, ◌≤◌, ◌^◌, true};
+ghost use Rattle.plinq_ops.specs.declared.results.ChunkResult.{ChunkResult};
+ghost use Rattle.plinq_merge.specs.Shown.{end_of_result};
+ghost use Rattle.plinq_partition.specs.Partitions.{IsPartitionOf, holding_of};
+ghost use Rattle.plinq_stream.specs.Passes.{IsPassOf, known};
+ghost use Rattle.plinq_stream.specs.Streams.{HasReceivedAll};
+ghost use Rattle.plinq_crew.specs.Equipped.{IsReady};
+ghost use Rattle.plinq_crew.specs.Polls.{HasAccepted};
+ghost use Rattle.plinq_crew.specs.Working.{IsReceiver};
+ghost use Rattle.plinq_crew.specs.Conducting.{AcceptsEach, Conducts};
+ghost use Rattle.plinq_crew.specs.Scoped.{MayStartScope, ScopeReturns};
+
+use crate::closing::Closing;
+use crate::consumer::Consumer;
+use crate::coordinator::Coordinator;
+use crate::poll::Poll;
+use crate::results::{ResultPass, RunSpec};
+use crate::starting::{WorkerFaults, join_all, start_all};
+use crate::task::Task;
+use crate::worker::{Crew, WorkerContext};
+use crate::worker_count::WorkerCount;
+use plinq_lambda::{Lambda, SharedLambda};
+use plinq_partition::Partition;
+use plinq_source::{OutOfMemory, Source};
+use std::sync::Wait;
+use std::thread;
+use std::thread::{Scope, Threads};
+
+/// What is left of a run whose workers were joined.
+#[derive(Drop)]
+pub struct Returned<S: Source> {
+    pub partitions: Vec<Partition<S>>,
+    pub worker_faults: WorkerFaults,
+    pub worker_count: WorkerCount,
+}
+
+/// Accepts what the workers send, until all have ended and nothing seems to be left in the queue.
+fn accept_all<L, S, J, P, X, R>(
+    rt: &R,
+    crew: &Crew<'_, L, S, J, P>,
+    coordinator: &mut Coordinator<S, P::Part>,
+    closing: &mut Closing,
+    consumer: &mut X,
+)
+where
+    L: SharedLambda,
+    S: Source<Item = L::Item>,
+    J: RunSpec<P::Part>,
+    P: Task<L::Item>,
+    X: Consumer<<P as Task<L::Item>>::Part>,
+    R: Wait,
+    requires of { IsPartitionOf crew.now.chunked.now coordinator.old.partition }
+    requires stream { IsPassOf crew.now.stream.now coordinator.old.stream }
+    requires receiver { IsReceiver (known coordinator.old.stream) }
+    requires within { (c : ChunkResult P.Part) → J.is_result c → end_of_result c ≤ 2 ^ 40 }
+    requires ready { X.is_ready consumer.old }
+    ensures of { IsPartitionOf crew.now.chunked.now coordinator.new.partition }
+    ensures origin { (holding_of coordinator.new.partition).origin ≡ (holding_of coordinator.old.partition).origin }
+    ensures stream { IsPassOf crew.now.stream.now coordinator.new.stream }
+    ensures receiver { IsReceiver (known coordinator.new.stream) }
+    ensures worker_count { coordinator.new.worker_count ≡ coordinator.old.worker_count }
+    ensures ready { X.is_ready consumer.new }
+    ensures accepted { (before : _) (start : _) → HasAccepted (AcceptsEach X.accepts J.is_result) before start (known coordinator.old.stream).received closing.old.wants_close consumer.old
+        → HasAccepted (AcceptsEach X.accepts J.is_result) before start (known coordinator.new.stream).received closing.new.wants_close consumer.new }
+{
+    for _ in rt.forever() {
+        let is_over = consumer.is_over();
+        match coordinator.poll(rt, crew, is_over, closing) {
+            Poll::Came(part) => {
+                if !closing.wants_close {
+                    consumer.accept(part);
+                    crew.progress
+                        .move_to(consumer.merged(), consumer.merged_items());
+                }
+            }
+            Poll::Nothing(sleep) => {
+                consumer.idle();
+                coordinator.wait(rt, sleep);
+            }
+            Poll::Over => return,
+        }
+    }
+}
+
+/// Accepts what is left once all workers were joined, until the queue is empty.
+fn accept_rest<L, S, J, P, X, R>(
+    rt: &R,
+    crew: &Crew<'_, L, S, J, P>,
+    pass: &mut ResultPass<P::Part>,
+    closing: Closing,
+    consumer: &mut X,
+)
+where
+    L: SharedLambda,
+    S: Source<Item = L::Item>,
+    J: RunSpec<P::Part>,
+    P: Task<L::Item>,
+    X: Consumer<<P as Task<L::Item>>::Part>,
+    R: Wait,
+    requires stream { IsPassOf crew.now.stream.now pass.old }
+    requires receives { (known pass.old).receives ≡ true }
+    requires within { (c : ChunkResult P.Part) → J.is_result c → end_of_result c ≤ 2 ^ 40 }
+    requires ready { X.is_ready consumer.old }
+    ensures stream { IsPassOf crew.now.stream.now pass.new }
+    ensures all { HasReceivedAll (known pass.new) }
+    ensures sent { (known pass.new).sent ≡ (known pass.old).sent }
+    ensures numbers { (known pass.new).numbers ≡ (known pass.old).numbers }
+    ensures accepted { (before : _) (start : _) → HasAccepted (AcceptsEach X.accepts J.is_result) before start (known pass.old).received closing.wants_close consumer.old
+        → HasAccepted (AcceptsEach X.accepts J.is_result) before start (known pass.new).received closing.wants_close consumer.new }
+{
+    for _ in rt.forever() {
+        match crew.stream.receive(rt, pass) {
+            Some(sent) => {
+                if !closing.wants_close {
+                    consumer.accept(sent.item);
+                }
+            }
+            None => return,
+        }
+    }
+}
+
+/// Starts the workers, passes what they send to the consumer, and joins them.
+fn conduct_within<'s, Env, L, S, J, P, X, R>(
+    scope: &Scope<'s, Env>,
+    rt: &'s R,
+    crew: &'s Crew<'s, L, S, J, P>,
+    context: WorkerContext<S, P::Part>,
+    consumer: &mut X,
+) -> Result<Returned<S>, OutOfMemory>
+where
+    L: SharedLambda,
+    S: Source<Item = L::Item>,
+    J: RunSpec<P::Part> + Send + Sync,
+    P: Task<L::Item>,
+    X: Consumer<<P as Task<L::Item>>::Part>,
+    R: Threads + Wait + Sync,
+    requires ready { IsReady L.meaning P.makes J.is_result J.stops_at crew.now context }
+    requires consumer { X.is_ready consumer.old }
+    ensures { Conducts X.accepts J.is_result crew.now context consumer.old consumer.new result }
+{
+    let Ok(handles) = Vec::with_capacity(crew.alloc, crew.workers as usize) else {
+        return Err(OutOfMemory);
+    };
+    let Ok(room) = Vec::with_capacity(crew.alloc, crew.workers as usize + 1) else {
+        return Err(OutOfMemory);
+    };
+    let mut closing = Closing::none();
+    let mut context = context;
+    let handles = start_all(scope, rt, crew, crew.workers, &mut context, handles);
+    let WorkerContext {
+        partition,
+        stream,
+        ..
+    } = context;
+    let worker_count = WorkerCount {
+        wanted: crew.workers,
+        started: handles.len() as u64,
+    };
+    let mut coordinator = Coordinator::new(partition, stream, worker_count);
+    accept_all(rt, crew, &mut coordinator, &mut closing, consumer);
+    let Coordinator {
+        partition,
+        mut stream,
+        mut worker_faults,
+        ..
+    } = coordinator;
+    let partitions = join_all(
+        rt,
+        crew.chunked,
+        crew.stream,
+        partition,
+        &mut stream,
+        handles,
+        room,
+        &mut worker_faults,
+    );
+    accept_rest(rt, crew, &mut stream, closing, consumer);
+    Ok(Returned {
+        partitions,
+        worker_faults,
+        worker_count,
+    })
+}
+
+/// What the closure of a scope captures beside the consumer. (It is one value, since each that is captured or named makes the
+/// closure's proof longer.)
+#[derive(Drop)]
+struct Equipment<'a, L: Lambda, S: Source, J: RunSpec<P::Part>, P: Task<L::Item>, R> {
+    rt: &'a R,
+    crew: &'a Crew<'a, L, S, J, P>,
+    context: WorkerContext<S, P::Part>,
+}
+
+/// Conducts a run in a scope of threads.
+pub fn conduct<'x, J, L, S, P, X, R>(
+    rt: &'x R,
+    crew: &'x Crew<'x, L, S, J, P>,
+    context: WorkerContext<S, P::Part>,
+    consumer: &mut X,
+) -> Result<Returned<S>, OutOfMemory>
+where
+    J: RunSpec<P::Part> + Send + Sync,
+    L: SharedLambda,
+    S: Source<Item = L::Item>,
+    P: Task<L::Item>,
+    X: Consumer<<P as Task<L::Item>>::Part>,
+    R: Threads + Wait + Sync,
+    requires ready { IsReady L.meaning P.makes J.is_result J.stops_at crew.now context }
+    requires consumer { X.is_ready consumer.old }
+    ensures { Conducts X.accepts J.is_result crew.now context consumer.old consumer.new result }
+{
+    let taken = (Equipment { rt, crew, context }, &mut *consumer);
+    let (returned, _lent) = thread::scope(
+        thread::scope_env(),
+        rt,
+        move |scope| -> (Result<Returned<S>, OutOfMemory>, &mut X)
+            requires { MayStartScope L.meaning P.makes J.is_result J.stops_at X.is_ready taken.0 taken.1.now }
+            ensures same { result.1.ghost_name ≡ taken.entry.1.ghost_name }
+            ensures returns { ScopeReturns X.accepts J.is_result taken.entry.0 taken.entry.1.now result.1.now result.0 }
+        {
+            let (equipment, lent) = taken;
+            let Equipment { rt, crew, context } = equipment;
+            let returned = conduct_within(scope, rt, crew, context, lent);
+            (returned, lent)
+        },
+    );
+    returned
+}

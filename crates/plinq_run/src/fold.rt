@@ -1,0 +1,97 @@
+ghost use Rattle.std.specs.Prelude.{◌≡◌, true, Ok, None};
+ghost use Rattle.plinq_run.specs.Aggregates.{TakesIn, so_far};
+ghost use Rattle.plinq_run.specs.Combining.{takes_all, MadeBy};
+ghost use Rattle.plinq_run.specs.CombiningLawful.{made-lawful};
+
+use plinq_aggregate::Aggregator;
+use plinq_merge::{DeliveryFault, Sink, TakeInto, Taker};
+use plinq_source::Ending;
+
+/// An aggregator, and what it has folded so far. As a sink it folds the items of its batches, and keeps none; as a taker it
+/// combines accumulators whose turn has come.
+#[derive(Drop)]
+pub(crate) struct Fold<'a, A, C> {
+    pub(crate) aggregator: &'a A,
+    /// The accumulator of what was folded, if anything was.
+    pub(crate) acc: Option<C>,
+}
+
+impl<'a, A: Aggregator> Fold<'a, A, A::Acc> {
+    /// Nothing was folded yet.
+    pub(crate) fn new(aggregator: &'a A) -> Fold<'a, A, A::Acc>
+        ensures aggregator { result.aggregator.now ≡ aggregator.now }
+        ensures nothing { result.acc ≡ None }
+    {
+        Fold {
+            aggregator,
+            acc: None,
+        }
+    }
+
+    /// The accumulator of what was folded: the seed before anything was.
+    pub(crate) fn so_far(self) -> A::Acc
+        ensures { result ≡ so_far (A.folding self.entry.aggregator.now) self.entry.acc }
+    {
+        match self.acc {
+            Some(acc) => acc,
+            None => self.aggregator.seed(),
+        }
+    }
+}
+
+impl<'a, A: Aggregator> Sink for Fold<'a, A, A::Acc> {
+    type Item = A::Item;
+
+    ghost accepts = { λ s b s'. TakesIn (A.folding s.aggregator.now) s.acc b (A.folding s'.aggregator.now) s'.acc };
+
+    ghost refuses = { λ s b code s'. ⊥ };
+
+    fn batch(&mut self, items: &[A::Item]) -> Result<(), u32> {
+        let aggregator = self.aggregator;
+        let acc = match self.acc.take() {
+            Some(acc) => acc,
+            None => aggregator.seed(),
+        };
+        self.acc = Some(aggregator.update_block(acc, items));
+        Ok(())
+    }
+}
+
+impl<'a, A: Aggregator> Taker for Fold<'a, A, A::Acc> {
+    type Item = A::Acc;
+
+    ghost can_take = { λ fold. takes_all fold };
+}
+
+impl<'a, A: Aggregator> TakeInto<()> for Fold<'a, A, A::Acc> {
+    ghost made = { MadeBy A.folding };
+
+    fn take(
+        &mut self,
+        items: Vec<A::Acc>,
+        ending: Option<Ending>,
+        out: &mut (),
+    ) -> Result<Option<Ending>, DeliveryFault>
+        requires { takes_all self.old ≡ true }
+        ensures ready { result ≡ Ok None → takes_all self.new ≡ true }
+        ensures last { result ≡ Ok None → ending ≡ None }
+        ensures made { MadeBy A.folding self.old out.old (record { items = items.items; ending = ending }) result self.new out.new }
+    {
+        let aggregator = self.aggregator;
+        let mut acc = match self.acc.take() {
+            Some(acc) => acc,
+            None => aggregator.seed(),
+        };
+        for part in items {
+            acc = aggregator.combine(acc, part);
+        }
+        self.acc = Some(acc);
+        Ok(ending)
+    }
+
+    fn idle(&self, out: &mut ())
+        ensures { out.new ≡ out.old }
+    {}
+
+    ghost lawful = { made-lawful A.folding };
+}
