@@ -4,10 +4,8 @@ use plinq_wait::WaitQueue;
 use std::sync::Wait;
 use std::sync::atomic::{AtomicBool, AtomicU64, Ordering};
 
-// So often the caller's thread lacks a result before that counts, and before it counts for more.
-const LACKS: u64 = 64;
-
-const MANY_LACKS: u64 = 2_048;
+// After so many results that the caller's thread lacked, as many workers more may be at work as were at first.
+const LACKS: u64 = 32;
 
 /// How far the threads of a run are. It only tells the caller's thread when to sleep and when to join the workers, and the
 /// workers when to wait and when to go on; no answer rests on it.
@@ -35,8 +33,8 @@ pub struct Progress {
 }
 
 impl Progress {
-    /// Nothing is merged yet, and workers may be so many keys above it, and so many items. So many of them are at work at once;
-    /// where the caller's thread mostly waits for them half as many more, and in a long run three times as many.
+    /// Nothing is merged yet, and workers may be so many keys above it, and so many items. So many of them are at work at first,
+    /// and more the longer the caller's thread mostly waits for them.
     pub fn new(keys: u64, items: u64, at_once: u64) -> Progress {
         Progress {
             keys: Ahead::new(keys),
@@ -103,19 +101,16 @@ impl Progress {
         worker < self.at_once.load(Ordering::SeqCst) || self.ended.load(Ordering::SeqCst) > 0
     }
 
-    /// The caller's thread lacks a result. Where that is so for every second one, workers are what it waits for, and some more
-    /// begin: a busy machine shares its cores out by threads.
+    /// The caller's thread lacks a result. Where that is so for every second one, workers are what it waits for, and more of
+    /// them begin: a busy machine shares its cores out by threads. Some begin at a time, since all that sleep are woken.
     fn note_lack(&self) {
         let lacks = self.lacks.fetch_add(1, Ordering::SeqCst);
-        if lacks < LACKS || lacks.saturating_mul(2) < self.results.load(Ordering::SeqCst) {
+        if lacks.saturating_mul(2) < self.results.load(Ordering::SeqCst) {
             return;
         }
-        let wanted = if lacks < MANY_LACKS {
-            self.at_first.saturating_add(self.at_first / 2)
-        } else {
-            self.at_first.saturating_mul(3)
-        };
-        if self.at_once.load(Ordering::SeqCst) < wanted {
+        let wanted = self.at_first.saturating_mul(lacks / LACKS);
+        let at_once = self.at_once.load(Ordering::SeqCst);
+        if wanted >= at_once.saturating_add(at_once / 2) {
             self.at_once.store(wanted, Ordering::SeqCst);
             self.start.wake();
         }
