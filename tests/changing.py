@@ -14,7 +14,7 @@ NEIGHBOURS = (
     ("An operator", r"SkipWhile|SkippingWhile|skip_while|skipped_while", r"skip_while\.rt|/skip_while/|SkipWhile\.antt|SkippingWhile\.antt"),
     ("A formula", r"UpTo", None),
     ("An aggregate", r"Max", None),
-    ("An option of the command line", r"cancel_after", r"/plinq_merge/|/plinq_run/|/proofs/arguments/"),
+    ("An option of the command line", r"cancel_after", r"/plinq_merge/|/plinq_run/|/proofs/reading/"),
 )
 
 # rows are worked examples, a lib lists what its crate has, and laws retell what is listed

@@ -14,12 +14,12 @@ use Rattle.std.specs.Result.{IsErr}
 use Rattle.plinq_source.specs.Trace.{Trace}
 use Rattle.plinq_lines.specs.Written.{AppendsBeginning}
 use Rattle.plinq_lines.proofs.WrittenBytes.{Bytes, begins-all}
-use Rattle.plinq_cli.specs.declared.command.Command.{Command}
+use Rattle.plinq_arguments.specs.declared.command.Command.{Command}
 use Rattle.plinq_cli.specs.declared.failure.Failure.{Failure}
 use Rattle.plinq_cli.specs.declared.failure.Failure.TheVariants.{Document, Memory, Read, Write, Thread, Tickets, Incomplete, Cancelled}
 use Rattle.plinq_cli.specs.Served.{HasBegun, IsAnswer, IsText, Serves}
 use Rattle.plinq_cli.specs.Performed.{Answers, AnswersMeaning, Flushes, failure_of_document, failure_of_input, unflushed}
-use Rattle.plinq_cli.specs.declared.arguments.Arguments.{Arguments}
+use Rattle.plinq_arguments.specs.declared.arguments.Arguments.{Arguments}
 use Rattle.plinq_cli.specs.declared.input_fault.InputFault.{InputFault}
 use Rattle.plinq_cli.specs.declared.input_fault.InputFault.TheVariants.{Read as InputRead, TooLong as InputTooLong, Memory as InputMemory}
 

@@ -29,7 +29,7 @@ use Rattle.plinq_lines.specs.Text.{line, batch_line, ending_words, ending_line, 
 use Rattle.plinq_lines.specs.Written.{AppendsBeginning}
 use Rattle.plinq_lines.proofs.LinesTaken.{taken-lines, short-lines}
 use Rattle.plinq_lines.proofs.WrittenBytes.{Bytes, appends-as, begins-all, begins-after, begins-append, begins-as}
-use Rattle.plinq_cli.specs.declared.command.Command.TheVariants.{Run}
+use Rattle.plinq_arguments.specs.declared.command.Command.TheVariants.{Run}
 use Rattle.plinq_cli.specs.declared.serve_fault.ServeFault.{ServeFault}
 use Rattle.plinq_cli.specs.declared.serve_fault.ServeFault.TheVariants.{Memory, Write, Run as NoRun, Take}
 use Rattle.plinq_cli.specs.ServeFaults.{MayFail, serve_fault_of_run, told_of}

@@ -1,8 +1,6 @@
 pub mod Known
 pub mod Answered
-pub mod Asked
 pub mod PrintedRead
-mod ArgumentRows
 mod Delivered
 mod HandedOut
 mod Histories

@@ -3,6 +3,5 @@ pub mod ServeFaults
 pub mod Told
 pub mod Served
 pub mod Stopped
-pub mod Arguments
 pub mod Performed
 pub mod Printed

@@ -13,15 +13,15 @@ use Rattle.plinq_partition.specs.declared.take_fault.TakeFault.{TakeFault}
 use Rattle.plinq_partition.specs.declared.take_fault.TakeFault.TheVariants.{Memory as TakeMemory, Spent, Busy, Incomplete as RecordsMissing, Away}
 use Rattle.plinq_run.specs.declared.run_fault.RunFault.{RunFault}
 use Rattle.plinq_run.specs.declared.run_fault.RunFault.TheVariants.{Memory as RunMemory, Sink as RunSink, Tickets as RunTickets, Thread as RunThread, Incomplete as RunIncomplete, Cancelled as RunCancelled}
-use Rattle.plinq_cli.specs.declared.command.Command.{Command}
+use Rattle.plinq_arguments.specs.declared.command.Command.{Command}
 use Rattle.plinq_cli.specs.declared.input_fault.InputFault.{InputFault}
 use Rattle.plinq_cli.specs.declared.input_fault.InputFault.TheVariants.{Read as InputRead, TooLong as InputTooLong, Memory as InputMemory}
 use Rattle.plinq_cli.specs.declared.serve_fault.ServeFault.{ServeFault}
 use Rattle.plinq_cli.specs.declared.serve_fault.ServeFault.TheVariants.{Memory as ServeMemory, Write as ServeWrite, Run as ServeRun, Take}
 use Rattle.plinq_cli.specs.declared.failure.Failure.{Failure}
 use Rattle.plinq_cli.specs.declared.failure.Failure.TheVariants.{Document, Memory, Read, Write, Thread, Tickets, Incomplete, Cancelled}
-use Rattle.plinq_cli.specs.declared.arguments.Arguments.{Arguments}
-use Rattle.plinq_cli.specs.Arguments.{IsAsked, Refuses}
+use Rattle.plinq_arguments.specs.declared.arguments.Arguments.{Arguments}
+use Rattle.plinq_arguments.specs.Arguments.{IsAsked, Refuses}
 use Rattle.plinq_cli.specs.Served.{Serves}
 
 abbrev pub failure_of_document : DocFault → Failure

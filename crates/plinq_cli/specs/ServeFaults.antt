@@ -9,8 +9,8 @@ use Rattle.plinq_run.specs.declared.report.Report.{Report}
 use Rattle.plinq_run.specs.declared.run_fault.RunFault.{RunFault}
 use Rattle.plinq_run.specs.declared.run_fault.RunFault.TheVariants.{Sink}
 use Rattle.plinq_run.specs.Runs.{SinkRefused, cause_of}
-use Rattle.plinq_cli.specs.declared.command.Command.{Command}
-use Rattle.plinq_cli.specs.declared.command.Command.TheVariants.{Run as RunQuery, Plan, History}
+use Rattle.plinq_arguments.specs.declared.command.Command.{Command}
+use Rattle.plinq_arguments.specs.declared.command.Command.TheVariants.{Run as RunQuery, Plan, History}
 use Rattle.plinq_cli.specs.declared.serve_fault.ServeFault.TheVariants.{Memory, Write, Run, Take}
 
 -- memory that ran out is reported as the command's

@@ -5,11 +5,11 @@ ghost use Rattle.plinq_document.specs.Document.{document_of};
 ghost use Rattle.clap.specs.Words.{kind_of};
 ghost use Rattle.plinq_cli.specs.Performed.{Answers, AnswersMeaning, Flushes, IsSilent, Performs, PerformsWords, Shows, status_of, failure_status, unflushed};
 
-use crate::arguments::{Arguments, read_arguments};
 use crate::failure::Failure;
 use crate::input::read_input;
 use crate::serving::serve;
 use clap::error::ErrorKind;
+use plinq_arguments::{Arguments, read_arguments};
 use plinq_document::read_document;
 use plinq_source::Ending;
 use std::io::{Read, Write};

@@ -10,9 +10,9 @@ ghost use Rattle.plinq_ops.specs.Answer.{MayAnswer};
 ghost use Rattle.plinq_ops.specs.Query.{merge_in_force};
 
 use crate::aggregating::{value_by_threads, write_told};
-use crate::command::Command;
 use crate::rounds::{drive_partitions, told_ending};
 use crate::serve_fault::ServeFault;
+use plinq_arguments::Command;
 use plinq_document::{AnySource, Job, Kind};
 use plinq_enumerator::Growth;
 use plinq_keyed::{Guarded, Keyed};

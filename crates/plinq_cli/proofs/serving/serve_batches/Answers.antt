@@ -1,7 +1,7 @@
 -- the lines of batches are written where the run gets through, and the line of the ending after them
 use Rattle.std.proofs.Common.{Err, IfErr, ap, sym, ◌∙◌, subst}
 use Rattle.std.proofs.lemmas.Result.{err_from_is_err_and}
-use Rattle.plinq_cli.specs.declared.command.Command.TheVariants.{Run}
+use Rattle.plinq_arguments.specs.declared.command.Command.TheVariants.{Run}
 use Rattle.plinq_cli.specs.ServeFaults.{MayFail}
 use Rattle.plinq_cli.specs.Served.{LeavesWholeLines}
 use Rattle.plinq_cli.proofs.Delivered.{run-failed, run-failed-so, run-failed-whole, ending-failed, ending-written, ending-in_time}

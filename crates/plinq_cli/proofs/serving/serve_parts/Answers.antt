@@ -11,7 +11,7 @@ use Rattle.plinq_document.specs.Jobs.{JobView}
 use Rattle.plinq_lines.specs.Text.{line, ending_words}
 use Rattle.plinq_lines.specs.PartsText.{all_true, properties_line, part_lines, parts_text}
 use Rattle.plinq_lines.proofs.WrittenBytes.{appends-as, begins-as}
-use Rattle.plinq_cli.specs.declared.command.Command.TheVariants.{Parts}
+use Rattle.plinq_arguments.specs.declared.command.Command.TheVariants.{Parts}
 use Rattle.plinq_cli.proofs.Answered.{serves-begun, serves-unwritten}
 use Rattle.plinq_cli.proofs.serving.serve_parts.Goals as goal
 

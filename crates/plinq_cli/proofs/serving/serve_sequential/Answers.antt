@@ -1,5 +1,5 @@
 -- nothing is written before the answer is there
-use Rattle.plinq_cli.specs.declared.command.Command.TheVariants.{Seq}
+use Rattle.plinq_arguments.specs.declared.command.Command.TheVariants.{Seq}
 use Rattle.plinq_cli.proofs.Answered.{serves-unwritten}
 use Rattle.plinq_cli.proofs.serving.serve_sequential.Goals as goal
 

@@ -1,8 +1,8 @@
 use Rattle.std.proofs.Common.{rules, ◌≡◌, ◌∙◌, sym, Some, ap}
 use Rattle.std.specs.Prelude.{option_and_then}
 use Rattle.std.specs.Str.Parse.{ParsesUnsigned, ExplainsUnsignedError, HasUnsignedDigitsIfOk}
-use Rattle.plinq_cli.proofs.Asked.{cancel_read, few_batches, few-some, few-none}
-use Rattle.plinq_cli.proofs.arguments.cancel_of.Goals as goal
+use Rattle.plinq_arguments.proofs.Asked.{cancel_read, few_batches, few-some, few-none}
+use Rattle.plinq_arguments.proofs.reading.cancel_of.Goals as goal
 
 pub returns-in_err-most : goal.returns-in_err-most
 returns-in_err-most c =

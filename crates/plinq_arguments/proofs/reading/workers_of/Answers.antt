@@ -2,8 +2,8 @@ use Rattle.std.proofs.Common.{rules, ◌≡◌, ◌∙◌, sym}
 use Rattle.std.specs.Prelude.{option_and_then}
 use Rattle.std.specs.Str.Parse.{ParsesUnsigned, ExplainsUnsignedError, HasUnsignedDigitsIfOk}
 use Rattle.plinq_document.specs.Degrees.{degree_of}
-use Rattle.plinq_cli.proofs.Asked.{workers_read}
-use Rattle.plinq_cli.proofs.arguments.workers_of.Goals as goal
+use Rattle.plinq_arguments.proofs.Asked.{workers_read}
+use Rattle.plinq_arguments.proofs.reading.workers_of.Goals as goal
 
 pub returns-in_err-get_one : goal.returns-in_err-get_one
 returns-in_err-get_one c =

@@ -23,8 +23,8 @@ use Rattle.plinq_document.specs.Degrees.{degree_of}
 use Rattle.plinq_ops.specs.Query.{is_degree}
 use Rattle.std.proofs.lemmas.Bool.{le-leb}
 use Rattle.std.proofs.lemmas.Bool.Decides.{nat_tests}
-use Rattle.plinq_cli.specs.Arguments.{AddsItsShape, IsAsked, Refuses, TakesOnly, arguments_in, arguments_of, arguments_with, command_names, kinds_of, cancel_in, cancel_of, merge_of, merge_words, plinq_app, with_command, workers_in, workers_of}
-use Rattle.plinq_cli.specs.declared.arguments.Arguments.{Arguments}
+use Rattle.plinq_arguments.specs.Arguments.{AddsItsShape, IsAsked, Refuses, TakesOnly, arguments_in, arguments_of, arguments_with, command_names, kinds_of, cancel_in, cancel_of, merge_of, merge_words, plinq_app, with_command, workers_in, workers_of}
+use Rattle.plinq_arguments.specs.declared.arguments.Arguments.{Arguments}
 
 -- the program's command line is one of which `clap` reports the matches and the faults
 pub is_plain : (q : ValueParser) → is_simple_and_free (plinq_app q) ≡ true

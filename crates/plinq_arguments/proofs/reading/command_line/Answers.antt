@@ -4,9 +4,9 @@ use Rattle.std.proofs.lemmas.Result.{IfOk-weaker}
 use Rattle.clap.specs.Words.{app_of, new_app}
 use Rattle.clap.specs.Simple.{app_of_fields, on_top}
 use Rattle.clap.specs.declared.builder.value_parser.ValueParser.TheVariants as parser
-use Rattle.plinq_cli.specs.Arguments.{bare_app, merge_words, run_app, seq_app, plan_app, parts_app, history_app}
-use Rattle.plinq_cli.proofs.Asked.{added, takes_only}
-use Rattle.plinq_cli.proofs.arguments.command_line.Goals as goal
+use Rattle.plinq_arguments.specs.Arguments.{bare_app, merge_words, run_app, seq_app, plan_app, parts_app, history_app}
+use Rattle.plinq_arguments.proofs.Asked.{added, takes_only}
+use Rattle.plinq_arguments.proofs.reading.command_line.Goals as goal
 
 pub returns : goal.returns
 returns c =

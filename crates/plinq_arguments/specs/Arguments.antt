@@ -13,9 +13,9 @@ use Rattle.clap.specs.declared.error.kind.ErrorKind.TheVariants.{OutOfMemory}
 use Rattle.plinq_ops.specs.declared.merge_option.MergeOption.{MergeOption}
 use Rattle.plinq_document.specs.Words.{beside}
 use Rattle.plinq_document.specs.Steps.{merge_word}
-use Rattle.plinq_cli.specs.declared.arguments.Arguments.{Arguments}
-use Rattle.plinq_cli.specs.declared.command.Command.{Command}
-use Rattle.plinq_cli.specs.declared.command.Command.TheVariants.{Run, Seq, Plan, Parts, History}
+use Rattle.plinq_arguments.specs.declared.arguments.Arguments.{Arguments}
+use Rattle.plinq_arguments.specs.declared.command.Command.{Command}
+use Rattle.plinq_arguments.specs.declared.command.Command.TheVariants.{Run, Seq, Plan, Parts, History}
 
 -- the words of the merge option
 abbrev pub merge_words : List Text

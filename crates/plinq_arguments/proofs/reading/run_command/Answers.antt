@@ -1,9 +1,9 @@
 use Rattle.std.proofs.Common.{rules, ◌≡◌, ◌∙◌, ap, ap₂}
 use Rattle.std.proofs.lemmas.Result.{IfOk-weaker}
 use Rattle.clap.specs.Words.{App, app_of, rule_of, with_rule}
-use Rattle.plinq_cli.specs.Arguments.{cancel_rule, run_app}
-use Rattle.plinq_cli.proofs.Asked.{third-false}
-use Rattle.plinq_cli.proofs.arguments.run_command.Goals as goal
+use Rattle.plinq_arguments.specs.Arguments.{cancel_rule, run_app}
+use Rattle.plinq_arguments.proofs.Asked.{third-false}
+use Rattle.plinq_arguments.proofs.reading.run_command.Goals as goal
 
 pub returns : goal.returns
 returns c =

@@ -1,8 +1,8 @@
 use Rattle.std.proofs.Common.{rules, ◌≡◌, ◌∙◌, ap₂}
 use Rattle.std.proofs.lemmas.Result.{IfOk-weaker}
 use Rattle.clap.specs.Words.{app_of, new_app, rule_of, with_rule}
-use Rattle.plinq_cli.specs.Arguments.{merge_rule, workers_rule}
-use Rattle.plinq_cli.proofs.arguments.subcommand.Goals as goal
+use Rattle.plinq_arguments.specs.Arguments.{merge_rule, workers_rule}
+use Rattle.plinq_arguments.proofs.reading.subcommand.Goals as goal
 
 pub returns : goal.returns
 returns c =

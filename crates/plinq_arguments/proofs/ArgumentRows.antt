@@ -4,8 +4,8 @@ use Rattle.clap.specs.declared.builder.value_parser.ValueParser.{ValueParser}
 use Rattle.clap.specs.declared.error.kind.ErrorKind.TheVariants.{DisplayHelp, MissingSubcommand, UnknownArgument, ValueValidation, InvalidSubcommand}
 use Rattle.clap.proofs.OnLiterals.{clap_on_literals}
 use Rattle.plinq_ops.specs.declared.merge_option.MergeOption.TheVariants.{FullyBuffered}
-use Rattle.plinq_cli.specs.Arguments.{arguments_of, kinds_of}
-use Rattle.plinq_cli.specs.declared.command.Command.TheVariants.{Run, Plan}
+use Rattle.plinq_arguments.specs.Arguments.{arguments_of, kinds_of}
+use Rattle.plinq_arguments.specs.declared.command.Command.TheVariants.{Run, Plan}
 
 plain_run : (q : ValueParser) → arguments_of q (codes "plinq" ∷ codes "run" ∷ []) ≡ Some (record { command = Run; settings = record { workers = None; merge = None; cancel_after = None } })
 unfolding clap_on_literals

@@ -2,8 +2,9 @@ ghost use Rattle.std.specs.Prelude.{◌≡◌, map, option_and_then, IfOk, Match
 ghost use Rattle.std.specs.String.{string_bytes};
 ghost use Rattle.clap.specs.Words.{app_of, found_of, kind_of, rows_of, subcommand_rows_of};
 ghost use Rattle.plinq_document.specs.Words.{beside};
-ghost use Rattle.plinq_cli.specs.Arguments.{AddsItsShape, IsAsked, IsPlinq, Refuses, arguments_in, cancel_of, command_names, merge_of, run_app, subcommand_app, workers_of};
+ghost use Rattle.plinq_arguments.specs.Arguments.{AddsItsShape, IsAsked, IsPlinq, Refuses, arguments_in, cancel_of, command_names, merge_of, run_app, subcommand_app, workers_of};
 
+use crate::arguments::Arguments;
 use crate::command::Command;
 use clap::builder::ValueParser;
 use clap::error::ErrorKind;
@@ -46,15 +47,6 @@ Exit status:
 
 Example, which prints 4, 2, 5 and end, a line each:
   echo '{"version":1,"source":{"list":[3,1,4]},"query":[["as_ordered"],["select","add",1]]}' | plinq run --merge not"#;
-
-/// What a command line asks for.
-#[derive(Clone, Copy, Debug, PartialEq, Eq)]
-pub struct Arguments {
-    /// The subcommand.
-    pub command: Command,
-    /// The options.
-    pub settings: Settings,
-}
 
 /// Reads a command line, of which the first word is the program's name.
 ///

@@ -1,6 +1,6 @@
 use Rattle.std.proofs.Common.{rules, ◌≡◌, ◌∙◌, Some, None}
-use Rattle.plinq_cli.proofs.Asked.{merge_read}
-use Rattle.plinq_cli.proofs.arguments.merge_of.Goals as goal
+use Rattle.plinq_arguments.proofs.Asked.{merge_read}
+use Rattle.plinq_arguments.proofs.reading.merge_of.Goals as goal
 
 pub returns-in_err-get_str : goal.returns-in_err-get_str
 returns-in_err-get_str c =

@@ -2,8 +2,8 @@ use Rattle.std.proofs.Common.{rules, ◌≡◌, Some, None, map}
 use Rattle.std.specs.String.{string_bytes}
 use Rattle.std.proofs.lemmas.Result.{err_from_is_err_and}
 use Rattle.clap.specs.Words.{app_of}
-use Rattle.plinq_cli.proofs.Asked.{asked, never_nothing, no_fault, refused}
-use Rattle.plinq_cli.proofs.arguments.read_arguments.Goals as goal
+use Rattle.plinq_arguments.proofs.Asked.{asked, never_nothing, no_fault, refused}
+use Rattle.plinq_arguments.proofs.reading.read_arguments.Goals as goal
 
 pub returns-in_err-matches : goal.returns-in_err-matches
 returns-in_err-matches c =

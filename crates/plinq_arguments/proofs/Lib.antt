@@ -1,0 +1,2 @@
+mod ArgumentRows
+pub mod Asked
