@@ -20,8 +20,8 @@ abbrev pub AcceptsEach : {X M : Type 0} → (X → ChunkResult M → X → Type 
 AcceptsEach accepts IsPart x sent x' = IsPart sent.item × accepts x sent.item x'
 
 module _ {L S J P T M X : Type 0} {source : Ghosts S T} (accepts : X → ChunkResult M → X → Type 0) (IsPart : ChunkResult M → Type 0) (crew : Crew L S J P T T M source) (context : WorkerContext S M T source) (x x' : X) where
-  -- all workers were joined: their partitions have shared the source, a pass of the stream has received all that was sent, as
-  -- the partitions' records say, and that was accepted one part after another, but for some of the last ones
+  -- All workers were joined. Their partitions have shared the source, and a pass of the stream has received all that was sent, as
+  -- the partitions' records say. It was accepted one part after another, but for some of the last ones.
   pub record HasReturned (back : Returned S T source) : Type 0 where
     pub some : 1 ≤ length back.partitions.items
     pub of : All (IsPartitionOf crew.chunked.now) back.partitions.items
@@ -35,7 +35,7 @@ module _ {L S J P T M X : Type 0} {source : Ghosts S T} (accepts : X → ChunkRe
     pub wants_close : Bool
     pub accepted : HasAccepted (AcceptsEach accepts IsPart) [] x (known pass).received wants_close x'
 
-  -- or there was no room, and no worker was started
+  -- or there was no room, and nothing was accepted
   abbrev pub Conducts : Result (Returned S T source) OutOfMemory → Type 0
   Conducts (Ok back) = HasReturned back
   Conducts (Err fault) = x' ≡ x

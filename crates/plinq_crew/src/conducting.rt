@@ -1,11 +1,12 @@
 //! What the caller's thread does among its workers: it starts them, passes what they send to a consumer, and joins them.
-ghost use Rattle.std.specs.Prelude.{◌≡◌, ◌≤◌, ◌^◌, true};
+ghost use Rattle.std.specs.Prelude.{◌≡◌, ◌≤◌, ◌^◌, true, false};
 ghost use Rattle.plinq_ops.specs.declared.results.ChunkResult.{ChunkResult};
 ghost use Rattle.plinq_merge.specs.Shown.{end_of_result};
 ghost use Rattle.plinq_partition.specs.Partitions.{IsPartitionOf, holding_of};
 ghost use Rattle.plinq_stream.specs.Passes.{IsPassOf, known};
 ghost use Rattle.plinq_stream.specs.Streams.{HasReceivedAll};
 ghost use Rattle.plinq_crew.specs.Equipped.{IsReady};
+ghost use Rattle.plinq_crew.specs.Noted.{has_worker_fault};
 ghost use Rattle.plinq_crew.specs.Polls.{HasAccepted};
 ghost use Rattle.plinq_crew.specs.Working.{IsReceiver};
 ghost use Rattle.plinq_crew.specs.Conducting.{AcceptsEach, Conducts};
@@ -61,6 +62,7 @@ where
     ensures receiver { IsReceiver (known coordinator.new.stream) }
     ensures worker_count { coordinator.new.worker_count ≡ coordinator.old.worker_count }
     ensures ready { X.is_ready consumer.new }
+    ensures over { X.wants_no_more consumer.new ≡ true → closing.new.is_closed ≡ false → has_worker_fault coordinator.new.worker_faults ≡ true }
     ensures accepted { (before : _) (start : _) → HasAccepted (AcceptsEach X.accepts J.is_result) before start (known coordinator.old.stream).received closing.old.wants_close consumer.old
         → HasAccepted (AcceptsEach X.accepts J.is_result) before start (known coordinator.new.stream).received closing.new.wants_close consumer.new }
 {
@@ -193,7 +195,11 @@ struct Equipment<'a, L: Lambda, S: Source, J: RunSpec<P::Part>, P: Task<L::Item>
     context: WorkerContext<S, P::Part>,
 }
 
-/// Conducts a run in a scope of threads.
+/// Starts a crew's workers, passes what they send to the consumer, and joins them.
+///
+/// # Errors
+///
+/// [`OutOfMemory`] where there is no room for what the workers bring back. No worker was started then.
 pub fn conduct<'x, J, L, S, P, X, R>(
     rt: &'x R,
     crew: &'x Crew<'x, L, S, J, P>,

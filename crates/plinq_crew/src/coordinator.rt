@@ -1,5 +1,4 @@
-//! The caller's thread among its workers: it starts them, receives what they send, closes the source in time, and has them
-//! back.
+//! The caller's thread among its workers: it receives what they send, and closes the source in time.
 ghost use Rattle.std.specs.Prelude.{◌≡◌, ◌≤◌, ◌^◌, [], drop, length, true, false, All, IfOk, IfSome};
 ghost use Rattle.plinq_cut.specs.Passes.{IsPassOf as IsCutPassOf};
 ghost use Rattle.plinq_crew.specs.Working.{IsReceiver};

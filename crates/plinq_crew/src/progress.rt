@@ -4,7 +4,7 @@ use plinq_wait::WaitQueue;
 use std::sync::Wait;
 use std::sync::atomic::{AtomicBool, AtomicU64, Ordering};
 
-// After so many results that the caller's thread lacked, as many workers more may be at work as were at first.
+// For each so many results that the caller's thread lacked, as many workers may be at work as were at first.
 const LACKS: u64 = 32;
 
 /// How far the threads of a run are. It only tells the caller's thread when to sleep and when to join the workers, and the
@@ -84,8 +84,8 @@ impl Progress {
         }
     }
 
-    /// Before a worker takes its first chunk: where enough others are at work, it sleeps until one of them has ended. Then the
-    /// source has nothing more, or the run is over, and it finds that out itself.
+    /// Before a worker takes its first chunk: where enough others are at work, it sleeps until more are wanted, or one of them
+    /// has ended. Then the source has nothing more, or the run is over, and it finds that out itself.
     pub(crate) fn wait_to_begin<R: Wait>(&self, rt: &R, worker: u64) {
         let waiter = self.start.waiter();
         for _ in rt.forever() {
@@ -110,7 +110,7 @@ impl Progress {
         }
         let wanted = self.at_first.saturating_mul(lacks / LACKS);
         let at_once = self.at_once.load(Ordering::SeqCst);
-        if wanted >= at_once.saturating_add(at_once / 2) {
+        if wanted > at_once && wanted >= at_once.saturating_add(at_once.div_ceil(2)) {
             self.at_once.store(wanted, Ordering::SeqCst);
             self.start.wake();
         }

@@ -56,7 +56,7 @@ abbrev pub Runs : {K T : Type 0} → (K → List T → K → Type 0) → (K → 
 Runs accepts refuses option u s s' (Ok e) = HasRun accepts option u s s' e
 Runs accepts refuses option u s s' (Err fault) = HasBroken accepts refuses option u s s' fault
 
--- what is reported of a run that ended so: the same, unless memory or records are missing for the report
+-- what is reported of a run that ended so: the same, unless records are missing for the report
 abbrev pub IsReportOf : Result Ending RunFault → Result Ending RunFault → Type 0
 IsReportOf (Ok e) (Ok e') = e' ≡ e
 IsReportOf (Ok e) (Err fault) = cause_of fault ≡ Other

@@ -1,4 +1,4 @@
-ghost use Rattle.std.specs.Prelude.{◌≡◌, true, Ok, None};
+ghost use Rattle.std.specs.Prelude.{◌≡◌, true, Ok, None, IfErr};
 ghost use Rattle.plinq_run.specs.Aggregates.{TakesIn, so_far};
 ghost use Rattle.plinq_run.specs.Combining.{takes_all, MadeBy};
 ghost use Rattle.plinq_run.specs.CombiningLawful.{made-lawful};
@@ -76,6 +76,7 @@ impl<'a, A: Aggregator> TakeInto<()> for Fold<'a, A, A::Acc> {
         ensures ready { result ≡ Ok None → takes_all self.new ≡ true }
         ensures last { result ≡ Ok None → ending ≡ None }
         ensures made { MadeBy A.folding self.old out.old (record { items = items.items; ending = ending }) result self.new out.new }
+        ensures never_fails { IfErr result (λ fault. ⊥) }
     {
         let aggregator = self.aggregator;
         let mut acc = match self.acc.take() {

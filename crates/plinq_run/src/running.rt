@@ -30,9 +30,9 @@ use std::thread::{Threads, available_parallelism};
 // How many chunks of the largest size workers may be ahead of what is merged, for each worker.
 const CHUNKS_AHEAD: u64 = 64;
 
-/// How many workers are at work at once: one for each core, since more only take cores from one another. A gate that holds some
-/// back may need all of them.
-fn at_once<G: Gate, R: Threads>(rt: &R, gate: &G) -> u64 {
+/// How many workers are at work at first: one for each core, since on a machine that does nothing else more only take cores from
+/// one another. A gate that holds some back may need all of them.
+fn at_first<G: Gate, R: Threads>(rt: &R, gate: &G) -> u64 {
     if gate.holds_back() {
         return u64::MAX;
     }
@@ -42,7 +42,7 @@ fn at_once<G: Gate, R: Threads>(rt: &R, gate: &G) -> u64 {
     }
 }
 
-/// How many workers are at work at once, and how far they may be ahead of what is merged: how many keys above it, and how many
+/// How many workers are at work at first, and how far they may be ahead of what is merged: how many keys above it, and how many
 /// items may be sent that aren't merged yet. By arrival each result is merged at once, so there is no bound on keys.
 pub(crate) fn progress_of<G: Gate, R: Threads>(
     rt: &R,
@@ -51,13 +51,13 @@ pub(crate) fn progress_of<G: Gate, R: Threads>(
     workers: u64,
     growth: Growth,
 ) -> Progress {
-    let at_once = at_once(rt, gate);
+    let at_first = at_first(rt, gate);
     let largest = growth.size(u64::MAX);
     let ahead = largest.saturating_mul(CHUNKS_AHEAD);
-    let most = ahead.saturating_mul(workers.min(at_once.saturating_add(at_once / 2)));
+    let most = ahead.saturating_mul(workers.min(at_first.saturating_add(at_first / 2)));
     match order {
-        Order::ByKey => Progress::new(most, most, at_once),
-        Order::ByArrival => Progress::new(u64::MAX, most, at_once),
+        Order::ByKey => Progress::new(most, most, at_first),
+        Order::ByArrival => Progress::new(u64::MAX, most, at_first),
     }
 }
 
