@@ -3,9 +3,11 @@
 
     python3 tests/building.py
 """
+import contextlib
 import fcntl
 import os
 import pty
+import select
 import shutil
 import signal
 import subprocess
@@ -15,24 +17,40 @@ import time
 from support.program import HANGS, ROOT, Tests
 
 # What rt prints and leaves, without a proof. Each call adds a line to the file calls; what stands in the folder orders
-# is done on the way. A trial ends with the status that stands in the order status, or has no answer.
+# is done on the way. A library that was last built elsewhere, of the same sources, is taken from there; one that is begun over
+# kept work adds a line to the file over. A trial ends with the status that stands in the order status, or has no answer.
 RT = r"""#!/usr/bin/env bash
-top=$(cd ../.. && pwd)
+top=@top@
 name=${PWD##*/}
-echo "$name $*" >>"$top/calls"
+if [ ../.. -ef "$top" ]; then echo "$name $*"; else echo "$name $* in a room"; fi >>"$top/calls"
 [ ! -e "$top/orders/say-waiting" ] || echo "rt: waiting for another rt to finish in $PWD" >&2
+is_of_sources() { [ -e "$1/stamp" ] && cmp -s "$1/stamp" <(cat "$2"/src/*); }
 if [ "$1" = lib ]; then
-    if [ -e out/rlib ] && cmp -s out/rlib <(cat src/*); then exit 0; fi
-    echo "rt: chose --jobs 4 for $name"
+    for it in $(sed -n "s/^$name:\([^#]*\).*/\1/p" ../../crates.txt); do
+        if [ -d "../$it" ] && ! is_of_sources "../$it/out/rlib" "../$it"; then echo "error: $it is not built"; exit 1; fi
+    done
+    if is_of_sources out/rlib .; then exit 0; fi
+    rm -rf out/rlib
+    mkdir -p out/incremental
+    built=$top/../built-$name
+    if [ ! -e "$top/orders/no-sharing" ] && [ -e "$built" ] && is_of_sources "$(<"$built")" .; then cp -r "$(<"$built")" out/rlib; exit 0; fi
+    [ ! -e out/incremental/begun ] || echo "$name" >>"$top/over"
+    echo >out/incremental/begun
+    [ "$2" = --jobs ] || echo "rt: chose --jobs 4 for $name"
     echo 'so far: 0 of 20 functions checked; the verdict comes last'
     echo 'so far: 9 of 20 functions checked'
     echo "fn $name::some: proved"
-    if [ -e "$top/orders/fail-$name" ]; then printf 'error: a goal is open\nerror: the last line has no end'; exit 1; fi
-    if [ -e "$top/orders/wait" ]; then echo $$ >"$top/at-work"; fi
-    while [ -e "$top/orders/wait" ]; do sleep 0.02; done
+    if [ -e "$top/orders/wait" ] || [ -e "$top/orders/hold-$name" ]; then
+        trap 'sleep 0.3; exit 143' TERM
+        echo $$ >"$top/at-work-$name"
+        while [ -e "$top/orders/wait" ] || [ -e "$top/orders/hold-$name" ]; do sleep 0.02; done
+        echo 'so far: 20 of 20 functions checked'
+    fi
+    if [ -e "$top/orders/fail-$name" ]; then printf 'error: a goal is open in %s\nerror: the last line has no end' "$PWD"; exit 1; fi
     if [ -e "$top/orders/edit" ]; then rm "$top/orders/edit"; echo edited >"$top/crates/low/src/lib.rt"; fi
-    mkdir -p out
-    cat src/* >out/rlib
+    mkdir out/rlib
+    cat src/* >out/rlib/stamp
+    echo "$PWD/out/rlib" >"$built"
 elif [ "$1" = try ]; then
     shift 2
     if [ -e "$top/orders/wait" ]; then trap 'exit 143' TERM; echo $$ >"$top/at-work"; fi
@@ -53,18 +71,23 @@ elif [ "$1" = try ]; then
     echo "run=ended status=$status runners=1 races=unchecked proved=no" >&2
     exit "$status"
 else
+    if [ -e "$top/orders/fail-$name" ]; then echo 'error: some cause'; exit 4; fi
     mkdir -p out
     { echo '#!/usr/bin/env bash'; echo "echo \"words: \$*; built of: $(cat "$top"/crates/*/src/* | tr '\n' ' ')\""; echo cat; echo 'exit 3'; } >out/plinq.new
     chmod +x out/plinq.new
     mv out/plinq.new out/plinq
 fi
 """
-TOOLS = "bash basename cat chmod cmp cut dirname env find flock head mkdir mktemp mv readlink rm sed sha256sum sleep sort touch tr true wc xargs yes".split()
-SOURCES = {"low/src/lib.rt": "low", "low/specs/A.antt": "a", "mid/src/lib.rt": "mid", "apart/specs/B.antt": "b", "plinq/src/main.rt": "main"}
+# What the machine has: so many processors, and so much free memory in GB, as stands in the orders.
+MACHINE = {"nproc": 'cat "@top@/orders/processors"', "grep": 'echo "MemAvailable: $(cat "@top@/orders/memory")000000 kB"'}
+TOOLS = "bash basename cat chmod cmp cp cut dirname env find flock head mkdir mktemp mv readlink rm sed sha256sum sleep sort touch tr true wc xargs yes".split()
+SOURCES = {"low/src/lib.rt": "low", "low/specs/A.antt": "a", "side/src/lib.rt": "side", "mid/src/lib.rt": "mid", "apart/specs/B.antt": "b"}
+SOURCES["plinq/src/main.rt"] = "main"
+CRATES = "# The crates, lowest first.\nside:\nlow: thiserror\napart: low\nmid: low # and no other\nplinq: mid side\n"
 
 
 class Place:
-    """A folder with the scripts, the stand-in and four crates, one of which the program doesn't use."""
+    """A folder with the scripts, the stand-ins and five crates, one of which the program doesn't use."""
 
     def __init__(self, folder):
         self.top = os.path.join(folder, "top")
@@ -76,9 +99,12 @@ class Place:
         shutil.copy(f"{ROOT}/tools/build", f"{self.top}/tools")
         for name in TOOLS:
             os.symlink(shutil.which(name), f"{self.bin}/{name}")
-        self.write("../bin/rt", RT)
-        os.chmod(f"{self.bin}/rt", 0o755)
-        self.write("crates.txt", "# The crates, lowest first.\nlow: thiserror\napart: low\nmid: low # and no other\nplinq: mid\n")
+        for name, text in [("rt", RT), *((it, f"#!/usr/bin/env bash\n{MACHINE[it]}\n") for it in MACHINE)]:
+            os.chmod(self.write(f"../bin/{name}", text.replace("@top@", self.top)), 0o755)
+        self.has(processors=1, memory=64)
+        self.seen = 0
+        self.write("HANDLES", "Threads\n")
+        self.write("crates.txt", CRATES)
         for name, text in SOURCES.items():
             self.write(f"crates/{name}", f"{text}\n")
 
@@ -88,6 +114,15 @@ class Place:
         with open(path, "w") as file:
             file.write(text)
         return path
+
+    def has(self, **what):
+        for name, number in what.items():
+            self.write(f"orders/{name}", str(number))
+
+    def forget(self):
+        """Has no library and no program built."""
+        for name in os.listdir(f"{self.top}/crates"):
+            shutil.rmtree(f"{self.top}/crates/{name}/out", ignore_errors=True)
 
     def start(self, *words, program="./plinq", **how):
         env = {"PATH": self.bin, "TMPDIR": self.temporary, "HOME": self.temporary}
@@ -109,30 +144,72 @@ class Place:
             return []
 
     def files(self):
-        """All files but those of the crates' folders out and the stand-in's list of its calls."""
+        """All files but those of the crates' folders out and those that the stand-in tells by."""
         found = set()
         for top in (self.top, self.temporary):
             for at, folders, names in os.walk(top):
                 folders[:] = [it for it in folders if it != "out"]
-                found |= {os.path.join(at, it) for it in names}
-        return found - {f"{self.top}/calls", f"{self.top}/at-work"}
+                found |= {os.path.join(at, it) for it in [*folders, *names] if not it.startswith(("calls", "over", "at-work"))}
+        return found
 
-    def wait_for(self, name):
-        """What a file of the top folder holds, once it holds anything."""
+    def new_calls(self):
+        """The calls since it was last asked."""
+        calls = self.calls()[self.seen :]
+        self.seen += len(calls)
+        return calls
+
+    def over(self):
+        """The libraries that were begun over kept work since it was last asked."""
+        try:
+            with open(f"{self.top}/over") as file:
+                found = file.read().split()
+            os.remove(f"{self.top}/over")
+            return found
+        except FileNotFoundError:
+            return []
+
+    @contextlib.contextmanager
+    def held(self, *names):
+        """Has these libraries be at work until they are let go."""
+        for it in names:
+            self.write(f"orders/hold-{it}")
+        try:
+            yield
+        finally:
+            for it in names:
+                self.let_go(it)
+
+    def let_go(self, name):
+        for it in (f"orders/hold-{name}", f"at-work-{name}"):
+            with contextlib.suppress(FileNotFoundError):
+                os.remove(f"{self.top}/{it}")
+
+    def wait_for_call(self, call):
         for _ in range(HANGS * 50):
-            try:
-                with open(f"{self.top}/{name}") as file:
-                    text = file.read().strip()
-                if text:
-                    return text
-            except FileNotFoundError:
-                pass
+            if call in self.calls()[self.seen :]:
+                return
             time.sleep(0.02)
-        raise TimeoutError(name)
+        raise TimeoutError(call)
+
+    def wait_for(self, *names):
+        """What these files of the top folder hold, once they hold anything: one text, or a list of several."""
+        found = []
+        for name in names:
+            for _ in range(HANGS * 50):
+                with contextlib.suppress(FileNotFoundError):
+                    with open(f"{self.top}/{name}") as file:
+                        text = file.read().strip()
+                    if text:
+                        found.append(text)
+                        break
+                time.sleep(0.02)
+            else:
+                raise TimeoutError(name)
+        return found if len(found) > 1 else found[0]
 
 
-ALL_CALLS = ["low lib", "mid lib", "plinq run --jobs 1 -- --help"]
-BUILT = "built of: low mid main "
+ALL_CALLS = ["low lib", "side lib", "mid lib", "plinq run --jobs 1 -- --help"]
+BUILT = "built of: low mid main side "
 
 
 def is_alive(number):
@@ -185,10 +262,6 @@ def first_inputs(place, tests):
 
 
 def no_first_answer(place, tests):
-    def forget():
-        for name in ("low", "mid", "plinq"):
-            shutil.rmtree(f"{place.top}/crates/{name}/out")
-
     # (a status of a trial that has no answer is one that a program may have)
     for its_own in (2, 4, 5, 6):
         place.write("orders/no-answer", str(its_own))
@@ -198,29 +271,210 @@ def no_first_answer(place, tests):
         tests.check("from the same input", output == f"words: run --merge not; {BUILT}\nthe document", output)
         is_so = "the trial has no answer" in errors and "some" not in errors and "--build" not in errors
         tests.check("it is said", is_so, errors)
-        forget()
+        place.forget()
     os.remove(f"{place.top}/orders/no-answer")
     started = place.start("-c", "./plinq run <&-", program="bash")
     output, errors = started.communicate(timeout=HANGS)
     tests.check("a closed input is left to the program", f"words: run; {BUILT}" in output and "tried" not in output, (output, errors))
-    forget()
+    place.forget()
 
 
 def first_build(place, tests):
     seen = place.run("--build", "more", given="x")
     tests.check("with more words --build is the program's", seen[:2] == (0, "tried: --build more; x"), seen)
     status, output, errors, calls = place.run("--build", given="some\ninput")
-    tests.check("--build asks rt for each library that the program uses, in the order of crates.txt, and then for the program", calls == ALL_CALLS, calls)
+    tests.check("--build asks rt for each library that the program uses, first for what others are above, and then for the program", calls == ALL_CALLS, calls)
     tests.check("it answers nothing", (status, output) == (0, ""), (status, output))
     said = errors.splitlines()
     tests.check("the first line says how long it takes, and what for", "first time" in said[0] and "proved" in said[0] and "minutes" in said[0], said)
-    wanted = ["plinq: proving low (1 of 3)", "plinq: proving low (1 of 3), 9 of 20 functions checked", "plinq: proving mid (2 of 3)"]
-    wanted += ["plinq: proving mid (2 of 3), 9 of 20 functions checked"]
+    wanted = [f"plinq: proving {it}{so_far}" for it in ("low (1 of 4)", "side (2 of 4)", "mid (3 of 4)") for so_far in ("", ", 9 of 20 functions checked")]
     tests.check("each crate that is proved has its lines", said[1:] == wanted, said)
     seen = place.run("seq", "two words", given="some\ninput")
     tests.check("then the program answers, with no trial", seen == (3, f"words: seq two words; {BUILT}\nsome\ninput", "", []), seen)
     seen = place.run("--build")
     tests.check("where it is up to date --build does nothing", seen == (0, "", "", []), seen)
+
+
+def side_by_side(place, tests):
+    """A first build by four processors: low and side use no library of these, and mid uses low."""
+    place.forget()
+    place.has(processors=4)
+    place.new_calls()
+    before = place.files()
+    with place.held("low", "side", "mid"):
+        started = place.start("--build")
+        place.wait_for("at-work-low", "at-work-side")
+        calls = sorted(place.new_calls())
+        tests.check("two that use no other are proved side by side, and none before what it uses", calls == in_rooms("low", "side"), calls)
+        place.let_go("low")
+        place.wait_for("at-work-mid")
+        calls = place.new_calls()
+        tests.check("what uses another is begun once that one is here", calls == ["low lib --jobs 4", *in_rooms("mid")], calls)
+        rooms = [os.path.dirname(at) for at, _, names in os.walk(place.temporary) if "main.rt" in names and at.endswith("plinq/src")]
+        low = [f"{it}/../low/out/rlib/stamp" for it in rooms]
+        is_so = [os.path.exists(it) and os.path.samefile(it, f"{place.top}/crates/low/out/rlib/stamp") for it in low]
+        tests.check("it has that one by a link, and rooms of which all is here are gone", sorted(is_so) == [False, True], low)
+        place.let_go("mid")
+    output, errors = started.communicate(timeout=HANGS)
+    calls = place.new_calls()
+    is_so = started.returncode == 0 and (sorted(calls[:2]), calls[2:]) == (["mid lib --jobs 4", "side lib --jobs 4"], ALL_CALLS[-1:])
+    tests.check("then all are here, and the program is built", is_so, (started.returncode, calls, errors))
+    wanted = [f"plinq: proving {it}" for it in ("low (1 of 4)", "side (2 of 4)", "mid (3 of 4)")]
+    wanted += [f"{it}, {number} of 20 functions checked" for it in wanted for number in (9, 20)]
+    tests.check("each has its lines", sorted(errors.splitlines()[1:]) == sorted(wanted), errors)
+    tests.check("nothing is left behind, and nothing was proved twice", (place.files(), place.over()) == (before, []), place.files() ^ before)
+    tests.check("the program that was built so answers", place.run("words")[:2] == (3, f"words: words; {BUILT}\n"))
+    place.forget()
+    with place.held("low"):
+        started = place.start("--build")
+        place.wait_for("at-work-low")
+        place.wait_for_call("side lib --jobs 4")
+        place.new_calls()
+    started.communicate(timeout=HANGS)
+    calls = place.new_calls()
+    tests.check("what has nothing beside it is proved here", calls == ["low lib --jobs 4", "mid lib --jobs 4", *ALL_CALLS[-1:]], calls)
+    place.write("crates/low/src/lib.rt", "changed\n")
+    calls = place.run()[3]
+    tests.check("where there is a program, each is proved here", calls == ALL_CALLS, calls)
+    place.write("crates/low/src/lib.rt", "low\n")
+    os.remove(f"{place.top}/crates/plinq/out/plinq")
+    with open(place.write(".git/rt-ci.lock")) as lock:
+        fcntl.flock(lock, fcntl.LOCK_EX)
+        calls = place.run("--build")[3]
+    os.remove(f"{place.top}/.git/rt-ci.lock")
+    tests.check("and where an rt ci is at work", calls == ALL_CALLS, calls)
+
+
+def in_rooms(*names, jobs=4):
+    return [f"{it} lib --jobs {jobs} in a room" for it in names]
+
+
+def few_and_many(place, tests):
+    """A first build by other numbers of processors, and of libraries."""
+    for processors, memory, jobs in ((1, 64, 0), (4, 1, 0), (4, 5, 0), (2, 64, 2), (4, 7, 2), (4, 10, 3), (8, 64, 4)):
+        place.forget()
+        place.has(processors=processors, memory=memory)
+        status, _, errors, calls = place.run("--build")
+        is_so = status == 0 and (set(in_rooms("low", "side", jobs=jobs)) < set(calls) if jobs else calls == ALL_CALLS)
+        tests.check(f"with {processors} processors and {memory} GB {f'each has {jobs} jobs' if jobs else 'each is proved here'}", is_so, (calls, errors))
+    place.forget()
+    place.new_calls()
+    place.write("crates/third/src/lib.rt", "third\n")
+    place.write("crates.txt", f"third:\n{CRATES}".replace("mid side", "third mid side"))
+    with place.held("low", "side", "third"):
+        started = place.start("--build")
+        place.wait_for("at-work-low", "at-work-third")
+        time.sleep(0.5)
+        calls = sorted(place.new_calls())
+        tests.check("two are proved at a time, first what others are above", calls == in_rooms("low", "third"), calls)
+    started.communicate(timeout=HANGS)
+    tests.check("and then the others", started.returncode == 0 and ALL_CALLS[-1] in place.new_calls())
+    shutil.rmtree(f"{place.top}/crates/third")
+    place.write("crates.txt", CRATES)
+    place.has(processors=4, memory=64)
+    place.forget()
+    place.write("orders/no-sharing")
+    place.over()
+    status, _, errors, calls = place.run("--build")
+    os.remove(f"{place.top}/orders/no-sharing")
+    is_so = status == 0 and {"low", "side"} <= set(place.over())
+    tests.check("where rt takes nothing over, it proves it here as well, over what was kept in the room", is_so, (errors, calls))
+    place.forget()
+    place.write("crates/low/out/incremental/begun")
+    lock = os.open(f"{place.top}/crates/low", os.O_RDONLY)
+    fcntl.flock(lock, fcntl.LOCK_EX)
+    place.run("--build")
+    os.close(lock)
+    tests.check("kept work stays where another rt is at work", (place.over(), os.path.exists(f"{place.top}/crates/low/out/incremental/begun")) == ([], True))
+    place.forget()
+    place.write("crates.txt", CRATES.replace("side:", "side: mid").replace("mid: low", "mid: low side"))
+    status, _, errors, calls = place.run("--build")
+    tests.check("where two use each other, rt says so", status == 5 and "is not built\n" in errors, (status, errors, calls))
+    place.write("crates.txt", CRATES)
+
+
+def side_by_side_failure(place, tests):
+    place.forget()
+    place.write("orders/fail-side")
+    before = place.files()
+    with place.held("low", "side"):
+        started = place.start("--build")
+        at_work = int(place.wait_for("at-work-low", "at-work-side")[0])
+        place.new_calls()
+        place.let_go("side")
+        started.wait(timeout=HANGS)
+        tests.check("the other is ended", not is_alive(at_work), at_work)
+        output, errors = started.communicate(timeout=HANGS)
+        left = place.files() - {f"{place.top}/orders/hold-low"}
+        tests.check("one that fails beside another ends the build with status 5", started.returncode == 5, (started.returncode, errors))
+        is_so = f"\nerror: a goal is open in {place.top}/crates/side\nerror: the last line has no end\n" in errors
+        tests.check("what rt said of it is shown, as of the file here", is_so, errors)
+        tests.check("and which it was", errors.endswith("was not built: proving side (2 of 4) ended with status 1\n"), errors)
+        tests.check("it isn't tried once more", place.new_calls() == [], place.calls())
+        tests.check("nothing is left behind", left == before, left ^ before)
+    os.remove(f"{place.top}/orders/fail-side")
+    place.over()
+    status, _, errors, calls = place.run("--build")
+    tests.check("the next build goes on over what both have kept", (status, sorted(place.over())) == (0, ["low", "side"]), (errors, calls))
+    place.forget()
+    place.write("orders/fail-mid")
+    place.run("--build")
+    os.remove(f"{place.top}/orders/fail-mid")
+    place.over()
+    errors = place.run("--build")[2]
+    tests.check("what was proved before another failed isn't proved again", "proving mid" in errors and "proving low" not in errors, errors)
+
+
+def side_by_side_interruption(place, tests):
+    for which in (signal.SIGINT, signal.SIGTERM, signal.SIGHUP):
+        place.forget()
+        before = place.files()
+        with place.held("low", "side"):
+            started = place.start("--build")
+            at_work = [int(it) for it in place.wait_for("at-work-low", "at-work-side")]
+            started.send_signal(which)
+            started.wait(timeout=HANGS)
+            tests.check(f"{which.name} ends both", not any(map(is_alive, at_work)), at_work)
+            output, errors = started.communicate(timeout=HANGS)
+            left = place.files() - {f"{place.top}/orders/hold-{it}" for it in ("low", "side")}
+            tests.check(f"{which.name} ends a build with two at work", (started.returncode, output) == (-which, ""), (started.returncode, errors))
+            tests.check(f"{which.name} leaves nothing of them behind", left == before, left ^ before)
+        place.over()
+        status, _, errors, calls = place.run("--build")
+        is_so = (status, sorted(place.over())) == (0, ["low", "side"])
+        tests.check(f"after {which.name} the next build goes on over what both have kept", is_so, (status, errors, calls))
+
+
+def at_a_terminal(place, tests):
+    def read(*wanted):
+        nonlocal seen
+        while not all(it in seen for it in wanted) and select.select([near], [], [], HANGS)[0]:
+            try:
+                seen += os.read(near, 10_000).decode().replace("\r\n", "\n")
+            except OSError:
+                return
+
+    place.forget()
+    near, far = pty.openpty()
+    seen = ""
+    low, side, mid = (f"proving {it}" for it in ("low (1 of 4)", "side (2 of 4)", "mid (3 of 4)"))
+    both = [f"{it}, 9 of 20 functions checked" for it in (low, side)]
+    with place.held("low", "side"):
+        started = place.start("--build", stderr=far)
+        os.close(far)
+        read(*both)
+        place.let_go("side")
+        read(f"{side}, 20 of 20 functions checked\n")
+    read("an end")
+    os.close(near)
+    started.communicate(timeout=HANGS)
+    lines = [f"\r\x1b[K\x1b[?7lplinq: {one}; {other}\x1b[?7h" for one, other in (both, both[::-1])]
+    tests.check("at a terminal one line has all that is at work, and is cut off at the last column", any(it in seen for it in lines), seen)
+    tests.check("one that has ended isn't in it any more", f"\x1b[?7lplinq: {low}, 20 of 20 functions checked\x1b[?7h" in seen, seen)
+    # (what stands in a line at last)
+    last = [it.rpartition("\r\x1b[K")[2] for it in seen.split("\n")[1:]]
+    wanted = [f"plinq: {it} of 20 functions checked" for it in (f"{side}, 20", f"{low}, 20", f"{mid}, 9")]
+    tests.check("and has a line of its own", last == [*wanted, ""], last)
 
 
 def further_uses(place, tests):
@@ -258,7 +512,7 @@ def changes(place, tests):
     rebuilds("a source went")
     os.utime(place.write("crates/low/specs/B.antt", "b\n"), (1, 1))
     rebuilds("a source of an old date came")
-    place.write("crates.txt", "low: thiserror\nmid: low thiserror\nplinq: mid\n")
+    place.write("crates.txt", "side:\nlow: thiserror\nmid: low thiserror\nplinq: mid side\n")
     rebuilds("the list of crates changed")
     os.remove(f"{place.top}/crates/plinq/out/plinq")
     tests.check("where the program went, a trial answers", place.run()[3] == ["plinq try --"])
@@ -302,10 +556,15 @@ def failure(place, tests):
     place.write("crates/mid/src/lib.rt", "wrong\n")
     place.write("orders/fail-mid")
     status, output, errors, calls = place.run()
-    tests.check("a build that fails ends with status 5 and runs nothing", (status, output, calls) == (5, "", ALL_CALLS[:2]), (status, output, calls))
-    is_so = "error: a goal is open\nerror: the last line has no end\n" in errors and "was not built: proving mid (2 of 3)" in errors and "some: proved" not in errors
+    tests.check("a build that fails ends with status 5 and runs nothing", (status, output, calls) == (5, "", ALL_CALLS[:3]), (status, output, calls))
+    is_so = f"error: a goal is open in {place.top}/crates/mid\nerror: the last line has no end\n" in errors and "was not built: proving mid (3 of 4)" in errors and "some: proved" not in errors
     tests.check("it shows what rt said, and the crate", is_so, errors)
     os.remove(f"{place.top}/orders/fail-mid")
+    place.write("orders/fail-plinq")
+    errors = place.run()[2]
+    os.remove(f"{place.top}/orders/fail-plinq")
+    is_so = errors.endswith("error: some cause\nplinq: the program was not built: proving and compiling plinq (4 of 4) ended with status 4\n")
+    tests.check("and so where the program itself fails", is_so, errors)
     status, output, _, calls = place.run()
     tests.check("the next use builds", status == 3 and "built of: low wrong main" in output and calls == ALL_CALLS, (status, output, calls))
     place.write("crates/mid/src/lib.rt", "mid\n")
@@ -360,7 +619,7 @@ def interruption(place, tests):
         place.write("orders/wait")
         before = place.files()
         started = place.start()
-        at_work = int(place.wait_for("at-work"))
+        at_work = int(place.wait_for("at-work-mid"))
         # (as a terminal does for the first, and kill for the others)
         started.send_signal(which)
         output, errors = started.communicate(timeout=HANGS)
@@ -372,7 +631,7 @@ def interruption(place, tests):
         tests.check(f"{which.name} ends what it started", not is_alive(at_work), at_work)
         tests.check(f"{which.name} leaves nothing behind", place.files() == before, place.files() ^ before)
         os.remove(f"{place.top}/orders/wait")
-        os.remove(f"{place.top}/at-work")
+        os.remove(f"{place.top}/at-work-mid")
         status, output, _, calls = place.run()
         is_so = status == 3 and f"built of: low {which} main" in output and calls == ALL_CALLS
         tests.check(f"after {which.name} the next use builds", is_so, (status, output, calls))
@@ -385,7 +644,7 @@ def two_at_once(place, tests):
     place.write("orders/wait")
     before = len(place.calls())
     first = place.start("first")
-    at_work = int(place.wait_for("at-work"))
+    at_work = int(place.wait_for("at-work-low"))
     second = place.start("second")
     said = second.stderr.readline()
     tests.check("the second of two says that it waits", "waiting: another build" in said, said)
@@ -396,16 +655,16 @@ def two_at_once(place, tests):
     is_so = third.returncode == -signal.SIGTERM and is_alive(at_work)
     tests.check("one that waits ends when it is told to, and the first goes on", is_so, (third.returncode, said))
     os.remove(f"{place.top}/orders/wait")
-    os.remove(f"{place.top}/at-work")
+    os.remove(f"{place.top}/at-work-low")
     ended = [(it.communicate("", timeout=HANGS)[0], it.returncode) for it in (first, second)]
-    wanted = [(f"words: {it}; built of: both mid main \n", 3) for it in ("first", "second")]
+    wanted = [(f"words: {it}; built of: both mid main side \n", 3) for it in ("first", "second")]
     tests.check("both run the right program", ended == wanted, ended)
     tests.check("and the first alone has built it", place.calls()[before:] == ALL_CALLS, place.calls()[before:])
     place.write("crates/low/src/lib.rt", "four\n")
     before = len(place.calls())
     started = [place.start(str(it)) for it in range(4)]
     ended = [(it.communicate("", timeout=HANGS)[0], it.returncode) for it in started]
-    wanted = [(f"words: {it}; built of: four mid main \n", 3) for it in range(4)]
+    wanted = [(f"words: {it}; built of: four mid main side \n", 3) for it in range(4)]
     tests.check("of four at once all run the right program", ended == wanted, ended)
     tests.check("and one builds it", sorted(place.calls()[before:]) == sorted(ALL_CALLS), place.calls()[before:])
 
@@ -434,6 +693,12 @@ def main():
         no_first_answer(place, tests)
         first_build(place, tests)
         tests.check("trials and a build leave nothing behind", place.files() == before, place.files() ^ before)
+        side_by_side(place, tests)
+        few_and_many(place, tests)
+        side_by_side_failure(place, tests)
+        side_by_side_interruption(place, tests)
+        at_a_terminal(place, tests)
+        place.has(processors=1)
         further_uses(place, tests)
         closed_streams(place, tests)
         changes(place, tests)
