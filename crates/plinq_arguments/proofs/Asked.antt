@@ -18,7 +18,7 @@ use Rattle.clap.specs.declared.parser.matches.ArgMatches.{ArgMatches}
 use Rattle.clap.proofs.WalkLemmas.{both, first_value-rows, one_text-rows}
 use Rattle.clap.proofs.ValueTestLemmas.{accepts-Accepts, Accepts-accepts}
 use Rattle.plinq_document.specs.Words.{beside}
-use Rattle.plinq_document.specs.Steps.{merge_word}
+use Rattle.plinq_ops.specs.MergeWords.{merge_named}
 use Rattle.plinq_document.specs.Degrees.{degree_of}
 use Rattle.plinq_ops.specs.Query.{is_degree}
 use Rattle.std.proofs.lemmas.Bool.{le-leb}
@@ -35,8 +35,8 @@ is_simple_line q = refl
 
 -- the merge option of the text that was found
 pub merge_read : (m : ArgMatches) (o : Option Text) → o ≡ first_value (found_of m) (codes "merge")
-    → option_and_then merge_word o ≡ merge_of (rows_of (found_of m))
-merge_read m o is = ap (option_and_then merge_word) (is ∙ first_value-rows (found_of m) (codes "merge"))
+    → option_and_then merge_named o ≡ merge_of (rows_of (found_of m))
+merge_read m o is = ap (option_and_then merge_named) (is ∙ first_value-rows (found_of m) (codes "merge"))
 
 text_read : (m : ArgMatches) (o : Option Text) → one_text (found_of m) (codes "workers") ≡ o → workers_of (rows_of (found_of m)) ≡ option_and_then workers_in o
 text_read m o is = ap (option_and_then workers_in) (sym (one_text-rows (found_of m) (codes "workers")) ∙ is)

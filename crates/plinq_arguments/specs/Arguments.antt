@@ -12,14 +12,14 @@ use Rattle.clap.specs.declared.error.kind.ErrorKind.{ErrorKind}
 use Rattle.clap.specs.declared.error.kind.ErrorKind.TheVariants.{OutOfMemory}
 use Rattle.plinq_ops.specs.declared.merge_option.MergeOption.{MergeOption}
 use Rattle.plinq_document.specs.Words.{beside}
-use Rattle.plinq_document.specs.Steps.{merge_word}
+use Rattle.plinq_ops.specs.MergeWords.{merge_name, merge_named, merge_options}
 use Rattle.plinq_arguments.specs.declared.arguments.Arguments.{Arguments}
 use Rattle.plinq_arguments.specs.declared.command.Command.{Command}
 use Rattle.plinq_arguments.specs.declared.command.Command.TheVariants.{Run, Seq, Plan, Parts, History}
 
 -- the words of the merge option
 abbrev pub merge_words : List Text
-merge_words = codes "not" ∷ codes "auto" ∷ codes "full" ∷ codes "default" ∷ []
+merge_words = map merge_name merge_options
 
 -- the option takes just these words
 abbrev pub TakesOnly : List Text → ValueParser → Type 0
@@ -101,7 +101,7 @@ workers_of rows = option_and_then workers_in (one_of (codes "workers") rows)
 
 -- the merge option that they ask for
 abbrev pub merge_of : List Row → Option MergeOption
-merge_of rows = option_and_then merge_word (first_of (codes "merge") rows)
+merge_of rows = option_and_then merge_named (first_of (codes "merge") rows)
 
 -- the number of batches that a text writes
 abbrev pub cancel_in : Text → Option ℕ

@@ -9,7 +9,7 @@ use crate::command::Command;
 use clap::builder::ValueParser;
 use clap::error::ErrorKind;
 use clap::{Arg, ArgMatches};
-use plinq_document::{Degree, Settings, merge_word};
+use plinq_document::{Degree, Settings};
 use plinq_ops::MergeOption;
 use std::alloc::{AllocError, Global};
 
@@ -204,5 +204,5 @@ fn cancel_of(options: &ArgMatches<'_>) -> Option<u64>
 fn merge_of(options: &ArgMatches<'_>) -> Option<MergeOption>
     ensures { result ≡ merge_of (rows_of (found_of options.now)) }
 {
-    merge_word(options.get_str("merge")?)
+    MergeOption::named(options.get_str("merge")?)
 }

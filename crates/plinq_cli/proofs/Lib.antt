@@ -1,6 +1,5 @@
 pub mod Known
 pub mod Answered
-pub mod PrintedRead
 mod Delivered
 mod HandedOut
 mod Histories

@@ -4,4 +4,3 @@ pub mod Told
 pub mod Served
 pub mod Stopped
 pub mod Performed
-pub mod Printed

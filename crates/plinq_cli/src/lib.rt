@@ -10,7 +10,6 @@ mod aggregating;
 mod failure;
 mod input;
 mod input_fault;
-pub mod laws;
 mod performing;
 mod rounds;
 mod serve_fault;

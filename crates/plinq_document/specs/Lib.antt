@@ -14,3 +14,4 @@ pub mod Aggregates
 pub mod Jobs
 pub mod Document
 pub mod DocumentRows
+pub mod Printed

@@ -3,8 +3,8 @@
 //! `read_document` answers `document_of`, one definition that looks in turn at the length, the JSON, the version, the
 //! names, the steps, the shape of the growth, the aggregate, the source, the growth and the calls of the steps. A `Job` is
 //! seen as its query, the trace of its source, of which nothing is given yet, its growth, and its aggregate, if it has one.
-//! A `Degree` is from 1 to 64. `merge_word` is the merge option of a word, for the command line as for a step. The [`laws`]
-//! say that a part of a concatenation has a bound, and keeps to it.
+//! A `Degree` is from 1 to 64. The [`laws`] say that a part of a concatenation has a bound, and keeps to it, and that the
+//! words of operators and formulas, and no others, are read as these.
 #![tactic(auto)]
 
 mod aggregates;
@@ -20,11 +20,11 @@ mod kind;
 pub mod laws;
 mod plain_source;
 mod plain_sources;
+mod setting_name;
 mod settings;
 mod source_name;
 mod sources;
 mod step_call;
-mod step_name;
 mod steps;
 mod values;
 mod version;
@@ -37,5 +37,5 @@ pub use job::Job;
 pub use kind::Kind;
 pub use plain_source::PlainSource;
 pub use settings::Settings;
-pub use step_call::{StepCall, merge_word};
+pub use step_call::StepCall;
 pub use version::Version;

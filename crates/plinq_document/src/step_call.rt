@@ -1,14 +1,14 @@
 ghost use Rattle.std.specs.Prelude.{◌≡◌, ◌≢◌, MatchResult};
 ghost use Rattle.serde_json.specs.View.{view, items_view};
 ghost use Rattle.plinq_ops.specs.declared.build_fault.BuildFault.TheVariants.{Memory};
-ghost use Rattle.plinq_document.specs.Steps.{call_of, call_named, call_alone, merge_word, called};
+ghost use Rattle.plinq_document.specs.Steps.{argument_of, op_from, setting_from, call_alone, call_named, has_step, call_of, called};
 
 use crate::formulas::formula_of;
-use crate::step_name::{StepName, step_named};
+use crate::setting_name::{SettingName, setting_named};
 use crate::values::{only_count, only_item, only_whole_number};
 use crate::version::Version;
 use plinq_lambda::Formula;
-use plinq_ops::{Built, MergeOption, Query};
+use plinq_ops::{Argument, Built, MergeOption, Op, Query};
 use serde_json::Value;
 
 /// The builder call that a step stands for.
@@ -16,22 +16,8 @@ use serde_json::Value;
 pub enum StepCall {
     /// `as_ordered`.
     AsOrdered,
-    /// `as_unordered`.
-    AsUnordered,
-    /// `select` with a formula.
-    Select(Formula),
-    /// `filter` with a formula.
-    Filter(Formula),
-    /// `select_many` with a formula.
-    SelectMany(Formula),
-    /// `take_while` with a formula.
-    TakeWhile(Formula),
-    /// `skip_while` with a formula.
-    SkipWhile(Formula),
-    /// `take` with a number of elements.
-    Take(i64),
-    /// `skip` with a number of elements.
-    Skip(i64),
+    /// The call that adds this operator.
+    Operator(Op<Formula>),
     /// `with_merge` with an option.
     WithMerge(MergeOption),
     /// `with_degree` with a number that may be no degree.
@@ -46,14 +32,7 @@ impl StepCall {
     {
         match self {
             StepCall::AsOrdered => query.as_ordered(),
-            StepCall::AsUnordered => query.as_unordered(),
-            StepCall::Select(f) => query.select(f),
-            StepCall::Filter(f) => query.filter(f),
-            StepCall::SelectMany(f) => query.select_many(f),
-            StepCall::TakeWhile(f) => query.take_while(f),
-            StepCall::SkipWhile(f) => query.skip_while(f),
-            StepCall::Take(n) => query.take(n),
-            StepCall::Skip(n) => query.skip(n),
+            StepCall::Operator(op) => query.with_op(op),
             StepCall::WithMerge(option) => query.with_merge(option),
             StepCall::WithDegree(n) => query.with_degree(n),
         }
@@ -65,24 +44,65 @@ pub(crate) fn call_of(version: Version, step: &Value) -> Option<StepCall>
     ensures { result ≡ call_of version (view step.now) }
 {
     let (name, items) = step.as_array()?.split_first()?;
-    call_named(step_named(version, name.as_str()?)?, items)
+    let call = call_named(name.as_str()?, items)?;
+    if has_step(version, call) {
+        Some(call)
+    } else {
+        None
+    }
 }
 
-fn call_named(name: StepName, items: &[Value]) -> Option<StepCall>
-    ensures { result ≡ call_named name (items_view items.now) }
+// The call of a step with this name and these items after it.
+fn call_named(name: &str, items: &[Value]) -> Option<StepCall>
+    ensures { result ≡ call_named (items_view items.now) name.now }
 {
-    match name {
-        StepName::AsOrdered => call_alone(StepCall::AsOrdered, items),
-        StepName::AsUnordered => call_alone(StepCall::AsUnordered, items),
-        StepName::Select => Some(StepCall::Select(formula_of(items)?)),
-        StepName::Filter => Some(StepCall::Filter(formula_of(items)?)),
-        StepName::SelectMany => Some(StepCall::SelectMany(formula_of(items)?)),
-        StepName::TakeWhile => Some(StepCall::TakeWhile(formula_of(items)?)),
-        StepName::SkipWhile => Some(StepCall::SkipWhile(formula_of(items)?)),
-        StepName::Take => Some(StepCall::Take(only_whole_number(items)?)),
-        StepName::Skip => Some(StepCall::Skip(only_whole_number(items)?)),
-        StepName::WithMerge => Some(StepCall::WithMerge(merge_word(only_item(items)?.as_str()?)?)),
-        StepName::WithDegree => Some(StepCall::WithDegree(only_count(items)?)),
+    match op_from(name, items) {
+        Some(op) => Some(StepCall::Operator(op)),
+        None => setting_from(name, items),
+    }
+}
+
+// The operator of this name with these items after it.
+fn op_from(name: &str, items: &[Value]) -> Option<Op<Formula>>
+    ensures { result ≡ op_from name.now (items_view items.now) }
+{
+    Op::named(name, argument_of(items)?)
+}
+
+// What stands after a step's name, if an operator can have it.
+fn argument_of(items: &[Value]) -> Option<Argument>
+    ensures { result ≡ argument_of (items_view items.now) }
+{
+    match items.split_first() {
+        None => Some(Argument::Nothing),
+        Some(_) => match only_whole_number(items) {
+            Some(n) => Some(Argument::Number(n)),
+            None => formula_of(items).map(Argument::Formula),
+        },
+    }
+}
+
+// Whether a version has a step.
+fn has_step(version: Version, call: StepCall) -> bool
+    ensures { result ≡ has_step version call }
+{
+    match (version, call) {
+        (Version::One, StepCall::Operator(Op::SkipWhile(_))) => false,
+        (_, _) => true,
+    }
+}
+
+// The setting of this name with these items after it.
+fn setting_from(name: &str, items: &[Value]) -> Option<StepCall>
+    ensures { result ≡ setting_from name.now (items_view items.now) }
+{
+    match setting_named(name)? {
+        SettingName::AsOrdered => call_alone(StepCall::AsOrdered, items),
+        SettingName::WithMerge => {
+            let word = only_item(items)?.as_str()?;
+            Some(StepCall::WithMerge(MergeOption::named(word)?))
+        }
+        SettingName::WithDegree => Some(StepCall::WithDegree(only_count(items)?)),
     }
 }
 
@@ -92,18 +112,5 @@ fn call_alone(call: StepCall, items: &[Value]) -> Option<StepCall>
     match items.split_first() {
         None => Some(call),
         Some(_) => None,
-    }
-}
-
-/// The merge option of this word, if there is one.
-pub fn merge_word(word: &str) -> Option<MergeOption>
-    ensures { result ≡ merge_word word.now }
-{
-    match word {
-        "not" => Some(MergeOption::NotBuffered),
-        "auto" => Some(MergeOption::AutoBuffered),
-        "full" => Some(MergeOption::FullyBuffered),
-        "default" => Some(MergeOption::Default),
-        _ => None,
     }
 }

@@ -1,2 +1,3 @@
 mod Near
 mod SoFar
+pub mod Words

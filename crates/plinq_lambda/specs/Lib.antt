@@ -4,3 +4,5 @@ pub mod Block
 pub mod Short
 pub mod FaultRows
 pub mod Sums
+pub mod Named
+pub mod FormulaWords

@@ -4,10 +4,12 @@ use Rattle.std.specs.List.{flat_map}
 use Rattle.std.specs.Fmt.{digits}
 use Rattle.plinq_lambda.specs.declared.formula.Formula.{Formula}
 use Rattle.plinq_lambda.specs.declared.formula.Formula.TheVariants.{Add, Mul, Mod, Into, Below, Above, Equal, Even, Repeat, UpTo}
+use Rattle.plinq_lambda.specs.FormulaWords.{formula_name, formula_number}
+use Rattle.plinq_ops.specs.declared.argument.Argument.{Argument}
+use Rattle.plinq_ops.specs.declared.argument.Argument.TheVariants.{Nothing, Formula as FormulaArgument, Number}
 use Rattle.plinq_ops.specs.declared.op.Op.{Op}
 use Rattle.plinq_ops.specs.declared.op.Op.TheVariants.{Select, Filter, SelectMany, Take, Skip, TakeWhile, SkipWhile, AsUnordered}
-use Rattle.plinq_lines.specs.declared.argument.Argument.{Argument}
-use Rattle.plinq_lines.specs.declared.argument.Argument.TheVariants.{Nothing, Formula as FormulaArgument, Number}
+use Rattle.plinq_ops.specs.Operator.{op_name, op_argument}
 use Rattle.plinq_lines.specs.Text.{further_number}
 
 -- a name, and the number after it if there is one
@@ -15,55 +17,11 @@ abbrev pub name_words : List ℕ → Option ℤ → List ℕ
 name_words name None = name
 name_words name (Some n) = name ++ further_number n
 
-abbrev pub formula_name : Formula → List ℕ
-formula_name (Add c) = codes "add"
-formula_name (Mul c) = codes "mul"
-formula_name (Mod c) = codes "mod"
-formula_name (Into c) = codes "into"
-formula_name (Below c) = codes "below"
-formula_name (Above c) = codes "above"
-formula_name (Equal c) = codes "equal"
-formula_name Even = codes "even"
-formula_name (Repeat c) = codes "repeat"
-formula_name UpTo = codes "up_to"
-
-abbrev pub formula_number : Formula → Option ℤ
-formula_number (Add c) = Some c
-formula_number (Mul c) = Some c
-formula_number (Mod c) = Some c
-formula_number (Into c) = Some c
-formula_number (Below c) = Some c
-formula_number (Above c) = Some c
-formula_number (Equal c) = Some c
-formula_number Even = None
-formula_number (Repeat c) = Some c
-formula_number UpTo = None
-
 -- the words of a formula: a space, its name, and its number if it has one
 abbrev pub formula_words : Formula → List ℕ
 formula_words f = 32 ∷ name_words (formula_name f) (formula_number f)
 
-abbrev pub op_name : Op Formula → List ℕ
-op_name (Select f) = codes "select"
-op_name (Filter f) = codes "filter"
-op_name (SelectMany f) = codes "select_many"
-op_name (Take n) = codes "take"
-op_name (Skip n) = codes "skip"
-op_name (TakeWhile f) = codes "take_while"
-op_name (SkipWhile f) = codes "skip_while"
-op_name AsUnordered = codes "as_unordered"
-
 -- what stands after an operator's name
-abbrev pub op_argument : Op Formula → Argument
-op_argument (Select f) = FormulaArgument f
-op_argument (Filter f) = FormulaArgument f
-op_argument (SelectMany f) = FormulaArgument f
-op_argument (Take n) = Number n
-op_argument (Skip n) = Number n
-op_argument (TakeWhile f) = FormulaArgument f
-op_argument (SkipWhile f) = FormulaArgument f
-op_argument AsUnordered = Nothing
-
 abbrev pub argument_words : Argument → List ℕ
 argument_words Nothing = []
 argument_words (FormulaArgument f) = formula_words f

@@ -4,21 +4,15 @@ use Rattle.std.specs.Fmt.{digits}
 use Rattle.plinq_lambda.specs.declared.formula.Formula.{Formula}
 use Rattle.plinq_lambda.specs.declared.formula.Formula.TheVariants.{Add, Even}
 use Rattle.plinq_ops.specs.declared.merge_option.MergeOption.{MergeOption}
-use Rattle.plinq_ops.specs.declared.merge_option.MergeOption.TheVariants.{Default, NotBuffered, AutoBuffered, FullyBuffered}
+use Rattle.plinq_ops.specs.declared.merge_option.MergeOption.TheVariants.{NotBuffered}
 use Rattle.plinq_ops.specs.declared.op.Op.TheVariants.{Select, Filter, Take}
 use Rattle.plinq_ops.specs.declared.order.Order.{Order}
 use Rattle.plinq_ops.specs.declared.order.Order.TheVariants.{ByKey, ByArrival}
 use Rattle.plinq_ops.specs.Query.{QueryView, empty_query, merge_in_force, degree_in_force}
+use Rattle.plinq_ops.specs.MergeWords.{merge_name}
 use Rattle.plinq_ops.specs.Plan.{worker_part, after_part, order_of}
 use Rattle.plinq_lines.specs.Text.{line}
 use Rattle.plinq_lines.specs.OpWords.{part_words}
-
--- a merge option in force by its word
-abbrev pub merge_name : MergeOption → List ℕ
-merge_name Default = codes "auto"
-merge_name NotBuffered = codes "not"
-merge_name AutoBuffered = codes "auto"
-merge_name FullyBuffered = codes "full"
 
 abbrev pub order_name : Order → List ℕ
 order_name ByKey = codes "key"

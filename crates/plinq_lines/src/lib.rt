@@ -15,7 +15,6 @@
 
 mod aggregate_lines;
 mod answer_lines;
-mod argument;
 mod batch_lines;
 mod bytes;
 mod history_lines;

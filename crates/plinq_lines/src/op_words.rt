@@ -1,15 +1,14 @@
 ghost use Rattle.std.specs.Prelude.{◌≡◌, ◌++◌};
 ghost use Rattle.std.specs.List.{flat_map};
-ghost use Rattle.plinq_lines.specs.OpWords.{formula_name, formula_number, formula_words, op_name, op_argument, op_words, further_op, part_words};
+ghost use Rattle.plinq_lines.specs.OpWords.{formula_words, op_words, further_op, part_words};
 ghost use Rattle.plinq_lines.specs.Text.{line};
 ghost use Rattle.plinq_lines.specs.Written.{Writes};
 
-use crate::argument::Argument;
 use crate::piece::Piece;
 use crate::pieces::write_pieces;
 use crate::write_fault::WriteFault;
-use plinq_lambda::Formula;
-use plinq_ops::Op;
+use plinq_lambda::{Formula, Named};
+use plinq_ops::{Argument, Op};
 use std::io::Write;
 
 /// Writes a line of this name and of operators in order, or `none`.
@@ -43,8 +42,8 @@ fn write_further_ops<W: Write>(writer: &mut W, further: &[Op<Formula>]) -> Resul
 fn write_op<W: Write>(writer: &mut W, before: &str, op: &Op<Formula>) -> Result<(), WriteFault>
     ensures { Writes (W.contents writer.old) (W.contents writer.new) result (before.now ++ op_words op.now) }
 {
-    let name = op_name(op);
-    match op_argument(op) {
+    let name = op.name();
+    match op.argument() {
         Argument::Nothing => write_pieces(writer, &[Piece::Text(before), Piece::Text(name)]),
         Argument::Number(n) => write_pieces(
             writer,
@@ -67,8 +66,8 @@ fn write_call<'a, W: Write>(
 ) -> Result<(), WriteFault>
     ensures { Writes (W.contents writer.old) (W.contents writer.new) result (before.now ++ (name.now ++ formula_words f)) }
 {
-    let formula = formula_name(f);
-    match formula_number(f) {
+    let formula = f.name();
+    match f.number() {
         None => write_pieces(
             writer,
             &[
@@ -89,64 +88,5 @@ fn write_call<'a, W: Write>(
                 Piece::Number(c),
             ],
         ),
-    }
-}
-
-fn op_name(op: &Op<Formula>) -> &'static str
-    ensures { result.now ≡ op_name op.now }
-{
-    match op {
-        Op::Select(_) => "select",
-        Op::Filter(_) => "filter",
-        Op::SelectMany(_) => "select_many",
-        Op::Take(_) => "take",
-        Op::Skip(_) => "skip",
-        Op::TakeWhile(_) => "take_while",
-        Op::SkipWhile(_) => "skip_while",
-        Op::AsUnordered => "as_unordered",
-    }
-}
-
-fn op_argument(op: &Op<Formula>) -> Argument
-    ensures { result ≡ op_argument op.now }
-{
-    match op {
-        Op::Select(f) | Op::Filter(f) | Op::SelectMany(f) | Op::TakeWhile(f) | Op::SkipWhile(f) =>
-            Argument::Formula(*f),
-        Op::Take(n) | Op::Skip(n) => Argument::Number(*n),
-        Op::AsUnordered => Argument::Nothing,
-    }
-}
-
-fn formula_name(f: Formula) -> &'static str
-    ensures { result.now ≡ formula_name f }
-{
-    match f {
-        Formula::Add(_) => "add",
-        Formula::Mul(_) => "mul",
-        Formula::Mod(_) => "mod",
-        Formula::Into(_) => "into",
-        Formula::Below(_) => "below",
-        Formula::Above(_) => "above",
-        Formula::Equal(_) => "equal",
-        Formula::Even => "even",
-        Formula::Repeat(_) => "repeat",
-        Formula::UpTo => "up_to",
-    }
-}
-
-fn formula_number(f: Formula) -> Option<i64>
-    ensures { result ≡ formula_number f }
-{
-    match f {
-        Formula::Add(c)
-        | Formula::Mul(c)
-        | Formula::Mod(c)
-        | Formula::Into(c)
-        | Formula::Below(c)
-        | Formula::Above(c)
-        | Formula::Equal(c)
-        | Formula::Repeat(c) => Some(c),
-        Formula::Even | Formula::UpTo => None,
     }
 }

@@ -1,12 +1,12 @@
 ghost use Rattle.std.specs.Prelude.{◌≡◌};
-ghost use Rattle.plinq_lines.specs.PlanText.{merge_name, order_name, settings_text, plan_text};
+ghost use Rattle.plinq_lines.specs.PlanText.{order_name, settings_text, plan_text};
 ghost use Rattle.plinq_lines.specs.Written.{Writes};
 
 use crate::op_words::write_part;
 use crate::piece::Piece;
 use crate::pieces::write_pieces;
 use crate::write_fault::WriteFault;
-use plinq_lambda::Formula;
+use plinq_lambda::{Formula, Named};
 use plinq_ops::{MergeOption, Order, Query};
 use std::io::Write;
 
@@ -47,22 +47,12 @@ fn write_settings<W: Write>(
             Piece::Text("workers "),
             Piece::Count(degree),
             Piece::Text("\nmerge "),
-            Piece::Text(merge_name(option)),
+            Piece::Text(option.name()),
             Piece::Text("\norder "),
             Piece::Text(order_name(order)),
             Piece::Text("\n"),
         ],
     )
-}
-
-fn merge_name(option: MergeOption) -> &'static str
-    ensures { result.now ≡ merge_name option }
-{
-    match option {
-        MergeOption::NotBuffered => "not",
-        MergeOption::AutoBuffered | MergeOption::Default => "auto",
-        MergeOption::FullyBuffered => "full",
-    }
 }
 
 fn order_name(order: Order) -> &'static str

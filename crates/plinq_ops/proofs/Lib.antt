@@ -20,3 +20,4 @@ pub mod Keyless
 pub mod Cut
 pub mod Rows
 pub mod Histories
+pub mod MergeWords

@@ -6,12 +6,16 @@ use Rattle.plinq_source.specs.declared.ending.Ending.{Ending}
 use Rattle.plinq_source.specs.declared.ending.Ending.TheVariants.{End}
 use Rattle.plinq_source.specs.Trace.{Trace, ended, continued}
 use Rattle.plinq_lambda.specs.Meaning.{Meaning}
+use Rattle.plinq_lambda.specs.declared.formula.Formula.{Formula}
+use Rattle.plinq_lambda.proofs.Words.{Each, first_named-has}
+use Rattle.plinq_ops.specs.declared.argument.Argument.{Argument}
+use Rattle.plinq_ops.specs.declared.argument.Argument.TheVariants.{Nothing as NoArgument, Formula as FormulaArgument, Number}
 use Rattle.plinq_ops.specs.declared.op.Op.{Op}
 use Rattle.plinq_ops.specs.declared.op.Op.TheVariants.{Select, Filter, SelectMany, Take, Skip, TakeWhile, SkipWhile, AsUnordered}
 use Rattle.plinq_ops.specs.declared.known.Known.TheVariants.{Nothing}
 use Rattle.plinq_ops.specs.SkipWhile.{skipped_from, skipped_while}
 use Rattle.plinq_ops.specs.Stage.{joined, apply, takes_none}
-use Rattle.plinq_ops.specs.Operator.{selected, filtered, selected_many, taken_while, stage_of, counted_off, stage_left}
+use Rattle.plinq_ops.specs.Operator.{selected, filtered, selected_many, taken_while, stage_of, counted_off, stage_left, op_name, op_argument, ops_of, op_named}
 use Rattle.plinq_ops.specs.Feeding.{is_empty_take}
 use Rattle.plinq_ops.specs.ByKey.{can_apply}
 use Rattle.plinq_ops.specs.Fragment.{apply_at}
@@ -105,3 +109,23 @@ apply_at-keyless meaning (Skip n) p q t keyless = absurd (let bad : false ≡ tr
 apply_at-keyless meaning (TakeWhile f) p q t keyless = refl
 apply_at-keyless meaning (SkipWhile f) p q t keyless = refl
 apply_at-keyless meaning AsUnordered p q t keyless = refl
+
+-- ---- words
+
+pub op_named-own : (op : Op Formula) → op_named (op_argument op) (op_name op) ≡ Some op
+op_named-own (Select f) = refl
+op_named-own (Filter f) = refl
+op_named-own (SelectMany f) = refl
+op_named-own (Take n) = refl
+op_named-own (Skip n) = refl
+op_named-own (TakeWhile f) = refl
+op_named-own (SkipWhile f) = refl
+op_named-own AsUnordered = refl
+
+ops_of-argument : (argument : Argument) → Each (λ op. argument ≡ op_argument op) (ops_of argument)
+ops_of-argument NoArgument = (refl, tt)
+ops_of-argument (Number n) = (refl, (refl, tt))
+ops_of-argument (FormulaArgument f) = (refl, (refl, (refl, (refl, (refl, tt)))))
+
+pub op_named-has : (argument : Argument) (word : List ℕ) (op : Op Formula) → op_named argument word ≡ Some op → (word ≡ op_name op) × (argument ≡ op_argument op)
+op_named-has argument word op is = first_named-has (λ o. argument ≡ op_argument o) op_name (ops_of argument) word op (ops_of-argument argument) is

@@ -11,7 +11,8 @@ use Rattle.plinq_lambda.specs.Meaning.{Meaning}
 use Rattle.plinq_ops.specs.declared.remaining.Remaining.{Remaining}
 use Rattle.plinq_ops.specs.Stage.{Stage, apply, stage_after, takes_none, some_takes_none}
 use Rattle.plinq_ops.specs.Feeding.{IsFed}
-use Rattle.plinq_ops.specs.Pipeline.{stage_now, stages_now}
+use Rattle.plinq_ops.specs.Operator.{stage_now}
+use Rattle.plinq_ops.specs.Pipeline.{stages_now}
 use Rattle.plinq_ops.proofs.Fed.{fed-through, fed-told, fed-none, fed-ending}
 
 -- an item x that has become y on its way through the first i operators, which are as in `now`: whatever the rest makes of y,

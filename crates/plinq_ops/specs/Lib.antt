@@ -15,3 +15,4 @@ pub mod Cut
 pub mod Row
 pub mod Chunk
 pub mod AnswerRows
+pub mod MergeWords

@@ -1,12 +1,18 @@
 -- The operators of a query, by what they do to a trace.
-use Rattle.std.specs.Prelude.{◌≡◌, refl, zero, suc, nat_lt, replicate, ℕ, ℤ, pos, negsuc, List, [], ◌∷◌, Bool, true, false, Option, Some, None, Result, Ok, Err, map}
+use Rattle.std.specs.Prelude.{◌≡◌, refl, zero, suc, nat_lt, replicate, ℕ, ℤ, pos, negsuc, List, [], ◌∷◌, Bool, true, false, Option, Some, None, Result, Ok, Err, map, codes}
 use Rattle.plinq_source.specs.declared.ending.Ending.TheVariants.{End, Refused, Fault}
 use Rattle.plinq_source.specs.Trace.{Trace, open_trace, ended}
 use Rattle.plinq_lambda.specs.Meaning.{Meaning}
+use Rattle.plinq_lambda.specs.declared.formula.Formula.{Formula}
+use Rattle.plinq_lambda.specs.Named.{first_named}
+use Rattle.plinq_ops.specs.declared.argument.Argument.{Argument}
+use Rattle.plinq_ops.specs.declared.argument.Argument.TheVariants.{Nothing as NoArgument, Formula as FormulaArgument, Number}
 use Rattle.plinq_ops.specs.declared.op.Op.{Op}
 use Rattle.plinq_ops.specs.declared.op.Op.TheVariants.{Select, Filter, SelectMany, Take, Skip, TakeWhile, SkipWhile, AsUnordered}
 use Rattle.plinq_ops.specs.declared.known.Known.{Known}
 use Rattle.plinq_ops.specs.declared.known.Known.TheVariants.{Nothing, Key, Position}
+use Rattle.plinq_ops.specs.declared.remaining.Remaining.{Remaining}
+use Rattle.plinq_ops.specs.declared.remaining.Remaining.TheVariants.{Mapping, Filtering, Expanding, Taking, Skipping, TakingWhile, SkippingWhile, Unchanged}
 use Rattle.plinq_ops.specs.Stage.{Stage, pieces, taking, skipping, skipping_while, unchanged, apply}
 
 -- Select: the mapped item; a fault ends the answer
@@ -50,6 +56,17 @@ stage_of meaning AsUnordered = unchanged
 abbrev pub stages_of : {L T : Type 0} → (L → Meaning T) → List (Op L) → List (Stage T)
 stages_of meaning ops = map (stage_of meaning) ops
 
+-- what an operator does that some items may have reached
+abbrev pub stage_now : {L T : Type 0} → (L → Meaning T) → Remaining L → Stage T
+stage_now meaning (Mapping f) = stage_of meaning (Select f.now)
+stage_now meaning (Filtering f) = stage_of meaning (Filter f.now)
+stage_now meaning (Expanding f) = stage_of meaning (SelectMany f.now)
+stage_now meaning (Taking n) = taking n
+stage_now meaning (Skipping n) = skipping n
+stage_now meaning (TakingWhile f) = stage_of meaning (TakeWhile f.now)
+stage_now meaning (SkippingWhile f) = stage_of meaning (SkipWhile f.now)
+stage_now meaning Unchanged = unchanged
+
 -- how many items a Take or a Skip counts off; the others count none
 abbrev pub counted_off : {L : Type 0} → Op L → ℕ
 counted_off (Take n) = item_count n
@@ -80,6 +97,41 @@ abbrev pub keeps_count : {L : Type 0} → Op L → Bool
 keeps_count (Filter f) = false
 keeps_count (SelectMany f) = false
 keeps_count op = true
+
+-- ---- words: how a document and a plan name operators over formulas
+
+abbrev pub op_name : Op Formula → List ℕ
+op_name (Select f) = codes "select"
+op_name (Filter f) = codes "filter"
+op_name (SelectMany f) = codes "select_many"
+op_name (Take n) = codes "take"
+op_name (Skip n) = codes "skip"
+op_name (TakeWhile f) = codes "take_while"
+op_name (SkipWhile f) = codes "skip_while"
+op_name AsUnordered = codes "as_unordered"
+
+-- what stands after the name
+abbrev pub op_argument : Op Formula → Argument
+op_argument (Select f) = FormulaArgument f
+op_argument (Filter f) = FormulaArgument f
+op_argument (SelectMany f) = FormulaArgument f
+op_argument (Take n) = Number n
+op_argument (Skip n) = Number n
+op_argument (TakeWhile f) = FormulaArgument f
+op_argument (SkipWhile f) = FormulaArgument f
+op_argument AsUnordered = NoArgument
+
+-- the operators after whose names this stands
+abbrev pub ops_of : Argument → List (Op Formula)
+ops_of NoArgument = AsUnordered ∷ []
+ops_of (Number n) = Take n ∷ Skip n ∷ []
+ops_of (FormulaArgument f) = Select f ∷ Filter f ∷ SelectMany f ∷ TakeWhile f ∷ SkipWhile f ∷ []
+
+-- the operator with this after its name
+abbrev pub op_named : Argument → List ℕ → Option (Op Formula)
+op_named argument = first_named op_name (ops_of argument)
+
+-- ---- rows
 
 abbrev less_one : ℕ → Result ℕ ℕ
 less_one zero = Err 1
@@ -138,3 +190,6 @@ skip_while_faults = refl
 
 negative_take : example_stage (Take (negsuc 0)) ≡ taking 0
 negative_take = refl
+
+a_number_is_no_formula : op_named (Number (pos 5)) (codes "select") ≡ None
+a_number_is_no_formula = refl

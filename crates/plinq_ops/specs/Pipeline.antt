@@ -2,23 +2,10 @@
 use Rattle.std.specs.Prelude.{◌≡◌, ℕ, List, map}
 use Rattle.plinq_lambda.specs.Meaning.{Meaning}
 use Rattle.plinq_ops.specs.declared.op.Op.{Op}
-use Rattle.plinq_ops.specs.declared.op.Op.TheVariants.{Select, Filter, SelectMany, TakeWhile, SkipWhile}
 use Rattle.plinq_ops.specs.declared.remaining.Remaining.{Remaining}
-use Rattle.plinq_ops.specs.declared.remaining.Remaining.TheVariants.{Mapping, Filtering, Expanding, Taking, Skipping, TakingWhile, SkippingWhile, Unchanged}
-use Rattle.plinq_ops.specs.Stage.{Stage, taking, skipping, unchanged}
-use Rattle.plinq_ops.specs.Operator.{stage_of}
+use Rattle.plinq_ops.specs.Stage.{Stage}
+use Rattle.plinq_ops.specs.Operator.{stage_now}
 use Rattle.plinq_ops.specs.ByKey.{stages_at}
-
--- what an operator still does
-abbrev pub stage_now : {L T : Type 0} → (L → Meaning T) → Remaining L → Stage T
-stage_now meaning (Mapping f) = stage_of meaning (Select f.now)
-stage_now meaning (Filtering f) = stage_of meaning (Filter f.now)
-stage_now meaning (Expanding f) = stage_of meaning (SelectMany f.now)
-stage_now meaning (Taking n) = taking n
-stage_now meaning (Skipping n) = skipping n
-stage_now meaning (TakingWhile f) = stage_of meaning (TakeWhile f.now)
-stage_now meaning (SkippingWhile f) = stage_of meaning (SkipWhile f.now)
-stage_now meaning Unchanged = unchanged
 
 abbrev pub stages_now : {L T : Type 0} → (L → Meaning T) → List (Remaining L) → List (Stage T)
 stages_now meaning ops = map (stage_now meaning) ops

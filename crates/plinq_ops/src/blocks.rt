@@ -1,52 +1,17 @@
-ghost use Rattle.std.specs.Prelude.{◌≡◌, ◌≤◌, false, length, take, drop};
+//! What operators do to a block of items.
+ghost use Rattle.std.specs.Prelude.{◌≡◌, ◌≤◌, length, take, drop};
 ghost use Rattle.plinq_source.specs.Trace.{open_trace};
 ghost use Rattle.plinq_lambda.specs.Block.{mapped_block, filtered_block};
 ghost use Rattle.plinq_ops.specs.declared.op.Op.TheVariants.{Select, Filter, TakeWhile};
-ghost use Rattle.plinq_ops.specs.Stage.{apply, stage_after, takes_none, taking, skipping};
+ghost use Rattle.plinq_ops.specs.Stage.{apply, stage_after, taking, skipping};
 ghost use Rattle.plinq_ops.specs.Operator.{stage_of};
-ghost use Rattle.plinq_ops.specs.Passing.{ending_of, expands};
-ghost use Rattle.plinq_ops.specs.Pipeline.{stage_now};
+ghost use Rattle.plinq_ops.specs.Passing.{ending_of};
 
-use crate::remaining::Remaining;
-use crate::skip_while::skip_while;
 use plinq_lambda::Lambda;
 use plinq_source::Ending;
 
-/// Sends a block of items through one operator but SelectMany; the results take its place. Answers how the run ended.
-/// Takes no memory.
-pub(crate) fn pass_block<L: Lambda>(
-    op: &mut Remaining<'_, L>,
-    block: &mut Vec<L::Item>,
-) -> Option<Ending>
-    requires in_place { expands op.old ≡ false }
-    requires takes_some { takes_none (stage_now L.meaning op.old) ≡ false }
-    ensures passed { record { items = block.new.items; ending = result }
-        ≡ apply (stage_now L.meaning op.old) (open_trace block.old.items) }
-    ensures left { stage_now L.meaning op.new ≡ stage_after (stage_now L.meaning op.old) block.old.items }
-{
-    match op {
-        Remaining::Mapping(f) => select(*f, block),
-        Remaining::Filtering(f) => filter(*f, block),
-        Remaining::Expanding(_) => unreachable!(),
-        Remaining::Taking(left) => take(left, block),
-        Remaining::Skipping(left) => {
-            skip(left, block);
-            None
-        }
-        Remaining::TakingWhile(f) => take_while(*f, block),
-        Remaining::SkippingWhile(f) => {
-            let (all_pass, ending) = skip_while(*f, block);
-            if !all_pass {
-                *op = Remaining::Unchanged;
-            }
-            ending
-        }
-        Remaining::Unchanged => None,
-    }
-}
-
 /// Maps the items, up to the first that faults.
-fn select<L: Lambda>(f: &L, block: &mut Vec<L::Item>) -> Option<Ending>
+pub(crate) fn select<L: Lambda>(f: &L, block: &mut Vec<L::Item>) -> Option<Ending>
     ensures { record { items = block.new.items; ending = result }
         ≡ apply (stage_of L.meaning (Select f.now)) (open_trace block.old.items) }
 {
@@ -65,7 +30,7 @@ fn map_items<L: Lambda>(f: &L, block: &mut Vec<L::Item>) -> (usize, Option<u32>)
 }
 
 /// Keeps the items that pass, up to the first that faults.
-fn filter<L: Lambda>(f: &L, block: &mut Vec<L::Item>) -> Option<Ending>
+pub(crate) fn filter<L: Lambda>(f: &L, block: &mut Vec<L::Item>) -> Option<Ending>
     ensures { record { items = block.new.items; ending = result }
         ≡ apply (stage_of L.meaning (Filter f.now)) (open_trace block.old.items) }
 {
@@ -94,7 +59,7 @@ fn ending_of(fault: Option<u32>) -> Option<Ending>
 }
 
 /// Keeps the first `count` items; after the last of them the run ends.
-fn take<T: Copy>(count: &mut u64, block: &mut Vec<T>) -> Option<Ending>
+pub(crate) fn take<T: Copy>(count: &mut u64, block: &mut Vec<T>) -> Option<Ending>
     ensures passed { record { items = block.new.items; ending = result }
         ≡ apply (taking count.old) (open_trace block.old.items) }
     ensures left { taking count.new ≡ stage_after (taking count.old) block.old.items }
@@ -127,7 +92,7 @@ pub(crate) fn skip<T: Copy>(count: &mut u64, block: &mut Vec<T>)
 }
 
 /// Keeps the items before the first that fails or faults.
-fn take_while<L: Lambda>(f: &L, block: &mut Vec<L::Item>) -> Option<Ending>
+pub(crate) fn take_while<L: Lambda>(f: &L, block: &mut Vec<L::Item>) -> Option<Ending>
     ensures { record { items = block.new.items; ending = result }
         ≡ apply (stage_of L.meaning (TakeWhile f.now)) (open_trace block.old.items) }
 {

@@ -6,9 +6,8 @@ ghost use Rattle.plinq_ops.specs.Operator.{stage_of};
 ghost use Rattle.plinq_ops.specs.Feeding.{IsFed};
 ghost use Rattle.plinq_ops.specs.Pipeline.{stages_now};
 
-use crate::blocks::pass_block;
-use crate::passing::{Passed, pass};
-use crate::remaining::Remaining;
+use crate::passing::Passed;
+use crate::remaining::{Remaining, pass, pass_block};
 use plinq_lambda::{ExpandFault, Lambda};
 use plinq_source::{Ending, OutOfMemory};
 use std::alloc::Global;

@@ -6,16 +6,20 @@ ghost use Rattle.std.specs.List.{list_any, list_all, Contains};
 ghost use Rattle.plinq_source.specs.declared.ending.Ending.{Ending};
 ghost use Rattle.plinq_source.specs.Trace.{Trace, open_trace, followed};
 ghost use Rattle.plinq_lambda.specs.Meaning.{Meaning};
+ghost use Rattle.plinq_lambda.specs.declared.formula.Formula.{Formula};
 ghost use Rattle.plinq_keyed.specs.declared.chunk.Chunk.{Chunk};
 ghost use Rattle.plinq_keyed.specs.declared.record.Record.{Record};
 ghost use Rattle.plinq_keyed.specs.Keys.{is_among};
 ghost use Rattle.plinq_keyed.specs.History.{IsLegalHistory, given_by};
+ghost use Rattle.plinq_ops.specs.declared.argument.Argument.{Argument};
 ghost use Rattle.plinq_ops.specs.declared.op.Op.{Op};
 ghost use Rattle.plinq_ops.specs.declared.order.Order.{Order};
 ghost use Rattle.plinq_ops.specs.declared.merge_option.MergeOption.{MergeOption};
 ghost use Rattle.plinq_ops.specs.declared.frag_end.FragEnd.TheVariants.{Dropped};
 ghost use Rattle.plinq_ops.specs.declared.results.ChunkResult.{ChunkResult};
 ghost use Rattle.plinq_ops.specs.Stage.{Stage, seq, seq_after};
+ghost use Rattle.plinq_ops.specs.Operator.{op_name, op_argument, op_named};
+ghost use Rattle.plinq_ops.specs.MergeWords.{merge_name, merge_named};
 ghost use Rattle.plinq_ops.specs.Feeding.{is_empty_take};
 ghost use Rattle.plinq_ops.specs.Sequential.{answer_of};
 ghost use Rattle.plinq_ops.specs.Batches.{batch_size, batches, batches_from, held_back};
@@ -143,4 +147,17 @@ pub fn sequential_is_an_answer<L, T>()
 pub fn ordered_query_has_one_answer<L, T>()
     ensures { (meaning : L → Meaning T) (ops : List (Op L)) (t u : Trace T) → list_all keeps_order ops ≡ true →
         Answer meaning true ops t u → u ≡ answer_of meaning ops t }
+{}
+
+/// An operator is found by its name with what stands after it, and by no other.
+pub fn an_operator_is_found_by_its_words()
+    ensures found { (op : Op Formula) → op_named (op_argument op) (op_name op) ≡ Some op }
+    ensures alone { (argument : Argument) (word : List ℕ) (op : Op Formula) →
+        op_named argument word ≡ Some op → (word ≡ op_name op) × (argument ≡ op_argument op) }
+{}
+
+/// A merge option is found by its name, and by no other.
+pub fn a_merge_option_is_found_by_its_word()
+    ensures found { (option : MergeOption) → merge_named (merge_name option) ≡ Some option }
+    ensures alone { (word : List ℕ) (option : MergeOption) → merge_named word ≡ Some option → word ≡ merge_name option }
 {}

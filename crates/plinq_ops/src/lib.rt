@@ -10,6 +10,7 @@
 #![tactic(auto)]
 
 mod answering;
+mod argument;
 mod blocks;
 mod build_fault;
 mod chunking;
@@ -33,6 +34,7 @@ mod skip_while;
 mod splitting;
 
 pub use answering::sequential;
+pub use argument::Argument;
 pub use build_fault::BuildFault;
 pub use chunking::chunk_result;
 pub use cutting::fragment;

@@ -1,3 +1,8 @@
+ghost use Rattle.std.specs.Prelude.{◌≡◌};
+ghost use Rattle.plinq_ops.specs.MergeWords.{merge_name, merge_named};
+
+use plinq_lambda::{Named, first_named};
+
 /// How a query's results are handed over, after `ParallelMergeOptions` of .NET.
 #[derive(Clone, Copy, Debug, PartialEq, Eq)]
 pub enum MergeOption {
@@ -9,4 +14,39 @@ pub enum MergeOption {
     AutoBuffered,
     /// Nothing before all results are there, then all at once.
     FullyBuffered,
+}
+
+impl Named for MergeOption {
+    ghost word = { merge_name };
+
+    fn name(&self) -> &'static str {
+        match self {
+            MergeOption::Default => "default",
+            MergeOption::NotBuffered => "not",
+            MergeOption::AutoBuffered => "auto",
+            MergeOption::FullyBuffered => "full",
+        }
+    }
+}
+
+impl MergeOption {
+    /// The option of this name. Takes no memory.
+    ///
+    /// ```text
+    /// MergeOption::named("not")    // Some(MergeOption::NotBuffered)
+    /// MergeOption::named("none")   // None
+    /// ```
+    pub fn named(name: &str) -> Option<MergeOption>
+        ensures { result ≡ merge_named name.now }
+    {
+        first_named(
+            &[
+                MergeOption::NotBuffered,
+                MergeOption::AutoBuffered,
+                MergeOption::FullyBuffered,
+                MergeOption::Default,
+            ],
+            name,
+        )
+    }
 }

@@ -1,7 +1,9 @@
 ghost use Rattle.std.specs.Prelude.{◌≡◌};
-ghost use Rattle.plinq_ops.specs.Operator.{counted_off, needed, keeps_count};
+ghost use Rattle.plinq_ops.specs.Operator.{counted_off, needed, keeps_count, op_name, op_argument, op_named};
 
+use crate::argument::Argument;
 use crate::known::Known;
+use plinq_lambda::{Formula, Named, first_named};
 
 /// One operator of a query, over lambdas `L`.
 #[derive(Clone, Copy, Debug, PartialEq, Eq, Drop)]
@@ -52,5 +54,61 @@ impl<L> Op<L> {
         ensures { result ≡ keeps_count self.now }
     {
         !matches!(self, Op::Filter(_) | Op::SelectMany(_))
+    }
+}
+
+impl Named for Op<Formula> {
+    ghost word = { op_name };
+
+    fn name(&self) -> &'static str {
+        match self {
+            Op::Select(_) => "select",
+            Op::Filter(_) => "filter",
+            Op::SelectMany(_) => "select_many",
+            Op::Take(_) => "take",
+            Op::Skip(_) => "skip",
+            Op::TakeWhile(_) => "take_while",
+            Op::SkipWhile(_) => "skip_while",
+            Op::AsUnordered => "as_unordered",
+        }
+    }
+}
+
+impl Op<Formula> {
+    /// What stands after its name.
+    pub fn argument(self) -> Argument
+        ensures { result ≡ op_argument self }
+    {
+        match self {
+            Op::Select(f) | Op::Filter(f) | Op::SelectMany(f) => Argument::Formula(f),
+            Op::TakeWhile(f) | Op::SkipWhile(f) => Argument::Formula(f),
+            Op::Take(n) | Op::Skip(n) => Argument::Number(n),
+            Op::AsUnordered => Argument::Nothing,
+        }
+    }
+
+    /// The operator of this name, with this after it. Takes no memory.
+    ///
+    /// ```text
+    /// Op::named("take", Argument::Number(5))               // Some(Op::Take(5))
+    /// Op::named("take", Argument::Formula(Formula::Even))   // None
+    /// ```
+    pub fn named(name: &str, argument: Argument) -> Option<Op<Formula>>
+        ensures { result ≡ op_named argument name.now }
+    {
+        match argument {
+            Argument::Nothing => first_named(&[Op::AsUnordered], name),
+            Argument::Number(n) => first_named(&[Op::Take(n), Op::Skip(n)], name),
+            Argument::Formula(f) => first_named(
+                &[
+                    Op::Select(f),
+                    Op::Filter(f),
+                    Op::SelectMany(f),
+                    Op::TakeWhile(f),
+                    Op::SkipWhile(f),
+                ],
+                name,
+            ),
+        }
     }
 }

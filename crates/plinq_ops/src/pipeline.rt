@@ -3,7 +3,8 @@ ghost use Rattle.plinq_source.specs.Trace.{open_trace};
 ghost use Rattle.plinq_ops.specs.Stage.{takes_none, some_takes_none};
 ghost use Rattle.plinq_ops.specs.ByKey.{is_by_key};
 ghost use Rattle.plinq_ops.specs.Feeding.{IsFed};
-ghost use Rattle.plinq_ops.specs.Pipeline.{IsReached, stage_now, stages};
+ghost use Rattle.plinq_ops.specs.Operator.{stage_now};
+ghost use Rattle.plinq_ops.specs.Pipeline.{IsReached, stages};
 
 use crate::feeding;
 use crate::op::Op;

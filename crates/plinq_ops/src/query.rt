@@ -189,7 +189,12 @@ impl<L: Drop> Query<L> {
         Ok(self)
     }
 
-    fn with_op(mut self, op: Op<L>) -> Built<L>
+    /// Adds any operator, as the calls named for them do.
+    ///
+    /// # Errors
+    ///
+    /// [`BuildFault::Memory`] where there is no room for it; the query comes back unchanged.
+    pub fn with_op(mut self, op: Op<L>) -> Built<L>
         ensures { AddsOp self op result }
     {
         match self.ops.push(op) {

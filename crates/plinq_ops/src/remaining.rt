@@ -1,10 +1,16 @@
-ghost use Rattle.std.specs.Prelude.{◌≡◌, ◌-◌};
-ghost use Rattle.plinq_ops.specs.Operator.{counted_off, stage_left};
+ghost use Rattle.std.specs.Prelude.{◌≡◌, ◌-◌, false, ◌∷◌, []};
+ghost use Rattle.plinq_source.specs.Trace.{open_trace};
+ghost use Rattle.plinq_ops.specs.Stage.{apply, stage_after, takes_none};
+ghost use Rattle.plinq_ops.specs.Operator.{counted_off, stage_left, stage_now};
 ghost use Rattle.plinq_ops.specs.ByKey.{passed_on};
-ghost use Rattle.plinq_ops.specs.Pipeline.{stage_now};
+ghost use Rattle.plinq_ops.specs.Passing.{passed_trace, expands};
 
+use crate::blocks::{filter, select, skip, take, take_while};
 use crate::op::Op;
+use crate::passing::Passed;
+use crate::skip_while::skip_while;
 use plinq_lambda::Lambda;
+use plinq_source::Ending;
 
 /// What an operator still does, once some items have reached it.
 #[derive(Drop)]
@@ -52,5 +58,95 @@ pub(crate) fn passed_on<L>(op: &Op<L>, reached: u64) -> u64
     match op {
         Op::Skip(_) => reached.saturating_sub(op.counted_off()),
         _ => reached,
+    }
+}
+
+/// Sends one item through one operator but SelectMany; the result takes its place. Takes no memory.
+pub(crate) fn pass<L: Lambda>(op: &mut Remaining<'_, L>, item: &mut L::Item) -> Passed
+    requires in_place { expands op.old ≡ false }
+    requires takes_some { takes_none (stage_now L.meaning op.old) ≡ false }
+    ensures passed { passed_trace result item.new
+        ≡ apply (stage_now L.meaning op.old) (open_trace (item.old ∷ [])) }
+    ensures left { stage_now L.meaning op.new ≡ stage_after (stage_now L.meaning op.old) (item.old ∷ []) }
+{
+    match op {
+        Remaining::Mapping(f) => match f.map(*item) {
+            Ok(mapped) => {
+                *item = mapped;
+                Passed::Item
+            }
+            Err(code) => Passed::Ends(Ending::Fault(code)),
+        },
+        Remaining::Filtering(f) => match f.test(*item) {
+            Ok(true) => Passed::Item,
+            Ok(false) => Passed::Nothing,
+            Err(code) => Passed::Ends(Ending::Fault(code)),
+        },
+        Remaining::Expanding(_) => unreachable!(),
+        Remaining::Taking(left) => {
+            *left -= 1;
+            if *left == 0 {
+                Passed::Last
+            } else {
+                Passed::Item
+            }
+        }
+        Remaining::Skipping(left) => {
+            if *left == 0 {
+                return Passed::Item;
+            }
+            *left -= 1;
+            Passed::Nothing
+        }
+        Remaining::TakingWhile(f) => match f.test(*item) {
+            Ok(true) => Passed::Item,
+            Ok(false) => Passed::Ends(Ending::End),
+            Err(code) => Passed::Ends(Ending::Fault(code)),
+        },
+        Remaining::SkippingWhile(f) => match f.test(*item) {
+            Ok(true) => Passed::Nothing,
+            Ok(false) => {
+                *op = Remaining::Unchanged;
+                Passed::Item
+            }
+            Err(code) => {
+                *op = Remaining::Unchanged;
+                Passed::Ends(Ending::Fault(code))
+            }
+        },
+        Remaining::Unchanged => Passed::Item,
+    }
+}
+
+/// Sends a block of items through one operator but SelectMany; the results take its place. Answers how the run ended.
+/// Takes no memory.
+pub(crate) fn pass_block<L: Lambda>(
+    op: &mut Remaining<'_, L>,
+    block: &mut Vec<L::Item>,
+) -> Option<Ending>
+    requires in_place { expands op.old ≡ false }
+    requires takes_some { takes_none (stage_now L.meaning op.old) ≡ false }
+    ensures passed { record { items = block.new.items; ending = result }
+        ≡ apply (stage_now L.meaning op.old) (open_trace block.old.items) }
+    ensures left { stage_now L.meaning op.new ≡ stage_after (stage_now L.meaning op.old) block.old.items }
+{
+    match op {
+        Remaining::Mapping(f) => select(*f, block),
+        Remaining::Filtering(f) => filter(*f, block),
+        Remaining::Expanding(_) => unreachable!(),
+        Remaining::Taking(left) => take(left, block),
+        Remaining::Skipping(left) => {
+            skip(left, block);
+            None
+        }
+        Remaining::TakingWhile(f) => take_while(*f, block),
+        Remaining::SkippingWhile(f) => {
+            let (all_pass, ending) = skip_while(*f, block);
+            if !all_pass {
+                *op = Remaining::Unchanged;
+            }
+            ending
+        }
+        Remaining::Unchanged => None,
     }
 }

@@ -8,4 +8,4 @@ returns-in_err-get_str c =
     none ∙ merge_read c.args.options.now None (search rules)
 
 pub returns : goal.returns
-returns c = c.merge_word.ensures ∙ merge_read c.args.options.now (Some c.in_ok-get_str.field-0.now) (search rules)
+returns c = c.named.ensures ∙ merge_read c.args.options.now (Some c.in_ok-get_str.field-0.now) (search rules)

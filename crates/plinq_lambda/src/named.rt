@@ -1,0 +1,30 @@
+ghost use Rattle.std.specs.Prelude.{◌≡◌, ℕ, List};
+ghost use Rattle.plinq_lambda.specs.Named.{first_named};
+
+/// What has a name, by which documents and plans call it.
+pub trait Named: Copy {
+    ghost word: { Self → List ℕ };
+
+    /// Its name.
+    fn name(&self) -> &'static str
+        ensures { result.now ≡ word self.now };
+}
+
+/// The first of these that has this name. Takes no memory.
+///
+/// ```text
+/// first_named(&[Formula::Even, Formula::UpTo], "up_to")   // Some(Formula::UpTo)
+/// first_named(&[Formula::Even, Formula::UpTo], "upto")    // None
+/// ```
+pub fn first_named<T: Named>(all: &[T], name: &str) -> Option<T>
+    ensures { result ≡ first_named T.word all.now name.now }
+{
+    let mut rest = all;
+    while let Some((first, further)) = rest.split_first() {
+        if name == first.name() {
+            return Some(*first);
+        }
+        rest = further;
+    }
+    None
+}
