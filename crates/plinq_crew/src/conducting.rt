@@ -36,7 +36,8 @@ pub struct Returned<S: Source> {
     pub worker_count: WorkerCount,
 }
 
-/// Accepts what the workers send, until all have ended and nothing seems to be left in the queue.
+/// Accepts what the workers send, until all have ended and nothing seems to be left in the queue. Then the source is closed if
+/// the consumer is over, unless a worker's fault stands noted.
 fn accept_all<L, S, J, P, X, R>(
     rt: &R,
     crew: &Crew<'_, L, S, J, P>,

@@ -35,15 +35,15 @@ pub struct Progress {
 impl Progress {
     /// Nothing is merged yet, and workers may be so many keys above it, and so many items. So many of them are at work at first,
     /// and more the longer the caller's thread mostly waits for them.
-    pub fn new(keys: u64, items: u64, at_once: u64) -> Progress {
+    pub fn new(keys: u64, items: u64, at_first: u64) -> Progress {
         Progress {
             keys: Ahead::new(keys),
             items: Ahead::new(items),
             sent: AtomicU64::new(0),
             ended: AtomicU64::new(0),
             failed: AtomicBool::new(false),
-            at_once: AtomicU64::new(at_once),
-            at_first: at_once,
+            at_once: AtomicU64::new(at_first),
+            at_first,
             results: AtomicU64::new(0),
             lacks: AtomicU64::new(0),
             start: WaitQueue::new(),
