@@ -14,11 +14,11 @@ use Rattle.plinq_ops.specs.Operator.{op_name, op_argument, op_named}
 use Rattle.plinq_ops.proofs.Operators.{op_named-own, op_named-has}
 use Rattle.plinq_document.specs.Values.{only_whole_number, only_count, only_text}
 use Rattle.plinq_document.specs.Formulas.{formula_of, formula_from}
-use Rattle.plinq_document.specs.Steps.{argument_of, op_from, setting_named, setting_of, setting_from, call_alone, call_named, only_of, call_from}
+use Rattle.plinq_document.specs.Steps.{argument_of, op_from, other_step_named, other_call_of, other_call_from, call_alone, call_named, only_of, call_from}
 use Rattle.plinq_document.specs.Printed.{NumberItems, FormulaItems, ArgumentItems, OpItems, op_of_call}
 use Rattle.plinq_document.specs.declared.version.Version.TheVariants.{One, Two}
-use Rattle.plinq_document.specs.declared.setting_name.SettingName.{SettingName}
-use Rattle.plinq_document.specs.declared.setting_name.SettingName.TheVariants.{AsOrdered, WithMerge, WithDegree}
+use Rattle.plinq_document.specs.declared.other_step.OtherStep.{OtherStep}
+use Rattle.plinq_document.specs.declared.other_step.OtherStep.TheVariants.{AsOrdered, WithMerge, WithDegree}
 use Rattle.plinq_document.specs.declared.step_call.StepCall.{StepCall}
 use Rattle.plinq_document.specs.declared.step_call.StepCall.TheVariants as call
 
@@ -99,20 +99,20 @@ pub call_from-printed : (op : Op Formula) (ds : Items) → OpItems op ds → cal
 call_from-printed op no_items h = absurd h
 call_from-printed op (item word ds) h =
     ap (λ (w : Data). call_from Two (item w ds)) h.0
-    ∙ ap (λ o. option_and_then (only_of Two) (option_or (option_map call.Operator (option_and_then (λ a. op_named a (op_name op)) o)) (setting_from (op_name op) ds)))
+    ∙ ap (λ o. option_and_then (only_of Two) (option_or (option_map call.Operator (option_and_then (λ a. op_named a (op_name op)) o)) (other_call_from (op_name op) ds)))
     (argument_of-printed (op_argument op) ds h.1)
-    ∙ ap (λ o. option_and_then (only_of Two) (option_or (option_map call.Operator o) (setting_from (op_name op) ds))) (op_named-own op)
+    ∙ ap (λ o. option_and_then (only_of Two) (option_or (option_map call.Operator o) (other_call_from (op_name op) ds))) (op_named-own op)
 
 op_from-read : (word : List ℕ) (ds : Items) (op : Op Formula) → op_from word ds ≡ Some op → OpItems op (item (string word) ds)
 op_from-read word ds op is = go (argument_of ds) refl is
   where
-    go : (o : Option (Argument)) → argument_of ds ≡ o → option_and_then (λ a. op_named a word) o ≡ Some op → OpItems op (item (string word) ds)
+    go : (o : Option Argument) → argument_of ds ≡ o → option_and_then (λ a. op_named a word) o ≡ Some op → OpItems op (item (string word) ds)
     go None e found = cc
     go (Some a) e found =
         let has = op_named-has a word op found in
         (ap string has.0, argument_of-read (op_argument op) ds (e ∙ ap Some has.1))
 
--- ---- settings add no operator
+-- ---- other steps add no operator
 
 alone-no_op : (s : StepCall) (ds : Items) (c : StepCall) → op_of_call s ≡ None → call_alone s ds ≡ Some c → op_of_call c ≡ None
 alone-no_op s no_items c none is = let same : s ≡ c = cc in subst (λ (x : StepCall). op_of_call x ≡ None) same none
@@ -122,17 +122,17 @@ mapped-no_op : {A : Type 0} (make : A → StepCall) (o : Option A) (c : StepCall
 mapped-no_op make None c none is = cc
 mapped-no_op make (Some x) c none is = let same : make x ≡ c = cc in subst (λ (y : StepCall). op_of_call y ≡ None) same (none x)
 
-setting_of-no_op : (s : SettingName) (ds : Items) (c : StepCall) → setting_of s ds ≡ Some c → op_of_call c ≡ None
-setting_of-no_op AsOrdered ds c is = alone-no_op call.AsOrdered ds c refl is
-setting_of-no_op WithMerge ds c is = mapped-no_op call.WithMerge (option_and_then merge_named (only_text ds)) c (λ option. refl) is
-setting_of-no_op WithDegree ds c is = mapped-no_op call.WithDegree (only_count ds) c (λ n. refl) is
+other_call_of-no_op : (s : OtherStep) (ds : Items) (c : StepCall) → other_call_of s ds ≡ Some c → op_of_call c ≡ None
+other_call_of-no_op AsOrdered ds c is = alone-no_op call.AsOrdered ds c refl is
+other_call_of-no_op WithMerge ds c is = mapped-no_op call.WithMerge (option_and_then merge_named (only_text ds)) c (λ option. refl) is
+other_call_of-no_op WithDegree ds c is = mapped-no_op call.WithDegree (only_count ds) c (λ n. refl) is
 
-setting_from-no_op : (word : List ℕ) (ds : Items) (c : StepCall) → setting_from word ds ≡ Some c → op_of_call c ≡ None
-setting_from-no_op word ds c is = go (setting_named word) is
+other_call_from-no_op : (word : List ℕ) (ds : Items) (c : StepCall) → other_call_from word ds ≡ Some c → op_of_call c ≡ None
+other_call_from-no_op word ds c is = go (other_step_named word) is
   where
-    go : (o : Option SettingName) → option_and_then (λ s. setting_of s ds) o ≡ Some c → op_of_call c ≡ None
+    go : (o : Option OtherStep) → option_and_then (λ s. other_call_of s ds) o ≡ Some c → op_of_call c ≡ None
     go None found = cc
-    go (Some s) found = setting_of-no_op s ds c found
+    go (Some s) found = other_call_of-no_op s ds c found
 
 abbrev Prints : StepCall → Items → Type 0
 Prints c ds = IfSome (op_of_call c) (λ op. OpItems op ds)
@@ -140,16 +140,19 @@ Prints c ds = IfSome (op_of_call c) (λ op. OpItems op ds)
 call_named-read : (word : List ℕ) (ds : Items) (c : StepCall) → call_named ds word ≡ Some c → Prints c (item (string word) ds)
 call_named-read word ds c is = go (op_from word ds) refl is
   where
-    go : (o : Option (Op Formula)) → op_from word ds ≡ o → option_or (option_map call.Operator o) (setting_from word ds) ≡ Some c → Prints c (item (string word) ds)
+    go : (o : Option (Op Formula)) → op_from word ds ≡ o → option_or (option_map call.Operator o) (other_call_from word ds) ≡ Some c → Prints c (item (string word) ds)
     go (Some op) e found =
         let same : call.Operator op ≡ c = cc in
         subst (λ (x : StepCall). Prints x (item (string word) ds)) same (op_from-read word ds op e)
-    go None e found = rw (setting_from-no_op word ds c found) tt
+    go None e found = rw (other_call_from-no_op word ds c found) tt
 
 -- version 2 has every step
 only_of-two : (o : Option StepCall) → option_and_then (only_of Two) o ≡ o
 only_of-two None = refl
-only_of-two (Some c) = refl
+only_of-two (Some call.AsOrdered) = refl
+only_of-two (Some (call.Operator op)) = refl
+only_of-two (Some (call.WithMerge option)) = refl
+only_of-two (Some (call.WithDegree n)) = refl
 
 -- what is read as a call that adds an operator are its printed words
 pub call_from-read : (ds : Items) (c : StepCall) → call_from Two ds ≡ Some c → Prints c ds

@@ -1,18 +1,20 @@
 -- Documents, as values, and what they ask for.
-use Rattle.std.specs.Prelude.{◌≡◌, ℕ, ℤ, pos, negsuc, Bool, List, [], ◌∷◌, Option, Some, None, Ok, Err, true, false, codes, refl}
+use Rattle.std.specs.Prelude.{◌≡◌, ℕ, ℤ, pos, negsuc, Bool, List, [], ◌∷◌, Option, Some, None, Ok, Err, true, false, map, codes, refl}
 use Rattle.serde_json.specs.Data.{Data, null, unsigned, negative, number, string, array, object, no_members, member}
 use Rattle.serde_json.specs.View.{items_of}
 use Rattle.plinq_source.specs.Trace.{Trace, ended}
 use Rattle.plinq_source.specs.declared.ending.Ending.TheVariants.{End, Refused}
-use Rattle.plinq_lambda.specs.declared.formula.Formula.TheVariants.{Add, Below}
-use Rattle.plinq_ops.specs.declared.op.Op.TheVariants.{Select, SkipWhile}
+use Rattle.plinq_lambda.specs.declared.formula.Formula.TheVariants.{Add, Below, Even}
+use Rattle.plinq_ops.specs.declared.op.Op.TheVariants.{Select, Filter, SelectMany, Take, Skip, TakeWhile, SkipWhile, AsUnordered}
 use Rattle.plinq_ops.specs.declared.merge_option.MergeOption.TheVariants.{NotBuffered}
 use Rattle.plinq_ops.specs.declared.build_fault.BuildFault.TheVariants.{NotAtSource, MergeTwice, DegreeTwice, DegreeOutOfRange}
 use Rattle.plinq_enumerator.specs.declared.growth_fault.GrowthFault.TheVariants.{Zero}
 use Rattle.plinq_document.specs.Document.{document_meaning}
 use Rattle.plinq_document.specs.Sources.{bound_of, few_together}
 use Rattle.plinq_document.specs.Jobs.{JobView}
+use Rattle.plinq_document.specs.Steps.{since}
 use Rattle.plinq_document.specs.declared.settings.Settings.{Settings}
+use Rattle.plinq_document.specs.declared.version.Version.TheVariants.{One, Two}
 use Rattle.plinq_document.specs.declared.kind.Kind.{Kind}
 use Rattle.plinq_document.specs.declared.kind.Kind.TheVariants.{Sum, Count, Min, Max}
 use Rattle.plinq_document.specs.declared.doc_fault.StepFault.TheVariants.{Unknown, Build}
@@ -263,3 +265,8 @@ many-beside_text = refl
 
 pub many-beside_repeat : few_beside 1099511627774 repeat_of_three ≡ false
 many-beside_repeat = refl
+
+-- SkipWhile alone came with version 2
+pub operators-since : map since (Select Even ∷ Filter Even ∷ SelectMany Even ∷ Take (pos 1) ∷ Skip (pos 1) ∷ TakeWhile Even ∷ AsUnordered ∷ SkipWhile Even ∷ [])
+    ≡ One ∷ One ∷ One ∷ One ∷ One ∷ One ∷ One ∷ Two ∷ []
+operators-since = refl

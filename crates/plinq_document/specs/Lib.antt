@@ -1,6 +1,5 @@
 pub mod PlainWalked
 pub mod Walked
-pub mod Json
 pub mod Words
 pub mod Values
 pub mod Degrees

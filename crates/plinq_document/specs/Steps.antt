@@ -1,5 +1,5 @@
 -- The steps of a document's query.
-use Rattle.std.specs.Prelude.{ℕ, ◌+◌, List, [], ◌∷◌, ◌++◌, Bool, true, false, if◌then◌else◌, Option, Some, None, Result, Ok, Err, option_map, option_and_then, codes}
+use Rattle.std.specs.Prelude.{ℕ, ◌+◌, List, [], ◌∷◌, ◌++◌, Bool, true, if◌then◌else◌, Option, Some, None, Result, Ok, Err, option_map, option_and_then, codes}
 use Rattle.std.specs.Option.{option_or}
 use Rattle.serde_json.specs.Data.{Data, Items, no_items, item}
 use Rattle.serde_json.specs.Find.{as_str, as_array}
@@ -7,7 +7,7 @@ use Rattle.plinq_lambda.specs.declared.formula.Formula.{Formula}
 use Rattle.plinq_ops.specs.declared.argument.Argument.{Argument}
 use Rattle.plinq_ops.specs.declared.argument.Argument.TheVariants.{Nothing, Formula as FormulaArgument, Number}
 use Rattle.plinq_ops.specs.declared.op.Op.{Op}
-use Rattle.plinq_ops.specs.declared.op.Op.TheVariants.{SkipWhile}
+use Rattle.plinq_ops.specs.declared.op.Op.TheVariants.{Select, Filter, SelectMany, Take, Skip, TakeWhile, SkipWhile, AsUnordered}
 use Rattle.plinq_ops.specs.MergeWords.{merge_named}
 use Rattle.plinq_ops.specs.Operator.{op_named}
 use Rattle.plinq_ops.specs.Query.{QueryView, Built, with_order, with_option, with_degree_of}
@@ -15,10 +15,11 @@ use Rattle.plinq_document.specs.Words.{beside}
 use Rattle.plinq_document.specs.Values.{only_whole_number, only_count, only_text}
 use Rattle.plinq_document.specs.Formulas.{formula_of}
 use Rattle.plinq_document.specs.Results.{◌>>=◌}
+use Rattle.plinq_document.specs.Versions.{has}
 use Rattle.plinq_document.specs.declared.version.Version.{Version}
 use Rattle.plinq_document.specs.declared.version.Version.TheVariants.{One, Two}
-use Rattle.plinq_document.specs.declared.setting_name.SettingName.{SettingName}
-use Rattle.plinq_document.specs.declared.setting_name.SettingName.TheVariants.{AsOrdered, WithMerge, WithDegree}
+use Rattle.plinq_document.specs.declared.other_step.OtherStep.{OtherStep}
+use Rattle.plinq_document.specs.declared.other_step.OtherStep.TheVariants.{AsOrdered, WithMerge, WithDegree}
 use Rattle.plinq_document.specs.declared.step_call.StepCall.{StepCall}
 use Rattle.plinq_document.specs.declared.step_call.StepCall.TheVariants as call
 use Rattle.plinq_document.specs.declared.doc_fault.StepFault.{StepFault}
@@ -27,7 +28,7 @@ use Rattle.plinq_document.specs.declared.doc_fault.DocFault.{DocFault}
 use Rattle.plinq_document.specs.declared.doc_fault.DocFault.TheVariants.{Step}
 
 -- what stands after an operator's name: nothing, a whole number alone, or a formula
-abbrev pub argument_of : Items → Option (Argument)
+abbrev pub argument_of : Items → Option Argument
 argument_of no_items = Some Nothing
 argument_of (item d ds) = option_or (option_map Number (only_whole_number (item d ds))) (option_map FormulaArgument (formula_of (item d ds)))
 
@@ -35,41 +36,56 @@ argument_of (item d ds) = option_or (option_map Number (only_whole_number (item 
 abbrev pub op_from : List ℕ → Items → Option (Op Formula)
 op_from word ds = option_and_then (λ a. op_named a word) (argument_of ds)
 
--- the other steps by their names
-abbrev pub setting_names : List (List ℕ × SettingName)
-setting_names =
+-- the steps that add no operator, by their names
+abbrev pub other_steps : List (List ℕ × OtherStep)
+other_steps =
     (codes "as_ordered", AsOrdered)
     ∷ (codes "with_merge", WithMerge)
     ∷ (codes "with_degree", WithDegree)
     ∷ []
 
-abbrev pub setting_named : List ℕ → Option SettingName
-setting_named = beside setting_names
+-- the other step of this name
+abbrev pub other_step_named : List ℕ → Option OtherStep
+other_step_named = beside other_steps
 
 -- the builder call of a step that has no items after its name
 abbrev pub call_alone : StepCall → Items → Option StepCall
 call_alone made no_items = Some made
 call_alone made (item d ds) = None
 
--- the builder call of a setting, by the items after its name
-abbrev pub setting_of : SettingName → Items → Option StepCall
-setting_of AsOrdered ds = call_alone call.AsOrdered ds
-setting_of WithMerge ds = option_map call.WithMerge (option_and_then merge_named (only_text ds))
-setting_of WithDegree ds = option_map call.WithDegree (only_count ds)
+-- the builder call of such a step, by the items after its name
+abbrev pub other_call_of : OtherStep → Items → Option StepCall
+other_call_of AsOrdered ds = call_alone call.AsOrdered ds
+other_call_of WithMerge ds = option_map call.WithMerge (option_and_then merge_named (only_text ds))
+other_call_of WithDegree ds = option_map call.WithDegree (only_count ds)
 
-abbrev pub setting_from : List ℕ → Items → Option StepCall
-setting_from word ds = option_and_then (λ name. setting_of name ds) (setting_named word)
+-- and by its name as well
+abbrev pub other_call_from : List ℕ → Items → Option StepCall
+other_call_from word ds = option_and_then (λ name. other_call_of name ds) (other_step_named word)
 
--- the builder call of a step, by its name and the items after that: an operator, or else a setting
+-- the builder call of a step, by its name and the items after that: an operator, or else another step
 abbrev pub call_named : Items → List ℕ → Option StepCall
-call_named ds word = option_or (option_map call.Operator (op_from word ds)) (setting_from word ds)
+call_named ds word = option_or (option_map call.Operator (op_from word ds)) (other_call_from word ds)
 
--- whether a version has a step: the first has no SkipWhile
+-- the version with which an operator came
+abbrev pub since : Op Formula → Version
+since (Select f) = One
+since (Filter f) = One
+since (SelectMany f) = One
+since (Take n) = One
+since (Skip n) = One
+since (TakeWhile f) = One
+since (SkipWhile f) = Two
+since AsUnordered = One
+
+-- whether a version has a step
 abbrev pub has_step : Version → StepCall → Bool
-has_step One (call.Operator (SkipWhile f)) = false
-has_step One made = true
-has_step Two made = true
+has_step version call.AsOrdered = true
+has_step version (call.Operator op) = has version (since op)
+has_step version (call.WithMerge option) = true
+has_step version (call.WithDegree n) = true
 
+-- a step, if the version has it
 abbrev pub only_of : Version → StepCall → Option StepCall
 only_of version made = if has_step version made then Some made else None
 

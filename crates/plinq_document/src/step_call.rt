@@ -1,10 +1,10 @@
 ghost use Rattle.std.specs.Prelude.{◌≡◌, ◌≢◌, MatchResult};
 ghost use Rattle.serde_json.specs.View.{view, items_view};
 ghost use Rattle.plinq_ops.specs.declared.build_fault.BuildFault.TheVariants.{Memory};
-ghost use Rattle.plinq_document.specs.Steps.{argument_of, op_from, setting_from, call_alone, call_named, has_step, call_of, called};
+ghost use Rattle.plinq_document.specs.Steps.{argument_of, op_from, other_call_from, call_alone, call_named, since, has_step, call_of, called};
 
 use crate::formulas::formula_of;
-use crate::setting_name::{SettingName, setting_named};
+use crate::other_step::{OtherStep, other_step_named};
 use crate::values::{only_count, only_item, only_whole_number};
 use crate::version::Version;
 use plinq_lambda::Formula;
@@ -58,7 +58,7 @@ fn call_named(name: &str, items: &[Value]) -> Option<StepCall>
 {
     match op_from(name, items) {
         Some(op) => Some(StepCall::Operator(op)),
-        None => setting_from(name, items),
+        None => other_call_from(name, items),
     }
 }
 
@@ -86,23 +86,34 @@ fn argument_of(items: &[Value]) -> Option<Argument>
 fn has_step(version: Version, call: StepCall) -> bool
     ensures { result ≡ has_step version call }
 {
-    match (version, call) {
-        (Version::One, StepCall::Operator(Op::SkipWhile(_))) => false,
-        (_, _) => true,
+    match call {
+        StepCall::AsOrdered | StepCall::WithMerge(_) | StepCall::WithDegree(_) => true,
+        StepCall::Operator(op) => version.has(since(op)),
     }
 }
 
-// The setting of this name with these items after it.
-fn setting_from(name: &str, items: &[Value]) -> Option<StepCall>
-    ensures { result ≡ setting_from name.now (items_view items.now) }
+// The version with which an operator came.
+fn since(op: Op<Formula>) -> Version
+    ensures { result ≡ since op }
 {
-    match setting_named(name)? {
-        SettingName::AsOrdered => call_alone(StepCall::AsOrdered, items),
-        SettingName::WithMerge => {
+    match op {
+        Op::Select(_) | Op::Filter(_) | Op::SelectMany(_) | Op::TakeWhile(_) => Version::One,
+        Op::Take(_) | Op::Skip(_) | Op::AsUnordered => Version::One,
+        Op::SkipWhile(_) => Version::Two,
+    }
+}
+
+// The call of another step, by its name and the items after that.
+fn other_call_from(name: &str, items: &[Value]) -> Option<StepCall>
+    ensures { result ≡ other_call_from name.now (items_view items.now) }
+{
+    match other_step_named(name)? {
+        OtherStep::AsOrdered => call_alone(StepCall::AsOrdered, items),
+        OtherStep::WithMerge => {
             let word = only_item(items)?.as_str()?;
             Some(StepCall::WithMerge(MergeOption::named(word)?))
         }
-        SettingName::WithDegree => Some(StepCall::WithDegree(only_count(items)?)),
+        OtherStep::WithDegree => Some(StepCall::WithDegree(only_count(items)?)),
     }
 }
 

@@ -1,6 +1,6 @@
 ghost use Rattle.std.specs.Prelude.{◌≡◌};
 ghost use Rattle.serde_json.specs.View.{view};
-ghost use Rattle.plinq_document.specs.Versions.{version_in, version_numbered};
+ghost use Rattle.plinq_document.specs.Versions.{version_in, version_numbered, has};
 
 use crate::doc_fault::DocFault;
 use serde_json::Value;
@@ -12,6 +12,18 @@ pub enum Version {
     One,
     /// The second, of the number 2: it has all that the first has.
     Two,
+}
+
+impl Version {
+    /// Whether it has what came with another version.
+    pub(crate) fn has(self, came: Version) -> bool
+        ensures { result ≡ has self came }
+    {
+        match (self, came) {
+            (Version::One, Version::Two) => false,
+            (_, _) => true,
+        }
+    }
 }
 
 /// The version that a document names.
