@@ -4,6 +4,7 @@ use Rattle.plinq_lambda.specs.declared.formula.Formula.{Formula}
 use Rattle.plinq_lambda.specs.declared.formula.Formula.TheVariants.{Add, Mul, Mod, Into, Below, Above, Equal, Even, Repeat, UpTo}
 use Rattle.plinq_lambda.specs.Named.{first_named}
 
+-- the name of a formula
 abbrev pub formula_name : Formula → List ℕ
 formula_name (Add c) = codes "add"
 formula_name (Mul c) = codes "mul"

@@ -5,7 +5,7 @@ use crate::formula::Formula;
 use crate::named::{Named, first_named};
 
 impl Named for Formula {
-    ghost word = { formula_name };
+    ghost its_name = { formula_name };
 
     fn name(&self) -> &'static str {
         match self {

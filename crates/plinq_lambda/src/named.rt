@@ -1,13 +1,13 @@
 ghost use Rattle.std.specs.Prelude.{◌≡◌, ℕ, List};
 ghost use Rattle.plinq_lambda.specs.Named.{first_named};
 
-/// What has a name, by which documents and plans call it.
+/// What has a name, by which documents, plans and command lines call it.
 pub trait Named: Copy {
-    ghost word: { Self → List ℕ };
+    ghost its_name: { Self → List ℕ };
 
     /// Its name.
     fn name(&self) -> &'static str
-        ensures { result.now ≡ word self.now };
+        ensures { result.now ≡ its_name self.now };
 }
 
 /// The first of these that has this name. Takes no memory.
@@ -17,7 +17,7 @@ pub trait Named: Copy {
 /// first_named(&[Formula::Even, Formula::UpTo], "upto")    // None
 /// ```
 pub fn first_named<T: Named>(all: &[T], name: &str) -> Option<T>
-    ensures { result ≡ first_named T.word all.now name.now }
+    ensures { result ≡ first_named T.its_name all.now name.now }
 {
     let mut rest = all;
     while let Some((first, further)) = rest.split_first() {

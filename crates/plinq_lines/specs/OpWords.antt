@@ -21,7 +21,7 @@ name_words name (Some n) = name ++ further_number n
 abbrev pub formula_words : Formula → List ℕ
 formula_words f = 32 ∷ name_words (formula_name f) (formula_number f)
 
--- what stands after an operator's name
+-- the words of what stands after an operator's name
 abbrev pub argument_words : Argument → List ℕ
 argument_words Nothing = []
 argument_words (FormulaArgument f) = formula_words f

@@ -4,12 +4,14 @@ use Rattle.plinq_lambda.specs.Named.{first_named}
 use Rattle.plinq_ops.specs.declared.merge_option.MergeOption.{MergeOption}
 use Rattle.plinq_ops.specs.declared.merge_option.MergeOption.TheVariants.{Default, NotBuffered, AutoBuffered, FullyBuffered}
 
+-- the name of an option
 abbrev pub merge_name : MergeOption → List ℕ
 merge_name Default = codes "default"
 merge_name NotBuffered = codes "not"
 merge_name AutoBuffered = codes "auto"
 merge_name FullyBuffered = codes "full"
 
+-- all options
 abbrev pub merge_options : List MergeOption
 merge_options = NotBuffered ∷ AutoBuffered ∷ FullyBuffered ∷ Default ∷ []
 
@@ -17,5 +19,5 @@ merge_options = NotBuffered ∷ AutoBuffered ∷ FullyBuffered ∷ Default ∷ [
 abbrev pub merge_named : List ℕ → Option MergeOption
 merge_named = first_named merge_name merge_options
 
-an_empty_name : merge_named [] ≡ None
-an_empty_name = refl
+a_beginning_of_a_name : merge_named (codes "no") ≡ None
+a_beginning_of_a_name = refl

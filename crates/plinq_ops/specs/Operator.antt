@@ -1,4 +1,4 @@
--- The operators of a query, by what they do to a trace.
+-- The operators of a query, by what they do to a trace and by their words.
 use Rattle.std.specs.Prelude.{◌≡◌, refl, zero, suc, nat_lt, replicate, ℕ, ℤ, pos, negsuc, List, [], ◌∷◌, Bool, true, false, Option, Some, None, Result, Ok, Err, map, codes}
 use Rattle.plinq_source.specs.declared.ending.Ending.TheVariants.{End, Refused, Fault}
 use Rattle.plinq_source.specs.Trace.{Trace, open_trace, ended}
@@ -100,6 +100,7 @@ keeps_count op = true
 
 -- ---- words: how a document and a plan name operators over formulas
 
+-- the name of an operator
 abbrev pub op_name : Op Formula → List ℕ
 op_name (Select f) = codes "select"
 op_name (Filter f) = codes "filter"

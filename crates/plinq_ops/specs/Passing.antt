@@ -5,8 +5,8 @@ use Rattle.plinq_source.specs.declared.ending.Ending.TheVariants.{End, Fault}
 use Rattle.plinq_source.specs.Trace.{Trace, open_trace, ended}
 use Rattle.plinq_ops.specs.declared.remaining.Remaining.{Remaining}
 use Rattle.plinq_ops.specs.declared.remaining.Remaining.TheVariants.{Expanding}
-use Rattle.plinq_ops.specs.declared.passing.Passed.{Passed}
-use Rattle.plinq_ops.specs.declared.passing.Passed.TheVariants.{Nothing, Item, Last, Ends}
+use Rattle.plinq_ops.specs.declared.passed.Passed.{Passed}
+use Rattle.plinq_ops.specs.declared.passed.Passed.TheVariants.{Nothing, Item, Last, Ends}
 
 -- the trace that an operator gives for an item, where x stands in the item's place now
 abbrev pub passed_trace : {T : Type 0} → Passed → T → Trace T

@@ -1,4 +1,4 @@
-//! What operators do to a block of items.
+//! What operators do to a block of items; SkipWhile has a file of its own.
 ghost use Rattle.std.specs.Prelude.{◌≡◌, ◌≤◌, length, take, drop};
 ghost use Rattle.plinq_source.specs.Trace.{open_trace};
 ghost use Rattle.plinq_lambda.specs.Block.{mapped_block, filtered_block};

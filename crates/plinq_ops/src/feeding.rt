@@ -6,7 +6,7 @@ ghost use Rattle.plinq_ops.specs.Operator.{stage_of};
 ghost use Rattle.plinq_ops.specs.Feeding.{IsFed};
 ghost use Rattle.plinq_ops.specs.Pipeline.{stages_now};
 
-use crate::passing::Passed;
+use crate::passed::Passed;
 use crate::remaining::{Remaining, pass, pass_block};
 use plinq_lambda::{ExpandFault, Lambda};
 use plinq_source::{Ending, OutOfMemory};

@@ -1,6 +1,6 @@
 //! Laws of the definitions, each the contract of a function with nothing to do.
 //!
-//! They hold whatever the lambdas mean, so they name a meaning where the other contracts have `L.meaning`.
+//! Those of answers hold whatever the lambdas mean, so they name a meaning where the other contracts have `L.meaning`.
 ghost use Rattle.std.specs.Prelude.{◌≡◌, ℕ, Bool, ◌+◌, ◌<◌, ◌≤◌, List, [], ◌++◌, length, take, true, false, Option, Some, None, IfSome, ◌≢◌};
 ghost use Rattle.std.specs.List.{list_any, list_all, Contains};
 ghost use Rattle.plinq_source.specs.declared.ending.Ending.{Ending};

@@ -4,7 +4,8 @@
 //! a query answers is `answer_of`, its operators applied one after another to the whole trace of a source
 //! ([`sequential`]). Its plan (`IsPlanOf`, by [`Query::split`]) gives the workers those operators that they can apply
 //! knowing their elements' keys. They make of an element its `fragment_of` ([`fragment`]), and of a chunk its
-//! `chunk_answer`, the fragments joined by key ([`chunk_result`]). Operators at work are a [`Pipeline`]. The [`laws`]
+//! `chunk_answer`, the fragments joined by key ([`chunk_result`]). Operators at work are a [`Pipeline`]. Documents and
+//! plans name operators and merge options ([`Op::named`], [`MergeOption::named`]). The [`laws`]
 //! say that the rest of the operators, on the glued fragments, give the query's answer, that results one after another
 //! glue to the whole whatever their cuts, and how answers and their batches grow.
 #![tactic(auto)]
@@ -24,7 +25,7 @@ pub mod laws;
 mod merge_option;
 mod op;
 mod order;
-mod passing;
+mod passed;
 mod pipeline;
 mod plan;
 mod query;

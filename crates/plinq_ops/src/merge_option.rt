@@ -17,7 +17,7 @@ pub enum MergeOption {
 }
 
 impl Named for MergeOption {
-    ghost word = { merge_name };
+    ghost its_name = { merge_name };
 
     fn name(&self) -> &'static str {
         match self {

@@ -58,7 +58,7 @@ impl<L> Op<L> {
 }
 
 impl Named for Op<Formula> {
-    ghost word = { op_name };
+    ghost its_name = { op_name };
 
     fn name(&self) -> &'static str {
         match self {

@@ -189,7 +189,7 @@ impl<L: Drop> Query<L> {
         Ok(self)
     }
 
-    /// Adds any operator, as the calls named for them do.
+    /// Adds any operator, as the calls named after the operators do.
     ///
     /// # Errors
     ///

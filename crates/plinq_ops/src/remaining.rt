@@ -1,3 +1,4 @@
+//! What is left of an operator after some items, and what that does to an item and to a block.
 ghost use Rattle.std.specs.Prelude.{◌≡◌, ◌-◌, false, ◌∷◌, []};
 ghost use Rattle.plinq_source.specs.Trace.{open_trace};
 ghost use Rattle.plinq_ops.specs.Stage.{apply, stage_after, takes_none};
@@ -7,7 +8,7 @@ ghost use Rattle.plinq_ops.specs.Passing.{passed_trace, expands};
 
 use crate::blocks::{filter, select, skip, take, take_while};
 use crate::op::Op;
-use crate::passing::Passed;
+use crate::passed::Passed;
 use crate::skip_while::skip_while;
 use plinq_lambda::Lambda;
 use plinq_source::Ending;

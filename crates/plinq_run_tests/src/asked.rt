@@ -156,24 +156,10 @@ pub(crate) fn ordered<L: Lambda>(
     built(query.with_degree(workers))
 }
 
-/// The query with the builder call of this operator.
-fn with<L: Lambda>(query: Query<L>, op: Op<L>) -> Built<L> {
-    match op {
-        Op::Select(f) => query.select(f),
-        Op::Filter(f) => query.filter(f),
-        Op::SelectMany(f) => query.select_many(f),
-        Op::Take(n) => query.take(n),
-        Op::Skip(n) => query.skip(n),
-        Op::TakeWhile(f) => query.take_while(f),
-        Op::SkipWhile(f) => query.skip_while(f),
-        Op::AsUnordered => query.as_unordered(),
-    }
-}
-
 fn with_all<L: Lambda + Copy>(query: Query<L>, ops: &[Op<L>]) -> Result<Query<L>, BuildFault> {
     let mut query = query;
     for op in ops {
-        query = built(with(query, *op))?;
+        query = built(query.with_op(*op))?;
     }
     Ok(query)
 }
