@@ -1,9 +1,11 @@
 #!/usr/bin/env python3
-"""Tests ./test, which counts what rt ci and the tests of the program say, in a folder of its own with stand-ins for both.
+"""Tests ./test, which counts what rt ci and the tests of the program say, in a folder of its own with stand-ins for both; and
+.ci/run, which installs the packages that the tests want, with stand-ins for Debian's commands.
 
     python3 tests/gate.py
 """
 import os
+import re
 import shutil
 import signal
 import subprocess
@@ -56,10 +58,12 @@ class Place:
         for name, text in tests.items():
             self.write(f"tests/{name}.py", text)
 
+    def env(self):
+        return os.environ | {"PATH": f"{self.top}/bin:{os.environ['PATH']}"}
+
     def start(self, **how):
-        env = os.environ | {"PATH": f"{self.top}/bin:{os.environ['PATH']}"}
         streams = {"stdout": subprocess.PIPE, "stderr": subprocess.PIPE} | how
-        return subprocess.Popen(["./test"], cwd=self.top, env=env, text=True, **streams)
+        return subprocess.Popen(["./test"], cwd=self.top, env=self.env(), text=True, **streams)
 
     def run(self, **how):
         started = self.start(**how)
@@ -176,6 +180,39 @@ def interruption(place, tests):
             os.remove(f"{place.top}/ended")
 
 
+# Stand-ins for dpkg-query, which finds the packages that stand in the file installed, and for apt-get, which does as told.
+DEBIAN = {"dpkg-query": 'grep -qxF -e "${!#}" installed && printf installed', "apt-get": 'echo "$*" >>calls; echo noise; exit "$(<apt)"'}
+
+
+def packages(place, tests):
+    os.makedirs(f"{place.top}/.ci")
+    shutil.copy(f"{ROOT}/.ci/run", f"{place.top}/.ci")
+    for name, line in DEBIAN.items():
+        place.write(f"bin/{name}", f"#!/usr/bin/env bash\n{line}\n", 0o755)
+    with open(f"{place.top}/.ci/run", encoding="utf-8") as file:
+        wanted = re.search(r"^packages=\((.*)\)$", file.read(), re.M)[1].split()
+    tests.check("the packages are named in order, each once", wanted == sorted(set(wanted)) and wanted, wanted)
+    place.tell(COUNTED, one=PASSES)
+    for name, installed, status, calls in (
+        ("nothing is installed where all is there", wanted, 100, []),
+        ("what is missing is installed", wanted[1:-1], 0, ["update -qq", "install"]),
+        ("the tests run where nothing can be had", wanted[1:-1], 100, ["update -qq"]),
+    ):
+        place.write("installed", "".join(f"{it}\n" for it in installed))
+        place.write("apt", str(status))
+        place.write("calls")
+        seen = subprocess.run([".ci/run"], cwd=place.top, env=place.env(), capture_output=True, text=True, timeout=HANGS)
+        is_so = (seen.returncode, seen.stdout.splitlines()[-1]) == (0, "7 passed, 0 failed") and "noise" not in seen.stdout
+        tests.check(name, is_so, seen)
+        with open(f"{place.top}/calls", encoding="utf-8") as file:
+            asked = [it for it in file.read().splitlines() if it != "ci"]
+        tests.check(f"{name}: what apt-get was asked", [it if it == "update -qq" else it.split()[0] for it in asked] == calls, asked)
+        if len(calls) == 2:
+            tests.check("and nothing else", asked[1].endswith(f" {wanted[0]} {wanted[-1]}"), asked)
+        is_named = f"not installed: {wanted[0]} {wanted[-1]}\n" in seen.stderr
+        tests.check(f"{name}: what could not be had is named", is_named == (len(calls) == 1), seen.stderr)
+
+
 def main():
     tests = Tests()
     with tempfile.TemporaryDirectory() as folder:
@@ -185,6 +222,8 @@ def main():
         freshness(place, tests)
         no_rt(place, tests)
         interruption(place, tests)
+    with tempfile.TemporaryDirectory() as folder:
+        packages(Place(folder), tests)
     tests.end()
 
 
