@@ -187,6 +187,21 @@ fn concatenations(rt: HostRuntime) -> Result<(), Fail> {
 }
 
 #[test]
+fn a_concatenation_of_items_that_borrow(rt: HostRuntime) -> Result<(), Fail> {
+    let (one, two) = (
+        format!(in rt.alloc(); "{}", 1)?,
+        format!(in rt.alloc(); "{}", 2)?,
+    );
+    let first = ListSource::new(rt.alloc(), vec![in rt.alloc(); one.as_str()]?);
+    let second = ListSource::new(rt.alloc(), vec![in rt.alloc(); two.as_str()]?);
+    let mut source = ConcatSource::new(first, second);
+    assert_eq!(rt; source.next(), Step::Item("1"));
+    assert_eq!(rt; source.next(), Step::Item("2"));
+    assert_eq!(rt; source.next(), Step::End);
+    Ok(())
+}
+
+#[test]
 fn filled_lists(rt: HostRuntime) -> Result<(), Fail> {
     for n in [1, 2, 3, 9] {
         let items = vec![in rt.alloc(); 1, 2]?;

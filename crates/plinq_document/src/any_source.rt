@@ -7,7 +7,7 @@ pub enum AnySource {
     /// One of the five that every version has.
     Plain(PlainSource),
     /// Two of these, one after the other.
-    Concat(ConcatSource<PlainSource, PlainSource>),
+    Concat(ConcatSource<i64, PlainSource, PlainSource>),
 }
 
 impl Source for AnySource {

@@ -1,6 +1,6 @@
 pub mod After
 mod Arrived
-mod Batches
+pub mod Batches
 mod Covered
 mod Ended
 mod Finished

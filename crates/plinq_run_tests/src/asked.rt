@@ -251,8 +251,8 @@ fn two_lists(
     items: &[i64],
     first: Option<u32>,
     second: Option<u32>,
-) -> Result<ConcatSource<ListSource<i64>, ListSource<i64>>, AllocError>
-    ensures fresh { IfOk result (λ source. ⟦<ConcatSource<ListSource<i64>, ListSource<i64>> as Source>⟧.given source ≡ 0) }
+) -> Result<ConcatSource<i64, ListSource<i64>, ListSource<i64>>, AllocError>
+    ensures fresh { IfOk result (λ source. ⟦<ConcatSource<i64, ListSource<i64>, ListSource<i64>> as Source>⟧.given source ≡ 0) }
 {
     let first = list_of(rt, alloc, items, first)?;
     let second = list_of(rt, alloc, items, second)?;

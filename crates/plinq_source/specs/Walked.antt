@@ -83,13 +83,13 @@ repeat_walked s =
     }
 
 -- a concatenation: its first source, and where that ends its second
-abbrev pub concat_whole : {A B T : Type 0} {first : Ghosts A T} {second : Ghosts B T} → ConcatSource A B T first second → Trace T
+abbrev pub concat_whole : {A B T : Type 0} {first : Ghosts A T} {second : Ghosts B T} → ConcatSource T A B first second → Trace T
 concat_whole {A} {B} {T} {first} {second} s = concat (first.whole s.first) (second.whole s.second)
 
-abbrev pub concat_given : {A B T : Type 0} {first : Ghosts A T} {second : Ghosts B T} → ConcatSource A B T first second → ℕ
+abbrev pub concat_given : {A B T : Type 0} {first : Ghosts A T} {second : Ghosts B T} → ConcatSource T A B first second → ℕ
 concat_given {A} {B} {T} {first} {second} s = first.given s.first + second.given s.second
 
-pub concat_walked : {A B T : Type 0} {first : Ghosts A T} {second : Ghosts B T} (s : ConcatSource A B T first second)
+pub concat_walked : {A B T : Type 0} {first : Ghosts A T} {second : Ghosts B T} (s : ConcatSource T A B first second)
     → ((a : A) → IsSource (first.whole a) (first.given a)) → ((b : B) → IsSource (second.whole b) (second.given b))
     → IsSource (concat_whole s) (concat_given s)
 concat_walked {A} {B} {T} {first} {second} s first_walked second_walked =

@@ -15,7 +15,7 @@ use crate::step::Step;
 /// let mut source = ConcatSource::new(RangeSource::new(1, 2)?, RepeatSource::new(5, 1)?);    // 1, 2, 5, then Step::End
 /// ```
 #[derive(Drop)]
-pub struct ConcatSource<A: Source, B: Source<Item = A::Item>> {
+pub struct ConcatSource<T: Copy + Send, A: Source<Item = T>, B: Source<Item = T>> {
     first: A,
     second: B,
     /// Whether the first source was seen to end. It isn't asked again then.
@@ -26,17 +26,17 @@ pub struct ConcatSource<A: Source, B: Source<Item = A::Item>> {
     ghost ends: { first_ended ≡ true → (A.whole first).ending ≡ Some End },
 }
 
-impl<A: Source, B: Source<Item = A::Item>> ConcatSource<A, B> {
+impl<T: Copy + Send, A: Source<Item = T>, B: Source<Item = T>> ConcatSource<T, A, B> {
     /// The items of the first source, and where it ends those of the second.
     ///
     /// Neither has given anything yet, and both together have at most 2^40 items, also where the first refuses. Takes
     /// no memory.
-    pub fn new(first: A, second: B) -> ConcatSource<A, B>
+    pub fn new(first: A, second: B) -> ConcatSource<T, A, B>
         requires first_fresh { A.given first ≡ 0 }
         requires second_fresh { B.given second ≡ 0 }
         requires few { length (A.whole first).items + length (B.whole second).items ≤ 2 ^ 40 }
-        ensures whole { ⟦<ConcatSource<A, B> as Source>⟧.whole result ≡ concat (A.whole first) (B.whole second) }
-        ensures fresh { ⟦<ConcatSource<A, B> as Source>⟧.given result ≡ 0 }
+        ensures whole { ⟦<ConcatSource<T, A, B> as Source>⟧.whole result ≡ concat (A.whole first) (B.whole second) }
+        ensures fresh { ⟦<ConcatSource<T, A, B> as Source>⟧.given result ≡ 0 }
     {
         ConcatSource {
             first,
@@ -46,10 +46,10 @@ impl<A: Source, B: Source<Item = A::Item>> ConcatSource<A, B> {
     }
 }
 
-impl<A: Source, B: Source<Item = A::Item>> Source for ConcatSource<A, B> {
+impl<T: Copy + Send, A: Source<Item = T>, B: Source<Item = T>> Source for ConcatSource<T, A, B> {
     ghost use Rattle.plinq_source.specs.Walked.{concat_whole, concat_given, concat_walked};
 
-    type Item = A::Item;
+    type Item = T;
 
     ghost whole = { concat_whole };
 
@@ -61,7 +61,7 @@ impl<A: Source, B: Source<Item = A::Item>> Source for ConcatSource<A, B> {
 
     ghost within = { λ s. (concat_walked s (λ a. record { few = A.few a; ends = A.ends a; within = A.within a }) (λ b. record { few = B.few b; ends = B.ends b; within = B.within b })).within };
 
-    fn next(&mut self) -> Step<A::Item> {
+    fn next(&mut self) -> Step<T> {
         if self.first_ended {
             return self.second.next();
         }
@@ -74,7 +74,7 @@ impl<A: Source, B: Source<Item = A::Item>> Source for ConcatSource<A, B> {
         }
     }
 
-    fn fill(&mut self, items: &mut Vec<A::Item>, n: u64) -> Option<Ending> {
+    fn fill(&mut self, items: &mut Vec<T>, n: u64) -> Option<Ending> {
         if self.first_ended {
             return self.second.fill(items, n);
         }
