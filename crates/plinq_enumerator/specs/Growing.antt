@@ -39,3 +39,41 @@ size_at-doubled = refl
 
 size_at-largest : size_at by_threes 100 ≡ 512
 size_at-largest = refl
+
+-- chunks of three items twice, then of six twice, and no larger than ten
+abbrev from_three : GrowthRule
+from_three = record { first = 3; repeat = 2; max = 10 }
+
+first_of_three : size_at from_three 1 ≡ 3
+first_of_three = refl
+
+six_after_two : size_at from_three 2 ≡ 6
+six_after_two = refl
+
+ten_and_not_twelve : size_at from_three 4 ≡ 10
+ten_and_not_twelve = refl
+
+three_numbers : growth_rule 3 2 10 ≡ Ok from_three
+three_numbers = refl
+
+the_largest : growth_rule 1 1 65536 ≡ Ok (record { first = 1; repeat = 1; max = 65536 })
+the_largest = refl
+
+none_at_first : growth_rule 0 2 10 ≡ Err Zero
+none_at_first = refl
+
+doubled_after_none : growth_rule 3 0 10 ≡ Err Zero
+doubled_after_none = refl
+
+none_at_most : growth_rule 3 2 0 ≡ Err Zero
+none_at_most = refl
+
+first_above_max : growth_rule 11 2 10 ≡ Err FirstAboveMax
+first_above_max = refl
+
+above_the_largest : growth_rule 3 2 65537 ≡ Err MaxTooLarge
+above_the_largest = refl
+
+-- of two faults the first is answered
+both_too_large : growth_rule 65538 2 65537 ≡ Err FirstAboveMax
+both_too_large = refl

@@ -1,10 +1,11 @@
 -- What an enumerator answers, and which histories of requests and answers are legal.
-use Rattle.std.specs.Prelude.{◌≡◌, ℕ, ◌+◌, ◌-◌, ◌≤◌, ◌==◌, List, [], ◌∷◌, ◌++◌, length, take, map, replicate, Option, Some, None, Bool, true, false, ◌&&◌, nat_lt, if◌then◌else◌, refl}
+use Rattle.std.specs.Prelude.{◌≡◌, ℕ, ◌+◌, ◌-◌, ◌≤◌, ◌==◌, List, [], ◌∷◌, ◌++◌, length, take, map, replicate, Option, Some, None, Bool, true, false, ◌&&◌, nat_lt, if◌then◌else◌, get_or, refl}
+use Rattle.std.proofs.Common.{arith, ap}
 use Rattle.std.specs.List.{list_all}
 use Rattle.plinq_source.specs.Trace.{Trace, ended, items_from}
 use Rattle.plinq_source.specs.declared.ending.Ending.{Ending}
 use Rattle.plinq_source.specs.declared.ending.Ending.TheVariants.{End, Refused, Fault}
-use Rattle.plinq_keyed.specs.Keys.{rises, keyed_from}
+use Rattle.plinq_keyed.specs.Keys.{rises, keys, keyed_from}
 use Rattle.plinq_keyed.specs.declared.keyed.Keyed.{Keyed}
 use Rattle.plinq_keyed.specs.declared.chunk.Chunk.{Chunk}
 use Rattle.plinq_keyed.specs.declared.tail.Tail.{Tail}
@@ -101,6 +102,7 @@ is_run t p (r ∷ rs) = tells r (reply t p r.asked) && is_run t (next_place t p 
 abbrev pub is_legal_history : {T : Type 0} → Trace T → List Record → Bool
 is_legal_history t h = is_run t start h && rises (map (λ r. r.ticket) h)
 
+-- it is legal for that trace
 abbrev pub IsLegalHistory : {T : Type 0} → Trace T → List Record → Type 0
 IsLegalHistory t h = is_legal_history t h ≡ true
 
@@ -191,3 +193,40 @@ refused_with_its_code = refl
 
 refused_with_another : is_legal_history {T = ℕ} (ended (5 ∷ []) (Refused 7)) (refused_with 8) ≡ false
 refused_with_another = refl
+
+-- one record of a source of one item that was asked for so many, which states that count and that tail
+abbrev one_record : ℕ → ℕ → Option Tail → List Record
+one_record asked count tail = record { ticket = 0; asked = Ask asked; first = 0; count = count; tail = tail } ∷ []
+
+one_of_two_and_the_end : is_legal_history one_item (one_record 2 1 (Some Ended)) ≡ true
+one_of_two_and_the_end = refl
+
+with_another_count : is_legal_history one_item (one_record 2 0 (Some Ended)) ≡ false
+with_another_count = refl
+
+without_its_tail : is_legal_history one_item (one_record 2 1 None) ≡ false
+without_its_tail = refl
+
+with_a_tail_too_early : is_legal_history one_item (one_record 1 1 (Some Ended)) ≡ false
+with_a_tail_too_early = refl
+
+-- of three requests one was answered with an item
+example_given : given_by one_item (example 1) ≡ 1
+example_given = refl
+
+example_is_prefix : IsPrefix one_item (example 1)
+example_is_prefix = record { prefix = refl; within = omega arith }
+
+-- two records that state the same item hand it out twice
+abbrev twice : List Record
+twice = one_record 1 1 None ++ one_record 1 1 None
+
+twice_is_no_prefix : IsPrefix one_item twice → ⊥
+twice_is_no_prefix handed = omega (arith, ap length handed.prefix)
+
+-- nor is an item under another key
+abbrev under_key_1 : List Record
+under_key_1 = record { ticket = 0; asked = Ask 1; first = 1; count = 1; tail = None } ∷ []
+
+another_key_is_no_prefix : IsPrefix {T = ℕ} (ended (5 ∷ 6 ∷ []) End) under_key_1 → ⊥
+another_key_is_no_prefix handed = absurd (omega (arith, ap (λ ks. get_or ks 0 0) (ap keys handed.prefix)))

@@ -1,5 +1,6 @@
 -- Deliveries that a token may stop: it is asked before each batch.
 use Rattle.std.specs.Prelude.{◌≡◌, refl, ℕ, ◌+◌, nat_le, min, List, [], ◌∷◌, ◌++◌, Bool, true, false}
+use Rattle.std.proofs.Common.{sym}
 use Rattle.plinq_merge.specs.Sending.{Leads}
 
 -- one batch more, or the greatest number
@@ -102,6 +103,17 @@ after_both =
       leads = (so_far false (4 ∷ 2 ∷ []) 2, record { asked = (refl, refl); taken = refl; counts = refl }, refl);
       stops = record { asked = (refl, refl); sink = refl; counts = refl };
     }
+
+-- what a token says that stops at two batches, by how many were delivered
+stops_at_two : (d d' : Delivery Bool (List ℕ)) → IsAsked at_two true d d' → nat_le 2 d.delivered ≡ true
+stops_at_two d d' asked = sym asked.asked.0
+
+-- it lets the first batch pass: a run that has delivered none isn't stopped
+before_the_first : IsStopped at_two keeps_items (so_far false [] 0) ((4 ∷ []) ∷ (2 ∷ []) ∷ []) (so_far true [] 0) → ⊥
+before_the_first stopped =
+    let at : stopped.last.delivered ≡ 0 = sym stopped.stops.counts in
+    let early = stops_at_two stopped.last (so_far true [] 0) stopped.stops in
+    absurd (cc)
 
 at_the_greatest_number : counted 18446744073709551615 ≡ 18446744073709551615
 at_the_greatest_number = refl

@@ -1,5 +1,7 @@
 -- Sending: what a sink gets, batch by batch.
-use Rattle.std.specs.Prelude.{◌≡◌, ℕ, refl, List, [], ◌∷◌, ◌++◌, Result, MatchResult}
+use Rattle.std.specs.Prelude.{◌≡◌, ℕ, refl, List, [], ◌∷◌, ◌++◌, length, get_or, Result, MatchResult}
+use Rattle.std.proofs.Common.{arith, sym, ◌∙◌, ap, subst}
+use Rattle.std.proofs.lemmas.List.{length-append}
 use Rattle.plinq_merge.specs.declared.delivery_fault.DeliveryFault.{DeliveryFault}
 use Rattle.plinq_merge.specs.declared.delivery_fault.DeliveryFault.TheVariants.{Memory, Sink}
 
@@ -8,7 +10,8 @@ abbrev pub Leads : {K B : Type 0} → (K → B → K → Type 0) → K → List 
 Leads accepts s [] s' = s' ≡ s
 Leads {K} accepts s (b ∷ bs) s' = (m : K) × (accepts s b m) × Leads accepts m bs s'
 
--- the sink has taken the first of these batches, and then memory ran out, or it refused the next one
+-- the sink has taken the first of these batches, and then refused the next one, with its code; or no more was tried, for
+-- whatever other fault: the answer `Memory` stands for all of these
 abbrev pub IsCutOff : {K B : Type 0} → (K → B → K → Type 0) → (K → B → ℕ → K → Type 0) → K → List B → DeliveryFault → K → Type 0
 IsCutOff {K} {B} accepts refuses s bs Memory s' = (sent : List B) × (rest : List B) × (bs ≡ sent ++ rest) × Leads accepts s sent s'
 IsCutOff {K} {B} accepts refuses s bs (Sink code) s' =
@@ -28,3 +31,36 @@ two_batches = (1 ∷ 4 ∷ [], refl, (1 ∷ 4 ∷ 2 ∷ 3 ∷ [], refl, refl))
 -- the second of three is refused with 9: the first was taken
 refused_second : IsCutOff keeps_items (λ s b code s'. s' ≡ s) [] ((4 ∷ []) ∷ (2 ∷ []) ∷ (3 ∷ []) ∷ []) (Sink 9) (4 ∷ [])
 refused_second = (((4 ∷ []) ∷ []), 2 ∷ [], ((3 ∷ []) ∷ []), 4 ∷ [], refl, (4 ∷ [], refl, refl), refl)
+
+-- a sink that refuses has what it had
+abbrev stays : List ℕ → List ℕ → ℕ → List ℕ → Type 0
+stays s b code s' = s' ≡ s
+
+abbrev three_batches : List (List ℕ)
+three_batches = (4 ∷ []) ∷ (2 ∷ []) ∷ (3 ∷ []) ∷ []
+
+-- the item that it has first stays the first
+keeps_first : (x : ℕ) (xs : List ℕ) (bs : List (List ℕ)) (s' : List ℕ) → Leads keeps_items (x ∷ xs) bs s' → get_or s' 0 0 ≡ x
+keeps_first x xs [] s' is = ap (λ s. get_or s 0 0) is
+keeps_first x xs (b ∷ bs) s' (m, is, leads) = keeps_first x (xs ++ b) bs s' (subst (λ s. Leads keeps_items s bs s') is leads)
+
+-- what was delivered before a cut-off is a beginning: not the second batch alone
+second_alone : IsCutOff keeps_items stays [] three_batches Memory (2 ∷ []) → ⊥
+second_alone ([], rest, parts, leads) = omega (arith, ap length leads)
+second_alone (b ∷ bs, rest, parts, (m, is, leads)) =
+    let begun : m ≡ 4 ∷ [] = is ∙ sym (ap (λ bs. get_or bs 0 []) parts) in
+    let four : 2 ≡ 4 = keeps_first 4 [] bs (2 ∷ []) (subst (λ s. Leads keeps_items s bs (2 ∷ [])) begun leads) in
+    omega (arith, four)
+
+-- and a sink that has taken all three has refused none of them
+all_and_a_refusal : IsCutOff keeps_items stays [] three_batches (Sink 9) (4 ∷ 2 ∷ 3 ∷ []) → ⊥
+all_and_a_refusal ([], b, rest, m, parts, leads, refused) = omega (arith, ap length leads, ap length refused)
+all_and_a_refusal (b1 ∷ [], b, rest, m, parts, (m1, is1, leads), refused) =
+    let first : 4 ∷ [] ≡ b1 = ap (λ bs. get_or bs 0 []) parts in
+    omega (arith, ap length first, ap length is1, ap length leads, ap length refused)
+all_and_a_refusal (b1 ∷ b2 ∷ [], b, rest, m, parts, (m1, is1, (m2, is2, leads)), refused) =
+    let first : 4 ∷ [] ≡ b1 = ap (λ bs. get_or bs 0 []) parts in
+    let second : 2 ∷ [] ≡ b2 = ap (λ bs. get_or bs 1 []) parts in
+    omega (arith, ap length first, ap length second, ap length is1, ap length is2 ∙ length-append m1 b2, ap length leads, ap length refused)
+all_and_a_refusal (b1 ∷ b2 ∷ b3 ∷ [], b, rest, m, parts, leads, refused) = omega (arith, ap length parts)
+all_and_a_refusal (b1 ∷ b2 ∷ b3 ∷ b4 ∷ bs, b, rest, m, parts, leads, refused) = omega (arith, ap length parts)

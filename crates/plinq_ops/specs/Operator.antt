@@ -53,6 +53,7 @@ stage_of meaning (TakeWhile f) = pieces (λ x. taken_while ((meaning f).test x) 
 stage_of meaning (SkipWhile f) = skipping_while (meaning f).test
 stage_of meaning AsUnordered = unchanged
 
+-- what the operators do, one after another
 abbrev pub stages_of : {L T : Type 0} → (L → Meaning T) → List (Op L) → List (Stage T)
 stages_of meaning ops = map (stage_of meaning) ops
 

@@ -80,6 +80,10 @@ take_none = refl
 skip_five_of_two : skipped {T = ℕ} 5 (ended (1 ∷ 2 ∷ []) (Refused 7)) ≡ ended [] (Refused 7)
 skip_five_of_two = refl
 
+-- one of three skipped, and no more
+skip_one_of_three : skipped {T = ℕ} 1 (ended (1 ∷ 2 ∷ 3 ∷ []) (Refused 7)) ≡ ended (2 ∷ 3 ∷ []) (Refused 7)
+skip_one_of_three = refl
+
 -- of an open trace one more can be taken after two of three
 after_two : seq_after {T = ℕ} (taking 3 ∷ skipping 1 ∷ []) (open_trace (5 ∷ 6 ∷ [])) ≡ taking 1 ∷ skipping (1 - 2) ∷ []
 after_two = refl

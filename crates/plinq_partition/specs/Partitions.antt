@@ -1,14 +1,16 @@
 -- What a clause says of a chunked source and its partitions.
-use Rattle.std.specs.Prelude.{◌≡◌, ℕ, ◌+◌, ◌≤◌, ◌<◌, ◌^◌, List, [], ◌∷◌, ◌++◌, length, map, All, ⊤, ◌⊎◌}
+use Rattle.std.specs.Prelude.{◌≡◌, ℕ, ◌+◌, ◌≤◌, ◌<◌, ◌^◌, List, [], ◌∷◌, ◌++◌, length, map, get_or, None, false, All, ⊤, ◌⊎◌, refl}
+use Rattle.std.proofs.Common.{arith, ap, sym, ◌∙◌}
+use Rattle.plinq_source.specs.declared.ending.Ending.TheVariants.{End}
 use Rattle.plinq_source.specs.declared.source.Source.{Ghosts}
-use Rattle.plinq_source.specs.Trace.{Trace}
+use Rattle.plinq_source.specs.Trace.{Trace, ended}
 use Rattle.plinq_keyed.specs.declared.chunk.Chunk.{Chunk}
 use Rattle.plinq_keyed.specs.declared.event.Event.{Event}
 use Rattle.plinq_keyed.specs.declared.event.Event.TheVariants.{Ask, Close}
 use Rattle.plinq_keyed.specs.declared.record.Record.{Record}
 use Rattle.plinq_keyed.specs.declared.keyed.Keyed.{Keyed}
 use Rattle.plinq_keyed.specs.declared.properties.KeyProperties.{KeyProperties}
-use Rattle.plinq_keyed.specs.History.{Place, reply, recorded, handed_out, IsChunkOf, IsLegalHistory}
+use Rattle.plinq_keyed.specs.History.{Place, reply, recorded, record_items, handed_out, IsChunkOf, IsLegalHistory}
 use Rattle.plinq_keyed.specs.Keys.{Keeps}
 use Rattle.plinq_enumerator.specs.Growing.{GrowthRule, size_at}
 use Rattle.plinq_ticket.specs.Shares.{in_ticket_order}
@@ -55,6 +57,7 @@ abbrev pub new_beside : {T : Type 0} → Holding T → Holding T
 new_beside a = record { origin = a.origin; share = []; requests = 0 }
 
 module _ {S T : Type 0} {source : Ghosts S T} where
+  -- what a partition has, as its pass of the lock knows it
   abbrev pub holding_of : Partition S T source → Holding T
   holding_of p = record { origin = origin_at p.pass; share = share_at p.pass; requests = p.requests }
 
@@ -116,3 +119,47 @@ IsNotBusy Spent = ⊤
 IsNotBusy (Busy served drawn) = ⊥
 IsNotBusy (Incomplete have all) = ⊥
 IsNotBusy Away = ⊥
+
+-- ---- a partition of the items 7, 8 and 9 that has taken the first of them
+
+abbrev three_items : Trace ℕ
+three_items = ended (7 ∷ 8 ∷ 9 ∷ []) End
+
+abbrev first_record : Record
+first_record = record { ticket = 4; asked = Ask 1; first = 0; count = 1; tail = None }
+
+-- it takes the next two, under a later ticket
+abbrev next_record : ℕ → Record
+next_record count = record { ticket = 6; asked = Ask 2; first = 1; count = count; tail = None }
+
+abbrev having : List Record → ℕ → Holding ℕ
+having share requests = record { origin = three_items; share = share; requests = requests }
+
+-- chunks of one, two and then four items
+abbrev doubling : GrowthRule
+doubling = record { first = 1; repeat = 1; max = 4 }
+
+-- the chunk's items are those of the record that was added
+the_next_two : (chunk : Chunk ℕ) → chunk.first ≡ 1 → chunk.items.items ≡ 8 ∷ 9 ∷ [] → chunk.tail ≡ None
+    → IsTaken doubling (having (first_record ∷ []) 1) (having (first_record ∷ next_record 2 ∷ []) 2) chunk
+the_next_two chunk first items tail = record {
+  entry = next_record 2;
+  adds = record { origin = refl; share = refl; asked_is = refl; place = record { given = 1; closed = false }; replied = refl };
+  some = omega arith;
+  of = record { first = first; items = items; tail = tail };
+  counted = ap length items;
+  within = rw first (rw items (omega arith));
+  requests = refl;
+}
+
+-- not those of another
+another_item : (chunk : Chunk ℕ) → chunk.items.items ≡ 7 ∷ 9 ∷ [] → (b : Holding ℕ) → b.share ≡ first_record ∷ next_record 2 ∷ []
+    → IsTaken doubling (having (first_record ∷ []) 1) b chunk → ⊥
+another_item chunk items b share taken =
+    let same : next_record 2 ≡ taken.entry = ap (λ rs. get_or rs 1 first_record) (sym share ∙ taken.adds.share) in
+    let eight : 8 ≡ 7 = ap (λ r. get_or (record_items three_items r) 0 0) same ∙ ap (λ xs. get_or xs 0 0) (sym taken.of.items ∙ items) in
+    omega (arith, eight)
+
+-- and the record that was added is there
+no_record : (chunk : Chunk ℕ) → IsTaken doubling (having (first_record ∷ []) 1) (having (first_record ∷ []) 2) chunk → ⊥
+no_record chunk taken = omega (arith, ap length taken.adds.share)

@@ -1,5 +1,6 @@
 -- The lock between any two steps: tickets in turn, the value home or out, and a history that is the records of all passes.
-use Rattle.std.specs.Prelude.{◌≡◌, ℕ, List, [], ◌∷◌, ◌++◌, Option, Some, None, true, ◌⊎◌, refl}
+use Rattle.std.specs.Prelude.{◌≡◌, ℕ, List, [], ◌∷◌, ◌++◌, Option, Some, None, true, length, ◌⊎◌, refl}
+use Rattle.std.proofs.Common.{arith, ap, inl, inr}
 use mathlib.Core.Option.{some, none}
 use mathlib.Core.Option as maybe
 use lib.ListN.{get_elem?}
@@ -53,6 +54,8 @@ module _ {T : Type 0} where
         ((value : V) × (homes ≡ some (Some value) ∷ []) × (origin value ≡ t) × (history value ≡ h) × (inside ≡ 0))
         ⊎ ((homes ≡ none ∷ []) × (inside ≡ 1))
 
+    -- Between any two steps tickets are in turn, the records of all passes are a legal history under tickets that were served, the
+    -- value stands with it, and what each pass knows is so
     pub record Lawful (t : Trace T) (next serving : ℕ) (homes : List (maybe.Option (Option V))) (views : List (View T)) : Type 0 where
       pub turns : InTurn standing_of next serving views
       pub legal : IsLegalHistory t (history_of views)
@@ -97,3 +100,35 @@ row_inside = refl
 -- the first pass knows what the value hands out
 row_first : Knows {T = ℕ} (open_trace (7 ∷ [])) [] (first_view (open_trace (7 ∷ [])) []) Idle
 row_first = refl
+
+-- a lock whose value is its history, round a source of which nothing was asked before it was closed
+abbrev IsFreeWith : List Record → List (View ℕ) → Type 0
+IsFreeWith value views = IsFree {T = ℕ} (λ _. open_trace (7 ∷ [])) (λ h. h) (open_trace (7 ∷ [])) value views
+
+-- the records of two passes are the value's, by their tickets
+row_free : IsFreeWith (closed_under 0 ∷ closed_under 1 ∷ []) (with_records (closed_under 1 ∷ []) ∷ with_records (closed_under 0 ∷ []) ∷ [])
+row_free = record { origin_is = refl; whole = refl; legal = refl; handed = record { prefix = refl; within = omega arith } }
+
+-- a value that has lost a record of a pass
+row_lost_record : IsFreeWith (closed_under 0 ∷ []) (with_records (closed_under 1 ∷ []) ∷ with_records (closed_under 0 ∷ []) ∷ []) → ⊥
+row_lost_record free = omega (arith, ap length free.whole)
+
+-- one that has a record of no pass
+row_foreign_record : IsFreeWith (closed_under 0 ∷ closed_under 1 ∷ []) (with_records (closed_under 0 ∷ []) ∷ []) → ⊥
+row_foreign_record free = omega (arith, ap length free.whole)
+
+-- between no two steps are two passes inside, under one ticket or under two
+row_two_inside : (k n : ℕ) → (homes : List (maybe.Option (Option (List Record)))) → Lawful {T = ℕ} (λ _. open_trace []) (λ h. h) (open_trace []) 6 4 homes (standing_at (Inside k) ∷ standing_at (Inside n) ∷ []) → ⊥
+row_two_inside k n homes lawful = two (lawful.stands)
+  where
+    two : Stands {T = ℕ} (λ _. open_trace []) (λ h. h) (open_trace []) [] homes 2 → ⊥
+    two (inl home) = let none_inside : 2 ≡ 0 = home.4 in omega (arith, none_inside)
+    two (inr away) = let one_inside : 2 ≡ 1 = away.1 in omega (arith, one_inside)
+
+-- nor is the value home while a pass is inside
+row_home_while_inside : (value : List Record) → Lawful {T = ℕ} (λ _. open_trace []) (λ h. h) (open_trace []) 5 4 (some (Some value) ∷ []) (standing_at (Inside 4) ∷ []) → ⊥
+row_home_while_inside value lawful = home_too lawful.stands
+  where
+    home_too : Stands {T = ℕ} (λ _. open_trace []) (λ h. h) (open_trace []) [] (some (Some value) ∷ []) 1 → ⊥
+    home_too (inl home) = let none_inside : 1 ≡ 0 = home.4 in omega (arith, none_inside)
+    home_too (inr away) = let same = away.0 in absurd (cc)
