@@ -1,7 +1,21 @@
-# Completion for bash: source this file, or copy it to a folder of bash-completion.
+# Completion for bash: source this file, or copy it as plinq to a folder of bash-completion.
 _plinq() {
-    local word=${COMP_WORDS[COMP_CWORD]} before=${COMP_WORDS[COMP_CWORD - 1]} words
-    case $before in
+    local at=$COMP_CWORD word=${COMP_WORDS[COMP_CWORD]} words
+    COMPREPLY=()
+    # (bash takes --merge=not for three words)
+    if [ "$word" = = ]; then
+        word=
+    elif [ "${COMP_WORDS[at - 1]}" = = ]; then
+        at=$((at - 1))
+    fi
+    case ${COMP_WORDS[at - 1]}$word in
+        # (after a redirection bash completes files itself)
+        *[\<\>]*)
+            compopt -o default
+            return
+            ;;
+    esac
+    case ${COMP_WORDS[at - 1]} in
         --merge) words='not auto full default' ;;
         --workers | --cancel-after) words='' ;;
         *)
