@@ -21,8 +21,7 @@ use Rattle.plinq_ops.specs.declared.plan.Plan.{Plan}
 use Rattle.plinq_ops.specs.declared.results.ChunkResult.{ChunkResult}
 use Rattle.plinq_ops.specs.Chunk.{IsChunkResult}
 use Rattle.plinq_ops.specs.Cut.{no_cut, is_cut}
-use Rattle.plinq_merge.specs.Shown.{told_at}
-use Rattle.plinq_merge.specs.Whole.{EndsAt}
+use Rattle.plinq_ops.specs.Tails.{told_at, EndsAt}
 use Rattle.plinq_crew.specs.Results.{IsResult}
 
 -- what a tail after this key says of the source's end is so

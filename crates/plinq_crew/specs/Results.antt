@@ -8,8 +8,7 @@ use Rattle.plinq_ops.specs.declared.plan.Plan.{Plan}
 use Rattle.plinq_ops.specs.declared.results.ChunkResult.{ChunkResult}
 use Rattle.plinq_ops.specs.Cut.{no_cut}
 use Rattle.plinq_ops.specs.Row.{IsOffer}
-use Rattle.plinq_merge.specs.Shown.{told_at, end_of_result}
-use Rattle.plinq_merge.specs.Whole.{EndsAt}
+use Rattle.plinq_ops.specs.Tails.{end_of_result, told_at, EndsAt}
 
 -- The result of a chunk of the source, under a cut of its own: no cut, or by key also a key whose fragment ends the run.
 -- What its tail says of the source's end is so.

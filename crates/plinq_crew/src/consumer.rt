@@ -1,6 +1,6 @@
 ghost use Rattle.std.specs.Prelude.{◌≡◌, ◌≤◌, ◌^◌, Bool};
 ghost use Rattle.plinq_ops.specs.declared.results.ChunkResult.{ChunkResult};
-ghost use Rattle.plinq_merge.specs.Shown.{end_of_result};
+ghost use Rattle.plinq_ops.specs.Tails.{end_of_result};
 
 use plinq_ops::ChunkResult;
 

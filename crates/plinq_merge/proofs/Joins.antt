@@ -10,12 +10,13 @@ use Rattle.plinq_source.specs.Trace.{Trace, open_trace, followed}
 use Rattle.plinq_source.proofs.Followed.{trace_of, followed-followed, followed-open_nil}
 use Rattle.plinq_ops.specs.declared.order.Order.{Order}
 use Rattle.plinq_ops.specs.declared.results.ChunkResult.{ChunkResult}
+use Rattle.plinq_ops.specs.Tails.{end_of_result, told_at}
 use Rattle.plinq_merge.specs.declared.delivery_fault.DeliveryFault.{DeliveryFault}
 use Rattle.plinq_merge.specs.declared.delivery_fault.DeliveryFault.TheVariants.{Memory}
 use Rattle.plinq_merge.specs.declared.row.Row.{Row}
 use Rattle.plinq_merge.specs.declared.joining.Joining.{Joining}
 use Rattle.plinq_merge.specs.Part.{Part}
-use Rattle.plinq_merge.specs.Shown.{ending_at, row as row_of, told_at, at_once, part_of, merged, end_of_result}
+use Rattle.plinq_merge.specs.Shown.{ending_at, row as row_of, at_once, part_of, merged}
 use Rattle.plinq_merge.specs.Keys.{is_offered, is_apart, is_first, AreNew, IsFresh}
 use Rattle.plinq_merge.specs.Merging.{Content, content_of, HasTaken, IsAtGap, TakesIn}
 use Rattle.plinq_merge.specs.Taking.{IsTaking}

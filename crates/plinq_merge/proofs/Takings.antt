@@ -17,7 +17,8 @@ use Rattle.plinq_ops.specs.declared.results.ChunkResult.{ChunkResult}
 use Rattle.plinq_merge.specs.declared.row.Row.{Row}
 use Rattle.plinq_merge.specs.Part.{Part}
 use Rattle.plinq_ops.specs.Chunk.{result_trace}
-use Rattle.plinq_merge.specs.Shown.{at_once, end_of_result, part_of, waiting_trace, placed, all_placed, told_at, all_told, ending_at, row, arrived, merged}
+use Rattle.plinq_ops.specs.Tails.{end_of_result, told_at}
+use Rattle.plinq_merge.specs.Shown.{at_once, part_of, waiting_trace, placed, all_placed, all_told, ending_at, row, arrived, merged}
 use Rattle.plinq_merge.specs.Keys.{is_within, is_offered, is_waiting, is_taken, is_apart, is_first, IsFresh, Places}
 use Rattle.plinq_merge.proofs.Overlaps.{IsFree, free-from_fresh, after-next, waiting-insert, insert-next}
 use Rattle.plinq_merge.specs.Merging.{Content, coming, IsPart, AreParts, HasTaken, content_of, TakesIn}

@@ -19,8 +19,8 @@ use Rattle.plinq_keyed.proofs.Legal.{Told-from_tells, reply-first, next_place-gi
 use Rattle.plinq_ops.specs.declared.op.Op.{Op}
 use Rattle.plinq_ops.specs.declared.results.ChunkResult.{ChunkResult}
 use Rattle.plinq_ops.specs.Row.{IsResultOf}
-use Rattle.plinq_merge.specs.Shown.{end_of_result, told_at}
-use Rattle.plinq_merge.specs.Whole.{EndsAt, IsTrueTail}
+use Rattle.plinq_ops.specs.Tails.{end_of_result, told_at, EndsAt}
+use Rattle.plinq_merge.specs.Whole.{IsTrueTail}
 
 ending-told : {T : Type 0} (t : Trace T) (at : ℕ) (e : Option Ending) → t.ending ≡ e → at ≡ length t.items → IfSome (told_at at (ending_tail e)) (EndsAt t)
 ending-told t at None is here = tt

@@ -25,10 +25,11 @@ use Rattle.plinq_ops.proofs.Glue.{glued-append}
 use Rattle.plinq_ops.proofs.Rows.{row-next, glue-whole}
 use Rattle.plinq_ops.proofs.Runs.{batches_from-grown}
 use Rattle.plinq_ops.proofs.Stages.{seq-followed}
+use Rattle.plinq_ops.specs.Tails.{end_of_result, told_at, EndsAt}
 use Rattle.plinq_merge.specs.Part.{Part}
-use Rattle.plinq_merge.specs.Shown.{Merge, end_of_result, part_of, placed, all_placed, told_at, all_told, ending_at, row, merged, answer, shown}
+use Rattle.plinq_merge.specs.Shown.{Merge, part_of, placed, all_placed, all_told, ending_at, row, merged, answer, shown}
 use Rattle.plinq_merge.specs.Keys.{is_within, is_offered, is_waiting, is_apart}
-use Rattle.plinq_merge.specs.Whole.{EndsAt, AreTrueTails, AreApart, AreWhole, AreFirstOf}
+use Rattle.plinq_merge.specs.Whole.{AreTrueTails, AreApart, AreWhole, AreFirstOf}
 use Rattle.plinq_merge.proofs.Gains.{answer-open}
 use Rattle.plinq_merge.proofs.Overlaps.{IsFree, apart-start, apart-some, apart-rest, apart-insert, waiting-insert, none-before, not_within-before, not_within-after}
 use Rattle.plinq_merge.proofs.Takings.{arrived-by_key}

@@ -8,7 +8,7 @@ use Rattle.plinq_source.specs.declared.ending.Ending.{Ending}
 use Rattle.plinq_source.specs.declared.ending.Ending.TheVariants.{End, Refused, Fault}
 use Rattle.plinq_source.specs.Trace.{Trace, open_trace, ended, followed}
 use Rattle.plinq_keyed.specs.declared.tail.Tail.{Tail}
-use Rattle.plinq_keyed.specs.declared.tail.Tail.TheVariants.{Ended, Refused as TailRefused, Closed}
+use Rattle.plinq_keyed.specs.declared.tail.Tail.TheVariants.{Ended}
 use Rattle.plinq_ops.specs.declared.order.Order.{Order}
 use Rattle.plinq_ops.specs.declared.order.Order.TheVariants.{ByKey, ByArrival}
 use Rattle.plinq_ops.specs.declared.frag_end.FragEnd.{FragEnd}
@@ -17,11 +17,8 @@ use Rattle.plinq_ops.specs.declared.results.ChunkResult.{ChunkResult}
 use Rattle.plinq_ops.specs.Stage.{Stage, seq}
 use Rattle.plinq_ops.specs.Batches.{batches_from}
 use Rattle.plinq_ops.specs.Chunk.{result_trace}
+use Rattle.plinq_ops.specs.Tails.{end_of_result, told_at}
 use Rattle.plinq_merge.specs.Part.{Part}
-
--- the first key after those of a result
-abbrev pub end_of_result : {T : Type 0} → ChunkResult T → ℕ
-end_of_result r = r.first + r.count
 
 -- what is merged as soon as it arrives: nothing by key, the result by arrival
 abbrev pub at_once : {T : Type 0} → Order → ChunkResult T → Trace T
@@ -43,13 +40,6 @@ placed order parts r = if r.count == 0 then parts else insert_entry nat_cmp part
 abbrev pub all_placed : {T : Type 0} → Order → List (ℕ × Part T) → List (ChunkResult T) → List (ℕ × Part T)
 all_placed order parts [] = parts
 all_placed order parts (r ∷ rs) = all_placed order (placed order parts r) rs
-
--- where the source ends, and how, if the tail after these keys says so
-abbrev pub told_at : ℕ → Option Tail → Option (ℕ × Ending)
-told_at key None = None
-told_at key (Some Ended) = Some (key, End)
-told_at key (Some (TailRefused code)) = Some (key, Refused code)
-told_at key (Some Closed) = None
 
 -- the first that was reported
 abbrev pub all_told : {T : Type 0} → Option (ℕ × Ending) → List (ChunkResult T) → Option (ℕ × Ending)
@@ -95,15 +85,6 @@ abbrev pub shown : {T : Type 0} → Merge T → List (ChunkResult T) → List (L
 shown merge offers = batches_from merge.size [] (answer merge offers)
 
 -- ---- worked rows
-
-ended_tells_the_end : told_at 7 (Some Ended) ≡ Some (7, End)
-ended_tells_the_end = refl
-
-refused_tells_its_code : told_at 7 (Some (TailRefused 3)) ≡ Some (7, Refused 3)
-refused_tells_its_code = refl
-
-closed_tells_nothing : told_at 7 (Some Closed) ≡ None
-closed_tells_nothing = refl
 
 -- keys 0 and 1, a gap at 2, and key 3
 abbrev row_with_a_gap : Option (ℕ × Ending) → Trace ℕ

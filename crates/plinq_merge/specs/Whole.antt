@@ -4,12 +4,9 @@ use Rattle.std.specs.Option.{IfSome, IsSome}
 use Rattle.plinq_source.specs.declared.ending.Ending.{Ending}
 use Rattle.plinq_source.specs.Trace.{Trace}
 use Rattle.plinq_ops.specs.declared.results.ChunkResult.{ChunkResult}
-use Rattle.plinq_merge.specs.Shown.{told_at, all_told, end_of_result}
+use Rattle.plinq_ops.specs.Tails.{end_of_result, told_at, EndsAt}
+use Rattle.plinq_merge.specs.Shown.{all_told}
 use Rattle.plinq_merge.specs.Keys.{is_offered, AreNew}
-
--- the source ends there, and so
-abbrev pub EndsAt : {T : Type 0} → Trace T → ℕ × Ending → Type 0
-EndsAt t at = (at.0 ≡ length t.items) × (t.ending ≡ Some at.1)
 
 -- what a tail says of the source's end is so
 abbrev pub IsTrueTail : {T : Type 0} → Trace T → ChunkResult T → Type 0

@@ -1,7 +1,7 @@
 ghost use Rattle.std.specs.Prelude.{◌≡◌, ◌<◌, ◌≤◌, ◌^◌, ℕ, List, [], true, false, Ok, Err, IfOk, IfErr};
 ghost use Rattle.plinq_merge.specs.declared.standing.Standing.TheVariants.{Open, Decided};
 ghost use Rattle.plinq_ops.specs.declared.results.ChunkResult.{ChunkResult};
-ghost use Rattle.plinq_merge.specs.Shown.{end_of_result};
+ghost use Rattle.plinq_ops.specs.Tails.{end_of_result};
 ghost use Rattle.plinq_merge.specs.Keys.{is_offered};
 ghost use Rattle.plinq_merge.specs.Joining.{IsReady};
 ghost use Rattle.plinq_merge.specs.Joiners.{taker_of, order_of, WaitsFor, has_decided, ending_of, Takes};

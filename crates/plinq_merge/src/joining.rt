@@ -1,7 +1,7 @@
 ghost use Rattle.std.specs.Prelude.{◌≡◌, ◌≤◌, ◌^◌, List, [], true, Ok, None};
 ghost use Rattle.plinq_ops.specs.declared.results.ChunkResult.{ChunkResult};
+ghost use Rattle.plinq_ops.specs.Tails.{end_of_result};
 ghost use Rattle.plinq_source.specs.Trace.{open_trace};
-ghost use Rattle.plinq_merge.specs.Shown.{end_of_result};
 ghost use Rattle.plinq_merge.specs.Keys.{is_apart, IsFresh};
 ghost use Rattle.plinq_merge.specs.Joining.{rest_of, CanJoin, Holds, Waits, Joins};
 

@@ -3,7 +3,7 @@ ghost use Rattle.std.specs.Prelude.{◌≡◌, ◌≤◌, ◌^◌, ◌||◌, fal
 ghost use Rattle.plinq_merge.specs.Cancelling.{Counts, CountsNot};
 ghost use Rattle.plinq_merge.specs.Lent.{AreSame, delivery_of};
 ghost use Rattle.plinq_merge.specs.Mergers.{plan_of, delivered_of, is_cancelled, AsksEach, Takes, TakesWith};
-ghost use Rattle.plinq_merge.specs.Shown.{end_of_result};
+ghost use Rattle.plinq_ops.specs.Tails.{end_of_result};
 
 use crate::cancel::Cancel;
 use crate::merge_fault::MergeFault;

@@ -1,6 +1,7 @@
 ghost use Rattle.std.specs.Prelude.{◌≡◌, ◌<◌, ◌≤◌, ◌^◌, [], ◌∷◌, true, false, None, MatchBool, OnOk, IfOk};
 ghost use Rattle.std.specs.Option.{option_or};
-ghost use Rattle.plinq_merge.specs.Shown.{told_at, ending_at, end_of_result};
+ghost use Rattle.plinq_ops.specs.Tails.{end_of_result, told_at};
+ghost use Rattle.plinq_merge.specs.Shown.{ending_at};
 ghost use Rattle.plinq_merge.specs.Merging.{TakesIn};
 ghost use Rattle.plinq_merge.specs.Keys.{is_apart, is_first, IsFresh, IsRepeated, Places};
 

@@ -1,5 +1,5 @@
 ghost use Rattle.std.specs.Prelude.{◌≤◌, ◌^◌, ⊤, Ok, Err, true, IfOk};
-ghost use Rattle.plinq_merge.specs.Shown.{end_of_result};
+ghost use Rattle.plinq_ops.specs.Tails.{end_of_result};
 
 use plinq_keyed::Tail;
 use plinq_lambda::{ExpandFault, Formula, Lambda};

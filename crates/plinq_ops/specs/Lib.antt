@@ -14,5 +14,6 @@ pub mod ByKey
 pub mod Cut
 pub mod Row
 pub mod Chunk
+pub mod Tails
 pub mod AnswerRows
 pub mod MergeWords

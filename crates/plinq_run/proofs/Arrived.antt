@@ -23,10 +23,11 @@ use Rattle.plinq_ops.specs.ByKey.{are_keyless}
 use Rattle.plinq_ops.proofs.Keyless.{glued-keyless}
 use Rattle.plinq_ops.proofs.Cut.{undropped-uncut, result-is}
 use Rattle.plinq_ops.proofs.Glue.{glued-append, chunk_answer-uncut}
+use Rattle.plinq_ops.specs.Tails.{EndsAt}
 use Rattle.plinq_merge.specs.Part.{Part}
 use Rattle.plinq_merge.specs.Keys.{is_within, is_offered}
 use Rattle.plinq_merge.specs.Shown.{part_of, placed, all_placed, all_told, ending_at, row, arrived, merged}
-use Rattle.plinq_merge.specs.Whole.{EndsAt, AreTrueTails, AreApart}
+use Rattle.plinq_merge.specs.Whole.{AreTrueTails, AreApart}
 use Rattle.plinq_merge.proofs.Overlaps.{within-from}
 use Rattle.plinq_merge.proofs.Whole.{told-true}
 use Rattle.plinq_crew.specs.Results.{IsResult}

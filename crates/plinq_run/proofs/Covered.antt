@@ -19,8 +19,7 @@ use Rattle.plinq_ops.specs.Chunk.{ChunkAnswer, IsToldBy, IsChunkResult}
 use Rattle.plinq_ops.specs.Cut.{stop_keys, no_cut, is_cut}
 use Rattle.plinq_ops.specs.Row.{IsOffer}
 use Rattle.plinq_ops.proofs.Cut.{stop_keys-above, stop_keys-append, chunk_answer-above}
-use Rattle.plinq_merge.specs.Shown.{told_at, end_of_result}
-use Rattle.plinq_merge.specs.Whole.{EndsAt}
+use Rattle.plinq_ops.specs.Tails.{end_of_result, told_at, EndsAt}
 use Rattle.plinq_run.specs.declared.coverage.Coverage.{Coverage}
 use Rattle.plinq_run.specs.Handed.{is_end}
 use Rattle.plinq_run.specs.Reaching.{IsOffered, Covers}

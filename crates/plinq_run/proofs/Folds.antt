@@ -14,8 +14,9 @@ use Rattle.plinq_ops.specs.declared.order.Order.{Order}
 use Rattle.plinq_ops.specs.declared.order.Order.TheVariants.{ByKey, ByArrival}
 use Rattle.plinq_ops.specs.declared.results.ChunkResult.{ChunkResult}
 use Rattle.plinq_ops.specs.Chunk.{result_trace, run_ending}
+use Rattle.plinq_ops.specs.Tails.{end_of_result, told_at}
 use Rattle.plinq_merge.specs.Part.{Part}
-use Rattle.plinq_merge.specs.Shown.{end_of_result, at_once, waiting_trace, part_of, placed, all_placed, told_at, all_told, ending_at, row, arrived, merged}
+use Rattle.plinq_merge.specs.Shown.{at_once, waiting_trace, part_of, placed, all_placed, all_told, ending_at, row, arrived, merged}
 use Rattle.plinq_run.specs.Folds.{combined, IsFoldOf, AreFoldsOf, StandFor, IsFolded}
 
 module _ {T A O : Type 0} (f : Folding T A O) where

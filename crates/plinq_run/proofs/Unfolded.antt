@@ -13,10 +13,11 @@ use Rattle.plinq_ops.specs.declared.plan.Plan.{Plan}
 use Rattle.plinq_ops.specs.declared.results.ChunkResult.{ChunkResult}
 use Rattle.plinq_ops.specs.Operator.{stages_of}
 use Rattle.plinq_ops.specs.Stage.{seq}
+use Rattle.plinq_ops.specs.Tails.{end_of_result}
 use Rattle.plinq_merge.specs.declared.delivery_fault.DeliveryFault.{DeliveryFault}
 use Rattle.plinq_merge.specs.declared.delivery_fault.DeliveryFault.TheVariants.{Memory as NoMemory, Sink as Refusal}
 use Rattle.plinq_merge.specs.Keys.{is_within, is_offered}
-use Rattle.plinq_merge.specs.Shown.{merged, answer, end_of_result}
+use Rattle.plinq_merge.specs.Shown.{merged, answer}
 use Rattle.plinq_merge.specs.Whole.{AreApart}
 use Rattle.plinq_merge.proofs.Gains.{answer-open}
 use Rattle.plinq_run.specs.declared.combined.Combined.{Combined}

@@ -1,5 +1,5 @@
 ghost use Rattle.std.specs.Prelude.{◌≡◌, ◌≤◌, ◌^◌, false};
-ghost use Rattle.plinq_merge.specs.Shown.{end_of_result};
+ghost use Rattle.plinq_ops.specs.Tails.{end_of_result};
 ghost use Rattle.plinq_run.specs.Handed.{is_end};
 ghost use Rattle.plinq_run.specs.Reaching.{Grows, Reaches};
 

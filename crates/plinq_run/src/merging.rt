@@ -1,10 +1,10 @@
 //! What the caller's thread does with the parts that workers send.
 ghost use Rattle.std.specs.Prelude.{◌≡◌, ◌≤◌, ◌<◌, ◌^◌, ℕ, List, true, false, ◌||◌, is_some};
 ghost use Rattle.plinq_ops.specs.declared.results.ChunkResult.{ChunkResult};
+ghost use Rattle.plinq_ops.specs.Tails.{end_of_result};
 ghost use Rattle.plinq_merge.specs.Joiners.{WaitsFor, has_decided};
 ghost use Rattle.plinq_merge.specs.Keys.{is_offered};
 ghost use Rattle.plinq_merge.specs.Joining.{IsReady};
-ghost use Rattle.plinq_merge.specs.Shown.{end_of_result};
 ghost use Rattle.plinq_run.specs.Merged.{Accepts, AcceptsInto};
 
 use crate::coverage::Coverage;

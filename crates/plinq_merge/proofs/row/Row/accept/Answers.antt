@@ -5,7 +5,8 @@ use Rattle.plinq_source.proofs.Followed.{trace_of}
 use Rattle.plinq_merge.specs.Part.{Part}
 use Rattle.plinq_ops.specs.declared.order.Order.TheVariants.{ByKey, ByArrival}
 use Rattle.plinq_ops.specs.Chunk.{result_trace}
-use Rattle.plinq_merge.specs.Shown.{told_at, end_of_result, part_of, at_once}
+use Rattle.plinq_ops.specs.Tails.{end_of_result, told_at}
+use Rattle.plinq_merge.specs.Shown.{part_of, at_once}
 use Rattle.plinq_merge.specs.Keys.{Places}
 use Rattle.plinq_merge.proofs.Overlaps.{apart-placed}
 use Rattle.plinq_merge.proofs.Takings.{taken-none_row, taken-row, by_key-hand, by_arrival-hand, handed_back}
