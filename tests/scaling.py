@@ -1,14 +1,17 @@
 #!/usr/bin/env python3
-"""Runs the recipes of docs/SCALING.md, in which a text or a range is cut into shards, and compares what they print.
+"""Runs the recipes of docs/SCALING.md, by which several machines answer, or a shell's loop, and compares what they print.
 
     python3 tests/scaling.py
 
-Those that call GNU parallel want it (apt-get install parallel), and are counted as skipped where it isn't there; the plain
-loops are always run. In the place of other machines stands this one, by a name for which parallel needs no ssh.
+Those of a cluster want Dask (apt-get install python3-distributed), and those that call GNU parallel want it (apt-get install
+parallel). They are counted as skipped where it isn't there; the plain loops are always run. In the place of other machines
+stands this one, by a name for which parallel needs no ssh.
 """
+import json
 import os
 import re
 import shutil
+import socket
 import subprocess
 import tempfile
 
@@ -17,21 +20,42 @@ from support.program import HANGS, ROOT, Tests, build
 NUMBERS = range(100_000)
 ANSWER = [3 * it for it in NUMBERS if it % 2 == 0]
 SUM = 7_499_850_000
+QUERY = [["as_ordered"], ["filter", "even"], ["select", "mul", 3], ["with_merge", "not"]]
 
 
 def recipes():
     """The indented blocks of the page, each under the heading of its section."""
     with open(os.path.join(ROOT, "docs", "SCALING.md"), encoding="utf-8") as file:
         page = file.read()
-    for section in page.split("\n## ")[1:]:
+    for section in page.lstrip("# ").split("\n## "):
         heading = section.split("\n", 1)[0]
         for block in re.findall(r"(?:^    .*\n|^\n(?=    ))+", section, re.M):
             yield heading, "".join(line[4:] or "\n" for line in block.splitlines(True)).strip("\n")
 
 
+def on_this_machine(recipe):
+    """The commands of a cluster, of which all but the last go on, at a port that is free."""
+    with socket.create_server(("127.0.0.1", 0)) as free:
+        port = free.getsockname()[1]
+    recipe = re.sub(r"(?m)^(dask .*)", r"\1 2> /dev/null &", recipe).replace("8786", str(port)).replace("node0", "127.0.0.1")
+    return f"trap 'kill $(jobs -p); wait' EXIT\n{recipe}"
+
+
+def wants(recipe):
+    """What a recipe wants that isn't installed."""
+    if recipe.startswith("parallel ") and not shutil.which("parallel"):
+        return "parallel"
+    is_of_cluster = recipe.startswith(("dask ", "cluster/"))
+    if is_of_cluster and subprocess.run(["/usr/bin/python3", "-c", "import distributed"], capture_output=True).returncode:
+        return "python3-distributed"
+    return None
+
+
 def run(recipe, folder):
     env = os.environ | {"PATH": f"{ROOT}:{os.environ['PATH']}", "HOME": folder}
     recipe = recipe.replace("--sshlogin node1,node2", "--sshlogin :")
+    if recipe.startswith("dask "):
+        recipe = on_this_machine(recipe)
     ran = subprocess.run(["bash", "-euo", "pipefail", "-c", recipe], cwd=folder, env=env, capture_output=True, text=True, timeout=HANGS)
     return ran.returncode, ran.stdout, ran.stderr
 
@@ -39,22 +63,26 @@ def run(recipe, folder):
 def main():
     build()
     tests = Tests()
-    skipped = 0
+    skipped = []
     lines = "".join(f"{it}\n" for it in ANSWER)
-    wanted = {"A shard": "", "An aggregate": f"{SUM}\n"}
-    found = {}
+    # (what each recipe prints, in the order of the page)
+    of_cluster = f"{lines}end\n"
+    prints = [of_cluster, of_cluster, "", lines + lines, lines, f"{SUM}\n"]
     with tempfile.TemporaryDirectory() as folder:
         with open(f"{folder}/numbers.txt", "w") as file:
             file.writelines(f"{it}\n" for it in NUMBERS)
-        for heading, recipe in recipes():
-            found[heading] = found.get(heading, 0) + 1
-            if recipe.startswith("parallel ") and not shutil.which("parallel"):
-                skipped += 1
+        with open(f"{folder}/document.json", "w") as file:
+            json.dump({"version": 1, "source": {"range": [0, len(NUMBERS)]}, "query": QUERY}, file)
+        os.symlink(f"{ROOT}/cluster", f"{folder}/cluster")
+        found = list(recipes())
+        tests.check("the page has its recipes", len(found) == len(prints), found)
+        for (heading, recipe), wanted in zip(found, prints):
+            if wants(recipe):
+                skipped.append(wants(recipe))
                 continue
             status, output, errors = run(recipe, folder)
-            is_so = (status, output) == (0, wanted.get(heading, lines))
+            is_so = (status, output) == (0, wanted)
             tests.check(f"{heading}: {recipe.splitlines()[0]}", is_so, (status, output[:200], errors[-500:]))
-        tests.check("the page has its recipes", found == {"A shard": 1, "On this machine": 3, "On several machines": 1, "A range": 1, "An aggregate": 1}, found)
 
         # what the page says of the operators and of a shard that fails
         first = '{"version":1,"source":{"range":[%d,2]},"query":[["as_ordered"],["%s",1]]}'
@@ -67,7 +95,7 @@ def main():
         seen = run("./shard < bad", folder)
         tests.check("a shard that fails has plinq's status, and its lines so far", seen[:2] == (3, "6\n12\n"), seen)
     if skipped:
-        print(f"skipped {skipped} recipes: parallel isn't installed")
+        print(f"skipped {len(skipped)} recipes: not installed: {' '.join(sorted(set(skipped)))}")
     tests.end()
 
 

@@ -1,0 +1,116 @@
+"""Asks the workers of a Dask cluster. What is scheduled, sent again and moved between machines is Dask's work."""
+import collections
+import contextlib
+import time
+
+import distributed
+
+from . import program
+from .trouble import own
+
+# Dask sends a shard again so often where its answer failed on a worker.
+RETRIES = 3
+# How many seconds there may be no worker at all.
+PATIENCE = 30
+TICK = 0.25
+# How many bytes of items one answer brings.
+MOST_BYTES = 16 << 20
+
+
+class Asked:
+    """A question that a worker has, and what it answers."""
+
+    def __init__(self, cluster, shard, future):
+        self.cluster, self.shard, self.future = cluster, shard, future
+
+    def answer(self):
+        """The answer, once it is there, with all its items."""
+        return self.cluster.result(self.shard, self.future)
+
+    def summary(self):
+        """The ending and the number of items. The items stay on their worker."""
+        small = self.cluster.client.submit(program.ending_of, self.future, pure=False, retries=RETRIES)
+        return self.cluster.result(self.shard, small)
+
+    def count(self):
+        """How many items a shard has, of which a count was asked for, and its ending."""
+        answer = self.answer()
+        return int(answer["items"] or 0), answer["ending"]
+
+    def has_items(self):
+        """Whether there are items, and the ending."""
+        answer = self.answer()
+        return bool(answer["items"]), answer["ending"]
+
+
+class Cluster:
+    """The workers, the program that each of them is to have, and what shows how far they are."""
+
+    def __init__(self, client, where, path, degree, progress):
+        self.client, self.where, self.path, self.degree, self.progress = client, where, path, degree, progress
+        self.sum = program.sum_of(path)[1]
+        self.looked, self.threads, self.empty_since = 0, 1, None
+        self.look()
+
+    def look(self):
+        """Looks now and then how many threads the workers have."""
+        now = time.monotonic()
+        if now < self.looked + 1:
+            return
+        self.looked = now
+        workers = self.client.scheduler_info()["workers"]
+        self.threads = max(1, sum(it["nthreads"] for it in workers.values()))
+        self.progress.has_workers(set(workers))
+        self.empty_since = None if workers else self.empty_since or now
+        if not workers and now > self.empty_since + PATIENCE:
+            raise own(f"{self.where}: no worker is left")
+
+    def ask(self, shard, steps, aggregate=None, merge="not"):
+        """Asks the workers what these steps make of a shard's source."""
+        question = {
+            "program": self.path,
+            "sum": self.sum,
+            "degree": self.degree,
+            "source": shard.source,
+            "steps": list(steps),
+            "aggregate": aggregate,
+            "merge": merge,
+            # (what is left is asked for by one step more)
+            "most": MOST_BYTES if len(steps) < program.MOST_STEPS else float("inf"),
+        }
+        return Asked(self, shard, self.client.submit(program.answer, question, pure=False, retries=RETRIES))
+
+    def in_order(self, shards, question):
+        """Each shard in order with what was asked of it, some ahead for each worker; a shard may need no question."""
+        ahead = collections.deque()
+        for shard in shards:
+            words = question(shard)
+            ahead.append((shard, words and self.ask(shard, *words)))
+            if len(ahead) > 2 * self.threads:
+                yield ahead.popleft()
+        while ahead:
+            yield ahead.popleft()
+
+    def result(self, shard, future):
+        """What a future comes to, or the one line that says why it comes to nothing."""
+        try:
+            self.wait(future)
+            answer = future.result()
+        except distributed.scheduler.KilledWorker as error:
+            times, last = error.allowed_failures + 1, error.last_worker.address
+            raise own(f"shard {shard.at}: lost with its worker {times} times, the last time {last}") from None
+        except (distributed.CancelledError, distributed.comm.CommClosedError):
+            raise own(f"{self.where}: gone") from None
+        except RuntimeError as error:
+            raise own(f"shard {shard.at}: {error}") from None
+        if "trouble" in answer:
+            raise own(answer["trouble"])
+        return answer
+
+    def wait(self, future):
+        """Waits for a future, and shows meanwhile how far the cluster is."""
+        while not future.done():
+            with contextlib.suppress(distributed.TimeoutError):
+                distributed.wait([future], timeout=TICK)
+            self.look()
+            self.progress.show()

@@ -1,0 +1,81 @@
+"""Reads a document, and has `plinq` refuse what it refuses."""
+import dataclasses
+import json
+import os
+import shutil
+import subprocess
+
+from .trouble import Trouble, own
+
+LONGEST = 16_777_216
+# Steps that move no element: which element comes before which is the source's order here.
+SETTINGS = ("as_ordered", "as_unordered", "with_merge", "with_degree")
+
+
+@dataclasses.dataclass(frozen=True)
+class Document:
+    """What is to be answered: a source as it stands in the document, operators in their order, and how the answer is shown."""
+
+    source: dict
+    steps: list
+    merge: str
+    degree: int
+    aggregate: str
+
+
+def read():
+    """All of standard input, or as much as shows that it is too long."""
+    try:
+        with open(0, "rb", closefd=False) as file:
+            return file.read(LONGEST + 1)
+    except OSError:
+        raise Trouble("plinq: read failed") from None
+
+
+def with_empty_text(text):
+    """The document with an empty text for its source: of a name that is given twice the last one counts."""
+    body = text.rstrip(b" \t\r\n")
+    if not body.endswith(b"}"):
+        return text
+    body = body[:-1]
+    comma = b"" if body.strip(b" \t\r\n") == b"{" else b","
+    return body + comma + b'"source":{"text":""}}'
+
+
+def judged(program, text, workers, merge):
+    """The lines of `plinq plan`, which reads the document as `plinq run` does. What it refuses is refused here."""
+    words = [program, "plan"]
+    words += ["--workers", str(workers)] if workers else []
+    words += ["--merge", merge] if merge else []
+    try:
+        ran = subprocess.run(words, input=text, capture_output=True)
+    except OSError as error:
+        raise own(f"{program}: {error.strerror}") from None
+    if ran.returncode:
+        raise Trouble(ran.stderr.decode("utf-8", "replace").rstrip("\n"), ran.returncode)
+    return ran.stdout.decode().splitlines()
+
+
+def understood(program, text, workers=None, merge=None):
+    """The document of these bytes."""
+    lines = judged(program, text, workers, merge)
+    value = json.loads(text.decode())
+    steps = value["query"]
+    asked = next((it[1] for it in steps if it[0] == "with_degree"), workers)
+    return Document(
+        source=value["source"],
+        steps=[it for it in steps if it[0] not in SETTINGS],
+        merge=next(it[len("merge ") :] for it in lines if it.startswith("merge ")),
+        # (one of each worker's threads has a shard, so a shard has one thread where nothing else is asked for)
+        degree=asked or 1,
+        aggregate=value.get("aggregate"),
+    )
+
+
+def found(program):
+    """The program's name, by which each machine finds its own, and its path on this one."""
+    name = os.path.abspath(program) if "/" in program else program
+    path = shutil.which(name)
+    if path is None:
+        raise own(f"{program} isn't there: build it by ./plinq --build, or name another by --program")
+    return name, path

@@ -1,0 +1,81 @@
+"""Starts a Dask cluster on this machine, or finds one that is there."""
+import contextlib
+import importlib.util
+import logging
+import signal
+import tempfile
+import warnings
+
+import cloudpickle
+import dask
+import distributed
+
+from . import program
+from .trouble import own
+
+# How many seconds a scheduler may take to answer, and then to have its first worker.
+PATIENCE = 10
+PATIENCE_FOR_WORKERS = 30
+
+
+def be_quiet():
+    """Leaves standard error to this command: what a cluster has to report comes as the one line of its trouble."""
+    logging.disable(logging.CRITICAL)
+    warnings.simplefilter("ignore")
+    # (workers need no file of this folder)
+    cloudpickle.register_pickle_by_value(program)
+
+
+@contextlib.contextmanager
+def without_interrupts():
+    """Starts processes that don't hear Ctrl-C: they end with the cluster. One that comes meanwhile is heard afterwards."""
+    before = signal.pthread_sigmask(signal.SIG_BLOCK, {signal.SIGINT})
+    try:
+        yield
+    finally:
+        signal.pthread_sigmask(signal.SIG_SETMASK, before)
+
+
+def dashboard():
+    """Where Dask's own dashboard is shown: at any free port, where its library is installed."""
+    return ":0" if importlib.util.find_spec("bokeh") else None
+
+
+@contextlib.contextmanager
+def local(count):
+    """A cluster of so many workers of one thread each on this machine, for as long as it is wanted."""
+    with tempfile.TemporaryDirectory(prefix="plinq-cluster-", ignore_cleanup_errors=True) as folder:
+        with without_interrupts():
+            cluster = distributed.LocalCluster(
+                n_workers=count,
+                threads_per_worker=1,
+                processes=True,
+                dashboard_address=dashboard(),
+                silence_logs=logging.CRITICAL,
+                local_directory=folder,
+            )
+        try:
+            with distributed.Client(cluster) as client:
+                yield client
+        finally:
+            with contextlib.suppress(Exception):
+                cluster.close(timeout=10)
+
+
+@contextlib.contextmanager
+def remote(address):
+    """The cluster of a scheduler that is there."""
+    try:
+        with dask.config.set({"distributed.comm.timeouts.connect": f"{PATIENCE}s"}):
+            client = distributed.Client(address, timeout=PATIENCE)
+    except (OSError, ValueError, distributed.TimeoutError) as error:
+        raise own(f"scheduler {address}: {str(error) or 'no answer'}") from None
+    try:
+        try:
+            client.wait_for_workers(1, timeout=PATIENCE_FOR_WORKERS)
+        except distributed.TimeoutError:
+            raise own(f"scheduler {address}: it has no worker") from None
+        yield client
+    finally:
+        with contextlib.suppress(Exception):
+            client.close(timeout=5)

@@ -1,0 +1,409 @@
+#!/usr/bin/python3
+"""Runs documents by `cluster/plinq-cluster` over clusters of this machine, and compares what it prints with `plinq`.
+
+    python3 tests/cluster.py
+
+It wants Dask (apt-get install python3-distributed), which the system's own python3 has, and without it tries no more than
+what is refused before a cluster is asked. As root and where `ip` is, one of its clusters has hosts in network namespaces.
+"""
+import concurrent.futures
+import contextlib
+import importlib
+import json
+import os
+import pty
+import random
+import shutil
+import signal
+import subprocess
+import sys
+import tempfile
+import time
+
+SYSTEM = "/usr/bin/python3"
+try:
+    import distributed
+except ImportError:
+    has_dask = subprocess.run([SYSTEM, "-c", "import distributed"], capture_output=True).returncode == 0
+    if has_dask and os.path.realpath(sys.executable) != os.path.realpath(SYSTEM):
+        os.execv(SYSTEM, [SYSTEM, *sys.argv])
+    distributed = None
+
+from support.program import HANGS, PROGRAM, ROOT, Outcome, Tests, build, run
+from support.workers import COMMAND, Machines, Net, end
+
+sys.path.insert(0, os.path.join(ROOT, "cluster"))
+documents = importlib.import_module("random-documents")
+ORDERED = ["as_ordered"]
+DOCUMENTS = 1_000
+
+
+def text_of(source, *steps, **more):
+    return json.dumps({"version": 2, "source": source, "query": [ORDERED, *steps], **more}).encode()
+
+
+def command(words, text, **how):
+    return run(words, text, COMMAND, **how)
+
+
+def lines(numbers):
+    return b"".join(b"%d\n" % it for it in numbers)
+
+
+class InProcess:
+    """A cluster of three workers in this very process, so that thousands of documents need no other."""
+
+    def __enter__(self):
+        from plinq_shards import workers
+
+        workers.be_quiet()
+        self.cluster = distributed.LocalCluster(n_workers=3, threads_per_worker=1, processes=False, dashboard_address=None)
+        self.client = distributed.Client(self.cluster)
+        return self
+
+    def __exit__(self, *_):
+        self.client.close()
+        self.cluster.close()
+
+    def answer(self, text, count, path=PROGRAM):
+        """What the command prints of a document over so many shards of each source, and its status."""
+        from plinq_shards import answer, cluster, document, program, progress, shard, trouble
+
+        asked = document.understood(PROGRAM, text)
+        there = cluster.Cluster(self.client, "scheduler", path, asked.degree, progress.Progress(None))
+        written = []
+        shards = shard.shards(shard.parts_of(asked.source, shard.Cut(count, 3)))
+        try:
+            ending = answer.show(there, asked, shards, written.append)
+        except trouble.Trouble as it:
+            return Outcome(it.status, b"".join(written), it.line.encode())
+        return Outcome(program.STATUSES[ending.split(" ")[0]], b"".join(written), b"")
+
+
+def some_documents(chance):
+    """Random documents of both versions."""
+    while True:
+        version = chance.choice([1, 2])
+        source, steps = documents.some_source(chance, version), documents.some_steps(chance, version)
+        if documents.is_too_long(source, steps):
+            continue
+        document = {"version": version, "source": source, "query": steps}
+        aggregate = chance.choice([None, None, None, None, *documents.AGGREGATES])
+        yield document | ({"aggregate": aggregate} if aggregate else {})
+
+
+def compare(tests, local, document):
+    """A document by 1, 3 and 8 shards, beside the program, or its `seq` where `run` may give another order."""
+    text = json.dumps(document).encode()
+    word = "seq" if documents.gives_order_up(document["query"]) else "run"
+    right = run([word], text, PROGRAM)
+    for count in (1, 3, 8):
+        seen = local.answer(text, count)
+        tests.check(f"{count} shards of {text.decode()}", seen == right, f"wanted {right}; seen {seen}")
+    return right.output.splitlines()[-1].rstrip(b"0123456789")
+
+
+def random_documents(tests, local):
+    found = some_documents(random.Random(11))
+    chosen = [next(found) for _ in range(DOCUMENTS)]
+    with concurrent.futures.ThreadPoolExecutor(4) as pool:
+        endings = set(pool.map(lambda it: compare(tests, local, it), chosen))
+    tests.check("documents ended in every way", endings == {b"end", b"refused ", b"fault overflow", b"fault division", b"fault toomany"}, endings)
+
+
+
+def wrapper(folder, name, script):
+    """A program that stands in the place of `plinq` for all but plans."""
+    path = os.path.join(folder, name)
+    with open(path, "w") as file:
+        file.write(f'#!/bin/bash\n[ "$1" = plan ] && exec {PROGRAM} "$@"\n{script}\n')
+    os.chmod(path, 0o755)
+    return path
+
+
+def slow(folder, name, seconds):
+    """A program that takes its time for each shard, and writes down that it was asked."""
+    return wrapper(folder, name, f'echo $$ >> {folder}/{name}.asked\nsleep {seconds}\nexec {PROGRAM} "$@"')
+
+
+def asked(folder, name):
+    """The processes that such a program was so far."""
+    with contextlib.suppress(FileNotFoundError), open(f"{folder}/{name}.asked") as file:
+        return [int(it) for it in file]
+    return []
+
+
+def wait_until(is_so, what):
+    until = time.monotonic() + HANGS / 2
+    while not is_so():
+        if time.monotonic() > until:
+            raise RuntimeError(f"waited in vain: {what}")
+        time.sleep(0.02)
+
+
+def liars(tests, local, folder):
+    """Programs that lie about each shard: the comparison of these tests finds them."""
+    text = text_of({"range": [-2000, 4000]}, ["select", "into", 10**6], ["with_merge", "not"])
+    right = run(["run"], text, PROGRAM)
+    lies = {
+        "two lines swapped": ("awk 'NR == 1 { first = $0; next } NR == 2 { print; print first; next } 1'", "$?"),
+        "a line lost": ("sed 3d", "$?"),
+        "end for a fault": ("sed 's/fault.*/end/'", "0"),
+        "none": ("cat", "$?"),
+    }
+    for name, (filter, status) in lies.items():
+        path = wrapper(folder, name.replace(" ", "-"), f'set -o pipefail\n{PROGRAM} "$@" | {filter}\nexit {status}')
+        seen = local.answer(text, 3, path)
+        tests.check(f"a program that lies is found: {name}", (seen == right) == (name == "none"), seen)
+
+
+def portions(tests, local):
+    """Answers of more bytes than one question brings."""
+    from plinq_shards import cluster
+
+    before, cluster.MOST_BYTES = cluster.MOST_BYTES, 1_000
+    try:
+        for merge in ("not", "auto", "full"):
+            text = text_of({"range": [-3, 600]}, ["select_many", "up_to"], ["take", 2345], ["select", "mul", 7], ["with_merge", merge])
+            right = run(["run"], text, PROGRAM)
+            seen = local.answer(text, 3)
+            tests.check(f"a shard's answer in portions: {merge}", seen == right, f"wanted {right}; seen {seen}")
+    finally:
+        cluster.MOST_BYTES = before
+
+
+def refused(tests):
+    """What is refused before a cluster is asked: there is none at this address."""
+    words = ["--scheduler", "127.0.0.1:1"]
+    for text in (b"[", b"{}", b'{"version":3}', text_of({"range": [2**63 - 1, 2]}), text_of({"list": []}, ["sort"])):
+        seen, right = command(words, text), run(["run"], text, PROGRAM)
+        tests.check(f"refused: {text.decode()}", seen == right and seen.status == 2, seen)
+    twice = text_of({"list": [1]}, ["with_merge", "full"])
+    seen, right = command([*words, "--merge", "not"], twice), run(["run", "--merge", "not"], twice, PROGRAM)
+    tests.check("refused: a merge option twice", seen == right and seen.status == 2, seen)
+    closed = ["-c", 'exec "$@" <&-', "bash"]
+    seen, right = run([*closed, COMMAND, *words], program="/bin/bash"), run([*closed, PROGRAM, "run"], program="/bin/bash")
+    tests.check("refused: a closed input", seen == right and seen.status == 5, f"wanted {right}; seen {seen}")
+    seen = command([*words, "--text", "/nowhere"], text_of({"list": [1]}))
+    tests.check("refused: a text that isn't there", seen == Outcome(5, b"", b"plinq-cluster: /nowhere: No such file or directory\n"), seen)
+    seen = command([*words, "--program", "/nowhere"], text_of({"list": [1]}))
+    tests.check("refused: a program that isn't there", seen.status == 5 and seen.errors.startswith(b"plinq-cluster: /nowhere isn't there: "), seen)
+
+
+def is_trouble(seen, right, said):
+    """Whether this is one line on standard error that says so, after a beginning of the right lines."""
+    is_beginning = right.startswith(seen.output) and seen.output[-1:] in (b"", b"\n")
+    return seen.status == 5 and is_beginning and seen.errors.count(b"\n") == 1 and said in seen.errors.decode()
+
+
+SHARDS = 24
+WORK = text_of({"range": [0, 240_000]}, ["filter", "even"], ["skip", 7], ["select", "mul", 3], ["with_merge", "not"])
+ANSWER = lines(range(42, 720_000, 6)) + b"end\n"
+
+
+def begun(words, text=WORK, prefix=(), **how):
+    """The command at work on a document. Where nothing else is said it writes into a file, so nobody has to read it meanwhile."""
+    how = {"stdout": tempfile.TemporaryFile()} | how
+    child = subprocess.Popen([*prefix, COMMAND, *words], stdin=subprocess.PIPE, stderr=subprocess.PIPE, **how)
+    child.written = how["stdout"]
+    child.stdin.write(text)
+    child.stdin.close()
+    return child
+
+
+def ended(child):
+    """How the command ended."""
+    try:
+        child.wait(HANGS)
+    except subprocess.TimeoutExpired:
+        child.kill()
+    errors = child.stderr.read()
+    child.written.seek(0)
+    return Outcome(child.wait(), child.written.read(), errors)
+
+
+def over(machines, path, *words):
+    return ["--scheduler", machines.address, "--shards", str(SHARDS), "--program", path, *words]
+
+
+def lost_worker(tests, folder):
+    """One of three workers is killed in the middle; the scheduler is killed in the middle of the next run."""
+    with Machines(folder) as machines:
+        workers = [machines.worker(name, "--no-nanny") for name in ("a", "b", "c")]
+        machines.are_there("a", "b", "c")
+        child = begun(over(machines, slow(folder, "first", 0.1)))
+        wait_until(lambda: len(asked(folder, "first")) > 9, "shards that are asked")
+        end(workers[1])
+        seen = ended(child)
+        tests.check("a worker that is killed in the middle", seen == Outcome(0, ANSWER, b""), seen)
+        child = begun(over(machines, slow(folder, "second", 0.1)))
+        wait_until(lambda: len(asked(folder, "second")) > 12, "shards that are asked")
+        end(machines.scheduler)
+        seen = ended(child)
+        tests.check("a scheduler that is killed in the middle", is_trouble(seen, ANSWER, f"plinq-cluster: scheduler {machines.address}: gone"), seen)
+
+
+def deadly_shard(tests, folder):
+    """A worker is killed at each try of one shard."""
+    path = wrapper(folder, "deadly", f"""document=$(cat)\n[[ $document = *'[60000, 10000]'* ]] && kill -9 $PPID\n{PROGRAM} "$@" <<< "$document" """)
+    seen = ended(begun(["--local", "2", "--shards", str(SHARDS), "--program", path]))
+    tests.check("a worker that is killed at each try", is_trouble(seen, ANSWER, "lost with its worker 4 times, the last time tcp://"), seen)
+
+
+def cut_link(tests, folder):
+    """Three hosts in network namespaces, one link cut in the middle."""
+    with Net(3) as net, Machines(folder, "10.77.0.1", net.within(net.hub)) as machines:
+        for at, host in enumerate(net.hosts):
+            machines.worker(f"host{at}", "--no-nanny", prefix=net.within(host), host=net.address(at))
+        machines.are_there("host0", "host1", "host2")
+        child = begun(over(machines, slow(folder, "far", 0.1)), prefix=net.within(net.hub))
+        wait_until(lambda: len(asked(folder, "far")) > 9, "shards that are asked")
+        net.cut(1)
+        seen = ended(child)
+        tests.check("a link that is cut in the middle", seen == Outcome(0, ANSWER, b""), seen)
+
+
+def few_shards(tests, folder):
+    """What ends early asks for few shards."""
+    text = text_of({"range": [0, 2**40]}, ["filter", "even"], ["take", 10])
+    seen = ended(begun(["--local", "2", "--program", slow(folder, "counting", 0)], text))
+    count = len(asked(folder, "counting"))
+    right = Outcome(0, b"0 2 4 6 8 10 12 14 16 18\nend\n", b"")
+    tests.check("ten of 2^40", seen == right and 0 < count < 10, (seen, count))
+
+
+def peak(child):
+    """The greatest memory that a process had, in MB, and its output's length."""
+    length = 0
+    while block := child.stdout.read(1 << 20):
+        length += len(block)
+    _, status, used = os.wait4(child.pid, 0)
+    child.returncode = status
+    return used.ru_maxrss / 1024, length, status
+
+
+def flat_memory(tests, machines):
+    """Of ten million lines this process holds no more than of one million."""
+    peaks = []
+    for count in (10**6, 10**7):
+        child = begun(["--scheduler", machines.address, "--merge", "not"], text_of({"range": [10**8, count]}), stdout=subprocess.PIPE)
+        used, length, status = peak(child)
+        tests.check(f"{count} lines", (length, status) == (10 * count + 4, 0), (length, status))
+        peaks.append(used)
+    tests.check("memory is flat", peaks[1] < 1.25 * peaks[0], peaks)
+
+
+def is_running(process):
+    try:
+        with open(f"/proc/{process}/stat") as file:
+            return file.read().rpartition(")")[2].split()[0] != "Z"
+    except OSError:
+        return False
+
+
+def left(tests, machines, folder):
+    """Ctrl-C, and a reader that leaves: what runs on the workers ends."""
+    silent, loud = text_of({"range": [0, 2**40]}, ["filter", "equal", -1]), text_of({"range": [0, 2**40]})
+    words = ["--scheduler", machines.address, "--shards", "4", "--program"]
+    child = begun([*words, slow(folder, "silent", 0)], silent)
+    wait_until(lambda: len(asked(folder, "silent")) >= 2, "shards that are asked")
+    child.send_signal(signal.SIGINT)
+    seen = ended(child)
+    tests.check("Ctrl-C", seen == Outcome(-signal.SIGINT, b"", b""), seen)
+    child = begun([*words, slow(folder, "loud", 0)], loud, stdout=subprocess.PIPE)
+    child.stdout.read(1000)
+    child.stdout.close()
+    errors = child.stderr.read()
+    tests.check("a reader that leaves", (child.wait(), errors) == (5, b"plinq: write failed\n"), (child.returncode, errors))
+    closed = ["-c", 'exec "$@" >&-', "bash", COMMAND, "--scheduler", machines.address]
+    seen = run(closed, text_of({"list": [1]}), "/bin/bash")
+    tests.check("a closed output", seen == Outcome(5, b"", b"plinq: write failed\n"), seen)
+    running = asked(folder, "silent") + asked(folder, "loud")
+    wait_until(lambda: not any(map(is_running, running)), "shards that end")
+    tests.check("what ran has ended", len(running) >= 4, running)
+
+
+def large_text(tests, machines, folder):
+    """A text that no document can hold, and one with a number that none can hold."""
+    words = ["--scheduler", machines.address, "--text"]
+    with open(f"{folder}/large", "wb") as file:
+        file.write(lines(range(10**6, 3 * 10**6)))
+    seen = command([*words, f"{folder}/large"], b'{"version":1,"query":[["filter","even"]],"aggregate":"sum"}')
+    tests.check("a text of 16,000,000 bytes", seen == Outcome(0, b"%d\nend\n" % sum(range(10**6, 3 * 10**6, 2)), b""), seen)
+    with open(f"{folder}/long", "wb") as file:
+        file.write(b"1 -" + b"0" * 20_000_000 + b"7\n3\r\n5")
+    seen = command([*words, f"{folder}/long"], b'{"version":1,"query":[["as_ordered"]]}')
+    tests.check("a number of 20,000,000 digits", seen == Outcome(3, b"1 -7\nrefused 1\n", b""), seen)
+
+
+def other_programs(tests, folder):
+    """Workers that have no program, or another one than this machine."""
+    own, other = f"{folder}/own", f"{folder}/other"
+    for it in (own, other):
+        os.mkdir(it)
+    os.symlink(PROGRAM, f"{own}/plinq")
+    wrapper(other, "plinq", f'exec {PROGRAM} "$@"')
+    here = os.environ | {"PATH": f"{own}:{os.environ['PATH']}"}
+    for name, path, why in (("none", "/usr/bin:/bin", "plinq isn't there"), ("changed", f"{other}:/usr/bin:/bin", f"{other}/plinq is another program than here")):
+        with Machines(folder) as machines:
+            machines.worker(name, "--no-nanny", env={"PATH": path}.items())
+            machines.are_there(name)
+            seen = ended(begun(over(machines, "plinq"), env=here))
+        tests.check(f"a worker's program: {name}", is_trouble(seen, ANSWER, why) and b"worker tcp://127.0.0.1:" in seen.errors, seen)
+    seen = ended(begun(["--scheduler", "127.0.0.1:1"]))
+    tests.check("a scheduler that isn't there", is_trouble(seen, ANSWER, "plinq-cluster: scheduler 127.0.0.1:1: "), seen)
+
+
+def help_and_progress(tests, folder):
+    """The example that help shows, on a terminal."""
+    seen = command(["--help"], b"")
+    tests.check("help", seen.status == 0 and b"--scheduler HOST:PORT" in seen.output and seen.errors == b"", seen)
+    shown = seen.output.decode()
+    text = shown[shown.index('{"version"') : shown.index("' |")].encode()
+    ours, theirs = pty.openpty()
+    child = subprocess.Popen([COMMAND, "--local", "1", "--program", slow(folder, "seen", 1)], stdin=subprocess.PIPE, stdout=subprocess.PIPE, stderr=theirs)
+    output = child.communicate(text, timeout=HANGS)[0]
+    os.close(theirs)
+    said = b""
+    with contextlib.suppress(OSError):
+        while block := os.read(ours, 1000):
+            said += block
+    tests.check("the example of help", output.decode() in shown.replace("\n  ", "\n") and output.endswith(b"end\n"), output)
+    tests.check("progress on a terminal", b" shards done, " in said and said.endswith(b"\r\x1b[K"), said)
+
+
+def processes(tests, folder):
+    """What wants a cluster of processes."""
+    for it in (lost_worker, deadly_shard, few_shards, other_programs, help_and_progress):
+        it(tests, folder)
+    with Machines(folder) as machines:
+        for name in ("e", "f"):
+            machines.worker(name, "--no-nanny")
+        machines.are_there("e", "f")
+        flat_memory(tests, machines)
+        left(tests, machines, folder)
+        large_text(tests, machines, folder)
+    if os.geteuid() == 0 and shutil.which("ip"):
+        cut_link(tests, folder)
+    else:
+        print("left out: a link that is cut: it wants root and ip (apt-get install iproute2)")
+
+
+def main():
+    build()
+    tests = Tests()
+    refused(tests)
+    if distributed is None:
+        print("left out: all that wants a cluster: Dask isn't installed (apt-get install python3-distributed)")
+        tests.end()
+    with tempfile.TemporaryDirectory() as folder:
+        with InProcess() as local:
+            random_documents(tests, local)
+            portions(tests, local)
+            liars(tests, local, folder)
+        processes(tests, folder)
+    tests.end()
+
+
+if __name__ == "__main__":
+    main()
