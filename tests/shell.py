@@ -5,8 +5,10 @@
 """
 import os
 import re
+import shutil
 import subprocess
 
+from support.checking import module
 from support.program import HANGS, ROOT, Tests, build, run
 
 SHARE = os.path.join(ROOT, "share")
@@ -23,6 +25,14 @@ def completed(*words):
     line = f'source "$0"; COMP_WORDS=("$@"); COMP_CWORD=$(($# - 1)); _plinq; printf "%s\\n" "${{COMPREPLY[@]}}"'
     ran = subprocess.run(["bash", "-c", line, f"{SHARE}/plinq.bash", *words], capture_output=True, text=True, timeout=HANGS)
     return ran.stdout.split()
+
+
+def mandoc(path):
+    """What mandoc finds at fault in a man page."""
+    if not shutil.which("mandoc"):
+        return "this test wants mandoc (apt-get install mandoc)"
+    ran = subprocess.run(["mandoc", "-T", "lint", path], capture_output=True, text=True, timeout=HANGS)
+    return ran.stdout + ran.stderr
 
 
 def main():
@@ -42,15 +52,29 @@ def main():
     for name in ("plinq.1", "plinq.bash", "plinq.fish", "_plinq"):
         with open(f"{SHARE}/{name}", encoding="utf-8") as file:
             files[name] = file.read()
-    page = files["plinq.1"].replace("\\-", "-")
+    # (without the ends of lines within a text)
+    page = re.sub(r"(?<=\n)((?![.\n]).+)\n(?=(?![.\n]).)", r"\1 ", files["plinq.1"].replace("\\-", "-"))
     sections = dict(re.findall(r"^\.SH (.*)\n((?:(?!\.SH).*\n)*)", page, re.M))
     tests.check("the man page has the commands", re.findall(r"^\.TP\n\.B (\w+)$", sections["COMMANDS"], re.M) == list(commands), sections["COMMANDS"])
     for name, about in commands.items():
         tests.check(f"and what {name} does", f".B {name}\n{about}." in sections["COMMANDS"])
+    tests.check("and what --workers is for", f"{options['--workers']}." in sections["OPTIONS"], sections["OPTIONS"])
     tests.check("the man page has the options", set(re.findall(r"--\w[\w-]*", sections["OPTIONS"])) == set(options), sections["OPTIONS"])
     tests.check("and the words of --merge", re.findall(r"^\.B(?:R)? (\w+)(?: \.)?$", sections["OPTIONS"].split("--merge")[1].split(".TP")[0], re.M)[:4] == merge_words, sections["OPTIONS"])
     wanted = [(status, f"{about[0].upper()}{about[1:]}.") for status, about in status_lines]
     tests.check("the man page has the statuses", re.findall(r"^\.TP\n\.B (\d)\n(.*)$", sections["EXIT STATUS"], re.M) == wanted, sections["EXIT STATUS"])
+
+    with open(f"{ROOT}/examples/README.md", encoding="utf-8") as file:
+        made = module(f"{ROOT}/tools/man").page_of(files["plinq.1"], file.read())
+    tests.check("the man page's section DOCUMENT is what tools/man makes of examples/README.md", made == files["plinq.1"])
+    headings = re.findall(r"^\.SS (.*)$", sections["DOCUMENT"], re.M)
+    tests.check("it has a table of each kind", headings == ["Names", "Sources", "Steps", "Formulas", "Merge options", "Aggregates"], headings)
+    lines = [it.strip() for it in run(["--help"]).output.decode().splitlines()]
+    for about in ("not JSON", "wrong shape", "step K: unknown", "refused 1", "refused 2"):
+        told = next(it for it in lines if it.startswith(f"{about}  "))[len(about) :].strip()
+        tests.check(f"the man page explains {about} as help does", f"{about}\n{told}.".lower() in page.lower().replace("\nit is ", "\n"), told)
+    for name in ("plinq.1", "plinq-check.1"):
+        tests.check(f"{name} has no fault", mandoc(f"{SHARE}/{name}") == "", mandoc(f"{SHARE}/{name}"))
 
     tests.check("bash completes the commands", completed("plinq", "") == [*commands, "--help"], completed("plinq", ""))
     tests.check("bash completes the options", set(completed("plinq", "run", "--")) == set(options), completed("plinq", "run", "--"))
@@ -66,7 +90,7 @@ def main():
     tests.check("fish has the words of --merge", re.findall(r"-l merge -x -a '(.*?)'", fish) == [" ".join(merge_words)], fish)
     zsh = files["_plinq"]
     tests.check("zsh has the commands", dict(re.findall(r'(\w+)\\:"(.*?)"', zsh)) == commands, zsh)
-    tests.check("zsh has the options", set(re.findall(r"--\w[\w-]*", zsh)) == set(options), zsh)
+    tests.check("zsh has the options", set(re.findall(r"--\w[\w-]*(?=[=}']?[\[}])", zsh)) == set(options), zsh)
     tests.check("zsh has the words of --merge", re.findall(r"OPTION:\((.*?)\)", zsh) == [" ".join(merge_words)], zsh)
     tests.end()
 

@@ -48,7 +48,7 @@ Usage: plinq <COMMAND> [OPTIONS] < DOCUMENT
 
 Commands:
   run      Answers the query
-  seq      Answers the query on one thread
+  seq      Answers the query on one thread, whatever --workers says
   plan     Shows how the query is shared among workers
   parts    Shows the source cut into partitions
   history  Shows the requests of partitions that take from the source in turn
@@ -70,9 +70,15 @@ As many workers as there are cores answer soonest, and more cost little. Where -
 many as the query asks for by with_degree.
 
 The first mistake of a refused document is shown, as these are:
+  not JSON         no JSON text of UTF-8, or one that is nested more than 127 deep
   wrong shape      a name or a value is missing, or isn't one that a document may have
   step K: unknown  step K of the query, counted from 0, is none of the steps, or has other values than that step
-plan checks a document, and asks its source for nothing.
+plinq-check < DOCUMENT says where a mistake is, and what can stand there. By plinq.schema.json editors say it while one
+types. plan checks a document, and asks its source for nothing. man plinq has all sources, steps and formulas.
+
+A text that isn't whole numbers parted by spaces and line feeds ends in one of these:
+  refused 1  a token is no whole number, as a heading, 1.5 and 1,2 are none, nor one with a tab or a carriage return
+  refused 2  a whole number is outside 64 bits
 
 Exit status:
   0  the answer came to its end, or help was shown
@@ -86,30 +92,39 @@ Example, which prints 4, 2, 5 and end, a line each:
 """
 ABOUT = {
     "run": "Answers the query",
-    "seq": "Answers the query on one thread",
+    "seq": "Answers the query on one thread, whatever --workers says",
     "plan": "Shows how the query is shared among workers",
     "parts": "Shows the source cut into partitions",
     "history": "Shows the requests of partitions that take from the source in turn",
 }
+AFTER_COMMAND_HELP = """
+The words of --merge, by which results are handed over:
+  not      a line for each element
+  auto     lines of 16 elements, as where none is given
+  full     one line of all elements, where there are any and the answer comes to its end
+  default  as auto
+
+plinq --help says what else there is to know of commands, refused documents and statuses.
+"""
 COMMAND_HELP = """
 
 Usage: plinq {} [OPTIONS] < DOCUMENT
 
 Options:
-      --workers <N>     The degree of parallelism, from 1 to 64: as many as cores; more cost little
+      --workers <N>     How many workers, from 1 to 64; 4 where none are given; best as many as cores
       --merge <OPTION>  How results are handed over [possible values: not, auto, full, default]
   -h, --help            Print help
-"""
+""" + AFTER_COMMAND_HELP
 RUN_HELP = """Answers the query
 
 Usage: plinq run [OPTIONS] < DOCUMENT
 
 Options:
-      --workers <N>       The degree of parallelism, from 1 to 64: as many as cores; more cost little
+      --workers <N>       How many workers, from 1 to 64; 4 where none are given; best as many as cores
       --merge <OPTION>    How results are handed over [possible values: not, auto, full, default]
       --cancel-after <N>  Cancels the run once N lines of elements were written
   -h, --help              Print help
-"""
+""" + AFTER_COMMAND_HELP
 
 
 def help_of(command):

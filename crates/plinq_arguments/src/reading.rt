@@ -34,9 +34,15 @@ As many workers as there are cores answer soonest, and more cost little. Where -
 many as the query asks for by with_degree.
 
 The first mistake of a refused document is shown, as these are:
+  not JSON         no JSON text of UTF-8, or one that is nested more than 127 deep
   wrong shape      a name or a value is missing, or isn't one that a document may have
   step K: unknown  step K of the query, counted from 0, is none of the steps, or has other values than that step
-plan checks a document, and asks its source for nothing.
+plinq-check < DOCUMENT says where a mistake is, and what can stand there. By plinq.schema.json editors say it while one
+types. plan checks a document, and asks its source for nothing. man plinq has all sources, steps and formulas.
+
+A text that isn't whole numbers parted by spaces and line feeds ends in one of these:
+  refused 1  a token is no whole number, as a heading, 1.5 and 1,2 are none, nor one with a tab or a carriage return
+  refused 2  a whole number is outside 64 bits
 
 Exit status:
   0  the answer came to its end, or help was shown
@@ -47,6 +53,15 @@ Exit status:
 
 Example, which prints 4, 2, 5 and end, a line each:
   echo '{"version":1,"source":{"list":[3,1,4]},"query":[["as_ordered"],["select","add",1]]}' | plinq run --merge not"#;
+
+/// What stands at the end of a command's help.
+const AFTER_COMMAND_HELP: &str = r#"The words of --merge, by which results are handed over:
+  not      a line for each element
+  auto     lines of 16 elements, as where none is given
+  full     one line of all elements, where there are any and the answer comes to its end
+  default  as auto
+
+plinq --help says what else there is to know of commands, refused documents and statuses."#;
 
 /// Reads a command line, of which the first word is the program's name.
 ///
@@ -80,7 +95,7 @@ fn command_line<'a>(alloc: Global) -> Result<clap::Command<'a>, AllocError>
             alloc,
             "seq",
             "plinq seq [OPTIONS] < DOCUMENT",
-            "Answers the query on one thread",
+            "Answers the query on one thread, whatever --workers says",
             merge,
         )?)?
         .subcommand(subcommand(
@@ -141,7 +156,7 @@ fn subcommand<'a>(
     let workers = Arg::new(alloc, "workers")
         .long("workers")
         .value_name("N")
-        .help("The degree of parallelism, from 1 to 64: as many as cores; more cost little")
+        .help("How many workers, from 1 to 64; 4 where none are given; best as many as cores")
         .value_parser(ValueParser::unsigned(1, 64));
     let merge = Arg::new(alloc, "merge")
         .long("merge")
@@ -151,6 +166,7 @@ fn subcommand<'a>(
     clap::Command::new(alloc, name)
         .override_usage(usage)
         .about(about)
+        .after_help(AFTER_COMMAND_HELP)
         .arg(workers)?
         .arg(merge)
 }

@@ -8,7 +8,7 @@ pub returns : goal.returns
 returns c =
     let workers_is : rule_of c.value_parser-workers.result ≡ workers_rule = search rules in
     let merge_is : rule_of c.value_parser-merge.result ≡ merge_rule c.args.merge_words = search rules in
-    let about_is : app_of c.about.result ≡ new_app c.args.name.now = search rules in
+    let about_is : app_of c.after_help.result ≡ new_app c.args.name.now = search rules in
     let first_is : app_of c.in_ok-arg.field-0 ≡ with_rule (new_app c.args.name.now) workers_rule =
     c.in_ok-arg.ensures.shape (search rules) ∙ ap₂ with_rule about_is workers_is in
     IfOk-weaker c.arg-2.result _ _
