@@ -15,7 +15,7 @@ use Rattle.plinq_run.specs.declared.run_fault.RunFault.TheVariants.{Memory, Sink
 use Rattle.plinq_run.specs.declared.report.Report.{Report}
 use Rattle.plinq_run.specs.Endings.{reported}
 use Rattle.plinq_run.specs.Reports.{Reports}
-use Rattle.plinq_run.specs.Aggregates.{Aggregates, AggregatesSome, TakesIn, so_far, aggregate_of}
+use Rattle.plinq_run.specs.Aggregates.{Aggregates, AggregatesSome, TakesIn, so_far, fault_of_fold, aggregate_of}
 use Rattle.plinq_run.specs.Runs.{HasRun, HasBroken, Other, Runs, cause_of}
 
 -- the items of batches, one batch after another
@@ -62,7 +62,7 @@ module _ {K T A O : Type 0} (folding : K → Folding T A O) (acc : K → Option 
   Takes s b s' = TakesIn (folding s) (acc s) b (folding s') (acc s')
 
   abbrev Refuses : K → List T → ℕ → K → Type 0
-  Refuses s b code s' = ⊥
+  Refuses s b code s' = ⊤
 
   -- batches that are taken in one after another are their items
   taken-items_of : (s : K) (bs : List (List T)) (s' : K) → Leads Takes s bs s' → TakesIn (folding s) (acc s) (items_of bs) (folding s') (acc s')
@@ -84,9 +84,9 @@ module _ {K T A O : Type 0} (folding : K → Folding T A O) (acc : K → Option 
       ∙ (ap (λ xs. fold (folding s).update (so_far (folding s) (acc s)) xs) (items_of-batches option u h.ending)
       ∙ ap (λ a. fold (folding s).update (so_far (folding s) a) u.items) none))
 
-  -- such a sink refuses nothing
-  refused-none : (option : MergeOption) (u : Trace T) (s s' : K) (fault : RunFault) → HasBroken Takes Refuses option u s s' fault → cause_of fault ≡ Other
-  refused-none option u s s' (Sink code) h = absurd h.6
+  -- where such a sink refuses, memory has run out
+  refused-none : (option : MergeOption) (u : Trace T) (s s' : K) (fault : RunFault) → HasBroken Takes Refuses option u s s' fault → cause_of (fault_of_fold fault) ≡ Other
+  refused-none option u s s' (Sink code) h = refl
   refused-none option u s s' Memory h = refl
   refused-none option u s s' Tickets h = refl
   refused-none option u s s' Thread h = refl

@@ -8,6 +8,7 @@ use Rattle.plinq_aggregate.specs.Folding.{Folding, aggregated}
 use Rattle.plinq_run.specs.declared.aggregate_fault.AggregateFault.{AggregateFault}
 use Rattle.plinq_run.specs.declared.aggregate_fault.AggregateFault.TheVariants.{Ended, Run}
 use Rattle.plinq_run.specs.declared.run_fault.RunFault.{RunFault}
+use Rattle.plinq_run.specs.declared.run_fault.RunFault.TheVariants.{Memory, Sink, Tickets, Thread, Incomplete, Cancelled}
 use Rattle.plinq_run.specs.Runs.{Other, cause_of}
 
 -- an aggregate reports the value of this answer's items, which ended well; or how the answer ended, which isn't well; or why
@@ -36,7 +37,16 @@ value_at f acc End = Ok (f.tell acc)
 value_at f acc (Refused code) = Err (Ended (Refused code))
 value_at f acc (Fault code) = Err (Ended (Fault code))
 
+-- why a run into a sink that folds has no answer: such a sink refuses a batch only where memory runs out
+abbrev pub fault_of_fold : RunFault → RunFault
+fault_of_fold (Sink code) = Memory
+fault_of_fold Memory = Memory
+fault_of_fold Tickets = Tickets
+fault_of_fold Thread = Thread
+fault_of_fold Incomplete = Incomplete
+fault_of_fold Cancelled = Cancelled
+
 -- what is reported where this was taken in and the run ended so
 abbrev pub aggregate_of : {T A O : Type 0} → Folding T A O → Option A → Result Ending RunFault → Result O AggregateFault
 aggregate_of f acc (Ok e) = value_at f (so_far f acc) e
-aggregate_of f acc (Err fault) = Err (Run fault)
+aggregate_of f acc (Err fault) = Err (Run (fault_of_fold fault))

@@ -11,7 +11,7 @@ use crate::fold::Fold;
 use crate::folding::fold_plan;
 use crate::running::run;
 use crate::valuing::{value_after, value_of};
-use plinq_aggregate::Aggregator;
+use plinq_aggregate::GrowingAggregator;
 use plinq_crew::Gate;
 use plinq_enumerator::Growth;
 use plinq_lambda::SharedLambda;
@@ -50,7 +50,7 @@ where
     L: SharedLambda,
     S: Source<Item = L::Item>,
     G: Gate,
-    A: Aggregator<Item = L::Item>,
+    A: GrowingAggregator<Item = L::Item>,
     R: Threads + Wait + Sync,
     requires { S.given source ≡ 0 }
     ensures decided { list_any is_empty_take query.now.ops ≡ true → result ≡ Ok (aggregated (A.folding aggregator.now) []) }
@@ -58,7 +58,7 @@ where
 {
     let plan = query.split();
     if plan.decided || !plan.after.is_empty() {
-        let mut fold = Fold::new(aggregator);
+        let mut fold = Fold::new(alloc, aggregator);
         let report = run(rt, alloc, query, source, growth, gate, &mut fold);
         return value_after(fold, report);
     }

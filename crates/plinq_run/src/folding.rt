@@ -11,7 +11,7 @@ use crate::planning::{Conducted, Ended, conduct_plan};
 use crate::run_fault::RunFault;
 use crate::running::progress_of;
 use crate::tasks::FoldChunks;
-use plinq_aggregate::Aggregator;
+use plinq_aggregate::GrowingAggregator;
 use plinq_crew::Gate;
 use plinq_enumerator::Growth;
 use plinq_lambda::SharedLambda;
@@ -38,7 +38,7 @@ where
     L: SharedLambda,
     S: Source<Item = L::Item>,
     G: Gate,
-    A: Aggregator<Item = L::Item>,
+    A: GrowingAggregator<Item = L::Item>,
     R: Threads + Wait + Sync,
     requires unasked { S.given source ≡ 0 }
     requires plan { IsUndecided plan.now }
@@ -57,7 +57,7 @@ where
         growth,
         &progress,
         &task,
-        Fold::new(aggregator),
+        Fold::new(alloc, aggregator),
         &mut (),
     )?;
     let Conducted { ended, .. } = conducted;

@@ -3,7 +3,7 @@ ghost use Rattle.std.specs.Prelude.{◌≡◌, IfOk};
 ghost use Rattle.plinq_run.specs.Folds.{IsFoldOf};
 ghost use Rattle.plinq_crew.specs.Results.{IsOfSameChunk};
 
-use plinq_aggregate::Aggregator;
+use plinq_aggregate::GrowingAggregator;
 use plinq_crew::{Gate, Task};
 use plinq_ops::ChunkResult;
 use plinq_source::OutOfMemory;
@@ -43,7 +43,7 @@ pub(crate) struct FoldChunks<'a, A, G> {
     pub(crate) gate: &'a G,
 }
 
-impl<'a, T: Copy, A: Aggregator<Item = T>, G: Gate> Task<T> for FoldChunks<'a, A, G> {
+impl<'a, T: Copy, A: GrowingAggregator<Item = T>, G: Gate> Task<T> for FoldChunks<'a, A, G> {
     type Part = A::Acc;
 
     ghost makes = { λ s r c. IsFoldOf (A.folding s.aggregator.now) r c };
@@ -62,7 +62,8 @@ impl<'a, T: Copy, A: Aggregator<Item = T>, G: Gate> Task<T> for FoldChunks<'a, A
     {
         let aggregator = self.aggregator;
         let mut items = Vec::with_capacity(alloc, 1)?;
-        items.push_reserved(aggregator.update_block(aggregator.seed(), made.items.as_slice()));
+        let seed = aggregator.seed(alloc);
+        items.push_reserved(aggregator.update_block(alloc, seed, made.items.as_slice())?);
         Ok(ChunkResult {
             first: made.first,
             count: made.count,

@@ -9,11 +9,11 @@ use crate::combined::Combined;
 use crate::fold::Fold;
 use crate::report::Report;
 use crate::run_fault::RunFault;
-use plinq_aggregate::Aggregator;
+use plinq_aggregate::GrowingAggregator;
 use plinq_source::Ending;
 
 /// What is reported of an accumulator whose items' answer ended so.
-fn value_at<A: Aggregator>(
+fn value_at<A: GrowingAggregator>(
     aggregator: &A,
     acc: A::Acc,
     ending: Ending,
@@ -27,7 +27,7 @@ fn value_at<A: Aggregator>(
 }
 
 /// What is reported of a run whose workers folded.
-pub(crate) fn value_of<A: Aggregator>(
+pub(crate) fn value_of<A: GrowingAggregator>(
     aggregator: &A,
     combined: Result<Combined<A::Acc>, RunFault>,
 ) -> Result<A::Out, AggregateFault>
@@ -39,8 +39,8 @@ pub(crate) fn value_of<A: Aggregator>(
     }
 }
 
-/// What is reported of a run that ended so, and gave its batches to this fold.
-pub(crate) fn value_after<A: Aggregator>(
+/// What is reported of a run that ended so, and gave its batches to this fold. It refuses none but where memory runs out.
+pub(crate) fn value_after<A: GrowingAggregator>(
     fold: Fold<'_, A, A::Acc>,
     run: Result<Report, RunFault>,
 ) -> Result<A::Out, AggregateFault>
@@ -49,6 +49,7 @@ pub(crate) fn value_after<A: Aggregator>(
     let aggregator = fold.aggregator;
     match run {
         Ok(report) => value_at(aggregator, fold.so_far(), report.ending),
+        Err(RunFault::Sink(_)) => Err(AggregateFault::Run(RunFault::Memory)),
         Err(fault) => Err(AggregateFault::Run(fault)),
     }
 }

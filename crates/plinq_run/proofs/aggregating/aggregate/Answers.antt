@@ -13,7 +13,7 @@ use Rattle.plinq_run.proofs.aggregating.aggregate.Goals as goal
 pub returns-then-plan-clause-value : goal.returns-then-plan-clause-value
 returns-then-plan-clause-value g c =
     let q = c.args.query.now in
-    let folding = g.A.Aggregator.folding in
+    let folding = g.A.GrowingAggregator.folding in
     let t = g.S.Source.whole c.args.source in
     let May = MayAnswer g.L.Lambda.meaning q.ordered q.ops in
     let s = c.new-fold.result in
@@ -34,7 +34,7 @@ returns-clause-value g c =
     let q = c.args.query.now in
     let plan = c.split-plan.result in
     let t = g.S.Source.whole c.args.source in
-    let f = g.A.Aggregator.folding c.args.aggregator.now in
+    let f = g.A.GrowingAggregator.folding c.args.aggregator.now in
     let undecided : plan.decided ≡ false = search rules in
     let May = MayAnswer g.L.Lambda.meaning q.ordered q.ops t in
     let may = λ (v : Trace _). planned-may g.L.Lambda.meaning q plan t v q.ordered refl c.split-plan.ensures.plan undecided in

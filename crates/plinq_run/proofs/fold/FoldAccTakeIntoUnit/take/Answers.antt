@@ -10,7 +10,7 @@ use Rattle.plinq_run.proofs.fold.FoldAccTakeIntoUnit.take.Goals as goal
 pub returns-clause-made : goal.returns-clause-made
 returns-clause-made g c =
     let items = c.args.items.items in
-    let f = g.A.Aggregator.folding c.args.self.now.aggregator.now in
+    let f = g.A.GrowingAggregator.folding c.args.self.now.aggregator.now in
     let from : into_iter_items c.into_iter-part-iterator.result ≡ items = search rules in
     let many : into_iter_len c.into_iter-part-iterator.result ≡ length items = search rules in
     let end = YieldsList-end (YieldsList-from_vec items from many) c.loop-part.yielded c.loop-part.part-iterator c.loop-part.yielded_by c.next.result c.next.new.self c.in-None-part.is c.next.ensures.steps in

@@ -5,4 +5,4 @@ use Rattle.plinq_run.proofs.fold.FoldAccTakeIntoUnit.take.Given as goal
 
 abbrev pub invariant-loop-part : goal.invariant-loop-part
 invariant-loop-part g l =
-    l.acc ≡ fold (g.A.Aggregator.folding l.fn.self.aggregator.now).combine (so_far (g.A.Aggregator.folding l.fn.self.aggregator.now) l.fn.self.acc) l.yielded
+    l.acc ≡ fold (g.A.GrowingAggregator.folding l.fn.self.aggregator.now).combine (so_far (g.A.GrowingAggregator.folding l.fn.self.aggregator.now) l.fn.self.acc) l.yielded
