@@ -345,8 +345,8 @@ def side_by_side(place, tests):
     tests.check("and where an rt ci is at work", calls == ALL_CALLS, calls)
 
 
-def in_rooms(*names, jobs=4):
-    return [f"{it} lib --jobs {jobs} in a room" for it in names]
+def in_rooms(*names):
+    return [f"{it} lib --jobs 2 in a room" for it in names]
 
 
 def few_and_many(place, tests):
@@ -355,21 +355,29 @@ def few_and_many(place, tests):
         place.forget()
         place.has(processors=processors, memory=memory)
         status, _, errors, calls = place.run("--build")
-        is_so = status == 0 and (set(in_rooms("low", "side", jobs=jobs)) < set(calls) if jobs else calls == ALL_CALLS)
-        tests.check(f"with {processors} processors and {memory} GB {f'each has {jobs} jobs' if jobs else 'each is proved here'}", is_so, (calls, errors))
-    place.forget()
+        is_so = status == 0 and (set(in_rooms("low", "side")) < set(calls) if jobs else calls == ALL_CALLS)
+        tests.check(f"with {processors} processors and {memory} GB {'two have two jobs each' if jobs else 'each is proved here'}", is_so, (calls, errors))
+        is_so = f"mid lib --jobs {jobs}" in calls or not jobs
+        tests.check(f"with {processors} processors and {memory} GB one alone has {jobs or 'as many as rt gives it'}", is_so, calls)
     place.new_calls()
-    place.write("crates/third/src/lib.rt", "third\n")
-    place.write("crates.txt", f"third:\n{CRATES}".replace("mid side", "third mid side"))
-    with place.held("low", "side", "third"):
-        started = place.start("--build")
-        place.wait_for("at-work-low", "at-work-third")
-        time.sleep(0.5)
-        calls = sorted(place.new_calls())
-        tests.check("two are proved at a time, first what others are above", calls == in_rooms("low", "third"), calls)
-    started.communicate(timeout=HANGS)
-    tests.check("and then the others", started.returncode == 0 and ALL_CALLS[-1] in place.new_calls())
-    shutil.rmtree(f"{place.top}/crates/third")
+    for name in ("third", "fourth"):
+        place.write(f"crates/{name}/src/lib.rt", f"{name}\n")
+    place.write("crates.txt", f"fourth:\nthird:\n{CRATES}".replace("mid side", "fourth third mid side"))
+    for memory, seconds, wanted in ((10, "", ("low", "fourth")), (64, "", ("low", "fourth", "third")), (64, "# some\nside 200\nthird 61\n", ("side", "low", "third"))):
+        place.forget()
+        place.has(memory=memory)
+        place.write("tools/seconds", seconds)
+        with place.held("low", "side", "third", "fourth"):
+            started = place.start("--build")
+            place.wait_for(*(f"at-work-{it}" for it in wanted))
+            time.sleep(0.5)
+            calls = sorted(place.new_calls())
+            tests.check(f"{len(wanted)} are proved at a time, first what takes longest with others above it", calls == sorted(in_rooms(*wanted)), calls)
+        started.communicate(timeout=HANGS)
+        tests.check("and then the others", started.returncode == 0 and ALL_CALLS[-1] in place.new_calls())
+    os.remove(f"{place.top}/tools/seconds")
+    for name in ("third", "fourth"):
+        shutil.rmtree(f"{place.top}/crates/{name}")
     place.write("crates.txt", CRATES)
     place.has(processors=4, memory=64)
     place.forget()
