@@ -15,6 +15,7 @@ import subprocess
 import tempfile
 
 from support.checking import CHECK, SHARE, checker, module
+from support.model import given
 from support.program import EXAMPLES, HANGS, ROOT, Outcome, Tests
 from support.reading import Refused, read
 
@@ -146,6 +147,10 @@ def change(chance, value):
         it[key] = other
 
 
+def refuses_in_a_text(source):
+    return any(given(it)[1] != "end" for it in source.get("concat", [source]) if "text" in it)
+
+
 def at_random(comparing, documents):
     chance = random.Random(7)
     whole, wrong = [], []
@@ -163,22 +168,27 @@ def at_random(comparing, documents):
                 change(chance, value)
             wrong.append(json.dumps(value).encode())
     comparing.all("random documents", whole)
+    wrong_tokens = [it for it in whole if bool(list(comparing.check.remarks(json.loads(it)))) != refuses_in_a_text(json.loads(it)["source"])]
+    comparing.tests.check("which texts refuse is said", not wrong_tokens, wrong_tokens[:1])
     comparing.all("random documents with a part changed", wrong)
 
 
-def checked(words, given=b"", check=CHECK, **how):
+def checked(words, text=b"", check=CHECK, **how):
     """A run of plinq-check."""
-    ran = subprocess.run([check, *words], input=given, capture_output=True, timeout=HANGS, **how)
+    ran = subprocess.run([check, *words], input=text, capture_output=True, timeout=HANGS, **how)
     return Outcome(ran.returncode, ran.stdout, ran.stderr)
 
 
 def as_a_program(tests):
     for name, text in example_texts():
-        tests.check(f"plinq-check {name}", checked([os.path.join(EXAMPLES, name)]) == Outcome(0, b"", b""))
+        seen = checked([os.path.join(EXAMPLES, name)])
+        # (one of them has a text with a token that is no number, and says what it ends with)
+        tests.check(f"plinq-check {name}", (seen.status, seen.output) == (0, b"") and bool(seen.errors) == (b"refused" in seen.errors and b"text" in text), seen)
+    text = dict(example_texts())["add-one.json"]
     tests.check("plinq-check < DOCUMENT", checked([], text) == Outcome(0, b"", b""))
     with open(os.path.join(EXAMPLES, "README.md"), encoding="utf-8") as file:
-        given, told = re.search(r"^    \$ echo '(.*)' \| share/plinq-check\n((?:    .*\n)+)", file.read(), re.M).groups()
-    seen = checked([], given.encode())
+        asked, told = re.search(r"^    \$ echo '(.*)' \| share/plinq-check\n((?:    .*\n)+)", file.read(), re.M).groups()
+    seen = checked([], asked.encode())
     tests.check("what the page shows", seen == Outcome(2, b"", re.sub("^    ", "", told, flags=re.M).encode()), seen)
     seen = checked([], text.replace(b'"version":1', b'"version":"1"'))
     is_so = (seen.status, seen.output) == (2, b"") and seen.errors.startswith(b'plinq-check: version: "1" can\'t stand here; what can: ')
