@@ -197,7 +197,8 @@ def is_trouble(seen, right, said):
 
 
 SHARDS = 24
-WORK = text_of({"range": [0, 240_000]}, ["filter", "even"], ["skip", 7], ["select", "mul", 3], ["with_merge", "not"])
+STEPS = ["filter", "even"], ["skip", 7], ["select", "mul", 3]
+WORK = text_of({"range": [0, 240_000]}, *STEPS, ["with_merge", "not"])
 ANSWER = lines(range(42, 720_000, 6)) + b"end\n"
 
 
@@ -227,7 +228,7 @@ def over(machines, path, *words):
 
 
 def lost_worker(tests, folder):
-    """One of three workers is killed in the middle; the scheduler is killed in the middle of the next run."""
+    """One of three workers is killed in the middle, another while items are held on it, and at last the scheduler."""
     with Machines(folder) as machines:
         workers = [machines.worker(name, "--no-nanny") for name in ("a", "b", "c")]
         machines.are_there("a", "b", "c")
@@ -236,8 +237,14 @@ def lost_worker(tests, folder):
         end(workers[1])
         seen = ended(child)
         tests.check("a worker that is killed in the middle", seen == Outcome(0, ANSWER, b""), seen)
+        child = begun(over(machines, slow(folder, "held", 0.1), "--merge", "full"), text_of({"range": [0, 240_000]}, *STEPS))
+        wait_until(lambda: len(asked(folder, "held")) > 20, "shards that are asked")
+        end(workers[0])
+        seen = ended(child)
+        in_one_line = ANSWER[: -len("\nend\n")].replace(b"\n", b" ") + b"\nend\n"
+        tests.check("a worker that is killed with items on it", seen == Outcome(0, in_one_line, b""), seen)
         child = begun(over(machines, slow(folder, "second", 0.1)))
-        wait_until(lambda: len(asked(folder, "second")) > 12, "shards that are asked")
+        wait_until(lambda: len(asked(folder, "second")) > 9, "shards that are asked")
         end(machines.scheduler)
         seen = ended(child)
         tests.check("a scheduler that is killed in the middle", is_trouble(seen, ANSWER, f"plinq-cluster: scheduler {machines.address}: gone"), seen)
@@ -301,17 +308,24 @@ def is_running(process):
         return False
 
 
+def endless(folder, name, but):
+    """A program that never answers a shard, but for those of which the document has this text."""
+    script = f"document=$(cat)\n[[ $document = *'{but}'* ]] || {{ echo $$ >> {folder}/{name}.asked; exec sleep 1000; }}"
+    return wrapper(folder, name, f'{script}\n{PROGRAM} "$@" <<< "$document"')
+
+
 def left(tests, machines, folder):
     """Ctrl-C, and a reader that leaves: what runs on the workers ends."""
-    silent, loud = text_of({"range": [0, 2**40]}, ["filter", "equal", -1]), text_of({"range": [0, 2**40]})
-    words = ["--scheduler", machines.address, "--shards", "4", "--program"]
-    child = begun([*words, slow(folder, "silent", 0)], silent)
+    text = text_of({"range": [0, 2**40]})
+    words = ["--scheduler", machines.address, "--program"]
+    child = begun([*words, endless(folder, "silent", "no shard")], text)
     wait_until(lambda: len(asked(folder, "silent")) >= 2, "shards that are asked")
     child.send_signal(signal.SIGINT)
     seen = ended(child)
     tests.check("Ctrl-C", seen == Outcome(-signal.SIGINT, b"", b""), seen)
-    child = begun([*words, slow(folder, "loud", 0)], loud, stdout=subprocess.PIPE)
+    child = begun([*words, endless(folder, "loud", '"range": [0,')], text, stdout=subprocess.PIPE)
     child.stdout.read(1000)
+    wait_until(lambda: len(asked(folder, "loud")) >= 2, "shards that are asked")
     child.stdout.close()
     errors = child.stderr.read()
     tests.check("a reader that leaves", (child.wait(), errors) == (5, b"plinq: write failed\n"), (child.returncode, errors))

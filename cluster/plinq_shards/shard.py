@@ -19,7 +19,7 @@ MEANT = bytes(it if it in b"0123456789- " else ord(" ") if it == ord("\n") else 
 class Shard:
     """A part of a source, with its place among the others, and the steps that are to be done on it alone.
 
-    The length is how many elements its source gives, where that is known; the size is about how many.
+    The length is how many items it has, where that is known before it is asked; the size is about how many elements.
     """
 
     at: int
@@ -30,7 +30,12 @@ class Shard:
 
     def then(self, step):
         """The shard with one step more."""
-        return dataclasses.replace(self, steps=(*self.steps, step))
+        length = None
+        if self.length is not None and step[0] == "take":
+            length = min(self.length, step[1])
+        if self.length is not None and step[0] == "skip":
+            length = max(self.length - step[1], 0)
+        return dataclasses.replace(self, steps=(*self.steps, step), length=length)
 
 
 @dataclasses.dataclass(frozen=True)

@@ -17,7 +17,7 @@ def counted(cluster, shards, left):
     """Each shard in order, and what tells how many items it has, as far as so many are left to be counted."""
 
     def question(shard):
-        if left() == 0 or shard.length is not None and not shard.steps:
+        if left() == 0 or shard.length is not None:
             return None
         return shard.then(["take", left()]).steps, "count"
 

@@ -12,7 +12,8 @@ SOON = {"DASK_DISTRIBUTED__COMM__TIMEOUTS__TCP": "12s", "DASK_DISTRIBUTED__SCHED
 
 
 def started(words, **how):
-    """A process in a group of its own, with its standard error as a pipe."""
+    """A process in a group of its own, which ends with this one where it isn't ended before."""
+    words = ["setpriv", "--pdeathsig", "KILL", "--", *words]
     return subprocess.Popen(words, stdin=subprocess.DEVNULL, start_new_session=True, **how)
 
 
