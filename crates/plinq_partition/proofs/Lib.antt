@@ -6,3 +6,4 @@ pub mod Promised
 pub mod Shares
 pub mod Taken
 pub mod Whole
+mod Together

@@ -4,3 +4,4 @@ pub mod GivenBack
 pub mod Inside
 pub mod Partitions
 pub mod Shares
+pub mod Together

@@ -5,6 +5,7 @@ ghost use Rattle.plinq_keyed.specs.History.{IsLegalHistory, handed_out};
 ghost use Rattle.plinq_keyed.specs.Keys.{keys, ordered_in_each, normalized};
 ghost use Rattle.plinq_partition.specs.Partitions.{KeepsPromise};
 ghost use Rattle.plinq_partition.specs.Shares.{keys_rise_from};
+ghost use Rattle.plinq_partition.specs.Together.{TakesAreOneHistory};
 
 use crate::chunked::Chunked;
 use crate::partitioner::OrderablePartitioner;
@@ -30,4 +31,13 @@ pub fn keys_of_all_partitions_are_normalized<T>()
 /// This function does nothing: it is there for the law in its contract.
 pub fn chunked_keeps_its_promise<S: Source>()
     ensures { KeepsPromise ⟦<Chunked<S> as OrderablePartitioner>⟧.promised }
+{}
+
+/// What all partitions together took is one history's chunks.
+///
+/// Of partitions whose records together are a legal history ([`Chunked::give_back`] says so), the chunks that `take` gave, each
+/// once and in the order of their records' tickets, are that history's replies. Their elements are the first of the source,
+/// under the keys 0, 1, 2 and so on. This function does nothing: it is there for the law in its contract.
+pub fn takes_are_one_history<T>()
+    ensures { TakesAreOneHistory T }
 {}
