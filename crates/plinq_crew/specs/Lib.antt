@@ -7,3 +7,4 @@ pub mod Noted
 pub mod Polls
 pub mod Working
 pub mod Scoped
+pub mod CrewRows
