@@ -92,15 +92,24 @@ def some_documents(chance):
         yield document | ({"aggregate": aggregate} if aggregate else {})
 
 
-def compare(tests, local, document):
-    """A document by 1, 3 and 8 shards, beside the program, or its `seq` where `run` may give another order."""
+def compare(tests, local, document, counts=(1, 3, 8)):
+    """A document by so many shards, beside the program, or its `seq` where `run` may give another order."""
     text = json.dumps(document).encode()
     word = "seq" if documents.gives_order_up(document["query"]) else "run"
     right = run([word], text, PROGRAM)
-    for count in (1, 3, 8):
+    for count in counts:
         seen = local.answer(text, count)
         tests.check(f"{count} shards of {text.decode()}", seen == right, f"wanted {right}; seen {seen}")
     return right.output.splitlines()[-1].rstrip(b"0123456789")
+
+
+def most_steps(tests, local):
+    """Queries of the most steps, which leave a shard's document no room for one more."""
+    adds = [["select", "add", 1]] * 998
+    for steps in ([ORDERED, *adds, ["take", 9]], [["skip", 5], *adds, ["take", 9]], [*adds, ["skip", 5], ["take_while", "below", 1020]]):
+        compare(tests, local, {"version": 1, "source": {"range": [0, 40]}, "query": steps})
+    compare(tests, local, {"version": 2, "source": {"range": [0, 40]}, "query": [*adds, ["skip_while", "below", 1020], ["select", "add", 1]]})
+    compare(tests, local, {"version": 1, "source": {"range": [0, 40]}, "query": [["select", "add", 1], ["take", 30]] * 500}, [1])
 
 
 def random_documents(tests, local):
@@ -413,6 +422,7 @@ def main():
     with tempfile.TemporaryDirectory() as folder:
         with InProcess() as local:
             random_documents(tests, local)
+            most_steps(tests, local)
             portions(tests, local)
             liars(tests, local, folder)
         processes(tests, folder)

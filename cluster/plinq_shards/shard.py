@@ -103,7 +103,8 @@ def pieces(file, size, name):
 
 def of_text(file, length, cut, name="text"):
     """The parts of a text in a file; no length is given of what can only be read to its end."""
-    parts = cut.parts(length // 8, MOST_OF_TEXT // 8)
+    # (a number has a byte at least, and a space)
+    parts = cut.parts(length // 2, MOST_OF_TEXT // 2)
     for piece in pieces(file, min(MOST_OF_TEXT, -(-length // parts)) or MOST_OF_TEXT, name):
         yield {"text": piece.decode()}, piece.count(b" "), None
 

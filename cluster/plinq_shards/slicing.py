@@ -5,12 +5,21 @@ them as they are. Of a Take or a Skip less is left, by the items of the shards b
 over, with the first item that fails. So the shards are asked in order, some ahead, for these counts and items, and each
 becomes a slice by a step of its own. Shards after the last that is needed aren't asked.
 """
+import itertools
+import sys
+
 from .program import MOST_STEPS
 
+# Each step that counts asks the one before it for shards, by some calls within one another.
+CALLS_OF_A_STEP = 5
 
-def glued(cluster, shards, step):
-    """A step that looks at each item alone."""
-    return (it.then(step) for it in shards)
+
+def glued(shards, steps):
+    """Steps that look at each item alone."""
+    for shard in shards:
+        for it in steps:
+            shard = shard.then(it)
+        yield shard
 
 
 def counted(cluster, shards, left):
@@ -98,6 +107,11 @@ BY_NAME = {"take": take, "skip": skip, "take_while": take_while, "skip_while": s
 
 def sliced(cluster, shards, steps):
     """The shards with their own steps, in order: the items of one after another are the answer, up to an ending that isn't good."""
-    for step in steps:
-        shards = BY_NAME.get(step[0], glued)(cluster, shards, step)
+    sys.setrecursionlimit(max(sys.getrecursionlimit(), 1_000 + CALLS_OF_A_STEP * len(steps)))
+    for counts, together in itertools.groupby(steps, lambda it: it[0] in BY_NAME):
+        if not counts:
+            shards = glued(shards, list(together))
+            continue
+        for step in together:
+            shards = BY_NAME[step[0]](cluster, shards, step)
     return shards
