@@ -1,0 +1,21 @@
+-- All items in their order, as they are or each made into something else.
+use Rattle.std.specs.Prelude.{◌≡◌, refl, ℕ, List, [], ◌∷◌, ◌++◌, map, Option, Some, None, Result, Ok, Err}
+use Rattle.std.specs.List.{fold}
+use Rattle.std.proofs.Common.{sym, ◌∙◌, ap, append_assoc, append-nil}
+use Rattle.plinq_aggregate.specs.Folding.{Folding, folded, IsFolding}
+use Rattle.plinq_groups.specs.Acting.{acting-lawful}
+
+-- items one after another
+abbrev pub collecting : {T : Type 0} → Folding T (List T) (List T)
+collecting = record { seed = []; update = λ ys x. ys ++ x ∷ []; combine = λ ys zs. ys ++ zs; tell = λ ys. ys }
+
+pub collecting-lawful : {T : Type 0} → IsFolding (collecting {T = T})
+collecting-lawful = acting-lawful collecting (λ a b x. sym (append_assoc a b (x ∷ []))) append-nil
+
+pub collects-from : {T : Type 0} (ys xs : List T) → fold (collecting {T = T}).update ys xs ≡ ys ++ xs
+collects-from ys [] = sym (append-nil ys)
+collects-from ys (x ∷ xs) = collects-from (ys ++ x ∷ []) xs ∙ append_assoc ys (x ∷ []) xs
+
+-- what was collected are the items
+pub folded-collecting : {T : Type 0} (xs : List T) → folded collecting xs ≡ xs
+folded-collecting xs = collects-from [] xs

@@ -1,0 +1,45 @@
+ghost use Rattle.std.specs.Prelude.{◌≡◌, List, []};
+
+use indexmap::IndexMap;
+use std::alloc::Global;
+use std::hash::Hash;
+use std::marker::Model;
+
+/// Groups: a key each, with what stands at it, in the order in which their keys came first.
+///
+/// A contract sees the list of them.
+#[derive(Drop)]
+pub struct Groups<K: Eq + Hash, C> {
+    pub(crate) map: IndexMap<K, C>,
+}
+
+impl<K: Eq + Hash, C> Model for Groups<K, C> {
+    ghost Value = { List (K × C) };
+
+    ghost view = { λ g. g.map.entries };
+}
+
+impl<K: Eq + Hash, C> Groups<K, C> {
+    /// No groups.
+    pub fn new(alloc: Global) -> Groups<K, C>
+        ensures { result ≡ [] }
+    {
+        Groups {
+            map: IndexMap::new(alloc),
+        }
+    }
+
+    /// The groups as a map, to read them by key or in their order.
+    pub fn as_map(&self) -> &IndexMap<K, C>
+        ensures { result.now.entries ≡ self.now }
+    {
+        &self.map
+    }
+
+    /// The groups as a map of one's own.
+    pub fn into_map(self) -> IndexMap<K, C>
+        ensures { result.entries ≡ self }
+    {
+        self.map
+    }
+}

@@ -1,0 +1,42 @@
+//! Grouping in parallel, and aggregates made of others.
+//!
+//! [`GroupBy`] folds the items of each key apart. It is a `GrowingAggregator`, so `aggregate` of `plinq_run` groups a query's
+//! answer by threads. The groups stand in the order of their first items (`laws`): an ordered query's groups are those of its
+//! sequential answer, and each folds its items in their order. [`Collect`], [`First`], [`LeastBy`], [`GreatestBy`], [`By`] and
+//! [`Both`] are aggregators of a group, or of a whole answer; their laws come from those of what they are made of.
+#![tactic(auto)]
+
+mod both;
+mod by;
+mod collect;
+mod field_of;
+mod first;
+mod greatest_by;
+mod group_by;
+mod groups;
+mod items;
+mod key_of;
+pub mod laws;
+mod least_by;
+mod make_of;
+mod map_each;
+mod map_fault;
+mod mapped;
+mod rank_of;
+
+pub use both::Both;
+pub use by::By;
+pub use collect::Collect;
+pub use field_of::FieldOf;
+pub use first::First;
+pub use greatest_by::GreatestBy;
+pub use group_by::GroupBy;
+pub use groups::Groups;
+pub use items::Items;
+pub use key_of::KeyOf;
+pub use least_by::LeastBy;
+pub use make_of::MakeOf;
+pub use map_each::MapEach;
+pub use map_fault::MapFault;
+pub use mapped::Mapped;
+pub use rank_of::RankOf;
