@@ -5,6 +5,7 @@ use crate::ending::Ending;
 use crate::source::Source;
 use crate::step::Step;
 use std::alloc::Global;
+use std::mem::replace;
 
 /// A list as a source: its items from the first on, and then the end or a refusal.
 ///
@@ -87,9 +88,12 @@ impl<T: Copy + Send> Source for ListSource<T> {
     fn fill(&mut self, items: &mut Vec<T>, n: u64) -> Option<Ending> {
         let left = (self.items.len() - self.next) as u64;
         let after = self.next + n.min(left) as usize;
+        // (a list of this call's own stays in registers, and isn't read and written back for each item)
+        let mut list = replace(items, Vec::new(*items.allocator()));
         for place in self.next..after {
-            items.push_reserved(self.items[place]);
+            list.push_reserved(self.items[place]);
         }
+        *items = list;
         self.next = after;
         if n <= left {
             return None;

@@ -8,6 +8,7 @@ use crate::fault::SourceFault;
 use crate::limits::MOST_ITEMS;
 use crate::source::Source;
 use crate::step::Step;
+use std::mem::replace;
 
 /// Whole numbers one after another, and then the end (.NET's `Enumerable.Range`). It holds no list.
 ///
@@ -79,9 +80,13 @@ impl Source for RangeSource {
     fn fill(&mut self, items: &mut Vec<i64>, n: u64) -> Option<Ending> {
         let left = self.count - self.next;
         let after = self.next + n.min(left);
+        // (a list of this call's own stays in registers, and isn't read and written back for each item)
+        let start = self.start;
+        let mut list = replace(items, Vec::new(*items.allocator()));
         for place in self.next..after {
-            items.push_reserved(self.start + place as i64);
+            list.push_reserved(start + place as i64);
         }
+        *items = list;
         self.next = after;
         if n > left { Some(Ending::End) } else { None }
     }

@@ -8,6 +8,7 @@ use crate::fault::SourceFault;
 use crate::limits::MOST_ITEMS;
 use crate::source::Source;
 use crate::step::Step;
+use std::mem::replace;
 
 /// One value a number of times, and then the end (.NET's `Enumerable.Repeat`). It holds no list.
 ///
@@ -73,9 +74,13 @@ impl Source for RepeatSource {
     fn fill(&mut self, items: &mut Vec<i64>, n: u64) -> Option<Ending> {
         let left = self.count - self.next;
         let after = self.next + n.min(left);
+        // (a list of this call's own stays in registers, and isn't read and written back for each item)
+        let value = self.value;
+        let mut list = replace(items, Vec::new(*items.allocator()));
         for _place in self.next..after {
-            items.push_reserved(self.value);
+            list.push_reserved(value);
         }
+        *items = list;
         self.next = after;
         if n > left { Some(Ending::End) } else { None }
     }

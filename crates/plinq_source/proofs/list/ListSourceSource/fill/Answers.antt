@@ -14,5 +14,5 @@ loop-place-preserved g c =
     let place = c.loop-place.place in
     let x = c.index.result.now in
     let step : step_at t place ≡ Item x = step_at-item s.items.items (list_ending s.refusal) place x (omega arith) ∙ ap Item (sym c.index.ensures) in
-    filled_on t s.next place c.args.items.now c.loop-place.items c.push_reserved.new.self x c.loop-place.invariant step
+    filled_on t s.next place c.args.items.now c.loop-place.list c.push_reserved.new.self x c.loop-place.invariant step
     c.push_reserved.ensures.items c.push_reserved.ensures.len c.push_reserved.ensures.capacity

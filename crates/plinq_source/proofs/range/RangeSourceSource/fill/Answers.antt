@@ -17,7 +17,7 @@ loop-place-preserved c =
     let x = to_z w64 (of_z w64 (to_z w64 (of_z w64 s.start) +ℤ to_z w64 place)) in
     let sum : x ≡ s.start +ℤ pos place = omega (arith, ints) in
     let step : step_at t place ≡ Item x = step_at-range s.start s.count place (omega arith) ∙ ap Item (sym sum) in
-    filled_on t s.next place c.args.items.now c.loop-place.items c.push_reserved.new.self x c.loop-place.invariant step
+    filled_on t s.next place c.args.items.now c.loop-place.list c.push_reserved.new.self x c.loop-place.invariant step
     c.push_reserved.ensures.items c.push_reserved.ensures.len c.push_reserved.ensures.capacity
 
 last : (c : goal.Then-n-left) → IsLast (range_whole c.args.self.now) c.args.self.now.next (c.args.self.now.count - c.args.self.now.next) c.args.n End

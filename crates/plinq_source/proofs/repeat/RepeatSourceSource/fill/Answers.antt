@@ -18,7 +18,7 @@ loop-place-preserved c =
     let x = to_z w64 (of_z w64 s.value) in
     let same : x ≡ s.value = omega (arith, ints) in
     let step : step_at t place ≡ Item x = step_at-replicate s.count s.value place (omega arith) ∙ ap Item (sym same) in
-    filled_on t s.next place c.args.items.now c.loop-place.items c.push_reserved.new.self x c.loop-place.invariant step
+    filled_on t s.next place c.args.items.now c.loop-place.list c.push_reserved.new.self x c.loop-place.invariant step
     c.push_reserved.ensures.items c.push_reserved.ensures.len c.push_reserved.ensures.capacity
 
 last : (c : goal.Then-n-left) → IsLast (repeat_whole c.args.self.now) c.args.self.now.next (c.args.self.now.count - c.args.self.now.next) c.args.n End
