@@ -13,7 +13,6 @@ import json
 import os
 import pty
 import random
-import shutil
 import signal
 import subprocess
 import sys
@@ -406,10 +405,11 @@ def processes(tests, folder):
         flat_memory(tests, machines)
         left(tests, machines, folder)
         large_text(tests, machines, folder)
-    if os.geteuid() == 0 and shutil.which("ip"):
-        cut_link(tests, folder)
+    why_not = Net.why_not()
+    if why_not:
+        print(f"left out: a link that is cut: {why_not}")
     else:
-        print("left out: a link that is cut: it wants root and ip (apt-get install iproute2)")
+        cut_link(tests, folder)
 
 
 def main():

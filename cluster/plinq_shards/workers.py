@@ -24,6 +24,8 @@ def be_quiet():
     warnings.simplefilter("ignore")
     # (workers need no file of this folder)
     cloudpickle.register_pickle_by_value(program)
+    # (Dask would look up the lines by which each shard is asked for, which takes as long as sending it)
+    dask.config.set({"distributed.diagnostics.computations.ignore-modules": [""]})
 
 
 @contextlib.contextmanager

@@ -2,6 +2,7 @@
 import contextlib
 import os
 import re
+import shutil
 import signal
 import subprocess
 import time
@@ -88,6 +89,17 @@ class Net:
             self.__exit__()
             raise
         return self
+
+    @classmethod
+    def why_not(cls):
+        """Why no such hosts can be made here, if they can't."""
+        if os.geteuid() != 0 or not shutil.which("ip"):
+            return "it wants root and ip (apt-get install iproute2)"
+        try:
+            with cls(1):
+                return None
+        except (OSError, subprocess.CalledProcessError) as error:
+            return f"no network namespace can be made here: {error}"
 
     def make(self):
         ip("netns", "add", self.hub)
