@@ -124,10 +124,14 @@ def filled(unit):
 EXPANDED = [["as_ordered"], ["select_many", "repeat", 65536]]
 
 
+# The program as ./plinq starts it, with a limit.
+WITHIN = ["env", f"PLINQ_MEMORY={1_000 * 2**20}", os.path.join(ROOT, "plinq")]
+
+
 def memory():
     # (a text is nested at most 127 deep, of which the document's own objects and list take three)
     nested = b'{"":' * 124 + b"0" + b"}" * 124
-    print("| document | bytes | peak | times its bytes | status |\n|---|---|---|---|---|")
+    print("| document | bytes | peak | times its bytes | status | within 1,000 MB |\n|---|---|---|---|---|---|")
     nested_expansions = document({"list": [0]}, [["select_many", "repeat", 65536]] * 998 + [["take", 1]])
     run, seq = [PROGRAM, "run"], [PROGRAM, "seq"]
     limited = ["bash", "-c", 'ulimit -v 4000000; exec "$0" run', PROGRAM]
@@ -142,8 +146,9 @@ def memory():
         ("the same over 1,000,000 elements, the first 100,000,000 taken", run, document({"repeat": [7, 1_000_000]}, EXPANDED + [["take", 100_000_000]])),
         ("range of 3,000,000 in chunks of one element", run, document({"range": [0, 3_000_000]}, [["as_ordered"], ["filter", "below", 0]], growth=[1, 1, 1])),
     ):
-        seen = Measured(words, text)
-        print(f"| {name} | {len(text):,} | {seen.peak:,.0f} MB | {seen.peak * 2**20 / len(text):,.0f} | {seen.status} |")
+        seen, within = Measured(words, text), Measured(WITHIN + (["run"] if words == limited else words[1:]), text)
+        told = f"{within.peak:,.0f} MB, {within.status}"
+        print(f"| {name} | {len(text):,} | {seen.peak:,.0f} MB | {seen.peak * 2**20 / len(text):,.0f} | {seen.status} | {told} |")
 
 
 def callgrind(words, text, status=0):

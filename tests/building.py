@@ -96,7 +96,8 @@ class Place:
         for it in (self.bin, self.temporary, f"{self.top}/tools", f"{self.top}/orders", f"{self.top}/.git"):
             os.makedirs(it)
         shutil.copy(f"{ROOT}/plinq", self.top)
-        shutil.copy(f"{ROOT}/tools/build", f"{self.top}/tools")
+        for it in ("build", "limit.sh"):
+            shutil.copy(f"{ROOT}/tools/{it}", f"{self.top}/tools")
         for name in TOOLS:
             os.symlink(shutil.which(name), f"{self.bin}/{name}")
         for name, text in [("rt", RT), *((it, f"#!/usr/bin/env bash\n{MACHINE[it]}\n") for it in MACHINE)]:

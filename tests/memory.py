@@ -1,0 +1,111 @@
+#!/usr/bin/env python3
+"""The limit of memory under which ./plinq starts the program (tools/limit.sh): what it is, and that a run which wants more
+reports it.
+
+    python3 tests/memory.py
+"""
+import os
+import re
+import subprocess
+import tempfile
+
+from support.program import HANGS, PLINQ, ROOT, Outcome, Tests, build, run
+
+STACK = 8 * 2**20
+OUT_OF_MEMORY = Outcome(5, b"", b"plinq: out of memory\n")
+# Documents of few bytes that want more memory than any machine has.
+HUNGRY = {
+    "one line of 2^40 numbers": ("run --merge full", '{"version":1,"source":{"range":[0,1099511627776]},"query":[["as_ordered"]]}'),
+    "a list of 2^40 numbers in one thread": ("seq", '{"version":1,"source":{"range":[0,1099511627776]},"query":[["as_ordered"]]}'),
+    "expansions of great chunks": ("run", '{"version":1,"source":{"range":[0,1099511627776]},"query":[["select_many","repeat",65536],["take",390]],"growth":[65536,1,65536]}'),
+    "nested expansions": ("run", '{"version":1,"source":{"list":[1]},"query":[["select_many","repeat",65536],["select_many","repeat",65536],["select_many","repeat",65536],["take",1]]}'),
+}
+ADDED = b'{"version":1,"source":{"list":[3,1,4]},"query":[["as_ordered"],["select","add",1]]}'
+
+
+def limit_of(text):
+    return re.search(r"^Max data size +(\S+) +(\S+)", text, re.M).groups()
+
+
+def limits(tests, folder):
+    """What the lines set, with a machine that has 1,000,000 kB available, and with no commands but the shell's own."""
+    with open(f"{ROOT}/tools/limit.sh", encoding="utf-8") as file:
+        lines = file.read()
+    tests.check("it reads what the machine has", lines.count("/proc/meminfo") == 2)
+    with open(f"{folder}/meminfo", "w", encoding="utf-8") as file:
+        file.write("MemTotal:        9000000 kB\nMemFree:          500000 kB\nMemAvailable:    1000000 kB\nBuffers: 7 kB\n")
+    with open(f"{folder}/old", "w", encoding="utf-8") as file:
+        file.write("MemTotal:        9000000 kB\n")
+    shown = 'limit_memory "$@"\nwhile read -r line; do echo "$line"; done </proc/self/limits\n'
+    available = 1_000_000 * 1024
+    default = str(available + 4 * STACK)
+    for shell in ("sh", "bash"):
+        for name, value, before, meminfo, wanted in (
+            ("what is available", None, "", "meminfo", (default, "unlimited")),
+            ("an empty word", "", "", "meminfo", (default, "unlimited")),
+            ("a number of bytes", "300000500", "", "meminfo", ("300000256", "unlimited")),
+            ("no limit", "unlimited", "", "meminfo", ("unlimited", "unlimited")),
+            ("a lower limit stays", None, "ulimit -d 5000", "meminfo", ("5120000", "5120000")),
+            ("a lower limit that could be raised stays", None, "ulimit -S -d 5000", "meminfo", ("5120000", "unlimited")),
+            ("below a limit", "4096000", "ulimit -d 5000", "meminfo", ("4096000", "5120000")),
+            ("no number of what is available", None, "", "old", ("unlimited", "unlimited")),
+            ("no file of what is available", None, "", "none", ("unlimited", "unlimited")),
+        ):
+            text = f"set -eu\n{before}\n{lines.replace('/proc/meminfo', f'{folder}/{meminfo}')}\n{shown}"
+            env = {"PATH": ""} | ({} if value is None else {"PLINQ_MEMORY": value})
+            ran = subprocess.run([f"/bin/{shell}", "-c", text], env=env, capture_output=True, text=True, timeout=HANGS)
+            tests.check(f"{shell}: {name}", (ran.returncode, ran.stderr) == (0, "") and limit_of(ran.stdout) == wanted, ran)
+        text = f"set -eu\n{lines.replace('/proc/meminfo', f'{folder}/meminfo')}\n{shown}"
+        for words, workers in (("run --workers 64", 64), ("run --workers=1 --merge not", 1), ("run --merge not --workers 7", 7), ("run --workers", 4), ("run --workers 70", 4), ("run --workers x", 4)):
+            ran = subprocess.run([f"/bin/{shell}", "-c", text, "plinq", *words.split()], env={"PATH": ""}, capture_output=True, text=True, timeout=HANGS)
+            is_so = (ran.returncode, ran.stderr) == (0, "") and limit_of(ran.stdout)[0] == str(available + workers * STACK)
+            tests.check(f"{shell}: the stacks of {words}", is_so, ran)
+
+
+def started(tests):
+    """What the program runs under that ./plinq starts."""
+    with subprocess.Popen([PLINQ, "run", "--merge", "not"], stdin=subprocess.PIPE, stdout=subprocess.PIPE) as program:
+        # (it reads what comes before it ends)
+        while "crates/plinq/out/plinq" not in os.readlink(f"/proc/{program.pid}/exe"):
+            pass
+        with open(f"/proc/{program.pid}/limits", encoding="utf-8") as file:
+            soft, _ = limit_of(file.read())
+        with open("/proc/meminfo", encoding="utf-8") as file:
+            total = int(re.search(r"^MemTotal: +(\d+)", file.read(), re.M)[1]) * 1024
+        output, _ = program.communicate(ADDED, timeout=HANGS)
+    tests.check("the program has a limit below all memory and the stacks", soft != "unlimited" and 4 * STACK < int(soft) < total + 4 * STACK, soft)
+    tests.check("and answers within it", output == b"4\n2\n5\nend\n", output)
+    for value in ("1e9", "-1", "1 000", "all", "0100", "0x100"):
+        seen = run(["run"], ADDED, env=os.environ | {"PLINQ_MEMORY": value})
+        wanted = Outcome(2, b"", b'plinq: PLINQ_MEMORY is neither a number of bytes nor "unlimited"\n')
+        tests.check(f"PLINQ_MEMORY={value} is refused", seen == wanted, seen)
+    seen = run(["run", "--merge", "not"], ADDED, env=os.environ | {"PLINQ_MEMORY": "unlimited"})
+    tests.check("PLINQ_MEMORY=unlimited", seen == Outcome(0, b"4\n2\n5\nend\n", b""), seen)
+
+
+def hungry(tests):
+    for name, (words, document) in HUNGRY.items():
+        env = os.environ | {"PLINQ_MEMORY": "300000000"}
+        with subprocess.Popen([PLINQ, *words.split()], stdin=subprocess.PIPE, stdout=subprocess.PIPE, stderr=subprocess.PIPE, env=env) as program:
+            program.stdin.write(document.encode())
+            program.stdin.close()
+            output, errors = program.stdout.read(), program.stderr.read()
+            _, status, usage = os.wait4(program.pid, 0)
+            program.returncode = os.waitstatus_to_exitcode(status)
+        seen = Outcome(program.returncode, output, errors)
+        tests.check(f"{name}, within 300 MB", seen == OUT_OF_MEMORY, seen)
+        tests.check(f"{name}: it took no more", usage.ru_maxrss * 1024 < 320_000_000, usage.ru_maxrss)
+
+
+def main():
+    build()
+    tests = Tests()
+    with tempfile.TemporaryDirectory() as folder:
+        limits(tests, folder)
+    started(tests)
+    hungry(tests)
+    tests.end()
+
+
+if __name__ == "__main__":
+    main()
