@@ -84,7 +84,7 @@ class Terminal:
         """What is shown after these keys, with all of these words where they come. The next line says when it is all."""
         self.number += 1
         os.write(self.end, keys.encode())
-        shown = self.read(b"", lambda text: all(it in text.replace(keys.strip(), "") for it in words), 10) if words else b""
+        shown = self.read(b"", lambda text: all(it in text.replace(keys.strip(), "") for it in words), 60) if words else b""
         os.write(self.end, (b"\x15" if words else b"") + f"printf 'end-of-%s\\n' {self.number}\n".encode())
         return plain(self.read(shown, lambda text: f"\nend-of-{self.number}\n" in text))
 

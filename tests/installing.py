@@ -1,0 +1,105 @@
+#!/usr/bin/env python3
+"""Installs the program into a folder of its own, runs what stands there, and takes it away; and makes a package of it.
+
+    python3 tests/installing.py
+"""
+import os
+import re
+import shutil
+import subprocess
+import tempfile
+
+from support.program import EXAMPLES, HANGS, ROOT, Outcome, Tests, build, run
+
+INSTALL = os.path.join(ROOT, "tools", "install")
+FILES = {
+    "bin/plinq",
+    "bin/plinq-check",
+    "lib/plinq/plinq",
+    "share/bash-completion/completions/plinq",
+    "share/fish/vendor_completions.d/plinq.fish",
+    "share/man/man1/plinq-check.1",
+    "share/man/man1/plinq.1",
+    "share/plinq/plinq.schema.json",
+    "share/zsh/site-functions/_plinq",
+}
+PROGRAMS = {"bin/plinq", "bin/plinq-check", "lib/plinq/plinq"}
+
+
+def files(folder):
+    return {os.path.relpath(os.path.join(at, it), folder) for at, _, names in os.walk(folder) for it in names}
+
+
+def calls(*words, **how):
+    return subprocess.run([INSTALL, *words], capture_output=True, text=True, timeout=HANGS, **how)
+
+
+def answers(tests, name, prefix):
+    """The program answers from its place, through the PATH and through a link, under a limit, and nothing of the repository."""
+    with open(os.path.join(EXAMPLES, "add-one.json"), "rb") as file:
+        document = file.read()
+    wanted = Outcome(0, b"4\n2\n5\nend\n", b"")
+    os.symlink(f"{prefix}/bin/plinq", f"{prefix}/linked")
+    for program, how in ((f"{prefix}/bin/plinq", {}), (f"{prefix}/linked", {}), ("plinq", {"env": {"PATH": f"{prefix}/bin:/usr/bin:/bin"}})):
+        if "env" in how:
+            program = shutil.which("plinq", path=how["env"]["PATH"])
+        seen = run(["run", "--merge", "not"], document, program, cwd="/", **how)
+        tests.check(f"{name}: {program} answers", seen == wanted, seen)
+    os.remove(f"{prefix}/linked")
+    hungry = b'{"version":1,"source":{"range":[0,1099511627776]},"query":[["as_ordered"]]}'
+    seen = run(["run", "--merge", "full"], hungry, f"{prefix}/bin/plinq", env=os.environ | {"PLINQ_MEMORY": "200000000"})
+    tests.check(f"{name}: within PLINQ_MEMORY", seen == Outcome(5, b"", b"plinq: out of memory\n"), seen)
+    seen = run([], b"[", f"{prefix}/bin/plinq-check")
+    tests.check(f"{name}: plinq-check checks", seen.status == 2 and seen.errors.startswith(b"plinq-check: not JSON: line 1, column 2: "), seen)
+
+
+def prefixes(tests, folder):
+    prefix = f"{folder}/a prefix"
+    os.makedirs(f"{prefix}/share/plinq")
+    with open(f"{prefix}/share/plinq/mine", "w", encoding="utf-8"):
+        pass
+    for time in ("first", "second"):
+        seen = calls(prefix)
+        tests.check(f"installs a {time} time", (seen.returncode, seen.stdout) == (0, ""), seen)
+    tests.check("what stands where", files(prefix) == FILES | {"share/plinq/mine"}, files(prefix))
+    modes = {it: os.stat(f"{prefix}/{it}").st_mode & 0o777 for it in FILES}
+    tests.check("what can be run", modes == {it: 0o755 if it in PROGRAMS else 0o644 for it in FILES}, modes)
+    answers(tests, "a prefix", prefix)
+    seen = calls("--uninstall", prefix)
+    tests.check("takes all away, and nothing else", (seen.returncode, files(prefix)) == (0, {"share/plinq/mine"}), (seen, files(prefix)))
+    tests.check("its folder goes", not os.path.exists(f"{prefix}/lib/plinq"))
+    for words, status in ((["--help"], 0), (["--some"], 2)):
+        seen = calls(*words)
+        tests.check(f"{words}", seen.returncode == status and "tools/install [PREFIX]" in seen.stdout, seen)
+
+
+def package(tests, folder):
+    seen = calls("--deb", folder)
+    (made,) = (it for it in os.listdir(folder) if it.endswith(".deb"))
+    tests.check("says which package it made", (seen.returncode, seen.stdout) == (0, f"{folder}/{made}\n"), seen)
+    tests.check("its name has a version", re.fullmatch(r"plinq_0(\+\d{8}\.\w+)?_amd64\.deb", made), made)
+    listed = subprocess.check_output(["dpkg-deb", "--contents", f"{folder}/{made}"], text=True)
+    wanted = {f"usr/{it}".replace("site-functions", "vendor-completions") for it in FILES}
+    names = {it.split("./", 1)[1] for it in listed.splitlines() if not it.endswith("/")}
+    tests.check("what the package has", names == wanted, names)
+    tests.check("all of it is root's", all(it.split()[1] == "root/root" for it in listed.splitlines()), listed)
+    fields = subprocess.check_output(["dpkg-deb", "--field", f"{folder}/{made}"], text=True)
+    tests.check("it needs no rt", re.search(r"^Depends: libc6$", fields, re.M) and "rt" not in fields.split(), fields)
+    subprocess.run(["dpkg-deb", "--extract", f"{folder}/{made}", f"{folder}/taken"], check=True)
+    answers(tests, "the package", f"{folder}/taken/usr")
+    seen = subprocess.run(["apt-get", "install", "--simulate", f"{folder}/{made}"], capture_output=True, text=True, timeout=HANGS)
+    tests.check("apt-get takes it", seen.returncode == 0 and re.search(r"^Inst plinq ", seen.stdout, re.M), seen)
+
+
+def main():
+    build()
+    tests = Tests()
+    with tempfile.TemporaryDirectory() as folder:
+        prefixes(tests, folder)
+    with tempfile.TemporaryDirectory() as folder:
+        package(tests, folder)
+    tests.end()
+
+
+if __name__ == "__main__":
+    main()
