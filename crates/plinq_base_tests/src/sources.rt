@@ -186,18 +186,29 @@ fn concatenations(rt: HostRuntime) -> Result<(), Fail> {
     Ok(())
 }
 
+// Walks a concatenation of two lists of one word each.
+fn walks_words<'a>(
+    rt: &impl Abort,
+    alloc: Global,
+    one: &'a str,
+    two: &'a str,
+) -> Result<(), AllocError> {
+    let first = ListSource::new(alloc, vec![in alloc; one]?);
+    let second = ListSource::new(alloc, vec![in alloc; two]?);
+    let mut source = ConcatSource::new(first, second);
+    assert_eq!(rt; source.next(), Step::Item(one));
+    assert_eq!(rt; source.next(), Step::Item(two));
+    assert_eq!(rt; source.next(), Step::End);
+    Ok(())
+}
+
 #[test]
 fn a_concatenation_of_items_that_borrow(rt: HostRuntime) -> Result<(), Fail> {
     let (one, two) = (
         format!(in rt.alloc(); "{}", 1)?,
         format!(in rt.alloc(); "{}", 2)?,
     );
-    let first = ListSource::new(rt.alloc(), vec![in rt.alloc(); one.as_str()]?);
-    let second = ListSource::new(rt.alloc(), vec![in rt.alloc(); two.as_str()]?);
-    let mut source = ConcatSource::new(first, second);
-    assert_eq!(rt; source.next(), Step::Item("1"));
-    assert_eq!(rt; source.next(), Step::Item("2"));
-    assert_eq!(rt; source.next(), Step::End);
+    walks_words(&rt, rt.alloc(), one.as_str(), two.as_str())?;
     Ok(())
 }
 
