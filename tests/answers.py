@@ -3,6 +3,7 @@
 
     python3 tests/answers.py
 """
+import json
 from collections import Counter
 
 from support.batches import batches_in, in_batches
@@ -40,6 +41,15 @@ ANSWERS = [
     ("", '"text":"+1"', "", "refused 1\n", 3),
     ("", '"text":"-"', "", "refused 1\n", 3),
     ("", '"text":" "', "", "end\n", 0),
+    ("not", '"text":"9223372036854775807 9223372036854775808"', "", "9223372036854775807\nrefused 2\n", 3),
+    ("", '"text":"-9223372036854775809"', "", "refused 2\n", 3),
+    ("", '"text":"99999999999999999999x"', "", "refused 1\n", 3),
+    ("", '"text":"00000000000000000000000001"', "", "1\nend\n", 0),
+    ("", '"text":"--1"', "", "refused 1\n", 3),
+    ("", '"text":"1-"', "", "refused 1\n", 3),
+    ("", '"text":"1\\t2"', "", "refused 1\n", 3),
+    ("", '"text":""', "", "end\n", 0),
+    ("auto", '"text":"\\n\\n-5 \\n 6\\n"', "", "-5 6\nend\n", 0),
     ("", '"list":[9223372036854775807]', ',["select","add",1]', "fault overflow\n", 4),
     ("", '"list":[-1]', ',["select","into",-9223372036854775808]', "fault overflow\n", 4),
     ("", '"list":[-9223372036854775808]', ',["select","mod",-1]', "0\nend\n", 0),
@@ -102,6 +112,10 @@ AGGREGATES = [
     ('"list":[3,1,2]', "", "sum", "6\nend\n", 0),
     ('"range":[1,1000]', '["select_many","repeat",3]', "sum", "1501500\nend\n", 0),
     ('"range":[1,1000]', '["take",20]', "count", "20\nend\n", 0),
+    ('"range":[1,1000]', '["as_ordered"],["filter","even"]', "count", "500\nend\n", 0),
+    ('"list":[5,0,2]', '["as_ordered"],["select","into",10]', "sum", "fault division\n", 4),
+    ('"list":[5,0,2]', '["as_ordered"],["select","into",10],["take",1]', "sum", "2\nend\n", 0),
+    ('"list":[],"refuse":7', '["as_ordered"],["take",0]', "count", "0\nend\n", 0),
     ('"list":[],"refuse":7', '["take",0]', "sum", "0\nend\n", 0),
 ]
 
@@ -130,6 +144,49 @@ CANCELLED = [
     ("not", 0, *ADDED, ',"aggregate":"sum"', "11\nend\n", False),
     ("not", 1, *ADDED, ',"aggregate":"count"', "3\nend\n", False),
     ("not", 1, '"range":[1,10]', ',["filter","even"],["take",2]', ',"aggregate":"sum"', "6\nend\n", False),
+]
+
+# What each arithmetic formula and each test maps five numbers to: what it is, or why not.
+LEAST, GREATEST = -(2**63), 2**63 - 1
+EDGES = (LEAST, -1, 0, 1, GREATEST)
+OVERFLOW, DIVISION = "overflow", "division"
+MAPPED = [
+    (["add", LEAST], [OVERFLOW, OVERFLOW, LEAST, LEAST + 1, -1]),
+    (["add", -1], [OVERFLOW, -2, -1, 0, GREATEST - 1]),
+    (["add", 0], [LEAST, -1, 0, 1, GREATEST]),
+    (["add", 1], [LEAST + 1, 0, 1, 2, OVERFLOW]),
+    (["add", GREATEST], [-1, GREATEST - 1, GREATEST, OVERFLOW, OVERFLOW]),
+    (["mul", LEAST], [OVERFLOW, OVERFLOW, 0, LEAST, OVERFLOW]),
+    (["mul", -1], [OVERFLOW, 1, 0, -1, LEAST + 1]),
+    (["mul", 0], [0, 0, 0, 0, 0]),
+    (["mul", 1], [LEAST, -1, 0, 1, GREATEST]),
+    (["mul", GREATEST], [OVERFLOW, LEAST + 1, 0, GREATEST, OVERFLOW]),
+    (["mod", LEAST], [0, -1, 0, 1, GREATEST]),
+    (["mod", -1], [0, 0, 0, 0, 0]),
+    (["mod", 0], [DIVISION, DIVISION, DIVISION, DIVISION, DIVISION]),
+    (["mod", 1], [0, 0, 0, 0, 0]),
+    (["mod", GREATEST], [-1, -1, 0, 1, 0]),
+    (["into", LEAST], [1, OVERFLOW, DIVISION, LEAST, -1]),
+    (["into", -1], [0, 1, DIVISION, -1, 0]),
+    (["into", 0], [0, 0, DIVISION, 0, 0]),
+    (["into", 1], [0, -1, DIVISION, 1, 0]),
+    (["into", GREATEST], [0, LEAST + 1, DIVISION, GREATEST, 1]),
+    (["below", LEAST], [0, 0, 0, 0, 0]),
+    (["below", -1], [1, 0, 0, 0, 0]),
+    (["below", 0], [1, 1, 0, 0, 0]),
+    (["below", 1], [1, 1, 1, 0, 0]),
+    (["below", GREATEST], [1, 1, 1, 1, 0]),
+    (["above", LEAST], [0, 1, 1, 1, 1]),
+    (["above", -1], [0, 0, 1, 1, 1]),
+    (["above", 0], [0, 0, 0, 1, 1]),
+    (["above", 1], [0, 0, 0, 0, 1]),
+    (["above", GREATEST], [0, 0, 0, 0, 0]),
+    (["equal", LEAST], [1, 0, 0, 0, 0]),
+    (["equal", -1], [0, 1, 0, 0, 0]),
+    (["equal", 0], [0, 0, 1, 0, 0]),
+    (["equal", 1], [0, 0, 0, 1, 0]),
+    (["equal", GREATEST], [0, 0, 0, 0, 1]),
+    (["even"], [1, 0, 1, 0, 0]),
 ]
 
 # Words, a document, and what is said of it.
@@ -398,10 +455,20 @@ def main():
         for workers in ("1", "2", "64"):
             ends(["run", "--workers", workers, "--merge", merge, "--cancel-after", str(most)], document, wanted)
     for source, steps, aggregate, output, status in AGGREGATES:
-        document = f'{{"version":1,"source":{{{source}}},"query":[{steps}],"aggregate":"{aggregate}"}}'
-        for command in ("run", "seq"):
-            for options in [], ["--workers", "1"], ["--workers", "64", "--merge", "not"], ["--workers", "2", "--merge", "full"]:
-                ends([command, *options], document, Outcome(status, output.encode(), b""))
+        for growth in "", ',"growth":[1,1,1]', ',"growth":[1,1,4]':
+            document = f'{{"version":1,"source":{{{source}}},"query":[{steps}],"aggregate":"{aggregate}"{growth}}}'
+            for command in ("run", "seq"):
+                for options in [], ["--workers", "1"], ["--workers", "64", "--merge", "not"], ["--workers", "2", "--merge", "full"]:
+                    ends([command, *options], document, Outcome(status, output.encode(), b""))
+    for formula, values in MAPPED:
+        for x, value in zip(EDGES, values):
+            # (a test asks what a number is mapped to, and an expansion has just that)
+            made = {"select": f"{value}\nend\n", "select_many": f"{value}\nend\n", "filter": f"{x}\nend\n" if value else "end\n"}
+            for step, output in made.items():
+                document = f'{{"version":1,"source":{{"list":[{x}]}},"query":[["as_ordered"],{json.dumps([step, *formula])}]}}'
+                wanted = Outcome(4, f"fault {value}\n".encode(), b"") if isinstance(value, str) else Outcome(0, output.encode(), b"")
+                for command in ("run", "seq"):
+                    ends([command], document, wanted)
     for words, document, lines, status in SHOWN:
         ends(words.split(), document, Outcome(status, "".join(it + "\n" for it in lines).encode(), b""))
     unknown = [("run", f'{{"version":1,"source":{{"list":[]}},"query":[{it}]}}', "step 0: unknown") for it in UNKNOWN_STEPS]

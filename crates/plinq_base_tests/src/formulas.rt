@@ -5,110 +5,6 @@ use std::test::Fail;
 
 const EDGES: [i64; 5] = [i64::MIN, -1, 0, 1, i64::MAX];
 
-const OVERFLOW: Result<i64, u32> = Err(1);
-
-const DIVISION: Result<i64, u32> = Err(2);
-
-// What each arithmetic formula and each test maps the five edges to.
-const MAPPED: [(Formula, [Result<i64, u32>; 5]); 36] = [
-    (
-        Formula::Add(i64::MIN),
-        [OVERFLOW, OVERFLOW, Ok(i64::MIN), Ok(i64::MIN + 1), Ok(-1)],
-    ),
-    (
-        Formula::Add(-1),
-        [OVERFLOW, Ok(-2), Ok(-1), Ok(0), Ok(i64::MAX - 1)],
-    ),
-    (
-        Formula::Add(0),
-        [Ok(i64::MIN), Ok(-1), Ok(0), Ok(1), Ok(i64::MAX)],
-    ),
-    (
-        Formula::Add(1),
-        [Ok(i64::MIN + 1), Ok(0), Ok(1), Ok(2), OVERFLOW],
-    ),
-    (
-        Formula::Add(i64::MAX),
-        [Ok(-1), Ok(i64::MAX - 1), Ok(i64::MAX), OVERFLOW, OVERFLOW],
-    ),
-    (
-        Formula::Mul(i64::MIN),
-        [OVERFLOW, OVERFLOW, Ok(0), Ok(i64::MIN), OVERFLOW],
-    ),
-    (
-        Formula::Mul(-1),
-        [OVERFLOW, Ok(1), Ok(0), Ok(-1), Ok(i64::MIN + 1)],
-    ),
-    (Formula::Mul(0), [Ok(0), Ok(0), Ok(0), Ok(0), Ok(0)]),
-    (
-        Formula::Mul(1),
-        [Ok(i64::MIN), Ok(-1), Ok(0), Ok(1), Ok(i64::MAX)],
-    ),
-    (
-        Formula::Mul(i64::MAX),
-        [OVERFLOW, Ok(i64::MIN + 1), Ok(0), Ok(i64::MAX), OVERFLOW],
-    ),
-    (
-        Formula::Mod(i64::MIN),
-        [Ok(0), Ok(-1), Ok(0), Ok(1), Ok(i64::MAX)],
-    ),
-    (Formula::Mod(-1), [Ok(0), Ok(0), Ok(0), Ok(0), Ok(0)]),
-    (
-        Formula::Mod(0),
-        [DIVISION, DIVISION, DIVISION, DIVISION, DIVISION],
-    ),
-    (Formula::Mod(1), [Ok(0), Ok(0), Ok(0), Ok(0), Ok(0)]),
-    (
-        Formula::Mod(i64::MAX),
-        [Ok(-1), Ok(-1), Ok(0), Ok(1), Ok(0)],
-    ),
-    (
-        Formula::Into(i64::MIN),
-        [Ok(1), OVERFLOW, DIVISION, Ok(i64::MIN), Ok(-1)],
-    ),
-    (Formula::Into(-1), [Ok(0), Ok(1), DIVISION, Ok(-1), Ok(0)]),
-    (Formula::Into(0), [Ok(0), Ok(0), DIVISION, Ok(0), Ok(0)]),
-    (Formula::Into(1), [Ok(0), Ok(-1), DIVISION, Ok(1), Ok(0)]),
-    (
-        Formula::Into(i64::MAX),
-        [Ok(0), Ok(i64::MIN + 1), DIVISION, Ok(i64::MAX), Ok(1)],
-    ),
-    (
-        Formula::Below(i64::MIN),
-        [Ok(0), Ok(0), Ok(0), Ok(0), Ok(0)],
-    ),
-    (Formula::Below(-1), [Ok(1), Ok(0), Ok(0), Ok(0), Ok(0)]),
-    (Formula::Below(0), [Ok(1), Ok(1), Ok(0), Ok(0), Ok(0)]),
-    (Formula::Below(1), [Ok(1), Ok(1), Ok(1), Ok(0), Ok(0)]),
-    (
-        Formula::Below(i64::MAX),
-        [Ok(1), Ok(1), Ok(1), Ok(1), Ok(0)],
-    ),
-    (
-        Formula::Above(i64::MIN),
-        [Ok(0), Ok(1), Ok(1), Ok(1), Ok(1)],
-    ),
-    (Formula::Above(-1), [Ok(0), Ok(0), Ok(1), Ok(1), Ok(1)]),
-    (Formula::Above(0), [Ok(0), Ok(0), Ok(0), Ok(1), Ok(1)]),
-    (Formula::Above(1), [Ok(0), Ok(0), Ok(0), Ok(0), Ok(1)]),
-    (
-        Formula::Above(i64::MAX),
-        [Ok(0), Ok(0), Ok(0), Ok(0), Ok(0)],
-    ),
-    (
-        Formula::Equal(i64::MIN),
-        [Ok(1), Ok(0), Ok(0), Ok(0), Ok(0)],
-    ),
-    (Formula::Equal(-1), [Ok(0), Ok(1), Ok(0), Ok(0), Ok(0)]),
-    (Formula::Equal(0), [Ok(0), Ok(0), Ok(1), Ok(0), Ok(0)]),
-    (Formula::Equal(1), [Ok(0), Ok(0), Ok(0), Ok(1), Ok(0)]),
-    (
-        Formula::Equal(i64::MAX),
-        [Ok(0), Ok(0), Ok(0), Ok(0), Ok(1)],
-    ),
-    (Formula::Even, [Ok(1), Ok(0), Ok(1), Ok(0), Ok(0)]),
-];
-
 // Asks that a formula maps a number so, and tests it by what it maps it to.
 fn expect_mapped(rt: &impl Abort, formula: Formula, x: i64, want: Result<i64, u32>) {
     let told = (formula.map(x), formula.test(x));
@@ -130,24 +26,6 @@ fn expect_items(
         (_, _) => false,
     };
     assert!(rt; is_wanted, "{formula:?} expands {x} to {told:?}");
-}
-
-// Asks for a number's map and test, and for the expansion of one that a formula without expansion has.
-fn expect_all(rt: &impl Abort, alloc: Global, formula: Formula, x: i64, want: Result<i64, u32>) {
-    expect_mapped(rt, formula, x, want);
-    match want {
-        Ok(y) => expect_items(rt, alloc, formula, x, Ok(&[y])),
-        Err(code) => expect_items(rt, alloc, formula, x, Err(code)),
-    }
-}
-
-#[test]
-fn arithmetic_and_tests_at_the_edges(rt: HostRuntime) {
-    for (formula, wants) in MAPPED {
-        for (x, want) in EDGES.into_iter().zip(wants) {
-            expect_all(&rt, rt.alloc(), formula, x, want);
-        }
-    }
 }
 
 #[test]
