@@ -5,6 +5,7 @@ use crossbeam_queue::RuledArrayQueue;
 use crossbeam_queue::protocol::Protocol;
 use plinq_wait::WaitQueue;
 use std::marker::PhantomData;
+use std::sync::atomic::{AtomicU64, Ordering};
 
 /// The rule of the queue.
 pub struct InOrder<C> {
@@ -33,4 +34,24 @@ pub struct Stream<T, C: Admits<T>> {
     pub(crate) queue: RuledArrayQueue<Sent<T>, PassKnowledge<T>, InOrder<C>>,
     /// Those that wait for room to send.
     pub(crate) room: WaitQueue,
+    /// How many items were received, which only says when to wake those.
+    pub(crate) received: AtomicU64,
+}
+
+/// After so many items that were received one after another, those that wait for room are woken together.
+const ROOM_FOR_ALL: u64 = 32;
+
+impl<T, C: Admits<T>> Stream<T, C> {
+    /// After an attempt to receive. Those that wait for room are woken where it found nothing, and after each so many items: one by
+    /// one, each would be woken for a single item.
+    pub(crate) fn make_room(&self, found: bool) {
+        if found {
+            let received = self.received.load(Ordering::SeqCst).wrapping_add(1);
+            self.received.store(received, Ordering::SeqCst);
+            if received % ROOM_FOR_ALL != 0 {
+                return;
+            }
+        }
+        self.room.wake_each();
+    }
 }

@@ -12,6 +12,7 @@ use crossbeam_queue::RuledArrayQueue;
 use plinq_wait::WaitQueue;
 use std::alloc::{AllocError, Global};
 use std::sync::Wait;
+use std::sync::atomic::AtomicU64;
 
 impl<T: Drop, C: Admits<T>> Stream<T, C> {
     /// A stream with room for so many items, and the pass that receives, which has the numbers 0 to 63.
@@ -28,6 +29,7 @@ impl<T: Drop, C: Admits<T>> Stream<T, C> {
         let stream = Stream {
             queue,
             room: WaitQueue::new(),
+            received: AtomicU64::new(0),
         };
         Ok((stream, StreamPass { pass }))
     }
@@ -62,7 +64,7 @@ impl<T: Drop, C: Admits<T>> Stream<T, C> {
         ensures carried { IfSome result (λ s. C.admits s.item) }
     {
         let received = self.queue.try_pop_as::<Comes<C>>(&mut pass.pass);
-        self.room.wake();
+        self.make_room(received.is_some());
         received
     }
 
@@ -76,7 +78,7 @@ impl<T: Drop, C: Admits<T>> Stream<T, C> {
         ensures all { IfNone result (HasReceivedAll (known pass.new)) }
     {
         let received = self.queue.pop_as::<Comes<C>, R>(rt, &mut pass.pass);
-        self.room.wake();
+        self.make_room(received.is_some());
         received
     }
 

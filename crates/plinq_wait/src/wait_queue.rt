@@ -55,6 +55,15 @@ impl WaitQueue {
         }
     }
 
+    /// Something has changed that lets many go on: wakes all waiters, the exclusive ones as well, unless they were woken and none
+    /// has announced a sleep since. Where nobody sleeps it is one load.
+    pub fn wake_each(&self) {
+        if self.is_watched.load(Ordering::SeqCst) {
+            self.is_watched.store(false, Ordering::SeqCst);
+            self.wake_all();
+        }
+    }
+
     /// Something has changed for good: wakes all waiters, the exclusive ones as well.
     pub fn wake_all(&self) {
         self.shared.notify_all();
