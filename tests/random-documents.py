@@ -12,7 +12,7 @@ import random
 import re
 
 from support.batches import batches_in, in_batches
-from support.model import AGGREGATES, GREATEST, LEAST, MEANINGS, MOST, applied, given, is_setting, setting, status_of, through, told, wanted
+from support.model import AGGREGATES, GREATEST, LEAST, MEANINGS, MOST, applied, cancelled_after, given, is_setting, setting, status_of, through, told, wanted
 from support.program import PROGRAM, Outcome, Tests, build, run
 
 FEW = 5
@@ -114,6 +114,24 @@ def some_steps(chance, version):
     return steps
 
 
+def some_words(chance, steps):
+    """Settings of the command line that a query doesn't have already, and the steps that they stand for."""
+    words, calls = [], []
+    if setting(steps, "with_degree", None) is None and chance.random() < 0.5:
+        calls.append(["with_degree", chance.randint(1, 64)])
+        words += ["--workers", str(calls[-1][1])]
+    if setting(steps, "with_merge", None) is None and chance.random() < 0.5:
+        calls.append(["with_merge", chance.choice(["not", "auto", "full", "default"])])
+        words += ["--merge", calls[-1][1]]
+    return words, calls
+
+
+def some_stop(chance, command, in_any_order):
+    """After how many lines a run is cancelled whose lines are known, if it is."""
+    is_stopped = command == "run" and not in_any_order and chance.random() < 0.3
+    return chance.choice([0, 1, 2, 5, 20, 150, 2**32 - 1]) if is_stopped else None
+
+
 def is_too_long(source, steps):
     """Whether a model on whole lists would take too long for a document."""
     items, ending = given(source)
@@ -128,7 +146,7 @@ def main():
     build()
     tests = Tests()
     chance = random.Random(5)
-    seen_endings = set()
+    seen_endings, stops = set(), set()
     while tests.passed + tests.failed < 2000:
         version = chance.choice([1, 2])
         source, steps = some_source(chance, version), some_steps(chance, version)
@@ -146,22 +164,32 @@ def main():
         if aggregate:
             document["aggregate"] = aggregate
         text = json.dumps(document)
-        seen = run([command], text.encode(), PROGRAM)
-        name = f"plinq {command} < {text}"
+        words, calls = some_words(chance, steps)
+        steps = calls + steps
+        stop = some_stop(chance, command, in_any_order)
+        if stop is not None:
+            words += ["--cancel-after", str(stop)]
+        seen = run([command, *words], text.encode(), PROGRAM)
+        name = f"plinq {' '.join([command, *words])} < {text}"
         if in_any_order:
             is_right = may_tell(source, steps, aggregate, seen) if aggregate else may_print(source, steps, seen)
             tests.check(name, is_right, f"no answer of the query: {seen}")
         else:
             lines, status = wanted(command, source, steps, growth or [1, 3, 512], aggregate)
-            right = Outcome(status, "".join(it + "\n" for it in lines).encode(), b"")
+            errors = b""
+            if stop is not None and not aggregate:
+                lines, status, errors = cancelled_after(stop, lines, status)
+                stops.add(status == 5)
+            right = Outcome(status, "".join(it + "\n" for it in lines).encode(), errors)
             tests.check(name, seen == right, f"wanted {right}; seen {seen}")
-        if command == "run":
+        if command == "run" and seen.status != 5:
             seen_endings.add((in_any_order, seen.output.decode().splitlines()[-1].rstrip("0123456789")))
     ways = {True: set(), False: set()}
     for in_any_order, it in seen_endings:
         ways[in_any_order].add(it)
     all_ways = {"end", "refused ", "fault overflow", "fault division", "fault toomany"}
     tests.check("runs in order ended in every way", ways[False] == all_ways, ways[False])
+    tests.check("some runs were cancelled, and some ended before", stops == {True, False}, stops)
     # (which of several faults comes isn't said)
     tests.check("runs in any order ended well, by a refusal and by a fault", {"end", "refused ", "fault overflow"} <= ways[True], ways[True])
     tests.end()

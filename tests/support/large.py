@@ -2,7 +2,7 @@
 import json
 
 from support.batches import batches_in, in_batches
-from support.model import GREATEST, wanted
+from support.model import GREATEST, cancelled_after, wanted
 from support.program import Outcome, run
 
 ORDERED = ["as_ordered"]
@@ -85,3 +85,65 @@ def aggregates(program):
         for growth, text in all_growths(source, steps, aggregate=aggregate):
             for words in (SEQ, *RUNS):
                 yield f"{name}, {growth}: {' '.join(words)}", says, run(words, text, program)
+
+
+# ---- longer ones, by few runs each
+
+NOT, FULL = "not", "full"
+LONG = {
+    "a full line": ({"range": [7, 100_000]}, [["select", "mul", 3]], FULL),
+    "two sources": ({"concat": [{"range": [0, 2_500]}, {"list": NUMBERS[:2_000]}]}, [["select", "add", 5]], NOT),
+    "two sources, of which the second refuses": ({"concat": [{"list": NUMBERS}, {"list": NUMBERS[:900], "refuse": 3}]}, [], NOT),
+    "all but those at first": ({"list": [1] * 700 + NUMBERS}, [["skip_while", "below", 2], ["select", "add", 1]], NOT),
+    "a fault after 200 KB": ({"list": [*range(1, 40_001), 0, 5]}, [["select", "into", 10**12]], NOT),
+    "a refusal after 200 KB": ({"list": list(range(40_000)), "refuse": 8}, [["select", "add", 10**6]], "auto"),
+}
+
+
+def document(source, steps, **more):
+    return json.dumps({"version": 2, "source": source, "query": steps, **more}).encode()
+
+
+def outcome_of(lines, status, errors=b""):
+    return Outcome(status, "".join(it + "\n" for it in lines).encode(), errors)
+
+
+def long_answers(program):
+    """Long answers by a few workers."""
+    for name, (source, steps, merge) in LONG.items():
+        says = outcome_of(*wanted("seq", source, [["with_merge", merge], *steps], None, None))
+        text = document(source, [ORDERED, *steps])
+        for words in (SEQ, ["run", "--workers", "2"], ["run", "--workers", "8"]):
+            yield f"{name}: {' '.join(words)}", says, run([*words, "--merge", merge], text, program)
+
+
+def each_worker_count(program):
+    """One answer by each number of workers, and by growths of each kind."""
+    source, steps = {"range": [0, 700]}, [["filter", "even"], ["skip", 3]]
+    says = outcome_of(*wanted("seq", source, [["with_merge", NOT], *steps], None, None))
+    growths = ([1, 1, 1], [1, 3, 512], [2, 3, 16], [7, 5, 100], [1, 1, 65_536], [300, 2, 301], [3, 1, 3])
+    for workers in range(1, 65):
+        for growth in (growths[workers % len(growths)], growths[(workers + 3) % len(growths)]):
+            text = document(source, [ORDERED, *steps], growth=growth)
+            yield f"by {workers} workers, growth {growth}", says, run(["run", "--workers", str(workers), "--merge", NOT], text, program)
+
+
+def long_histories(program):
+    """The requests of up to 64 partitions that take in turn."""
+    for workers in (3, 17, 64):
+        for growth in ([1, 1, 1], [1, 3, 512], [5, 2, 40]):
+            source = {"list": NUMBERS[:400], "refuse": 6}
+            says = outcome_of(*wanted("history", source, [["with_degree", workers]], growth, None))
+            yield f"history of {workers}, growth {growth}", says, run(["history", "--workers", str(workers)], document(source, [], growth=growth), program)
+
+
+def cancelled_runs(program):
+    """Runs that stop after so many lines, in order: before the end, at it and after it, of an answer that ends in each way."""
+    for name in ("a step", "a late refusal", "a late division", "a late overflow"):
+        source, steps = BY_KEY[name]
+        for merge in (NOT, "auto"):
+            lines, status = wanted("seq", source, [["with_merge", merge], *steps], None, None)
+            batches = len(lines) - 1
+            for n in (0, 1, 5, 60, batches - 1, batches, batches + 1):
+                words = ["run", "--workers", "3", "--merge", merge, "--cancel-after", str(n)]
+                yield f"{name}: {' '.join(words)}", outcome_of(*cancelled_after(n, lines, status)), run(words, document(source, [ORDERED, *steps]), program)

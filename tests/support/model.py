@@ -208,3 +208,10 @@ def wanted(command, source, steps, growth, aggregate):
 
 def status_of(ending):
     return {"e": 0, "r": 3, "f": 4}.get(ending[:1])
+
+
+def cancelled_after(n, lines, status):
+    """What a run prints that stops after so many lines of an answer, and its status and its line on standard error."""
+    if n < len(lines):
+        return lines[:n], 5, b"plinq: cancelled\n"
+    return lines, status, b""

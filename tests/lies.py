@@ -1,0 +1,175 @@
+#!/usr/bin/env python3
+"""Programs that lie, each in one thing, stand in the place of the program, and one of the runs of the other tests has to show each.
+
+    python3 tests/lies.py
+
+A liar runs the program, and changes what it says where the lie applies.
+"""
+import json
+import os
+import re
+import subprocess
+import sys
+import tempfile
+
+from itertools import islice
+
+from support import distinct, large
+from support.program import PROGRAM, Tests, build
+
+
+class Told:
+    """A run that a liar looks at: its words, its document and what was right to print."""
+
+    def __init__(self, words, given, output):
+        self.words, self.output = words, output
+        self.document = json.loads(given) if given[:1] == b"{" else {}
+        self.lines = output.splitlines(keepends=True)
+        self.steps = self.document.get("query", [])
+        self.is_run = words[:1] == ["run"]
+        self.is_ordered = ["as_ordered"] in self.steps
+
+    def has(self, name):
+        return any(step[0] == name for step in self.steps)
+
+    def option(self, name):
+        return int(self.words[self.words.index(name) + 1]) if name in self.words else None
+
+
+def swapped_lines(told):
+    at = told.lines
+    return b"".join([*at[:40], at[41], at[40], *at[42:]]) if len(at) > 42 else told.output
+
+
+def swapped_in_a_line(told):
+    """Two items of a line that stand behind its byte 20,000."""
+    line, *rest = told.lines
+    if len(line) < 30_000:
+        return told.output
+    items = line[20_000:].split(b" ")
+    items[1], items[2] = items[2], items[1]
+    return b"".join([line[:20_000] + b" ".join(items), *rest])
+
+
+def without_the_last_batch(told):
+    growth = told.document.get("growth")
+    return told.output if not growth or growth[0] == 1 else b"".join([*told.lines[:-2], told.lines[-1]])
+
+
+def ended_well(least):
+    return lambda told: b"".join([*told.lines[:-1], b"end\n"]) if len(told.output) > least else told.output
+
+
+def value_less_one(told):
+    """One less, where the first of two lines is a number."""
+    is_value = len(told.lines) == 2 and told.lines[0].strip().isdigit()
+    return b"".join([b"%d\n" % (int(told.lines[0]) - 1), told.lines[1]]) if is_value else told.output
+
+
+def great_value_less_one(told):
+    return value_less_one(told) if told.lines[0].strip().isdigit() and int(told.lines[0]) > 2**64 else told.output
+
+
+def where(applies, change):
+    return lambda told: change(told) if applies(told) else told.output
+
+
+def without_line(at):
+    return lambda told: b"".join(it for n, it in enumerate(told.lines) if n != at % len(told.lines)) if len(told.lines) > 20 else told.output
+
+
+def with_twice(at):
+    return lambda told: b"".join(it * (1 + (n == at)) for n, it in enumerate(told.lines)) if len(told.lines) > 20 else told.output
+
+
+def first_in_place_of_another(told):
+    """The first line again in the place of the 20th."""
+    return b"".join([*told.lines[:20], told.lines[0], *told.lines[21:]]) if len(told.lines) > 30 else told.output
+
+
+def by_arrival(name):
+    return lambda told: told.is_run and not told.is_ordered and told.has(name)
+
+
+def cut_after_more_than_4(told):
+    return (told.option("--cancel-after") or 0) > 4 and len(told.lines) > 4
+
+
+def value_after(name):
+    return lambda told: by_arrival(name)(told) and "aggregate" in told.document
+
+
+# The lies: what each makes of the right output, and the runs that are to show it.
+WRONG = {
+    "swaps lines 41 and 42": (swapped_lines, large.answers),
+    "swaps two items far into a line": (swapped_in_a_line, large.long_answers),
+    "loses the last batch where the first chunk has more than one element": (without_the_last_batch, large.answers),
+    "says that an answer of more than 4,096 bytes ended well": (ended_well(4_096), large.answers),
+    "says that an answer of more than 64 KiB ended well": (ended_well(65_536), large.long_answers),
+    "is one too small in a great sum": (great_value_less_one, large.aggregates),
+    "loses an item of two sources": (where(lambda told: "concat" in told.document.get("source", {}), without_line(900)), large.long_answers),
+    "gives an item of two sources twice": (where(lambda told: "concat" in told.document.get("source", {}), with_twice(2_600)), large.long_answers),
+    "loses an item after a skip_while": (where(lambda told: told.has("skip_while") and told.is_ordered, without_line(100)), large.long_answers),
+    "loses a line with 11 workers": (where(lambda told: told.option("--workers") == 11, without_line(-2)), large.each_worker_count),
+    "loses a line with 63 workers": (where(lambda told: told.option("--workers") == 63, without_line(5)), large.each_worker_count),
+    "loses a line where chunks grow to 100": (where(lambda told: told.document.get("growth") == [7, 5, 100], without_line(9)), large.each_worker_count),
+    "swaps lines where chunks grow from 300": (where(lambda told: told.document.get("growth") == [300, 2, 301], swapped_lines), large.each_worker_count),
+    "loses a request behind 100 of 64": (where(lambda told: told.words[:1] == ["history"] and len(told.lines) > 100, without_line(101)), large.long_histories),
+    "swaps requests of 17": (where(lambda told: told.words[:1] == ["history"] and told.option("--workers") == 17, swapped_lines), large.long_histories),
+    "writes a line too many when it is cancelled after more than 4": (where(cut_after_more_than_4, lambda told: told.output + told.lines[-1]), large.cancelled_runs),
+    "loses a line when it is cancelled after more than 4": (where(cut_after_more_than_4, lambda told: b"".join(told.lines[:-1])), large.cancelled_runs),
+    "loses the line before a fault that comes before it is cancelled": (where(lambda told: told.option("--cancel-after") and told.lines[-1][:5] == b"fault", without_line(-2)), large.cancelled_runs),
+    "writes a line too many when it is cancelled without an order": (where(cut_after_more_than_4, lambda told: told.output + told.lines[-1]), distinct.cancelled_runs),
+    "loses a line when it is cancelled without an order": (where(cut_after_more_than_4, lambda told: b"".join(told.lines[:-1])), distinct.cancelled_runs),
+    "gives a line twice when it is cancelled without an order": (where(cut_after_more_than_4, lambda told: b"".join([told.lines[1], *told.lines[1:]])), distinct.cancelled_runs),
+    "takes one too few without an order": (where(by_arrival("take"), without_line(50)), distinct.answers),
+    "takes an item twice without an order": (where(by_arrival("take"), first_in_place_of_another), distinct.answers),
+    "skips one too many without an order": (where(by_arrival("skip"), without_line(50)), distinct.answers),
+    "gives an item twice after a skip without an order": (where(by_arrival("skip"), first_in_place_of_another), distinct.answers),
+    "gives an item twice before one that fails": (where(by_arrival("take_while"), first_in_place_of_another), distinct.answers),
+    "skips one that fails without an order": (where(by_arrival("skip_while"), without_line(-2)), distinct.answers),
+    "gives an item twice after one that fails": (where(by_arrival("skip_while"), first_in_place_of_another), distinct.answers),
+    "counts one too few after a take": (where(value_after("take"), value_less_one), distinct.values),
+    "counts one too few after a skip": (where(value_after("skip"), value_less_one), distinct.values),
+    "sums one too little before one that fails": (where(value_after("take_while"), value_less_one), distinct.values),
+    "says that a fault without an order is the end": (where(lambda told: told.is_run and not told.is_ordered and told.lines[-1][:5] == b"fault", lambda told: b"".join([*told.lines[:-1], b"end\n"])), distinct.answers),
+    "gives an item twice before a fault": (where(lambda told: told.is_run and not told.is_ordered and told.lines[-1][:5] == b"fault", first_in_place_of_another), distinct.answers),
+}
+RIGHT = "lies in nothing"
+
+
+def lie(name, words):
+    """Runs the program, and passes on what it says, all but one lie."""
+    given = sys.stdin.buffer.read()
+    ran = subprocess.run([PROGRAM, *words], input=given, stdout=subprocess.PIPE)
+    sys.stdout.buffer.write(ran.stdout if name == RIGHT or not ran.stdout else WRONG[name][0](Told(words, given, ran.stdout)))
+    return ran.returncode
+
+
+def liar(folder, name):
+    """A program that tells this lie."""
+    path = os.path.join(folder, re.sub(r"\W", "-", name))
+    with open(path, "w") as file:
+        file.write(f'#!/bin/sh\nexec "{sys.executable}" -S "{os.path.abspath(__file__)}" --lie "{name}" "$@"\n')
+    os.chmod(path, 0o755)
+    return path
+
+
+def main():
+    build()
+    tests = Tests()
+    with tempfile.TemporaryDirectory() as folder:
+        for name, (_, runs) in WRONG.items():
+            is_shown = any(seen != right for _, right, seen in runs(liar(folder, name)))
+            tests.check(f"a program that {name}", is_shown, "not shown")
+        # (so that each was shown for its lie, and not as one that doesn't run)
+        for runs in {runs for _, runs in WRONG.values()}:
+            some = list(islice(runs(liar(folder, RIGHT)), 20))
+            tests.check(f"a program that {RIGHT}", some and all(seen == right for _, right, seen in some), "shown as one that lies")
+    tests.end()
+
+
+if __name__ == "__main__":
+    if sys.argv[1:2] == ["--lie"]:
+        sys.exit(lie(sys.argv[2], sys.argv[3:]))
+    main()
