@@ -62,6 +62,8 @@ CASES = (
     + [(["run", "--workers", workers, "--merge", merge], it[:-1] + b',"aggregate":"sum"}') for it in (BY_KEY, BY_ARRIVAL) for workers in ("1", "2", "8") for merge in MERGES]
     + [(["run", "--workers", "2"], UNORDERED), (["run", "--merge", "full"], ANSWERED[0]), (["seq", "--merge", "auto"], ANSWERED[6])]
     + [(["run", "--workers", workers, "--merge", "not", "--cancel-after", it], ANSWERED[0]) for workers in ("1", "2", "8") for it in ("1", "9")]
+    # (of so long a range the close may not be forgotten that finds no room for its record: it is tried again)
+    + [(["run", "--workers", "1", "--merge", "not"], document({"range": [0, 2**40]}, ["take", it], growth=[1, 1, 1])) for it in (4, 8)]
     + [(["run"], it) for it in REFUSED]
     + [(words, ANSWERED[0]) for words in ([], ["walk"], ["run", "--workers", "0"], ["seq", "--merge", "some"], ["plan", "x"])]
     + [(words, b"") for words in (["--help"], ["run", "--help"], ["help"])]
@@ -94,6 +96,10 @@ def problem(words, seen, right):
     return None
 
 
+# How many allocations of a run by one worker are for its thread: each other one is memory.
+FOR_ONE_THREAD = 2
+
+
 def main():
     build()
     tests = Tests()
@@ -105,14 +111,17 @@ def main():
             tests.check(f"{case}: with ample memory", right.errors not in (OUT_OF_MEMORY, NO_THREAD), right)
             for which in ("REFUSE_AT", "REFUSE_FROM"):
                 name = f"{case}, {which}"
-                problems, memory, at, met = [], 0, 0, True
+                problems, memory, threads, at, met = [], 0, 0, 0, True
                 while met:
                     at += 1
                     seen, met = refusing(words, given, shim, which, at)
                     why = problem(words, seen, right)
                     problems += [f"={at}: {why}"] if why else []
                     memory += seen.errors == OUT_OF_MEMORY
+                    threads += seen.errors == NO_THREAD
                 tests.check(name, not problems, f"{len(problems)} of {at}; the first is {problems[:1]}")
+                if which == "REFUSE_AT" and words[:3] == ["run", "--workers", "1"]:
+                    tests.check(f"{name}: out of memory isn't reported as a missing thread", threads <= FOR_ONE_THREAD, f"{threads} of {at - 1}")
                 tests.check(f"{name}: an allocation was refused", at > 1 and memory > 0, f"{at - 1} refused, {memory} answered")
     tests.end()
 

@@ -132,6 +132,18 @@ def help_of(command):
     return RUN_HELP if command == "run" else ABOUT[command] + COMMAND_HELP.format(command)
 
 
+def with_open_input(words):
+    """How a run ends whose input stays open and empty, or None where it waits for that."""
+    reading, writing = os.pipe()
+    try:
+        return run(words, stdin=reading)
+    except subprocess.TimeoutExpired:
+        return None
+    finally:
+        os.close(reading)
+        os.close(writing)
+
+
 def main():
     build()
     tests = Tests()
@@ -150,6 +162,14 @@ def main():
         for command in ABOUT:
             ends([command, word], Outcome(0, help_of(command).encode(), b""))
     ends(["run", "--workers", "2", "--help"], Outcome(0, RUN_HELP.encode(), b""))
+
+    # (neither reads the input first)
+    for words in ([], ["walk"], ["run", "--workers", "0"], ["seq", "more"]):
+        seen = with_open_input(words)
+        tests.check(f"plinq {' '.join(words)}, with an open input", seen is not None and (seen.status, seen.output) == (2, b""), seen)
+    for words in (["--help"], ["run", "--help"]):
+        seen = with_open_input(words)
+        tests.check(f"plinq {' '.join(words)}, with an open input", seen is not None and (seen.status, seen.errors) == (0, b""), seen)
 
     # (the command as it stands in help, with ./plinq for plinq)
     example = next(line for line in HELP.splitlines() if line.startswith("  echo "))
