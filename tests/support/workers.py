@@ -58,11 +58,12 @@ class Machines:
         until = time.monotonic() + 120
         while time.monotonic() < until:
             with open(f"{self.folder}/{name}.log", encoding="utf-8") as log:
-                found = re.search(pattern, log.read())
+                said = log.read()
+            found = re.search(pattern, said)
             if found:
                 return found[1]
             time.sleep(0.05)
-        raise RuntimeError(f"{name} didn't print {pattern}")
+        raise RuntimeError(f"{name} didn't print {pattern}: {said[-2000:]}")
 
     def are_there(self, *names):
         """Waits until these workers are registered."""
