@@ -7,7 +7,9 @@ import signal
 import subprocess
 import time
 
-COMMAND = os.path.join(os.path.dirname(os.path.dirname(os.path.dirname(os.path.abspath(__file__)))), "cluster", "plinq-cluster")
+from support.program import HANGS, ROOT
+
+COMMAND = os.path.join(ROOT, "cluster", "plinq-cluster")
 # (so that a lost link is noticed soon)
 SOON = {"DASK_DISTRIBUTED__COMM__TIMEOUTS__TCP": "12s", "DASK_DISTRIBUTED__SCHEDULER__WORKER_TTL": "8s"}
 
@@ -55,15 +57,16 @@ class Machines:
 
     def wait_for(self, name, pattern):
         """What a process prints, once it does."""
-        until = time.monotonic() + 120
-        while time.monotonic() < until:
+        until = time.monotonic() + HANGS / 2
+        while True:
             with open(f"{self.folder}/{name}.log", encoding="utf-8") as log:
                 said = log.read()
             found = re.search(pattern, said)
             if found:
                 return found[1]
+            if time.monotonic() > until:
+                raise RuntimeError(f"{name} didn't print {pattern}: {said[-2000:]}")
             time.sleep(0.05)
-        raise RuntimeError(f"{name} didn't print {pattern}: {said[-2000:]}")
 
     def are_there(self, *names):
         """Waits until these workers are registered."""
