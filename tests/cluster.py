@@ -180,6 +180,16 @@ def portions(tests, local):
         cluster.MOST_BYTES = before
 
 
+def unknown(tests, folder):
+    """Steps and sources of a later program, which this one doesn't refuse."""
+    with open(f"{folder}/later", "w") as file:
+        file.write("#!/bin/bash\ncat > /dev/null\necho merge auto\n")
+    os.chmod(f"{folder}/later", 0o755)
+    for text, what in ((text_of({"list": [1]}, ["sort"]), "step sort"), (text_of({"primes": 9}), "source primes")):
+        seen = command(["--scheduler", "127.0.0.1:1", "--program", f"{folder}/later"], text)
+        tests.check(f"refused: {what}", seen == Outcome(5, b"", f"plinq-cluster: {what}: not known here\n".encode()), seen)
+
+
 def refused(tests):
     """What is refused before a cluster is asked: there is none at this address."""
     words = ["--scheduler", "127.0.0.1:1"]
@@ -416,10 +426,11 @@ def main():
     build()
     tests = Tests()
     refused(tests)
-    if distributed is None:
-        print("left out: all that wants a cluster: Dask isn't installed (apt-get install python3-distributed)")
-        tests.end()
     with tempfile.TemporaryDirectory() as folder:
+        unknown(tests, folder)
+        if distributed is None:
+            print("left out: all that wants a cluster: Dask isn't installed (apt-get install python3-distributed)")
+            tests.end()
         with InProcess() as local:
             random_documents(tests, local)
             most_steps(tests, local)

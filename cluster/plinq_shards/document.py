@@ -5,6 +5,7 @@ import os
 import shutil
 import subprocess
 
+from . import shard, slicing
 from .trouble import Trouble, own
 
 LONGEST = 16_777_216
@@ -61,10 +62,13 @@ def understood(program, text, workers=None, merge=None):
     lines = judged(program, text, workers, merge)
     value = json.loads(text.decode())
     steps = value["query"]
+    operators = [it for it in steps if it[0] not in SETTINGS]
+    shard.refuse_unknown(value["source"])
+    slicing.refuse_unknown(operators)
     asked = next((it[1] for it in steps if it[0] == "with_degree"), workers)
     return Document(
         source=value["source"],
-        steps=[it for it in steps if it[0] not in SETTINGS],
+        steps=operators,
         merge=next(it[len("merge ") :] for it in lines if it.startswith("merge ")),
         # (one of each worker's threads has a shard, so a shard has one thread where nothing else is asked for)
         degree=asked or 1,

@@ -9,6 +9,8 @@ import select
 import shutil
 import subprocess
 
+# The last version, which has all that the others have.
+VERSION = 2
 MOST_STEPS = 1_000
 # After how many seconds without output it is looked whether the shard is still wanted.
 LOOK = 0.2
@@ -43,7 +45,7 @@ def words_and_document(question):
     """
     steps = question["steps"]
     is_full = len(steps) >= MOST_STEPS
-    document = {"version": 2, "source": question["source"], "query": steps if is_full else [["as_ordered"], *steps]}
+    document = {"version": VERSION, "source": question["source"], "query": steps if is_full else [["as_ordered"], *steps]}
     if question["aggregate"]:
         document["aggregate"] = question["aggregate"]
     words = ["seq" if is_full else "run", "--merge", question["merge"], "--workers", str(question["degree"])]

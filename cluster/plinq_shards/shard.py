@@ -141,10 +141,18 @@ def parts_of(source, cut):
     elif "text" in source:
         text = source["text"].encode()
         yield from of_text(io.BytesIO(text), len(text), cut)
-    elif "list" in source:
-        yield from of_list(source, cut)
     else:
-        yield from (of_range if "range" in source else of_repeat)(source, cut)
+        for name, of_kind in (("list", of_list), ("range", of_range), ("repeat", of_repeat)):
+            if name in source:
+                yield from of_kind(source, cut)
+
+
+def refuse_unknown(source):
+    """Refuses a source that can't be cut here: a later `plinq` may have others."""
+    known = {"list", "refuse", "range", "repeat", "text", "concat"}
+    for it in [source, *source.get("concat", [])]:
+        if not set(it) <= known:
+            raise own(f"source {' '.join(it)}: not known here")
 
 
 def shards(parts):

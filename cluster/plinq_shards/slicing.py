@@ -9,6 +9,7 @@ import itertools
 import sys
 
 from .program import MOST_STEPS
+from .trouble import own
 
 # Each step that counts asks the one before it for shards, by some calls within one another.
 CALLS_OF_A_STEP = 5
@@ -102,7 +103,15 @@ def skip_while(cluster, shards, step):
         is_over = fails
 
 
+GLUING = ("select", "filter", "select_many")
 BY_NAME = {"take": take, "skip": skip, "take_while": take_while, "skip_while": skip_while}
+
+
+def refuse_unknown(steps):
+    """Refuses a step of which nothing is known here: a later `plinq` may have others."""
+    for name, *_ in steps:
+        if name not in GLUING and name not in BY_NAME:
+            raise own(f"step {name}: not known here")
 
 
 def sliced(cluster, shards, steps):
