@@ -52,7 +52,7 @@ class Machines:
 
     def worker(self, name, *words, env=(), prefix=(), host=None):
         """Starts a worker of one thread."""
-        words = ["--nthreads", "1", "--no-dashboard", "--host", host or self.host, "--local-directory", f"{self.folder}/{name}", *words]
+        words = ["--nthreads", "1", "--no-dashboard", "--host", host or self.host, "--local-directory", f"{self.folder}/{name}.files", *words]
         return self.start(name, "dask-worker", env, self.address, *words, prefix=prefix)
 
     def wait_for(self, name, pattern):
