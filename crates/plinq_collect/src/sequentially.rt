@@ -1,0 +1,218 @@
+//! The same calls on one thread, with the same arguments: each answers what the sequential query does.
+ghost use Rattle.std.specs.Prelude.{◌≡◌, pos, [], ◌∷◌, ◌++◌, MatchResult};
+ghost use Rattle.plinq_source.specs.Trace.{ended};
+ghost use Rattle.plinq_ops.specs.declared.op.Op.{Op};
+ghost use Rattle.plinq_ops.specs.Sequential.{answer_of};
+ghost use Rattle.plinq_run.specs.Aggregates.{Aggregates};
+ghost use Rattle.plinq_run.specs.declared.run_fault.RunFault.TheVariants.{Memory};
+ghost use Rattle.plinq_collect.specs.Folds.{first_of, has_item, has_none, counted};
+ghost use Rattle.plinq_collect.specs.Telling.{TellsSome};
+
+use crate::counted::Counted;
+use crate::first_item::FirstItem;
+use crate::is_there::IsThere;
+use crate::telling::negated;
+use plinq_aggregate::{Aggregator, fold_sequential};
+use plinq_lambda::SharedLambda;
+use plinq_ops::{Query, sequential};
+use plinq_run::{AggregateFault, RunFault};
+use plinq_source::{Ending, Source};
+use std::alloc::Global;
+use std::marker::PhantomData;
+use std::sync::Wait;
+use std::thread::Threads;
+
+/// As [`to_vec`](crate::to_vec). It is [`sequential`] with the arguments of a run.
+///
+/// # Errors
+///
+/// [`RunFault::Memory`] where there is no room.
+pub fn to_vec<L, S, R>(
+    _rt: &R,
+    alloc: Global,
+    query: &Query<L>,
+    source: S,
+) -> Result<(Vec<L::Item>, Ending), RunFault>
+where
+    L: SharedLambda,
+    S: Source<Item = L::Item>,
+    R: Threads + Wait + Sync,
+    requires { S.given source ≡ 0 }
+    ensures { MatchResult result
+        (λ it. ended it.0.items it.1 ≡ answer_of L.meaning query.now.ops (S.whole source))
+        (λ fault. fault ≡ Memory) }
+{
+    let mut source = source;
+    match sequential(alloc, query, &mut source) {
+        Ok(answer) => Ok(answer),
+        Err(_) => Err(RunFault::Memory),
+    }
+}
+
+/// The aggregate of a query's answer, as [`aggregate`](plinq_run::aggregate).
+///
+/// # Errors
+///
+/// [`AggregateFault::Ended`] where the answer doesn't end well; [`AggregateFault::Run`] with [`RunFault::Memory`] where
+/// there is no room.
+pub fn aggregate<L, S, A, R>(
+    rt: &R,
+    alloc: Global,
+    query: &Query<L>,
+    source: S,
+    aggregator: &A,
+) -> Result<A::Out, AggregateFault>
+where
+    L: SharedLambda,
+    S: Source<Item = L::Item>,
+    A: Aggregator<Item = L::Item>,
+    R: Threads + Wait + Sync,
+    requires { S.given source ≡ 0 }
+    ensures { Aggregates (A.folding aggregator.now) (answer_of L.meaning query.now.ops (S.whole source)) result }
+{
+    match to_vec(rt, alloc, query, source) {
+        Ok((items, Ending::End)) => Ok(fold_sequential(aggregator, items.as_slice())),
+        Ok((_, ending)) => Err(AggregateFault::Ended(ending)),
+        Err(fault) => Err(AggregateFault::Run(fault)),
+    }
+}
+
+/// As [`first`](crate::first).
+///
+/// # Errors
+///
+/// As [`aggregate`].
+pub fn first<L, S, R>(
+    rt: &R,
+    alloc: Global,
+    query: Query<L>,
+    source: S,
+) -> Result<Option<L::Item>, AggregateFault>
+where
+    L: SharedLambda,
+    S: Source<Item = L::Item>,
+    R: Threads + Wait + Sync,
+    requires { S.given source ≡ 0 }
+    ensures { TellsSome first_of (λ u. u ≡ answer_of L.meaning (query.ops ++ Op.Take (pos 1) ∷ []) (S.whole source)) result }
+{
+    let Ok(query) = query.take(1) else {
+        return Err(AggregateFault::Run(RunFault::Memory));
+    };
+    aggregate(rt, alloc, &query, source, &FirstItem::<L>(PhantomData))
+}
+
+/// As [`element_at`](crate::element_at).
+///
+/// # Errors
+///
+/// As [`aggregate`].
+pub fn element_at<L, S, R>(
+    rt: &R,
+    alloc: Global,
+    query: Query<L>,
+    source: S,
+    place: u32,
+) -> Result<Option<L::Item>, AggregateFault>
+where
+    L: SharedLambda,
+    S: Source<Item = L::Item>,
+    R: Threads + Wait + Sync,
+    requires { S.given source ≡ 0 }
+    ensures { TellsSome first_of (λ u. u ≡ answer_of L.meaning ((query.ops ++ Op.Skip (pos place) ∷ []) ++ Op.Take (pos 1) ∷ []) (S.whole source)) result }
+{
+    let Ok(query) = query.skip(i64::from(place)) else {
+        return Err(AggregateFault::Run(RunFault::Memory));
+    };
+    first(rt, alloc, query, source)
+}
+
+/// As [`any`](crate::any).
+///
+/// # Errors
+///
+/// As [`aggregate`].
+pub fn any<L, S, R>(
+    rt: &R,
+    alloc: Global,
+    query: Query<L>,
+    source: S,
+    test: L,
+) -> Result<bool, AggregateFault>
+where
+    L: SharedLambda,
+    S: Source<Item = L::Item>,
+    R: Threads + Wait + Sync,
+    requires { S.given source ≡ 0 }
+    ensures { TellsSome has_item (λ u. u ≡ answer_of L.meaning ((query.ops ++ Op.Filter test ∷ []) ++ Op.Take (pos 1) ∷ []) (S.whole source)) result }
+{
+    let Ok(query) = query.filter(test) else {
+        return Err(AggregateFault::Run(RunFault::Memory));
+    };
+    is_there(rt, alloc, query, source)
+}
+
+/// As [`all`](crate::all).
+///
+/// # Errors
+///
+/// As [`aggregate`].
+pub fn all<L, S, R>(
+    rt: &R,
+    alloc: Global,
+    query: Query<L>,
+    source: S,
+    test: L,
+) -> Result<bool, AggregateFault>
+where
+    L: SharedLambda,
+    S: Source<Item = L::Item>,
+    R: Threads + Wait + Sync,
+    requires { S.given source ≡ 0 }
+    ensures { TellsSome has_none (λ u. u ≡ answer_of L.meaning ((query.ops ++ Op.SkipWhile test ∷ []) ++ Op.Take (pos 1) ∷ []) (S.whole source)) result }
+{
+    let Ok(query) = query.skip_while(test) else {
+        return Err(AggregateFault::Run(RunFault::Memory));
+    };
+    negated(is_there(rt, alloc, query, source))
+}
+
+/// As [`count`](crate::count).
+///
+/// # Errors
+///
+/// As [`aggregate`].
+pub fn count<L, S, R>(
+    rt: &R,
+    alloc: Global,
+    query: &Query<L>,
+    source: S,
+) -> Result<u64, AggregateFault>
+where
+    L: SharedLambda,
+    S: Source<Item = L::Item>,
+    R: Threads + Wait + Sync,
+    requires { S.given source ≡ 0 }
+    ensures { TellsSome counted (λ u. u ≡ answer_of L.meaning query.now.ops (S.whole source)) result }
+{
+    aggregate(rt, alloc, query, source, &Counted::<L>(PhantomData))
+}
+
+/// Whether the query has an item, of which one is asked for.
+fn is_there<L, S, R>(
+    rt: &R,
+    alloc: Global,
+    query: Query<L>,
+    source: S,
+) -> Result<bool, AggregateFault>
+where
+    L: SharedLambda,
+    S: Source<Item = L::Item>,
+    R: Threads + Wait + Sync,
+    requires { S.given source ≡ 0 }
+    ensures { TellsSome has_item (λ u. u ≡ answer_of L.meaning (query.ops ++ Op.Take (pos 1) ∷ []) (S.whole source)) result }
+{
+    let Ok(query) = query.take(1) else {
+        return Err(AggregateFault::Run(RunFault::Memory));
+    };
+    aggregate(rt, alloc, &query, source, &IsThere::<L>(PhantomData))
+}
