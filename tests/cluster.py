@@ -268,6 +268,18 @@ def lost_worker(tests, folder):
         tests.check("a scheduler that is killed in the middle", is_trouble(seen, ANSWER, f"plinq-cluster: scheduler {machines.address}: gone"), seen)
 
 
+def last_worker(tests, folder):
+    """The only worker is killed, and none comes in its place."""
+    with Machines(folder) as machines:
+        worker = machines.worker("last", "--no-nanny")
+        machines.are_there("last")
+        child = begun(over(machines, slow(folder, "short", 0.1)))
+        wait_until(lambda: len(asked(folder, "short")) > 9, "shards that are asked")
+        end(worker)
+        seen = ended(child)
+        tests.check("the last worker is killed", is_trouble(seen, ANSWER, f"plinq-cluster: scheduler {machines.address}: no worker is left"), seen)
+
+
 def deadly_shard(tests, folder):
     """A worker is killed at each try of one shard."""
     path = wrapper(folder, "deadly", f"""document=$(cat)\n[[ $document = *'[60000, 10000]'* ]] && kill -9 $PPID\n{PROGRAM} "$@" <<< "$document" """)
@@ -406,7 +418,7 @@ def help_and_progress(tests, folder):
 
 def processes(tests, folder):
     """What wants a cluster of processes."""
-    for it in (lost_worker, deadly_shard, few_shards, other_programs, help_and_progress):
+    for it in (lost_worker, last_worker, deadly_shard, few_shards, other_programs, help_and_progress):
         it(tests, folder)
     with Machines(folder) as machines:
         for name in ("e", "f"):
