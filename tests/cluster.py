@@ -23,7 +23,7 @@ SYSTEM = "/usr/bin/python3"
 try:
     import distributed
 except ImportError:
-    has_dask = subprocess.run([SYSTEM, "-c", "import distributed"], capture_output=True).returncode == 0
+    has_dask = os.path.exists(SYSTEM) and subprocess.run([SYSTEM, "-c", "import distributed"], capture_output=True).returncode == 0
     if has_dask and os.path.realpath(sys.executable) != os.path.realpath(SYSTEM):
         os.execv(SYSTEM, [SYSTEM, *sys.argv])
     distributed = None

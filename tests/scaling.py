@@ -17,6 +17,8 @@ import tempfile
 
 from support.program import HANGS, ROOT, Tests, build
 
+# Debian's own python3, which has Debian's Dask.
+SYSTEM = "/usr/bin/python3"
 NUMBERS = range(100_000)
 ANSWER = [3 * it for it in NUMBERS if it % 2 == 0]
 SUM = 7_499_850_000
@@ -45,9 +47,9 @@ def wants(recipe):
     """What a recipe wants that isn't installed."""
     if recipe.startswith("parallel ") and not shutil.which("parallel"):
         return "parallel"
-    is_of_cluster = recipe.startswith(("dask ", "cluster/"))
-    if is_of_cluster and subprocess.run(["/usr/bin/python3", "-c", "import distributed"], capture_output=True).returncode:
-        return "python3-distributed"
+    if recipe.startswith(("dask ", "cluster/")):
+        has_dask = os.path.exists(SYSTEM) and subprocess.run([SYSTEM, "-c", "import distributed"], capture_output=True).returncode == 0
+        return None if has_dask else "python3-distributed"
     return None
 
 
