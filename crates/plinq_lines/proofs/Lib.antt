@@ -1,4 +1,5 @@
 mod ItemLines
 pub mod LinesTaken
 mod PartWritten
+mod SinglesTaken
 pub mod WrittenBytes

@@ -27,6 +27,10 @@ numbers (x ∷ xs) = signed_decimal x ++ flat_map further_number xs
 abbrev pub batch_line : List ℤ → List ℕ
 batch_line xs = line (numbers xs)
 
+-- the line of a batch of one
+abbrev pub single_line : ℤ → List ℕ
+single_line x = batch_line (x ∷ [])
+
 -- a formula's fault by its name
 abbrev pub fault_word : ℕ → List ℕ
 fault_word code =

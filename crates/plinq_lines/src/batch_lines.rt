@@ -1,12 +1,12 @@
-ghost use Rattle.std.specs.Prelude.{◌≡◌, ◌≤◌, ◌++◌, ◌∷◌, [], length};
+ghost use Rattle.std.specs.Prelude.{◌≡◌, ◌≤◌, ◌++◌, ◌∷◌, [], length, drop};
 ghost use Rattle.std.specs.List.{flat_map};
-ghost use Rattle.plinq_lines.specs.Text.{line, further_number, batch_line};
+ghost use Rattle.plinq_lines.specs.Text.{line, further_number, single_line, batch_line};
 ghost use Rattle.plinq_lines.specs.Written.{Writes};
 
 use crate::bytes::write_bytes;
 use crate::piece::Piece;
 use crate::pieces::write_pieces;
-use crate::placing::{place_further_numbers, place_line, place_number};
+use crate::placing::{place_further_numbers, place_line, place_number, place_single_lines};
 use crate::write_fault::WriteFault;
 use std::io::Write;
 
@@ -17,6 +17,12 @@ const MOST_PLACED: usize = 16;
 const NUMBER_ROOM: usize = 21;
 
 const NUMBERS_ROOM: usize = 336;
+
+// How many lines of one number each are placed at once.
+const MOST_LINES: usize = 128;
+
+/// The room that many such lines take.
+pub(crate) const LINES_ROOM: usize = 2688;
 
 const LINE_ROOM: usize = 337;
 
@@ -91,4 +97,45 @@ fn write_few_numbers<W: Write>(writer: &mut W, numbers: &[i64]) -> Result<(), Wr
     let mut text = [0; NUMBERS_ROOM];
     let start = place_further_numbers(numbers, &mut text, NUMBERS_ROOM);
     write_bytes(writer, &text[start..])
+}
+
+/// Writes each number as a line of its own. What `text` holds is of no account before and after.
+///
+/// # Errors
+///
+/// [`WriteFault`] as for [`write_batch`]: what was taken until then is a beginning of these lines.
+pub(crate) fn write_single_lines<W: Write>(
+    writer: &mut W,
+    numbers: &[i64],
+    text: &mut [u8; LINES_ROOM],
+) -> Result<(), WriteFault>
+    ensures { Writes (W.contents writer.old) (W.contents writer.new) result (flat_map single_line numbers.now) }
+{
+    let mut rest = numbers;
+    while !rest.is_empty() {
+        let (few, following) = rest.split_at(MOST_LINES.min(rest.len()));
+        write_few_single_lines(writer, few, text)?;
+        rest = following;
+    }
+    Ok(())
+}
+
+fn write_few_single_lines<W: Write>(
+    writer: &mut W,
+    numbers: &[i64],
+    text: &mut [u8; LINES_ROOM],
+) -> Result<(), WriteFault>
+    requires { length numbers.now ≤ 128 }
+    ensures { Writes (W.contents writer.old) (W.contents writer.new) result (flat_map single_line numbers.now) }
+{
+    let start = place_single_lines(numbers, text, LINES_ROOM);
+    write_from(writer, text, start)
+}
+
+fn write_from<W: Write>(writer: &mut W, text: &[u8], start: usize) -> Result<(), WriteFault>
+    requires { start ≤ length text.now }
+    ensures { Writes (W.contents writer.old) (W.contents writer.new) result (drop start text.now) }
+{
+    let (_, bytes) = text.split_at(start);
+    write_bytes(writer, bytes)
 }

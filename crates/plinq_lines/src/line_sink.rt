@@ -2,7 +2,7 @@ ghost use Rattle.std.specs.Prelude.{◌≡◌};
 ghost use Rattle.std.specs.Io.KnownBytes.{Keeps};
 ghost use Rattle.plinq_lines.specs.LineSink.{write_failed, TakesLine, RefusesLine};
 
-use crate::batch_lines::write_batch;
+use crate::batch_lines::{LINES_ROOM, write_batch, write_single_lines};
 use plinq_merge::Sink;
 use std::io::Write;
 use std::marker::Model;
@@ -25,6 +25,8 @@ pub struct LineSink<'a, W: Write> {
     writer: &'a mut W,
     start: Snapshot<W>,
     state: State,
+    /// Where lines of one number each are placed; it stands here so that it isn't cleared for each few of them.
+    text: [u8; LINES_ROOM],
 }
 
 /// What became of the last call of the writer.
@@ -58,6 +60,7 @@ impl<'a, W: Write> LineSink<'a, W> {
             writer,
             start,
             state: State::Flushed,
+            text: [0; LINES_ROOM],
         }
     }
 
@@ -88,6 +91,25 @@ impl<'a, W: Write> Sink for LineSink<'a, W> {
             return Err(WRITE_FAILED);
         }
         match write_batch(self.writer, items) {
+            Ok(()) => {
+                self.state = State::Written;
+                Ok(())
+            }
+            Err(_) => {
+                self.state = State::Failed;
+                Err(WRITE_FAILED)
+            }
+        }
+    }
+
+    fn batches_of_one(&mut self, items: &[i64]) -> Result<(), u32> {
+        if items.is_empty() {
+            return Ok(());
+        }
+        if self.has_failed() {
+            return Err(WRITE_FAILED);
+        }
+        match write_single_lines(self.writer, items, &mut self.text) {
             Ok(()) => {
                 self.state = State::Written;
                 Ok(())

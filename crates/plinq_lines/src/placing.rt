@@ -3,7 +3,7 @@
 ghost use Rattle.std.specs.Prelude.{◌≡◌, ◌+◌, ◌*◌, ◌≤◌, ◌++◌, length, drop};
 ghost use Rattle.std.specs.List.{flat_map};
 ghost use Rattle.std.specs.Fmt.{signed_decimal};
-ghost use Rattle.plinq_lines.specs.Text.{further_number, batch_line};
+ghost use Rattle.plinq_lines.specs.Text.{further_number, single_line, batch_line};
 
 use itoa::write_digits;
 
@@ -53,6 +53,37 @@ pub(crate) fn place_further_numbers(numbers: &[i64], text: &mut [u8], end: usize
         rest = before;
     }
     at
+}
+
+// Places numbers, each as a line of its own.
+#[inline]
+pub(crate) fn place_single_lines(numbers: &[i64], text: &mut [u8], end: usize) -> usize
+    requires room { 21 * length numbers.now ≤ end }
+    requires within { end ≤ length text.old }
+    ensures start { result ≤ end }
+    ensures same { length text.new ≡ length text.old }
+    ensures placed { drop result text.new ≡ flat_map single_line numbers.now ++ drop end text.old }
+{
+    let mut rest = numbers;
+    let mut at = end;
+    while let Some((x, before)) = rest.split_last() {
+        at = place_single_line(*x, text, at);
+        rest = before;
+    }
+    at
+}
+
+// Places a number as a line of its own.
+#[inline]
+fn place_single_line(x: i64, text: &mut [u8], end: usize) -> usize
+    requires room { 21 ≤ end }
+    requires within { end ≤ length text.old }
+    ensures start { result ≤ end }
+    ensures short { end ≤ result + 21 }
+    ensures placed { drop result text.new ≡ single_line x ++ drop end text.old }
+{
+    text[end - 1] = b'\n';
+    place_number(x, text, end - 1)
 }
 
 // Places the line of a batch.

@@ -1,4 +1,5 @@
 pub mod Blocks
+pub mod Singles
 pub mod Overlaps
 pub mod Takings
 pub mod Gains

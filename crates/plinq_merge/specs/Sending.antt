@@ -1,5 +1,5 @@
 -- Sending: what a sink gets, batch by batch.
-use Rattle.std.specs.Prelude.{◌≡◌, ℕ, refl, List, [], ◌∷◌, ◌++◌, length, get_or, Result, MatchResult}
+use Rattle.std.specs.Prelude.{◌≡◌, ℕ, refl, List, [], ◌∷◌, ◌++◌, length, get_or, Result, MatchResult, map, Err}
 use Rattle.std.proofs.Common.{arith, sym, ◌∙◌, ap, subst}
 use Rattle.std.proofs.lemmas.List.{length-append}
 use Rattle.plinq_merge.specs.declared.delivery_fault.DeliveryFault.{DeliveryFault}
@@ -20,6 +20,14 @@ IsCutOff {K} {B} accepts refuses s bs (Sink code) s' =
 -- all of these batches are delivered, or the first of them are and the fault says why not all
 abbrev pub Delivers : {K B A : Type 0} → (K → B → K → Type 0) → (K → B → ℕ → K → Type 0) → K → List B → Result A DeliveryFault → K → Type 0
 Delivers accepts refuses s bs r s' = MatchResult r (λ _. Leads accepts s bs s') (λ fault. IsCutOff accepts refuses s bs fault s')
+
+-- batches of one item each
+abbrev pub singles : {T : Type 0} → List T → List (List T)
+singles xs = map (λ x. x ∷ []) xs
+
+-- a sink takes all of these batches, or refuses one with a code, after it took those before it
+abbrev pub TakesEach : {K B A : Type 0} → (K → B → K → Type 0) → (K → B → ℕ → K → Type 0) → K → List B → Result A ℕ → K → Type 0
+TakesEach accepts refuses s bs r s' = MatchResult r (λ _. Leads accepts s bs s') (λ code. IsCutOff accepts refuses s bs (Sink code) s')
 
 -- a sink that keeps the items of its batches
 abbrev keeps_items : List ℕ → List ℕ → List ℕ → Type 0
@@ -64,3 +72,7 @@ all_and_a_refusal (b1 ∷ b2 ∷ [], b, rest, m, parts, (m1, is1, (m2, is2, lead
     omega (arith, ap length first, ap length second, ap length is1, ap length is2 ∙ length-append m1 b2, ap length leads, ap length refused)
 all_and_a_refusal (b1 ∷ b2 ∷ b3 ∷ [], b, rest, m, parts, leads, refused) = omega (arith, ap length parts)
 all_and_a_refusal (b1 ∷ b2 ∷ b3 ∷ b4 ∷ bs, b, rest, m, parts, leads, refused) = omega (arith, ap length parts)
+
+-- of three items that come one by one the second is refused
+refused_single : TakesEach {A = ℕ} keeps_items (λ s b code s'. s' ≡ s) [] (singles (4 ∷ 2 ∷ 3 ∷ [])) (Err 9) (4 ∷ [])
+refused_single = (((4 ∷ []) ∷ []), 2 ∷ [], ((3 ∷ []) ∷ []), 4 ∷ [], refl, (4 ∷ [], refl, refl), refl)

@@ -1,7 +1,7 @@
 ghost use Rattle.std.specs.Prelude.{◌≡◌, ℕ, List, [], ◌∷◌, ◌<◌, ◌≤◌, length, Some, None, OnOk, MatchResult};
 ghost use Rattle.plinq_ops.specs.Batches.{full_batches, held_back, last_batch};
 ghost use Rattle.plinq_merge.specs.Buffer.{held_of, size_of, HasRoom};
-ghost use Rattle.plinq_merge.specs.Sending.{Delivers};
+ghost use Rattle.plinq_merge.specs.Sending.{Delivers, singles};
 
 use crate::buffer::Buffer;
 use crate::delivery_fault::DeliveryFault;
@@ -14,6 +14,16 @@ fn send<K: Sink>(batch: &[K::Item], sink: &mut K) -> Result<(), DeliveryFault>
     ensures { Delivers K.accepts K.refuses sink.old (batch.now ∷ []) result sink.new }
 {
     match sink.batch(batch) {
+        Ok(()) => Ok(()),
+        Err(code) => Err(DeliveryFault::Sink(code)),
+    }
+}
+
+/// Hands each item to the sink as a batch of its own.
+fn send_each<K: Sink>(items: &[K::Item], sink: &mut K) -> Result<(), DeliveryFault>
+    ensures { Delivers K.accepts K.refuses sink.old (singles items.now) result sink.new }
+{
+    match sink.batches_of_one(items) {
         Ok(()) => Ok(()),
         Err(code) => Err(DeliveryFault::Sink(code)),
     }
@@ -119,6 +129,9 @@ where
         (full_batches (Some ring.old.capacity) [] items.now) result sink.new }
 {
     let size = ring.capacity();
+    if size == 1 {
+        return send_each(items, sink);
+    }
     let mut rest = items;
     while rest.len() >= size {
         let (batch, others) = rest.split_at(size);

@@ -1,4 +1,5 @@
 ghost use Rattle.std.specs.Prelude.{◌≡◌, ℕ, List, MatchResult};
+ghost use Rattle.plinq_merge.specs.Sending.{TakesEach, singles};
 
 /// Where the batches of an answer go.
 ///
@@ -28,6 +29,24 @@ pub trait Sink {
         ensures { MatchResult result
             (λ _. accepts self.old items.now self.new)
             (λ code. refuses self.old items.now code self.new) };
+
+    /// Takes batches of one item each, one after another, up to the first that it refuses. A sink that takes many at once more
+    /// quickly has its own.
+    ///
+    /// # Errors
+    ///
+    /// The sink's code for the first batch that it refuses; it was handed none of those after it.
+    fn batches_of_one(&mut self, items: &[Self::Item]) -> Result<(), u32>
+        ensures { TakesEach accepts refuses self.old (singles items.now) result self.new }
+    {
+        let mut rest = items;
+        while !rest.is_empty() {
+            let (batch, others) = rest.split_at(1);
+            self.batch(batch)?;
+            rest = others;
+        }
+        Ok(())
+    }
 
     /// No batch is there to be delivered now, and it may take a while until the next. A sink that holds back what it
     /// took, as a buffer does, hands it on. This delivers nothing.

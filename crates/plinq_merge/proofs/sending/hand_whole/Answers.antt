@@ -2,8 +2,22 @@ use Rattle.std.proofs.Common.{rules, ◌≡◌, ◌<◌, [], ◌∷◌, ◌++◌
 use Rattle.plinq_ops.specs.Batches.{full_batches, held_back}
 use Rattle.plinq_merge.specs.Sending.{Leads, IsCutOff}
 use Rattle.plinq_merge.proofs.Blocks.{full_batches-filled, held_back-filled, full_batches-short, held_back-short, filled-all}
-use Rattle.plinq_merge.specs.Sent.{up_to-more, up_to-leads, up_to-cut, cut-before, delivers-at_err}
+use Rattle.plinq_merge.specs.Sent.{up_to-more, up_to-leads, up_to-cut, cut-before, delivers-at_err, delivers-as}
+use Rattle.plinq_merge.specs.Sending.{singles}
+use Rattle.plinq_merge.proofs.Singles.{full_batches-one, held_back-one}
 use Rattle.plinq_merge.proofs.sending.hand_whole.Goals as goal
+
+pub returns-then-size-eq1-clause-held : goal.returns-then-size-eq1-clause-held
+returns-then-size-eq1-clause-held g c =
+    let one : c.args.ring.now.capacity ≡ 1 = search rules in
+    let kept : held_back (Some c.args.ring.now.capacity) [] c.args.items.now ≡ [] = rw one (held_back-one c.args.items.now) in
+    rw (kept, c.requires.empty) (search rules)
+
+pub returns-then-size-eq1-clause-sent : goal.returns-then-size-eq1-clause-sent
+returns-then-size-eq1-clause-sent g c =
+    let one : c.args.ring.now.capacity ≡ 1 = search rules in
+    let all : full_batches (Some c.args.ring.now.capacity) [] c.args.items.now ≡ singles c.args.items.now = rw one (full_batches-one c.args.items.now) in
+    delivers-as _ _ _ _ _ _ _ all c.send_each.ensures
 
 pub returns-in_err-send-clause-sent : goal.returns-in_err-send-clause-sent
 returns-in_err-send-clause-sent g c =
