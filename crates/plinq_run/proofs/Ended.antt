@@ -131,7 +131,7 @@ module _ {K T : Type 0} (accepts : K → List T → K → Type 0) (refuses : K �
   reports-accounts F (Err f) only h = tt
 
 -- the run of a decided plan: nothing, and the end
-decided-run : {L T K : Type 0} (meaning : L → Meaning T) (accepts : K → List T → K → Type 0) (option : MergeOption) (ops : List (Op L)) (t : Trace T) (s : K)
+pub decided-run : {L T K : Type 0} (meaning : L → Meaning T) (accepts : K → List T → K → Type 0) (option : MergeOption) (ops : List (Op L)) (t : Trace T) (s : K)
     → list_any is_empty_take ops ≡ true → HasRun accepts option (answer_of meaning ops t) s s End
 decided-run meaning accepts option ops t s some =
     let is : answer_of meaning ops t ≡ ended [] End = answer-of_none (stages_of meaning ops) t (sym (some_takes_none-stages_of meaning ops) ∙ some) in

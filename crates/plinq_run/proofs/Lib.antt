@@ -6,6 +6,7 @@ mod Ended
 mod Finished
 mod Folds
 mod Handed
+mod Headline
 mod Merged
 mod Parts
 mod Runs

@@ -7,6 +7,7 @@ pub mod Faults
 pub mod Folded
 pub mod Folds
 pub mod Handed
+pub mod Headline
 pub mod Merged
 pub mod Plans
 pub mod Reaching

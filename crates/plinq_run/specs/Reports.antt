@@ -39,6 +39,7 @@ module _ {K T : Type 0} (accepts : K → List T → K → Type 0) (refuses : K �
     pub accounts : May (handed_trace t report.records.items) answer
     pub has_run : HasRun accepts option answer s s' report.ending
 
+  -- A report says of what was delivered that it is all of an answer; a fault, that it is the beginning of one
   abbrev pub Reports : Result Report RunFault → Type 0
   Reports (Ok report) = HasReported report
   Reports (Err fault) = IsBroken fault

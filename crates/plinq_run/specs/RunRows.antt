@@ -1,24 +1,31 @@
 -- Rows of runs: which deliveries and reports a run may give, and which not.
-use Rattle.std.specs.Prelude.{◌≡◌, refl, ℕ, pos, List, [], ◌∷◌, ◌++◌, get_or, true, false, Some, None, Ok, Err}
+use Rattle.std.specs.Prelude.{◌≡◌, refl, ℕ, ◌+◌, nat_lt, pos, List, [], ◌∷◌, ◌++◌, length, get_or, Bool, true, false, Some, None, Result, Ok, Err}
 use Rattle.std.specs.Int.{int_max}
 use Rattle.std.specs.Global.{Vec}
-use Rattle.std.proofs.Common.{arith, ap, ◌∙◌}
+use Rattle.std.proofs.Common.{arith, ap, sym, subst, ◌∙◌}
+use Rattle.std.proofs.lemmas.List.{length-append}
 use Rattle.plinq_aggregate.specs.Numbers.{picking}
+use Rattle.plinq_source.specs.declared.ending.Ending.{Ending}
 use Rattle.plinq_source.specs.declared.ending.Ending.TheVariants.{End, Refused, Fault}
 use Rattle.plinq_source.specs.Trace.{Trace, ended, open_trace}
 use Rattle.plinq_keyed.specs.declared.event.Event.TheVariants.{Ask, Close}
 use Rattle.plinq_keyed.specs.declared.record.Record.{Record}
 use Rattle.plinq_keyed.specs.declared.tail.Tail.TheVariants.{Ended, Closed}
+use Rattle.plinq_merge.specs.Sending.{Leads}
+use Rattle.plinq_merge.specs.Cancelling.{Delivery, Passes, IsAsked}
 use Rattle.plinq_ops.specs.declared.merge_option.MergeOption.TheVariants.{NotBuffered}
 use Rattle.plinq_ops.specs.Answer.{Answer}
 use Rattle.plinq_ops.specs.Operator.{example}
 use Rattle.plinq_run.specs.declared.aggregate_fault.AggregateFault.TheVariants.{Ended as EndedSo, Run}
-use Rattle.plinq_run.specs.declared.run_fault.RunFault.TheVariants.{Memory, Sink}
+use Rattle.plinq_run.specs.declared.run_fault.RunFault.{RunFault}
+use Rattle.plinq_run.specs.declared.run_fault.RunFault.TheVariants.{Memory, Sink, Tickets, Thread, Incomplete, Cancelled}
 use Rattle.plinq_run.specs.Aggregates.{Aggregates}
 use Rattle.plinq_run.specs.Handed.{handed_trace}
+use Rattle.plinq_run.specs.Headline.{HasDelivered}
 use Rattle.plinq_run.specs.Reaching.{Covers}
 use Rattle.plinq_run.specs.Reports.{HasReported}
 use Rattle.plinq_run.specs.Runs.{Runs}
+use Rattle.plinq_run.specs.Stopping.{RunsWith}
 
 -- a sink that keeps the items of its batches, and refuses one with 9
 abbrev keeps : List ℕ → List ℕ → List ℕ → Type 0
@@ -41,6 +48,63 @@ refused_second = (((4 ∷ []) ∷ []), 2 ∷ [], ((5 ∷ []) ∷ []), 4 ∷ [], 
 no_memory_after_the_first : Runs keeps refuses_with_9 NotBuffered four_two_five [] (4 ∷ []) (Err Memory)
 no_memory_after_the_first = (((4 ∷ []) ∷ []), ((2 ∷ []) ∷ (5 ∷ []) ∷ []), refl, (4 ∷ [], refl, refl))
 
+-- each other fault says as much of what was delivered
+abbrev after_the_first : RunFault → Type 0
+after_the_first fault = Runs keeps refuses_with_9 NotBuffered four_two_five [] (4 ∷ []) (Err fault)
+
+no_thread_after_the_first : after_the_first Thread
+no_thread_after_the_first = no_memory_after_the_first
+
+no_ticket_after_the_first : after_the_first Tickets
+no_ticket_after_the_first = no_memory_after_the_first
+
+incomplete_after_the_first : after_the_first Incomplete
+incomplete_after_the_first = no_memory_after_the_first
+
+-- without a token nothing cancels a run
+cancelled_without_a_token : after_the_first Cancelled → ⊥
+cancelled_without_a_token run = absurd run
+
+-- the item that a sink has first stays the first
+keeps_first : (x : ℕ) (xs : List ℕ) (bs : List (List ℕ)) (s' : List ℕ) → Leads keeps (x ∷ xs) bs s' → get_or s' 0 0 ≡ x
+keeps_first x xs [] s' is = ap (λ s. get_or s 0 0) is
+keeps_first x xs (b ∷ bs) s' (m, is, leads) = keeps_first x (xs ++ b) bs s' (subst (λ s. Leads keeps s bs s') is leads)
+
+-- so the first batch comes first
+four_is_first : (sent rest : List (List ℕ)) (x : ℕ) → (4 ∷ []) ∷ (2 ∷ []) ∷ (5 ∷ []) ∷ [] ≡ sent ++ rest → Leads keeps [] sent (x ∷ []) → x ≡ 4
+four_is_first [] rest x parts leads = absurd (omega (arith, ap length leads))
+four_is_first (b ∷ bs) rest x parts (m, is, leads) =
+    let begun : m ≡ 4 ∷ [] = is ∙ sym (ap (λ bs. get_or bs 0 []) parts) in
+    keeps_first 4 [] bs (x ∷ []) (subst (λ s. Leads keeps s bs (x ∷ [])) begun leads)
+
+-- what a run that broke off has delivered is a beginning: not the second batch alone, by whatever fault
+second_without_memory : Runs keeps refuses_with_9 NotBuffered four_two_five [] (2 ∷ []) (Err Memory) → ⊥
+second_without_memory (sent, rest, parts, leads) = omega (arith, four_is_first sent rest 2 parts leads)
+
+second_and_a_refusal : Runs keeps refuses_with_9 NotBuffered four_two_five [] (2 ∷ []) (Err (Sink 9)) → ⊥
+second_and_a_refusal (sent, b, rest, m, parts, leads, (code, is)) =
+    omega (arith, four_is_first sent (b ∷ rest) 2 parts (subst (λ s. Leads keeps [] sent s) (sym is) leads))
+
+-- nor more than there is
+abbrev too_much : List ℕ
+too_much = 4 ∷ 2 ∷ 5 ∷ 1 ∷ []
+
+-- as many items were kept as the batches have
+abbrev lengths : List (List ℕ) → ℕ
+lengths [] = 0
+lengths (b ∷ bs) = length b + lengths bs
+
+lengths-append : (bs cs : List (List ℕ)) → lengths (bs ++ cs) ≡ lengths bs + lengths cs
+lengths-append [] cs = omega arith
+lengths-append (b ∷ bs) cs = omega (arith, lengths-append bs cs)
+
+keeps_all : (s : List ℕ) (bs : List (List ℕ)) (s' : List ℕ) → Leads keeps s bs s' → length s' ≡ length s + lengths bs
+keeps_all s [] s' is = omega (arith, ap length is)
+keeps_all s (b ∷ bs) s' (m, is, leads) = omega (arith, ap length is, length-append s b, keeps_all m bs s' leads)
+
+more_than_the_answer : Runs keeps refuses_with_9 NotBuffered four_two_five [] too_much (Err Memory) → ⊥
+more_than_the_answer (sent, rest, parts, leads) = omega (arith, ap lengths parts, lengths-append sent rest, keeps_all [] sent too_much leads)
+
 another_order : Runs keeps refuses_with_9 NotBuffered four_two_five [] (2 ∷ 4 ∷ 5 ∷ []) (Ok End) → ⊥
 another_order run =
     let (first, is_first, (second, is_second, (third, is_third, last))) = run.delivered in
@@ -52,6 +116,63 @@ another_order run =
 
 another_ending : Runs keeps refuses_with_9 NotBuffered four_two_five [] (4 ∷ 2 ∷ 5 ∷ []) (Ok (Fault 1)) → ⊥
 another_ending run = let same = run.ending in absurd (cc)
+
+-- the same by the words of the headline
+abbrev Delivers : List ℕ → Result Ending RunFault → Type 0
+Delivers s' r = HasDelivered keeps refuses_with_9 NotBuffered four_two_five [] s' r
+
+all_delivered : Delivers (4 ∷ 2 ∷ 5 ∷ []) (Ok End)
+all_delivered = (refl, (4 ∷ [], refl, (4 ∷ 2 ∷ [], refl, (4 ∷ 2 ∷ 5 ∷ [], refl, refl))))
+
+second_delivered_alone : Delivers (2 ∷ []) (Err Memory) → ⊥
+second_delivered_alone has = omega (arith, four_is_first has.first has.rest 2 has.parts has.taken_first)
+
+second_delivered_and_a_refusal : Delivers (2 ∷ []) (Err (Sink 9)) → ⊥
+second_delivered_and_a_refusal has =
+    omega (arith, four_is_first has.first (has.next ∷ has.rest) 2 has.parts (subst (λ s. Leads keeps [] has.first s) (sym has.refused.1) has.taken_first))
+
+more_delivered_than_the_answer : Delivers too_much (Err Memory) → ⊥
+more_delivered_than_the_answer has = omega (arith, ap lengths has.parts, lengths-append has.first has.rest, keeps_all [] has.first too_much has.taken_first)
+
+cancelled_and_delivered : Delivers [] (Err Cancelled) → ⊥
+cancelled_and_delivered has = absurd has
+
+-- ---- runs with a token that stops at one batch
+
+abbrev at_one : Bool → ℕ → Bool → Bool → Type 0
+at_one t n answer t' = (answer ≡ nat_lt 0 n) × (t' ≡ answer)
+
+abbrev having : List ℕ → ℕ → Delivery Bool (List ℕ)
+having items delivered = record { token = false; sink = items; delivered = delivered }
+
+abbrev stopped_with : List ℕ → ℕ → Delivery Bool (List ℕ)
+stopped_with items delivered = record { token = true; sink = items; delivered = delivered }
+
+stopped_after_one : RunsWith at_one keeps refuses_with_9 NotBuffered four_two_five (having [] 0) (stopped_with (4 ∷ []) 1) (Err Cancelled)
+stopped_after_one = record {
+  sent = (4 ∷ []) ∷ [];
+  rest = (2 ∷ []) ∷ (5 ∷ []) ∷ [];
+  parts = refl;
+  last = having (4 ∷ []) 1;
+  leads = (having (4 ∷ []) 1, record { asked = (refl, refl); taken = refl; counts = refl }, refl);
+  stops = record { asked = (refl, refl); sink = refl; counts = refl };
+}
+
+-- no batch comes after the stop, nor is a batch delivered where the token would have stopped it
+one_after_the_stop : RunsWith at_one keeps refuses_with_9 NotBuffered four_two_five (having [] 0) (stopped_with (4 ∷ 2 ∷ []) 1) (Err Cancelled) → ⊥
+one_after_the_stop run = passed run.sent run.rest run.parts run.last run.leads run.stops
+  where
+    -- after a batch the token lets no other pass
+    no_other : (d e : Delivery Bool (List ℕ)) (b : List ℕ) → d.delivered ≡ 1 → Passes at_one keeps d b e → ⊥
+    no_other d e b one passes = let lets : false ≡ nat_lt 0 1 = passes.asked.0 ∙ ap (nat_lt 0) one in absurd (cc)
+
+    passed : (sent rest : List (List ℕ)) → (4 ∷ []) ∷ (2 ∷ []) ∷ (5 ∷ []) ∷ [] ≡ sent ++ rest → (last : Delivery Bool (List ℕ))
+        → Leads (Passes at_one keeps) (having [] 0) sent last → IsAsked at_one true last (stopped_with (4 ∷ 2 ∷ []) 1) → ⊥
+    passed [] rest parts last leads stops = omega (arith, ap length stops.sink, ap length (ap (λ d. d.sink) leads))
+    passed (b ∷ []) rest parts last (m, first, leads) stops =
+        let four : 4 ∷ [] ≡ b = ap (λ bs. get_or bs 0 []) parts in
+        omega (arith, ap length stops.sink, ap length (ap (λ d. d.sink) leads), ap length first.taken, ap length four)
+    passed (b ∷ c ∷ bs) rest parts last (m, first, (n, second, leads)) stops = no_other m n c first.counts second
 
 -- ---- reports of a query that doesn't keep the order, and has no operator
 

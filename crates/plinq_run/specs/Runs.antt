@@ -31,6 +31,8 @@ cause_in_merge (Some Gap) = Other
 cause_in_merge (Some Failed) = Other
 cause_in_merge (Some Cancels) = Other
 
+-- what a run's fault says of the batches that weren't delivered: the sink refused the next one, the token stopped the run, or
+-- no more was tried for any other cause
 abbrev pub cause_of : RunFault → Cause
 cause_of (Sink code) = SinkRefused code
 cause_of Memory = Other

@@ -9,6 +9,7 @@ ghost use Rattle.plinq_ops.specs.Query.{merge_in_force};
 ghost use Rattle.plinq_crew.specs.Plans.{IsUndecided};
 ghost use Rattle.plinq_run.specs.Endings.{reported};
 ghost use Rattle.plinq_run.specs.Handed.{has_close};
+ghost use Rattle.plinq_run.specs.Headline.{answers, HasDelivered};
 ghost use Rattle.plinq_run.specs.Reports.{MayMerge, Reports};
 
 use crate::finishing::report;
@@ -133,6 +134,7 @@ where
     ensures untouched { list_any is_empty_take query.now.ops ≡ true → sink.new ≡ sink.old }
     ensures none { list_any is_empty_take query.now.ops ≡ true → IfOk result (λ report. report.records.items ≡ []) }
     ensures closed { list_any is_empty_take query.now.ops ≡ false → IfOk result (λ report. has_close report.records.items ≡ true) }
+    ensures ordered { query.now.ordered ≡ true → HasDelivered K.accepts K.refuses (merge_in_force query.now.merge) (answers L.meaning query.now.ops (S.whole source)) sink.old sink.new (reported result) }
     ensures reports { Reports K.accepts K.refuses (merge_in_force query.now.merge) (MayAnswer L.meaning query.now.ordered query.now.ops) (S.whole source) sink.old sink.new result }
 {
     let plan = query.split();

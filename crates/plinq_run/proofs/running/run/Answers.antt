@@ -3,6 +3,7 @@ use Rattle.plinq_source.specs.Trace.{Trace}
 use Rattle.plinq_ops.specs.Answer.{MayAnswer}
 use Rattle.plinq_ops.specs.Query.{merge_in_force}
 use Rattle.plinq_run.specs.Reports.{MayMerge, Reports}
+use Rattle.plinq_run.proofs.Headline.{decided-delivered, ordered-delivered}
 use Rattle.plinq_run.proofs.Ended.{decided-reports, planned-may, planned-undecided, reports-weaker}
 use Rattle.plinq_run.proofs.running.run.Goals as goal
 
@@ -31,3 +32,15 @@ returns-clause-reports g c =
     let may = λ (x u : Trace _). planned-may g.L.Lambda.meaning q plan x u q.ordered refl c.split-plan.ensures.plan undecided in
     subst (λ o. Reports g.K.Sink.accepts g.K.Sink.refuses o May t s s' c.run_plan.result) option
     (reports-weaker g.K.Sink.accepts g.K.Sink.refuses c.merge_option.result (MayMerge g.L.Lambda.meaning plan) t s s' May c.run_plan.result may c.run_plan.ensures.reports)
+
+pub returns-then-plan-clause-ordered : goal.returns-then-plan-clause-ordered
+returns-then-plan-clause-ordered g c = λ ordered.
+    let q = c.args.query.now in
+    let is : c.split-plan.result.decided ≡ true = search rules in
+    decided-delivered g.L.Lambda.meaning g.K.Sink.accepts g.K.Sink.refuses (merge_in_force q.merge) q.ops (g.S.Source.whole c.args.source) c.args.sink.now (sym c.split-plan.ensures.plan.decided ∙ is)
+
+pub returns-clause-ordered : goal.returns-clause-ordered
+returns-clause-ordered g c = λ ordered.
+    let q = c.args.query.now in
+    ordered-delivered g.L.Lambda.meaning g.K.Sink.accepts g.K.Sink.refuses (merge_in_force q.merge) q.ordered q.ops (g.S.Source.whole c.args.source) c.args.sink.now c.run_plan.new.sink c.run_plan.result ordered
+    (returns-clause-reports g c)
