@@ -1,6 +1,7 @@
 #!/usr/bin/env python3
 """Looks whether what the pages name is there: each link's target, and each file that is named by its path in a crate; and
-whether they are short: README in 7,000 bytes, docs/ in 70,000 (without docs/TRUSTED.md, which a tool makes), and no sentence of README of more than 30 words.
+whether they are short: README in 7,000 bytes, docs/ in 82,000 without TRUSTED.md, which a tool makes, and no sentence of
+README of more than 30 words.
 
     python3 tests/pages.py
 """
@@ -46,7 +47,7 @@ def lengths(tests):
     tests.check("README.md has sentences, none of more than 30 words", len(found) > 50 and not long, long or len(found))
     tests.check("README.md has at most 7,000 bytes", size("README.md") <= 7_000, size("README.md"))
     total = sum(size(it) for it in pages() if it.startswith("docs/") and it != "docs/TRUSTED.md")
-    tests.check("docs/ has at most 70,000 bytes", 0 < total <= 70_000, total)
+    tests.check("docs/ has at most 82,000 bytes", 0 < total <= 82_000, total)
 
 
 def main():
