@@ -1,11 +1,11 @@
 -- What the operators of the workloads do to an element.
-use Rattle.std.specs.Prelude.{ℕ, ◌*◌, ◌/◌, ◌%◌, ◌^◌, ◌==◌, ℤ, pos, Bool, true, if◌then◌else◌, Result, Ok, Err}
+use Rattle.std.specs.Prelude.{ℕ, ◌*◌, ◌/◌, ◌%◌, ◌^◌, ◌==◌, ℤ, pos, Bool, true, not, ◌&&◌, if◌then◌else◌, Result, Ok, Err}
 use Rattle.std.specs.Ordering.{int_eq}
 use Rattle.std.specs.Int.{w64, cast_unsigned}
 use Rattle.plinq_lambda.specs.Meaning.{Meaning}
 use Rattle.plinq_lambda.specs.Formula.{formula_meaning}
 use Rattle.plinq_bench.specs.declared.work.Cost.{Cost}
-use Rattle.plinq_bench.specs.declared.work.Cost.TheVariants.{Fixed, Skewed, Ramp}
+use Rattle.plinq_bench.specs.declared.work.Cost.TheVariants.{Fixed, Skewed, Ramp, Late}
 use Rattle.plinq_bench.specs.declared.work.Work.{Work}
 use Rattle.plinq_bench.specs.declared.work.Work.TheVariants.{Plain, Spin, Keep}
 use Rattle.plinq_bench.specs.Spinning.{spin}
@@ -15,6 +15,7 @@ abbrev pub turns : Cost → ℤ → ℕ
 turns (Fixed n) x = n
 turns Skewed x = cast_unsigned w64 x % 1000
 turns (Ramp n) x = if n == 0 then 0 else cast_unsigned w64 x * 1000 % 2 ^ 64 / n
+turns (Late n) x = if not (n / 4 == 0) && (cast_unsigned w64 x % (n / 4) == n / 4 / 2) then n * 178 % 2 ^ 64 else 71
 
 -- the element itself, unless its n turns come out at one number
 abbrev pub kept : ℕ → ℤ → Result ℤ ℕ

@@ -15,6 +15,8 @@ pub(crate) enum Cost {
     Skewed,
     /// From none to 1,000, as the elements go from 0 to this count.
     Ramp(u64),
+    /// Of this count of elements four take 178 turns for each, one in the middle of each quarter, and the others 71.
+    Late(u64),
 }
 
 /// What the operators of the workloads do to an element.
@@ -105,6 +107,14 @@ pub(crate) fn turns(cost: Cost, x: i64) -> u64
                 0
             } else {
                 x.cast_unsigned().wrapping_mul(1_000) / n
+            }
+        }
+        Cost::Late(n) => {
+            let quarter = n / 4;
+            if quarter != 0 && x.cast_unsigned() % quarter == quarter / 2 {
+                n.wrapping_mul(178)
+            } else {
+                71
             }
         }
     }

@@ -14,6 +14,7 @@ pub(crate) enum Workload {
     Heavy,
     Skewed,
     Ramp,
+    Late,
     Streamed,
     TakeWhile,
     Take,
@@ -21,11 +22,12 @@ pub(crate) enum Workload {
 }
 
 impl Workload {
-    pub(crate) const ALL: [Workload; 8] = [
+    pub(crate) const ALL: [Workload; 9] = [
         Workload::Cheap,
         Workload::Heavy,
         Workload::Skewed,
         Workload::Ramp,
+        Workload::Late,
         Workload::Streamed,
         Workload::TakeWhile,
         Workload::Take,
@@ -38,6 +40,7 @@ impl Workload {
             Workload::Heavy => "heavy",
             Workload::Skewed => "skewed",
             Workload::Ramp => "ramp",
+            Workload::Late => "late",
             Workload::Streamed => "streamed",
             Workload::TakeWhile => "take_while",
             Workload::Take => "take",
@@ -59,6 +62,7 @@ impl Workload {
         match self {
             Workload::Cheap | Workload::Sum => 10_000_000,
             Workload::Heavy | Workload::Skewed | Workload::Ramp => 1_000_000,
+            Workload::Late => 400_000,
             Workload::Streamed => 200_000,
             Workload::TakeWhile => 100_000,
             Workload::Take => 3,
@@ -105,6 +109,7 @@ impl Workload {
             Workload::Heavy => query.select(Work::Spin(Cost::Fixed(TURNS))),
             Workload::Skewed => query.select(Work::Spin(Cost::Skewed)),
             Workload::Ramp => query.select(Work::Spin(Cost::Ramp(items.cast_unsigned()))),
+            Workload::Late => query.select(Work::Spin(Cost::Late(items.cast_unsigned()))),
             Workload::Streamed => {
                 let query = query.with_merge(MergeOption::NotBuffered);
                 query
@@ -133,6 +138,7 @@ impl Workload {
             Workload::Heavy | Workload::Streamed => spun(items, Cost::Fixed(TURNS)),
             Workload::Skewed => spun(items, Cost::Skewed),
             Workload::Ramp => spun(items, Cost::Ramp(items.cast_unsigned())),
+            Workload::Late => spun(items, Cost::Late(items.cast_unsigned())),
             Workload::TakeWhile | Workload::Take => first(items),
             Workload::Sum => evens(items),
         }

@@ -6,6 +6,8 @@ pub(crate) struct Ahead {
     most: u64,
     /// A worker that stands above this place waits.
     bound: AtomicU64,
+    /// The bound when those that sleep were last woken.
+    woken: AtomicU64,
 }
 
 impl Ahead {
@@ -14,20 +16,23 @@ impl Ahead {
         Ahead {
             most,
             bound: AtomicU64::new(most),
+            woken: AtomicU64::new(most),
         }
     }
 
-    /// All up to this place is merged, or, where it is the greatest number, nothing more is wanted. The bound is raised by half
-    /// of what a worker may be ahead at once, so that those that sleep aren't woken by each result. Says whether it was.
+    /// All up to this place is merged, or, where it is the greatest number, nothing more is wanted. Says whether those that sleep
+    /// are to be woken. They are once an eighth of what a worker may be ahead was merged since the last time, and not by each
+    /// result: one that looks finds the bound as it is, and what is sent is merged, so that none sleeps on for good.
     pub(crate) fn move_to(&self, place: u64) -> bool {
         let bound = place.saturating_add(self.most);
-        let last = self.bound.load(Ordering::SeqCst);
-        let is_far = bound == u64::MAX || bound.saturating_sub(last) >= self.most / 2;
-        let is_raised = is_far && bound != last;
-        if is_raised {
-            self.bound.store(bound, Ordering::SeqCst);
+        self.bound.store(bound, Ordering::SeqCst);
+        let last = self.woken.load(Ordering::SeqCst);
+        let is_far = bound == u64::MAX || bound.saturating_sub(last) >= self.most / 8;
+        let wakes = is_far && bound != last;
+        if wakes {
+            self.woken.store(bound, Ordering::SeqCst);
         }
-        is_raised
+        wakes
     }
 
     /// Whether a worker at this place may go on.

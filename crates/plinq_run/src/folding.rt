@@ -9,8 +9,8 @@ use crate::combined::Combined;
 use crate::fold::Fold;
 use crate::planning::{Conducted, Ended, conduct_plan};
 use crate::run_fault::RunFault;
-use crate::running::progress_of;
 use crate::tasks::FoldChunks;
+use crate::window::progress_of;
 use plinq_aggregate::GrowingAggregator;
 use plinq_crew::Gate;
 use plinq_enumerator::Growth;
@@ -46,7 +46,7 @@ where
     requires few { workers ≤ 64 }
     ensures { FoldsSome (A.folding aggregator.now) (MayMerge L.meaning plan.now (S.whole source)) result }
 {
-    let progress = progress_of(rt, gate, plan.order, workers, growth);
+    let progress = progress_of::<L::Item, G, R>(rt, gate, plan.order, workers, growth);
     let task = FoldChunks { aggregator, gate };
     let conducted = conduct_plan::<Brand, L, S, FoldChunks<'_, A, G>, Fold<'_, A, A::Acc>, (), R>(
         rt,

@@ -31,6 +31,7 @@ mod run_fault;
 mod running;
 mod tasks;
 mod valuing;
+mod window;
 
 pub use aggregate_fault::AggregateFault;
 pub use aggregating::aggregate;

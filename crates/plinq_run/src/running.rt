@@ -17,50 +17,17 @@ use crate::planning::conduct_plan;
 use crate::report::Report;
 use crate::run_fault::RunFault;
 use crate::tasks::Unchanged;
-use plinq_crew::{Gate, Progress};
+use crate::window::progress_of;
+use plinq_crew::Gate;
 use plinq_enumerator::Growth;
 use plinq_lambda::SharedLambda;
 use plinq_merge::{Deliver, Sink};
-use plinq_ops::{MergeOption, Order, Plan, Query};
+use plinq_ops::{MergeOption, Plan, Query};
 use plinq_source::{Ending, Source};
 use std::alloc::Global;
 use std::marker::Brand;
 use std::sync::Wait;
-use std::thread::{Threads, available_parallelism};
-
-// How many chunks of the largest size workers may be ahead of what is merged, for each worker.
-const CHUNKS_AHEAD: u64 = 64;
-
-/// How many workers are at work at first: one for each core, since on a machine that does nothing else more only take cores from
-/// one another. A gate that holds some back may need all of them.
-fn at_first<G: Gate, R: Threads>(rt: &R, gate: &G) -> u64 {
-    if gate.holds_back() {
-        return u64::MAX;
-    }
-    match available_parallelism(rt) {
-        Ok(cores) => cores.get() as u64,
-        Err(_) => u64::MAX,
-    }
-}
-
-/// How many workers are at work at first, and how far they may be ahead of what is merged: how many keys above it, and how many
-/// items may be sent that aren't merged yet. By arrival each result is merged at once, so there is no bound on keys.
-pub(crate) fn progress_of<G: Gate, R: Threads>(
-    rt: &R,
-    gate: &G,
-    order: Order,
-    workers: u64,
-    growth: Growth,
-) -> Progress {
-    let at_first = at_first(rt, gate);
-    let largest = growth.size(u64::MAX);
-    let ahead = largest.saturating_mul(CHUNKS_AHEAD);
-    let most = ahead.saturating_mul(workers.min(at_first.saturating_add(at_first / 2)));
-    match order {
-        Order::ByKey => Progress::new(most, most, at_first),
-        Order::ByArrival => Progress::new(u64::MAX, most, at_first),
-    }
-}
+use std::thread::Threads;
 
 /// Runs a plan that isn't decided, and delivers the batches of its answer.
 fn run_plan<L, S, G, K, R>(
@@ -90,7 +57,7 @@ where
     let Ok(taker) = Deliver::new(alloc, plan.after, option) else {
         return Err(RunFault::Memory);
     };
-    let progress = progress_of(rt, gate, plan.order, workers, growth);
+    let progress = progress_of::<L::Item, G, R>(rt, gate, plan.order, workers, growth);
     let task = Unchanged { gate };
     let conducted = conduct_plan::<Brand, L, S, Unchanged<'_, G>, Deliver<'_, L, L::Item>, K, R>(
         rt, alloc, plan, workers, source, growth, &progress, &task, taker, sink,

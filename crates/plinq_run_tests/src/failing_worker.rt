@@ -328,9 +328,10 @@ fn a_run_ends_whose_workers_sleep_before_the_queue(rt: HostRuntime) -> Result<()
 /// Number 0 fails once the others have taken all of the window, and each but one of them one more.
 #[test]
 fn a_run_ends_whose_workers_sleep_before_the_window(rt: HostRuntime) -> Result<(), Fail> {
-    for workers in WORKERS {
-        // (64 chunks of one element for each worker, and number 0)
-        let taken = workers.saturating_mul(64).saturating_add(1);
+    // (not by 64, of whom a quarter of a million chunks would be wanted)
+    for workers in [2u64, 8] {
+        // (3,971 chunks of one element for each worker, and number 0: so many of 8 bytes with 256 more each fill 1,048,576 bytes)
+        let taken = workers.saturating_mul(3_971).saturating_add(1);
         let late = Late {
             workers,
             is_by_key: true,
@@ -355,7 +356,7 @@ fn a_run_ends_whose_workers_sleep_over_items(rt: HostRuntime) -> Result<(), Fail
         let late = Late {
             workers,
             is_by_key: true,
-            formula: Formula::Repeat(1_000),
+            formula: Formula::Repeat(10_000),
             failing: 0,
             about: 0,
             taken: workers,
@@ -363,8 +364,8 @@ fn a_run_ends_whose_workers_sleep_over_items(rt: HostRuntime) -> Result<(), Fail
             is_held: false,
             is_first_held: false,
         };
-        // (64 items for each worker, so that some may take a second time)
-        let again = workers.saturating_mul(64) / 1_000;
+        // (3,971 items for each worker, so that some may take a second time)
+        let again = workers.saturating_mul(3_971) / 10_000;
         expect(&rt, rt.alloc(), late, workers.saturating_add(again), 0)?;
     }
     Ok(())

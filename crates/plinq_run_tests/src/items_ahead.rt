@@ -19,12 +19,12 @@ use std::thread::Threads;
 /// How many numbers from 0 on there are, and what each is expanded to.
 const NUMBERS: u64 = 200;
 
-const COPIES: i64 = 1_000;
+const COPIES: i64 = 10_000;
 
-const ITEMS: i64 = 200_000;
+const ITEMS: i64 = 2_000_000;
 
-/// The items of the answer added up: 1,000 times 0 to 199.
-const SUM: i64 = 19_900_000;
+/// The items of the answer added up: 10,000 times 0 to 199.
+const SUM: i64 = 199_000_000;
 
 /// A gate that counts the chunks that were taken.
 #[derive(Drop)]
@@ -126,8 +126,9 @@ fn hold_the_sink<R: Threads + Wait + Sync + Abort>(
     assert_eq!(rt; report.ending, Ending::End);
     assert_eq!(rt; (sink.count, sink.sum), (ITEMS, SUM));
     assert!(rt; sink.is_in_order || !by_key);
-    // Each worker takes once, and again where its own result is among the first whose items are 64 for each worker at most.
-    let again = workers.saturating_mul(64) / 1_000;
+    // Each worker takes once, and again where its own result is among the first whose items are 3,971 for each worker at most:
+    // so many of 8 bytes with 256 more each fill 1,048,576 bytes.
+    let again = workers.saturating_mul(3_971) / 10_000;
     let most = workers.saturating_add(again);
     let by_then = sink.taken_by_then;
     assert!(rt;

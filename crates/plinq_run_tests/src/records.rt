@@ -88,7 +88,7 @@ fn take_three<R: Threads + Wait + Sync + Abort>(
     let range = Given::Range(0, count);
     let records = records_of(rt, alloc, range, &[Op::Take(3)], by(workers))?;
     assert_eq!(rt; (closes(&records), tails(&records)), (1, workers));
-    assert!(rt; handed_out(&records) <= workers.saturating_mul(65 * 512));
+    assert!(rt; handed_out(&records) <= workers.saturating_mul(241 * 512));
     Ok(())
 }
 

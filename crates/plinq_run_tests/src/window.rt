@@ -14,6 +14,12 @@ use std::sync::atomic::{AtomicU64, Ordering};
 use std::test::*;
 use std::thread::Threads;
 
+/// How many keys workers may be ahead of what is merged, for each of them, in chunks of 512: 240 such chunks, of which each takes
+/// 512 times 8 bytes and 256 more, fill 1,048,576 bytes.
+const AHEAD: u64 = 122_880;
+
+const CHUNK: u64 = 512;
+
 /// A gate that holds key 0 back until a worker has taken a later one than it may, or for a long time. It notes the last key
 /// with which a chunk that was taken by then begins.
 #[derive(Drop)]
@@ -24,10 +30,10 @@ struct HoldsTheFirst {
 }
 
 impl HoldsTheFirst {
-    /// For so many workers, each of which may take 64 chunks of one element and one more.
+    /// For so many workers, each of which may take a chunk more.
     fn of(workers: u64) -> HoldsTheFirst {
         HoldsTheFirst {
-            most: workers.saturating_mul(65),
+            most: workers.saturating_mul(AHEAD.saturating_add(CHUNK)),
             last: AtomicU64::new(0),
             last_by_then: AtomicU64::new(0),
         }
@@ -71,7 +77,7 @@ fn hold_the_first<R: Threads + Wait + Sync + Abort>(
     let option = MergeOption::NotBuffered;
     let setting = Setting {
         workers,
-        growth: Growth::ONE,
+        growth: Growth::new(CHUNK, 1, CHUNK)?,
         option,
         refused: usize::MAX,
         cancel_after: None,
@@ -101,7 +107,8 @@ fn hold_the_first_of_a_count<R: Threads + Wait + Sync + Abort>(
     let gate = HoldsTheFirst::of(workers);
     let query: Query<Formula> = ordered(alloc, MergeOption::Default, workers)?;
     let source = RangeSource::new(0, count)?;
-    let told = aggregate(rt, alloc, &query, source, Growth::ONE, &gate, &Count);
+    let growth = Growth::new(CHUNK, 1, CHUNK)?;
+    let told = aggregate(rt, alloc, &query, source, growth, &gate, &Count);
     assert_eq!(rt; told, Ok(count));
     assert!(rt; gate.is_kept());
     Ok(())
@@ -110,7 +117,7 @@ fn hold_the_first_of_a_count<R: Threads + Wait + Sync + Abort>(
 #[test]
 fn workers_that_fold_wait_for_the_first_key(rt: HostRuntime) -> Result<(), Fail> {
     for workers in [2u64, 64] {
-        hold_the_first_of_a_count(&rt, rt.alloc(), workers, 10_000)?;
+        hold_the_first_of_a_count(&rt, rt.alloc(), workers, 10_000_000)?;
     }
     Ok(())
 }
