@@ -26,6 +26,8 @@ from support.program import HANGS, PROGRAM, Outcome, Tests, build, run, shared_l
 ENDLESS = {"range": [0, 2**40]}
 ORDERED = ["as_ordered"]
 DEGREES = (1, 2, 8, 64)
+# How many workers a run starts before its caller's thread has waited for long.
+CORES = len(os.sched_getaffinity(0))
 WRITE_FAILED = b"plinq: write failed\n"
 NO_THREAD = b"plinq: no thread\n"
 NO_MEMORY = b"plinq: out of memory\n"
@@ -106,8 +108,9 @@ def wait_for_a_full_pipe(child):
     wait_until(is_full)
 
 
-def is_at_work(child, threads):
-    return len(os.listdir(f"/proc/{child.pid}/task")) >= threads
+def is_at_work(child, workers=1):
+    """Whether so many workers were started; others are once the caller's thread lacks results."""
+    return len(os.listdir(f"/proc/{child.pid}/task")) >= workers + 1
 
 
 # (a shell shows the end by a signal as 128 and its number)
@@ -119,7 +122,7 @@ def signals(tests):
                 # (once while it is read, and once while nobody reads and the pipe is full)
                 for count in (READ, 0) if prints else (0,):
                     child = started(words_so, steps)
-                    wait_until(lambda: is_at_work(child, workers + 1))
+                    wait_until(lambda: is_at_work(child, 1 if prints else min(workers, CORES)))
                     output = read(child, count)
                     if prints:
                         wait_for_a_full_pipe(child)
@@ -128,7 +131,7 @@ def signals(tests):
                     is_so = seen.status == -kind and seen.errors == b"" and is_beginning(name, seen.output)
                     tests.check(f"{kind.name}: {' '.join(words_so)}, {name}, {count} bytes read", is_so, seen)
     child = started(["run"], [], aggregate="sum")
-    wait_until(lambda: is_at_work(child, 5))
+    wait_until(lambda: is_at_work(child, min(4, CORES)))
     child.send_signal(signal.SIGTERM)
     seen = ended(child, b"")
     tests.check("SIGTERM: an aggregate is left unwritten", seen == Outcome(-signal.SIGTERM, b"", b""), seen)
@@ -190,9 +193,9 @@ def few_threads(tests):
         for workers in range(1, 65):
             few = range(1, min(workers, 8) + 2) if workers <= 8 or workers in DEGREES else (1, workers - 1)
             for threads in sorted({*few, workers, workers + 1, workers + 200}):
-                for name, more, right in (("one by one", {}, RIGHT), ("a sum", {"aggregate": "sum"}, SUM)):
-                    # (one is the caller's thread; of what never ends no worker has taken all before the last is started)
-                    are_few = threads <= workers
+                # (one is the caller's thread; where nothing is printed it lacks results, so that more workers are wanted)
+                for name, more, right, wanted in (("one by one", {}, RIGHT, 1), ("a sum", {"aggregate": "sum"}, SUM, min(workers, CORES))):
+                    are_few = threads <= wanted
                     given = document(ENDLESS if are_few else {"range": [0, NUMBERS]}, **more)
                     seen = run([*MANY, str(workers)], given, program, preexec_fn=leaving(threads))
                     is_so = has_no_thread(name, seen) if are_few else answers_or_refuses(seen, right)

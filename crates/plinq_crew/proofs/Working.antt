@@ -1,5 +1,5 @@
 -- What a worker sends are the results of its records, one after another.
-use Rattle.std.proofs.Common.{◌≡◌, ◌≢◌, ℕ, ◌+◌, ◌≤◌, ◌<◌, ◌==◌, eq-eqb, ◌||◌, List, [], ◌∷◌, ◌++◌, Option, Some, None, is_some, true, false, true≢false, Bool, if◌then◌else◌, IfSome, All, refl, sym, ap, ◌∙◌, subst, arith}
+use Rattle.std.proofs.Common.{◌≡◌, ◌≢◌, ℕ, ◌+◌, ◌≤◌, ◌<◌, ◌==◌, eq-eqb, ◌||◌, List, [], ◌∷◌, ◌++◌, Option, Some, None, is_some, true, false, true≢false, Bool, if◌then◌else◌, IfSome, All, take, drop, refl, sym, ap, ◌∙◌, subst, arith}
 use Rattle.std.proofs.lemmas.List.{append-nil}
 use Rattle.std.proofs.lemmas.List.Elements.{All-nil, All-push, All-append, All-weaker}
 use Rattle.std.specs.List.{AllZip}
@@ -18,7 +18,7 @@ use Rattle.plinq_stream.specs.Knowing.{with_sent, with_first, without_first, tog
 use Rattle.plinq_stream.specs.Streams.{has, under}
 use Rattle.plinq_stream.proofs.Numbers.{first-of, rest-of}
 use Rattle.plinq_stream.proofs.Under.{has-append, or-first, or-second, under-append, under-own, under-none}
-use Rattle.plinq_crew.specs.Working.{Answers, IsOpen, Follows, HasTakenChunk, HasLeft, sender, IsAtWork, HasWorked, IsAnsweredBy, IsWhollyAnsweredBy, receiver_from}
+use Rattle.plinq_crew.specs.Working.{Answers, IsOpen, Follows, HasTakenChunk, HasLeft, sender, IsAtWork, HasWorked, IsAnsweredBy, IsWhollyAnsweredBy, HasNumbersFrom, IsReceiver}
 use Rattle.plinq_crew.specs.Noted.{has_worker_fault, lacks_room, has_noted, StaysNoted}
 use Rattle.plinq_crew.specs.Results.{IsOfSameChunk}
 use Rattle.plinq_crew.specs.declared.starting.WorkerFaults.{WorkerFaults}
@@ -115,13 +115,19 @@ each-sent {X} P number x a b is all one =
 
 -- ---- numbers are handed out one after another
 
-pub first-handed : {T : Type 0} (n : ℕ) (a b : PassKnowledge (ChunkResult T)) → n < 64 → a ≡ receiver_from n → b ≡ with_first a → b ≡ sender n []
-first-handed n a b less is made =
-    made ∙ ap with_first is ∙ ap (λ l. record { numbers = l; sent = []; receives = false; received = [] }) (first-of n 64 less)
+pub first-handed : {T : Type 0} (n : ℕ) (a b : PassKnowledge (ChunkResult T)) → n < 64 → HasNumbersFrom n a → b ≡ with_first a → b ≡ sender n []
+first-handed n a b less has made =
+    made ∙ ap (λ l. record { numbers = take 1 l; sent = []; receives = false; received = [] }) has ∙ ap (λ l. record { numbers = l; sent = []; receives = false; received = [] }) (first-of n 64 less)
 
-pub rest-handed : {T : Type 0} (n : ℕ) (a b : PassKnowledge (ChunkResult T)) → n < 64 → a ≡ receiver_from n → b ≡ without_first a → b ≡ receiver_from (n + 1)
-rest-handed n a b less is made =
-    made ∙ ap without_first is ∙ ap (λ l. record { numbers = l; sent = []; receives = true; received = [] }) (rest-of n 64 less)
+module _ {T : Type 0} (n : ℕ) (a b : PassKnowledge (ChunkResult T)) where
+  pub rest-handed : n < 64 → HasNumbersFrom n a → b ≡ without_first a → HasNumbersFrom (n + 1) b
+  rest-handed less has made = ap (λ (k : PassKnowledge (ChunkResult T)). k.numbers) made ∙ ap (drop 1) has ∙ rest-of n 64 less
+
+  pub handed-receiver : IsReceiver a → b ≡ without_first a → IsReceiver b
+  handed-receiver h made = record {
+    receives = ap (λ (k : PassKnowledge (ChunkResult T)). k.receives) made ∙ h.receives;
+    sent = ap (λ (k : PassKnowledge (ChunkResult T)). k.sent) made ∙ h.sent;
+  }
 
 -- ---- a worker's pass is taken in, whose number is below those that were taken in before
 

@@ -27,7 +27,7 @@ module _ {L S J P T M X : Type 0} {source : Ghosts S T} (accepts : X → ChunkRe
     pub of : All (IsPartitionOf crew.chunked.now) back.partitions.items
     pub origin : common_origin back.partitions.items ≡ (holding_of context.partition).origin
     pub started : length back.partitions.items ≡ back.worker_count.started + 1
-    pub wanted : back.worker_count.wanted ≡ crew.workers
+    pub wanted : (1 ≤ back.worker_count.wanted) × (back.worker_count.wanted ≤ crew.workers)
     pub pass : StreamPass (ChunkResult M)
     pub of_stream : IsPassOf crew.stream.now pass
     pub all : HasReceivedAll (known pass)

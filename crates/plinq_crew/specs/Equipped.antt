@@ -35,4 +35,4 @@ pub record IsReady {L S J P T M : Type 0} {source : Ghosts S T} (meaning : L →
   pub equipped : IsEquipped meaning (makes crew.task.now) MaySend stops_at crew.plan.now crew.chunked.now crew.cut.now context.partition context.cut
   pub stream_of : IsStreamPassOf crew.stream.now context.stream
   pub knows : known context.stream ≡ receiver_from 0
-  pub few : crew.workers ≤ 64
+  pub workers : (1 ≤ crew.workers) × (crew.workers ≤ 64)

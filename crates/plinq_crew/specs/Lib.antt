@@ -1,6 +1,7 @@
 pub mod Conducting
 pub mod Equipped
 pub mod Handles
+pub mod Teams
 pub mod Plans
 pub mod Results
 pub mod Noted

@@ -85,6 +85,10 @@ module _ {T : Type 0} where
   abbrev pub receiver_from : ℕ → PassKnowledge (ChunkResult T)
   receiver_from number = record { numbers = numbers_from number (64 - number); sent = []; receives = true; received = [] }
 
+  -- a pass has the numbers from this one on
+  abbrev pub HasNumbersFrom : ℕ → PassKnowledge (ChunkResult T) → Type 0
+  HasNumbersFrom number a = a.numbers ≡ numbers_from number (64 - number)
+
   -- the receiving pass has sent nothing
   pub record IsReceiver (a : PassKnowledge (ChunkResult T)) : Type 0 where
     pub receives : a.receives ≡ true

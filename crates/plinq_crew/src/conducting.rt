@@ -1,14 +1,15 @@
 //! What the caller's thread does among its workers: it starts them, passes what they send to a consumer, and joins them.
-ghost use Rattle.std.specs.Prelude.{◌≡◌, ◌≤◌, ◌^◌, true, false};
+ghost use Rattle.std.specs.Prelude.{◌≡◌, ◌≤◌, ◌^◌, length, true, false};
 ghost use Rattle.plinq_ops.specs.declared.results.ChunkResult.{ChunkResult};
 ghost use Rattle.plinq_ops.specs.Tails.{end_of_result};
 ghost use Rattle.plinq_partition.specs.Partitions.{IsPartitionOf, holding_of};
 ghost use Rattle.plinq_stream.specs.Passes.{IsPassOf, known};
 ghost use Rattle.plinq_stream.specs.Streams.{HasReceivedAll};
-ghost use Rattle.plinq_crew.specs.Equipped.{IsReady};
+ghost use Rattle.plinq_crew.specs.Equipped.{IsEquipped, IsReady};
 ghost use Rattle.plinq_crew.specs.Noted.{has_worker_fault};
 ghost use Rattle.plinq_crew.specs.Polls.{HasAccepted};
-ghost use Rattle.plinq_crew.specs.Working.{IsReceiver};
+ghost use Rattle.plinq_crew.specs.Teams.{IsTeam};
+ghost use Rattle.plinq_crew.specs.Working.{IsReceiver, HasNumbersFrom};
 ghost use Rattle.plinq_crew.specs.Conducting.{AcceptsEach, Conducts};
 ghost use Rattle.plinq_crew.specs.Scoped.{MayStartScope, ScopeReturns};
 
@@ -17,7 +18,7 @@ use crate::consumer::Consumer;
 use crate::coordinator::Coordinator;
 use crate::poll::Poll;
 use crate::results::{ResultPass, RunSpec};
-use crate::starting::{WorkerFaults, join_all, start_all};
+use crate::starting::{Team, WorkerFaults, join_all, start_wanted};
 use crate::task::Task;
 use crate::worker::{Crew, WorkerContext};
 use crate::worker_count::WorkerCount;
@@ -36,15 +37,15 @@ pub struct Returned<S: Source> {
     pub worker_count: WorkerCount,
 }
 
-/// Accepts what the workers send, until all have ended and nothing seems to be left in the queue. Then the source is closed if
-/// the consumer is over, unless a worker's fault stands noted.
-fn accept_all<L, S, J, P, X, R>(
+/// Accepts what the workers send, until all have ended and nothing seems to be left in the queue, or more workers are wanted: says
+/// whether they are. Where they aren't, the source is closed if the consumer is over, unless a worker's fault stands noted.
+fn accept_some<L, S, J, P, X, R>(
     rt: &R,
     crew: &Crew<'_, L, S, J, P>,
     coordinator: &mut Coordinator<S, P::Part>,
     closing: &mut Closing,
     consumer: &mut X,
-)
+) -> bool
 where
     L: SharedLambda,
     S: Source<Item = L::Item>,
@@ -61,9 +62,10 @@ where
     ensures origin { (holding_of coordinator.new.partition).origin ≡ (holding_of coordinator.old.partition).origin }
     ensures stream { IsPassOf crew.now.stream.now coordinator.new.stream }
     ensures receiver { IsReceiver (known coordinator.new.stream) }
+    ensures numbers { (known coordinator.new.stream).numbers ≡ (known coordinator.old.stream).numbers }
     ensures worker_count { coordinator.new.worker_count ≡ coordinator.old.worker_count }
     ensures ready { X.is_ready consumer.new }
-    ensures over { X.wants_no_more consumer.new ≡ true → closing.new.is_closed ≡ false → has_worker_fault coordinator.new.worker_faults ≡ true }
+    ensures over { result ≡ false → X.wants_no_more consumer.new ≡ true → closing.new.is_closed ≡ false → has_worker_fault coordinator.new.worker_faults ≡ true }
     ensures accepted { (before : _) (start : _) → HasAccepted (AcceptsEach X.accepts J.is_result) before start (known coordinator.old.stream).received closing.old.wants_close consumer.old
         → HasAccepted (AcceptsEach X.accepts J.is_result) before start (known coordinator.new.stream).received closing.new.wants_close consumer.new }
 {
@@ -79,9 +81,58 @@ where
             }
             Poll::Nothing(sleep) => {
                 consumer.idle();
+                if !closing.wants_close && coordinator.wants_more(crew) {
+                    return true;
+                }
                 coordinator.wait(rt, sleep);
             }
-            Poll::Over => return,
+            Poll::Over => return false,
+        }
+    }
+    unreachable!()
+}
+
+/// Starts the workers that are wanted and accepts what they send, until all have ended and nothing seems to be left in the
+/// queue. Then the source is closed if the consumer is over, unless a worker's fault stands noted.
+fn accept_all<'s, Env, L, S, J, P, X, R>(
+    scope: &Scope<'s, Env>,
+    rt: &'s R,
+    crew: &'s Crew<'s, L, S, J, P>,
+    coordinator: &mut Coordinator<S, P::Part>,
+    team: &mut Team<S, P::Part>,
+    closing: &mut Closing,
+    consumer: &mut X,
+)
+where
+    L: SharedLambda,
+    S: Source<Item = L::Item>,
+    J: RunSpec<P::Part> + Send + Sync,
+    P: Task<L::Item>,
+    X: Consumer<<P as Task<L::Item>>::Part>,
+    R: Threads + Wait + Sync,
+    requires stream { IsPassOf crew.now.stream.now coordinator.old.stream }
+    requires receiver { IsReceiver (known coordinator.old.stream) }
+    requires numbers { coordinator.old.worker_count.started ≡ coordinator.old.worker_count.wanted → HasNumbersFrom (length team.old.handles.items) (known coordinator.old.stream) }
+    requires equipped { IsEquipped L.meaning (P.makes crew.now.task.now) J.is_result J.stops_at crew.now.plan.now crew.now.chunked.now crew.now.cut.now coordinator.old.partition team.old.cut }
+    requires team { IsTeam crew.now.chunked.now crew.now.stream.now crew.now.workers coordinator.old.worker_count team.old }
+    requires workers { (1 ≤ crew.now.workers) × (crew.now.workers ≤ 64) }
+    requires within { (c : ChunkResult P.Part) → J.is_result c → end_of_result c ≤ 2 ^ 40 }
+    requires ready { X.is_ready consumer.old }
+    ensures of { IsPartitionOf crew.now.chunked.now coordinator.new.partition }
+    ensures origin { (holding_of coordinator.new.partition).origin ≡ (holding_of coordinator.old.partition).origin }
+    ensures stream { IsPassOf crew.now.stream.now coordinator.new.stream }
+    ensures receiver { IsReceiver (known coordinator.new.stream) }
+    ensures team { IsTeam crew.now.chunked.now crew.now.stream.now crew.now.workers coordinator.new.worker_count team.new }
+    ensures wanted { 1 ≤ coordinator.new.worker_count.wanted }
+    ensures ready { X.is_ready consumer.new }
+    ensures over { X.wants_no_more consumer.new ≡ true → closing.new.is_closed ≡ false → has_worker_fault coordinator.new.worker_faults ≡ true }
+    ensures accepted { (before : _) (start : _) → HasAccepted (AcceptsEach X.accepts J.is_result) before start (known coordinator.old.stream).received closing.old.wants_close consumer.old
+        → HasAccepted (AcceptsEach X.accepts J.is_result) before start (known coordinator.new.stream).received closing.new.wants_close consumer.new }
+{
+    for _ in rt.forever() {
+        start_wanted(scope, rt, crew, coordinator, team);
+        if !accept_some(rt, crew, coordinator, closing, consumer) {
+            return;
         }
     }
 }
@@ -149,23 +200,28 @@ where
     let Ok(room) = Vec::with_capacity(crew.alloc, crew.workers as usize + 1) else {
         return Err(OutOfMemory);
     };
-    let mut closing = Closing::none();
-    let mut context = context;
-    let handles = start_all(scope, rt, crew, crew.workers, &mut context, handles);
     let WorkerContext {
         partition,
         stream,
-        ..
+        cut,
     } = context;
-    let worker_count = WorkerCount {
-        wanted: crew.workers,
-        started: handles.len() as u64,
-    };
-    let mut coordinator = Coordinator::new(partition, stream, worker_count);
-    accept_all(rt, crew, &mut coordinator, &mut closing, consumer);
+    let mut coordinator = Coordinator::new(partition, stream);
+    let mut team = Team { handles, cut };
+    let mut closing = Closing::none();
+    accept_all(
+        scope,
+        rt,
+        crew,
+        &mut coordinator,
+        &mut team,
+        &mut closing,
+        consumer,
+    );
+    let Team { handles, .. } = team;
     let Coordinator {
         partition,
         mut stream,
+        worker_count,
         mut worker_faults,
         ..
     } = coordinator;

@@ -32,20 +32,21 @@ pub(crate) struct Coordinator<S: Source, M> {
 }
 
 impl<S: Source, M: Drop> Coordinator<S, M> {
-    pub(crate) fn new(
-        partition: Partition<S>,
-        stream: ResultPass<M>,
-        worker_count: WorkerCount,
-    ) -> Coordinator<S, M>
+    /// No worker was started yet.
+    pub(crate) fn new(partition: Partition<S>, stream: ResultPass<M>) -> Coordinator<S, M>
         ensures partition { result.partition ≡ partition }
         ensures stream { result.stream ≡ stream }
-        ensures worker_count { result.worker_count ≡ worker_count }
+        ensures started { result.worker_count.started ≡ 0 }
+        ensures wanted { result.worker_count.wanted ≡ 0 }
         ensures none { has_worker_fault result.worker_faults ≡ false }
     {
         Coordinator {
             partition,
             stream,
-            worker_count,
+            worker_count: WorkerCount {
+                wanted: 0,
+                started: 0,
+            },
             worker_faults: WorkerFaults::none(),
             patience: Patience::new(),
         }
@@ -140,6 +141,16 @@ impl<S: Source, M: Drop> Coordinator<S, M> {
         }
     }
 
+    /// Whether more workers are wanted than were by now.
+    pub(crate) fn wants_more<L, J, P>(&self, crew: &Crew<'_, L, S, J, P>) -> bool
+    where
+        L: Lambda<Item = S::Item>,
+        J: RunSpec<M>,
+        P: Task<S::Item, Part = M>,
+    {
+        self.worker_count.wanted < crew.workers.min(crew.progress.wanted())
+    }
+
     /// Spins for a moment, or sleeps, where nothing was there at a poll.
     pub(crate) fn wait<R: Wait>(&mut self, rt: &R, sleep: Option<Key<'_>>)
         ensures partition { self.new.partition ≡ self.old.partition }
@@ -148,7 +159,10 @@ impl<S: Source, M: Drop> Coordinator<S, M> {
         ensures worker_faults { self.new.worker_faults ≡ self.old.worker_faults }
     {
         match sleep {
-            Some(sleep) => sleep.wait(rt),
+            Some(sleep) => {
+                sleep.wait(rt);
+                self.patience.reset();
+            }
             None => self.patience.spin(),
         }
     }

@@ -4,11 +4,14 @@ use plinq_wait::WaitQueue;
 use std::sync::Wait;
 use std::sync::atomic::{AtomicBool, AtomicU64, Ordering};
 
-// For each so many results that the caller's thread lacked, as many workers may be at work as were at first.
+// For each so many results that the caller's thread lacked, as many workers may be at work as there are cores.
 const LACKS: u64 = 32;
 
+// So many results of the first worker show that the run isn't a short one.
+const MANY: u64 = 32;
+
 /// How far the threads of a run are. It only tells the caller's thread when to sleep and when to join the workers, and the
-/// workers when to wait and when to go on; no answer rests on it.
+/// workers when to wait and when to go on; and how many workers are wanted. No answer rests on it.
 #[derive(Drop)]
 pub struct Progress {
     /// How many keys above what is merged a worker may be.
@@ -18,14 +21,14 @@ pub struct Progress {
     sent: AtomicU64,
     ended: AtomicU64,
     failed: AtomicBool,
-    /// How many workers are at work at once, and how many were at first.
+    /// How many workers are wanted at once, and how many are before the caller's thread has waited for long.
     at_once: AtomicU64,
     at_first: u64,
+    /// Whether a worker has taken a chunk after which more may come.
+    has_begun: AtomicBool,
     /// How many results were sent, and how often the caller's thread was about to sleep since there was none.
     results: AtomicU64,
     lacks: AtomicU64,
-    /// What those sleep on that aren't at work yet.
-    start: WaitQueue,
     /// What the caller's thread sleeps on.
     news: WaitQueue,
     /// What the workers sleep on that are too far ahead.
@@ -33,8 +36,9 @@ pub struct Progress {
 }
 
 impl Progress {
-    /// Nothing is merged yet, and workers may be so many keys above it, and so many items. So many of them are at work at first,
-    /// and more the longer the caller's thread mostly waits for them.
+    /// Nothing is merged yet, and workers may be so many keys above it, and so many items. One of them is wanted at first, and so
+    /// many where there is more to do than one does at once; still more the longer the caller's thread mostly waits for them.
+    /// Where that is the greatest number, all are wanted from the start.
     pub fn new(keys: u64, items: u64, at_first: u64) -> Progress {
         Progress {
             keys: Ahead::new(keys),
@@ -42,11 +46,11 @@ impl Progress {
             sent: AtomicU64::new(0),
             ended: AtomicU64::new(0),
             failed: AtomicBool::new(false),
-            at_once: AtomicU64::new(at_first),
+            at_once: AtomicU64::new(if at_first == u64::MAX { u64::MAX } else { 1 }),
             at_first,
+            has_begun: AtomicBool::new(false),
             results: AtomicU64::new(0),
             lacks: AtomicU64::new(0),
-            start: WaitQueue::new(),
             news: WaitQueue::new(),
             merged: WaitQueue::new(),
         }
@@ -84,42 +88,52 @@ impl Progress {
         }
     }
 
-    /// Before a worker takes its first chunk: where enough others are at work, it sleeps until more are wanted, or one of them
-    /// has ended. Then the source has nothing more, or the run is over, and it finds that out itself.
-    pub(crate) fn wait_to_begin<R: Wait>(&self, rt: &R, worker: u64) {
-        let waiter = self.start.waiter();
-        for _ in rt.forever() {
-            let sleep = waiter.prepare();
-            if self.may_begin(worker) {
-                return;
-            }
-            waiter.pause(rt, sleep);
+    /// A worker has taken a chunk. The first after which more may come is reported, since another worker may be wanted then.
+    pub(crate) fn note_taken(&self, is_last: bool) {
+        if is_last || self.has_begun.load(Ordering::SeqCst) {
+            return;
         }
+        self.has_begun.store(true, Ordering::SeqCst);
+        self.tell();
     }
 
-    fn may_begin(&self, worker: u64) -> bool {
-        worker < self.at_once.load(Ordering::SeqCst) || self.ended.load(Ordering::SeqCst) > 0
+    /// How many workers are wanted by now. Once one has ended no more are: the source has nothing more, or the run is over.
+    pub(crate) fn wanted(&self) -> u64 {
+        let at_once = self.at_once.load(Ordering::SeqCst);
+        if self.ended.load(Ordering::SeqCst) > 0 {
+            return 0;
+        }
+        if at_once < self.at_first && self.results.load(Ordering::SeqCst) >= MANY {
+            self.at_once.store(self.at_first, Ordering::SeqCst);
+            return self.at_first;
+        }
+        at_once
     }
 
-    /// The caller's thread lacks a result. Where that is so for every second one, workers are what it waits for, and more of
-    /// them begin: a busy machine shares its cores out by threads. Some begin at a time, since all that sleep are woken.
+    /// The caller's thread lacks a result. Where the first worker has begun, as many are wanted as there are cores. Where that is
+    /// so for every second result, workers are what it waits for, and more of them are wanted: a busy machine shares its cores
+    /// out by threads.
     fn note_lack(&self) {
+        let at_once = self.at_once.load(Ordering::SeqCst);
+        if at_once < self.at_first {
+            if self.has_begun.load(Ordering::SeqCst) {
+                self.at_once.store(self.at_first, Ordering::SeqCst);
+            }
+            return;
+        }
         let lacks = self.lacks.fetch_add(1, Ordering::SeqCst);
         if lacks.saturating_mul(2) < self.results.load(Ordering::SeqCst) {
             return;
         }
         let wanted = self.at_first.saturating_mul(lacks / LACKS);
-        let at_once = self.at_once.load(Ordering::SeqCst);
         if wanted > at_once && wanted >= at_once.saturating_add(at_once.div_ceil(2)) {
             self.at_once.store(wanted, Ordering::SeqCst);
-            self.start.wake();
         }
     }
 
     /// A worker has ended.
     pub(crate) fn end(&self) {
         self.ended.fetch_add(1, Ordering::SeqCst);
-        self.start.wake();
         self.tell();
     }
 

@@ -4,14 +4,19 @@ ghost use Rattle.plinq_partition.specs.Partitions.{IsPartitionOf, holding_of};
 ghost use Rattle.plinq_partition.specs.GivenBack.{common_origin};
 ghost use Rattle.plinq_crew.specs.Equipped.{IsEquipped};
 ghost use Rattle.plinq_crew.specs.Noted.{lacks_room, has_worker_fault, has_noted, StaysNoted};
+ghost use Rattle.plinq_cut.specs.Passes.{IsPassOf as IsCutPassOf};
 ghost use Rattle.plinq_crew.specs.Handles.{IsHandleOf, AreNumbered};
-ghost use Rattle.plinq_crew.specs.Working.{IsNewcomer, IsReceiver, IsBack, IsAnsweredBy, receiver_from};
+ghost use Rattle.plinq_crew.specs.Teams.{IsTeam};
+ghost use Rattle.plinq_crew.specs.Working.{IsNewcomer, IsReceiver, IsBack, IsAnsweredBy, HasNumbersFrom};
 ghost use Rattle.plinq_stream.specs.Passes.{IsPassOf, known};
 
+use crate::coordinator::Coordinator;
 use crate::handle::{WorkerHandle, WorkerPromise};
 use crate::results::{ResultPass, RunSpec};
 use crate::task::Task;
 use crate::worker::{Crew, Worked, WorkerContext};
+use crate::worker_count::WorkerCount;
+use plinq_cut::CutPass;
 use plinq_lambda::SharedLambda;
 use plinq_ops::ChunkResult;
 use plinq_partition::{Chunked, Partition, TakeFault};
@@ -56,50 +61,62 @@ where
     handle.ok()
 }
 
-/// Starts so many workers, each with a new partition beside this one and a number of its own, or as many as there are threads
-/// to be had.
-pub(crate) fn start_all<'s, Env, L, S, J, P, R>(
+/// The workers that were started, and the pass of the cut of which each has got one.
+#[derive(Drop)]
+pub(crate) struct Team<S: Source, M> {
+    pub(crate) handles: Vec<WorkerHandle<S, M>>,
+    pub(crate) cut: CutPass,
+}
+
+/// Starts as many workers as are wanted by now, at least one, each with a new partition beside the caller's thread's own and a
+/// number of its own, or as many as there are threads to be had. Where one was missing before, none is started.
+pub(crate) fn start_wanted<'s, Env, L, S, J, P, R>(
     scope: &Scope<'s, Env>,
     rt: &'s R,
     crew: &'s Crew<'s, L, S, J, P>,
-    workers: u64,
-    context: &mut WorkerContext<S, P::Part>,
-    room: Vec<WorkerHandle<S, P::Part>>,
-) -> Vec<WorkerHandle<S, P::Part>>
+    coordinator: &mut Coordinator<S, P::Part>,
+    team: &mut Team<S, P::Part>,
+)
 where
     L: SharedLambda,
     S: Source<Item = L::Item>,
     J: RunSpec<P::Part> + Send + Sync,
     P: Task<L::Item>,
     R: Threads + Wait + Sync,
-    requires stream { IsPassOf crew.now.stream.now context.old.stream }
-    requires first { known context.old.stream ≡ receiver_from 0 }
-    requires equipped { IsEquipped L.meaning (P.makes crew.now.task.now) J.is_result J.stops_at crew.now.plan.now crew.now.chunked.now crew.now.cut.now context.old.partition context.old.cut }
-    requires few { workers ≤ 64 }
-    requires empty { room.items ≡ [] }
-    requires room { workers ≤ vec_capacity room }
-    ensures of { IsPartitionOf crew.now.chunked.now context.new.partition }
-    ensures same { holding_of context.new.partition ≡ holding_of context.old.partition }
-    ensures stream { IsPassOf crew.now.stream.now context.new.stream }
-    ensures receiver { IsReceiver (known context.new.stream) }
-    ensures nothing { (known context.new.stream).received ≡ [] }
-    ensures handles { All (IsHandleOf crew.now.chunked.now crew.now.stream.now) result.items }
-    ensures numbered { AreNumbered 0 result.items }
-    ensures count { length result.items ≤ workers }
+    requires stream { IsPassOf crew.now.stream.now coordinator.old.stream }
+    requires receiver { IsReceiver (known coordinator.old.stream) }
+    requires numbers { coordinator.old.worker_count.started ≡ coordinator.old.worker_count.wanted → HasNumbersFrom (length team.old.handles.items) (known coordinator.old.stream) }
+    requires equipped { IsEquipped L.meaning (P.makes crew.now.task.now) J.is_result J.stops_at crew.now.plan.now crew.now.chunked.now crew.now.cut.now coordinator.old.partition team.old.cut }
+    requires team { IsTeam crew.now.chunked.now crew.now.stream.now crew.now.workers coordinator.old.worker_count team.old }
+    requires workers { (1 ≤ crew.now.workers) × (crew.now.workers ≤ 64) }
+    ensures of { IsPartitionOf crew.now.chunked.now coordinator.new.partition }
+    ensures same { holding_of coordinator.new.partition ≡ holding_of coordinator.old.partition }
+    ensures stream { IsPassOf crew.now.stream.now coordinator.new.stream }
+    ensures receiver { IsReceiver (known coordinator.new.stream) }
+    ensures numbers { coordinator.new.worker_count.started ≡ coordinator.new.worker_count.wanted → HasNumbersFrom (length team.new.handles.items) (known coordinator.new.stream) }
+    ensures received { (known coordinator.new.stream).received ≡ (known coordinator.old.stream).received }
+    ensures cut { IsCutPassOf crew.now.cut.now team.new.cut }
+    ensures team { IsTeam crew.now.chunked.now crew.now.stream.now crew.now.workers coordinator.new.worker_count team.new }
+    ensures wanted { 1 ≤ coordinator.new.worker_count.wanted }
 {
-    let mut handles = room;
-    for worker in 0..workers {
+    let WorkerCount { wanted, started } = coordinator.worker_count;
+    if started != wanted {
+        return;
+    }
+    let goal = crew.workers.min(wanted.max(crew.progress.wanted()).max(1));
+    coordinator.worker_count.wanted = goal;
+    for worker in started..goal {
         let theirs = WorkerContext {
-            partition: crew.chunked.dynamic(&mut context.partition),
-            stream: crew.stream.give_number(&mut context.stream),
-            cut: crew.cut.split(&mut context.cut),
+            partition: crew.chunked.dynamic(&mut coordinator.partition),
+            stream: crew.stream.give_number(&mut coordinator.stream),
+            cut: crew.cut.split(&mut team.cut),
         };
         let Some(handle) = start(scope, rt, crew, worker, theirs) else {
-            return handles;
+            return;
         };
-        handles.push_reserved(handle);
+        team.handles.push_reserved(handle);
+        coordinator.worker_count.started = worker + 1;
     }
-    handles
 }
 
 /// Why workers ended before they saw a tail.

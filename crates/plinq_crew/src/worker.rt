@@ -93,6 +93,7 @@ where
     {
         self.task.before_take(worker);
         let chunk = partition.take(rt, self.chunked)?;
+        self.progress.note_taken(chunk.tail.is_some());
         self.task.after_chunk(worker, chunk.first);
         let cut = cut_now(self.plan, self.cut, pass);
         let made = chunk_result(self.alloc, self.plan, &chunk, cut)?;
@@ -122,7 +123,6 @@ where
             mut stream,
             mut cut,
         } = context;
-        self.progress.wait_to_begin(rt, worker);
         for _ in rt.forever() {
             match self.next_result(rt, worker, &mut partition, &mut cut) {
                 Ok(made) => {

@@ -43,7 +43,7 @@ where
     requires unasked { S.given source ≡ 0 }
     requires plan { IsUndecided plan.now }
     requires alone { plan.now.after.now ≡ [] }
-    requires few { workers ≤ 64 }
+    requires workers { (1 ≤ workers) × (workers ≤ 64) }
     ensures { FoldsSome (A.folding aggregator.now) (MayMerge L.meaning plan.now (S.whole source)) result }
 {
     let progress = progress_of::<L::Item, G, R>(rt, gate, plan.order, workers, growth);

@@ -121,7 +121,7 @@ where
     requires ready { IsReady L.meaning P.makes J.is_result J.stops_at crew.now context }
     requires takes { W.can_take taker ≡ true }
     ensures back { IfOk result (λ ended. (1 ≤ length ended.partitions.items) × All (IsPartitionOf crew.now.chunked.now) ended.partitions.items × (common_origin ended.partitions.items ≡ (holding_of context.partition).origin)) }
-    ensures started { IfOk result (λ ended. length ended.partitions.items ≡ crew.now.workers + 1) }
+    ensures started { IfOk result (λ ended. (2 ≤ length ended.partitions.items) × (length ended.partitions.items ≤ crew.now.workers + 1)) }
     ensures all { IfOk result (λ ended. (pass : StreamPass (ChunkResult P.Part)) × IsPassOf crew.now.stream.now pass × HasReceivedAll (known pass) × All (IsWhollyAnsweredBy (known pass)) (drop 1 ended.partitions.items)
         × WereAccepted W.made J.is_result crew.now.plan.now.order taker out.old (known pass).received ended.joined out.new) }
     ensures ends { EndsSo W.made J.is_result crew.now.plan.now.order taker out.old result out.new }
@@ -143,7 +143,7 @@ where
     )
 }
 
-/// Runs a plan that isn't decided: so many workers do this task, and what they send goes to this taker.
+/// Runs a plan that isn't decided: up to so many workers do this task, and what they send goes to this taker.
 pub(crate) fn conduct_plan<'x, J, L, S, P, W, O, R>(
     rt: &'x R,
     alloc: Global,
@@ -165,7 +165,7 @@ where
     R: Threads + Wait + Sync,
     requires unasked { S.given source ≡ 0 }
     requires plan { IsUndecided plan.now }
-    requires few { workers ≤ 64 }
+    requires workers { (1 ≤ workers) × (workers ≤ 64) }
     requires takes { W.can_take taker ≡ true }
     requires carries { (c : ChunkResult P.Part) → IsPart L.meaning (P.makes task.now) plan.now (S.whole source) c → J.is_result c }
     requires carried { (c : ChunkResult P.Part) → J.is_result c → IsPart L.meaning (P.makes task.now) plan.now (S.whole source) c }

@@ -49,7 +49,7 @@ where
     R: Threads + Wait + Sync,
     requires unasked { S.given source ≡ 0 }
     requires plan { IsUndecided plan.now }
-    requires few { workers ≤ 64 }
+    requires workers { (1 ≤ workers) × (workers ≤ 64) }
     ensures legal { IfOk result (λ report. IsLegalHistory (S.whole source) report.records.items) }
     ensures closed { IfOk result (λ report. has_close report.records.items ≡ true) }
     ensures reports { Reports K.accepts K.refuses option (MayMerge L.meaning plan.now) (S.whole source) sink.old sink.new result }

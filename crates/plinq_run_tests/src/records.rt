@@ -78,7 +78,7 @@ fn records_are_a_history_with_one_close(rt: HostRuntime) -> Result<(), Fail> {
 }
 
 /// Takes three of a range, and asks that at most as many items were handed out as workers may be ahead, each with a chunk more.
-/// After the close each worker asks once more, and is answered so; what it asked is reported as well.
+/// After the close each worker that was started asks once more, and is answered so; what it asked is reported as well.
 fn take_three<R: Threads + Wait + Sync + Abort>(
     rt: &R,
     alloc: Global,
@@ -87,7 +87,8 @@ fn take_three<R: Threads + Wait + Sync + Abort>(
 ) -> Result<(), Fail> {
     let range = Given::Range(0, count);
     let records = records_of(rt, alloc, range, &[Op::Take(3)], by(workers))?;
-    assert_eq!(rt; (closes(&records), tails(&records)), (1, workers));
+    assert_eq!(rt; closes(&records), 1);
+    assert!(rt; 1 <= tails(&records) && tails(&records) <= workers);
     assert!(rt; handed_out(&records) <= workers.saturating_mul(241 * 512));
     Ok(())
 }

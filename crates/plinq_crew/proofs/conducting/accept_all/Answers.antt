@@ -1,51 +1,34 @@
-use Rattle.std.proofs.Common.{rules, refl, sym, ap, ◌∙◌, subst, true≢false}
-use Rattle.plinq_stream.specs.Passes.{known}
-use Rattle.plinq_crew.proofs.Polls.{took-none, took-more}
+use Rattle.std.proofs.Common.{rules, ◌≡◌, ap, ◌∙◌, sym, subst}
+use Rattle.plinq_crew.specs.Polls.{HasAccepted}
+use Rattle.plinq_crew.specs.declared.worker_count.WorkerCount.{WorkerCount}
 use Rattle.plinq_crew.specs.Conducting.{AcceptsEach}
+use Rattle.plinq_crew.proofs.Cuts.{equipped-beside}
 use Rattle.plinq_crew.proofs.conducting.accept_all.Goals as goal
 
-pub loop-preserved-then-not-closing : goal.loop-preserved-then-not-closing
-loop-preserved-then-not-closing g c = record {
-  can = tt;
-  finite = tt;
-  of = search rules;
-  origin = search rules;
-  stream = search rules;
-  receiver = search rules;
-  worker_count = search rules;
-  ready = c.accept.ensures.ready;
-  accepted = λ before start h.
-      let Step = AcceptsEach g.X.Consumer.accepts g.J.RunSpec.is_result in
-      let closing = c.poll.new.closing in
-      let come = c.in-Came.ensures.received in
-      let received = (known c.loop.coordinator.stream).received in
-      took-more Step before start received (known c.poll.new.self.stream).received closing.wants_close closing.wants_close
-      c.loop.consumer come.0 c.accept.new.self (ap (λ k. k.received) come.2) refl
-      (λ _. (
-        subst g.J.RunSpec.is_result (sym come.1) c.in-Came.ensures.carried,
-        subst (λ part. g.X.Consumer.accepts c.loop.consumer part c.accept.new.self) (sym come.1) c.accept.ensures.accepts,
-      ))
-      (λ is. absurd (true≢false (sym is ∙ c.if-not-closing.true)))
-      (took-none Step before start received c.loop.closing.wants_close closing.wants_close c.loop.consumer c.poll.ensures.closed (c.loop.invariant.accepted before start h));
-}
+pub loop-preserved : goal.loop-preserved
+loop-preserved g c =
+    let crew = c.args.crew.now in
+    let Step = AcceptsEach g.X.Consumer.accepts g.J.RunSpec.is_result in
+    let same = c.start_wanted.ensures.same in
+    let at = c.accept_some.ensures.origin ∙ ap (λ h. h.origin) same in
+    record {
+      can = tt;
+      finite = tt;
+      equipped = equipped-beside g.L.Lambda.meaning (g.P.Task.makes crew.task.now) g.J.RunSpec.is_result g.J.RunSpec.stops_at crew.plan.now crew.chunked.now crew.cut.now c.loop.coordinator.partition c.accept_some.new.coordinator.partition c.loop.team.cut c.start_wanted.new.team.cut
+          c.loop.invariant.equipped c.accept_some.ensures.of at c.start_wanted.ensures.cut;
+      origin = at ∙ c.loop.invariant.origin;
+      stream = c.accept_some.ensures.stream;
+      receiver = c.accept_some.ensures.receiver;
+      numbers = λ is. c.accept_some.ensures.numbers ∙ c.start_wanted.ensures.numbers (subst (λ (w : WorkerCount). w.started ≡ w.wanted) c.accept_some.ensures.worker_count is);
+      team = search rules;
+      ready = c.accept_some.ensures.ready;
+      accepted = λ before start h.
+          c.accept_some.ensures.accepted before start
+          (subst (λ xs. HasAccepted Step before start xs c.loop.closing.wants_close c.loop.consumer) (sym c.start_wanted.ensures.received) (c.loop.invariant.accepted before start h));
+    }
 
-pub loop-preserved-else-not-closing : goal.loop-preserved-else-not-closing
-loop-preserved-else-not-closing g c = record {
-  can = tt;
-  finite = tt;
-  of = search rules;
-  origin = search rules;
-  stream = search rules;
-  receiver = search rules;
-  worker_count = search rules;
-  ready = c.loop.invariant.ready;
-  accepted = λ before start h.
-      let Step = AcceptsEach g.X.Consumer.accepts g.J.RunSpec.is_result in
-      let closing = c.poll.new.closing in
-      let come = c.in-Came.ensures.received in
-      let received = (known c.loop.coordinator.stream).received in
-      took-more Step before start received (known c.poll.new.self.stream).received closing.wants_close closing.wants_close
-      c.loop.consumer come.0 c.loop.consumer (ap (λ k. k.received) come.2) refl
-      (λ is. absurd (true≢false (sym c.if-not-closing.false ∙ is))) (λ _. refl)
-      (took-none Step before start received c.loop.closing.wants_close closing.wants_close c.loop.consumer c.poll.ensures.closed (c.loop.invariant.accepted before start h));
-}
+pub returns-then-not-accept_some-clause-accepted : goal.returns-then-not-accept_some-clause-accepted
+returns-then-not-accept_some-clause-accepted g c before start h =
+    let Step = AcceptsEach g.X.Consumer.accepts g.J.RunSpec.is_result in
+    c.accept_some.ensures.accepted before start
+    (subst (λ xs. HasAccepted Step before start xs c.loop.closing.wants_close c.loop.consumer) (sym c.start_wanted.ensures.received) (c.loop.invariant.accepted before start h))

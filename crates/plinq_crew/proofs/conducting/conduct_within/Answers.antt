@@ -1,10 +1,17 @@
-use Rattle.std.proofs.Common.{rules, [], refl, sym, ap, ◌∙◌, subst, arith}
+use Rattle.std.proofs.Common.{rules, ◌≡◌, [], length, refl, sym, ap, ◌∙◌, subst, arith}
 use Rattle.plinq_partition.specs.Partitions.{holding_of}
 use Rattle.plinq_stream.specs.Passes.{known}
 use Rattle.plinq_crew.specs.Polls.{HasAccepted}
 use Rattle.plinq_crew.specs.Conducting.{AcceptsEach}
+use Rattle.plinq_crew.specs.Working.{HasNumbersFrom}
 use Rattle.plinq_crew.proofs.Working.{answered-same}
 use Rattle.plinq_crew.proofs.conducting.conduct_within.Goals as goal
+
+pub accept_all-requires-clause-numbers : goal.accept_all-requires-clause-numbers
+accept_all-requires-clause-numbers g c κs within same =
+    let none : 0 ≡ length c.in-Ok.handles.items = search rules in
+    let all = ap (λ p. (known p).numbers) c.new-coordinator.ensures.stream ∙ ap (λ k. k.numbers) c.requires.ready.knows in
+    subst (λ n. HasNumbersFrom n (known c.new-coordinator.result.stream)) none all
 
 pub returns : goal.returns
 returns g c =
@@ -12,14 +19,14 @@ returns g c =
     let x = c.args.consumer.now in
     let partitions = c.join_all-partitions.result in
     let count = c.join_all-partitions.ensures.count in
-    let none = ap (λ p. (known p).received) c.new-coordinator.ensures.stream ∙ c.start_all-handles.ensures.nothing in
+    let none = ap (λ p. (known p).received) c.new-coordinator.ensures.stream ∙ ap (λ k. k.received) c.requires.ready.knows in
     let among = c.accept_all.ensures.accepted [] x (record { taken = []; left = []; came = none; steps = refl; all = λ _. refl }) in
     record {
       some = omega (arith, count);
       of = c.join_all-partitions.ensures.of;
-      origin = c.join_all-partitions.ensures.origin ∙ c.accept_all.ensures.origin ∙ ap (λ p. (holding_of p).origin) c.new-coordinator.ensures.partition ∙ ap (λ h. h.origin) c.start_all-handles.ensures.same;
+      origin = c.join_all-partitions.ensures.origin ∙ c.accept_all.ensures.origin ∙ ap (λ p. (holding_of p).origin) c.new-coordinator.ensures.partition;
       started = search rules;
-      wanted = refl;
+      wanted = (c.accept_all.ensures.wanted, c.accept_all.ensures.team.within);
       pass = c.accept_rest.new.pass;
       of_stream = c.accept_rest.ensures.stream;
       all = c.accept_rest.ensures.all;

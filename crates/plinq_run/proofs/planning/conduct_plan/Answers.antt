@@ -23,7 +23,7 @@ run_crew-requires-clause-ready g c lifetimes outlive =
       };
       stream_of = c.in-Ok-new-2.ensures.pass;
       knows = c.in-Ok-new-2.ensures.first;
-      few = c.requires.few;
+      workers = c.requires.workers;
     }
 
 pub returns-in_default : goal.returns-in_default
