@@ -1,0 +1,59 @@
+//! What each call answers of three numbers.
+use plinq_collect::{all, any, build, count, first, to_vec};
+use plinq_lambda::Formula;
+use plinq_ops::{BuildFault, Query};
+use plinq_slice::SliceSource;
+use std::alloc::Global;
+use std::test::Fail;
+
+const NUMBERS: [i64; 3] = [4, 5, 6];
+
+fn even(alloc: Global) -> Result<Query<Formula>, BuildFault> {
+    build(alloc, |query| query.as_ordered()?.filter(Formula::Even))
+}
+
+#[test]
+fn the_even_ones_in_a_list(rt: HostRuntime) -> Result<(), Fail> {
+    let query = even(rt.alloc())?;
+    let (items, _) = to_vec(&rt, rt.alloc(), &query, SliceSource::new(&NUMBERS)?)?;
+    assert!(&rt; items.as_slice() == [4, 6].as_slice());
+    Ok(())
+}
+
+#[test]
+fn the_first_even_one(rt: HostRuntime) -> Result<(), Fail> {
+    let item = first(
+        &rt,
+        rt.alloc(),
+        even(rt.alloc())?,
+        SliceSource::new(&NUMBERS)?,
+    )?;
+    assert_eq!(&rt; item, Some(4));
+    Ok(())
+}
+
+#[test]
+fn how_many_are_even(rt: HostRuntime) -> Result<(), Fail> {
+    let query = even(rt.alloc())?;
+    assert_eq!(&rt;
+        count(&rt, rt.alloc(), &query, SliceSource::new(&NUMBERS)?)?,
+        2
+    );
+    Ok(())
+}
+
+#[test]
+fn whether_any_is_six(rt: HostRuntime) -> Result<(), Fail> {
+    let query = even(rt.alloc())?;
+    let source = SliceSource::new(&NUMBERS)?;
+    assert!(&rt; any(&rt, rt.alloc(), query, source, Formula::Equal(6))?);
+    Ok(())
+}
+
+#[test]
+fn whether_all_are_below_six(rt: HostRuntime) -> Result<(), Fail> {
+    let query = even(rt.alloc())?;
+    let source = SliceSource::new(&NUMBERS)?;
+    assert!(&rt; !all(&rt, rt.alloc(), query, source, Formula::Below(6))?);
+    Ok(())
+}

@@ -1,0 +1,25 @@
+//! Slices and lists as sources.
+use plinq_slice::{SliceSource, list_source};
+use plinq_source::{Source, Step};
+use std::test::Fail;
+
+#[test]
+fn a_slice_gives_its_items_and_then_its_end(rt: HostRuntime) -> Result<(), Fail> {
+    let words = ["a", "b"];
+    for _twice in 0..2 {
+        let mut source = SliceSource::new(&words)?;
+        assert_eq!(rt; source.next(), Step::Item("a"));
+        assert_eq!(rt; source.next(), Step::Item("b"));
+        assert_eq!(rt; source.next(), Step::End);
+        assert_eq!(rt; source.next(), Step::End);
+    }
+    Ok(())
+}
+
+#[test]
+fn a_list_gives_its_items_and_then_its_end(rt: HostRuntime) -> Result<(), Fail> {
+    let mut source = list_source(rt.alloc(), vec![in rt.alloc(); 7]?)?;
+    assert_eq!(rt; source.next(), Step::Item(7));
+    assert_eq!(rt; source.next(), Step::End);
+    Ok(())
+}
