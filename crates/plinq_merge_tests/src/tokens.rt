@@ -57,6 +57,10 @@ fn each_token_of_a_flag_sees_it(rt: HostRuntime) {
     let mut late = flag.token();
     expect_told(&rt, &late, false);
     expect_answers(&rt, &mut late, 0, true);
+    // (whatever the number of batches)
+    for delivered in 0..4u64 {
+        expect_answers(&rt, &mut flag.token(), delivered, true);
+    }
 }
 
 /// Offers so many batches of one item to a merger whose token stops it, and asks what was delivered.

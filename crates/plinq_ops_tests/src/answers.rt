@@ -33,7 +33,7 @@ fn answers(rt: &impl Abort, alloc: Global, row: Row<'_>) -> Result<(), Fail> {
 }
 
 /// A source of a list, which refuses after it where there is a code.
-fn source_of(
+pub(crate) fn source_of(
     rt: &impl Abort,
     alloc: Global,
     list: &[i64],

@@ -11,6 +11,8 @@ mod building;
 #[cfg(test)]
 mod chunks;
 #[cfg(test)]
+mod counted_steps;
+#[cfg(test)]
 mod formula_blocks;
 #[cfg(test)]
 mod pipelines;

@@ -107,14 +107,16 @@ fn note<R: Threads + Wait + Sync + Abort>(
 fn a_gate_is_told_of_each_worker_in_order(rt: HostRuntime) -> Result<(), Fail> {
     let growth = Growth::new(1, 1, 4)?;
     for workers in WORKERS {
-        let setting = Setting {
-            workers,
-            growth,
-            option: MergeOption::Default,
-            refused: usize::MAX,
-            cancel_after: None,
-        };
-        note(&rt, rt.alloc(), setting)?;
+        for cancel_after in [None, Some(u64::MAX)] {
+            let setting = Setting {
+                workers,
+                growth,
+                option: MergeOption::Default,
+                refused: usize::MAX,
+                cancel_after,
+            };
+            note(&rt, rt.alloc(), setting)?;
+        }
     }
     Ok(())
 }

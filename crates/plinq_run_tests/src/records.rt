@@ -129,6 +129,16 @@ fn chunks_grow_as_the_run_was_told(rt: HostRuntime) -> Result<(), Fail> {
         asked(alloc, &one_by_one)?.as_slice(),
         [1u64, 1, 1, 1].as_slice()
     );
+    // (a token is no reason for another growth)
+    let with_token = Setting {
+        cancel_after: Some(u64::MAX),
+        ..by(1)
+    };
+    let asked_with = records_of(&rt, alloc, Given::Range(0, 11), &[], with_token)?;
+    assert_eq!(rt;
+        asked(alloc, &asked_with)?.as_slice(),
+        [1u64, 1, 1, 2, 2, 2, 4].as_slice()
+    );
     Ok(())
 }
 
