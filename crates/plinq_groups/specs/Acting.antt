@@ -1,5 +1,5 @@
 -- Foldings that are lawful by one step: combining after an item is taking the item in after combining.
-use Rattle.std.specs.Prelude.{◌≡◌, refl, List, [], ◌∷◌, ◌++◌}
+use Rattle.std.specs.Prelude.{◌≡◌, refl, List, [], ◌∷◌}
 use Rattle.std.specs.List.{fold}
 use Rattle.std.proofs.Common.{sym, ◌∙◌, ap}
 use Rattle.std.proofs.lemmas.List.Sums.{fold-append}

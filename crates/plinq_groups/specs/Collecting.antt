@@ -1,7 +1,7 @@
 -- All items in their order, as they are or each made into something else.
-use Rattle.std.specs.Prelude.{◌≡◌, refl, ℕ, List, [], ◌∷◌, ◌++◌, map, Option, Some, None, Result, Ok, Err}
+use Rattle.std.specs.Prelude.{◌≡◌, List, [], ◌∷◌, ◌++◌}
 use Rattle.std.specs.List.{fold}
-use Rattle.std.proofs.Common.{sym, ◌∙◌, ap, append_assoc, append-nil}
+use Rattle.std.proofs.Common.{sym, ◌∙◌, append_assoc, append-nil}
 use Rattle.plinq_aggregate.specs.Folding.{Folding, folded, IsFolding}
 use Rattle.plinq_groups.specs.Acting.{acting-lawful}
 

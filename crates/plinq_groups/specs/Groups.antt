@@ -1,5 +1,5 @@
 -- Groups: a key each, with what stands at it, in the order in which their keys came first.
-use Rattle.std.specs.Prelude.{◌≡◌, refl, ℕ, ◌+◌, ◌%◌, nat_eq, Bool, cond, List, [], ◌∷◌}
+use Rattle.std.specs.Prelude.{◌≡◌, refl, ◌+◌, ◌%◌, nat_eq, Bool, cond, List, [], ◌∷◌}
 use Rattle.std.specs.List.{fold}
 use Rattle.plinq_aggregate.specs.Folding.{Folding, folded}
 

@@ -7,3 +7,4 @@ pub mod Joined
 pub mod Mapping
 pub mod Others
 pub mod Ranked
+pub mod Topped

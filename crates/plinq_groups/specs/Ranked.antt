@@ -20,13 +20,13 @@ module _ {T K : Type 0} (rank : T → K) (cmp : K → K → Ordering) where
 
   module _ (total : IsTotalOrder cmp) where
     -- what is less than one is less than the other, or the other is less than the one
-    less-between : (a b c : K) → cmp c a ≡ Less → is_lt (cmp b a) ≡ false → (o : Ordering) → cmp c b ≡ o → is_lt o ≡ true
+    pub less-between : (a b c : K) → cmp c a ≡ Less → is_lt (cmp b a) ≡ false → (o : Ordering) → cmp c b ≡ o → is_lt o ≡ true
     less-between a b c below not-below Less is = refl
     less-between a b c below not-below Equal is = absurd (true≢false (sym (ap is_lt (sym (total.congr c b a is) ∙ below)) ∙ not-below))
     less-between a b c below not-below Greater is =
         absurd (true≢false (sym (ap is_lt (total.trans b c a (total.antisymm b c ∙ ap ordering_reverse is) below)) ∙ not-below))
 
-    less-is : (o : Ordering) → is_lt o ≡ true → o ≡ Less
+    pub less-is : (o : Ordering) → is_lt o ≡ true → o ≡ Less
     less-is Less is = refl
     less-is Equal is = absurd (true≢false (sym is))
     less-is Greater is = absurd (true≢false (sym is))

@@ -2,8 +2,8 @@
 //!
 //! [`GroupBy`] folds the items of each key apart. It is a `GrowingAggregator`, so `aggregate` of `plinq_run` groups a query's
 //! answer by threads. The groups stand in the order of their first items (`laws`): an ordered query's groups are those of its
-//! sequential answer, and each folds its items in their order. [`Collect`], [`First`], [`LeastBy`], [`GreatestBy`], [`By`] and
-//! [`Both`] are aggregators of a group, or of a whole answer; their laws come from those of what they are made of.
+//! sequential answer, and each folds its items in their order. [`Collect`], [`First`], [`LeastBy`], [`GreatestBy`], [`Top`], [`By`]
+//! and [`Both`] are aggregators of a group, or of a whole answer; their laws come from those of what they are made of.
 #![tactic(auto)]
 
 mod both;
@@ -23,6 +23,7 @@ mod map_each;
 mod map_fault;
 mod mapped;
 mod rank_of;
+mod top;
 
 pub use both::Both;
 pub use by::By;
@@ -40,3 +41,4 @@ pub use map_each::MapEach;
 pub use map_fault::MapFault;
 pub use mapped::Mapped;
 pub use rank_of::RankOf;
+pub use top::Top;

@@ -1,4 +1,4 @@
-use Rattle.std.proofs.Common.{rules, ◌≡◌, ◌∷◌, ◌∙◌, sym, ap}
+use Rattle.std.proofs.Common.{◌≡◌, ◌∷◌, ◌∙◌, sym, ap}
 use Rattle.std.specs.List.{fold}
 use Rattle.indexmap.specs.IndexMap.{set_value_at}
 use Rattle.plinq_groups.specs.Groups.{with_group}
