@@ -1,0 +1,55 @@
+//! Calls whose answers have a shape of their own.
+use plinq_lambda::Formula;
+use plinq_merge::{Cancel, CancelAfter, CancelFlag, NeverCancel};
+use plinq_ops::{BuildFault, MergeOption, Plan, Query};
+use std::alloc::Global;
+use std::test::*;
+
+/// Each builder call answers the query, or that with a fault.
+type Called = Result<Query<Formula>, (Query<Formula>, BuildFault)>;
+
+fn called(alloc: Global, number: u64, query: Query<Formula>) -> Called {
+    match number {
+        0 => query.as_ordered(),
+        1 => query.as_unordered(),
+        2 => query.select(Formula::Add(1)),
+        3 => query.filter(Formula::Even),
+        4 => query.select_many(Formula::UpTo),
+        5 => query.take(3),
+        6 => query.skip(3),
+        7 => query.take_while(Formula::Below(9)),
+        8 => query.skip_while(Formula::Below(9)),
+        9 => query.with_merge(MergeOption::NotBuffered),
+        10 => query.with_degree(3),
+        _ => Ok(Query::new(alloc)),
+    }
+}
+
+#[test]
+fn builder_calls(rt: HostRuntime) {
+    for number in 0..12u64 {
+        let query: Query<Formula> = Query::new(rt.alloc());
+        match called(rt.alloc(), number, query) {
+            Ok(query) => {
+                let plan: Plan<'_, Formula> = query.split();
+                assert!(&rt; !plan.decided);
+                assert_eq!(&rt; query.is_ordered(), number == 0);
+                assert!(&rt; query.ops().len() <= 1);
+                assert_eq!(&rt; query.degree(), if number == 10 { 3 } else { 4 });
+            }
+            Err((query, fault)) => {
+                assert_eq!(&rt; query.ops().len(), 0);
+                assert_eq!(&rt; fault, BuildFault::Memory);
+            }
+        }
+    }
+}
+
+#[test]
+fn a_flag_is_set_and_has_tokens(rt: HostRuntime) {
+    let flag = CancelFlag::new();
+    flag.cancel();
+    assert!(&rt; flag.token().cancelled(0));
+    assert!(&rt; CancelAfter::new(3).cancelled(3));
+    assert!(&rt; !NeverCancel.cancelled(3));
+}
