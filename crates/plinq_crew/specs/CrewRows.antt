@@ -5,15 +5,26 @@ use Rattle.std.proofs.lemmas.List.{length-append}
 use Rattle.std.specs.List.{AllZip, FoldsTo}
 use Rattle.plinq_source.specs.declared.ending.Ending.TheVariants.{End}
 use Rattle.plinq_source.specs.declared.memory.OutOfMemory.{OutOfMemory}
+use Rattle.plinq_source.specs.declared.source.Source.{Ghosts}
 use Rattle.plinq_source.specs.Trace.{open_trace}
 use Rattle.plinq_keyed.specs.declared.event.Event.TheVariants.{Ask, Close}
 use Rattle.plinq_keyed.specs.declared.record.Record.{Record}
 use Rattle.plinq_keyed.specs.declared.tail.Tail.TheVariants.{Ended, Closed}
 use Rattle.plinq_ops.specs.declared.results.ChunkResult.{ChunkResult}
 use Rattle.plinq_partition.specs.Partitions.{Holding}
+use Rattle.plinq_partition.specs.declared.chunked.Chunked.{Chunked}
 use Rattle.plinq_partition.specs.declared.take_fault.TakeFault.TheVariants.{Memory, Spent}
 use Rattle.plinq_crew.specs.declared.closing.Closing.{Closing}
 use Rattle.plinq_crew.specs.declared.starting.WorkerFaults.{WorkerFaults}
+use Rattle.plinq_stream.specs.declared.stream.Stream.{Stream}
+use Rattle.plinq_crew.specs.declared.conducting.Returned.{Returned}
+use Rattle.plinq_crew.specs.declared.starting.Team.{Team}
+use Rattle.plinq_crew.specs.declared.worker.Crew.{Crew}
+use Rattle.plinq_crew.specs.declared.worker.WorkerContext.{WorkerContext}
+use Rattle.plinq_crew.specs.declared.worker_count.WorkerCount.{WorkerCount}
+use Rattle.plinq_crew.specs.Conducting.{HasReturned, Conducts}
+use Rattle.plinq_crew.specs.Handles.{AreNumbered}
+use Rattle.plinq_crew.specs.Teams.{IsTeam}
 use Rattle.plinq_crew.specs.Noted.{has_noted, has_worker_fault, StaysNoted}
 use Rattle.plinq_crew.specs.Polls.{ClosesInTime, HasAccepted}
 use Rattle.plinq_crew.specs.Results.{IsOfSameChunk}
@@ -131,3 +142,28 @@ one_is_left accepted = all_taken accepted.taken accepted.left accepted.came acce
         grows : (y : ℕ) (xs : List ℕ) (z : ℕ) → FoldsTo Adds y xs z → y ≤ z
         grows y [] z steps = omega (arith, steps)
         grows y (x ∷ xs) z (m, is, steps) = omega (arith, is, grows m xs z steps)
+
+-- ---- who was started, and what comes back
+
+module _ {S T M C : Type 0} {source : Ghosts S T} (chunked : Chunked S T source) (stream : Stream (ChunkResult M) C) (team : Team S M T source) where
+  more_than_were_wanted : IsTeam chunked stream 4 (record { wanted = 1; started = 2 }) team → ⊥
+  more_than_were_wanted is = omega (arith, is.asked)
+
+  more_wanted_than_asked_for : IsTeam chunked stream 4 (record { wanted = 5; started = 2 }) team → ⊥
+  more_wanted_than_asked_for is = omega (arith, is.within)
+
+  -- one that was started isn't counted
+  not_counted : (count : WorkerCount) → count.started ≡ 1 → length team.handles.items ≡ 2 → IsTeam chunked stream 4 count team → ⊥
+  not_counted count one two is = omega (arith, one, two, is.started)
+
+module _ {L S J P T M X : Type 0} {source : Ghosts S T} (accepts : X → ChunkResult M → X → Type 0) (IsPart : ChunkResult M → Type 0) (crew : Crew L S J P T T M source) (context : WorkerContext S M T source) (x x' : X)
+    (back : Returned S T source) where
+  no_worker_wanted : back.worker_count.wanted ≡ 0 → HasReturned accepts IsPart crew context x x' back → ⊥
+  no_worker_wanted none returned = omega (arith, none, returned.wanted.0)
+
+  more_workers_wanted : back.worker_count.wanted ≡ crew.workers + 1 → HasReturned accepts IsPart crew context x x' back → ⊥
+  more_workers_wanted more returned = omega (arith, more, returned.wanted.1)
+
+  -- a worker that was started doesn't come back
+  one_is_missing : length back.partitions.items ≡ back.worker_count.started → HasReturned accepts IsPart crew context x x' back → ⊥
+  one_is_missing missing returned = omega (arith, missing, returned.started)
