@@ -1,9 +1,11 @@
 #!/usr/bin/env python3
-"""docs/TRUSTED.md beside what tools/trusted makes of the sources, and what that does with words that it can't follow.
+"""docs/TRUSTED.md beside what tools/trusted makes of the sources, what that does with words that it can't follow, and whether
+specs/inner/ of a crate has only what no public contract reaches.
 
     python3 tests/trusted.py
 """
 import os
+import re
 import shutil
 import subprocess
 import tempfile
@@ -62,6 +64,55 @@ def finds_lost(tests):
                 file.write(right)
 
 
+def written(crate, *folders, endings=(".rt", ".antt")):
+    """The files of a crate's folders, by their paths from its top, with their text."""
+    top = os.path.join(ROOT, "crates", crate)
+    for folder in folders:
+        for at, _, names in os.walk(os.path.join(top, folder)):
+            for name in sorted(names):
+                if name.endswith(endings):
+                    with open(os.path.join(at, name), encoding="utf-8") as file:
+                        yield os.path.relpath(os.path.join(at, name), top), file.read()
+
+
+def inner_words(crate, text):
+    """The words of a crate's inner definitions that a file imports."""
+    return {word.split(" as ")[-1] for line in re.findall(rf"Rattle\.{crate}\.specs\.inner\.\w+\.\{{(.*)\}}", text) for word in line.split(", ")}
+
+
+def public_clauses(text):
+    """The clauses of public functions and of traits: from a `pub fn`, or a trait's `fn`, to its body."""
+    for match in re.finditer(r"^( *)pub fn .*?^\1(?:\{|\})", text, re.M | re.S):
+        yield match[0]
+    for match in re.finditer(r"^pub trait .*?^\}", text, re.M | re.S):
+        yield match[0]
+
+
+def stands_apart(tests):
+    """What stands in specs/inner/ of a crate is reached by no public contract: no definition outside names it, no public clause,
+    and no other crate. And each file that stands outside has a word that a public contract reaches."""
+    crates = sorted(os.listdir(os.path.join(ROOT, "crates")))
+    apart = [it for it in crates if os.path.isdir(os.path.join(ROOT, "crates", it, "specs", "inner"))]
+    tests.check("some crate has definitions that no public contract reaches", bool(apart), apart)
+    for crate in apart:
+        wrong = [path for path, text in written(crate, "specs") if not path.startswith("specs/inner") and not path.endswith("Rows.antt") and inner_words(crate, text)]
+        tests.check(f"{crate}: no definition outside specs/inner/ names one of it", not wrong, wrong)
+        wrong = [
+            (path, sorted(inner))
+            for path, text in written(crate, "src")
+            for inner in [{word for clause in public_clauses(text) for word in inner_words(crate, text) if re.search(rf"(?<![\w.]){word}(?!\w)", clause)}]
+            if inner
+        ]
+        tests.check(f"{crate}: no public clause names a word of specs/inner/", not wrong, wrong)
+        wrong = [f"{it}/{path}" for it in crates if it != crate for path, text in written(it, "src", "specs", "proofs") if inner_words(crate, text)]
+        tests.check(f"{crate}: no other crate names a word of specs/inner/", not wrong, wrong)
+        names = {name for _, text in written(crate, "src") for name in re.findall(r"^ *pub fn (\w+)", text, re.M)}
+        reached = "".join(trusted(f"{crate}::{name}").stdout for name in sorted(names))
+        outside = [path for path, _ in written(crate, "specs") if not re.search(r"/(?:inner\b|Lib\.)|Rows\.", path)]
+        wrong = [path for path in outside if f"---- crates/{crate}/{path}" not in reached]
+        tests.check(f"{crate}: each file of specs/ is reached by a public contract", bool(outside) and not wrong, wrong)
+
+
 def main():
     tests = Tests()
     made = trusted("--page")
@@ -77,6 +128,7 @@ def main():
     seen = trusted("new")
     tests.check("a name that several functions have", seen.returncode == 1 and "public functions have the name new" in seen.stderr, seen.stderr)
     finds_lost(tests)
+    stands_apart(tests)
     tests.end()
 
 

@@ -15,7 +15,8 @@ use Rattle.plinq_run.specs.declared.run_fault.RunFault.TheVariants.{Memory, Sink
 use Rattle.plinq_run.specs.declared.report.Report.{Report}
 use Rattle.plinq_run.specs.Endings.{reported}
 use Rattle.plinq_run.specs.Reports.{Reports}
-use Rattle.plinq_run.specs.Aggregates.{Aggregates, AggregatesSome, TakesIn, so_far, fault_of_fold, aggregate_of}
+use Rattle.plinq_run.specs.Aggregates.{Aggregates, AggregatesSome}
+use Rattle.plinq_run.specs.inner.Valuing.{TakesIn, so_far, fault_of_fold, aggregate_of}
 use Rattle.plinq_run.specs.Runs.{HasRun, HasBroken, Other, Runs, cause_of}
 
 -- the items of batches, one batch after another

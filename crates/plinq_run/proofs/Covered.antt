@@ -22,7 +22,7 @@ use Rattle.plinq_ops.proofs.Cut.{stop_keys-above, stop_keys-append, chunk_answer
 use Rattle.plinq_ops.specs.Tails.{end_of_result, told_at, EndsAt}
 use Rattle.plinq_run.specs.declared.coverage.Coverage.{Coverage}
 use Rattle.plinq_run.specs.Handed.{is_end}
-use Rattle.plinq_run.specs.Reaching.{IsOffered, Covers}
+use Rattle.plinq_run.specs.inner.Reaching.{IsOffered, Covers}
 use Rattle.plinq_crew.specs.Results.{IsResult}
 
 module _ {L T : Type 0} (meaning : L → Meaning T) (worker : List (Op L)) where

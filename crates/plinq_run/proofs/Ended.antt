@@ -40,13 +40,15 @@ use Rattle.plinq_run.specs.declared.report.Report.{Report}
 use Rattle.plinq_run.specs.declared.run_fault.RunFault.{RunFault}
 use Rattle.plinq_run.specs.Endings.{reported}
 use Rattle.plinq_run.specs.Handed.{handed_trace}
-use Rattle.plinq_run.specs.Merged.{HasEnded, HasBrokenOff}
+use Rattle.plinq_run.specs.inner.Merged.{HasEnded, HasBrokenOff}
 use Rattle.plinq_crew.specs.Plans.{IsUndecided}
-use Rattle.plinq_run.specs.Plans.{merged_answer}
-use Rattle.plinq_run.specs.Reaching.{IsOffered, accounts_for}
-use Rattle.plinq_run.specs.Reports.{MayTake, MayMerge, IsBroken, HasReported, Reports}
+use Rattle.plinq_run.specs.inner.Plans.{merged_answer}
+use Rattle.plinq_run.specs.inner.Reaching.{IsOffered, accounts_for}
+use Rattle.plinq_run.specs.inner.Plans.{MayTake, MayMerge}
+use Rattle.plinq_run.specs.Reports.{IsBroken, HasReported, Reports}
 use Rattle.plinq_crew.specs.Results.{IsResult}
-use Rattle.plinq_run.specs.Runs.{HasRun, HasBroken, BreaksFor, Other, Runs, IsReportOf, cause_of}
+use Rattle.plinq_run.specs.Runs.{HasRun, HasBroken, BreaksFor, Other, Runs, cause_of}
+use Rattle.plinq_run.specs.inner.Reported.{IsReportOf}
 use Rattle.plinq_run.proofs.Handed.{covers-handed}
 use Rattle.plinq_run.proofs.Runs.{begun_line, IsWhole, whole-run, broken-run}
 

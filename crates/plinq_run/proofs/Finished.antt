@@ -8,9 +8,9 @@ use Rattle.plinq_ops.specs.declared.order.Order.{Order}
 use Rattle.plinq_ops.specs.declared.results.ChunkResult.{ChunkResult}
 use Rattle.plinq_merge.specs.Shown.{merged}
 use Rattle.plinq_run.specs.declared.fold.Fold.{Fold}
-use Rattle.plinq_run.specs.Folds.{combined, AreFoldsOf}
-use Rattle.plinq_run.specs.Aggregates.{so_far}
-use Rattle.plinq_run.specs.Combining.{MadeBy}
+use Rattle.plinq_run.specs.inner.Folds.{combined, AreFoldsOf}
+use Rattle.plinq_run.specs.inner.Valuing.{so_far}
+use Rattle.plinq_run.specs.inner.Combining.{MadeBy}
 use Rattle.plinq_run.proofs.Folds.{merged-combined, merged-ending}
 
 module _ {F T A O : Type 0} (folding : F → Folding T A O) where

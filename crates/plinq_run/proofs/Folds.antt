@@ -17,7 +17,7 @@ use Rattle.plinq_ops.specs.Chunk.{result_trace, run_ending}
 use Rattle.plinq_ops.specs.Tails.{end_of_result, told_at}
 use Rattle.plinq_merge.specs.Part.{Part}
 use Rattle.plinq_merge.specs.Shown.{at_once, waiting_trace, part_of, placed, all_placed, all_told, ending_at, row, arrived, merged}
-use Rattle.plinq_run.specs.Folds.{combined, IsFoldOf, AreFoldsOf, StandFor, IsFolded}
+use Rattle.plinq_run.specs.inner.Folds.{combined, IsFoldOf, AreFoldsOf, StandFor, IsFolded}
 
 module _ {T A O : Type 0} (f : Folding T A O) where
   stand-none : StandFor f [] []

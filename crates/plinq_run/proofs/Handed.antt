@@ -12,8 +12,9 @@ use Rattle.plinq_keyed.specs.History.{Place, start, reply, next_place, place_aft
 use Rattle.plinq_keyed.specs.Keys.{keyed_from}
 use Rattle.plinq_keyed.proofs.Legal.{Told-from_tells, reply-first, next_place-given, IsPrefix-from_legal}
 use Rattle.plinq_run.specs.declared.coverage.Coverage.{Coverage}
-use Rattle.plinq_run.specs.Handed.{tells_end, has_close, hands_out_to, handed_trace}
-use Rattle.plinq_run.specs.Reaching.{Covers, accounts_for}
+use Rattle.plinq_run.specs.Handed.{tells_end, has_close, handed_trace}
+use Rattle.plinq_run.specs.inner.Reaching.{hands_out_to}
+use Rattle.plinq_run.specs.inner.Reaching.{Covers, accounts_for}
 
 -- a run hands out more and more
 place_after-grows : {T : Type 0} (t : Trace T) (p : Place) (h : List Record) → p.given ≤ (place_after t p h).given

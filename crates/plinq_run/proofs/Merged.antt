@@ -31,9 +31,10 @@ use Rattle.plinq_run.specs.declared.coverage.Coverage.{Coverage}
 use Rattle.plinq_run.specs.declared.merging.Merging.{Merging}
 use Rattle.plinq_run.specs.declared.merging.MergingInto.{MergingInto}
 use Rattle.plinq_run.specs.declared.run_fault.RunFault.{RunFault}
-use Rattle.plinq_run.specs.Merged.{offer_fault, Breaks, AcceptsAfter, AreSame, AcceptsInto, Stands, HasMerged, HasBrokenOff, EndsSo, HasOffered}
-use Rattle.plinq_run.specs.Reaching.{IsOffered, Grows, Reaches}
-use Rattle.plinq_run.specs.Runs.{Cause, Other, cause_in_merge, cause_of}
+use Rattle.plinq_run.specs.inner.Merged.{offer_fault, Breaks, AcceptsAfter, AreSame, AcceptsInto, Stands, HasMerged, HasBrokenOff, EndsSo, HasOffered}
+use Rattle.plinq_run.specs.inner.Reaching.{IsOffered, Grows, Reaches}
+use Rattle.plinq_run.specs.Runs.{Cause, Other, cause_of}
+use Rattle.plinq_run.specs.inner.Reported.{cause_in_merge}
 use Rattle.plinq_run.proofs.Without.{apart-push}
 
 are-more : {T : Type 0} (IsPart : ChunkResult T → Type 0) (offers : List (ChunkResult T)) (r : ChunkResult T) (offers' : List (ChunkResult T))

@@ -28,11 +28,12 @@ use Rattle.plinq_merge.specs.Sent.{cut-before}
 use Rattle.plinq_merge.proofs.Whole.{merged-begins, batches-first}
 use Rattle.plinq_run.specs.declared.coverage.Coverage.{Coverage}
 use Rattle.plinq_run.specs.declared.run_fault.RunFault.{RunFault}
-use Rattle.plinq_run.specs.Merged.{merge_for, Breaks}
+use Rattle.plinq_run.specs.inner.Merged.{merge_for, Breaks}
 use Rattle.plinq_crew.specs.Plans.{IsUndecided}
-use Rattle.plinq_run.specs.Plans.{merged_answer}
-use Rattle.plinq_run.specs.Reaching.{IsOffered, Covers}
-use Rattle.plinq_run.specs.Reports.{MayTake, MayMerge, IsBroken}
+use Rattle.plinq_run.specs.inner.Plans.{merged_answer}
+use Rattle.plinq_run.specs.inner.Reaching.{IsOffered, Covers}
+use Rattle.plinq_run.specs.inner.Plans.{MayTake, MayMerge}
+use Rattle.plinq_run.specs.Reports.{IsBroken}
 use Rattle.plinq_crew.specs.Results.{IsResult}
 use Rattle.plinq_run.specs.Runs.{HasRun, Cause, SinkRefused, Other, cause_of, BreaksFor}
 use Rattle.plinq_run.proofs.Arrived.{arrival-begins}

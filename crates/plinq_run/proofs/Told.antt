@@ -31,8 +31,8 @@ use Rattle.plinq_run.specs.declared.planning.Ended.{Ended}
 use Rattle.plinq_run.specs.declared.merging.Merging.{Merging}
 use Rattle.plinq_run.specs.declared.merging.MergingInto.{MergingInto}
 use Rattle.plinq_crew.specs.Conducting.{AcceptsEach}
-use Rattle.plinq_run.specs.Merged.{AcceptsInto, Stands, WereAccepted}
-use Rattle.plinq_run.specs.Faults.{first_reported, reported_if, refused_by_sink, is_out_of_memory}
+use Rattle.plinq_run.specs.inner.Merged.{AcceptsInto, Stands, WereAccepted}
+use Rattle.plinq_run.specs.inner.Faults.{first_reported, reported_if, refused_by_sink, is_out_of_memory}
 
 none-before : {A : Type 0} (x y : Option A) → option_or x y ≡ None → x ≡ None
 none-before None y is = refl

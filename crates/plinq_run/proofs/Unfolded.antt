@@ -22,18 +22,19 @@ use Rattle.plinq_merge.specs.Whole.{AreApart}
 use Rattle.plinq_merge.proofs.Gains.{answer-open}
 use Rattle.plinq_run.specs.declared.combined.Combined.{Combined}
 use Rattle.plinq_run.specs.declared.fold.Fold.{Fold}
-use Rattle.plinq_run.specs.Combining.{Made, MadeBy}
-use Rattle.plinq_run.specs.Folds.{IsFoldOf, AreFoldsOf}
+use Rattle.plinq_run.specs.inner.Combining.{Made, MadeBy}
+use Rattle.plinq_run.specs.inner.Folds.{IsFoldOf, AreFoldsOf}
 use Rattle.plinq_run.proofs.Finished.{fold-finished}
 use Rattle.plinq_crew.specs.Plans.{IsUndecided}
 use Rattle.plinq_crew.specs.Results.{IsResult, IsPart}
 use Rattle.plinq_run.specs.declared.planning.Ended.{Ended}
 use Rattle.plinq_run.specs.declared.run_fault.RunFault.{RunFault}
-use Rattle.plinq_run.specs.Aggregates.{Aggregates, AggregatesSome, so_far, value_at}
-use Rattle.plinq_run.specs.Folded.{HasFinished, FoldsSome, value_of}
-use Rattle.plinq_run.specs.Merged.{merge_for, Breaks, HasEnded, HasBrokenOff}
-use Rattle.plinq_run.specs.Reaching.{IsOffered}
-use Rattle.plinq_run.specs.Reports.{MayMerge}
+use Rattle.plinq_run.specs.Aggregates.{Aggregates, AggregatesSome}
+use Rattle.plinq_run.specs.inner.Valuing.{so_far, value_at}
+use Rattle.plinq_run.specs.inner.Folded.{HasFinished, FoldsSome, value_of}
+use Rattle.plinq_run.specs.inner.Merged.{merge_for, Breaks, HasEnded, HasBrokenOff}
+use Rattle.plinq_run.specs.inner.Reaching.{IsOffered}
+use Rattle.plinq_run.specs.inner.Plans.{MayMerge}
 use Rattle.plinq_run.specs.Runs.{Cause, Other, cause_of}
 use Rattle.plinq_run.proofs.Runs.{ended-answer}
 

@@ -1,14 +1,10 @@
 -- What an aggregate reports, and what a sink that folds has.
-use Rattle.std.specs.Prelude.{◌≡◌, ◌≢◌, List, Option, Some, None, Result, Ok, Err}
-use Rattle.std.specs.List.{fold}
-use Rattle.plinq_source.specs.declared.ending.Ending.{Ending}
-use Rattle.plinq_source.specs.declared.ending.Ending.TheVariants.{End, Refused, Fault}
+use Rattle.std.specs.Prelude.{◌≡◌, ◌≢◌, Some, Result, Ok, Err}
+use Rattle.plinq_source.specs.declared.ending.Ending.TheVariants.{End}
 use Rattle.plinq_source.specs.Trace.{Trace}
 use Rattle.plinq_aggregate.specs.Folding.{Folding, aggregated}
 use Rattle.plinq_run.specs.declared.aggregate_fault.AggregateFault.{AggregateFault}
 use Rattle.plinq_run.specs.declared.aggregate_fault.AggregateFault.TheVariants.{Ended, Run}
-use Rattle.plinq_run.specs.declared.run_fault.RunFault.{RunFault}
-use Rattle.plinq_run.specs.declared.run_fault.RunFault.TheVariants.{Memory, Sink, Tickets, Thread, Incomplete, Cancelled}
 use Rattle.plinq_run.specs.Runs.{Other, cause_of}
 
 -- an aggregate reports the value of this answer's items, which ended well; or how the answer ended, which isn't well; or why
@@ -21,32 +17,3 @@ Aggregates f u (Err (Run fault)) = cause_of fault ≡ Other
 -- the same, of one of these answers
 abbrev pub AggregatesSome : {T A O : Type 0} → Folding T A O → (Trace T → Type 0) → Result O AggregateFault → Type 0
 AggregatesSome {T} f IsAnswer r = (u : Trace T) × (IsAnswer u) × Aggregates f u r
-
--- the accumulator: the seed before anything was taken in
-abbrev pub so_far : {T A O : Type 0} → Folding T A O → Option A → A
-so_far f None = f.seed
-so_far f (Some acc) = acc
-
--- a batch is taken in, and the folding stays the same
-abbrev pub TakesIn : {T A O : Type 0} → Folding T A O → Option A → List T → Folding T A O → Option A → Type 0
-TakesIn f acc b f' acc' = (f' ≡ f) × (so_far f' acc' ≡ fold f.update (so_far f acc) b)
-
--- what is reported of an accumulator whose items' answer ended so
-abbrev pub value_at : {T A O : Type 0} → Folding T A O → A → Ending → Result O AggregateFault
-value_at f acc End = Ok (f.tell acc)
-value_at f acc (Refused code) = Err (Ended (Refused code))
-value_at f acc (Fault code) = Err (Ended (Fault code))
-
--- why a run into a sink that folds has no answer: such a sink refuses a batch only where memory runs out
-abbrev pub fault_of_fold : RunFault → RunFault
-fault_of_fold (Sink code) = Memory
-fault_of_fold Memory = Memory
-fault_of_fold Tickets = Tickets
-fault_of_fold Thread = Thread
-fault_of_fold Incomplete = Incomplete
-fault_of_fold Cancelled = Cancelled
-
--- what is reported where this was taken in and the run ended so
-abbrev pub aggregate_of : {T A O : Type 0} → Folding T A O → Option A → Result Ending RunFault → Result O AggregateFault
-aggregate_of f acc (Ok e) = value_at f (so_far f acc) e
-aggregate_of f acc (Err fault) = Err (Run (fault_of_fold fault))

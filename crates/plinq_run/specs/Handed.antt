@@ -1,5 +1,5 @@
 -- What the records of a run say that the source has handed out.
-use Rattle.std.specs.Prelude.{◌≡◌, refl, ℕ, ◌+◌, ◌==◌, ◌||◌, nat_le, List, [], ◌∷◌, map, Bool, true, false, if◌then◌else◌, Option, Some, None}
+use Rattle.std.specs.Prelude.{◌≡◌, refl, ℕ, List, [], ◌∷◌, map, Bool, true, false, if◌then◌else◌, Option, Some, None}
 use Rattle.std.specs.List.{list_any}
 use Rattle.plinq_source.specs.declared.ending.Ending.TheVariants.{End, Refused as RefusedWith}
 use Rattle.plinq_source.specs.Trace.{Trace, ended, open_trace}
@@ -17,6 +17,7 @@ is_end (Some Ended) = true
 is_end (Some (Refused code)) = true
 is_end (Some Closed) = false
 
+-- whether a request is one to close
 abbrev pub is_close : Event → Bool
 is_close (Ask n) = false
 is_close Close = true
@@ -28,10 +29,6 @@ tells_end h = list_any (λ r. is_end r.tail) h
 -- whether the source was closed
 abbrev pub has_close : List Record → Bool
 has_close h = list_any (λ r. is_close r.asked) h
-
--- whether some record's keys end there or later
-abbrev pub hands_out_to : ℕ → List Record → Bool
-hands_out_to end h = end == 0 || list_any (λ r. nat_le end (r.first + r.count)) h
 
 -- the items that records hand out, with the source's ending where one of them gives it
 abbrev pub handed_trace : {T : Type 0} → Trace T → List Record → Trace T
@@ -66,12 +63,3 @@ asked_of_a_closed_one = refl
 
 closed_by_a_request : has_close (record { ticket = 0; asked = Close; first = 0; count = 0; tail = Some Closed } ∷ []) ≡ true
 closed_by_a_request = refl
-
-up_to_the_last_item : hands_out_to 2 (two_requests 1 None) ≡ true
-up_to_the_last_item = refl
-
-after_the_last_item : hands_out_to 3 (two_requests 1 None) ≡ false
-after_the_last_item = refl
-
-no_item_without_a_request : hands_out_to 1 [] ≡ false
-no_item_without_a_request = refl

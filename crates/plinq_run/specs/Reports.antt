@@ -1,28 +1,11 @@
 -- What a run delivers and reports: one of the answers that it may have.
-use Rattle.std.specs.Prelude.{◌≡◌, ℕ, List, Result, Ok, Err}
+use Rattle.std.specs.Prelude.{ℕ, List, Result, Ok, Err}
 use Rattle.plinq_source.specs.Trace.{Trace}
-use Rattle.plinq_lambda.specs.Meaning.{Meaning}
 use Rattle.plinq_ops.specs.declared.merge_option.MergeOption.{MergeOption}
-use Rattle.plinq_ops.specs.declared.order.Order.{Order}
-use Rattle.plinq_ops.specs.declared.order.Order.TheVariants.{ByKey, ByArrival}
-use Rattle.plinq_ops.specs.declared.plan.Plan.{Plan}
-use Rattle.plinq_ops.specs.Answer.{IsRearranged}
 use Rattle.plinq_run.specs.declared.report.Report.{Report}
 use Rattle.plinq_run.specs.declared.run_fault.RunFault.{RunFault}
 use Rattle.plinq_run.specs.Handed.{handed_trace}
-use Rattle.plinq_run.specs.Plans.{merged_answer}
 use Rattle.plinq_run.specs.Runs.{HasRun, HasBroken}
-
--- in which order a merge may take the items of a source
-abbrev pub MayTake : {T : Type 0} → Order → Trace T → Trace T → Type 0
-MayTake ByKey t v = v ≡ t
-MayTake ByArrival t v = IsRearranged t v
-
--- what a plan may answer
-pub record MayMerge {L T : Type 0} (meaning : L → Meaning T) (plan : Plan L) (t u : Trace T) : Type 0 where
-  pub taken : Trace T
-  pub may : MayTake plan.order t taken
-  pub is : u ≡ merged_answer meaning plan taken
 
 module _ {K T : Type 0} (accepts : K → List T → K → Type 0) (refuses : K → List T → ℕ → K → Type 0) (option : MergeOption)
     (May : Trace T → Trace T → Type 0) (t : Trace T) (s s' : K) where

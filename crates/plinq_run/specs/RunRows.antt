@@ -22,7 +22,7 @@ use Rattle.plinq_run.specs.declared.run_fault.RunFault.TheVariants.{Memory, Sink
 use Rattle.plinq_run.specs.Aggregates.{Aggregates}
 use Rattle.plinq_run.specs.Handed.{handed_trace}
 use Rattle.plinq_run.specs.Headline.{HasDelivered}
-use Rattle.plinq_run.specs.Reaching.{Covers}
+use Rattle.plinq_run.specs.inner.Reaching.{Covers}
 use Rattle.plinq_run.specs.Reports.{HasReported}
 use Rattle.plinq_run.specs.Runs.{Runs}
 use Rattle.plinq_run.specs.Stopping.{RunsWith}

@@ -1,9 +1,8 @@
 -- What a run delivers.
-use Rattle.std.specs.Prelude.{◌≡◌, ℕ, List, Option, Some, None, Result, Ok, Err}
+use Rattle.std.specs.Prelude.{◌≡◌, ℕ, List, Some, Result, Ok, Err}
 use Rattle.plinq_source.specs.declared.ending.Ending.{Ending}
 use Rattle.plinq_source.specs.Trace.{Trace}
-use Rattle.plinq_merge.specs.declared.merge_fault.MergeFault.{MergeFault}
-use Rattle.plinq_merge.specs.declared.merge_fault.MergeFault.TheVariants.{Memory as NoMemory, Sink as Refusal, Twice, Gap, Failed, Cancelled as Cancels}
+use Rattle.plinq_merge.specs.declared.merge_fault.MergeFault.TheVariants.{Memory as NoMemory, Sink as Refusal}
 use Rattle.plinq_merge.specs.Sending.{Leads}
 use Rattle.plinq_merge.specs.Mergers.{StopsShort}
 use Rattle.plinq_ops.specs.declared.merge_option.MergeOption.{MergeOption}
@@ -21,15 +20,6 @@ pub data Cause : Type 0 where
   SinkRefused : ℕ → Cause
   Stopped : Cause
   Other : Cause
-
-abbrev pub cause_in_merge : Option MergeFault → Cause
-cause_in_merge None = Other
-cause_in_merge (Some (Refusal code)) = SinkRefused code
-cause_in_merge (Some NoMemory) = Other
-cause_in_merge (Some Twice) = Other
-cause_in_merge (Some Gap) = Other
-cause_in_merge (Some Failed) = Other
-cause_in_merge (Some Cancels) = Other
 
 -- what a run's fault says of the batches that weren't delivered: the sink refused the next one, the token stopped the run, or
 -- no more was tried for any other cause
@@ -57,10 +47,3 @@ HasBroken accepts refuses option u s s' fault = BreaksFor accepts refuses (cause
 abbrev pub Runs : {K T : Type 0} → (K → List T → K → Type 0) → (K → List T → ℕ → K → Type 0) → MergeOption → Trace T → K → K → Result Ending RunFault → Type 0
 Runs accepts refuses option u s s' (Ok e) = HasRun accepts option u s s' e
 Runs accepts refuses option u s s' (Err fault) = HasBroken accepts refuses option u s s' fault
-
--- what is reported of a run that ended so: the same, unless records are missing for the report
-abbrev pub IsReportOf : Result Ending RunFault → Result Ending RunFault → Type 0
-IsReportOf (Ok e) (Ok e') = e' ≡ e
-IsReportOf (Ok e) (Err fault) = cause_of fault ≡ Other
-IsReportOf (Err fault) (Ok e) = ⊥
-IsReportOf (Err fault) (Err fault') = fault' ≡ fault

@@ -31,6 +31,7 @@ module _ {C K T : Type 0} (asks : C → ℕ → Bool → C → Type 0) (accepts 
       pub may : May t answer
       pub stopped : IsStopped asks accepts d (batches option answer) d'
 
+    -- what a run with a token reports, and what it has delivered then
     abbrev pub ReportsWith : Result Report RunFault → Type 0
     ReportsWith (Ok report) = HasReportedWith report
     ReportsWith (Err Cancelled) = WasStopped

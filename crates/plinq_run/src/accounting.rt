@@ -1,7 +1,8 @@
 //! Whether the records of a run account for the results that were offered.
 ghost use Rattle.std.specs.Prelude.{◌≡◌, ◌+◌, nat_le};
-ghost use Rattle.plinq_run.specs.Handed.{tells_end, has_close, hands_out_to};
-ghost use Rattle.plinq_run.specs.Reaching.{accounts_for};
+ghost use Rattle.plinq_run.specs.Handed.{tells_end, has_close};
+ghost use Rattle.plinq_run.specs.inner.Reaching.{hands_out_to};
+ghost use Rattle.plinq_run.specs.inner.Reaching.{accounts_for};
 
 use crate::coverage::{Coverage, tells_end};
 use plinq_keyed::{Event, Record};

@@ -1,7 +1,7 @@
 ghost use Rattle.std.specs.Prelude.{◌≡◌, ◌≤◌, ◌^◌, false};
 ghost use Rattle.plinq_ops.specs.Tails.{end_of_result};
 ghost use Rattle.plinq_run.specs.Handed.{is_end};
-ghost use Rattle.plinq_run.specs.Reaching.{Grows, Reaches};
+ghost use Rattle.plinq_run.specs.inner.Reaching.{Grows, Reaches};
 
 use plinq_keyed::Tail;
 use plinq_ops::ChunkResult;

@@ -6,11 +6,12 @@ ghost use Rattle.plinq_merge.specs.Joiners.{taker_of, ending_of};
 ghost use Rattle.plinq_partition.specs.Partitions.{IsPartitionOf, all_shares};
 ghost use Rattle.plinq_partition.specs.GivenBack.{common_origin};
 ghost use Rattle.plinq_ticket.specs.Shares.{in_ticket_order};
-ghost use Rattle.plinq_run.specs.Runs.{Other, cause_in_merge, cause_of, IsReportOf};
+ghost use Rattle.plinq_run.specs.Runs.{Other, cause_of};
+ghost use Rattle.plinq_run.specs.inner.Reported.{cause_in_merge, IsReportOf};
 ghost use Rattle.plinq_run.specs.Endings.{reported};
-ghost use Rattle.plinq_run.specs.Faults.{first_reported};
+ghost use Rattle.plinq_run.specs.inner.Faults.{first_reported};
 ghost use Rattle.plinq_run.specs.declared.run_fault.RunFault.TheVariants.{Incomplete};
-ghost use Rattle.plinq_run.specs.Reaching.{accounts_for};
+ghost use Rattle.plinq_run.specs.inner.Reaching.{accounts_for};
 
 use crate::accounting::account_for;
 use crate::merging::Merging;

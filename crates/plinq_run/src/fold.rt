@@ -1,7 +1,7 @@
 ghost use Rattle.std.specs.Prelude.{◌≡◌, true, Ok, None, ⊤};
-ghost use Rattle.plinq_run.specs.Aggregates.{TakesIn, so_far};
-ghost use Rattle.plinq_run.specs.Combining.{takes_all, MadeBy};
-ghost use Rattle.plinq_run.specs.CombiningLawful.{made-lawful};
+ghost use Rattle.plinq_run.specs.inner.Valuing.{TakesIn, so_far};
+ghost use Rattle.plinq_run.specs.inner.Combining.{takes_all, MadeBy};
+ghost use Rattle.plinq_run.specs.inner.CombiningLawful.{made-lawful};
 
 use plinq_aggregate::GrowingAggregator;
 use plinq_merge::{DeliveryFault, Sink, TakeInto, Taker};

@@ -2,8 +2,8 @@
 //! these.
 ghost use Rattle.std.specs.Prelude.{◌≡◌, ◌≤◌, []};
 ghost use Rattle.plinq_crew.specs.Plans.{IsUndecided};
-ghost use Rattle.plinq_run.specs.Folded.{FoldsSome};
-ghost use Rattle.plinq_run.specs.Reports.{MayMerge};
+ghost use Rattle.plinq_run.specs.inner.Folded.{FoldsSome};
+ghost use Rattle.plinq_run.specs.inner.Plans.{MayMerge};
 
 use crate::combined::Combined;
 use crate::fold::Fold;

@@ -5,7 +5,7 @@ ghost use Rattle.plinq_ops.specs.Tails.{end_of_result};
 ghost use Rattle.plinq_merge.specs.Joiners.{WaitsFor, has_decided};
 ghost use Rattle.plinq_merge.specs.Keys.{is_offered};
 ghost use Rattle.plinq_merge.specs.Joining.{IsReady};
-ghost use Rattle.plinq_run.specs.Merged.{Accepts, AcceptsInto};
+ghost use Rattle.plinq_run.specs.inner.Merged.{Accepts, AcceptsInto};
 
 use crate::coverage::Coverage;
 use plinq_crew::Consumer;

@@ -12,9 +12,9 @@ ghost use Rattle.plinq_crew.specs.Equipped.{IsReady};
 ghost use Rattle.plinq_crew.specs.Plans.{IsUndecided};
 ghost use Rattle.plinq_crew.specs.Results.{IsPart};
 ghost use Rattle.plinq_crew.specs.Working.{IsWhollyAnsweredBy};
-ghost use Rattle.plinq_run.specs.Conducted.{HasConducted};
+ghost use Rattle.plinq_run.specs.inner.Conducted.{HasConducted};
 ghost use Rattle.plinq_merge.specs.Joining.{IsReady as CanAccept};
-ghost use Rattle.plinq_run.specs.Merged.{AcceptsInto, AreSame, HasOffered, WereAccepted, EndsSo};
+ghost use Rattle.plinq_run.specs.inner.Merged.{AcceptsInto, AreSame, HasOffered, WereAccepted, EndsSo};
 
 use crate::coverage::Coverage;
 use crate::finishing::finish;

@@ -10,7 +10,8 @@ ghost use Rattle.plinq_crew.specs.Plans.{IsUndecided};
 ghost use Rattle.plinq_run.specs.Endings.{reported};
 ghost use Rattle.plinq_run.specs.Handed.{has_close};
 ghost use Rattle.plinq_run.specs.Headline.{answers, HasDelivered};
-ghost use Rattle.plinq_run.specs.Reports.{MayMerge, Reports};
+ghost use Rattle.plinq_run.specs.inner.Plans.{MayMerge};
+ghost use Rattle.plinq_run.specs.Reports.{Reports};
 
 use crate::finishing::report;
 use crate::planning::conduct_plan;

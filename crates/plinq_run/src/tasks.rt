@@ -1,6 +1,6 @@
 //! What the workers of a run send.
 ghost use Rattle.std.specs.Prelude.{◌≡◌, IfOk};
-ghost use Rattle.plinq_run.specs.Folds.{IsFoldOf};
+ghost use Rattle.plinq_run.specs.inner.Folds.{IsFoldOf};
 ghost use Rattle.plinq_crew.specs.Results.{IsOfSameChunk};
 
 use plinq_aggregate::GrowingAggregator;

@@ -1,7 +1,7 @@
 //! The value of an aggregate.
 ghost use Rattle.std.specs.Prelude.{◌≡◌};
-ghost use Rattle.plinq_run.specs.Aggregates.{aggregate_of, value_at};
-ghost use Rattle.plinq_run.specs.Folded.{value_of};
+ghost use Rattle.plinq_run.specs.inner.Valuing.{aggregate_of, value_at};
+ghost use Rattle.plinq_run.specs.inner.Folded.{value_of};
 ghost use Rattle.plinq_run.specs.Endings.{reported};
 
 use crate::aggregate_fault::AggregateFault;

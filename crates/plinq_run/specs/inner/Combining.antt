@@ -7,7 +7,7 @@ use Rattle.plinq_aggregate.specs.Folding.{Folding}
 use Rattle.plinq_merge.specs.declared.delivery_fault.DeliveryFault.{DeliveryFault}
 use Rattle.plinq_merge.specs.declared.delivery_fault.DeliveryFault.TheVariants.{Memory, Sink}
 use Rattle.plinq_run.specs.declared.fold.Fold.{Fold}
-use Rattle.plinq_run.specs.Aggregates.{so_far}
+use Rattle.plinq_run.specs.inner.Valuing.{so_far}
 
 -- whatever comes can be combined
 abbrev pub takes_all : {F A : Type 0} → Fold F A → Bool

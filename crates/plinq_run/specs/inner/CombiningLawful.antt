@@ -10,8 +10,8 @@ use Rattle.plinq_aggregate.specs.Folding.{Folding}
 use Rattle.plinq_merge.specs.declared.delivery_fault.DeliveryFault.{DeliveryFault}
 use Rattle.plinq_merge.specs.declared.delivery_fault.DeliveryFault.TheVariants.{Memory, Sink}
 use Rattle.plinq_merge.specs.Taking.{IsTaking}
-use Rattle.plinq_run.specs.Aggregates.{so_far}
-use Rattle.plinq_run.specs.Combining.{Combines, Made, MadeBy}
+use Rattle.plinq_run.specs.inner.Valuing.{so_far}
+use Rattle.plinq_run.specs.inner.Combining.{Combines, Made, MadeBy}
 
 module _ {T A O : Type 0} (f : Folding T A O) where
   combines-on : (acc : Option A) (xs : List A) (acc1 : Option A) (t : Trace A) (r : Result (Option Ending) DeliveryFault) (acc2 : Option A)

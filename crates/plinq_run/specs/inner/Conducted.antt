@@ -10,7 +10,7 @@ use Rattle.plinq_partition.specs.GivenBack.{common_origin}
 use Rattle.plinq_partition.specs.Partitions.{IsPartitionOf}
 use Rattle.plinq_run.specs.declared.planning.Conducted.{Conducted}
 use Rattle.plinq_run.specs.declared.run_fault.RunFault.{RunFault}
-use Rattle.plinq_run.specs.Merged.{HasEnded, HasBrokenOff}
+use Rattle.plinq_run.specs.inner.Merged.{HasEnded, HasBrokenOff}
 
 -- the partitions have shared the source
 pub record HaveShared {S T W : Type 0} {source : Ghosts S T} (t : Trace T) (c : Conducted S W T source) : Type 0 where

@@ -6,7 +6,7 @@ use Rattle.plinq_run.specs.declared.combined.Combined.{Combined}
 use Rattle.plinq_run.specs.declared.aggregate_fault.AggregateFault.{AggregateFault}
 use Rattle.plinq_run.specs.declared.aggregate_fault.AggregateFault.TheVariants.{Run}
 use Rattle.plinq_run.specs.declared.run_fault.RunFault.{RunFault}
-use Rattle.plinq_run.specs.Aggregates.{value_at}
+use Rattle.plinq_run.specs.inner.Valuing.{value_at}
 use Rattle.plinq_run.specs.Runs.{Other, cause_of}
 
 module _ {T A O : Type 0} (f : Folding T A O) where

@@ -31,7 +31,7 @@ use Rattle.plinq_run.specs.declared.planning.Ended.{Ended}
 use Rattle.plinq_run.specs.declared.merging.Merging.{Merging}
 use Rattle.plinq_run.specs.declared.merging.MergingInto.{MergingInto}
 use Rattle.plinq_run.specs.declared.run_fault.RunFault.{RunFault}
-use Rattle.plinq_run.specs.Reaching.{IsOffered, Grows, Reaches}
+use Rattle.plinq_run.specs.inner.Reaching.{IsOffered, Grows, Reaches}
 use Rattle.plinq_run.specs.Runs.{Cause, SinkRefused, Other, cause_of}
 
 -- what the results of this plan's workers are merged by

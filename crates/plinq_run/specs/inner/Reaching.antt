@@ -1,5 +1,5 @@
 -- How far offered results reach, and what accounts for them.
-use Rattle.std.specs.Prelude.{◌≡◌, refl, ℕ, ◌≤◌, List, [], ◌∷◌, ◌++◌, length, take, Bool, true, false, not, ◌&&◌, ◌||◌, Option, Some, None}
+use Rattle.std.specs.Prelude.{◌≡◌, ◌==◌, ◌+◌, nat_le, refl, ℕ, ◌≤◌, List, [], ◌∷◌, ◌++◌, length, take, Bool, true, false, not, ◌&&◌, ◌||◌, Option, Some, None}
 use Rattle.plinq_source.specs.Trace.{Trace}
 use Rattle.plinq_keyed.specs.declared.event.Event.TheVariants.{Ask, Close}
 use Rattle.plinq_keyed.specs.declared.record.Record.{Record}
@@ -8,7 +8,12 @@ use Rattle.plinq_keyed.specs.declared.tail.Tail.TheVariants.{Ended, Refused, Clo
 use Rattle.plinq_ops.specs.declared.results.ChunkResult.{ChunkResult}
 use Rattle.plinq_ops.specs.Tails.{end_of_result}
 use Rattle.plinq_run.specs.declared.coverage.Coverage.{Coverage}
-use Rattle.plinq_run.specs.Handed.{is_end, tells_end, has_close, hands_out_to}
+use Rattle.plinq_run.specs.Handed.{is_end, tells_end, has_close}
+use Rattle.std.specs.List.{list_any}
+
+-- whether some record's keys end there or later
+abbrev pub hands_out_to : ℕ → List Record → Bool
+hands_out_to end h = end == 0 || list_any (λ r. nat_le end (r.first + r.count)) h
 
 -- the result is within that reach
 pub record Reaches {T : Type 0} (coverage : Coverage) (r : ChunkResult T) : Type 0 where
@@ -80,3 +85,12 @@ nothing_offered = refl
 
 nothing_recorded : accounts_for (up_to 0 false) [] ≡ false
 nothing_recorded = refl
+
+up_to_the_last_item : hands_out_to 2 (two_items None) ≡ true
+up_to_the_last_item = refl
+
+after_the_last_item : hands_out_to 3 (two_items None) ≡ false
+after_the_last_item = refl
+
+no_item_without_a_request : hands_out_to 1 [] ≡ false
+no_item_without_a_request = refl

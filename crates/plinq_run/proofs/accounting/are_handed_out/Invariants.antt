@@ -1,5 +1,5 @@
 use Rattle.std.proofs.Common.{◌≡◌, drop}
-use Rattle.plinq_run.specs.Handed.{hands_out_to}
+use Rattle.plinq_run.specs.inner.Reaching.{hands_out_to}
 use Rattle.plinq_run.proofs.accounting.are_handed_out.Given as goal
 
 abbrev pub invariant-loop-record : goal.invariant-loop-record

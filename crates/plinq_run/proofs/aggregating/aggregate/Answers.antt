@@ -4,8 +4,8 @@ use Rattle.plinq_ops.specs.Query.{merge_in_force}
 use Rattle.plinq_ops.specs.Answer.{MayAnswer}
 use Rattle.plinq_run.specs.Aggregates.{AggregatesSome}
 use Rattle.plinq_run.proofs.Batches.{aggregate_of-reports}
-use Rattle.plinq_run.specs.Plans.{merged_answer}
-use Rattle.plinq_run.specs.Reports.{MayMerge}
+use Rattle.plinq_run.specs.inner.Plans.{merged_answer}
+use Rattle.plinq_run.specs.inner.Plans.{MayMerge}
 use Rattle.plinq_run.proofs.Ended.{merged-may, planned-undecided, planned-may}
 use Rattle.plinq_run.proofs.Unfolded.{value-some}
 use Rattle.plinq_run.proofs.aggregating.aggregate.Goals as goal

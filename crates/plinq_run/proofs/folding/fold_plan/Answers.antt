@@ -1,10 +1,10 @@
 use Rattle.std.proofs.Common.{rules, ◌≡◌, ◌≤◌, ◌^◌, Err, length, sym, ap, subst}
-use Rattle.plinq_run.specs.Combining.{MadeBy}
-use Rattle.plinq_run.specs.Folds.{IsFoldOf}
+use Rattle.plinq_run.specs.inner.Combining.{MadeBy}
+use Rattle.plinq_run.specs.inner.Folds.{IsFoldOf}
 use Rattle.plinq_crew.specs.Results.{IsPart}
-use Rattle.plinq_run.specs.Conducted.{HasConducted}
-use Rattle.plinq_run.specs.Folded.{FoldsSome}
-use Rattle.plinq_run.specs.Reports.{MayMerge}
+use Rattle.plinq_run.specs.inner.Conducted.{HasConducted}
+use Rattle.plinq_run.specs.inner.Folded.{FoldsSome}
+use Rattle.plinq_run.specs.inner.Plans.{MayMerge}
 use Rattle.plinq_run.proofs.Unfolded.{folded-ended, folded-broken}
 use Rattle.plinq_run.proofs.folding.fold_plan.Goals as goal
 

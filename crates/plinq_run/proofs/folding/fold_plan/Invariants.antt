@@ -1,6 +1,6 @@
 use Rattle.plinq_keyed.specs.Keys.{is_among}
 use Rattle.plinq_ops.specs.Cut.{stop_keys}
-use Rattle.plinq_run.specs.Folds.{IsFoldOf}
+use Rattle.plinq_run.specs.inner.Folds.{IsFoldOf}
 use Rattle.plinq_crew.specs.Results.{IsPart}
 use Rattle.plinq_run.proofs.folding.fold_plan.Given as goal
 

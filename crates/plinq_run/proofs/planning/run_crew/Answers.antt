@@ -3,7 +3,7 @@ use Rattle.plinq_merge.specs.Joiners.{HasJoined}
 use Rattle.plinq_merge.proofs.Joiners.{begun-joined}
 use Rattle.plinq_stream.specs.Passes.{IsPassOf, known}
 use Rattle.plinq_run.specs.declared.merging.Merging.{Merging}
-use Rattle.plinq_run.specs.Merged.{HasBrokenOff, WereAccepted}
+use Rattle.plinq_run.specs.inner.Merged.{HasBrokenOff, WereAccepted}
 use Rattle.plinq_run.specs.declared.run_fault.RunFault.TheVariants.{Memory}
 use Rattle.plinq_run.proofs.Merged.{begun-merged, none-broken, merged-ended, offered-ok, offered-none, offered-merged}
 use Rattle.plinq_run.proofs.Told.{told-all, told-accepted}

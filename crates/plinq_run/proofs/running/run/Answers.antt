@@ -2,7 +2,8 @@ use Rattle.std.proofs.Common.{rules, ◌≡◌, true, false, sym, ◌∙◌, sub
 use Rattle.plinq_source.specs.Trace.{Trace}
 use Rattle.plinq_ops.specs.Answer.{MayAnswer}
 use Rattle.plinq_ops.specs.Query.{merge_in_force}
-use Rattle.plinq_run.specs.Reports.{MayMerge, Reports}
+use Rattle.plinq_run.specs.inner.Plans.{MayMerge}
+use Rattle.plinq_run.specs.Reports.{Reports}
 use Rattle.plinq_run.proofs.Headline.{decided-delivered, ordered-delivered}
 use Rattle.plinq_run.proofs.Ended.{decided-reports, planned-may, planned-undecided, reports-weaker}
 use Rattle.plinq_run.proofs.running.run.Goals as goal

@@ -2,8 +2,9 @@ use Rattle.std.proofs.Common.{rules, ◌≡◌, ◌≤◌, ◌^◌, Err, IfOk, l
 use Rattle.plinq_keyed.specs.History.{IsLegalHistory}
 use Rattle.plinq_merge.specs.Delivering.{line_of, MadeBy}
 use Rattle.plinq_crew.specs.Results.{IsPart}
-use Rattle.plinq_run.specs.Conducted.{HasConducted}
-use Rattle.plinq_run.specs.Reports.{MayMerge, Reports}
+use Rattle.plinq_run.specs.inner.Conducted.{HasConducted}
+use Rattle.plinq_run.specs.inner.Plans.{MayMerge}
+use Rattle.plinq_run.specs.Reports.{Reports}
 use Rattle.plinq_run.proofs.Ended.{none-ended, whole-delivered, broken-delivered, whole-reported}
 use Rattle.plinq_run.proofs.Parts.{plain-part}
 use Rattle.plinq_run.proofs.Runs.{begun_line}

@@ -4,7 +4,7 @@ use Rattle.std.specs.Vec.Iter.{into_iter_len, into_iter_items}
 use Rattle.std.proofs.lemmas.List.{map-id}
 use Rattle.std.proofs.lemmas.Iterator.Adapters.{YieldsList-from_vec}
 use Rattle.std.proofs.lemmas.Iterator.Consumers.{YieldsList-end}
-use Rattle.plinq_run.specs.Aggregates.{so_far}
+use Rattle.plinq_run.specs.inner.Valuing.{so_far}
 use Rattle.plinq_run.proofs.fold.FoldAccTakeIntoUnit.take.Goals as goal
 
 pub returns-clause-made : goal.returns-clause-made

@@ -1,6 +1,6 @@
 use Rattle.std.proofs.Common.{◌≡◌}
 use Rattle.std.specs.List.{fold}
-use Rattle.plinq_run.specs.Aggregates.{so_far}
+use Rattle.plinq_run.specs.inner.Valuing.{so_far}
 use Rattle.plinq_run.proofs.fold.FoldAccTakeIntoUnit.take.Given as goal
 
 abbrev pub invariant-loop-part : goal.invariant-loop-part

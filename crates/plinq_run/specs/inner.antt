@@ -1,0 +1,12 @@
+-- Words that no public contract reaches: private contracts and proofs cite them.
+pub mod Combining
+pub mod CombiningLawful
+pub mod Conducted
+pub mod Faults
+pub mod Folded
+pub mod Folds
+pub mod Merged
+pub mod Plans
+pub mod Reaching
+pub mod Reported
+pub mod Valuing
