@@ -20,6 +20,10 @@ HUNGRY = {
     "expansions of great chunks": ("run", '{"version":1,"source":{"range":[0,1099511627776]},"query":[["select_many","repeat",65536],["take",390]],"growth":[65536,1,65536]}'),
     "nested expansions": ("run", '{"version":1,"source":{"list":[1]},"query":[["select_many","repeat",65536],["select_many","repeat",65536],["select_many","repeat",65536],["take",1]]}'),
 }
+# Documents of 20 million items that are folded, and not held: the words, the document, the count, the most bytes.
+SPARING = {
+    "an aggregate in one thread": ("seq", '{"version":1,"source":{"range":[0,200000]},"query":[["select_many","repeat",100]],"aggregate":"count"}', 20_000_000, 60_000_000),
+}
 ADDED = b'{"version":1,"source":{"list":[3,1,4]},"query":[["as_ordered"],["select","add",1]]}'
 
 
@@ -83,18 +87,29 @@ def started(tests):
     tests.check("PLINQ_MEMORY=unlimited", seen == Outcome(0, b"4\n2\n5\nend\n", b""), seen)
 
 
+def measured(words, document, env=None):
+    """What the program answers, and the most memory that it took."""
+    with subprocess.Popen([PLINQ, *words.split()], stdin=subprocess.PIPE, stdout=subprocess.PIPE, stderr=subprocess.PIPE, env=env) as program:
+        program.stdin.write(document.encode())
+        program.stdin.close()
+        output, errors = program.stdout.read(), program.stderr.read()
+        _, status, usage = os.wait4(program.pid, 0)
+        program.returncode = os.waitstatus_to_exitcode(status)
+    return Outcome(program.returncode, output, errors), usage.ru_maxrss * 1024
+
+
 def hungry(tests):
     for name, (words, document) in HUNGRY.items():
-        env = os.environ | {"PLINQ_MEMORY": "300000000"}
-        with subprocess.Popen([PLINQ, *words.split()], stdin=subprocess.PIPE, stdout=subprocess.PIPE, stderr=subprocess.PIPE, env=env) as program:
-            program.stdin.write(document.encode())
-            program.stdin.close()
-            output, errors = program.stdout.read(), program.stderr.read()
-            _, status, usage = os.wait4(program.pid, 0)
-            program.returncode = os.waitstatus_to_exitcode(status)
-        seen = Outcome(program.returncode, output, errors)
+        seen, taken = measured(words, document, os.environ | {"PLINQ_MEMORY": "300000000"})
         tests.check(f"{name}, within 300 MB", seen == OUT_OF_MEMORY, seen)
-        tests.check(f"{name}: it took no more", usage.ru_maxrss * 1024 < 320_000_000, usage.ru_maxrss)
+        tests.check(f"{name}: it took no more", taken < 320_000_000, taken)
+
+
+def sparing(tests):
+    for name, (words, document, count, most) in SPARING.items():
+        seen, taken = measured(words, document)
+        tests.check(name, seen == Outcome(0, f"{count}\nend\n".encode(), b""), seen)
+        tests.check(f"{name}: it took {most} bytes at most", taken < most, taken)
 
 
 def main():
@@ -104,6 +119,7 @@ def main():
         limits(tests, folder)
     started(tests)
     hungry(tests)
+    sparing(tests)
     tests.end()
 
 

@@ -3,6 +3,7 @@ use Rattle.std.specs.Prelude.{◌≡◌, ◌≢◌, ℕ, ℤ, pos, negsuc, List,
 use Rattle.std.specs.Int.{int_wrap, int_min, int_max}
 use Rattle.std.specs.Fmt.{digits}
 use Rattle.plinq_source.specs.Trace.{Trace, ended}
+use Rattle.plinq_source.specs.declared.ending.Ending.{Ending}
 use Rattle.plinq_source.specs.declared.ending.Ending.TheVariants.{End, Refused}
 use Rattle.plinq_aggregate.specs.Folding.{aggregated}
 use Rattle.plinq_aggregate.specs.Numbers.{summing, counting, picking}
@@ -27,6 +28,10 @@ kind_value Max xs = aggregated (picking int_max) xs
 abbrev pub told_text : Option Kind → MergeOption → Trace ℤ → List ℕ
 told_text None option u = answer_text option u
 told_text (Some kind) option u = aggregate_text (kind_value kind u.items) u.ending
+
+-- this is the value of an answer's items, and how the answer ends
+abbrev pub IsValueOf : {T O : Type 0} → (List T → O) → Trace T → O × Ending → Type 0
+IsValueOf value u told = (told.0 ≡ value u.items) × (u.ending ≡ Some told.1)
 
 -- the value of one of these answers was reported if it ended well, else how it ended; or none was, never since a sink refused
 abbrev pub TellsValue : (List ℤ → Option ℤ) → (Trace ℤ → Type 0) → Result (Option ℤ) AggregateFault → Type 0

@@ -1,49 +1,63 @@
-ghost use Rattle.std.specs.Prelude.{◌≡◌};
+ghost use Rattle.std.specs.Prelude.{◌≡◌, IfOk};
+ghost use Rattle.plinq_aggregate.specs.Folding.{aggregated};
 ghost use Rattle.plinq_lambda.specs.Formula.{formula_meaning};
-ghost use Rattle.plinq_lines.specs.Written.{Writes};
 ghost use Rattle.plinq_ops.specs.Answer.{MayAnswer};
+ghost use Rattle.plinq_ops.specs.Sequential.{answer_of};
 ghost use Rattle.plinq_run.specs.Aggregates.{AggregatesSome};
-ghost use Rattle.plinq_source.specs.Trace.{ended};
-ghost use Rattle.plinq_cli.specs.Told.{TellsValue, kind_value, told_text};
+ghost use Rattle.plinq_cli.specs.Told.{IsValueOf, TellsValue, kind_value};
 
-use plinq_aggregate::{Aggregator, Count, Max, Min, Sum, fold_sequential};
+use plinq_aggregate::{Aggregator, Count, Max, Min, Sum};
 use plinq_document::{AnySource, Kind};
 use plinq_enumerator::Growth;
 use plinq_lambda::Formula;
-use plinq_lines::{WriteFault, write_aggregate, write_answer};
-use plinq_ops::{MergeOption, Query};
-use plinq_run::{AggregateFault, OpenGate, aggregate};
-use plinq_source::{Ending, Source};
-use std::io::Write;
+use plinq_ops::Query;
+use plinq_run::{AggregateFault, Combined, OpenGate, aggregate, fold_sequentially};
+use plinq_source::{Ending, OutOfMemory, Source};
+use std::alloc::Global;
 use std::sync::Wait;
 use std::thread::Threads;
 
-/// Writes what is reported of an answer: the value of its aggregate, or else its batches, and its ending.
-pub(crate) fn write_told<W: Write>(
-    writer: &mut W,
-    aggregate: Option<Kind>,
-    option: MergeOption,
-    items: &[i64],
-    ending: Ending,
-) -> Result<(), WriteFault>
-    ensures { Writes (W.contents writer.old) (W.contents writer.new) result (told_text aggregate option (ended items.now ending)) }
+/// The value of an aggregate of a query's answer on one thread, if its items have one, and how the answer ends.
+pub(crate) fn value_by_one(
+    alloc: Global,
+    kind: Kind,
+    query: &Query<Formula>,
+    source: &mut AnySource,
+) -> Result<(Option<i128>, Ending), OutOfMemory>
+    requires unasked { ⟦<AnySource as Source>⟧.given source.old ≡ 0 }
+    ensures { IfOk result (IsValueOf (kind_value kind) (answer_of formula_meaning query.now.ops (⟦<AnySource as Source>⟧.whole source.old))) }
 {
-    match aggregate {
-        None => write_answer(writer, option, items, ending),
-        Some(kind) => write_aggregate(writer, value_of(kind, items), ending),
+    match kind {
+        Kind::Sum => {
+            let (sum, ending) = by_one(alloc, query, source, &Sum)?;
+            Ok((Some(sum), ending))
+        }
+        Kind::Count => {
+            let (count, ending) = by_one(alloc, query, source, &Count)?;
+            Ok((Some(i128::from(count)), ending))
+        }
+        Kind::Min => {
+            let (least, ending) = by_one(alloc, query, source, &Min)?;
+            Ok((as_value(least), ending))
+        }
+        Kind::Max => {
+            let (greatest, ending) = by_one(alloc, query, source, &Max)?;
+            Ok((as_value(greatest), ending))
+        }
     }
 }
 
-// The value of an aggregate of these items, if they have one.
-fn value_of(kind: Kind, items: &[i64]) -> Option<i128>
-    ensures { result ≡ kind_value kind items.now }
+fn by_one<A: Aggregator<Item = i64>>(
+    alloc: Global,
+    query: &Query<Formula>,
+    source: &mut AnySource,
+    aggregator: &A,
+) -> Result<(A::Out, Ending), OutOfMemory>
+    requires unasked { ⟦<AnySource as Source>⟧.given source.old ≡ 0 }
+    ensures { IfOk result (IsValueOf (aggregated (A.folding aggregator.now)) (answer_of formula_meaning query.now.ops (⟦<AnySource as Source>⟧.whole source.old))) }
 {
-    match kind {
-        Kind::Sum => Some(fold_sequential(&Sum, items)),
-        Kind::Count => Some(i128::from(fold_sequential(&Count, items))),
-        Kind::Min => as_value(fold_sequential(&Min, items)),
-        Kind::Max => as_value(fold_sequential(&Max, items)),
-    }
+    let Combined { acc, ending } = fold_sequentially(alloc, query, source, aggregator)?;
+    Ok((aggregator.result(acc), ending))
 }
 
 /// The value of an aggregate of a query's answer, if its items have one. The query is run by threads.

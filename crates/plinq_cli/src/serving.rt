@@ -9,7 +9,7 @@ ghost use Rattle.plinq_lambda.specs.Formula.{formula_meaning};
 ghost use Rattle.plinq_ops.specs.Answer.{MayAnswer};
 ghost use Rattle.plinq_ops.specs.Query.{merge_in_force};
 
-use crate::aggregating::{value_by_threads, write_told};
+use crate::aggregating::{value_by_one, value_by_threads};
 use crate::rounds::{drive_partitions, told_ending};
 use crate::serve_fault::ServeFault;
 use plinq_arguments::Command;
@@ -18,7 +18,8 @@ use plinq_enumerator::Growth;
 use plinq_keyed::{Guarded, Keyed};
 use plinq_lambda::Formula;
 use plinq_lines::{
-    LineSink, WriteFault, write_aggregate, write_ending, write_history, write_parts, write_plan,
+    LineSink, WriteFault, write_aggregate, write_answer, write_ending, write_history, write_parts,
+    write_plan,
 };
 use plinq_merge::{CancelAfter, Sink};
 use plinq_ops::{Query, sequential};
@@ -226,15 +227,46 @@ fn serve_sequential<W: Write>(alloc: Global, job: Job, writer: &mut W) -> Result
     ensures written { Serves Command.Seq job (W.contents writer.old) (W.contents writer.new) result }
     ensures faults { IfErr result (MayFail Command.Seq) }
 {
+    match job.aggregate {
+        None => serve_items(alloc, job, writer),
+        Some(kind) => serve_fold(alloc, job, kind, writer),
+    }
+}
+
+// Nothing is written before the answer is there.
+fn serve_items<W: Write>(alloc: Global, job: Job, writer: &mut W) -> Result<Ending, ServeFault>
+    requires items { job.aggregate ≡ None }
+    ensures written { Serves Command.Seq job (W.contents writer.old) (W.contents writer.new) result }
+    ensures faults { IfErr result (MayFail Command.Seq) }
+{
     let Job {
         query,
         mut source,
-        aggregate,
         ..
     } = job;
     let (items, ending) = sequential(alloc, &query, &mut source)?;
-    let option = query.merge_option();
-    write_told(writer, aggregate, option, items.as_slice(), ending)?;
+    write_answer(writer, query.merge_option(), items.as_slice(), ending)?;
+    Ok(ending)
+}
+
+// The items are folded as they come.
+fn serve_fold<W: Write>(
+    alloc: Global,
+    job: Job,
+    kind: Kind,
+    writer: &mut W,
+) -> Result<Ending, ServeFault>
+    requires value { job.aggregate ≡ Some kind }
+    ensures written { Serves Command.Seq job (W.contents writer.old) (W.contents writer.new) result }
+    ensures faults { IfErr result (MayFail Command.Seq) }
+{
+    let Job {
+        query,
+        mut source,
+        ..
+    } = job;
+    let (value, ending) = value_by_one(alloc, kind, &query, &mut source)?;
+    write_aggregate(writer, value, ending)?;
     Ok(ending)
 }
 

@@ -14,3 +14,4 @@ mod Stopping
 mod Told
 mod Unfolded
 mod Without
+mod Pieces

@@ -2,9 +2,9 @@ use plinq_source::Ending;
 
 /// What the folds of an answer's parts came to.
 #[derive(Debug, Drop)]
-pub(crate) struct Combined<C> {
+pub struct Combined<C> {
     /// The accumulator of the answer's items.
-    pub(crate) acc: C,
+    pub acc: C,
     /// How the answer ends.
-    pub(crate) ending: Ending,
+    pub ending: Ending,
 }

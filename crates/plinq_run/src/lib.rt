@@ -9,6 +9,7 @@
 //! - The records that it reports are a legal history of the source, which was closed unless the query is decided. What
 //!   they hand out has the answer that was delivered (`handed_trace`).
 //! - [`aggregate`] reports the value of such an answer's items, or how that answer ended otherwise (`AggregatesSome`).
+//! - [`fold_sequentially`] folds the sequential answer as its items come, and keeps none (`HasFinished`).
 //! - Workers send results of chunks of the source as they are, or for an aggregate with nothing after the merge the fold of
 //!   each in its place (`IsPart` of `plinq_crew`).
 //! - A [`Gate`] is what workers pass on their way.
@@ -29,6 +30,7 @@ mod planning;
 mod report;
 mod run_fault;
 mod running;
+mod sequentially;
 mod tasks;
 mod valuing;
 mod window;
@@ -36,7 +38,9 @@ mod window;
 pub use aggregate_fault::AggregateFault;
 pub use aggregating::aggregate;
 pub use cancelling::run_with;
+pub use combined::Combined;
 pub use plinq_crew::{Gate, OpenGate};
 pub use report::Report;
 pub use run_fault::RunFault;
 pub use running::run;
+pub use sequentially::fold_sequentially;

@@ -1,7 +1,7 @@
 -- nothing is written before the answer is there
 use Rattle.plinq_arguments.specs.declared.command.Command.TheVariants.{Seq}
 use Rattle.plinq_cli.proofs.Answered.{serves-unwritten}
-use Rattle.plinq_cli.proofs.serving.serve_sequential.Goals as goal
+use Rattle.plinq_cli.proofs.serving.serve_items.Goals as goal
 
 pub returns-in_err-items-clause-written : goal.returns-in_err-items-clause-written
 returns-in_err-items-clause-written g c = serves-unwritten Seq c.args.job _ _ c.from_residual.ensures.0

@@ -1,0 +1,56 @@
+use Rattle.std.proofs.Common.{rules, ◌≡◌, true, false, sym, ◌∙◌, refl, subst}
+use Rattle.std.specs.List.{list_any}
+use Rattle.std.specs.Prelude.{IfOk, OnOk}
+use Rattle.plinq_ops.specs.Stage.{some_takes_none, seq}
+use Rattle.plinq_ops.specs.Operator.{stages_of}
+use Rattle.plinq_ops.specs.Feeding.{is_empty_take}
+use Rattle.plinq_ops.specs.Sequential.{IsLeastDeciding}
+use Rattle.plinq_ops.proofs.Answered.{answer-of_none, least-of_none}
+use Rattle.plinq_ops.proofs.ByKey.{stages-begun}
+use Rattle.plinq_ops.proofs.Counts.{some_takes_none-stages_of}
+use Rattle.plinq_run.specs.Folded.{HasFinished}
+use Rattle.plinq_run.proofs.sequentially.fold_sequentially.Goals as goal
+
+-- a Take of none decides the answer
+pub returns-then-split-clause-folded : goal.returns-then-split-clause-folded
+returns-then-split-clause-folded g c =
+    let m = g.L.Lambda.meaning in
+    let ops = c.args.query.now.ops in
+    let decided : c.split.result.decided ≡ list_any is_empty_take ops = c.split.ensures.plan.decided in
+    let none : some_takes_none (stages_of m ops) ≡ true = sym (some_takes_none-stages_of m ops) ∙ sym decided ∙ search rules in
+    let seed : c.seed.result ≡ (g.A.GrowingAggregator.folding c.args.aggregator.now).seed = c.seed.ensures in
+    rw (answer-of_none (stages_of m ops) (g.S.Source.whole c.args.source.now) none) (record { ending = refl; acc = seed })
+
+pub returns-then-split-clause-least : goal.returns-then-split-clause-least
+returns-then-split-clause-least g c =
+    let m = g.L.Lambda.meaning in
+    let ops = c.args.query.now.ops in
+    let decided : c.split.result.decided ≡ list_any is_empty_take ops = c.split.ensures.plan.decided in
+    let none : some_takes_none (stages_of m ops) ≡ true = sym (some_takes_none-stages_of m ops) ∙ sym decided ∙ search rules in
+    rw c.requires (least-of_none (stages_of m ops) (g.S.Source.whole c.args.source.now) none)
+
+pub fold_all-requires-clause-undecided : goal.fold_all-requires-clause-undecided
+fold_all-requires-clause-undecided g c lives within =
+    let m = g.L.Lambda.meaning in
+    let ops = c.ops.result.now in
+    let decided : c.split.result.decided ≡ list_any is_empty_take c.args.query.now.ops = c.split.ensures.plan.decided in
+    let same : ops ≡ c.args.query.now.ops = search rules in
+    let some : list_any is_empty_take ops ≡ false = rw same (sym decided ∙ search rules) in
+    rw (stages-begun m ops c.in_ok-pipeline.pipeline c.in_ok-pipeline.ensures) (sym (some_takes_none-stages_of m ops) ∙ some)
+
+pub returns-clause-folded : goal.returns-clause-folded
+returns-clause-folded g c =
+    let m = g.L.Lambda.meaning in
+    let ops = c.args.query.now.ops in
+    let same : c.ops.result.now ≡ ops = search rules in
+    let begins = stages-begun m ops c.in_ok-pipeline.pipeline (rw same at c.in_ok-pipeline.ensures) in
+    let f = g.A.GrowingAggregator.folding c.args.aggregator.now in
+    subst (λ ss. IfOk c.fold_all.result (HasFinished f (seq ss (g.S.Source.whole c.args.source.now)))) begins c.fold_all.ensures.folded
+
+pub returns-clause-least : goal.returns-clause-least
+returns-clause-least g c =
+    let m = g.L.Lambda.meaning in
+    let ops = c.args.query.now.ops in
+    let same : c.ops.result.now ≡ ops = search rules in
+    let begins = stages-begun m ops c.in_ok-pipeline.pipeline (rw same at c.in_ok-pipeline.ensures) in
+    subst (λ ss. OnOk c.fold_all.result (IsLeastDeciding ss (g.S.Source.whole c.args.source.now) (g.S.Source.given c.fold_all.new.source))) begins c.fold_all.ensures.least
