@@ -1,4 +1,4 @@
-ghost use Rattle.std.specs.Prelude.{◌≡◌, ◌≤◌, false, IfOk, ◌∷◌, [], length, take, drop};
+ghost use Rattle.std.specs.Prelude.{◌≡◌, ◌≤◌, false, IfOk, OnOk, ◌∷◌, ◌++◌, [], length, take, drop};
 ghost use Rattle.plinq_source.specs.Trace.{open_trace};
 ghost use Rattle.plinq_ops.specs.declared.op.Op.TheVariants.{SelectMany};
 ghost use Rattle.plinq_ops.specs.Stage.{some_takes_none};
@@ -10,7 +10,7 @@ use crate::passed::Passed;
 use crate::remaining::{Remaining, pass, pass_block};
 use plinq_lambda::{ExpandFault, Lambda};
 use plinq_source::{Ending, OutOfMemory};
-use std::alloc::Global;
+use std::alloc::{AllocError, Global};
 
 /// Sends one item through operators, and appends the results to `out`.
 pub(crate) fn feed<L: Lambda>(
@@ -119,10 +119,23 @@ fn feed_expansion<L: Lambda>(
     match f.expand(alloc, item) {
         Ok(mut expansion) => {
             let ending = feed_block(alloc, ops, from, &mut expansion)?;
-            out.append(&mut expansion)?;
+            append_or_take(out, expansion)?;
             Ok(ending)
         }
         Err(ExpandFault::Code(code)) => Ok(Some(Ending::Fault(code))),
         Err(ExpandFault::Memory) => Err(OutOfMemory),
     }
+}
+
+/// Appends a list's items. Where nothing was there and there is no room for them, the list itself takes its place, and no item
+/// is copied.
+fn append_or_take<T: Drop>(out: &mut Vec<T>, more: Vec<T>) -> Result<(), AllocError>
+    ensures { OnOk result (out.new.items ≡ out.old.items ++ more.items) }
+{
+    if out.is_empty() && out.capacity() < more.len() {
+        *out = more;
+        return Ok(());
+    }
+    let mut more = more;
+    out.append(&mut more)
 }
