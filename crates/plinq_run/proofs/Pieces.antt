@@ -12,7 +12,7 @@ use Rattle.plinq_ops.specs.Feeding.{IsFed}
 use Rattle.plinq_ops.specs.Sequential.{first_items, IsLeastDeciding}
 use Rattle.plinq_ops.proofs.Fed.{fed-none}
 use Rattle.plinq_ops.proofs.Answered.{fed-next, fed-decided, fed-at_ending, least-decided, least-at_ending}
-use Rattle.plinq_run.specs.Folded.{HasFinished}
+use Rattle.plinq_run.specs.Finished.{HasFinished}
 
 module _ {T A O : Type 0} (f : Folding T A O) (ss : List (Stage T)) where
   -- these first items were fed; with the piece folded too, the accumulator is that of what came out

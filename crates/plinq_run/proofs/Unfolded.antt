@@ -31,7 +31,8 @@ use Rattle.plinq_run.specs.declared.planning.Ended.{Ended}
 use Rattle.plinq_run.specs.declared.run_fault.RunFault.{RunFault}
 use Rattle.plinq_run.specs.Aggregates.{Aggregates, AggregatesSome}
 use Rattle.plinq_run.specs.inner.Valuing.{so_far, value_at}
-use Rattle.plinq_run.specs.inner.Folded.{HasFinished, FoldsSome, value_of}
+use Rattle.plinq_run.specs.Finished.{HasFinished}
+use Rattle.plinq_run.specs.inner.Folded.{FoldsSome, value_of}
 use Rattle.plinq_run.specs.inner.Merged.{merge_for, Breaks, HasEnded, HasBrokenOff}
 use Rattle.plinq_run.specs.inner.Reaching.{IsOffered}
 use Rattle.plinq_run.specs.inner.Plans.{MayMerge}

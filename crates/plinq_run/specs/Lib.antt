@@ -1,5 +1,6 @@
 pub mod Aggregates
 pub mod Endings
+pub mod Finished
 pub mod Handed
 pub mod Headline
 pub mod Reports

@@ -5,7 +5,7 @@ ghost use Rattle.plinq_ops.specs.Operator.{stages_of};
 ghost use Rattle.plinq_ops.specs.Pipeline.{stages};
 ghost use Rattle.plinq_ops.specs.Sequential.{answer_of, IsLeastDeciding};
 ghost use Rattle.plinq_ops.specs.Stage.{some_takes_none, seq};
-ghost use Rattle.plinq_run.specs.Folded.{HasFinished};
+ghost use Rattle.plinq_run.specs.Finished.{HasFinished};
 
 use crate::combined::Combined;
 use plinq_aggregate::GrowingAggregator;
