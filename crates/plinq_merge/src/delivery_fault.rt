@@ -3,13 +3,16 @@ ghost use Rattle.plinq_merge.specs.declared.delivery_fault.DeliveryFault.TheVari
 
 use plinq_source::OutOfMemory;
 use std::alloc::{AllocError, AllocFailed};
+use thiserror::Error;
 
 /// Why batches weren't all delivered.
-#[derive(Clone, Copy, Debug, PartialEq, Eq)]
+#[derive(Clone, Copy, Debug, PartialEq, Eq, Error)]
 pub enum DeliveryFault {
     /// Memory ran out.
+    #[error("out of memory")]
     Memory,
     /// The sink refused a batch, with its code.
+    #[error("sink refused: {0}")]
     Sink(u32),
 }
 

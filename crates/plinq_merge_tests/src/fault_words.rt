@@ -1,5 +1,5 @@
-//! How a merger says why it refuses.
-use plinq_merge::MergeFault;
+//! How a merger says why it refuses, and how a delivery does.
+use plinq_merge::{DeliveryFault, MergeFault};
 use std::test::Fail;
 
 #[test]
@@ -13,6 +13,18 @@ fn faults_of_a_merger_in_words(rt: HostRuntime) -> Result<(), Fail> {
         (MergeFault::Cancelled, "cancelled"),
     ];
     for (fault, text) in rows {
+        let words = format!(in rt.alloc(); "{fault}")?;
+        assert_eq!(rt; words.as_str(), text);
+    }
+    Ok(())
+}
+
+#[test]
+fn faults_of_a_delivery_in_words(rt: HostRuntime) -> Result<(), Fail> {
+    for (fault, text) in [
+        (DeliveryFault::Memory, "out of memory"),
+        (DeliveryFault::Sink(9), "sink refused: 9"),
+    ] {
         let words = format!(in rt.alloc(); "{fault}")?;
         assert_eq!(rt; words.as_str(), text);
     }
