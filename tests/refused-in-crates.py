@@ -5,10 +5,11 @@
 
 Each says what its calls answer then, what stands as before, and what the next call gives. `rt ci` and `rt test` leave the tests
 of a crate as a program, which runs one of them by its name. The few lines of C that refuse an allocation are those of
-refused-allocations.py.
+refused-allocations.py. A great number of groups is also run within a limit of memory.
 """
 import os
 import re
+import resource
 import subprocess
 import tempfile
 
@@ -39,8 +40,15 @@ CALLS = {
     "run and aggregate by one worker": ("run", "refused_room::one_worker_may_be_refused_room"),
     "run and aggregate by two workers": ("run", "refused_room::two_workers_may_be_refused_room"),
     "run and aggregate by eight workers": ("run", "refused_room::eight_workers_may_be_refused_room"),
+    "aggregate with GroupBy by one worker": ("groups", "refused_room::groups_by_one_worker_may_be_refused_room"),
+    "aggregate with GroupBy by two workers": ("groups", "refused_room::groups_by_two_workers_may_be_refused_room"),
 }
 
+
+# What a program may take that groups a million numbers, which wants more, and what its test says then.
+FEW_BYTES = 48_000_000
+MANY_GROUPS = "hostile::a_million_groups"
+OUT_OF_MEMORY = b"out of memory, and ten groups after that"
 
 SAYS_SO = r"each\s+allocation\s+(failing|refused)\s+in\s+turn"
 
@@ -86,8 +94,28 @@ def each_refused(pool, program, name, shim):
         first += 32
 
 
+def many_groups(tests):
+    """Within a limit a million groups are out of memory, after which the same query groups ten numbers; without one there is room."""
+    program = os.path.join(ROOT, "crates", "plinq_groups_tests", "out", "plinq_groups_tests_tests")
+    if not os.path.exists(program):
+        tests.check("a great number of groups", False, f"{program} isn't there")
+        return
+    for limit, status, words in ((FEW_BYTES, None, OUT_OF_MEMORY), (resource.RLIM_INFINITY, 0, b"ok")):
+        ran = subprocess.run(
+            [program, MANY_GROUPS],
+            stdin=subprocess.DEVNULL,
+            stdout=subprocess.PIPE,
+            stderr=subprocess.STDOUT,
+            timeout=HANGS,
+            preexec_fn=lambda: resource.setrlimit(resource.RLIMIT_DATA, (limit, limit)),
+        )
+        is_so = (ran.returncode == 0) == (status == 0) and words in ran.stdout
+        tests.check(f"a great number of groups within {limit} bytes", is_so, (ran.returncode, ran.stdout[-300:]))
+
+
 def main():
     tests = Tests()
+    many_groups(tests)
     say_so = set(tests_that_say_so())
     missing = sorted(say_so - set(CALLS.values()))
     tests.check("each test that says that it is run so is run so", len(say_so) > 10 and not missing, missing or len(say_so))

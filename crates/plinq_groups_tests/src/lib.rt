@@ -1,0 +1,14 @@
+//! The tests of groups and of aggregates made of others: beside a plain loop, by one thread and by several, for keys that are
+//! one, few, all different, or collide; a great number of groups; and with each allocation refused in turn.
+#![tactic(auto)]
+
+#[cfg(test)]
+mod grouped;
+#[cfg(test)]
+mod hostile;
+#[cfg(test)]
+mod keys;
+#[cfg(test)]
+mod others;
+#[cfg(test)]
+mod refused_room;
