@@ -15,7 +15,7 @@ use Rattle.plinq_run.specs.Reports.{HasReported, Reports}
 use Rattle.plinq_run.specs.Aggregates.{Aggregates, AggregatesSome}
 use Rattle.plinq_collect.proofs.Joined.{items_of-batches}
 use Rattle.plinq_collect.specs.Folds.{has_item, has_none}
-use Rattle.plinq_collect.specs.Telling.{items_of, GathersSome, IsShort, TellsSome, negated, gathered_of}
+use Rattle.plinq_collect.specs.Telling.{items_of, GathersSome, IsShort, TellsSome, LacksRoom, negated, gathered_of}
 
 module _ {K T : Type 0} (items : K → List T) where
   -- a sink that keeps what it takes has the items of its batches
@@ -62,6 +62,11 @@ pub tells-none : {T : Type 0} (IsAnswer : Trace T → Type 0) (r : Result Bool A
 tells-none IsAnswer (Ok is) (u, may, value, well) = (u, may, ap not value ∙ not-item u.items, well)
 tells-none IsAnswer (Err (Ended e)) so = so
 tells-none IsAnswer (Err (Run fault)) so = so
+
+pub lacks-negated : (r : Result Bool AggregateFault) → LacksRoom r → LacksRoom (negated r)
+lacks-negated (Ok is) lacks = tt
+lacks-negated (Err (Ended e)) lacks = tt
+lacks-negated (Err (Run fault)) lacks = lacks
 
 -- a run into a list that was empty is gathered, or was short of something
 pub gathers-told : {K V T : Type 0} (items : K → List T) (refuses : K → List T → ℕ → K → Type 0) (option : MergeOption) (May : Trace T → Trace T → Type 0) (t : Trace T)

@@ -1,5 +1,5 @@
 -- What is told of a query's answer: its items with the ending, or what a function makes of them.
-use Rattle.std.specs.Prelude.{◌≡◌, ◌≢◌, List, [], ◌∷◌, ◌++◌, Some, Bool, not, Result, Ok, Err}
+use Rattle.std.specs.Prelude.{◌≡◌, ◌≢◌, ⊤, List, [], ◌∷◌, ◌++◌, Some, Bool, not, Result, Ok, Err}
 use Rattle.plinq_source.specs.declared.ending.Ending.{Ending}
 use Rattle.plinq_source.specs.declared.ending.Ending.TheVariants.{End}
 use Rattle.plinq_source.specs.Trace.{Trace}
@@ -38,6 +38,12 @@ abbrev pub TellsSome : {T O : Type 0} → (List T → O) → (Trace T → Type 0
 TellsSome {T} tell IsAnswer (Ok out) = (u : Trace T) × (IsAnswer u) × (out ≡ tell u.items) × (u.ending ≡ Some End)
 TellsSome {T} tell IsAnswer (Err (Ended e)) = (u : Trace T) × (IsAnswer u) × (u.ending ≡ Some e) × (e ≢ End)
 TellsSome tell IsAnswer (Err (Run fault)) = IsShort fault
+
+-- where there is no answer, memory ran out
+abbrev pub LacksRoom : {O : Type 0} → Result O AggregateFault → Type 0
+LacksRoom (Ok out) = ⊤
+LacksRoom (Err (Ended e)) = ⊤
+LacksRoom (Err (Run fault)) = fault ≡ Memory
 
 -- the other answer, where there is one
 abbrev pub negated : Result Bool AggregateFault → Result Bool AggregateFault

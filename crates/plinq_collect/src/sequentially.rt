@@ -6,7 +6,7 @@ ghost use Rattle.plinq_ops.specs.Sequential.{answer_of};
 ghost use Rattle.plinq_run.specs.Aggregates.{Aggregates};
 ghost use Rattle.plinq_run.specs.declared.run_fault.RunFault.TheVariants.{Memory};
 ghost use Rattle.plinq_collect.specs.Folds.{first_of, has_item, has_none, counted};
-ghost use Rattle.plinq_collect.specs.Telling.{TellsSome};
+ghost use Rattle.plinq_collect.specs.Telling.{LacksRoom, TellsSome};
 
 use crate::counted::Counted;
 use crate::first_item::FirstItem;
@@ -68,7 +68,8 @@ where
     A: Aggregator<Item = L::Item>,
     R: Threads + Wait + Sync,
     requires { S.given source ≡ 0 }
-    ensures { Aggregates (A.folding aggregator.now) (answer_of L.meaning query.now.ops (S.whole source)) result }
+    ensures value { Aggregates (A.folding aggregator.now) (answer_of L.meaning query.now.ops (S.whole source)) result }
+    ensures memory { LacksRoom result }
 {
     match to_vec(rt, alloc, query, source) {
         Ok((items, Ending::End)) => Ok(fold_sequential(aggregator, items.as_slice())),
@@ -93,7 +94,8 @@ where
     S: Source<Item = L::Item>,
     R: Threads + Wait + Sync,
     requires { S.given source ≡ 0 }
-    ensures { TellsSome first_of (λ u. u ≡ answer_of L.meaning (query.ops ++ Op.Take (pos 1) ∷ []) (S.whole source)) result }
+    ensures value { TellsSome first_of (λ u. u ≡ answer_of L.meaning (query.ops ++ Op.Take (pos 1) ∷ []) (S.whole source)) result }
+    ensures memory { LacksRoom result }
 {
     let Ok(query) = query.take(1) else {
         return Err(AggregateFault::Run(RunFault::Memory));
@@ -118,7 +120,8 @@ where
     S: Source<Item = L::Item>,
     R: Threads + Wait + Sync,
     requires { S.given source ≡ 0 }
-    ensures { TellsSome first_of (λ u. u ≡ answer_of L.meaning ((query.ops ++ Op.Skip (pos place) ∷ []) ++ Op.Take (pos 1) ∷ []) (S.whole source)) result }
+    ensures value { TellsSome first_of (λ u. u ≡ answer_of L.meaning ((query.ops ++ Op.Skip (pos place) ∷ []) ++ Op.Take (pos 1) ∷ []) (S.whole source)) result }
+    ensures memory { LacksRoom result }
 {
     let Ok(query) = query.skip(i64::from(place)) else {
         return Err(AggregateFault::Run(RunFault::Memory));
@@ -143,7 +146,8 @@ where
     S: Source<Item = L::Item>,
     R: Threads + Wait + Sync,
     requires { S.given source ≡ 0 }
-    ensures { TellsSome has_item (λ u. u ≡ answer_of L.meaning ((query.ops ++ Op.Filter test ∷ []) ++ Op.Take (pos 1) ∷ []) (S.whole source)) result }
+    ensures value { TellsSome has_item (λ u. u ≡ answer_of L.meaning ((query.ops ++ Op.Filter test ∷ []) ++ Op.Take (pos 1) ∷ []) (S.whole source)) result }
+    ensures memory { LacksRoom result }
 {
     let Ok(query) = query.filter(test) else {
         return Err(AggregateFault::Run(RunFault::Memory));
@@ -168,7 +172,8 @@ where
     S: Source<Item = L::Item>,
     R: Threads + Wait + Sync,
     requires { S.given source ≡ 0 }
-    ensures { TellsSome has_none (λ u. u ≡ answer_of L.meaning ((query.ops ++ Op.SkipWhile test ∷ []) ++ Op.Take (pos 1) ∷ []) (S.whole source)) result }
+    ensures value { TellsSome has_none (λ u. u ≡ answer_of L.meaning ((query.ops ++ Op.SkipWhile test ∷ []) ++ Op.Take (pos 1) ∷ []) (S.whole source)) result }
+    ensures memory { LacksRoom result }
 {
     let Ok(query) = query.skip_while(test) else {
         return Err(AggregateFault::Run(RunFault::Memory));
@@ -192,7 +197,8 @@ where
     S: Source<Item = L::Item>,
     R: Threads + Wait + Sync,
     requires { S.given source ≡ 0 }
-    ensures { TellsSome counted (λ u. u ≡ answer_of L.meaning query.now.ops (S.whole source)) result }
+    ensures value { TellsSome counted (λ u. u ≡ answer_of L.meaning query.now.ops (S.whole source)) result }
+    ensures memory { LacksRoom result }
 {
     aggregate(rt, alloc, query, source, &Counted::<L>(PhantomData))
 }
@@ -209,7 +215,8 @@ where
     S: Source<Item = L::Item>,
     R: Threads + Wait + Sync,
     requires { S.given source ≡ 0 }
-    ensures { TellsSome has_item (λ u. u ≡ answer_of L.meaning (query.ops ++ Op.Take (pos 1) ∷ []) (S.whole source)) result }
+    ensures value { TellsSome has_item (λ u. u ≡ answer_of L.meaning (query.ops ++ Op.Take (pos 1) ∷ []) (S.whole source)) result }
+    ensures memory { LacksRoom result }
 {
     let Ok(query) = query.take(1) else {
         return Err(AggregateFault::Run(RunFault::Memory));

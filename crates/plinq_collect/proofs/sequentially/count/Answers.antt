@@ -4,6 +4,6 @@ use Rattle.plinq_collect.specs.Folds.{counted, counting_items, folded-counted}
 use Rattle.plinq_collect.proofs.Gathered.{tells-one}
 use Rattle.plinq_collect.proofs.sequentially.count.Goals as goal
 
-pub returns : goal.returns
-returns g c =
-    tells-one counting_items counted (answer_of g.L.Lambda.meaning c.args.query.now.ops (g.S.Source.whole c.args.source)) c.aggregate.result folded-counted c.aggregate.ensures
+pub returns-clause-value : goal.returns-clause-value
+returns-clause-value g c =
+    tells-one counting_items counted (answer_of g.L.Lambda.meaning c.args.query.now.ops (g.S.Source.whole c.args.source)) c.aggregate.result folded-counted c.aggregate.ensures.value

@@ -7,7 +7,7 @@ use Rattle.plinq_collect.specs.Folds.{first_of}
 use Rattle.plinq_collect.specs.Telling.{TellsSome}
 use Rattle.plinq_collect.proofs.sequentially.element_at.Goals as goal
 
-pub returns : goal.returns
-returns g c =
+pub returns-clause-value : goal.returns-clause-value
+returns-clause-value g c =
     let skipped : c.in-Ok.query ≡ record c.args.query { ops = c.args.query.ops ++ Skip (pos c.args.place) ∷ [] } = search rules in
-    subst (λ q. TellsSome first_of (λ u. u ≡ answer_of g.L.Lambda.meaning (q.ops ++ Take (pos 1) ∷ []) (g.S.Source.whole c.args.source)) c.first.result) skipped c.first.ensures
+    subst (λ q. TellsSome first_of (λ u. u ≡ answer_of g.L.Lambda.meaning (q.ops ++ Take (pos 1) ∷ []) (g.S.Source.whole c.args.source)) c.first.result) skipped c.first.ensures.value
