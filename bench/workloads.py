@@ -74,7 +74,7 @@ PARTS = (
     ("lock", ("plinq_ticket::", "atomic_table::")),
     ("queue, and the caller's loop", ("plinq_run::", "plinq_crew::", "plinq_stream::", "crossbeam_queue::", "crossbeam_utils::")),
     ("sink, and its batches cut", ("plinq_merge::sending::", "circular_buffer::", "plinq_bench::")),
-    ("merger", ("plinq_merge::",)),
+    ("merger", ("plinq_merge::", "plinq_reorder::")),
 )
 
 LINE = re.compile(r"(\S+) (\S+) (\d+) ([\d.]+) (\S+) x[\d.]+ sum=(\S+)")

@@ -101,8 +101,8 @@ module _ {W O T : Type 0} (made : W → O → Trace T → Result (Option Ending)
           → made a x (merged w.order offers) (Err NoMemory) w.taker y
       stopped-at w y offers waits before =
           let is = merged-waits w.order w.row offers waits in
-          subst (λ t. made a x t (Err NoMemory) w.taker y) (followed-open_nil (open_trace waits.holds.out) ∙ sym is)
-          (lawful.stops a x waits.holds.out w.taker y (open_trace []) (subst (λ t. made a x t (Ok None) w.taker y) is before))
+          subst (λ t. made a x t (Err NoMemory) w.taker y) (followed-open_nil (open_trace waits.out) ∙ sym is)
+          (lawful.stops a x waits.out w.taker y (open_trace []) (subst (λ t. made a x t (Ok None) w.taker y) is before))
 
       pub joined-stopped : (j : Joiner W T) (y : O) (offers : List (ChunkResult T)) → WaitsFor j offers → made a x (merged (order_of j) offers) (Ok None) (taker_of j) y
           → made a x (merged (order_of j) offers) (Err NoMemory) (taker_of j) y

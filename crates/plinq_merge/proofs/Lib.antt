@@ -1,7 +1,6 @@
 pub mod Blocks
 pub mod Singles
-pub mod Overlaps
-pub mod Takings
+pub mod Holds
 pub mod Gains
 pub mod Joins
 pub mod Delivered

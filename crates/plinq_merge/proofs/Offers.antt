@@ -61,7 +61,7 @@ module _ {L T : Type 0} (meaning : L → Meaning T) (decided : Bool) where
 
   -- while the answer is open, the next key is the first that is missing
   pub next-is_missing : (w : Work L T) (standing : Standing) (offers : List (ChunkResult T)) → StandsFor meaning decided w standing offers
-      → (answer (merge_of meaning decided w) offers).ending ≡ None → ((key : ℕ) → key < w.row.next → is_offered offers key ≡ true) × (is_offered offers w.row.next ≡ false)
+      → (answer (merge_of meaning decided w) offers).ending ≡ None → ((key : ℕ) → key < w.row.buffer.next → is_offered offers key ≡ true) × (is_offered offers w.row.buffer.next ≡ false)
   next-is_missing w Open offers stands still = next-waits w.order w.row offers stands.waits
   next-is_missing w (Decided e) offers stands still = absurd (let bad : Some e ≡ None = sym stands ∙ still in cc)
   next-is_missing w HasFailed offers stands still = absurd stands

@@ -1,5 +1,5 @@
 -- Joining: which offers a row of keys stands for, and what one more brings to its taker.
-use Rattle.std.specs.Prelude.{◌≡◌, List, [], ◌∷◌, ◌++◌, Bool, true, Option, Some, None, Result, Ok, Err}
+use Rattle.std.specs.Prelude.{◌≡◌, ℕ, List, [], ◌∷◌, ◌++◌, Bool, true, false, Option, Some, None, Result, Ok, Err}
 use Rattle.plinq_source.specs.declared.ending.Ending.{Ending}
 use Rattle.plinq_source.specs.Trace.{Trace, open_trace, followed}
 use Rattle.plinq_ops.specs.declared.order.Order.{Order}
@@ -16,31 +16,29 @@ use Rattle.plinq_merge.specs.declared.row.Row.{Row}
 use Rattle.plinq_merge.specs.declared.joiner.Joiner.{Joiner}
 use Rattle.plinq_merge.specs.declared.joining.Joining.{Joining}
 use Rattle.plinq_merge.specs.Shown.{row as row_of, merged}
-use Rattle.plinq_merge.specs.Keys.{is_apart, AreNew, IsDuplicate}
-use Rattle.plinq_merge.specs.Merging.{content_of, HasTaken, IsAtGap}
+use Rattle.plinq_reorder.specs.Buffered.{is_taken}
+use Rattle.plinq_merge.specs.Keys.{is_offered, AreNew, IsDuplicate}
+use Rattle.plinq_merge.specs.Merging.{Holds}
 
 -- what the row still gives: what waits under the next keys, and the source's ending if this is its place
 abbrev pub rest_of : {T : Type 0} → Row T → Trace T
-rest_of row = row_of row.told row.next row.waiting.entries
+rest_of row = row_of row.told row.buffer.next row.buffer.held
 
--- with this trace in hand, the row stands for these offers: `out` is what was taken of what they merge to
-pub record Holds {T : Type 0} (order : Order) (row : Row T) (hand : Trace T) (offers : List (ChunkResult T)) : Type 0 where
-  pub out : List T
-  pub taken : HasTaken order (content_of row) hand offers out
+-- these keys were offered, and no others
+abbrev pub HasKeys : {T : Type 0} → Row T → List (ChunkResult T) → Type 0
+HasKeys row offers = (key : ℕ) → is_offered offers key ≡ is_taken row.buffer key
 
--- the row stands for these offers, and the next key is missing
+-- the row stands for these offers, and the next key is missing: `out` is all that they merge to
 pub record Waits {T : Type 0} (order : Order) (row : Row T) (offers : List (ChunkResult T)) : Type 0 where
-  pub holds : Holds order row (open_trace []) offers
-  pub gap : IsAtGap (content_of row)
+  pub out : List T
+  pub holds : Holds order row offers (open_trace out)
+  pub keys : HasKeys row offers
+  pub missing : is_taken row.buffer row.buffer.next ≡ false
+  pub nothing : rest_of row ≡ open_trace []
 
--- one result more can be joined
-pub record CanJoin {W T : Type 0} (can_take : W → Bool) (w : Joining W T) : Type 0 where
-  pub taker : can_take w.taker ≡ true
-  pub apart : is_apart w.row.next w.row.waiting.entries ≡ true
-
--- where its answer is open
+-- where its answer is open, one result more can be joined
 abbrev pub IsReady : {W T : Type 0} → (W → Bool) → Joiner W T → Type 0
-IsReady can_take j = j.standing ≡ Open → CanJoin can_take j.work
+IsReady can_take j = j.standing ≡ Open → can_take j.work.taker ≡ true
 
 module _ {W O T : Type 0} (made : W → O → Trace T → Result (Option Ending) DeliveryFault → W → O → Type 0) where
   -- the taker has taken the first items that the row gives, and the row stands for the same offers without them
@@ -49,7 +47,8 @@ module _ {W O T : Type 0} (made : W → O → Trace T → Result (Option Ending)
     pub taken : made w.taker y (open_trace items) (Ok None) w'.taker y'
     pub rest : rest_of w.row ≡ followed (open_trace items) (rest_of w'.row)
     pub order : w'.order ≡ w.order
-    pub holds : (offers : List (ChunkResult T)) → Holds w.order w.row (open_trace []) offers → Holds w'.order w'.row (open_trace []) offers
+    pub holds : (offers : List (ChunkResult T)) (gone : Trace T) → Holds w.order w.row offers gone → Holds w'.order w'.row offers (followed gone (open_trace items))
+    pub keys : (key : ℕ) → is_taken w'.row.buffer key ≡ is_taken w.row.buffer key
 
   -- a result of new keys was joined: the taker has taken what the offers gain by it, and where more may follow, the row
   -- waits for it

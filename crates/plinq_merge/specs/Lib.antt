@@ -1,4 +1,3 @@
-pub mod Part
 pub mod Sending
 pub mod Sent
 pub mod Tokens

@@ -1,8 +1,6 @@
 -- What offered results show: the trace that they merge to, and its batches.
-use Rattle.std.specs.Prelude.{◌≡◌, refl, ℕ, ◌+◌, ◌==◌, List, [], ◌∷◌, Bool, if◌then◌else◌, Option, Some, None}
+use Rattle.std.specs.Prelude.{◌≡◌, refl, ℕ, ◌==◌, List, [], ◌∷◌, map, Bool, if◌then◌else◌, Option, Some, None}
 use Rattle.std.specs.Option.{option_or}
-use Rattle.std.specs.Ordering.{nat_cmp}
-use Rattle.std.specs.BTreeMap.{insert_entry}
 use Rattle.std.specs.Global.{Vec}
 use Rattle.plinq_source.specs.declared.ending.Ending.{Ending}
 use Rattle.plinq_source.specs.declared.ending.Ending.TheVariants.{End, Refused, Fault}
@@ -18,7 +16,8 @@ use Rattle.plinq_ops.specs.Stage.{Stage, seq}
 use Rattle.plinq_ops.specs.Batches.{batches_from}
 use Rattle.plinq_ops.specs.Chunk.{result_trace}
 use Rattle.plinq_ops.specs.Tails.{end_of_result, told_at}
-use Rattle.plinq_merge.specs.Part.{Part}
+use Rattle.plinq_ops.specs.Row.{all_followed}
+use Rattle.plinq_reorder.specs.Intervals.{Interval, insert, unbroken, first_gap}
 
 -- what is merged as soon as it arrives: nothing by key, the result by arrival
 abbrev pub at_once : {T : Type 0} → Order → ChunkResult T → Trace T
@@ -30,16 +29,13 @@ abbrev pub waiting_trace : {T : Type 0} → Order → ChunkResult T → Trace T
 waiting_trace ByKey r = result_trace r
 waiting_trace ByArrival r = open_trace []
 
-abbrev pub part_of : {T : Type 0} → Order → ChunkResult T → Part T
-part_of order r = record { end = end_of_result r; trace = waiting_trace order r }
+-- the interval of a result among the others; one of no keys has none
+abbrev pub placed : {T : Type 0} → Order → List (Interval (Trace T)) → ChunkResult T → List (Interval (Trace T))
+placed order ps r = if r.count == 0 then ps else insert ps r.first (end_of_result r) (waiting_trace order r)
 
--- the place of a result among the others, by its first key; one of no keys has none
-abbrev pub placed : {T : Type 0} → Order → List (ℕ × Part T) → ChunkResult T → List (ℕ × Part T)
-placed order parts r = if r.count == 0 then parts else insert_entry nat_cmp parts r.first (part_of order r)
-
-abbrev pub all_placed : {T : Type 0} → Order → List (ℕ × Part T) → List (ChunkResult T) → List (ℕ × Part T)
-all_placed order parts [] = parts
-all_placed order parts (r ∷ rs) = all_placed order (placed order parts r) rs
+abbrev pub all_placed : {T : Type 0} → Order → List (Interval (Trace T)) → List (ChunkResult T) → List (Interval (Trace T))
+all_placed order ps [] = ps
+all_placed order ps (r ∷ rs) = all_placed order (placed order ps r) rs
 
 -- the first that was reported
 abbrev pub all_told : {T : Type 0} → Option (ℕ × Ending) → List (ChunkResult T) → Option (ℕ × Ending)
@@ -51,12 +47,13 @@ abbrev pub ending_at : Option (ℕ × Ending) → ℕ → Option Ending
 ending_at None key = None
 ending_at (Some at) key = if at.0 == key then Some at.1 else None
 
--- the unbroken row of keys from this one on, up to and with the first part that ends the run; after it the source's
--- ending, if this is its place
-abbrev pub row : {T : Type 0} → Option (ℕ × Ending) → ℕ → List (ℕ × Part T) → Trace T
-row told key [] = record { items = []; ending = ending_at told key }
-row told key (p ∷ ps) =
-    if p.0 == key then followed p.1.trace (row told p.1.end ps) else record { items = []; ending = ending_at told key }
+-- what intervals give one after another, up to and with the first that ends the run
+abbrev pub all_given : {T : Type 0} → List (Interval (Trace T)) → Trace T
+all_given ps = all_followed (map (λ p. p.1.payload) ps)
+
+-- the unbroken row of keys from this one on; after it the source's ending, if the first gap is its place
+abbrev pub row : {T : Type 0} → Option (ℕ × Ending) → ℕ → List (Interval (Trace T)) → Trace T
+row told key ps = followed (all_given (unbroken key ps)) (record { items = []; ending = ending_at told (first_gap key ps) })
 
 -- what was merged at once, in the order of arrival
 abbrev pub arrived : {T : Type 0} → Order → List (ChunkResult T) → Trace T
@@ -89,7 +86,7 @@ shown merge offers = batches_from merge.size [] (answer merge offers)
 -- keys 0 and 1, a gap at 2, and key 3
 abbrev row_with_a_gap : Option (ℕ × Ending) → Trace ℕ
 row_with_a_gap told =
-    row told 0 ((0, record { end = 2; trace = open_trace (4 ∷ 2 ∷ []) }) ∷ (3, record { end = 4; trace = open_trace (9 ∷ []) }) ∷ [])
+    row told 0 ((0, record { end = 2; payload = open_trace (4 ∷ 2 ∷ []) }) ∷ (3, record { end = 4; payload = open_trace (9 ∷ []) }) ∷ [])
 
 up_to_the_gap : row_with_a_gap None ≡ open_trace (4 ∷ 2 ∷ [])
 up_to_the_gap = refl
@@ -101,7 +98,7 @@ tail_after_a_gap = refl
 tail_in_its_place : row_with_a_gap (Some (2, Refused 3)) ≡ ended (4 ∷ 2 ∷ []) (Refused 3)
 tail_in_its_place = refl
 
-nothing_after_a_fault : row {T = ℕ} (Some (2, End)) 0 ((0, record { end = 1; trace = ended (4 ∷ []) (Fault 1) }) ∷ (1, record { end = 2; trace = open_trace (2 ∷ []) }) ∷ [])
+nothing_after_a_fault : row {T = ℕ} (Some (2, End)) 0 ((0, record { end = 1; payload = ended (4 ∷ []) (Fault 1) }) ∷ (1, record { end = 2; payload = open_trace (2 ∷ []) }) ∷ [])
     ≡ ended (4 ∷ []) (Fault 1)
 nothing_after_a_fault = refl
 

@@ -82,7 +82,7 @@ impl<W: Taker> Joiner<W, W::Item> {
             Standing::Open => {}
         }
         let end = offered.first + offered.count;
-        if self.work.row.was_offered(offered.first, end) {
+        if self.work.row.buffer.overlaps(offered.first, end) {
             return Err(MergeFault::Twice);
         }
         match self.work.join(offered, out) {
@@ -127,7 +127,7 @@ impl<W: Taker> Joiner<W, W::Item> {
         ensures { (offers : List (ChunkResult W.Item)) → WaitsFor self.now offers →
             ((key : ℕ) → key < result → is_offered offers key ≡ true) × (is_offered offers result ≡ false) }
     {
-        self.work.row.next
+        self.work.row.buffer.next_key()
     }
 
     /// How many items had their turn so far, or the greatest number where there were more. Takes no memory.

@@ -2,13 +2,14 @@ ghost use Rattle.std.specs.Prelude.{◌≡◌, ◌≤◌, ◌^◌, List, [], tru
 ghost use Rattle.plinq_ops.specs.declared.results.ChunkResult.{ChunkResult};
 ghost use Rattle.plinq_ops.specs.Tails.{end_of_result};
 ghost use Rattle.plinq_source.specs.Trace.{open_trace};
-ghost use Rattle.plinq_merge.specs.Keys.{is_apart, IsFresh};
-ghost use Rattle.plinq_merge.specs.Joining.{rest_of, CanJoin, Holds, Waits, Joins};
+ghost use Rattle.plinq_reorder.specs.Buffered.{IsFresh};
+ghost use Rattle.plinq_merge.specs.Merging.{Holds};
+ghost use Rattle.plinq_merge.specs.Joining.{rest_of, HasKeys, Waits, Joins};
 
 use crate::delivery_fault::DeliveryFault;
+use crate::pending::Pending;
 use crate::row::Row;
 use crate::taker::{TakeInto, Taker};
-use crate::waiting::Waiting;
 use plinq_ops::{ChunkResult, Order};
 use plinq_source::Ending;
 use std::alloc::Global;
@@ -29,7 +30,6 @@ impl<W: Taker> Joining<W, W::Item> {
     pub(crate) fn new(alloc: Global, order: Order, taker: W) -> Joining<W, W::Item>
         ensures order { result.order ≡ order }
         ensures taker { result.taker ≡ taker }
-        ensures apart { is_apart result.row.next result.row.waiting.entries ≡ true }
         ensures nothing { Waits result.order result.row [] }
     {
         Joining {
@@ -51,10 +51,10 @@ impl<W: Taker> Joining<W, W::Item> {
     ) -> Result<Option<Ending>, DeliveryFault>
     where
         W: TakeInto<O>,
-        requires ready { CanJoin W.can_take self.old }
+        requires ready { W.can_take self.old.taker ≡ true }
         requires within { end_of_result offered ≤ 2 ^ 40 }
-        requires fresh { IsFresh self.old.row.next self.old.row.waiting.entries offered.first (end_of_result offered) }
-        ensures ready { result ≡ Ok None → CanJoin W.can_take self.new }
+        requires fresh { IsFresh self.old.row.buffer offered.first (end_of_result offered) }
+        ensures ready { result ≡ Ok None → W.can_take self.new.taker ≡ true }
         ensures order { self.new.order ≡ self.old.order }
         ensures joins { Joins W.made self.old offered out.old result self.new out.new }
     {
@@ -70,15 +70,14 @@ impl<W: Taker> Joining<W, W::Item> {
     fn drain<O>(&mut self, out: &mut O) -> Result<Option<Ending>, DeliveryFault>
     where
         W: TakeInto<O>,
-        requires ready { CanJoin W.can_take self.old }
-        ensures ready { result ≡ Ok None → CanJoin W.can_take self.new }
+        requires ready { W.can_take self.old.taker ≡ true }
+        ensures ready { result ≡ Ok None → W.can_take self.new.taker ≡ true }
         ensures order { self.new.order ≡ self.old.order }
         ensures takes { W.made self.old.taker out.old (rest_of self.old.row) result self.new.taker out.new }
-        ensures waits { result ≡ Ok None → (offers : List (ChunkResult W.Item)) →
-            Holds self.old.order self.old.row (open_trace []) offers → Waits self.new.order self.new.row offers }
+        ensures waits { result ≡ Ok None → (offers : List (ChunkResult W.Item)) (out : List W.Item) →
+            Holds self.old.order self.old.row offers (open_trace out) → HasKeys self.old.row offers → Waits self.new.order self.new.row offers }
     {
-        while self.row.is_next_there() {
-            let part = self.row.take_next();
+        while let Some(part) = self.row.buffer.take_next() {
             let ending = self.take(part, out)?;
             if ending.is_some() {
                 return Ok(ending);
@@ -94,7 +93,7 @@ impl<W: Taker> Joining<W, W::Item> {
     /// Gives the taker items whose turn has come.
     fn take<O>(
         &mut self,
-        hand: Waiting<W::Item>,
+        hand: Pending<W::Item>,
         out: &mut O,
     ) -> Result<Option<Ending>, DeliveryFault>
     where
@@ -103,8 +102,8 @@ impl<W: Taker> Joining<W, W::Item> {
         ensures ready { result ≡ Ok None → W.can_take self.new.taker ≡ true }
         ensures row { self.new.row ≡ self.old.row }
         ensures order { self.new.order ≡ self.old.order }
-        ensures last { result ≡ Ok None → hand.trace.ending ≡ None }
-        ensures takes { W.made self.old.taker out.old hand.trace result self.new.taker out.new }
+        ensures last { result ≡ Ok None → hand.ending ≡ None }
+        ensures takes { W.made self.old.taker out.old hand result self.new.taker out.new }
     {
         self.items = self.items.saturating_add(hand.items.len() as u64);
         self.taker.take(hand.items, hand.ending, out)

@@ -31,12 +31,12 @@ mod merging;
 mod more;
 mod never_cancel;
 mod offering;
+mod pending;
 mod row;
 mod sending;
 mod sink;
 mod standing;
 mod taker;
-mod waiting;
 mod with_cancellation;
 
 pub use cancel::Cancel;

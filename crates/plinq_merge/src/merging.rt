@@ -91,7 +91,7 @@ impl<'a, L: Lambda> Merger<'a, L> {
             (answer (plan_of self.now) offers).ending ≡ None →
             ((key : ℕ) → key < result → is_offered offers key ≡ true) × (is_offered offers result ≡ false) }
     {
-        self.joiner.work.row.next
+        self.joiner.merged()
     }
 
     /// How many items of results were merged so far; those of other results wait. Takes no memory.

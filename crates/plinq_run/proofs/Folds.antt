@@ -3,8 +3,8 @@ use Rattle.std.specs.Prelude.{◌≡◌, ℕ, ◌+◌, ◌==◌, List, [], ◌�
 use Rattle.std.specs.List.{fold}
 use Rattle.std.specs.Option.{option_or}
 use Rattle.std.specs.Ordering.{nat_cmp, match_ordering}
+use Rattle.std.specs.declared.cmp.Ordering.{Ordering}
 use Rattle.std.specs.declared.cmp.Ordering.TheVariants.{Less, Equal, Greater}
-use Rattle.std.specs.BTreeMap.{insert_entry}
 use Rattle.std.proofs.Common.{sym, ◌∙◌, ap, subst, append_assoc, append-nil}
 use Rattle.std.proofs.lemmas.List.Sums.{fold-append}
 use Rattle.plinq_source.specs.declared.ending.Ending.{Ending}
@@ -15,8 +15,9 @@ use Rattle.plinq_ops.specs.declared.order.Order.TheVariants.{ByKey, ByArrival}
 use Rattle.plinq_ops.specs.declared.results.ChunkResult.{ChunkResult}
 use Rattle.plinq_ops.specs.Chunk.{result_trace, run_ending}
 use Rattle.plinq_ops.specs.Tails.{end_of_result, told_at}
-use Rattle.plinq_merge.specs.Part.{Part}
-use Rattle.plinq_merge.specs.Shown.{at_once, waiting_trace, part_of, placed, all_placed, all_told, ending_at, row, arrived, merged}
+use Rattle.plinq_reorder.specs.declared.span.Span.{Span}
+use Rattle.plinq_reorder.specs.Intervals.{Interval, insert, unbroken, first_gap}
+use Rattle.plinq_merge.specs.Shown.{at_once, waiting_trace, placed, all_placed, all_told, all_given, ending_at, row, arrived, merged}
 use Rattle.plinq_run.specs.inner.Folds.{combined, IsFoldOf, AreFoldsOf, StandFor, IsFolded}
 
 module _ {T A O : Type 0} (f : Folding T A O) where
@@ -44,51 +45,62 @@ module _ {T A O : Type 0} (f : Folding T A O) where
   followed-folded t t' u u' first second =
       subst (λ e. IsFolded f (followed t t') (continued u.items e u')) (sym first.ending) (continued-folded t.items u.items t.ending t' u' first.items second)
 
-  -- a part of a row of keys, and one of folds
-  record ArePartsAlike (p : ℕ × Part T) (q : ℕ × Part A) : Type 0 where
+  -- an interval of results, and one of folds
+  record AreAlike (p : Interval (Trace T)) (q : Interval (Trace A)) : Type 0 where
     pub key : q.0 ≡ p.0
     pub end : q.1.end ≡ p.1.end
-    pub trace : IsFolded f p.1.trace q.1.trace
+    pub trace : IsFolded f p.1.payload q.1.payload
 
-  abbrev AreRowsAlike : List (ℕ × Part T) → List (ℕ × Part A) → Type 0
+  abbrev AreRowsAlike : List (Interval (Trace T)) → List (Interval (Trace A)) → Type 0
   AreRowsAlike [] [] = ⊤
   AreRowsAlike [] (q ∷ qs) = ⊥
   AreRowsAlike (p ∷ ps) [] = ⊥
-  AreRowsAlike (p ∷ ps) (q ∷ qs) = ArePartsAlike p q × AreRowsAlike ps qs
+  AreRowsAlike (p ∷ ps) (q ∷ qs) = AreAlike p q × AreRowsAlike ps qs
 
-  row-folded : (told : Option (ℕ × Ending)) (key : ℕ) (ps : List (ℕ × Part T)) (qs : List (ℕ × Part A)) → AreRowsAlike ps qs → IsFolded f (row told key ps) (row told key qs)
-  row-folded told key [] [] alike = folded-ending (ending_at told key)
-  row-folded told key [] (q ∷ qs) alike = absurd alike
-  row-folded told key (p ∷ ps) [] alike = absurd alike
-  row-folded told key (p ∷ ps) (q ∷ qs) alike =
+  given-folded : (ps : List (Interval (Trace T))) (qs : List (Interval (Trace A))) → AreRowsAlike ps qs → IsFolded f (all_given ps) (all_given qs)
+  given-folded [] [] alike = folded-nothing
+  given-folded [] (q ∷ qs) alike = absurd alike
+  given-folded (p ∷ ps) [] alike = absurd alike
+  given-folded (p ∷ ps) (q ∷ qs) alike =
       let one = alike.0 in
-      let rest : IsFolded f (row told p.1.end ps) (row told q.1.end qs) =
-      subst (λ k. IsFolded f (row told p.1.end ps) (row told k qs)) (sym one.end) (row-folded told p.1.end ps qs alike.1) in
-      let both = followed-folded p.1.trace (row told p.1.end ps) q.1.trace (row told q.1.end qs) one.trace rest in
-      let gap = folded-ending (ending_at told key) in
-      let here : (b : Bool) → IsFolded f (cond b (followed p.1.trace (row told p.1.end ps)) (record { items = []; ending = ending_at told key }))
-      (cond b (followed q.1.trace (row told q.1.end qs)) (record { items = []; ending = ending_at told key })) = elim [ true ↦ both | false ↦ gap ] in
-      subst (λ k. IsFolded f (cond (p.0 == key) (followed p.1.trace (row told p.1.end ps)) (record { items = []; ending = ending_at told key }))
-      (cond (k == key) (followed q.1.trace (row told q.1.end qs)) (record { items = []; ending = ending_at told key }))) (sym one.key) (here (p.0 == key))
+      followed-folded p.1.payload (all_given ps) q.1.payload (all_given qs) one.trace (given-folded ps qs alike.1)
 
-  insert-alike : (ps : List (ℕ × Part T)) (qs : List (ℕ × Part A)) (key : ℕ) (p : Part T) (q : Part A) → AreRowsAlike ps qs → q.end ≡ p.end → IsFolded f p.trace q.trace
-      → AreRowsAlike (insert_entry nat_cmp ps key p) (insert_entry nat_cmp qs key q)
-  insert-alike [] [] key p q alike end trace = (record { key = refl; end = end; trace = trace }, tt)
-  insert-alike [] (b ∷ bs) key p q alike end trace = absurd alike
-  insert-alike (a ∷ ps) [] key p q alike end trace = absurd alike
-  insert-alike (a ∷ ps) (b ∷ qs) key p q alike end trace =
+  unbroken-alike : (key : ℕ) (ps : List (Interval (Trace T))) (qs : List (Interval (Trace A))) → AreRowsAlike ps qs
+      → AreRowsAlike (unbroken key ps) (unbroken key qs) × (first_gap key qs ≡ first_gap key ps)
+  unbroken-alike key [] [] alike = (tt, refl)
+  unbroken-alike key [] (q ∷ qs) alike = absurd alike
+  unbroken-alike key (p ∷ ps) [] alike = absurd alike
+  unbroken-alike key (p ∷ ps) (q ∷ qs) alike =
       let one = alike.0 in
-      let later = insert-alike ps qs key p q alike.1 end trace in
-      let here : AreRowsAlike (match_ordering (nat_cmp key a.0) ((key, p) ∷ a ∷ ps) ((a.0, p) ∷ ps) (a ∷ insert_entry nat_cmp ps key p))
-      (match_ordering (nat_cmp key a.0) ((key, q) ∷ b ∷ qs) ((b.0, q) ∷ qs) (b ∷ insert_entry nat_cmp qs key q)) =
-      elim (nat_cmp key a.0) as (λ o. AreRowsAlike (match_ordering o ((key, p) ∷ a ∷ ps) ((a.0, p) ∷ ps) (a ∷ insert_entry nat_cmp ps key p))
-      (match_ordering o ((key, q) ∷ b ∷ qs) ((b.0, q) ∷ qs) (b ∷ insert_entry nat_cmp qs key q))) [
-        | Less ↦ (record { key = refl; end = end; trace = trace }, alike)
-        | Equal ↦ (record { key = one.key; end = end; trace = trace }, alike.1)
-        | Greater ↦ (one, later)
+      let later = subst (λ k. AreRowsAlike (unbroken p.1.end ps) (unbroken k qs) × (first_gap k qs ≡ first_gap p.1.end ps)) (sym one.end) (unbroken-alike p.1.end ps qs alike.1) in
+      let here : (b : Bool) → AreRowsAlike (cond b (p ∷ unbroken p.1.end ps) []) (cond b (q ∷ unbroken q.1.end qs) []) × (cond b (first_gap q.1.end qs) key ≡ cond b (first_gap p.1.end ps) key) =
+      elim [ true ↦ ((one, later.0), later.1) | false ↦ (tt, refl) ] in
+      subst (λ k. AreRowsAlike (unbroken key (p ∷ ps)) (cond (k == key) (q ∷ unbroken q.1.end qs) []) × (cond (k == key) (first_gap q.1.end qs) key ≡ first_gap key (p ∷ ps)))
+      (sym one.key) (here (p.0 == key))
+
+  row-folded : (told : Option (ℕ × Ending)) (key : ℕ) (ps : List (Interval (Trace T))) (qs : List (Interval (Trace A))) → AreRowsAlike ps qs → IsFolded f (row told key ps) (row told key qs)
+  row-folded told key ps qs alike =
+      let at = unbroken-alike key ps qs alike in
+      let last : Trace T = record { items = []; ending = ending_at told (first_gap key ps) } in
+      followed-folded (all_given (unbroken key ps)) last (all_given (unbroken key qs)) (record { items = []; ending = ending_at told (first_gap key qs) }) (given-folded (unbroken key ps) (unbroken key qs) at.0)
+      (subst (λ k. IsFolded f last (record { items = []; ending = ending_at told k })) (sym at.1) (folded-ending (ending_at told (first_gap key ps))))
+
+  insert-alike : (ps : List (Interval (Trace T))) (qs : List (Interval (Trace A))) (first end : ℕ) (p : Trace T) (q : Trace A) → AreRowsAlike ps qs → IsFolded f p q
+      → AreRowsAlike (insert ps first end p) (insert qs first end q)
+  insert-alike [] [] first end p q alike trace = (record { key = refl; end = refl; trace = trace }, tt)
+  insert-alike [] (b ∷ bs) first end p q alike trace = absurd alike
+  insert-alike (a ∷ ps) [] first end p q alike trace = absurd alike
+  insert-alike (a ∷ ps) (b ∷ qs) first end p q alike trace =
+      let one = alike.0 in
+      let r : Span (Trace T) = record { end = end; payload = p } in
+      let s : Span (Trace A) = record { end = end; payload = q } in
+      let here : (o : Ordering) → AreRowsAlike (match_ordering o ((first, r) ∷ a ∷ ps) ((a.0, r) ∷ ps) (a ∷ insert ps first end p)) (match_ordering o ((first, s) ∷ b ∷ qs) ((b.0, s) ∷ qs) (b ∷ insert qs first end q)) =
+      elim [
+        | Less ↦ (record { key = refl; end = refl; trace = trace }, alike)
+        | Equal ↦ (record { key = one.key; end = refl; trace = trace }, alike.1)
+        | Greater ↦ (one, insert-alike ps qs first end p q alike.1 trace)
       ] in
-      subst (λ k. AreRowsAlike (match_ordering (nat_cmp key a.0) ((key, p) ∷ a ∷ ps) ((a.0, p) ∷ ps) (a ∷ insert_entry nat_cmp ps key p))
-      (match_ordering (nat_cmp key k) ((key, q) ∷ b ∷ qs) ((b.0, q) ∷ qs) (b ∷ insert_entry nat_cmp qs key q))) (sym one.key) here
+      subst (λ k. AreRowsAlike (insert (a ∷ ps) first end p) (match_ordering (nat_cmp first k) ((first, s) ∷ b ∷ qs) ((b.0, s) ∷ qs) (b ∷ insert qs first end q))) (sym one.key) (here (nat_cmp first a.0))
 
   result-folded : IsFolding f → (r : ChunkResult T) (c : ChunkResult A) → IsFoldOf f r c → IsFolded f (result_trace r) (result_trace c)
   result-folded lawful r c is =
@@ -108,16 +120,16 @@ module _ {T A O : Type 0} (f : Folding T A O) where
   once-folded lawful ByKey r c is = folded-nothing
   once-folded lawful ByArrival r c is = result-folded lawful r c is
 
-  placed-alike : IsFolding f → (order : Order) (ps : List (ℕ × Part T)) (qs : List (ℕ × Part A)) (r : ChunkResult T) (c : ChunkResult A) → AreRowsAlike ps qs → IsFoldOf f r c
+  placed-alike : IsFolding f → (order : Order) (ps : List (Interval (Trace T))) (qs : List (Interval (Trace A))) (r : ChunkResult T) (c : ChunkResult A) → AreRowsAlike ps qs → IsFoldOf f r c
       → AreRowsAlike (placed order ps r) (placed order qs c)
   placed-alike lawful order ps qs r c alike is =
-      let inserted = insert-alike ps qs r.first (part_of order r) (part_of order c) alike (after-alike r c is) (waiting-folded lawful order r c is) in
-      let here : (b : Bool) → AreRowsAlike (cond b ps (insert_entry nat_cmp ps r.first (part_of order r))) (cond b qs (insert_entry nat_cmp qs r.first (part_of order c))) =
+      let inserted = insert-alike ps qs r.first (end_of_result r) (waiting_trace order r) (waiting_trace order c) alike (waiting-folded lawful order r c is) in
+      let here : (b : Bool) → AreRowsAlike (cond b ps (insert ps r.first (end_of_result r) (waiting_trace order r))) (cond b qs (insert qs r.first (end_of_result r) (waiting_trace order c))) =
       elim [ true ↦ alike | false ↦ inserted ] in
-      subst (λ n. AreRowsAlike (placed order ps r) (cond (n == 0) qs (insert_entry nat_cmp qs c.first (part_of order c)))) (sym is.count)
-      (subst (λ k. AreRowsAlike (placed order ps r) (cond (r.count == 0) qs (insert_entry nat_cmp qs k (part_of order c)))) (sym is.first) (here (r.count == 0)))
+      subst (λ n. AreRowsAlike (placed order ps r) (cond (n == 0) qs (insert qs c.first (c.first + n) (waiting_trace order c)))) (sym is.count)
+      (subst (λ k. AreRowsAlike (placed order ps r) (cond (r.count == 0) qs (insert qs k (k + r.count) (waiting_trace order c)))) (sym is.first) (here (r.count == 0)))
 
-  all_placed-alike : IsFolding f → (order : Order) (ps : List (ℕ × Part T)) (qs : List (ℕ × Part A)) (rs : List (ChunkResult T)) (cs : List (ChunkResult A)) → AreRowsAlike ps qs → AreFoldsOf f rs cs
+  all_placed-alike : IsFolding f → (order : Order) (ps : List (Interval (Trace T))) (qs : List (Interval (Trace A))) (rs : List (ChunkResult T)) (cs : List (ChunkResult A)) → AreRowsAlike ps qs → AreFoldsOf f rs cs
       → AreRowsAlike (all_placed order ps rs) (all_placed order qs cs)
   all_placed-alike lawful order ps qs [] [] alike are = alike
   all_placed-alike lawful order ps qs [] (c ∷ cs) alike are = absurd are

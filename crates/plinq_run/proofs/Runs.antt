@@ -57,7 +57,7 @@ module _ {L T : Type 0} (meaning : L → Meaning T) (plan : Plan L) (t : Trace T
 
   begun-in : (order : Order) → plan.order ≡ order → length t.items ≤ 2 ^ 40 → IsUndecided plan → (offers : List (ChunkResult T)) → All (IsResult meaning plan t) offers → AreApart offers → HasBegun offers
   begun-in ByKey by few undecided offers are apart =
-      let begins = merged-begins meaning plan.worker.now t offers few (are-offers offers are) (are-true_tails offers are) in
+      let begins = merged-begins meaning plan.worker.now t few offers (are-offers offers are) (are-true_tails offers are) in
       record {
         taken = t;
         may = subst (λ o. MayTake o t t) (sym by) refl;

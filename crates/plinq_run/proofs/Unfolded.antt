@@ -16,7 +16,8 @@ use Rattle.plinq_ops.specs.Stage.{seq}
 use Rattle.plinq_ops.specs.Tails.{end_of_result}
 use Rattle.plinq_merge.specs.declared.delivery_fault.DeliveryFault.{DeliveryFault}
 use Rattle.plinq_merge.specs.declared.delivery_fault.DeliveryFault.TheVariants.{Memory as NoMemory, Sink as Refusal}
-use Rattle.plinq_merge.specs.Keys.{is_within, is_offered}
+use Rattle.plinq_reorder.specs.Intervals.{is_within}
+use Rattle.plinq_merge.specs.Keys.{is_offered}
 use Rattle.plinq_merge.specs.Shown.{merged, answer}
 use Rattle.plinq_merge.specs.Whole.{AreApart}
 use Rattle.plinq_merge.proofs.Gains.{answer-open}

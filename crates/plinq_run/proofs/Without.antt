@@ -6,10 +6,11 @@ use Rattle.std.proofs.lemmas.List.{take-append-drop, length-take-le, length-drop
 use Rattle.std.proofs.lemmas.List.Sorted.{IsPermutation-refl, IsPermutation-trans, IsPermutation-append_comm, IsPermutation-append_left}
 use Rattle.plinq_ops.specs.declared.results.ChunkResult.{ChunkResult}
 use Rattle.plinq_ops.specs.Tails.{end_of_result}
-use Rattle.plinq_merge.specs.Keys.{is_within, is_offered, AreNew}
+use Rattle.plinq_reorder.specs.Intervals.{is_within}
+use Rattle.plinq_merge.specs.Keys.{is_offered, AreNew}
 use Rattle.plinq_merge.specs.Whole.{AreApart}
-use Rattle.plinq_merge.proofs.Overlaps.{within-from, not_within-before, not_within-after}
-use Rattle.plinq_merge.proofs.Takings.{is_offered-append}
+use Rattle.plinq_reorder.proofs.Keys.{within-from, not_within-before, not_within-after}
+use Rattle.plinq_merge.proofs.Holds.{is_offered-append}
 
 -- the items that aren't at these places, counted from k
 abbrev pub without : {T : Type 0} → (ℕ → Bool) → ℕ → List T → List T

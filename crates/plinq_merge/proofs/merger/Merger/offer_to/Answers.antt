@@ -7,7 +7,7 @@ returns-clause-takes g c =
     let j = c.offer.new.self in
     let joined = c.offer.ensures in
     offers-joined g.L.Lambda.meaning m.decided g.K.Sink.accepts g.K.Sink.refuses m.joiner.work m.joiner.standing c.args.offered c.args.sink.now c.offer.result j.work j.standing c.offer.new.out
-    joined.order (λ still. let ready = joined.ready still in nothing-given g.L.Lambda.meaning j.work.taker ready.taker) joined.takes
+    joined.order (λ still. nothing-given g.L.Lambda.meaning j.work.taker (joined.ready still)) joined.takes
 
 pub returns-clause-sends : goal.returns-clause-sends
 returns-clause-sends g c =

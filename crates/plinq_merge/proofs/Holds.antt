@@ -1,0 +1,233 @@
+-- What a row of keys stands for: with one offer more, and once the interval under its next key has gone.
+use Rattle.std.specs.Prelude.{◌≡◌, ℕ, ◌<◌, ◌==◌, List, [], ◌∷◌, ◌++◌, true, false, ◌||◌, cond, Option, Some, None, All, refl}
+use Rattle.std.specs.Option.{option_or, unwrap_or}
+use Rattle.std.proofs.Common.{sym, ◌∙◌, ap, subst, arith, append_assoc}
+use Rattle.std.proofs.lemmas.Bool.Decides.{nat_tests}
+use Rattle.std.proofs.lemmas.List.Elements.{All-nil, All-cons, All-head, All-tail, All-push, All-weaker}
+use Rattle.std.proofs.Math.Bool.{or_assoc, or-false}
+use Rattle.plinq_source.specs.declared.ending.Ending.{Ending}
+use Rattle.plinq_source.specs.Trace.{Trace, open_trace, followed}
+use Rattle.plinq_source.proofs.Followed.{trace_of, followed-followed, followed-open_nil}
+use Rattle.plinq_ops.specs.declared.order.Order.{Order}
+use Rattle.plinq_ops.specs.declared.order.Order.TheVariants.{ByKey, ByArrival}
+use Rattle.plinq_ops.specs.declared.results.ChunkResult.{ChunkResult}
+use Rattle.plinq_ops.specs.Chunk.{result_trace}
+use Rattle.plinq_ops.specs.Tails.{end_of_result, told_at}
+use Rattle.plinq_reorder.specs.Intervals.{Interval, is_within, insert, unbroken, first_gap, IsRow}
+use Rattle.plinq_reorder.specs.Buffered.{Buffered, IsFresh, inserted, TakesNext, IsAtGap, Inserts}
+use Rattle.plinq_reorder.proofs.Insert.{All-insert, insert-after, after-next}
+use Rattle.plinq_reorder.proofs.Gap.{row-append, row-push}
+use Rattle.plinq_merge.specs.declared.row.Row.{Row}
+use Rattle.plinq_merge.specs.Shown.{at_once, waiting_trace, placed, all_placed, all_told, all_given, ending_at, row as row_of, arrived, merged}
+use Rattle.plinq_merge.specs.Keys.{is_offered}
+use Rattle.plinq_merge.specs.Merging.{Holds, TakesIn}
+use Rattle.plinq_merge.specs.Joining.{rest_of}
+
+module _ {T : Type 0} where
+  -- ---- one offer more
+
+  all_placed-append : (order : Order) (ps : List (Interval (Trace T))) (offers : List (ChunkResult T)) (r : ChunkResult T)
+      → all_placed order ps (offers ++ r ∷ []) ≡ placed order (all_placed order ps offers) r
+  all_placed-append order ps [] r = refl
+  all_placed-append order ps (o ∷ os) r = all_placed-append order (placed order ps o) os r
+
+  all_told-append : (told : Option (ℕ × Ending)) (offers : List (ChunkResult T)) (r : ChunkResult T)
+      → all_told told (offers ++ r ∷ []) ≡ option_or (all_told told offers) (told_at (end_of_result r) r.tail)
+  all_told-append told [] r = refl
+  all_told-append told (o ∷ os) r = all_told-append (option_or told (told_at (end_of_result o) o.tail)) os r
+
+  arrived-append : (order : Order) (offers : List (ChunkResult T)) (r : ChunkResult T) → arrived order (offers ++ r ∷ []) ≡ followed (arrived order offers) (at_once order r)
+  arrived-append order [] r = followed-open_nil (at_once order r)
+  arrived-append order (o ∷ os) r = ap (followed (at_once order o)) (arrived-append order os r) ∙ sym (followed-followed (at_once order o) (arrived order os) (at_once order r))
+
+  pub is_offered-append : (offers : List (ChunkResult T)) (r : ChunkResult T) (key : ℕ) → is_offered (offers ++ r ∷ []) key ≡ is_offered offers key || is_within r.first (end_of_result r) key
+  is_offered-append [] r key = or-false (is_within r.first (end_of_result r) key)
+  is_offered-append (o ∷ os) r key =
+      ap (λ b. is_within o.first (end_of_result o) key || b) (is_offered-append os r key)
+      ∙ sym (or_assoc (is_within o.first (end_of_result o) key) (is_offered os key) (is_within r.first (end_of_result r) key))
+
+  -- by key nothing is merged at once
+  pub arrived-by_key : (offers : List (ChunkResult T)) → arrived ByKey offers ≡ open_trace []
+  arrived-by_key [] = refl
+  arrived-by_key (o ∷ os) = arrived-by_key os
+
+  -- ---- the intervals of all offers
+
+  -- what is true of each result's interval is true of all
+  pub All-placed : (Q : Interval (Trace T) → Type 0) (order : Order) (ps : List (Interval (Trace T))) (offers : List (ChunkResult T)) → All Q ps
+      → All (λ r. Q (r.first, record { end = end_of_result r; payload = waiting_trace order r })) offers → All Q (all_placed order ps offers)
+  All-placed Q order ps [] all are = all
+  All-placed Q order ps (r ∷ rs) all are =
+      let R : ChunkResult T → Type 0 = λ o. Q (o.first, record { end = end_of_result o; payload = waiting_trace order o }) in
+      All-placed Q order (placed order ps r) rs
+      (elim (r.count == 0) as (λ v. All Q (cond v ps (insert ps r.first (end_of_result r) (waiting_trace order r)))) [
+        | true ↦ all
+        | false ↦ All-insert Q ps r.first (end_of_result r) (waiting_trace order r) all (All-head R r rs are)
+      ]) (All-tail R r rs are)
+
+  -- by arrival they give nothing
+  pub nothing-placed : (offers : List (ChunkResult T)) → All (λ p. p.1.payload ≡ open_trace []) (all_placed ByArrival [] offers)
+  nothing-placed offers = All-placed (λ p. p.1.payload ≡ open_trace []) ByArrival [] offers (All-nil (λ p. p.1.payload ≡ open_trace [])) (all-refl offers)
+    where
+      all-refl : (rs : List (ChunkResult T)) → All (λ r. waiting_trace ByArrival r ≡ open_trace []) rs
+      all-refl [] = All-nil (λ r. waiting_trace ByArrival r ≡ open_trace [])
+      all-refl (r ∷ rs) = All-cons (λ r. waiting_trace ByArrival r ≡ open_trace []) r rs refl (all-refl rs)
+
+  pub nothing-given : (ps : List (Interval (Trace T))) → All (λ p. p.1.payload ≡ open_trace []) ps → all_given ps ≡ open_trace []
+  nothing-given [] none = refl
+  nothing-given (p ∷ ps) none =
+      ap (λ t. followed t (all_given ps)) (All-head (λ q. q.1.payload ≡ open_trace []) p ps none) ∙ nothing-given ps (All-tail (λ q. q.1.payload ≡ open_trace []) p ps none)
+
+  All-first : (Q : Interval (Trace T) → Type 0) (ps qs : List (Interval (Trace T))) → All Q (ps ++ qs) → All Q ps
+  All-first Q [] qs all = All-nil Q
+  All-first Q (p ∷ ps) qs all = All-cons Q p ps (All-head Q p (ps ++ qs) all) (All-first Q ps qs (All-tail Q p (ps ++ qs) all))
+
+  all_given-append : (ps qs : List (Interval (Trace T))) → all_given (ps ++ qs) ≡ followed (all_given ps) (all_given qs)
+  all_given-append [] qs = refl
+  all_given-append (p ∷ ps) qs = ap (followed p.1.payload) (all_given-append ps qs) ∙ sym (followed-followed p.1.payload (all_given ps) (all_given qs))
+
+  -- after a row of intervals the row of keys goes on
+  pub row_of-append : (told : Option (ℕ × Ending)) (from : ℕ) (done : List (Interval (Trace T))) (to : ℕ) (rest : List (Interval (Trace T))) → IsRow from done to
+      → row_of told from (done ++ rest) ≡ followed (all_given done) (row_of told to rest)
+  row_of-append told from done to rest is_row =
+      let at = row-append from done to rest is_row in
+      let last : Trace T = trace_of [] (ending_at told (first_gap to rest)) in
+      ap (λ k. followed (all_given (unbroken from (done ++ rest))) (trace_of [] (ending_at told k))) at.1
+      ∙ ap (λ qs. followed (all_given qs) last) at.0
+      ∙ ap (λ t. followed t last) (all_given-append done (unbroken to rest))
+      ∙ followed-followed (all_given done) (all_given (unbroken to rest)) last
+
+  -- ---- what is held
+
+  -- what the offers merge to
+  pub merged-holds : (order : Order) (row : Row T) (offers : List (ChunkResult T)) (gone : Trace T) → Holds order row offers gone → merged order offers ≡ followed gone (rest_of row)
+  merged-holds order row offers gone h =
+      ap (λ t. followed (arrived order offers) (row_of t 0 (all_placed order [] offers))) h.told
+      ∙ ap (λ ps. followed (arrived order offers) (row_of row.told 0 ps)) h.placed
+      ∙ ap (followed (arrived order offers)) (row_of-append row.told 0 h.done row.buffer.next row.buffer.held h.is_row)
+      ∙ sym (followed-followed (arrived order offers) (all_given h.done) (rest_of row))
+      ∙ ap (λ t. followed t (rest_of row)) h.gave
+
+  -- the interval under the next key has gone
+  pub holds-next : (order : Order) (row : Row T) (p : Trace T) (buffer : Buffered (Trace T)) (offers : List (ChunkResult T)) (gone : Trace T) → TakesNext row.buffer p buffer
+      → Holds order row offers gone → Holds order (record row { buffer = buffer }) offers (followed gone p)
+  holds-next order row p buffer offers gone takes h =
+      let q : Interval (Trace T) = (row.buffer.next, record { end = buffer.next; payload = p }) in
+      record {
+        done = h.done ++ q ∷ [];
+        placed = h.placed ∙ ap (λ qs. h.done ++ qs) takes.held ∙ sym (append_assoc h.done (q ∷ []) buffer.held);
+        is_row = row-push 0 h.done q h.is_row;
+        before = All-push (λ s. s.0 < buffer.next) h.done q (All-weaker (λ s. s.0 < row.buffer.next) (λ s. s.0 < buffer.next) (λ s past. omega (arith, takes.some)) h.done h.before) takes.some;
+        told = h.told;
+        gave =
+            ap (followed (arrived order offers)) (all_given-append h.done (q ∷ []) ∙ ap (followed (all_given h.done)) (followed-open_nil p))
+            ∙ sym (followed-followed (arrived order offers) (all_given h.done) p)
+            ∙ ap (λ t. followed t p) h.gave;
+      }
+
+  -- what is merged at once and what waits may change places, since one of them is nothing
+  swap : (order : Order) (offers : List (ChunkResult T)) (first : Trace T) (r : ChunkResult T) (done rest : List (Interval (Trace T))) → all_placed order [] offers ≡ done ++ rest
+      → followed (followed first (at_once order r)) (all_given done) ≡ followed (followed first (all_given done)) (at_once order r)
+  swap ByKey offers first r done rest is = ap (λ t. followed t (all_given done)) (followed-open_nil first) ∙ sym (followed-open_nil (followed first (all_given done)))
+  swap ByArrival offers first r done rest is =
+      let empty : Interval (Trace T) → Type 0 = λ p. p.1.payload ≡ open_trace [] in
+      let none : all_given done ≡ open_trace [] = nothing-given done (All-first empty done rest (subst (All empty) is (nothing-placed offers))) in
+      ap (followed (followed first (at_once ByArrival r))) none
+      ∙ followed-open_nil (followed first (at_once ByArrival r))
+      ∙ ap (λ t. followed t (at_once ByArrival r)) (sym (followed-open_nil first) ∙ ap (followed first) (sym none))
+
+  -- the row with one result more, whose interval is placed among those that wait
+  abbrev with_placed : Row T → List (Interval (Trace T)) → ChunkResult T → Row T
+  with_placed row held r = record { buffer = record { next = row.buffer.next; held = held }; told = option_or row.told (told_at (end_of_result r) r.tail) }
+
+  holds-placed : (order : Order) (row : Row T) (offers : List (ChunkResult T)) (gone : Trace T) (r : ChunkResult T) (held : List (Interval (Trace T))) → (h : Holds order row offers gone)
+      → placed order (h.done ++ row.buffer.held) r ≡ h.done ++ held → Holds order (with_placed row held r) (offers ++ r ∷ []) (followed gone (at_once order r))
+  holds-placed order row offers gone r held h place =
+      record {
+        done = h.done;
+        placed = all_placed-append order [] offers r ∙ ap (λ qs. placed order qs r) h.placed ∙ place;
+        is_row = h.is_row;
+        before = h.before;
+        told = all_told-append None offers r ∙ ap (λ t. option_or t (told_at (end_of_result r) r.tail)) h.told;
+        gave =
+            ap (λ t. followed t (all_given h.done)) (arrived-append order offers r)
+            ∙ swap order offers (arrived order offers) r h.done row.buffer.held h.placed
+            ∙ ap (λ t. followed t (at_once order r)) h.gave;
+      }
+
+  -- a result of no keys has no interval
+  pub holds-none : (order : Order) (row : Row T) (offers : List (ChunkResult T)) (gone : Trace T) (r : ChunkResult T) → r.count ≡ 0 → Holds order row offers gone
+      → Holds order (with_placed row row.buffer.held r) (offers ++ r ∷ []) (followed gone (at_once order r))
+  holds-none order row offers gone r none h = holds-placed order row offers gone r row.buffer.held h (rw none refl)
+
+  -- that of any other waits among the others
+  pub holds-inserted : (order : Order) (row : Row T) (offers : List (ChunkResult T)) (gone : Trace T) (r : ChunkResult T) → 0 < r.count → IsFresh row.buffer r.first (end_of_result r)
+      → Holds order row offers gone
+      → Holds order (with_placed row (insert row.buffer.held r.first (end_of_result r) (waiting_trace order r)) r) (offers ++ r ∷ []) (followed gone (at_once order r))
+  holds-inserted order row offers gone r some fresh h =
+      let q : Trace T = waiting_trace order r in
+      let past = after-next row.buffer r.first (end_of_result r) fresh (omega arith) in
+      let test : (r.count == 0) ≡ false = grind (arith, nat_tests) in
+      holds-placed order row offers gone r (insert row.buffer.held r.first (end_of_result r) q) h
+      (ap (λ b. cond b (h.done ++ row.buffer.held) (insert (h.done ++ row.buffer.held) r.first (end_of_result r) q)) test
+      ∙ insert-after h.done row.buffer.held r.first (end_of_result r) q
+      (All-weaker (λ s. s.0 < row.buffer.next) (λ s. s.0 < r.first) (λ s before. omega (arith, past)) h.done h.before))
+
+  -- ---- a result that came into the row
+
+  -- what the row hands back
+  abbrev pub handed_back : Option (Trace T) → Trace T
+  handed_back None = open_trace []
+  handed_back (Some p) = p
+
+  holds-as : (order : Order) (row : Row T) (buffer : Buffered (Trace T)) (told : Option (ℕ × Ending)) (offers : List (ChunkResult T)) (gone gone' : Trace T)
+      → row.buffer ≡ buffer → row.told ≡ told → gone ≡ gone' → Holds order (record { buffer = buffer; told = told }) offers gone → Holds order row offers gone'
+  holds-as order row buffer told offers gone gone' same same_told same_gone h =
+      subst (Holds order row offers) same_gone
+      (subst (λ b. Holds order (record { buffer = b; told = row.told }) offers gone) (sym same)
+      (subst (λ t. Holds order (record { buffer = buffer; told = t }) offers gone) (sym same_told) h))
+
+  -- one of no keys
+  pub takes-none : (order : Order) (before : Row T) (r : ChunkResult T) (hand : Trace T) (after : Row T) → r.count ≡ 0 → after.buffer ≡ before.buffer
+      → after.told ≡ option_or before.told (told_at (end_of_result r) r.tail) → hand ≡ at_once order r → TakesIn order before r hand after
+  takes-none order before r hand after none same told is offers gone h =
+      holds-as order after before.buffer _ (offers ++ r ∷ []) _ (followed gone hand) same told (ap (followed gone) (sym is)) (holds-none order before offers gone r none h)
+
+  -- one of fresh keys
+  pub takes-inserted : (order : Order) (before : Row T) (r : ChunkResult T) (hand : Trace T) (turn : Option (Trace T)) (after : Row T) → 0 < r.count → IsFresh before.buffer r.first (end_of_result r)
+      → Inserts before.buffer r.first (end_of_result r) (waiting_trace order r) turn after.buffer → after.told ≡ option_or before.told (told_at (end_of_result r) r.tail)
+      → hand ≡ followed (at_once order r) (handed_back turn) → TakesIn order before r hand after
+  takes-inserted order before r hand None after some fresh inserts told is offers gone h =
+      holds-as order after (inserted before.buffer r.first (end_of_result r) (waiting_trace order r)) _ (offers ++ r ∷ []) _ (followed gone hand) inserts told
+      (ap (followed gone) (sym (is ∙ followed-open_nil (at_once order r)))) (holds-inserted order before offers gone r some fresh h)
+  takes-inserted order before r hand (Some p) after some fresh inserts told is offers gone h =
+      let q : Trace T = waiting_trace order r in
+      let row : Row T = with_placed before (insert before.buffer.held r.first (end_of_result r) q) r in
+      holds-as order after after.buffer _ (offers ++ r ∷ []) _ (followed gone hand) refl told
+      (followed-followed gone (at_once order r) q ∙ ap (followed gone) (ap (followed (at_once order r)) (sym inserts.0) ∙ sym is))
+      (holds-next order row q after.buffer (offers ++ r ∷ []) (followed gone (at_once order r)) inserts.1 (holds-inserted order before offers gone r some fresh h))
+
+  -- what is in hand by key: what the row hands back, or nothing
+  pub by_key-hand : (turn : Option (Trace T)) (nothing : Trace T) → nothing ≡ open_trace [] → unwrap_or turn nothing ≡ handed_back turn
+  by_key-hand None nothing empty = empty
+  by_key-hand (Some p) nothing empty = refl
+
+  -- by arrival the result is, since the row hands back nothing but its keys
+  pub by_arrival-hand : (r : ChunkResult T) (b : Buffered (Trace T)) (turn : Option (Trace T)) (b' : Buffered (Trace T)) → Inserts b r.first (end_of_result r) (open_trace []) turn b'
+      → result_trace r ≡ followed (result_trace r) (handed_back turn)
+  by_arrival-hand r b None b' inserts = sym (followed-open_nil (result_trace r))
+  by_arrival-hand r b (Some p) b' inserts = sym (ap (followed (result_trace r)) inserts.0 ∙ followed-open_nil (result_trace r))
+
+  -- at a gap the row gives no more than the source's ending
+  pub rest-gap : (row : Row T) → IsAtGap row.buffer → rest_of row ≡ trace_of [] (ending_at row.told row.buffer.next)
+  rest-gap row gap =
+      ap (λ k. followed (all_given (unbroken row.buffer.next row.buffer.held)) (trace_of [] (ending_at row.told k))) gap.gap
+      ∙ ap (λ qs. followed (all_given qs) (trace_of [] (ending_at row.told row.buffer.next))) gap.nothing
+
+  -- the interval under the next key comes first
+  pub rest-next : (row : Row T) (p : Trace T) (buffer : Buffered (Trace T)) → TakesNext row.buffer p buffer → rest_of row ≡ followed p (rest_of (record row { buffer = buffer }))
+  rest-next row p buffer takes =
+      let q : Interval (Trace T) = (row.buffer.next, record { end = buffer.next; payload = p }) in
+      ap (row_of row.told row.buffer.next) takes.held
+      ∙ row_of-append row.told row.buffer.next (q ∷ []) buffer.next buffer.held (refl, refl)
+      ∙ ap (λ t. followed t (rest_of (record row { buffer = buffer }))) (followed-open_nil p)

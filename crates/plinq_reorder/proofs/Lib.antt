@@ -1,0 +1,4 @@
+pub mod Keys
+pub mod Insert
+pub mod Gap
+pub mod Overlaps
