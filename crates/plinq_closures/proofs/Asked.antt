@@ -1,0 +1,73 @@
+-- What is told of a chain is what is told of its query.
+use Rattle.std.specs.Prelude.{◌≡◌, List, [], ◌∷◌, ◌++◌, None, Bool, true, false, Option, is_some, Result, Ok, Err, map, MatchResult, pos}
+use Rattle.std.proofs.Common.{refl, ap, ◌∙◌, sym, subst}
+use Rattle.std.proofs.lemmas.List.{map-append}
+use Rattle.plinq_source.specs.declared.ending.Ending.{Ending}
+use Rattle.plinq_source.specs.Trace.{Trace}
+use Rattle.plinq_lambda.specs.Meaning.{Meaning}
+use Rattle.plinq_ops.specs.declared.merge_option.MergeOption.{MergeOption}
+use Rattle.plinq_ops.specs.declared.merge_option.MergeOption.TheVariants.{AutoBuffered}
+use Rattle.plinq_ops.specs.declared.op.Op.{Op}
+use Rattle.plinq_ops.specs.declared.op.Op.TheVariants.{Take}
+use Rattle.plinq_ops.specs.Answer.{MayAnswer}
+use Rattle.plinq_ops.specs.Query.{merge_in_force}
+use Rattle.plinq_ops.specs.Sequential.{answer_of}
+use Rattle.plinq_run.specs.declared.aggregate_fault.AggregateFault.{AggregateFault}
+use Rattle.plinq_run.specs.declared.aggregate_fault.AggregateFault.TheVariants.{Ended, Run}
+use Rattle.plinq_run.specs.declared.run_fault.RunFault.{RunFault}
+use Rattle.plinq_collect.specs.Folds.{first_of, has_item}
+use Rattle.plinq_collect.specs.Telling.{GathersSome, IsShort, TellsSome}
+use Rattle.plinq_closures.specs.declared.chain_fault.ChainFault.{ChainFault}
+use Rattle.plinq_closures.specs.declared.chain_fault.ChainFault.TheVariants.{Build, Ended as IsEnded, Run as IsRun}
+use Rattle.plinq_closures.specs.Asked.{HasNone, Tells, told_of, is_there, run_told}
+use Rattle.plinq_closures.specs.Steps.{over}
+use Rattle.plinq_closures.proofs.Over.{answer_of-over}
+
+-- what a query may answer that keeps its source's order is what its chain does
+only-answer : {L T : Type 0} (f : L → Meaning T) (ordered : Bool) → ordered ≡ true → (ops : List (Op L)) (does : List (Op (Meaning T))) → map (over f) ops ≡ does
+    → (t u : Trace T) → MayAnswer f ordered ops t u → u ≡ answer_of (λ m. m) does t
+only-answer f true is ops does same t u may = may ∙ (answer_of-over f ops t ∙ ap (λ xs. answer_of (λ m. m) xs t) same)
+only-answer f false is ops does same t u may = absurd (let bad : false ≡ true = is in cc)
+
+gathers-answer : {L T : Type 0} (f : L → Meaning T) (ordered : Bool) → ordered ≡ true → (ops : List (Op L)) (does : List (Op (Meaning T))) → map (over f) ops ≡ does
+    → (merge : Option MergeOption) → merge ≡ None → (t : Trace T) (xs : List T) (e : Ending) → GathersSome (merge_in_force merge) (MayAnswer f ordered ops t) xs e
+    → GathersSome AutoBuffered (λ u. u ≡ answer_of (λ m. m) does t) xs e
+gathers-answer f ordered is ops does same merge none t xs e h =
+    subst (λ o. GathersSome o (λ u. u ≡ answer_of (λ m. m) does t) xs e) (ap merge_in_force none) (record {
+      answer = h.answer;
+      may = only-answer f ordered is ops does same t h.answer h.may;
+      gathered = h.gathered;
+    })
+
+pub vec-answer : {L T V : Type 0} (f : L → Meaning T) (ordered : Bool) → ordered ≡ true → (merge : Option MergeOption) → merge ≡ None
+    → (ops : List (Op L)) (does : List (Op (Meaning T))) → map (over f) ops ≡ does → (t : Trace T) (items : V → List T) (r : Result (V × Ending) RunFault)
+    → MatchResult r (λ it. GathersSome (merge_in_force merge) (MayAnswer f ordered ops t) (items it.0) it.1) IsShort
+    → MatchResult (run_told r) (λ it. GathersSome AutoBuffered (λ u. u ≡ answer_of (λ m. m) does t) (items it.0) it.1) HasNone
+vec-answer f ordered is merge none ops does same t items (Ok it) h = gathers-answer f ordered is ops does same merge none t (items it.0) it.1 h
+vec-answer f ordered is merge none ops does same t items (Err fault) short = short
+
+pub tells-answer : {L T O : Type 0} (tell : List T → O) (f : L → Meaning T) (ordered : Bool) → ordered ≡ true → (ops : List (Op L)) (does : List (Op (Meaning T))) → map (over f) ops ≡ does
+    → (t : Trace T) (r : Result O AggregateFault) → TellsSome tell (MayAnswer f ordered ops t) r → Tells tell (answer_of (λ m. m) does t) (told_of r)
+tells-answer tell f ordered is ops does same t (Ok out) (u, may, value, well) =
+    let it = only-answer f ordered is ops does same t u may in (value ∙ ap (λ v. tell v.items) it, ap (λ v. v.ending) (sym it) ∙ well)
+tells-answer tell f ordered is ops does same t (Err (Ended e)) (u, may, ending, bad) =
+    let it = only-answer f ordered is ops does same t u may in (ap (λ v. v.ending) (sym it) ∙ ending, bad)
+tells-answer tell f ordered is ops does same t (Err (Run fault)) short = short
+
+-- the first of its items, by a take of one
+pub tells-first : {L T : Type 0} (f : L → Meaning T) (ordered : Bool) → ordered ≡ true → (ops : List (Op L)) (does : List (Op (Meaning T))) → map (over f) ops ≡ does
+    → (t : Trace T) (r : Result (Option T) AggregateFault) → TellsSome first_of (MayAnswer f ordered (ops ++ Take (pos 1) ∷ []) t) r
+    → Tells first_of (answer_of (λ m. m) (does ++ Take (pos 1) ∷ []) t) (told_of r)
+tells-first f ordered is ops does same t r told =
+    tells-answer first_of f ordered is (ops ++ Take (pos 1) ∷ []) (does ++ Take (pos 1) ∷ [])
+    (map-append (over f) ops (Take (pos 1) ∷ []) ∙ ap (λ xs. xs ++ Take (pos 1) ∷ []) same) t r told
+
+there-first : {T : Type 0} (xs : List T) → is_some (first_of xs) ≡ has_item xs
+there-first [] = refl
+there-first (x ∷ xs) = refl
+
+pub tells-there : {T : Type 0} (u : Trace T) (r : Result (Option T) ChainFault) → Tells first_of u r → Tells has_item u (is_there r)
+tells-there u (Ok first) (value, well) = (ap is_some value ∙ there-first u.items, well)
+tells-there u (Err (IsEnded e)) so = so
+tells-there u (Err (Build fault)) so = so
+tells-there u (Err (IsRun fault)) so = so

@@ -1,0 +1,3 @@
+mod Asked
+mod Over
+mod Put

@@ -1,0 +1,15 @@
+-- How many items the query of the steps answers is how many they leave.
+use Rattle.std.proofs.Common.{subst, sym}
+use Rattle.plinq_ops.specs.Sequential.{answer_of}
+use Rattle.plinq_collect.specs.Folds.{counted}
+use Rattle.plinq_closures.specs.Asked.{Tells}
+use Rattle.plinq_closures.proofs.Asked.{tells-answer}
+use Rattle.plinq_closures.proofs.chain.Chain.count.Goals as goal
+
+pub returns-in-Ok : goal.returns-in-Ok
+returns-in-Ok g c ops does =
+    let q = c.in-Ok.query in
+    let is = c.in-Ok.ensures in
+    let t = g.Src.Source.whole c.args.source in
+    subst (λ r. Tells counted (answer_of (λ f. f) ops t) r) (sym c.told.ensures)
+    (tells-answer counted _ q.ordered is.ordered.0 q.ops ops (is.ops ops does) t c.count.result c.count.ensures)

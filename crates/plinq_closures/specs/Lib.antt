@@ -1,0 +1,5 @@
+pub mod Asked
+pub mod Functions
+pub mod Laws
+pub mod Only
+pub mod Steps

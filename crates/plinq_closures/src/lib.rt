@@ -1,0 +1,27 @@
+//! Closures as the steps of a query.
+//!
+//! - A [`Chain`] has any number of steps, each a closure or a count. What is asked of it is told of the answer of one
+//!   thread (`Tells`, `GathersSome`), by whatever functions the closures' clauses allow (`Steps::does`).
+//! - A closure serves where its contract says that it may always be called, in one way, and that it has one answer to each
+//!   item. A clause `ensures { result ≡ .. }` says all of it.
+//! - [`Steps`] is what a chain's steps have in common; no query of a user's own needs it.
+#![tactic(auto)]
+
+mod asking;
+mod at;
+mod building;
+mod chain;
+mod chain_fault;
+mod counted;
+mod mapped;
+mod steps;
+mod tested;
+mod whole;
+
+pub use chain::Chain;
+pub use chain_fault::ChainFault;
+pub use counted::Counted;
+pub use mapped::Mapped;
+pub use steps::Steps;
+pub use tested::Tested;
+pub use whole::Whole;

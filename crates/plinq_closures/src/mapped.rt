@@ -1,0 +1,76 @@
+ghost use Rattle.std.specs.Prelude.{◌≡◌, ℕ, ◌∷◌, Result};
+ghost use Rattle.std.specs.Coded.{Π_prop, ×_prop};
+ghost use Rattle.plinq_ops.specs.declared.op.Op.TheVariants.{Select};
+ghost use Rattle.plinq_closures.specs.Functions.{maps};
+ghost use Rattle.plinq_closures.specs.Steps.{here_or, IsNothing, DoesThen};
+ghost use Rattle.plinq_closures.specs.Laws.{nothing_given, nothing_else, some_then, one_then, comes_to-mapped};
+
+use crate::steps::Steps;
+use plinq_ops::Op;
+
+/// These steps, and then each item mapped by a closure.
+#[derive(Drop)]
+pub struct Mapped<S, F> {
+    pub before: S,
+    pub by: F,
+}
+
+impl<S: Steps, F: Fn(S::Item) -> Result<S::Item, u32>> Steps for Mapped<S, F> {
+    type Item = S::Item;
+
+    ghost is_called = { λ s. ((x : S.Item) → F.pre s.by x) × S.is_called s.before };
+
+    ghost in_one_way = { λ s. ((x : S.Item) (a b : F.pre s.by x) → a ≡ b) × S.in_one_way s.before };
+
+    ghost gives = { λ s. ((x : S.Item) → (r : Result S.Item ℕ) × F.post s.by x r) × S.gives s.before };
+
+    ghost gives_one = { λ s. ((x : S.Item) (r q : Result S.Item ℕ) → F.post s.by x r → F.post s.by x q → q ≡ r) × S.gives_one s.before };
+
+    ghost does = { λ s ops. DoesThen (S.does s.before) (F.post s.by) (λ f. Select (maps f)) ops };
+
+    ghost kinds = { λ s. Select tt ∷ S.kinds s.before };
+
+    ghost maps = { λ s at x r. here_or (F.post s.by x r) (λ n. S.maps s.before n x r) at };
+
+    ghost tests = { λ s at x r. here_or (IsNothing r) (λ n. S.tests s.before n x r) at };
+
+    fn count(&self) -> Option<u64> {
+        self.before.count()?.checked_add(1)
+    }
+
+    fn kind(&self, at: u64) -> Op<()> {
+        if at == 0 {
+            Op::Select(())
+        } else {
+            self.before.kind(at - 1)
+        }
+    }
+
+    fn map(&self, at: u64, x: S::Item) -> Result<S::Item, u32> {
+        if at == 0 {
+            (self.by)(x)
+        } else {
+            self.before.map(at - 1, x)
+        }
+    }
+
+    fn test(&self, at: u64, x: S::Item) -> Result<bool, u32> {
+        if at == 0 {
+            Err(0)
+        } else {
+            self.before.test(at - 1, x)
+        }
+    }
+
+    ghost one_call = { λ s way. ×_prop (Π_prop way.0) (S.one_call s.before way.1) };
+
+    ghost map_gives = { λ s some. some_then (F.post s.by) (S.maps s.before) some.0 (S.map_gives s.before some.1) };
+
+    ghost test_gives = { λ s some. some_then (λ x r. IsNothing r) (S.tests s.before) nothing_given (S.test_gives s.before some.1) };
+
+    ghost map_gives_one = { λ s one. one_then (F.post s.by) (S.maps s.before) one.0 (S.map_gives_one s.before one.1) };
+
+    ghost test_gives_one = { λ s one. one_then (λ x r. IsNothing r) (S.tests s.before) nothing_else (S.test_gives_one s.before one.1) };
+
+    ghost comes_to = { λ s one. comes_to-mapped (S.kinds s.before) (S.maps s.before) (S.tests s.before) (S.does s.before) (F.post s.by) one.0 (S.comes_to s.before one.1) };
+}
