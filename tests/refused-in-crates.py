@@ -37,6 +37,7 @@ CALLS = {
     "Merger::new and offer, NotBuffered": ("merge", "memory::no_room_ends_a_merger_that_is_not_buffered"),
     "Merger::new and offer, AutoBuffered": ("merge", "memory::no_room_ends_a_merger_of_batches"),
     "Merger::new and offer, FullyBuffered": ("merge", "memory::no_room_ends_a_merger_that_is_fully_buffered"),
+    "build, to_vec and first": ("library", "refused_room::a_call_that_is_refused_is_answered_the_next_time"),
     "run and aggregate by one worker": ("run", "refused_room::one_worker_may_be_refused_room"),
     "run and aggregate by two workers": ("run", "refused_room::two_workers_may_be_refused_room"),
     "run and aggregate by eight workers": ("run", "refused_room::eight_workers_may_be_refused_room"),
