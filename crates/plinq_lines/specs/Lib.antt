@@ -1,6 +1,6 @@
 pub mod Text
 pub mod Written
-pub mod Pieces
+pub mod inner
 pub mod OpWords
 pub mod PlanText
 pub mod PartsText

@@ -1,6 +1,6 @@
 ghost use Rattle.std.specs.Prelude.{◌≡◌, Some};
 ghost use Rattle.plinq_lines.specs.HistoryText.{asked_word, asked_number, tail_word, tail_number, record_line, record_lines, history_text};
-ghost use Rattle.plinq_lines.specs.Pieces.{piece_words};
+ghost use Rattle.plinq_lines.specs.inner.Pieces.{piece_words};
 ghost use Rattle.plinq_lines.specs.Written.{Writes};
 
 use crate::answer_lines::write_ending;

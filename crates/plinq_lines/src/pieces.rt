@@ -1,6 +1,6 @@
 ghost use Rattle.std.specs.Prelude.{};
 ghost use Rattle.std.specs.List.{flat_map};
-ghost use Rattle.plinq_lines.specs.Pieces.{piece_words};
+ghost use Rattle.plinq_lines.specs.inner.Pieces.{piece_words};
 ghost use Rattle.plinq_lines.specs.Written.{Writes};
 
 use crate::bytes::write_bytes;

@@ -1,6 +1,6 @@
 -- a piece is written after those before it
 use Rattle.std.proofs.lemmas.List.{at_drop_more}
-use Rattle.plinq_lines.specs.Pieces.{pieces_words}
+use Rattle.plinq_lines.specs.inner.Pieces.{pieces_words}
 use Rattle.plinq_lines.proofs.PartWritten.{piece-failed, piece-written}
 use Rattle.plinq_lines.proofs.pieces.write_pieces.Goals as goal
 

@@ -1,5 +1,5 @@
 use Rattle.std.proofs.Common.{drop}
-use Rattle.plinq_lines.specs.Pieces.{pieces_words}
+use Rattle.plinq_lines.specs.inner.Pieces.{pieces_words}
 use Rattle.plinq_lines.proofs.PartWritten.{PartWritten}
 use Rattle.plinq_lines.proofs.pieces.write_pieces.Given as goal
 
