@@ -1,7 +1,8 @@
 -- Sending: what a sink gets, batch by batch.
-use Rattle.std.specs.Prelude.{◌≡◌, ℕ, refl, List, [], ◌∷◌, ◌++◌, length, get_or, Result, MatchResult, map, Err}
+use Rattle.std.specs.Prelude.{◌≡◌, ℕ, refl, List, [], ◌∷◌, ◌++◌, length, get_or, Option, Result, MatchResult, OnOk, map, Err}
 use Rattle.std.proofs.Common.{arith, sym, ◌∙◌, ap, subst}
 use Rattle.std.proofs.lemmas.List.{length-append}
+use Rattle.plinq_ops.specs.Batches.{full_batches, held_back}
 use Rattle.plinq_merge.specs.declared.delivery_fault.DeliveryFault.{DeliveryFault}
 use Rattle.plinq_merge.specs.declared.delivery_fault.DeliveryFault.TheVariants.{Memory, Sink}
 
@@ -20,6 +21,12 @@ IsCutOff {K} {B} accepts refuses s bs (Sink code) s' =
 -- all of these batches are delivered, or the first of them are and the fault says why not all
 abbrev pub Delivers : {K B A : Type 0} → (K → B → K → Type 0) → (K → B → ℕ → K → Type 0) → K → List B → Result A DeliveryFault → K → Type 0
 Delivers accepts refuses s bs r s' = MatchResult r (λ _. Leads accepts s bs s') (λ fault. IsCutOff accepts refuses s bs fault s')
+
+-- items came to others that were held back: the batches that they fill were sent, and what is left is held back
+pub record IsFilled {K T A : Type 0} (accepts : K → List T → K → Type 0) (refuses : K → List T → ℕ → K → Type 0) (size : Option ℕ)
+    (before items : List T) (s : K) (result : Result A DeliveryFault) (after : List T) (s' : K) : Type 0 where
+  pub held : OnOk result (after ≡ held_back size before items)
+  pub sent : Delivers accepts refuses s (full_batches size before items) result s'
 
 -- batches of one item each
 abbrev pub singles : {T : Type 0} → List T → List (List T)

@@ -1,7 +1,7 @@
 ghost use Rattle.std.specs.Prelude.{◌≡◌, ℕ, List, [], ◌∷◌, ◌<◌, ◌≤◌, length, Some, None, OnOk, MatchResult};
-ghost use Rattle.plinq_ops.specs.Batches.{full_batches, held_back, last_batch};
+ghost use Rattle.plinq_ops.specs.Batches.{last_batch};
 ghost use Rattle.plinq_merge.specs.Buffer.{held_of, size_of, HasRoom};
-ghost use Rattle.plinq_merge.specs.Sending.{Delivers, singles};
+ghost use Rattle.plinq_merge.specs.Sending.{Delivers, IsFilled, singles};
 
 use crate::buffer::Buffer;
 use crate::delivery_fault::DeliveryFault;
@@ -70,9 +70,7 @@ where
     requires { HasRoom buffer.old }
     ensures room { OnOk result (HasRoom buffer.new) }
     ensures size { size_of buffer.new ≡ size_of buffer.old }
-    ensures held { OnOk result (held_of buffer.new ≡ held_back (size_of buffer.old) (held_of buffer.old) items.now) }
-    ensures sent { Delivers K.accepts K.refuses sink.old
-        (full_batches (size_of buffer.old) (held_of buffer.old) items.now) result sink.new }
+    ensures filled { IsFilled K.accepts K.refuses (size_of buffer.old) (held_of buffer.old) items.now sink.old result (held_of buffer.new) sink.new }
 {
     match buffer {
         Buffer::Ring(ring) => deliver_filled(ring, items, sink),
@@ -94,9 +92,7 @@ where
     requires { length ring.old.items < ring.old.capacity }
     ensures room { OnOk result (length ring.new.items < ring.new.capacity) }
     ensures size { ring.new.capacity ≡ ring.old.capacity }
-    ensures held { OnOk result (ring.new.items ≡ held_back (Some ring.old.capacity) ring.old.items items.now) }
-    ensures sent { Delivers K.accepts K.refuses sink.old
-        (full_batches (Some ring.old.capacity) ring.old.items items.now) result sink.new }
+    ensures filled { IsFilled K.accepts K.refuses (Some ring.old.capacity) ring.old.items items.now sink.old result ring.new.items sink.new }
 {
     if ring.is_empty() {
         return hand_whole(ring, items, sink);
@@ -124,9 +120,7 @@ where
     requires size { 0 < ring.old.capacity }
     ensures room { OnOk result (length ring.new.items < ring.new.capacity) }
     ensures size { ring.new.capacity ≡ ring.old.capacity }
-    ensures held { OnOk result (ring.new.items ≡ held_back (Some ring.old.capacity) [] items.now) }
-    ensures sent { Delivers K.accepts K.refuses sink.old
-        (full_batches (Some ring.old.capacity) [] items.now) result sink.new }
+    ensures filled { IsFilled K.accepts K.refuses (Some ring.old.capacity) [] items.now sink.old result ring.new.items sink.new }
 {
     let size = ring.capacity();
     if size == 1 {

@@ -7,20 +7,15 @@ use Rattle.plinq_merge.specs.Sending.{singles}
 use Rattle.plinq_merge.proofs.Singles.{full_batches-one, held_back-one}
 use Rattle.plinq_merge.proofs.sending.hand_whole.Goals as goal
 
-pub returns-then-size-eq1-clause-held : goal.returns-then-size-eq1-clause-held
-returns-then-size-eq1-clause-held g c =
+pub returns-then-size-eq1-clause-filled : goal.returns-then-size-eq1-clause-filled
+returns-then-size-eq1-clause-filled g c =
     let one : c.args.ring.now.capacity ≡ 1 = search rules in
     let kept : held_back (Some c.args.ring.now.capacity) [] c.args.items.now ≡ [] = rw one (held_back-one c.args.items.now) in
-    rw (kept, c.requires.empty) (search rules)
-
-pub returns-then-size-eq1-clause-sent : goal.returns-then-size-eq1-clause-sent
-returns-then-size-eq1-clause-sent g c =
-    let one : c.args.ring.now.capacity ≡ 1 = search rules in
     let all : full_batches (Some c.args.ring.now.capacity) [] c.args.items.now ≡ singles c.args.items.now = rw one (full_batches-one c.args.items.now) in
-    delivers-as _ _ _ _ _ _ _ all c.send_each.ensures
+    record { held = rw (kept, c.requires.empty) (search rules); sent = delivers-as _ _ _ _ _ _ _ all c.send_each.ensures }
 
-pub returns-in_err-send-clause-sent : goal.returns-in_err-send-clause-sent
-returns-in_err-send-clause-sent g c =
+pub returns-in_err-send-clause-filled : goal.returns-in_err-send-clause-filled
+returns-in_err-send-clause-filled g c =
     let n = c.args.ring.now.capacity in
     let batch = c.split_at.result.0.now in
     let rest = c.split_at.result.1.now in
@@ -31,9 +26,12 @@ returns-in_err-send-clause-sent g c =
     let all : full_batches (Some n) [] c.loop-rest.rest.now ≡ (batch ∷ []) ++ full_batches (Some n) [] rest = ap (full_batches (Some n) []) parts ∙ full_batches-filled n [] batch rest some (omega arith) in
     let is : c.from_residual.result ≡ Err c.in_err-send.field-0.0 = search rules in
     let cut : IsCutOff g.K.Sink.accepts g.K.Sink.refuses c.loop-rest.sink (batch ∷ []) c.in_err-send.field-0.0 c.send.new.sink = search rules in
-    delivers-at_err _ _ _ _ _ c.in_err-send.field-0.0 _ is
-    (up_to-cut _ _ _ _ (full_batches (Some n) [] c.loop-rest.rest.now) _ _ _ (rw size at c.loop-rest.invariant.sent)
-    (rw all (cut-before _ _ _ _ (full_batches (Some n) [] rest) _ _ cut)))
+    record {
+      held = rw is tt;
+      sent = delivers-at_err _ _ _ _ _ c.in_err-send.field-0.0 _ is
+          (up_to-cut _ _ _ _ (full_batches (Some n) [] c.loop-rest.rest.now) _ _ _ (rw size at c.loop-rest.invariant.sent)
+          (rw all (cut-before _ _ _ _ (full_batches (Some n) [] rest) _ _ cut)));
+    }
 
 pub loop-rest-preserved : goal.loop-rest-preserved
 loop-rest-preserved g c =
@@ -52,20 +50,15 @@ loop-rest-preserved g c =
       held = rw size at c.loop-rest.invariant.held ∙ kept;
     }
 
-pub returns-clause-held : goal.returns-clause-held
-returns-clause-held g c =
+pub returns-clause-filled : goal.returns-clause-filled
+returns-clause-filled g c =
     let n = c.args.ring.now.capacity in
     let rest = c.loop-rest.rest.now in
     let size : c.capacity-size.result ≡ n = search rules in
     let short : length rest < n = search rules in
     let empty = c.requires.empty in
     let is : c.fill_from_slice.new.self.items ≡ [] ++ rest = filled-all n c.fill_from_slice.result [] rest c.fill_from_slice.new.self.items (rw empty at c.fill_from_slice.ensures.count) (omega arith) (rw empty at (ap (λ b. b.items) c.fill_from_slice.ensures.items)) in
-    is ∙ sym (rw size at c.loop-rest.invariant.held ∙ held_back-short n [] rest (omega arith))
-
-pub returns-clause-sent : goal.returns-clause-sent
-returns-clause-sent g c =
-    let n = c.args.ring.now.capacity in
-    let rest = c.loop-rest.rest.now in
-    let size : c.capacity-size.result ≡ n = search rules in
-    let short : length rest < n = search rules in
-    up_to-leads _ _ _ [] _ _ (rw (size, full_batches-short n [] rest (omega arith)) at c.loop-rest.invariant.sent) refl
+    record {
+      held = is ∙ sym (rw size at c.loop-rest.invariant.held ∙ held_back-short n [] rest (omega arith));
+      sent = up_to-leads _ _ _ [] _ _ (rw (size, full_batches-short n [] rest (omega arith)) at c.loop-rest.invariant.sent) refl;
+    }
