@@ -1,0 +1,134 @@
+#!/usr/bin/env python3
+"""Takes the blocks of code out of docs/LIBRARY.md and tries them, in a repository of its own that has only the crates which the
+page names. Nothing is proved.
+
+    python3 tests/library.py
+"""
+import os
+import re
+import shutil
+import subprocess
+import tempfile
+
+from support.program import HANGS, ROOT, Tests
+
+HEAD = """#![tactic(auto)]
+
+ghost use Rattle.std.specs.Prelude.{◌≡◌, nat_le, Ok};
+
+use anyhow::Result;
+use plinq_closures::Chain;
+use plinq_collect::{build, to_vec};
+use plinq_lambda::Formula;
+use plinq_slice::SliceSource;
+use plinq_source::Ending;
+use std::alloc::Global;
+use std::sync::Wait;
+use std::thread::Threads;
+
+#[derive(Clone, Copy)]
+struct Record<'a> {
+    severity: u8,
+    message: &'a str,
+}
+
+fn main(rt: HostRuntime) -> Result<()> {
+    let numbers = numbers(&rt, rt.alloc())?;
+    let records = records(&rt, rt.alloc())?;
+    println!(rt; "{numbers} {records}")?;
+    Ok(())
+}
+"""
+
+# the function that each block stands in, by how the block begins; each answers how many items it was given
+FUNCTIONS = {
+    "let query": """
+fn numbers<R: Threads + Wait + Sync>(rt: &R, alloc: Global) -> Result<usize> {
+    let records = [1, 2, 4];
+    let errors = Formula::Even;
+BLOCK
+    assert_end(ending, items.len())
+}
+""",
+    "let chain": """
+fn records<R: Threads + Wait + Sync>(rt: &R, alloc: Global) -> Result<usize> {
+    let records = [Record { severity: 4, message: "a" }, Record { severity: 2, message: "b" }];
+    let source = SliceSource::new(&records)?;
+BLOCK
+    assert_end(ending, items.iter().filter(|r| r.message == "b").count())
+}
+""",
+}
+
+TAIL = """
+fn assert_end(ending: Ending, count: usize) -> Result<usize> {
+    if ending != Ending::End {
+        anyhow::bail!("it didn't end well");
+    }
+    Ok(count)
+}
+"""
+
+
+def blocks(page):
+    """The blocks of code of a page, each without its indentation."""
+    for block in re.findall(r"(?:^    .*\n)+", page, flags=re.M):
+        yield "".join(line[4:] for line in block.splitlines(keepends=True))
+
+
+def needed(listed, crates):
+    """These crates of the repository, and those below them."""
+    found, left = set(), [it for it in listed if it in crates]
+    while left:
+        crate = left.pop()
+        if crate not in found:
+            found.add(crate)
+            left += [it for it in crates[crate] if it in crates]
+    return found
+
+
+def program(page):
+    """The program of a page's blocks, and those that it has no place for."""
+    text, without = HEAD, []
+    for block in blocks(page):
+        beginning = next((it for it in FUNCTIONS if block.startswith(it)), None)
+        if beginning:
+            text += FUNCTIONS[beginning].replace("BLOCK\n", block.replace("&rt,", "rt,"))
+        elif not block.startswith("my_program: "):
+            without.append(block)
+    return text + TAIL, without
+
+
+def main():
+    tests = Tests()
+    with open(os.path.join(ROOT, "docs", "LIBRARY.md"), encoding="utf-8") as file:
+        page = file.read()
+    with open(os.path.join(ROOT, "crates.txt"), encoding="utf-8") as file:
+        lines = [it.split(":", 1) for it in file.read().splitlines() if it and not it.startswith("#")]
+    crates = {name: below.split() for name, below in lines}
+    line = re.search(r"^    my_program: (.*)$", page, flags=re.M).group(1)
+    below = needed(line.split(), crates)
+    named = set(re.findall(r"plinq_\w+", page))
+    tests.check("the page names each crate that its line needs", len(below) > 10 and below <= named, sorted(below - named))
+    text, without = program(page)
+    tests.check("each block has its place in the program", not without, without)
+    with tempfile.TemporaryDirectory() as top:
+        for crate in sorted(below):
+            shutil.copytree(os.path.join(ROOT, "crates", crate), os.path.join(top, "crates", crate), ignore=shutil.ignore_patterns("out"))
+        shutil.copy(os.path.join(ROOT, "HANDLES"), top)
+        os.makedirs(os.path.join(top, "crates", "my_program", "src"))
+        with open(os.path.join(top, "crates", "my_program", "src", "main.rt"), "w", encoding="utf-8") as file:
+            file.write(text)
+        with open(os.path.join(top, "crates.txt"), "w", encoding="utf-8") as file:
+            file.writelines(f"{it}: {' '.join(crates[it])}\n" for it in sorted(below))
+            file.write(f"my_program: {line} anyhow\n")
+        tried = subprocess.run(
+            ["rt", "try"], cwd=os.path.join(top, "crates", "my_program"), stdin=subprocess.DEVNULL, capture_output=True, timeout=3 * HANGS
+        )
+        said = (tried.stdout + tried.stderr).decode(errors="replace")
+        tests.check("the page's blocks compile and answer", tried.returncode == 0 and tried.stdout.startswith(b"2 1\n"), said[-1500:])
+    tests.end()
+
+
+if __name__ == "__main__":
+    main()
