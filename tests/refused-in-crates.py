@@ -38,9 +38,9 @@ CALLS = {
     "Merger::new and offer, AutoBuffered": ("merge", "memory::no_room_ends_a_merger_of_batches"),
     "Merger::new and offer, FullyBuffered": ("merge", "memory::no_room_ends_a_merger_that_is_fully_buffered"),
     "build, to_vec and first": ("library", "refused_room::a_call_that_is_refused_is_answered_the_next_time"),
-    "run and aggregate by one worker": ("run", "refused_room::one_worker_may_be_refused_room"),
-    "run and aggregate by two workers": ("run", "refused_room::two_workers_may_be_refused_room"),
-    "run and aggregate by eight workers": ("run", "refused_room::eight_workers_may_be_refused_room"),
+    "run and aggregate by one worker": ("crew", "refused_room::one_worker_may_be_refused_room"),
+    "run and aggregate by two workers": ("crew", "refused_room::two_workers_may_be_refused_room"),
+    "run and aggregate by eight workers": ("crew", "refused_room::eight_workers_may_be_refused_room"),
     "aggregate with GroupBy by one worker": ("groups", "refused_room::groups_by_one_worker_may_be_refused_room"),
     "aggregate with GroupBy by two workers": ("groups", "refused_room::groups_by_two_workers_may_be_refused_room"),
 }

@@ -1,7 +1,6 @@
 use crossbeam_utils::Backoff;
 use plinq_run::Gate;
 use std::sync::atomic::{AtomicBool, AtomicU64, Ordering};
-use std::thread::yield_now;
 
 /// Waits until a word is at least so much, and says whether it ever was.
 pub(crate) fn waits_for(word: &AtomicU64, least: u64) -> bool {
@@ -13,13 +12,6 @@ pub(crate) fn waits_for(word: &AtomicU64, least: u64) -> bool {
         backoff.snooze();
     }
     false
-}
-
-/// Waits a while, in which other threads that have nothing to do fall asleep.
-pub(crate) fn lingers() {
-    for _turn in 0..10_000 {
-        yield_now();
-    }
 }
 
 /// A gate that keeps the worker back that has taken a chunk which begins with this key, until a word is at least so much.

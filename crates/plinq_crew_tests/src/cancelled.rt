@@ -1,15 +1,13 @@
 //! What a run has delivered that its token stopped.
 ghost use Rattle.std.specs.Prelude.{◌≡◌, false, ⊤};
 
-use crate::asked::{OPTIONS, WORKERS, built, ordered};
-use crate::taken::Taken;
-use crate::waiting::waits_for;
 use plinq_enumerator::Growth;
 use plinq_lambda::Formula;
 use plinq_merge::{Cancel, CancelAfter, CancelFlag, Sink};
 use plinq_ops::{MergeOption, Query};
 use plinq_run::{OpenGate, Report, RunFault, run_with};
 use plinq_source::{Ending, RangeSource};
+use plinq_testing::{OPTIONS, Taken, WORKERS, built, ordered, waits_for};
 use std::alloc::Global;
 use std::process::Abort;
 use std::sync::Wait;

@@ -1,14 +1,13 @@
 //! More results than the queue has room for.
 ghost use Rattle.std.specs.Prelude.{⊤};
 
-use crate::asked::ordered;
-use crate::waiting::waits_for;
 use plinq_enumerator::Growth;
 use plinq_lambda::Formula;
 use plinq_merge::Sink;
 use plinq_ops::{MergeOption, Query};
 use plinq_run::{Gate, run};
 use plinq_source::{Ending, RangeSource};
+use plinq_testing::{ordered, waits_for};
 use std::alloc::Global;
 use std::process::Abort;
 use std::sync::Wait;

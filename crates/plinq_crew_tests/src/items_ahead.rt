@@ -1,14 +1,13 @@
 //! How many items workers send ahead of what is merged, where each element is expanded to many.
 ghost use Rattle.std.specs.Prelude.{⊤};
 
-use crate::asked::built;
-use crate::waiting::{lingers, waits_for};
 use plinq_enumerator::Growth;
 use plinq_lambda::Formula;
 use plinq_merge::Sink;
 use plinq_ops::{BuildFault, MergeOption, Query};
 use plinq_run::{Gate, run};
 use plinq_source::{Ending, RangeSource};
+use plinq_testing::{built, lingers, waits_for};
 use std::alloc::Global;
 use std::process::Abort;
 use std::sync::Wait;

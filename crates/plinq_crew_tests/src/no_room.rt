@@ -2,14 +2,13 @@
 ghost use Rattle.std.specs.Prelude.{Ok, true, []};
 ghost use Rattle.std.proofs.Common.{arith};
 
-use crate::asked::{WORKERS, built, ordered};
-use crate::taken::Taken;
 use plinq_aggregate::Sum;
 use plinq_enumerator::Growth;
 use plinq_lambda::{ExpandFault, Lambda};
 use plinq_ops::MergeOption;
 use plinq_run::{AggregateFault, OpenGate, RunFault, aggregate, run};
 use plinq_source::RangeSource;
+use plinq_testing::{Taken, WORKERS, built, ordered};
 use std::alloc::Global;
 use std::process::Abort;
 use std::sync::Wait;

@@ -1,13 +1,12 @@
 ghost use Rattle.std.specs.Prelude.{⊤};
 
-use crate::asked::{WORKERS, built, ordered};
-use crate::waiting::KeepsBack;
 use plinq_enumerator::Growth;
 use plinq_lambda::Formula;
 use plinq_merge::Sink;
 use plinq_ops::MergeOption;
 use plinq_run::run;
 use plinq_source::{Ending, ListSource};
+use plinq_testing::{KeepsBack, WORKERS, built, ordered};
 use std::alloc::Global;
 use std::process::Abort;
 use std::sync::Wait;

@@ -1,14 +1,13 @@
 //! What a sink is told that has refused a batch.
 ghost use Rattle.std.specs.Prelude.{⊤};
 
-use crate::asked::{WORKERS, ordered};
-use crate::waiting::waits_for;
 use plinq_enumerator::Growth;
 use plinq_lambda::Formula;
 use plinq_merge::Sink;
 use plinq_ops::{MergeOption, Query};
 use plinq_run::{Gate, RunFault, run};
 use plinq_source::RangeSource;
+use plinq_testing::{WORKERS, ordered, waits_for};
 use std::alloc::Global;
 use std::process::Abort;
 use std::sync::Wait;

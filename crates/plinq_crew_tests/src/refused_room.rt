@@ -2,7 +2,6 @@
 //! in turn.
 ghost use Rattle.std.specs.Prelude.{⊤};
 
-use crate::asked::built;
 use plinq_aggregate::Sum;
 use plinq_enumerator::Growth;
 use plinq_lambda::Formula;
@@ -10,6 +9,7 @@ use plinq_merge::Sink;
 use plinq_ops::{BuildFault, MergeOption, Query};
 use plinq_run::{AggregateFault, OpenGate, RunFault, aggregate, run};
 use plinq_source::{Ending, RangeSource};
+use plinq_testing::built;
 use std::alloc::Global;
 use std::process::Abort;
 use std::sync::Wait;

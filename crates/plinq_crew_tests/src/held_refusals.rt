@@ -3,15 +3,13 @@ ghost use Rattle.std.specs.Prelude.{⊤};
 ghost use Rattle.plinq_lambda.specs.Formula.{formula_meaning};
 ghost use Rattle.plinq_lambda.specs.Short.{formula_meaning-short};
 
-use crate::asked::{WORKERS, built, ordered};
-use crate::taken::Taken;
-use crate::waiting::waits_for;
 use plinq_enumerator::Growth;
 use plinq_lambda::{ExpandFault, Formula, Lambda};
 use plinq_merge::Sink;
 use plinq_ops::MergeOption;
 use plinq_run::{Gate, RunFault, run};
 use plinq_source::RangeSource;
+use plinq_testing::{Taken, WORKERS, built, ordered, waits_for};
 use std::alloc::Global;
 use std::process::Abort;
 use std::sync::Wait;

@@ -1,14 +1,12 @@
 //! What workers do after a key that ends the run.
 ghost use Rattle.std.specs.Prelude.{Ok, Err, false};
 
-use crate::asked::built;
-use crate::taken::Taken;
-use crate::waiting::waits_for;
 use plinq_enumerator::Growth;
 use plinq_lambda::{ExpandFault, Lambda};
 use plinq_ops::{BuildFault, Query};
 use plinq_run::{Gate, Report, RunFault, run};
 use plinq_source::{Ending, RangeSource};
+use plinq_testing::{Taken, built, waits_for};
 use std::alloc::Global;
 use std::process::Abort;
 use std::sync::Wait;

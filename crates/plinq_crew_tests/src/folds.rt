@@ -3,13 +3,13 @@
 ghost use Rattle.plinq_aggregate.specs.Numbers.{counting};
 ghost use Rattle.plinq_aggregate.specs.Lawful.{counting-lawful};
 
-use crate::asked::{WORKERS, built, ordered};
 use plinq_aggregate::{Aggregator, Max, Sum};
 use plinq_enumerator::Growth;
 use plinq_lambda::Formula;
 use plinq_ops::{MergeOption, Query};
 use plinq_run::{Gate, OpenGate, aggregate};
 use plinq_source::RangeSource;
+use plinq_testing::{WORKERS, built, ordered};
 use std::alloc::Global;
 use std::hint::spin_loop;
 use std::process::Abort;
