@@ -9,6 +9,8 @@ mod against_a_loop;
 #[cfg(test)]
 mod calls;
 #[cfg(test)]
+mod chains;
+#[cfg(test)]
 mod early_ends;
 #[cfg(test)]
 mod refused_room;
