@@ -20,9 +20,10 @@ HUNGRY = {
     "expansions of great chunks": ("run", '{"version":1,"source":{"range":[0,1099511627776]},"query":[["select_many","repeat",65536],["take",390]],"growth":[65536,1,65536]}'),
     "nested expansions": ("run", '{"version":1,"source":{"list":[1]},"query":[["select_many","repeat",65536],["select_many","repeat",65536],["select_many","repeat",65536],["take",1]]}'),
 }
-# Documents of 20 million items that are folded, and not held: the words, the document, the count, the most bytes.
+# Documents of 20 and of 131 million items that are folded, and not held: the words, the document, the count, the most bytes.
 SPARING = {
     "an aggregate in one thread": ("seq", '{"version":1,"source":{"range":[0,200000]},"query":[["select_many","repeat",100]],"aggregate":"count"}', 20_000_000, 60_000_000),
+    "an aggregate of great expansions": ("run", '{"version":1,"source":{"range":[0,2000]},"query":[["select_many","repeat",65536]],"aggregate":"count"}', 131_072_000, 60_000_000),
 }
 ADDED = b'{"version":1,"source":{"list":[3,1,4]},"query":[["as_ordered"],["select","add",1]]}'
 

@@ -29,12 +29,12 @@ pub(crate) fn cut_now<L: Lambda, E: StopKeys>(
     }
 }
 
-/// Lowers the cut to the key at which a result ends the run, by key.
-pub(crate) fn cut_off<L: Lambda, E: StopKeys>(
+/// Lowers the cut to the key at which a result ends the run, by key; or what was made of one, which ends as it does.
+pub(crate) fn cut_off<L: Lambda, M, E: StopKeys>(
     plan: &Plan<'_, L>,
     cut: &CutWord<E>,
     pass: &mut CutPass,
-    made: &ChunkResult<L::Item>,
+    made: &ChunkResult<M>,
 )
     requires pass { IsPassOf cut.now pass.old }
     requires stop_key { (key : ℕ) → made.now.ending ≢ Dropped → made.now.stop ≡ Some key → E.stops_at key ≡ true }

@@ -18,7 +18,7 @@ use crate::results::{ResultPass, ResultStream, RunSpec, RunStopKeys};
 use crate::task::Task;
 use plinq_cut::{CutPass, CutWord};
 use plinq_lambda::Lambda;
-use plinq_ops::{ChunkResult, FragEnd, Plan, chunk_result};
+use plinq_ops::{ChunkResult, FragEnd, Plan};
 use plinq_partition::{Chunked, Partition, TakeFault};
 use plinq_source::Source;
 use std::alloc::Global;
@@ -96,10 +96,9 @@ where
         self.progress.note_taken(chunk.tail.is_some());
         self.task.after_chunk(worker, chunk.first);
         let cut = cut_now(self.plan, self.cut, pass);
-        let made = chunk_result(self.alloc, self.plan, &chunk, cut)?;
+        let part = self.task.work(self.alloc, self.plan, &chunk, cut)?;
         partition.reuse(chunk.items);
-        cut_off(self.plan, self.cut, pass, &made);
-        let part = self.task.make(self.alloc, made)?;
+        cut_off(self.plan, self.cut, pass, &part);
         Ok(part)
     }
 

@@ -15,3 +15,4 @@ mod Told
 mod Unfolded
 mod Without
 mod Pieces
+mod ChunkPieces

@@ -19,6 +19,7 @@ mod accounting;
 mod aggregate_fault;
 mod aggregating;
 mod cancelling;
+mod chunk_pieces;
 mod combined;
 mod coverage;
 mod finishing;

@@ -3,9 +3,12 @@ ghost use Rattle.std.specs.Prelude.{◌≡◌, IfOk};
 ghost use Rattle.plinq_run.specs.inner.Folds.{IsFoldOf};
 ghost use Rattle.plinq_crew.specs.Results.{IsOfSameChunk};
 
+use crate::chunk_pieces::{counted, expands, folded, next_len, piece_len, piece_of};
 use plinq_aggregate::GrowingAggregator;
 use plinq_crew::{Gate, Task};
-use plinq_ops::ChunkResult;
+use plinq_keyed::Chunk;
+use plinq_lambda::Lambda;
+use plinq_ops::{ChunkResult, FragEnd, Plan, chunk_result};
 use plinq_source::OutOfMemory;
 use std::alloc::Global;
 
@@ -37,6 +40,9 @@ impl<'a, T: Copy + Send, G: Gate> Task<T> for Unchanged<'a, G> {
 }
 
 /// The task of a worker that sends the fold of each result's items in their place.
+///
+/// Of a chunk whose elements expand it folds the results of its pieces, so that no more than one of these is held: at first of
+/// one element, and of twice as many, up to 32, while their results are short.
 #[derive(Drop)]
 pub(crate) struct FoldChunks<'a, A, G> {
     pub(crate) aggregator: &'a A,
@@ -72,5 +78,41 @@ impl<'a, T: Copy, A: GrowingAggregator<Item = T>, G: Gate> Task<T> for FoldChunk
             stop: made.stop,
             tail: made.tail,
         })
+    }
+
+    fn work<L: Lambda<Item = T>>(
+        &self,
+        alloc: Global,
+        plan: &Plan<'_, L>,
+        chunk: &Chunk<T>,
+        cut: u64,
+    ) -> Result<ChunkResult<A::Acc>, OutOfMemory> {
+        if !expands(plan.worker) {
+            let made = chunk_result(alloc, plan, chunk, cut)?;
+            let part = self.make(alloc, made)?;
+            return Ok(part);
+        }
+        let mut len = 1;
+        let mut acc = self.aggregator.seed(alloc);
+        let mut count = 0;
+        let mut first = chunk.first;
+        let mut rest = chunk.items.as_slice();
+        while !rest.is_empty() {
+            let (block, others) = rest.split_at(piece_len(len, rest.len()));
+            let made = chunk_result(alloc, plan, &piece_of(alloc, first, block)?, cut)?;
+            count = counted(count, made.items.len())?;
+            acc = self
+                .aggregator
+                .update_block(alloc, acc, made.items.as_slice())?;
+            if made.stop.is_some() {
+                let stopped = folded(alloc, chunk, acc, made.ending, made.stop)?;
+                return Ok(stopped);
+            }
+            len = next_len(len, made.items.len());
+            first += block.len() as u64;
+            rest = others;
+        }
+        let all = folded(alloc, chunk, acc, FragEnd::More, None)?;
+        Ok(all)
     }
 }

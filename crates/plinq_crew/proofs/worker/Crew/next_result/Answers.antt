@@ -1,4 +1,4 @@
-use Rattle.std.proofs.Common.{sym, subst}
+use Rattle.std.proofs.Common.{sym, subst, ◌∙◌}
 use Rattle.plinq_partition.specs.Partitions.{holding_of}
 use Rattle.plinq_crew.specs.Working.{HasTakenChunk}
 use Rattle.plinq_crew.proofs.Cuts.{cut-read, stop-stop_key}
@@ -12,29 +12,29 @@ cut_off-requires-clause-stop_key g c key kept stop =
     let plan = c.args.self.now.plan.now in
     let t = (holding_of c.args.partition.now).origin in
     let cut = c.cut_now-cut.result in
+    let of = c.in_ok-part.ensures in
     let is = cut-read meaning plan t g.J.RunSpec.stops_at c.requires.stop_keys cut c.cut_now-cut.ensures.cut in
-    let made = result-from_taken meaning plan _ _ _ cut c.in_ok-chunk.chunk c.in_ok-made.made is c.cut_now-cut.ensures.uncut c.in_ok-chunk.ensures.taken c.in_ok-made.ensures in
-    stop-stop_key meaning plan t g.J.RunSpec.stops_at c.requires.stop_keys c.in_ok-made.made key made kept stop
+    let made = result-from_taken meaning plan _ _ _ cut c.in_ok-chunk.chunk of.result is c.cut_now-cut.ensures.uncut c.in_ok-chunk.ensures.taken of.is in
+    stop-stop_key meaning plan t g.J.RunSpec.stops_at c.requires.stop_keys of.result key made (λ dropped. kept (of.same.ending ∙ dropped)) (sym of.same.stop ∙ stop)
 
 pub returns-clause-result : goal.returns-clause-result
 returns-clause-result g c =
     let meaning = g.L.Lambda.meaning in
     let plan = c.args.self.now.plan.now in
     let cut = c.cut_now-cut.result in
+    let of = c.in_ok-part.ensures in
     let is = cut-read meaning plan (holding_of c.args.partition.now).origin g.J.RunSpec.stops_at c.requires.stop_keys cut c.cut_now-cut.ensures.cut in
     record {
-      result = c.in_ok-made.made;
-      is = result-from_taken meaning plan _ _ _ cut c.in_ok-chunk.chunk c.in_ok-made.made is c.cut_now-cut.ensures.uncut c.in_ok-chunk.ensures.taken c.in_ok-made.ensures;
-      made = c.in_ok-part.ensures.makes;
-      same = c.in_ok-part.ensures.same;
+      result = of.result;
+      is = result-from_taken meaning plan _ _ _ cut c.in_ok-chunk.chunk of.result is c.cut_now-cut.ensures.uncut c.in_ok-chunk.ensures.taken of.is;
+      made = of.made;
+      same = of.same;
     }
 
 pub returns-clause-taken : goal.returns-clause-taken
 returns-clause-taken g c =
-    subst (λ h. HasTakenChunk (holding_of c.args.partition.now).share h.share c.in_ok-part.part) (sym c.reuse.ensures.same) (taken-part _ _ c.in_ok-made.made c.in_ok-part.part (taken-result g.L.Lambda.meaning _ _ _ _ _ c.in_ok-chunk.chunk c.in_ok-made.made c.in_ok-chunk.ensures.taken c.in_ok-made.ensures) c.in_ok-part.ensures.same)
+    let of = c.in_ok-part.ensures in
+    subst (λ h. HasTakenChunk (holding_of c.args.partition.now).share h.share c.in_ok-part.part) (sym c.reuse.ensures.same) (taken-part _ _ of.result c.in_ok-part.part (taken-result g.L.Lambda.meaning _ _ _ _ _ c.in_ok-chunk.chunk of.result c.in_ok-chunk.ensures.taken of.is) of.same)
 
 pub returns-clause-of : goal.returns-clause-of
 returns-clause-of g c = c.reuse.ensures.of c.args.self.now.chunked.now c.take.ensures.of
-
-pub returns-in_err-part-clause-of : goal.returns-in_err-part-clause-of
-returns-in_err-part-clause-of g c = c.reuse.ensures.of c.args.self.now.chunked.now c.take.ensures.of
