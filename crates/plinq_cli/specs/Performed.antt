@@ -101,11 +101,13 @@ failure_status Tickets = 5
 failure_status Incomplete = 5
 failure_status Cancelled = 5
 
+-- the status of an answer that ended so
 abbrev pub ending_status : Ending → ℕ
 ending_status End = 0
 ending_status (Refused code) = 3
 ending_status (Fault code) = 4
 
+-- the status of a command that ended or failed so
 abbrev pub status_of : Result Ending Failure → ℕ
 status_of (Ok e) = ending_status e
 status_of (Err failure) = failure_status failure

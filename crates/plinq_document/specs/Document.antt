@@ -27,6 +27,7 @@ abbrev pub are_top_names : Members → Bool
 are_top_names no_members = true
 are_top_names (member name d ms) = is_top_name name && are_top_names ms
 
+-- that a document has no other names than these
 abbrev pub known_names : Members → Result ⊤ DocFault
 known_names ms = if are_top_names ms then Ok tt else Err Shape
 

@@ -36,6 +36,7 @@ code_of d = option_and_then (λ n. if nat_lt n (2 ^ 32) then Some n else None) (
 abbrev pub few_numbers : List ℤ → Result (List ℤ) DocFault
 few_numbers ns = if nat_le (length ns) (2 ^ 40) then Ok ns else Err Source
 
+-- the numbers of a list, or that one is no whole number of 64 bits
 abbrev pub list_numbers : Data → Result (List ℤ) DocFault
 list_numbers d = or_shape (option_and_then whole_numbers (as_array d)) >>= few_numbers
 
@@ -105,6 +106,7 @@ abbrev pub bound_from : Members → Option ℕ
 bound_from no_members = None
 bound_from (member name d ms) = option_and_then (bound_named d) (source_name name)
 
+-- how many items a source's object allows for
 abbrev pub bound_of : Data → Option ℕ
 bound_of d = option_and_then bound_from (as_object d)
 
@@ -129,6 +131,7 @@ both_sources few first second = do
   b ← second
   if few then Ok (concat a b) else Err Source
 
+-- the source of two objects, one after the other
 abbrev pub concat_of : Data → Data → Result (Trace ℤ) DocFault
 concat_of first second = both_sources (few_together (bound_of first) (bound_of second)) (plain_source_of first) (plain_source_of second)
 

@@ -10,6 +10,7 @@ use Rattle.plinq_keyed.specs.Keys.{keyed_from}
 use Rattle.plinq_partition.specs.Cuts.{cuts}
 use Rattle.plinq_lines.specs.Text.{line, ending_line}
 
+-- yes or no, in a word
 abbrev pub truth : Bool → List ℕ
 truth true = codes " true"
 truth false = codes " false"

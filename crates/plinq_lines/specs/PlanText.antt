@@ -14,6 +14,7 @@ use Rattle.plinq_ops.specs.Plan.{worker_part, after_part, order_of}
 use Rattle.plinq_lines.specs.Text.{line}
 use Rattle.plinq_lines.specs.OpWords.{part_words}
 
+-- how results are merged, in a word
 abbrev pub order_name : Order → List ℕ
 order_name ByKey = codes "key"
 order_name ByArrival = codes "arrival"

@@ -16,6 +16,7 @@ knows_order Nothing = false
 knows_order Key = true
 knows_order Position = true
 
+-- whether the position of an element is known
 abbrev pub knows_position : Known → Bool
 knows_position Nothing = false
 knows_position Key = false

@@ -32,9 +32,11 @@ abbrev pub after_from : {L : Type 0} → Known → List (Op L) → List (Op L)
 after_from known [] = []
 after_from known (op ∷ ops) = if can_apply known op then after_from (known_after known op) ops else op ∷ ops
 
+-- the operators that the workers apply
 abbrev pub worker_part : {L : Type 0} → Order → List (Op L) → List (Op L)
 worker_part order ops = worker_from (known_at_source order) ops
 
+-- the operators that are applied to the merged results
 abbrev pub after_part : {L : Type 0} → Order → List (Op L) → List (Op L)
 after_part order ops = after_from (known_at_source order) ops
 

@@ -21,6 +21,7 @@ Built L = Result (QueryView L) (QueryView L × BuildFault)
 abbrev pub empty_query : {L : Type 0} → QueryView L
 empty_query = record { ops = []; ordered = false; merge = None; degree = None }
 
+-- whether a list has no items
 abbrev pub is_nil : {A : Type 0} → List A → Bool
 is_nil [] = true
 is_nil (x ∷ xs) = false
@@ -29,9 +30,11 @@ is_nil (x ∷ xs) = false
 abbrev pub is_at_source : {L : Type 0} → QueryView L → Bool
 is_at_source q = not q.ordered && is_nil q.ops
 
+-- `as_ordered`: directly at the source, once
 abbrev pub with_order : {L : Type 0} → QueryView L → Built L
 with_order q = if is_at_source q then Ok (record q { ordered = true }) else Err (q, NotAtSource)
 
+-- `with_merge`: once
 abbrev pub with_option : {L : Type 0} → QueryView L → MergeOption → Built L
 with_option q option = if is_some q.merge then Err (q, MergeTwice) else Ok (record q { merge = Some option })
 
@@ -39,6 +42,7 @@ with_option q option = if is_some q.merge then Err (q, MergeTwice) else Ok (reco
 abbrev pub is_degree : ℕ → Bool
 is_degree n = nat_lt 0 n && nat_lt n 65
 
+-- `with_degree`: once, from 1 to 64
 abbrev pub with_degree_of : {L : Type 0} → QueryView L → ℕ → Built L
 with_degree_of q n =
     if is_some q.degree then Err (q, DegreeTwice) else (if is_degree n then Ok (record q { degree = Some n }) else Err (q, DegreeOutOfRange))

@@ -39,6 +39,7 @@ module _ {T : Type 0} where
   elements_of (Some chunk) = keyed_from chunk.first chunk.items.items
   elements_of None = []
 
+  -- the elements of all chunks, one chunk after another
   abbrev pub all_elements : List (Option (Chunk T)) → List (Keyed T)
   all_elements [] = []
   all_elements (act ∷ acts) = elements_of act ++ all_elements acts

@@ -30,6 +30,7 @@ number_of digits = fold (λ n b. 10 * n + (b - 48)) 0 digits
 abbrev pub malformed : ℕ
 malformed = 1
 
+-- the code of a token that no `i64` holds
 abbrev pub out_of_range : ℕ
 out_of_range = 2
 

@@ -16,6 +16,7 @@ use Rattle.plinq_ticket.specs.Turns.{InTurn, is_inside, newcomer}
 use Rattle.plinq_ticket.specs.Shares.{in_ticket_order, closed_under}
 
 module _ {T : Type 0} where
+  -- where a pass stands, of what it knows
   abbrev pub standing_of : View T → Standing
   standing_of v = v.standing
 

@@ -7,6 +7,7 @@ use mathlib.Core.Option.{Option}
 abbrev pub Fact : Type 0 → Type 0 → Type 1
 Fact S V = ℕ → ℕ → List (Option S) → List V → Type 0
 
+-- a table of two numbers of which a fact holds
 pub record OfTwoWords {S V : Type 0} (holds : Fact S V) (s : State S V) : Type 0 where
   pub next : ℕ
   pub serving : ℕ
