@@ -1,4 +1,4 @@
-use Rattle.std.proofs.Common.{◌≡◌, ◌+◌, ◌<◌, ◌≤◌, ◌^◌, length}
+use Rattle.std.proofs.Common.{◌+◌, ◌<◌, ◌≤◌, ◌^◌, length}
 use Rattle.plinq_ops.specs.Chunk.{chunk_answer}
 use Rattle.plinq_ops.specs.Cut.{most_items}
 use Rattle.plinq_run.proofs.ChunkPieces.{HasFoldedTo}
