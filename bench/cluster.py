@@ -1,7 +1,7 @@
 #!/usr/bin/python3
 """Seconds of documents by a Dask cluster on this machine, beside `plinq run` by as many threads. It wants python3-distributed.
 
-    bench/cluster.py NAME..     # of: cheap, printed, heavy, text, shards; each is one table
+    bench/cluster.py NAME..     # of: cheap, printed, heavy, heaviest, text, shards; each is one table
 """
 import json
 import os
@@ -44,11 +44,11 @@ def shared(client, text, count=None, file=None):
         answer.show(there, asked, shard.shards(parts), nowhere.write)
 
 
-def table(name, texts):
-    """One table: a row for each size, by 1, 2 and 4 threads and workers."""
-    print(f"{name}: seconds by {', '.join(map(str, THREADS))} threads of one process, and by as many workers")
-    rows = {size: [seconds(lambda: alone(text, it)) for it in THREADS] for size, text in texts.items()}
-    for count in THREADS:
+def table(name, texts, counts=THREADS):
+    """One table: a row for each size, by so many threads and by so many workers."""
+    print(f"{name}: seconds by {', '.join(map(str, counts))} threads of one process, and by as many workers")
+    rows = {size: [seconds(lambda: alone(text, it)) for it in counts] for size, text in texts.items()}
+    for count in counts:
         with workers.local(count) as client:
             shared(client, next(iter(texts.values())))
             for size, text in texts.items():
@@ -86,9 +86,11 @@ def of_text():
 
 
 TABLES = {
-    "cheap": lambda: table("sum of cheap formulas", over([10**7, 10**8], CHEAP, aggregate="sum")),
+    "cheap": lambda: table("sum of cheap formulas", over([10**7, 10**8, 10**9], CHEAP, aggregate="sum")),
     "printed": lambda: table("cheap formulas, printed", over([10**7], CHEAP)),
-    "heavy": lambda: table("sum of heavy formulas", over([10**6, 10**7], HEAVY, aggregate="sum")),
+    "heavy": lambda: table("sum of heavy formulas", over([10**6, 10**7, 10**8], HEAVY, aggregate="sum")),
+    # It takes six minutes.
+    "heaviest": lambda: table("sum of heavy formulas", over([10**9], HEAVY, aggregate="sum"), (4,)),
     "shards": of_a_shard,
     "text": of_text,
 }
