@@ -1,7 +1,7 @@
 #!/usr/bin/python3
 """Seconds of documents by a Dask cluster on this machine, beside `plinq run` by as many threads. It wants python3-distributed.
 
-    bench/cluster.py NAME..     # of: cheap, printed, heavy, heaviest, text, shards; each is one table
+    bench/cluster.py NAME..     # of: cheap, printed, heavy, text, shards; each is one table
 """
 import json
 import os
@@ -17,8 +17,8 @@ sys.path.insert(0, os.path.join(ROOT, "cluster"))
 from plinq_shards import answer, cluster, document, progress, shard, workers  # noqa: E402
 
 CHEAP = [["as_ordered"], ["select", "add", 1], ["filter", "even"]]
-# About half a microsecond an element.
-HEAVY = [["as_ordered"], *[["select", "mul", 31], ["select", "add", 7], ["select", "mod", 1_000_003]] * 60]
+# 60 steps, about a tenth of a microsecond an element: 1,000 million of them take a thread some two minutes.
+HEAVY = [["as_ordered"], *[["select", "mul", 31], ["select", "add", 7], ["select", "mod", 1_000_003]] * 20]
 THREADS = (1, 2, 4)
 
 
@@ -44,11 +44,11 @@ def shared(client, text, count=None, file=None):
         answer.show(there, asked, shard.shards(parts), nowhere.write)
 
 
-def table(name, texts, counts=THREADS):
+def table(name, texts):
     """One table: a row for each size, by so many threads and by so many workers."""
-    print(f"{name}: seconds by {', '.join(map(str, counts))} threads of one process, and by as many workers")
-    rows = {size: [seconds(lambda: alone(text, it)) for it in counts] for size, text in texts.items()}
-    for count in counts:
+    print(f"{name}: seconds by {', '.join(map(str, THREADS))} threads of one process, and by as many workers")
+    rows = {size: [seconds(lambda: alone(text, it)) for it in THREADS] for size, text in texts.items()}
+    for count in THREADS:
         with workers.local(count) as client:
             shared(client, next(iter(texts.values())))
             for size, text in texts.items():
@@ -88,9 +88,8 @@ def of_text():
 TABLES = {
     "cheap": lambda: table("sum of cheap formulas", over([10**7, 10**8, 10**9], CHEAP, aggregate="sum")),
     "printed": lambda: table("cheap formulas, printed", over([10**7], CHEAP)),
-    "heavy": lambda: table("sum of heavy formulas", over([10**6, 10**7, 10**8], HEAVY, aggregate="sum")),
-    # It takes six minutes.
-    "heaviest": lambda: table("sum of heavy formulas", over([10**9], HEAVY, aggregate="sum"), (4,)),
+    # It takes ten minutes.
+    "heavy": lambda: table("sum of 60 steps", over([10**7, 10**8, 10**9], HEAVY, aggregate="sum")),
     "shards": of_a_shard,
     "text": of_text,
 }
