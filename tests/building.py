@@ -496,6 +496,12 @@ def further_uses(place, tests):
     os.utime(place.write("crates/low/src/lib.rt", "low\n"))
     seen = place.run()
     tests.check("a source that was written again, the same, builds nothing", seen[2:] == ("", []), seen)
+    place.write("crates.txt", f"{CRATES}own: mid\n")
+    place.write("crates/own/src/main.rt", "own\n")
+    seen = place.run("words")
+    tests.check("a crate of one's own, which the program doesn't use, builds nothing", seen == (3, f"words: words; {BUILT}\n", "", []), seen)
+    shutil.rmtree(f"{place.top}/crates/own")
+    place.write("crates.txt", CRATES)
 
 
 def closed_streams(place, tests):
