@@ -44,9 +44,6 @@ NAMED = {
 LEFT_OUTSIDE = {
     "crates/plinq_cli/specs/Stopped.antt": "its crate and all above it are proved again where it moves",
     "crates/plinq_closures/specs/Only.antt": "its crate and all above it are proved again where it moves",
-    "crates/plinq_crew/specs/Handles.antt": "its crate and all above it are proved again where it moves",
-    "crates/plinq_crew/specs/Scoped.antt": "its crate and all above it are proved again where it moves",
-    "crates/plinq_crew/specs/Teams.antt": "its crate and all above it are proved again where it moves",
     "crates/plinq_cut/specs/OneWord.antt": "its crate and all above it are proved again where it moves",
     "crates/plinq_enumerator/specs/Replays.antt": "its crate and all above it are proved again where it moves",
     "crates/plinq_groups/specs/Acting.antt": "its crate and all above it are proved again where it moves",

@@ -6,7 +6,7 @@ use Rattle.plinq_partition.specs.declared.partition.Partition.{Partition}
 use Rattle.plinq_partition.specs.GivenBack.{common_origin}
 use Rattle.plinq_crew.specs.declared.handle.WorkerPromise.{WorkerPromise}
 use Rattle.plinq_crew.specs.declared.worker.Worked.{Worked}
-use Rattle.plinq_crew.specs.Handles.{AreNumbered}
+use Rattle.plinq_crew.specs.inner.Handles.{AreNumbered}
 
 -- what the first of them hands out
 pub common_origin-push : {S T : Type 0} {source : Ghosts S T} (ps : List (Partition S T source)) (p : Partition S T source) → 1 ≤ length ps → common_origin (ps ++ p ∷ []) ≡ common_origin ps

@@ -23,8 +23,8 @@ use Rattle.plinq_crew.specs.declared.worker.Crew.{Crew}
 use Rattle.plinq_crew.specs.declared.worker.WorkerContext.{WorkerContext}
 use Rattle.plinq_crew.specs.declared.worker_count.WorkerCount.{WorkerCount}
 use Rattle.plinq_crew.specs.Conducting.{HasReturned, Conducts}
-use Rattle.plinq_crew.specs.Handles.{AreNumbered}
-use Rattle.plinq_crew.specs.Teams.{IsTeam}
+use Rattle.plinq_crew.specs.inner.Handles.{AreNumbered}
+use Rattle.plinq_crew.specs.inner.Teams.{IsTeam}
 use Rattle.plinq_crew.specs.Noted.{has_noted, has_worker_fault, StaysNoted}
 use Rattle.plinq_crew.specs.Polls.{ClosesInTime, HasAccepted}
 use Rattle.plinq_crew.specs.Results.{IsOfSameChunk}

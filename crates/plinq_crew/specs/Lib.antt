@@ -1,11 +1,9 @@
 pub mod Conducting
 pub mod Equipped
-pub mod Handles
-pub mod Teams
 pub mod Plans
 pub mod Results
 pub mod Noted
 pub mod Polls
 pub mod Working
-pub mod Scoped
 pub mod CrewRows
+pub mod inner

@@ -8,10 +8,10 @@ ghost use Rattle.plinq_stream.specs.Streams.{HasReceivedAll};
 ghost use Rattle.plinq_crew.specs.Equipped.{IsEquipped, IsReady};
 ghost use Rattle.plinq_crew.specs.Noted.{has_worker_fault};
 ghost use Rattle.plinq_crew.specs.Polls.{HasAccepted};
-ghost use Rattle.plinq_crew.specs.Teams.{IsTeam};
+ghost use Rattle.plinq_crew.specs.inner.Teams.{IsTeam};
 ghost use Rattle.plinq_crew.specs.Working.{IsReceiver, HasNumbersFrom};
 ghost use Rattle.plinq_crew.specs.Conducting.{AcceptsEach, Conducts};
-ghost use Rattle.plinq_crew.specs.Scoped.{MayStartScope, ScopeReturns};
+ghost use Rattle.plinq_crew.specs.inner.Scoped.{MayStartScope, ScopeReturns};
 
 use crate::closing::Closing;
 use crate::consumer::Consumer;

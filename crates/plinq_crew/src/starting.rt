@@ -5,8 +5,8 @@ ghost use Rattle.plinq_partition.specs.GivenBack.{common_origin};
 ghost use Rattle.plinq_crew.specs.Equipped.{IsEquipped};
 ghost use Rattle.plinq_crew.specs.Noted.{lacks_room, has_worker_fault, has_noted, StaysNoted};
 ghost use Rattle.plinq_cut.specs.Passes.{IsPassOf as IsCutPassOf};
-ghost use Rattle.plinq_crew.specs.Handles.{IsHandleOf, AreNumbered};
-ghost use Rattle.plinq_crew.specs.Teams.{IsTeam};
+ghost use Rattle.plinq_crew.specs.inner.Handles.{IsHandleOf, AreNumbered};
+ghost use Rattle.plinq_crew.specs.inner.Teams.{IsTeam};
 ghost use Rattle.plinq_crew.specs.Working.{IsNewcomer, IsReceiver, IsBack, IsAnsweredBy, HasNumbersFrom};
 ghost use Rattle.plinq_stream.specs.Passes.{IsPassOf, known};
 

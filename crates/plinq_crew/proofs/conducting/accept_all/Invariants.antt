@@ -3,7 +3,7 @@ use Rattle.plinq_partition.specs.Partitions.{holding_of}
 use Rattle.plinq_stream.specs.Passes.{IsPassOf, known}
 use Rattle.plinq_crew.specs.Equipped.{IsEquipped}
 use Rattle.plinq_crew.specs.Polls.{HasAccepted}
-use Rattle.plinq_crew.specs.Teams.{IsTeam}
+use Rattle.plinq_crew.specs.inner.Teams.{IsTeam}
 use Rattle.plinq_crew.specs.Working.{HasNumbersFrom, IsReceiver}
 use Rattle.plinq_crew.specs.Conducting.{AcceptsEach}
 use Rattle.plinq_crew.proofs.conducting.accept_all.Given as goal

@@ -4,7 +4,7 @@ use Rattle.std.proofs.lemmas.List.Elements.{All-pop, All-push, All-weaker}
 use Rattle.plinq_partition.specs.Partitions.{IsPartitionOf, holding_of}
 use Rattle.plinq_partition.specs.GivenBack.{common_origin}
 use Rattle.plinq_stream.specs.Passes.{known}
-use Rattle.plinq_crew.specs.Handles.{IsHandleOf, AreNumbered}
+use Rattle.plinq_crew.specs.inner.Handles.{IsHandleOf, AreNumbered}
 use Rattle.plinq_crew.specs.Working.{IsAnsweredBy, HasWorked}
 use Rattle.plinq_crew.proofs.Handles.{common_origin-push, drop-push, numbered-pop}
 use Rattle.plinq_crew.proofs.Working.{above-both, answered-before, answered-now}

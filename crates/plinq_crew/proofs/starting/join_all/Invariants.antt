@@ -2,7 +2,7 @@ use Rattle.std.proofs.Common.{◌≡◌, ◌≤◌, ◌+◌, All, true, length, 
 use Rattle.plinq_partition.specs.Partitions.{IsPartitionOf, holding_of}
 use Rattle.plinq_partition.specs.GivenBack.{common_origin}
 use Rattle.plinq_stream.specs.Passes.{IsPassOf, known}
-use Rattle.plinq_crew.specs.Handles.{IsHandleOf, AreNumbered}
+use Rattle.plinq_crew.specs.inner.Handles.{IsHandleOf, AreNumbered}
 use Rattle.plinq_crew.specs.Noted.{StaysNoted}
 use Rattle.plinq_crew.specs.Working.{IsAnsweredBy}
 use Rattle.plinq_crew.proofs.starting.join_all.Given as goal

@@ -4,7 +4,7 @@ use Rattle.std.proofs.lemmas.List.Elements.{All-push}
 use Rattle.plinq_partition.specs.Partitions.{holding_of}
 use Rattle.plinq_stream.specs.Passes.{known}
 use Rattle.plinq_stream.proofs.Numbers.{may-give_number}
-use Rattle.plinq_crew.specs.Handles.{IsHandleOf, AreNumbered}
+use Rattle.plinq_crew.specs.inner.Handles.{IsHandleOf, AreNumbered}
 use Rattle.plinq_crew.proofs.Cuts.{equipped-beside}
 use Rattle.plinq_crew.proofs.Handles.{numbered-push}
 use Rattle.plinq_crew.proofs.Working.{first-handed, rest-handed, handed-receiver}

@@ -2,7 +2,7 @@ use Rattle.std.proofs.Common.{◌≡◌, length}
 use Rattle.plinq_cut.specs.Passes.{IsPassOf as IsCutPassOf}
 use Rattle.plinq_partition.specs.Partitions.{IsPartitionOf, holding_of}
 use Rattle.plinq_stream.specs.Passes.{IsPassOf, known}
-use Rattle.plinq_crew.specs.Teams.{IsTeam}
+use Rattle.plinq_crew.specs.inner.Teams.{IsTeam}
 use Rattle.plinq_crew.specs.Working.{HasNumbersFrom, IsReceiver}
 use Rattle.plinq_crew.proofs.starting.start_wanted.Given as goal
 

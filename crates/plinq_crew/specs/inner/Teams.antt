@@ -6,7 +6,7 @@ use Rattle.plinq_partition.specs.declared.chunked.Chunked.{Chunked}
 use Rattle.plinq_stream.specs.declared.stream.Stream.{Stream}
 use Rattle.plinq_crew.specs.declared.starting.Team.{Team}
 use Rattle.plinq_crew.specs.declared.worker_count.WorkerCount.{WorkerCount}
-use Rattle.plinq_crew.specs.Handles.{IsHandleOf, AreNumbered}
+use Rattle.plinq_crew.specs.inner.Handles.{IsHandleOf, AreNumbered}
 
 -- they were counted, are no more than were wanted, have the numbers from 0 on, and bring back what belongs to that source and that
 -- stream; no more than so many are wanted, for whom there is room

@@ -1,0 +1,4 @@
+-- Words that no public contract reaches: private contracts and proofs cite them.
+pub mod Handles
+pub mod Scoped
+pub mod Teams
