@@ -11,20 +11,31 @@ import tempfile
 
 from support.program import ROOT, Tests
 
+HEADLINE = "crates/plinq_run/specs/Headline.antt"
+RUNNING = "crates/plinq_run/src/running.rt"
 # A file, what stands there once, and what stands there in a copy of the sources in which no contract can be followed.
 LOST = {
-    "an import that is gone": ("crates/plinq_run/specs/Headline.antt", "use Rattle.plinq_merge.specs.Sending.{Leads}", "", "can't follow Leads"),
-    "a definition that is gone": ("crates/plinq_run/specs/Headline.antt", "pub record HasFirst (", "pub record HasFirsts (", "can't follow HasFirst"),
-    "a module that is gone": ("crates/plinq_run/specs/Headline.antt", "specs.SkipWhile.{", "specs.SkippedWhile.{", "there is no file"),
-    "a clause that is gone": ("crates/plinq_run/src/running.rt", "ensures ordered {", "ensures arranged {", "has no clause ordered"),
-    "a bound that is gone": ("crates/plinq_run/src/running.rt", "ghost use Rattle.plinq_run.specs.Headline.{answers, HasDelivered};", "ghost use Rattle.plinq_run.specs.Headline.{answers};", "can't follow HasDelivered"),
-    "a definition that became a proof": ("crates/plinq_run/specs/Headline.antt", "use Rattle.plinq_merge.specs.Sending.{Leads}", "use Rattle.plinq_merge.proofs.Sending.{Leads}", "is a proof"),
+    "an import that is gone": (HEADLINE, "Sending.{Leads, TakesBeginning", "Sending.{TakesBeginning", "can't follow Leads"),
+    "a definition that is gone": (
+        "crates/plinq_ops/specs/Query.antt",
+        "pub record QueryView (",
+        "pub record QueriesView (",
+        "has no QueryView",
+    ),
+    "a module that is gone": (HEADLINE, "specs.SkipWhile.{", "specs.SkippedWhile.{", "there is no file"),
+    "a clause that is gone": (RUNNING, "ensures ordered {", "ensures arranged {", "has no clause ordered"),
+    "a bound that is gone": (RUNNING, "specs.Headline.{answers, HasDelivered};", "specs.Headline.{answers};", "can't follow HasDelivered"),
+    "a definition that became a proof": (HEADLINE, "use Rattle.plinq_merge.specs.Sending.{", "use Rattle.plinq_merge.proofs.Sending.{", "is a proof"),
 }
 # What a contract reaches, and what it doesn't.
 REACHED = {
-    "run:ordered": (["HasDelivered", "answers", "skipped_from", "pub enum RunFault", "ghost accepts", "ghost view ="], ["MayAnswer", "Stage", "IsLegalHistory"]),
+    "run:ordered": (
+        ["HasDelivered", "answers", "skipped_from", "pub enum RunFault", "ghost accepts", "ghost view ="],
+        ["MayAnswer", "Stage", "IsLegalHistory"],
+    ),
+    "plinq_run::run": (["TakesBeginning", "RefusesNext"], ["IsCutOff", "StopsShort"]),
     "free_lock_has_handed_out_a_prefix": (["Lawful", "IsFree", "ghost holds =", "handed_out", "pub enum Phase"], ["HasDelivered"]),
-    "ordered_run_is_sequential": (["MayAnswer", "delivery_fault_of", "pieces : (T → Trace T) → Stage T"], ["HasDelivered"]),
+    "ordered_run_is_sequential": (["MayAnswer", "cause_of", "pieces : (T → Trace T) → Stage T"], ["HasDelivered"]),
     "plinq_partition::take": (["IsTaken", "IsChunkOf", "size_at"], ["Lawful"]),
 }
 
@@ -44,27 +55,65 @@ NAMED = {
 LEFT_OUTSIDE = {
     "crates/plinq_cli/specs/Stopped.antt": "its crate and all above it are proved again where it moves",
     "crates/plinq_closures/specs/Only.antt": "its crate and all above it are proved again where it moves",
-    "crates/plinq_cut/specs/OneWord.antt": "its crate and all above it are proved again where it moves",
-    "crates/plinq_enumerator/specs/Replays.antt": "its crate and all above it are proved again where it moves",
     "crates/plinq_groups/specs/Acting.antt": "its crate and all above it are proved again where it moves",
     "crates/plinq_groups/specs/Joined.antt": "its crate and all above it are proved again where it moves",
+    "crates/plinq_merge/specs/Sent.antt": "its crate and all above it are proved again where it moves",
+    "crates/plinq_cut/specs/OneWord.antt": "its crate and all above it are proved again where it moves",
+    "crates/plinq_enumerator/specs/Replays.antt": "its crate and all above it are proved again where it moves",
     "crates/plinq_keyed/specs/Sweeps.antt": "its crate and all above it are proved again where it moves",
     "crates/plinq_lambda/specs/Sums.antt": "its crate and all above it are proved again where it moves",
-    "crates/plinq_merge/specs/Sent.antt": "its crate and all above it are proved again where it moves",
     "crates/plinq_ops/specs/Passing.antt": "its crate and all above it are proved again where it moves",
     "crates/plinq_partition/specs/Inside.antt": "its crate and all above it are proved again where it moves",
     "crates/plinq_source/specs/Values.antt": "its crate and all above it are proved again where it moves",
     "crates/plinq_ticket/specs/Steps.antt": "its crate and all above it are proved again where it moves",
 }
+PLANS = "ghost use Rattle.plinq_run.specs.inner.Plans.{MayTake};\npub fn taken()\n    ensures { MayTake }\n{}\n"
+IS_REACHED = "plinq_run/specs/inner/Plans.antt: a public contract reaches it"
 # A file, what stands there once, what stands there in a copy, what the tool then says of it, and with which status.
 APART = {
-    "a public clause that names an inner word": ("crates/plinq_run/src/laws.rt", "//! What a run", "ghost use Rattle.plinq_run.specs.inner.Plans.{MayTake};\npub fn taken()\n    ensures { MayTake }\n{}\n//! What a run", "plinq_run/specs/inner/Plans.antt: a public", 0),
-    "a public clause of a crate above that names one": ("crates/plinq_cli/src/failure.rt", "impl From<InputFault>", "ghost use Rattle.plinq_run.specs.inner.Plans.{MayTake};\npub fn taken()\n    ensures { MayTake }\n{}\nimpl From<InputFault>", "plinq_run/specs/inner/Plans.antt: a public", 0),
-    "a definition that names an inner word": ("crates/plinq_run/specs/Headline.antt", "plinq_merge.specs.Sending.{Leads}", "plinq_run.specs.inner.Plans.{MayTake as Leads}", "plinq_run/specs/inner/Plans.antt: a public", 0),
-    "a file whose last public contract is gone": ("crates/plinq_partition/src/laws.rt", "ensures { TakesAreOneHistory T }", "ensures { T ≡ T }", "plinq_partition/specs/Together.antt: no public", 0),
-    "a file whose type is public no more": ("crates/plinq_groups/src/lib.rt", "pub use collect::Collect;", "use collect::Collect;", "plinq_groups/specs/Collecting.antt: no public", 0),
-    "a member over a type that isn't there": ("crates/plinq_crew/src/task.rt", "{ Self → ChunkResult T →", "{ Self → ChunkResult U →", "can't follow U", 1),
-    "an impl's member that can't be followed": ("crates/plinq_aggregate/src/sum.rt", "{ λ _. summing-lawful }", "{ λ _. summing-legal }", "can't follow summing-legal", 1),
+    "a public clause that names an inner word": ("crates/plinq_run/src/laws.rt", "//! What a run", f"{PLANS}//! What a run", IS_REACHED, 0),
+    "a public clause of a crate above that names one": (
+        "crates/plinq_cli/src/failure.rt",
+        "impl From<InputFault>",
+        f"{PLANS}impl From<InputFault>",
+        IS_REACHED,
+        0,
+    ),
+    "a definition that names an inner word": (
+        HEADLINE,
+        "Sending.{Leads, TakesBeginning, RefusesNext}",
+        "Sending.{TakesBeginning, RefusesNext}\nuse Rattle.plinq_run.specs.inner.Plans.{MayTake as Leads}",
+        IS_REACHED,
+        0,
+    ),
+    "a file whose last public contract is gone": (
+        "crates/plinq_partition/src/laws.rt",
+        "ensures { TakesAreOneHistory T }",
+        "ensures { T ≡ T }",
+        "plinq_partition/specs/Together.antt: no public contract reaches it",
+        0,
+    ),
+    "a file whose type is public no more": (
+        "crates/plinq_groups/src/lib.rt",
+        "pub use collect::Collect;",
+        "use collect::Collect;",
+        "plinq_groups/specs/Collecting.antt: no public contract reaches it",
+        0,
+    ),
+    "a member over a type that isn't there": (
+        "crates/plinq_crew/src/task.rt",
+        "{ Self → ChunkResult T →",
+        "{ Self → ChunkResult U →",
+        "can't follow U",
+        1,
+    ),
+    "an impl's member that can't be followed": (
+        "crates/plinq_aggregate/src/sum.rt",
+        "{ λ _. summing-lawful }",
+        "{ λ _. summing-legal }",
+        "can't follow summing-legal",
+        1,
+    ),
 }
 
 

@@ -45,7 +45,7 @@ pub record IsAsked {C K : Type 0} (asks : C → ℕ → Bool → C → Type 0) (
   pub counts : d'.delivered ≡ d.delivered
 
 module _ {C K T : Type 0} (asks : C → ℕ → Bool → C → Type 0) (accepts : K → List T → K → Type 0) (d : Delivery C K) (bs : List (List T)) (d' : Delivery C K) where
-  -- the first of these batches are delivered, and the next one is kept back
+  -- a beginning of these batches is delivered, perhaps none, and the next one is kept back
   pub record IsKeptBack : Type 0 where
     pub sent : List (List T)
     pub kept : List T
@@ -55,7 +55,7 @@ module _ {C K T : Type 0} (asks : C → ℕ → Bool → C → Type 0) (accepts 
     pub leads : Leads (Passes asks accepts) d sent last
     pub stops : IsAsked asks true last d'
 
-  -- the first of them are delivered, and then the token stops: before the next, or after the last
+  -- a beginning of them is delivered, perhaps none, and then the token stops: before the next, or after the last
   pub record IsStopped : Type 0 where
     pub sent : List (List T)
     pub rest : List (List T)
@@ -113,6 +113,13 @@ before_the_first : IsStopped at_two keeps_items (so_far false [] 0) ((4 ∷ []) 
 before_the_first stopped =
     let at : stopped.last.delivered ≡ 0 = sym stopped.stops.counts in
     let early = stops_at_two stopped.last (so_far true [] 0) stopped.stops in
+    absurd (cc)
+
+-- nor is a batch kept back of one
+kept_before_the_first : IsKeptBack at_two keeps_items (so_far false [] 0) ((4 ∷ []) ∷ (2 ∷ []) ∷ []) (so_far true [] 0) → ⊥
+kept_before_the_first kept =
+    let at : kept.last.delivered ≡ 0 = sym kept.stops.counts in
+    let early = stops_at_two kept.last (so_far true [] 0) kept.stops in
     absurd (cc)
 
 at_the_greatest_number : counted 18446744073709551615 ≡ 18446744073709551615

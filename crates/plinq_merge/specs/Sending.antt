@@ -6,17 +6,24 @@ use Rattle.plinq_ops.specs.Batches.{full_batches, held_back}
 use Rattle.plinq_merge.specs.declared.delivery_fault.DeliveryFault.{DeliveryFault}
 use Rattle.plinq_merge.specs.declared.delivery_fault.DeliveryFault.TheVariants.{Memory, Sink}
 
--- the sink takes these batches one after another, and that leads from s to s'
+-- the sink takes these batches one after another, and that leads from s, the sink before them, to s', the sink after them
 abbrev pub Leads : {K B : Type 0} → (K → B → K → Type 0) → K → List B → K → Type 0
 Leads accepts s [] s' = s' ≡ s
 Leads {K} accepts s (b ∷ bs) s' = (m : K) × (accepts s b m) × Leads accepts m bs s'
 
--- the sink has taken the first of these batches, and then refused the next one, with its code; or no more was tried, for
--- whatever other fault: the answer `Memory` stands for all of these
+-- the sink has taken a beginning of these batches: perhaps none, perhaps all
+abbrev pub TakesBeginning : {K B : Type 0} → (K → B → K → Type 0) → K → List B → K → Type 0
+TakesBeginning {K} {B} accepts s bs s' = (sent : List B) × (rest : List B) × (bs ≡ sent ++ rest) × Leads accepts s sent s'
+
+-- the sink has taken a beginning of these batches, perhaps none, and refused the next one with this code
+abbrev pub RefusesNext : {K B : Type 0} → (K → B → K → Type 0) → (K → B → ℕ → K → Type 0) → K → List B → ℕ → K → Type 0
+RefusesNext {K} {B} accepts refuses s bs code s' =
+    (sent : List B) × (next : B) × (rest : List B) × (m : K) × (bs ≡ sent ++ next ∷ rest) × (Leads accepts s sent m) × refuses m next code s'
+
+-- a delivery broke off: the sink refused the next batch, or no more was tried, for whatever other fault `Memory` stands
 abbrev pub IsCutOff : {K B : Type 0} → (K → B → K → Type 0) → (K → B → ℕ → K → Type 0) → K → List B → DeliveryFault → K → Type 0
-IsCutOff {K} {B} accepts refuses s bs Memory s' = (sent : List B) × (rest : List B) × (bs ≡ sent ++ rest) × Leads accepts s sent s'
-IsCutOff {K} {B} accepts refuses s bs (Sink code) s' =
-    (sent : List B) × (b : B) × (rest : List B) × (m : K) × (bs ≡ sent ++ b ∷ rest) × (Leads accepts s sent m) × refuses m b code s'
+IsCutOff accepts refuses s bs Memory s' = TakesBeginning accepts s bs s'
+IsCutOff accepts refuses s bs (Sink code) s' = RefusesNext accepts refuses s bs code s'
 
 -- all of these batches are delivered, or the first of them are and the fault says why not all
 abbrev pub Delivers : {K B A : Type 0} → (K → B → K → Type 0) → (K → B → ℕ → K → Type 0) → K → List B → Result A DeliveryFault → K → Type 0

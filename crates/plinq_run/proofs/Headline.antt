@@ -16,13 +16,12 @@ use Rattle.plinq_ops.specs.Feeding.{is_empty_take}
 use Rattle.plinq_ops.specs.Operator.{selected, filtered, selected_many, taken_while, stage_of, stages_of}
 use Rattle.plinq_ops.specs.Sequential.{answer_of}
 use Rattle.plinq_ops.specs.Stage.{joined, apply, seq}
-use Rattle.plinq_merge.specs.Sending.{Leads, IsCutOff}
-use Rattle.plinq_merge.specs.declared.delivery_fault.DeliveryFault.TheVariants.{Memory as NoMemory, Sink as Refusal}
+use Rattle.plinq_merge.specs.Sending.{Leads, TakesBeginning, RefusesNext}
 use Rattle.plinq_run.specs.declared.report.Report.{Report}
 use Rattle.plinq_run.specs.declared.run_fault.RunFault.{RunFault}
 use Rattle.plinq_run.specs.declared.run_fault.RunFault.TheVariants.{Memory, Sink, Tickets, Thread, Incomplete, Cancelled}
 use Rattle.plinq_run.specs.Endings.{reported}
-use Rattle.plinq_run.specs.Headline.{or_fault, does, answers, in_batches, all_at_once, handed_over, HasRefused, HasFirst, HasDelivered}
+use Rattle.plinq_run.specs.Headline.{or_fault, does, answers, in_batches, all_at_once, handed_over, HasDelivered}
 use Rattle.plinq_run.specs.Reports.{Reports}
 use Rattle.plinq_run.specs.Runs.{HasRun, Runs}
 use Rattle.plinq_run.proofs.Ended.{reports-runs, decided-run}
@@ -145,23 +144,15 @@ module _ {T : Type 0} where
   -- ---- runs
 
   module _ {K : Type 0} (accepts : K → List T → K → Type 0) (refuses : K → List T → ℕ → K → Type 0) (option : MergeOption) (u : Trace T) (s s' : K) where
-    first-of : IsCutOff accepts refuses s (batches option u) NoMemory s' → HasFirst accepts refuses (handed_over option u) s s'
+    first-of : TakesBeginning accepts s (batches option u) s' → TakesBeginning accepts s (handed_over option u) s'
     first-of (first, rest, parts, leads) =
         let b = begins option u in
-        record { first = first; rest = rest ++ b.more; parts = b.parts ∙ ap (λ zs. zs ++ b.more) parts ∙ append_assoc first rest b.more; taken_first = leads }
+        (first, rest ++ b.more, b.parts ∙ ap (λ zs. zs ++ b.more) parts ∙ append_assoc first rest b.more, leads)
 
-    refused-of : (code : ℕ) → IsCutOff accepts refuses s (batches option u) (Refusal code) s' → HasRefused accepts refuses (handed_over option u) code s s'
+    refused-of : (code : ℕ) → RefusesNext accepts refuses s (batches option u) code s' → RefusesNext accepts refuses s (handed_over option u) code s'
     refused-of code (first, next, rest, between, parts, leads, refused) =
         let b = begins option u in
-        record {
-          first = first;
-          next = next;
-          rest = rest ++ b.more;
-          parts = b.parts ∙ ap (λ zs. zs ++ b.more) parts ∙ append_assoc first (next ∷ rest) b.more;
-          between = between;
-          taken_first = leads;
-          refused = refused;
-        }
+        (first, next, rest ++ b.more, between, b.parts ∙ ap (λ zs. zs ++ b.more) parts ∙ append_assoc first (next ∷ rest) b.more, leads, refused)
 
     runs-delivered : (r : Result Ending RunFault) → Runs accepts refuses option u s s' r → HasDelivered accepts refuses option u s s' r
     runs-delivered (Ok e) h =

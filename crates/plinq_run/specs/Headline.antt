@@ -12,21 +12,21 @@ use Rattle.plinq_ops.specs.declared.op.Op.TheVariants.{Select, Filter, SelectMan
 use Rattle.plinq_ops.specs.Operator.{item_count, example}
 use Rattle.plinq_ops.specs.SkipWhile.{skipped_while}
 use Rattle.plinq_ops.specs.Stage.{joined, taken, skipped}
-use Rattle.plinq_merge.specs.Sending.{Leads}
+use Rattle.plinq_merge.specs.Sending.{Leads, TakesBeginning, RefusesNext}
 use Rattle.plinq_run.specs.declared.run_fault.RunFault.{RunFault}
 use Rattle.plinq_run.specs.declared.run_fault.RunFault.TheVariants.{Memory, Sink, Tickets, Thread, Incomplete, Cancelled}
 
 module _ {T : Type 0} where
-  -- each item gives a piece of the answer, one followed by another, and then comes the old ending
+  -- each item gives a piece, one followed by another, and then comes the old ending
   abbrev pub each : (T → Trace T) → Trace T → Trace T
   each piece t = joined piece t.items t.ending
 
-  -- what a lambda's value gives; where the lambda faults, that ends the answer
+  -- what a lambda's value gives; where the lambda faults, its fault ends what the operator gives
   abbrev pub or_fault : {A : Type 0} → Result A ℕ → (A → Trace T) → Trace T
   or_fault (Ok value) given = given value
   or_fault (Err code) given = ended [] (Fault code)
 
-  -- what one operator makes of a trace, by what its lambda means
+  -- what one operator makes of a trace, by what its lambda means; AsUnordered does nothing to what one thread answers
   abbrev pub does : {L : Type 0} → (L → Meaning T) → Op L → Trace T → Trace T
   does meaning (Select f) t = each (λ x. or_fault ((meaning f).map x) (λ y. open_trace (y ∷ []))) t
   does meaning (Filter f) t = each (λ x. or_fault ((meaning f).test x) (λ passes. open_trace (if passes then x ∷ [] else []))) t
@@ -42,18 +42,19 @@ module _ {T : Type 0} where
   answers meaning [] t = t
   answers meaning (op ∷ ops) t = answers meaning ops (does meaning op t)
 
-  -- the items in batches of n, the first of them begun with those in hand; what is in hand at the end is the last one
+  -- the items in batches of n, the first of them begun with those of the first list, which are in hand; what is in hand at the
+  -- end is the last batch
   abbrev pub in_batches : ℕ → List T → List T → List (List T)
   in_batches n [] [] = []
   in_batches n (y ∷ ys) [] = (y ∷ ys) ∷ []
   in_batches n hand (x ∷ xs) = if length hand + 1 == n then (hand ++ x ∷ []) ∷ in_batches n [] xs else in_batches n (hand ++ x ∷ []) xs
 
-  -- all items as one batch, where the answer ends well
+  -- all items as one batch, where the answer ends with End; after a fault or a refusal nothing is handed over
   abbrev pub all_at_once : List T → Option Ending → List (List T)
   all_at_once (x ∷ xs) (Some End) = (x ∷ xs) ∷ []
   all_at_once xs ending = []
 
-  -- the batches in which an answer is handed over
+  -- the batches in which an answer is handed over: of 1, of 16, or all at once; a last short one comes also before a fault
   abbrev pub handed_over : MergeOption → Trace T → List (List T)
   handed_over NotBuffered u = in_batches 1 [] u.items
   handed_over FullyBuffered u = all_at_once u.items u.ending
@@ -61,32 +62,15 @@ module _ {T : Type 0} where
   handed_over Default u = in_batches 16 [] u.items
 
 module _ {K T : Type 0} (accepts : K → List T → K → Type 0) (refuses : K → List T → ℕ → K → Type 0) where
-  -- the sink has taken the first of these batches, and refused the next one with this code
-  pub record HasRefused (bs : List (List T)) (code : ℕ) (s s' : K) : Type 0 where
-    pub first : List (List T)
-    pub next : List T
-    pub rest : List (List T)
-    pub parts : bs ≡ first ++ next ∷ rest
-    pub between : K
-    pub taken_first : Leads accepts s first between
-    pub refused : refuses between next code s'
-
-  -- the sink has taken the first of these batches
-  pub record HasFirst (bs : List (List T)) (s s' : K) : Type 0 where
-    pub first : List (List T)
-    pub rest : List (List T)
-    pub parts : bs ≡ first ++ rest
-    pub taken_first : Leads accepts s first s'
-
-  -- What a run of this answer reports, and what its sink has taken then: all batches where it reports the answer's ending,
-  -- and the first of them after a fault. Without a token nothing cancels it
+  -- What a run of this answer reports, and what its sink has taken then. It reports the answer's ending, and all batches were
+  -- taken; or that the sink refused one; or another fault of its own, and a beginning was taken. Without a token nothing cancels
   abbrev pub HasDelivered : MergeOption → Trace T → K → K → Result Ending RunFault → Type 0
   HasDelivered option u s s' (Ok e) = (u.ending ≡ Some e) × Leads accepts s (handed_over option u) s'
-  HasDelivered option u s s' (Err (Sink code)) = HasRefused (handed_over option u) code s s'
-  HasDelivered option u s s' (Err Memory) = HasFirst (handed_over option u) s s'
-  HasDelivered option u s s' (Err Thread) = HasFirst (handed_over option u) s s'
-  HasDelivered option u s s' (Err Tickets) = HasFirst (handed_over option u) s s'
-  HasDelivered option u s s' (Err Incomplete) = HasFirst (handed_over option u) s s'
+  HasDelivered option u s s' (Err (Sink code)) = RefusesNext accepts refuses s (handed_over option u) code s'
+  HasDelivered option u s s' (Err Memory) = TakesBeginning accepts s (handed_over option u) s'
+  HasDelivered option u s s' (Err Thread) = TakesBeginning accepts s (handed_over option u) s'
+  HasDelivered option u s s' (Err Tickets) = TakesBeginning accepts s (handed_over option u) s'
+  HasDelivered option u s s' (Err Incomplete) = TakesBeginning accepts s (handed_over option u) s'
   HasDelivered option u s s' (Err Cancelled) = ⊥
 
 -- of 5, 1, 2 and 2 those below 3, of these two, and each less one

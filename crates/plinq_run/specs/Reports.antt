@@ -9,7 +9,7 @@ use Rattle.plinq_run.specs.Runs.{HasRun, HasBroken}
 
 module _ {K T : Type 0} (accepts : K → List T → K → Type 0) (refuses : K → List T → ℕ → K → Type 0) (option : MergeOption)
     (May : Trace T → Trace T → Type 0) (t : Trace T) (s s' : K) where
-  -- the first batches of an answer were delivered
+  -- a beginning of an answer's batches was delivered
   pub record IsBroken (fault : RunFault) : Type 0 where
     pub answer : Trace T
     pub may : May t answer

@@ -125,14 +125,14 @@ all_delivered : Delivers (4 ∷ 2 ∷ 5 ∷ []) (Ok End)
 all_delivered = (refl, (4 ∷ [], refl, (4 ∷ 2 ∷ [], refl, (4 ∷ 2 ∷ 5 ∷ [], refl, refl))))
 
 second_delivered_alone : Delivers (2 ∷ []) (Err Memory) → ⊥
-second_delivered_alone has = omega (arith, four_is_first has.first has.rest 2 has.parts has.taken_first)
+second_delivered_alone (sent, rest, parts, leads) = omega (arith, four_is_first sent rest 2 parts leads)
 
 second_delivered_and_a_refusal : Delivers (2 ∷ []) (Err (Sink 9)) → ⊥
-second_delivered_and_a_refusal has =
-    omega (arith, four_is_first has.first (has.next ∷ has.rest) 2 has.parts (subst (λ s. Leads keeps [] has.first s) (sym has.refused.1) has.taken_first))
+second_delivered_and_a_refusal (sent, b, rest, m, parts, leads, (code, is)) =
+    omega (arith, four_is_first sent (b ∷ rest) 2 parts (subst (λ s. Leads keeps [] sent s) (sym is) leads))
 
 more_delivered_than_the_answer : Delivers too_much (Err Memory) → ⊥
-more_delivered_than_the_answer has = omega (arith, ap lengths has.parts, lengths-append has.first has.rest, keeps_all [] has.first too_much has.taken_first)
+more_delivered_than_the_answer (sent, rest, parts, leads) = omega (arith, ap lengths parts, lengths-append sent rest, keeps_all [] sent too_much leads)
 
 cancelled_and_delivered : Delivers [] (Err Cancelled) → ⊥
 cancelled_and_delivered has = absurd has

@@ -2,9 +2,7 @@
 use Rattle.std.specs.Prelude.{◌≡◌, ℕ, List, Some, Result, Ok, Err}
 use Rattle.plinq_source.specs.declared.ending.Ending.{Ending}
 use Rattle.plinq_source.specs.Trace.{Trace}
-use Rattle.plinq_merge.specs.declared.merge_fault.MergeFault.TheVariants.{Memory as NoMemory, Sink as Refusal}
-use Rattle.plinq_merge.specs.Sending.{Leads}
-use Rattle.plinq_merge.specs.Mergers.{StopsShort}
+use Rattle.plinq_merge.specs.Sending.{Leads, TakesBeginning, RefusesNext}
 use Rattle.plinq_ops.specs.declared.merge_option.MergeOption.{MergeOption}
 use Rattle.plinq_ops.specs.Batches.{batches}
 use Rattle.plinq_run.specs.declared.run_fault.RunFault.{RunFault}
@@ -32,14 +30,14 @@ cause_of Incomplete = Other
 cause_of Cancelled = Stopped
 
 module _ {K T : Type 0} (accepts : K → List T → K → Type 0) (refuses : K → List T → ℕ → K → Type 0) where
-  -- the sink has taken the first of these batches, and where that is the cause it refused the next one; without a token
+  -- the sink has taken a beginning of these batches, and where that is the cause it refused the next one; without a token
   -- nothing stops a run
   abbrev pub BreaksFor : Cause → List (List T) → K → K → Type 0
-  BreaksFor (SinkRefused code) bs s s' = StopsShort accepts refuses s bs (Refusal code) s'
+  BreaksFor (SinkRefused code) bs s s' = RefusesNext accepts refuses s bs code s'
   BreaksFor Stopped bs s s' = ⊥
-  BreaksFor Other bs s s' = StopsShort accepts refuses s bs NoMemory s'
+  BreaksFor Other bs s s' = TakesBeginning accepts s bs s'
 
--- the sink has taken the first batches of this answer; where the fault says so, it refused the next one
+-- the sink has taken a beginning of this answer's batches; where the fault says so, it refused the next one
 abbrev pub HasBroken : {K T : Type 0} → (K → List T → K → Type 0) → (K → List T → ℕ → K → Type 0) → MergeOption → Trace T → K → K → RunFault → Type 0
 HasBroken accepts refuses option u s s' fault = BreaksFor accepts refuses (cause_of fault) (batches option u) s s'
 

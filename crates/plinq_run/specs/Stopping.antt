@@ -25,7 +25,7 @@ module _ {C K T : Type 0} (asks : C → ℕ → Bool → C → Type 0) (accepts 
       pub reported : HasReported (Passes asks accepts) (IsRefused asks refuses) option May t d last report
       pub lets : IsAsked asks false last d'
 
-    -- the first batches of an answer were delivered, and then the token stopped the run
+    -- a beginning of an answer's batches was delivered, and then the token stopped the run
     pub record WasStopped : Type 0 where
       pub answer : Trace T
       pub may : May t answer
@@ -42,7 +42,7 @@ module _ {C K T : Type 0} (asks : C → ℕ → Bool → C → Type 0) (accepts 
   ReportsSome May t token sink delivered result token' sink' =
       (delivered' : ℕ) × ReportsWith May t (record { token = token; sink = sink; delivered = delivered }) (record { token = token'; sink = sink'; delivered = delivered' }) result
 
-  -- a run with a token delivered this answer, or the first batches of it
+  -- a run with a token delivered this answer, or a beginning of its batches
   abbrev pub RunsWith : Trace T → Delivery C K → Delivery C K → Result Report RunFault → Type 0
   RunsWith u d d' (Ok report) = (last : Delivery C K) × (HasRun (Passes asks accepts) option u d last report.ending) × IsAsked asks false last d'
   RunsWith u d d' (Err Cancelled) = IsStopped asks accepts d (batches option u) d'

@@ -66,7 +66,7 @@ where
     report(conducted)
 }
 
-/// Runs a query over a source: as many workers as its degree take chunks that grow so, and the sink gets the batches
+/// Runs a query over a source: as many workers as its degree take chunks that grow by `growth`, and the sink gets the batches
 /// of the answer as they are computed.
 ///
 /// The caller's thread merges, and no thread is left when it returns. A decided query asks the source for nothing.
