@@ -24,7 +24,7 @@ use Rattle.plinq_merge.specs.declared.delivery_fault.DeliveryFault.{DeliveryFaul
 use Rattle.plinq_merge.specs.Buffer.{held_of, size_of, HasRoom}
 use Rattle.plinq_merge.specs.Sending.{Leads, IsCutOff}
 use Rattle.plinq_merge.specs.Merging.{GoesOn}
-use Rattle.plinq_merge.specs.Sent.{leads-append, cut-after, cut-before}
+use Rattle.plinq_merge.specs.inner.Sent.{leads-append, cut-after, cut-before}
 use Rattle.plinq_merge.specs.Delivering.{Line, KeepsPlan, line_of, is_below, can_deliver, Made}
 
 last_batch-open : {T : Type 0} (size : Option ℕ) (held : List T) → last_batch size held None ≡ []

@@ -11,7 +11,7 @@ use Rattle.plinq_ops.proofs.Runs.{full_batches-append, held_back-append, batches
 use Rattle.plinq_merge.specs.declared.delivery_fault.DeliveryFault.{DeliveryFault}
 use Rattle.plinq_merge.specs.declared.delivery_fault.DeliveryFault.TheVariants.{Memory}
 use Rattle.plinq_merge.specs.Sending.{Leads, IsCutOff}
-use Rattle.plinq_merge.specs.Sent.{leads-append, cut-after, cut-before}
+use Rattle.plinq_merge.specs.inner.Sent.{leads-append, cut-after, cut-before}
 use Rattle.plinq_merge.specs.Taking.{IsTaking}
 use Rattle.plinq_merge.specs.Delivering.{Line, KeepsPlan, DeliversOn, Gives, Made}
 

@@ -1,5 +1,4 @@
 pub mod Sending
-pub mod Sent
 pub mod Tokens
 pub mod Cancelling
 pub mod Lent
@@ -16,3 +15,4 @@ pub mod Offering
 pub mod Joiners
 pub mod Whole
 pub mod Mergers
+pub mod inner

@@ -24,7 +24,7 @@ use Rattle.plinq_merge.specs.Sending.{Leads, IsCutOff}
 use Rattle.plinq_merge.specs.Shown.{Merge, merged, answer, shown}
 use Rattle.plinq_merge.specs.Whole.{AreTrueTails, AreApart, AreFirstOf}
 use Rattle.plinq_merge.proofs.Gains.{answer-open}
-use Rattle.plinq_merge.specs.Sent.{cut-before}
+use Rattle.plinq_merge.specs.inner.Sent.{cut-before}
 use Rattle.plinq_merge.proofs.Whole.{merged-begins, batches-first}
 use Rattle.plinq_run.specs.declared.coverage.Coverage.{Coverage}
 use Rattle.plinq_run.specs.declared.run_fault.RunFault.{RunFault}

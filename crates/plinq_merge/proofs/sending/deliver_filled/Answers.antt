@@ -3,7 +3,7 @@ use Rattle.std.proofs.lemmas.List.{take-append-drop}
 use Rattle.plinq_ops.specs.Batches.{full_batches, held_back}
 use Rattle.plinq_merge.specs.Sending.{Leads, IsCutOff}
 use Rattle.plinq_merge.proofs.Blocks.{full_batches-filled, held_back-filled, full_batches-short, held_back-short, filled-all, short-filled}
-use Rattle.plinq_merge.specs.Sent.{cut-before, delivers-at_err, delivers-after, delivers-as}
+use Rattle.plinq_merge.specs.inner.Sent.{cut-before, delivers-at_err, delivers-after, delivers-as}
 use Rattle.plinq_merge.proofs.sending.deliver_filled.Goals as goal
 
 pub returns-then-not-is_full-clause-filled : goal.returns-then-not-is_full-clause-filled

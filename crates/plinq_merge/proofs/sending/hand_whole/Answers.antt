@@ -2,7 +2,7 @@ use Rattle.std.proofs.Common.{rules, ◌≡◌, ◌<◌, [], ◌∷◌, ◌++◌
 use Rattle.plinq_ops.specs.Batches.{full_batches, held_back}
 use Rattle.plinq_merge.specs.Sending.{Leads, IsCutOff}
 use Rattle.plinq_merge.proofs.Blocks.{full_batches-filled, held_back-filled, full_batches-short, held_back-short, filled-all}
-use Rattle.plinq_merge.specs.Sent.{up_to-more, up_to-leads, up_to-cut, cut-before, delivers-at_err, delivers-as}
+use Rattle.plinq_merge.specs.inner.Sent.{up_to-more, up_to-leads, up_to-cut, cut-before, delivers-at_err, delivers-as}
 use Rattle.plinq_merge.specs.Sending.{singles}
 use Rattle.plinq_merge.proofs.Singles.{full_batches-one, held_back-one}
 use Rattle.plinq_merge.proofs.sending.hand_whole.Goals as goal

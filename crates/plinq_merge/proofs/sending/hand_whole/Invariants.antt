@@ -1,6 +1,6 @@
 use Rattle.std.proofs.Common.{◌≡◌, [], length, Some}
 use Rattle.plinq_ops.specs.Batches.{full_batches, held_back}
-use Rattle.plinq_merge.specs.Sent.{IsSentUpTo}
+use Rattle.plinq_merge.specs.inner.Sent.{IsSentUpTo}
 use Rattle.plinq_merge.proofs.sending.hand_whole.Given as goal
 
 abbrev pub invariant-loop-rest : goal.invariant-loop-rest

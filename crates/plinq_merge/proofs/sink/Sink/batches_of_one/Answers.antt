@@ -1,6 +1,6 @@
 use Rattle.std.proofs.Common.{rules, ◌≡◌, [], ◌∷◌, ◌++◌, length}
 use Rattle.plinq_merge.specs.Sending.{Leads, singles}
-use Rattle.plinq_merge.specs.Sent.{up_to-more}
+use Rattle.plinq_merge.specs.inner.Sent.{up_to-more}
 use Rattle.plinq_merge.proofs.Singles.{singles-first}
 use Rattle.plinq_merge.proofs.sink.Sink.batches_of_one.Goals as goal
 

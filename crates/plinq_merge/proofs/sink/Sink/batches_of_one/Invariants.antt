@@ -1,6 +1,6 @@
 use Rattle.std.proofs.Common.{length}
 use Rattle.plinq_merge.specs.Sending.{singles}
-use Rattle.plinq_merge.specs.Sent.{IsSentUpTo}
+use Rattle.plinq_merge.specs.inner.Sent.{IsSentUpTo}
 use Rattle.plinq_merge.proofs.sink.Sink.batches_of_one.Given as goal
 
 abbrev pub invariant-loop-rest : goal.invariant-loop-rest
