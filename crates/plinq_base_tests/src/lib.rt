@@ -17,3 +17,5 @@ mod keys;
 mod lock;
 #[cfg(test)]
 mod sources;
+#[cfg(test)]
+mod words;

@@ -1,6 +1,7 @@
 ghost use Rattle.plinq_ticket.specs.Passes.{IsPassOf};
 
 use crate::lock::notes::Notes;
+use crate::words::expect_words;
 use plinq_keyed::Guarded;
 use plinq_ticket::{
     LockFault, Pass, TicketLock, free_lock_has_handed_out_a_prefix, one_pass_is_inside,
@@ -21,6 +22,8 @@ enum Way {
     InTurn,
     // It waits for the lock to be free.
     WhenFree,
+    // It enters where the lock is free.
+    AtOnce,
 }
 
 // Tries to enter, and is refused.
@@ -54,6 +57,7 @@ fn visit<R: Wait + Abort>(
     let entered = match way {
         Way::InTurn => lock.enter(rt, pass),
         Way::WhenFree => lock.enter_when_free(rt, pass),
+        Way::AtOnce => lock.try_enter(pass),
     };
     match entered {
         Err((pass, _)) => (pass, None),
@@ -106,106 +110,46 @@ fn expect_whole(
     let Ok(notes) = lock.finish(pass) else {
         panic!(rt; "not whole");
     };
-    assert_eq!(rt; notes.records().len(), count);
+    assert!(rt; notes.records().len() == count);
     let mut ticket = first;
     for record in notes.records() {
-        assert_eq!(rt; record.ticket, ticket);
+        assert!(rt; record.ticket == ticket);
         ticket = ticket.wrapping_add(1);
     }
 }
 
 fn expect_fault(rt: &impl Abort, told: LockFault, fault: LockFault) {
-    assert_eq!(rt; told, fault);
+    assert!(rt; told == fault);
 }
+
+// The first is inside; the second, which tries, is told so, and enters after it in that way.
+fn take_turns<R: Wait + Abort>(rt: &R, alloc: Global, way: Way) {
+    let (lock, pass) = lock_of(rt, alloc);
+    let (first, second) = lock.split(pass);
+    let Ok(held) = lock.enter(rt, first) else {
+        panic!(rt; "not entered");
+    };
+    let (second, fault) = try_in_vain(rt, &lock, second);
+    expect_fault(rt, fault, BUSY);
+    let first = lock.leave(held);
+    let (second, _) = visit(rt, &lock, second, way);
+    let pass = lock.join(first, second);
+    expect_whole(rt, lock, pass, 1, 1);
+}
+
+const BUSY: LockFault = LockFault::Busy {
+    served: 0,
+    drawn: 1,
+};
 
 #[test]
 fn passes_enter_in_the_order_of_tickets(rt: HostRuntime) {
-    let (lock, pass) = lock_of(&rt, rt.alloc());
-    let (first, second) = lock.split(pass);
-    let Ok(held) = lock.enter(&rt, first) else {
-        panic!(rt; "not entered");
-    };
-    assert_eq!(rt; held.ticket(), 0);
-    let (second, fault) = try_in_vain(&rt, &lock, second);
-    let busy = LockFault::Busy {
-        served: 0,
-        drawn: 1,
-    };
-    expect_fault(&rt, fault, busy);
-    let first = lock.leave(held);
-    let Ok(held) = lock.try_enter(second) else {
-        panic!(rt; "busy with nobody there");
-    };
-    assert_eq!(rt; held.ticket(), 1);
-    assert!(rt; held.value().records().is_empty());
-    let second = lock.leave(held);
-    let pass = lock.join(first, second);
-    expect_whole(&rt, lock, pass, 0, 0);
-}
-
-// Enters after the last ticket.
-fn enter_in_vain<R: Wait + Abort>(
-    rt: &R,
-    lock: &TicketLock<Notes>,
-    pass: Pass<Notes>,
-    way: Way,
-) -> (Pass<Notes>, LockFault)
-    requires { IsPassOf lock.now pass }
-    ensures { IsPassOf lock.now result.0 }
-{
-    let entered = match way {
-        Way::InTurn => lock.enter(rt, pass),
-        Way::WhenFree => lock.enter_when_free(rt, pass),
-    };
-    match entered {
-        Err(refused) => refused,
-        Ok(held) => {
-            lock.leave(held);
-            panic!(rt; "a ticket after the last")
-        }
-    }
+    take_turns(&rt, rt.alloc(), Way::WhenFree);
+    take_turns(&rt, rt.alloc(), Way::AtOnce);
 }
 
 // The last ticket of each lock.
 const LAST: u64 = 4_611_686_018_427_387_903;
-
-fn draw_the_last<R: Wait + Abort>(rt: &R, alloc: Global, way: Way) {
-    let Ok((lock, pass)) = TicketLock::with_first_ticket(alloc, Notes::new(alloc), LAST) else {
-        panic!(rt; "no room for a lock");
-    };
-    let (pass, ticket) = visit(rt, &lock, pass, way);
-    assert_eq!(rt; ticket, Some(LAST));
-    let (pass, fault) = enter_in_vain(rt, &lock, pass, Way::InTurn);
-    expect_fault(rt, fault, LockFault::Spent);
-    let (pass, fault) = enter_in_vain(rt, &lock, pass, Way::WhenFree);
-    expect_fault(rt, fault, LockFault::Spent);
-    let (pass, fault) = try_in_vain(rt, &lock, pass);
-    expect_fault(rt, fault, LockFault::Spent);
-    expect_whole(rt, lock, pass, 1, LAST);
-}
-
-#[test]
-fn the_last_ticket_is_drawn_once(rt: HostRuntime) {
-    draw_the_last(&rt, rt.alloc(), Way::InTurn);
-    draw_the_last(&rt, rt.alloc(), Way::WhenFree);
-}
-
-#[test]
-fn a_dropped_pass_takes_its_records_with_it(rt: HostRuntime) {
-    let (lock, pass) = lock_of(&rt, rt.alloc());
-    let (first, second) = lock.split(pass);
-    let (first, _) = visit(&rt, &lock, first, Way::InTurn);
-    let (second, _) = visit(&rt, &lock, second, Way::WhenFree);
-    drop(second);
-    let Err((notes, fault)) = lock.finish(first) else {
-        panic!(rt; "whole without one of two");
-    };
-    expect_fault(&rt, fault, LockFault::Incomplete { have: 1, all: 2 });
-    let Some(notes) = notes else {
-        panic!(rt; "away");
-    };
-    assert_eq!(rt; notes.records().len(), 2);
-}
 
 // A lock at the second attempt where the first is refused.
 fn lock_at_last(rt: &impl Abort, alloc: Global) -> (TicketLock<Notes>, Pass<Notes>)
@@ -255,13 +199,6 @@ fn laws_can_be_called() {
     one_pass_is_inside::<Notes>();
 }
 
-fn expect_words(rt: &impl Abort, alloc: Global, fault: LockFault, text: &str) {
-    let Ok(words) = format!(in alloc; "{fault}") else {
-        panic!(rt; "no room for words");
-    };
-    assert_eq!(rt; words.as_str(), text);
-}
-
 #[test]
 fn faults_in_words(rt: HostRuntime) {
     let busy = LockFault::Busy {
@@ -269,14 +206,10 @@ fn faults_in_words(rt: HostRuntime) {
         drawn: 5,
     };
     let incomplete = LockFault::Incomplete { have: 1, all: 2 };
-    expect_words(&rt, rt.alloc(), LockFault::Spent, "lock: tickets spent");
-    expect_words(&rt, rt.alloc(), busy, "lock: busy, 3 served of 5 drawn");
-    expect_words(
-        &rt,
-        rt.alloc(),
-        incomplete,
-        "lock: incomplete, 1 records of 2",
-    );
-    expect_words(&rt, rt.alloc(), LockFault::Memory, "lock: out of memory");
-    expect_words(&rt, rt.alloc(), LockFault::Away, "lock: away");
+    expect_words(&rt, rt.alloc(), &LockFault::Spent, "lock: tickets spent");
+    expect_words(&rt, rt.alloc(), &busy, "lock: busy, 3 served of 5 drawn");
+    let words = "lock: incomplete, 1 records of 2";
+    expect_words(&rt, rt.alloc(), &incomplete, words);
+    expect_words(&rt, rt.alloc(), &LockFault::Memory, "lock: out of memory");
+    expect_words(&rt, rt.alloc(), &LockFault::Away, "lock: away");
 }
