@@ -57,6 +57,22 @@ ANSWERS = [
     ("not", '"list":[1,65537]', ',["select_many","up_to"]', "1\nfault toomany\n", 4),
     ("", '"repeat":[6,3]', ',["select","mul",-7]', "-42 -42 -42\nend\n", 0),
     ("full", '"range":[8,20]', ',["skip",1]', "9 10 11 12 13 14 15 16 17 18 19 20 21 22 23 24 25 26 27\nend\n", 0),
+    ("not", '"list":[1],"refuse":7', ',["take",2]', "1\nrefused 7\n", 3),
+    ("", '"list":[4],"refuse":7', ',["filter","even"],["take",0]', "end\n", 0),
+    # A test that faults ends the answer, and its element isn't kept.
+    ("not", '"list":[5,0,2]', ',["filter","into",10]', "5\nfault division\n", 4),
+    ("not", '"list":[5,0,2]', ',["take_while","into",10]', "5\nfault division\n", 4),
+    # What stands after the last element of a Take still has its say on that element.
+    ("auto", '"list":[1,2]', ',["take",1],["filter","even"]', "end\n", 0),
+    ("not", '"list":[0,2]', ',["take",1],["select","into",10]', "fault division\n", 4),
+    ("auto", '"list":[2,9]', ',["take",1],["select_many","up_to"],["skip",1]', "2\nend\n", 0),
+    # In one expansion: the first two are passed over, the third goes on, the fourth faults.
+    ("not", '"list":[1,4,9]', ',["skip",1],["select_many","up_to"],["skip",2],["select","add",-4],["select","into",10]', "-10\nfault division\n", 4),
+    ("auto", '"list":[1,2,3,4],"refuse":7', ',["skip",1],["take_while","below",4],["take",3]', "2 3\nend\n", 0),
+    ("auto", '"list":[5,6,0,7,8]', ',["skip",2],["select","add",1]', "1 8 9\nend\n", 0),
+    ("auto", '"list":[5,6,0,7,8]', ',["skip",1],["select_many","repeat",2],["take",3]', "6 6 0\nend\n", 0),
+    # The last that is taken still faults, and an earlier ending hides the fault after it.
+    ("auto", '"list":[5,6,0,7,8]', ',["select","into",42],["take",2]', "8 7\nend\n", 0),
 ]
 
 # The same of documents of version 2.
@@ -72,6 +88,9 @@ ANSWERS_OF_VERSION_2 = [
     ("not", '"concat":[{"range":[1,2]},{"list":[5],"refuse":7}]', ',["take",3]', "1\n2\n5\nend\n", 0),
     ("auto", '"concat":[{"range":[1,9]},{"repeat":[0,9]}]', "", "1 2 3 4 5 6 7 8 9 0 0 0 0 0 0 0\n0 0\nend\n", 0),
     ("", '"concat":[{"list":[]},{"list":[]}]', "", "end\n", 0),
+    ("auto", '"list":[1,9,3]', ',["skip_while","below",5],["take",1]', "9\nend\n", 0),
+    ("auto", '"list":[8,1,9,2]', ',["skip",1],["skip_while","below",5],["skip_while","above",5]', "2\nend\n", 0),
+    ("auto", '"list":[5,6,0,7,8]', ',["skip_while","above",4],["take",2]', "0 7\nend\n", 0),
 ]
 
 # Queries that don't keep the order: a merge option, a source, the steps, the items that may come, how many of them do (or

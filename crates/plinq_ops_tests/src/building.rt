@@ -1,8 +1,5 @@
-use plinq_lambda::Formula;
 use plinq_ops::{BuildFault, Built, Op, Query};
-use plinq_source::Ending;
 use std::alloc::Global;
-use std::process::Abort;
 
 /// The query with the builder call of this operator.
 pub(crate) fn with<L: Drop>(query: Query<L>, op: Op<L>) -> Built<L> {
@@ -28,14 +25,4 @@ pub(crate) fn ordered<L: Copy + Drop>(
         query = with(query, *op).map_err(|(_, fault)| fault)?;
     }
     Ok(query)
-}
-
-/// Asks for these items of what operators give.
-pub(crate) fn expect_items(rt: &impl Abort, ops: &[Op<Formula>], given: &[i64], items: &[i64]) {
-    assert_eq!(rt; given, items, "{ops:?}");
-}
-
-/// Asks for this ending of it.
-pub(crate) fn expect_ending(rt: &impl Abort, ops: &[Op<Formula>], given: Ending, ending: Ending) {
-    assert_eq!(rt; given, ending, "{ops:?}");
 }

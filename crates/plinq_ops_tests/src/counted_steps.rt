@@ -52,8 +52,7 @@ fn expect_asked(
     };
     let query = ordered(alloc, ops)?;
     let answer = sequential(alloc, &query, &mut source)?;
-    assert_eq!(rt; answer.1, ending);
-    assert_eq!(rt; asked.load(Ordering::SeqCst), times);
+    assert!(rt; answer.1 == ending && asked.load(Ordering::SeqCst) == times);
     Ok(())
 }
 

@@ -57,29 +57,37 @@ fn block_of(alloc: Global, len: usize, edge: i64, place: Option<usize>) -> Resul
     Ok(block)
 }
 
-// What `map` gives for the items, up to the first that faults.
-fn mapped(alloc: Global, f: Formula, block: &[i64]) -> Result<(Vec<i64>, Option<u32>), Fail> {
-    let mut items = Vec::new(alloc);
-    for item in block {
+// Whether a block has at its front what `map` gives for its items, up to the first that faults.
+fn is_mapped(f: Formula, block: &[i64], front: &[i64], fault: Option<u32>) -> bool {
+    for (at, item) in block.iter().enumerate() {
         match f.map(*item) {
-            Ok(mapped) => items.push(mapped)?,
-            Err(code) => return Ok((items, Some(code))),
+            Ok(mapped) => {
+                if front.get(at) != Some(&mapped) {
+                    return false;
+                }
+            }
+            Err(code) => return front.len() == at && fault == Some(code),
         }
     }
-    Ok((items, None))
+    front.len() == block.len() && fault.is_none()
 }
 
-// The items that pass, up to the first that faults.
-fn filtered(alloc: Global, f: Formula, block: &[i64]) -> Result<(Vec<i64>, Option<u32>), Fail> {
-    let mut items = Vec::new(alloc);
+// Whether it has there the items that pass, up to the first that faults.
+fn is_filtered(f: Formula, block: &[i64], front: &[i64], fault: Option<u32>) -> bool {
+    let mut kept: usize = 0;
     for item in block {
         match f.test(*item) {
-            Ok(true) => items.push(*item)?,
+            Ok(true) => {
+                if front.get(kept) != Some(item) {
+                    return false;
+                }
+                kept = kept.wrapping_add(1);
+            }
             Ok(false) => {}
-            Err(code) => return Ok((items, Some(code))),
+            Err(code) => return front.len() == kept && fault == Some(code),
         }
     }
-    Ok((items, None))
+    front.len() == kept && fault.is_none()
 }
 
 // How many items pass before the first that fails or faults.
@@ -94,28 +102,27 @@ fn count_passing(f: Formula, block: &[i64]) -> (usize, Option<u32>) {
     (block.len(), None)
 }
 
-/// Asks that so many items at the front of a block are these, and the fault that.
-fn expect_front(
-    rt: &impl Abort,
-    block: &[i64],
-    found: (usize, Option<u32>),
-    expected: &(Vec<i64>, Option<u32>),
-) {
-    assert_eq!(rt; found.0, expected.0.len());
-    assert_eq!(rt; found.1, expected.1);
-    let (front, _) = block.split_at(found.0.min(block.len()));
-    assert!(rt; front == expected.0.as_slice());
+// So many items at the front of a block.
+fn front_of(items: &[i64], count: usize) -> &[i64] {
+    items.split_at(count.min(items.len())).0
 }
 
 /// Asks that each block method gives what its items give one by one.
 fn same_by_block(rt: &impl Abort, alloc: Global, f: Formula, block: &[i64]) -> Result<(), Fail> {
     let mut items = Vec::from_slice(alloc, block)?;
-    let found = f.map_block(items.as_mut_slice());
-    expect_front(rt, &items, found, &mapped(alloc, f, block)?);
-    let mut items = Vec::from_slice(alloc, block)?;
-    let found = f.filter_block(items.as_mut_slice());
-    expect_front(rt, &items, found, &filtered(alloc, f, block)?);
-    assert_eq!(rt; f.count_passing(block), count_passing(f, block), "{f:?}");
+    let (count, fault) = f.map_block(items.as_mut_slice());
+    assert!(rt;
+        is_mapped(f, block, front_of(&items, count), fault),
+        "{f:?}"
+    );
+    items.clear();
+    items.extend_from_slice(block)?;
+    let (count, fault) = f.filter_block(items.as_mut_slice());
+    assert!(rt;
+        is_filtered(f, block, front_of(&items, count), fault),
+        "{f:?}"
+    );
+    assert!(rt; f.count_passing(block) == count_passing(f, block), "{f:?}");
     Ok(())
 }
 

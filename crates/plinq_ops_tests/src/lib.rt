@@ -1,5 +1,5 @@
-//! The tests of `plinq_ops`: answers worked out by hand, the same by other ways, lambdas over another type, and that
-//! calls succeed with ample memory.
+//! The tests of `plinq_ops`, of what no contract says: that calls succeed with ample memory, and what they answer where
+//! there is none, lambdas over another type, how often a source is asked and an item tested, and texts.
 //!
 //! They stand in a crate of their own, since a crate with tests is proved twice.
 #![tactic(auto)]
@@ -8,8 +8,6 @@
 mod answers;
 #[cfg(test)]
 mod building;
-#[cfg(test)]
-mod chunks;
 #[cfg(test)]
 mod counted_steps;
 #[cfg(test)]
@@ -20,7 +18,5 @@ mod pipelines;
 mod queries;
 #[cfg(test)]
 mod refused_room;
-#[cfg(test)]
-mod splits;
 #[cfg(test)]
 mod tested;

@@ -30,7 +30,7 @@ fn with_at_last(
         Ok(query) => return (query, 0),
         Err(refused) => refused,
     };
-    assert_eq!(rt; (fault, query.ops().len()), (BuildFault::Memory, before));
+    assert!(rt; fault == BuildFault::Memory && query.ops().len() == before);
     let Ok(query) = with(query, op) else {
         panic!(rt; "refused twice");
     };
@@ -38,7 +38,7 @@ fn with_at_last(
 }
 
 fn expect_ops(rt: &impl Abort, query: &Query<Formula>, ops: &[Op<Formula>]) {
-    assert_eq!(rt; query.ops(), ops);
+    assert!(rt; query.ops() == ops);
 }
 
 #[test]
@@ -89,7 +89,7 @@ fn refusals(rt: &impl Abort, told: Result<(usize, FragEnd), OutOfMemory>, count:
     let Ok(given) = told else {
         return 1;
     };
-    assert_eq!(rt; given, (count, FragEnd::More));
+    assert!(rt; given == (count, FragEnd::More));
     0
 }
 
