@@ -7,7 +7,7 @@ use plinq_keyed::{Chunk, Guarded, Record, Tail};
 use plinq_partition::{Chunked, Partition, TakeFault};
 use plinq_source::{Ending, RangeSource, Source};
 use std::alloc::Global;
-use std::fmt::{Debug, Display};
+use std::fmt::Display;
 use std::process::Abort;
 use std::sync::Wait;
 
@@ -16,7 +16,7 @@ pub(crate) fn expect_words<T: Display>(rt: &impl Abort, alloc: Global, fault: &T
     let Ok(words) = format!(in alloc; "{fault}") else {
         panic!(rt; "no room for words");
     };
-    assert_eq!(rt; words.as_str(), text);
+    assert!(rt; words.as_str() == text, "{words}");
 }
 
 // The numbers from 0 on, as many as that, and their first partition.
@@ -67,7 +67,7 @@ pub(crate) fn expect_tried(
     expect(rt, partition.try_take(chunked), first, items, tail);
 }
 
-pub(crate) fn expect<T: PartialEq + Debug + Drop>(
+pub(crate) fn expect<T: PartialEq + Drop>(
     rt: &impl Abort,
     chunk: Result<Chunk<T>, TakeFault>,
     first: u64,
@@ -77,8 +77,7 @@ pub(crate) fn expect<T: PartialEq + Debug + Drop>(
     let Ok(chunk) = chunk else {
         panic!(rt; "refused");
     };
-    let told = (chunk.first, chunk.items.as_slice(), chunk.tail);
-    assert_eq!(rt; told, (first, items, tail));
+    assert!(rt; chunk.first == first && chunk.items.as_slice() == items && chunk.tail == tail);
 }
 
 // Gives back a source's only partition, where there is room for the list of it.
@@ -102,8 +101,7 @@ pub(crate) fn give_back<S: Source>(
 
 // Asks that records are so many, and replay over so many numbers.
 pub(crate) fn expect_records(rt: &impl Abort, records: &[Record], count: usize, items: u64) {
-    assert_eq!(rt; records.len(), count);
-    assert!(rt; replays(records, items, Ending::End));
+    assert!(rt; records.len() == count && replays(records, items, Ending::End));
 }
 
 // Asks that the partitions of so many numbers are all of them, with so many records.

@@ -1,5 +1,5 @@
-//! The tests of `plinq_partition`: worked cuts and chunks, many threads that take from one source, what is reported where
-//! nothing is given, and texts.
+//! The tests of `plinq_partition`, of what no contract says: that calls succeed with ample memory, and what they answer where
+//! there is none, many threads that take from one source, lists that are given back, and texts.
 //!
 //! They stand in a crate of their own, since a crate with tests is proved twice.
 #![tactic(auto)]

