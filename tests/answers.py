@@ -5,8 +5,10 @@
 """
 import json
 from collections import Counter
+from itertools import product
 
 from support.batches import batches_in, in_batches
+from support.model import cancelled_after, status_of
 from support.program import Outcome, Tests, build, run
 
 # A merge option or none, a source, the steps after `as_ordered`, the output and the status.
@@ -56,6 +58,10 @@ ANSWERS = [
     ("", '"list":[-7]', ',["select","mod",3]', "-1\nend\n", 0),
     ("not", '"list":[1,65537]', ',["select_many","up_to"]', "1\nfault toomany\n", 4),
     ("", '"repeat":[6,3]', ',["select","mul",-7]', "-42 -42 -42\nend\n", 0),
+    ("auto", '"range":[-1,3]', "", "-1 0 1\nend\n", 0),
+    ("auto", '"repeat":[5,2]', "", "5 5\nend\n", 0),
+    ("not", '"list":[1,2],"refuse":4294967295', "", "1\n2\nrefused 4294967295\n", 3),
+    ("", '"list":[],"refuse":0', "", "refused 0\n", 3),
     ("full", '"range":[8,20]', ',["skip",1]', "9 10 11 12 13 14 15 16 17 18 19 20 21 22 23 24 25 26 27\nend\n", 0),
     ("not", '"list":[1],"refuse":7', ',["take",2]', "1\nrefused 7\n", 3),
     ("", '"list":[4],"refuse":7', ',["filter","even"],["take",0]', "end\n", 0),
@@ -93,16 +99,72 @@ ANSWERS_OF_VERSION_2 = [
     ("auto", '"list":[5,6,0,7,8]', ',["skip_while","above",4],["take",2]', "0 7\nend\n", 0),
 ]
 
+OF_EACH_LENGTH = [-(2**63), -10, -1, 0, 1, 9, 10, 99, 100, 999_999, 2**63 - 1]
+EIGHTEEN = [3, 1, 4, 1, 5, 9, 2, 6, 5, 3, 5, 8, 9, 7, 9, 3, 2, -3]
+# Answers that are the same however they are asked for: a version, a source, the steps after `as_ordered`, the items and the
+# ending.
+IN_ALL_WAYS = [
+    (1, '"list":[3,1,4]', ',["select","add",1]', [4, 2, 5], "end"),
+    (1, '"list":[]', "", [], "end"),
+    (1, '"text":"3 1 4"', ',["select","add",1]', [4, 2, 5], "end"),
+    (1, '"text":"7 x 9"', "", [7], "refused 1"),
+    (1, '"text":" "', "", [], "end"),
+    (1, '"repeat":[6,3]', ',["select","add",1]', [7, 7, 7], "end"),
+    (1, '"list":[1,2],"refuse":7', "", [1, 2], "refused 7"),
+    (1, '"list":[1,2],"refuse":7', ',["select","add",1]', [2, 3], "refused 7"),
+    (1, '"range":[1,17]', "", [*range(1, 18)], "end"),
+    (1, '"range":[1,16]', "", [*range(1, 17)], "end"),
+    (1, '"range":[1,0]', "", [], "end"),
+    # where its operators end it
+    (1, '"list":[1,2],"refuse":7', ',["take",2]', [1, 2], "end"),
+    (1, '"list":[2,3]', ',["select_many","repeat",2],["take",3]', [2, 2, 3], "end"),
+    (1, '"list":[1,2,9,3,0]', ',["take_while","below",5],["select","into",6]', [6, 3], "end"),
+    (1, '"range":[1,10]', ',["filter","even"],["take",2]', [2, 4], "end"),
+    (1, '"list":[1,2]', ',["skip",-1]', [1, 2], "end"),
+    (1, '"list":[1,2],"refuse":7', ',["skip",5]', [], "refused 7"),
+    # where a skip_while ends
+    (2, '"list":[1,2,9,3]', ',["skip_while","below",5]', [9, 3], "end"),
+    (2, '"list":[7,0]', ',["skip_while","into",6]', [7, 0], "end"),
+    (2, '"list":[1,0,9]', ',["skip_while","into",6]', [], "fault division"),
+    (2, '"list":[1],"refuse":7', ',["skip_while","below",5]', [], "refused 7"),
+    # where nothing is taken, and so no refusal met
+    (1, '"list":[],"refuse":7', ',["take",0]', [], "end"),
+    (1, '"list":[],"refuse":7', ',["take",-1]', [], "end"),
+    (1, '"list":[],"refuse":7', ',["filter","even"],["take",0]', [], "end"),
+    # with its first fault
+    (1, '"list":[5,0,2]', ',["select","into",10]', [2], "fault division"),
+    (1, '"list":[5,0,2]', ',["select","into",10],["take",1]', [2], "end"),
+    (1, '"list":[9223372036854775807]', ',["select","add",1]', [], "fault overflow"),
+    (1, '"list":[1,65537]', ',["select_many","up_to"]', [1], "fault toomany"),
+    (2, '"concat":[{"list":[1,2],"refuse":8},{"list":[3]}]', "", [1, 2], "refused 8"),
+    (2, '"concat":[{"list":[1,2]},{"list":[3],"refuse":8}]', ',["select","mul",2]', [2, 4, 6], "refused 8"),
+    # numbers of each length, and batches before each ending
+    (1, f'"list":{OF_EACH_LENGTH}', "", OF_EACH_LENGTH, "end"),
+    (1, f'"list":{EIGHTEEN}', "", EIGHTEEN, "end"),
+    (1, f'"list":{EIGHTEEN},"refuse":7', "", EIGHTEEN, "refused 7"),
+    (1, f'"list":{[*EIGHTEEN, 2**63 - 1]}', ',["select","add",1]', [it + 1 for it in EIGHTEEN], "fault overflow"),
+    (1, '"range":[1,1]', "", [1], "end"),
+    (1, '"range":[1,2]', "", [1, 2], "end"),
+    (1, '"range":[1,32]', "", [*range(1, 33)], "end"),
+    (1, '"range":[1,33]', "", [*range(1, 34)], "end"),
+]
+# What is added to a document for chunks of one element, as they come, and which grow to four.
+GROWTHS = ("", ',"growth":[1,1,1]', ',"growth":[1,1,4]')
+OPTIONS = ("not", "auto", "full", "default")
+RUNS = ("run --workers 1", "run --workers 2", "run --workers 64")
+
 # Queries that don't keep the order: a merge option, a source, the steps, the items that may come, how many of them do (or
 # any number of them), the last line and the status.
 IN_ANY_ORDER = [
     ("auto", '"list":[1,2,3]', '["take",2]', [1, 2, 3], 2, "end", 0),
+    ("auto", '"list":[1,2,4]', '["take",2]', [1, 2, 4], 2, "end", 0),
     ("auto", '"list":[3,1]', '["as_ordered"],["as_unordered"]', [3, 1], 2, "end", 0),
     ("auto", '"list":[3,1]', '["as_unordered"],["skip",1]', [3, 1], 1, "end", 0),
     ("not", '"list":[3,1,4]', "", [3, 1, 4], 3, "end", 0),
     ("full", '"range":[1,40]', '["filter","even"],["select","mul",3]', range(6, 121, 6), 20, "end", 0),
     ("auto", '"range":[0,500]', '["select_many","repeat",2]', [*range(500), *range(500)], 1000, "end", 0),
     ("auto", '"range":[1,1000]', '["take",20]', range(1, 1001), 20, "end", 0),
+    ("not", '"list":[3,1,4],"refuse":7', '["select","add",1]', [4, 2, 5], 3, "refused 7", 3),
     ("not", '"list":[1,2],"refuse":7', "", [1, 2], 2, "refused 7", 3),
     ("full", '"list":[1,2],"refuse":7', "", [], 0, "refused 7", 3),
     ("auto", '"text":"7 8 x 9"', '["skip",1]', [7, 8], 1, "refused 1", 3),
@@ -136,6 +198,10 @@ AGGREGATES = [
     ('"list":[5,0,2]', '["as_ordered"],["select","into",10],["take",1]', "sum", "2\nend\n", 0),
     ('"list":[],"refuse":7', '["as_ordered"],["take",0]', "count", "0\nend\n", 0),
     ('"list":[],"refuse":7', '["take",0]', "sum", "0\nend\n", 0),
+    ('"list":[],"refuse":7', '["as_ordered"],["take",0]', "max", "none\nend\n", 0),
+    ('"range":[1,1000]', '["as_ordered"],["filter","even"],["take",3]', "sum", "12\nend\n", 0),
+    ('"range":[1,1000]', '["as_ordered"],["filter","even"],["take",3]', "max", "6\nend\n", 0),
+    ('"list":[9223372036854775807]', '["as_ordered"],["select","add",1]', "sum", "fault overflow\n", 4),
 ]
 
 # Runs that may be cancelled: a merge option, after how many batches, a source, the steps after `as_ordered`, what stands
@@ -225,6 +291,8 @@ REFUSED = [
     ("run", '{"version":1,"source":{"list":[]},"query":[["with_degree",65]]}', "step 0: degree out of range"),
     ("run --merge not", '{"version":1,"source":{"list":[]},"query":[["with_merge","full"]]}', "step 0: merge twice"),
     ("run --workers 2", '{"version":1,"source":{"list":[]},"query":[["with_degree",0]]}', "step 0: degree twice"),
+    ("run --workers 2 --merge not", '{"version":1,"source":{"list":[]},"query":[["with_degree",0]]}', "step 0: degree twice"),
+    ("seq --workers 64", '{"version":1,"source":{"list":[]},"query":[["with_degree",0]]}', "step 0: degree twice"),
     ("run", "[", "not JSON"),
     ("run", "{} {}", "not JSON"),
     ("run", "{}", "wrong shape"),
@@ -294,10 +362,19 @@ UNKNOWN_STEPS = [
 SHOWN = [
     ("plan --workers 4", '{"version":1,"source":{"range":[1,10]},"query":[["as_ordered"],["select","add",1],["take",5],["filter","even"],["take",2]]}', ["workers 4", "merge auto", "order key", "worker select add 1, take 5, filter even", "after take 2"], 0),
     ("plan --workers 4", '{"version":1,"source":{"range":[1,10]},"query":[["select","add",1],["take",5],["filter","even"],["take",2]]}', ["workers 4", "merge auto", "order arrival", "worker select add 1", "after take 5, filter even, take 2"], 0),
+    ("plan --workers=1 --merge=full", '{"version":1,"source":{"list":[]},"query":[["as_ordered"]]}', ["workers 1", "merge full", "order key", "worker none", "after none"], 0),
     ("plan --workers 1 --merge not", '{"version":1,"source":{"list":[]},"query":[["as_ordered"]]}', ["workers 1", "merge not", "order key", "worker none", "after none"], 0),
     ("plan", '{"version":1,"source":{"list":[],"refuse":1},"query":[["with_merge","full"],["with_degree",64],["select_many","up_to"],["skip",-3],["take_while","above",-1],["as_unordered"]]}', ["workers 64", "merge full", "order arrival", "worker select_many up_to", "after skip -3, take_while above -1, as_unordered"], 0),
     ("plan", '{"version":2,"source":{"list":[]},"query":[["as_ordered"],["select","add",1],["skip_while","below",5],["take",2]]}', ["workers 4", "merge auto", "order key", "worker select add 1", "after skip_while below 5, take 2"], 0),
     ("plan", '{"version":2,"source":{"list":[]},"query":[["skip_while","even"],["filter","even"]]}', ["workers 4", "merge auto", "order arrival", "worker none", "after skip_while even, filter even"], 0),
+    (
+        "plan",
+        """{"version":1,"source":{"list":[]},"query":[
+            ["with_merge","not"],["with_degree",3],["as_ordered"],["select","mul",-2],["filter","even"],
+            ["select_many","up_to"],["take_while","below",9],["take",7],["skip",-1],["as_unordered"]]}""",
+        ["workers 3", "merge not", "order key", "worker select mul -2, filter even, select_many up_to, take_while below 9", "after take 7, skip -1, as_unordered"],
+        0,
+    ),
     # Each operator and each formula.
     (
         "plan --merge full --workers 64",
@@ -393,6 +470,19 @@ SHOWN = [
         ],
         0,
     ),
+    (
+        "history --workers 1",
+        '{"version":1,"source":{"range":[0,79]},"query":[],"growth":[2,5,9]}',
+        [
+            *(f"ticket {it} ask 2 first {2 * it} count 2" for it in range(5)),
+            *(f"ticket {5 + it} ask 4 first {10 + 4 * it} count 4" for it in range(5)),
+            *(f"ticket {10 + it} ask 8 first {30 + 8 * it} count 8" for it in range(5)),
+            "ticket 15 ask 9 first 70 count 9",
+            "ticket 16 ask 9 first 79 count 0 ended",
+            "end",
+        ],
+        0,
+    ),
     # A partition that has had a tail is passed over.
     (
         "history --workers 3",
@@ -440,6 +530,14 @@ SHOWN = [
 ]
 
 
+def lines_of(option, items, ending):
+    return [" ".join(map(str, it)) for it in in_batches(option, items, ending)] + [ending]
+
+
+def output_of(option, items, ending):
+    return "".join(it + "\n" for it in lines_of(option, items, ending)).encode()
+
+
 def may_come(seen, merge, items, count, last, status):
     """Whether a run printed so many of these items, in batches as the option says, and then this line."""
     batches, ending = batches_in(seen.output)
@@ -463,8 +561,24 @@ def main():
             # (once without options)
             for options in [["--workers", it, "--merge", merge] for it in ("1", "2", "64")] if merge else [[]]:
                 ends([command, *options], document, Outcome(status, output.encode(), b""))
-    for merge, source, steps, *wanted in IN_ANY_ORDER:
-        document = f'{{"version":1,"source":{{{source}}},"query":[{steps}]}}'
+    def answers(source, steps, items, ending, growth, option, version=1, commands=("seq", *RUNS)):
+        document = f'{{"version":{version},"source":{{{source}}},"query":[["as_ordered"]{steps}]{growth}}}'
+        wanted = Outcome(status_of(ending), output_of(option, items, ending), b"")
+        for command in commands:
+            ends([*command.split(), "--merge", option], document, wanted)
+
+    for version, source, steps, items, ending in IN_ALL_WAYS:
+        for growth, option in product(GROWTHS, OPTIONS):
+            answers(source, steps, items, ending, growth, option, version)
+    for length, option in product(range(41), OPTIONS):
+        # a refusal after a list of each length
+        more_by_one = [*range(2, length + 2)]
+        answers(f'"list":{[*range(1, length + 1)]},"refuse":7', ',["select","add",1]', more_by_one, "refused 7", GROWTHS[2], option)
+    for length, option in product(range(1, 49), ("auto", "full")):
+        # the longest lines that there are, since each number has 20 bytes
+        answers(f'"repeat":[{LEAST},{length}]', "", [LEAST] * length, "end", "", option, commands=("seq", "run"))
+    for (merge, source, steps, *wanted), growth in product(IN_ANY_ORDER, GROWTHS[:2]):
+        document = f'{{"version":1,"source":{{{source}}},"query":[{steps}]{growth}}}'
         for options in [["--workers", it, "--merge", merge] for it in ("1", "2", "64")] if merge else [[]]:
             seen = run(["run", *options], document.encode())
             tests.check(f"plinq run {' '.join(options)} < {document}", may_come(seen, merge, *wanted), f"wanted {wanted}; seen {seen}")
@@ -473,8 +587,14 @@ def main():
         wanted = Outcome(5, output.encode(), b"plinq: cancelled\n") if is_cancelled else Outcome(0, output.encode(), b"")
         for workers in ("1", "2", "64"):
             ends(["run", "--workers", workers, "--merge", merge, "--cancel-after", str(most)], document, wanted)
+    # (17 numbers: each of the first batches, the last one, and more than there are)
+    document = '{"version":1,"source":{"range":[1,17]},"query":[["as_ordered"]],"growth":[1,1,1]}'
+    for option, most, words in product(OPTIONS, range(21), RUNS):
+        lines, status, errors = cancelled_after(most, lines_of(option, [*range(1, 18)], "end"), 0)
+        wanted = Outcome(status, "".join(it + "\n" for it in lines).encode(), errors)
+        ends([*words.split(), "--merge", option, "--cancel-after", str(most)], document, wanted)
     for source, steps, aggregate, output, status in AGGREGATES:
-        for growth in "", ',"growth":[1,1,1]', ',"growth":[1,1,4]':
+        for growth in GROWTHS:
             document = f'{{"version":1,"source":{{{source}}},"query":[{steps}],"aggregate":"{aggregate}"{growth}}}'
             for command in ("run", "seq"):
                 for options in [], ["--workers", "1"], ["--workers", "64", "--merge", "not"], ["--workers", "2", "--merge", "full"]:

@@ -32,6 +32,8 @@ def greatest(tests):
     runs = b"".join(b" ".join([b"1234568"] * min(16, text - at)) + b"\n" for at in range(0, text, 16)) + b"end\n"
     for name, words, head, fill, tail, wanted in (
         ("spaces", ["run", "--merge", "not"], b"", b" ", b'{"version":1,"source":{"list":[3,1,4]},' + query, Outcome(0, b"4\n2\n5\nend\n", b"")),
+        ("nothing but spaces", ["run"], b"", b" ", b"", NOT_JSON),
+        ("nothing but spaces for one thread", ["seq"], b"", b" ", b"", NOT_JSON),
         ("a list", ["run", "--merge", "not"], b'{"version":1,"source":{"list":[', unit, last, Outcome(0, numbers, b"")),
         ("a text", ["run"], b'{"version":1,"source":{"text":"', b"1234567 ", b'"},' + query, Outcome(0, runs, b"")),
         ("a string without its end", ["run"], b'{"version":1,"source":{"text":"', b"1 ", b"", NOT_JSON),

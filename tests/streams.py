@@ -22,6 +22,8 @@ def document(count):
     return json.dumps({"version": 1, "source": {"range": [1, count]}, "query": [["as_ordered"]]}).encode()
 
 
+# (one line at once, and then many elements that give none)
+FIRST_OF_MANY = b'{"version":1,"source":{"range":[5,1000000]},"query":[["as_ordered"],["filter","equal",5]]}'
 SHORT = ["run", "--merge", "not"], document(3)
 # (several times what a buffer holds)
 LONG = ["run", "--merge", "not"], document(20_000)
@@ -39,6 +41,9 @@ CASES = [
     (["plan", "--help"], b""),
     (["history", "--workers", "3"], document(1_000)),
     (["run", "--merge", "not", "--cancel-after", "2"], document(20_000)),
+    (["run", "--merge", "not"], FIRST_OF_MANY),
+    (["run", "--merge", "not", "--cancel-after", "1"], FIRST_OF_MANY),
+    (["run", "--merge", "not", "--cancel-after", "1"], document(3)),
 ]
 
 
