@@ -42,7 +42,7 @@ import time
 
 ROOT = os.path.dirname(os.path.dirname(os.path.abspath(__file__)))
 PROGRAM = os.path.join(ROOT, "crates", "plinq_bench", "out", "plinq_bench")
-WORKLOADS = ("cheap", "heavy", "skewed", "ramp", "late", "streamed", "take_while", "take", "sum")
+WORKLOADS = ("cheap", "grown", "full", "heavy", "skewed", "ramp", "late", "streamed", "take_while", "take", "sum")
 WORKERS = (1, 2, 4)
 LOW, HIGH = 100_000, 1_100_000
 

@@ -1,3 +1,4 @@
+use plinq_enumerator::GrowthFault;
 use plinq_ops::BuildFault;
 use plinq_run::{AggregateFault, RunFault};
 use plinq_source::SourceFault;
@@ -9,6 +10,8 @@ use thiserror::Error;
 pub(crate) enum BenchFault {
     #[error("the query: {0}")]
     Build(#[from] BuildFault),
+    #[error("{0}")]
+    Growth(#[from] GrowthFault),
     #[error("the source: {0}")]
     Source(#[from] SourceFault),
     #[error("the run: {0}")]

@@ -2,7 +2,6 @@ use crate::bench_fault::BenchFault;
 use crate::summed::Summed;
 use crate::total::Total;
 use crate::workload::Workload;
-use plinq_enumerator::Growth;
 use plinq_keyed::Record;
 use plinq_run::{OpenGate, aggregate, run};
 use plinq_source::RangeSource;
@@ -93,18 +92,11 @@ pub(crate) fn run_it<R: Threads + Wait + Sync + Clock>(
     items: i64,
 ) -> Result<Seen, BenchFault> {
     let query = workload.query(alloc, workers, items)?;
+    let growth = workload.growth()?;
     let source = RangeSource::new(0, workload.source_length(items.unsigned_abs()))?;
     let start = Instant::now(rt)?;
     if workload == Workload::Sum {
-        let sum = aggregate(
-            rt,
-            alloc,
-            &query,
-            source,
-            Growth::DEFAULT,
-            &OpenGate,
-            &Total,
-        )?;
+        let sum = aggregate(rt, alloc, &query, source, growth, &OpenGate, &Total)?;
         return Ok(Seen {
             time: start.elapsed(rt)?,
             sum,
@@ -113,15 +105,7 @@ pub(crate) fn run_it<R: Threads + Wait + Sync + Clock>(
         });
     }
     let mut sink = Summed::new(rt, start);
-    let report = run(
-        rt,
-        alloc,
-        &query,
-        source,
-        Growth::DEFAULT,
-        &OpenGate,
-        &mut sink,
-    )?;
+    let report = run(rt, alloc, &query, source, growth, &OpenGate, &mut sink)?;
     Ok(Seen {
         time: start.elapsed(rt)?,
         sum: sink.sum,

@@ -1,7 +1,6 @@
 use crate::bench_fault::BenchFault;
 use crate::summed::Summed;
 use crate::workload::Workload;
-use plinq_enumerator::Growth;
 use plinq_merge::CancelFlag;
 use plinq_run::{OpenGate, RunFault, run_with};
 use plinq_source::RangeSource;
@@ -54,18 +53,12 @@ fn run_until<R: Threads + Wait + Sync + Clock>(
     flag: &CancelFlag,
 ) -> Result<Option<Instant>, BenchFault> {
     let query = workload.query(alloc, workers, items)?;
+    let growth = workload.growth()?;
     let source = RangeSource::new(0, workload.source_length(items.unsigned_abs()))?;
     let mut token = flag.token();
     let mut sink = Summed::new(rt, Instant::now(rt)?);
     let told = run_with(
-        rt,
-        alloc,
-        &query,
-        source,
-        Growth::DEFAULT,
-        &OpenGate,
-        &mut token,
-        &mut sink,
+        rt, alloc, &query, source, growth, &OpenGate, &mut token, &mut sink,
     );
     match told {
         Err(RunFault::Cancelled) => Ok(Some(Instant::now(rt)?)),

@@ -1,5 +1,6 @@
 use crate::spinning::{mix, spin};
 use crate::work::{Cost, Work, kept, turns};
+use plinq_enumerator::{Growth, GrowthFault};
 use plinq_lambda::Formula;
 use plinq_ops::{BuildFault, MergeOption, Query};
 use std::alloc::Global;
@@ -7,10 +8,15 @@ use std::alloc::Global;
 // The turns of an element that takes about 0.7 microseconds.
 const TURNS: u64 = 500;
 
+// The most items of a chunk where chunks grow further than by default.
+const GROWN: u64 = 2_048;
+
 /// A workload by its name.
 #[derive(Clone, Copy, PartialEq, Eq)]
 pub(crate) enum Workload {
     Cheap,
+    Grown,
+    Full,
     Heavy,
     Skewed,
     Ramp,
@@ -22,8 +28,10 @@ pub(crate) enum Workload {
 }
 
 impl Workload {
-    pub(crate) const ALL: [Workload; 9] = [
+    pub(crate) const ALL: [Workload; 11] = [
         Workload::Cheap,
+        Workload::Grown,
+        Workload::Full,
         Workload::Heavy,
         Workload::Skewed,
         Workload::Ramp,
@@ -37,6 +45,8 @@ impl Workload {
     pub(crate) fn name(self) -> &'static str {
         match self {
             Workload::Cheap => "cheap",
+            Workload::Grown => "grown",
+            Workload::Full => "full",
             Workload::Heavy => "heavy",
             Workload::Skewed => "skewed",
             Workload::Ramp => "ramp",
@@ -60,7 +70,7 @@ impl Workload {
     /// How many items it has where no number is given.
     pub(crate) fn usual_items(self) -> i64 {
         match self {
-            Workload::Cheap | Workload::Sum => 10_000_000,
+            Workload::Cheap | Workload::Grown | Workload::Full | Workload::Sum => 10_000_000,
             Workload::Heavy | Workload::Skewed | Workload::Ramp => 1_000_000,
             Workload::Late => 400_000,
             Workload::Streamed => 200_000,
@@ -74,6 +84,14 @@ impl Workload {
         match self {
             Workload::TakeWhile | Workload::Take => 1_000_000_000,
             _ => items,
+        }
+    }
+
+    /// How its chunks grow.
+    pub(crate) fn growth(self) -> Result<Growth, GrowthFault> {
+        match self {
+            Workload::Grown => Growth::new(1, 3, GROWN),
+            _ => Ok(Growth::DEFAULT),
         }
     }
 
@@ -100,11 +118,17 @@ impl Workload {
         };
         let query = query.with_degree(workers).map_err(|(_, fault)| fault)?;
         let built = match self {
-            Workload::Cheap => {
+            Workload::Cheap | Workload::Grown => {
                 let query = query.select(Work::Plain(Formula::Add(1)));
                 query
                     .map_err(|(_, fault)| fault)?
                     .filter(Work::Plain(Formula::Even))
+            }
+            Workload::Full => {
+                let query = query.with_merge(MergeOption::FullyBuffered);
+                query
+                    .map_err(|(_, fault)| fault)?
+                    .select(Work::Plain(Formula::Add(1)))
             }
             Workload::Heavy => query.select(Work::Spin(Cost::Fixed(TURNS))),
             Workload::Skewed => query.select(Work::Spin(Cost::Skewed)),
@@ -134,7 +158,8 @@ impl Workload {
     /// The sum of its answer, by a plain loop.
     pub(crate) fn looped(self, items: i64) -> u64 {
         match self {
-            Workload::Cheap => even_successors(items),
+            Workload::Cheap | Workload::Grown => even_successors(items),
+            Workload::Full => successors(items),
             Workload::Heavy | Workload::Streamed => spun(items, Cost::Fixed(TURNS)),
             Workload::Skewed => spun(items, Cost::Skewed),
             Workload::Ramp => spun(items, Cost::Ramp(items.cast_unsigned())),
@@ -152,6 +177,14 @@ fn even_successors(items: i64) -> u64 {
         if y % 2 == 0 {
             sum = mix(sum, y);
         }
+    }
+    sum
+}
+
+fn successors(items: i64) -> u64 {
+    let mut sum = 0;
+    for x in 0..items {
+        sum = mix(sum, x.wrapping_add(1));
     }
     sum
 }
