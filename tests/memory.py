@@ -18,12 +18,15 @@ HUNGRY = {
     "one line of 2^40 numbers": ("run --merge full", '{"version":1,"source":{"range":[0,1099511627776]},"query":[["as_ordered"]]}'),
     "a list of 2^40 numbers in one thread": ("seq", '{"version":1,"source":{"range":[0,1099511627776]},"query":[["as_ordered"]]}'),
     "expansions of great chunks": ("run", '{"version":1,"source":{"range":[0,1099511627776]},"query":[["select_many","repeat",65536],["take",390]],"growth":[65536,1,65536]}'),
+    "expansions of great chunks in order": ("run", '{"version":1,"source":{"range":[0,1099511627776]},"query":[["as_ordered"],["select_many","repeat",65536],["take",390]],"growth":[65536,1,65536]}'),
     "nested expansions": ("run", '{"version":1,"source":{"list":[1]},"query":[["select_many","repeat",65536],["select_many","repeat",65536],["select_many","repeat",65536],["take",1]]}'),
 }
-# Documents of 20 and of 131 million items that are folded, and not held: the words, the document, the count, the most bytes.
+# Documents of 20 and of 131 million items that are folded or filtered, and not held: the words, the document, the number that is
+# printed, the most bytes.
 SPARING = {
     "an aggregate in one thread": ("seq", '{"version":1,"source":{"range":[0,200000]},"query":[["select_many","repeat",100]],"aggregate":"count"}', 20_000_000, 60_000_000),
     "an aggregate of great expansions": ("run", '{"version":1,"source":{"range":[0,2000]},"query":[["select_many","repeat",65536]],"aggregate":"count"}', 131_072_000, 60_000_000),
+    "a filter that keeps one, fully buffered": ("run --merge full", '{"version":1,"source":{"range":[0,20000000]},"query":[["as_ordered"],["filter","equal",7]]}', 7, 60_000_000),
 }
 ADDED = b'{"version":1,"source":{"list":[3,1,4]},"query":[["as_ordered"],["select","add",1]]}'
 
@@ -107,9 +110,9 @@ def hungry(tests):
 
 
 def sparing(tests):
-    for name, (words, document, count, most) in SPARING.items():
+    for name, (words, document, number, most) in SPARING.items():
         seen, taken = measured(words, document)
-        tests.check(name, seen == Outcome(0, f"{count}\nend\n".encode(), b""), seen)
+        tests.check(name, seen == Outcome(0, f"{number}\nend\n".encode(), b""), seen)
         tests.check(f"{name}: it took {most} bytes at most", taken < most, taken)
 
 
