@@ -7,7 +7,7 @@ use Rattle.plinq_ops.specs.declared.merge_option.MergeOption.{MergeOption}
 use Rattle.plinq_ops.specs.Batches.{batch_size, is_full, full_batches, held_back, last_batch, batches}
 use Rattle.plinq_collect.specs.Telling.{items_of}
 
-items_of-append : {T : Type 0} (bs cs : List (List T)) → items_of (bs ++ cs) ≡ items_of bs ++ items_of cs
+pub items_of-append : {T : Type 0} (bs cs : List (List T)) → items_of (bs ++ cs) ≡ items_of bs ++ items_of cs
 items_of-append [] cs = refl
 items_of-append (b ∷ bs) cs = ap (λ ys. b ++ ys) (items_of-append bs cs) ∙ sym (append_assoc b (items_of bs) (items_of cs))
 

@@ -1,2 +1,3 @@
+mod Called
 mod Joined
 pub mod Gathered

@@ -1,2 +1,4 @@
+pub mod Calling
+pub mod Equal
 pub mod Folds
 pub mod Telling

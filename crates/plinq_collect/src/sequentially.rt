@@ -5,13 +5,18 @@ ghost use Rattle.plinq_ops.specs.declared.op.Op.{Op};
 ghost use Rattle.plinq_ops.specs.Sequential.{answer_of};
 ghost use Rattle.plinq_run.specs.Aggregates.{Aggregates};
 ghost use Rattle.plinq_run.specs.declared.run_fault.RunFault.TheVariants.{Memory};
+ghost use Rattle.plinq_collect.specs.Calling.{CallsAll, NoRoomOrRefused};
+ghost use Rattle.plinq_collect.specs.Equal.{IsTestOf};
 ghost use Rattle.plinq_collect.specs.Folds.{first_of, has_item, has_none, counted};
 ghost use Rattle.plinq_collect.specs.Telling.{LacksRoom, TellsSome};
 
+use crate::calling::visit_all;
 use crate::counted::Counted;
+use crate::equal_to::EqualTo;
 use crate::first_item::FirstItem;
 use crate::is_there::IsThere;
 use crate::telling::negated;
+use crate::visits::Visitor;
 use plinq_aggregate::{Aggregator, fold_sequential};
 use plinq_lambda::SharedLambda;
 use plinq_ops::{Query, sequential};
@@ -46,6 +51,38 @@ where
     match sequential(alloc, query, &mut source) {
         Ok(answer) => Ok(answer),
         Err(_) => Err(RunFault::Memory),
+    }
+}
+
+/// As [`for_each`](crate::for_each).
+///
+/// # Errors
+///
+/// [`RunFault::Sink`] with the code that the closure answers, [`RunFault::Memory`] where there is no room.
+pub fn for_each<L, S, F, R>(
+    rt: &R,
+    alloc: Global,
+    query: &Query<L>,
+    source: S,
+    by: F,
+) -> Result<Ending, RunFault>
+where
+    L: SharedLambda,
+    S: Source<Item = L::Item>,
+    F: FnMut(L::Item) -> Result<(), u32> + Drop,
+    R: Threads + Wait + Sync,
+    requires fresh { S.given source ≡ 0 }
+    requires is_called { (f : F) (x : L.Item) → F.pre f x }
+    requires in_one_way { (f : F) (x : L.Item) (a b : F.pre f x) → a ≡ b }
+    ensures calls { CallsAll (λ f x r g. F.step f x r g) (answer_of L.meaning query.now.ops (S.whole source)) by result }
+    ensures memory { NoRoomOrRefused result }
+{
+    match to_vec(rt, alloc, query, source) {
+        Ok((items, ending)) => {
+            let item = PhantomData;
+            visit_all(Visitor { by, item }, items.as_slice(), ending)
+        }
+        Err(fault) => Err(fault),
     }
 }
 
@@ -153,6 +190,29 @@ where
         return Err(AggregateFault::Run(RunFault::Memory));
     };
     is_there(rt, alloc, query, source)
+}
+
+/// As [`contains`](crate::contains).
+///
+/// # Errors
+///
+/// As [`aggregate`].
+pub fn contains<L, S, R>(
+    rt: &R,
+    alloc: Global,
+    query: Query<L>,
+    source: S,
+    item: L::Item,
+) -> Result<bool, AggregateFault>
+where
+    L: EqualTo + SharedLambda,
+    S: Source<Item = L::Item>,
+    R: Threads + Wait + Sync,
+    requires { S.given source ≡ 0 }
+    ensures value { (test : L) × (IsTestOf (L.meaning test) item) × TellsSome has_item (λ u. u ≡ answer_of L.meaning ((query.ops ++ Op.Filter test ∷ []) ++ Op.Take (pos 1) ∷ []) (S.whole source)) result }
+    ensures memory { LacksRoom result }
+{
+    any(rt, alloc, query, source, L::equal_to(item))
 }
 
 /// As [`all`](crate::all).

@@ -2,10 +2,12 @@
 ghost use Rattle.std.specs.Prelude.{◌≡◌, pos, [], ◌∷◌, ◌++◌};
 ghost use Rattle.plinq_ops.specs.declared.op.Op.{Op};
 ghost use Rattle.plinq_ops.specs.Answer.{MayAnswer};
+ghost use Rattle.plinq_collect.specs.Equal.{IsTestOf};
 ghost use Rattle.plinq_collect.specs.Folds.{first_of, has_item, has_none, counted};
 ghost use Rattle.plinq_collect.specs.Telling.{TellsSome, negated};
 
 use crate::counted::Counted;
+use crate::equal_to::EqualTo;
 use crate::first_item::FirstItem;
 use crate::is_there::IsThere;
 use plinq_enumerator::Growth;
@@ -108,6 +110,28 @@ where
         return Err(AggregateFault::Run(RunFault::Memory));
     };
     is_there(rt, alloc, query, source)
+}
+
+/// Whether an item is this one (.NET's `Contains`). It is [`any`] by the lambda's own test.
+///
+/// # Errors
+///
+/// As [`first`].
+pub fn contains<L, S, R>(
+    rt: &R,
+    alloc: Global,
+    query: Query<L>,
+    source: S,
+    item: L::Item,
+) -> Result<bool, AggregateFault>
+where
+    L: EqualTo + SharedLambda,
+    S: Source<Item = L::Item>,
+    R: Threads + Wait + Sync,
+    requires { S.given source ≡ 0 }
+    ensures { (test : L) × (IsTestOf (L.meaning test) item) × TellsSome has_item (MayAnswer L.meaning query.ordered ((query.ops ++ Op.Filter test ∷ []) ++ Op.Take (pos 1) ∷ []) (S.whole source)) result }
+{
+    any(rt, alloc, query, source, L::equal_to(item))
 }
 
 /// Whether every item passes this test (.NET's and rayon's `All`); of no items it is true.

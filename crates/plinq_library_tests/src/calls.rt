@@ -1,8 +1,10 @@
 //! What each call answers of three numbers.
-use plinq_collect::{all, any, build, count, first, to_vec};
+use plinq_collect::{all, any, build, contains, count, first, for_each, sequentially, to_vec};
 use plinq_lambda::Formula;
 use plinq_ops::{BuildFault, Query};
+use plinq_run::RunFault;
 use plinq_slice::SliceSource;
+use plinq_source::Ending;
 use std::alloc::Global;
 use std::test::Fail;
 
@@ -55,5 +57,34 @@ fn whether_all_are_below_six(rt: HostRuntime) -> Result<(), Fail> {
     let query = even(rt.alloc())?;
     let source = SliceSource::new(&NUMBERS)?;
     assert!(&rt; !all(&rt, rt.alloc(), query, source, Formula::Below(6))?);
+    Ok(())
+}
+
+#[test]
+fn whether_one_is_four_or_five(rt: HostRuntime) -> Result<(), Fail> {
+    let (query, source) = (even(rt.alloc())?, SliceSource::new(&NUMBERS)?);
+    assert!(&rt; contains(&rt, rt.alloc(), query, source, 4)?);
+    let (query, source) = (even(rt.alloc())?, SliceSource::new(&NUMBERS)?);
+    assert!(&rt; !contains(&rt, rt.alloc(), query, source, 5)?);
+    let (query, source) = (even(rt.alloc())?, SliceSource::new(&NUMBERS)?);
+    assert!(&rt; sequentially::contains(&rt, rt.alloc(), query, source, 6)?);
+    Ok(())
+}
+
+#[test]
+fn a_closure_is_called_with_each_even_one_up_to_its_code(rt: HostRuntime) -> Result<(), Fail> {
+    let query = even(rt.alloc())?;
+    let mut seen = Vec::new(rt.alloc());
+    let source = SliceSource::new(&NUMBERS)?;
+    let told = for_each(&rt, rt.alloc(), &query, source, |item| {
+        seen.push(item).map_err(|_| 1)
+    });
+    assert_eq!(&rt; told, Ok(Ending::End));
+    assert!(&rt; seen.as_slice() == [4, 6].as_slice());
+    let source = SliceSource::new(&NUMBERS)?;
+    let told = sequentially::for_each(&rt, rt.alloc(), &query, source, |item| {
+        if item > 4 { Err(7) } else { Ok(()) }
+    });
+    assert_eq!(&rt; told, Err(RunFault::Sink(7)));
     Ok(())
 }

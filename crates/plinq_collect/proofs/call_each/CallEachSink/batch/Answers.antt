@@ -1,0 +1,11 @@
+-- One call more.
+use Rattle.std.proofs.Common.{rules, ◌≡◌, refl, [], ◌∷◌, ◌++◌}
+use Rattle.plinq_merge.specs.Sent.{up_to-more}
+use Rattle.plinq_collect.specs.Calling.{Takes}
+use Rattle.plinq_collect.proofs.call_each.CallEachSink.batch.Goals as goal
+
+pub loop-item-preserved : goal.loop-item-preserved
+loop-item-preserved g c =
+    let parts : c.loop-item.rest.now ≡ (c.in-Some.item.now ∷ []) ++ c.in-Some.others.now = search rules in
+    let taken : Takes g.V.Visits.steps c.loop-item.self.by c.in-Some.item.now c.visit.new.self = search rules in
+    up_to-more _ _ _ c.loop-item.rest.now _ (c.in-Some.item.now ∷ []) _ _ c.loop-item.invariant parts (c.visit.new.self, taken, refl)
