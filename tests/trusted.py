@@ -53,7 +53,6 @@ NAMED = {
 }
 # Files that stand outside of specs/inner/ though no public contract reaches them, and why.
 LEFT_OUTSIDE = {
-    "crates/plinq_cli/specs/Stopped.antt": "its crate and all above it are proved again where it moves",
     "crates/plinq_closures/specs/Only.antt": "its crate and all above it are proved again where it moves",
     "crates/plinq_groups/specs/Acting.antt": "its crate and all above it are proved again where it moves",
     "crates/plinq_groups/specs/Joined.antt": "its crate and all above it are proved again where it moves",

@@ -34,7 +34,7 @@ use Rattle.plinq_cli.specs.declared.serve_fault.ServeFault.{ServeFault}
 use Rattle.plinq_cli.specs.declared.serve_fault.ServeFault.TheVariants.{Memory, Write, Run as NoRun, Take}
 use Rattle.plinq_cli.specs.ServeFaults.{MayFail, serve_fault_of_run, told_of}
 use Rattle.plinq_cli.specs.Served.{batch_lines, CountsIf, Delivers, EndsInTime, HasDelivered, HasFailed, HasBrokenOff, HasWritten, IsText, LeavesLines, LeavesWholeLines, Serves}
-use Rattle.plinq_cli.specs.Stopped.{Leaves}
+use Rattle.plinq_cli.specs.inner.Stopped.{Leaves}
 use Rattle.plinq_cli.specs.Told.{told_text}
 use Rattle.plinq_cli.proofs.Answered.{serves-begun}
 

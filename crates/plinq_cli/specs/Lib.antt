@@ -2,5 +2,5 @@ pub mod Rounds
 pub mod ServeFaults
 pub mod Told
 pub mod Served
-pub mod Stopped
 pub mod Performed
+pub mod inner

@@ -4,7 +4,7 @@ ghost use Rattle.plinq_partition.specs.Cuts.{cuts};
 ghost use Rattle.plinq_source.specs.Trace.{ended};
 ghost use Rattle.plinq_cli.specs.ServeFaults.{MayFail, told_of};
 ghost use Rattle.plinq_cli.specs.Served.{Delivers, LeavesWholeLines, Serves};
-ghost use Rattle.plinq_cli.specs.Stopped.{Leaves};
+ghost use Rattle.plinq_cli.specs.inner.Stopped.{Leaves};
 ghost use Rattle.plinq_lambda.specs.Formula.{formula_meaning};
 ghost use Rattle.plinq_ops.specs.Answer.{MayAnswer};
 ghost use Rattle.plinq_ops.specs.Query.{merge_in_force};
