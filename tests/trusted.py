@@ -30,7 +30,7 @@ LOST = {
 # What a contract reaches, and what it doesn't.
 REACHED = {
     "run:ordered": (
-        ["HasDelivered", "answers", "skipped_from", "pub enum RunFault", "ghost accepts", "ghost given", "source: S, .., sink: &mut K"],
+        ["HasDelivered", "answers", "skipped_from", "enum RunFault", "ghost accepts", "ghost given", "source: S, .., sink", "-- `Where`"],
         ["MayAnswer", "Stage", "IsLegalHistory"],
     ),
     "plinq_run::run": (["TakesBeginning", "RefusesNext"], ["IsCutOff", "StopsShort"]),
