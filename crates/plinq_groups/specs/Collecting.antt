@@ -3,7 +3,7 @@ use Rattle.std.specs.Prelude.{◌≡◌, List, [], ◌∷◌, ◌++◌}
 use Rattle.std.specs.List.{fold}
 use Rattle.std.proofs.Common.{sym, ◌∙◌, append_assoc, append-nil}
 use Rattle.plinq_aggregate.specs.Folding.{Folding, folded, IsFolding}
-use Rattle.plinq_groups.specs.Acting.{acting-lawful}
+use Rattle.plinq_groups.specs.inner.Acting.{acting-lawful}
 
 -- items one after another
 abbrev pub collecting : {T : Type 0} → Folding T (List T) (List T)

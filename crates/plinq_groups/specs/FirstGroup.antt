@@ -4,7 +4,7 @@ use Rattle.std.specs.List.{fold, filter}
 use Rattle.std.proofs.Common.{sym, ◌∙◌, ap, append_assoc, append-nil}
 use Rattle.plinq_aggregate.specs.Folding.{Folding, folded}
 use Rattle.plinq_groups.specs.Groups.{grouping}
-use Rattle.plinq_groups.specs.Joined.{joined, joined-here, joined-later}
+use Rattle.plinq_groups.specs.inner.Joined.{joined, joined-here, joined-later}
 use Rattle.plinq_groups.specs.Grouping.{single, each_folded, grouped-folded}
 
 module _ {K T : Type 0} (eq : K → K → Bool) (key : T → K) where

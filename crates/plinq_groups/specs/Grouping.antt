@@ -7,7 +7,7 @@ use Rattle.std.proofs.lemmas.List.{map-append}
 use Rattle.std.proofs.lemmas.List.Sums.{fold-append}
 use Rattle.plinq_aggregate.specs.Folding.{Folding, folded, IsFolding}
 use Rattle.plinq_groups.specs.Groups.{placed, with_item, with_group, grouping}
-use Rattle.plinq_groups.specs.Joined.{joined, joined-here, joined-later, joins-apart}
+use Rattle.plinq_groups.specs.inner.Joined.{joined, joined-here, joined-later, joins-apart}
 
 -- a group of one item
 abbrev pub single : {K T : Type 0} → (T → K) → T → K × List T

@@ -1,10 +1,9 @@
-pub mod Acting
 pub mod Collecting
 pub mod FirstGroup
 pub mod Grouping
 pub mod Groups
-pub mod Joined
 pub mod Mapping
 pub mod Others
 pub mod Ranked
 pub mod Topped
+pub mod inner

@@ -5,7 +5,7 @@ use Rattle.std.proofs.Common.{sym, ◌∙◌, ap, append_assoc, append-nil}
 use Rattle.plinq_aggregate.specs.Folding.{Folding, folded, IsFolding}
 use Rattle.plinq_groups.specs.declared.map_fault.MapFault.{MapFault}
 use Rattle.plinq_groups.specs.declared.map_fault.MapFault.TheVariants.{Memory, Code}
-use Rattle.plinq_groups.specs.Acting.{acting-lawful}
+use Rattle.plinq_groups.specs.inner.Acting.{acting-lawful}
 
 -- what is made of an item is this, or there was no room for it
 abbrev pub Makes : {B : Type 0} → Result B ℕ → Result B MapFault → Type 0
