@@ -3,7 +3,7 @@ use Rattle.std.proofs.Common.{◌≡◌, ℕ, List, [], ◌∷◌, get_or, set, 
 use mathlib.Core.Option.{some}
 use lib.ListN.{get_elem?}
 use Rattle.atomic_table.specs.Table.{Me, Act, keeps, Valid, homes_after, carried_after, Allows}
-use Rattle.plinq_cut.specs.OneWord.{Fact, OfOneWord}
+use Rattle.plinq_cut.specs.inner.OneWord.{Fact, OfOneWord}
 
 -- the word becomes f of what it was, and the pass has another view
 pub allows-word : {S V : Type 0} (holds : Fact V) (slots id : ℕ) (me : Me S V) (f : ℕ → ℕ) (then : ℕ → Me S V → Type 0)

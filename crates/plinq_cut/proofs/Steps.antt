@@ -11,7 +11,7 @@ use Rattle.plinq_ops.specs.Cut.{no_cut}
 use Rattle.plinq_cut.specs.declared.view.View.{View}
 use Rattle.plinq_cut.specs.declared.view.View.TheVariants.{Passing, Joined}
 use Rattle.plinq_cut.specs.Cutting.{is_cut_of, Knows, IsLawful, Sees, together}
-use Rattle.plinq_cut.specs.OneWord.{OfOneWord}
+use Rattle.plinq_cut.specs.inner.OneWord.{OfOneWord}
 use Rattle.plinq_cut.specs.Views.{is_passing}
 use Rattle.plinq_cut.proofs.Allowed.{allows-word}
 

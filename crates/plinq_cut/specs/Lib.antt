@@ -1,5 +1,5 @@
 pub mod Cutting
 pub mod OfPlan
-pub mod OneWord
 pub mod Passes
 pub mod Views
+pub mod inner

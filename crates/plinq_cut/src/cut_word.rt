@@ -15,7 +15,7 @@ pub struct Cuts<E> {
 }
 
 impl<E: StopKeys> TableRule<(), View, ()> for Cuts<E> {
-    ghost use Rattle.plinq_cut.specs.OneWord.{OfOneWord};
+    ghost use Rattle.plinq_cut.specs.inner.OneWord.{OfOneWord};
     ghost use Rattle.plinq_cut.specs.Cutting.{IsLawful};
     ghost use Rattle.plinq_cut.specs.declared.view.View.TheVariants.{Passing};
 
