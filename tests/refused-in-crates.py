@@ -43,6 +43,8 @@ CALLS = {
     "run and aggregate by eight workers": ("crew", "refused_room::eight_workers_may_be_refused_room"),
     "aggregate with GroupBy by one worker": ("groups", "refused_room::groups_by_one_worker_may_be_refused_room"),
     "aggregate with GroupBy by two workers": ("groups", "refused_room::groups_by_two_workers_may_be_refused_room"),
+    "run_mapped by one worker": ("groups", "refused_room::a_mapped_run_by_one_worker_may_be_refused_room"),
+    "run_mapped by two workers": ("groups", "refused_room::a_mapped_run_by_two_workers_may_be_refused_room"),
 }
 
 

@@ -1,5 +1,6 @@
 //! The tests of groups and of aggregates made of others: beside a plain loop, by one thread and by several, for keys that are
-//! one, few, all different, or collide; a great number of groups; and with each allocation refused in turn.
+//! one, few, all different, or collide; a great number of groups; what the workers make of items; and with each allocation
+//! refused in turn.
 #![tactic(auto)]
 
 #[cfg(test)]
@@ -8,6 +9,8 @@ mod grouped;
 mod hostile;
 #[cfg(test)]
 mod keys;
+#[cfg(test)]
+mod mapped;
 #[cfg(test)]
 mod others;
 #[cfg(test)]

@@ -1,11 +1,13 @@
-//! Groups that are refused an allocation, and the same once more. Each test is run with each allocation failing in turn.
+//! Groups and mapped runs that are refused an allocation, and the same once more. Each test is run with each allocation failing in turn.
 use crate::keys::Masked;
+use crate::mapped::{BitsOf, Taken};
 use plinq_enumerator::Growth;
-use plinq_groups::{Collect, GroupBy};
+use plinq_groups::{Collect, GroupBy, MapEach};
 use plinq_lambda::Formula;
+use plinq_mapped::run_mapped;
 use plinq_ops::{BuildFault, Query};
 use plinq_run::{AggregateFault, OpenGate, RunFault, aggregate};
-use plinq_source::RangeSource;
+use plinq_source::{Ending, RangeSource};
 use std::alloc::Global;
 use std::process::Abort;
 use std::sync::Wait;
@@ -75,4 +77,73 @@ fn groups_by_one_worker_may_be_refused_room(rt: HostRuntime) {
 #[test]
 fn groups_by_two_workers_may_be_refused_room(rt: HostRuntime) {
     ask_twice(&rt, rt.alloc(), 2);
+}
+
+/// The same numbers, of which the first 9 are taken after the merge.
+fn query_with_two_parts(
+    alloc: Global,
+    workers: u64,
+    is_cut: bool,
+) -> Result<Query<Formula>, BuildFault> {
+    let query = query_of(alloc, workers, false)?;
+    if is_cut {
+        Ok(query.filter(Formula::Above(0))?.take(9)?)
+    } else {
+        Ok(query)
+    }
+}
+
+/// Makes something of each of them. Answers whether that was refused, for lack of memory or of a thread, or by a sink that lacks
+/// room.
+fn is_refused_mapped<R: Threads + Wait + Sync + Abort>(
+    rt: &R,
+    alloc: Global,
+    query: &Query<Formula>,
+    most: usize,
+) -> bool {
+    let Ok(source) = RangeSource::new(1, 17) else {
+        panic!(rt; "no such range");
+    };
+    let bits = MapEach {
+        make: BitsOf { but: 0 },
+    };
+    let mut taken = Taken::new(alloc, 1_000);
+    let growth = Growth::ONE;
+    match run_mapped(
+        rt, alloc, query, source, growth, &OpenGate, &bits, &mut taken,
+    ) {
+        Ok(ending) => {
+            assert!(rt; ending == Ending::End);
+            assert_eq!(rt; taken.made.len(), most);
+            false
+        }
+        Err(fault) => {
+            assert!(rt;
+                fault == RunFault::Memory || fault == RunFault::Thread || fault == RunFault::Sink(0)
+            );
+            true
+        }
+    }
+}
+
+/// Asks twice: of the two at most one is refused.
+fn map_twice<R: Threads + Wait + Sync + Abort>(rt: &R, alloc: Global, workers: u64) {
+    for (is_cut, most) in [(false, 17), (true, 9)] {
+        let Ok(query) = query_with_two_parts(alloc, workers, is_cut) else {
+            return;
+        };
+        let first = is_refused_mapped(rt, alloc, &query, most);
+        let second = is_refused_mapped(rt, alloc, &query, most);
+        assert!(rt; !first || !second);
+    }
+}
+
+#[test]
+fn a_mapped_run_by_one_worker_may_be_refused_room(rt: HostRuntime) {
+    map_twice(&rt, rt.alloc(), 1);
+}
+
+#[test]
+fn a_mapped_run_by_two_workers_may_be_refused_room(rt: HostRuntime) {
+    map_twice(&rt, rt.alloc(), 2);
 }

@@ -187,7 +187,7 @@ planned-undecided q plan is keyed parts undecided =
     record { keyed = keyed; worker = (parts undecided).0; after = (parts undecided).1; undecided = undecided; keyless = planned-keyless q plan is }
 
 -- what one thread answers may be answered
-may-sequential : {L T : Type 0} (meaning : L → Meaning T) (ordered : Bool) (ops : List (Op L)) (t : Trace T) → MayAnswer meaning ordered ops t (answer_of meaning ops t)
+pub may-sequential : {L T : Type 0} (meaning : L → Meaning T) (ordered : Bool) (ops : List (Op L)) (t : Trace T) → MayAnswer meaning ordered ops t (answer_of meaning ops t)
 may-sequential meaning true ops t = refl
 may-sequential meaning false ops t = Answer-sequential meaning false ops t
 

@@ -1,14 +1,13 @@
 -- Merging folded results is folding what the results merge to.
-use Rattle.std.specs.Prelude.{◌≡◌, ℕ, ◌+◌, ◌==◌, List, [], ◌∷◌, ◌++◌, Bool, true, false, cond, ⊤, Option, Some, None, refl}
+use Rattle.std.specs.Prelude.{◌≡◌, ℕ, ◌+◌, ◌==◌, List, [], ◌∷◌, Bool, true, false, cond, ⊤, Option, None, refl}
 use Rattle.std.specs.List.{fold}
 use Rattle.std.specs.Option.{option_or}
 use Rattle.std.specs.Ordering.{nat_cmp, match_ordering}
 use Rattle.std.specs.declared.cmp.Ordering.{Ordering}
 use Rattle.std.specs.declared.cmp.Ordering.TheVariants.{Less, Equal, Greater}
-use Rattle.std.proofs.Common.{sym, ◌∙◌, ap, subst, append_assoc, append-nil}
-use Rattle.std.proofs.lemmas.List.Sums.{fold-append}
+use Rattle.std.proofs.Common.{sym, ◌∙◌, ap, subst}
 use Rattle.plinq_source.specs.declared.ending.Ending.{Ending}
-use Rattle.plinq_source.specs.Trace.{Trace, open_trace, continued, followed}
+use Rattle.plinq_source.specs.Trace.{Trace, open_trace}
 use Rattle.plinq_aggregate.specs.Folding.{Folding, folded, IsFolding}
 use Rattle.plinq_ops.specs.declared.order.Order.{Order}
 use Rattle.plinq_ops.specs.declared.order.Order.TheVariants.{ByKey, ByArrival}
@@ -18,32 +17,16 @@ use Rattle.plinq_ops.specs.Tails.{end_of_result, told_at}
 use Rattle.plinq_reorder.specs.declared.span.Span.{Span}
 use Rattle.plinq_reorder.specs.Intervals.{Interval, insert, unbroken, first_gap}
 use Rattle.plinq_merge.specs.Shown.{at_once, waiting_trace, placed, all_placed, all_told, all_given, ending_at, row, arrived, merged}
-use Rattle.plinq_run.specs.inner.Folds.{combined, IsFoldOf, AreFoldsOf, StandFor, IsFolded}
+use Rattle.plinq_run.specs.Parting.{IsFolded}
+use Rattle.plinq_run.specs.inner.Folds.{combined, IsFoldOf, AreFoldsOf}
+use Rattle.plinq_run.specs.inner.Standing.{stand-none, followed-folded}
 
 module _ {T A O : Type 0} (f : Folding T A O) where
-  stand-none : StandFor f [] []
-  stand-none before = ap (folded f) (sym (append-nil before))
-
-  stand-append : (xs ys : List T) (us vs : List A) → StandFor f xs us → StandFor f ys vs → StandFor f (xs ++ ys) (us ++ vs)
-  stand-append xs ys us vs first second before =
-      fold-append f.combine (folded f before) us vs
-      ∙ ap (λ a. fold f.combine a vs) (first before)
-      ∙ second (before ++ xs)
-      ∙ ap (folded f) (append_assoc before xs ys)
-
   folded-nothing : IsFolded f (open_trace []) (open_trace [])
-  folded-nothing = record { items = stand-none; ending = refl }
+  folded-nothing = record { items = stand-none f; ending = refl }
 
   folded-ending : (e : Option Ending) → IsFolded f (record { items = []; ending = e }) (record { items = []; ending = e })
-  folded-ending e = record { items = stand-none; ending = refl }
-
-  continued-folded : (xs : List T) (us : List A) (e : Option Ending) (t : Trace T) (u : Trace A) → StandFor f xs us → IsFolded f t u → IsFolded f (continued xs e t) (continued us e u)
-  continued-folded xs us None t u first second = record { items = stand-append xs t.items us u.items first second.items; ending = second.ending }
-  continued-folded xs us (Some e) t u first second = record { items = first; ending = refl }
-
-  followed-folded : (t t' : Trace T) (u u' : Trace A) → IsFolded f t u → IsFolded f t' u' → IsFolded f (followed t t') (followed u u')
-  followed-folded t t' u u' first second =
-      subst (λ e. IsFolded f (followed t t') (continued u.items e u')) (sym first.ending) (continued-folded t.items u.items t.ending t' u' first.items second)
+  folded-ending e = record { items = stand-none f; ending = refl }
 
   -- an interval of results, and one of folds
   record AreAlike (p : Interval (Trace T)) (q : Interval (Trace A)) : Type 0 where
@@ -63,7 +46,7 @@ module _ {T A O : Type 0} (f : Folding T A O) where
   given-folded (p ∷ ps) [] alike = absurd alike
   given-folded (p ∷ ps) (q ∷ qs) alike =
       let one = alike.0 in
-      followed-folded p.1.payload (all_given ps) q.1.payload (all_given qs) one.trace (given-folded ps qs alike.1)
+      followed-folded f p.1.payload (all_given ps) q.1.payload (all_given qs) one.trace (given-folded ps qs alike.1)
 
   unbroken-alike : (key : ℕ) (ps : List (Interval (Trace T))) (qs : List (Interval (Trace A))) → AreRowsAlike ps qs
       → AreRowsAlike (unbroken key ps) (unbroken key qs) × (first_gap key qs ≡ first_gap key ps)
@@ -82,7 +65,7 @@ module _ {T A O : Type 0} (f : Folding T A O) where
   row-folded told key ps qs alike =
       let at = unbroken-alike key ps qs alike in
       let last : Trace T = record { items = []; ending = ending_at told (first_gap key ps) } in
-      followed-folded (all_given (unbroken key ps)) last (all_given (unbroken key qs)) (record { items = []; ending = ending_at told (first_gap key qs) }) (given-folded (unbroken key ps) (unbroken key qs) at.0)
+      followed-folded f (all_given (unbroken key ps)) last (all_given (unbroken key qs)) (record { items = []; ending = ending_at told (first_gap key qs) }) (given-folded (unbroken key ps) (unbroken key qs) at.0)
       (subst (λ k. IsFolded f last (record { items = []; ending = ending_at told k })) (sym at.1) (folded-ending (ending_at told (first_gap key ps))))
 
   insert-alike : (ps : List (Interval (Trace T))) (qs : List (Interval (Trace A))) (first end : ℕ) (p : Trace T) (q : Trace A) → AreRowsAlike ps qs → IsFolded f p q
@@ -152,12 +135,12 @@ module _ {T A O : Type 0} (f : Folding T A O) where
   arrived-folded lawful order [] (c ∷ cs) are = absurd are
   arrived-folded lawful order (r ∷ rs) [] are = absurd are
   arrived-folded lawful order (r ∷ rs) (c ∷ cs) are =
-      followed-folded (at_once order r) (arrived order rs) (at_once order c) (arrived order cs) (once-folded lawful order r c are.0) (arrived-folded lawful order rs cs are.1)
+      followed-folded f (at_once order r) (arrived order rs) (at_once order c) (arrived order cs) (once-folded lawful order r c are.0) (arrived-folded lawful order rs cs are.1)
 
   -- what folded results merge to stands for what the results do
   pub merged-folded : IsFolding f → (order : Order) (rs : List (ChunkResult T)) (cs : List (ChunkResult A)) → AreFoldsOf f rs cs → IsFolded f (merged order rs) (merged order cs)
   merged-folded lawful order rs cs are =
-      followed-folded (arrived order rs) (row (all_told None rs) 0 (all_placed order [] rs)) (arrived order cs) (row (all_told None cs) 0 (all_placed order [] cs))
+      followed-folded f (arrived order rs) (row (all_told None rs) 0 (all_placed order [] rs)) (arrived order cs) (row (all_told None cs) 0 (all_placed order [] cs))
       (arrived-folded lawful order rs cs are)
       (subst (λ told. IsFolded f (row (all_told None rs) 0 (all_placed order [] rs)) (row told 0 (all_placed order [] cs))) (sym (all_told-alike None rs cs are))
       (row-folded (all_told None rs) 0 (all_placed order [] rs) (all_placed order [] cs) (all_placed-alike lawful order [] [] rs cs tt are)))

@@ -8,6 +8,7 @@ mod Folds
 mod Handed
 mod Headline
 mod Merged
+mod PartsGiven
 mod Parts
 mod Runs
 mod Stopping

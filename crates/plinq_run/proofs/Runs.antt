@@ -28,7 +28,8 @@ use Rattle.plinq_merge.specs.inner.Sent.{cut-before}
 use Rattle.plinq_merge.proofs.Whole.{merged-begins, batches-first}
 use Rattle.plinq_run.specs.declared.coverage.Coverage.{Coverage}
 use Rattle.plinq_run.specs.declared.run_fault.RunFault.{RunFault}
-use Rattle.plinq_run.specs.inner.Merged.{merge_for, Breaks}
+use Rattle.plinq_run.specs.inner.Merged.{merge_for}
+use Rattle.plinq_run.specs.Parting.{Breaks}
 use Rattle.plinq_crew.specs.Plans.{IsUndecided}
 use Rattle.plinq_run.specs.inner.Plans.{merged_answer}
 use Rattle.plinq_run.specs.inner.Reaching.{IsOffered, Covers}
@@ -49,13 +50,13 @@ module _ {L T : Type 0} (meaning : L → Meaning T) (plan : Plan L) (t : Trace T
   are-true_tails (r ∷ rs) are = ((All-head (IsResult meaning plan t) r rs are).tail, are-true_tails rs (All-tail (IsResult meaning plan t) r rs are))
 
   -- the fragments of the source's items, in an order in which they may be taken, begin with what was merged
-  record HasBegun (offers : List (ChunkResult T)) : Type 0 where
+  pub record HasBegun (offers : List (ChunkResult T)) : Type 0 where
     pub taken : Trace T
     pub may : MayTake plan.order t taken
     pub rest : Trace T
     pub is : glue meaning plan.worker.now taken ≡ followed (merged plan.order offers) rest
 
-  begun-in : (order : Order) → plan.order ≡ order → length t.items ≤ 2 ^ 40 → IsUndecided plan → (offers : List (ChunkResult T)) → All (IsResult meaning plan t) offers → AreApart offers → HasBegun offers
+  pub begun-in : (order : Order) → plan.order ≡ order → length t.items ≤ 2 ^ 40 → IsUndecided plan → (offers : List (ChunkResult T)) → All (IsResult meaning plan t) offers → AreApart offers → HasBegun offers
   begun-in ByKey by few undecided offers are apart =
       let begins = merged-begins meaning plan.worker.now t few offers (are-offers offers are) (are-true_tails offers are) in
       record {

@@ -34,7 +34,8 @@ use Rattle.plinq_run.specs.Aggregates.{Aggregates, AggregatesSome}
 use Rattle.plinq_run.specs.inner.Valuing.{so_far, value_at}
 use Rattle.plinq_run.specs.Finished.{HasFinished}
 use Rattle.plinq_run.specs.inner.Folded.{FoldsSome, value_of}
-use Rattle.plinq_run.specs.inner.Merged.{merge_for, Breaks, HasEnded, HasBrokenOff}
+use Rattle.plinq_run.specs.inner.Merged.{merge_for, HasEnded, HasBrokenOff}
+use Rattle.plinq_run.specs.Parting.{Breaks}
 use Rattle.plinq_run.specs.inner.Reaching.{IsOffered}
 use Rattle.plinq_run.specs.inner.Plans.{MayMerge}
 use Rattle.plinq_run.specs.Runs.{Cause, Other, cause_of}
@@ -52,7 +53,7 @@ module _ {T A O : Type 0} (f : Folding T A O) where
   folds-offered (r ∷ rs) (c ∷ cs) are key =
       ap (λ b. b || is_offered cs key) (folds-within r c are.0 key) ∙ ap (λ b. is_within r.first (end_of_result r) key || b) (folds-offered rs cs are.1 key)
 
-  folds-apart : (rs : List (ChunkResult T)) (cs : List (ChunkResult A)) → AreFoldsOf f rs cs → AreApart cs → AreApart rs
+  pub folds-apart : (rs : List (ChunkResult T)) (cs : List (ChunkResult A)) → AreFoldsOf f rs cs → AreApart cs → AreApart rs
   folds-apart [] [] are apart = tt
   folds-apart [] (c ∷ cs) are apart = absurd are
   folds-apart (r ∷ rs) [] are apart = absurd are
@@ -66,12 +67,12 @@ module _ {L T A O : Type 0} (f : Folding T A O) (meaning : L → Meaning T) (pla
   IsFolded c = IsPart meaning (IsFoldOf f) plan t c
 
   -- the results that these are the folds of
-  record AreUnfolded (cs : List (ChunkResult A)) : Type 0 where
+  pub record AreUnfolded (cs : List (ChunkResult A)) : Type 0 where
     pub results : List (ChunkResult T)
     pub are : All (IsResult meaning plan t) results
     pub folds : AreFoldsOf f results cs
 
-  unfolded : (cs : List (ChunkResult A)) → All IsFolded cs → AreUnfolded cs
+  pub unfolded : (cs : List (ChunkResult A)) → All IsFolded cs → AreUnfolded cs
   unfolded [] are = record { results = []; are = All-nil (IsResult meaning plan t); folds = tt }
   unfolded (c ∷ cs) are =
       let one : IsFolded c = All-head IsFolded c cs are in

@@ -3,6 +3,7 @@ pub mod Endings
 pub mod Finished
 pub mod Handed
 pub mod Headline
+pub mod Parting
 pub mod Reports
 pub mod RunRows
 pub mod Runs

@@ -1,4 +1,5 @@
 -- Words that no public contract reaches: private contracts and proofs cite them.
+pub mod Blocks
 pub mod Combining
 pub mod CombiningLawful
 pub mod Conducted
@@ -9,4 +10,5 @@ pub mod Merged
 pub mod Plans
 pub mod Reaching
 pub mod Reported
+pub mod Standing
 pub mod Valuing

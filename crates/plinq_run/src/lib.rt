@@ -9,6 +9,7 @@
 //! - The records that it reports are a legal history of the source, which was closed unless the query is decided. What
 //!   they hand out has the answer that was delivered (`handed_trace`).
 //! - [`aggregate`] reports the value of such an answer's items, or how that answer ended otherwise (`AggregatesSome`).
+//! - [`fold_into`] gives a taker the accumulators of the parts of such an answer as their turn comes (`GivesSome`).
 //! - [`fold_sequentially`] folds the sequential answer as its items come, and keeps none (`HasFinished`).
 //! - Workers send results of chunks of the source as they are, or for an aggregate with nothing after the merge the fold of
 //!   each in its place (`IsPart` of `plinq_crew`).
@@ -24,9 +25,11 @@ mod combined;
 mod coverage;
 mod finishing;
 mod fold;
+mod fold_blocks;
 mod folding;
 pub mod laws;
 mod merging;
+mod parting;
 mod planning;
 mod report;
 mod run_fault;
@@ -40,6 +43,7 @@ pub use aggregate_fault::AggregateFault;
 pub use aggregating::aggregate;
 pub use cancelling::run_with;
 pub use combined::Combined;
+pub use parting::fold_into;
 pub use plinq_crew::{Gate, OpenGate};
 pub use report::Report;
 pub use run_fault::RunFault;

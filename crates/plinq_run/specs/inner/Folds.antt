@@ -1,7 +1,6 @@
 -- Folds of results: accumulators in the place of items.
-use Rattle.std.specs.Prelude.{◌≡◌, refl, pos, List, [], ◌∷◌, ◌++◌, ⊤}
+use Rattle.std.specs.Prelude.{◌≡◌, refl, pos, List, [], ◌∷◌, ⊤}
 use Rattle.std.specs.List.{fold}
-use Rattle.plinq_source.specs.Trace.{Trace}
 use Rattle.plinq_aggregate.specs.Folding.{Folding, folded}
 use Rattle.plinq_aggregate.specs.Numbers.{counting}
 use Rattle.plinq_ops.specs.declared.results.ChunkResult.{ChunkResult}
@@ -25,15 +24,6 @@ module _ {T A O : Type 0} (f : Folding T A O) where
   AreFoldsOf [] (c ∷ cs) = ⊥
   AreFoldsOf (r ∷ rs) [] = ⊥
   AreFoldsOf (r ∷ rs) (c ∷ cs) = IsFoldOf r c × AreFoldsOf rs cs
-
-  -- accumulators stand for items: combined after those of any others, they are that of all
-  abbrev pub StandFor : List T → List A → Type 0
-  StandFor xs accs = (before : List T) → fold f.combine (folded f before) accs ≡ folded f (before ++ xs)
-
-  -- a trace of accumulators stands for one of items, and ends so
-  pub record IsFolded (t : Trace T) (u : Trace A) : Type 0 where
-    pub items : StandFor t.items u.items
-    pub ending : u.ending ≡ t.ending
 
 -- ---- worked rows
 

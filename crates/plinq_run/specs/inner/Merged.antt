@@ -12,7 +12,6 @@ use Rattle.plinq_ops.specs.declared.results.ChunkResult.{ChunkResult}
 use Rattle.plinq_ops.specs.Batches.{batch_size}
 use Rattle.plinq_ops.specs.Operator.{stages_of}
 use Rattle.plinq_merge.specs.declared.delivery_fault.DeliveryFault.{DeliveryFault}
-use Rattle.plinq_merge.specs.declared.delivery_fault.DeliveryFault.TheVariants.{Memory as NoMemory, Sink as Refusal}
 use Rattle.plinq_merge.specs.declared.joined.Joined.{Joined}
 use Rattle.plinq_merge.specs.declared.joiner.Joiner.{Joiner}
 use Rattle.plinq_merge.specs.declared.merge_fault.MergeFault.{MergeFault}
@@ -32,7 +31,8 @@ use Rattle.plinq_run.specs.declared.merging.Merging.{Merging}
 use Rattle.plinq_run.specs.declared.merging.MergingInto.{MergingInto}
 use Rattle.plinq_run.specs.declared.run_fault.RunFault.{RunFault}
 use Rattle.plinq_run.specs.inner.Reaching.{IsOffered, Grows, Reaches}
-use Rattle.plinq_run.specs.Runs.{Cause, SinkRefused, Other, cause_of}
+use Rattle.plinq_run.specs.Parting.{Breaks}
+use Rattle.plinq_run.specs.Runs.{cause_of}
 
 -- what the results of this plan's workers are merged by
 abbrev pub merge_for : {L T : Type 0} → (L → Meaning T) → Plan L → MergeOption → Merge T
@@ -42,13 +42,6 @@ merge_for meaning plan option = record { after = stages_of meaning plan.after.no
 abbrev pub offer_fault : Result More MergeFault → Option MergeFault
 offer_fault (Ok more) = None
 offer_fault (Err fault) = Some fault
-
--- what a trace that was taken says of why a run breaks off: what ended or ran out of memory has another cause than a sink
-abbrev pub Breaks : Result (Option Ending) DeliveryFault → Cause → Type 0
-Breaks (Ok None) cause = ⊥
-Breaks (Ok (Some e)) cause = cause ≡ Other
-Breaks (Err NoMemory) cause = cause ≡ Other
-Breaks (Err (Refusal code)) cause = cause ≡ SinkRefused code
 
 -- the same joiner is lent, and the same place where its taker puts things
 pub record AreSame {W T O : Type 0} (m m' : MergingInto W T O) : Type 0 where

@@ -1,0 +1,2 @@
+mod MadeOf
+mod Parts

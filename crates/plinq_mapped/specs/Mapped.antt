@@ -1,0 +1,35 @@
+-- An answer with what is made of each item in its place.
+use Rattle.std.specs.Prelude.{◌≡◌, refl, ℕ, ◌+◌, ◌==◌, if◌then◌else◌, List, [], ◌∷◌, Option, Some, None, Result, Ok, Err}
+use Rattle.plinq_source.specs.declared.ending.Ending.{Ending}
+use Rattle.plinq_source.specs.declared.ending.Ending.TheVariants.{End, Refused, Fault}
+use Rattle.plinq_source.specs.Trace.{Trace, ended}
+use Rattle.plinq_groups.specs.Mapping.{mapped}
+use Rattle.plinq_ops.specs.declared.merge_option.MergeOption.{MergeOption}
+use Rattle.plinq_run.specs.declared.run_fault.RunFault.{RunFault}
+use Rattle.plinq_run.specs.Runs.{Runs}
+
+-- what was made, and then the fault of the item after it of which nothing can be made; else this ending
+abbrev pub trace_at : {B : Type 0} → List B → Option ℕ → Option Ending → Trace B
+trace_at ys None e = record { items = ys; ending = e }
+trace_at ys (Some code) e = ended ys (Fault code)
+
+-- What is made of an answer's items, up to the first of which nothing can be made: its code is the fault that ends the answer.
+-- Where something can be made of each, the answer ends as before.
+abbrev pub made_of : {T B : Type 0} → (T → Result B ℕ) → Trace T → Trace B
+made_of makes u = trace_at (mapped makes u.items).0 (mapped makes u.items).1 u.ending
+
+-- what a mapped run delivers: what is made of one of these answers
+abbrev pub RunsMadeOf : {K T B : Type 0} → (K → List B → K → Type 0) → (K → List B → ℕ → K → Type 0) → MergeOption → (T → Result B ℕ) → (Trace T → Type 0) → K → K → Result Ending RunFault → Type 0
+RunsMadeOf {K} {T} accepts refuses option makes IsAnswer s s' r = (u : Trace T) × (IsAnswer u) × Runs accepts refuses option (made_of makes u) s s' r
+
+-- ---- worked rows
+
+-- one more than each, of all but 3
+abbrev one_more : ℕ → Result ℕ ℕ
+one_more n = if n == 3 then Err 7 else Ok (n + 1)
+
+all_are_made : made_of one_more (ended (5 ∷ 1 ∷ []) (Refused 9)) ≡ ended (6 ∷ 2 ∷ []) (Refused 9)
+all_are_made = refl
+
+made_up_to_a_fault : made_of one_more (ended (5 ∷ 3 ∷ 1 ∷ 3 ∷ []) End) ≡ ended (6 ∷ []) (Fault 7)
+made_up_to_a_fault = refl

@@ -1,0 +1,151 @@
+-- A taker that was given the accumulators of what was merged was given those of an answer.
+use Rattle.std.specs.Prelude.{◌≡◌, ◌≤◌, ◌^◌, List, [], length, Bool, true, false, not, ◌&&◌, Option, Some, None, Result, Ok, Err, All, refl}
+use Rattle.std.specs.List.{list_any}
+use Rattle.std.specs.Option.{option_or}
+use Rattle.std.proofs.Common.{sym, ◌∙◌, ap, subst}
+use Rattle.std.proofs.lemmas.List.Elements.{All-weaker}
+use Rattle.plinq_source.specs.declared.ending.Ending.{Ending}
+use Rattle.plinq_source.specs.declared.ending.Ending.TheVariants.{End}
+use Rattle.plinq_source.specs.declared.source.Source.{Ghosts as SourceGhosts}
+use Rattle.plinq_source.specs.Trace.{Trace, open_trace, followed, ended}
+use Rattle.plinq_lambda.specs.Meaning.{Meaning}
+use Rattle.plinq_aggregate.specs.Folding.{Folding, IsFolding}
+use Rattle.plinq_ops.specs.declared.op.Op.{Op}
+use Rattle.plinq_ops.specs.declared.plan.Plan.{Plan}
+use Rattle.plinq_ops.specs.declared.results.ChunkResult.{ChunkResult}
+use Rattle.plinq_ops.specs.Answer.{MayAnswer}
+use Rattle.plinq_ops.specs.Feeding.{IsFed, is_empty_take}
+use Rattle.plinq_ops.specs.Operator.{stages_of}
+use Rattle.plinq_ops.specs.Pipeline.{IsReached, stages}
+use Rattle.plinq_ops.specs.Stage.{Stage, seq, seq_after, some_takes_none}
+use Rattle.plinq_ops.proofs.Answered.{answer-of_none}
+use Rattle.plinq_ops.proofs.ByKey.{stages-begun}
+use Rattle.plinq_ops.proofs.Counts.{some_takes_none-stages_of}
+use Rattle.plinq_ops.proofs.Fed.{undecided-left}
+use Rattle.plinq_ops.proofs.Stages.{seq-followed}
+use Rattle.plinq_merge.specs.declared.delivery_fault.DeliveryFault.{DeliveryFault}
+use Rattle.plinq_merge.specs.declared.delivery_fault.DeliveryFault.TheVariants.{Memory}
+use Rattle.plinq_merge.specs.Shown.{merged}
+use Rattle.plinq_merge.specs.Taking.{IsTaking}
+use Rattle.plinq_merge.specs.Whole.{AreApart}
+use Rattle.plinq_crew.specs.Plans.{IsUndecided}
+use Rattle.plinq_crew.specs.Results.{IsResult, IsPart}
+use Rattle.plinq_run.specs.declared.fold_blocks.FoldBlocks.{FoldBlocks}
+use Rattle.plinq_run.specs.declared.planning.Ended.{Ended}
+use Rattle.plinq_run.specs.declared.run_fault.RunFault.{RunFault}
+use Rattle.plinq_run.specs.Parting.{Breaks, IsFolded, WasGiven, GivesSome}
+use Rattle.plinq_run.specs.Runs.{Cause, Other, cause_of}
+use Rattle.plinq_run.specs.inner.Blocks.{can_fold, Passes, MadeBy}
+use Rattle.plinq_run.specs.inner.Folds.{IsFoldOf}
+use Rattle.plinq_run.specs.inner.Merged.{HasEnded, HasBrokenOff}
+use Rattle.plinq_run.specs.inner.Plans.{merged_answer, MayMerge}
+use Rattle.plinq_run.specs.inner.Reaching.{IsOffered}
+use Rattle.plinq_run.specs.inner.Standing.{IsOver, given-none, given-past}
+use Rattle.plinq_run.proofs.Ended.{merged-may, may-sequential}
+use Rattle.plinq_run.proofs.Folds.{merged-folded}
+use Rattle.plinq_run.proofs.Runs.{begun-in}
+use Rattle.plinq_run.proofs.Unfolded.{folds-apart, unfolded}
+
+breaks-over : (how : Result (Option Ending) DeliveryFault) (cause : Cause) → Breaks how cause → IsOver how
+breaks-over (Ok None) cause breaks = breaks
+breaks-over (Ok (Some e)) cause breaks = tt
+breaks-over (Err fault) cause breaks = tt
+
+-- what is so of answers to some is so of answers to more
+pub gives-weaker : {T A U W O : Type 0} (f : Folding T A U) (made : W → O → Trace A → Result (Option Ending) DeliveryFault → W → O → Type 0) (P Q : Trace T → Type 0) (a : W) (x : O) (r : Result Ending RunFault) (y : O)
+    → ((u : Trace T) → P u → Q u) → GivesSome f made P a x r y → GivesSome f made Q a x r y
+gives-weaker f made P Q a x (Ok e) y on h = (h.0, on h.0 h.1, h.2)
+gives-weaker f made P Q a x (Err fault) y on h = (h.0, on h.0 h.1, h.2, h.3, h.4)
+
+-- a decided query answers nothing
+pub decided-may : {L T : Type 0} (meaning : L → Meaning T) (ordered : Bool) (ops : List (Op L)) (t u : Trace T) → list_any is_empty_take ops ≡ true → u ≡ ended [] End → MayAnswer meaning ordered ops t u
+decided-may meaning ordered ops t u some is =
+    subst (MayAnswer meaning ordered ops t) (answer-of_none (stages_of meaning ops) t (sym (some_takes_none-stages_of meaning ops) ∙ some) ∙ sym is) (may-sequential meaning ordered ops t)
+
+-- a taker that can take gets to fold the blocks of operators that have seen nothing
+pub begun-folds : {L T F W : Type 0} (meaning : L → Meaning T) (can_take : W → Bool) (d : FoldBlocks L F W) (ops : List (Op L)) → IsReached meaning ops 0 d.pipeline → list_any is_empty_take ops ≡ false → can_take d.inner ≡ true
+    → can_fold meaning can_take d ≡ true
+begun-folds meaning can_take d ops reached some can =
+    let undecided : some_takes_none (stages meaning d.pipeline) ≡ false = ap some_takes_none (stages-begun meaning ops d.pipeline reached) ∙ sym (some_takes_none-stages_of meaning ops) ∙ some in
+    ap (λ b. not b && can_take d.inner) undecided ∙ can
+
+-- and so where the answer is open after items that were fed
+pub still-folds : {L T F W : Type 0} (meaning : L → Meaning T) (can_take : W → Bool) (d : FoldBlocks L F W) (ss : List (Stage T)) (xs out : List T) (fed told : Option Ending) → IsFed ss (open_trace xs) [] out (stages meaning d.pipeline) fed
+    → option_or fed told ≡ None → can_take d.inner ≡ true → can_fold meaning can_take d ≡ true
+still-folds meaning can_take d ss xs out None told is is_open can =
+    ap (λ b. not b && can_take d.inner) (undecided-left ss (stages meaning d.pipeline) (open_trace xs) [] out is) ∙ can
+still-folds meaning can_take d ss xs out (Some e) told is is_open can = absurd (cc)
+
+module _ {L T A U W O : Type 0} (f : Folding T A U) (lawful : IsFolding f) (made : W → O → Trace A → Result (Option Ending) DeliveryFault → W → O → Type 0) (taking : IsTaking made)
+    (meaning : L → Meaning T) (plan : Plan L) (t : Trace T) (few : length t.items ≤ 2 ^ 40) (undecided : IsUndecided plan) where
+  -- a run that ends before anything was offered
+  pub none-given : (a : W) (x : O) (fault : RunFault) → cause_of fault ≡ Other → GivesSome f made (MayMerge meaning plan t) a x (Err fault) x
+  none-given a x fault is =
+      let u : Trace T = merged_answer meaning plan t in
+      (u, merged-may meaning plan t, Err Memory, given-none f lawful made taking u a x, is)
+
+  -- what was given of the answer to the results is how an answer of the source begins
+  given-some : (how : Result (Option Ending) DeliveryFault) (a : W) (x y : O) (results : List (ChunkResult T)) → All (IsResult meaning plan t) results → AreApart results → IsOver how
+      → WasGiven f made (seq (stages_of meaning plan.after.now) (merged plan.order results)) a x how y → (u : Trace T) × (MayMerge meaning plan t u) × WasGiven f made u a x how y
+  given-some how a x y results are apart over given =
+      let begun = begun-in meaning plan t plan.order refl few undecided results are apart in
+      let ss : List (Stage T) = stages_of meaning plan.after.now in
+      let first : Trace T = merged plan.order results in
+      let rest : Trace T = seq (seq_after ss first) begun.rest in
+      let u : Trace T = merged_answer meaning plan begun.taken in
+      let same : u ≡ followed (seq ss first) rest = ap (seq ss) begun.is ∙ seq-followed ss first begun.rest in (
+        u,
+        record { taken = begun.taken; may = begun.may; is = refl },
+        subst (λ v. WasGiven f made v a x how y) (sym same) (given-past f lawful made taking how (seq ss first) a x y rest over given),
+      )
+
+  -- workers that fold
+  module _ (alone : plan.after.now ≡ []) where
+    chunks-some : (how : Result (Option Ending) DeliveryFault) (a : W) (x : O) (cs : List (ChunkResult A)) (b : W) (y : O) → All (IsPart meaning (IsFoldOf f) plan t) cs → AreApart cs → IsOver how
+        → made a x (merged plan.order cs) how b y → (u : Trace T) × (MayMerge meaning plan t u) × WasGiven f made u a x how y
+    chunks-some how a x cs b y are apart over is =
+        let un = unfolded f meaning plan t cs are in
+        given-some how a x y un.results un.are (folds-apart f un.results cs un.folds apart) over
+        (record {
+          parts = merged plan.order cs;
+          folds = subst (λ ops. IsFolded f (seq (stages_of meaning ops) (merged plan.order un.results)) (merged plan.order cs)) (sym alone) (merged-folded f lawful plan.order un.results cs un.folds);
+          last = b;
+          taken = is;
+        })
+
+    pub chunks-ended : {S V : Type 0} {source : SourceGhosts S V} (ended : Ended S W V source) (a : W) (x y : O) → HasEnded made (IsPart meaning (IsFoldOf f) plan t) plan.order a x ended y
+        → GivesSome f made (MayMerge meaning plan t) a x (Ok ended.joined.ending) y
+    chunks-ended ended a x y h =
+        let P : ChunkResult A → Type 0 = IsPart meaning (IsFoldOf f) plan t in
+        chunks-some (Ok (Some ended.joined.ending)) a x h.offers ended.joined.taker y (All-weaker (IsOffered P ended.coverage) P (λ c z. z.0) h.offers h.are) h.apart tt h.taken
+
+    pub chunks-broken : (fault : RunFault) (a : W) (x y : O) → HasBrokenOff made (IsPart meaning (IsFoldOf f) plan t) plan.order a x fault y → GivesSome f made (MayMerge meaning plan t) a x (Err fault) y
+    chunks-broken fault a x y h =
+        let some = chunks-some h.how a x h.offers h.last y h.are h.apart (breaks-over h.how (cause_of fault) h.breaks) h.taken in
+        (some.0, some.1, h.how, some.2, h.breaks)
+
+  -- the caller's thread folds what leaves the operators after the merge
+  module _ {F : Type 0} (folding : F → Folding T A U) (P : ChunkResult T → Type 0) (plain : (r : ChunkResult T) → P r → IsResult meaning plan t r) (first : FoldBlocks L F W)
+      (same : folding first.aggregator.now ≡ f) (begun : stages meaning first.pipeline ≡ stages_of meaning plan.after.now) where
+    passes-over : (g : Folding T A U) (how : Result (Option Ending) DeliveryFault) (now now' : List (Stage T)) (a : W) (x : O) (v : Trace T) (b : W) (y : O) → IsOver how → Passes g made now a x v how now' b y → WasGiven g made (seq now v) a x how y
+    passes-over g (Ok None) now now' a x v b y over is = absurd over
+    passes-over g (Ok (Some e)) now now' a x v b y over is = is
+    passes-over g (Err fault) now now' a x v b y over is = is
+
+    blocks-some : (how : Result (Option Ending) DeliveryFault) (x : O) (rs : List (ChunkResult T)) (last : FoldBlocks L F W) (y : O) → All P rs → AreApart rs → IsOver how
+        → MadeBy meaning folding made first x (merged plan.order rs) how last y → (u : Trace T) × (MayMerge meaning plan t u) × WasGiven f made u first.inner x how y
+    blocks-some how x rs last y are apart over is =
+        let passes = passes-over (folding first.aggregator.now) how (stages meaning first.pipeline) (stages meaning last.pipeline) first.inner x (merged plan.order rs) last.inner y over is.passes in
+        given-some how first.inner x y rs (All-weaker P (IsResult meaning plan t) plain rs are) apart over
+        (subst (λ g. WasGiven g made (seq (stages_of meaning plan.after.now) (merged plan.order rs)) first.inner x how y) same
+        (subst (λ ss. WasGiven (folding first.aggregator.now) made (seq ss (merged plan.order rs)) first.inner x how y) begun passes))
+
+    pub blocks-ended : {S V : Type 0} {source : SourceGhosts S V} (ended : Ended S (FoldBlocks L F W) V source) (x y : O) → HasEnded (MadeBy meaning folding made) P plan.order first x ended y
+        → GivesSome f made (MayMerge meaning plan t) first.inner x (Ok ended.joined.ending) y
+    blocks-ended ended x y h =
+        blocks-some (Ok (Some ended.joined.ending)) x h.offers ended.joined.taker y (All-weaker (IsOffered P ended.coverage) P (λ c z. z.0) h.offers h.are) h.apart tt h.taken
+
+    pub blocks-broken : (fault : RunFault) (x y : O) → HasBrokenOff (MadeBy meaning folding made) P plan.order first x fault y → GivesSome f made (MayMerge meaning plan t) first.inner x (Err fault) y
+    blocks-broken fault x y h =
+        let some = blocks-some h.how x h.offers h.last y h.are h.apart (breaks-over h.how (cause_of fault) h.breaks) h.taken in
+        (some.0, some.1, h.how, some.2, h.breaks)

@@ -1,0 +1,190 @@
+//! A run whose workers fold, and whose accumulators go to a taker as their turn comes.
+ghost use Rattle.std.specs.Prelude.{◌≡◌, ◌≤◌, [], true};
+ghost use Rattle.plinq_source.specs.Trace.{ended};
+ghost use Rattle.plinq_source.specs.declared.ending.Ending.TheVariants.{End};
+ghost use Rattle.plinq_crew.specs.Plans.{IsUndecided};
+ghost use Rattle.plinq_ops.specs.Answer.{MayAnswer};
+ghost use Rattle.plinq_run.specs.Parting.{GivesSome};
+ghost use Rattle.plinq_run.specs.inner.Plans.{MayMerge};
+
+use crate::fold_blocks::FoldBlocks;
+use crate::planning::{Conducted, Ended, conduct_plan};
+use crate::run_fault::RunFault;
+use crate::tasks::{FoldChunks, Unchanged};
+use crate::window::progress_of;
+use plinq_aggregate::GrowingAggregator;
+use plinq_crew::Gate;
+use plinq_enumerator::Growth;
+use plinq_lambda::SharedLambda;
+use plinq_merge::{DeliveryFault, TakeInto, Taker};
+use plinq_ops::{Pipeline, Plan, Query};
+use plinq_source::{Ending, Source};
+use std::alloc::Global;
+use std::marker::Brand;
+use std::sync::Wait;
+use std::thread::Threads;
+
+/// Gives a taker the answer of no items, which ends well.
+fn hand_nothing<A, W, O>(
+    alloc: Global,
+    _aggregator: &A,
+    taker: W,
+    out: &mut O,
+) -> Result<Ending, RunFault>
+where
+    A: GrowingAggregator,
+    W: Taker<Item = A::Acc> + TakeInto<O>,
+    requires takes { W.can_take taker ≡ true }
+    ensures { GivesSome (A.folding _aggregator.now) W.made (λ u. u ≡ ended [] End) taker out.old result out.new }
+{
+    let mut taker = taker;
+    match taker.take(Vec::new(alloc), Some(Ending::End), out) {
+        Ok(Some(ending)) => Ok(ending),
+        Ok(None) => unreachable!(),
+        Err(DeliveryFault::Memory) => Err(RunFault::Memory),
+        Err(DeliveryFault::Sink(code)) => Err(RunFault::Sink(code)),
+    }
+}
+
+/// Runs a plan that isn't decided and has no operator after the merge: its workers fold, and the taker is given an accumulator
+/// for each of their chunks.
+fn fold_chunks_into<'x, L, S, G, A, W, O, R>(
+    rt: &R,
+    alloc: Global,
+    plan: &Plan<'_, L>,
+    workers: u64,
+    source: S,
+    growth: Growth,
+    gate: &'x G,
+    aggregator: &'x A,
+    taker: W,
+    out: &mut O,
+) -> Result<Ending, RunFault>
+where
+    L: SharedLambda,
+    S: Source<Item = L::Item>,
+    G: Gate,
+    A: GrowingAggregator<Item = L::Item>,
+    W: Taker<Item = A::Acc> + TakeInto<O>,
+    R: Threads + Wait + Sync,
+    requires unasked { S.given source ≡ 0 }
+    requires plan { IsUndecided plan.now }
+    requires alone { plan.now.after.now ≡ [] }
+    requires workers { (1 ≤ workers) × (workers ≤ 64) }
+    requires takes { W.can_take taker ≡ true }
+    ensures { GivesSome (A.folding aggregator.now) W.made (MayMerge L.meaning plan.now (S.whole source)) taker out.old result out.new }
+{
+    let progress = progress_of::<L::Item, G, R>(rt, gate, plan.order, workers, growth);
+    let task = FoldChunks { aggregator, gate };
+    let conducted = conduct_plan::<Brand, L, S, FoldChunks<'_, A, G>, W, O, R>(
+        rt, alloc, &*plan, workers, source, growth, &progress, &task, taker, out,
+    )?;
+    let Conducted { ended, .. } = conducted;
+    let Ended { joined, .. } = ended;
+    Ok(joined.ending)
+}
+
+/// Runs a plan that isn't decided: the caller's thread folds what leaves the operators after the merge, and the taker is given
+/// an accumulator for each block of it.
+fn fold_blocks_into<L, S, G, A, W, O, R>(
+    rt: &R,
+    alloc: Global,
+    plan: &Plan<'_, L>,
+    workers: u64,
+    source: S,
+    growth: Growth,
+    gate: &G,
+    aggregator: &A,
+    taker: W,
+    out: &mut O,
+) -> Result<Ending, RunFault>
+where
+    L: SharedLambda,
+    S: Source<Item = L::Item>,
+    G: Gate,
+    A: GrowingAggregator<Item = L::Item>,
+    W: Taker<Item = A::Acc> + TakeInto<O>,
+    R: Threads + Wait + Sync,
+    requires unasked { S.given source ≡ 0 }
+    requires plan { IsUndecided plan.now }
+    requires workers { (1 ≤ workers) × (workers ≤ 64) }
+    requires takes { W.can_take taker ≡ true }
+    ensures { GivesSome (A.folding aggregator.now) W.made (MayMerge L.meaning plan.now (S.whole source)) taker out.old result out.new }
+{
+    let Ok(pipeline) = Pipeline::new(alloc, plan.after) else {
+        return Err(RunFault::Memory);
+    };
+    let blocks = FoldBlocks {
+        alloc,
+        pipeline,
+        aggregator,
+        inner: taker,
+    };
+    let progress = progress_of::<L::Item, G, R>(rt, gate, plan.order, workers, growth);
+    let task = Unchanged { gate };
+    let conducted = conduct_plan::<
+        Brand,
+        L,
+        S,
+        Unchanged<'_, G>,
+        FoldBlocks<'_, '_, L, A, W>,
+        O,
+        R,
+    >(
+        rt, alloc, plan, workers, source, growth, &progress, &task, blocks, out,
+    )?;
+    let Conducted { ended, .. } = conducted;
+    let Ended { joined, .. } = ended;
+    Ok(joined.ending)
+}
+
+/// Folds the parts of a query's answer, and gives the accumulators to a taker as their turn comes. It is what a last step of
+/// one's own stands on, as `run_mapped` of `plinq_mapped`.
+///
+/// Where all operators are the workers' own, each of them folds its chunks' results from the seed; where operators stand after
+/// the merge, the caller's thread folds each block that leaves these. The taker gets the accumulators on the caller's thread, by
+/// key, or without `as_ordered` as they come. Of a decided query it gets none, and its ending.
+///
+/// # Errors
+///
+/// As [`run`](crate::run); [`RunFault::Sink`] with the code with which the taker broke off.
+///
+/// ```text
+/// let ending = fold_into(&rt, alloc, &query, source, Growth::DEFAULT, &OpenGate, &aggregator, taker, &mut out)?;
+/// ```
+pub fn fold_into<L, S, G, A, W, O, R>(
+    rt: &R,
+    alloc: Global,
+    query: &Query<L>,
+    source: S,
+    growth: Growth,
+    gate: &G,
+    aggregator: &A,
+    taker: W,
+    out: &mut O,
+) -> Result<Ending, RunFault>
+where
+    L: SharedLambda,
+    S: Source<Item = L::Item>,
+    G: Gate,
+    A: GrowingAggregator<Item = L::Item>,
+    W: Taker<Item = A::Acc> + TakeInto<O>,
+    R: Threads + Wait + Sync,
+    requires unasked { S.given source ≡ 0 }
+    requires takes { W.can_take taker ≡ true }
+    ensures { GivesSome (A.folding aggregator.now) W.made (MayAnswer L.meaning query.now.ordered query.now.ops (S.whole source)) taker out.old result out.new }
+{
+    let plan = query.split();
+    if plan.decided {
+        return hand_nothing(alloc, aggregator, taker, out);
+    }
+    let workers = query.degree();
+    if plan.after.is_empty() {
+        return fold_chunks_into(
+            rt, alloc, &plan, workers, source, growth, gate, aggregator, taker, out,
+        );
+    }
+    fold_blocks_into(
+        rt, alloc, &plan, workers, source, growth, gate, aggregator, taker, out,
+    )
+}
