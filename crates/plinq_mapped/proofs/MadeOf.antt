@@ -18,7 +18,7 @@ use Rattle.plinq_run.specs.declared.run_fault.RunFault.{RunFault}
 use Rattle.plinq_run.specs.Parting.{Breaks, IsFolded, WasGiven, GivesSome}
 use Rattle.plinq_run.specs.Runs.{Cause, cause_of, BreaksFor, Runs}
 use Rattle.plinq_mapped.specs.declared.deliver_made.DeliverMade.{DeliverMade}
-use Rattle.plinq_mapped.specs.Making.{parts_joined, Gives, MadeBy}
+use Rattle.plinq_mapped.specs.inner.Making.{parts_joined, Gives, MadeBy}
 use Rattle.plinq_mapped.specs.Mapped.{trace_at, made_of, RunsMadeOf}
 
 one-joined : {B : Type 0} (ys zs : List B) (o : Option ℕ) → followed (open_trace ys) (trace_at zs o None) ≡ trace_at (ys ++ zs) o None

@@ -2,7 +2,7 @@ ghost use Rattle.std.specs.Prelude.{◌≡◌, [], ◌∷◌, true, Ok, None, le
 ghost use Rattle.plinq_source.specs.Trace.{open_trace, ended};
 ghost use Rattle.plinq_ops.specs.Batches.{batch_size, is_full};
 ghost use Rattle.plinq_merge.specs.Sending.{Delivers};
-ghost use Rattle.plinq_mapped.specs.Making.{Gives, DeliversOr, MadeBy, made-lawful};
+ghost use Rattle.plinq_mapped.specs.inner.Making.{Gives, DeliversOr, MadeBy, made-lawful};
 
 use plinq_groups::Mapped;
 use plinq_merge::{DeliveryFault, Sink, TakeInto, Taker};
