@@ -9,7 +9,6 @@ use plinq_ops::{BuildFault, Query};
 use plinq_run::{OpenGate, aggregate};
 use plinq_source::ListSource;
 use std::alloc::{AllocError, Global};
-use std::hash::Hash;
 use std::process::Abort;
 use std::sync::Wait;
 use std::test::*;
@@ -74,54 +73,32 @@ fn groups_of<F: KeyOf<Item = i64>, R: Threads + Wait + Sync + Abort>(
     Ok(groups)
 }
 
-/// At which place the group of this key stands, if there is one.
-fn place_of<K: Eq>(groups: &[(K, Vec<i64>)], own: &K) -> Option<usize> {
-    for (at, group) in groups.iter().enumerate() {
-        if group.0 == *own {
-            return Some(at);
-        }
-    }
-    None
+/// Which of the numbers have a key: how many, their sum, where the first stands, and whether they are these in this order.
+#[derive(Clone, Copy)]
+struct OfKey {
+    count: usize,
+    sum: i64,
+    first: usize,
+    are_in_order: bool,
 }
 
-/// The groups of a plain loop.
-fn by_loop<F: KeyOf<Item = i64>>(
-    alloc: Global,
-    numbers: &[i64],
-    key: F,
-) -> Result<Vec<(F::Key, Vec<i64>)>, Fail> {
-    let mut groups: Vec<(F::Key, Vec<i64>)> = Vec::new(alloc);
-    for number in numbers {
-        let own = key.key_of(*number);
-        let at = match place_of(&groups, &own) {
-            Some(at) => at,
-            None => {
-                let last = groups.len();
-                groups.push((own, Vec::new(alloc)))?;
-                last
-            }
-        };
-        if let Some(group) = groups.get_mut(at) {
-            group.1.push(*number)?;
+fn of_key<F: KeyOf<Item = i64>>(numbers: &[i64], key: F, own: &F::Key, items: &[i64]) -> OfKey {
+    let mut told = OfKey {
+        count: 0,
+        sum: 0,
+        first: numbers.len(),
+        are_in_order: true,
+    };
+    let mut left = items.iter();
+    for (at, number) in numbers.iter().enumerate() {
+        if key.key_of(*number) == *own {
+            told.count = told.count.wrapping_add(1);
+            told.sum = told.sum.wrapping_add(*number);
+            told.first = told.first.min(at);
+            told.are_in_order = left.next() == Some(number) && told.are_in_order;
         }
     }
-    Ok(groups)
-}
-
-fn are_in_order<K: Eq + Hash>(
-    rt: &impl Abort,
-    groups: &Groups<K, Items<i64>>,
-    expected: &[(K, Vec<i64>)],
-) {
-    let map = groups.as_map();
-    assert_eq!(rt; map.len(), expected.len());
-    for (at, group) in expected.iter().enumerate() {
-        let Some((key, items)) = map.get_index(at) else {
-            panic!(rt; "a group is missing");
-        };
-        assert!(rt; *key == group.0);
-        assert_eq!(rt; items.as_slice(), group.1.as_slice());
-    }
+    told
 }
 
 fn sum_of(items: &[i64]) -> i64 {
@@ -132,20 +109,30 @@ fn sum_of(items: &[i64]) -> i64 {
     sum
 }
 
-fn are_in_any_order<K: Eq + Hash>(
+/// Asks that groups are those of numbers: each has all numbers of its key, and each number is in one. Where they are ordered,
+/// the items of each are in order, and so are the groups by their first items.
+fn are_groups_of<F: KeyOf<Item = i64> + Copy>(
     rt: &impl Abort,
-    groups: &Groups<K, Items<i64>>,
-    expected: &[(K, Vec<i64>)],
+    groups: &Groups<F::Key, Items<i64>>,
+    numbers: &[i64],
+    key: F,
+    is_ordered: bool,
 ) {
     let map = groups.as_map();
-    assert_eq!(rt; map.len(), expected.len());
-    for group in expected {
-        let Some(items) = map.get(&group.0) else {
+    let mut count: usize = 0;
+    let mut last: usize = 0;
+    for at in 0..map.len() {
+        let Some((own, items)) = map.get_index(at) else {
             panic!(rt; "a group is missing");
         };
-        assert_eq!(rt; items.as_slice().len(), group.1.len());
-        assert_eq!(rt; sum_of(items.as_slice()), sum_of(group.1.as_slice()));
+        let told = of_key(numbers, key, own, items.as_slice());
+        assert!(rt; told.count > 0 && told.count == items.as_slice().len());
+        assert!(rt; told.sum == sum_of(items.as_slice()));
+        assert!(rt; !is_ordered || told.are_in_order && (at == 0 || last < told.first));
+        count = count.wrapping_add(told.count);
+        last = told.first;
     }
+    assert!(rt; count == numbers.len());
 }
 
 fn ask<F: KeyOf<Item = i64> + Copy, R: Threads + Wait + Sync + Abort>(
@@ -158,11 +145,32 @@ fn ask<F: KeyOf<Item = i64> + Copy, R: Threads + Wait + Sync + Abort>(
     let groups = groups_of(rt, alloc, count, setting, key)?;
     let all = numbers(rt, alloc, count)?;
     let first = usize::from(setting.first.unwrap_or(1_000)).min(all.len());
-    let expected = by_loop(alloc, &all[..first], key)?;
-    if setting.is_ordered {
-        are_in_order(rt, &groups, &expected);
-    } else {
-        are_in_any_order(rt, &groups, &expected);
+    are_groups_of(rt, &groups, &all[..first], key, setting.is_ordered);
+    Ok(())
+}
+
+/// All numbers, in order and not, and the first of them.
+fn ask_each<F: KeyOf<Item = i64> + Copy, R: Threads + Wait + Sync + Abort>(
+    rt: &R,
+    alloc: Global,
+    workers: u64,
+    growth: Growth,
+    key: F,
+) -> Result<(), Fail> {
+    for (count, is_ordered, first) in [
+        (0, true, None),
+        (0, false, None),
+        (200, true, None),
+        (200, false, None),
+        (200, true, Some(77)),
+    ] {
+        let setting = Setting {
+            workers,
+            growth,
+            is_ordered,
+            first,
+        };
+        ask(rt, alloc, count, &setting, key)?;
     }
     Ok(())
 }
@@ -172,26 +180,10 @@ fn ask_in_all_ways<F: KeyOf<Item = i64> + Copy, R: Threads + Wait + Sync + Abort
     alloc: Global,
     key: F,
 ) -> Result<(), Fail> {
+    let large = Growth::new(1, 3, 32)?;
     for workers in [1, 2, 8, 64] {
-        for growth in [Growth::ONE, Growth::new(1, 3, 32)?] {
-            for is_ordered in [true, false] {
-                let setting = Setting {
-                    workers,
-                    growth,
-                    is_ordered,
-                    first: None,
-                };
-                ask(rt, alloc, 0, &setting, key)?;
-                ask(rt, alloc, 200, &setting, key)?;
-            }
-            let setting = Setting {
-                workers,
-                growth,
-                is_ordered: true,
-                first: Some(77),
-            };
-            ask(rt, alloc, 200, &setting, key)?;
-        }
+        ask_each(rt, alloc, workers, Growth::ONE, key)?;
+        ask_each(rt, alloc, workers, large, key)?;
     }
     Ok(())
 }
