@@ -1,4 +1,5 @@
-//! The tests of what stands below partitions: sources, formulas, aggregators, keys, enumerators and the lock.
+//! The tests of what stands below partitions, of what no contract says: sources, formulas, aggregators, keys, enumerators, the
+//! lock, and beside them streams.
 //!
 //! They stand in a crate of their own, since a crate with tests is proved twice.
 #![tactic(auto)]
@@ -11,6 +12,8 @@ mod asked;
 mod enumerators;
 #[cfg(test)]
 mod formulas;
+#[cfg(test)]
+mod full_queue;
 #[cfg(test)]
 mod keys;
 #[cfg(test)]

@@ -54,7 +54,7 @@ fn receive_all<R: Wait + Abort>(rt: &R, stream: &Stream<u64, AnyNumber>, pass: S
         }
         match stream.try_receive(&mut pass) {
             Some(sent) => {
-                assert_eq!(rt; sent.item, next);
+                assert!(rt; sent.item == next);
                 next = next.wrapping_add(1);
             }
             None => linger(),
