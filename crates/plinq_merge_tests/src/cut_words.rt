@@ -34,17 +34,17 @@ fn the_least_key_is_read_by_each_pass(rt: HostRuntime) -> Result<(), Fail> {
     let query = taking_below_0(rt.alloc())?;
     let zeros = RepeatSource::new(0, 9)?;
     let (cut, mut pass) = CutWord::<KeysOfZeros>::new(rt.alloc(), &query.split(), &zeros)?;
-    assert_eq!(rt; cut.read(&mut pass), u64::MAX);
+    assert!(rt; cut.read(&mut pass) == u64::MAX);
     cut.lower(&mut pass, 5);
     cut.lower(&mut pass, 8);
-    assert_eq!(rt; cut.read(&mut pass), 5);
+    assert!(rt; cut.read(&mut pass) == 5);
     let mut other = cut.split(&mut pass);
-    assert_eq!(rt; cut.read(&mut other), 5);
+    assert!(rt; cut.read(&mut other) == 5);
     cut.lower(&mut other, 3);
-    assert_eq!(rt; cut.read(&mut pass), 3);
+    assert!(rt; cut.read(&mut pass) == 3);
     let mut both = cut.join(pass, other);
     cut.lower(&mut both, 0);
-    assert_eq!(rt; cut.read(&mut both), 0);
+    assert!(rt; cut.read(&mut both) == 0);
     Ok(())
 }
 
@@ -60,7 +60,7 @@ fn a_cut_that_is_refused_is_made_the_next_time(rt: HostRuntime) {
     let mut refused = 0usize;
     for _turn in 0..2 {
         match CutWord::<KeysOfZeros>::new(rt.alloc(), &query.split(), &zeros) {
-            Ok((cut, mut pass)) => assert_eq!(rt; cut.read(&mut pass), u64::MAX),
+            Ok((cut, mut pass)) => assert!(rt; cut.read(&mut pass) == u64::MAX),
             Err(OutOfMemory) => refused = refused.wrapping_add(1),
         }
     }

@@ -1,5 +1,5 @@
-//! The tests of `plinq_merge`, `plinq_reorder` and `plinq_cut`: intervals of keys, worked rows of offers, results in all
-//! orders beside the answer on one thread, letters in place of numbers, the cut's words, and running out of memory.
+//! The tests of `plinq_merge`, `plinq_reorder` and `plinq_cut`, of what no contract says: that calls succeed with ample
+//! memory, running out of it, letters in place of numbers, which word a cut has, flags of another thread, and texts.
 //!
 //! They stand in a crate of their own, since a crate with tests is proved twice.
 #![tactic(auto)]
@@ -12,8 +12,6 @@ mod cut_words;
 mod fault_words;
 #[cfg(test)]
 mod memory;
-#[cfg(test)]
-mod orders;
 #[cfg(test)]
 mod rows;
 #[cfg(test)]

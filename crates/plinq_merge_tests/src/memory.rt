@@ -24,7 +24,7 @@ fn item_after(rt: &impl Abort, batches: &[Vec<i64>]) -> i64 {
     let mut next: i64 = 1;
     for batch in batches {
         for item in batch {
-            assert_eq!(rt; *item, next);
+            assert!(rt; *item == next);
             next = item.wrapping_add(1);
         }
     }
@@ -54,7 +54,7 @@ fn offer_till_failed(rt: &impl Abort, alloc: Global, option: MergeOption) {
     match merger_of::<Formula>(alloc, &query, option) {
         Ok(merger) => offer_all(rt, alloc, merger, results),
         Err(fault) => {
-            assert_eq!(rt; fault, MergeFault::Memory);
+            assert!(rt; fault == MergeFault::Memory);
             assert!(rt; merger_of::<Formula>(alloc, &query, option).is_ok());
         }
     }

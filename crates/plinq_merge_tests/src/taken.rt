@@ -2,12 +2,11 @@ ghost use Rattle.std.specs.Prelude.{◌≤◌, ◌^◌, ⊤, Ok, Err, true, IfOk
 ghost use Rattle.plinq_ops.specs.Tails.{end_of_result};
 
 use plinq_keyed::Tail;
-use plinq_lambda::{ExpandFault, Formula, Lambda};
-use plinq_merge::{MergeFault, Merger, More, Sink};
+use plinq_lambda::{ExpandFault, Lambda};
+use plinq_merge::{MergeFault, Merger, Sink};
 use plinq_ops::{BuildFault, ChunkResult, FragEnd, MergeOption, Query};
 use plinq_source::Ending;
 use std::alloc::{AllocError, Global};
-use std::fmt::Debug;
 use std::process::Abort;
 
 /// A sink that keeps the batches, and refuses number `refused` with 9.
@@ -116,16 +115,6 @@ pub(crate) fn last<T>(first: u64, items: &[T], tail: Tail) -> Offered<'_, T> {
     }
 }
 
-/// One that reports its run's ending.
-pub(crate) fn stop_key<T>(first: u64, items: &[T], ending: FragEnd) -> Offered<'_, T> {
-    Offered {
-        first,
-        items,
-        ending,
-        tail: None,
-    }
-}
-
 /// The result itself.
 pub(crate) fn result_of<T: Copy>(
     rt: &impl Abort,
@@ -145,93 +134,10 @@ pub(crate) fn result_of<T: Copy>(
     })
 }
 
-/// What the merger answers to it.
-pub(crate) fn offer<L: Lambda>(
-    rt: &impl Abort,
-    merger: &mut Merger<'_, L>,
-    offered: Offered<'_, L::Item>,
-    sink: &mut Taken<L::Item>,
-) -> Result<More, MergeFault>
-where
-    L::Item: Drop,
-{
-    match result_of(rt, sink.alloc, offered) {
-        Ok(result) => merger.offer(result, sink),
-        Err(_) => Err(MergeFault::Memory),
-    }
-}
-
-/// What a merger answers to offers, one after another, and how many batches it has delivered by then; what all of these
-/// are, and how the answer ends.
-#[derive(Clone, Copy)]
-pub(crate) struct Case<'a, T> {
-    pub(crate) option: MergeOption,
-    pub(crate) turns: &'a [(Offered<'a, T>, Result<More, MergeFault>, usize)],
-    pub(crate) batches: &'a [&'a [T]],
-    pub(crate) ending: Result<Ending, MergeFault>,
-}
-
-/// Asks that it is so with a query's merger and a sink that refuses that batch.
-pub(crate) fn expect_case<L: Lambda>(
-    rt: &impl Abort,
-    alloc: Global,
-    query: &Query<L>,
-    refused: usize,
-    case: Case<'_, L::Item>,
-)
-where
-    L::Item: Debug + Drop + PartialEq,
-{
-    let mut sink = Taken::new(alloc, refused);
-    let Ok(mut merger) = merger_of(alloc, query, case.option) else {
-        panic!(rt; "no room for a merger");
-    };
-    assert_eq!(rt; merger.decided(), query.split().decided);
-    for (offered, answer, delivered) in case.turns {
-        expect_answer(rt, offer(rt, &mut merger, *offered, &mut sink), *answer);
-        expect_count(rt, sink.batches.len(), *delivered);
-        expect_decided(rt, merger.decided(), *answer);
-    }
-    expect_batches(rt, &sink.batches, case.batches);
-    expect_ending(rt, merger.finish(), case.ending);
-}
-
-fn expect_count(rt: &impl Abort, count: usize, wanted: usize) {
-    assert_eq!(rt; count, wanted);
-}
-
-/// A merger is decided exactly where it wants no more.
-fn expect_decided(rt: &impl Abort, decided: bool, answer: Result<More, MergeFault>) {
-    assert_eq!(rt; decided, answer == Ok(More::No));
-}
-
 pub(crate) fn expect_ending(
     rt: &impl Abort,
     told: Result<Ending, MergeFault>,
     ending: Result<Ending, MergeFault>,
 ) {
-    assert_eq!(rt; told, ending);
-}
-
-fn expect_answer(
-    rt: &impl Abort,
-    told: Result<More, MergeFault>,
-    answer: Result<More, MergeFault>,
-) {
-    assert_eq!(rt; told, answer);
-}
-
-/// The same of numbers that are merged by key, after no operator.
-pub(crate) fn expect_ordered(rt: &impl Abort, alloc: Global, refused: usize, case: Case<'_, i64>) {
-    let Ok(query) = ordered::<Formula>(alloc) else {
-        panic!(rt; "no room for a query");
-    };
-    expect_case(rt, alloc, &query, refused, case);
-}
-
-fn expect_batches<T: Debug + PartialEq>(rt: &impl Abort, batches: &[Vec<T>], wanted: &[&[T]]) {
-    expect_count(rt, batches.len(), wanted.len());
-    for (batch, wanted) in batches.iter().zip(wanted) {
-        assert_eq!(rt; batch.as_slice(), *wanted);
-    }
+    assert!(rt; told == ending);
 }
