@@ -1,6 +1,6 @@
 #!/usr/bin/env python3
 """The limit of memory under which ./plinq starts the program (tools/limit.sh): what it is, and that a run which wants more
-reports it.
+reports it. Then what some runs take, and that they use it again.
 
     python3 tests/memory.py
 """
@@ -28,6 +28,8 @@ SPARING = {
     "an aggregate of great expansions": ("run", '{"version":1,"source":{"range":[0,2000]},"query":[["select_many","repeat",65536]],"aggregate":"count"}', 131_072_000, 60_000_000),
     "a filter that keeps one, fully buffered": ("run --merge full", '{"version":1,"source":{"range":[0,20000000]},"query":[["as_ordered"],["filter","equal",7]]}', 7, 60_000_000),
 }
+# 5,000 chunks, of each of which a worker makes a result of 16 KB.
+AGAIN = '{"version":1,"source":{"range":[0,10000000]},"query":[["as_ordered"],["filter","below",0]],"growth":[1,3,2048]}'
 ADDED = b'{"version":1,"source":{"list":[3,1,4]},"query":[["as_ordered"],["select","add",1]]}'
 
 
@@ -92,28 +94,34 @@ def started(tests):
 
 
 def measured(words, document, env=None):
-    """What the program answers, and the most memory that it took."""
+    """What the program answers, the most memory that it took, and how many pages it met that weren't there."""
     with subprocess.Popen([PLINQ, *words.split()], stdin=subprocess.PIPE, stdout=subprocess.PIPE, stderr=subprocess.PIPE, env=env) as program:
         program.stdin.write(document.encode())
         program.stdin.close()
         output, errors = program.stdout.read(), program.stderr.read()
         _, status, usage = os.wait4(program.pid, 0)
         program.returncode = os.waitstatus_to_exitcode(status)
-    return Outcome(program.returncode, output, errors), usage.ru_maxrss * 1024
+    return Outcome(program.returncode, output, errors), usage.ru_maxrss * 1024, usage.ru_minflt
 
 
 def hungry(tests):
     for name, (words, document) in HUNGRY.items():
-        seen, taken = measured(words, document, os.environ | {"PLINQ_MEMORY": "300000000"})
+        seen, taken, _ = measured(words, document, os.environ | {"PLINQ_MEMORY": "300000000"})
         tests.check(f"{name}, within 300 MB", seen == OUT_OF_MEMORY, seen)
         tests.check(f"{name}: it took no more", taken < 320_000_000, taken)
 
 
 def sparing(tests):
     for name, (words, document, number, most) in SPARING.items():
-        seen, taken = measured(words, document)
+        seen, taken, _ = measured(words, document)
         tests.check(name, seen == Outcome(0, f"{number}\nend\n".encode(), b""), seen)
         tests.check(f"{name}: it took {most} bytes at most", taken < most, taken)
+
+
+def again(tests):
+    seen, _, pages = measured("run --workers 4", AGAIN)
+    tests.check("what results gave back", seen == Outcome(0, b"end\n", b""), seen)
+    tests.check("what results gave back is taken again, and no new pages", pages < 5_000, pages)
 
 
 def main():
@@ -124,6 +132,7 @@ def main():
     started(tests)
     hungry(tests)
     sparing(tests)
+    again(tests)
     tests.end()
 
 

@@ -27,6 +27,7 @@ mod finishing;
 mod fold;
 mod fold_blocks;
 mod folding;
+mod kept_memory;
 pub mod laws;
 mod merging;
 mod parting;

@@ -18,6 +18,7 @@ ghost use Rattle.plinq_run.specs.inner.Merged.{AcceptsInto, AreSame, HasOffered,
 
 use crate::coverage::Coverage;
 use crate::finishing::finish;
+use crate::kept_memory::keep_memory;
 use crate::merging::{Merging, MergingInto};
 use crate::run_fault::RunFault;
 use plinq_crew::{
@@ -172,6 +173,7 @@ where
     requires stop_keys { AreStopKeys L.meaning plan.now (S.whole source) J.stops_at }
     ensures { HasConducted W.made (IsPart L.meaning (P.makes task.now) plan.now (S.whole source)) plan.now.order (S.whole source) taker out.old result out.new }
 {
+    keep_memory(alloc);
     let Ok((cut, cut_pass)) = CutWord::<RunStopKeys<P::Part, J>>::new(alloc, plan, &source) else {
         return Err(RunFault::Memory);
     };
