@@ -31,7 +31,7 @@ def code(path):
 def files():
     """The sources, specifications and proofs of the crates that the program is made of."""
     for crate in sorted(os.listdir(os.path.join(ROOT, "crates"))):
-        if crate.endswith(("_tests", "_testing", "_example")) or crate in ("plinq_bench", "plinq_closures", "plinq_collect"):
+        if crate.endswith(("_tests", "_testing", "_example")) or crate in ("plinq_bench", "plinq_closures", "plinq_collect", "plinq_prelude"):
             continue
         for part in ("src", "specs", "proofs"):
             for at, _, names in os.walk(os.path.join(ROOT, "crates", crate, part)):

@@ -17,11 +17,7 @@ HEAD = """#![tactic(auto)]
 ghost use Rattle.std.specs.Prelude.{◌≡◌, nat_le, Ok};
 
 use anyhow::Result;
-use plinq_closures::Chain;
-use plinq_collect::{build, to_vec};
-use plinq_lambda::Formula;
-use plinq_slice::SliceSource;
-use plinq_source::Ending;
+use plinq_prelude::*;
 use std::alloc::Global;
 use std::sync::Wait;
 use std::thread::Threads;
