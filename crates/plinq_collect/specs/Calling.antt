@@ -4,8 +4,7 @@ use mathlib.Core.Equiv.{IsContr, IsContr-prop}
 use Rattle.plinq_source.specs.declared.ending.Ending.{Ending}
 use Rattle.plinq_source.specs.declared.ending.Ending.TheVariants.{End}
 use Rattle.plinq_source.specs.Trace.{Trace}
-use Rattle.plinq_merge.specs.declared.delivery_fault.DeliveryFault.TheVariants.{Memory as NoMore, Sink as Refusal}
-use Rattle.plinq_merge.specs.Sending.{Leads, IsCutOff}
+use Rattle.plinq_merge.specs.Sending.{Leads, TakesBeginning, RefusesNext}
 use Rattle.plinq_ops.specs.declared.merge_option.MergeOption.{MergeOption}
 use Rattle.plinq_ops.specs.Batches.{batches}
 use Rattle.plinq_run.specs.declared.run_fault.RunFault.{RunFault}
@@ -32,9 +31,9 @@ module _ {F T : Type 0} (Step : F → T → Result ⊤ ℕ → F → Type 0) whe
   -- it was called with the first of these items: up to the one at which it answered a code, or for whatever other cause with
   -- no more of them
   abbrev pub CallsFirst : Cause → List T → F → F → Type 0
-  CallsFirst (SinkRefused code) xs f g = IsCutOff Takes Refuses f xs (Refusal code) g
+  CallsFirst (SinkRefused code) xs f g = RefusesNext Takes Refuses f xs code g
   CallsFirst Stopped xs f g = ⊥
-  CallsFirst Other xs f g = IsCutOff Takes Refuses f xs NoMore g
+  CallsFirst Other xs f g = TakesBeginning Takes f xs g
 
   -- it was called with all of these items, one after another, of an answer that ended so; or with the first of them
   abbrev pub Calls : List T → Option Ending → F → Result Ending RunFault → F → Type 0

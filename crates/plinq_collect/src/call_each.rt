@@ -1,5 +1,4 @@
-ghost use Rattle.plinq_merge.specs.declared.delivery_fault.DeliveryFault.TheVariants.{Sink};
-ghost use Rattle.plinq_merge.specs.Sending.{Leads, IsCutOff};
+ghost use Rattle.plinq_merge.specs.Sending.{Leads, RefusesNext};
 ghost use Rattle.plinq_collect.specs.Calling.{MayCall, MayCall-prop, Takes, Refuses};
 
 use crate::visits::Visits;
@@ -17,7 +16,7 @@ impl<V: Visits> Sink for CallEach<V> {
 
     ghost accepts = { λ s batch s'. Leads (Takes V.steps) s.by batch s'.by };
 
-    ghost refuses = { λ s batch code s'. IsCutOff (Takes V.steps) (Refuses V.steps) s.by batch (Sink code) s'.by };
+    ghost refuses = { λ s batch code s'. RefusesNext (Takes V.steps) (Refuses V.steps) s.by batch code s'.by };
 
     fn batch(&mut self, batch: &[V::Item]) -> Result<(), u32> {
         let mut rest = batch;

@@ -1,6 +1,6 @@
 -- One call more.
 use Rattle.std.proofs.Common.{rules, ◌≡◌, refl, [], ◌∷◌, ◌++◌}
-use Rattle.plinq_merge.specs.Sent.{up_to-more}
+use Rattle.plinq_merge.specs.inner.Sent.{up_to-more}
 use Rattle.plinq_collect.specs.Calling.{Takes}
 use Rattle.plinq_collect.proofs.call_each.CallEachSink.batch.Goals as goal
 

@@ -1,6 +1,6 @@
 -- It was called with the items before those that are left.
 use Rattle.std.proofs.Common.{length}
-use Rattle.plinq_merge.specs.Sent.{IsSentUpTo}
+use Rattle.plinq_merge.specs.inner.Sent.{IsSentUpTo}
 use Rattle.plinq_collect.specs.Calling.{Takes}
 use Rattle.plinq_collect.proofs.call_each.CallEachSink.batch.Given as goal
 
