@@ -6,7 +6,7 @@ use Rattle.plinq_lambda.specs.Meaning.{Meaning}
 use Rattle.plinq_lambda.specs.Block.{BlockResult, mapped_from, mapped_block, filtered_from, filtered_block}
 use Rattle.plinq_ops.specs.Stage.{joined}
 use Rattle.plinq_ops.specs.Operator.{selected, filtered}
-use Rattle.plinq_ops.specs.Passing.{ending_of}
+use Rattle.plinq_ops.specs.inner.Passing.{ending_of}
 
 abbrev pub select_piece : {L T : Type 0} → (L → Meaning T) → L → T → Trace T
 select_piece meaning f x = selected ((meaning f).map x)

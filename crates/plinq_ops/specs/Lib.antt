@@ -6,7 +6,6 @@ pub mod Batches
 pub mod Answer
 pub mod Sequential
 pub mod Feeding
-pub mod Passing
 pub mod Pipeline
 pub mod Plan
 pub mod Fragment
@@ -17,3 +16,4 @@ pub mod Chunk
 pub mod Tails
 pub mod AnswerRows
 pub mod MergeWords
+pub mod inner

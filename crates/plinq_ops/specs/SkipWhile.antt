@@ -5,7 +5,7 @@ use Rattle.plinq_source.specs.declared.ending.Ending.TheVariants.{End, Refused, 
 use Rattle.plinq_source.specs.Trace.{Trace, open_trace, ended}
 
 -- by what the test says of the first item: one that passes is left out, after one that fails nothing is, and a fault
--- ends the answer
+-- ends what the operator gives
 abbrev pub skipped_from : {T : Type 0} → Result Bool ℕ → List T → Option Ending → Trace T → Trace T
 skipped_from (Ok true) xs e rest = rest
 skipped_from (Ok false) xs e rest = record { items = xs; ending = e }

@@ -5,7 +5,7 @@ ghost use Rattle.plinq_lambda.specs.Block.{mapped_block, filtered_block};
 ghost use Rattle.plinq_ops.specs.declared.op.Op.TheVariants.{Select, Filter, TakeWhile};
 ghost use Rattle.plinq_ops.specs.Stage.{apply, stage_after, taking, skipping};
 ghost use Rattle.plinq_ops.specs.Operator.{stage_of};
-ghost use Rattle.plinq_ops.specs.Passing.{ending_of};
+ghost use Rattle.plinq_ops.specs.inner.Passing.{ending_of};
 
 use plinq_lambda::Lambda;
 use plinq_source::Ending;

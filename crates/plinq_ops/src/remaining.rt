@@ -4,7 +4,7 @@ ghost use Rattle.plinq_source.specs.Trace.{open_trace};
 ghost use Rattle.plinq_ops.specs.Stage.{apply, stage_after, takes_none};
 ghost use Rattle.plinq_ops.specs.Operator.{counted_off, stage_left, stage_now};
 ghost use Rattle.plinq_ops.specs.ByKey.{passed_on};
-ghost use Rattle.plinq_ops.specs.Passing.{passed_trace, expands};
+ghost use Rattle.plinq_ops.specs.inner.Passing.{passed_trace, expands};
 
 use crate::blocks::{filter, select, skip, take, take_while};
 use crate::op::Op;
