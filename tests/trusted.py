@@ -57,7 +57,6 @@ LEFT_OUTSIDE = {
     "crates/plinq_enumerator/specs/Replays.antt": "its crate and all above it are proved again where it moves",
     "crates/plinq_keyed/specs/Sweeps.antt": "its crate and all above it are proved again where it moves",
     "crates/plinq_lambda/specs/Sums.antt": "its crate and all above it are proved again where it moves",
-    "crates/plinq_partition/specs/Inside.antt": "its crate and all above it are proved again where it moves",
     "crates/plinq_source/specs/Values.antt": "its crate and all above it are proved again where it moves",
     "crates/plinq_ticket/specs/Steps.antt": "its crate and all above it are proved again where it moves",
 }

@@ -12,7 +12,7 @@ use Rattle.plinq_ticket.specs.Passes.{held_value, held_origin, held_found, held_
 use Rattle.plinq_ticket.specs.Shares.{Contains, added}
 use Rattle.plinq_ticket.proofs.Ordered.{added-append}
 use Rattle.plinq_partition.specs.declared.chunked.Chunked.{Chunked}
-use Rattle.plinq_partition.specs.Inside.{IsInside}
+use Rattle.plinq_partition.specs.inner.Inside.{IsInside}
 use Rattle.plinq_partition.specs.Shares.{keys_rise_from}
 use Rattle.plinq_partition.proofs.Shares.{rises-next}
 

@@ -1,7 +1,7 @@
 pub mod Cuts
 pub mod Faults
 pub mod GivenBack
-pub mod Inside
 pub mod Partitions
 pub mod Shares
 pub mod Together
+pub mod inner
