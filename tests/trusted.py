@@ -58,7 +58,6 @@ LEFT_OUTSIDE = {
     "crates/plinq_keyed/specs/Sweeps.antt": "its crate and all above it are proved again where it moves",
     "crates/plinq_lambda/specs/Sums.antt": "its crate and all above it are proved again where it moves",
     "crates/plinq_source/specs/Values.antt": "its crate and all above it are proved again where it moves",
-    "crates/plinq_ticket/specs/Steps.antt": "its crate and all above it are proved again where it moves",
 }
 PLANS = "ghost use Rattle.plinq_run.specs.inner.Plans.{MayTake};\npub fn taken()\n    ensures { MayTake }\n{}\n"
 IS_REACHED = "plinq_run/specs/inner/Plans.antt: a public contract reaches it"

@@ -14,7 +14,7 @@ use Rattle.plinq_ticket.specs.Weights.{total}
 use Rattle.plinq_ticket.specs.TwoWords.{OfTwoWords}
 use Rattle.plinq_ticket.specs.Shares.{in_ticket_order, Contains}
 use Rattle.plinq_ticket.specs.Lawful.{standing_of, origin_in, history_of, inside_of, Knows, Stands, Lawful}
-use Rattle.plinq_ticket.specs.Steps.{cut}
+use Rattle.plinq_ticket.specs.inner.Steps.{cut}
 use Rattle.plinq_ticket.proofs.Weights.{total-set, total-at, total-ones}
 use Rattle.plinq_ticket.proofs.Turns.{inside-open}
 use Rattle.plinq_ticket.proofs.Ordered.{in_ticket_order-same}

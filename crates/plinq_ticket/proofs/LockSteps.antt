@@ -21,7 +21,7 @@ use Rattle.plinq_ticket.specs.Turns.{tickets_end, is_inside, InTurn, seeing_draw
 use Rattle.plinq_ticket.specs.TwoWords.{OfTwoWords}
 use Rattle.plinq_ticket.specs.Shares.{AddsAtMostOne, added}
 use Rattle.plinq_ticket.specs.Lawful.{standing_of, origin_in, history_of, inside_of, Knows, Stands, Lawful, first_view}
-use Rattle.plinq_ticket.specs.Steps.{standing_so, cut, together_with, spent, inside_with, left_with, slot_records, SeesNext, Draws, Goes, SeesServing, Returns, Leaves}
+use Rattle.plinq_ticket.specs.inner.Steps.{standing_so, cut, together_with, spent, inside_with, left_with, slot_records, SeesNext, Draws, Goes, SeesServing, Returns, Leaves}
 use Rattle.plinq_ticket.proofs.Weights.{total-set, total-at, total-append}
 use Rattle.plinq_ticket.proofs.Turns.{step-see_next, step-draw, step-see_serving, step-leave, step-join, in_turn-made, in_turn-new, inside-none, inside-served, not_inside-beside}
 use Rattle.plinq_ticket.proofs.Ordered.{added-append}

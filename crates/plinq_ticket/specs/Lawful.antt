@@ -37,7 +37,7 @@ module _ {T : Type 0} where
   abbrev pub inside_of : List (View T) → ℕ
   inside_of views = total (λ v. is_inside v.standing.phase) views
 
-  -- What a pass knows is so: its trace is the lock's, and inside it found the history. A joined one has no share left
+  -- What a pass knows is so: its trace is the lock's, and inside it found the history. A joined one has given its share away
   abbrev pub Knows : Trace T → List Record → View T → Phase → Type 0
   Knows t h v Idle = origin_in v ≡ t
   Knows t h v (Waiting k) = origin_in v ≡ t
@@ -55,7 +55,7 @@ module _ {T : Type 0} where
         ((value : V) × (homes ≡ some (Some value) ∷ []) × (origin value ≡ t) × (history value ≡ h) × (inside ≡ 0))
         ⊎ ((homes ≡ none ∷ []) × (inside ≡ 1))
 
-    -- Between any two steps tickets are in turn, the records of all passes are a legal history under tickets that were served, the
+    -- Tickets are in turn, the records of all passes are a legal history under tickets that were served, the
     -- value stands with it, and what each pass knows is so
     pub record Lawful (t : Trace T) (next serving : ℕ) (homes : List (maybe.Option (Option V))) (views : List (View T)) : Type 0 where
       pub turns : InTurn standing_of next serving views
@@ -71,7 +71,7 @@ module _ {T : Type 0} where
       pub legal : IsLegalHistory t (history value)
       pub handed : IsPrefix t (history value)
 
-    -- each lawful state with the value home is such a one
+    -- in each lawful state with the value home, that value has handed out a prefix
     abbrev pub FreeWhileHome : Type 0
     FreeWhileHome = (t : Trace T) (next serving : ℕ) (homes : List (maybe.Option (Option V))) (views : List (View T)) (value : V)
         → Lawful t next serving homes views → homes ≡ some (Some value) ∷ [] → IsFree t value views

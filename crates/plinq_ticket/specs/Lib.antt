@@ -5,6 +5,6 @@ pub mod Refusals
 pub mod Shares
 pub mod Lawful
 pub mod Passes
-pub mod Steps
 pub mod Lending
 pub mod Finished
+pub mod inner

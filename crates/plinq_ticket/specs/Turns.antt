@@ -35,7 +35,7 @@ pub record Fits (next serving : ℕ) (a : Standing) : Type 0 where
   pub served : a.served ≤ serving
   pub first : is_inside a.phase ≤ has_ticket serving a.phase
 
--- The tickets of those that wait or are inside are the numbers from serving to next, each once
+-- The tickets of those that wait or are inside are the numbers from serving up to, and not with, next, each once
 pub record InTurn {V : Type 0} (standing : V → Standing) (next serving : ℕ) (views : List V) : Type 0 where
   pub order : serving ≤ next
   pub within : next ≤ tickets_end

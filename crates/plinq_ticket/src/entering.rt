@@ -4,7 +4,7 @@ ghost use Rattle.plinq_ticket.specs.declared.lock_fault.LockFault.TheVariants.{S
 ghost use Rattle.plinq_ticket.specs.declared.phase.Phase.TheVariants.{Waiting, Inside};
 ghost use Rattle.plinq_ticket.specs.Lawful.{origin_in};
 ghost use Rattle.plinq_ticket.specs.Passes.{IsLockAt, IsPassOf, IsHeldOf, Finds, Enters, IsRefused, lock_id, held_ticket, held_drawn};
-ghost use Rattle.plinq_ticket.specs.Steps.{IsInside};
+ghost use Rattle.plinq_ticket.specs.inner.Steps.{IsInside};
 
 use crate::held::{Entry, Held, Stay};
 use crate::lock_fault::LockFault;

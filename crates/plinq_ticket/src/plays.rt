@@ -1,5 +1,5 @@
 //! What each step reports to the pass that makes it. These types are for the proofs alone.
-ghost use Rattle.plinq_ticket.specs.Steps.{SeesNext, Draws, SeesServing, Leaves, cut, together_with, spent};
+ghost use Rattle.plinq_ticket.specs.inner.Steps.{SeesNext, Draws, SeesServing, Leaves, cut, together_with, spent};
 
 use crate::view::View;
 use atomic_table::{Join, Play, Split};

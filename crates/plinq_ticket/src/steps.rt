@@ -2,7 +2,7 @@
 ghost use Rattle.std.specs.Prelude.{◌≡◌, ◌<◌, ◌+◌, ◌^◌};
 ghost use Rattle.plinq_ticket.specs.declared.phase.Phase.TheVariants.{Idle, Inside};
 ghost use Rattle.plinq_ticket.specs.Passes.{IsLockAt, lock_id};
-ghost use Rattle.plinq_ticket.specs.Steps.{SeesNext, Draws, SeesServing, Returns, Leaves};
+ghost use Rattle.plinq_ticket.specs.inner.Steps.{SeesNext, Draws, SeesServing, Returns, Leaves};
 
 use crate::plays::{Draw, Leave, SeeNext, SeeServing};
 use crate::ticket_lock::TicketLock;

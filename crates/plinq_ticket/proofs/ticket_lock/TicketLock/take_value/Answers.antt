@@ -1,6 +1,6 @@
 use Rattle.std.proofs.Common.{◌≡◌, ◌<◌, ◌^◌, ◌∷◌, length, Some, None, sym, ap, ◌∙◌, arith}
 use Rattle.atomic_table.specs.Table.{rest}
-use Rattle.plinq_ticket.specs.Steps.{records_in, slot_records}
+use Rattle.plinq_ticket.specs.inner.Steps.{records_in, slot_records}
 use Rattle.plinq_ticket.proofs.LastState.{count-exact}
 use Rattle.plinq_ticket.proofs.ticket_lock.TicketLock.take_value.Goals as goal
 
