@@ -358,6 +358,7 @@ UNKNOWN_STEPS = [
     '["as_ordered",0]',
 ]
 
+ADD_ONE = '{"version":1,"source":{"list":[3,1,4]},"query":[["as_ordered"],["select","add",1]]}'
 # Words, a document, the lines and the status.
 SHOWN = [
     ("plan --workers 4", '{"version":1,"source":{"range":[1,10]},"query":[["as_ordered"],["select","add",1],["take",5],["filter","even"],["take",2]]}', ["workers 4", "merge auto", "order key", "worker select add 1, take 5, filter even", "after take 2"], 0),
@@ -373,6 +374,15 @@ SHOWN = [
             ["with_merge","not"],["with_degree",3],["as_ordered"],["select","mul",-2],["filter","even"],
             ["select_many","up_to"],["take_while","below",9],["take",7],["skip",-1],["as_unordered"]]}""",
         ["workers 3", "merge not", "order key", "worker select mul -2, filter even, select_many up_to, take_while below 9", "after take 7, skip -1, as_unordered"],
+        0,
+    ),
+    # One document by each of these commands.
+    ("plan --merge not", ADD_ONE, ["workers 4", "merge not", "order key", "worker select add 1", "after none"], 0),
+    ("parts --merge not", ADD_ONE, ["properties true true true", "0:", "1: 0=3", "2: 1=1", "3: 2=4", "end"], 0),
+    (
+        "history --merge not",
+        ADD_ONE,
+        [*(f"ticket {it} ask 1 first {it} count 1" for it in range(3)), *(f"ticket {it} ask 1 first 3 count 0 ended" for it in range(3, 7)), "end"],
         0,
     ),
     # Each operator and each formula.

@@ -143,7 +143,7 @@ def failing_writes(tests, shim):
 
 
 def failing_reads(tests, shim):
-    for case in (SHORT, (["parts"], document(3)), (["run"], b"{"), (["run"], document(3) + b" " * 200_000)):
+    for case in (SHORT, (["parts"], document(3)), (["run"], b"{"), (["run"], document(3) + b" " * 200_000), (["seq"], b" " * 10)):
         right = run(*case, PROGRAM)
 
         def problem(seen, is_met, _):
