@@ -1,5 +1,6 @@
 //! A worker that has no room for a result while the others sleep: before the lock, before the full queue, or too far ahead.
-ghost use Rattle.std.specs.Prelude.{⊤};
+ghost use Rattle.std.specs.Prelude.{◌≡◌, IfSome, ⊤};
+ghost use Rattle.plinq_source.specs.Walked.{range_given};
 ghost use Rattle.plinq_lambda.specs.Formula.{formula_meaning};
 ghost use Rattle.plinq_lambda.specs.Short.{formula_meaning-short};
 
@@ -11,7 +12,6 @@ use plinq_run::{Gate, RunFault, run};
 use plinq_source::{RangeSource, Source, Step};
 use plinq_testing::{Taken, built, lingers, waits_for};
 use std::alloc::Global;
-use std::process::Abort;
 use std::sync::Wait;
 use std::sync::atomic::{AtomicBool, AtomicU64, Ordering};
 use std::test::*;
@@ -230,161 +230,158 @@ fn expanding(
     built(query.select_many(NoRoomForOne { late, standing }))
 }
 
-/// Has a run end for lack of room, and answers the batches that it delivered by then.
-fn fail_late<R: Threads + Wait + Sync + Abort>(
+/// The greatest range: far more than may be taken.
+fn from_zero<'a>(late: Late, standing: &'a Standing) -> Option<Slow<'a>>
+    ensures { IfSome result (λ s. range_given s.range ≡ 0) }
+{
+    let Ok(range) = RangeSource::new(0, 1_099_511_627_776) else {
+        return None;
+    };
+    Some(Slow {
+        range,
+        slow: late.slow,
+        standing,
+    })
+}
+
+/// What a run has delivered that ends for lack of room.
+fn delivered<R: Threads + Wait + Sync>(
     rt: &R,
     alloc: Global,
     late: Late,
     standing: &Standing,
-) -> Result<Vec<Vec<i64>>, Fail> {
-    let query = expanding(alloc, late, standing)?;
-    // (the greatest range: far more than may be taken)
-    let range = RangeSource::new(0, 1_099_511_627_776)?;
-    let source = Slow {
-        range,
-        slow: late.slow,
-        standing,
-    };
+) -> Option<Vec<Vec<i64>>> {
+    let source = from_zero(late, standing)?;
     let gate = Counts { standing };
     let mut sink = Held {
         is_held: late.is_held,
         taken: Taken::new(alloc, usize::MAX),
         standing,
     };
-    let told = run(rt, alloc, &query, source, Growth::ONE, &gate, &mut sink);
-    assert!(rt; matches!(told, Err(RunFault::Memory)));
-    let Held { taken, .. } = sink;
-    Ok(taken.batches)
+    let query = expanding(alloc, late, standing).ok()?;
+    match run(rt, alloc, &query, source, Growth::ONE, &gate, &mut sink) {
+        Err(RunFault::Memory) => {
+            let Held { taken, .. } = sink;
+            Some(taken.batches)
+        }
+        _ => None,
+    }
 }
 
-/// The run ends so. No more chunks than that were taken when the worker failed, and no more batches delivered.
-fn expect<R: Threads + Wait + Sync + Abort>(
+/// Whether the run ends so, no more chunks than that were taken when the worker failed, and no more batches delivered.
+fn ends<R: Threads + Wait + Sync>(
     rt: &R,
     alloc: Global,
     late: Late,
     most_taken: u64,
     most_batches: i64,
-) -> Result<(), Fail> {
+) -> bool {
     let standing = Standing::of(late);
-    let batches = fail_late(rt, alloc, late, &standing)?;
-    assert!(rt; !standing.gave_up.load(Ordering::SeqCst));
-    let taken = standing.taken_by_then.load(Ordering::SeqCst);
-    assert!(rt; taken <= most_taken, "{taken} of {most_taken}");
-    assert!(rt; are_first(&batches, most_batches, late.is_by_key));
-    Ok(())
+    let Some(batches) = delivered(rt, alloc, late, &standing) else {
+        return false;
+    };
+    !standing.gave_up.load(Ordering::SeqCst)
+        && standing.taken_by_then.load(Ordering::SeqCst) <= most_taken
+        && are_first(&batches, most_batches, late.is_by_key)
 }
 
 const WORKERS: [u64; 3] = [2, 8, 64];
 
-const ONCE: Formula = Formula::Repeat(1);
+impl Late {
+    /// Number 0 fails at once, by so many workers, whom nothing else keeps back.
+    fn by(workers: u64, is_by_key: bool) -> Late {
+        Late {
+            workers,
+            is_by_key,
+            formula: Formula::Repeat(1),
+            failing: 0,
+            about: 0,
+            taken: 0,
+            slow: -1,
+            is_held: false,
+            is_first_held: false,
+        }
+    }
+}
 
 /// Number 3 fails once number 4 is kept inside the lock, and all other workers have passed the gate before it.
 #[test]
-fn a_run_ends_whose_workers_sleep_before_the_lock(rt: HostRuntime) -> Result<(), Fail> {
+fn a_run_ends_whose_workers_sleep_before_the_lock(rt: HostRuntime) {
     for workers in WORKERS {
         for is_by_key in [true, false] {
             let late = Late {
-                workers,
-                is_by_key,
-                formula: ONCE,
                 failing: 3,
                 about: workers.saturating_add(3),
                 taken: 4,
                 slow: 4,
-                is_held: false,
-                is_first_held: false,
+                ..Late::by(workers, is_by_key)
             };
-            expect(&rt, rt.alloc(), late, 4, 3)?;
+            assert!(rt; ends(&rt, rt.alloc(), late, 4, 3), "{workers} {is_by_key}");
         }
     }
-    Ok(())
 }
 
 /// Number 1 fails once the sink is held with number 0, 64 results fill the queue, and each other worker has one more.
 #[test]
-fn a_run_ends_whose_workers_sleep_before_the_queue(rt: HostRuntime) -> Result<(), Fail> {
+fn a_run_ends_whose_workers_sleep_before_the_queue(rt: HostRuntime) {
     for workers in WORKERS {
         for is_by_key in [true, false] {
             let taken = workers.saturating_add(65);
             let late = Late {
-                workers,
-                is_by_key,
-                formula: ONCE,
                 failing: 1,
-                about: 0,
                 taken,
-                slow: -1,
                 is_held: true,
-                is_first_held: false,
+                ..Late::by(workers, is_by_key)
             };
-            expect(&rt, rt.alloc(), late, taken, 1)?;
+            assert!(rt;
+                ends(&rt, rt.alloc(), late, taken, 1),
+                "{workers} {is_by_key}"
+            );
         }
     }
-    Ok(())
 }
 
 /// Number 0 fails once the others have taken all of the window, and each but one of them one more.
 #[test]
-fn a_run_ends_whose_workers_sleep_before_the_window(rt: HostRuntime) -> Result<(), Fail> {
+fn a_run_ends_whose_workers_sleep_before_the_window(rt: HostRuntime) {
     // (not by 64, of whom a quarter of a million chunks would be wanted)
     for workers in [2u64, 8] {
         // (3,971 chunks of one element for each worker, and number 0: so many of 8 bytes with 256 more each fill 1,048,576 bytes)
         let taken = workers.saturating_mul(3_971).saturating_add(1);
         let late = Late {
-            workers,
-            is_by_key: true,
-            formula: ONCE,
-            failing: 0,
-            about: 0,
             taken,
-            slow: -1,
-            is_held: false,
-            is_first_held: false,
+            ..Late::by(workers, true)
         };
         let most = taken.saturating_add(workers).saturating_sub(2);
-        expect(&rt, rt.alloc(), late, most, 0)?;
+        assert!(rt; ends(&rt, rt.alloc(), late, most, 0), "{workers}");
     }
-    Ok(())
 }
 
 /// Number 0 fails once each worker has taken, and as many items were sent as may be ahead of what is merged.
 #[test]
-fn a_run_ends_whose_workers_sleep_over_items(rt: HostRuntime) -> Result<(), Fail> {
+fn a_run_ends_whose_workers_sleep_over_items(rt: HostRuntime) {
     for workers in WORKERS {
         let late = Late {
-            workers,
-            is_by_key: true,
             formula: Formula::Repeat(10_000),
-            failing: 0,
-            about: 0,
             taken: workers,
-            slow: -1,
-            is_held: false,
-            is_first_held: false,
+            ..Late::by(workers, true)
         };
         // (3,971 items for each worker, so that some may take a second time)
-        let again = workers.saturating_mul(3_971) / 10_000;
-        expect(&rt, rt.alloc(), late, workers.saturating_add(again), 0)?;
+        let most = workers.saturating_add(workers.saturating_mul(3_971) / 10_000);
+        assert!(rt; ends(&rt, rt.alloc(), late, most, 0), "{workers}");
     }
-    Ok(())
 }
 
 /// Number 3 fails while key 0 is held back. That key comes a while later, and is the first that could be delivered.
 #[test]
-fn nothing_is_delivered_after_a_failed_worker(rt: HostRuntime) -> Result<(), Fail> {
+fn nothing_is_delivered_after_a_failed_worker(rt: HostRuntime) {
     for workers in WORKERS {
         let late = Late {
-            workers,
-            is_by_key: true,
-            formula: ONCE,
             failing: 3,
-            about: 0,
             taken: 4,
-            slow: -1,
-            is_held: false,
             is_first_held: true,
+            ..Late::by(workers, true)
         };
-        expect(&rt, rt.alloc(), late, u64::MAX, 0)?;
+        assert!(rt; ends(&rt, rt.alloc(), late, u64::MAX, 0), "{workers}");
     }
-    Ok(())
 }

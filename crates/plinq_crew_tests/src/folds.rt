@@ -1,18 +1,16 @@
-//! That workers fold what they compute, that a source is closed in time, and that what stands after the merge is folded as
-//! well.
+//! That workers fold what they compute, and that a source is closed in time.
 ghost use Rattle.plinq_aggregate.specs.Numbers.{counting};
 ghost use Rattle.plinq_aggregate.specs.Lawful.{counting-lawful};
 
-use plinq_aggregate::{Aggregator, Max, Sum};
+use plinq_aggregate::{Aggregator, Sum};
 use plinq_enumerator::Growth;
 use plinq_lambda::Formula;
-use plinq_ops::{MergeOption, Query};
-use plinq_run::{Gate, OpenGate, aggregate};
+use plinq_ops::{MergeOption, Op};
+use plinq_run::{Gate, aggregate};
 use plinq_source::RangeSource;
-use plinq_testing::{WORKERS, built, ordered};
+use plinq_testing::{WORKERS, ordered, query_of};
 use std::alloc::Global;
 use std::hint::spin_loop;
-use std::process::Abort;
 use std::sync::Wait;
 use std::sync::atomic::{AtomicU64, Ordering};
 use std::test::*;
@@ -79,36 +77,32 @@ impl<'a> Gate for HoldsTheFirst<'a> {
     }
 }
 
-/// Counts a range whose first number is held back, and reports how many others were taken in by then.
-fn held_back<R: Threads + Wait + Sync + Abort>(
-    rt: &R,
-    alloc: Global,
-    workers: u64,
-    count: u64,
-) -> Result<(), Fail> {
+/// Whether all other numbers of a range are taken in while the first is held back.
+fn are_taken_in<R: Threads + Wait + Sync>(rt: &R, alloc: Global, workers: u64, count: u64) -> bool {
     let taken_in = AtomicU64::new(0);
     let gate = HoldsTheFirst {
         others: count.saturating_sub(1),
         taken_in: &taken_in,
         by_then: AtomicU64::new(0),
     };
-    let query: Query<Formula> = ordered(alloc, MergeOption::Default, workers)?;
-    let source = RangeSource::new(1, count)?;
     let counted = Noted {
         taken_in: &taken_in,
     };
+    let Ok(source) = RangeSource::new(1, count) else {
+        return false;
+    };
+    let Ok(query) = ordered::<Formula>(alloc, MergeOption::Default, workers) else {
+        return false;
+    };
     let told = aggregate(rt, alloc, &query, source, Growth::ONE, &gate, &counted);
-    assert_eq!(rt; told, Ok(count));
-    assert_eq!(rt; gate.by_then.load(Ordering::SeqCst), gate.others);
-    Ok(())
+    told == Ok(count) && gate.by_then.load(Ordering::SeqCst) == gate.others
 }
 
 #[test]
-fn workers_fold_while_the_first_key_is_held_back(rt: HostRuntime) -> Result<(), Fail> {
+fn workers_fold_while_the_first_key_is_held_back(rt: HostRuntime) {
     for workers in [2u64, 4, 64] {
-        held_back(&rt, rt.alloc(), workers, 40)?;
+        assert!(rt; are_taken_in(&rt, rt.alloc(), workers, 40), "{workers}");
     }
-    Ok(())
 }
 
 /// A gate that notes whether each chunk begins where one of four elements may.
@@ -130,58 +124,35 @@ impl Gate for CountsByFour {
     }
 }
 
-/// Sums the numbers below a thousand of a range that goes on far beyond them.
-fn of_a_long_range<R: Threads + Wait + Sync + Abort>(
+/// Whether the numbers below a thousand are summed, of a range that goes on far beyond them, in chunks of four.
+fn are_summed<R: Threads + Wait + Sync>(
     rt: &R,
     alloc: Global,
     workers: u64,
-    count: u64,
-) -> Result<(), Fail> {
-    let query = ordered(alloc, MergeOption::Default, workers)?;
-    let query = built(query.take_while(Formula::Below(1_000)))?;
+    growth: Growth,
+) -> bool {
     let gate = CountsByFour {
         takes: AtomicU64::new(0),
         odd_ones: AtomicU64::new(0),
     };
-    let source = RangeSource::new(0, count)?;
-    let growth = Growth::new(4, 1, 4)?;
+    let Ok(source) = RangeSource::new(0, 1_099_511_627_776) else {
+        return false;
+    };
+    let below = [Op::TakeWhile(Formula::Below(1_000))];
+    let Ok(query) = query_of(alloc, &below, MergeOption::Default, workers) else {
+        return false;
+    };
     let sum = aggregate(rt, alloc, &query, source, growth, &gate, &Sum);
-    assert_eq!(rt; sum, Ok(499_500));
-    assert!(rt; gate.takes.load(Ordering::SeqCst) > 250);
-    assert_eq!(rt; gate.odd_ones.load(Ordering::SeqCst), 0);
-    Ok(())
+    sum == Ok(499_500)
+        && gate.takes.load(Ordering::SeqCst) > 250
+        && gate.odd_ones.load(Ordering::SeqCst) == 0
 }
 
 #[test]
 fn an_aggregate_closes_a_long_range_long_before_its_end(rt: HostRuntime) -> Result<(), Fail> {
+    let growth = Growth::new(4, 1, 4)?;
     for workers in WORKERS {
-        of_a_long_range(&rt, rt.alloc(), workers, 1_099_511_627_776)?;
-    }
-    Ok(())
-}
-
-/// Folds the first three even numbers of a range: taking them stands after the merge.
-fn after_the_merge<R: Threads + Wait + Sync + Abort>(
-    rt: &R,
-    alloc: Global,
-    workers: u64,
-    count: u64,
-) -> Result<(), Fail> {
-    let query = built(ordered(alloc, MergeOption::Default, workers)?.filter(Formula::Even))?;
-    let query = built(query.take(3))?;
-    let source = RangeSource::new(1, count)?;
-    let sum = aggregate(rt, alloc, &query, source, Growth::ONE, &OpenGate, &Sum);
-    assert_eq!(rt; sum, Ok(12));
-    let source = RangeSource::new(1, count)?;
-    let greatest = aggregate(rt, alloc, &query, source, Growth::ONE, &OpenGate, &Max);
-    assert_eq!(rt; greatest, Ok(Some(6)));
-    Ok(())
-}
-
-#[test]
-fn what_stands_after_the_merge_is_folded_too(rt: HostRuntime) -> Result<(), Fail> {
-    for workers in WORKERS {
-        after_the_merge(&rt, rt.alloc(), workers, 1_000)?;
+        assert!(rt; are_summed(&rt, rt.alloc(), workers, growth), "{workers}");
     }
     Ok(())
 }

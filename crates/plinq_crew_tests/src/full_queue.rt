@@ -4,12 +4,11 @@ ghost use Rattle.std.specs.Prelude.{⊤};
 use plinq_enumerator::Growth;
 use plinq_lambda::Formula;
 use plinq_merge::Sink;
-use plinq_ops::{MergeOption, Query};
+use plinq_ops::MergeOption;
 use plinq_run::{Gate, run};
 use plinq_source::{Ending, RangeSource};
 use plinq_testing::{ordered, waits_for};
 use std::alloc::Global;
-use std::process::Abort;
 use std::sync::Wait;
 use std::sync::atomic::{AtomicU64, Ordering};
 use std::test::*;
@@ -71,12 +70,9 @@ impl<'a> Sink for Held<'a> {
     }
 }
 
-/// The sink is held until the queue is full of the results after its batch, and each worker has taken one chunk more.
-fn fill_the_queue<R: Threads + Wait + Sync + Abort>(
-    rt: &R,
-    alloc: Global,
-    workers: u64,
-) -> Result<(), Fail> {
+/// Whether all numbers come, in order, to a sink that is held until the queue is full of the results after its batch, and each
+/// worker has taken one chunk more.
+fn all_come<R: Threads + Wait + Sync>(rt: &R, alloc: Global, workers: u64, growth: Growth) -> bool {
     let standing = Standing {
         is_held: AtomicU64::new(0),
         taken: AtomicU64::new(0),
@@ -91,21 +87,26 @@ fn fill_the_queue<R: Threads + Wait + Sync + Abort>(
         next: 0,
         is_wrong: false,
     };
-    let query: Query<Formula> = ordered(alloc, MergeOption::NotBuffered, workers)?;
-    let source = RangeSource::new(0, 300)?;
-    // (the first 64 chunks of a worker have one element; that later ones may have more lets each worker have more chunks waiting)
-    let growth = Growth::new(1, 64, 4)?;
-    let report = run(rt, alloc, &query, source, growth, &gate, &mut sink)?;
-    assert_eq!(rt; report.ending, Ending::End);
-    assert!(rt; !sink.gave_up && !sink.is_wrong);
-    assert_eq!(rt; sink.next, 300);
-    Ok(())
+    let Ok(source) = RangeSource::new(0, 300) else {
+        return false;
+    };
+    let Ok(query) = ordered::<Formula>(alloc, MergeOption::NotBuffered, workers) else {
+        return false;
+    };
+    match run(rt, alloc, &query, source, growth, &gate, &mut sink) {
+        Ok(report) => {
+            report.ending == Ending::End && !sink.gave_up && !sink.is_wrong && sink.next == 300
+        }
+        Err(_) => false,
+    }
 }
 
 #[test]
 fn workers_wait_while_the_queue_is_full(rt: HostRuntime) -> Result<(), Fail> {
+    // (the first 64 chunks of a worker have one element; that later ones may have more lets each worker have more chunks waiting)
+    let growth = Growth::new(1, 64, 4)?;
     for workers in [1u64, 2, 8, 64] {
-        fill_the_queue(&rt, rt.alloc(), workers)?;
+        assert!(rt; all_come(&rt, rt.alloc(), workers, growth), "{workers}");
     }
     Ok(())
 }

@@ -6,19 +6,18 @@ ghost use Rattle.plinq_lambda.specs.Short.{formula_meaning-short};
 use plinq_enumerator::Growth;
 use plinq_lambda::{ExpandFault, Formula, Lambda};
 use plinq_merge::Sink;
-use plinq_ops::MergeOption;
+use plinq_ops::{MergeOption, Op};
 use plinq_run::{Gate, RunFault, run};
 use plinq_source::RangeSource;
-use plinq_testing::{Taken, WORKERS, built, ordered, waits_for};
+use plinq_testing::{Taken, WORKERS, query_of, waits_for};
 use std::alloc::Global;
-use std::process::Abort;
 use std::sync::Wait;
 use std::sync::atomic::{AtomicBool, AtomicU64, Ordering};
 use std::test::*;
 use std::thread::Threads;
 
 /// Where workers are held.
-#[derive(Clone, Copy, Debug, PartialEq)]
+#[derive(Clone, Copy, PartialEq)]
 enum Station {
     BeforeTake,
     AfterChunk,
@@ -107,13 +106,26 @@ impl<'a> Sink for Refusing<'a> {
     }
 }
 
-fn refuse<R: Threads + Wait + Sync + Abort>(
+/// Whether these batches are the numbers from 0 on, each alone.
+fn are_first(batches: &[Vec<i64>]) -> bool {
+    let mut next = 0i64;
+    for batch in batches {
+        if batch.as_slice() != [next].as_slice() {
+            return false;
+        }
+        next = next.wrapping_add(1);
+    }
+    true
+}
+
+/// Whether a run ends with the batch that its sink refuses, while workers are held at a station.
+fn ends<R: Threads + Wait + Sync>(
     rt: &R,
     alloc: Global,
     workers: u64,
     station: Station,
     refused: u64,
-) -> Result<(), Fail> {
+) -> bool {
     let holds = Holds {
         station,
         refused,
@@ -121,32 +133,31 @@ fn refuse<R: Threads + Wait + Sync + Abort>(
         has_refused: AtomicU64::new(0),
         gave_up: AtomicBool::new(false),
     };
-    let query = ordered(alloc, MergeOption::NotBuffered, workers)?;
     let sending = Sending {
         formula: Formula::Add(0),
         holds: &holds,
     };
-    let query = built(query.select(sending))?;
-    let source = RangeSource::new(0, 100)?;
+    let Ok(source) = RangeSource::new(0, 100) else {
+        return false;
+    };
+    let ops = [Op::Select(sending)];
+    let Ok(query) = query_of(alloc, &ops, MergeOption::NotBuffered, workers) else {
+        return false;
+    };
     let mut sink = Refusing {
         taken: Taken::new(alloc, refused as usize),
         holds: &holds,
     };
     let told = run(rt, alloc, &query, source, Growth::ONE, &holds, &mut sink);
-    assert!(rt; matches!(told, Err(RunFault::Sink(9))));
-    assert!(rt; !holds.gave_up.load(Ordering::SeqCst));
     let Refusing { taken, .. } = sink;
-    let mut next = 0i64;
-    for batch in &taken.batches {
-        assert_eq!(rt; batch.as_slice(), [next].as_slice());
-        next = next.wrapping_add(1);
-    }
-    assert_eq!(rt; taken.batches.len() as u64, refused);
-    Ok(())
+    matches!(told, Err(RunFault::Sink(9)))
+        && !holds.gave_up.load(Ordering::SeqCst)
+        && taken.batches.len() as u64 == refused
+        && are_first(&taken.batches)
 }
 
 #[test]
-fn a_sink_refuses_while_workers_are_held(rt: HostRuntime) -> Result<(), Fail> {
+fn a_sink_refuses_while_workers_are_held(rt: HostRuntime) {
     for station in [
         Station::BeforeTake,
         Station::AfterChunk,
@@ -154,9 +165,11 @@ fn a_sink_refuses_while_workers_are_held(rt: HostRuntime) -> Result<(), Fail> {
     ] {
         for workers in WORKERS {
             for refused in [0u64, 1, 16] {
-                refuse(&rt, rt.alloc(), workers, station, refused)?;
+                assert!(rt;
+                    ends(&rt, rt.alloc(), workers, station, refused),
+                    "{workers} {refused}"
+                );
             }
         }
     }
-    Ok(())
 }

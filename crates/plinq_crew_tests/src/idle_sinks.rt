@@ -4,12 +4,11 @@ ghost use Rattle.std.specs.Prelude.{⊤};
 use plinq_enumerator::Growth;
 use plinq_lambda::Formula;
 use plinq_merge::Sink;
-use plinq_ops::{MergeOption, Query};
+use plinq_ops::MergeOption;
 use plinq_run::{Gate, RunFault, run};
 use plinq_source::RangeSource;
 use plinq_testing::{WORKERS, ordered, waits_for};
 use std::alloc::Global;
-use std::process::Abort;
 use std::sync::Wait;
 use std::sync::atomic::{AtomicBool, AtomicU64, Ordering};
 use std::test::*;
@@ -67,28 +66,27 @@ impl<'a> Gate for Lingers<'a> {
 }
 
 /// Whether a sink is told that nothing comes once it has refused a batch.
-fn is_told<R: Threads + Wait + Sync + Abort>(
-    rt: &R,
-    alloc: Global,
-    workers: u64,
-) -> Result<bool, Fail> {
+fn is_told<R: Threads + Wait + Sync>(rt: &R, alloc: Global, workers: u64) -> Option<bool> {
     let heard = Heard {
         refused: AtomicU64::new(0),
         was_told: AtomicBool::new(false),
     };
     let gate = Lingers { heard: &heard };
     let mut sink = Refuses { heard: &heard };
-    let query: Query<Formula> = ordered(alloc, MergeOption::NotBuffered, workers)?;
-    let source = RangeSource::new(0, 3)?;
-    let told = run(rt, alloc, &query, source, Growth::ONE, &gate, &mut sink);
-    assert!(rt; matches!(told, Err(RunFault::Sink(9))));
-    Ok(heard.was_told.load(Ordering::SeqCst))
+    let source = RangeSource::new(0, 3).ok()?;
+    let query = ordered::<Formula>(alloc, MergeOption::NotBuffered, workers).ok()?;
+    match run(rt, alloc, &query, source, Growth::ONE, &gate, &mut sink) {
+        Err(RunFault::Sink(9)) => Some(heard.was_told.load(Ordering::SeqCst)),
+        _ => None,
+    }
 }
 
 #[test]
-fn a_sink_that_refused_is_told_nothing_more(rt: HostRuntime) -> Result<(), Fail> {
+fn a_sink_that_refused_is_told_nothing_more(rt: HostRuntime) {
     for workers in WORKERS {
-        assert!(rt; !is_told(&rt, rt.alloc(), workers)?);
+        assert!(rt;
+            is_told(&rt, rt.alloc(), workers) == Some(false),
+            "{workers}"
+        );
     }
-    Ok(())
 }

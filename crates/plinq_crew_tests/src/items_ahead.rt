@@ -9,7 +9,6 @@ use plinq_run::{Gate, run};
 use plinq_source::{Ending, RangeSource};
 use plinq_testing::{built, lingers, waits_for};
 use std::alloc::Global;
-use std::process::Abort;
 use std::sync::Wait;
 use std::sync::atomic::{AtomicU64, Ordering};
 use std::test::*;
@@ -66,6 +65,18 @@ impl<'a> Held<'a> {
         }
         self.taken_by_then = last;
     }
+
+    fn has_all(&self, by_key: bool) -> bool {
+        self.count == ITEMS && self.sum == SUM && (self.is_in_order || !by_key)
+    }
+
+    /// Each worker takes once, and again where its own result is among the first whose items are 3,971 for each worker at most:
+    /// so many of 8 bytes with 256 more each fill 1,048,576 bytes.
+    fn had_few(&self) -> bool {
+        let again = self.workers.saturating_mul(3_971) / 10_000;
+        let most = self.workers.saturating_add(again);
+        self.workers <= self.taken_by_then && self.taken_by_then <= most
+    }
 }
 
 impl<'a> Sink for Held<'a> {
@@ -103,12 +114,8 @@ fn expanding(alloc: Global, workers: u64, by_key: bool) -> Result<Query<Formula>
     built(query.select_many(Formula::Repeat(COPIES)))
 }
 
-fn hold_the_sink<R: Threads + Wait + Sync + Abort>(
-    rt: &R,
-    alloc: Global,
-    workers: u64,
-    by_key: bool,
-) -> Result<(), Fail> {
+/// Whether few chunks are taken while the sink is held, and all items come.
+fn are_few<R: Threads + Wait + Sync>(rt: &R, alloc: Global, workers: u64, by_key: bool) -> bool {
     let taken = AtomicU64::new(0);
     let gate = Counts { taken: &taken };
     let mut sink = Held {
@@ -119,30 +126,26 @@ fn hold_the_sink<R: Threads + Wait + Sync + Abort>(
         sum: 0,
         is_in_order: true,
     };
-    let query = expanding(alloc, workers, by_key)?;
-    let source = RangeSource::new(0, NUMBERS)?;
-    let report = run(rt, alloc, &query, source, Growth::ONE, &gate, &mut sink)?;
-    assert_eq!(rt; report.ending, Ending::End);
-    assert_eq!(rt; (sink.count, sink.sum), (ITEMS, SUM));
-    assert!(rt; sink.is_in_order || !by_key);
-    // Each worker takes once, and again where its own result is among the first whose items are 3,971 for each worker at most:
-    // so many of 8 bytes with 256 more each fill 1,048,576 bytes.
-    let again = workers.saturating_mul(3_971) / 10_000;
-    let most = workers.saturating_add(again);
-    let by_then = sink.taken_by_then;
-    assert!(rt;
-        workers <= by_then && by_then <= most,
-        "{by_then} of {most}"
-    );
-    Ok(())
+    let Ok(source) = RangeSource::new(0, NUMBERS) else {
+        return false;
+    };
+    let Ok(query) = expanding(alloc, workers, by_key) else {
+        return false;
+    };
+    match run(rt, alloc, &query, source, Growth::ONE, &gate, &mut sink) {
+        Ok(report) => report.ending == Ending::End && sink.has_all(by_key) && sink.had_few(),
+        Err(_) => false,
+    }
 }
 
 #[test]
-fn workers_wait_until_their_items_are_merged(rt: HostRuntime) -> Result<(), Fail> {
+fn workers_wait_until_their_items_are_merged(rt: HostRuntime) {
     for workers in [1u64, 2, 8, 64] {
         for by_key in [true, false] {
-            hold_the_sink(&rt, rt.alloc(), workers, by_key)?;
+            assert!(rt;
+                are_few(&rt, rt.alloc(), workers, by_key),
+                "{workers} {by_key}"
+            );
         }
     }
-    Ok(())
 }

@@ -5,12 +5,11 @@ ghost use Rattle.std.proofs.Common.{arith};
 use plinq_aggregate::Sum;
 use plinq_enumerator::Growth;
 use plinq_lambda::{ExpandFault, Lambda};
-use plinq_ops::MergeOption;
+use plinq_ops::{BuildFault, MergeOption, Query};
 use plinq_run::{AggregateFault, OpenGate, RunFault, aggregate, run};
 use plinq_source::RangeSource;
 use plinq_testing::{Taken, WORKERS, built, ordered};
 use std::alloc::Global;
-use std::process::Abort;
 use std::sync::Wait;
 use std::test::*;
 use std::thread::Threads;
@@ -39,55 +38,41 @@ impl Lambda for NoRoom {
     }
 }
 
-fn expand_nothing<R: Threads + Wait + Sync + Abort>(
-    rt: &R,
-    alloc: Global,
-    workers: u64,
-) -> Result<(), Fail> {
+fn expanding(alloc: Global, workers: u64) -> Result<Query<NoRoom>, BuildFault> {
     let query = ordered(alloc, MergeOption::NotBuffered, workers)?;
-    let query = built(query.select_many(NoRoom))?;
-    let source = RangeSource::new(0, 100)?;
+    built(query.select_many(NoRoom))
+}
+
+/// Whether a run says that memory ran out, and delivers nothing.
+fn is_told<R: Threads + Wait + Sync>(rt: &R, alloc: Global, workers: u64) -> bool {
+    let (Ok(source), Ok(query)) = (RangeSource::new(0, 100), expanding(alloc, workers)) else {
+        return false;
+    };
     let mut sink = Taken::new(alloc, usize::MAX);
-    let told = run(
-        rt,
-        alloc,
-        &query,
-        source,
-        Growth::DEFAULT,
-        &OpenGate,
-        &mut sink,
-    );
-    assert!(rt; matches!(told, Err(RunFault::Memory)));
-    assert!(rt; sink.batches.is_empty());
-    Ok(())
+    let growth = Growth::DEFAULT;
+    let told = run(rt, alloc, &query, source, growth, &OpenGate, &mut sink);
+    matches!(told, Err(RunFault::Memory)) && sink.batches.is_empty()
 }
 
 #[test]
-fn a_worker_without_room_is_told_as_memory(rt: HostRuntime) -> Result<(), Fail> {
+fn a_worker_without_room_is_told_as_memory(rt: HostRuntime) {
     for workers in WORKERS {
-        expand_nothing(&rt, rt.alloc(), workers)?;
+        assert!(rt; is_told(&rt, rt.alloc(), workers), "{workers}");
     }
-    Ok(())
 }
 
-/// The workers fold what they compute.
-fn fold_nothing<R: Threads + Wait + Sync + Abort>(
-    rt: &R,
-    alloc: Global,
-    workers: u64,
-) -> Result<(), Fail> {
-    let query = ordered(alloc, MergeOption::Default, workers)?;
-    let query = built(query.select_many(NoRoom))?;
-    let source = RangeSource::new(0, 100)?;
+/// Whether an aggregate says so, whose workers fold what they compute.
+fn is_told_of_a_fold<R: Threads + Wait + Sync>(rt: &R, alloc: Global, workers: u64) -> bool {
+    let (Ok(source), Ok(query)) = (RangeSource::new(0, 100), expanding(alloc, workers)) else {
+        return false;
+    };
     let told = aggregate(rt, alloc, &query, source, Growth::DEFAULT, &OpenGate, &Sum);
-    assert_eq!(rt; told, Err(AggregateFault::Run(RunFault::Memory)));
-    Ok(())
+    told == Err(AggregateFault::Run(RunFault::Memory))
 }
 
 #[test]
-fn a_worker_without_room_to_fold_is_told_as_memory(rt: HostRuntime) -> Result<(), Fail> {
+fn a_worker_without_room_to_fold_is_told_as_memory(rt: HostRuntime) {
     for workers in WORKERS {
-        fold_nothing(&rt, rt.alloc(), workers)?;
+        assert!(rt; is_told_of_a_fold(&rt, rt.alloc(), workers), "{workers}");
     }
-    Ok(())
 }

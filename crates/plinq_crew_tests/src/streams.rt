@@ -3,12 +3,11 @@ ghost use Rattle.std.specs.Prelude.{⊤};
 use plinq_enumerator::Growth;
 use plinq_lambda::Formula;
 use plinq_merge::Sink;
-use plinq_ops::MergeOption;
+use plinq_ops::{MergeOption, Op};
 use plinq_run::run;
-use plinq_source::{Ending, ListSource};
-use plinq_testing::{KeepsBack, WORKERS, built, ordered};
+use plinq_source::{Ending, RangeSource};
+use plinq_testing::{KeepsBack, WORKERS, query_of};
 use std::alloc::Global;
-use std::process::Abort;
 use std::sync::Wait;
 use std::sync::atomic::{AtomicU64, Ordering};
 use std::test::*;
@@ -57,66 +56,64 @@ impl<'a> Sink for HoldsBack<'a> {
     }
 }
 
-/// Adds one to 3, 1 and 4, and asks that the gate never gave up.
-fn add_one<K: Sink<Item = i64>, R: Threads + Wait + Sync + Abort>(
+/// Whether one is added to each of three numbers, and the gate never gave up.
+fn is_added<K: Sink<Item = i64>, R: Threads + Wait + Sync>(
     rt: &R,
     alloc: Global,
     workers: u64,
     gate: &KeepsBack<'_>,
     sink: &mut K,
-) -> Result<(), Fail> {
-    let query = ordered(alloc, MergeOption::NotBuffered, workers)?;
-    let query = built(query.select(Formula::Add(1)))?;
-    let source = ListSource::new(alloc, vec![in alloc; 3i64, 1, 4]?);
-    let report = run(rt, alloc, &query, source, Growth::ONE, gate, sink)?;
-    assert_eq!(rt; report.ending, Ending::End);
-    assert!(rt; !gate.gave_up());
-    Ok(())
+) -> bool {
+    let Ok(source) = RangeSource::new(0, 3) else {
+        return false;
+    };
+    let add_one = [Op::Select(Formula::Add(1))];
+    let Ok(query) = query_of(alloc, &add_one, MergeOption::NotBuffered, workers) else {
+        return false;
+    };
+    match run(rt, alloc, &query, source, Growth::ONE, gate, sink) {
+        Ok(report) => report.ending == Ending::End && !gate.gave_up(),
+        Err(_) => false,
+    }
 }
 
-/// How many batches come, where key 1 waits for the first.
-fn come_while_key_1_waits<R: Threads + Wait + Sync + Abort>(
-    rt: &R,
-    alloc: Global,
-    workers: u64,
-) -> Result<u64, Fail> {
+/// Whether three batches come, where key 1 waits for the first.
+fn come_while_key_1_waits<R: Threads + Wait + Sync>(rt: &R, alloc: Global, workers: u64) -> bool {
     let handed_on = AtomicU64::new(0);
     let gate = KeepsBack::at(1, &handed_on, 1);
     let mut sink = HandsOn {
         handed_on: &handed_on,
     };
-    add_one(rt, alloc, workers, &gate, &mut sink)?;
-    Ok(handed_on.load(Ordering::SeqCst))
+    is_added(rt, alloc, workers, &gate, &mut sink) && handed_on.load(Ordering::SeqCst) == 3
 }
 
 #[test]
-fn batches_come_while_a_worker_is_held_back(rt: HostRuntime) -> Result<(), Fail> {
+fn batches_come_while_a_worker_is_held_back(rt: HostRuntime) {
     for workers in WORKERS {
-        assert_eq!(rt; come_while_key_1_waits(&rt, rt.alloc(), workers)?, 3);
+        assert!(rt;
+            come_while_key_1_waits(&rt, rt.alloc(), workers),
+            "{workers}"
+        );
     }
-    Ok(())
 }
 
-/// How many batches are taken, where key 2 waits until two are handed on.
-fn taken_while_key_2_waits<R: Threads + Wait + Sync + Abort>(
-    rt: &R,
-    alloc: Global,
-    workers: u64,
-) -> Result<u64, Fail> {
+/// Whether three batches are taken, where key 2 waits until two are handed on.
+fn come_while_key_2_waits<R: Threads + Wait + Sync>(rt: &R, alloc: Global, workers: u64) -> bool {
     let handed_on = AtomicU64::new(0);
     let gate = KeepsBack::at(2, &handed_on, 2);
     let mut sink = HoldsBack {
         taken: 0,
         handed_on: &handed_on,
     };
-    add_one(rt, alloc, workers, &gate, &mut sink)?;
-    Ok(sink.taken)
+    is_added(rt, alloc, workers, &gate, &mut sink) && sink.taken == 3
 }
 
 #[test]
-fn a_sink_is_told_when_nothing_comes(rt: HostRuntime) -> Result<(), Fail> {
+fn a_sink_is_told_when_nothing_comes(rt: HostRuntime) {
     for workers in WORKERS {
-        assert_eq!(rt; taken_while_key_2_waits(&rt, rt.alloc(), workers)?, 3);
+        assert!(rt;
+            come_while_key_2_waits(&rt, rt.alloc(), workers),
+            "{workers}"
+        );
     }
-    Ok(())
 }
