@@ -1,3 +1,3 @@
 pub mod Growing
-pub mod Replays
 pub mod Held
+pub mod inner

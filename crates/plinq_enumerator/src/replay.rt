@@ -1,7 +1,7 @@
 ghost use Rattle.std.specs.Prelude.{◌≡◌, ◌≤◌, ◌+◌, ◌<◌, ◌^◌, ◌||◌, length};
 ghost use Rattle.plinq_source.specs.Trace.{IsSourceEnding};
 ghost use Rattle.plinq_keyed.specs.History.{some_source, reply, tells, same_tail, ending_tail};
-ghost use Rattle.plinq_enumerator.specs.Replays.{place_of, is_close};
+ghost use Rattle.plinq_enumerator.specs.inner.Replays.{place_of, is_close};
 
 use plinq_keyed::{Event, Record, Tail};
 use plinq_source::Ending;

@@ -1,7 +1,7 @@
 use Rattle.std.proofs.Common.{◌≡◌, ◌≤◌, ◌<◌, ◌^◌, ◌&&◌, Some, drop, map}
 use Rattle.plinq_keyed.specs.Keys.{rises_from}
 use Rattle.plinq_keyed.specs.History.{is_run, is_legal_history, some_source}
-use Rattle.plinq_enumerator.specs.Replays.{place_of}
+use Rattle.plinq_enumerator.specs.inner.Replays.{place_of}
 use Rattle.plinq_enumerator.proofs.replaying.replays.Given as goal
 
 abbrev pub invariant-loop-entry : goal.invariant-loop-entry
