@@ -1,17 +1,18 @@
-//! The tests of the program's edge, each of what no contract says: that calls succeed with ample memory, what failing
-//! streams bring about, and texts.
+//! The tests of the program's edge, each of what neither a contract says nor the built program shows: what writers bring about
+//! that no stream of the program is, lines of values that none of its commands comes to, and texts of faults that it never
+//! meets.
 //!
-//! They stand in a crate of their own, since a crate with tests is proved twice. Whole documents and command lines with
-//! what is printed for them are tried on the built program, in the folder `tests/` of the repository.
+//! They stand in a crate of their own, since a crate with tests is proved twice. Documents, command lines and streams, with what
+//! is printed for them, are tried on the built program, in the folder `tests/` of the repository.
 #![tactic(auto)]
 
 #[cfg(test)]
-mod documents;
-#[cfg(test)]
 mod fails_once;
+#[cfg(test)]
+mod fault_words;
 #[cfg(test)]
 mod lines;
 #[cfg(test)]
 mod narrow;
 #[cfg(test)]
-mod program;
+mod writers;

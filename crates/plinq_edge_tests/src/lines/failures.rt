@@ -1,53 +1,68 @@
-use super::{expect_lines, expect_written};
 use crate::narrow::Narrow;
 use plinq_lines::{WriteFault, write_answer, write_batch};
 use plinq_ops::MergeOption;
 use plinq_source::Ending;
-use std::process::Abort;
-use std::test::Fail;
+use std::alloc::Global;
 
-const LINES: &[u8] = b"-12 345\n6\n78\nrefused 9\n";
+// (more numbers than are placed at once)
+const LONG: [i64; 18] = [
+    i64::MIN,
+    -10,
+    -1,
+    0,
+    1,
+    9,
+    10,
+    99,
+    100,
+    999_999,
+    i64::MAX,
+    12,
+    13,
+    14,
+    15,
+    16,
+    17,
+    18,
+];
 
-// A batch, and then an answer.
+const LINES: &[u8] =
+    b"-12 345\n\n7\n-9223372036854775808 -10 -1 0 1 9 10 99 100 999999 9223372036854775807 12 13 14 15 16 17 18\n6\n78\nrefused 9\n";
+
+// Batches, and then an answer.
 fn write_lines(out: &mut Narrow) -> Result<(), WriteFault> {
     write_batch(out, &[-12, 345])?;
+    write_batch(out, &[])?;
+    write_batch(out, &[7])?;
+    write_batch(out, &LONG)?;
     write_answer(out, MergeOption::NotBuffered, &[6, 78], Ending::Refused(9))
 }
 
-// The writer has room for some of the bytes, so that it fails at each place of each line.
+// Whether a writer with room for so many bytes took these of the lines, and then failed.
+fn fails_at(alloc: Global, room: usize, at_once: usize) -> bool {
+    let mut out = Narrow::new(alloc, room, at_once);
+    write_lines(&mut out).is_err() && out.taken().len() == room && LINES.starts_with(out.taken())
+}
+
+fn is_written(out: Narrow) -> bool {
+    let mut out = out;
+    write_lines(&mut out).is_ok() && out.taken() == LINES
+}
+
+// It fails at each place of each line.
 #[test]
 fn a_writer_that_fails_anywhere(rt: HostRuntime) {
     for at_once in [1, 2, 100] {
         for room in 0..LINES.len() {
-            fails_at(&rt, room, at_once);
+            assert!(rt; fails_at(rt.alloc(), room, at_once), "with room for {room}");
         }
-        is_written(&rt, Narrow::new(rt.alloc(), LINES.len(), at_once));
+        assert!(rt; is_written(Narrow::new(rt.alloc(), LINES.len(), at_once)));
     }
-}
-
-fn fails_at<R: AllocGlobal + Abort>(rt: &R, room: usize, at_once: usize) {
-    let mut out = Narrow::new(rt.alloc(), room, at_once);
-    assert!(rt; write_lines(&mut out).is_err(), "with room for {room}");
-    assert!(rt; room <= LINES.len());
-    expect_lines(rt, out.taken(), &LINES[..room]);
-}
-
-fn is_written(rt: &impl Abort, out: Narrow) {
-    let mut out = out;
-    expect_written(rt, write_lines(&mut out));
-    expect_lines(rt, out.taken(), LINES);
 }
 
 #[test]
 fn a_writer_that_is_interrupted(rt: HostRuntime) {
-    let mut out = Narrow::new(rt.alloc(), 100, 1);
+    let mut out = Narrow::new(rt.alloc(), 1_000, 1);
     out.interrupts = true;
-    is_written(&rt, out);
-}
-
-#[test]
-fn a_failed_write_in_words(rt: HostRuntime) -> Result<(), Fail> {
-    let words = format!(in rt.alloc(); "{}", WriteFault)?;
-    assert_eq!(rt; words.as_str(), "write failed");
-    Ok(())
+    assert!(rt; is_written(out));
 }

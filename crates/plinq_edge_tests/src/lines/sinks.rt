@@ -1,10 +1,8 @@
-use super::expect_lines;
 use crate::fails_once::FailsOnce;
 use crate::narrow::Narrow;
 use plinq_lines::{LineSink, WRITE_FAILED};
 use plinq_merge::Sink;
-use std::process::Abort;
-use std::test::Fail;
+use std::alloc::Global;
 
 const LINES: &[u8] = b"-12 345\n6\n\n78\n";
 
@@ -16,77 +14,85 @@ fn take_all<K: Sink<Item = i64>>(sink: &mut K) -> Result<(), u32> {
     sink.batch(&[78])
 }
 
-fn expect_told(rt: &impl Abort, told: Result<(), u32>, wanted: Result<(), u32>) {
-    assert_eq!(rt; told, wanted);
+fn is_each_a_line(alloc: Global) -> bool {
+    let mut out = Vec::new(alloc);
+    let mut sink = LineSink::new(&mut out);
+    let told = take_all(&mut sink);
+    told.is_ok() && !sink.has_failed() && sink.into_writer().as_slice() == LINES
 }
 
 #[test]
-fn each_batch_is_a_line(rt: HostRuntime) -> Result<(), Fail> {
-    let mut out = Vec::new(rt.alloc());
+fn each_batch_is_a_line(rt: HostRuntime) {
+    assert!(rt; is_each_a_line(rt.alloc()));
+}
+
+fn fails_at(alloc: Global, room: usize) -> bool {
+    let mut out = Narrow::new(alloc, room, 100);
     let mut sink = LineSink::new(&mut out);
-    expect_told(&rt, take_all(&mut sink), Ok(()));
-    assert!(rt; !sink.has_failed());
-    expect_lines(&rt, sink.into_writer().as_slice(), LINES);
-    Ok(())
+    let told = take_all(&mut sink);
+    let has_failed = told == Err(WRITE_FAILED) && sink.has_failed();
+    let out = sink.into_writer();
+    has_failed && out.taken().len() == room && LINES.starts_with(out.taken())
 }
 
 // It fails at each place of each line.
 #[test]
-fn a_writer_that_fails_anywhere(rt: HostRuntime) -> Result<(), Fail> {
+fn a_writer_that_fails_anywhere(rt: HostRuntime) {
     for room in 0..LINES.len() {
-        let mut out = Narrow::new(rt.alloc(), room, 100);
-        let mut sink = LineSink::new(&mut out);
-        expect_told(&rt, take_all(&mut sink), Err(WRITE_FAILED));
-        assert!(rt; sink.has_failed());
-        let _ = sink.into_writer();
-        expect_lines(&rt, out.taken(), &LINES[..room]);
+        assert!(rt; fails_at(rt.alloc(), room), "with room for {room}");
     }
-    Ok(())
 }
 
 // It fails in the middle of the first line, and would take the second.
-#[test]
-fn a_batch_after_a_failure(rt: HostRuntime) -> Result<(), Fail> {
-    let mut out = FailsOnce::new(rt.alloc(), 2);
+fn is_refused_afterwards(alloc: Global) -> bool {
+    let mut out = FailsOnce::new(alloc, 2);
     let mut sink = LineSink::new(&mut out);
-    expect_told(&rt, sink.batch(&[-12, 345]), Err(WRITE_FAILED));
-    expect_told(&rt, sink.batch(&[6]), Err(WRITE_FAILED));
+    let first = sink.batch(&[-12, 345]);
+    let second = sink.batch(&[6]);
     sink.idle();
     let out = sink.into_writer();
-    expect_lines(&rt, out.taken(), b"-12");
-    assert_eq!(rt; out.calls, 2);
-    Ok(())
+    let are_refused = first == Err(WRITE_FAILED) && second == Err(WRITE_FAILED);
+    are_refused && out.taken() == b"-12".as_slice() && out.calls == 2
 }
 
 #[test]
-fn only_what_was_written_is_flushed(rt: HostRuntime) -> Result<(), Fail> {
-    let mut out = FailsOnce::new(rt.alloc(), 0);
+fn a_batch_after_a_failure(rt: HostRuntime) {
+    assert!(rt; is_refused_afterwards(rt.alloc()));
+}
+
+fn is_flushed_twice(alloc: Global) -> bool {
+    let mut out = FailsOnce::new(alloc, 0);
     let mut sink = LineSink::new(&mut out);
     sink.idle();
-    expect_told(&rt, sink.batch(&[4]), Ok(()));
-    expect_told(&rt, sink.batch(&[2]), Ok(()));
+    let first = sink.batch(&[4]);
+    let second = sink.batch(&[2]);
     sink.idle();
     sink.idle();
-    expect_told(&rt, sink.batch(&[5]), Ok(()));
+    let third = sink.batch(&[5]);
     sink.idle();
-    assert!(rt; !sink.has_failed());
+    let are_taken = first.is_ok() && second.is_ok() && third.is_ok() && !sink.has_failed();
     let out = sink.into_writer();
-    assert_eq!(rt; out.flushes, 2);
-    expect_lines(&rt, out.taken(), b"4\n2\n5\n");
-    Ok(())
+    are_taken && out.flushes == 2 && out.taken() == b"4\n2\n5\n".as_slice()
 }
 
 #[test]
-fn a_batch_after_a_flush_that_fails(rt: HostRuntime) -> Result<(), Fail> {
-    let mut out = FailsOnce::new(rt.alloc(), 2);
+fn only_what_was_written_is_flushed(rt: HostRuntime) {
+    assert!(rt; is_flushed_twice(rt.alloc()));
+}
+
+fn is_refused_after_a_flush(alloc: Global) -> bool {
+    let mut out = FailsOnce::new(alloc, 2);
     let mut sink = LineSink::new(&mut out);
-    expect_told(&rt, sink.batch(&[4]), Ok(()));
+    let first = sink.batch(&[4]);
     sink.idle();
-    assert!(rt; sink.has_failed());
-    expect_told(&rt, sink.batch(&[2]), Err(WRITE_FAILED));
+    let has_failed = first.is_ok() && sink.has_failed();
+    let second = sink.batch(&[2]);
     sink.idle();
     let out = sink.into_writer();
-    expect_lines(&rt, out.taken(), b"4\n");
-    assert_eq!(rt; out.calls, 2);
-    Ok(())
+    has_failed && second == Err(WRITE_FAILED) && out.taken() == b"4\n".as_slice() && out.calls == 2
+}
+
+#[test]
+fn a_batch_after_a_flush_that_fails(rt: HostRuntime) {
+    assert!(rt; is_refused_after_a_flush(rt.alloc()));
 }
