@@ -1,46 +1,21 @@
 //! A query that threads answer, and beside them one thread.
-ghost use Rattle.std.specs.Prelude.{◌≡◌, ◌≤◌, ◌^◌, length, vec_len, IfOk};
+ghost use Rattle.std.specs.Prelude.{◌≡◌, IfSome};
 ghost use Rattle.plinq_source.specs.declared.source.Source.{Ghosts};
 
-use crate::taken::Taken;
 use plinq_enumerator::Growth;
-use plinq_lambda::{Lambda, SharedLambda};
+use plinq_lambda::SharedLambda;
 use plinq_merge::CancelAfter;
-use plinq_ops::{BuildFault, Built, MergeOption, Op, Query, sequential};
+use plinq_ops::{MergeOption, Op, Query, sequential};
 use plinq_run::{Gate, Report, RunFault, run, run_with};
-use plinq_source::{
-    ConcatSource, Ending, ListSource, OutOfMemory, RangeSource, RepeatSource, Source, TextSource,
-};
-use std::alloc::{AllocError, Global};
-use std::process::Abort;
+use plinq_source::{Ending, ListSource, OutOfMemory, RangeSource, Source};
+use plinq_testing::{Taken, query_of};
+use std::alloc::Global;
 use std::sync::Wait;
-use std::test::Fail;
 use std::thread::Threads;
-
-pub(crate) const WORKERS: [u64; 3] = [1, 2, 64];
-
-pub(crate) const OPTIONS: [MergeOption; 4] = [
-    MergeOption::Default,
-    MergeOption::NotBuffered,
-    MergeOption::AutoBuffered,
-    MergeOption::FullyBuffered,
-];
-
-/// What a query is asked of, where the items of a list stand beside it.
-#[derive(Clone, Copy, Debug)]
-pub(crate) enum Given {
-    List,
-    Refusing(u32),
-    Text(&'static str),
-    Range(i64, u64),
-    Repeat(i64, u64),
-    /// The list twice, where each of the two refuses if it has a code.
-    Concat(Option<u32>, Option<u32>),
-}
 
 /// How a query is asked. The sink refuses batch number `refused`, and a token stops the run after `cancel_after` batches, if
 /// there is one.
-#[derive(Clone, Copy, Debug)]
+#[derive(Clone, Copy)]
 pub(crate) struct Setting {
     pub(crate) workers: u64,
     pub(crate) growth: Growth,
@@ -49,9 +24,23 @@ pub(crate) struct Setting {
     pub(crate) cancel_after: Option<u64>,
 }
 
-/// What the run reported, what its sink took, and the answer of one thread.
-#[derive(Debug, Drop)]
+impl Setting {
+    /// Chunks of one element and a batch for each, of which none is refused, by so many workers.
+    pub(crate) fn by(workers: u64) -> Setting {
+        Setting {
+            workers,
+            growth: Growth::ONE,
+            option: MergeOption::NotBuffered,
+            refused: usize::MAX,
+            cancel_after: None,
+        }
+    }
+}
+
+/// What the run reported that was asked so, what its sink took, and the answer of one thread.
+#[derive(Drop)]
 pub(crate) struct Answers {
+    setting: Setting,
     pub(crate) told: Result<Report, RunFault>,
     pub(crate) batches: Vec<Vec<i64>>,
     pub(crate) items: Vec<i64>,
@@ -59,42 +48,36 @@ pub(crate) struct Answers {
 }
 
 impl Answers {
-    /// Whether the run delivered the answer of one thread in batches of this kind, and reported how it ends.
-    pub(crate) fn are_one(&self, option: MergeOption) -> bool {
+    /// Whether the run delivered the answer of one thread, and reported how it ends.
+    pub(crate) fn are_one(&self) -> bool {
         match &self.told {
-            Ok(report) => report.ending == self.ending && self.left(option) == Some(0),
+            Ok(report) => report.ending == self.ending && self.left() == Some(0),
             Err(_) => false,
         }
     }
 
     /// Whether the run was stopped when it had delivered so many batches, the first of the answer.
-    fn are_stopped(&self, option: MergeOption, most: u64) -> bool {
+    fn are_stopped(&self, most: u64) -> bool {
         match &self.told {
             Err(RunFault::Cancelled) => {
-                self.batches.len() as u64 == most && self.left(option).is_some()
+                self.batches.len() as u64 == most && self.left().is_some()
             }
             _ => false,
         }
     }
 
     /// Whether the run was stopped after `cancel_after` batches, if the answer has as many, and else delivered all of it.
-    pub(crate) fn are_right(&self, setting: Setting) -> bool {
-        match setting.cancel_after {
-            Some(most) => {
-                if most <= self.all_batches(setting.option) {
-                    self.are_stopped(setting.option, most)
-                } else {
-                    self.are_one(setting.option)
-                }
-            }
-            None => self.are_one(setting.option),
+    pub(crate) fn are_right(&self) -> bool {
+        match self.setting.cancel_after {
+            Some(most) if most <= self.all_batches() => self.are_stopped(most),
+            _ => self.are_one(),
         }
     }
 
     /// How many batches the answer of one thread has.
-    fn all_batches(&self, option: MergeOption) -> u64 {
+    fn all_batches(&self) -> u64 {
         let items = self.items.len() as u64;
-        match option {
+        match self.setting.option {
             MergeOption::NotBuffered => items,
             MergeOption::Default | MergeOption::AutoBuffered => items.div_ceil(16),
             MergeOption::FullyBuffered => match self.ending {
@@ -104,17 +87,19 @@ impl Answers {
         }
     }
 
-    /// Whether the sink refused a batch with 9 when it had taken so many, the first of the answer.
-    pub(crate) fn are_refused(&self, option: MergeOption, taken: usize) -> bool {
+    /// Whether the sink refused a batch with 9 when it had taken those before it, the first of the answer.
+    pub(crate) fn are_refused(&self) -> bool {
         match &self.told {
-            Err(RunFault::Sink(9)) => self.batches.len() == taken && self.left(option).is_some(),
+            Err(RunFault::Sink(9)) => {
+                self.batches.len() == self.setting.refused && self.left().is_some()
+            }
             _ => false,
         }
     }
 
     /// How many items are left after the batches, if these are the first of the answer.
-    pub(crate) fn left(&self, option: MergeOption) -> Option<usize> {
-        match option {
+    fn left(&self) -> Option<usize> {
+        match self.setting.option {
             MergeOption::NotBuffered => left_after(&self.batches, &self.items, 1),
             MergeOption::Default | MergeOption::AutoBuffered => {
                 left_after(&self.batches, &self.items, 16)
@@ -140,43 +125,8 @@ fn left_after(batches: &[Vec<i64>], items: &[i64], size: usize) -> Option<usize>
     Some(left.len())
 }
 
-/// What a builder call answered, without the query of one that failed.
-pub(crate) fn built<L: Lambda>(answer: Built<L>) -> Result<Query<L>, BuildFault> {
-    answer.map_err(|(_, fault)| fault)
-}
-
-/// A query that keeps the order, without an operator.
-pub(crate) fn ordered<L: Lambda>(
-    alloc: Global,
-    option: MergeOption,
-    workers: u64,
-) -> Result<Query<L>, BuildFault> {
-    let query = built(Query::new(alloc).as_ordered())?;
-    let query = built(query.with_merge(option))?;
-    built(query.with_degree(workers))
-}
-
-fn with_all<L: Lambda + Copy>(query: Query<L>, ops: &[Op<L>]) -> Result<Query<L>, BuildFault> {
-    let mut query = query;
-    for op in ops {
-        query = built(query.with_op(*op))?;
-    }
-    Ok(query)
-}
-
-/// A query that keeps the order, with these operators.
-pub(crate) fn query_of<L: Lambda + Copy>(
-    alloc: Global,
-    ops: &[Op<L>],
-    option: MergeOption,
-    workers: u64,
-) -> Result<Query<L>, BuildFault> {
-    let query = ordered(alloc, option, workers)?;
-    with_all(query, ops)
-}
-
 /// Has a run answer a query, whose workers this gate holds back, and one thread, each from a source of its own.
-pub(crate) fn ask_of<L, S, G, R>(
+fn ask_of<L, S, G, R>(
     rt: &R,
     alloc: Global,
     query: &Query<L>,
@@ -213,6 +163,7 @@ where
         }
     };
     Ok(Answers {
+        setting,
         told,
         batches: sink.batches,
         items,
@@ -220,115 +171,64 @@ where
     })
 }
 
-pub(crate) fn few(rt: &impl Abort, alloc: Global, items: &[i64]) -> Result<Vec<i64>, AllocError>
-    ensures { IfOk result (λ items. vec_len items ≤ 1000) }
+/// A list that ends, or refuses with this code, if there is room for it.
+pub(crate) fn list_of(alloc: Global, items: &[i64], code: Option<u32>) -> Option<ListSource<i64>>
+    ensures { IfSome result (λ source. ⟦<ListSource<i64> as Source>⟧.given source ≡ 0) }
 {
-    assert!(rt; items.len() <= 1_000);
-    Vec::from_slice(alloc, items)
+    if items.len() > 1_000 {
+        return None;
+    }
+    let Ok(items) = Vec::from_slice(alloc, items) else {
+        return None;
+    };
+    match code {
+        None => Some(ListSource::new(alloc, items)),
+        Some(code) => Some(ListSource::refusing(alloc, items, code)),
+    }
 }
 
-/// A list that ends, or refuses with this code.
-pub(crate) fn list_of(
-    rt: &impl Abort,
+/// Has a run answer a query over a list with `as_ordered` and these operators, whose workers this gate holds back, and one
+/// thread.
+pub(crate) fn ask_list<L, G, R>(
+    rt: &R,
     alloc: Global,
     items: &[i64],
     code: Option<u32>,
-) -> Result<ListSource<i64>, AllocError>
-    ensures fresh { IfOk result (λ source. ⟦<ListSource<i64> as Source>⟧.given source ≡ 0) }
-    ensures few { IfOk result (λ source. length (⟦<ListSource<i64> as Source>⟧.whole source).items ≤ 1000) }
-{
-    let items = few(rt, alloc, items)?;
-    match code {
-        None => Ok(ListSource::new(alloc, items)),
-        Some(code) => Ok(ListSource::refusing(alloc, items, code)),
-    }
-}
-
-/// Two of these, one after the other.
-fn two_lists(
-    rt: &impl Abort,
-    alloc: Global,
-    items: &[i64],
-    first: Option<u32>,
-    second: Option<u32>,
-) -> Result<ConcatSource<i64, ListSource<i64>, ListSource<i64>>, AllocError>
-    ensures fresh { IfOk result (λ source. ⟦<ConcatSource<i64, ListSource<i64>, ListSource<i64>> as Source>⟧.given source ≡ 0) }
-{
-    let first = list_of(rt, alloc, items, first)?;
-    let second = list_of(rt, alloc, items, second)?;
-    Ok(ConcatSource::new(first, second))
-}
-
-fn bytes(rt: &impl Abort, alloc: Global, text: &str) -> Result<Vec<u8>, AllocError>
-    ensures { IfOk result (λ bytes. vec_len bytes ≤ 2 ^ 40) }
-{
-    assert!(rt; text.len() <= 1_000);
-    Vec::from_slice(alloc, text.as_bytes())
-}
-
-fn ask_given<L, G, R>(
-    rt: &R,
-    alloc: Global,
-    query: &Query<L>,
-    given: Given,
-    items: &[i64],
-    setting: Setting,
-    gate: &G,
-) -> Result<Answers, Fail>
-where
-    L: SharedLambda<Item = i64>,
-    G: Gate,
-    R: Threads + Wait + Sync + Abort,
-{
-    match given {
-        Given::List => {
-            let source = list_of(rt, alloc, items, None)?;
-            let again = list_of(rt, alloc, items, None)?;
-            Ok(ask_of(rt, alloc, query, setting, gate, source, again)?)
-        }
-        Given::Refusing(code) => {
-            let source = list_of(rt, alloc, items, Some(code))?;
-            let again = list_of(rt, alloc, items, Some(code))?;
-            Ok(ask_of(rt, alloc, query, setting, gate, source, again)?)
-        }
-        Given::Text(text) => {
-            let source = TextSource::new(alloc, bytes(rt, alloc, text)?);
-            let again = TextSource::new(alloc, bytes(rt, alloc, text)?);
-            Ok(ask_of(rt, alloc, query, setting, gate, source, again)?)
-        }
-        Given::Range(start, count) => {
-            let source = RangeSource::new(start, count)?;
-            let again = RangeSource::new(start, count)?;
-            Ok(ask_of(rt, alloc, query, setting, gate, source, again)?)
-        }
-        Given::Repeat(value, count) => {
-            let source = RepeatSource::new(value, count)?;
-            let again = RepeatSource::new(value, count)?;
-            Ok(ask_of(rt, alloc, query, setting, gate, source, again)?)
-        }
-        Given::Concat(first, second) => {
-            let source = two_lists(rt, alloc, items, first, second)?;
-            let again = two_lists(rt, alloc, items, first, second)?;
-            Ok(ask_of(rt, alloc, query, setting, gate, source, again)?)
-        }
-    }
-}
-
-/// Has a run answer a query with `as_ordered` and these operators, whose workers this gate holds back, and one thread.
-pub(crate) fn ask<L, G, R>(
-    rt: &R,
-    alloc: Global,
-    given: Given,
-    items: &[i64],
     ops: &[Op<L>],
     setting: Setting,
     gate: &G,
-) -> Result<Answers, Fail>
+) -> Option<Answers>
 where
     L: SharedLambda<Item = i64> + Copy,
     G: Gate,
-    R: Threads + Wait + Sync + Abort,
+    R: Threads + Wait + Sync,
 {
-    let query = query_of(alloc, ops, setting.option, setting.workers)?;
-    ask_given(rt, alloc, &query, given, items, setting, gate)
+    let source = list_of(alloc, items, code)?;
+    let again = list_of(alloc, items, code)?;
+    match query_of(alloc, ops, setting.option, setting.workers) {
+        Ok(query) => ask_of(rt, alloc, &query, setting, gate, source, again).ok(),
+        Err(_) => None,
+    }
+}
+
+/// The same over so many numbers from 0 on.
+pub(crate) fn ask_range<L, G, R>(
+    rt: &R,
+    alloc: Global,
+    count: u64,
+    ops: &[Op<L>],
+    setting: Setting,
+    gate: &G,
+) -> Option<Answers>
+where
+    L: SharedLambda<Item = i64> + Copy,
+    G: Gate,
+    R: Threads + Wait + Sync,
+{
+    let source = RangeSource::new(0, count).ok()?;
+    let again = RangeSource::new(0, count).ok()?;
+    match query_of(alloc, ops, setting.option, setting.workers) {
+        Ok(query) => ask_of(rt, alloc, &query, setting, gate, source, again).ok(),
+        Err(_) => None,
+    }
 }

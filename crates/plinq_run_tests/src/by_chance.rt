@@ -3,16 +3,15 @@
 ghost use Rattle.std.specs.Prelude.{◌≤◌, ◌<◌};
 
 use crate::aggregates::Last;
-use crate::asked::{Given, OPTIONS, Setting, ask, list_of, query_of};
-use plinq_aggregate::fold_sequential;
-use plinq_enumerator::{Growth, GrowthFault};
+use crate::asked::{Answers, Setting, ask_list, list_of};
+use plinq_enumerator::Growth;
 use plinq_lambda::Formula;
-use plinq_ops::{MergeOption, Op, sequential};
-use plinq_run::{AggregateFault, Gate, RunFault, aggregate};
-use plinq_source::{Ending, Source};
-use std::alloc::{AllocError, Global};
+use plinq_ops::Op;
+use plinq_run::{AggregateFault, Gate, Report, RunFault, aggregate};
+use plinq_source::Ending;
+use plinq_testing::{OPTIONS, query_of};
+use std::alloc::Global;
 use std::hint::spin_loop;
-use std::process::Abort;
 use std::sync::Wait;
 use std::sync::atomic::{AtomicU64, Ordering};
 use std::test::*;
@@ -75,33 +74,15 @@ impl Dice {
         self.below(13) as i64 - 3
     }
 
-    /// A small number, or now and then the greatest, with which sums, products and expansions fault.
-    fn item(&mut self) -> i64 {
-        match self.below(16) {
-            0 => i64::MAX,
-            _ => self.small(),
+    /// Small numbers, and now and then the greatest, with which sums, products and expansions fault.
+    fn items(&mut self) -> [i64; 40] {
+        let mut items = [i64::MAX; 40];
+        for item in &mut items {
+            if self.below(16) > 0 {
+                *item = self.small();
+            }
         }
-    }
-
-    fn items(&mut self, alloc: Global) -> Result<Vec<i64>, AllocError> {
-        let mut items = Vec::new(alloc);
-        for _ in 0..self.below(41) {
-            items.push(self.item())?;
-        }
-        Ok(items)
-    }
-
-    fn given(&mut self) -> Given {
-        match self.below(12) {
-            0 => Given::Range(self.small(), self.below(41)),
-            1 => Given::Repeat(self.small(), self.below(41)),
-            2 => Given::Text("3 -1 4 1\n-5 9 2 6 5 3 -5 8 9 7 9 three"),
-            3 | 4 => Given::Refusing(7),
-            5 | 6 => Given::Concat(None, None),
-            7 => Given::Concat(None, Some(8)),
-            8 => Given::Concat(Some(7), Some(8)),
-            _ => Given::List,
-        }
+        items
     }
 
     fn formula(&mut self) -> Formula {
@@ -121,28 +102,17 @@ impl Dice {
     }
 
     fn op(&mut self) -> Op<Formula> {
+        let formula = self.formula();
         match self.below(9) {
-            0 | 1 => Op::Select(self.formula()),
-            2 => Op::Filter(self.formula()),
-            3 => Op::SelectMany(self.formula()),
+            0 | 1 => Op::Select(formula),
+            2 => Op::Filter(formula),
+            3 => Op::SelectMany(formula),
             4 => Op::Take(self.small()),
             5 => Op::Skip(self.small()),
-            6 => Op::TakeWhile(self.formula()),
-            7 => Op::SkipWhile(self.formula()),
+            6 => Op::TakeWhile(formula),
+            7 => Op::SkipWhile(formula),
             _ => Op::AsUnordered,
         }
-    }
-
-    fn ops(&mut self, alloc: Global) -> Result<Vec<Op<Formula>>, AllocError> {
-        let mut ops = Vec::new(alloc);
-        for _ in 0..self.below(5) {
-            ops.push(self.op())?;
-        }
-        Ok(ops)
-    }
-
-    fn option(&mut self) -> MergeOption {
-        OPTIONS[self.below(4) as usize]
     }
 
     /// How many workers go: any number of them, and at every fourth run 1, 2, 8 and 64 in turn.
@@ -158,117 +128,123 @@ impl Dice {
 
     /// After how many batches a token stops a run, mostly few of them. Two of three runs have none.
     fn cancel_after(&mut self) -> Option<u64> {
-        match self.below(3) {
-            0 => {
-                let most = 1 + self.below(21);
-                Some(self.below(most))
-            }
-            _ => None,
+        if self.below(3) > 0 {
+            return None;
         }
+        let most = 1 + self.below(21);
+        Some(self.below(most))
     }
 
-    fn setting(&mut self, run: u64) -> Result<Setting, GrowthFault> {
-        let growth = Growth::new(1, 1 + self.below(3), 1 + self.below(8))?;
-        Ok(Setting {
-            workers: self.workers(run),
-            growth,
-            option: self.option(),
-            refused: usize::MAX,
-            cancel_after: None,
+    fn setting(&mut self, run: u64) -> Option<Setting> {
+        Some(Setting {
+            growth: Growth::new(1, 1 + self.below(3), 1 + self.below(8)).ok()?,
+            option: OPTIONS[self.below(4) as usize],
+            cancel_after: self.cancel_after(),
+            ..Setting::by(self.workers(run))
         })
     }
 }
 
-/// Asks a query of a run and of one thread, and reports how the run ended.
-fn ask_any<R: Threads + Wait + Sync + Abort>(
+/// A query over a list, and how it is asked.
+#[derive(Drop)]
+struct Asked<'a> {
+    items: &'a [i64],
+    code: Option<u32>,
+    ops: &'a [Op<Formula>],
+    setting: Setting,
+}
+
+/// Whether the last item of its answer is told, where that comes to its end.
+fn is_last<R: Threads + Wait + Sync>(
+    rt: &R,
+    alloc: Global,
+    asked: &Asked<'_>,
+    gate: &Delays,
+    answers: &Answers,
+) -> bool {
+    let growth = asked.setting.growth;
+    let Some(source) = list_of(alloc, asked.items, asked.code) else {
+        return false;
+    };
+    let Ok(query) = query_of(
+        alloc,
+        asked.ops,
+        asked.setting.option,
+        asked.setting.workers,
+    ) else {
+        return false;
+    };
+    let told = aggregate(rt, alloc, &query, source, growth, gate, &Last);
+    match answers.ending {
+        Ending::End => told == Ok(answers.items.last().copied()),
+        ending => told == Err(AggregateFault::Ended(ending)),
+    }
+}
+
+/// The number of a way in which a run ends: the end, a refusal, a fault, or before that.
+fn way_of(told: &Result<Report, RunFault>) -> usize {
+    match told {
+        Ok(report) => match report.ending {
+            Ending::End => 0,
+            Ending::Refused(_) => 1,
+            Ending::Fault(_) => 2,
+        },
+        Err(_) => 3,
+    }
+}
+
+/// Asks a query of threads and of one thread, and answers in which way the run ended if both answers and the aggregate are
+/// right.
+fn way_if_right<R: Threads + Wait + Sync>(
+    rt: &R,
+    alloc: Global,
+    asked: &Asked<'_>,
+    gate: &Delays,
+) -> Option<usize> {
+    let setting = asked.setting;
+    let answers = ask_list(rt, alloc, asked.items, asked.code, asked.ops, setting, gate)?;
+    if answers.are_right() && is_last(rt, alloc, asked, gate, &answers) {
+        return Some(way_of(&answers.told));
+    }
+    None
+}
+
+fn ask_any<R: Threads + Wait + Sync>(
     rt: &R,
     alloc: Global,
     dice: &mut Dice,
     run: u64,
     gate: &Delays,
-) -> Result<Result<Ending, RunFault>, Fail> {
+) -> Option<usize> {
     let setting = dice.setting(run)?;
-    let setting = Setting {
-        cancel_after: dice.cancel_after(),
-        ..setting
+    let items = dice.items();
+    let ops = [dice.op(), dice.op(), dice.op(), dice.op()];
+    let asked = Asked {
+        items: &items[..dice.below(41) as usize],
+        code: if dice.below(4) == 0 { Some(7) } else { None },
+        ops: &ops[..dice.below(5) as usize],
+        setting,
     };
-    let given = dice.given();
-    let items = dice.items(alloc)?;
-    let ops = dice.ops(alloc)?;
-    let answers = ask(rt, alloc, given, &items, &ops, setting, gate)?;
-    assert!(rt;
-        answers.are_right(setting),
-        "{given:?} {items:?} {ops:?} {setting:?}"
-    );
-    Ok(answers.told.map(|report| report.ending))
+    way_if_right(rt, alloc, &asked, gate)
 }
 
 #[test]
-fn any_query_has_the_answer_of_one_thread(rt: HostRuntime) -> Result<(), Fail> {
+fn any_query_has_the_answer_of_one_thread(rt: HostRuntime) {
     let gate = Delays {
         number: AtomicU64::new(88_172_645_463_325_252),
     };
     let mut dice = Dice {
         number: 1_181_783_497_276_652_981,
     };
-    let mut ended = 0u64;
-    let mut refused = 0u64;
-    let mut faulted = 0u64;
-    let mut stopped = 0u64;
+    let mut ways = [0u64; 4];
     for run in 0..2_000 {
-        match ask_any(&rt, rt.alloc(), &mut dice, run, &gate)? {
-            Ok(Ending::End) => ended = ended.wrapping_add(1),
-            Ok(Ending::Refused(_)) => refused = refused.wrapping_add(1),
-            Ok(Ending::Fault(_)) => faulted = faulted.wrapping_add(1),
-            Err(_) => stopped = stopped.wrapping_add(1),
+        let way = ask_any(&rt, rt.alloc(), &mut dice, run, &gate);
+        assert!(rt; way.is_some(), "run {run}");
+        for (number, count) in ways.iter_mut().enumerate() {
+            if way == Some(number) {
+                *count = count.wrapping_add(1);
+            }
         }
     }
-    assert!(rt; ended >= 100 && refused >= 100 && faulted >= 100 && stopped >= 100);
-    Ok(())
-}
-
-/// Asks a query's aggregate of threads and of one thread, and reports whether there is one.
-fn aggregate_any<R: Threads + Wait + Sync + Abort>(
-    rt: &R,
-    alloc: Global,
-    dice: &mut Dice,
-    run: u64,
-    gate: &Delays,
-) -> Result<bool, Fail> {
-    let setting = dice.setting(run)?;
-    let items = dice.items(alloc)?;
-    let refused = if dice.below(8) == 0 { Some(7) } else { None };
-    let ops = dice.ops(alloc)?;
-    let query = query_of(alloc, &ops, setting.option, setting.workers)?;
-    let source = list_of(rt, alloc, &items, refused)?;
-    let told = aggregate(rt, alloc, &query, source, setting.growth, gate, &Last);
-    let mut again = list_of(rt, alloc, &items, refused)?;
-    let (answer, ending) = sequential(alloc, &query, &mut again)?;
-    let wanted = match ending {
-        Ending::End => Ok(fold_sequential(&Last, &answer)),
-        Ending::Refused(_) | Ending::Fault(_) => Err(AggregateFault::Ended(ending)),
-    };
-    assert!(rt;
-        told == wanted,
-        "{told:?} {items:?} {refused:?} {ops:?} {setting:?}"
-    );
-    Ok(told.is_ok())
-}
-
-#[test]
-fn any_query_has_the_aggregate_of_one_thread(rt: HostRuntime) -> Result<(), Fail> {
-    let gate = Delays {
-        number: AtomicU64::new(88_172_645_463_325_252),
-    };
-    let mut dice = Dice {
-        number: 7_540_113_804_746_346_429,
-    };
-    let mut values = 0u64;
-    for run in 0..1_000 {
-        if aggregate_any(&rt, rt.alloc(), &mut dice, run, &gate)? {
-            values = values.wrapping_add(1);
-        }
-    }
-    assert!(rt; values >= 100 && values <= 900);
-    Ok(())
+    assert!(rt; ways.iter().all(|count| *count >= 100), "{ways:?}");
 }

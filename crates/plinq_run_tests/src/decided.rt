@@ -1,14 +1,15 @@
 //! What a decided query asks of its source.
-use crate::asked::{built, ordered};
-use crate::taken::Taken;
+ghost use Rattle.std.specs.Prelude.{◌≡◌, IfSome};
+ghost use Rattle.plinq_source.specs.Walked.{range_given};
+
 use plinq_aggregate::Count;
 use plinq_enumerator::Growth;
 use plinq_lambda::Formula;
-use plinq_ops::{MergeOption, Query};
+use plinq_ops::{MergeOption, Op, Query};
 use plinq_run::{OpenGate, aggregate, run};
 use plinq_source::{Ending, RangeSource, Source, Step};
+use plinq_testing::{Taken, query_of};
 use std::alloc::Global;
-use std::process::Abort;
 use std::sync::Wait;
 use std::sync::atomic::{AtomicBool, Ordering};
 use std::test::*;
@@ -42,57 +43,57 @@ impl<'a> Source for Watched<'a> {
     }
 }
 
-/// Whether a run asks its source, where its query has an answer of so many elements.
-fn run_asks<R: Threads + Wait + Sync + Abort>(
+/// The numbers 0, 1 and 2, watched.
+fn from_zero(asked: &AtomicBool) -> Option<Watched<'_>>
+    ensures { IfSome result (λ s. range_given s.range ≡ 0) }
+{
+    let range = RangeSource::new(0, 3).ok()?;
+    Some(Watched { range, asked })
+}
+
+/// Whether a run asks its source, if it gives its query so many elements.
+fn run_asks<R: Threads + Wait + Sync>(
     rt: &R,
     alloc: Global,
     query: &Query<Formula>,
     count: usize,
-) -> Result<bool, Fail> {
+) -> Option<bool> {
     let asked = AtomicBool::new(false);
-    let range = RangeSource::new(0, 3)?;
-    let source = Watched {
-        range,
-        asked: &asked,
-    };
+    let source = from_zero(&asked)?;
     let mut sink = Taken::new(alloc, usize::MAX);
-    let report = run(rt, alloc, query, source, Growth::ONE, &OpenGate, &mut sink)?;
-    assert_eq!(rt; report.ending, Ending::End);
-    assert_eq!(rt; sink.batches.len(), count);
-    Ok(asked.load(Ordering::SeqCst))
+    match run(rt, alloc, query, source, Growth::ONE, &OpenGate, &mut sink) {
+        Ok(report) if report.ending == Ending::End && sink.batches.len() == count => {
+            Some(asked.load(Ordering::SeqCst))
+        }
+        _ => None,
+    }
 }
 
 /// Whether its aggregate does.
-fn aggregate_asks<R: Threads + Wait + Sync + Abort>(
+fn aggregate_asks<R: Threads + Wait + Sync>(
     rt: &R,
     alloc: Global,
     query: &Query<Formula>,
     count: u64,
-) -> Result<bool, Fail> {
+) -> Option<bool> {
     let asked = AtomicBool::new(false);
-    let range = RangeSource::new(0, 3)?;
-    let source = Watched {
-        range,
-        asked: &asked,
-    };
-    let told = aggregate(rt, alloc, query, source, Growth::ONE, &OpenGate, &Count);
-    assert_eq!(rt; told, Ok(count));
-    Ok(asked.load(Ordering::SeqCst))
+    let source = from_zero(&asked)?;
+    if aggregate(rt, alloc, query, source, Growth::ONE, &OpenGate, &Count) != Ok(count) {
+        return None;
+    }
+    Some(asked.load(Ordering::SeqCst))
 }
 
-/// A query of the first so many.
-fn first_ones(alloc: Global, count: i64) -> Result<Query<Formula>, Fail> {
-    let query = ordered(alloc, MergeOption::NotBuffered, 2)?;
-    Ok(built(query.take(count))?)
+/// Whether both ask, where so many are taken.
+fn ask<R: Threads + Wait + Sync>(rt: &R, alloc: Global, count: u8) -> Option<(bool, bool)> {
+    let take = [Op::Take(i64::from(count))];
+    let query = query_of(alloc, &take, MergeOption::NotBuffered, 2).ok()?;
+    let run = run_asks(rt, alloc, &query, usize::from(count))?;
+    Some((run, aggregate_asks(rt, alloc, &query, u64::from(count))?))
 }
 
 #[test]
-fn a_decided_query_never_asks_its_source(rt: HostRuntime) -> Result<(), Fail> {
-    let none = first_ones(rt.alloc(), 0)?;
-    assert!(rt; !run_asks(&rt, rt.alloc(), &none, 0)?);
-    assert!(rt; !aggregate_asks(&rt, rt.alloc(), &none, 0)?);
-    let one = first_ones(rt.alloc(), 1)?;
-    assert!(rt; run_asks(&rt, rt.alloc(), &one, 1)?);
-    assert!(rt; aggregate_asks(&rt, rt.alloc(), &one, 1)?);
-    Ok(())
+fn a_decided_query_never_asks_its_source(rt: HostRuntime) {
+    assert!(rt; ask(&rt, rt.alloc(), 0) == Some((false, false)));
+    assert!(rt; ask(&rt, rt.alloc(), 1) == Some((true, true)));
 }

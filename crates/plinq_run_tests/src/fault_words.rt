@@ -1,37 +1,34 @@
 //! How a run says why it gives no report.
 use plinq_run::{AggregateFault, RunFault};
 use plinq_source::Ending;
-use std::test::Fail;
+use std::alloc::Global;
+use std::fmt::Display;
+
+fn says<T: Display>(alloc: Global, fault: &T, text: &str) -> bool {
+    match format!(in alloc; "{fault}") {
+        Ok(words) => words.as_str() == text,
+        Err(_) => false,
+    }
+}
 
 #[test]
-fn faults_of_a_run_in_words(rt: HostRuntime) -> Result<(), Fail> {
-    let rows = [
+fn faults_of_a_run_in_words(rt: HostRuntime) {
+    for (fault, text) in [
         (RunFault::Memory, "out of memory"),
         (RunFault::Sink(4_294_967_295), "sink refused: 4294967295"),
         (RunFault::Tickets, "tickets spent"),
         (RunFault::Thread, "no thread"),
         (RunFault::Incomplete, "incomplete"),
         (RunFault::Cancelled, "cancelled"),
-    ];
-    for (fault, text) in rows {
-        let words = format!(in rt.alloc(); "{fault}")?;
-        assert_eq!(rt; words.as_str(), text);
+    ] {
+        assert!(rt; says(rt.alloc(), &fault, text), "{text}");
     }
-    Ok(())
 }
 
 #[test]
-fn faults_of_an_aggregate_in_words(rt: HostRuntime) -> Result<(), Fail> {
-    let rows = [
-        (
-            AggregateFault::Ended(Ending::Refused(7)),
-            "the answer didn't end well",
-        ),
-        (AggregateFault::Run(RunFault::Thread), "no thread"),
-    ];
-    for (fault, text) in rows {
-        let words = format!(in rt.alloc(); "{fault}")?;
-        assert_eq!(rt; words.as_str(), text);
-    }
-    Ok(())
+fn faults_of_an_aggregate_in_words(rt: HostRuntime) {
+    let ended = AggregateFault::Ended(Ending::Refused(7));
+    assert!(rt; says(rt.alloc(), &ended, "the answer didn't end well"));
+    let run = AggregateFault::Run(RunFault::Thread);
+    assert!(rt; says(rt.alloc(), &run, "no thread"));
 }

@@ -2,14 +2,13 @@
 ghost use Rattle.plinq_lambda.specs.Formula.{formula_meaning};
 ghost use Rattle.plinq_lambda.specs.Short.{formula_meaning-short};
 
-use crate::asked::{Given, Setting, ask};
-use crate::waiting::KeepsBack;
+use crate::asked::{Setting, ask_list};
 use plinq_enumerator::Growth;
 use plinq_lambda::{ExpandFault, Formula, Lambda};
-use plinq_ops::{MergeOption, Op};
+use plinq_ops::Op;
 use plinq_source::Ending;
+use plinq_testing::KeepsBack;
 use std::alloc::Global;
-use std::process::Abort;
 use std::sync::Wait;
 use std::sync::atomic::{AtomicU64, Ordering};
 use std::test::*;
@@ -52,53 +51,48 @@ impl<'a> Telling<'a> {
     }
 }
 
-/// Asks for the items of 2, 9, 3, 0, of which the second ends the run, where it waits until another worker has faulted at the
-/// last. One worker alone waits for nobody.
-fn expect<R: Threads + Wait + Sync + Abort>(
+/// Whether these are the items of 2, 9, 3, 0, of which the second ends the run, where it waits until another worker has faulted at
+/// the last. One worker alone waits for nobody.
+fn are_right<R: Threads + Wait + Sync>(
     rt: &R,
     alloc: Global,
     ops: &[Op<Telling<'_>>],
     items: &[i64],
     faulted: &AtomicU64,
     setting: Setting,
-) -> Result<(), Fail> {
+) -> bool {
     let key = if setting.workers == 1 { u64::MAX } else { 1 };
     let gate = KeepsBack::at(key, faulted, 1);
-    let answers = ask(rt, alloc, Given::List, &[2, 9, 3, 0], ops, setting, &gate)?;
-    let are_right = answers.are_one(setting.option)
-        && answers.items.as_slice() == items
-        && answers.ending == Ending::End;
-    assert!(rt; are_right && !gate.gave_up(), "{setting:?} {answers:?}");
-    Ok(())
+    match ask_list(rt, alloc, &[2, 9, 3, 0], None, ops, setting, &gate) {
+        Some(answers) => {
+            answers.are_one()
+                && answers.items.as_slice() == items
+                && answers.ending == Ending::End
+                && !gate.gave_up()
+        }
+        None => false,
+    }
 }
 
 /// A worker sees the run end: 9 isn't below 5.
-fn end_at_a_worker<R: Threads + Wait + Sync + Abort>(
-    rt: &R,
-    alloc: Global,
-    setting: Setting,
-) -> Result<(), Fail> {
+fn ends_at_a_worker<R: Threads + Wait + Sync>(rt: &R, alloc: Global, setting: Setting) -> bool {
     let faulted = AtomicU64::new(0);
     let ops = [
         Op::TakeWhile(Telling::of(Formula::Below(5), &faulted)),
         Op::Select(Telling::of(Formula::Into(6), &faulted)),
     ];
-    expect(rt, alloc, &ops, &[3], &faulted, setting)
+    are_right(rt, alloc, &ops, &[3], &faulted, setting)
 }
 
 /// The merger sees it end: it takes the first two that pass.
-fn end_at_the_merger<R: Threads + Wait + Sync + Abort>(
-    rt: &R,
-    alloc: Global,
-    setting: Setting,
-) -> Result<(), Fail> {
+fn ends_at_the_merger<R: Threads + Wait + Sync>(rt: &R, alloc: Global, setting: Setting) -> bool {
     let faulted = AtomicU64::new(0);
     let ops = [
         Op::Filter(Telling::of(Formula::Above(-1), &faulted)),
         Op::Select(Telling::of(Formula::Into(6), &faulted)),
         Op::Take(2),
     ];
-    expect(rt, alloc, &ops, &[3, 0], &faulted, setting)
+    are_right(rt, alloc, &ops, &[3, 0], &faulted, setting)
 }
 
 #[test]
@@ -106,14 +100,11 @@ fn no_run_tells_a_fault_after_its_end(rt: HostRuntime) -> Result<(), Fail> {
     for growth in [Growth::ONE, Growth::DEFAULT, Growth::new(1, 1, 4)?] {
         for workers in [1u64, 2, 8, 64] {
             let setting = Setting {
-                workers,
                 growth,
-                option: MergeOption::NotBuffered,
-                refused: usize::MAX,
-                cancel_after: None,
+                ..Setting::by(workers)
             };
-            end_at_a_worker(&rt, rt.alloc(), setting)?;
-            end_at_the_merger(&rt, rt.alloc(), setting)?;
+            assert!(rt; ends_at_a_worker(&rt, rt.alloc(), setting), "{workers}");
+            assert!(rt; ends_at_the_merger(&rt, rt.alloc(), setting), "{workers}");
         }
     }
     Ok(())

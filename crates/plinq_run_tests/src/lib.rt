@@ -10,8 +10,6 @@
 #[cfg(test)]
 mod aggregates;
 #[cfg(test)]
-mod answers;
-#[cfg(test)]
 mod asked;
 #[cfg(test)]
 mod by_chance;
@@ -30,10 +28,6 @@ mod refused_batches;
 #[cfg(test)]
 mod side_by_side;
 #[cfg(test)]
-mod taken;
-#[cfg(test)]
 mod unordered;
-#[cfg(test)]
-mod waiting;
 #[cfg(test)]
 mod window;

@@ -1,13 +1,13 @@
 //! What is reported to a gate.
-use crate::asked::{Given, Setting, WORKERS, ask, built};
+use crate::asked::{Setting, ask_range};
 use plinq_aggregate::Sum;
 use plinq_enumerator::Growth;
 use plinq_lambda::Formula;
 use plinq_ops::{BuildFault, MergeOption, Op, Query};
 use plinq_run::{Gate, aggregate};
 use plinq_source::RangeSource;
+use plinq_testing::{WORKERS, built};
 use std::alloc::{AllocError, Global};
-use std::process::Abort;
 use std::sync::Wait;
 use std::sync::atomic::{AtomicBool, AtomicU64, Ordering};
 use std::test::*;
@@ -89,18 +89,16 @@ impl Gate for Notes {
     }
 }
 
-/// A run whose gate takes notes.
-fn note<R: Threads + Wait + Sync + Abort>(
-    rt: &R,
-    alloc: Global,
-    setting: Setting,
-) -> Result<(), Fail> {
-    let gate = Notes::of(alloc, setting.workers, 0)?;
+/// Whether the gate of a run is told as it should be.
+fn is_told<R: Threads + Wait + Sync>(rt: &R, alloc: Global, setting: Setting) -> bool {
+    let Ok(gate) = Notes::of(alloc, setting.workers, 0) else {
+        return false;
+    };
     let ops = [Op::Filter(Formula::Even)];
-    let answers = ask(rt, alloc, Given::Range(0, 200), &[], &ops, setting, &gate)?;
-    assert!(rt; answers.are_one(setting.option));
-    assert!(rt; gate.are_whole(), "{setting:?}");
-    Ok(())
+    match ask_range(rt, alloc, 200, &ops, setting, &gate) {
+        Some(answers) => answers.are_one() && gate.are_whole(),
+        None => false,
+    }
 }
 
 #[test]
@@ -109,13 +107,12 @@ fn a_gate_is_told_of_each_worker_in_order(rt: HostRuntime) -> Result<(), Fail> {
     for workers in WORKERS {
         for cancel_after in [None, Some(u64::MAX)] {
             let setting = Setting {
-                workers,
                 growth,
                 option: MergeOption::Default,
-                refused: usize::MAX,
                 cancel_after,
+                ..Setting::by(workers)
             };
-            note(&rt, rt.alloc(), setting)?;
+            assert!(rt; is_told(&rt, rt.alloc(), setting), "{workers}");
         }
     }
     Ok(())
@@ -143,30 +140,30 @@ fn evens(
     }
 }
 
-/// An aggregate whose gate takes notes. Each chunk is to have four elements.
-fn note_aggregate<R: Threads + Wait + Sync + Abort>(
+/// Whether the gate of an aggregate is told as it should be. Each chunk is to have four elements.
+fn is_told_of_an_aggregate<R: Threads + Wait + Sync>(
     rt: &R,
     alloc: Global,
     workers: u64,
-    is_by_key: bool,
-    is_cut: bool,
-) -> Result<(), Fail> {
-    let gate = Notes::of(alloc, workers, 3)?;
-    let query = evens(alloc, workers, is_by_key, is_cut)?;
-    let source = RangeSource::new(0, 200)?;
-    let growth = Growth::new(4, 1, 4)?;
+    query: Query<Formula>,
+    growth: Growth,
+) -> bool {
+    let (Ok(gate), Ok(source)) = (Notes::of(alloc, workers, 3), RangeSource::new(0, 200)) else {
+        return false;
+    };
     let sum = aggregate(rt, alloc, &query, source, growth, &gate, &Sum);
-    assert_eq!(rt; sum, Ok(9_900));
-    assert!(rt; gate.are_whole(), "{workers} {is_by_key} {is_cut}");
-    Ok(())
+    sum == Ok(9_900) && gate.are_whole()
 }
 
 #[test]
 fn a_gate_is_told_of_each_worker_of_an_aggregate(rt: HostRuntime) -> Result<(), Fail> {
+    let growth = Growth::new(4, 1, 4)?;
     for workers in WORKERS {
         for is_by_key in [true, false] {
             for is_cut in [true, false] {
-                note_aggregate(&rt, rt.alloc(), workers, is_by_key, is_cut)?;
+                let query = evens(rt.alloc(), workers, is_by_key, is_cut)?;
+                let is_told = is_told_of_an_aggregate(&rt, rt.alloc(), workers, query, growth);
+                assert!(rt; is_told, "{workers} {is_by_key} {is_cut}");
             }
         }
     }

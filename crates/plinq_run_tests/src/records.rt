@@ -1,150 +1,168 @@
 //! What a run reports of the requests to its source.
-use crate::asked::{Given, Setting, WORKERS, ask};
+use crate::asked::{Answers, Setting, ask_list, ask_range};
 use plinq_enumerator::{Growth, replays};
 use plinq_keyed::{Event, Record};
 use plinq_lambda::Formula;
 use plinq_ops::{MergeOption, Op};
 use plinq_run::OpenGate;
 use plinq_source::Ending;
+use plinq_testing::WORKERS;
 use std::alloc::Global;
-use std::process::Abort;
 use std::sync::Wait;
 use std::test::*;
 use std::thread::Threads;
 
-/// How many requests closed the source.
-fn closes(records: &[Record]) -> usize {
-    let mut found = 0usize;
+/// What some records come to.
+#[derive(Clone, Copy)]
+struct Totals {
+    /// How many requests closed the source.
+    closes: u64,
+    /// How many requests for items had a tail.
+    tails: u64,
+    /// How many items were handed out.
+    items: u64,
+}
+
+fn tally(records: &[Record]) -> Totals {
+    let mut all = Totals {
+        closes: 0,
+        tails: 0,
+        items: 0,
+    };
     for record in records {
         if record.asked == Event::Close {
-            found = found.wrapping_add(1);
+            all.closes = all.closes.wrapping_add(1);
+        } else if record.tail.is_some() {
+            all.tails = all.tails.wrapping_add(1);
         }
+        all.items = all.items.wrapping_add(record.count);
     }
-    found
-}
-
-/// How many requests for items had a tail.
-fn tails(records: &[Record]) -> u64 {
-    let mut found = 0u64;
-    for record in records {
-        if record.asked != Event::Close && record.tail.is_some() {
-            found = found.wrapping_add(1);
-        }
-    }
-    found
-}
-
-/// How many items were handed out.
-fn handed_out(records: &[Record]) -> u64 {
-    let mut count = 0u64;
-    for record in records {
-        count = count.wrapping_add(record.count);
-    }
-    count
-}
-
-/// The records of a run over a source.
-fn records_of<R: Threads + Wait + Sync + Abort>(
-    rt: &R,
-    alloc: Global,
-    given: Given,
-    ops: &[Op<Formula>],
-    setting: Setting,
-) -> Result<Vec<Record>, Fail> {
-    let answers = ask(rt, alloc, given, &[1, 2], ops, setting, &OpenGate)?;
-    assert!(rt; answers.are_one(setting.option), "{answers:?}");
-    Ok(answers.told?.records)
+    all
 }
 
 /// Chunks that grow, for so many workers.
 fn by(workers: u64) -> Setting {
     Setting {
-        workers,
         growth: Growth::DEFAULT,
         option: MergeOption::Default,
-        refused: usize::MAX,
-        cancel_after: None,
+        ..Setting::by(workers)
     }
 }
 
-#[test]
-fn records_are_a_history_with_one_close(rt: HostRuntime) -> Result<(), Fail> {
-    for workers in WORKERS {
-        let records = records_of(&rt, rt.alloc(), Given::Refusing(7), &[], by(workers))?;
-        assert!(rt; replays(&records, 2, Ending::Refused(7)));
-        assert_eq!(rt; closes(&records), 1);
+/// What a run reports that gives the answer of one thread.
+fn records_of(answers: Answers) -> Option<Vec<Record>> {
+    if !answers.are_one() {
+        return None;
     }
-    Ok(())
+    let Answers { told, .. } = answers;
+    match told {
+        Ok(report) => Some(report.records),
+        Err(_) => None,
+    }
 }
 
-/// Takes three of a range, and asks that at most as many items were handed out as workers may be ahead, each with a chunk more.
-/// After the close each worker that was started asks once more, and is answered so; what it asked is reported as well.
-fn take_three<R: Threads + Wait + Sync + Abort>(
+/// The records of a run over 1 and 2, and then a refusal.
+fn records_of_a_list<R: Threads + Wait + Sync>(
     rt: &R,
     alloc: Global,
-    workers: u64,
+    ops: &[Op<Formula>],
+    setting: Setting,
+) -> Option<Vec<Record>> {
+    records_of(ask_list(rt, alloc, &[1, 2], Some(7), ops, setting, &OpenGate)?)
+}
+
+/// Those of a run over so many numbers.
+fn records_of_a_range<R: Threads + Wait + Sync>(
+    rt: &R,
+    alloc: Global,
     count: u64,
-) -> Result<(), Fail> {
-    let range = Given::Range(0, count);
-    let records = records_of(rt, alloc, range, &[Op::Take(3)], by(workers))?;
-    assert_eq!(rt; closes(&records), 1);
-    assert!(rt; 1 <= tails(&records) && tails(&records) <= workers);
-    assert!(rt; handed_out(&records) <= workers.saturating_mul(241 * 512));
-    Ok(())
+    ops: &[Op<Formula>],
+    setting: Setting,
+) -> Option<Vec<Record>> {
+    records_of(ask_range(rt, alloc, count, ops, setting, &OpenGate)?)
+}
+
+fn are_a_history(records: &[Record]) -> bool {
+    replays(records, 2, Ending::Refused(7)) && tally(records).closes == 1
 }
 
 #[test]
-fn a_long_range_is_closed_long_before_its_end(rt: HostRuntime) -> Result<(), Fail> {
+fn records_are_a_history_with_one_close(rt: HostRuntime) {
     for workers in WORKERS {
-        take_three(&rt, rt.alloc(), workers, 1_099_511_627_776)?;
+        let records = records_of_a_list(&rt, rt.alloc(), &[], by(workers));
+        assert!(rt;
+            records.is_some_and(|records| are_a_history(&records)),
+            "{workers}"
+        );
     }
-    Ok(())
 }
 
-/// How many items each request asked for, as far as one did.
-fn asked(alloc: Global, records: &[Record]) -> Result<Vec<u64>, Fail> {
-    let mut sizes = Vec::new(alloc);
+#[test]
+fn a_decided_query_asks_for_nothing(rt: HostRuntime) {
+    let records = records_of_a_list(&rt, rt.alloc(), &[Op::Take(0)], by(2));
+    assert!(rt; records.is_some_and(|records| records.is_empty()));
+}
+
+/// Whether the source was closed once, and at most as many items were handed out as workers may be ahead, each with a chunk more.
+/// After the close each worker that was started asks once more, and is answered so; what it asked is reported as well.
+fn are_few(records: &[Record], workers: u64) -> bool {
+    let Totals {
+        closes,
+        tails,
+        items,
+    } = tally(records);
+    closes == 1 && 1 <= tails && tails <= workers && items <= workers.saturating_mul(241 * 512)
+}
+
+#[test]
+fn a_long_range_is_closed_long_before_its_end(rt: HostRuntime) {
+    for workers in WORKERS {
+        let three = [Op::Take(3)];
+        let records = records_of_a_range(&rt, rt.alloc(), 1_099_511_627_776, &three, by(workers));
+        assert!(rt;
+            records.is_some_and(|records| are_few(&records, workers)),
+            "{workers}"
+        );
+    }
+}
+
+/// Whether these are the sizes that were asked for.
+fn are_sizes(records: &[Record], sizes: &[u64]) -> bool {
+    let mut left = sizes;
     for record in records {
         if let Event::Ask(size) = record.asked {
-            sizes.push(size)?;
+            match left.split_first() {
+                Some((next, following)) if *next == size => left = following,
+                _ => return false,
+            }
         }
     }
-    Ok(sizes)
+    left.is_empty()
+}
+
+/// Whether a run over so many numbers asks for these sizes.
+fn asks_for<R: Threads + Wait + Sync>(
+    rt: &R,
+    alloc: Global,
+    count: u64,
+    setting: Setting,
+    sizes: &[u64],
+) -> bool {
+    match records_of_a_range(rt, alloc, count, &[], setting) {
+        Some(records) => are_sizes(&records, sizes),
+        None => false,
+    }
 }
 
 #[test]
-fn chunks_grow_as_the_run_was_told(rt: HostRuntime) -> Result<(), Fail> {
-    let alloc = rt.alloc();
-    let by_default = records_of(&rt, alloc, Given::Range(0, 11), &[], by(1))?;
-    assert_eq!(rt;
-        asked(alloc, &by_default)?.as_slice(),
-        [1u64, 1, 1, 2, 2, 2, 4].as_slice()
-    );
-    let ones = Setting {
-        growth: Growth::ONE,
-        ..by(1)
-    };
-    let one_by_one = records_of(&rt, alloc, Given::Range(0, 3), &[], ones)?;
-    assert_eq!(rt;
-        asked(alloc, &one_by_one)?.as_slice(),
-        [1u64, 1, 1, 1].as_slice()
-    );
+fn chunks_grow_as_the_run_was_told(rt: HostRuntime) {
+    let grown = [1, 1, 1, 2, 2, 2, 4];
+    assert!(rt; asks_for(&rt, rt.alloc(), 11, by(1), &grown));
+    assert!(rt; asks_for(&rt, rt.alloc(), 3, Setting::by(1), &[1, 1, 1, 1]));
     // (a token is no reason for another growth)
     let with_token = Setting {
         cancel_after: Some(u64::MAX),
         ..by(1)
     };
-    let asked_with = records_of(&rt, alloc, Given::Range(0, 11), &[], with_token)?;
-    assert_eq!(rt;
-        asked(alloc, &asked_with)?.as_slice(),
-        [1u64, 1, 1, 2, 2, 2, 4].as_slice()
-    );
-    Ok(())
-}
-
-#[test]
-fn a_decided_query_asks_for_nothing(rt: HostRuntime) -> Result<(), Fail> {
-    let records = records_of(&rt, rt.alloc(), Given::Refusing(7), &[Op::Take(0)], by(2))?;
-    assert!(rt; records.is_empty());
-    Ok(())
+    assert!(rt; asks_for(&rt, rt.alloc(), 11, with_token, &grown));
 }

@@ -1,75 +1,75 @@
-use crate::asked::{Given, OPTIONS, Setting, WORKERS, ask};
+//! A run whose sink refuses a batch.
+use crate::asked::{Setting, ask_range};
 use plinq_enumerator::Growth;
 use plinq_lambda::Formula;
-use plinq_ops::{MergeOption, Op};
+use plinq_ops::Op;
 use plinq_run::OpenGate;
+use plinq_testing::{OPTIONS, WORKERS};
 use std::alloc::Global;
-use std::process::Abort;
 use std::sync::Wait;
 use std::test::*;
 use std::thread::Threads;
 
-/// Asks that a run reports the batch that its sink refuses, and has delivered those before it.
-fn refuse<R: Threads + Wait + Sync + Abort>(
+/// Whether a run over so many numbers reports the batch that its sink refuses, and has delivered those before it.
+fn is_refused<R: Threads + Wait + Sync>(
     rt: &R,
     alloc: Global,
-    given: Given,
-    list: &[i64],
+    count: u64,
     ops: &[Op<Formula>],
     setting: Setting,
-) -> Result<(), Fail> {
-    let answers = ask(rt, alloc, given, list, ops, setting, &OpenGate)?;
-    let is_told = answers.are_refused(setting.option, setting.refused);
-    assert!(rt; is_told, "{setting:?}");
-    Ok(())
+) -> bool {
+    match ask_range(rt, alloc, count, ops, setting, &OpenGate) {
+        Some(answers) => answers.are_refused(),
+        None => false,
+    }
 }
 
 #[test]
-fn a_sink_that_refuses_any_batch_ends_the_run(rt: HostRuntime) -> Result<(), Fail> {
+fn a_sink_that_refuses_any_batch_ends_the_run(rt: HostRuntime) {
     for refused in 0..17 {
         for workers in WORKERS {
             let setting = Setting {
-                workers,
-                growth: Growth::ONE,
-                option: MergeOption::NotBuffered,
                 refused,
-                cancel_after: None,
+                ..Setting::by(workers)
             };
-            refuse(&rt, rt.alloc(), Given::Range(1, 17), &[], &[], setting)?;
+            assert!(rt;
+                is_refused(&rt, rt.alloc(), 17, &[], setting),
+                "{refused} of {workers}"
+            );
         }
     }
-    Ok(())
 }
 
 #[test]
-fn the_only_batch_is_refused(rt: HostRuntime) -> Result<(), Fail> {
+fn the_only_batch_is_refused(rt: HostRuntime) {
     for option in OPTIONS {
         for workers in WORKERS {
             let setting = Setting {
-                workers,
                 growth: Growth::DEFAULT,
                 option,
                 refused: 0,
-                cancel_after: None,
+                ..Setting::by(workers)
             };
-            refuse(&rt, rt.alloc(), Given::Range(1, 16), &[], &[], setting)?;
+            assert!(rt;
+                is_refused(&rt, rt.alloc(), 16, &[], setting),
+                "by {workers}"
+            );
         }
     }
-    Ok(())
 }
 
 #[test]
-fn the_second_of_three_batches_is_refused(rt: HostRuntime) -> Result<(), Fail> {
-    let add_one: &[Op<Formula>] = &[Op::Select(Formula::Add(1))];
+fn the_second_of_three_batches_is_refused(rt: HostRuntime) {
+    let add_one = [Op::Select(Formula::Add(1))];
     for workers in WORKERS {
         let setting = Setting {
-            workers,
             growth: Growth::DEFAULT,
-            option: MergeOption::NotBuffered,
             refused: 1,
-            cancel_after: None,
+            ..Setting::by(workers)
         };
-        refuse(&rt, rt.alloc(), Given::List, &[3, 1, 4], add_one, setting)?;
+        assert!(rt;
+            is_refused(&rt, rt.alloc(), 3, &add_one, setting),
+            "by {workers}"
+        );
     }
-    Ok(())
 }

@@ -1,11 +1,9 @@
-use crate::asked::{Given, Setting, ask};
-use crate::waiting::waits_for;
-use plinq_enumerator::Growth;
+//! That workers go at once.
+use crate::asked::{Setting, ask_range};
 use plinq_lambda::Formula;
-use plinq_ops::MergeOption;
 use plinq_run::Gate;
+use plinq_testing::waits_for;
 use std::alloc::Global;
-use std::process::Abort;
 use std::sync::Wait;
 use std::sync::atomic::{AtomicBool, AtomicU64, Ordering};
 use std::test::*;
@@ -33,34 +31,28 @@ impl Gate for Meeting {
     }
 }
 
-/// As many workers as items meet, each with one of these: no worker takes a second one before all others have theirs.
-fn meet<R: Threads + Wait + Sync + Abort>(rt: &R, alloc: Global, workers: u64) -> Result<(), Fail> {
+/// Whether as many workers as items meet, each with one of these: no worker takes a second one before all others have theirs.
+fn meet<R: Threads + Wait + Sync>(rt: &R, alloc: Global, workers: u64) -> bool {
     let gate = Meeting {
         chunks: workers,
         came: AtomicU64::new(0),
         gave_up: AtomicBool::new(false),
     };
-    let option = MergeOption::NotBuffered;
-    let setting = Setting {
-        workers,
-        growth: Growth::ONE,
-        option,
-        refused: usize::MAX,
-        cancel_after: None,
-    };
-    let range = Given::Range(0, workers);
-    let answers = ask::<Formula, _, _>(rt, alloc, range, &[], &[], setting, &gate)?;
-    assert!(rt; !gate.gave_up.load(Ordering::SeqCst));
-    // The batches are those of one thread, and so the first of them is that of key 0.
-    assert!(rt; answers.are_one(option), "{answers:?}");
-    assert_eq!(rt; answers.items.as_slice().first().copied(), Some(0));
-    Ok(())
+    let setting = Setting::by(workers);
+    match ask_range::<Formula, _, _>(rt, alloc, workers, &[], setting, &gate) {
+        // The batches are those of one thread, and so the first of them is that of key 0.
+        Some(answers) => {
+            !gate.gave_up.load(Ordering::SeqCst)
+                && answers.are_one()
+                && answers.items.first() == Some(&0)
+        }
+        None => false,
+    }
 }
 
 #[test]
-fn workers_take_chunks_side_by_side(rt: HostRuntime) -> Result<(), Fail> {
+fn workers_take_chunks_side_by_side(rt: HostRuntime) {
     for workers in [2u64, 8] {
-        meet(&rt, rt.alloc(), workers)?;
+        assert!(rt; meet(&rt, rt.alloc(), workers), "{workers}");
     }
-    Ok(())
 }

@@ -1,14 +1,14 @@
 //! How far workers run ahead of what is merged.
-use crate::asked::{Given, Setting, ask, ordered};
+use crate::asked::{Setting, ask_range};
 use plinq_aggregate::Count;
 use plinq_enumerator::Growth;
 use plinq_lambda::Formula;
-use plinq_ops::{MergeOption, Op, Query};
+use plinq_ops::{MergeOption, Op};
 use plinq_run::{Gate, aggregate};
 use plinq_source::RangeSource;
+use plinq_testing::ordered;
 use std::alloc::Global;
 use std::hint::spin_loop;
-use std::process::Abort;
 use std::sync::Wait;
 use std::sync::atomic::{AtomicU64, Ordering};
 use std::test::*;
@@ -66,58 +66,56 @@ impl Gate for HoldsTheFirst {
     }
 }
 
-/// Takes three even numbers of a range, whose first is held back.
-fn hold_the_first<R: Threads + Wait + Sync + Abort>(
-    rt: &R,
-    alloc: Global,
-    workers: u64,
-    count: u64,
-) -> Result<(), Fail> {
+/// Whether workers wait while the first number of a range is held back, of which three even ones are taken.
+fn wait<R: Threads + Wait + Sync>(rt: &R, alloc: Global, workers: u64, growth: Growth) -> bool {
     let gate = HoldsTheFirst::of(workers);
-    let option = MergeOption::NotBuffered;
     let setting = Setting {
-        workers,
-        growth: Growth::new(CHUNK, 1, CHUNK)?,
-        option,
-        refused: usize::MAX,
-        cancel_after: None,
+        growth,
+        ..Setting::by(workers)
     };
     let ops = [Op::Filter(Formula::Even), Op::Take(3)];
-    let answers = ask(rt, alloc, Given::Range(0, count), &[], &ops, setting, &gate)?;
-    assert!(rt; answers.are_one(option));
-    assert!(rt; gate.is_kept());
-    Ok(())
+    match ask_range(rt, alloc, 1_099_511_627_776, &ops, setting, &gate) {
+        Some(answers) => answers.are_one() && gate.is_kept(),
+        None => false,
+    }
 }
 
 #[test]
 fn workers_wait_for_the_first_key(rt: HostRuntime) -> Result<(), Fail> {
+    let growth = Growth::new(CHUNK, 1, CHUNK)?;
     for workers in [2u64, 64] {
-        hold_the_first(&rt, rt.alloc(), workers, 1_099_511_627_776)?;
+        assert!(rt; wait(&rt, rt.alloc(), workers, growth), "{workers}");
     }
     Ok(())
 }
 
-/// Counts a range whose first number is held back.
-fn hold_the_first_of_a_count<R: Threads + Wait + Sync + Abort>(
+/// Whether workers wait while the first of so many numbers is held back, which are counted.
+fn wait_with_a_count<R: Threads + Wait + Sync>(
     rt: &R,
     alloc: Global,
     workers: u64,
+    growth: Growth,
     count: u64,
-) -> Result<(), Fail> {
+) -> bool {
     let gate = HoldsTheFirst::of(workers);
-    let query: Query<Formula> = ordered(alloc, MergeOption::Default, workers)?;
-    let source = RangeSource::new(0, count)?;
-    let growth = Growth::new(CHUNK, 1, CHUNK)?;
+    let Ok(source) = RangeSource::new(0, count) else {
+        return false;
+    };
+    let Ok(query) = ordered::<Formula>(alloc, MergeOption::Default, workers) else {
+        return false;
+    };
     let told = aggregate(rt, alloc, &query, source, growth, &gate, &Count);
-    assert_eq!(rt; told, Ok(count));
-    assert!(rt; gate.is_kept());
-    Ok(())
+    told == Ok(count) && gate.is_kept()
 }
 
 #[test]
 fn workers_that_fold_wait_for_the_first_key(rt: HostRuntime) -> Result<(), Fail> {
+    let growth = Growth::new(CHUNK, 1, CHUNK)?;
     for workers in [2u64, 64] {
-        hold_the_first_of_a_count(&rt, rt.alloc(), workers, 10_000_000)?;
+        assert!(rt;
+            wait_with_a_count(&rt, rt.alloc(), workers, growth, 10_000_000),
+            "{workers}"
+        );
     }
     Ok(())
 }
