@@ -55,7 +55,6 @@ NAMED = {
 LEFT_OUTSIDE = {
     "crates/plinq_closures/specs/Only.antt": "its crate and all above it are proved again where it moves",
     "crates/plinq_keyed/specs/Sweeps.antt": "its crate and all above it are proved again where it moves",
-    "crates/plinq_lambda/specs/Sums.antt": "its crate and all above it are proved again where it moves",
     "crates/plinq_source/specs/Values.antt": "its crate and all above it are proved again where it moves",
 }
 PLANS = "ghost use Rattle.plinq_run.specs.inner.Plans.{MayTake};\npub fn taken()\n    ensures { MayTake }\n{}\n"

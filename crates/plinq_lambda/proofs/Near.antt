@@ -4,7 +4,7 @@ use Rattle.std.proofs.lemmas.Int.{to_z_pos, ints}
 use Rattle.std.proofs.Math.Facts.{to_z-neg}
 use Rattle.std.proofs.lemmas.Bool.Decides.{nat_tests}
 use Rattle.plinq_lambda.specs.Formula.{fits}
-use Rattle.plinq_lambda.specs.Sums.{sums_fit}
+use Rattle.plinq_lambda.specs.inner.Sums.{sums_fit}
 
 pub near-low : (c : ℤ) (n : ℕ) → n < 2 ^ 62 → neg_ℤ (pos (2 ^ 62)) ≤ℤ c → c ≤ℤ pos (2 ^ 62) → is_ok (fits (pos n +ℤ c)) ≡ true
 near-low c n low from to = grind (arith, ints)

@@ -3,7 +3,7 @@ ghost use Rattle.std.specs.Prelude.{◌≡◌, ◌≤◌, ◌^◌, ◌≤ℤ◌,
 ghost use Rattle.plinq_lambda.specs.Block.{mapped_block};
 ghost use Rattle.plinq_lambda.specs.Formula.{formula_meaning};
 ghost use Rattle.plinq_lambda.specs.declared.formula.Formula.TheVariants.{Add};
-ghost use Rattle.plinq_lambda.specs.Sums.{sums_fit};
+ghost use Rattle.plinq_lambda.specs.inner.Sums.{sums_fit};
 
 /// Numbers from `-NEAR` up to, not including, `NEAR` have sums that are `i64`s.
 pub(crate) const NEAR: i64 = 1 << 62;

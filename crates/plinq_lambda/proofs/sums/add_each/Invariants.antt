@@ -1,6 +1,6 @@
 use Rattle.std.proofs.Common.{◌≡◌, take, drop, length, true}
 use Rattle.plinq_lambda.specs.Formula.{formula_meaning}
-use Rattle.plinq_lambda.specs.Sums.{sums_fit}
+use Rattle.plinq_lambda.specs.inner.Sums.{sums_fit}
 use Rattle.plinq_lambda.specs.declared.formula.Formula.TheVariants.{Add}
 use Rattle.plinq_lambda.proofs.SoFar.{IsMappedSoFar}
 use Rattle.plinq_lambda.proofs.sums.add_each.Given as goal

@@ -1,7 +1,7 @@
 use Rattle.std.proofs.Common.{rules, ◌≡◌, ◌^◌, pos, ℕ, ◌+◌, ◌<◌, ◌%◌, w64, ◌+ℤ◌, to_z, of_z, is_ok, true, nat_lt, refl, sym, ap, suc, arith, drop, ◌∙◌, slice_index_or}
 use Rattle.std.proofs.lemmas.Nat.{le_or_l, le_or_r}
 use Rattle.plinq_lambda.specs.Formula.{fits}
-use Rattle.plinq_lambda.specs.Sums.{sums_fit}
+use Rattle.plinq_lambda.specs.inner.Sums.{sums_fit}
 use Rattle.plinq_lambda.proofs.Near.{near-bits, next-fits}
 use Rattle.plinq_lambda.proofs.sums.are_near.Goals as goal
 

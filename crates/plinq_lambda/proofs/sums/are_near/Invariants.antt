@@ -1,5 +1,5 @@
 use Rattle.std.proofs.Common.{◌≡◌, ◌<◌, ◌^◌, drop}
-use Rattle.plinq_lambda.specs.Sums.{sums_fit}
+use Rattle.plinq_lambda.specs.inner.Sums.{sums_fit}
 use Rattle.plinq_lambda.proofs.sums.are_near.Given as goal
 
 -- where the bits so far are few, all sums fit if those from here on do
