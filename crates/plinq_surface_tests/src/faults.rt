@@ -98,22 +98,26 @@ fn of_aggregate(fault: AggregateFault) -> Option<Ending> {
     }
 }
 
-#[test]
-fn faults_carry_what_they_are_about(rt: HostRuntime) {
+fn faults_carry_what_they_are_about() -> bool {
     let busy = LockFault::Busy {
         served: 3,
         drawn: 7,
     };
-    assert_eq!(&rt; of_lock(busy), 7);
     let incomplete = TakeFault::Incomplete { have: 2, all: 9 };
-    assert_eq!(&rt; of_take(incomplete), 9);
-    assert_eq!(&rt; of_source(SourceFault::TooLarge), 1);
-    assert_eq!(&rt; of_growth(GrowthFault::MaxTooLarge), 3);
-    assert_eq!(&rt; of_parts(PartFault::KeysNotRising), 3);
-    assert_eq!(&rt; of_expansion(ExpandFault::Code(8)), 8);
-    assert_eq!(&rt; of_building(BuildFault::DegreeTwice), 3);
-    assert_eq!(&rt; of_merge(MergeFault::Sink(9)), 9);
-    assert_eq!(&rt; of_run(RunFault::Sink(9)), 9);
     let ended = AggregateFault::Ended(Ending::Refused(7));
-    assert_eq!(&rt; of_aggregate(ended), Some(Ending::Refused(7)));
+    of_lock(busy) == 7
+        && of_take(incomplete) == 9
+        && of_source(SourceFault::TooLarge) == 1
+        && of_growth(GrowthFault::MaxTooLarge) == 3
+        && of_parts(PartFault::KeysNotRising) == 3
+        && of_expansion(ExpandFault::Code(8)) == 8
+        && of_building(BuildFault::DegreeTwice) == 3
+        && of_merge(MergeFault::Sink(9)) == 9
+        && of_run(RunFault::Sink(9)) == 9
+        && of_aggregate(ended) == Some(Ending::Refused(7))
+}
+
+#[test]
+fn faults(rt: HostRuntime) {
+    assert!(&rt; faults_carry_what_they_are_about());
 }

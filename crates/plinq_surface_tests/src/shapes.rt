@@ -126,23 +126,21 @@ fn of_report(report: Report) -> (Ending, Vec<Record>) {
     (ending, records)
 }
 
-#[test]
-fn cases_and_fields(rt: HostRuntime) {
-    assert_eq!(&rt; of_step(Step::Refused(7)), Some(7));
-    assert_eq!(&rt; of_ending(Ending::Fault(2)), 2);
-    assert_eq!(&rt; of_tail(Tail::Refused(7)), 7);
-    assert_eq!(&rt; of_event(Event::Ask(5)), 5);
-    assert_eq!(&rt; of_fragment_end(FragEnd::Fault(2)), 2);
-    assert_eq!(&rt; of_formula(Formula::Repeat(6)), 6);
-    assert_eq!(&rt; of_op(Op::SkipWhile(4)), 4);
-    assert_eq!(&rt; of_option(MergeOption::FullyBuffered), 4);
-    assert!(&rt; of_order(Order::ByKey));
-    assert!(&rt; !of_more(More::No));
+fn are_cases() -> bool {
+    of_step(Step::Refused(7)) == Some(7)
+        && of_ending(Ending::Fault(2)) == 2
+        && of_tail(Tail::Refused(7)) == 7
+        && of_event(Event::Ask(5)) == 5
+        && of_fragment_end(FragEnd::Fault(2)) == 2
+        && of_formula(Formula::Repeat(6)) == 6
+        && of_op(Op::SkipWhile(4)) == 4
+        && of_option(MergeOption::FullyBuffered) == 4
+        && of_order(Order::ByKey)
+        && !of_more(More::No)
 }
 
 /// Records, keyed elements and properties are made and copied by a caller.
-#[test]
-fn what_is_copied(rt: HostRuntime) {
+fn are_copied() -> bool {
     let record = Record {
         ticket: 3,
         asked: Event::Close,
@@ -150,22 +148,25 @@ fn what_is_copied(rt: HostRuntime) {
         count: 0,
         tail: Some(Tail::Closed),
     };
-    let (again, keyed) = (
-        record,
-        Keyed {
-            key: 1u64,
-            value: 5i64,
-        },
-    );
-    let (same, promised) = (
-        keyed,
-        KeyProperties {
-            in_each: true,
-            across: false,
-            normalized: true,
-        },
-    );
-    assert_eq!(&rt; again.ticket, record.ticket);
-    assert_eq!(&rt; same.value, keyed.value);
-    assert!(&rt; promised.in_each && !promised.across && promised.normalized);
+    let keyed = Keyed {
+        key: 1u64,
+        value: 5i64,
+    };
+    let promised = KeyProperties {
+        in_each: true,
+        across: false,
+        normalized: true,
+    };
+    let (again, same, also) = (record, keyed, promised);
+    again.ticket == record.ticket
+        && same.value == keyed.value
+        && also.in_each
+        && !promised.across
+        && promised.normalized
+}
+
+#[test]
+fn cases_and_fields(rt: HostRuntime) {
+    assert!(&rt; are_cases());
+    assert!(&rt; are_copied());
 }

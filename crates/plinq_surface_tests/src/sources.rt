@@ -68,14 +68,18 @@ fn recorded<S: Source>(enumerator: &Enumerator<S>) -> &[Record] {
     enumerator.records()
 }
 
+fn are_refused() -> bool {
+    let growth: Result<Growth, GrowthFault> = Growth::new(0, 3, 512);
+    let range: Result<RangeSource, SourceFault> = RangeSource::new(i64::MAX, 2);
+    let repeated: Result<RepeatSource, SourceFault> = RepeatSource::new(7, u64::MAX);
+    growth == Err(GrowthFault::Zero)
+        && Growth::ONE.size(9) == 1
+        && Growth::DEFAULT.size(3) == 2
+        && matches!(range, Err(SourceFault::TooLarge))
+        && matches!(repeated, Err(SourceFault::TooLarge))
+}
+
 #[test]
 fn numbers_that_are_refused(rt: HostRuntime) {
-    let growth: Result<Growth, GrowthFault> = Growth::new(0, 3, 512);
-    assert_eq!(&rt; growth, Err(GrowthFault::Zero));
-    assert_eq!(&rt; Growth::ONE.size(9), 1);
-    assert_eq!(&rt; Growth::DEFAULT.size(3), 2);
-    let range: Result<RangeSource, SourceFault> = RangeSource::new(i64::MAX, 2);
-    assert!(&rt; matches!(range, Err(SourceFault::TooLarge)));
-    let repeated: Result<RepeatSource, SourceFault> = RepeatSource::new(7, u64::MAX);
-    assert!(&rt; matches!(repeated, Err(SourceFault::TooLarge)));
+    assert!(&rt; are_refused());
 }
