@@ -54,7 +54,6 @@ NAMED = {
 # Files that stand outside of specs/inner/ though no public contract reaches them, and why.
 LEFT_OUTSIDE = {
     "crates/plinq_closures/specs/Only.antt": "its crate and all above it are proved again where it moves",
-    "crates/plinq_keyed/specs/Sweeps.antt": "its crate and all above it are proved again where it moves",
     "crates/plinq_source/specs/Values.antt": "its crate and all above it are proved again where it moves",
 }
 PLANS = "ghost use Rattle.plinq_run.specs.inner.Plans.{MayTake};\npub fn taken()\n    ensures { MayTake }\n{}\n"

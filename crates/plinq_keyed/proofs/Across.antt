@@ -5,7 +5,7 @@ use Rattle.std.proofs.Math.Bool.{and_assoc, and-true}
 use Rattle.std.proofs.lemmas.Bool.Decides.{nat_tests}
 use Rattle.std.proofs.lemmas.List.Folds.{list_all-append}
 use Rattle.plinq_keyed.specs.Keys.{is_below, ordered_across}
-use Rattle.plinq_keyed.specs.Sweeps.{all_from, least_after}
+use Rattle.plinq_keyed.specs.inner.Sweeps.{all_from, least_after}
 
 and_swap : (a b c d : Bool) → (a && b && (c && d)) ≡ (a && c && (b && d))
 and_swap true true c d = refl

@@ -5,7 +5,7 @@ use Rattle.std.proofs.lemmas.Bool.{and_parts, and_from, or_parts, or_from, or_ca
 use Rattle.std.proofs.lemmas.List.Folds.{list_any-append}
 use Rattle.std.proofs.lemmas.Map.Steps.{length-le_from_distinct_below}
 use Rattle.plinq_keyed.specs.Keys.{is_among, distinct, rises_from, rises, counts_up}
-use Rattle.plinq_keyed.specs.Sweeps.{apart, all_below}
+use Rattle.plinq_keyed.specs.inner.Sweeps.{apart, all_below}
 
 not_or : (a b : Bool) → not (a || b) ≡ (not a && not b)
 not_or true b = refl

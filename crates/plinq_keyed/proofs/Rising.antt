@@ -5,7 +5,7 @@ use Rattle.std.proofs.lemmas.Bool.{and_parts, and_from, leb-true, le-leb, lt-ltb
 use Rattle.std.proofs.lemmas.List.{length-take-le}
 use Rattle.std.proofs.lemmas.List.FromFn.{length-range_with_len}
 use Rattle.plinq_keyed.specs.Keys.{keys, keyed_from, rises_from, is_below, ordered_in_each, ordered_across, counts_up}
-use Rattle.plinq_keyed.specs.Sweeps.{all_below}
+use Rattle.plinq_keyed.specs.inner.Sweeps.{all_below}
 use Rattle.plinq_source.specs.Trace.{Trace}
 use Rattle.plinq_keyed.specs.declared.record.Record.{Record}
 use Rattle.plinq_keyed.specs.History.{IsLegalHistory, handed_out, given_by}

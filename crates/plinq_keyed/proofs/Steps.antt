@@ -6,7 +6,7 @@ use Rattle.std.proofs.lemmas.Bool.{and_parts}
 use Rattle.std.proofs.lemmas.List.{drop_more}
 use Rattle.plinq_keyed.specs.declared.keyed.Keyed.{Keyed}
 use Rattle.plinq_keyed.specs.Keys.{keys, key_lists, element_lists, distinct, rises, ordered_in_each}
-use Rattle.plinq_keyed.specs.Sweeps.{apart}
+use Rattle.plinq_keyed.specs.inner.Sweeps.{apart}
 use Rattle.plinq_keyed.proofs.Distinct.{apart-append, apart-lower_left, apart-lower_right, distinct-append, distinct-rising, rises-tail}
 
 abbrev pub all_keys : {T : Type 0} → List (Vec (Keyed T) Global) → List ℕ

@@ -29,7 +29,7 @@ pub record Reply (T : Type 0) : Type 0 where
   pub items : List T
   pub tail : Option Tail
 
--- how the source ends, as a tail
+-- how the source ends, as a tail; no source ends with a fault
 abbrev pub ending_tail : Option Ending → Option Tail
 ending_tail None = None
 ending_tail (Some End) = Some Ended
@@ -98,7 +98,8 @@ abbrev pub is_run : {T : Type 0} → Trace T → Place → List Record → Bool
 is_run t p [] = true
 is_run t p (r ∷ rs) = tells r (reply t p r.asked) && is_run t (next_place t p r.asked) rs
 
--- whether a history is legal for a trace: a run from the start, under tickets that rise
+-- whether a history is legal for a trace: its records state the answers one after another from the start, under tickets
+-- that rise
 abbrev pub is_legal_history : {T : Type 0} → Trace T → List Record → Bool
 is_legal_history t h = is_run t start h && rises (map (λ r. r.ticket) h)
 
@@ -118,7 +119,7 @@ with_next t h ticket e = h ++ next_record t h ticket e ∷ []
 abbrev pub tickets_below : ℕ → List Record → Bool
 tickets_below ticket h = list_all (λ r. nat_lt r.ticket ticket) h
 
--- the items that a record says were handed out
+-- the items of a trace that a record says were handed out
 abbrev pub record_items : {T : Type 0} → Trace T → Record → List T
 record_items t r = items_from t r.first r.count
 

@@ -1,3 +1,3 @@
 pub mod History
 pub mod Keys
-pub mod Sweeps
+pub mod inner

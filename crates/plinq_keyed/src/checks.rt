@@ -1,6 +1,6 @@
 ghost use Rattle.std.specs.Prelude.{◌≡◌, ◌<◌, ◌^◌};
 ghost use Rattle.plinq_keyed.specs.Keys.{element_lists, key_lists, keys, ordered_in_each, ordered_across, rises};
-ghost use Rattle.plinq_keyed.specs.Sweeps.{all_from, least_after};
+ghost use Rattle.plinq_keyed.specs.inner.Sweeps.{all_from, least_after};
 
 use crate::keyed::Keyed;
 

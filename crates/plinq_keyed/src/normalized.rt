@@ -1,7 +1,7 @@
 ghost use Rattle.std.specs.Prelude.{◌≡◌, ◌&&◌, length, true};
 ghost use Rattle.std.specs.List.{concat};
 ghost use Rattle.plinq_keyed.specs.Keys.{element_lists, key_lists, keys, ordered_in_each, normalized, rises, is_among, distinct};
-ghost use Rattle.plinq_keyed.specs.Sweeps.{all_below, apart};
+ghost use Rattle.plinq_keyed.specs.inner.Sweeps.{all_below, apart};
 
 use crate::checks::check_in_each;
 use crate::keyed::Keyed;

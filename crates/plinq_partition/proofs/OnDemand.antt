@@ -9,7 +9,7 @@ use Rattle.plinq_source.specs.Trace.{Trace}
 use Rattle.plinq_keyed.specs.declared.keyed.Keyed.{Keyed}
 use Rattle.plinq_keyed.specs.declared.record.Record.{Record}
 use Rattle.plinq_keyed.specs.Keys.{keys, key_lists, keyed_from, is_among, distinct, ordered_in_each, normalized, counts_up}
-use Rattle.plinq_keyed.specs.Sweeps.{all_below}
+use Rattle.plinq_keyed.specs.inner.Sweeps.{all_below}
 use Rattle.plinq_keyed.specs.History.{IsLegalHistory, handed_out, record_items}
 use Rattle.plinq_keyed.proofs.Distinct.{counts_up-from}
 use Rattle.plinq_ticket.specs.Weights.{total}

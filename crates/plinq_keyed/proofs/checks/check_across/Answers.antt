@@ -2,7 +2,7 @@ use Rattle.std.proofs.Common.{◌≡◌, ◌∙◌, ◌&&◌, ◌+◌, ◌∷◌
 use Rattle.std.specs.List.{concat}
 use Rattle.std.proofs.lemmas.List.{drop_more}
 use Rattle.plinq_keyed.specs.Keys.{key_lists, element_lists, ordered_across, keys}
-use Rattle.plinq_keyed.specs.Sweeps.{all_from, least_after}
+use Rattle.plinq_keyed.specs.inner.Sweeps.{all_from, least_after}
 use Rattle.plinq_keyed.proofs.Across.{across-step, all_from-zero}
 use Rattle.plinq_keyed.proofs.checks.check_across.Goals as goal
 

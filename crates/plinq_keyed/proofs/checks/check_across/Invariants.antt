@@ -1,7 +1,7 @@
 use Rattle.std.proofs.Common.{◌≡◌, ◌<◌, ◌^◌, ◌&&◌, drop}
 use Rattle.std.specs.List.{concat}
 use Rattle.plinq_keyed.specs.Keys.{key_lists, element_lists, ordered_across}
-use Rattle.plinq_keyed.specs.Sweeps.{all_from}
+use Rattle.plinq_keyed.specs.inner.Sweeps.{all_from}
 use Rattle.plinq_keyed.proofs.checks.check_across.Given as goal
 
 abbrev pub invariant-loop-part : goal.invariant-loop-part

@@ -1,6 +1,6 @@
 use Rattle.std.proofs.Common.{◌≡◌, drop}
 use Rattle.plinq_keyed.specs.Keys.{keys}
-use Rattle.plinq_keyed.specs.Sweeps.{all_from}
+use Rattle.plinq_keyed.specs.inner.Sweeps.{all_from}
 use Rattle.plinq_keyed.proofs.checks.keys_from.Given as goal
 
 abbrev pub invariant-loop-element : goal.invariant-loop-element

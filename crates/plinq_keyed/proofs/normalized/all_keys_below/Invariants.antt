@@ -1,7 +1,7 @@
 use Rattle.std.proofs.Common.{◌≡◌, drop}
 use Rattle.std.specs.List.{concat}
 use Rattle.plinq_keyed.specs.Keys.{element_lists, key_lists}
-use Rattle.plinq_keyed.specs.Sweeps.{all_below}
+use Rattle.plinq_keyed.specs.inner.Sweeps.{all_below}
 use Rattle.plinq_keyed.proofs.normalized.all_keys_below.Given as goal
 
 abbrev pub invariant-loop-part : goal.invariant-loop-part

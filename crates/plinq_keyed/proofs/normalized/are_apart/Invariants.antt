@@ -1,6 +1,6 @@
 use Rattle.std.proofs.Common.{◌≡◌, ◌+◌, ◌-◌, drop, length, true}
 use Rattle.plinq_keyed.specs.Keys.{keys, rises}
-use Rattle.plinq_keyed.specs.Sweeps.{apart}
+use Rattle.plinq_keyed.specs.inner.Sweeps.{apart}
 use Rattle.plinq_keyed.proofs.normalized.are_apart.Given as goal
 
 abbrev pub invariant-loop-at : goal.invariant-loop-at

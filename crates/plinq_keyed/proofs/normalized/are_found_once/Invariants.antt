@@ -1,7 +1,7 @@
 use Rattle.std.proofs.Common.{◌≡◌, ◌&&◌, drop}
 use Rattle.std.specs.List.{concat}
 use Rattle.plinq_keyed.specs.Keys.{element_lists, key_lists, keys, distinct}
-use Rattle.plinq_keyed.specs.Sweeps.{apart}
+use Rattle.plinq_keyed.specs.inner.Sweeps.{apart}
 use Rattle.plinq_keyed.proofs.normalized.are_found_once.Given as goal
 
 abbrev pub invariant-loop-place : goal.invariant-loop-place

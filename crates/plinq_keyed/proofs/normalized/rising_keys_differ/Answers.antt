@@ -1,6 +1,6 @@
 use Rattle.std.proofs.Common.{◌≡◌, ◌+◌, ◌∙◌, ◌&&◌, true, false, drop, sym, ap}
 use Rattle.plinq_keyed.specs.Keys.{keys, distinct}
-use Rattle.plinq_keyed.specs.Sweeps.{apart}
+use Rattle.plinq_keyed.specs.inner.Sweeps.{apart}
 use Rattle.plinq_keyed.proofs.Steps.{drop-at, all_keys, distinct-next_rising, ordered-next}
 use Rattle.plinq_keyed.proofs.normalized.rising_keys_differ.Goals as goal
 
