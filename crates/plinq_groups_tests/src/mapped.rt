@@ -5,7 +5,7 @@ ghost use Rattle.std.specs.Int.{cast_unsigned, w64};
 use plinq_enumerator::Growth;
 use plinq_groups::{MakeOf, MapEach, MapFault};
 use plinq_lambda::Formula;
-use plinq_mapped::run_mapped;
+use plinq_mapped::{run_mapped, to_vec_mapped};
 use plinq_merge::Sink;
 use plinq_ops::{BuildFault, MergeOption, Query};
 use plinq_run::{OpenGate, RunFault};
@@ -161,6 +161,23 @@ fn ask<R: Threads + Wait + Sync + Abort>(
     Ok((taken, ended))
 }
 
+fn ask_for_all<R: Threads + Wait + Sync + Abort>(
+    rt: &R,
+    alloc: Global,
+    setting: &Setting,
+) -> Result<(Vec<u64>, Ending), Fail> {
+    let query = query_of(alloc, setting)?;
+    let list = numbers(alloc)?;
+    assert!(rt; list.len() <= 200);
+    let bits = MapEach {
+        make: BitsOf { but: setting.but },
+    };
+    let Ok(all) = to_vec_mapped(rt, alloc, &query, ListSource::new(alloc, list), &bits) else {
+        panic!(rt; "no list");
+    };
+    Ok(all)
+}
+
 /// Whether all batches but the last have so many items, and that has no more.
 fn are_of(sizes: &[usize], size: usize) -> bool {
     match sizes.split_last() {
@@ -177,6 +194,9 @@ fn is_as_by_loop<R: Threads + Wait + Sync + Abort>(
     let (made, ending) = by_loop(alloc, setting)?;
     let (taken, ended) = ask(rt, alloc, setting, 1_000)?;
     assert_eq!(rt; ended, Ok(ending));
+    let (all, last) = ask_for_all(rt, alloc, setting)?;
+    assert_eq!(rt; all.as_slice(), made.as_slice());
+    assert_eq!(rt; last, ending);
     match setting.option {
         MergeOption::FullyBuffered if ending != Ending::End => assert!(rt; taken.sizes.is_empty()),
         MergeOption::FullyBuffered => {

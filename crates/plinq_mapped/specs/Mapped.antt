@@ -22,6 +22,14 @@ made_of makes u = trace_at (mapped makes u.items).0 (mapped makes u.items).1 u.e
 abbrev pub RunsMadeOf : {K T B : Type 0} → (K → List B → K → Type 0) → (K → List B → ℕ → K → Type 0) → MergeOption → (T → Result B ℕ) → (Trace T → Type 0) → K → K → Result Ending RunFault → Type 0
 RunsMadeOf {K} {T} accepts refuses option makes IsAnswer s s' r = (u : Trace T) × (IsAnswer u) × Runs accepts refuses option (made_of makes u) s s' r
 
+-- a list has all that is made of this answer, which ends so
+abbrev pub IsMadeOf : {T B : Type 0} → (T → Result B ℕ) → Trace T → List B → Ending → Type 0
+IsMadeOf makes u ys e = ended ys e ≡ made_of makes u
+
+-- the same, of one of these answers
+abbrev pub IsMadeOfSome : {T B : Type 0} → (T → Result B ℕ) → (Trace T → Type 0) → List B → Ending → Type 0
+IsMadeOfSome {T} makes IsAnswer ys e = (u : Trace T) × (IsAnswer u) × IsMadeOf makes u ys e
+
 -- ---- worked rows
 
 -- one more than each, of all but 3

@@ -2,9 +2,13 @@
 //!
 //! [`run_mapped`] delivers the batches of an answer with what is made of each item in its place (`RunsMadeOf`). With
 //! `as_ordered` that is the sequential answer. The first item of which nothing can be made ends it, with its code as the fault.
+//! [`to_vec_mapped`] keeps all of it in a list (`IsMadeOfSome`).
 #![tactic(auto)]
 
+mod collecting;
 mod deliver_made;
+mod keep_made;
 mod running;
 
+pub use collecting::to_vec_mapped;
 pub use running::run_mapped;

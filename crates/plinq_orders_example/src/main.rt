@@ -19,9 +19,11 @@ use anyhow::{Result, bail};
 use plinq_aggregate::{Count, Sum};
 use plinq_enumerator::Growth;
 use plinq_groups::{Both, By, GroupBy, MapEach, Top};
+use plinq_mapped::to_vec_mapped;
 use plinq_ops::{BuildFault, Query};
 use plinq_run::{OpenGate, aggregate};
 use plinq_slice::SliceSource;
+use plinq_source::Ending;
 use std::alloc::{AllocError, Global};
 use std::marker::PhantomData;
 use std::sync::Wait;
@@ -161,17 +163,8 @@ fn lines<R: Threads + Wait + Sync>(
     let print = MapEach {
         make: Print(PhantomData),
     };
-    let made = aggregate(
-        rt,
-        alloc,
-        &query,
-        source,
-        Growth::DEFAULT,
-        &OpenGate,
-        &print,
-    )?;
-    let (lines, fault) = made.into_parts();
-    if fault.is_some() {
+    let (lines, ending) = to_vec_mapped(rt, alloc, &query, source, &print)?;
+    if ending != Ending::End {
         bail!("an order without a line");
     }
     Ok(lines)
