@@ -1,6 +1,7 @@
 //! Mapped runs by threads beside those of a plain loop.
-ghost use Rattle.std.specs.Prelude.{int_eq, Ok, Err, ⊤};
+ghost use Rattle.std.specs.Prelude.{Ok, Err, ⊤};
 ghost use Rattle.std.specs.Int.{cast_unsigned, w64};
+ghost use Rattle.std.specs.Ordering.{int_eq};
 
 use plinq_enumerator::Growth;
 use plinq_groups::{MakeOf, MapEach, MapFault};
