@@ -1,5 +1,5 @@
 //! Mapped runs by threads beside those of a plain loop.
-ghost use Rattle.std.specs.Prelude.{Ok, Err, ⊤};
+ghost use Rattle.std.specs.Prelude.{if◌then◌else◌, Ok, Err, ⊤};
 ghost use Rattle.std.specs.Int.{cast_unsigned, w64};
 ghost use Rattle.std.specs.Ordering.{int_eq};
 

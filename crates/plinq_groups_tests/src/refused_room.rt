@@ -1,4 +1,5 @@
-//! Groups and mapped runs that are refused an allocation, and the same once more. Each test is run with each allocation failing in turn.
+//! Groups and mapped runs that are refused an allocation, and the same once more. Each test is run with each allocation
+//! failing in turn.
 use crate::keys::Masked;
 use crate::mapped::{BitsOf, Taken};
 use plinq_enumerator::Growth;
