@@ -1,84 +1,54 @@
--- Rows of crews: what workers and polls may leave, and what not.
-use Rattle.std.specs.Prelude.{◌≡◌, refl, ℕ, ◌+◌, ◌≤◌, List, [], ◌∷◌, ◌++◌, length, get_or, Some, None, true, false}
-use Rattle.std.proofs.Common.{arith, ap, sym, ◌∙◌}
+-- Rows of crews: what polls may leave, what may be accepted, who is started and what comes back, and what not.
+use Rattle.std.specs.Prelude.{◌≡◌, refl, ℕ, ◌+◌, ◌≤◌, ◌^◌, List, [], ◌∷◌, ◌++◌, length, get_or, Some, None, Ok, Err, Bool, true, false, All, drop, vec_capacity}
+use Rattle.std.specs.declared.thread.PromisedHandle.{PromisedHandle}
+use Rattle.std.proofs.Common.{arith, ap, sym, ◌∙◌, subst}
 use Rattle.std.proofs.lemmas.List.{length-append}
-use Rattle.std.specs.List.{AllZip, FoldsTo}
-use Rattle.plinq_source.specs.declared.ending.Ending.TheVariants.{End}
+use Rattle.std.proofs.lemmas.List.Elements.{All-head}
+use Rattle.std.specs.List.{FoldsTo}
 use Rattle.plinq_source.specs.declared.memory.OutOfMemory.{OutOfMemory}
 use Rattle.plinq_source.specs.declared.source.Source.{Ghosts}
 use Rattle.plinq_source.specs.Trace.{open_trace}
-use Rattle.plinq_keyed.specs.declared.event.Event.TheVariants.{Ask, Close}
-use Rattle.plinq_keyed.specs.declared.record.Record.{Record}
-use Rattle.plinq_keyed.specs.declared.tail.Tail.TheVariants.{Ended, Closed}
+use Rattle.plinq_lambda.specs.Meaning.{Meaning}
+use Rattle.plinq_keyed.specs.Keys.{is_among}
+use Rattle.plinq_cut.specs.declared.cut_pass.CutPass.{CutPass}
+use Rattle.plinq_cut.specs.declared.cut_word.CutWord.{CutWord}
+use Rattle.plinq_cut.specs.Passes.{IsPassOf as IsCutPassOf}
+use Rattle.plinq_ops.specs.declared.plan.Plan.{Plan}
 use Rattle.plinq_ops.specs.declared.results.ChunkResult.{ChunkResult}
-use Rattle.plinq_partition.specs.Partitions.{Holding}
+use Rattle.plinq_ops.specs.Cut.{stop_keys}
+use Rattle.plinq_partition.specs.GivenBack.{common_origin}
+use Rattle.plinq_partition.specs.Partitions.{Holding, IsPartitionOf, holding_of}
 use Rattle.plinq_partition.specs.declared.chunked.Chunked.{Chunked}
-use Rattle.plinq_partition.specs.declared.take_fault.TakeFault.TheVariants.{Memory, Spent}
-use Rattle.plinq_crew.specs.declared.closing.Closing.{Closing}
-use Rattle.plinq_crew.specs.declared.starting.WorkerFaults.{WorkerFaults}
+use Rattle.plinq_partition.specs.declared.partition.Partition.{Partition}
+use Rattle.plinq_partition.specs.declared.take_fault.TakeFault.TheVariants.{Memory, Spent, Busy, Incomplete, Away}
+use Rattle.plinq_stream.specs.declared.known.PassKnowledge.{PassKnowledge}
+use Rattle.plinq_stream.specs.declared.sent.Sent.{Sent}
 use Rattle.plinq_stream.specs.declared.stream.Stream.{Stream}
+use Rattle.plinq_stream.specs.declared.stream_pass.StreamPass.{StreamPass}
+use Rattle.plinq_stream.specs.Knowing.{with_received}
+use Rattle.plinq_stream.specs.Passes.{IsPassOf, known}
+use Rattle.plinq_stream.specs.Streams.{has, under}
+use Rattle.plinq_crew.specs.declared.closing.Closing.{Closing}
+use Rattle.plinq_crew.specs.declared.conducting.Equipment.{Equipment}
 use Rattle.plinq_crew.specs.declared.conducting.Returned.{Returned}
+use Rattle.plinq_crew.specs.declared.handle.WorkerPromise.{WorkerPromise}
+use Rattle.plinq_crew.specs.declared.poll.Poll.TheVariants.{Came, Nothing, Over}
 use Rattle.plinq_crew.specs.declared.starting.Team.{Team}
+use Rattle.plinq_crew.specs.declared.starting.WorkerFaults.{WorkerFaults}
 use Rattle.plinq_crew.specs.declared.worker.Crew.{Crew}
+use Rattle.plinq_crew.specs.declared.worker.Worked.{Worked}
 use Rattle.plinq_crew.specs.declared.worker.WorkerContext.{WorkerContext}
 use Rattle.plinq_crew.specs.declared.worker_count.WorkerCount.{WorkerCount}
-use Rattle.plinq_crew.specs.Conducting.{HasReturned, Conducts}
-use Rattle.plinq_crew.specs.inner.Handles.{AreNumbered}
+use Rattle.plinq_crew.specs.Conducting.{AcceptsEach, HasReturned, Conducts}
+use Rattle.plinq_crew.specs.Equipped.{IsEquipped, IsReady}
+use Rattle.plinq_crew.specs.inner.Handles.{IsHandleOf, AreNumbered}
+use Rattle.plinq_crew.specs.inner.Scoped.{MayStartScope, ScopeReturns}
 use Rattle.plinq_crew.specs.inner.Teams.{IsTeam}
-use Rattle.plinq_crew.specs.Noted.{has_noted, has_worker_fault, StaysNoted}
-use Rattle.plinq_crew.specs.Polls.{ClosesInTime, HasAccepted}
-use Rattle.plinq_crew.specs.Results.{IsOfSameChunk}
-use Rattle.plinq_crew.specs.Working.{HasLeft, Answers, StopsAtTail, Follows, HasTakenChunk, IsAtWork, sender, receiver_from, IsReceiver}
-
--- ---- what a worker sends for its records
-
--- one item was handed out, and then the source was found closed
-abbrev taken_one : Record
-taken_one = record { ticket = 0; asked = Ask 1; first = 0; count = 1; tail = None }
-
-abbrev found_closed : Record
-found_closed = record { ticket = 1; asked = Ask 1; first = 1; count = 0; tail = Some Closed }
-
--- a result that says another key, count or tail than the record
-answers_with_count : (r : ChunkResult ℕ) → r.count ≡ 2 → Answers taken_one r → ⊥
-answers_with_count r two answers = let one = answers.count in absurd (cc)
-
-answers_with_key : (r : ChunkResult ℕ) → r.first ≡ 1 → Answers taken_one r → ⊥
-answers_with_key r one answers = let zero = answers.first in absurd (cc)
-
-answers_with_tail : (r : ChunkResult ℕ) → r.tail ≡ None → Answers found_closed r → ⊥
-answers_with_tail r none answers = let closed = answers.tail in absurd (cc)
-
--- a worker without a fault has sent something
-nothing_sent : (share : List Record) → Follows {T = ℕ} share None [] → ⊥
-nothing_sent share follows = let last = ap length follows.stops.1.are in omega (arith, last, length-append follows.stops.1.before (follows.stops.1.last ∷ []))
-
--- and has sent no more than one result a record
-more_than_records : (r q : ChunkResult ℕ) → Follows [] None (r ∷ q ∷ []) → ⊥
-more_than_records r q follows = none follows.answered follows.rest follows.share_is follows.are
-  where
-    none : (answered rest : List Record) → [] ≡ answered ++ rest → AllZip Answers answered (r ∷ q ∷ []) → ⊥
-    none [] rest is are = absurd are
-    none (x ∷ xs) rest is are = omega (arith, ap length is)
-
--- records that came before stay
-lost_a_record : HasLeft (taken_one ∷ []) [] → ⊥
-lost_a_record left = omega (arith, ap length left.share_is)
-
--- a chunk that was taken is one record more
-no_record_more : (r : ChunkResult ℕ) → HasTakenChunk (taken_one ∷ []) (taken_one ∷ []) r → ⊥
-no_record_more r taken = omega (arith, ap length taken.share_is)
-
--- the pass that receives has sent nothing, and one that sends doesn't receive
-sender_is_no_receiver : IsReceiver {T = ℕ} (sender 3 []) → ⊥
-sender_is_no_receiver receiver = let same = receiver.receives in absurd (cc)
-
-receiver_is_not_at_work : IsAtWork {T = ℕ} 3 [] (receiver_from 3) → ⊥
-receiver_is_not_at_work worker = let same = ap (λ a. a.receives) worker.knows in absurd (cc)
-
--- what is made of a result is of no other chunk
-of_another_chunk : (r c : ChunkResult ℕ) → r.first ≡ 4 → c.first ≡ 5 → IsOfSameChunk r c → ⊥
-of_another_chunk r c four five same = let first = same.first in absurd (cc)
+use Rattle.plinq_crew.specs.Noted.{lacks_room, has_noted, has_worker_fault, StaysNoted}
+use Rattle.plinq_crew.specs.Polls.{IfCame, HasCome, ClosesInTime, HasAccepted}
+use Rattle.plinq_crew.specs.Results.{IsPart}
+use Rattle.plinq_crew.specs.Working.{IsAnsweredBy, receiver_from}
+use Rattle.plinq_crew.specs.WorkerRows.{sent_under}
 
 -- ---- what a poll notes, and when it closes
 
@@ -95,8 +65,38 @@ memory_is_noted = refl
 tickets_arent_noted : has_noted noted Spent ≡ false
 tickets_arent_noted = refl
 
+memory_is_room : lacks_room Memory ≡ true
+memory_is_room = refl
+
+tickets_are_no_room : lacks_room Spent ≡ false
+tickets_are_no_room = refl
+
+others_first_are_no_room : lacks_room (Busy 3 4) ≡ false
+others_first_are_no_room = refl
+
+a_missing_record_is_no_room : lacks_room (Incomplete 3 4) ≡ false
+a_missing_record_is_no_room = refl
+
+a_pass_away_is_no_room : lacks_room Away ≡ false
+a_pass_away_is_no_room = refl
+
 forgotten : StaysNoted noted (record { memory = false; tickets = true }) → ⊥
 forgotten stays = let same = stays.0 refl in absurd (cc)
+
+abbrev tickets_noted : WorkerFaults
+tickets_noted = record { memory = false; tickets = true }
+
+forgotten_tickets : StaysNoted tickets_noted noted → ⊥
+forgotten_tickets stays = let same = stays.1 refl in absurd (cc)
+
+one_fault_is_one : has_worker_fault noted ≡ true
+one_fault_is_one = refl
+
+tickets_are_a_fault : has_worker_fault tickets_noted ≡ true
+tickets_are_a_fault = refl
+
+no_fault_is_none : has_worker_fault nothing_noted ≡ false
+no_fault_is_none = refl
 
 abbrev unclosed : Closing
 unclosed = record { wants_close = false; is_closed = false }
@@ -112,12 +112,56 @@ closed_without_a_record : (faults : WorkerFaults) → ClosesInTime true unclosed
 closed_without_a_record faults closes = let stopped = closes.2 refl refl in omega (arith, ap length stopped.adds.share)
 
 -- where all is over and no fault stands noted, the source is closed
-over_and_unclosed : ClosesInTime true unclosed holding nothing_noted (record { wants_close = true; is_closed = false }) holding → ⊥
+over_and_unclosed : ClosesInTime true unclosed holding nothing_noted (record { wants_close = true; is_closed = false }) holding
+    → ⊥
 over_and_unclosed closes = let same = closes.4 refl refl refl in absurd (cc)
+
+-- where it isn't closed yet, no record was added
+unclosed_with_a_record : (faults : WorkerFaults) (b : Holding ℕ) → length b.share ≡ 1
+    → ClosesInTime false unclosed holding faults unclosed b → ⊥
+unclosed_with_a_record faults b one closes = omega (arith, one, ap (λ h. length h.share) (closes.1 refl))
+
+-- where all is over, and where it was closed, it is to be closed
+over_and_open : (faults : WorkerFaults) → ClosesInTime true unclosed holding faults unclosed holding → ⊥
+over_and_open faults closes = let same = closes.3 refl refl in absurd (cc)
+
+closed_and_open : (faults : WorkerFaults) (b : Holding ℕ)
+    → ClosesInTime false unclosed holding faults (record { wants_close = false; is_closed = true }) b → ⊥
+closed_and_open faults b closes = let same = closes.5 refl refl in absurd (cc)
 
 -- one that has closed it doesn't say that it hasn't
 closed_and_forgotten : (faults : WorkerFaults) → ClosesInTime true closed holding faults unclosed holding → ⊥
 closed_and_forgotten faults closes = let same = ap (λ c. c.is_closed) (closes.0 refl) in absurd (cc)
+
+-- ---- what came
+
+module _ (made : ChunkResult ℕ) where
+  -- what came is asked of, and nothing where none came
+  came_otherwise : IfCame (Came made) (λ _. ⊥) → ⊥
+  came_otherwise never = never
+
+  none_came : IfCame {M = ℕ} Over (λ _. ⊥)
+  none_came = tt
+
+  -- what came was received
+  came_as_it_was_sent : HasCome (receiver_from 0) (Came made) (with_received (receiver_from 0) (sent_under 3 made))
+  came_as_it_was_sent = (sent_under 3 made, refl, refl)
+
+  came_unreceived : HasCome (receiver_from 0) (Came made) (receiver_from 0) → ⊥
+  came_unreceived (s, item, received) = omega (arith, ap (λ a. length a.received) received)
+
+  came_as_another : (other : ChunkResult ℕ) → made.first ≡ 4 → other.first ≡ 5
+      → HasCome (receiver_from 0) (Came made) (with_received (receiver_from 0) (sent_under 3 other)) → ⊥
+  came_as_another other four five (s, item, received) =
+      let same : other.first ≡ s.item.first = ap (λ a. (get_or a.received 0 s).item.first) received in
+      omega (arith, four, five, same, ap (λ c. c.first) item)
+
+  -- and where nothing came nothing was
+  received_unasked : HasCome (receiver_from 0) (Nothing None) (with_received (receiver_from 0) (sent_under 3 made)) → ⊥
+  received_unasked received = omega (arith, ap (λ a. length a.received) received)
+
+  received_after_all : HasCome (receiver_from 0) Over (with_received (receiver_from 0) (sent_under 3 made)) → ⊥
+  received_after_all received = omega (arith, ap (λ a. length a.received) received)
 
 -- ---- what was accepted of what came
 
@@ -137,15 +181,124 @@ one_is_left accepted = all_taken accepted.taken accepted.left accepted.came acce
   where
     all_taken : (taken left : List ℕ) → 3 ∷ [] ≡ taken ++ left → FoldsTo Adds 0 taken 0 → left ≡ [] → ⊥
     all_taken [] left came steps none = omega (arith, ap length came, ap length none)
-    all_taken (x ∷ xs) left came (y, is, steps) none = let three : 3 ≡ x = ap (λ ys. get_or ys 0 0) came in omega (arith, three, is, grows y xs 0 steps)
+    all_taken (x ∷ xs) left came (y, is, steps) none =
+        let three : 3 ≡ x = ap (λ ys. get_or ys 0 0) came in omega (arith, three, is, grows y xs 0 steps)
       where
         grows : (y : ℕ) (xs : List ℕ) (z : ℕ) → FoldsTo Adds y xs z → y ≤ z
         grows y [] z steps = omega (arith, steps)
         grows y (x ∷ xs) z (m, is, steps) = omega (arith, is, grows m xs z steps)
 
+-- a consumer that counts the items of the parts that it accepts, and gets those of the first key alone
+abbrev counts : ℕ → ChunkResult ℕ → ℕ → Type 0
+counts x c x' = x' ≡ x + c.count
+
+abbrev is_first : ChunkResult ℕ → Type 0
+is_first c = c.first ≡ 0
+
+module _ (s : Sent (ChunkResult ℕ)) where
+  accepts_the_first : s.item.first ≡ 0 → s.item.count ≡ 2 → AcceptsEach counts is_first 3 s 5
+  accepts_the_first first count = (first, rw count refl)
+
+  accepts_another : s.item.first ≡ 1 → AcceptsEach counts is_first 3 s 5 → ⊥
+  accepts_another first accepts = omega (arith, first, accepts.0)
+
+  accepts_without_counting : s.item.count ≡ 2 → AcceptsEach counts is_first 3 s 3 → ⊥
+  accepts_without_counting count accepts = omega (arith, count, accepts.1)
+
+-- ---- who may be started
+
+module _ {L S T M E : Type 0} {source : Ghosts S T} (meaning : L → Meaning T) (makes : ChunkResult T → ChunkResult M → Type 0)
+    (MaySend : ChunkResult M → Type 0) (stops_at : ℕ → Bool) (plan : Plan L) (chunked : Chunked S T source) (cut : CutWord E)
+    (partition : Partition S T source) (pass : CutPass) where
+  abbrev HasAll : Type 0
+  HasAll = IsEquipped meaning makes MaySend stops_at plan chunked cut partition pass
+
+  equipped_for_another_source : (IsPartitionOf chunked partition → ⊥) → HasAll → ⊥
+  equipped_for_another_source never has_all = never has_all.of
+
+  equipped_for_too_many : length (holding_of partition).origin.items ≡ 2 ^ 40 + 1 → HasAll → ⊥
+  equipped_for_too_many many has_all = omega (arith, many, has_all.few)
+
+  equipped_for_a_decided_plan : plan.decided ≡ true → HasAll → ⊥
+  equipped_for_a_decided_plan decided has_all = let undecided = has_all.undecided.undecided in absurd (cc)
+
+  -- a part that may not be sent, and what may be sent and is no part
+  equipped_with_a_part_refused : (c : ChunkResult M) → IsPart meaning makes plan (holding_of partition).origin c → (MaySend c → ⊥)
+      → HasAll → ⊥
+  equipped_with_a_part_refused c part never has_all = never (has_all.parts c part)
+
+  equipped_with_no_part : (c : ChunkResult M) → MaySend c → (IsPart meaning makes plan (holding_of partition).origin c → ⊥)
+      → HasAll → ⊥
+  equipped_with_no_part c sent never has_all = never (has_all.sent c sent)
+
+  equipped_with_another_cut : (IsCutPassOf cut pass → ⊥) → HasAll → ⊥
+  equipped_with_another_cut never has_all = never has_all.sees
+
+  equipped_to_stop_elsewhere : stops_at 4 ≡ true
+      → is_among (stop_keys meaning plan.worker.now 0 (holding_of partition).origin.items) 4 ≡ false → HasAll → ⊥
+  equipped_to_stop_elsewhere stops none has_all = let same = has_all.stop_keys 4 in absurd (cc)
+
+module _ {L S J P T M : Type 0} {source : Ghosts S T} (meaning : L → Meaning T)
+    (makes : P → ChunkResult T → ChunkResult M → Type 0) (MaySend : ChunkResult M → Type 0) (stops_at : ℕ → Bool)
+    (crew : Crew L S J P T T M source) (context : WorkerContext S M T source) where
+  abbrev MayBegin : Type 0
+  MayBegin = IsReady meaning makes MaySend stops_at crew context
+
+  no_workers : crew.workers ≡ 0 → MayBegin → ⊥
+  no_workers none ready = omega (arith, none, ready.workers.0)
+
+  too_many_workers : crew.workers ≡ 65 → MayBegin → ⊥
+  too_many_workers many ready = omega (arith, many, ready.workers.1)
+
+  ready_in_another_stream : (IsPassOf crew.stream.now context.stream → ⊥) → MayBegin → ⊥
+  ready_in_another_stream never ready = never ready.stream_of
+
+  -- a number was handed out already
+  ready_with_a_worker : known context.stream ≡ receiver_from 1 → MayBegin → ⊥
+  ready_with_a_worker knows ready =
+      let bad : 1 ≡ 0 = ap (λ a. get_or a.numbers 0 9) (sym knows ∙ ready.knows) in
+      omega (arith, bad)
+
+  ready_for_a_decided_plan : crew.plan.now.decided ≡ true → MayBegin → ⊥
+  ready_for_a_decided_plan decided ready = let undecided = ready.equipped.undecided.undecided in absurd (cc)
+
+module _ {L S J P R T M : Type 0} {source : Ghosts S T} (meaning : L → Meaning T)
+    (makes : P → ChunkResult T → ChunkResult M → Type 0) (MaySend : ChunkResult M → Type 0) (stops_at : ℕ → Bool)
+    (e : Equipment L S J P R T T M source) (is_ready : ℕ → Type 0) where
+  abbrev MayStart : Type 0
+  MayStart = MayStartScope meaning makes MaySend stops_at is_ready e 3
+
+  scope_without_workers : e.crew.now.workers ≡ 0 → MayStart → ⊥
+  scope_without_workers none may = omega (arith, none, may.ready.workers.0)
+
+  scope_for_an_idle_consumer : (is_ready 3 → ⊥) → MayStart → ⊥
+  scope_for_an_idle_consumer never may = never may.consumer
+
 -- ---- who was started, and what comes back
 
-module _ {S T M C : Type 0} {source : Ghosts S T} (chunked : Chunked S T source) (stream : Stream (ChunkResult M) C) (team : Team S M T source) where
+module _ {S T M C : Type 0} {source : Ghosts S T} (chunked : Chunked S T source) (stream : Stream (ChunkResult M) C)
+    (handle next : PromisedHandle (Worked S M T source) (WorkerPromise S M T source)) where
+  handle_of_another_source : (handle.promise.chunked.value ≡ chunked → ⊥) → IsHandleOf chunked stream handle → ⊥
+  handle_of_another_source never is = never is.0
+
+  handle_of_another_stream : (IsPassOf stream handle.promise.given.value → ⊥) → IsHandleOf chunked stream handle → ⊥
+  handle_of_another_stream never is = never is.1
+
+  numbered_in_turn : handle.promise.number ≡ 0 → next.promise.number ≡ 1 → AreNumbered 0 (handle ∷ next ∷ [])
+  numbered_in_turn zero one = (zero, (one, tt))
+
+  numbered_from_another : handle.promise.number ≡ 1 → AreNumbered 0 (handle ∷ []) → ⊥
+  numbered_from_another one are = omega (arith, one, are.0)
+
+  numbered_alike : next.promise.number ≡ 0 → AreNumbered 0 (handle ∷ next ∷ []) → ⊥
+  numbered_alike zero are = omega (arith, zero, are.1.0)
+
+module _ {S T M C : Type 0} {source : Ghosts S T} (chunked : Chunked S T source) (stream : Stream (ChunkResult M) C)
+    (team : Team S M T source) (count : WorkerCount)
+    (handle : PromisedHandle (Worked S M T source) (WorkerPromise S M T source)) where
+  abbrev AreFour : Type 0
+  AreFour = IsTeam chunked stream 4 count team
+
   more_than_were_wanted : IsTeam chunked stream 4 (record { wanted = 1; started = 2 }) team → ⊥
   more_than_were_wanted is = omega (arith, is.asked)
 
@@ -153,17 +306,93 @@ module _ {S T M C : Type 0} {source : Ghosts S T} (chunked : Chunked S T source)
   more_wanted_than_asked_for is = omega (arith, is.within)
 
   -- one that was started isn't counted
-  not_counted : (count : WorkerCount) → count.started ≡ 1 → length team.handles.items ≡ 2 → IsTeam chunked stream 4 count team → ⊥
-  not_counted count one two is = omega (arith, one, two, is.started)
+  not_counted : count.started ≡ 1 → length team.handles.items ≡ 2 → AreFour → ⊥
+  not_counted one two is = omega (arith, one, two, is.started)
 
-module _ {L S J P T M X : Type 0} {source : Ghosts S T} (accepts : X → ChunkResult M → X → Type 0) (IsPart : ChunkResult M → Type 0) (crew : Crew L S J P T T M source) (context : WorkerContext S M T source) (x x' : X)
+  no_room_for_all : vec_capacity team.handles ≡ 3 → AreFour → ⊥
+  no_room_for_all three is = omega (arith, three, is.room)
+
+  -- one that was started brings back what belongs to another source, or has another's number
+  one_of_another_source : team.handles.items ≡ handle ∷ [] → (IsHandleOf chunked stream handle → ⊥) → AreFour → ⊥
+  one_of_another_source one never is =
+      never (All-head (IsHandleOf chunked stream) handle [] (subst (λ hs. All (IsHandleOf chunked stream) hs) one is.handles))
+
+  one_numbered_from_another : team.handles.items ≡ handle ∷ [] → handle.promise.number ≡ 1 → AreFour → ⊥
+  one_numbered_from_another one number is =
+      let numbered : AreNumbered 0 (handle ∷ []) = subst (λ hs. AreNumbered 0 hs) one is.numbered in
+      omega (arith, number, numbered.0)
+
+module _ {L S J P T M X : Type 0} {source : Ghosts S T} (accepts : X → ChunkResult M → X → Type 0)
+    (IsPart : ChunkResult M → Type 0) (crew : Crew L S J P T T M source) (context : WorkerContext S M T source) (x x' : X)
     (back : Returned S T source) where
-  no_worker_wanted : back.worker_count.wanted ≡ 0 → HasReturned accepts IsPart crew context x x' back → ⊥
+  abbrev Returns : Type 0
+  Returns = HasReturned accepts IsPart crew context x x' back
+
+  no_worker_wanted : back.worker_count.wanted ≡ 0 → Returns → ⊥
   no_worker_wanted none returned = omega (arith, none, returned.wanted.0)
 
-  more_workers_wanted : back.worker_count.wanted ≡ crew.workers + 1 → HasReturned accepts IsPart crew context x x' back → ⊥
+  more_workers_wanted : back.worker_count.wanted ≡ crew.workers + 1 → Returns → ⊥
   more_workers_wanted more returned = omega (arith, more, returned.wanted.1)
 
   -- a worker that was started doesn't come back
-  one_is_missing : length back.partitions.items ≡ back.worker_count.started → HasReturned accepts IsPart crew context x x' back → ⊥
+  one_is_missing : length back.partitions.items ≡ back.worker_count.started → Returns → ⊥
   one_is_missing missing returned = omega (arith, missing, returned.started)
+
+  nobody_comes_back : back.partitions.items ≡ [] → Returns → ⊥
+  nobody_comes_back none returned = omega (arith, ap length none, returned.some)
+
+  -- a partition comes back of another source, or that another source was
+  comes_from_another : (p : Partition S T source) → back.partitions.items ≡ p ∷ [] → (IsPartitionOf crew.chunked.now p → ⊥)
+      → Returns → ⊥
+  comes_from_another p one never returned =
+      never
+      (All-head (IsPartitionOf crew.chunked.now) p [] (subst (λ ps. All (IsPartitionOf crew.chunked.now) ps) one returned.of))
+
+  hands_out_another : length (common_origin back.partitions.items).items ≡ 4
+      → length (holding_of context.partition).origin.items ≡ 5 → Returns → ⊥
+  hands_out_another four five returned = omega (arith, four, five, ap (λ t. length t.items) returned.origin)
+
+  received_from_another : ((pass : StreamPass (ChunkResult M)) → IsPassOf crew.stream.now pass → ⊥) → Returns → ⊥
+  received_from_another never returned = never returned.pass returned.of_stream
+
+  -- a part was sent and not received
+  one_is_lost : (c : ChunkResult M) → (returned : Returns) → has 0 (known returned.pass).numbers ≡ true
+      → under 0 (known returned.pass).sent ≡ c ∷ [] → under 0 (known returned.pass).received ≡ [] → ⊥
+  one_is_lost c returned own one none = omega (arith, ap length one, ap length none, ap length (returned.all 0 own))
+
+  -- a worker's records weren't answered
+  abbrev IsAnswered : PassKnowledge (ChunkResult M) → Partition S T source → Type 0
+  IsAnswered a p = IsAnsweredBy 0 a back.worker_faults p
+
+  one_is_unanswered : (p q : Partition S T source) → back.partitions.items ≡ p ∷ q ∷ [] → (returned : Returns)
+      → (IsAnswered (known returned.pass) q → ⊥) → ⊥
+  one_is_unanswered p q two returned never =
+      never
+      (All-head (IsAnswered (known returned.pass)) q []
+      (subst (λ ps. All (IsAnswered (known returned.pass)) (drop 1 ps)) two returned.answered))
+
+  -- a consumer is another, though nothing came
+  changed_by_nothing : (returned : Returns) → (known returned.pass).received ≡ [] → (x' ≡ x → ⊥) → ⊥
+  changed_by_nothing returned none never =
+      let came : [] ≡ returned.accepted.taken ++ returned.accepted.left = sym none ∙ returned.accepted.came in
+      never (same returned.accepted.taken returned.accepted.left came returned.accepted.steps)
+    where
+      same : (taken left : List (Sent (ChunkResult M))) → [] ≡ taken ++ left → FoldsTo (AcceptsEach accepts IsPart) x taken x'
+          → x' ≡ x
+      same [] left came steps = sym steps
+      same (s ∷ ss) left came steps = absurd (omega (arith, ap length came))
+
+  -- the same, said of the whole
+  conducts_nobody : back.partitions.items ≡ [] → Conducts accepts IsPart crew context x x' (Ok back) → ⊥
+  conducts_nobody none returned = nobody_comes_back none returned
+
+  -- without room nothing was accepted
+  unchanged_without_room : (fault : OutOfMemory) → Conducts accepts IsPart crew context x x (Err fault)
+  unchanged_without_room fault = refl
+
+  changed_without_room : (fault : OutOfMemory) → (x' ≡ x → ⊥) → Conducts accepts IsPart crew context x x' (Err fault) → ⊥
+  changed_without_room fault never same = never same
+
+  scope_changed_without_room : {R : Type 0} (e : Equipment L S J P R T T M source) (fault : OutOfMemory) → (x' ≡ x → ⊥)
+      → ScopeReturns accepts IsPart e x x' (Err fault) → ⊥
+  scope_changed_without_room e fault never returns = never returns.conducts

@@ -5,5 +5,6 @@ pub mod Results
 pub mod Noted
 pub mod Polls
 pub mod Working
+pub mod WorkerRows
 pub mod CrewRows
 pub mod inner
