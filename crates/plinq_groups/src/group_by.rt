@@ -53,7 +53,8 @@ impl<F: KeyOf, A: GrowingAggregator<Item = F::Item>> GrowingAggregator for Group
         acc: Groups<F::Key, A::Acc>,
         block: &[F::Item],
     ) -> Result<Groups<F::Key, A::Acc>, AllocError> {
-        let mut map = acc.map;
+        let roomy = acc.with_room(block.len())?;
+        let mut map = roomy.map;
         for item in block {
             let filler = self.each.seed(alloc);
             let (index, before) = map.insert_full(self.key.key_of(*item), filler)?;

@@ -1,9 +1,12 @@
-ghost use Rattle.std.specs.Prelude.{◌≡◌, List, []};
+ghost use Rattle.std.specs.Prelude.{◌≡◌, List, [], IfOk};
 
 use indexmap::IndexMap;
-use std::alloc::Global;
+use std::alloc::{AllocError, Global};
 use std::hash::Hash;
 use std::marker::Model;
+
+/// For how many groups the first block makes room, if it has as many items: most of what a small map costs is its growth.
+const FIRST_ROOM: usize = 512;
 
 /// Groups: a key each, with what stands at it, in the order in which their keys came first.
 ///
@@ -41,5 +44,18 @@ impl<K: Eq + Hash, C> Groups<K, C> {
         ensures { result.entries ≡ self }
     {
         self.map
+    }
+}
+
+impl<K: Eq + Hash + Drop, C: Drop> Groups<K, C> {
+    /// The same groups, and where there are none yet, room for the first of as many items.
+    pub(crate) fn with_room(self, items: usize) -> Result<Groups<K, C>, AllocError>
+        ensures { IfOk result (λ g. g ≡ self) }
+    {
+        let mut map = self.map;
+        if map.is_empty() {
+            map.reserve(items.min(FIRST_ROOM))?;
+        }
+        Ok(Groups { map })
     }
 }
