@@ -1,10 +1,12 @@
 -- An answer with what is made of each item in its place.
-use Rattle.std.specs.Prelude.{◌≡◌, refl, ℕ, ◌+◌, ◌==◌, if◌then◌else◌, List, [], ◌∷◌, Option, Some, None, Result, Ok, Err}
+use Rattle.std.specs.Prelude.{◌≡◌, refl, ℕ, ◌+◌, ◌==◌, if◌then◌else◌, List, [], ◌∷◌, ◌++◌, length, Option, Some, None, Result, Ok, Err}
+use Rattle.std.proofs.Common.{arith, ap, ◌∙◌}
 use Rattle.plinq_source.specs.declared.ending.Ending.{Ending}
 use Rattle.plinq_source.specs.declared.ending.Ending.TheVariants.{End, Refused, Fault}
 use Rattle.plinq_source.specs.Trace.{Trace, ended}
 use Rattle.plinq_groups.specs.Mapping.{mapped}
 use Rattle.plinq_ops.specs.declared.merge_option.MergeOption.{MergeOption}
+use Rattle.plinq_ops.specs.declared.merge_option.MergeOption.TheVariants.{NotBuffered}
 use Rattle.plinq_run.specs.declared.run_fault.RunFault.{RunFault}
 use Rattle.plinq_run.specs.Runs.{Runs}
 
@@ -41,3 +43,32 @@ all_are_made = refl
 
 made_up_to_a_fault : made_of one_more (ended (5 ∷ 3 ∷ 1 ∷ 3 ∷ []) End) ≡ ended (6 ∷ []) (Fault 7)
 made_up_to_a_fault = refl
+
+-- a sink that keeps the items of its batches, and refuses none
+abbrev keeps_items : List ℕ → List ℕ → List ℕ → Type 0
+keeps_items s b s' = s' ≡ s ++ b
+
+abbrev never : List ℕ → List ℕ → ℕ → List ℕ → Type 0
+never s b code s' = ⊥
+
+-- of 3 nothing is made
+abbrev Delivers : List ℕ → Ending → Type 0
+Delivers s' e = Runs keeps_items never NotBuffered (made_of one_more (ended (5 ∷ 3 ∷ 1 ∷ []) End)) [] s' (Ok e)
+
+what_is_made_before : Delivers (6 ∷ []) (Fault 7)
+what_is_made_before = record { delivered = (6 ∷ [], refl, refl); ending = refl }
+
+what_is_made_after : Delivers (6 ∷ 2 ∷ []) (Fault 7) → ⊥
+what_is_made_after run = let (first, is, last) = run.delivered in absurd (omega (arith, ap length (last ∙ is)))
+
+as_if_well : Delivers (6 ∷ []) End → ⊥
+as_if_well run = let same = run.ending in absurd (cc)
+
+a_list_of_all : IsMadeOf one_more (ended (5 ∷ 1 ∷ []) End) (6 ∷ 2 ∷ []) End
+a_list_of_all = refl
+
+a_list_past_the_fault : IsMadeOf one_more (ended (5 ∷ 3 ∷ 1 ∷ []) End) (6 ∷ 2 ∷ []) (Fault 7) → ⊥
+a_list_past_the_fault is = absurd (omega (arith, ap (λ (t : Trace ℕ). length t.items) is))
+
+a_list_as_if_well : IsMadeOf one_more (ended (5 ∷ 3 ∷ []) End) (6 ∷ []) End → ⊥
+a_list_as_if_well is = let same = ap (λ (t : Trace ℕ). t.ending) is in absurd (cc)

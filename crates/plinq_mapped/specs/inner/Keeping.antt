@@ -1,8 +1,9 @@
 -- What becomes of what was made, part by part, where a list keeps it.
-use Rattle.std.specs.Prelude.{◌≡◌, ⊤, ℕ, List, ◌++◌, Option, Some, None, Result, Ok, Err, refl}
-use Rattle.std.proofs.Common.{sym, ◌∙◌, ap, subst, append-nil, append_assoc}
+use Rattle.std.specs.Prelude.{◌≡◌, ⊤, ℕ, List, [], ◌∷◌, ◌++◌, length, Option, Some, None, Result, Ok, Err, refl}
+use Rattle.std.proofs.Common.{arith, sym, ◌∙◌, ap, subst, append-nil, append_assoc}
 use Rattle.plinq_source.specs.declared.ending.Ending.{Ending}
-use Rattle.plinq_source.specs.Trace.{Trace, open_trace, followed}
+use Rattle.plinq_source.specs.declared.ending.Ending.TheVariants.{End, Fault}
+use Rattle.plinq_source.specs.Trace.{Trace, open_trace, ended, followed}
 use Rattle.plinq_source.proofs.Followed.{trace_of, followed-ended}
 use Rattle.plinq_merge.specs.declared.delivery_fault.DeliveryFault.{DeliveryFault}
 use Rattle.plinq_merge.specs.declared.delivery_fault.DeliveryFault.TheVariants.{Memory, Sink}
@@ -49,3 +50,18 @@ module _ {B : Type 0} where
             keeps-breaks x.items.items (parts_joined t.items t.ending) (parts_joined (followed t rest).items (followed t rest).ending) fault x'.items.items is;
         stops = λ d x ps d' x' rest is. tt;
       }
+
+-- ---- worked rows
+
+kept_up_to_a_fault : Keeps {B = ℕ} (1 ∷ []) (ended (2 ∷ []) (Fault 7)) (Ok (Some (Fault 7))) (1 ∷ 2 ∷ [])
+kept_up_to_a_fault = (refl, refl)
+
+kept_as_if_well : Keeps {B = ℕ} (1 ∷ []) (ended (2 ∷ []) (Fault 7)) (Ok (Some End)) (1 ∷ 2 ∷ []) → ⊥
+kept_as_if_well kept = let same = kept.0 in absurd (cc)
+
+one_is_forgotten : Keeps {B = ℕ} (1 ∷ []) (open_trace (2 ∷ [])) (Ok None) (1 ∷ []) → ⊥
+one_is_forgotten kept = absurd (omega (arith, ap length kept.1))
+
+-- a list refuses nothing
+refused_with_3 : Keeps {B = ℕ} (1 ∷ []) (open_trace (2 ∷ [])) (Err (Sink 3)) (1 ∷ []) → ⊥
+refused_with_3 kept = absurd kept

@@ -1,8 +1,9 @@
 -- What becomes of what was made, part by part: it goes in batches to a sink.
-use Rattle.std.specs.Prelude.{◌≡◌, ℕ, List, [], ◌∷◌, ◌++◌, Option, Some, None, Result, Ok, Err, MatchResult, refl}
-use Rattle.std.proofs.Common.{sym, ◌∙◌, ap, subst}
+use Rattle.std.specs.Prelude.{◌≡◌, ℕ, List, [], ◌∷◌, ◌++◌, length, Option, Some, None, Result, Ok, Err, MatchResult, refl}
+use Rattle.std.proofs.Common.{arith, sym, ◌∙◌, ap, subst}
 use Rattle.plinq_source.specs.declared.ending.Ending.{Ending}
-use Rattle.plinq_source.specs.Trace.{Trace, open_trace, followed}
+use Rattle.plinq_source.specs.declared.ending.Ending.TheVariants.{End, Fault}
+use Rattle.plinq_source.specs.Trace.{Trace, open_trace, ended, followed}
 use Rattle.plinq_source.proofs.Followed.{trace_of, followed-followed, followed-ended, followed-open_nil}
 use Rattle.plinq_ops.specs.Batches.{full_batches, held_back, batches_from}
 use Rattle.plinq_ops.proofs.Runs.{full_batches-append, held_back-append, batches_from-followed}
@@ -138,3 +139,31 @@ made-lawful {K} {B} accepts refuses =
                 (gives-stops accepts refuses d.size d.held.items s (parts_joined xs None) d'.held.items s' (parts_joined rest.items rest.ending) is.gives);
           };
     }
+
+-- ---- worked rows
+
+parts_up_to_a_fault : parts_joined {B = ℕ} ((6 ∷ 2 ∷ [], None) ∷ (4 ∷ [], Some 7) ∷ (9 ∷ [], None) ∷ []) (Some End) ≡ ended (6 ∷ 2 ∷ 4 ∷ []) (Fault 7)
+parts_up_to_a_fault = refl
+
+-- a sink that keeps the items of its batches, and refuses none; it gets batches of two
+abbrev keeps_items : List ℕ → List ℕ → List ℕ → Type 0
+keeps_items s b s' = s' ≡ s ++ b
+
+abbrev never : List ℕ → List ℕ → ℕ → List ℕ → Type 0
+never s b code s' = ⊥
+
+the_last_is_held_back : Gives keeps_items never (Some 2) (1 ∷ []) [] (open_trace (2 ∷ 3 ∷ [])) (Ok None) (3 ∷ []) (1 ∷ 2 ∷ [])
+the_last_is_held_back = record { still = refl; kept = refl; leads = (1 ∷ 2 ∷ [], refl, refl) }
+
+the_last_is_lost : Gives keeps_items never (Some 2) (1 ∷ []) [] (open_trace (2 ∷ 3 ∷ [])) (Ok None) [] (1 ∷ 2 ∷ []) → ⊥
+the_last_is_lost gives = absurd (omega (arith, ap length gives.kept))
+
+it_goes_out_at_the_end : Gives keeps_items never (Some 2) (1 ∷ []) [] (ended [] (Fault 7)) (Ok (Some (Fault 7))) (1 ∷ []) (1 ∷ [])
+it_goes_out_at_the_end = (refl, (1 ∷ [], refl, refl))
+
+it_stays_at_the_end : Gives keeps_items never (Some 2) (1 ∷ []) [] (ended [] (Fault 7)) (Ok (Some (Fault 7))) (1 ∷ []) [] → ⊥
+it_stays_at_the_end gives = let (first, is, last) = gives.1 in absurd (omega (arith, ap length (last ∙ is)))
+
+-- fully buffered, nothing goes out at a fault
+none_goes_out_at_a_fault : Gives keeps_items never None (1 ∷ []) [] (ended [] (Fault 7)) (Ok (Some (Fault 7))) (1 ∷ []) []
+none_goes_out_at_a_fault = (refl, refl)
