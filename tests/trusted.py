@@ -5,6 +5,7 @@ specs/inner/ of each crate has just what no public contract reaches.
     python3 tests/trusted.py
 """
 import os
+import re
 import shutil
 import subprocess
 import tempfile
@@ -35,6 +36,7 @@ REACHED = {
     ),
     "plinq_run::run": (["TakesBeginning", "RefusesNext"], ["IsCutOff", "StopsShort"]),
     "free_lock_has_handed_out_a_prefix": (["Lawful", "IsFree", "ghost holds =", "handed_out", "pub enum Phase"], ["HasDelivered"]),
+    "free_lock_has_handed_out_a_prefix:lock": (["IsFree V.origin V.history", "ghost holds ="], ["FreeWhileHome"]),
     "ordered_run_is_sequential": (["MayAnswer", "cause_of", "pieces : (T → Trace T) → Stage T"], ["HasDelivered"]),
     "plinq_partition::take": (["IsTaken", "IsChunkOf", "size_at"], ["Lawful"]),
 }
@@ -181,6 +183,10 @@ def main():
     with open(os.path.join(ROOT, "docs", "TRUSTED.md"), encoding="utf-8") as file:
         is_same = file.read() == made.stdout
     tests.check("docs/TRUSTED.md is what tools/trusted --page prints", made.returncode == 0 and is_same, made.stderr or "make it again")
+    figures = [int(it) for it in re.findall(r"\| (\d+) \| \d+ \|$", made.stdout, re.M)]
+    with open(os.path.join(ROOT, "README.md"), encoding="utf-8") as file:
+        told = f"{figures[0]} for an ordered run, {figures[1] + figures[2]} more for the lock and its chunks"
+        tests.check("README has the page's figures", told in file.read(), told)
     for name, (there, elsewhere) in REACHED.items():
         seen = trusted(name)
         missing = [it for it in there if it not in seen.stdout]
