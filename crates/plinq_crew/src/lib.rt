@@ -14,7 +14,6 @@ mod closing;
 mod conducting;
 mod consumer;
 mod coordinator;
-mod cutting;
 mod gate;
 mod handle;
 mod poll;

@@ -12,11 +12,10 @@ ghost use Rattle.plinq_crew.specs.Results.{IsPart};
 ghost use Rattle.plinq_crew.specs.Working.{IsNewcomer, HasWorked, HasTakenChunk, HasLeft};
 ghost use Rattle.plinq_stream.specs.Passes.{IsPassOf, known};
 
-use crate::cutting::{cut_now, cut_off};
 use crate::progress::Progress;
 use crate::results::{ResultPass, ResultStream, RunSpec, RunStopKeys};
 use crate::task::Task;
-use plinq_cut::{CutPass, CutWord};
+use plinq_cut::{CutPass, CutWord, cut_now, cut_off};
 use plinq_lambda::Lambda;
 use plinq_ops::{ChunkResult, FragEnd, Plan};
 use plinq_partition::{Chunked, Partition, TakeFault};

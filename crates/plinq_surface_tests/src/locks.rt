@@ -1,15 +1,16 @@
 //! The calls of the lock, and those of the cut.
-ghost use Rattle.std.specs.Prelude.{◌≡◌, ◌≤◌, ◌^◌, [], true};
+ghost use Rattle.std.specs.Prelude.{◌≡◌, ◌≢◌, ◌≤◌, ◌^◌, ℕ, [], true, Some};
 ghost use Rattle.plinq_cut.specs.OfPlan.{AreStopKeys};
 ghost use Rattle.plinq_cut.specs.Passes.{IsPassOf as IsCutPassOf};
 ghost use Rattle.plinq_keyed.specs.History.{tickets_below};
+ghost use Rattle.plinq_ops.specs.declared.frag_end.FragEnd.TheVariants.{Dropped};
 ghost use Rattle.plinq_ticket.specs.Passes.{IsPassOf, IsHeldOf, held_found, held_origin, held_ticket, held_value};
 ghost use Rattle.plinq_ticket.specs.Shares.{AddsAtMostOne};
 
-use plinq_cut::{CutPass, CutWord, StopKeys};
+use plinq_cut::{CutPass, CutWord, StopKeys, cut_now, cut_off};
 use plinq_keyed::Guarded;
 use plinq_lambda::Lambda;
-use plinq_ops::Plan;
+use plinq_ops::{ChunkResult, Plan};
 use plinq_source::{OutOfMemory, Source};
 use plinq_ticket::{Held, LockFault, Pass, TicketLock};
 use std::alloc::Global;
@@ -119,4 +120,22 @@ fn rejoined<E: StopKeys>(cut: &CutWord<E>, first: CutPass, second: CutPass) -> C
     requires { IsCutPassOf cut.now first × IsCutPassOf cut.now second }
 {
     cut.join(first, second)
+}
+
+fn read_for<L: Lambda, E: StopKeys>(plan: &Plan<'_, L>, cut: &CutWord<E>, pass: &mut CutPass) -> u64
+    requires { IsCutPassOf cut.now pass.old }
+{
+    cut_now(plan, cut, pass)
+}
+
+fn lowered_for<L: Lambda, M, E: StopKeys>(
+    plan: &Plan<'_, L>,
+    cut: &CutWord<E>,
+    pass: &mut CutPass,
+    made: &ChunkResult<M>,
+)
+    requires pass { IsCutPassOf cut.now pass.old }
+    requires stop_key { (key : ℕ) → made.now.ending ≢ Dropped → made.now.stop ≡ Some key → E.stops_at key ≡ true }
+{
+    cut_off(plan, cut, pass, made);
 }

@@ -1,17 +1,19 @@
 //! What a worker does with the cut that it shares with the others.
 ghost use Rattle.std.specs.Prelude.{◌≡◌, ◌≢◌, ◌≤◌, ℕ, true, Some};
-ghost use Rattle.plinq_cut.specs.Cutting.{is_cut_of};
-ghost use Rattle.plinq_cut.specs.Passes.{IsPassOf, least};
 ghost use Rattle.plinq_ops.specs.Cut.{no_cut};
 ghost use Rattle.plinq_ops.specs.declared.frag_end.FragEnd.TheVariants.{Dropped, More};
 ghost use Rattle.plinq_ops.specs.declared.order.Order.TheVariants.{ByArrival, ByKey};
+ghost use Rattle.plinq_cut.specs.Cutting.{is_cut_of};
+ghost use Rattle.plinq_cut.specs.Passes.{IsPassOf, least};
 
-use plinq_cut::{CutPass, CutWord, StopKeys};
+use crate::cut_pass::CutPass;
+use crate::cut_word::CutWord;
+use crate::stop_keys::StopKeys;
 use plinq_lambda::Lambda;
 use plinq_ops::{ChunkResult, FragEnd, Order, Plan};
 
 /// The cut under which a worker looks at its next chunk: none by arrival, where no key stands before another.
-pub(crate) fn cut_now<L: Lambda, E: StopKeys>(
+pub fn cut_now<L: Lambda, E: StopKeys>(
     plan: &Plan<'_, L>,
     cut: &CutWord<E>,
     pass: &mut CutPass,
@@ -30,7 +32,7 @@ pub(crate) fn cut_now<L: Lambda, E: StopKeys>(
 }
 
 /// Lowers the cut to the key at which a result ends the run, by key; or what was made of one, which ends as it does.
-pub(crate) fn cut_off<L: Lambda, M, E: StopKeys>(
+pub fn cut_off<L: Lambda, M, E: StopKeys>(
     plan: &Plan<'_, L>,
     cut: &CutWord<E>,
     pass: &mut CutPass,
