@@ -53,10 +53,11 @@ NAMED = {
     "plinq_groups::first_group_is_of_the_first_item": "abbrev pub grouping",
     "plinq_wait::WaitQueue::wake": "pub fn wake(&self)",
 }
-# Files that stand outside of specs/inner/ though no public contract reaches them, and why.
+# Files that stand outside of specs/inner/ though no public contract reaches them, and why. Whoever changes the crate's code
+# anyway moves them.
 LEFT_OUTSIDE = {
     "crates/plinq_closures/specs/Only.antt": "its crate and all above it are proved again where it moves",
-    "crates/plinq_source/specs/Values.antt": "its crate and all above it are proved again where it moves",
+    "crates/plinq_source/specs/Values.antt": "its crate stands below all others: where it moves, each of them is proved again",
 }
 PLANS = "ghost use Rattle.plinq_run.specs.inner.Plans.{MayTake};\npub fn taken()\n    ensures { MayTake }\n{}\n"
 IS_REACHED = "plinq_run/specs/inner/Plans.antt: a public contract reaches it"
