@@ -1,5 +1,5 @@
 #!/usr/bin/env python3
-"""Many workers on one core, a reader that pauses, and long expansions with little memory.
+"""Many workers on one core, workers that are held back, a reader that pauses, and long expansions with little memory.
 
     python3 tests/load.py
 
@@ -12,10 +12,11 @@ import json
 import os
 import resource
 import subprocess
+import tempfile
 import termios
 import time
 
-from support.program import HANGS, PROGRAM, Outcome, Tests, build, run
+from support.program import HANGS, PROGRAM, Outcome, Tests, build, run, shared_library
 
 ORDERED = ["as_ordered"]
 MERGES = ("not", "auto", "full")
@@ -25,6 +26,7 @@ def document(source, steps, **more):
     return json.dumps({"version": 1, "source": source, "query": steps, **more}).encode()
 
 
+SEVEN = 7
 LONG = {"range": [0, 200_000]}
 # (the aggregate is the same in any order)
 PINNED = {
@@ -51,6 +53,35 @@ def one_core(tests):
                 seen = run(["run", "--merge", merge, "--workers", str(workers)], given, PROGRAM, preexec_fn=pin)
                 is_so = seen == wanted and bool(seen.output)
                 tests.check(f"one core: {name}, --merge {merge} by {workers}", is_so, f"wanted {wanted}; seen {seen}")
+
+
+ADD_ONE = [ORDERED, ["select", "add", 1]]
+SOME_EVEN = [ORDERED, ["filter", "even"], ["skip", 10], ["take", 300]]
+# (sources of other kinds than lists and ranges)
+HELD = {
+    "a text": {"text": " ".join(str(it) for it in range(-300, 700))},
+    "a text with a word": {"text": "\n".join(str(it) for it in range(900)) + " nine"},
+    "copies": {"repeat": [SEVEN, 1_000]},
+    "a list before a range": {"concat": [{"list": list(range(500))}, {"range": [-5, 500]}]},
+    "a refusal between two lists": {"concat": [{"list": list(range(700)), "refuse": 8}, {"list": [3]}]},
+}
+
+
+def held_back(tests, shim):
+    for name, source in HELD.items():
+        for steps, merge, growth in ((ADD_ONE, "not", [1, 1, 1]), (SOME_EVEN, "auto", [1, 3, 16])):
+            given = document(source, steps, growth=growth, version=2)
+            wanted = run(["seq", "--merge", merge], given, PROGRAM)
+            for workers in (2, 8, 64):
+                reading, writing = os.pipe()
+                env = os.environ | {"LD_PRELOAD": shim, "HELD_TO": str(writing)}
+                words = ["run", "--merge", merge, "--workers", str(workers)]
+                seen = run(words, given, PROGRAM, env=env, pass_fds=(writing,))
+                os.close(writing)
+                was_held = os.read(reading, 1) == b"!"
+                os.close(reading)
+                is_so = seen == wanted and bool(seen.output) and was_held
+                tests.check(f"held back: {name}, {steps} by {workers}", is_so, f"wanted {wanted}; seen {seen}; held back: {was_held}")
 
 
 READ_ON = 1_000_000
@@ -113,7 +144,6 @@ def pausing_reader(tests):
 
 
 COPIES = 65_536
-SEVEN = 7
 # How many elements there are, the steps after their expansion, and how many items are left.
 EXPANDED = (
     (2_000, [["take", 50_000]], 50_000),
@@ -150,6 +180,8 @@ def main():
     build()
     tests = Tests()
     one_core(tests)
+    with tempfile.TemporaryDirectory() as folder:
+        held_back(tests, shared_library("holding.c", folder))
     pausing_reader(tests)
     little_memory(tests)
     tests.end()

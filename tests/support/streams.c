@@ -1,5 +1,5 @@
 /* Changes what read of standard input and write to standard output answer. With STREAM=read or STREAM=write, call number AT
-   (and with LASTING=1 each one after it) fails with the error number ERROR; with ERROR=0 it moves one byte alone. At each
+   (and with LASTING=1 each one after it) fails with the error number ERROR; with ERROR=0 it moves MOST bytes alone, or one. At each
    such call it writes a byte to the file descriptor MET_TO. Beside an error, each write that moves bytes after a failed one
    is told there as well, by a byte 'w'. */
 #define _GNU_SOURCE
@@ -12,6 +12,11 @@
 static long number(const char *name) {
     const char *text = getenv(name);
     return text ? atol(text) : 0;
+}
+
+static size_t most(size_t n) {
+    size_t m = getenv("MOST") ? number("MOST") : 1;
+    return n < m ? n : m;
 }
 
 static int is_met(const char *stream, long *made) {
@@ -34,7 +39,7 @@ ssize_t read(int from, void *to, size_t n) {
     if (!next) next = dlsym(RTLD_NEXT, "read");
     if (from != 0 || !is_met("read", &made)) return next(from, to, n);
     tell('!');
-    if (number("ERROR") == 0) return next(from, to, n > 0);
+    if (number("ERROR") == 0) return next(from, to, most(n));
     errno = number("ERROR");
     return -1;
 }
@@ -52,7 +57,7 @@ ssize_t write(int to, const void *from, size_t n) {
         return -1;
     }
     if (has_failed && n > 0) tell('w');
-    return next_write(to, from, is_here ? n > 0 : n);
+    return next_write(to, from, is_here ? most(n) : n);
 }
 
 /* (the toolchain's runtime may call it by this name) */
