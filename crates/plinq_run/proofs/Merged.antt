@@ -24,15 +24,16 @@ use Rattle.plinq_stream.specs.declared.sent.Sent.{Sent}
 use Rattle.plinq_crew.specs.declared.conducting.Returned.{Returned}
 use Rattle.plinq_crew.specs.declared.worker.Crew.{Crew}
 use Rattle.plinq_crew.specs.declared.worker.WorkerContext.{WorkerContext}
-use Rattle.plinq_crew.specs.Conducting.{AcceptsEach, HasReturned, Conducts}
+use Rattle.plinq_crew.specs.Conducting.{AcceptsEach, Conducts}
 use Rattle.plinq_crew.specs.Polls.{HasAccepted}
 use Rattle.plinq_run.specs.declared.planning.Ended.{Ended}
 use Rattle.plinq_run.specs.declared.coverage.Coverage.{Coverage}
 use Rattle.plinq_run.specs.declared.merging.Merging.{Merging}
 use Rattle.plinq_run.specs.declared.merging.MergingInto.{MergingInto}
 use Rattle.plinq_run.specs.declared.run_fault.RunFault.{RunFault}
-use Rattle.plinq_run.specs.inner.Merged.{offer_fault, AcceptsAfter, AreSame, AcceptsInto, Stands, HasMerged, HasBrokenOff, EndsSo, HasOffered}
+use Rattle.plinq_run.specs.inner.Merged.{offer_fault, AcceptsAfter, AreSame, AcceptsInto, Stands, HasMerged, HasBrokenOff, EndsSo}
 use Rattle.plinq_run.specs.Parting.{Breaks}
+use Rattle.plinq_run.specs.inner.Finishing.{Finishes}
 use Rattle.plinq_run.specs.inner.Reaching.{IsOffered, Grows, Reaches}
 use Rattle.plinq_run.specs.Runs.{Cause, Other, cause_of}
 use Rattle.plinq_run.specs.inner.Reported.{cause_in_merge}
@@ -161,11 +162,10 @@ module _ {W O T : Type 0} (made : W → O → Trace T → Result (Option Ending)
   broken-by (Some fault) m y told is offers are apart stands =
       record { offers = offers; are = are; apart = apart; last = stands.0; how = Err (delivery_fault_of fault); taken = stands.1; breaks = breaks-by fault (cause_of told) is }
 
-  -- what is reported of what was merged
-  pub merged-ended : {S U : Type 0} {source : SourceGhosts S U} (m : Merging W T) (y : O) (result : Result (Ended S W U source) RunFault) → HasMerged made IsPart order a x m y
+  ended-by : {S U : Type 0} {source : SourceGhosts S U} (m : Merging W T) (y : O) (result : Result (Ended S W U source) RunFault) → HasMerged made IsPart order a x m y
       → OnOk result (m.fault ≡ None) → IfOk result (λ ended. ended.joined.taker ≡ taker_of m.joiner) → IfOk result (λ ended. ending_of m.joiner ≡ Ok ended.joined.ending)
       → IfOk result (λ ended. ended.coverage ≡ m.coverage) → IfErr result (λ fault. cause_of fault ≡ cause_in_merge m.fault) → EndsSo made IsPart order a x result y
-  merged-ended m y (Ok ended) h none taker ending coverage err =
+  ended-by m y (Ok ended) h none taker ending coverage err =
       let stands = subst (λ f. Stands made IsPart order a x f m.joiner y h.offers) none h.stands in
       record {
         offers = h.offers;
@@ -177,8 +177,14 @@ module _ {W O T : Type 0} (made : W → O → Trace T → Result (Option Ending)
             (λ e yes ok all. subst (λ o. made a x (merged o h.offers) (Ok (Some ended.joined.ending)) (taker_of m.joiner) y) stands.0
             (subst (λ e'. made a x (merged (order_of m.joiner) h.offers) (Ok (Some e')) (taker_of m.joiner) y) (ok-same (sym ok ∙ ending)) all)));
       }
-  merged-ended m y (Err fault) h none taker ending coverage err =
+  ended-by m y (Err fault) h none taker ending coverage err =
       broken-by m.fault m y fault err h.offers (All-weaker (IsOffered IsPart m.coverage) IsPart (λ r is. is.0) h.offers h.are) h.apart h.stands
+
+  -- what is reported of what was merged
+  pub merged-ended : {S U : Type 0} {source : SourceGhosts S U} {m : Merging W T} {y : O} {back : Returned S U source} {result : Result (Ended S W U source) RunFault} (last : MergingInto W T O)
+      → (last.merging.now ≡ m) × (last.out.now ≡ y) → HasMerged made IsPart order a x last.merging.now last.out.now → Finishes m back result → EndsSo made IsPart order a x result y
+  merged-ended {m = m} {y = y} {result = result} last same h f =
+      ended-by m y result (subst (λ n. HasMerged made IsPart order a x n y) same.0 (subst (HasMerged made IsPart order a x last.merging.now) same.1 h)) f.none f.taker f.ending f.coverage f.err
 
 -- parts of which less is said
 module _ {W O T : Type 0} (made : W → O → Trace T → Result (Option Ending) DeliveryFault → W → O → Type 0) (P Q : ChunkResult T → Type 0) (on : (c : ChunkResult T) → P c → Q c) (order : Order) (a : W) (x : O) where
@@ -201,27 +207,3 @@ conducts-same made IsPart crew context m m' (Ok back) h =
     chained_keeps (AcceptsEach (AcceptsInto made) IsPart) (λ xs z. AreSame m z)
     (λ xs z sent z' at step. let so = step.1 in record { merging = so.same.merging ∙ at.merging; out = so.same.out ∙ at.out }) accepted.taken m m' (record { merging = refl; out = refl }) accepted.steps
 conducts-same made IsPart crew context m m' (Err fault) h = record { merging = ap (λ x. x.merging.ghost_name) h; out = ap (λ x. x.out.ghost_name) h }
-
-module _ {L S J P U W O T : Type 0} {source : SourceGhosts S U} (made : W → O → Trace T → Result (Option Ending) DeliveryFault → W → O → Type 0) (IsPart : ChunkResult T → Type 0) (crew : Crew L S J P U U T source) (context : WorkerContext S T U source) where
-  -- what was lent is as it is given back
-  pub conducts-offered : (first last : MergingInto W T O) {m m' : Merging W T} {x y : O} {result : Result (Returned S U source) OutOfMemory} → first.merging.now ≡ m → first.out.now ≡ x → last.merging.now ≡ m' → last.out.now ≡ y
-      → Conducts (AcceptsInto made) IsPart crew context first last result → HasOffered made IsPart crew context m x m' y result
-  conducts-offered first last a b c d h = record { first = first; begun = (a, b); last = last; ended = (c, d); conducts = h }
-
-  pub offered-ok : (m m' : Merging W T) (x y : O) (result : Result (Returned S U source) OutOfMemory) (back : Returned S U source) → result ≡ Ok back → (h : HasOffered made IsPart crew context m x m' y result)
-      → HasReturned (AcceptsInto made) IsPart crew context h.first h.last back
-  offered-ok m m' x y result back is h = subst (Conducts (AcceptsInto made) IsPart crew context h.first h.last) is h.conducts
-
-  -- without room nothing changes
-  pub offered-none : (m m' : Merging W T) (x y : O) (result : Result (Returned S U source) OutOfMemory) (fault : OutOfMemory) → result ≡ Err fault → HasOffered made IsPart crew context m x m' y result → y ≡ x
-  offered-none m m' x y result fault is h = sym h.ended.1 ∙ ap (λ l. l.out.now) (subst (Conducts (AcceptsInto made) IsPart crew context h.first h.last) is h.conducts) ∙ h.begun.1
-
-  module _ (lawful : IsTaking made) (order : Order) (a : W) where
-    -- what stands for the offers
-    pub offered-merged : (m m' : Merging W T) (x y : O) (result : Result (Returned S U source) OutOfMemory) (back : Returned S U source) → result ≡ Ok back → HasOffered made IsPart crew context m x m' y result
-        → HasMerged made IsPart order a x m x → HasMerged made IsPart order a x m' y
-    offered-merged m m' x y result back is h begun =
-        let returned = offered-ok m m' x y result back is h in
-        let start = subst (λ z. HasMerged made IsPart order a x h.first.merging.now z) (sym h.begun.1) (subst (λ n. HasMerged made IsPart order a x n x) (sym h.begun.0) begun) in
-        let all = accepted-all made lawful IsPart order a x [] _ _ h.first h.last returned.accepted start in
-        subst (λ n. HasMerged made IsPart order a x n y) h.ended.0 (subst (λ z. HasMerged made IsPart order a x h.last.merging.now z) h.ended.1 all)

@@ -26,11 +26,13 @@ use Rattle.plinq_crew.proofs.Working.{answered-wholly}
 use Rattle.plinq_crew.specs.declared.worker_count.WorkerCount.{WorkerCount}
 use Rattle.plinq_run.specs.declared.run_fault.RunFault.{RunFault}
 use Rattle.plinq_run.specs.declared.run_fault.RunFault.TheVariants.{Memory, Thread, Tickets}
+use Rattle.plinq_crew.specs.declared.conducting.Returned.{Returned}
 use Rattle.plinq_crew.specs.Polls.{HasAccepted}
 use Rattle.plinq_run.specs.declared.planning.Ended.{Ended}
 use Rattle.plinq_run.specs.declared.merging.Merging.{Merging}
 use Rattle.plinq_run.specs.declared.merging.MergingInto.{MergingInto}
 use Rattle.plinq_crew.specs.Conducting.{AcceptsEach}
+use Rattle.plinq_run.specs.inner.Finishing.{Finishes}
 use Rattle.plinq_run.specs.inner.Merged.{AcceptsInto, Stands, WereAccepted}
 use Rattle.plinq_run.specs.inner.Faults.{first_reported, reported_if, refused_by_sink, is_out_of_memory}
 
@@ -72,23 +74,21 @@ told-all IsOf partitions_of Else a b faults fault worker_count partitions (Ok x)
 told-all IsOf partitions_of Else a b faults fault worker_count partitions (Err told) of sent numbers none same all answered also = tt
 
 -- what was received was accepted, where it is reported how the answer ended
-pub told-accepted : {S U W O T : Type 0} {source : SourceGhosts S U} (made : W → O → Trace T → Result (Option Ending) DeliveryFault → W → O → Type 0) (IsPart : ChunkResult T → Type 0) (order : Order) (a : W) (m m' : Merging W T) (x y : O)
-    (received : List (Sent (ChunkResult T))) (first last : MergingInto W T O) (wants_close : Bool) (r : Result (Ended S W U source) RunFault) → (first.merging.now ≡ m) × (first.out.now ≡ x) → (last.merging.now ≡ m') × (last.out.now ≡ y)
-    → Stands made IsPart order a x None m.joiner x [] → m.fault ≡ None → OnOk r (m'.fault ≡ None)
-    → IfOk r (λ ended. ended.joined.taker ≡ taker_of m'.joiner) → IfOk r (λ ended. ending_of m'.joiner ≡ Ok ended.joined.ending)
-    → HasAccepted (AcceptsEach (AcceptsInto made) IsPart) [] first received wants_close last
+pub told-accepted : {S U W O T : Type 0} {source : SourceGhosts S U} (made : W → O → Trace T → Result (Option Ending) DeliveryFault → W → O → Type 0) (IsPart : ChunkResult T → Type 0) (order : Order) (a : W) {x y : O}
+    {m : Merging W T} {back : Returned S U source} (received : List (Sent (ChunkResult T))) (first last : MergingInto W T O) (wants_close : Bool) (r : Result (Ended S W U source) RunFault) → first.out.now ≡ x → (last.merging.now ≡ m) × (last.out.now ≡ y)
+    → Stands made IsPart order a x None first.merging.now.joiner x [] → first.merging.now.fault ≡ None → Finishes m back r → HasAccepted (AcceptsEach (AcceptsInto made) IsPart) [] first received wants_close last
     → IfOk r (λ ended. WereAccepted made IsPart order a x received ended.joined y)
-told-accepted made IsPart order a m m' x y received first last wants_close (Ok ended) begun same new sound none taker ending taken =
+told-accepted made IsPart order a received first last wants_close (Ok ended) out same new sound f taken =
     record {
       first = first;
-      new = subst (λ n. Stands made IsPart order a x None n.joiner x []) (sym begun.0) new;
-      sound = ap (λ n. n.fault) begun.0 ∙ sound;
+      new = new;
+      sound = sound;
       last = last;
-      still = ap (λ n. n.fault) same.0 ∙ none;
-      ending = ap (λ n. ending_of n.joiner) same.0 ∙ ending;
-      taker = taker ∙ ap (λ n. taker_of n.joiner) (sym same.0);
-      out = (begun.1, same.1);
+      still = ap (λ n. n.fault) same.0 ∙ f.none;
+      ending = ap (λ n. ending_of n.joiner) same.0 ∙ f.ending;
+      taker = f.taker ∙ ap (λ n. taker_of n.joiner) (sym same.0);
+      out = (out, same.1);
       wants_close = wants_close;
       taken = taken;
     }
-told-accepted made IsPart order a m m' x y received first last wants_close (Err told) begun same new sound none taker ending taken = tt
+told-accepted made IsPart order a received first last wants_close (Err told) out same new sound f taken = tt

@@ -4,6 +4,7 @@ pub mod Combining
 pub mod CombiningLawful
 pub mod Conducted
 pub mod Faults
+pub mod Finishing
 pub mod Folded
 pub mod Folds
 pub mod Merged

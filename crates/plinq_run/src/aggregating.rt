@@ -9,6 +9,7 @@ ghost use Rattle.plinq_run.specs.Aggregates.{AggregatesSome};
 use crate::aggregate_fault::AggregateFault;
 use crate::fold::Fold;
 use crate::folding::fold_plan;
+use crate::run_request::RunRequest;
 use crate::running::run;
 use crate::valuing::{value_after, value_of};
 use plinq_aggregate::GrowingAggregator;
@@ -62,15 +63,14 @@ where
         let report = run(rt, alloc, query, source, growth, gate, &mut fold);
         return value_after(fold, report);
     }
-    let combined = fold_plan(
-        rt,
+    let request = RunRequest {
         alloc,
-        &plan,
-        query.degree(),
+        plan: &plan,
+        workers: query.degree(),
         source,
         growth,
         gate,
-        aggregator,
-    );
+    };
+    let combined = fold_plan(rt, request, aggregator);
     value_of(aggregator, combined)
 }

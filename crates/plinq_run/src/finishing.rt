@@ -1,8 +1,6 @@
 //! What is reported when all workers have been joined.
-ghost use Rattle.std.specs.Prelude.{◌≡◌, ◌≤◌, length, true, Some, None, All, IfOk, IfErr, IfSome, OnOk, Ok};
-ghost use Rattle.std.specs.Option.{option_or};
+ghost use Rattle.std.specs.Prelude.{◌≡◌, ◌≤◌, length, true, None, All, IfOk, IfSome, Ok};
 ghost use Rattle.plinq_keyed.specs.History.{IsLegalHistory};
-ghost use Rattle.plinq_merge.specs.Joiners.{taker_of, ending_of};
 ghost use Rattle.plinq_partition.specs.Partitions.{IsPartitionOf, all_shares};
 ghost use Rattle.plinq_partition.specs.GivenBack.{common_origin};
 ghost use Rattle.plinq_ticket.specs.Shares.{in_ticket_order};
@@ -10,7 +8,7 @@ ghost use Rattle.plinq_run.specs.Runs.{Other, cause_of};
 ghost use Rattle.plinq_run.specs.inner.Reported.{cause_in_merge, IsReportOf};
 ghost use Rattle.plinq_run.specs.Endings.{reported};
 ghost use Rattle.plinq_run.specs.inner.Faults.{first_reported};
-ghost use Rattle.plinq_run.specs.declared.run_fault.RunFault.TheVariants.{Incomplete};
+ghost use Rattle.plinq_run.specs.inner.Finishing.{Finishes};
 ghost use Rattle.plinq_run.specs.inner.Reaching.{accounts_for};
 
 use crate::accounting::account_for;
@@ -18,9 +16,8 @@ use crate::merging::Merging;
 use crate::planning::{Conducted, Ended};
 use crate::report::Report;
 use crate::run_fault::RunFault;
-use plinq_crew::{WorkerCount, WorkerFaults};
+use plinq_crew::{Returned, WorkerCount, WorkerFaults};
 use plinq_merge::{MergeFault, Taker};
-use plinq_partition::Partition;
 use plinq_source::Source;
 
 /// The first of the faults that aren't the merging thread's.
@@ -64,24 +61,20 @@ pub(crate) fn first_fault(
 /// What has taken the answer's items and how it ended, or the first of all faults.
 pub(crate) fn finish<W: Taker, S: Source>(
     merging: Merging<W, W::Item>,
-    worker_faults: WorkerFaults,
-    worker_count: WorkerCount,
-    partitions: Vec<Partition<S>>,
+    back: Returned<S>,
 ) -> Result<Ended<S, W>, RunFault>
-    ensures none { OnOk result (merging.fault ≡ None) }
-    ensures first { OnOk result (first_reported merging.fault worker_faults worker_count ≡ None) }
-    ensures taker { IfOk result (λ ended. ended.joined.taker ≡ taker_of merging.joiner) }
-    ensures ending { IfOk result (λ ended. ending_of merging.joiner ≡ Ok ended.joined.ending) }
-    ensures partitions { IfOk result (λ ended. ended.partitions ≡ partitions) }
-    ensures coverage { IfOk result (λ ended. ended.coverage ≡ merging.coverage) }
-    ensures err { IfErr result (λ fault. cause_of fault ≡ cause_in_merge merging.fault) }
-    ensures told { IfErr result (λ fault. option_or (first_reported merging.fault worker_faults worker_count) (Some Incomplete) ≡ Some fault) }
+    ensures { Finishes merging back result }
 {
     let Merging {
         joiner,
         coverage,
         fault,
     } = merging;
+    let Returned {
+        partitions,
+        worker_faults,
+        worker_count,
+    } = back;
     if let Some(first) = first_fault(fault, worker_faults, worker_count) {
         return Err(first);
     }

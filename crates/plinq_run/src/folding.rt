@@ -1,23 +1,19 @@
 //! A run whose workers fold what they compute: they send one accumulator for each result, and the caller's thread combines
 //! these.
-ghost use Rattle.std.specs.Prelude.{◌≡◌, ◌≤◌, []};
-ghost use Rattle.plinq_crew.specs.Plans.{IsUndecided};
+ghost use Rattle.std.specs.Prelude.{◌≡◌, []};
 ghost use Rattle.plinq_run.specs.inner.Folded.{FoldsSome};
-ghost use Rattle.plinq_run.specs.inner.Plans.{MayMerge};
+ghost use Rattle.plinq_run.specs.inner.Plans.{MayMerge, MayRun};
 
 use crate::combined::Combined;
 use crate::fold::Fold;
 use crate::planning::{Conducted, Ended, conduct_plan};
 use crate::run_fault::RunFault;
+use crate::run_request::RunRequest;
 use crate::tasks::FoldChunks;
-use crate::window::progress_of;
 use plinq_aggregate::GrowingAggregator;
 use plinq_crew::Gate;
-use plinq_enumerator::Growth;
 use plinq_lambda::SharedLambda;
-use plinq_ops::Plan;
 use plinq_source::Source;
-use std::alloc::Global;
 use std::marker::Brand;
 use std::sync::Wait;
 use std::thread::Threads;
@@ -26,12 +22,7 @@ use std::thread::Threads;
 /// answer, and how that ended.
 pub(crate) fn fold_plan<'x, L, S, G, A, R>(
     rt: &R,
-    alloc: Global,
-    plan: &Plan<'_, L>,
-    workers: u64,
-    source: S,
-    growth: Growth,
-    gate: &'x G,
+    request: RunRequest<'x, L, S, G>,
     aggregator: &'x A,
 ) -> Result<Combined<A::Acc>, RunFault>
 where
@@ -40,26 +31,25 @@ where
     G: Gate,
     A: GrowingAggregator<Item = L::Item>,
     R: Threads + Wait + Sync,
-    requires unasked { S.given source ≡ 0 }
-    requires plan { IsUndecided plan.now }
-    requires alone { plan.now.after.now ≡ [] }
-    requires workers { (1 ≤ workers) × (workers ≤ 64) }
-    ensures { FoldsSome (A.folding aggregator.now) (MayMerge L.meaning plan.now (S.whole source)) result }
+    requires may { MayRun S.given request }
+    requires alone { request.plan.now.after.now ≡ [] }
+    ensures { FoldsSome (A.folding aggregator.now) (MayMerge L.meaning request.entry.plan.now (S.whole request.entry.source)) result }
 {
-    let progress = progress_of::<L::Item, G, R>(rt, gate, plan.order, workers, growth);
-    let task = FoldChunks { aggregator, gate };
-    let conducted = conduct_plan::<Brand, L, S, FoldChunks<'_, A, G>, Fold<'_, A, A::Acc>, (), R>(
-        rt,
-        alloc,
-        &*plan,
-        workers,
-        source,
-        growth,
-        &progress,
-        &task,
-        Fold::new(alloc, aggregator),
-        &mut (),
-    )?;
+    let task = FoldChunks {
+        aggregator,
+        gate: request.gate,
+    };
+    let fold = Fold::new(request.alloc, aggregator);
+    let conducted = conduct_plan::<
+        Brand,
+        L,
+        S,
+        G,
+        FoldChunks<'_, A, G>,
+        Fold<'_, A, A::Acc>,
+        (),
+        R,
+    >(rt, request, &task, fold, &mut ())?;
     let Conducted { ended, .. } = conducted;
     let Ended { joined, .. } = ended;
     Ok(Combined {

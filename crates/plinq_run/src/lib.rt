@@ -34,6 +34,7 @@ mod parting;
 mod planning;
 mod report;
 mod run_fault;
+mod run_request;
 mod running;
 mod sequentially;
 mod tasks;

@@ -1,23 +1,22 @@
 //! A run whose workers fold, and whose accumulators go to a taker as their turn comes.
-ghost use Rattle.std.specs.Prelude.{◌≡◌, ◌≤◌, [], true};
+ghost use Rattle.std.specs.Prelude.{◌≡◌, [], true};
 ghost use Rattle.plinq_source.specs.Trace.{ended};
 ghost use Rattle.plinq_source.specs.declared.ending.Ending.TheVariants.{End};
-ghost use Rattle.plinq_crew.specs.Plans.{IsUndecided};
 ghost use Rattle.plinq_ops.specs.Answer.{MayAnswer};
 ghost use Rattle.plinq_run.specs.Parting.{GivesSome};
-ghost use Rattle.plinq_run.specs.inner.Plans.{MayMerge};
+ghost use Rattle.plinq_run.specs.inner.Plans.{MayMerge, MayRun};
 
 use crate::fold_blocks::FoldBlocks;
 use crate::planning::{Conducted, Ended, conduct_plan};
 use crate::run_fault::RunFault;
+use crate::run_request::RunRequest;
 use crate::tasks::{FoldChunks, Unchanged};
-use crate::window::progress_of;
 use plinq_aggregate::GrowingAggregator;
 use plinq_crew::Gate;
 use plinq_enumerator::Growth;
 use plinq_lambda::SharedLambda;
 use plinq_merge::{DeliveryFault, TakeInto, Taker};
-use plinq_ops::{Pipeline, Plan, Query};
+use plinq_ops::{Pipeline, Query};
 use plinq_source::{Ending, Source};
 use std::alloc::Global;
 use std::marker::Brand;
@@ -50,12 +49,7 @@ where
 /// for each of their chunks.
 fn fold_chunks_into<'x, L, S, G, A, W, O, R>(
     rt: &R,
-    alloc: Global,
-    plan: &Plan<'_, L>,
-    workers: u64,
-    source: S,
-    growth: Growth,
-    gate: &'x G,
+    request: RunRequest<'x, L, S, G>,
     aggregator: &'x A,
     taker: W,
     out: &mut O,
@@ -67,17 +61,17 @@ where
     A: GrowingAggregator<Item = L::Item>,
     W: Taker<Item = A::Acc> + TakeInto<O>,
     R: Threads + Wait + Sync,
-    requires unasked { S.given source ≡ 0 }
-    requires plan { IsUndecided plan.now }
-    requires alone { plan.now.after.now ≡ [] }
-    requires workers { (1 ≤ workers) × (workers ≤ 64) }
+    requires may { MayRun S.given request }
+    requires alone { request.plan.now.after.now ≡ [] }
     requires takes { W.can_take taker ≡ true }
-    ensures { GivesSome (A.folding aggregator.now) W.made (MayMerge L.meaning plan.now (S.whole source)) taker out.old result out.new }
+    ensures { GivesSome (A.folding aggregator.now) W.made (MayMerge L.meaning request.entry.plan.now (S.whole request.entry.source)) taker out.old result out.new }
 {
-    let progress = progress_of::<L::Item, G, R>(rt, gate, plan.order, workers, growth);
-    let task = FoldChunks { aggregator, gate };
-    let conducted = conduct_plan::<Brand, L, S, FoldChunks<'_, A, G>, W, O, R>(
-        rt, alloc, &*plan, workers, source, growth, &progress, &task, taker, out,
+    let task = FoldChunks {
+        aggregator,
+        gate: request.gate,
+    };
+    let conducted = conduct_plan::<Brand, L, S, G, FoldChunks<'_, A, G>, W, O, R>(
+        rt, request, &task, taker, out,
     )?;
     let Conducted { ended, .. } = conducted;
     let Ended { joined, .. } = ended;
@@ -88,12 +82,7 @@ where
 /// an accumulator for each block of it.
 fn fold_blocks_into<L, S, G, A, W, O, R>(
     rt: &R,
-    alloc: Global,
-    plan: &Plan<'_, L>,
-    workers: u64,
-    source: S,
-    growth: Growth,
-    gate: &G,
+    request: RunRequest<'_, L, S, G>,
     aggregator: &A,
     taker: W,
     out: &mut O,
@@ -105,34 +94,30 @@ where
     A: GrowingAggregator<Item = L::Item>,
     W: Taker<Item = A::Acc> + TakeInto<O>,
     R: Threads + Wait + Sync,
-    requires unasked { S.given source ≡ 0 }
-    requires plan { IsUndecided plan.now }
-    requires workers { (1 ≤ workers) × (workers ≤ 64) }
+    requires may { MayRun S.given request }
     requires takes { W.can_take taker ≡ true }
-    ensures { GivesSome (A.folding aggregator.now) W.made (MayMerge L.meaning plan.now (S.whole source)) taker out.old result out.new }
+    ensures { GivesSome (A.folding aggregator.now) W.made (MayMerge L.meaning request.entry.plan.now (S.whole request.entry.source)) taker out.old result out.new }
 {
-    let Ok(pipeline) = Pipeline::new(alloc, plan.after) else {
+    let Ok(pipeline) = Pipeline::new(request.alloc, request.plan.after) else {
         return Err(RunFault::Memory);
     };
     let blocks = FoldBlocks {
-        alloc,
+        alloc: request.alloc,
         pipeline,
         aggregator,
         inner: taker,
     };
-    let progress = progress_of::<L::Item, G, R>(rt, gate, plan.order, workers, growth);
-    let task = Unchanged { gate };
+    let task = Unchanged { gate: request.gate };
     let conducted = conduct_plan::<
         Brand,
         L,
         S,
+        G,
         Unchanged<'_, G>,
         FoldBlocks<'_, '_, L, A, W>,
         O,
         R,
-    >(
-        rt, alloc, plan, workers, source, growth, &progress, &task, blocks, out,
-    )?;
+    >(rt, request, &task, blocks, out)?;
     let Conducted { ended, .. } = conducted;
     let Ended { joined, .. } = ended;
     Ok(joined.ending)
@@ -178,13 +163,16 @@ where
     if plan.decided {
         return hand_nothing(alloc, aggregator, taker, out);
     }
-    let workers = query.degree();
+    let request = RunRequest {
+        alloc,
+        plan: &plan,
+        workers: query.degree(),
+        source,
+        growth,
+        gate,
+    };
     if plan.after.is_empty() {
-        return fold_chunks_into(
-            rt, alloc, &plan, workers, source, growth, gate, aggregator, taker, out,
-        );
+        return fold_chunks_into(rt, request, aggregator, taker, out);
     }
-    fold_blocks_into(
-        rt, alloc, &plan, workers, source, growth, gate, aggregator, taker, out,
-    )
+    fold_blocks_into(rt, request, aggregator, taker, out)
 }

@@ -7,31 +7,26 @@ ghost use Rattle.plinq_partition.specs.GivenBack.{common_origin};
 ghost use Rattle.plinq_stream.specs.declared.stream_pass.StreamPass.{StreamPass};
 ghost use Rattle.plinq_stream.specs.Passes.{IsPassOf, known};
 ghost use Rattle.plinq_stream.specs.Streams.{HasReceivedAll};
-ghost use Rattle.plinq_crew.specs.Conducting.{Conducts};
 ghost use Rattle.plinq_crew.specs.Equipped.{IsReady};
-ghost use Rattle.plinq_crew.specs.Plans.{IsUndecided};
 ghost use Rattle.plinq_crew.specs.Results.{IsPart};
 ghost use Rattle.plinq_crew.specs.Working.{IsWhollyAnsweredBy};
 ghost use Rattle.plinq_run.specs.inner.Conducted.{HasConducted};
-ghost use Rattle.plinq_merge.specs.Joining.{IsReady as CanAccept};
-ghost use Rattle.plinq_run.specs.inner.Merged.{AcceptsInto, AreSame, HasOffered, WereAccepted, EndsSo};
+ghost use Rattle.plinq_run.specs.inner.Plans.{MayRun};
+ghost use Rattle.plinq_run.specs.inner.Merged.{WereAccepted, EndsSo};
 
 use crate::coverage::Coverage;
 use crate::finishing::finish;
 use crate::kept_memory::keep_memory;
 use crate::merging::{Merging, MergingInto};
 use crate::run_fault::RunFault;
-use plinq_crew::{
-    Crew, Progress, ResultStream, Returned, RunSpec, RunStopKeys, Task, WorkerContext, conduct,
-};
+use crate::run_request::RunRequest;
+use crate::window::progress_of;
+use plinq_crew::{Crew, Gate, ResultStream, RunSpec, RunStopKeys, Task, WorkerContext, conduct};
 use plinq_cut::CutWord;
-use plinq_enumerator::Growth;
 use plinq_lambda::SharedLambda;
 use plinq_merge::{Joined, Joiner, TakeInto, Taker};
-use plinq_ops::Plan;
 use plinq_partition::{Chunked, Partition};
-use plinq_source::{OutOfMemory, Source};
-use std::alloc::Global;
+use plinq_source::Source;
 use std::sync::Wait;
 use std::thread::Threads;
 
@@ -52,56 +47,6 @@ pub(crate) struct Ended<S: Source, W> {
 pub(crate) struct Conducted<S: Source, W> {
     pub(crate) chunked: Chunked<S>,
     pub(crate) ended: Ended<S, W>,
-}
-
-/// Runs a crew, and offers what it sends to the joiner that is lent.
-fn join_crew<'x, J, L, S, P, W, O, R>(
-    rt: &'x R,
-    crew: &'x Crew<'x, L, S, J, P>,
-    context: WorkerContext<S, P::Part>,
-    into: &mut MergingInto<'_, '_, W, P::Part, O>,
-) -> Result<Returned<S>, OutOfMemory>
-where
-    J: RunSpec<P::Part> + Send + Sync,
-    L: SharedLambda,
-    S: Source<Item = L::Item>,
-    P: Task<L::Item>,
-    W: Taker<Item = <P as Task<L::Item>>::Part> + TakeInto<O>,
-    R: Threads + Wait + Sync,
-    requires ready { IsReady L.meaning P.makes J.is_result J.stops_at crew.now context }
-    requires joiner { CanAccept W.can_take into.old.merging.now.joiner }
-    ensures same { AreSame into.old into.new }
-    ensures conducts { Conducts (AcceptsInto W.made) J.is_result crew.now context into.old into.new result }
-{
-    conduct(rt, crew, context, into)
-}
-
-/// Runs a crew, offers what it sends to this joiner, and gives the joiner back.
-fn offer_parts<'x, J, L, S, P, W, O, R>(
-    rt: &'x R,
-    crew: &'x Crew<'x, L, S, J, P>,
-    context: WorkerContext<S, P::Part>,
-    begun: Merging<W, P::Part>,
-    out: &mut O,
-) -> (Merging<W, P::Part>, Result<Returned<S>, OutOfMemory>)
-where
-    J: RunSpec<P::Part> + Send + Sync,
-    L: SharedLambda,
-    S: Source<Item = L::Item>,
-    P: Task<L::Item>,
-    W: Taker<Item = <P as Task<L::Item>>::Part> + TakeInto<O>,
-    R: Threads + Wait + Sync,
-    requires ready { IsReady L.meaning P.makes J.is_result J.stops_at crew.now context }
-    requires joiner { CanAccept W.can_take begun.joiner }
-    ensures { HasOffered W.made J.is_result crew.now context begun out.old result.0 out.new result.1 }
-{
-    let mut merging = begun;
-    let mut into = MergingInto {
-        merging: &mut merging,
-        out,
-    };
-    let returned = join_crew(rt, crew, context, &mut into);
-    (merging, returned)
 }
 
 /// Runs a crew, and gives what it sends to this taker.
@@ -127,32 +72,25 @@ where
         × WereAccepted W.made J.is_result crew.now.plan.now.order taker out.old (known pass).received ended.joined out.new) }
     ensures ends { EndsSo W.made J.is_result crew.now.plan.now.order taker out.old result out.new }
 {
-    let begun = Merging {
+    let mut merging = Merging {
         joiner: Joiner::new(crew.alloc, crew.plan.order, taker),
         coverage: Coverage::none(),
         fault: None,
     };
-    let (merging, returned) = offer_parts(rt, crew, context, begun, out);
-    let Ok(back) = returned else {
+    let mut into = MergingInto {
+        merging: &mut merging,
+        out,
+    };
+    let Ok(back) = conduct(rt, crew, context, &mut into) else {
         return Err(RunFault::Memory);
     };
-    finish(
-        merging,
-        back.worker_faults,
-        back.worker_count,
-        back.partitions,
-    )
+    finish(merging, back)
 }
 
-/// Runs a plan that isn't decided: up to so many workers do this task, and what they send goes to this taker.
-pub(crate) fn conduct_plan<'x, J, L, S, P, W, O, R>(
+/// Runs a plan that isn't decided: workers do this task, and what they send goes to this taker.
+pub(crate) fn conduct_plan<'x, J, L, S, G, P, W, O, R>(
     rt: &'x R,
-    alloc: Global,
-    plan: &'x Plan<'x, L>,
-    workers: u64,
-    source: S,
-    growth: Growth,
-    progress: &'x Progress,
+    request: RunRequest<'x, L, S, G>,
     task: &'x P,
     taker: W,
     out: &mut O,
@@ -161,19 +99,27 @@ where
     J: RunSpec<P::Part> + Send + Sync,
     L: SharedLambda,
     S: Source<Item = L::Item>,
+    G: Gate,
     P: Task<L::Item>,
     W: Taker<Item = <P as Task<L::Item>>::Part> + TakeInto<O>,
     R: Threads + Wait + Sync,
-    requires unasked { S.given source ≡ 0 }
-    requires plan { IsUndecided plan.now }
-    requires workers { (1 ≤ workers) × (workers ≤ 64) }
+    requires may { MayRun S.given request }
     requires takes { W.can_take taker ≡ true }
-    requires carries { (c : ChunkResult P.Part) → IsPart L.meaning (P.makes task.now) plan.now (S.whole source) c → J.is_result c }
-    requires carried { (c : ChunkResult P.Part) → J.is_result c → IsPart L.meaning (P.makes task.now) plan.now (S.whole source) c }
-    requires stop_keys { AreStopKeys L.meaning plan.now (S.whole source) J.stops_at }
-    ensures { HasConducted W.made (IsPart L.meaning (P.makes task.now) plan.now (S.whole source)) plan.now.order (S.whole source) taker out.old result out.new }
+    requires carries { (c : ChunkResult P.Part) → IsPart L.meaning (P.makes task.now) request.plan.now (S.whole request.source) c → J.is_result c }
+    requires carried { (c : ChunkResult P.Part) → J.is_result c → IsPart L.meaning (P.makes task.now) request.plan.now (S.whole request.source) c }
+    requires stop_keys { AreStopKeys L.meaning request.plan.now (S.whole request.source) J.stops_at }
+    ensures { HasConducted W.made (IsPart L.meaning (P.makes task.now) request.entry.plan.now (S.whole request.entry.source)) request.entry.plan.now.order (S.whole request.entry.source) taker out.old result out.new }
 {
+    let RunRequest {
+        alloc,
+        plan,
+        workers,
+        source,
+        growth,
+        gate,
+    } = request;
     keep_memory(alloc);
+    let progress = progress_of::<L::Item, G, R>(rt, gate, plan.order, workers, growth);
     let Ok((cut, cut_pass)) = CutWord::<RunStopKeys<P::Part, J>>::new(alloc, plan, &source) else {
         return Err(RunFault::Memory);
     };
@@ -190,7 +136,7 @@ where
         stream: &stream,
         cut: &cut,
         task,
-        progress,
+        progress: &progress,
         workers,
     };
     let context = WorkerContext {

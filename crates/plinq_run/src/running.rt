@@ -1,29 +1,28 @@
 //! The run of a query.
-ghost use Rattle.std.specs.Prelude.{◌≡◌, ◌≤◌, [], true, false, IfOk, Ok};
+ghost use Rattle.std.specs.Prelude.{◌≡◌, [], true, false, IfOk, Ok};
 ghost use Rattle.std.specs.List.{list_any};
 ghost use Rattle.plinq_source.specs.declared.ending.Ending.TheVariants.{End};
 ghost use Rattle.plinq_keyed.specs.History.{IsLegalHistory};
 ghost use Rattle.plinq_ops.specs.Answer.{MayAnswer};
 ghost use Rattle.plinq_ops.specs.Feeding.{is_empty_take};
 ghost use Rattle.plinq_ops.specs.Query.{merge_in_force};
-ghost use Rattle.plinq_crew.specs.Plans.{IsUndecided};
 ghost use Rattle.plinq_run.specs.Endings.{reported};
 ghost use Rattle.plinq_run.specs.Handed.{has_close};
 ghost use Rattle.plinq_run.specs.Headline.{answers, HasDelivered};
-ghost use Rattle.plinq_run.specs.inner.Plans.{MayMerge};
+ghost use Rattle.plinq_run.specs.inner.Plans.{MayMerge, MayRun};
 ghost use Rattle.plinq_run.specs.Reports.{Reports};
 
 use crate::finishing::report;
 use crate::planning::conduct_plan;
 use crate::report::Report;
 use crate::run_fault::RunFault;
+use crate::run_request::RunRequest;
 use crate::tasks::Unchanged;
-use crate::window::progress_of;
 use plinq_crew::Gate;
 use plinq_enumerator::Growth;
 use plinq_lambda::SharedLambda;
 use plinq_merge::{Deliver, Sink};
-use plinq_ops::{MergeOption, Plan, Query};
+use plinq_ops::{MergeOption, Query};
 use plinq_source::{Ending, Source};
 use std::alloc::Global;
 use std::marker::Brand;
@@ -33,13 +32,8 @@ use std::thread::Threads;
 /// Runs a plan that isn't decided, and delivers the batches of its answer.
 fn run_plan<L, S, G, K, R>(
     rt: &R,
-    alloc: Global,
-    plan: &Plan<'_, L>,
+    request: RunRequest<'_, L, S, G>,
     option: MergeOption,
-    workers: u64,
-    source: S,
-    growth: Growth,
-    gate: &G,
     sink: &mut K,
 ) -> Result<Report, RunFault>
 where
@@ -48,20 +42,17 @@ where
     G: Gate,
     K: Sink<Item = L::Item>,
     R: Threads + Wait + Sync,
-    requires unasked { S.given source ≡ 0 }
-    requires plan { IsUndecided plan.now }
-    requires workers { (1 ≤ workers) × (workers ≤ 64) }
-    ensures legal { IfOk result (λ report. IsLegalHistory (S.whole source) report.records.items) }
+    requires may { MayRun S.given request }
+    ensures legal { IfOk result (λ report. IsLegalHistory (S.whole request.entry.source) report.records.items) }
     ensures closed { IfOk result (λ report. has_close report.records.items ≡ true) }
-    ensures reports { Reports K.accepts K.refuses option (MayMerge L.meaning plan.now) (S.whole source) sink.old sink.new result }
+    ensures reports { Reports K.accepts K.refuses option (MayMerge L.meaning request.entry.plan.now) (S.whole request.entry.source) sink.old sink.new result }
 {
-    let Ok(taker) = Deliver::new(alloc, plan.after, option) else {
+    let Ok(taker) = Deliver::new(request.alloc, request.plan.after, option) else {
         return Err(RunFault::Memory);
     };
-    let progress = progress_of::<L::Item, G, R>(rt, gate, plan.order, workers, growth);
-    let task = Unchanged { gate };
-    let conducted = conduct_plan::<Brand, L, S, Unchanged<'_, G>, Deliver<'_, L, L::Item>, K, R>(
-        rt, alloc, plan, workers, source, growth, &progress, &task, taker, sink,
+    let task = Unchanged { gate: request.gate };
+    let conducted = conduct_plan::<Brand, L, S, G, Unchanged<'_, G>, Deliver<'_, L, L::Item>, K, R>(
+        rt, request, &task, taker, sink,
     )?;
     report(conducted)
 }
@@ -112,15 +103,13 @@ where
             records: Vec::new(alloc),
         });
     }
-    run_plan(
-        rt,
+    let request = RunRequest {
         alloc,
-        &plan,
-        query.merge_option(),
-        query.degree(),
+        plan: &plan,
+        workers: query.degree(),
         source,
         growth,
         gate,
-        sink,
-    )
+    };
+    run_plan(rt, request, query.merge_option(), sink)
 }

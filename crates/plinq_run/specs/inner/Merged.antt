@@ -1,7 +1,6 @@
 -- What the caller's thread has joined so far of the parts that workers send.
 use Rattle.std.specs.Prelude.{◌≡◌, Bool, List, [], Option, Some, None, Result, Ok, Err, All}
 use Rattle.plinq_source.specs.declared.ending.Ending.{Ending}
-use Rattle.plinq_source.specs.declared.memory.OutOfMemory.{OutOfMemory}
 use Rattle.plinq_source.specs.declared.source.Source.{Ghosts as SourceGhosts}
 use Rattle.plinq_source.specs.Trace.{Trace}
 use Rattle.plinq_lambda.specs.Meaning.{Meaning}
@@ -21,10 +20,7 @@ use Rattle.plinq_merge.specs.Mergers.{delivery_fault_of}
 use Rattle.plinq_merge.specs.Shown.{Merge, merged}
 use Rattle.plinq_merge.specs.Whole.{AreApart}
 use Rattle.plinq_stream.specs.declared.sent.Sent.{Sent}
-use Rattle.plinq_crew.specs.declared.conducting.Returned.{Returned}
-use Rattle.plinq_crew.specs.declared.worker.Crew.{Crew}
-use Rattle.plinq_crew.specs.declared.worker.WorkerContext.{WorkerContext}
-use Rattle.plinq_crew.specs.Conducting.{AcceptsEach, Conducts}
+use Rattle.plinq_crew.specs.Conducting.{AcceptsEach}
 use Rattle.plinq_crew.specs.Polls.{HasAccepted}
 use Rattle.plinq_run.specs.declared.planning.Ended.{Ended}
 use Rattle.plinq_run.specs.declared.merging.Merging.{Merging}
@@ -117,12 +113,3 @@ module _ {W O T : Type 0} (made : W → O → Trace T → Result (Option Ending)
       pub out : (first.out.now ≡ x) × (last.out.now ≡ y)
       pub wants_close : Bool
       pub taken : HasAccepted (AcceptsEach AcceptsInto IsPart) [] first received wants_close last
-
--- the workers were joined, and what they sent was offered to this joiner
-pub record HasOffered {L S J P W O U T : Type 0} {source : SourceGhosts S U} (made : W → O → Trace T → Result (Option Ending) DeliveryFault → W → O → Type 0) (IsPart : ChunkResult T → Type 0)
-    (crew : Crew L S J P U U T source) (context : WorkerContext S T U source) (m : Merging W T) (x : O) (m' : Merging W T) (y : O) (result : Result (Returned S U source) OutOfMemory) : Type 0 where
-  pub first : MergingInto W T O
-  pub begun : (first.merging.now ≡ m) × (first.out.now ≡ x)
-  pub last : MergingInto W T O
-  pub ended : (last.merging.now ≡ m') × (last.out.now ≡ y)
-  pub conducts : Conducts (AcceptsInto made) IsPart crew context first last result

@@ -23,11 +23,15 @@ returns-then-plan-clause-value g c =
     (aggregate_of-reports (λ x. folding x.aggregator.now) (λ x. x.acc) (merge_in_force q.merge) May t s c.run-report.new.sink c.run-report.result c.new-fold.ensures.nothing
     c.run-report.ensures.reports))
 
-pub fold_plan-combined-requires-clause-plan : goal.fold_plan-combined-requires-clause-plan
-fold_plan-combined-requires-clause-plan g c lifetimes outlive =
+pub fold_plan-combined-requires-clause-may : goal.fold_plan-combined-requires-clause-may
+fold_plan-combined-requires-clause-may g c lifetimes outlive =
     let plan = c.split-plan.result in
     let undecided : plan.decided ≡ false = search rules in
-    planned-undecided c.args.query.now plan c.split-plan.ensures.plan c.split-plan.ensures.by_key c.split-plan.ensures.undecided undecided
+    record {
+      unasked = search rules;
+      plan = planned-undecided c.args.query.now plan c.split-plan.ensures.plan c.split-plan.ensures.by_key c.split-plan.ensures.undecided undecided;
+      workers = search rules;
+    }
 
 pub returns-clause-value : goal.returns-clause-value
 returns-clause-value g c =

@@ -11,12 +11,12 @@ use Rattle.plinq_run.proofs.folding.fold_plan.Goals as goal
 pub returns-in_err-conducted : goal.returns-in_err-conducted
 returns-in_err-conducted g c =
     let meaning = g.L.Lambda.meaning in
-    let plan = c.args.plan.now in
-    let t = g.S.Source.whole c.args.source in
+    let plan = c.args.request.plan.now in
+    let t = g.S.Source.whole c.args.request.source in
     let folding = g.A.GrowingAggregator.folding in
     let f = folding c.args.aggregator.now in
-    let first = c.new.result in
-    let same : folding (first.aggregator.now) ≡ f = ap folding c.new.ensures.aggregator in
+    let first = c.new-fold.result in
+    let same : folding (first.aggregator.now) ≡ f = ap folding c.new-fold.ensures.aggregator in
     let fault = c.in_err-conducted.field-0.0 in
     let is : c.from_residual.result ≡ Err fault = search rules in
     let h = subst (λ r. HasConducted (MadeBy folding) (IsPart meaning (IsFoldOf f) plan t) plan.order t first tt r tt) c.in_err-conducted.was c.conduct_plan.ensures in
@@ -25,13 +25,13 @@ returns-in_err-conducted g c =
 pub returns : goal.returns
 returns g c =
     let meaning = g.L.Lambda.meaning in
-    let plan = c.args.plan.now in
-    let t = g.S.Source.whole c.args.source in
-    let few : length t.items ≤ 2 ^ 40 = (g.met.S.Source g.world.𝓛 g.world.𝓜 g.world.𝓡 (λ s a. a, λ a. a, λ a. a, λ a. a)).few c.args.source in
+    let plan = c.args.request.plan.now in
+    let t = g.S.Source.whole c.args.request.source in
+    let few : length t.items ≤ 2 ^ 40 = (g.met.S.Source g.world.𝓛 g.world.𝓜 g.world.𝓡 (λ s a. a, λ a. a, λ a. a, λ a. a)).few c.args.request.source in
     let folding = g.A.GrowingAggregator.folding in
     let f = folding c.args.aggregator.now in
     let lawful = (g.met.A.GrowingAggregator g.world.𝓛 g.world.𝓜 g.world.𝓡 (λ s a. a, λ a. a, λ a. a, λ a. a)).lawful c.args.aggregator.now in
-    let first = c.new.result in
-    let same : folding (first.aggregator.now) ≡ f = ap folding c.new.ensures.aggregator in
+    let first = c.new-fold.result in
+    let same : folding (first.aggregator.now) ≡ f = ap folding c.new-fold.ensures.aggregator in
     let h = subst (λ r. HasConducted (MadeBy folding) (IsPart meaning (IsFoldOf f) plan t) plan.order t first tt r tt) c.in_ok-conducted.was c.conduct_plan.ensures in
-    folded-ended f meaning plan t folding first same c.in_ok-conducted.conducted.ended c.so_far.result lawful c.new.ensures.nothing few c.requires.plan c.requires.alone c.so_far.ensures h.1
+    folded-ended f meaning plan t folding first same c.in_ok-conducted.conducted.ended c.so_far.result lawful c.new-fold.ensures.nothing few c.requires.may.plan c.requires.alone c.so_far.ensures h.1

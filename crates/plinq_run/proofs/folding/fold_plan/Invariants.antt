@@ -6,6 +6,6 @@ use Rattle.plinq_run.proofs.folding.fold_plan.Given as goal
 
 abbrev pub ghosts-conduct_plan : goal.ghosts-conduct_plan
 ghosts-conduct_plan g a = record {
-  is_result = IsPart g.L.Lambda.meaning (IsFoldOf (g.A.GrowingAggregator.folding a.task.now.aggregator.now)) a.plan.now (g.S.Source.whole a.source);
-  stops_at = is_among (stop_keys g.L.Lambda.meaning a.plan.now.worker.now 0 (g.S.Source.whole a.source).items);
+  is_result = IsPart g.L.Lambda.meaning (IsFoldOf (g.A.GrowingAggregator.folding a.task.now.aggregator.now)) a.request.plan.now (g.S.Source.whole a.request.source);
+  stops_at = is_among (stop_keys g.L.Lambda.meaning a.request.plan.now.worker.now 0 (g.S.Source.whole a.request.source).items);
 }

@@ -15,10 +15,14 @@ returns-then-plan g c =
     gives-weaker (g.A.GrowingAggregator.folding c.args.aggregator.now) g.W.TakeInto.made (λ u. u ≡ ended [] End) (MayAnswer g.L.Lambda.meaning q.ordered q.ops t) c.args.taker c.args.out.now c.hand_nothing.result c.hand_nothing.new.out
     (λ u nothing. decided-may g.L.Lambda.meaning q.ordered q.ops t u (sym c.split-plan.ensures.plan.decided ∙ is) nothing) c.hand_nothing.ensures
 
-pub fold_chunks_into-requires-clause-plan : goal.fold_chunks_into-requires-clause-plan
-fold_chunks_into-requires-clause-plan g c κs within =
+pub fold_chunks_into-requires-clause-may : goal.fold_chunks_into-requires-clause-may
+fold_chunks_into-requires-clause-may g c κs within =
     let undecided : c.split-plan.result.decided ≡ false = search rules in
-    planned-undecided c.args.query.now c.split-plan.result c.split-plan.ensures.plan c.split-plan.ensures.by_key c.split-plan.ensures.undecided undecided
+    record {
+      unasked = search rules;
+      plan = planned-undecided c.args.query.now c.split-plan.result c.split-plan.ensures.plan c.split-plan.ensures.by_key c.split-plan.ensures.undecided undecided;
+      workers = search rules;
+    }
 
 pub returns-then-is_empty : goal.returns-then-is_empty
 returns-then-is_empty g c =
@@ -29,10 +33,14 @@ returns-then-is_empty g c =
     gives-weaker (g.A.GrowingAggregator.folding c.args.aggregator.now) g.W.TakeInto.made (MayMerge g.L.Lambda.meaning plan t) (MayAnswer g.L.Lambda.meaning q.ordered q.ops t) c.args.taker c.args.out.now c.fold_chunks_into.result c.fold_chunks_into.new.out
     (λ u. planned-may g.L.Lambda.meaning q plan t u q.ordered refl c.split-plan.ensures.plan undecided) c.fold_chunks_into.ensures
 
-pub fold_blocks_into-requires-clause-plan : goal.fold_blocks_into-requires-clause-plan
-fold_blocks_into-requires-clause-plan g c κs within =
+pub fold_blocks_into-requires-clause-may : goal.fold_blocks_into-requires-clause-may
+fold_blocks_into-requires-clause-may g c κs within =
     let undecided : c.split-plan.result.decided ≡ false = search rules in
-    planned-undecided c.args.query.now c.split-plan.result c.split-plan.ensures.plan c.split-plan.ensures.by_key c.split-plan.ensures.undecided undecided
+    record {
+      unasked = search rules;
+      plan = planned-undecided c.args.query.now c.split-plan.result c.split-plan.ensures.plan c.split-plan.ensures.by_key c.split-plan.ensures.undecided undecided;
+      workers = search rules;
+    }
 
 pub returns : goal.returns
 returns g c =

@@ -8,14 +8,14 @@ use Rattle.plinq_run.proofs.planning.conduct_plan.Goals as goal
 pub run_crew-requires-clause-ready : goal.run_crew-requires-clause-ready
 run_crew-requires-clause-ready g c lifetimes outlive =
     let meaning = g.L.Lambda.meaning in
-    let plan = c.args.plan.now in
+    let plan = c.args.request.plan.now in
     let makes = g.P.Task.makes c.args.task.now in
-    let origin : (holding_of c.in-Ok-new.partition).origin ≡ g.S.Source.whole c.args.source = search rules in
+    let origin : (holding_of c.in-Ok-new.partition).origin ≡ g.S.Source.whole c.args.request.source = search rules in
     record {
       equipped = record {
         of = c.in-Ok-new.ensures.of;
-        few = subst (λ t. length t.items ≤ 2 ^ 40) (sym origin) ((g.met.S.Source g.world.𝓛 g.world.𝓜 g.world.𝓡 (λ s a. a, λ a. a, λ a. a, λ a. a)).few c.args.source);
-        undecided = c.requires.plan;
+        few = subst (λ t. length t.items ≤ 2 ^ 40) (sym origin) ((g.met.S.Source g.world.𝓛 g.world.𝓜 g.world.𝓡 (λ s a. a, λ a. a, λ a. a, λ a. a)).few c.args.request.source);
+        undecided = c.requires.may.plan;
         parts = λ r is. c.requires.carries r (subst (λ t. IsPart meaning makes plan t r) origin is);
         sent = λ r is. subst (λ t. IsPart meaning makes plan t r) (sym origin) (c.requires.carried r is);
         sees = c.in-Ok.ensures.pass;
@@ -23,32 +23,32 @@ run_crew-requires-clause-ready g c lifetimes outlive =
       };
       stream_of = c.in-Ok-new-2.ensures.pass;
       knows = c.in-Ok-new-2.ensures.first;
-      workers = c.requires.workers;
+      workers = c.requires.may.workers;
     }
 
 pub returns-in_default : goal.returns-in_default
 returns-in_default g c =
-    none-broken g.W.TakeInto.made g.met.W.TakeInto.lawful (IsPart g.L.Lambda.meaning (g.P.Task.makes c.args.task.now) c.args.plan.now (g.S.Source.whole c.args.source)) c.args.plan.now.order c.args.taker c.args.out.now _ refl
+    none-broken g.W.TakeInto.made g.met.W.TakeInto.lawful (IsPart g.L.Lambda.meaning (g.P.Task.makes c.args.task.now) c.args.request.plan.now (g.S.Source.whole c.args.request.source)) c.args.request.plan.now.order c.args.taker c.args.out.now _ refl
 
 pub returns-in_default-new : goal.returns-in_default-new
 returns-in_default-new g c =
-    none-broken g.W.TakeInto.made g.met.W.TakeInto.lawful (IsPart g.L.Lambda.meaning (g.P.Task.makes c.args.task.now) c.args.plan.now (g.S.Source.whole c.args.source)) c.args.plan.now.order c.args.taker c.args.out.now _ refl
+    none-broken g.W.TakeInto.made g.met.W.TakeInto.lawful (IsPart g.L.Lambda.meaning (g.P.Task.makes c.args.task.now) c.args.request.plan.now (g.S.Source.whole c.args.request.source)) c.args.request.plan.now.order c.args.taker c.args.out.now _ refl
 
 pub returns-in_default-new-2 : goal.returns-in_default-new-2
 returns-in_default-new-2 g c =
-    none-broken g.W.TakeInto.made g.met.W.TakeInto.lawful (IsPart g.L.Lambda.meaning (g.P.Task.makes c.args.task.now) c.args.plan.now (g.S.Source.whole c.args.source)) c.args.plan.now.order c.args.taker c.args.out.now _ refl
+    none-broken g.W.TakeInto.made g.met.W.TakeInto.lawful (IsPart g.L.Lambda.meaning (g.P.Task.makes c.args.task.now) c.args.request.plan.now (g.S.Source.whole c.args.request.source)) c.args.request.plan.now.order c.args.taker c.args.out.now _ refl
 
 pub returns-in-Ok-run_crew : goal.returns-in-Ok-run_crew
 returns-in-Ok-run_crew g c =
-    let P = IsPart g.L.Lambda.meaning (g.P.Task.makes c.args.task.now) c.args.plan.now (g.S.Source.whole c.args.source) in
-    let origin : (holding_of c.in-Ok-new.partition).origin ≡ g.S.Source.whole c.args.source = search rules in
+    let P = IsPart g.L.Lambda.meaning (g.P.Task.makes c.args.task.now) c.args.request.plan.now (g.S.Source.whole c.args.request.source) in
+    let origin : (holding_of c.in-Ok-new.partition).origin ≡ g.S.Source.whole c.args.request.source = search rules in
     let made = c.in-Ok-run_crew.ensures in (
       record { some = made.back.0; of = made.back.1; origin = made.back.2 ∙ origin },
-      ends-weaker g.W.TakeInto.made g.J.RunSpec.is_result P (λ r is. c.requires.carried r is) c.args.plan.now.order c.args.taker c.args.out.now {S = g.row.S.Denot} {U = g.row.L-Item.Denot} {source = g.S.Source} (Ok c.in-Ok-run_crew.ended) c.run_crew.new.out made.ends,
+      ends-weaker g.W.TakeInto.made g.J.RunSpec.is_result P (λ r is. c.requires.carried r is) c.args.request.plan.now.order c.args.taker c.args.out.now {S = g.row.S.Denot} {U = g.row.L-Item.Denot} {source = g.S.Source} (Ok c.in-Ok-run_crew.ended) c.run_crew.new.out made.ends,
     )
 
 pub returns : goal.returns
 returns g c =
-    let P = IsPart g.L.Lambda.meaning (g.P.Task.makes c.args.task.now) c.args.plan.now (g.S.Source.whole c.args.source) in
+    let P = IsPart g.L.Lambda.meaning (g.P.Task.makes c.args.task.now) c.args.request.plan.now (g.S.Source.whole c.args.request.source) in
     let made = c.in-Err.ensures in
-    ends-weaker g.W.TakeInto.made g.J.RunSpec.is_result P (λ r is. c.requires.carried r is) c.args.plan.now.order c.args.taker c.args.out.now {S = g.row.S.Denot} {U = g.row.L-Item.Denot} {source = g.S.Source} (Err c.in-Err.fault) c.run_crew.new.out made.ends
+    ends-weaker g.W.TakeInto.made g.J.RunSpec.is_result P (λ r is. c.requires.carried r is) c.args.request.plan.now.order c.args.taker c.args.out.now {S = g.row.S.Denot} {U = g.row.L-Item.Denot} {source = g.S.Source} (Err c.in-Err.fault) c.run_crew.new.out made.ends

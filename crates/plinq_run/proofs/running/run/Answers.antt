@@ -8,11 +8,15 @@ use Rattle.plinq_run.proofs.Headline.{decided-delivered, ordered-delivered}
 use Rattle.plinq_run.proofs.Ended.{decided-reports, planned-may, planned-undecided, reports-weaker}
 use Rattle.plinq_run.proofs.running.run.Goals as goal
 
-pub run_plan-requires-clause-plan : goal.run_plan-requires-clause-plan
-run_plan-requires-clause-plan g c lifetimes outlive =
+pub run_plan-requires-clause-may : goal.run_plan-requires-clause-may
+run_plan-requires-clause-may g c lifetimes outlive =
     let plan = c.split-plan.result in
     let undecided : plan.decided ≡ false = search rules in
-    planned-undecided c.args.query.now plan c.split-plan.ensures.plan c.split-plan.ensures.by_key c.split-plan.ensures.undecided undecided
+    record {
+      unasked = search rules;
+      plan = planned-undecided c.args.query.now plan c.split-plan.ensures.plan c.split-plan.ensures.by_key c.split-plan.ensures.undecided undecided;
+      workers = search rules;
+    }
 
 pub returns-then-plan-clause-reports : goal.returns-then-plan-clause-reports
 returns-then-plan-clause-reports g c =

@@ -11,14 +11,14 @@ use Rattle.plinq_run.proofs.Runs.{begun_line}
 use Rattle.plinq_run.proofs.running.run_plan.Goals as goal
 
 pub returns-in_default-clause-reports : goal.returns-in_default-clause-reports
-returns-in_default-clause-reports g c = none-ended g.L.Lambda.meaning g.K.Sink.accepts g.K.Sink.refuses c.args.option c.args.plan.now (g.S.Source.whole c.args.source) c.args.sink.now _ refl
+returns-in_default-clause-reports g c = none-ended g.L.Lambda.meaning g.K.Sink.accepts g.K.Sink.refuses c.args.option c.args.request.plan.now (g.S.Source.whole c.args.request.source) c.args.sink.now _ refl
 
 pub returns-in_err-conducted-clause-reports : goal.returns-in_err-conducted-clause-reports
 returns-in_err-conducted-clause-reports g c =
     let meaning = g.L.Lambda.meaning in
-    let plan = c.args.plan.now in
-    let t = g.S.Source.whole c.args.source in
-    let few : length t.items ≤ 2 ^ 40 = (g.met.S.Source g.world.𝓛 g.world.𝓜 g.world.𝓡 (λ s a. a, λ a. a, λ a. a, λ a. a)).few c.args.source in
+    let plan = c.args.request.plan.now in
+    let t = g.S.Source.whole c.args.request.source in
+    let few : length t.items ≤ 2 ^ 40 = (g.met.S.Source g.world.𝓛 g.world.𝓜 g.world.𝓡 (λ s a. a, λ a. a, λ a. a, λ a. a)).few c.args.request.source in
     let P = IsPart meaning (λ r x. x ≡ r) plan t in
     let d = c.in-Ok.taker in
     let begun : line_of meaning d ≡ begun_line meaning plan c.args.option = c.in-Ok.ensures.begun in
@@ -28,14 +28,14 @@ returns-in_err-conducted-clause-reports g c =
     let is : c.from_residual.result ≡ Err fault = search rules in
     let h = subst (λ r. HasConducted (MadeBy g.K.Sink.accepts g.K.Sink.refuses meaning) P plan.order t d s r s') c.in_err-conducted.was c.conduct_plan.ensures in
     subst (λ r. Reports g.K.Sink.accepts g.K.Sink.refuses c.args.option (MayMerge meaning plan) t s s' r) (sym is)
-    (broken-delivered meaning plan c.args.option c.requires.plan t few g.K.Sink.accepts g.K.Sink.refuses P (plain-part meaning plan t) d begun s s' fault h)
+    (broken-delivered meaning plan c.args.option c.requires.may.plan t few g.K.Sink.accepts g.K.Sink.refuses P (plain-part meaning plan t) d begun s s' fault h)
 
 pub returns-clause-reports : goal.returns-clause-reports
 returns-clause-reports g c =
     let meaning = g.L.Lambda.meaning in
-    let plan = c.args.plan.now in
-    let t = g.S.Source.whole c.args.source in
-    let few : length t.items ≤ 2 ^ 40 = (g.met.S.Source g.world.𝓛 g.world.𝓜 g.world.𝓡 (λ s a. a, λ a. a, λ a. a, λ a. a)).few c.args.source in
+    let plan = c.args.request.plan.now in
+    let t = g.S.Source.whole c.args.request.source in
+    let few : length t.items ≤ 2 ^ 40 = (g.met.S.Source g.world.𝓛 g.world.𝓜 g.world.𝓡 (λ s a. a, λ a. a, λ a. a, λ a. a)).few c.args.request.source in
     let P = IsPart meaning (λ r x. x ≡ r) plan t in
     let d = c.in-Ok.taker in
     let begun : line_of meaning d ≡ begun_line meaning plan c.args.option = c.in-Ok.ensures.begun in
@@ -44,5 +44,5 @@ returns-clause-reports g c =
     let h = subst (λ r. HasConducted (MadeBy g.K.Sink.accepts g.K.Sink.refuses meaning) P plan.order t d s r s') c.in_ok-conducted.was c.conduct_plan.ensures in
     let ended = c.in_ok-conducted.conducted.ended in
     let legal = subst (λ u. IfOk c.report.result (λ r. IsLegalHistory u r.records.items)) h.0.origin c.report.ensures.legal in
-    whole-reported meaning plan c.args.option c.requires.plan t few g.K.Sink.accepts g.K.Sink.refuses ended.coverage s s' ended.joined.ending c.report.result
-    (whole-delivered meaning plan c.args.option c.requires.plan t few g.K.Sink.accepts g.K.Sink.refuses P (plain-part meaning plan t) d begun s s' ended h.1) c.report.ensures.told legal c.report.ensures.accounted
+    whole-reported meaning plan c.args.option c.requires.may.plan t few g.K.Sink.accepts g.K.Sink.refuses ended.coverage s s' ended.joined.ending c.report.result
+    (whole-delivered meaning plan c.args.option c.requires.may.plan t few g.K.Sink.accepts g.K.Sink.refuses P (plain-part meaning plan t) d begun s s' ended h.1) c.report.ensures.told legal c.report.ensures.accounted
