@@ -14,3 +14,4 @@ pub mod Jobs
 pub mod Document
 pub mod DocumentRows
 pub mod Printed
+pub mod inner

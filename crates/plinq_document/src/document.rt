@@ -1,20 +1,26 @@
-ghost use Rattle.std.specs.Prelude.{◌≡◌, MatchResult};
+ghost use Rattle.std.specs.Prelude.{◌≡◌, IfOk, MatchResult};
+ghost use Rattle.serde_json.specs.Data.{Members, object};
 ghost use Rattle.serde_json.specs.View.{view, items_view, members_view};
 ghost use Rattle.serde_json.specs.Errors.{IsMemory};
 ghost use Rattle.plinq_document.specs.declared.doc_fault.DocFault.TheVariants.{Memory, NotJson};
 ghost use Rattle.plinq_document.specs.Results.{IfMeant};
+ghost use Rattle.plinq_document.specs.inner.Apart.{AreApart, IsFresh, source_apart, meaning_apart};
 ghost use Rattle.plinq_document.specs.Document.{is_top_name, are_top_names, names_check, steps_in, new_query, document_meaning, json_of, document_of};
 
 use crate::aggregates::aggregate_in;
+use crate::any_source::AnySource;
+use crate::by_tokens::{Parts, parts_of};
 use crate::doc_fault::DocFault;
 use crate::growth_counts::growth_counts;
 use crate::job::Job;
+use crate::plain_source::PlainSource;
 use crate::settings::Settings;
 use crate::sources::source_in;
 use crate::steps::with_steps;
-use crate::version::version_in;
+use crate::version::{Version, version_in};
 use plinq_lambda::Formula;
 use plinq_ops::Query;
+use plinq_source::Source;
 use serde_json::Value;
 use serde_json::value::Map;
 use std::alloc::Global;
@@ -44,8 +50,11 @@ pub fn read_document(alloc: Global, bytes: &[u8], settings: Settings) -> Result<
     if bytes.len() > MOST_BYTES {
         return Err(DocFault::TooLong);
     }
+    if let Some(parts) = parts_of(alloc, bytes) {
+        return job_of_parts(alloc, parts, settings);
+    }
     let value = json_of(alloc, bytes)?;
-    job_of(alloc, &value, settings)
+    job_of(alloc, &value, None, settings)
 }
 
 // The value that a JSON text is.
@@ -69,8 +78,27 @@ fn refusal(error: &serde_json::Error) -> DocFault
     }
 }
 
-fn job_of(alloc: Global, value: &Value, settings: Settings) -> Result<Job, DocFault>
-    ensures { MatchResult result (λ job. document_meaning settings (view value.now) ≡ Ok job) (IfMeant (document_meaning settings (view value.now))) }
+fn job_of_parts(alloc: Global, parts: Parts, settings: Settings) -> Result<Job, DocFault>
+    requires { IsFresh parts.source }
+    ensures { (ms : Members) → AreApart parts.source (members_view parts.others.entries) ms →
+        MatchResult result
+        (λ job. document_meaning settings (object ms) ≡ Ok job)
+        (IfMeant (document_meaning settings (object ms))) }
+{
+    job_of(alloc, &Value::Object(parts.others), parts.source, settings)
+}
+
+// The source may have been read apart.
+fn job_of(
+    alloc: Global,
+    value: &Value,
+    source: Option<PlainSource>,
+    settings: Settings,
+) -> Result<Job, DocFault>
+    requires { IsFresh source }
+    ensures { MatchResult result
+        (λ job. meaning_apart settings source (view value.now) ≡ Ok job)
+        (IfMeant (meaning_apart settings source (view value.now))) }
 {
     let cancel_after = settings.cancel_after;
     let version = version_in(value)?;
@@ -78,7 +106,7 @@ fn job_of(alloc: Global, value: &Value, settings: Settings) -> Result<Job, DocFa
     let steps = steps_in(value)?;
     let counts = growth_counts(value)?;
     let aggregate = aggregate_in(value)?;
-    let source = source_in(alloc, version, value)?;
+    let source = source_apart(alloc, source, version, value)?;
     let growth = counts.growth()?;
     let query = with_steps(version, new_query(alloc, settings), steps)?;
     Ok(Job {
@@ -88,6 +116,24 @@ fn job_of(alloc: Global, value: &Value, settings: Settings) -> Result<Job, DocFa
         aggregate,
         cancel_after,
     })
+}
+
+fn source_apart(
+    alloc: Global,
+    source: Option<PlainSource>,
+    version: Version,
+    value: &Value,
+) -> Result<AnySource, DocFault>
+    requires { IsFresh source }
+    ensures whole { MatchResult result
+        (λ s. source_apart source version (view value.now) ≡ Ok (⟦<AnySource as Source>⟧.whole s))
+        (IfMeant (source_apart source version (view value.now))) }
+    ensures fresh { IfOk result (λ s. ⟦<AnySource as Source>⟧.given s ≡ 0) }
+{
+    match source {
+        Some(source) => Ok(AnySource::Plain(source)),
+        None => source_in(alloc, version, value),
+    }
 }
 
 fn check_names(value: &Value) -> Result<(), DocFault>

@@ -9,6 +9,7 @@
 
 mod aggregates;
 mod any_source;
+mod by_tokens;
 mod concats;
 mod degree;
 mod doc_fault;

@@ -56,7 +56,8 @@ fn plain_source_named(
     }
 }
 
-fn text_source(alloc: Global, text: &str) -> Result<PlainSource, DocFault>
+/// The numbers of a text.
+pub(crate) fn text_source(alloc: Global, text: &str) -> Result<PlainSource, DocFault>
     ensures whole { MatchResult result
         (λ s. text_source text.now ≡ Ok (⟦<PlainSource as Source>⟧.whole s))
         (IfMeant (text_source text.now)) }
