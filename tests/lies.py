@@ -51,6 +51,18 @@ def swapped_in_a_line(told):
     return b"".join([line[:20_000] + b" ".join(items), *rest])
 
 
+def swapped_in_a_batch(told):
+    """The first two items of a line of 16."""
+    line, *rest = told.lines
+    first, second, *items = line.split(b" ")
+    return b"".join([b" ".join([second, first, *items]), *rest])
+
+
+def joined_lines(told):
+    """Two lines as one."""
+    return told.output.replace(b"\n", b" ", 1) if len(told.lines) > 2 else told.output
+
+
 def without_the_last_batch(told):
     growth = told.document.get("growth")
     return told.output if not growth or growth[0] == 1 else b"".join([*told.lines[:-2], told.lines[-1]])
@@ -103,6 +115,13 @@ def value_after(name):
 WRONG = {
     "swaps lines 41 and 42": (swapped_lines, large.answers),
     "swaps two items far into a line": (swapped_in_a_line, large.long_answers),
+    "swaps two items of a line of 16": (where(lambda told: told.is_ordered and told.lines[0].count(b" ") == 15, swapped_in_a_batch), large.answers),
+    "writes two lines as one": (joined_lines, large.answers),
+    "leaves the ending out": (lambda told: b"".join(told.lines[:-1]), large.answers),
+    "writes an empty line before the ending": (lambda told: b"".join([*told.lines[:-1], b"\n", told.lines[-1]]), large.answers),
+    "gives nothing where all is one line": (where(lambda told: told.is_run and len(told.lines) == 2, lambda told: told.lines[-1]), large.answers),
+    "says another code of a refusal": (lambda told: told.output.replace(b"refused 7", b"refused 8"), large.answers),
+    "says that there is no value": (where(lambda told: "aggregate" in told.document, lambda told: b"none\n" + told.lines[-1]), large.aggregates),
     "loses the last batch where the first chunk has more than one element": (without_the_last_batch, large.answers),
     "says that an answer of more than 4,096 bytes ended well": (ended_well(4_096), large.answers),
     "says that an answer of more than 64 KiB ended well": (ended_well(65_536), large.long_answers),
