@@ -25,6 +25,15 @@ fn called(alloc: Global, number: u64, query: Query<Formula>) -> Called {
     }
 }
 
+/// The option that is in force after a call.
+fn merged(number: u64) -> MergeOption {
+    if number == 9 {
+        MergeOption::NotBuffered
+    } else {
+        MergeOption::AutoBuffered
+    }
+}
+
 /// Whether a call answered a query with what it called for, or that without it.
 fn is_right(number: u64, answer: Called) -> bool {
     match answer {
@@ -34,6 +43,7 @@ fn is_right(number: u64, answer: Called) -> bool {
                 && query.is_ordered() == (number == 0)
                 && query.ops().len() <= 1
                 && query.degree() == if number == 10 { 3 } else { 4 }
+                && query.merge_option() == merged(number)
         }
         Err((query, fault)) => query.ops().is_empty() && fault == BuildFault::Memory,
     }

@@ -1,12 +1,13 @@
 //! The traits that a caller implements or calls, by their methods.
 ghost use Rattle.std.specs.Prelude.{◌≡◌, ⊤};
 
+use plinq_enumerator::Enumerator;
 use plinq_keyed::{Guarded, KeyProperties, Record};
-use plinq_lambda::{ExpandFault, Lambda};
+use plinq_lambda::{ExpandFault, Formula, Lambda};
 use plinq_merge::{Cancel, Sink};
-use plinq_partition::OrderablePartitioner;
+use plinq_partition::{Chunked, OrderablePartitioner, PairParts, RangeParts};
 use plinq_run::{Gate, OpenGate};
-use plinq_source::{Source, Step};
+use plinq_source::{ListSource, RangeSource, RepeatSource, Source, Step, TextSource};
 use std::alloc::Global;
 use std::test::*;
 
@@ -14,8 +15,29 @@ fn asked<S: Source>(source: &mut S) -> Step<S::Item> {
     source.next()
 }
 
+/// The sources, and what they are of.
+fn of_bytes(list: &mut ListSource<u8>) -> Step<u8> {
+    asked(list)
+}
+
+fn of_text(text: &mut TextSource) -> Step<i64> {
+    asked(text)
+}
+
+fn of_range(range: &mut RangeSource) -> Step<i64> {
+    asked(range)
+}
+
+fn of_copies(copies: &mut RepeatSource) -> Step<i64> {
+    asked(copies)
+}
+
 fn recorded<V: Guarded>(value: &V) -> &[Record] {
     value.records()
+}
+
+fn of_enumerator<S: Source>(enumerator: &Enumerator<S>) -> &[Record] {
+    recorded(enumerator)
 }
 
 fn mapped<L: Lambda>(lambda: &L, x: L::Item) -> Result<L::Item, u32> {
@@ -30,8 +52,25 @@ fn expanded<L: Lambda>(lambda: &L, alloc: Global, x: L::Item) -> Result<Vec<L::I
     lambda.expand(alloc, x)
 }
 
+fn of_formula(formula: &Formula, x: i64) -> (Result<i64, u32>, Result<bool, u32>) {
+    (mapped(formula, x), tested(formula, x))
+}
+
 fn promised<P: OrderablePartitioner>(parts: &P) -> (KeyProperties, bool) {
     (parts.properties(), parts.supports_dynamic())
+}
+
+/// The partitioners.
+fn of_chunks<S: Source>(parts: &Chunked<S>) -> (KeyProperties, bool) {
+    promised(parts)
+}
+
+fn of_values(parts: &RangeParts<u8>) -> (KeyProperties, bool) {
+    promised(parts)
+}
+
+fn of_pairs(parts: &PairParts<u8>) -> (KeyProperties, bool) {
+    promised(parts)
 }
 
 fn delivered<K: Sink>(sink: &mut K, items: &[K::Item]) -> Result<(), u32> {
