@@ -273,6 +273,8 @@ fn the_last_ticket_is_taken_once(rt: HostRuntime) {
         panic!(rt; "no room for a list of one");
     };
     expect_last(&rt, enumerator.records(), 2, LAST);
+    let (chunked, mut partition) = with_first_ticket(&rt, rt.alloc(), LAST + 1);
+    expect_spent(&rt, &chunked, &mut partition);
 }
 
 // Of the last two tickets a refused chunk uses up the first. Run with each allocation failing in turn.
