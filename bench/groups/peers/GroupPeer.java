@@ -12,9 +12,10 @@ public class GroupPeer {
   }
   public static void main(String[] a) throws Exception {
     ForkJoinPool pool = new ForkJoinPool(4);
+    long part = a.length > 0 ? Long.parseLong(a[0]) : 1;
     long[][] rows = {{10, 10000000}, {1000, 10000000}, {100000, 10000000}, {1024, 1000000}};
     for (int r = 0; r < rows.length; r++) {
-      long k = rows[r][0], n = rows[r][1];
+      long k = rows[r][0], n = rows[r][1] / part;
       Key key = r < 3 ? x -> x % k : x -> spin(x, 500) & (k - 1);
       for (String how : new String[]{"loop", "sequential groupingBy", "groupingBy", "groupingByConcurrent"}) {
         double best = 1e9; int came = 0;

@@ -30,7 +30,9 @@ fn mapped(n: i64, threads: usize) -> usize {
 }
 
 fn main() {
+    let part: i64 = std::env::args().nth(1).map_or(1, |word| word.parse().unwrap());
     for (work, k, n) in [("cheap", 10i64, 10_000_000i64), ("cheap", 1_000, 10_000_000), ("cheap", 100_000, 10_000_000), ("heavy", 1_024, 1_000_000), ("mapped", 0, 1_000_000)] {
+        let n = n / part;
         for threads in [0usize, 1, 4] {
             let mut best = f64::MAX;
             let mut came = 0;
