@@ -17,8 +17,12 @@ use Rattle.plinq_lines.proofs.WrittenBytes.{Bytes, begins-all}
 use Rattle.plinq_arguments.specs.declared.command.Command.{Command}
 use Rattle.plinq_cli.specs.declared.failure.Failure.{Failure}
 use Rattle.plinq_cli.specs.declared.failure.Failure.TheVariants.{Document, Memory, Read, Write, Thread, Tickets, Incomplete, Cancelled}
-use Rattle.plinq_cli.specs.Served.{HasBegun, IsAnswer, IsText, Serves}
-use Rattle.plinq_cli.specs.Performed.{Answers, AnswersMeaning, Flushes, failure_of_document, failure_of_input, unflushed}
+use Rattle.plinq_cli.specs.Served.{HasBegun, HasWritten, IsAnswer, IsText, Serves}
+use Rattle.plinq_cli.specs.Performed.{Answers, AnswersMeaning, Flushes, IfDocument, failure_of_document, failure_of_input, failure_of_serve, unflushed}
+use Rattle.plinq_partition.specs.declared.take_fault.TakeFault.TheVariants.{Memory as TakeMemory, Spent, Busy, Incomplete as RecordsMissing, Away}
+use Rattle.plinq_run.specs.declared.run_fault.RunFault.TheVariants.{Memory as RunMemory, Sink as RunSink, Tickets as RunTickets, Thread as RunThread, Incomplete as RunIncomplete, Cancelled as RunCancelled}
+use Rattle.plinq_cli.specs.declared.serve_fault.ServeFault.{ServeFault}
+use Rattle.plinq_cli.specs.declared.serve_fault.ServeFault.TheVariants.{Memory as ServeMemory, Write as ServeWrite, Run as ServeRun, Take}
 use Rattle.plinq_arguments.specs.declared.arguments.Arguments.{Arguments}
 use Rattle.plinq_cli.specs.declared.input_fault.InputFault.{InputFault}
 use Rattle.plinq_cli.specs.declared.input_fault.InputFault.TheVariants.{Read as InputRead, TooLong as InputTooLong, Memory as InputMemory}
@@ -58,6 +62,30 @@ refused command meaning a Version h = refused-as command meaning a Version (h (�
 refused command meaning a Source h = refused-as command meaning a Source (h (λ is. cc))
 refused command meaning a (Growth why) h = refused-as command meaning a (Growth why) (h (λ is. cc))
 refused command meaning a (Step at why) h = refused-as command meaning a (Step at why) (h (λ is. cc))
+
+-- a command fails by nothing that the document is to blame for
+not_by-document : (fault : ServeFault) → IfDocument (λ why. ⊥) (failure_of_serve fault)
+not_by-document ServeMemory = tt
+not_by-document ServeWrite = tt
+not_by-document (ServeRun RunMemory) = tt
+not_by-document (ServeRun (RunSink code)) = tt
+not_by-document (ServeRun RunTickets) = tt
+not_by-document (ServeRun RunThread) = tt
+not_by-document (ServeRun RunIncomplete) = tt
+not_by-document (ServeRun RunCancelled) = tt
+not_by-document (Take TakeMemory) = tt
+not_by-document (Take Spent) = tt
+not_by-document (Take (Busy served drawn)) = tt
+not_by-document (Take (RecordsMissing have all)) = tt
+not_by-document (Take Away) = tt
+
+-- a document that is answered, or not to its end
+pub served : (command : Command) (a b : Bytes) {meaning : Result JobView DocFault} {job : JobView} {e : Ending} → meaning ≡ Ok job → HasWritten command job a b e → AnswersMeaning command meaning a b (Ok e)
+served command a b {e = e} is written = subst (λ m. AnswersMeaning command m a b (Ok e)) (sym is) (written, tt)
+
+pub failed : (command : Command) (a b : Bytes) {meaning : Result JobView DocFault} {job : JobView} (fault : ServeFault) → meaning ≡ Ok job → HasBegun command job a b
+    → AnswersMeaning command meaning a b (Err (failure_of_serve fault))
+failed command a b fault is begun = subst (λ m. AnswersMeaning command m a b (Err (failure_of_serve fault))) (sym is) (begun, not_by-document fault)
 
 -- ---- an input that isn't read
 
@@ -115,8 +143,7 @@ unflushed-kept command meaning a b (Err Thread) h = h
 unflushed-kept command meaning a b (Err Tickets) h = h
 unflushed-kept command meaning a b (Err Incomplete) h = h
 
-pub flushed : (command : Command) (meaning : Result JobView DocFault) (a b c : Bytes) (r s : Result Ending Failure)
-    → AnswersMeaning command meaning a b r → Keeps b c → Flushes r s → AnswersMeaning command meaning a c s
-flushed command meaning a b c r s h k (inl same) = subst (AnswersMeaning command meaning a c) (sym same) (kept command meaning a b c r h k)
-flushed command meaning a b c r s h k (inr failed) =
-    subst (AnswersMeaning command meaning a c) (sym failed) (unflushed-kept command meaning a c r (kept command meaning a b c r h k))
+pub flushed : (arguments : Arguments) (told a b c : Bytes) (r s : Result Ending Failure) → Answers arguments told a b r → Keeps b c → Flushes r s → Answers arguments told a c s
+flushed arguments told a b c r s (bytes, of, h) k (inl same) = subst (Answers arguments told a c) (sym same) (bytes, of, kept arguments.command _ a b c r h k)
+flushed arguments told a b c r s (bytes, of, h) k (inr failed) =
+    subst (Answers arguments told a c) (sym failed) (bytes, of, unflushed-kept arguments.command _ a c r (kept arguments.command _ a b c r h k))

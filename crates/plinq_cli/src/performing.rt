@@ -1,9 +1,8 @@
 ghost use Rattle.std.specs.Prelude.{◌≡◌, ◌≤◌, ◌⊎◌, map};
 ghost use Rattle.std.specs.String.{string_bytes};
 ghost use Rattle.std.specs.Io.KnownBytes.{Keeps};
-ghost use Rattle.plinq_document.specs.Document.{document_of};
 ghost use Rattle.clap.specs.Words.{kind_of};
-ghost use Rattle.plinq_cli.specs.Performed.{Answers, AnswersMeaning, Flushes, IsSilent, Performs, PerformsWords, Shows, status_of, failure_status, unflushed};
+ghost use Rattle.plinq_cli.specs.Performed.{Answers, Flushes, IsSilent, PerformsWords, Shows, status_of, failure_status, unflushed};
 
 use crate::failure::Failure;
 use crate::input::read_input;
@@ -45,34 +44,17 @@ where
         (I.remaining reader.old) (W.contents out.old) (W.contents out.new) result }
     ensures silent { IsSilent (E.contents err.old) (E.contents err.new) result }
 {
-    let alloc = rt.alloc();
-    match read_arguments(alloc, words.as_slice()) {
-        Ok(arguments) => perform_with(rt, arguments, reader, out, err),
+    match read_arguments(rt.alloc(), words.as_slice()) {
+        Ok(arguments) => {
+            let answered = answer(rt, arguments, reader, out);
+            let flushed = flush(answered, out);
+            report(&flushed, err)
+        }
         Err(refusal) => show(&refusal, out, err),
     }
 }
 
-// What the program does once its arguments are known.
-fn perform_with<R, I, W, E>(
-    rt: &R,
-    arguments: Arguments,
-    reader: &mut I,
-    out: &mut W,
-    err: &mut E,
-) -> u8
-where
-    R: AllocGlobal + Threads + Wait + Sync,
-    I: Read,
-    W: Write,
-    E: Write,
-    ensures written { Performs arguments (I.remaining reader.old) (W.contents out.old) (W.contents out.new) result }
-    ensures silent { IsSilent (E.contents err.old) (E.contents err.new) result }
-{
-    let answered = answer(rt, arguments, reader, out);
-    report(&answered, err)
-}
-
-// The answer of the document that is read, flushed.
+// The answer of the document that is read.
 fn answer<R, I, W>(
     rt: &R,
     arguments: Arguments,
@@ -86,24 +68,7 @@ where
     ensures { Answers arguments (I.remaining reader.old) (W.contents out.old) (W.contents out.new) result }
 {
     let bytes = read_input(rt.alloc(), reader)?;
-    let answered = answer_bytes(rt, arguments, bytes.as_slice(), out);
-    flush(answered, out)
-}
-
-// The answer of the document of these bytes.
-fn answer_bytes<R, W>(
-    rt: &R,
-    arguments: Arguments,
-    bytes: &[u8],
-    out: &mut W,
-) -> Result<Ending, Failure>
-where
-    R: AllocGlobal + Threads + Wait + Sync,
-    W: Write,
-    ensures { AnswersMeaning arguments.command (document_of arguments.settings bytes.now)
-        (W.contents out.old) (W.contents out.new) result }
-{
-    let job = read_document(rt.alloc(), bytes, arguments.settings)?;
+    let job = read_document(rt.alloc(), bytes.as_slice(), arguments.settings)?;
     Ok(serve(rt, arguments.command, job, out)?)
 }
 

@@ -57,26 +57,17 @@ where
 {
     let alloc = rt.alloc();
     match command {
-        Command::Run => serve_run(rt, job, writer),
-        Command::Seq => serve_sequential(alloc, job, writer),
+        Command::Run => match job.aggregate {
+            None => serve_batches(rt, job, writer),
+            Some(kind) => serve_value(rt, job, kind, writer),
+        },
+        Command::Seq => match job.aggregate {
+            None => serve_items(alloc, job, writer),
+            Some(kind) => serve_fold(alloc, job, kind, writer),
+        },
         Command::Plan => serve_plan(&job, writer),
         Command::Parts => serve_parts(alloc, job, writer),
         Command::History => serve_history(alloc, job, writer),
-    }
-}
-
-// A query is run by threads.
-fn serve_run<R, W>(rt: &R, job: Job, writer: &mut W) -> Result<Ending, ServeFault>
-where
-    R: AllocGlobal + Threads + Wait + Sync,
-    W: Write,
-    ensures written { Serves Command.Run job (W.contents writer.old) (W.contents writer.new) result }
-    ensures whole { LeavesWholeLines job (W.contents writer.old) (W.contents writer.new) result }
-    ensures faults { IfErr result (MayFail Command.Run) }
-{
-    match job.aggregate {
-        None => serve_batches(rt, job, writer),
-        Some(kind) => serve_value(rt, job, kind, writer),
     }
 }
 
@@ -221,16 +212,6 @@ where
         &mut token,
         sink,
     )
-}
-
-fn serve_sequential<W: Write>(alloc: Global, job: Job, writer: &mut W) -> Result<Ending, ServeFault>
-    ensures written { Serves Command.Seq job (W.contents writer.old) (W.contents writer.new) result }
-    ensures faults { IfErr result (MayFail Command.Seq) }
-{
-    match job.aggregate {
-        None => serve_items(alloc, job, writer),
-        Some(kind) => serve_fold(alloc, job, kind, writer),
-    }
 }
 
 // Nothing is written before the answer is there.

@@ -1,7 +1,7 @@
 use Rattle.std.proofs.Common.{Err, ap, sym, ◌∙◌, subst}
 use Rattle.std.proofs.lemmas.Result.{err_from_is_err_and}
 use Rattle.plinq_cli.specs.Performed.{Answers}
-use Rattle.plinq_cli.proofs.Answered.{flushed, unread}
+use Rattle.plinq_cli.proofs.Answered.{failed, refused, served, unread}
 use Rattle.plinq_cli.proofs.performing.answer.Goals as goal
 
 pub returns-in_err-bytes : goal.returns-in_err-bytes
@@ -12,9 +12,32 @@ returns-in_err-bytes g c =
     subst (Answers c.args.arguments told out out) (sym (p.1 ∙ ap Err p.2))
     (unread c.args.arguments told out c.in_err-bytes.field-0.0 (λ e. c.in_err-bytes.ensures.many (ap Err e)))
 
+pub returns-in_err-job : goal.returns-in_err-job
+returns-in_err-job g c =
+    let p = err_from_is_err_and c.from_residual-in_err-job.result c.from_residual-in_err-job.ensures.1 in
+    let told = g.I.Read.remaining c.args.reader.now in
+    let out = g.W.Write.contents c.args.out.now in
+    subst (Answers c.args.arguments told out out) (sym (p.1 ∙ ap Err p.2)) (
+      c.as_slice.result.now,
+      rw c.as_slice.ensures.value c.in_ok-bytes.ensures.bytes,
+      refused c.args.arguments.command _ out c.in_err-job.field-0.0 c.in_err-job.ensures,
+    )
+
+pub returns-in_err-serve : goal.returns-in_err-serve
+returns-in_err-serve g c =
+    let p = err_from_is_err_and c.from_residual-in_err-serve.result c.from_residual-in_err-serve.ensures.1 in
+    let told = g.I.Read.remaining c.args.reader.now in
+    let out = g.W.Write.contents c.args.out.now in
+    let after = g.W.Write.contents c.serve.new.writer in
+    subst (Answers c.args.arguments told out after) (sym (p.1 ∙ ap Err p.2)) (
+      c.as_slice.result.now,
+      rw c.as_slice.ensures.value c.in_ok-bytes.ensures.bytes,
+      failed c.args.arguments.command out after c.in_err-serve.field-0.0 c.in_ok-job.ensures c.in_err-serve.ensures.written,
+    )
+
 pub returns : goal.returns
 returns g c = (
   c.as_slice.result.now,
   rw c.as_slice.ensures.value c.in_ok-bytes.ensures.bytes,
-  flushed c.args.arguments.command _ _ _ _ _ _ c.answer_bytes-answered.ensures c.flush.ensures.bytes c.flush.ensures.answer,
+  served c.args.arguments.command (g.W.Write.contents c.args.out.now) (g.W.Write.contents c.serve.new.writer) c.in_ok-job.ensures c.in_ok-serve.ensures.written,
 )
