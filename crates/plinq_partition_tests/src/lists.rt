@@ -53,6 +53,16 @@ fn partitioners_promise_that_keys_rise(rt: HostRuntime) -> Result<(), Fail> {
     Ok(())
 }
 
+// There is no room for so many lists: that is told at once, and not after trying.
+#[test]
+fn too_many_partitions_are_memory(rt: HostRuntime) -> Result<(), Fail> {
+    let numbers = numbers(rt.alloc(), 2)?;
+    assert!(rt; matches!(numbers.partitions(u64::MAX), Err(PartFault::Memory)));
+    let pairs = PairParts::new(rt.alloc(), pairs_of(rt.alloc(), &[4])?)?;
+    assert!(rt; matches!(pairs.partitions(u64::MAX), Err(PartFault::Memory)));
+    Ok(())
+}
+
 #[test]
 fn faults_in_words(rt: HostRuntime) {
     expect_words(&rt, rt.alloc(), &PartFault::NoPartitions, "no partitions");
