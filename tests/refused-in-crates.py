@@ -45,6 +45,8 @@ CALLS = {
     "aggregate with GroupBy by two workers": ("groups", "refused_room::groups_by_two_workers_may_be_refused_room"),
     "run_mapped by one worker": ("groups", "refused_room::a_mapped_run_by_one_worker_may_be_refused_room"),
     "run_mapped by two workers": ("groups", "refused_room::a_mapped_run_by_two_workers_may_be_refused_room"),
+    "to_vec_mapped by one worker": ("groups", "refused_room::a_mapped_list_by_one_worker_may_be_refused_room"),
+    "to_vec_mapped by two workers": ("groups", "refused_room::a_mapped_list_by_two_workers_may_be_refused_room"),
 }
 
 

@@ -5,7 +5,7 @@ use crate::mapped::{BitsOf, Taken};
 use plinq_enumerator::Growth;
 use plinq_groups::{Collect, GroupBy, MapEach};
 use plinq_lambda::Formula;
-use plinq_mapped::run_mapped;
+use plinq_mapped::{run_mapped, to_vec_mapped};
 use plinq_ops::{BuildFault, Query};
 use plinq_run::{AggregateFault, OpenGate, RunFault, aggregate};
 use plinq_source::{Ending, RangeSource};
@@ -146,4 +146,53 @@ fn a_mapped_run_by_one_worker_may_be_refused_room(rt: HostRuntime) {
 #[test]
 fn a_mapped_run_by_two_workers_may_be_refused_room(rt: HostRuntime) {
     map_twice(&rt, rt.alloc(), 2);
+}
+
+/// Keeps what is made of each of them in a list. Answers whether that was refused, for lack of memory or of a thread.
+fn is_list_refused<R: Threads + Wait + Sync + Abort>(
+    rt: &R,
+    alloc: Global,
+    query: &Query<Formula>,
+    most: usize,
+) -> bool {
+    let Ok(source) = RangeSource::new(1, 17) else {
+        panic!(rt; "no such range");
+    };
+    let bits = MapEach {
+        make: BitsOf { but: 0 },
+    };
+    match to_vec_mapped(rt, alloc, query, source, &bits) {
+        Ok((made, ending)) => {
+            assert!(rt; ending == Ending::End);
+            assert_eq!(rt; made.len(), most);
+            assert_eq!(rt; made.first(), Some(&1));
+            false
+        }
+        Err(fault) => {
+            assert!(rt; fault == RunFault::Memory || fault == RunFault::Thread);
+            true
+        }
+    }
+}
+
+/// Asks twice: of the two at most one is refused.
+fn list_twice<R: Threads + Wait + Sync + Abort>(rt: &R, alloc: Global, workers: u64) {
+    for (is_cut, most) in [(false, 17), (true, 9)] {
+        let Ok(query) = query_with_two_parts(alloc, workers, is_cut) else {
+            return;
+        };
+        let first = is_list_refused(rt, alloc, &query, most);
+        let second = is_list_refused(rt, alloc, &query, most);
+        assert!(rt; !first || !second);
+    }
+}
+
+#[test]
+fn a_mapped_list_by_one_worker_may_be_refused_room(rt: HostRuntime) {
+    list_twice(&rt, rt.alloc(), 1);
+}
+
+#[test]
+fn a_mapped_list_by_two_workers_may_be_refused_room(rt: HostRuntime) {
+    list_twice(&rt, rt.alloc(), 2);
 }
