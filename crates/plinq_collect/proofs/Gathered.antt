@@ -53,7 +53,7 @@ pub tells-one : {T A O : Type 0} (f : Folding T A O) (tell : List T → O) (u : 
     → ((xs : List T) → aggregated f xs ≡ tell xs) → Aggregates f u r → TellsSome tell (λ v. v ≡ u) r
 tells-one f tell u r is so = tells f tell (λ v. v ≡ u) r is (u, refl, so)
 
-not-item : {T : Type 0} (xs : List T) → not (has_item xs) ≡ has_none xs
+pub not-item : {T : Type 0} (xs : List T) → not (has_item xs) ≡ has_none xs
 not-item [] = refl
 not-item (x ∷ xs) = refl
 

@@ -1,11 +1,13 @@
 -- What a closure is called with: the items of an answer, one after another.
-use Rattle.std.specs.Prelude.{◌≡◌, ⊤, ℕ, List, Option, Some, Result, Ok, Err}
+use Rattle.std.specs.Prelude.{◌≡◌, ◌≤◌, refl, ⊤, ℕ, nat_le, if◌then◌else◌, List, [], ◌∷◌, ◌++◌, length, get_or, Option, Some, Result, Ok, Err}
+use Rattle.std.proofs.Common.{arith, ap, sym, subst, ◌∙◌, length-append}
 use mathlib.Core.Equiv.{IsContr, IsContr-prop}
 use Rattle.plinq_source.specs.declared.ending.Ending.{Ending}
 use Rattle.plinq_source.specs.declared.ending.Ending.TheVariants.{End}
-use Rattle.plinq_source.specs.Trace.{Trace}
+use Rattle.plinq_source.specs.Trace.{Trace, ended}
 use Rattle.plinq_merge.specs.Sending.{Leads, TakesBeginning, RefusesNext}
 use Rattle.plinq_ops.specs.declared.merge_option.MergeOption.{MergeOption}
+use Rattle.plinq_ops.specs.declared.merge_option.MergeOption.TheVariants.{NotBuffered}
 use Rattle.plinq_ops.specs.Batches.{batches}
 use Rattle.plinq_run.specs.declared.run_fault.RunFault.{RunFault}
 use Rattle.plinq_run.specs.declared.run_fault.RunFault.TheVariants.{Memory, Sink, Tickets, Thread, Incomplete, Cancelled}
@@ -41,17 +43,15 @@ module _ {F T : Type 0} (Step : F → T → Result ⊤ ℕ → F → Type 0) whe
   Calls xs ending f (Err fault) g = CallsFirst (cause_of fault) xs f g
 
   -- it was called with the items of the batches of some answer, which are all of its items where it ends well
-  pub record CallsSome (option : MergeOption) (IsAnswer : Trace T → Type 0) (f : F) (told : Result Ending RunFault) : Type 0 where
+  pub record CallsSome (option : MergeOption) (IsAnswer : Trace T → Type 0) (f : F) (told : Result Ending RunFault) (g : F) : Type 0 where
     pub answer : Trace T
     pub may : IsAnswer answer
-    pub last : F
-    pub calls : Calls (items_of (batches option answer)) answer.ending f told last
+    pub calls : Calls (items_of (batches option answer)) answer.ending f told g
     pub all : answer.ending ≡ Some End → items_of (batches option answer) ≡ answer.items
 
   -- it was called with the items of this answer
-  pub record CallsAll (answer : Trace T) (f : F) (told : Result Ending RunFault) : Type 0 where
-    pub last : F
-    pub calls : Calls answer.items answer.ending f told last
+  pub record CallsAll (u : Trace T) (f : F) (told : Result Ending RunFault) (g : F) : Type 0 where
+    pub calls : Calls u.items u.ending f told g
 
 -- where it was not called with all items, memory ran out, or it answered a code
 abbrev pub NoRoomOrRefused : Result Ending RunFault → Type 0
@@ -62,3 +62,65 @@ NoRoomOrRefused (Err Tickets) = ⊥
 NoRoomOrRefused (Err Thread) = ⊥
 NoRoomOrRefused (Err Incomplete) = ⊥
 NoRoomOrRefused (Err Cancelled) = ⊥
+
+-- it answered a code
+abbrev pub IsCode : RunFault → Type 0
+IsCode (Sink code) = ⊤
+IsCode Memory = ⊥
+IsCode Tickets = ⊥
+IsCode Thread = ⊥
+IsCode Incomplete = ⊥
+IsCode Cancelled = ⊥
+
+-- ---- worked rows: a closure that keeps what it is called with, and answers 7 to what is above 4
+
+abbrev answer_to : ℕ → Result ⊤ ℕ
+answer_to x = if nat_le x 4 then Ok tt else Err 7
+
+abbrev keeps : List ℕ → ℕ → Result ⊤ ℕ → List ℕ → Type 0
+keeps f x r g = (g ≡ f ++ x ∷ []) × (r ≡ answer_to x)
+
+abbrev four_two : Trace ℕ
+four_two = ended (4 ∷ 2 ∷ []) End
+
+abbrev four_five_two : Trace ℕ
+four_five_two = ended (4 ∷ 5 ∷ 2 ∷ []) End
+
+with_all : CallsAll keeps four_two [] (Ok End) (4 ∷ 2 ∷ [])
+with_all = record { calls = ((4 ∷ [], (refl, refl), (4 ∷ 2 ∷ [], (refl, refl), refl)), refl) }
+
+up_to_the_code : CallsAll keeps four_five_two [] (Err (Sink 7)) (4 ∷ 5 ∷ [])
+up_to_the_code = record { calls = ((4 ∷ []), 5, (2 ∷ []), (4 ∷ []), refl, (4 ∷ [], (refl, refl), refl), (refl, refl)) }
+
+no_memory_after_the_first : CallsAll keeps four_five_two [] (Err Memory) (4 ∷ [])
+no_memory_after_the_first = record { calls = ((4 ∷ []), (5 ∷ 2 ∷ []), refl, (4 ∷ [], (refl, refl), refl)) }
+
+some_of_batches : CallsSome keeps NotBuffered (λ u. u ≡ four_five_two) [] (Err (Sink 7)) (4 ∷ 5 ∷ [])
+some_of_batches = record { answer = four_five_two; may = refl; calls = up_to_the_code.calls; all = λ well. refl }
+
+-- no call before the code answers it, so there is at most one
+before_the_code : (sent rest : List ℕ) → 4 ∷ 5 ∷ 2 ∷ [] ≡ sent ++ rest → (g : List ℕ) → Leads (Takes keeps) [] sent g → length g ≤ 1
+before_the_code [] rest parts g is = omega (arith, ap length is)
+before_the_code (a ∷ []) rest parts g (m, (is, ok), same) = omega (arith, ap length same, ap length is)
+before_the_code (a ∷ b ∷ cs) rest parts g (m, one, (n, (is, ok), leads)) =
+    let five : 5 ≡ b = ap (λ xs. get_or xs 1 0) parts in
+    let bad : ◌≡◌ {A = Result ⊤ ℕ} (Ok tt) (Err 7) = subst (λ x. Ok tt ≡ answer_to x) (sym five) ok in
+    absurd cc
+
+-- a code is no want of memory
+code_as_memory : CallsAll keeps four_five_two [] (Err Memory) (4 ∷ 5 ∷ []) → ⊥
+code_as_memory it = let c = it.calls in omega (arith, before_the_code c.0 c.1 c.2 (4 ∷ 5 ∷ []) c.3)
+
+-- nor is there a call more after it
+called_after_the_code : CallsAll keeps four_five_two [] (Err (Sink 7)) (4 ∷ 5 ∷ 2 ∷ []) → ⊥
+called_after_the_code it =
+    let c = it.calls in omega (arith, before_the_code c.0 (c.1 ∷ c.2) c.4 c.3 c.5, ap length c.6.0 ∙ length-append c.3 (c.1 ∷ []))
+
+-- and where all is well, no item was left out
+first_left_out : CallsAll keeps four_two [] (Ok End) (2 ∷ []) → ⊥
+first_left_out it =
+    let c = it.calls.0 in omega (arith, ap length c.1.0, ap length c.2.1.0 ∙ length-append c.0 (2 ∷ []), ap length c.2.2)
+
+-- a missing thread is no reason on one thread
+no_thread_of_one : NoRoomOrRefused (Err Thread) → ⊥
+no_thread_of_one it = absurd it

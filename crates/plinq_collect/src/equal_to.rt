@@ -2,11 +2,11 @@ ghost use Rattle.plinq_collect.specs.Equal.{IsTestOf};
 
 use plinq_lambda::{Formula, Lambda};
 
-/// A lambda that can test whether an item is a given one.
-pub trait EqualTo: Lambda {
-    /// The lambda whose test this item passes, and no other.
+/// A lambda that can test whether an item equals a given one.
+pub trait EqualTo: Lambda<Item: PartialEq> {
+    /// The lambda whose test the items pass that equal this one, and no others.
     fn equal_to(item: Self::Item) -> Self
-        ensures { IsTestOf (Self.meaning result) item };
+        ensures { IsTestOf Self.Item.eq (Self.meaning result) item };
 }
 
 impl EqualTo for Formula {

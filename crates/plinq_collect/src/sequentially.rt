@@ -1,5 +1,5 @@
 //! The same calls on one thread, with the same arguments: each answers what the sequential query does.
-ghost use Rattle.std.specs.Prelude.{◌≡◌, pos, [], ◌∷◌, ◌++◌, MatchResult};
+ghost use Rattle.std.specs.Prelude.{◌≡◌, pos, [], ◌∷◌, ◌++◌, Err, MatchResult};
 ghost use Rattle.plinq_source.specs.Trace.{ended};
 ghost use Rattle.plinq_ops.specs.declared.op.Op.{Op};
 ghost use Rattle.plinq_ops.specs.Sequential.{answer_of};
@@ -54,7 +54,7 @@ where
     }
 }
 
-/// As [`for_each`](crate::for_each).
+/// As [`for_each`](crate::for_each). The closure is called once all items are there; where there is no room it isn't called.
 ///
 /// # Errors
 ///
@@ -64,24 +64,22 @@ pub fn for_each<L, S, F, R>(
     alloc: Global,
     query: &Query<L>,
     source: S,
-    by: F,
+    by: &mut F,
 ) -> Result<Ending, RunFault>
 where
     L: SharedLambda,
     S: Source<Item = L::Item>,
-    F: FnMut(L::Item) -> Result<(), u32> + Drop,
+    F: FnMut(L::Item) -> Result<(), u32>,
     R: Threads + Wait + Sync,
     requires fresh { S.given source ≡ 0 }
     requires is_called { (f : F) (x : L.Item) → F.pre f x }
     requires in_one_way { (f : F) (x : L.Item) (a b : F.pre f x) → a ≡ b }
-    ensures calls { CallsAll (λ f x r g. F.step f x r g) (answer_of L.meaning query.now.ops (S.whole source)) by result }
+    ensures calls { CallsAll (λ f x r g. F.step f x r g) (answer_of L.meaning query.now.ops (S.whole source)) by.old result by.new }
+    ensures uncalled { result ≡ Err Memory → by.new ≡ by.old }
     ensures memory { NoRoomOrRefused result }
 {
     match to_vec(rt, alloc, query, source) {
-        Ok((items, ending)) => {
-            let item = PhantomData;
-            visit_all(Visitor { by, item }, items.as_slice(), ending)
-        }
+        Ok((items, ending)) => { visit_all::<Visitor<L::Item, F>>(by, items.as_slice(), ending) }
         Err(fault) => Err(fault),
     }
 }
@@ -209,7 +207,7 @@ where
     S: Source<Item = L::Item>,
     R: Threads + Wait + Sync,
     requires { S.given source ≡ 0 }
-    ensures value { (test : L) × (IsTestOf (L.meaning test) item) × TellsSome has_item (λ u. u ≡ answer_of L.meaning ((query.ops ++ Op.Filter test ∷ []) ++ Op.Take (pos 1) ∷ []) (S.whole source)) result }
+    ensures value { (test : L) × (IsTestOf L.Item.eq (L.meaning test) item) × TellsSome has_item (λ u. u ≡ answer_of L.meaning ((query.ops ++ Op.Filter test ∷ []) ++ Op.Take (pos 1) ∷ []) (S.whole source)) result }
     ensures memory { LacksRoom result }
 {
     any(rt, alloc, query, source, L::equal_to(item))

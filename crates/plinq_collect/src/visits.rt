@@ -2,8 +2,11 @@ ghost use Rattle.std.specs.Prelude.{⊤, ℕ, Result};
 
 use std::marker::PhantomData;
 
-/// What is called with items.
+/// How something is called with items.
 pub(crate) trait Visits {
+    /// What is called.
+    type Called;
+
     /// What it is called with.
     type Item: Copy;
 
@@ -11,33 +14,34 @@ pub(crate) trait Visits {
     ghost is_called: { Type 0 };
 
     // What it is before a call, the item, what it answers, what it is after it.
-    ghost steps: { Self → Self.Item → Result ⊤ ℕ → Self → Type 0 };
+    ghost steps: { Self.Called → Self.Item → Result ⊤ ℕ → Self.Called → Type 0 };
 
     /// Calls it with an item.
     ///
     /// # Errors
     ///
     /// The code that it answers.
-    fn visit(&mut self, item: Self::Item) -> Result<(), u32>
+    fn visit(called: &mut Self::Called, item: Self::Item) -> Result<(), u32>
         requires { is_called }
-        ensures { steps self.old item result self.new };
+        ensures { steps called.old item result called.new };
 }
 
-/// A closure that is called with items.
-#[derive(Drop)]
+/// How a closure is called with items.
 pub(crate) struct Visitor<T, F> {
-    pub(crate) by: F,
-    pub(crate) item: PhantomData<T>,
+    item: PhantomData<T>,
+    by: PhantomData<F>,
 }
 
 impl<T: Copy, F: FnMut(T) -> Result<(), u32>> Visits for Visitor<T, F> {
+    type Called = F;
+
     type Item = T;
 
     ghost is_called = { (by : F) (x : T) → F.pre by x };
 
-    ghost steps = { λ v x r w. F.step v.by x r w.by };
+    ghost steps = { λ f x r g. F.step f x r g };
 
-    fn visit(&mut self, item: T) -> Result<(), u32> {
-        (self.by)(item)
+    fn visit(called: &mut F, item: T) -> Result<(), u32> {
+        called(item)
     }
 }

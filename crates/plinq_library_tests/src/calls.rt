@@ -1,10 +1,8 @@
 //! What each call answers of three numbers.
-use plinq_collect::{all, any, build, contains, count, first, for_each, sequentially, to_vec};
+use plinq_collect::{Same, all, any, build, contains, count, first, sequentially, to_vec};
 use plinq_lambda::Formula;
 use plinq_ops::{BuildFault, Query};
-use plinq_run::RunFault;
-use plinq_slice::SliceSource;
-use plinq_source::Ending;
+use plinq_slice::{SliceSource, lines_source};
 use std::alloc::Global;
 use std::test::Fail;
 
@@ -72,19 +70,18 @@ fn whether_one_is_four_or_five(rt: HostRuntime) -> Result<(), Fail> {
 }
 
 #[test]
-fn a_closure_is_called_with_each_even_one_up_to_its_code(rt: HostRuntime) -> Result<(), Fail> {
-    let query = even(rt.alloc())?;
-    let mut seen = Vec::new(rt.alloc());
-    let source = SliceSource::new(&NUMBERS)?;
-    let told = for_each(&rt, rt.alloc(), &query, source, |item| {
-        seen.push(item).map_err(|_| 1)
-    });
-    assert_eq!(&rt; told, Ok(Ending::End));
-    assert!(&rt; seen.as_slice() == [4, 6].as_slice());
-    let source = SliceSource::new(&NUMBERS)?;
-    let told = sequentially::for_each(&rt, rt.alloc(), &query, source, |item| {
-        if item > 4 { Err(7) } else { Ok(()) }
-    });
-    assert_eq!(&rt; told, Err(RunFault::Sink(7)));
+fn whether_a_text_has_a_line(rt: HostRuntime) -> Result<(), Fail> {
+    let text = "a b\nb\n";
+    for (line, is_there) in [("b", true), ("a", false)] {
+        let query = build::<Same<&str>, _>(rt.alloc(), |query| query.with_degree(2))?;
+        let source = lines_source(rt.alloc(), text)?;
+        assert_eq!(&rt; contains(&rt, rt.alloc(), query, source, line)?, is_there);
+        let query = build::<Same<&str>, _>(rt.alloc(), |query| query.as_ordered())?;
+        let source = lines_source(rt.alloc(), text)?;
+        assert_eq!(&rt;
+            sequentially::contains(&rt, rt.alloc(), query, source, line)?,
+            is_there
+        );
+    }
     Ok(())
 }

@@ -7,6 +7,8 @@
 #[cfg(test)]
 mod against_a_loop;
 #[cfg(test)]
+mod calling;
+#[cfg(test)]
 mod calls;
 #[cfg(test)]
 mod chains;

@@ -1,10 +1,11 @@
 -- The closure is called with the list that one thread has made.
-use Rattle.std.specs.Prelude.{◌≡◌}
-use Rattle.std.proofs.Common.{ap, ◌∙◌}
+use Rattle.std.specs.Prelude.{◌≡◌, IfErr}
+use Rattle.std.proofs.Common.{ap, ◌∙◌, refl, subst}
 use Rattle.std.specs.Coded.{Π_prop}
 use Rattle.plinq_source.specs.Trace.{ended}
 use Rattle.plinq_ops.specs.Sequential.{answer_of}
-use Rattle.plinq_collect.proofs.Called.{calls-answer, calls-none}
+use Rattle.plinq_collect.specs.Calling.{IsCode}
+use Rattle.plinq_collect.proofs.Called.{calls-answer, calls-none, refused-only}
 use Rattle.plinq_collect.proofs.sequentially.for_each.Goals as goal
 
 pub visit_all-requires-clause-in_one_way : goal.visit_all-requires-clause-in_one_way
@@ -14,10 +15,15 @@ pub returns-in-Ok-clause-calls : goal.returns-in-Ok-clause-calls
 returns-in-Ok-clause-calls g c =
     let u = answer_of g.L.Lambda.meaning c.args.query.now.ops (g.S.Source.whole c.args.source) in
     let xs = c.as_slice.result.now in
-    let told = c.visit_all.ensures.calls in
     let is : ended xs c.in-Ok.ending ≡ u = ap (λ ys. ended ys c.in-Ok.ending) c.as_slice.ensures.value ∙ c.in-Ok.ensures in
-    calls-answer _ (λ v. v.by) u xs c.in-Ok.ending is _ c.visit_all.result told.0 told.1
+    calls-answer _ u xs c.in-Ok.ending is _ c.visit_all.result _ c.visit_all.ensures.calls
+
+pub returns-in-Ok-clause-uncalled : goal.returns-in-Ok-clause-uncalled
+returns-in-Ok-clause-uncalled g c is = absurd (subst (λ r. IfErr r IsCode) is c.visit_all.ensures.code)
+
+pub returns-in-Ok-clause-memory : goal.returns-in-Ok-clause-memory
+returns-in-Ok-clause-memory g c = refused-only c.visit_all.result c.visit_all.ensures.code
 
 pub returns-in-Err-clause-calls : goal.returns-in-Err-clause-calls
 returns-in-Err-clause-calls g c =
-    calls-none _ (answer_of g.L.Lambda.meaning c.args.query.now.ops (g.S.Source.whole c.args.source)) c.args.by c.in-Err.fault c.in-Err.ensures
+    calls-none _ (answer_of g.L.Lambda.meaning c.args.query.now.ops (g.S.Source.whole c.args.source)) _ _ c.in-Err.fault c.in-Err.ensures refl
