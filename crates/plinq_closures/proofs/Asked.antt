@@ -1,25 +1,29 @@
 -- What is told of a chain is what is told of its query.
-use Rattle.std.specs.Prelude.{◌≡◌, List, [], ◌∷◌, ◌++◌, None, Bool, true, false, Option, is_some, Result, Ok, Err, map, MatchResult, pos}
+use Rattle.std.specs.Prelude.{◌≡◌, ⊤, ℕ, ℤ, List, [], ◌∷◌, ◌++◌, None, Bool, true, false, not, Option, is_some, Result, Ok, Err, map, MatchResult, pos}
 use Rattle.std.proofs.Common.{refl, ap, ◌∙◌, sym, subst}
 use Rattle.std.proofs.lemmas.List.{map-append}
 use Rattle.plinq_source.specs.declared.ending.Ending.{Ending}
-use Rattle.plinq_source.specs.Trace.{Trace}
+use Rattle.plinq_source.specs.Trace.{Trace, ended}
 use Rattle.plinq_lambda.specs.Meaning.{Meaning}
 use Rattle.plinq_ops.specs.declared.merge_option.MergeOption.{MergeOption}
 use Rattle.plinq_ops.specs.declared.merge_option.MergeOption.TheVariants.{AutoBuffered}
 use Rattle.plinq_ops.specs.declared.op.Op.{Op}
-use Rattle.plinq_ops.specs.declared.op.Op.TheVariants.{Take}
+use Rattle.plinq_ops.specs.declared.op.Op.TheVariants.{Take, Skip}
 use Rattle.plinq_ops.specs.Answer.{MayAnswer}
 use Rattle.plinq_ops.specs.Query.{merge_in_force}
 use Rattle.plinq_ops.specs.Sequential.{answer_of}
 use Rattle.plinq_run.specs.declared.aggregate_fault.AggregateFault.{AggregateFault}
 use Rattle.plinq_run.specs.declared.aggregate_fault.AggregateFault.TheVariants.{Ended, Run}
 use Rattle.plinq_run.specs.declared.run_fault.RunFault.{RunFault}
-use Rattle.plinq_collect.specs.Folds.{first_of, has_item}
+use Rattle.plinq_run.specs.declared.run_fault.RunFault.TheVariants.{Memory}
+use Rattle.plinq_run.specs.Runs.{cause_of}
+use Rattle.plinq_collect.proofs.Gathered.{not-item}
+use Rattle.plinq_collect.specs.Calling.{CallsSome, CallsAll}
+use Rattle.plinq_collect.specs.Folds.{first_of, has_item, has_none}
 use Rattle.plinq_collect.specs.Telling.{GathersSome, IsShort, TellsSome}
 use Rattle.plinq_closures.specs.declared.chain_fault.ChainFault.{ChainFault}
 use Rattle.plinq_closures.specs.declared.chain_fault.ChainFault.TheVariants.{Build, Ended as IsEnded, Run as IsRun}
-use Rattle.plinq_closures.specs.Asked.{HasNone, Tells, told_of, is_there, run_told}
+use Rattle.plinq_closures.specs.Asked.{HasCalled, HasCalledAll, HasNone, Tells, told_of, is_there, negated, run_told}
 use Rattle.plinq_closures.specs.Steps.{over}
 use Rattle.plinq_closures.proofs.Over.{answer_of-over}
 
@@ -71,3 +75,54 @@ tells-there u (Ok first) (value, well) = (ap is_some value ∙ there-first u.ite
 tells-there u (Err (IsEnded e)) so = so
 tells-there u (Err (Build fault)) so = so
 tells-there u (Err (IsRun fault)) so = so
+
+pub tells-none : {T : Type 0} (u : Trace T) (r : Result Bool ChainFault) → Tells has_item u r → Tells has_none u (negated r)
+tells-none u (Ok is) (value, well) = (ap not value ∙ not-item u.items, well)
+tells-none u (Err (IsEnded e)) so = so
+tells-none u (Err (Build fault)) so = so
+tells-none u (Err (IsRun fault)) so = so
+
+-- the item at a place, by a skip and a take of one
+pub tells-placed : {L T : Type 0} (f : L → Meaning T) (ordered : Bool) → ordered ≡ true → (ops : List (Op L)) (does : List (Op (Meaning T))) → map (over f) ops ≡ does
+    → (place : ℤ) (t : Trace T) (r : Result (Option T) AggregateFault) → TellsSome first_of (MayAnswer f ordered ((ops ++ Skip place ∷ []) ++ Take (pos 1) ∷ []) t) r
+    → Tells first_of (answer_of (λ m. m) ((does ++ Skip place ∷ []) ++ Take (pos 1) ∷ []) t) (told_of r)
+tells-placed f ordered is ops does same place t r told =
+    tells-first f ordered is (ops ++ Skip place ∷ []) (does ++ Skip place ∷ [])
+    (map-append (over f) ops (Skip place ∷ []) ∙ ap (λ xs. xs ++ Skip place ∷ []) same) t r told
+
+has-called : {F T : Type 0} (Step : F → T → Result ⊤ ℕ → F → Type 0) (u : Trace T) (by : F) (r : Result Ending RunFault) (g : F)
+    → CallsSome Step AutoBuffered (λ v. v ≡ u) by r g → HasCalled Step u by (run_told r) g
+has-called Step u by (Ok e) g h = record { calls = h }
+has-called Step u by (Err fault) g h = record { calls = h }
+
+-- what a closure was called with
+pub called-answer : {L F T : Type 0} (Step : F → T → Result ⊤ ℕ → F → Type 0) (f : L → Meaning T) (ordered : Bool) → ordered ≡ true → (merge : Option MergeOption) → merge ≡ None
+    → (ops : List (Op L)) (does : List (Op (Meaning T))) → map (over f) ops ≡ does → (t : Trace T) (by : F) (r : Result Ending RunFault) (told : Result Ending ChainFault) (g : F)
+    → told ≡ run_told r → CallsSome Step (merge_in_force merge) (MayAnswer f ordered ops t) by r g → HasCalled Step (answer_of (λ m. m) does t) by told g
+called-answer Step f ordered is merge none ops does same t by r told g as_told h =
+    let calls = subst (λ o. CallsSome Step o (λ u. u ≡ answer_of (λ m. m) does t) by r g) (ap merge_in_force none) (record {
+      answer = h.answer;
+      may = only-answer f ordered is ops does same t h.answer h.may;
+      calls = h.calls;
+      all = h.all;
+    }) in
+    subst (λ it. HasCalled Step (answer_of (λ m. m) does t) by it g) (sym as_told) (has-called Step (answer_of (λ m. m) does t) by r g calls)
+
+-- on one thread
+pub vec-sequentially : {L T V : Type 0} (f : L → Meaning T) (ops : List (Op L)) (does : List (Op (Meaning T))) → map (over f) ops ≡ does → (t : Trace T) (items : V → List T) (r : Result (V × Ending) RunFault)
+    → MatchResult r (λ it. ended (items it.0) it.1 ≡ answer_of f ops t) (λ fault. fault ≡ Memory)
+    → MatchResult (run_told r) (λ it. ended (items it.0) it.1 ≡ answer_of (λ m. m) does t) HasNone
+vec-sequentially f ops does same t items (Ok it) h = h ∙ only-answer f true refl ops does same t (answer_of f ops t) refl
+vec-sequentially f ops does same t items (Err fault) short = ap cause_of short
+
+has-called_all : {F T : Type 0} (Step : F → T → Result ⊤ ℕ → F → Type 0) (u : Trace T) (by : F) (r : Result Ending RunFault) (g : F)
+    → CallsAll Step u by r g → HasCalledAll Step u by (run_told r) g
+has-called_all Step u by (Ok e) g h = record { calls = h }
+has-called_all Step u by (Err fault) g h = record { calls = h }
+
+pub called-sequentially : {L F T : Type 0} (Step : F → T → Result ⊤ ℕ → F → Type 0) (f : L → Meaning T) (ops : List (Op L)) (does : List (Op (Meaning T))) → map (over f) ops ≡ does
+    → (t : Trace T) (by : F) (r : Result Ending RunFault) (told : Result Ending ChainFault) (g : F) → told ≡ run_told r → CallsAll Step (answer_of f ops t) by r g
+    → HasCalledAll Step (answer_of (λ m. m) does t) by told g
+called-sequentially Step f ops does same t by r told g as_told h =
+    subst (λ it. HasCalledAll Step (answer_of (λ m. m) does t) by it g) (sym as_told) (has-called_all Step (answer_of (λ m. m) does t) by r g
+    (subst (λ u. CallsAll Step u by r g) (only-answer f true refl ops does same t (answer_of f ops t) refl) h))

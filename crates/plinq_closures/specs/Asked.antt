@@ -1,10 +1,13 @@
 -- What is told of a chain's answer.
-use Rattle.std.specs.Prelude.{◌≡◌, ◌≢◌, List, Some, ⊤, Bool, Option, is_some, Result, Ok, Err}
+use Rattle.std.specs.Prelude.{◌≡◌, ◌≢◌, ℕ, List, Some, ⊤, Bool, not, Option, is_some, Result, Ok, Err}
+use Rattle.plinq_source.specs.declared.ending.Ending.{Ending}
 use Rattle.plinq_source.specs.declared.ending.Ending.TheVariants.{End}
 use Rattle.plinq_source.specs.Trace.{Trace}
+use Rattle.plinq_ops.specs.declared.merge_option.MergeOption.TheVariants.{AutoBuffered}
 use Rattle.plinq_run.specs.declared.aggregate_fault.AggregateFault.{AggregateFault}
 use Rattle.plinq_run.specs.declared.aggregate_fault.AggregateFault.TheVariants.{Ended as WasEnded, Run as WasRun}
 use Rattle.plinq_run.specs.declared.run_fault.RunFault.{RunFault}
+use Rattle.plinq_collect.specs.Calling.{CallsSome, CallsAll}
 use Rattle.plinq_collect.specs.Telling.{IsShort}
 use Rattle.plinq_closures.specs.declared.chain_fault.ChainFault.{ChainFault}
 use Rattle.plinq_closures.specs.declared.chain_fault.ChainFault.TheVariants.{Build, Ended, Run}
@@ -33,7 +36,34 @@ abbrev pub is_there : {T : Type 0} → Result (Option T) ChainFault → Result B
 is_there (Ok first) = Ok (is_some first)
 is_there (Err fault) = Err fault
 
+-- the other answer, where there is one
+abbrev pub negated : Result Bool ChainFault → Result Bool ChainFault
+negated (Ok is) = Ok (not is)
+negated (Err fault) = Err fault
+
 -- what is told of a run, as what is told of its chain
 abbrev pub run_told : {O : Type 0} → Result O RunFault → Result O ChainFault
 run_told (Ok out) = Ok out
 run_told (Err fault) = Err (Run fault)
+
+module _ {F T : Type 0} (Step : F → T → Result ⊤ ℕ → F → Type 0) (u : Trace T) (f : F) where
+  -- a closure was called with the items of this answer's batches, or with the first of them; where the query can't be built, it
+  -- wasn't called
+  abbrev pub WasCalled : Result Ending ChainFault → F → Type 0
+  WasCalled (Ok e) g = CallsSome Step AutoBuffered (λ v. v ≡ u) f (Ok e) g
+  WasCalled (Err (Build fault)) g = g ≡ f
+  WasCalled (Err (Ended e)) g = ⊥
+  WasCalled (Err (Run fault)) g = CallsSome Step AutoBuffered (λ v. v ≡ u) f (Err fault) g
+
+  pub record HasCalled (told : Result Ending ChainFault) (g : F) : Type 0 where
+    pub calls : WasCalled told g
+
+  -- the same of the answer's items
+  abbrev pub WasCalledAll : Result Ending ChainFault → F → Type 0
+  WasCalledAll (Ok e) g = CallsAll Step u f (Ok e) g
+  WasCalledAll (Err (Build fault)) g = g ≡ f
+  WasCalledAll (Err (Ended e)) g = ⊥
+  WasCalledAll (Err (Run fault)) g = CallsAll Step u f (Err fault) g
+
+  pub record HasCalledAll (told : Result Ending ChainFault) (g : F) : Type 0 where
+    pub calls : WasCalledAll told g

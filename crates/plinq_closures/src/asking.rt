@@ -135,7 +135,7 @@ impl<S: Steps<Item: Send> + Sync> Chain<S> {
 }
 
 /// What is told of a query, as what is told of its chain.
-fn told<O: Drop>(told: Result<O, AggregateFault>) -> Result<O, ChainFault>
+pub(crate) fn told<O: Drop>(told: Result<O, AggregateFault>) -> Result<O, ChainFault>
     ensures { result ≡ told_of told }
 {
     match told {
@@ -146,7 +146,7 @@ fn told<O: Drop>(told: Result<O, AggregateFault>) -> Result<O, ChainFault>
 }
 
 /// Whether there is a first item.
-fn there<T: Drop>(first: Result<Option<T>, ChainFault>) -> Result<bool, ChainFault>
+pub(crate) fn there<T: Drop>(first: Result<Option<T>, ChainFault>) -> Result<bool, ChainFault>
     ensures { result ≡ is_there first }
 {
     match first {
@@ -156,7 +156,7 @@ fn there<T: Drop>(first: Result<Option<T>, ChainFault>) -> Result<bool, ChainFau
 }
 
 /// What is told of a run, as what is told of its chain.
-fn run_told<O: Drop>(told: Result<O, RunFault>) -> Result<O, ChainFault>
+pub(crate) fn run_told<O: Drop>(told: Result<O, RunFault>) -> Result<O, ChainFault>
     ensures { result ≡ run_told told }
 {
     match told {

@@ -2,6 +2,7 @@
 //!
 //! - A [`Chain`] has any number of steps, each a closure or a count. What is asked of it is told of the answer of one
 //!   thread (`Tells`, `GathersSome`), by whatever functions the closures' clauses allow (`Steps::does`).
+//! - [`Chain::sequentially`] is asked on one thread, by the same calls.
 //! - A closure serves where its contract says that it may always be called, in one way, and that it has one answer to each
 //!   item. A clause `ensures { result ≡ .. }` says all of it.
 //! - [`Steps`] is what a chain's steps have in common; no query of a user's own needs it.
@@ -10,10 +11,14 @@
 mod asking;
 mod at;
 mod building;
+mod calling;
 mod chain;
 mod chain_fault;
 mod counted;
+mod lent;
 mod mapped;
+mod searching;
+mod sequentially;
 mod steps;
 mod tested;
 mod whole;
@@ -22,6 +27,7 @@ pub use chain::Chain;
 pub use chain_fault::ChainFault;
 pub use counted::Counted;
 pub use mapped::Mapped;
+pub use sequentially::Sequentially;
 pub use steps::Steps;
 pub use tested::Tested;
 pub use whole::Whole;

@@ -1,0 +1,17 @@
+-- What the query of the steps answers at a place is what they do.
+use Rattle.std.specs.Prelude.{pos, [], ◌∷◌, ◌++◌}
+use Rattle.std.proofs.Common.{subst, sym}
+use Rattle.plinq_ops.specs.declared.op.Op.TheVariants.{Take, Skip}
+use Rattle.plinq_ops.specs.Sequential.{answer_of}
+use Rattle.plinq_collect.specs.Folds.{first_of}
+use Rattle.plinq_closures.specs.Asked.{Tells}
+use Rattle.plinq_closures.proofs.Asked.{tells-placed}
+use Rattle.plinq_closures.proofs.chain.Chain.element_at.Goals as goal
+
+pub returns-in-Ok : goal.returns-in-Ok
+returns-in-Ok g c ops does =
+    let q = c.in-Ok.query in
+    let is = c.in-Ok.ensures in
+    let t = g.Src.Source.whole c.args.source in
+    subst (λ r. Tells first_of (answer_of (λ f. f) ((ops ++ Skip (pos c.args.place) ∷ []) ++ Take (pos 1) ∷ []) t) r) (sym c.told.ensures)
+    (tells-placed _ q.ordered is.ordered.0 q.ops ops (is.ops ops does) (pos c.args.place) t c.element_at.result c.element_at.ensures)

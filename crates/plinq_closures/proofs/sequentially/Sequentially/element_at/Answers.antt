@@ -1,0 +1,15 @@
+-- What the query of the steps answers at a place is what they do.
+use Rattle.std.specs.Prelude.{pos, [], ◌∷◌, ◌++◌, true}
+use Rattle.std.proofs.Common.{subst, sym, refl}
+use Rattle.plinq_ops.specs.declared.op.Op.TheVariants.{Take, Skip}
+use Rattle.plinq_ops.specs.Sequential.{answer_of}
+use Rattle.plinq_collect.specs.Folds.{first_of}
+use Rattle.plinq_closures.specs.Asked.{Tells}
+use Rattle.plinq_closures.proofs.Asked.{tells-placed}
+use Rattle.plinq_closures.proofs.sequentially.Sequentially.element_at.Goals as goal
+
+pub returns-in-Ok : goal.returns-in-Ok
+returns-in-Ok g c ops does =
+    let t = g.Src.Source.whole c.args.source in
+    subst (λ r. Tells first_of (answer_of (λ f. f) ((ops ++ Skip (pos c.args.place) ∷ []) ++ Take (pos 1) ∷ []) t) r) (sym c.told.ensures)
+    (tells-placed _ true refl c.in-Ok.query.ops ops (c.in-Ok.ensures.ops ops does) (pos c.args.place) t c.element_at.result c.element_at.ensures.value)
