@@ -1,6 +1,6 @@
 #!/usr/bin/env python3
 """Takes the blocks of code out of docs/LIBRARY.md and tries them, in a repository of its own that has only the crates which the
-page names. Nothing is proved.
+page names, and imports each name of the page's tables through the prelude. Nothing is proved.
 
     python3 tests/library.py
 """
@@ -18,6 +18,7 @@ ghost use Rattle.std.specs.Prelude.{◌≡◌, nat_le, Ok};
 
 use anyhow::Result;
 use plinq_prelude::*;
+use plinq_prelude::{NAMES};
 use std::alloc::Global;
 use std::sync::Wait;
 use std::thread::Threads;
@@ -72,6 +73,17 @@ def blocks(page):
         yield "".join(line[4:] for line in block.splitlines(keepends=True))
 
 
+def names(page):
+    """The types, functions and modules that the page's tables name, but for the one on groups, whose crates the prelude leaves out."""
+    found = set()
+    for title, column in (("A query and its answer", -1), ("The three traits", 0)):
+        section = page.split(f"\n## {title}\n")[1].split("\n## ")[0]
+        for row in re.findall(r"^\|(.*)\|$", section, flags=re.M):
+            for code in re.findall(r"`([^`]+)`", re.split(r"(?<!\\)\|", row)[column]):
+                found |= set(re.findall(r"\b[A-Z]\w+", code)) | set(re.findall(r"^([a-z]\w*)(?:::|\((?:rt|alloc|\.\.))", code))
+    return found
+
+
 def needed(listed, crates):
     """These crates of the repository, and those below them."""
     found, left = set(), [it for it in listed if it in crates]
@@ -108,6 +120,9 @@ def main():
     tests.check("the page names each crate that its line needs", len(below) > 10 and below <= named, sorted(below - named))
     text, without = program(page)
     tests.check("each block has its place in the program", not without, without)
+    imported = names(page)
+    tests.check("the tables name what is imported", len(imported) > 20, sorted(imported))
+    text = text.replace("NAMES", ", ".join(sorted(imported)))
     with tempfile.TemporaryDirectory() as top:
         for crate in sorted(below):
             shutil.copytree(os.path.join(ROOT, "crates", crate), os.path.join(top, "crates", crate), ignore=shutil.ignore_patterns("out"))

@@ -7,18 +7,18 @@
 //! refused.
 #![tactic(auto)]
 
-pub use plinq_aggregate::{Aggregator, Max, Min, Sum};
+pub use plinq_aggregate::{Aggregator, GrowingAggregator, Max, Min, Sum};
 pub use plinq_closures::{Chain, ChainFault};
 pub use plinq_collect::{
-    Collect, EqualTo, all, any, build, contains, count, element_at, first, for_each, run_into,
-    sequentially, to_vec,
+    Collect, EqualTo, Same, all, any, build, contains, count, element_at, first, for_each,
+    run_into, sequentially, to_vec,
 };
 pub use plinq_enumerator::Growth;
 pub use plinq_lambda::{ExpandFault, Formula, Lambda, SharedLambda};
 pub use plinq_merge::{Cancel, CancelAfter, CancelFlag, Sink};
 pub use plinq_ops::{BuildFault, MergeOption, Op, Query, sequential};
 pub use plinq_run::{AggregateFault, OpenGate, Report, RunFault, aggregate, run, run_with};
-pub use plinq_slice::{IndexSource, ItemAt, SliceSource, list_source};
+pub use plinq_slice::{IndexSource, ItemAt, SliceSource, lines_source, list_source};
 pub use plinq_source::{
     ConcatSource, Ending, ListSource, OutOfMemory, RangeSource, RepeatSource, Source, SourceFault,
     Step, TextSource,
