@@ -31,7 +31,7 @@ use std::sync::Wait;
 use std::thread::Threads;
 
 // How many results the queue has room for.
-const ROOM: usize = 64;
+const ROOM: usize = 256;
 
 /// What is left of a run that has an answer: the partitions, what has taken the answer's items and how it ended, and how far
 /// the parts reach that it rests on.

@@ -39,7 +39,7 @@ pub struct Stream<T, C: Admits<T>> {
 }
 
 /// After so many items that were received one after another, those that wait for room are woken together.
-const ROOM_FOR_ALL: u64 = 32;
+const ROOM_FOR_ALL: u64 = 128;
 
 impl<T, C: Admits<T>> Stream<T, C> {
     /// After an attempt to receive. Those that wait for room are woken where it found nothing, and after each so many items: one by
