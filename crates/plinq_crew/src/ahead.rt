@@ -39,4 +39,9 @@ impl Ahead {
     pub(crate) fn lets_on(&self, place: u64) -> bool {
         place <= self.bound.load(Ordering::SeqCst)
     }
+
+    /// Whether all workers may go on, wherever they stand.
+    pub(crate) fn is_open(&self) -> bool {
+        self.bound.load(Ordering::SeqCst) == u64::MAX
+    }
 }

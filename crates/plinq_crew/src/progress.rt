@@ -21,6 +21,8 @@ pub struct Progress {
     sent: AtomicU64,
     ended: AtomicU64,
     failed: AtomicBool,
+    /// Whether a result was made that decides the answer, so that no chunk more is of use.
+    is_enough: AtomicBool,
     /// How many workers are wanted at once, and how many are before the caller's thread has waited for long.
     at_once: AtomicU64,
     at_first: u64,
@@ -46,6 +48,7 @@ impl Progress {
             sent: AtomicU64::new(0),
             ended: AtomicU64::new(0),
             failed: AtomicBool::new(false),
+            is_enough: AtomicBool::new(false),
             at_once: AtomicU64::new(if at_first == u64::MAX { u64::MAX } else { 1 }),
             at_first,
             has_begun: AtomicBool::new(false),
@@ -75,13 +78,30 @@ impl Progress {
         self.results.fetch_add(1, Ordering::SeqCst);
     }
 
-    /// Waits while a worker stands so far above what is merged that it may not take more, or while too many items wait to be
-    /// merged. Where that takes long, it sleeps.
+    /// A result was made that decides the answer once all before it is merged: workers wait from now on until all are let on.
+    pub(crate) fn hold_all(&self) {
+        self.is_enough.store(true, Ordering::SeqCst);
+    }
+
+    /// Whether a worker that stands at this key may go on.
+    fn lets_on(&self, key: u64) -> bool {
+        let is_enough = self.is_enough.load(Ordering::SeqCst);
+        let is_within = self.keys.lets_on(key)
+            && self.items.lets_on(self.sent.load(Ordering::SeqCst));
+        if is_enough {
+            self.items.is_open()
+        } else {
+            is_within
+        }
+    }
+
+    /// Waits while a worker stands so far above what is merged that it may not take more, while too many items wait to be
+    /// merged, or while the answer is about to be decided. Where that takes long, it sleeps.
     pub(crate) fn wait_until_within_window<R: Wait>(&self, rt: &R, key: u64) {
         let waiter = self.merged.waiter();
         for _ in rt.forever() {
             let sleep = waiter.prepare();
-            if self.keys.lets_on(key) && self.items.lets_on(self.sent.load(Ordering::SeqCst)) {
+            if self.lets_on(key) {
                 return;
             }
             waiter.pause(rt, sleep);

@@ -17,7 +17,7 @@ use crate::results::{ResultPass, ResultStream, RunSpec, RunStopKeys};
 use crate::task::Task;
 use plinq_cut::{CutPass, CutWord, cut_now, cut_off};
 use plinq_lambda::Lambda;
-use plinq_ops::{ChunkResult, FragEnd, Plan};
+use plinq_ops::{ChunkResult, FragEnd, Op, Order, Plan};
 use plinq_partition::{Chunked, Partition, TakeFault};
 use plinq_source::Source;
 use std::alloc::Global;
@@ -29,6 +29,16 @@ fn next_place<T>(made: &ChunkResult<T>) -> u64 {
     match made.ending {
         FragEnd::More => made.first.saturating_add(made.count),
         _ => u64::MAX,
+    }
+}
+
+/// Whether the answer is decided once all up to this result is merged: by key the run ends in it, or it fills the Take that
+/// comes first after the merge.
+fn is_enough<L, T>(plan: &Plan<'_, L>, made: &ChunkResult<T>) -> bool {
+    match (made.ending, plan.after.first()) {
+        (FragEnd::More, Some(Op::Take(most))) => made.items.len() as u64 >= most.unsigned_abs(),
+        (FragEnd::More, _) => false,
+        _ => plan.order == Order::ByKey,
     }
 }
 
@@ -126,6 +136,9 @@ where
                 Ok(made) => {
                     let is_last = made.tail.is_some();
                     let place = next_place(&made);
+                    if is_enough(self.plan, &made) {
+                        self.progress.hold_all();
+                    }
                     self.progress.count_in(made.items.len() as u64);
                     self.stream.send(rt, &mut stream, worker, made);
                     self.progress.tell();
