@@ -321,12 +321,12 @@ fn a_run_ends_whose_workers_sleep_before_the_lock(rt: HostRuntime) {
     }
 }
 
-/// Number 1 fails once the sink is held with number 0, 64 results fill the queue, and each other worker has one more.
+/// Number 1 fails once the sink is held with number 0, 256 results fill the queue, and each other worker has one more.
 #[test]
 fn a_run_ends_whose_workers_sleep_before_the_queue(rt: HostRuntime) {
     for workers in WORKERS {
         for is_by_key in [true, false] {
-            let taken = workers.saturating_add(65);
+            let taken = workers.saturating_add(257);
             let late = Late {
                 failing: 1,
                 taken,

@@ -82,12 +82,12 @@ fn all_come<R: Threads + Wait + Sync>(rt: &R, alloc: Global, workers: u64, growt
     };
     let mut sink = Held {
         standing: &standing,
-        chunks: workers.wrapping_add(65),
+        chunks: workers.wrapping_add(257),
         gave_up: false,
         next: 0,
         is_wrong: false,
     };
-    let Ok(source) = RangeSource::new(0, 300) else {
+    let Ok(source) = RangeSource::new(0, 2_000) else {
         return false;
     };
     let Ok(query) = ordered::<Formula>(alloc, MergeOption::NotBuffered, workers) else {
@@ -95,7 +95,7 @@ fn all_come<R: Threads + Wait + Sync>(rt: &R, alloc: Global, workers: u64, growt
     };
     match run(rt, alloc, &query, source, growth, &gate, &mut sink) {
         Ok(report) => {
-            report.ending == Ending::End && !sink.gave_up && !sink.is_wrong && sink.next == 300
+            report.ending == Ending::End && !sink.gave_up && !sink.is_wrong && sink.next == 2_000
         }
         Err(_) => false,
     }
