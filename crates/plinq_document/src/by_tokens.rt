@@ -8,6 +8,7 @@ ghost use Rattle.plinq_document.specs.inner.Apart.{Reads, ReadsItems, ReadsMembe
 ghost use Rattle.plinq_document.specs.Document.{json_of};
 ghost use Rattle.plinq_document.specs.Sources.{code_of};
 
+use crate::doc_fault::DocFault;
 use crate::plain_source::PlainSource;
 use crate::plain_sources::text_source;
 use fast_float::Numeral;
@@ -33,8 +34,8 @@ pub(crate) struct Parts {
 /// Reads a document token by token, so that no number of a list becomes a value of its own.
 ///
 /// Only what most large documents have is read: a list or a text as the source, and texts, whole numbers and lists of these
-/// elsewhere. Nothing is said of any other document, nor where memory ran out.
-pub(crate) fn parts_of(alloc: Global, bytes: &[u8]) -> Option<Parts>
+/// elsewhere. Nothing is said of any other document, nor where memory ran out, which `lacked` says then.
+pub(crate) fn parts_of(alloc: Global, bytes: &[u8], lacked: &mut bool) -> Option<Parts>
     ensures fresh { IfSome result (λ p. IsFresh p.source) }
     ensures read { IfSome result (λ p.
         (ms : Members) × (json_of bytes.now ≡ Ok (object ms)) × AreApart p.source (members_view p.others.entries) ms) }
@@ -44,19 +45,20 @@ pub(crate) fn parts_of(alloc: Global, bytes: &[u8]) -> Option<Parts>
     };
     let mut scratch = Scratch::new(alloc);
     let Ok(mut reader) = Reader::new(text, &mut scratch) else {
+        *lacked = true;
         return None;
     };
     let Token::BeginObject = reader.next()? else {
         return None;
     };
-    let parts = read_members(alloc, &mut reader)?;
+    let parts = read_members(alloc, &mut reader, lacked)?;
     match reader.next() {
         None => Some(parts),
         Some(_) => None,
     }
 }
 
-fn read_members(alloc: Global, reader: &mut Reader<'_>) -> Option<Parts>
+fn read_members(alloc: Global, reader: &mut Reader<'_>, lacked: &mut bool) -> Option<Parts>
     ensures fresh { IfSome result (λ p. IsFresh p.source) }
     ensures read { IfSome result (λ p.
         (ms : Members) × ReadsMembers 126 reader.old ms reader.new × AreApart p.source (members_view p.others.entries) ms) }
@@ -66,13 +68,19 @@ fn read_members(alloc: Global, reader: &mut Reader<'_>) -> Option<Parts>
         source: None,
     };
     'members: while let Some(name) = reader.next_key().ok()? {
-        read_member(alloc, reader, name, &mut parts)?;
+        read_member(alloc, reader, name, &mut parts, lacked)?;
     }
     Some(parts)
 }
 
 // Reads the value of this name.
-fn read_member(alloc: Global, reader: &mut Reader<'_>, name: &str, parts: &mut Parts) -> Option<()>
+fn read_member(
+    alloc: Global,
+    reader: &mut Reader<'_>,
+    name: &str,
+    parts: &mut Parts,
+    lacked: &mut bool,
+) -> Option<()>
     ensures fresh { OnSome result (IsFresh parts.old.source → IsFresh parts.new.source) }
     ensures read { OnSome result ((ms : Members) → AreApart parts.old.source (members_view parts.old.others.entries) ms →
         (d : Data) × Reads 126 reader.old d reader.new
@@ -80,21 +88,23 @@ fn read_member(alloc: Global, reader: &mut Reader<'_>, name: &str, parts: &mut P
     ensures shorter { OnSome result (length reader.new < length reader.old) }
 {
     if name == "source" {
-        parts.source = Some(read_source(alloc, reader)?);
+        parts.source = Some(read_source(alloc, reader, lacked)?);
         return Some(());
     }
-    let value = read_value(alloc, reader, MOST_DEPTH)?;
+    let value = read_value(alloc, reader, MOST_DEPTH, lacked)?;
     let Ok(name) = String::from_str(alloc, name) else {
+        *lacked = true;
         return None;
     };
     let Ok(_) = parts.others.insert(name, value) else {
+        *lacked = true;
         return None;
     };
     Some(())
 }
 
 // Reads a source that is a list, also one that refuses, or a text.
-fn read_source(alloc: Global, reader: &mut Reader<'_>) -> Option<PlainSource>
+fn read_source(alloc: Global, reader: &mut Reader<'_>, lacked: &mut bool) -> Option<PlainSource>
     ensures fresh { IsFresh result }
     ensures read { IfSome result (λ s. (d : Data) × Reads 126 reader.old d reader.new × IsSourceOf s d) }
     ensures shorter { OnSome result (length reader.new < length reader.old) }
@@ -105,26 +115,31 @@ fn read_source(alloc: Global, reader: &mut Reader<'_>) -> Option<PlainSource>
     let Token::Key(name) = reader.next()? else {
         return None;
     };
-    read_named(alloc, reader, name)
+    read_named(alloc, reader, name, lacked)
 }
 
 // Reads what stands after the first name of a source.
-fn read_named(alloc: Global, reader: &mut Reader<'_>, name: &str) -> Option<PlainSource>
+fn read_named(
+    alloc: Global,
+    reader: &mut Reader<'_>,
+    name: &str,
+    lacked: &mut bool,
+) -> Option<PlainSource>
     ensures fresh { IsFresh result }
     ensures read { IfSome result (λ s.
         (ms : Members) × ReadsMembers 125 (key name.now ∷ reader.old) ms reader.new × IsSourceOf s (object ms)) }
     ensures shorter { OnSome result (length reader.new < length reader.old) }
 {
     if name == "list" {
-        return read_list(alloc, reader);
+        return read_list(alloc, reader, lacked);
     }
     if name == "text" {
-        return read_text(alloc, reader);
+        return read_text(alloc, reader, lacked);
     }
     None
 }
 
-fn read_text(alloc: Global, reader: &mut Reader<'_>) -> Option<PlainSource>
+fn read_text(alloc: Global, reader: &mut Reader<'_>, lacked: &mut bool) -> Option<PlainSource>
     ensures fresh { IsFresh result }
     ensures read { IfSome result (λ s.
         (ms : Members) × ReadsMembers 125 (key (codes "text") ∷ reader.old) ms reader.new × IsSourceOf s (object ms)) }
@@ -138,11 +153,14 @@ fn read_text(alloc: Global, reader: &mut Reader<'_>) -> Option<PlainSource>
     };
     match text_source(alloc, text) {
         Ok(source) => Some(source),
-        Err(_) => None,
+        Err(fault) => {
+            *lacked = fault == DocFault::Memory;
+            None
+        }
     }
 }
 
-fn read_list(alloc: Global, reader: &mut Reader<'_>) -> Option<PlainSource>
+fn read_list(alloc: Global, reader: &mut Reader<'_>, lacked: &mut bool) -> Option<PlainSource>
     ensures fresh { IsFresh result }
     ensures read { IfSome result (λ s.
         (ms : Members) × ReadsMembers 125 (key (codes "list") ∷ reader.old) ms reader.new × IsSourceOf s (object ms)) }
@@ -151,7 +169,7 @@ fn read_list(alloc: Global, reader: &mut Reader<'_>) -> Option<PlainSource>
     let Token::BeginArray = reader.next()? else {
         return None;
     };
-    let numbers = read_numbers(alloc, reader)?;
+    let numbers = read_numbers(alloc, reader, lacked)?;
     if numbers.len() > MOST_ITEMS {
         return None;
     }
@@ -198,7 +216,7 @@ fn code_of_text(text: &str) -> Option<u32>
 }
 
 // Reads the numbers of a list and the bracket that closes it.
-fn read_numbers(alloc: Global, reader: &mut Reader<'_>) -> Option<Vec<i64>>
+fn read_numbers(alloc: Global, reader: &mut Reader<'_>, lacked: &mut bool) -> Option<Vec<i64>>
     ensures read { IfSome result (λ ns. ReadsNumbers 124 reader.old ns.items reader.new) }
     ensures shorter { OnSome result (length reader.new < length reader.old) }
 {
@@ -206,7 +224,7 @@ fn read_numbers(alloc: Global, reader: &mut Reader<'_>) -> Option<Vec<i64>>
     'numbers: loop {
         match reader.next()? {
             Token::Number(text) => {
-                add(&mut numbers, whole_number_of(text)?)?;
+                add(&mut numbers, whole_number_of(text)?, lacked)?;
             }
             Token::EndArray => return Some(numbers),
             _ => return None,
@@ -216,13 +234,19 @@ fn read_numbers(alloc: Global, reader: &mut Reader<'_>) -> Option<Vec<i64>>
 
 // Reads a text, a whole number, or a list of such values.
 #[cycle(read)]
-fn read_value(alloc: Global, reader: &mut Reader<'_>, depth: usize) -> Option<Value>
+fn read_value(
+    alloc: Global,
+    reader: &mut Reader<'_>,
+    depth: usize,
+    lacked: &mut bool,
+) -> Option<Value>
     ensures read { IfSome result (λ v. Reads depth reader.old (view v) reader.new) }
     ensures shorter { OnSome result (length reader.new < length reader.old) }
 {
     match reader.next()? {
         Token::String(text) => {
             let Ok(copied) = String::from_str(alloc, text) else {
+                *lacked = true;
                 return None;
             };
             Some(Value::String(copied))
@@ -232,29 +256,40 @@ fn read_value(alloc: Global, reader: &mut Reader<'_>, depth: usize) -> Option<Va
             if depth == 0 {
                 return None;
             }
-            Some(Value::Array(read_items(alloc, reader, depth - 1)?))
+            Some(Value::Array(read_items(alloc, reader, depth - 1, lacked)?))
         }
         _ => None,
     }
 }
 
 #[cycle(read)]
-fn read_items(alloc: Global, reader: &mut Reader<'_>, depth: usize) -> Option<Vec<Value>>
+fn read_items(
+    alloc: Global,
+    reader: &mut Reader<'_>,
+    depth: usize,
+    lacked: &mut bool,
+) -> Option<Vec<Value>>
     ensures read { IfSome result (λ vs. ReadsItems depth reader.old (items_view vs.items) reader.new) }
     ensures shorter { OnSome result (length reader.new < length reader.old) }
 {
     let mut found = Vec::new(alloc);
     'items: while !reader.take_end_array() {
-        let item = read_value(alloc, reader, depth)?;
-        add(&mut found, item)?;
+        let item = read_value(alloc, reader, depth, lacked)?;
+        add(&mut found, item, lacked)?;
     }
     Some(found)
 }
 
-fn add<T: Drop>(items: &mut Vec<T>, item: T) -> Option<()>
+fn add<T: Drop>(items: &mut Vec<T>, item: T, lacked: &mut bool) -> Option<()>
     ensures { OnSome result (items.new.items ≡ items.old.items ++ item ∷ []) }
 {
-    items.push(item).ok()
+    match items.push(item) {
+        Ok(()) => Some(()),
+        Err(_) => {
+            *lacked = true;
+            None
+        }
+    }
 }
 
 // The whole number that a number's text is.

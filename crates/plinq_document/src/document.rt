@@ -50,8 +50,12 @@ pub fn read_document(alloc: Global, bytes: &[u8], settings: Settings) -> Result<
     if bytes.len() > MOST_BYTES {
         return Err(DocFault::TooLong);
     }
-    if let Some(parts) = parts_of(alloc, bytes) {
+    let mut lacked = false;
+    if let Some(parts) = parts_of(alloc, bytes, &mut lacked) {
         return job_of_parts(alloc, parts, settings);
+    }
+    if lacked {
+        return Err(DocFault::Memory);
     }
     let value = json_of(alloc, bytes)?;
     job_of(alloc, &value, None, settings)
