@@ -18,11 +18,12 @@ use Rattle.plinq_run.specs.declared.run_fault.RunFault.{RunFault}
 use Rattle.plinq_run.specs.declared.run_fault.RunFault.TheVariants.{Memory}
 use Rattle.plinq_run.specs.Runs.{cause_of}
 use Rattle.plinq_collect.proofs.Gathered.{not-item}
-use Rattle.plinq_collect.specs.Calling.{CallsSome, CallsAll}
+use Rattle.plinq_collect.specs.Calling.{CallsSome, CallsAll, NoRoomOrRefused}
 use Rattle.plinq_collect.specs.Folds.{first_of, has_item, has_none}
-use Rattle.plinq_collect.specs.Telling.{GathersSome, IsShort, TellsSome}
+use Rattle.plinq_collect.specs.Telling.{GathersSome, IsShort, LacksRoom, TellsSome}
 use Rattle.plinq_closures.specs.declared.chain_fault.ChainFault.{ChainFault}
 use Rattle.plinq_closures.specs.declared.chain_fault.ChainFault.TheVariants.{Build, Ended as IsEnded, Run as IsRun}
+use Rattle.plinq_closures.specs.Asked.{LacksRoomAlone, LacksRoomOrRefused}
 use Rattle.plinq_closures.specs.Asked.{HasCalled, HasCalledAll, HasNone, Tells, told_of, is_there, negated, run_told}
 use Rattle.plinq_closures.specs.Steps.{over}
 use Rattle.plinq_closures.proofs.Over.{answer_of-over}
@@ -126,3 +127,28 @@ pub called-sequentially : {L F T : Type 0} (Step : F → T → Result ⊤ ℕ �
 called-sequentially Step f ops does same t by r told g as_told h =
     subst (λ it. HasCalledAll Step (answer_of (λ m. m) does t) by it g) (sym as_told) (has-called_all Step (answer_of (λ m. m) does t) by r g
     (subst (λ u. CallsAll Step u by r g) (only-answer f true refl ops does same t (answer_of f ops t) refl) h))
+
+-- a fault is passed on as it is
+pub lacks-run : {O : Type 0} (P : O → Type 0) (r : Result O RunFault) → MatchResult r P (λ fault. fault ≡ Memory)
+    → LacksRoomAlone (run_told r)
+lacks-run P (Ok out) h = tt
+lacks-run P (Err fault) lacks = lacks
+
+pub lacks-told : {O : Type 0} (r : Result O AggregateFault) → LacksRoom r → LacksRoomAlone (told_of r)
+lacks-told (Ok out) lacks = tt
+lacks-told (Err (Ended e)) lacks = tt
+lacks-told (Err (Run fault)) lacks = lacks
+
+pub lacks-there : {T : Type 0} (r : Result (Option T) ChainFault) → LacksRoomAlone r → LacksRoomAlone (is_there r)
+lacks-there (Ok first) lacks = tt
+lacks-there (Err (Build fault)) lacks = tt
+lacks-there (Err (IsEnded e)) lacks = tt
+lacks-there (Err (IsRun fault)) lacks = lacks
+
+pub lacks-called : (r : Result Ending RunFault) → NoRoomOrRefused r → LacksRoomOrRefused (run_told r)
+lacks-called (Ok e) lacks = tt
+lacks-called (Err fault) lacks = lacks
+
+pub no-room : {O : Type 0} (r : Result O RunFault) → run_told r ≡ Err (IsRun Memory) → r ≡ Err Memory
+no-room (Ok out) is = absurd cc
+no-room (Err fault) is = cc

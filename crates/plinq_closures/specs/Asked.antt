@@ -1,5 +1,5 @@
 -- What is told of a chain's answer.
-use Rattle.std.specs.Prelude.{◌≡◌, ◌≢◌, ℕ, List, Some, ⊤, Bool, not, Option, is_some, Result, Ok, Err}
+use Rattle.std.specs.Prelude.{◌≡◌, ◌≢◌, refl, ℕ, List, Some, ⊤, Bool, not, Option, is_some, Result, Ok, Err}
 use Rattle.plinq_source.specs.declared.ending.Ending.{Ending}
 use Rattle.plinq_source.specs.declared.ending.Ending.TheVariants.{End}
 use Rattle.plinq_source.specs.Trace.{Trace}
@@ -7,7 +7,8 @@ use Rattle.plinq_ops.specs.declared.merge_option.MergeOption.TheVariants.{AutoBu
 use Rattle.plinq_run.specs.declared.aggregate_fault.AggregateFault.{AggregateFault}
 use Rattle.plinq_run.specs.declared.aggregate_fault.AggregateFault.TheVariants.{Ended as WasEnded, Run as WasRun}
 use Rattle.plinq_run.specs.declared.run_fault.RunFault.{RunFault}
-use Rattle.plinq_collect.specs.Calling.{CallsSome, CallsAll}
+use Rattle.plinq_run.specs.declared.run_fault.RunFault.TheVariants.{Memory, Sink, Thread}
+use Rattle.plinq_collect.specs.Calling.{CallsSome, CallsAll, NoRoomOrRefused}
 use Rattle.plinq_collect.specs.Telling.{IsShort}
 use Rattle.plinq_closures.specs.declared.chain_fault.ChainFault.{ChainFault}
 use Rattle.plinq_closures.specs.declared.chain_fault.ChainFault.TheVariants.{Build, Ended, Run}
@@ -24,6 +25,20 @@ Tells tell u (Ok out) = (out ≡ tell u.items) × (u.ending ≡ Some End)
 Tells tell u (Err (Ended e)) = (u.ending ≡ Some e) × (e ≢ End)
 Tells tell u (Err (Build fault)) = ⊤
 Tells tell u (Err (Run fault)) = IsShort fault
+
+-- where a run has no answer, memory ran out
+abbrev pub LacksRoomAlone : {O : Type 0} → Result O ChainFault → Type 0
+LacksRoomAlone (Ok out) = ⊤
+LacksRoomAlone (Err (Build fault)) = ⊤
+LacksRoomAlone (Err (Ended e)) = ⊤
+LacksRoomAlone (Err (Run fault)) = fault ≡ Memory
+
+-- the same, or the closure answered a code
+abbrev pub LacksRoomOrRefused : Result Ending ChainFault → Type 0
+LacksRoomOrRefused (Ok e) = ⊤
+LacksRoomOrRefused (Err (Build fault)) = ⊤
+LacksRoomOrRefused (Err (Ended e)) = ⊤
+LacksRoomOrRefused (Err (Run fault)) = NoRoomOrRefused (Err fault)
 
 -- what is told of a query, as what is told of its chain
 abbrev pub told_of : {O : Type 0} → Result O AggregateFault → Result O ChainFault
@@ -67,3 +82,18 @@ module _ {F T : Type 0} (Step : F → T → Result ⊤ ℕ → F → Type 0) (u 
 
   pub record HasCalledAll (told : Result Ending ChainFault) (g : F) : Type 0 where
     pub calls : WasCalledAll told g
+
+-- ---- worked rows: why a run on one thread has no answer
+
+no_room : LacksRoomAlone {O = ℕ} (Err (Run Memory))
+no_room = refl
+
+a_code : LacksRoomOrRefused (Err (Run (Sink 7)))
+a_code = tt
+
+-- a missing thread is no reason, whatever is asked
+no_thread : LacksRoomAlone {O = ℕ} (Err (Run Thread)) → ⊥
+no_thread is = absurd cc
+
+no_thread_for_a_closure : LacksRoomOrRefused (Err (Run Thread)) → ⊥
+no_thread_for_a_closure is = is

@@ -1,9 +1,11 @@
-ghost use Rattle.std.specs.Prelude.{◌≡◌, pos, [], ◌∷◌, ◌++◌, MatchResult};
+ghost use Rattle.std.specs.Prelude.{◌≡◌, pos, [], ◌∷◌, ◌++◌, Err, MatchResult};
 ghost use Rattle.plinq_source.specs.Trace.{ended};
 ghost use Rattle.plinq_ops.specs.declared.op.Op.{Op};
 ghost use Rattle.plinq_ops.specs.Sequential.{answer_of};
+ghost use Rattle.plinq_run.specs.declared.run_fault.RunFault.TheVariants.{Memory};
 ghost use Rattle.plinq_collect.specs.Folds.{first_of, has_item, counted};
-ghost use Rattle.plinq_closures.specs.Asked.{HasNone, HasCalledAll, Tells};
+ghost use Rattle.plinq_closures.specs.declared.chain_fault.ChainFault.TheVariants.{Run};
+ghost use Rattle.plinq_closures.specs.Asked.{HasNone, HasCalledAll, LacksRoomAlone, LacksRoomOrRefused, Tells};
 
 use crate::asking::{run_told, there, told};
 use crate::building::query_of;
@@ -53,9 +55,10 @@ impl<'a, S: Steps<Item: Send> + Sync> Sequentially<'a, S> {
         requires in_one_way { S.in_one_way self.now.steps.now }
         requires gives { S.gives self.now.steps.now }
         requires gives_one { S.gives_one self.now.steps.now }
-        ensures { (ops : _) → S.does self.now.steps.now ops → MatchResult result
+        ensures value { (ops : _) → S.does self.now.steps.now ops → MatchResult result
             (λ it. ended it.0.items it.1 ≡ answer_of (λ f. f) ops (Src.whole source))
             HasNone }
+        ensures memory { LacksRoomAlone result }
     {
         match query_of(alloc, workers, self.steps) {
             Ok(query) => run_told(to_vec(rt, alloc, &query, source)),
@@ -83,8 +86,9 @@ impl<'a, S: Steps<Item: Send> + Sync> Sequentially<'a, S> {
         requires in_one_way { S.in_one_way self.now.steps.now }
         requires gives { S.gives self.now.steps.now }
         requires gives_one { S.gives_one self.now.steps.now }
-        ensures { (ops : _) → S.does self.now.steps.now ops →
+        ensures value { (ops : _) → S.does self.now.steps.now ops →
             Tells first_of (answer_of (λ f. f) (ops ++ Op.Take (pos 1) ∷ []) (Src.whole source)) result }
+        ensures memory { LacksRoomAlone result }
     {
         match query_of(alloc, workers, self.steps) {
             Ok(query) => told(first(rt, alloc, query, source)),
@@ -113,8 +117,9 @@ impl<'a, S: Steps<Item: Send> + Sync> Sequentially<'a, S> {
         requires in_one_way { S.in_one_way self.now.steps.now }
         requires gives { S.gives self.now.steps.now }
         requires gives_one { S.gives_one self.now.steps.now }
-        ensures { (ops : _) → S.does self.now.steps.now ops →
+        ensures value { (ops : _) → S.does self.now.steps.now ops →
             Tells first_of (answer_of (λ f. f) ((ops ++ Op.Skip (pos place) ∷ []) ++ Op.Take (pos 1) ∷ []) (Src.whole source)) result }
+        ensures memory { LacksRoomAlone result }
     {
         match query_of(alloc, workers, self.steps) {
             Ok(query) => told(element_at(rt, alloc, query, source, place)),
@@ -142,8 +147,9 @@ impl<'a, S: Steps<Item: Send> + Sync> Sequentially<'a, S> {
         requires in_one_way { S.in_one_way self.now.steps.now }
         requires gives { S.gives self.now.steps.now }
         requires gives_one { S.gives_one self.now.steps.now }
-        ensures { (ops : _) → S.does self.now.steps.now ops →
+        ensures value { (ops : _) → S.does self.now.steps.now ops →
             Tells has_item (answer_of (λ f. f) (ops ++ Op.Take (pos 1) ∷ []) (Src.whole source)) result }
+        ensures memory { LacksRoomAlone result }
     {
         there(self.first(rt, alloc, workers, source))
     }
@@ -168,8 +174,9 @@ impl<'a, S: Steps<Item: Send> + Sync> Sequentially<'a, S> {
         requires in_one_way { S.in_one_way self.now.steps.now }
         requires gives { S.gives self.now.steps.now }
         requires gives_one { S.gives_one self.now.steps.now }
-        ensures { (ops : _) → S.does self.now.steps.now ops →
+        ensures value { (ops : _) → S.does self.now.steps.now ops →
             Tells counted (answer_of (λ f. f) ops (Src.whole source)) result }
+        ensures memory { LacksRoomAlone result }
     {
         match query_of(alloc, workers, self.steps) {
             Ok(query) => told(count(rt, alloc, &query, source)),
@@ -201,8 +208,10 @@ impl<'a, S: Steps<Item: Send> + Sync> Sequentially<'a, S> {
         requires gives_one { S.gives_one self.now.steps.now }
         requires calls { (f : F) (x : S.Item) → F.pre f x }
         requires calls_in_one_way { (f : F) (x : S.Item) (a b : F.pre f x) → a ≡ b }
-        ensures { (ops : _) → S.does self.now.steps.now ops →
+        ensures calls { (ops : _) → S.does self.now.steps.now ops →
             HasCalledAll (λ f x r g. F.step f x r g) (answer_of (λ f. f) ops (Src.whole source)) by.old result by.new }
+        ensures uncalled { result ≡ Err (Run Memory) → by.new ≡ by.old }
+        ensures memory { LacksRoomOrRefused result }
     {
         match query_of(alloc, workers, self.steps) {
             Ok(query) => run_told(for_each(rt, alloc, &query, source, by)),
