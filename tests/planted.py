@@ -4,6 +4,8 @@ goal of the edited function refuses, and nothing else.
 
     python3 tests/planted.py
 """
+import importlib.machinery
+import importlib.util
 import os
 import shutil
 import signal
@@ -243,8 +245,26 @@ def interruption(place, tests):
         tests.check(f"{which.name} ends it, and no room is left", started.returncode != 0 and os.listdir(f"{place.top}/tmp") == [], started.returncode)
 
 
+def stand(tests):
+    """That each edit of both folders is one of the sources as they stand."""
+    loader = importlib.machinery.SourceFileLoader("planted", f"{ROOT}/tools/planted")
+    planted = importlib.util.module_from_spec(importlib.util.spec_from_loader(loader.name, loader))
+    loader.exec_module(planted)
+    lost, count = [], 0
+    for name in sorted(os.listdir(f"{ROOT}/crates")):
+        crate = planted.Crate(name)
+        for edit in crate.edits(True):
+            count += 1
+            try:
+                edit.applied(crate.texts)
+            except planted.Refused as why:
+                lost.append(f"{edit.name}: {why}")
+    tests.check("each edit stands in the sources", not lost and count > 0, lost)
+
+
 def main():
     tests = Tests()
+    stand(tests)
     with tempfile.TemporaryDirectory() as folder:
         place = Place(folder)
         refused(place, tests)
