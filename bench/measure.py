@@ -140,6 +140,8 @@ def memory():
         ('list of `{"":0}`', run, filled(b'{"":0}')),
         ("list of `[0]`", run, filled(b"[0]")),
         ("list of `0`", run, filled(b"0")),
+        # (the last number is a fraction, which the reader by tokens leaves to the other one)
+        ("the same with `1.5` at its end", run, filled(b"0").replace(b",0,0]", b",1.5]")),
         ("998 nested `select_many` of `repeat` 65,536, the first element taken, by `seq`", seq, nested_expansions),
         ("the same by `run`, within 4,000,000 KiB", limited, nested_expansions),
         ("one `select_many` of `repeat` 65,536 over 2,000 elements", run, document({"repeat": [7, 2_000]}, EXPANDED)),
