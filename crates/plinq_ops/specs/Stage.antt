@@ -14,7 +14,7 @@ pub data Stage (T : Type 0) : Type 0 where
   skipping_while : (T → Result Bool ℕ) → Stage T
   unchanged : Stage T
 
--- the pieces of the items, one followed by another, and then the old ending
+-- the pieces of the items, one followed by another, and then this ending
 abbrev pub joined : {T : Type 0} → (T → Trace T) → List T → Option Ending → Trace T
 joined piece [] e = record { items = []; ending = e }
 joined piece (x ∷ xs) e = followed (piece x) (joined piece xs e)

@@ -14,15 +14,15 @@ pub enum Op<L> {
     Filter(L),
     /// `SelectMany`: each element's expansion, one after another.
     SelectMany(L),
-    /// `Take`: the first so many elements, a negative number being none.
+    /// `Take`: the first so many elements; a negative number counts as 0.
     Take(i64),
-    /// `Skip`: all but the first so many elements, a negative number being none.
+    /// `Skip`: all but the first so many elements; a negative number counts as 0.
     Skip(i64),
     /// `TakeWhile`: the elements before the first that fails.
     TakeWhile(L),
     /// `SkipWhile`: the elements from the first that fails on.
     SkipWhile(L),
-    /// `AsUnordered`: the order isn't kept from here on.
+    /// `AsUnordered`: from here on the order need not be kept, unless `as_ordered` was called.
     AsUnordered,
 }
 

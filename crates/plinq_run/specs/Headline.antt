@@ -17,14 +17,14 @@ use Rattle.plinq_run.specs.declared.run_fault.RunFault.{RunFault}
 use Rattle.plinq_run.specs.declared.run_fault.RunFault.TheVariants.{Memory, Sink, Tickets, Thread, Incomplete, Cancelled}
 
 module _ {T : Type 0} where
-  -- each item gives a piece, one followed by another, and then comes the old ending
+  -- each item gives a piece, one followed by another, and then comes the trace's own ending
   abbrev pub each : (T → Trace T) → Trace T → Trace T
   each piece t = joined piece t.items t.ending
 
   -- what a lambda's value gives; where the lambda faults, its fault ends what the operator gives
   abbrev pub or_fault : {A : Type 0} → Result A ℕ → (A → Trace T) → Trace T
-  or_fault (Ok value) given = given value
-  or_fault (Err code) given = ended [] (Fault code)
+  or_fault (Ok value) goes_on = goes_on value
+  or_fault (Err code) goes_on = ended [] (Fault code)
 
   -- what one operator makes of a trace, by what its lambda means; AsUnordered does nothing to what one thread answers
   abbrev pub does : {L : Type 0} → (L → Meaning T) → Op L → Trace T → Trace T
@@ -42,8 +42,7 @@ module _ {T : Type 0} where
   answers meaning [] t = t
   answers meaning (op ∷ ops) t = answers meaning ops (does meaning op t)
 
-  -- the items in batches of n, the first of them begun with those of the first list, which are in hand; what is in hand at the
-  -- end is the last batch
+  -- the items in batches of n, where `hand` has those of the batch that is begun; what is in hand at the end is the last batch
   abbrev pub in_batches : ℕ → List T → List T → List (List T)
   in_batches n [] [] = []
   in_batches n (y ∷ ys) [] = (y ∷ ys) ∷ []
@@ -63,7 +62,7 @@ module _ {T : Type 0} where
 
 module _ {K T : Type 0} (accepts : K → List T → K → Type 0) (refuses : K → List T → ℕ → K → Type 0) where
   -- What a run of this answer reports, and what its sink has taken then. It reports the answer's ending, and all batches were
-  -- taken; or that the sink refused one; or another fault of its own, and a beginning was taken. Without a token nothing cancels
+  -- taken; or that the sink refused one; or another fault of the run's, and a beginning was taken. Without a token nothing cancels
   abbrev pub HasDelivered : MergeOption → Trace T → K → K → Result Ending RunFault → Type 0
   HasDelivered option u s s' (Ok e) = (u.ending ≡ Some e) × Leads accepts s (handed_over option u) s'
   HasDelivered option u s s' (Err (Sink code)) = RefusesNext accepts refuses s (handed_over option u) code s'
