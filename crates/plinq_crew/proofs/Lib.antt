@@ -1,3 +1,4 @@
+mod Coordinating
 mod Cuts
 mod Handles
 mod Taken

@@ -1,8 +1,7 @@
 -- Rows of crews: what polls may leave, what may be accepted, who is started and what comes back, and what not.
-use Rattle.std.specs.Prelude.{◌≡◌, refl, ℕ, ◌+◌, ◌≤◌, ◌^◌, List, [], ◌∷◌, ◌++◌, length, get_or, Some, None, Ok, Err, Bool, true, false, All, drop, vec_capacity}
+use Rattle.std.specs.Prelude.{◌≡◌, refl, ℕ, ◌+◌, ◌≤◌, ◌^◌, List, [], ◌∷◌, ◌++◌, length, get_or, None, Ok, Err, Bool, true, false, All, drop, vec_capacity}
 use Rattle.std.specs.declared.thread.PromisedHandle.{PromisedHandle}
 use Rattle.std.proofs.Common.{arith, ap, sym, ◌∙◌, subst}
-use Rattle.std.proofs.lemmas.List.{length-append}
 use Rattle.std.proofs.lemmas.List.Elements.{All-head}
 use Rattle.std.specs.List.{FoldsTo}
 use Rattle.plinq_source.specs.declared.memory.OutOfMemory.{OutOfMemory}
@@ -29,25 +28,27 @@ use Rattle.plinq_stream.specs.Knowing.{with_received}
 use Rattle.plinq_stream.specs.Passes.{IsPassOf, known}
 use Rattle.plinq_stream.specs.Streams.{has, under}
 use Rattle.plinq_crew.specs.declared.closing.Closing.{Closing}
-use Rattle.plinq_crew.specs.declared.conducting.Equipment.{Equipment}
+use Rattle.plinq_crew.specs.declared.coordinator.Coordinator.{Coordinator}
 use Rattle.plinq_crew.specs.declared.conducting.Returned.{Returned}
 use Rattle.plinq_crew.specs.declared.handle.WorkerPromise.{WorkerPromise}
 use Rattle.plinq_crew.specs.declared.poll.Poll.TheVariants.{Came, Nothing, Over}
 use Rattle.plinq_crew.specs.declared.starting.Team.{Team}
 use Rattle.plinq_crew.specs.declared.starting.WorkerFaults.{WorkerFaults}
 use Rattle.plinq_crew.specs.declared.worker.Crew.{Crew}
+use Rattle.plinq_crew.specs.declared.worker.Equipment.{Equipment}
 use Rattle.plinq_crew.specs.declared.worker.Worked.{Worked}
 use Rattle.plinq_crew.specs.declared.worker.WorkerContext.{WorkerContext}
 use Rattle.plinq_crew.specs.declared.worker_count.WorkerCount.{WorkerCount}
 use Rattle.plinq_crew.specs.Conducting.{AcceptsEach, HasReturned, Conducts}
 use Rattle.plinq_crew.specs.Equipped.{IsEquipped, IsReady}
 use Rattle.plinq_crew.specs.inner.Handles.{IsHandleOf, AreNumbered}
-use Rattle.plinq_crew.specs.inner.Scoped.{MayStartScope, ScopeReturns}
+use Rattle.plinq_crew.specs.inner.Coordinating.{IsCoordinator, StaysSame, CanStart}
+use Rattle.plinq_crew.specs.inner.Scoped.{MayStartScope, ScopeReturns, MayWork, WorkReturns}
 use Rattle.plinq_crew.specs.inner.Teams.{IsTeam}
 use Rattle.plinq_crew.specs.Noted.{lacks_room, has_noted, has_worker_fault, StaysNoted}
 use Rattle.plinq_crew.specs.Polls.{IfCame, HasCome, ClosesInTime, HasAccepted}
 use Rattle.plinq_crew.specs.Results.{IsPart}
-use Rattle.plinq_crew.specs.Working.{IsAnsweredBy, receiver_from}
+use Rattle.plinq_crew.specs.Working.{IsAnsweredBy, IsBack, IsNewcomer, receiver_from}
 use Rattle.plinq_crew.specs.WorkerRows.{sent_under}
 
 -- ---- what a poll notes, and when it closes
@@ -321,6 +322,31 @@ module _ {S T M C : Type 0} {source : Ghosts S T} (chunked : Chunked S T source)
   one_numbered_from_another one number is =
       let numbered : AreNumbered 0 (handle ∷ []) = subst (λ hs. AreNumbered 0 hs) one is.numbered in
       omega (arith, number, numbered.0)
+
+module _ {S T M C : Type 0} {source : Ghosts S T} (chunked : Chunked S T source) (stream : Stream (ChunkResult M) C)
+    (c c' : Coordinator S M T source) where
+  coordinator_of_another_source : (IsPartitionOf chunked c.partition → ⊥) → IsCoordinator chunked stream c → ⊥
+  coordinator_of_another_source never is = never is.of
+
+  -- who accepts starts nobody
+  started_meanwhile : c.worker_count.started ≡ 1 → c'.worker_count.started ≡ 2 → StaysSame c c' → ⊥
+  started_meanwhile one two same = omega (arith, one, two, ap (λ (w : WorkerCount). w.started) same.worker_count)
+
+module _ {L S J P T M : Type 0} {source : Ghosts S T} (meaning : L → Meaning T)
+    (makes : P → ChunkResult T → ChunkResult M → Type 0) (MaySend : ChunkResult M → Type 0) (stops_at : ℕ → Bool)
+    (crew : Crew L S J P T T M source) (c : Coordinator S M T source) (team : Team S M T source) where
+  starts_for_nobody : crew.workers ≡ 0 → CanStart meaning makes MaySend stops_at crew c team → ⊥
+  starts_for_nobody none can = omega (arith, none, can.workers.0)
+
+module _ {L S J P R T M : Type 0} {source : Ghosts S T} (meaning : L → Meaning T)
+    (makes : P → ChunkResult T → ChunkResult M → Type 0) (MaySend : ChunkResult M → Type 0) (stops_at : ℕ → Bool)
+    (e : Equipment L S J P R T T M source) (worked : Worked S M T source) where
+  work_of_one_not_new : (IsNewcomer e.crew.now.stream.now 3 e.context.partition e.context.stream → ⊥)
+      → MayWork meaning makes MaySend stops_at e 3 → ⊥
+  work_of_one_not_new never may = never may.new
+
+  returns_another : (IsBack e.crew.now.chunked.now e.context.stream 3 worked → ⊥) → WorkReturns e 3 worked → ⊥
+  returns_another never returns = never returns.back
 
 module _ {L S J P T M X : Type 0} {source : Ghosts S T} (accepts : X → ChunkResult M → X → Type 0)
     (IsPart : ChunkResult M → Type 0) (crew : Crew L S J P T T M source) (context : WorkerContext S M T source) (x x' : X)

@@ -1,5 +1,5 @@
 -- Rows of workers: what one may make of a chunk, send and bring back, and what not.
-use Rattle.std.specs.Prelude.{◌≡◌, refl, ℕ, ◌+◌, ◌^◌, pos, List, [], ◌∷◌, ◌++◌, length, get_or, take, drop, Bool, true, false, Option, Some, None, is_some, All, IfSome}
+use Rattle.std.specs.Prelude.{◌≡◌, refl, ℕ, pos, List, [], ◌∷◌, ◌++◌, length, get_or, take, drop, true, false, Option, Some, None, is_some, All, IfSome}
 use Rattle.std.proofs.Common.{arith, ap, sym, ◌∙◌, subst}
 use Rattle.std.proofs.lemmas.List.{length-append}
 use Rattle.std.proofs.lemmas.List.Elements.{All-head, All-nil}
@@ -7,7 +7,6 @@ use Rattle.std.specs.List.{AllZip, list_any}
 use Rattle.plinq_source.specs.declared.ending.Ending.TheVariants.{End}
 use Rattle.plinq_source.specs.declared.source.Source.{Ghosts}
 use Rattle.plinq_source.specs.Trace.{Trace, open_trace}
-use Rattle.plinq_lambda.specs.Meaning.{Meaning}
 use Rattle.plinq_keyed.specs.declared.chunk.Chunk.{Chunk}
 use Rattle.plinq_keyed.specs.declared.event.Event.TheVariants.{Ask}
 use Rattle.plinq_keyed.specs.declared.record.Record.{Record}
@@ -34,7 +33,7 @@ use Rattle.plinq_stream.specs.declared.sent.Sent.{Sent}
 use Rattle.plinq_stream.specs.declared.stream.Stream.{Stream}
 use Rattle.plinq_stream.specs.declared.stream_pass.StreamPass.{StreamPass}
 use Rattle.plinq_stream.specs.Passes.{IsPassOf, IsBeside, known}
-use Rattle.plinq_stream.specs.Streams.{has, under}
+use Rattle.plinq_stream.specs.Streams.{has}
 use Rattle.plinq_crew.specs.declared.starting.WorkerFaults.{WorkerFaults}
 use Rattle.plinq_crew.specs.declared.worker.Worked.{Worked}
 use Rattle.plinq_crew.specs.Noted.{has_noted}

@@ -1,28 +1,27 @@
 //! What the caller's thread does among its workers: it starts them, passes what they send to a consumer, and joins them.
-ghost use Rattle.std.specs.Prelude.{◌≡◌, ◌≤◌, ◌^◌, length, true, false};
+ghost use Rattle.std.specs.Prelude.{◌≡◌, ◌≤◌, ◌^◌, true, false};
 ghost use Rattle.plinq_ops.specs.declared.results.ChunkResult.{ChunkResult};
 ghost use Rattle.plinq_ops.specs.Tails.{end_of_result};
-ghost use Rattle.plinq_partition.specs.Partitions.{IsPartitionOf, holding_of};
+ghost use Rattle.plinq_partition.specs.Partitions.{holding_of};
 ghost use Rattle.plinq_stream.specs.Passes.{IsPassOf, known};
 ghost use Rattle.plinq_stream.specs.Streams.{HasReceivedAll};
-ghost use Rattle.plinq_crew.specs.Equipped.{IsEquipped, IsReady};
+ghost use Rattle.plinq_crew.specs.Equipped.{IsReady};
 ghost use Rattle.plinq_crew.specs.Noted.{has_worker_fault};
-ghost use Rattle.plinq_crew.specs.Polls.{HasAccepted};
 ghost use Rattle.plinq_crew.specs.inner.Teams.{IsTeam};
-ghost use Rattle.plinq_crew.specs.Working.{IsReceiver, HasNumbersFrom};
-ghost use Rattle.plinq_crew.specs.Conducting.{AcceptsEach, Conducts};
+ghost use Rattle.plinq_crew.specs.Conducting.{Conducts};
 ghost use Rattle.plinq_crew.specs.inner.Scoped.{MayStartScope, ScopeReturns};
+ghost use Rattle.plinq_crew.specs.inner.Coordinating.{IsCoordinator, StaysSame, CanStart, AcceptsOn};
 
 use crate::closing::Closing;
 use crate::consumer::Consumer;
 use crate::coordinator::Coordinator;
 use crate::poll::Poll;
-use crate::results::{ResultPass, RunSpec};
+use crate::result_stream::{ResultPass, RunSpec};
 use crate::starting::{Team, WorkerFaults, join_all, start_wanted};
 use crate::task::Task;
-use crate::worker::{Crew, WorkerContext};
+use crate::worker::{Crew, Equipment, WorkerContext};
 use crate::worker_count::WorkerCount;
-use plinq_lambda::{Lambda, SharedLambda};
+use plinq_lambda::SharedLambda;
 use plinq_partition::Partition;
 use plinq_source::{OutOfMemory, Source};
 use std::sync::Wait;
@@ -53,21 +52,15 @@ where
     P: Task<L::Item>,
     X: Consumer<<P as Task<L::Item>>::Part>,
     R: Wait,
-    requires of { IsPartitionOf crew.now.chunked.now coordinator.old.partition }
-    requires stream { IsPassOf crew.now.stream.now coordinator.old.stream }
-    requires receiver { IsReceiver (known coordinator.old.stream) }
+    requires coordinator { IsCoordinator crew.now.chunked.now crew.now.stream.now coordinator.old }
     requires within { (c : ChunkResult P.Part) → J.is_result c → end_of_result c ≤ 2 ^ 40 }
     requires ready { X.is_ready consumer.old }
-    ensures of { IsPartitionOf crew.now.chunked.now coordinator.new.partition }
-    ensures origin { (holding_of coordinator.new.partition).origin ≡ (holding_of coordinator.old.partition).origin }
-    ensures stream { IsPassOf crew.now.stream.now coordinator.new.stream }
-    ensures receiver { IsReceiver (known coordinator.new.stream) }
-    ensures numbers { (known coordinator.new.stream).numbers ≡ (known coordinator.old.stream).numbers }
-    ensures worker_count { coordinator.new.worker_count ≡ coordinator.old.worker_count }
+    ensures coordinator { IsCoordinator crew.now.chunked.now crew.now.stream.now coordinator.new }
+    ensures same { StaysSame coordinator.old coordinator.new }
     ensures ready { X.is_ready consumer.new }
     ensures over { result ≡ false → X.wants_no_more consumer.new ≡ true → closing.new.is_closed ≡ false → has_worker_fault coordinator.new.worker_faults ≡ true }
-    ensures accepted { (before : _) (start : _) → HasAccepted (AcceptsEach X.accepts J.is_result) before start (known coordinator.old.stream).received closing.old.wants_close consumer.old
-        → HasAccepted (AcceptsEach X.accepts J.is_result) before start (known coordinator.new.stream).received closing.new.wants_close consumer.new }
+    ensures accepted { AcceptsOn X.accepts J.is_result (known coordinator.old.stream).received closing.old.wants_close consumer.old
+        (known coordinator.new.stream).received closing.new.wants_close consumer.new }
 {
     for _ in rt.forever() {
         let is_over = consumer.is_over();
@@ -76,6 +69,7 @@ where
                 if !closing.wants_close {
                     consumer.accept(part);
                     crew.progress
+                        .window
                         .move_to(consumer.merged(), consumer.merged_items());
                 }
             }
@@ -110,24 +104,17 @@ where
     P: Task<L::Item>,
     X: Consumer<<P as Task<L::Item>>::Part>,
     R: Threads + Wait + Sync,
-    requires stream { IsPassOf crew.now.stream.now coordinator.old.stream }
-    requires receiver { IsReceiver (known coordinator.old.stream) }
-    requires numbers { coordinator.old.worker_count.started ≡ coordinator.old.worker_count.wanted → HasNumbersFrom (length team.old.handles.items) (known coordinator.old.stream) }
-    requires equipped { IsEquipped L.meaning (P.makes crew.now.task.now) J.is_result J.stops_at crew.now.plan.now crew.now.chunked.now crew.now.cut.now coordinator.old.partition team.old.cut }
-    requires team { IsTeam crew.now.chunked.now crew.now.stream.now crew.now.workers coordinator.old.worker_count team.old }
-    requires workers { (1 ≤ crew.now.workers) × (crew.now.workers ≤ 64) }
+    requires may { CanStart L.meaning P.makes J.is_result J.stops_at crew.now coordinator.old team.old }
     requires within { (c : ChunkResult P.Part) → J.is_result c → end_of_result c ≤ 2 ^ 40 }
     requires ready { X.is_ready consumer.old }
-    ensures of { IsPartitionOf crew.now.chunked.now coordinator.new.partition }
+    ensures coordinator { IsCoordinator crew.now.chunked.now crew.now.stream.now coordinator.new }
     ensures origin { (holding_of coordinator.new.partition).origin ≡ (holding_of coordinator.old.partition).origin }
-    ensures stream { IsPassOf crew.now.stream.now coordinator.new.stream }
-    ensures receiver { IsReceiver (known coordinator.new.stream) }
     ensures team { IsTeam crew.now.chunked.now crew.now.stream.now crew.now.workers coordinator.new.worker_count team.new }
     ensures wanted { 1 ≤ coordinator.new.worker_count.wanted }
     ensures ready { X.is_ready consumer.new }
     ensures over { X.wants_no_more consumer.new ≡ true → closing.new.is_closed ≡ false → has_worker_fault coordinator.new.worker_faults ≡ true }
-    ensures accepted { (before : _) (start : _) → HasAccepted (AcceptsEach X.accepts J.is_result) before start (known coordinator.old.stream).received closing.old.wants_close consumer.old
-        → HasAccepted (AcceptsEach X.accepts J.is_result) before start (known coordinator.new.stream).received closing.new.wants_close consumer.new }
+    ensures accepted { AcceptsOn X.accepts J.is_result (known coordinator.old.stream).received closing.old.wants_close consumer.old
+        (known coordinator.new.stream).received closing.new.wants_close consumer.new }
 {
     for _ in rt.forever() {
         start_wanted(scope, rt, crew, coordinator, team);
@@ -160,8 +147,7 @@ where
     ensures all { HasReceivedAll (known pass.new) }
     ensures sent { (known pass.new).sent ≡ (known pass.old).sent }
     ensures numbers { (known pass.new).numbers ≡ (known pass.old).numbers }
-    ensures accepted { (before : _) (start : _) → HasAccepted (AcceptsEach X.accepts J.is_result) before start (known pass.old).received closing.wants_close consumer.old
-        → HasAccepted (AcceptsEach X.accepts J.is_result) before start (known pass.new).received closing.wants_close consumer.new }
+    ensures accepted { AcceptsOn X.accepts J.is_result (known pass.old).received closing.wants_close consumer.old (known pass.new).received closing.wants_close consumer.new }
 {
     for _ in rt.forever() {
         match crew.stream.receive(rt, pass) {
@@ -241,15 +227,6 @@ where
         worker_faults,
         worker_count,
     })
-}
-
-/// What the closure of a scope captures beside the consumer. (It is one value, since each that is captured or named makes the
-/// closure's proof longer.)
-#[derive(Drop)]
-struct Equipment<'a, L: Lambda, S: Source, J: RunSpec<P::Part>, P: Task<L::Item>, R> {
-    rt: &'a R,
-    crew: &'a Crew<'a, L, S, J, P>,
-    context: WorkerContext<S, P::Part>,
 }
 
 /// Starts a crew's workers, passes what they send to the consumer, and joins them.

@@ -1,15 +1,14 @@
 //! The caller's thread among its workers: it receives what they send, and closes the source in time.
-ghost use Rattle.std.specs.Prelude.{◌≡◌, ◌≤◌, ◌^◌, [], drop, length, true, false, All, IfOk, IfSome};
-ghost use Rattle.plinq_cut.specs.Passes.{IsPassOf as IsCutPassOf};
-ghost use Rattle.plinq_crew.specs.Working.{IsReceiver};
+ghost use Rattle.std.specs.Prelude.{◌≡◌, true, false};
 ghost use Rattle.plinq_partition.specs.Partitions.{IsPartitionOf, holding_of};
 ghost use Rattle.plinq_crew.specs.Noted.{has_worker_fault, StaysNoted};
 ghost use Rattle.plinq_crew.specs.Polls.{IfCame, HasCome, ClosesInTime};
-ghost use Rattle.plinq_stream.specs.Passes.{IsPassOf, known};
+ghost use Rattle.plinq_stream.specs.Passes.{known};
+ghost use Rattle.plinq_crew.specs.inner.Coordinating.{IsCoordinator, StaysSame};
 
 use crate::closing::Closing;
 use crate::poll::Poll;
-use crate::results::{ResultPass, RunSpec};
+use crate::result_stream::{ResultPass, RunSpec};
 use crate::starting::WorkerFaults;
 use crate::task::Task;
 use crate::worker::Crew;
@@ -89,7 +88,7 @@ impl<S: Source, M: Drop> Coordinator<S, M> {
             Ok(()) => closing.is_closed = true,
             Err(fault) => self.worker_faults.note(fault),
         }
-        crew.progress.let_all_on();
+        crew.progress.window.let_all_on();
     }
 
     /// The next result that a worker has sent. Where none comes for a while, the thread is to sleep until something is
@@ -106,16 +105,11 @@ impl<S: Source, M: Drop> Coordinator<S, M> {
         J: RunSpec<M>,
         P: Task<S::Item, Part = M>,
         R: Wait,
-        requires of { IsPartitionOf crew.now.chunked.now self.old.partition }
-        requires stream { IsPassOf crew.now.stream.now self.old.stream }
-        requires receiver { IsReceiver (known self.old.stream) }
-        ensures of { IsPartitionOf crew.now.chunked.now self.new.partition }
-        ensures origin { (holding_of self.new.partition).origin ≡ (holding_of self.old.partition).origin }
-        ensures stream { IsPassOf crew.now.stream.now self.new.stream }
-        ensures receiver { IsReceiver (known self.new.stream) }
+        requires coordinator { IsCoordinator crew.now.chunked.now crew.now.stream.now self.old }
+        ensures coordinator { IsCoordinator crew.now.chunked.now crew.now.stream.now self.new }
+        ensures same { StaysSame self.old self.new }
         ensures carried { IfCame result J.is_result }
         ensures received { HasCome (known self.old.stream) result (known self.new.stream) }
-        ensures worker_count { self.new.worker_count ≡ self.old.worker_count }
         ensures kept { StaysNoted self.old.worker_faults self.new.worker_faults }
         ensures closed { closing.old.wants_close ≡ true → closing.new.wants_close ≡ true }
         ensures closes { ClosesInTime is_over closing.old (holding_of self.old.partition) self.new.worker_faults closing.new (holding_of self.new.partition) }

@@ -1,4 +1,4 @@
-use crate::results::ResultPass;
+use crate::result_stream::ResultPass;
 use crate::worker::Worked;
 use plinq_partition::Chunked;
 use plinq_source::Source;

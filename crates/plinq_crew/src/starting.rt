@@ -1,20 +1,20 @@
 //! Starting the workers of a run, and having them back.
-ghost use Rattle.std.specs.Prelude.{◌≡◌, ◌≤◌, ◌<◌, ◌^◌, ◌+◌, [], drop, length, true, false, not, ◌||◌, All, IfSome, vec_len, vec_capacity};
+ghost use Rattle.std.specs.Prelude.{◌≡◌, ◌≤◌, ◌<◌, ◌+◌, [], drop, length, true, false, not, ◌||◌, All, IfSome, vec_capacity};
 ghost use Rattle.plinq_partition.specs.Partitions.{IsPartitionOf, holding_of};
 ghost use Rattle.plinq_partition.specs.GivenBack.{common_origin};
 ghost use Rattle.plinq_crew.specs.Equipped.{IsEquipped};
 ghost use Rattle.plinq_crew.specs.Noted.{lacks_room, has_worker_fault, has_noted, StaysNoted};
-ghost use Rattle.plinq_cut.specs.Passes.{IsPassOf as IsCutPassOf};
 ghost use Rattle.plinq_crew.specs.inner.Handles.{IsHandleOf, AreNumbered};
-ghost use Rattle.plinq_crew.specs.inner.Teams.{IsTeam};
-ghost use Rattle.plinq_crew.specs.Working.{IsNewcomer, IsReceiver, IsBack, IsAnsweredBy, HasNumbersFrom};
+ghost use Rattle.plinq_crew.specs.Working.{IsNewcomer, IsReceiver, IsAnsweredBy};
 ghost use Rattle.plinq_stream.specs.Passes.{IsPassOf, known};
+ghost use Rattle.plinq_crew.specs.inner.Coordinating.{CanStart};
+ghost use Rattle.plinq_crew.specs.inner.Scoped.{MayWork, WorkReturns};
 
 use crate::coordinator::Coordinator;
 use crate::handle::{WorkerHandle, WorkerPromise};
-use crate::results::{ResultPass, RunSpec};
+use crate::result_stream::{ResultPass, RunSpec};
 use crate::task::Task;
-use crate::worker::{Crew, Worked, WorkerContext};
+use crate::worker::{Crew, Equipment, Worked, WorkerContext};
 use crate::worker_count::WorkerCount;
 use plinq_cut::CutPass;
 use plinq_lambda::SharedLambda;
@@ -50,13 +50,17 @@ where
         given: Snapshot::of(&context.stream),
         number: worker,
     };
+    let taken = (Equipment { rt, crew, context }, worker);
     let handle = scope.spawn_with(
         promise,
         move || -> Worked<S, P::Part>
-            requires new { IsNewcomer crew.now.stream.now worker context.partition context.stream }
-            requires equipped { IsEquipped L.meaning (P.makes crew.now.task.now) J.is_result J.stops_at crew.now.plan.now crew.now.chunked.now crew.now.cut.now context.partition context.cut }
-            ensures { IsBack crew.entry.now.chunked.now context.stream worker result }
-        { crew.work(rt, worker, context) },
+            requires { MayWork L.meaning P.makes J.is_result J.stops_at taken.0 taken.1 }
+            ensures { WorkReturns taken.entry.0 taken.entry.1 result }
+        {
+            let (equipment, worker) = taken;
+            let Equipment { rt, crew, context } = equipment;
+            crew.work(rt, worker, context)
+        },
     );
     handle.ok()
 }
@@ -83,20 +87,10 @@ where
     J: RunSpec<P::Part> + Send + Sync,
     P: Task<L::Item>,
     R: Threads + Wait + Sync,
-    requires stream { IsPassOf crew.now.stream.now coordinator.old.stream }
-    requires receiver { IsReceiver (known coordinator.old.stream) }
-    requires numbers { coordinator.old.worker_count.started ≡ coordinator.old.worker_count.wanted → HasNumbersFrom (length team.old.handles.items) (known coordinator.old.stream) }
-    requires equipped { IsEquipped L.meaning (P.makes crew.now.task.now) J.is_result J.stops_at crew.now.plan.now crew.now.chunked.now crew.now.cut.now coordinator.old.partition team.old.cut }
-    requires team { IsTeam crew.now.chunked.now crew.now.stream.now crew.now.workers coordinator.old.worker_count team.old }
-    requires workers { (1 ≤ crew.now.workers) × (crew.now.workers ≤ 64) }
-    ensures of { IsPartitionOf crew.now.chunked.now coordinator.new.partition }
+    requires may { CanStart L.meaning P.makes J.is_result J.stops_at crew.now coordinator.old team.old }
+    ensures may { CanStart L.meaning P.makes J.is_result J.stops_at crew.now coordinator.new team.new }
     ensures same { holding_of coordinator.new.partition ≡ holding_of coordinator.old.partition }
-    ensures stream { IsPassOf crew.now.stream.now coordinator.new.stream }
-    ensures receiver { IsReceiver (known coordinator.new.stream) }
-    ensures numbers { coordinator.new.worker_count.started ≡ coordinator.new.worker_count.wanted → HasNumbersFrom (length team.new.handles.items) (known coordinator.new.stream) }
     ensures received { (known coordinator.new.stream).received ≡ (known coordinator.old.stream).received }
-    ensures cut { IsCutPassOf crew.now.cut.now team.new.cut }
-    ensures team { IsTeam crew.now.chunked.now crew.now.stream.now crew.now.workers coordinator.new.worker_count team.new }
     ensures wanted { 1 ≤ coordinator.new.worker_count.wanted }
 {
     let WorkerCount { wanted, started } = coordinator.worker_count;

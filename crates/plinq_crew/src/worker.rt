@@ -13,7 +13,7 @@ ghost use Rattle.plinq_crew.specs.Working.{IsNewcomer, HasWorked, HasTakenChunk,
 ghost use Rattle.plinq_stream.specs.Passes.{IsPassOf, known};
 
 use crate::progress::Progress;
-use crate::results::{ResultPass, ResultStream, RunSpec, RunStopKeys};
+use crate::result_stream::{ResultPass, ResultStream, RunSpec, RunStopKeys};
 use crate::task::Task;
 use plinq_cut::{CutPass, CutWord, cut_now, cut_off};
 use plinq_lambda::Lambda;
@@ -69,6 +69,15 @@ pub struct Crew<'a, L: Lambda, S: Source, J: RunSpec<P::Part>, P: Task<L::Item>>
     pub task: &'a P,
     pub progress: &'a Progress,
     pub workers: u64,
+}
+
+/// What the closure of a thread captures. (It is one value, since each that is captured or named makes the closure's proof
+/// longer.)
+#[derive(Drop)]
+pub(crate) struct Equipment<'a, L: Lambda, S: Source, J: RunSpec<P::Part>, P: Task<L::Item>, R> {
+    pub(crate) rt: &'a R,
+    pub(crate) crew: &'a Crew<'a, L, S, J, P>,
+    pub(crate) context: WorkerContext<S, P::Part>,
 }
 
 impl<'a, L, S, J, P> Crew<'a, L, S, J, P>
@@ -137,7 +146,7 @@ where
                     let is_last = made.tail.is_some();
                     let place = next_place(&made);
                     if is_enough(self.plan, &made) {
-                        self.progress.hold_all();
+                        self.progress.window.hold_all();
                     }
                     self.progress.count_in(made.items.len() as u64);
                     self.stream.send(rt, &mut stream, worker, made);
@@ -150,7 +159,7 @@ where
                             fault: None,
                         };
                     }
-                    self.progress.wait_until_within_window(rt, place);
+                    self.progress.window.wait_until_within(rt, place);
                 }
                 Err(fault) => {
                     self.progress.fail();

@@ -1,26 +1,18 @@
-use Rattle.std.proofs.Common.{rules, ◌≡◌, ap, ◌∙◌, sym, subst}
+use Rattle.std.proofs.Common.{ap, ◌∙◌, sym, subst}
 use Rattle.plinq_crew.specs.Polls.{HasAccepted}
-use Rattle.plinq_crew.specs.declared.worker_count.WorkerCount.{WorkerCount}
 use Rattle.plinq_crew.specs.Conducting.{AcceptsEach}
-use Rattle.plinq_crew.proofs.Cuts.{equipped-beside}
+use Rattle.plinq_crew.proofs.Coordinating.{may-go_on}
 use Rattle.plinq_crew.proofs.conducting.accept_all.Goals as goal
 
 pub loop-preserved : goal.loop-preserved
 loop-preserved g c =
     let crew = c.args.crew.now in
     let Step = AcceptsEach g.X.Consumer.accepts g.J.RunSpec.is_result in
-    let same = c.start_wanted.ensures.same in
-    let at = c.accept_some.ensures.origin ∙ ap (λ h. h.origin) same in
     record {
       can = tt;
       finite = tt;
-      equipped = equipped-beside g.L.Lambda.meaning (g.P.Task.makes crew.task.now) g.J.RunSpec.is_result g.J.RunSpec.stops_at crew.plan.now crew.chunked.now crew.cut.now c.loop.coordinator.partition c.accept_some.new.coordinator.partition c.loop.team.cut c.start_wanted.new.team.cut
-          c.loop.invariant.equipped c.accept_some.ensures.of at c.start_wanted.ensures.cut;
-      origin = at ∙ c.loop.invariant.origin;
-      stream = c.accept_some.ensures.stream;
-      receiver = c.accept_some.ensures.receiver;
-      numbers = λ is. c.accept_some.ensures.numbers ∙ c.start_wanted.ensures.numbers (subst (λ (w : WorkerCount). w.started ≡ w.wanted) c.accept_some.ensures.worker_count is);
-      team = search rules;
+      may = may-go_on g.L.Lambda.meaning g.P.Task.makes g.J.RunSpec.is_result g.J.RunSpec.stops_at crew _ _ _ c.start_wanted.ensures.may c.accept_some.ensures.coordinator c.accept_some.ensures.same;
+      origin = c.accept_some.ensures.same.origin ∙ ap (λ h. h.origin) c.start_wanted.ensures.same ∙ c.loop.invariant.origin;
       ready = c.accept_some.ensures.ready;
       accepted = λ before start h.
           c.accept_some.ensures.accepted before start

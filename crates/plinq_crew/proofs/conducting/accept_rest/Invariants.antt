@@ -1,7 +1,6 @@
 use Rattle.std.proofs.Common.{◌≡◌, true}
 use Rattle.plinq_stream.specs.Passes.{IsPassOf, known}
-use Rattle.plinq_crew.specs.Polls.{HasAccepted}
-use Rattle.plinq_crew.specs.Conducting.{AcceptsEach}
+use Rattle.plinq_crew.specs.inner.Coordinating.{AcceptsOn}
 use Rattle.plinq_crew.proofs.conducting.accept_rest.Given as goal
 
 abbrev pub invariant-loop : goal.invariant-loop
@@ -13,6 +12,5 @@ invariant-loop g l = record {
   sent : (known l.pass).sent ≡ (known l.fn.pass).sent;
   numbers : (known l.pass).numbers ≡ (known l.fn.pass).numbers;
   ready : g.X.Consumer.is_ready l.consumer;
-  accepted : (before : _) (start : _) → HasAccepted (AcceptsEach g.X.Consumer.accepts g.J.RunSpec.is_result) before start (known l.fn.pass).received l.closing.wants_close l.fn.consumer
-      → HasAccepted (AcceptsEach g.X.Consumer.accepts g.J.RunSpec.is_result) before start (known l.pass).received l.closing.wants_close l.consumer;
+  accepted : AcceptsOn g.X.Consumer.accepts g.J.RunSpec.is_result (known l.fn.pass).received l.closing.wants_close l.fn.consumer (known l.pass).received l.closing.wants_close l.consumer;
 }

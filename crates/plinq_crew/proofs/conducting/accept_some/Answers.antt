@@ -1,5 +1,6 @@
-use Rattle.std.proofs.Common.{rules, refl, sym, ap, ◌∙◌, subst, true≢false}
+use Rattle.std.proofs.Common.{refl, sym, ap, ◌∙◌, subst, true≢false}
 use Rattle.plinq_stream.specs.Passes.{known}
+use Rattle.plinq_crew.proofs.Coordinating.{stays-on}
 use Rattle.plinq_crew.proofs.Polls.{took-none, took-more}
 use Rattle.plinq_crew.specs.Conducting.{AcceptsEach}
 use Rattle.plinq_crew.proofs.conducting.accept_some.Goals as goal
@@ -8,12 +9,8 @@ pub loop-preserved-then-not-closing : goal.loop-preserved-then-not-closing
 loop-preserved-then-not-closing g c = record {
   can = tt;
   finite = tt;
-  of = search rules;
-  origin = search rules;
-  stream = search rules;
-  receiver = search rules;
-  numbers = ap (λ k. k.numbers) c.in-Came.ensures.received.2 ∙ c.loop.invariant.numbers;
-  worker_count = search rules;
+  coordinator = c.poll.ensures.coordinator;
+  same = stays-on _ _ _ c.loop.invariant.same c.poll.ensures.same;
   ready = c.accept.ensures.ready;
   accepted = λ before start h.
       let Step = AcceptsEach g.X.Consumer.accepts g.J.RunSpec.is_result in
@@ -34,12 +31,8 @@ pub loop-preserved-else-not-closing : goal.loop-preserved-else-not-closing
 loop-preserved-else-not-closing g c = record {
   can = tt;
   finite = tt;
-  of = search rules;
-  origin = search rules;
-  stream = search rules;
-  receiver = search rules;
-  numbers = ap (λ k. k.numbers) c.in-Came.ensures.received.2 ∙ c.loop.invariant.numbers;
-  worker_count = search rules;
+  coordinator = c.poll.ensures.coordinator;
+  same = stays-on _ _ _ c.loop.invariant.same c.poll.ensures.same;
   ready = c.loop.invariant.ready;
   accepted = λ before start h.
       let Step = AcceptsEach g.X.Consumer.accepts g.J.RunSpec.is_result in

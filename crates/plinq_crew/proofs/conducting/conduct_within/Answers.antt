@@ -7,11 +7,18 @@ use Rattle.plinq_crew.specs.Working.{HasNumbersFrom}
 use Rattle.plinq_crew.proofs.Working.{answered-same}
 use Rattle.plinq_crew.proofs.conducting.conduct_within.Goals as goal
 
-pub accept_all-requires-clause-numbers : goal.accept_all-requires-clause-numbers
-accept_all-requires-clause-numbers g c κs within same =
+pub accept_all-requires-clause-may : goal.accept_all-requires-clause-may
+accept_all-requires-clause-may g c κs within =
     let none : 0 ≡ length c.in-Ok.handles.items = search rules in
     let all = ap (λ p. (known p).numbers) c.new-coordinator.ensures.stream ∙ ap (λ k. k.numbers) c.requires.ready.knows in
-    subst (λ n. HasNumbersFrom n (known c.new-coordinator.result.stream)) none all
+    record {
+      pass = search rules;
+      receiver = search rules;
+      numbers = λ _. subst (λ n. HasNumbersFrom n (known c.new-coordinator.result.stream)) none all;
+      equipped = search rules;
+      team = search rules;
+      workers = c.requires.ready.workers;
+    }
 
 pub returns : goal.returns
 returns g c =
