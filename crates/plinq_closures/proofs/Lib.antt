@@ -1,3 +1,5 @@
 mod Asked
 mod Over
 mod Put
+mod SoFar
+mod Within

@@ -1,4 +1,5 @@
 pub mod Asked
+pub mod Blocks
 pub mod Functions
 pub mod Laws
 pub mod Only

@@ -31,6 +31,19 @@ impl<'a, S: Steps> Lambda for At<'a, S> {
         self.steps.test(self.at, x)
     }
 
+    // The step is looked up once a block.
+    fn map_block(&self, block: &mut [S::Item]) -> (usize, Option<u32>) {
+        self.steps.map_block(self.at, block)
+    }
+
+    fn filter_block(&self, block: &mut [S::Item]) -> (usize, Option<u32>) {
+        self.steps.filter_block(self.at, block)
+    }
+
+    fn count_passing(&self, block: &[S::Item]) -> (usize, Option<u32>) {
+        self.steps.count_passing(self.at, block)
+    }
+
     fn expand(&self, _: Global, _: S::Item) -> Result<Vec<S::Item>, ExpandFault> {
         Err(ExpandFault::Code(0))
     }

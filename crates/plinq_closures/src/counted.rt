@@ -3,6 +3,7 @@ ghost use Rattle.plinq_closures.specs.Functions.{tests};
 ghost use Rattle.plinq_closures.specs.Steps.{over, here_or, IsNothing, does_nothing, DoesThen};
 ghost use Rattle.plinq_closures.specs.Laws.{nothing_given, nothing_else, some_then, one_then, comes_to-tested};
 
+use crate::blocks::nothing_done;
 use crate::steps::Steps;
 use plinq_ops::Op;
 
@@ -57,6 +58,30 @@ impl<S: Steps> Steps for Counted<S> {
             Err(0)
         } else {
             self.before.test(at - 1, x)
+        }
+    }
+
+    fn map_block(&self, at: u64, block: &mut [S::Item]) -> (usize, Option<u32>) {
+        if at == 0 {
+            nothing_done(block)
+        } else {
+            self.before.map_block(at - 1, block)
+        }
+    }
+
+    fn filter_block(&self, at: u64, block: &mut [S::Item]) -> (usize, Option<u32>) {
+        if at == 0 {
+            nothing_done(block)
+        } else {
+            self.before.filter_block(at - 1, block)
+        }
+    }
+
+    fn count_passing(&self, at: u64, block: &[S::Item]) -> (usize, Option<u32>) {
+        if at == 0 {
+            nothing_done(block)
+        } else {
+            self.before.count_passing(at - 1, block)
         }
     }
 

@@ -42,6 +42,18 @@ impl<'a, S: Steps> Steps for Lent<'a, S> {
         self.steps.test(at, x)
     }
 
+    fn map_block(&self, at: u64, block: &mut [S::Item]) -> (usize, Option<u32>) {
+        self.steps.map_block(at, block)
+    }
+
+    fn filter_block(&self, at: u64, block: &mut [S::Item]) -> (usize, Option<u32>) {
+        self.steps.filter_block(at, block)
+    }
+
+    fn count_passing(&self, at: u64, block: &[S::Item]) -> (usize, Option<u32>) {
+        self.steps.count_passing(at, block)
+    }
+
     ghost one_call = { λ s way. S.one_call s.steps.now way };
 
     ghost map_gives = { λ s some. S.map_gives s.steps.now some };

@@ -10,6 +10,7 @@
 
 mod asking;
 mod at;
+mod blocks;
 mod building;
 mod calling;
 mod chain;

@@ -5,6 +5,7 @@ ghost use Rattle.plinq_closures.specs.Functions.{maps};
 ghost use Rattle.plinq_closures.specs.Steps.{here_or, IsNothing, DoesThen};
 ghost use Rattle.plinq_closures.specs.Laws.{nothing_given, nothing_else, some_then, one_then, comes_to-mapped};
 
+use crate::blocks::{map_each, nothing_done};
 use crate::steps::Steps;
 use plinq_ops::Op;
 
@@ -59,6 +60,30 @@ impl<S: Steps, F: Fn(S::Item) -> Result<S::Item, u32>> Steps for Mapped<S, F> {
             Err(0)
         } else {
             self.before.test(at - 1, x)
+        }
+    }
+
+    fn map_block(&self, at: u64, block: &mut [S::Item]) -> (usize, Option<u32>) {
+        if at == 0 {
+            map_each(&self.by, block)
+        } else {
+            self.before.map_block(at - 1, block)
+        }
+    }
+
+    fn filter_block(&self, at: u64, block: &mut [S::Item]) -> (usize, Option<u32>) {
+        if at == 0 {
+            nothing_done(block)
+        } else {
+            self.before.filter_block(at - 1, block)
+        }
+    }
+
+    fn count_passing(&self, at: u64, block: &[S::Item]) -> (usize, Option<u32>) {
+        if at == 0 {
+            nothing_done(block)
+        } else {
+            self.before.count_passing(at - 1, block)
         }
     }
 

@@ -1,6 +1,8 @@
-ghost use Rattle.std.specs.Prelude.{◌≡◌, ℕ, List, length, Bool, Result, IfSome, ⊤};
+ghost use Rattle.std.specs.Prelude.{◌≡◌, ◌≤◌, ℕ, List, length, take, Bool, Result, IfSome, ⊤};
+ghost use Rattle.plinq_lambda.specs.Block.{mapped_block, filtered_block, passing_block};
 ghost use Rattle.plinq_lambda.specs.Meaning.{Meaning};
 ghost use Rattle.plinq_ops.specs.declared.op.Op.{Op};
+ghost use Rattle.plinq_closures.specs.Blocks.{GivesBlock};
 ghost use Rattle.plinq_closures.specs.Steps.{kind_at, GivesSome, GivesOne, ComesTo};
 
 use plinq_ops::Op;
@@ -59,6 +61,28 @@ pub trait Steps {
     fn test(&self, at: u64, x: Self::Item) -> Result<bool, u32>
         requires { is_called self.now }
         ensures { tests self.now at x result };
+
+    /// Maps the items of a block in their places by the step of this number, as [`Lambda::map_block`](plinq_lambda::Lambda)
+    /// does: the step is looked up once.
+    fn map_block(&self, at: u64, block: &mut [Self::Item]) -> (usize, Option<u32>)
+        requires { is_called self.now }
+        ensures within { result.0 ≤ length block.new }
+        ensures mapped { GivesBlock mapped_block (maps self.now at) block.old
+            (record { items = take result.0 block.new; fault = result.1 }) };
+
+    /// Brings the items of a block that pass the step of this number to its front, as `Lambda::filter_block` does.
+    fn filter_block(&self, at: u64, block: &mut [Self::Item]) -> (usize, Option<u32>)
+        requires { is_called self.now }
+        ensures within { result.0 ≤ length block.new }
+        ensures filtered { GivesBlock filtered_block (tests self.now at) block.old
+            (record { items = take result.0 block.new; fault = result.1 }) };
+
+    /// How many items of a block pass the step of this number before the first that doesn't, as `Lambda::count_passing` says.
+    fn count_passing(&self, at: u64, block: &[Self::Item]) -> (usize, Option<u32>)
+        requires { is_called self.now }
+        ensures within { result.0 ≤ length block.now }
+        ensures passing { GivesBlock passing_block (tests self.now at) block.now
+            (record { items = take result.0 block.now; fault = result.1 }) };
 
     ghost one_call: { (s : Self) → in_one_way s → (a b : is_called s) → a ≡ b };
 

@@ -4,6 +4,7 @@ ghost use Rattle.plinq_closures.specs.Functions.{tests};
 ghost use Rattle.plinq_closures.specs.Steps.{over, here_or, IsNothing, DoesThen};
 ghost use Rattle.plinq_closures.specs.Laws.{nothing_given, nothing_else, some_then, one_then, comes_to-tested};
 
+use crate::blocks::{count_each, filter_each, nothing_done};
 use crate::steps::Steps;
 use plinq_ops::Op;
 
@@ -59,6 +60,30 @@ impl<S: Steps, P: Fn(S::Item) -> Result<bool, u32>> Steps for Tested<S, P> {
             (self.by)(x)
         } else {
             self.before.test(at - 1, x)
+        }
+    }
+
+    fn map_block(&self, at: u64, block: &mut [S::Item]) -> (usize, Option<u32>) {
+        if at == 0 {
+            nothing_done(block)
+        } else {
+            self.before.map_block(at - 1, block)
+        }
+    }
+
+    fn filter_block(&self, at: u64, block: &mut [S::Item]) -> (usize, Option<u32>) {
+        if at == 0 {
+            filter_each(&self.by, block)
+        } else {
+            self.before.filter_block(at - 1, block)
+        }
+    }
+
+    fn count_passing(&self, at: u64, block: &[S::Item]) -> (usize, Option<u32>) {
+        if at == 0 {
+            count_each(&self.by, block)
+        } else {
+            self.before.count_passing(at - 1, block)
         }
     }
 

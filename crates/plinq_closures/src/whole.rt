@@ -2,6 +2,7 @@ ghost use Rattle.std.specs.Prelude.{◌≡◌, [], ⊤, refl};
 ghost use Rattle.plinq_closures.specs.Steps.{IsNothing};
 ghost use Rattle.plinq_closures.specs.Laws.{nothing_given, nothing_else, no_steps};
 
+use crate::blocks::nothing_done;
 use crate::steps::Steps;
 use plinq_ops::Op;
 use std::marker::PhantomData;
@@ -51,6 +52,18 @@ impl<T: Copy> Steps for Whole<T> {
 
     fn test(&self, _: u64, _: T) -> Result<bool, u32> {
         Err(0)
+    }
+
+    fn map_block(&self, _: u64, block: &mut [T]) -> (usize, Option<u32>) {
+        nothing_done(block)
+    }
+
+    fn filter_block(&self, _: u64, block: &mut [T]) -> (usize, Option<u32>) {
+        nothing_done(block)
+    }
+
+    fn count_passing(&self, _: u64, block: &[T]) -> (usize, Option<u32>) {
+        nothing_done(block)
     }
 
     ghost one_call = { λ s way a b. refl };
