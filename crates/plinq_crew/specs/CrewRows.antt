@@ -27,7 +27,7 @@ use Rattle.plinq_stream.specs.declared.stream_pass.StreamPass.{StreamPass}
 use Rattle.plinq_stream.specs.Knowing.{with_received}
 use Rattle.plinq_stream.specs.Passes.{IsPassOf, known}
 use Rattle.plinq_stream.specs.Streams.{has, under}
-use Rattle.plinq_crew.specs.declared.closing.Closing.{Closing}
+use Rattle.plinq_crew.specs.declared.closing.Closing.TheVariants.{Open, Wanted, Closed}
 use Rattle.plinq_crew.specs.declared.coordinator.Coordinator.{Coordinator}
 use Rattle.plinq_crew.specs.declared.conducting.Returned.{Returned}
 use Rattle.plinq_crew.specs.declared.handle.WorkerPromise.{WorkerPromise}
@@ -39,6 +39,7 @@ use Rattle.plinq_crew.specs.declared.worker.Equipment.{Equipment}
 use Rattle.plinq_crew.specs.declared.worker.Worked.{Worked}
 use Rattle.plinq_crew.specs.declared.worker.WorkerContext.{WorkerContext}
 use Rattle.plinq_crew.specs.declared.worker_count.WorkerCount.{WorkerCount}
+use Rattle.plinq_crew.specs.Closing.{wants_close, is_closed}
 use Rattle.plinq_crew.specs.Conducting.{AcceptsEach, HasReturned, Conducts}
 use Rattle.plinq_crew.specs.Equipped.{IsEquipped, IsReady}
 use Rattle.plinq_crew.specs.inner.Handles.{IsHandleOf, AreNumbered}
@@ -99,40 +100,42 @@ tickets_are_a_fault = refl
 no_fault_is_none : has_worker_fault nothing_noted ≡ false
 no_fault_is_none = refl
 
-abbrev unclosed : Closing
-unclosed = record { wants_close = false; is_closed = false }
-
-abbrev closed : Closing
-closed = record { wants_close = true; is_closed = true }
-
 abbrev holding : Holding ℕ
 holding = record { origin = open_trace []; share = []; requests = 0 }
 
 -- a poll that says it has closed the source has one record more
-closed_without_a_record : (faults : WorkerFaults) → ClosesInTime true unclosed holding faults closed holding → ⊥
+closed_without_a_record : (faults : WorkerFaults) → ClosesInTime true Open holding faults Closed holding → ⊥
 closed_without_a_record faults closes = let stopped = closes.2 refl refl in omega (arith, ap length stopped.adds.share)
 
 -- where all is over and no fault stands noted, the source is closed
-over_and_unclosed : ClosesInTime true unclosed holding nothing_noted (record { wants_close = true; is_closed = false }) holding
-    → ⊥
-over_and_unclosed closes = let same = closes.4 refl refl refl in absurd (cc)
+over_and_unclosed : ClosesInTime true Open holding nothing_noted Wanted holding → ⊥
+over_and_unclosed closes = let same = closes.4 refl refl in absurd (cc)
 
 -- where it isn't closed yet, no record was added
 unclosed_with_a_record : (faults : WorkerFaults) (b : Holding ℕ) → length b.share ≡ 1
-    → ClosesInTime false unclosed holding faults unclosed b → ⊥
+    → ClosesInTime false Open holding faults Open b → ⊥
 unclosed_with_a_record faults b one closes = omega (arith, one, ap (λ h. length h.share) (closes.1 refl))
 
--- where all is over, and where it was closed, it is to be closed
-over_and_open : (faults : WorkerFaults) → ClosesInTime true unclosed holding faults unclosed holding → ⊥
+-- where all is over, it is to be closed
+over_and_open : (faults : WorkerFaults) → ClosesInTime true Open holding faults Open holding → ⊥
 over_and_open faults closes = let same = closes.3 refl refl in absurd (cc)
 
-closed_and_open : (faults : WorkerFaults) (b : Holding ℕ)
-    → ClosesInTime false unclosed holding faults (record { wants_close = false; is_closed = true }) b → ⊥
-closed_and_open faults b closes = let same = closes.5 refl refl in absurd (cc)
+-- where it is closed or to be closed, what comes is dropped
+closed_drops : wants_close Closed ≡ true
+closed_drops = refl
+
+wanted_drops : wants_close Wanted ≡ true
+wanted_drops = refl
+
+open_drops_nothing : wants_close Open ≡ false
+open_drops_nothing = refl
+
+wanted_is_unclosed : is_closed Wanted ≡ false
+wanted_is_unclosed = refl
 
 -- one that has closed it doesn't say that it hasn't
-closed_and_forgotten : (faults : WorkerFaults) → ClosesInTime true closed holding faults unclosed holding → ⊥
-closed_and_forgotten faults closes = let same = ap (λ c. c.is_closed) (closes.0 refl) in absurd (cc)
+closed_and_forgotten : (faults : WorkerFaults) → ClosesInTime true Closed holding faults Open holding → ⊥
+closed_and_forgotten faults closes = let same = ap is_closed (closes.0 refl) in absurd (cc)
 
 -- ---- what came
 

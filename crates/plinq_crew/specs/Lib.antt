@@ -1,3 +1,4 @@
+pub mod Closing
 pub mod Conducting
 pub mod Equipped
 pub mod Plans

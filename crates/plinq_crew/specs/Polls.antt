@@ -6,6 +6,7 @@ use Rattle.plinq_ops.specs.declared.results.ChunkResult.{ChunkResult}
 use Rattle.plinq_stream.specs.declared.known.PassKnowledge.{PassKnowledge}
 use Rattle.plinq_stream.specs.declared.sent.Sent.{Sent}
 use Rattle.plinq_stream.specs.Knowing.{with_received}
+use Rattle.plinq_crew.specs.Closing.{wants_close, is_closed}
 use Rattle.plinq_crew.specs.Noted.{has_worker_fault}
 use Rattle.plinq_crew.specs.declared.closing.Closing.{Closing}
 use Rattle.plinq_crew.specs.declared.starting.WorkerFaults.{WorkerFaults}
@@ -26,15 +27,14 @@ module _ {M : Type 0} where
   HasCome a Over b = b ≡ a
 
 -- the source is closed once at most, by a close of this share's own, and not where that was done before. Where all is over it
--- was closed by then, or some fault stands noted. Where a poll closes it, what comes from then on is dropped
+-- was closed by then, or some fault stands noted. What comes from then on is dropped
 abbrev pub ClosesInTime : {T : Type 0} → Bool → Closing → Holding T → WorkerFaults → Closing → Holding T → Type 0
 ClosesInTime is_over before a faults' after b =
-    (before.is_closed ≡ true → after ≡ before)
-    × (after.is_closed ≡ before.is_closed → b ≡ a)
-    × (before.is_closed ≡ false → after.is_closed ≡ true → IsStopped a b)
-    × (is_over ≡ true → before.is_closed ≡ false → after.wants_close ≡ true)
-    × (is_over ≡ true → before.is_closed ≡ false → after.is_closed ≡ false → has_worker_fault faults' ≡ true)
-    × (before.is_closed ≡ false → after.is_closed ≡ true → after.wants_close ≡ true)
+    (is_closed before ≡ true → after ≡ before)
+    × (is_closed after ≡ is_closed before → b ≡ a)
+    × (is_closed before ≡ false → is_closed after ≡ true → IsStopped a b)
+    × (is_over ≡ true → is_closed before ≡ false → wants_close after ≡ true)
+    × (is_over ≡ true → is_closed after ≡ false → has_worker_fault faults' ≡ true)
 
 -- Something is made by steps of all that was received since some moment, one step for each in the order in which it came,
 -- but for the last ones, for which there is none. All of them were taken in where it was not to be closed.

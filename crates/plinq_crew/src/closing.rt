@@ -1,23 +1,34 @@
-ghost use Rattle.std.specs.Prelude.{◌≡◌, false};
+ghost use Rattle.std.specs.Prelude.{◌≡◌};
+ghost use Rattle.plinq_crew.specs.Closing.{wants_close, is_closed};
 
-/// How far the closing of the source has come, once nothing more is wanted.
+/// How far the closing of the source has come.
 #[derive(Clone, Copy)]
-pub(crate) struct Closing {
-    /// Whether it is to be closed: what comes from now on is dropped.
-    pub(crate) wants_close: bool,
-    /// Whether a poll has closed it.
-    pub(crate) is_closed: bool,
+pub(crate) enum Closing {
+    /// More is wanted.
+    Open,
+    /// It is to be closed: what comes from now on is dropped.
+    Wanted,
+    /// A poll has closed it.
+    Closed,
 }
 
 impl Closing {
-    /// More is wanted.
-    pub(crate) fn none() -> Closing
-        ensures open { result.wants_close ≡ false }
-        ensures unclosed { result.is_closed ≡ false }
+    /// Whether nothing more is wanted.
+    pub(crate) fn wants_close(self) -> bool
+        ensures { result ≡ wants_close self }
     {
-        Closing {
-            wants_close: false,
-            is_closed: false,
+        match self {
+            Closing::Open => false,
+            Closing::Wanted | Closing::Closed => true,
+        }
+    }
+
+    pub(crate) fn is_closed(self) -> bool
+        ensures { result ≡ is_closed self }
+    {
+        match self {
+            Closing::Open | Closing::Wanted => false,
+            Closing::Closed => true,
         }
     }
 }

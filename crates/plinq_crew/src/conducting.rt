@@ -2,15 +2,14 @@
 ghost use Rattle.std.specs.Prelude.{◌≡◌, ◌≤◌, ◌^◌, true, false};
 ghost use Rattle.plinq_ops.specs.declared.results.ChunkResult.{ChunkResult};
 ghost use Rattle.plinq_ops.specs.Tails.{end_of_result};
-ghost use Rattle.plinq_partition.specs.Partitions.{holding_of};
 ghost use Rattle.plinq_stream.specs.Passes.{IsPassOf, known};
 ghost use Rattle.plinq_stream.specs.Streams.{HasReceivedAll};
+ghost use Rattle.plinq_crew.specs.Closing.{wants_close, is_closed};
 ghost use Rattle.plinq_crew.specs.Equipped.{IsReady};
 ghost use Rattle.plinq_crew.specs.Noted.{has_worker_fault};
-ghost use Rattle.plinq_crew.specs.inner.Teams.{IsTeam};
 ghost use Rattle.plinq_crew.specs.Conducting.{Conducts};
 ghost use Rattle.plinq_crew.specs.inner.Scoped.{MayStartScope, ScopeReturns};
-ghost use Rattle.plinq_crew.specs.inner.Coordinating.{IsCoordinator, StaysSame, CanStart, AcceptsOn};
+ghost use Rattle.plinq_crew.specs.inner.Coordinating.{IsCoordinator, StaysSame, AcceptsOn};
 
 use crate::closing::Closing;
 use crate::consumer::Consumer;
@@ -58,15 +57,15 @@ where
     ensures coordinator { IsCoordinator crew.now.chunked.now crew.now.stream.now coordinator.new }
     ensures same { StaysSame coordinator.old coordinator.new }
     ensures ready { X.is_ready consumer.new }
-    ensures over { result ≡ false → X.wants_no_more consumer.new ≡ true → closing.new.is_closed ≡ false → has_worker_fault coordinator.new.worker_faults ≡ true }
-    ensures accepted { AcceptsOn X.accepts J.is_result (known coordinator.old.stream).received closing.old.wants_close consumer.old
-        (known coordinator.new.stream).received closing.new.wants_close consumer.new }
+    ensures over { result ≡ false → X.wants_no_more consumer.new ≡ true → is_closed closing.new ≡ false → has_worker_fault coordinator.new.worker_faults ≡ true }
+    ensures accepted { AcceptsOn X.accepts J.is_result (known coordinator.old.stream).received (wants_close closing.old) consumer.old
+        (known coordinator.new.stream).received (wants_close closing.new) consumer.new }
 {
     for _ in rt.forever() {
         let is_over = consumer.is_over();
         match coordinator.poll(rt, crew, is_over, closing) {
             Poll::Came(part) => {
-                if !closing.wants_close {
+                if !closing.wants_close() {
                     consumer.accept(part);
                     crew.progress
                         .window
@@ -75,7 +74,7 @@ where
             }
             Poll::Nothing(sleep) => {
                 consumer.idle();
-                if !closing.wants_close && coordinator.wants_more(crew) {
+                if !closing.wants_close() && coordinator.wants_more(crew) {
                     return true;
                 }
                 coordinator.wait(rt, sleep);
@@ -84,44 +83,6 @@ where
         }
     }
     unreachable!()
-}
-
-/// Starts the workers that are wanted and accepts what they send, until all have ended and nothing seems to be left in the
-/// queue. Then the source is closed if the consumer is over, unless a worker's fault stands noted.
-fn accept_all<'s, Env, L, S, J, P, X, R>(
-    scope: &Scope<'s, Env>,
-    rt: &'s R,
-    crew: &'s Crew<'s, L, S, J, P>,
-    coordinator: &mut Coordinator<S, P::Part>,
-    team: &mut Team<S, P::Part>,
-    closing: &mut Closing,
-    consumer: &mut X,
-)
-where
-    L: SharedLambda,
-    S: Source<Item = L::Item>,
-    J: RunSpec<P::Part> + Send + Sync,
-    P: Task<L::Item>,
-    X: Consumer<<P as Task<L::Item>>::Part>,
-    R: Threads + Wait + Sync,
-    requires may { CanStart L.meaning P.makes J.is_result J.stops_at crew.now coordinator.old team.old }
-    requires within { (c : ChunkResult P.Part) → J.is_result c → end_of_result c ≤ 2 ^ 40 }
-    requires ready { X.is_ready consumer.old }
-    ensures coordinator { IsCoordinator crew.now.chunked.now crew.now.stream.now coordinator.new }
-    ensures origin { (holding_of coordinator.new.partition).origin ≡ (holding_of coordinator.old.partition).origin }
-    ensures team { IsTeam crew.now.chunked.now crew.now.stream.now crew.now.workers coordinator.new.worker_count team.new }
-    ensures wanted { 1 ≤ coordinator.new.worker_count.wanted }
-    ensures ready { X.is_ready consumer.new }
-    ensures over { X.wants_no_more consumer.new ≡ true → closing.new.is_closed ≡ false → has_worker_fault coordinator.new.worker_faults ≡ true }
-    ensures accepted { AcceptsOn X.accepts J.is_result (known coordinator.old.stream).received closing.old.wants_close consumer.old
-        (known coordinator.new.stream).received closing.new.wants_close consumer.new }
-{
-    for _ in rt.forever() {
-        start_wanted(scope, rt, crew, coordinator, team);
-        if !accept_some(rt, crew, coordinator, closing, consumer) {
-            return;
-        }
-    }
 }
 
 /// Accepts what is left once all workers were joined, until the queue is empty.
@@ -147,12 +108,12 @@ where
     ensures all { HasReceivedAll (known pass.new) }
     ensures sent { (known pass.new).sent ≡ (known pass.old).sent }
     ensures numbers { (known pass.new).numbers ≡ (known pass.old).numbers }
-    ensures accepted { AcceptsOn X.accepts J.is_result (known pass.old).received closing.wants_close consumer.old (known pass.new).received closing.wants_close consumer.new }
+    ensures accepted { AcceptsOn X.accepts J.is_result (known pass.old).received (wants_close closing) consumer.old (known pass.new).received (wants_close closing) consumer.new }
 {
     for _ in rt.forever() {
         match crew.stream.receive(rt, pass) {
             Some(sent) => {
-                if !closing.wants_close {
+                if !closing.wants_close() {
                     consumer.accept(sent.item);
                 }
             }
@@ -193,16 +154,13 @@ where
     } = context;
     let mut coordinator = Coordinator::new(partition, stream);
     let mut team = Team { handles, cut };
-    let mut closing = Closing::none();
-    accept_all(
-        scope,
-        rt,
-        crew,
-        &mut coordinator,
-        &mut team,
-        &mut closing,
-        consumer,
-    );
+    let mut closing = Closing::Open;
+    for _ in rt.forever() {
+        start_wanted(scope, rt, crew, &mut coordinator, &mut team);
+        if !accept_some(rt, crew, &mut coordinator, &mut closing, consumer) {
+            break;
+        }
+    }
     let Team { handles, .. } = team;
     let Coordinator {
         partition,

@@ -2,6 +2,7 @@
 ghost use Rattle.std.specs.Prelude.{◌≡◌, true, false};
 ghost use Rattle.plinq_partition.specs.Partitions.{IsPartitionOf, holding_of};
 ghost use Rattle.plinq_crew.specs.Noted.{has_worker_fault, StaysNoted};
+ghost use Rattle.plinq_crew.specs.Closing.{wants_close};
 ghost use Rattle.plinq_crew.specs.Polls.{IfCame, HasCome, ClosesInTime};
 ghost use Rattle.plinq_stream.specs.Passes.{known};
 ghost use Rattle.plinq_crew.specs.inner.Coordinating.{IsCoordinator, StaysSame};
@@ -72,20 +73,20 @@ impl<S: Source, M: Drop> Coordinator<S, M> {
         ensures stream { self.new.stream ≡ self.old.stream }
         ensures worker_count { self.new.worker_count ≡ self.old.worker_count }
         ensures kept { StaysNoted self.old.worker_faults self.new.worker_faults }
-        ensures closed { closing.old.wants_close ≡ true → closing.new.wants_close ≡ true }
+        ensures closed { wants_close closing.old ≡ true → wants_close closing.new ≡ true }
         ensures closes { ClosesInTime is_over closing.old (holding_of self.old.partition) self.new.worker_faults closing.new (holding_of self.new.partition) }
     {
-        if closing.is_closed {
+        if closing.is_closed() {
             return;
         }
         let is_whole = self.worker_count.started == self.worker_count.wanted
             && !crew.progress.has_failed();
-        if is_whole && !closing.wants_close && !is_over {
+        if is_whole && !closing.wants_close() && !is_over {
             return;
         }
-        closing.wants_close = true;
+        *closing = Closing::Wanted;
         match self.partition.stop(rt, crew.chunked) {
-            Ok(()) => closing.is_closed = true,
+            Ok(()) => *closing = Closing::Closed,
             Err(fault) => self.worker_faults.note(fault),
         }
         crew.progress.window.let_all_on();
@@ -111,7 +112,7 @@ impl<S: Source, M: Drop> Coordinator<S, M> {
         ensures carried { IfCame result J.is_result }
         ensures received { HasCome (known self.old.stream) result (known self.new.stream) }
         ensures kept { StaysNoted self.old.worker_faults self.new.worker_faults }
-        ensures closed { closing.old.wants_close ≡ true → closing.new.wants_close ≡ true }
+        ensures closed { wants_close closing.old ≡ true → wants_close closing.new ≡ true }
         ensures closes { ClosesInTime is_over closing.old (holding_of self.old.partition) self.new.worker_faults closing.new (holding_of self.new.partition) }
     {
         let sleep = if self.patience.is_over() {

@@ -1,5 +1,6 @@
 use Rattle.std.proofs.Common.{◌≡◌, true}
 use Rattle.plinq_stream.specs.Passes.{IsPassOf, known}
+use Rattle.plinq_crew.specs.Closing.{wants_close}
 use Rattle.plinq_crew.specs.inner.Coordinating.{AcceptsOn}
 use Rattle.plinq_crew.proofs.conducting.accept_rest.Given as goal
 
@@ -12,5 +13,5 @@ invariant-loop g l = record {
   sent : (known l.pass).sent ≡ (known l.fn.pass).sent;
   numbers : (known l.pass).numbers ≡ (known l.fn.pass).numbers;
   ready : g.X.Consumer.is_ready l.consumer;
-  accepted : AcceptsOn g.X.Consumer.accepts g.J.RunSpec.is_result (known l.fn.pass).received l.closing.wants_close l.fn.consumer (known l.pass).received l.closing.wants_close l.consumer;
+  accepted : AcceptsOn g.X.Consumer.accepts g.J.RunSpec.is_result (known l.fn.pass).received (wants_close l.closing) l.fn.consumer (known l.pass).received (wants_close l.closing) l.consumer;
 }

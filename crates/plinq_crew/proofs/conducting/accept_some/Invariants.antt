@@ -1,4 +1,5 @@
 use Rattle.plinq_stream.specs.Passes.{known}
+use Rattle.plinq_crew.specs.Closing.{wants_close}
 use Rattle.plinq_crew.specs.inner.Coordinating.{IsCoordinator, StaysSame, AcceptsOn}
 use Rattle.plinq_crew.proofs.conducting.accept_some.Given as goal
 
@@ -9,5 +10,5 @@ invariant-loop g l = record {
   coordinator : IsCoordinator l.crew.chunked.now l.crew.stream.now l.coordinator;
   same : StaysSame l.fn.coordinator l.coordinator;
   ready : g.X.Consumer.is_ready l.consumer;
-  accepted : AcceptsOn g.X.Consumer.accepts g.J.RunSpec.is_result (known l.fn.coordinator.stream).received l.fn.closing.wants_close l.fn.consumer (known l.coordinator.stream).received l.closing.wants_close l.consumer;
+  accepted : AcceptsOn g.X.Consumer.accepts g.J.RunSpec.is_result (known l.fn.coordinator.stream).received (wants_close l.fn.closing) l.fn.consumer (known l.coordinator.stream).received (wants_close l.closing) l.consumer;
 }

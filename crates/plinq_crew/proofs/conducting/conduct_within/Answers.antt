@@ -1,44 +1,90 @@
-use Rattle.std.proofs.Common.{rules, ◌≡◌, [], length, refl, sym, ap, ◌∙◌, subst, arith}
+use Rattle.std.proofs.Common.{rules, ◌≡◌, ◌≤◌, ◌+◌, [], length, refl, sym, ap, ◌∙◌, subst, arith}
 use Rattle.plinq_partition.specs.Partitions.{holding_of}
 use Rattle.plinq_stream.specs.Passes.{known}
+use Rattle.plinq_crew.specs.Closing.{wants_close}
 use Rattle.plinq_crew.specs.Polls.{HasAccepted}
 use Rattle.plinq_crew.specs.Conducting.{AcceptsEach}
+use Rattle.plinq_crew.specs.declared.worker_count.WorkerCount.{WorkerCount}
+use Rattle.plinq_crew.specs.inner.Teams.{IsTeam}
 use Rattle.plinq_crew.specs.Working.{HasNumbersFrom}
+use Rattle.plinq_crew.proofs.Coordinating.{may-go_on}
 use Rattle.plinq_crew.proofs.Working.{answered-same}
 use Rattle.plinq_crew.proofs.conducting.conduct_within.Goals as goal
+use Rattle.plinq_crew.proofs.conducting.conduct_within.Goals.{in-None, in-Some+then-not-accept_some}
 
-pub accept_all-requires-clause-may : goal.accept_all-requires-clause-may
-accept_all-requires-clause-may g c κs within =
+pub loop-init : goal.loop-init
+loop-init g c =
     let none : 0 ≡ length c.in-Ok.handles.items = search rules in
     let all = ap (λ p. (known p).numbers) c.new-coordinator.ensures.stream ∙ ap (λ k. k.numbers) c.requires.ready.knows in
     record {
-      pass = search rules;
-      receiver = search rules;
-      numbers = λ _. subst (λ n. HasNumbersFrom n (known c.new-coordinator.result.stream)) none all;
-      equipped = search rules;
-      team = search rules;
-      workers = c.requires.ready.workers;
+      can = search rules;
+      finite = search rules;
+      may = record {
+        pass = search rules;
+        receiver = search rules;
+        numbers = λ _. subst (λ n. HasNumbersFrom n (known c.new-coordinator.result.stream)) none all;
+        equipped = search rules;
+        team = search rules;
+        workers = c.requires.ready.workers;
+      };
+      origin = ap (λ p. (holding_of p).origin) c.new-coordinator.ensures.partition;
+      ready = c.requires.consumer;
+      accepted = record {
+        taken = [];
+        left = [];
+        came = ap (λ p. (known p).received) c.new-coordinator.ensures.stream ∙ ap (λ k. k.received) c.requires.ready.knows;
+        steps = refl;
+        all = λ _. refl;
+      };
+    }
+
+pub loop-preserved : goal.loop-preserved
+loop-preserved g c =
+    let crew = c.args.crew.now in
+    let Step = AcceptsEach g.X.Consumer.accepts g.J.RunSpec.is_result in
+    record {
+      can = tt;
+      finite = tt;
+      may = may-go_on g.L.Lambda.meaning g.P.Task.makes g.J.RunSpec.is_result g.J.RunSpec.stops_at crew _ _ _ c.start_wanted.ensures.may c.accept_some.ensures.coordinator c.accept_some.ensures.same;
+      origin = c.accept_some.ensures.same.origin ∙ ap (λ h. h.origin) c.start_wanted.ensures.same ∙ c.loop.invariant.origin;
+      ready = c.accept_some.ensures.ready;
+      accepted = c.accept_some.ensures.accepted [] c.args.consumer.now
+          (subst (λ xs. HasAccepted Step [] c.args.consumer.now xs (wants_close c.loop.closing) c.loop.consumer) (sym c.start_wanted.ensures.received) c.loop.invariant.accepted);
     }
 
 pub returns : goal.returns
 returns g c =
+    let crew = c.args.crew.now in
     let Step = AcceptsEach g.X.Consumer.accepts g.J.RunSpec.is_result in
     let x = c.args.consumer.now in
-    let partitions = c.join_all-partitions.result in
+    let end = c.match-next in
     let count = c.join_all-partitions.ensures.count in
-    let none = ap (λ p. (known p).received) c.new-coordinator.ensures.stream ∙ ap (λ k. k.received) c.requires.ready.knows in
-    let among = c.accept_all.ensures.accepted [] x (record { taken = []; left = []; came = none; steps = refl; all = λ _. refl }) in
+    let ended : ((holding_of end.coordinator.partition).origin ≡ (holding_of c.args.context.partition).origin) × (1 ≤ end.coordinator.worker_count.wanted)
+    × IsTeam crew.chunked.now crew.stream.now crew.workers end.coordinator.worker_count end.team
+    × HasAccepted Step [] x (known end.coordinator.stream).received (wants_close end.closing) end.consumer =
+    elim end.branch [
+      | in-None w ↦ absurd (search rules)
+      | in-Some+then-not-accept_some w ↦
+          let same = w.accept_some.ensures.same in
+          let may = may-go_on g.L.Lambda.meaning g.P.Task.makes g.J.RunSpec.is_result g.J.RunSpec.stops_at crew _ _ _ w.start_wanted.ensures.may w.accept_some.ensures.coordinator same in
+          rw (w.coordinator-is, w.team-is, w.closing-is, w.consumer-is) (
+            same.origin ∙ ap (λ h. h.origin) w.start_wanted.ensures.same ∙ c.loop.invariant.origin,
+            subst (λ (n : WorkerCount). 1 ≤ n.wanted) (sym same.worker_count) w.start_wanted.ensures.wanted,
+            may.team,
+            w.accept_some.ensures.accepted [] x (subst (λ xs. HasAccepted Step [] x xs (wants_close c.loop.closing) c.loop.consumer) (sym w.start_wanted.ensures.received) c.loop.invariant.accepted),
+          )
+    ] in
     record {
       some = omega (arith, count);
       of = c.join_all-partitions.ensures.of;
-      origin = c.join_all-partitions.ensures.origin ∙ c.accept_all.ensures.origin ∙ ap (λ p. (holding_of p).origin) c.new-coordinator.ensures.partition;
-      started = search rules;
-      wanted = (c.accept_all.ensures.wanted, c.accept_all.ensures.team.within);
+      origin = c.join_all-partitions.ensures.origin ∙ ended.0;
+      started = count ∙ ap (λ n. n + 1) (sym ended.2.started);
+      wanted = (ended.1, ended.2.within);
       pass = c.accept_rest.new.pass;
       of_stream = c.accept_rest.ensures.stream;
       all = c.accept_rest.ensures.all;
       answered = answered-same (known c.join_all-partitions.new.pass) (known c.accept_rest.new.pass) c.join_all-partitions.new.worker_faults _ c.accept_rest.ensures.sent c.accept_rest.ensures.numbers c.join_all-partitions.ensures.answered;
-      wants_close = c.accept_all.new.closing.wants_close;
+      wants_close = wants_close end.closing;
       accepted = c.accept_rest.ensures.accepted [] x
-          (subst (λ xs. HasAccepted Step [] x xs c.accept_all.new.closing.wants_close c.accept_all.new.consumer) (sym c.join_all-partitions.ensures.received) among);
+          (subst (λ xs. HasAccepted Step [] x xs (wants_close end.closing) end.consumer) (sym c.join_all-partitions.ensures.received) ended.3);
     }
