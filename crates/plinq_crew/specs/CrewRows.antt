@@ -16,7 +16,7 @@ use Rattle.plinq_ops.specs.declared.plan.Plan.{Plan}
 use Rattle.plinq_ops.specs.declared.results.ChunkResult.{ChunkResult}
 use Rattle.plinq_ops.specs.Cut.{stop_keys}
 use Rattle.plinq_partition.specs.GivenBack.{common_origin}
-use Rattle.plinq_partition.specs.Partitions.{Holding, IsPartitionOf, holding_of}
+use Rattle.plinq_partition.specs.Partitions.{Holding, IsPartitionOf, all_shares, holding_of}
 use Rattle.plinq_partition.specs.declared.chunked.Chunked.{Chunked}
 use Rattle.plinq_partition.specs.declared.partition.Partition.{Partition}
 use Rattle.plinq_partition.specs.declared.take_fault.TakeFault.TheVariants.{Memory, Spent, Busy, Incomplete, Away}
@@ -47,9 +47,9 @@ use Rattle.plinq_crew.specs.inner.Coordinating.{IsCoordinator, StaysSame, CanSta
 use Rattle.plinq_crew.specs.inner.Scoped.{MayStartScope, ScopeReturns, MayWork, WorkReturns}
 use Rattle.plinq_crew.specs.inner.Teams.{IsTeam}
 use Rattle.plinq_crew.specs.Noted.{lacks_room, has_noted, has_worker_fault, StaysNoted}
-use Rattle.plinq_crew.specs.Polls.{IfCame, HasCome, ClosesInTime, HasAccepted}
+use Rattle.plinq_crew.specs.Polls.{IfCame, HasCome, ClosesInTime, StaysClosed, HasAccepted}
 use Rattle.plinq_crew.specs.Results.{IsPart}
-use Rattle.plinq_crew.specs.Working.{IsAnsweredBy, IsBack, IsNewcomer, receiver_from}
+use Rattle.plinq_crew.specs.Working.{HasClosed, IsOfOne, IsAnsweredBy, IsBack, IsNewcomer, receiver_from}
 use Rattle.plinq_crew.specs.WorkerRows.{sent_under}
 
 -- ---- what a poll notes, and when it closes
@@ -136,6 +136,13 @@ wanted_is_unclosed = refl
 -- one that has closed it doesn't say that it hasn't
 closed_and_forgotten : (faults : WorkerFaults) → ClosesInTime true Closed holding faults Open holding → ⊥
 closed_and_forgotten faults closes = let same = ap is_closed (closes.0 refl) in absurd (cc)
+
+-- where a poll has closed it, there is a record of that
+closed_unrecorded : StaysClosed Open [] Closed [] → ⊥
+closed_unrecorded stays = let (k, r, less, at, is) = stays (λ is. absurd (cc)) refl in omega (arith, less)
+
+unclosed_unrecorded : StaysClosed Open [] Wanted []
+unclosed_unrecorded had is = absurd (cc)
 
 -- ---- what came
 
@@ -387,7 +394,7 @@ module _ {L S J P T M X : Type 0} {source : Ghosts S T} (accepts : X → ChunkRe
   -- a part was sent and not received
   one_is_lost : (c : ChunkResult M) → (returned : Returns) → has 0 (known returned.pass).numbers ≡ true
       → under 0 (known returned.pass).sent ≡ c ∷ [] → under 0 (known returned.pass).received ≡ [] → ⊥
-  one_is_lost c returned own one none = omega (arith, ap length one, ap length none, ap length (returned.all 0 own))
+  one_is_lost c returned own one none = omega (arith, ap length one, ap length none, ap length (returned.all.own 0 own))
 
   -- a worker's records weren't answered
   abbrev IsAnswered : PassKnowledge (ChunkResult M) → Partition S T source → Type 0
@@ -399,6 +406,22 @@ module _ {L S J P T M X : Type 0} {source : Ghosts S T} (accepts : X → ChunkRe
       never
       (All-head (IsAnswered (known returned.pass)) q []
       (subst (λ ps. All (IsAnswered (known returned.pass)) (drop 1 ps)) two returned.answered))
+
+  -- a part was received under a number that no worker has
+  one_from_nobody : (c : ChunkResult M) → (returned : Returns) → under 64 (known returned.pass).received ≡ c ∷ [] → ⊥
+  one_from_nobody c returned one = omega (arith, ap length one, ap length (returned.all.none 64 (omega arith)))
+
+  -- or is of no worker's record
+  one_of_no_record : (s : Sent (ChunkResult M)) → (returned : Returns) → back.worker_count.started ≡ back.worker_count.wanted
+      → (known returned.pass).received ≡ s ∷ [] → (IsOfOne (all_shares back.partitions.items) s.item → ⊥) → ⊥
+  one_of_no_record s returned started one never =
+      never
+      (All-head (λ x. back.worker_count.started ≡ back.worker_count.wanted → IsOfOne (all_shares back.partitions.items) x.item) s []
+      (subst (λ ss. All (λ x. back.worker_count.started ≡ back.worker_count.wanted → IsOfOne (all_shares back.partitions.items) x.item) ss) one returned.each) started)
+
+  -- nobody has closed the source, though no fault was noted
+  nobody_has_closed : has_worker_fault back.worker_faults ≡ false → (HasClosed (all_shares back.partitions.items) → ⊥) → Returns → ⊥
+  nobody_has_closed none never returned = never (returned.closed none)
 
   -- a consumer is another, though nothing came
   changed_by_nothing : (returned : Returns) → (known returned.pass).received ≡ [] → (x' ≡ x → ⊥) → ⊥

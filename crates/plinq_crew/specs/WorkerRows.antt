@@ -1,5 +1,5 @@
 -- Rows of workers: what one may make of a chunk, send and bring back, and what not.
-use Rattle.std.specs.Prelude.{◌≡◌, refl, ℕ, pos, List, [], ◌∷◌, ◌++◌, length, get_or, take, drop, true, false, Option, Some, None, is_some, All, IfSome}
+use Rattle.std.specs.Prelude.{◌≡◌, refl, ℕ, zero, suc, ◌<◌, pos, List, [], ◌∷◌, ◌++◌, length, get_or, take, drop, true, false, Option, Some, None, is_some, All, IfSome}
 use Rattle.std.proofs.Common.{arith, ap, sym, ◌∙◌, subst}
 use Rattle.std.proofs.lemmas.List.{length-append}
 use Rattle.std.proofs.lemmas.List.Elements.{All-head, All-nil}
@@ -39,7 +39,7 @@ use Rattle.plinq_crew.specs.declared.worker.Worked.{Worked}
 use Rattle.plinq_crew.specs.Noted.{has_noted}
 use Rattle.plinq_crew.specs.Plans.{IsUndecided}
 use Rattle.plinq_crew.specs.Results.{IsResult, IsOfSameChunk, IsMadeOf, IsPart}
-use Rattle.plinq_crew.specs.Working.{HasLeft, Answers, IsOpen, StopsAtTail, Stops, Follows, HasTakenChunk, IsAtWork, HasWorked}
+use Rattle.plinq_crew.specs.Working.{HasClosed, HasLeft, Answers, IsOfOne, IsOpen, StopsAtTail, Stops, Follows, HasTakenChunk, IsAtWork, HasWorked}
 use Rattle.plinq_crew.specs.Working.{sender, receiver_from, HasNumbersFrom, IsReceiver, IsNewcomer, IsBack, IsAnsweredBy, IsWhollyAnsweredBy}
 
 -- ---- plans that need workers
@@ -192,6 +192,24 @@ answers_with_key r one answers = let zero = answers.first in absurd (cc)
 
 answers_with_tail : (r : ChunkResult ℕ) → r.tail ≡ None → Answers found_closed r → ⊥
 answers_with_tail r none answers = let closed = answers.tail in absurd (cc)
+
+-- a result is of one of some records, and of none where there are none, or only another's
+of_no_record : (r : ChunkResult ℕ) → IsOfOne [] r → ⊥
+of_no_record r (k, entry, less, at, is) = omega (arith, less)
+
+of_its_record : (r : ChunkResult ℕ) → Answers taken_one r → IsOfOne (found_closed ∷ taken_one ∷ []) r
+of_its_record r answers = (1, taken_one, omega arith, refl, answers)
+
+-- a request for items doesn't close the source
+closed_by_nobody : HasClosed [] → ⊥
+closed_by_nobody (k, entry, less, at, is) = omega (arith, less)
+
+closed_by_asking : HasClosed (taken_one ∷ []) → ⊥
+closed_by_asking (k, entry, less, at, is) = only k less at
+  where
+    only : (k : ℕ) → k < 1 → get_or (taken_one ∷ []) k entry ≡ entry → ⊥
+    only zero less at = let asked = ap (λ (r : Record). r.asked) at ∙ is in absurd (cc)
+    only (suc k) less at = omega (arith, less)
 
 -- more may come where there is no tail, and not after one
 open_without_a_tail : (r : ChunkResult ℕ) → r.tail ≡ None → IsOpen r

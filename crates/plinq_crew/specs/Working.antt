@@ -1,7 +1,8 @@
 -- What a worker sends, and what it brings back.
 use Rattle.std.specs.Prelude.{◌≡◌, ◌≤◌, ◌-◌, ℕ, List, [], ◌∷◌, ◌++◌, Option, Some, None, is_some, true, false, All, IfSome}
-use Rattle.std.specs.List.{AllZip}
+use Rattle.std.specs.List.{AllZip, Any}
 use Rattle.plinq_source.specs.declared.source.Source.{Ghosts}
+use Rattle.plinq_keyed.specs.declared.event.Event.TheVariants.{Close}
 use Rattle.plinq_keyed.specs.declared.record.Record.{Record}
 use Rattle.plinq_ops.specs.declared.results.ChunkResult.{ChunkResult}
 use Rattle.plinq_partition.specs.declared.partition.Partition.{Partition}
@@ -24,12 +25,20 @@ pub record HasLeft (share share' : List Record) : Type 0 where
   pub more : List Record
   pub share_is : share' ≡ share ++ more
 
+-- one of a share's records is a request to close the source
+abbrev pub HasClosed : List Record → Type 0
+HasClosed share = Any (λ r. r.asked ≡ Close) share
+
 module _ {T : Type 0} where
   -- the result says of its chunk what the record says: where it begins, how many items it has, and its tail
   pub record Answers (entry : Record) (r : ChunkResult T) : Type 0 where
     pub first : r.first ≡ entry.first
     pub count : r.count ≡ entry.count
     pub tail : r.tail ≡ entry.tail
+
+  -- the result is of the chunk of one of these records
+  abbrev pub IsOfOne : List Record → ChunkResult T → Type 0
+  IsOfOne share r = Any (λ entry. Answers entry r) share
 
   -- more may come after the result's chunk
   abbrev pub IsOpen : ChunkResult T → Type 0

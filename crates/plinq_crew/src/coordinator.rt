@@ -2,8 +2,9 @@
 ghost use Rattle.std.specs.Prelude.{◌≡◌, true, false};
 ghost use Rattle.plinq_partition.specs.Partitions.{IsPartitionOf, holding_of};
 ghost use Rattle.plinq_crew.specs.Noted.{has_worker_fault, StaysNoted};
-ghost use Rattle.plinq_crew.specs.Closing.{wants_close};
+ghost use Rattle.plinq_crew.specs.Closing.{wants_close, is_closed};
 ghost use Rattle.plinq_crew.specs.Polls.{IfCame, HasCome, ClosesInTime};
+ghost use Rattle.plinq_crew.specs.Working.{HasClosed};
 ghost use Rattle.plinq_stream.specs.Passes.{known};
 ghost use Rattle.plinq_crew.specs.inner.Coordinating.{IsCoordinator, StaysSame};
 
@@ -90,6 +91,34 @@ impl<S: Source, M: Drop> Coordinator<S, M> {
             Err(fault) => self.worker_faults.note(fault),
         }
         crew.progress.window.let_all_on();
+    }
+
+    /// Closes the source where no poll has: what is accepted once workers were joined may be what decides the answer.
+    pub(crate) fn close_at_last<L, J, P, R>(
+        &mut self,
+        rt: &R,
+        crew: &Crew<'_, L, S, J, P>,
+        closing: Closing,
+    )
+    where
+        L: Lambda<Item = S::Item>,
+        J: RunSpec<M>,
+        P: Task<S::Item, Part = M>,
+        R: Wait,
+        requires coordinator { IsCoordinator crew.now.chunked.now crew.now.stream.now self.old }
+        ensures coordinator { IsCoordinator crew.now.chunked.now crew.now.stream.now self.new }
+        ensures same { StaysSame self.old self.new }
+        ensures stream { self.new.stream ≡ self.old.stream }
+        ensures kept { StaysNoted self.old.worker_faults self.new.worker_faults }
+        ensures closed { (is_closed closing ≡ true → HasClosed (holding_of self.old.partition).share) → has_worker_fault self.new.worker_faults ≡ false
+            → HasClosed (holding_of self.new.partition).share }
+    {
+        if closing.is_closed() {
+            return;
+        }
+        if let Err(fault) = self.partition.stop(rt, crew.chunked) {
+            self.worker_faults.note(fault);
+        }
     }
 
     /// The next result that a worker has sent. Where none comes for a while, the thread is to sleep until something is

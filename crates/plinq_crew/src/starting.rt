@@ -1,12 +1,13 @@
 //! Starting the workers of a run, and having them back.
-ghost use Rattle.std.specs.Prelude.{◌≡◌, ◌≤◌, ◌<◌, ◌+◌, [], drop, length, true, false, not, ◌||◌, All, IfSome, vec_capacity};
-ghost use Rattle.plinq_partition.specs.Partitions.{IsPartitionOf, holding_of};
+ghost use Rattle.std.specs.Prelude.{◌≡◌, ℕ, ◌≤◌, ◌<◌, ◌+◌, [], drop, length, true, false, not, ◌||◌, All, IfSome, vec_capacity};
+ghost use Rattle.plinq_partition.specs.Partitions.{IsPartitionOf, all_shares, holding_of};
 ghost use Rattle.plinq_partition.specs.GivenBack.{common_origin};
 ghost use Rattle.plinq_crew.specs.Equipped.{IsEquipped};
 ghost use Rattle.plinq_crew.specs.Noted.{lacks_room, has_worker_fault, has_noted, StaysNoted};
 ghost use Rattle.plinq_crew.specs.inner.Handles.{IsHandleOf, AreNumbered};
-ghost use Rattle.plinq_crew.specs.Working.{IsNewcomer, IsReceiver, IsAnsweredBy};
+ghost use Rattle.plinq_crew.specs.Working.{HasClosed, HasNumbersFrom, IsNewcomer, IsOfOne, IsReceiver, IsAnsweredBy};
 ghost use Rattle.plinq_stream.specs.Passes.{IsPassOf, known};
+ghost use Rattle.plinq_stream.specs.Streams.{has};
 ghost use Rattle.plinq_crew.specs.inner.Coordinating.{CanStart};
 ghost use Rattle.plinq_crew.specs.inner.Scoped.{MayWork, WorkReturns};
 
@@ -183,6 +184,9 @@ where
     ensures receives { (known pass.new).receives ≡ true }
     ensures received { (known pass.new).received ≡ (known pass.old).received }
     ensures answered { All (IsAnsweredBy 0 (known pass.new) worker_faults.new) (drop 1 result.items) }
+    ensures sent { All (λ s. IsOfOne (all_shares result.items) s.item) (known pass.new).sent }
+    ensures numbers { HasNumbersFrom (length handles.items) (known pass.old) → (n : ℕ) → n < 64 → has n (known pass.new).numbers ≡ true }
+    ensures closed { HasClosed (holding_of first).share → HasClosed (all_shares result.items) }
     ensures kept { StaysNoted worker_faults.old worker_faults.new }
 {
     let mut handles = handles;

@@ -9,6 +9,9 @@ use Rattle.plinq_source.specs.declared.source.Source.{Ghosts as SourceGhosts}
 use Rattle.plinq_source.specs.Trace.{Trace, ended}
 use Rattle.plinq_lambda.specs.Meaning.{Meaning}
 use Rattle.plinq_keyed.specs.History.{IsLegalHistory}
+use Rattle.plinq_keyed.specs.declared.record.Record.{Record}
+use Rattle.plinq_ticket.specs.Shares.{in_ticket_order}
+use Rattle.plinq_partition.specs.Partitions.{all_shares}
 use Rattle.plinq_ops.specs.declared.merge_option.MergeOption.{MergeOption}
 use Rattle.plinq_ops.specs.declared.op.Op.{Op}
 use Rattle.plinq_ops.specs.declared.order.Order.{Order}
@@ -35,21 +38,20 @@ use Rattle.plinq_merge.specs.Delivering.{line_of, Gives, MadeBy}
 use Rattle.plinq_merge.specs.Sending.{Leads}
 use Rattle.plinq_merge.specs.Shown.{merged}
 use Rattle.plinq_run.specs.declared.planning.Ended.{Ended}
-use Rattle.plinq_run.specs.declared.coverage.Coverage.{Coverage}
 use Rattle.plinq_run.specs.declared.report.Report.{Report}
 use Rattle.plinq_run.specs.declared.run_fault.RunFault.{RunFault}
 use Rattle.plinq_run.specs.Endings.{reported}
-use Rattle.plinq_run.specs.Handed.{handed_trace}
+use Rattle.plinq_run.specs.Handed.{handed_trace, has_close}
 use Rattle.plinq_run.specs.inner.Merged.{HasEnded, HasBrokenOff}
 use Rattle.plinq_crew.specs.Plans.{IsUndecided}
 use Rattle.plinq_run.specs.inner.Plans.{merged_answer}
-use Rattle.plinq_run.specs.inner.Reaching.{IsOffered, accounts_for}
+use Rattle.plinq_run.specs.inner.Offered.{IsOffered}
 use Rattle.plinq_run.specs.inner.Plans.{MayTake, MayMerge}
 use Rattle.plinq_run.specs.Reports.{IsBroken, HasReported, Reports}
 use Rattle.plinq_crew.specs.Results.{IsResult}
 use Rattle.plinq_run.specs.Runs.{HasRun, HasBroken, BreaksFor, Other, Runs, cause_of}
 use Rattle.plinq_run.specs.inner.Reported.{IsReportOf}
-use Rattle.plinq_run.proofs.Handed.{covers-handed}
+use Rattle.plinq_run.proofs.Handed.{closed-in_order, covers-handed}
 use Rattle.plinq_run.proofs.Runs.{begun_line, IsWhole, whole-run, broken-run}
 
 -- nothing was sent yet
@@ -85,10 +87,10 @@ module _ {L T K : Type 0} (meaning : L → Meaning T) (plan : Plan L) (option : 
   module _ (P : ChunkResult T → Type 0) (plain : (r : ChunkResult T) → P r → IsResult meaning plan t r) (first : Deliver L T) (begun : line_of meaning first ≡ begun_line meaning plan option) where
     -- it has delivered an answer
     pub whole-delivered : {S U : Type 0} {source : SourceGhosts S U} (s s' : K) (ended : Ended S (Deliver L T) U source) → HasEnded (MadeBy accepts refuses meaning) P plan.order first s ended s'
-        → IsWhole meaning plan option undecided t few accepts refuses ended.coverage s s' ended.joined.ending
+        → IsWhole meaning plan option undecided t few accepts refuses (all_shares ended.partitions.items) s s' ended.joined.ending
     whole-delivered s s' ended h =
-        whole-run meaning plan option undecided t few accepts refuses ended.coverage s s' ended.joined.ending h.offers (line_of meaning ended.joined.taker)
-        (All-weaker (IsOffered P ended.coverage) (IsOffered (IsResult meaning plan t) ended.coverage) (λ r x. (plain r x.0, x.1)) h.offers h.are) h.apart
+        whole-run meaning plan option undecided t few accepts refuses (all_shares ended.partitions.items) s s' ended.joined.ending h.offers (line_of meaning ended.joined.taker)
+        (All-weaker (IsOffered P (all_shares ended.partitions.items)) (IsOffered (IsResult meaning plan t) (all_shares ended.partitions.items)) (λ r x. (plain r x.0, x.1)) h.offers h.are) h.apart
         (subst (λ l. Gives accepts refuses l s (merged plan.order h.offers) (Ok (Some ended.joined.ending)) (line_of meaning ended.joined.taker) s') begun (let taken = h.taken in taken.gives))
 
     -- or the first batches of one
@@ -98,21 +100,27 @@ module _ {L T K : Type 0} (meaning : L → Meaning T) (plan : Plan L) (option : 
         (subst (λ l. Gives accepts refuses l s (merged plan.order h.offers) h.how (line_of meaning h.last) s') begun (let taken = h.taken in taken.gives)) h.breaks
 
   -- the report of a run is of the same answer, which its records account for
-  pub whole-reported : (coverage : Coverage) (s s' : K) (e : Ending) (b : Result Report RunFault) → IsWhole meaning plan option undecided t few accepts refuses coverage s s' e → IsReportOf (Ok e) (reported b)
-      → IfOk b (λ r. IsLegalHistory t r.records.items) → IfOk b (λ r. accounts_for coverage r.records.items ≡ true) → Reports accepts refuses option (MayMerge meaning plan) t s s' b
-  whole-reported coverage s s' e (Ok r) h is legal all =
+  pub whole-reported : (records : List Record) (s s' : K) (e : Ending) (b : Result Report RunFault) → IsWhole meaning plan option undecided t few accepts refuses records s s' e → IsReportOf (Ok e) (reported b)
+      → IfOk b (λ r. IsLegalHistory t r.records.items) → IfOk b (λ r. r.records.items ≡ in_ticket_order records) → Reports accepts refuses option (MayMerge meaning plan) t s s' b
+  whole-reported records s s' e (Ok r) h is legal all =
       record {
         answer = h.answer;
         may = h.may;
-        accounts = h.accounts (handed_trace t r.records.items) (covers-handed t coverage r.records.items legal all);
+        accounts = subst (λ hs. MayMerge meaning plan (handed_trace t hs) h.answer) (sym all)
+            (h.accounts (handed_trace t (in_ticket_order records)) (covers-handed t records (subst (IsLegalHistory t) all legal)));
         has_run = subst (λ x. HasRun accepts option h.answer s s' x) (sym is) h.has_run;
       }
-  whole-reported coverage s s' e (Err f) h is legal all =
+  whole-reported records s s' e (Err f) h is legal all =
       record {
         answer = h.answer;
         may = h.may;
         broken = subst (λ x. BreaksFor accepts refuses x (batches option h.answer) s s') (sym is) (batches option h.answer, [], sym (append-nil (batches option h.answer)), h.has_run.delivered);
       }
+
+-- and closed where they are
+pub reported-closed : (records : List Record) (b : Result Report RunFault) → IfOk b (λ r. r.records.items ≡ in_ticket_order records) → has_close records ≡ true → IfOk b (λ r. has_close r.records.items ≡ true)
+reported-closed records (Ok r) all is = ap has_close all ∙ closed-in_order records is
+reported-closed records (Err f) all is = tt
 
 module _ {K T : Type 0} (accepts : K → List T → K → Type 0) (refuses : K → List T → ℕ → K → Type 0) (option : MergeOption) (May : Trace T → Trace T → Type 0) (t : Trace T) (s s' : K) where
   -- what is answered to more is answered here

@@ -1,6 +1,6 @@
 -- One part more, and all that were accepted.
 use Rattle.std.specs.Prelude.{◌≡◌, List, [], Bool, Option, Some, None, Result, Ok, Err, All, IfOk, IfErr, OnOk}
-use Rattle.std.proofs.Common.{refl, sym, ◌∙◌, ap, subst, inl, inr, arith}
+use Rattle.std.proofs.Common.{refl, sym, ◌∙◌, ap, subst, inl, inr}
 use Rattle.std.proofs.lemmas.Fn.{chained_keeps}
 use Rattle.std.proofs.lemmas.List.Elements.{All-nil, All-push, All-weaker}
 use Rattle.plinq_source.specs.declared.ending.Ending.{Ending}
@@ -20,6 +20,7 @@ use Rattle.plinq_merge.specs.Shown.{merged}
 use Rattle.plinq_merge.specs.Taking.{IsTaking}
 use Rattle.plinq_merge.specs.Whole.{AreApart}
 use Rattle.plinq_merge.proofs.Joiners.{AreOneMore, joined-cases, takes-joined, takes-broken, joined-stopped}
+use Rattle.plinq_partition.specs.Partitions.{all_shares}
 use Rattle.plinq_stream.specs.declared.sent.Sent.{Sent}
 use Rattle.plinq_crew.specs.declared.conducting.Returned.{Returned}
 use Rattle.plinq_crew.specs.declared.worker.Crew.{Crew}
@@ -27,14 +28,13 @@ use Rattle.plinq_crew.specs.declared.worker.WorkerContext.{WorkerContext}
 use Rattle.plinq_crew.specs.Conducting.{AcceptsEach, Conducts}
 use Rattle.plinq_crew.specs.Polls.{HasAccepted}
 use Rattle.plinq_run.specs.declared.planning.Ended.{Ended}
-use Rattle.plinq_run.specs.declared.coverage.Coverage.{Coverage}
 use Rattle.plinq_run.specs.declared.merging.Merging.{Merging}
 use Rattle.plinq_run.specs.declared.merging.MergingInto.{MergingInto}
 use Rattle.plinq_run.specs.declared.run_fault.RunFault.{RunFault}
 use Rattle.plinq_run.specs.inner.Merged.{offer_fault, AcceptsAfter, AreSame, AcceptsInto, Stands, HasMerged, HasBrokenOff, EndsSo}
 use Rattle.plinq_run.specs.Parting.{Breaks}
 use Rattle.plinq_run.specs.inner.Finishing.{Finishes}
-use Rattle.plinq_run.specs.inner.Reaching.{IsOffered, Grows, Reaches}
+use Rattle.plinq_run.specs.inner.Offered.{IsOffered}
 use Rattle.plinq_run.specs.Runs.{Cause, Other, cause_of}
 use Rattle.plinq_run.specs.inner.Reported.{cause_in_merge}
 use Rattle.plinq_run.proofs.Without.{apart-push}
@@ -47,10 +47,6 @@ are-more IsPart offers r offers' (inr more) are good = subst (All IsPart) (sym m
 apart-more : {T : Type 0} (offers : List (ChunkResult T)) (r : ChunkResult T) (offers' : List (ChunkResult T)) → AreOneMore offers r offers' → AreApart offers → AreApart offers'
 apart-more offers r offers' (inl same) apart = subst AreApart (sym same) apart
 apart-more offers r offers' (inr more) apart = subst AreApart (sym more.0) (apart-push offers r apart more.1)
-
--- what is within a reach is so when it has grown
-reaches-more : {T : Type 0} (P : ChunkResult T → Type 0) (coverage coverage' : Coverage) → Grows coverage coverage' → (r : ChunkResult T) → IsOffered P coverage r → IsOffered P coverage' r
-reaches-more P coverage coverage' grows r x = (x.0, record { end = omega (arith, x.1.end, grows.end); told = λ is. grows.told (x.1.told is) })
 
 -- a fault of the merge has the cause for which the taker broke off
 breaks-by : (fault : MergeFault) (cause : Cause) → cause ≡ cause_in_merge (Some fault) → Breaks (Err (delivery_fault_of fault)) cause
@@ -70,34 +66,32 @@ gap-not_ok e bad = cc
 module _ {W O T : Type 0} (made : W → O → Trace T → Result (Option Ending) DeliveryFault → W → O → Type 0) (lawful : IsTaking made) (IsPart : ChunkResult T → Type 0) (order : Order) (a : W) (x : O) where
   -- a part was offered to a joiner that had no fault
   offered-by : (told : Result More MergeFault) (m : Merging W T) (y : O) (part : ChunkResult T) (m' : Merging W T) (y' : O) → Takes made m.joiner part y told m'.joiner y'
-      → order_of m'.joiner ≡ order_of m.joiner → m'.fault ≡ offer_fault told → Grows m.coverage m'.coverage → Reaches m'.coverage part → IsPart part
-      → (offers : List (ChunkResult T)) → All (IsOffered IsPart m.coverage) offers → AreApart offers → Stands made IsPart order a x None m.joiner y offers
+      → order_of m'.joiner ≡ order_of m.joiner → m'.fault ≡ offer_fault told → IsPart part
+      → (offers : List (ChunkResult T)) → All IsPart offers → AreApart offers → Stands made IsPart order a x None m.joiner y offers
       → HasMerged made IsPart order a x m' y'
-  offered-by (Ok more) m y part m' y' takes same kept grows reaches is offers are apart stands =
+  offered-by (Ok more) m y part m' y' takes same kept is offers are apart stands =
       let on = takes-joined made a x lawful m.joiner part y more m'.joiner y' offers same stands.1 takes in
       record {
         offers = on.0;
-        are = are-more (IsOffered IsPart m'.coverage) offers part on.0 on.1
-            (All-weaker (IsOffered IsPart m.coverage) (IsOffered IsPart m'.coverage) (reaches-more IsPart m.coverage m'.coverage grows) offers are) (is, reaches);
+        are = are-more IsPart offers part on.0 on.1 are is;
         apart = apart-more offers part on.0 on.1 apart;
         stands = subst (λ f. Stands made IsPart order a x f m'.joiner y' on.0) (sym kept) (same ∙ stands.0, on.2);
       }
-  offered-by (Err fault) m y part m' y' takes same kept grows reaches is offers are apart stands =
+  offered-by (Err fault) m y part m' y' takes same kept is offers are apart stands =
       let on = takes-broken made a x lawful m.joiner part y fault m'.joiner y' offers same stands.1 takes in
       record {
         offers = on.0;
-        are = are-more (IsOffered IsPart m'.coverage) offers part on.0 on.1
-            (All-weaker (IsOffered IsPart m.coverage) (IsOffered IsPart m'.coverage) (reaches-more IsPart m.coverage m'.coverage grows) offers are) (is, reaches);
+        are = are-more IsPart offers part on.0 on.1 are is;
         apart = apart-more offers part on.0 on.1 apart;
         stands = subst (λ f. Stands made IsPart order a x f m'.joiner y' on.0) (sym kept)
             (on.2.0, subst (λ o. made a x (merged o on.0) (Err (delivery_fault_of fault)) on.2.0 y') stands.0 on.2.1);
       }
 
   accepted-by : (fault : Option MergeFault) (m : Merging W T) (y : O) (part : ChunkResult T) (m' : Merging W T) (y' : O) → m.fault ≡ fault → AcceptsAfter made fault m y part m' y' → IsPart part
-      → (offers : List (ChunkResult T)) → All (IsOffered IsPart m.coverage) offers → AreApart offers → Stands made IsPart order a x fault m.joiner y offers
+      → (offers : List (ChunkResult T)) → All IsPart offers → AreApart offers → Stands made IsPart order a x fault m.joiner y offers
       → HasMerged made IsPart order a x m' y'
   accepted-by None m y part m' y' same accepts is offers are apart stands =
-      offered-by accepts.told m y part m' y' accepts.takes accepts.order accepts.kept accepts.grows accepts.reaches is offers are apart stands
+      offered-by accepts.told m y part m' y' accepts.takes accepts.order accepts.kept is offers are apart stands
   accepted-by (Some fault) m y part m' y' same accepts is offers are apart stands =
       subst (λ n. HasMerged made IsPart order a x n y') (sym accepts.0)
       (subst (λ z. HasMerged made IsPart order a x m z) (sym accepts.1)
@@ -117,7 +111,7 @@ module _ {W O T : Type 0} (made : W → O → Trace T → Result (Option Ending)
   -- nothing was offered yet
   pub begun-merged : (m : Merging W T) (y : O) → m.fault ≡ None → Stands made IsPart order a x None m.joiner y [] → HasMerged made IsPart order a x m y
   begun-merged m y none stands =
-      record { offers = []; are = All-nil (IsOffered IsPart m.coverage); apart = tt; stands = subst (λ f. Stands made IsPart order a x f m.joiner y []) (sym none) stands }
+      record { offers = []; are = All-nil IsPart; apart = tt; stands = subst (λ f. Stands made IsPart order a x f m.joiner y []) (sym none) stands }
 
   -- a run that ends before anything was offered
   pub none-broken : (fault : RunFault) → cause_of fault ≡ Other → HasBrokenOff made IsPart order a x fault x
@@ -162,14 +156,18 @@ module _ {W O T : Type 0} (made : W → O → Trace T → Result (Option Ending)
   broken-by (Some fault) m y told is offers are apart stands =
       record { offers = offers; are = are; apart = apart; last = stands.0; how = Err (delivery_fault_of fault); taken = stands.1; breaks = breaks-by fault (cause_of told) is }
 
-  ended-by : {S U : Type 0} {source : SourceGhosts S U} (m : Merging W T) (y : O) (result : Result (Ended S W U source) RunFault) → HasMerged made IsPart order a x m y
+-- what is left of a run of which such parts were merged: where there is an answer, they are of its partitions' records
+module _ {W O T : Type 0} (made : W → O → Trace T → Result (Option Ending) DeliveryFault → W → O → Type 0) (lawful : IsTaking made) (P Q : ChunkResult T → Type 0) (on : (c : ChunkResult T) → P c → Q c) (order : Order) (a : W) (x : O)
+    {S U : Type 0} {source : SourceGhosts S U} where
+  ended-by : (m : Merging W T) (y : O) (result : Result (Ended S W U source) RunFault) → HasMerged made P order a x m y
       → OnOk result (m.fault ≡ None) → IfOk result (λ ended. ended.joined.taker ≡ taker_of m.joiner) → IfOk result (λ ended. ending_of m.joiner ≡ Ok ended.joined.ending)
-      → IfOk result (λ ended. ended.coverage ≡ m.coverage) → IfErr result (λ fault. cause_of fault ≡ cause_in_merge m.fault) → EndsSo made IsPart order a x result y
-  ended-by m y (Ok ended) h none taker ending coverage err =
-      let stands = subst (λ f. Stands made IsPart order a x f m.joiner y h.offers) none h.stands in
+      → IfOk result (λ ended. (c : ChunkResult T) → P c → IsOffered Q (all_shares ended.partitions.items) c) → IfErr result (λ fault. cause_of fault ≡ cause_in_merge m.fault)
+      → EndsSo made Q order a x result y
+  ended-by m y (Ok ended) h none taker ending all err =
+      let stands = subst (λ f. Stands made P order a x f m.joiner y h.offers) none h.stands in
       record {
         offers = h.offers;
-        are = subst (λ c. All (IsOffered IsPart c) h.offers) (sym coverage) h.are;
+        are = All-weaker P (IsOffered Q (all_shares ended.partitions.items)) all h.offers h.are;
         apart = h.apart;
         taken = subst (λ b. made a x (merged order h.offers) (Ok (Some ended.joined.ending)) b y) (sym taker)
             (joined-cases made a x m.joiner y h.offers stands.1
@@ -177,25 +175,22 @@ module _ {W O T : Type 0} (made : W → O → Trace T → Result (Option Ending)
             (λ e yes ok all. subst (λ o. made a x (merged o h.offers) (Ok (Some ended.joined.ending)) (taker_of m.joiner) y) stands.0
             (subst (λ e'. made a x (merged (order_of m.joiner) h.offers) (Ok (Some e')) (taker_of m.joiner) y) (ok-same (sym ok ∙ ending)) all)));
       }
-  ended-by m y (Err fault) h none taker ending coverage err =
-      broken-by m.fault m y fault err h.offers (All-weaker (IsOffered IsPart m.coverage) IsPart (λ r is. is.0) h.offers h.are) h.apart h.stands
+  ended-by m y (Err fault) h none taker ending all err =
+      broken-by made lawful Q order a x m.fault m y fault err h.offers (All-weaker P Q on h.offers h.are) h.apart h.stands
 
   -- what is reported of what was merged
-  pub merged-ended : {S U : Type 0} {source : SourceGhosts S U} {m : Merging W T} {y : O} {back : Returned S U source} {result : Result (Ended S W U source) RunFault} (last : MergingInto W T O)
-      → (last.merging.now ≡ m) × (last.out.now ≡ y) → HasMerged made IsPart order a x last.merging.now last.out.now → Finishes m back result → EndsSo made IsPart order a x result y
-  merged-ended {m = m} {y = y} {result = result} last same h f =
-      ended-by m y result (subst (λ n. HasMerged made IsPart order a x n y) same.0 (subst (HasMerged made IsPart order a x last.merging.now) same.1 h)) f.none f.taker f.ending f.coverage f.err
+  pub merged-ended : {m : Merging W T} {y : O} {back : Returned S U source} {result : Result (Ended S W U source) RunFault} (last : MergingInto W T O)
+      → (last.merging.now ≡ m) × (last.out.now ≡ y) → HasMerged made P order a x last.merging.now last.out.now → Finishes m back result
+      → IfOk result (λ ended. (c : ChunkResult T) → P c → IsOffered Q (all_shares ended.partitions.items) c) → EndsSo made Q order a x result y
+  merged-ended {m = m} {y = y} {result = result} last same h f all =
+      ended-by m y result (subst (λ n. HasMerged made P order a x n y) same.0 (subst (HasMerged made P order a x last.merging.now) same.1 h)) f.none f.taker f.ending all f.err
 
 -- parts of which less is said
 module _ {W O T : Type 0} (made : W → O → Trace T → Result (Option Ending) DeliveryFault → W → O → Type 0) (P Q : ChunkResult T → Type 0) (on : (c : ChunkResult T) → P c → Q c) (order : Order) (a : W) (x : O) where
   pub ends-weaker : {S U : Type 0} {source : SourceGhosts S U} (result : Result (Ended S W U source) RunFault) (y : O) → EndsSo made P order a x result y → EndsSo made Q order a x result y
   ends-weaker (Ok ended) y h =
-      record {
-        offers = h.offers;
-        are = All-weaker (IsOffered P ended.coverage) (IsOffered Q ended.coverage) (λ c is. (on c is.0, is.1)) h.offers h.are;
-        apart = h.apart;
-        taken = h.taken;
-      }
+      let shares = all_shares ended.partitions.items in
+      record { offers = h.offers; are = All-weaker (IsOffered P shares) (IsOffered Q shares) (λ c is. (on c is.0, is.1)) h.offers h.are; apart = h.apart; taken = h.taken }
   ends-weaker (Err fault) y h =
       record { offers = h.offers; are = All-weaker P Q on h.offers h.are; apart = h.apart; last = h.last; how = h.how; taken = h.taken; breaks = h.breaks }
 

@@ -28,6 +28,7 @@ use Rattle.plinq_merge.specs.declared.delivery_fault.DeliveryFault.TheVariants.{
 use Rattle.plinq_merge.specs.Shown.{merged}
 use Rattle.plinq_merge.specs.Taking.{IsTaking}
 use Rattle.plinq_merge.specs.Whole.{AreApart}
+use Rattle.plinq_partition.specs.Partitions.{all_shares}
 use Rattle.plinq_crew.specs.Plans.{IsUndecided}
 use Rattle.plinq_crew.specs.Results.{IsResult, IsPart}
 use Rattle.plinq_run.specs.declared.fold_blocks.FoldBlocks.{FoldBlocks}
@@ -39,7 +40,7 @@ use Rattle.plinq_run.specs.inner.Blocks.{can_fold, Passes, MadeBy}
 use Rattle.plinq_run.specs.inner.Folds.{IsFoldOf}
 use Rattle.plinq_run.specs.inner.Merged.{HasEnded, HasBrokenOff}
 use Rattle.plinq_run.specs.inner.Plans.{merged_answer, MayMerge}
-use Rattle.plinq_run.specs.inner.Reaching.{IsOffered}
+use Rattle.plinq_run.specs.inner.Offered.{IsOffered}
 use Rattle.plinq_run.specs.inner.Standing.{IsOver, given-none, given-past}
 use Rattle.plinq_run.proofs.Ended.{merged-may, may-sequential}
 use Rattle.plinq_run.proofs.Folds.{merged-folded}
@@ -117,7 +118,7 @@ module _ {L T A U W O : Type 0} (f : Folding T A U) (lawful : IsFolding f) (made
         → GivesSome f made (MayMerge meaning plan t) a x (Ok ended.joined.ending) y
     chunks-ended ended a x y h =
         let P : ChunkResult A → Type 0 = IsPart meaning (IsFoldOf f) plan t in
-        chunks-some (Ok (Some ended.joined.ending)) a x h.offers ended.joined.taker y (All-weaker (IsOffered P ended.coverage) P (λ c z. z.0) h.offers h.are) h.apart tt h.taken
+        chunks-some (Ok (Some ended.joined.ending)) a x h.offers ended.joined.taker y (All-weaker (IsOffered P (all_shares ended.partitions.items)) P (λ c z. z.0) h.offers h.are) h.apart tt h.taken
 
     pub chunks-broken : (fault : RunFault) (a : W) (x y : O) → HasBrokenOff made (IsPart meaning (IsFoldOf f) plan t) plan.order a x fault y → GivesSome f made (MayMerge meaning plan t) a x (Err fault) y
     chunks-broken fault a x y h =
@@ -143,7 +144,7 @@ module _ {L T A U W O : Type 0} (f : Folding T A U) (lawful : IsFolding f) (made
     pub blocks-ended : {S V : Type 0} {source : SourceGhosts S V} (ended : Ended S (FoldBlocks L F W) V source) (x y : O) → HasEnded (MadeBy meaning folding made) P plan.order first x ended y
         → GivesSome f made (MayMerge meaning plan t) first.inner x (Ok ended.joined.ending) y
     blocks-ended ended x y h =
-        blocks-some (Ok (Some ended.joined.ending)) x h.offers ended.joined.taker y (All-weaker (IsOffered P ended.coverage) P (λ c z. z.0) h.offers h.are) h.apart tt h.taken
+        blocks-some (Ok (Some ended.joined.ending)) x h.offers ended.joined.taker y (All-weaker (IsOffered P (all_shares ended.partitions.items)) P (λ c z. z.0) h.offers h.are) h.apart tt h.taken
 
     pub blocks-broken : (fault : RunFault) (x y : O) → HasBrokenOff (MadeBy meaning folding made) P plan.order first x fault y → GivesSome f made (MayMerge meaning plan t) first.inner x (Err fault) y
     blocks-broken fault x y h =

@@ -6,6 +6,7 @@ use Rattle.plinq_source.specs.declared.ending.Ending.{Ending}
 use Rattle.plinq_source.specs.Trace.{Trace, followed}
 use Rattle.plinq_source.proofs.Followed.{followed-ended}
 use Rattle.plinq_lambda.specs.Meaning.{Meaning}
+use Rattle.plinq_keyed.specs.declared.record.Record.{Record}
 use Rattle.plinq_ops.specs.declared.merge_option.MergeOption.{MergeOption}
 use Rattle.plinq_ops.specs.declared.order.Order.{Order}
 use Rattle.plinq_ops.specs.declared.order.Order.TheVariants.{ByKey, ByArrival}
@@ -26,13 +27,12 @@ use Rattle.plinq_merge.specs.Whole.{AreTrueTails, AreApart, AreFirstOf}
 use Rattle.plinq_merge.proofs.Gains.{answer-open}
 use Rattle.plinq_merge.specs.inner.Sent.{cut-before}
 use Rattle.plinq_merge.proofs.Whole.{merged-begins, batches-first}
-use Rattle.plinq_run.specs.declared.coverage.Coverage.{Coverage}
 use Rattle.plinq_run.specs.declared.run_fault.RunFault.{RunFault}
 use Rattle.plinq_run.specs.inner.Merged.{merge_for}
 use Rattle.plinq_run.specs.Parting.{Breaks}
 use Rattle.plinq_crew.specs.Plans.{IsUndecided}
 use Rattle.plinq_run.specs.inner.Plans.{merged_answer}
-use Rattle.plinq_run.specs.inner.Reaching.{IsOffered, Covers}
+use Rattle.plinq_run.specs.inner.Offered.{IsOffered, Covers}
 use Rattle.plinq_run.specs.inner.Plans.{MayTake, MayMerge}
 use Rattle.plinq_run.specs.Reports.{IsBroken}
 use Rattle.plinq_crew.specs.Results.{IsResult}
@@ -110,24 +110,24 @@ begun_line meaning plan option = record { after = stages_of meaning plan.after.n
 
 module _ {L T K : Type 0} (meaning : L → Meaning T) (plan : Plan L) (option : MergeOption) (undecided : IsUndecided plan) (t : Trace T) (few : length t.items ≤ 2 ^ 40)
     (accepts : K → List T → K → Type 0) (refuses : K → List T → ℕ → K → Type 0) where
-  -- an answer was delivered, and what has all that was offered of the source has it too
-  pub record IsWhole (coverage : Coverage) (s s' : K) (e : Ending) : Type 0 where
+  -- an answer was delivered, and what has all that these records hand out has it too
+  pub record IsWhole (records : List Record) (s s' : K) (e : Ending) : Type 0 where
     pub answer : Trace T
     pub may : MayMerge meaning plan t answer
-    pub accounts : (first : Trace T) → Covers t coverage first → MayMerge meaning plan first answer
+    pub accounts : (first : Trace T) → Covers t records first → MayMerge meaning plan first answer
     pub has_run : HasRun accepts option answer s s' e
 
-  pub whole-run : (coverage : Coverage) (s : K) (s' : K) (e : Ending) (offers : List (ChunkResult T)) (l' : Line T) → All (IsOffered (IsResult meaning plan t) coverage) offers → AreApart offers
-      → Gives accepts refuses (begun_line meaning plan option) s (merged plan.order offers) (Ok (Some e)) l' s' → IsWhole coverage s s' e
-  whole-run coverage s s' e offers l' are apart gives =
+  pub whole-run : (records : List Record) (s : K) (s' : K) (e : Ending) (offers : List (ChunkResult T)) (l' : Line T) → All (IsOffered (IsResult meaning plan t) records) offers → AreApart offers
+      → Gives accepts refuses (begun_line meaning plan option) s (merged plan.order offers) (Ok (Some e)) l' s' → IsWhole records s s' e
+  whole-run records s s' e offers l' are apart gives =
       let made : Merge T = merge_for meaning plan option in
       let open_now : answer made offers ≡ seq made.after (merged plan.order offers) = answer-open made offers undecided.undecided in
       let ended : (answer made offers).ending ≡ Some e = ap (λ u. u.ending) open_now ∙ gives.0 in
       record {
         answer = answer made offers;
-        may = ended-answer meaning plan option undecided t offers e few (All-weaker (IsOffered (IsResult meaning plan t) coverage) (IsResult meaning plan t) (λ r x. x.0) offers are) apart ended;
+        may = ended-answer meaning plan option undecided t offers e few (All-weaker (IsOffered (IsResult meaning plan t) records) (IsResult meaning plan t) (λ r x. x.0) offers are) apart ended;
         accounts = λ first covers. ended-answer meaning plan option undecided first offers e (omega (arith, few, covers.within))
-            (All-weaker (IsOffered (IsResult meaning plan t) coverage) (IsResult meaning plan first) (λ r x. result-covered meaning plan t first coverage r few covers x) offers are) apart ended;
+            (All-weaker (IsOffered (IsResult meaning plan t) records) (IsResult meaning plan first) (λ r x. result-covered meaning plan t first records r few covers x) offers are) apart ended;
         has_run = record { delivered = subst (λ u. Leads accepts s (batches option u) s') (sym open_now) gives.1; ending = ended };
       }
 

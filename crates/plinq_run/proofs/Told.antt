@@ -1,6 +1,7 @@
 -- Where a run reports no fault, all that its workers were to send was received.
-use Rattle.std.proofs.Common.{◌≡◌, ◌||◌, List, [], drop, Option, Some, None, is_some, true, false, true≢false, All, Result, Ok, Err, IfOk, OnOk, Vec, not, Bool, refl, sym, ap, ◌∙◌, subst}
+use Rattle.std.proofs.Common.{eqb-true, ◌≡◌, ◌||◌, List, [], drop, Option, Some, None, is_some, true, false, true≢false, All, Result, Ok, Err, IfOk, OnOk, Vec, not, Bool, refl, sym, ap, ◌∙◌, subst}
 use Rattle.std.proofs.lemmas.List.Elements.{All-weaker}
+use Rattle.std.proofs.lemmas.List.Folds.{list_any-from_Any}
 use Rattle.std.specs.Prelude.{◌==◌}
 use Rattle.std.specs.Option.{option_or}
 use Rattle.std.specs.declared.alloc.Global.{Global}
@@ -12,7 +13,9 @@ use Rattle.plinq_ops.specs.declared.results.ChunkResult.{ChunkResult}
 use Rattle.plinq_merge.specs.declared.merge_fault.MergeFault.{MergeFault}
 use Rattle.plinq_merge.specs.declared.delivery_fault.DeliveryFault.{DeliveryFault}
 use Rattle.plinq_merge.specs.Joiners.{taker_of, ending_of}
+use Rattle.plinq_keyed.specs.declared.record.Record.{Record}
 use Rattle.plinq_partition.specs.declared.partition.Partition.{Partition}
+use Rattle.plinq_partition.specs.Partitions.{all_shares}
 use Rattle.plinq_stream.specs.declared.known.PassKnowledge.{PassKnowledge}
 use Rattle.plinq_stream.specs.declared.sent.Sent.{Sent}
 use Rattle.plinq_stream.specs.declared.stream_pass.StreamPass.{StreamPass}
@@ -21,7 +24,7 @@ use Rattle.plinq_stream.specs.Streams.{HasReceivedAll}
 use Rattle.plinq_stream.proofs.Under.{or-none, or-right}
 use Rattle.plinq_crew.specs.declared.starting.WorkerFaults.{WorkerFaults}
 use Rattle.plinq_crew.specs.Noted.{has_worker_fault}
-use Rattle.plinq_crew.specs.Working.{IsAnsweredBy, IsWhollyAnsweredBy}
+use Rattle.plinq_crew.specs.Working.{HasClosed, IsOfOne, IsAnsweredBy, IsWhollyAnsweredBy}
 use Rattle.plinq_crew.proofs.Working.{answered-wholly}
 use Rattle.plinq_crew.specs.declared.worker_count.WorkerCount.{WorkerCount}
 use Rattle.plinq_run.specs.declared.run_fault.RunFault.{RunFault}
@@ -31,8 +34,10 @@ use Rattle.plinq_crew.specs.Polls.{HasAccepted}
 use Rattle.plinq_run.specs.declared.planning.Ended.{Ended}
 use Rattle.plinq_run.specs.declared.merging.Merging.{Merging}
 use Rattle.plinq_run.specs.declared.merging.MergingInto.{MergingInto}
-use Rattle.plinq_crew.specs.Conducting.{AcceptsEach}
+use Rattle.plinq_crew.specs.Conducting.{AcceptsEach, IsOfCrew}
+use Rattle.plinq_run.specs.Handed.{is_close, has_close}
 use Rattle.plinq_run.specs.inner.Finishing.{Finishes}
+use Rattle.plinq_run.specs.inner.Offered.{IsOffered}
 use Rattle.plinq_run.specs.inner.Merged.{AcceptsInto, Stands, WereAccepted}
 use Rattle.plinq_run.specs.inner.Faults.{first_reported, reported_if, refused_by_sink, is_out_of_memory}
 
@@ -56,6 +61,16 @@ none-noted fault faults worker_count is =
     let after-thread = none-after (reported_if (not (worker_count.started == worker_count.wanted)) Thread) _ after-memory in
     let tickets = none-told faults.tickets Tickets (none-before _ _ after-thread) in
     or-none faults.memory faults.tickets (or-right (is_out_of_memory fault) faults.memory memory) tickets
+
+pub none-missing : (fault : Option MergeFault) (faults : WorkerFaults) (worker_count : WorkerCount) → first_reported fault faults worker_count ≡ None → worker_count.started ≡ worker_count.wanted
+none-missing fault faults worker_count is =
+    let after-memory = none-after (reported_if (is_out_of_memory fault || faults.memory) Memory) _ (none-after (refused_by_sink fault) _ is) in
+    let missing = none-told (not (worker_count.started == worker_count.wanted)) Thread (none-before _ _ after-memory) in
+    eqb-true worker_count.started worker_count.wanted (not-not (worker_count.started == worker_count.wanted) missing)
+  where
+    not-not : (b : Bool) → not b ≡ false → b ≡ true
+    not-not true is = refl
+    not-not false is = sym is
 
 -- of what is reported with these partitions: a pass of the stream has received all that was sent; and what else is known of it
 pub told-all : {X S T M : Type 0} {source : SourceGhosts S T} (IsOf : StreamPass (ChunkResult M) → Type 0) (partitions_of : X → Vec (Partition S T source) Global) (Else : X → PassKnowledge (ChunkResult M) → Type 0)
@@ -92,3 +107,21 @@ told-accepted made IsPart order a received first last wants_close (Ok ended) out
       taken = taken;
     }
 told-accepted made IsPart order a received first last wants_close (Err told) out same new sound f taken = tt
+
+-- where it is reported how the answer ended, the source was closed, and what was accepted is of the chunks of the records
+module _ {S U W T : Type 0} {source : SourceGhosts S U} {m : Merging W T} {back : Returned S U source} where
+  pub told-closed : (r : Result (Ended S W U source) RunFault) → Finishes m back r → (has_worker_fault back.worker_faults ≡ false → HasClosed (all_shares back.partitions.items))
+      → IfOk r (λ ended. has_close (all_shares ended.partitions.items) ≡ true)
+  told-closed (Ok ended) f closed =
+      let (k, entry, less, at, asked) = closed (none-noted m.fault back.worker_faults back.worker_count f.first) in
+      ap (λ (ps : Vec (Partition S U source) Global). has_close (all_shares ps.items)) f.partitions
+      ∙ list_any-from_Any (λ (r : Record). is_close r.asked) (all_shares back.partitions.items) (k, entry, less, at, ap is_close asked)
+  told-closed (Err told) f closed = tt
+
+  pub told-offered : (IsPart : ChunkResult T → Type 0) (r : Result (Ended S W U source) RunFault) → Finishes m back r
+      → IfOk r (λ ended. (c : ChunkResult T) → IsOfCrew back IsPart c → IsOffered IsPart (all_shares ended.partitions.items) c)
+  told-offered IsPart (Ok ended) f = λ c is. (
+    is.0,
+    subst (λ (ps : Vec (Partition S U source) Global). IsOfOne (all_shares ps.items) c) (sym f.partitions) (is.1 (none-missing m.fault back.worker_faults back.worker_count f.first)),
+  )
+  told-offered IsPart (Err told) f = tt

@@ -26,6 +26,7 @@ use Rattle.plinq_run.specs.declared.fold.Fold.{Fold}
 use Rattle.plinq_run.specs.inner.Combining.{Made, MadeBy}
 use Rattle.plinq_run.specs.inner.Folds.{IsFoldOf, AreFoldsOf}
 use Rattle.plinq_run.proofs.Finished.{fold-finished}
+use Rattle.plinq_partition.specs.Partitions.{all_shares}
 use Rattle.plinq_crew.specs.Plans.{IsUndecided}
 use Rattle.plinq_crew.specs.Results.{IsResult, IsPart}
 use Rattle.plinq_run.specs.declared.planning.Ended.{Ended}
@@ -36,7 +37,7 @@ use Rattle.plinq_run.specs.Finished.{HasFinished}
 use Rattle.plinq_run.specs.inner.Folded.{FoldsSome, value_of}
 use Rattle.plinq_run.specs.inner.Merged.{merge_for, HasEnded, HasBrokenOff}
 use Rattle.plinq_run.specs.Parting.{Breaks}
-use Rattle.plinq_run.specs.inner.Reaching.{IsOffered}
+use Rattle.plinq_run.specs.inner.Offered.{IsOffered}
 use Rattle.plinq_run.specs.inner.Plans.{MayMerge}
 use Rattle.plinq_run.specs.Runs.{Cause, Other, cause_of}
 use Rattle.plinq_run.proofs.Runs.{ended-answer}
@@ -98,7 +99,7 @@ module _ {L T A O : Type 0} (f : Folding T A O) (meaning : L → Meaning T) (pla
         → acc ≡ so_far (folding ended.joined.taker.aggregator.now) ended.joined.taker.acc → HasEnded (MadeBy folding) IsFolded plan.order first tt ended tt
         → (u : Trace T) × MayMerge meaning plan t u × HasFinished f u (record { acc = acc; ending = ended.joined.ending })
     folded-ended ended acc lawful empty few undecided alone is h =
-        finished-answer (record { acc = acc; ending = ended.joined.ending }) few undecided alone h.offers (All-weaker (IsOffered IsFolded ended.coverage) IsFolded (λ c x. x.0) h.offers h.are) h.apart
+        finished-answer (record { acc = acc; ending = ended.joined.ending }) few undecided alone h.offers (All-weaker (IsOffered IsFolded (all_shares ended.partitions.items)) IsFolded (λ c x. x.0) h.offers h.are) h.apart
         (λ results folds.
         let fin = fold-finished folding first ended.joined.taker plan.order results h.offers ended.joined.ending (subst IsFolding (sym same) lawful) (subst (λ g. AreFoldsOf g results h.offers) (sym same) folds) empty h.taken in
         record { ending = fin.0; acc = is ∙ fin.1 ∙ ap (λ g. folded g (merged plan.order results).items) same })

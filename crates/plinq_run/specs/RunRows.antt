@@ -1,28 +1,31 @@
 -- Rows of runs: which deliveries and reports a run may give, and which not.
-use Rattle.std.specs.Prelude.{◌≡◌, refl, ℕ, ◌+◌, nat_lt, pos, List, [], ◌∷◌, ◌++◌, length, get_or, Bool, true, false, Some, None, Result, Ok, Err}
+use Rattle.std.specs.Prelude.{◌≡◌, refl, ℕ, ◌+◌, ◌≤◌, nat_lt, pos, List, [], ◌∷◌, ◌++◌, length, get_or, Bool, true, false, Option, Some, None, Result, Ok, Err}
 use Rattle.std.specs.Int.{int_max}
 use Rattle.std.specs.Global.{Vec}
 use Rattle.std.proofs.Common.{arith, ap, sym, subst, ◌∙◌}
 use Rattle.std.proofs.lemmas.List.{length-append}
+use Rattle.std.proofs.lemmas.List.Elements.{All-nil, All-cons}
 use Rattle.plinq_aggregate.specs.Numbers.{picking}
 use Rattle.plinq_source.specs.declared.ending.Ending.{Ending}
 use Rattle.plinq_source.specs.declared.ending.Ending.TheVariants.{End, Refused, Fault}
 use Rattle.plinq_source.specs.Trace.{Trace, ended, open_trace}
 use Rattle.plinq_keyed.specs.declared.event.Event.TheVariants.{Ask, Close}
 use Rattle.plinq_keyed.specs.declared.record.Record.{Record}
+use Rattle.plinq_keyed.specs.declared.tail.Tail.{Tail}
 use Rattle.plinq_keyed.specs.declared.tail.Tail.TheVariants.{Ended, Closed}
 use Rattle.plinq_merge.specs.Sending.{Leads}
 use Rattle.plinq_merge.specs.Cancelling.{Delivery, Passes, IsAsked}
 use Rattle.plinq_ops.specs.declared.merge_option.MergeOption.TheVariants.{NotBuffered}
+use Rattle.plinq_ops.specs.declared.results.ChunkResult.{ChunkResult}
 use Rattle.plinq_ops.specs.Answer.{Answer}
 use Rattle.plinq_ops.specs.Operator.{example}
 use Rattle.plinq_run.specs.declared.aggregate_fault.AggregateFault.TheVariants.{Ended as EndedSo, Run}
 use Rattle.plinq_run.specs.declared.run_fault.RunFault.{RunFault}
 use Rattle.plinq_run.specs.declared.run_fault.RunFault.TheVariants.{Memory, Sink, Tickets, Thread, Incomplete, Cancelled}
 use Rattle.plinq_run.specs.Aggregates.{Aggregates}
-use Rattle.plinq_run.specs.Handed.{handed_trace}
+use Rattle.plinq_run.specs.Handed.{is_end, handed_trace}
 use Rattle.plinq_run.specs.Headline.{HasDelivered}
-use Rattle.plinq_run.specs.inner.Reaching.{Covers}
+use Rattle.plinq_run.specs.inner.Offered.{IsOffered, Covers}
 use Rattle.plinq_run.specs.Reports.{HasReported}
 use Rattle.plinq_run.specs.Runs.{Runs}
 use Rattle.plinq_run.specs.Stopping.{RunsWith}
@@ -218,18 +221,32 @@ no_records records are report =
     let same = report.has_run.ending in
     absurd (cc)
 
--- ---- how far results reach
+-- ---- what records hand out
 
--- three items, of which the first two have all that is offered
-first_two_cover : Covers {T = ℕ} (ended (3 ∷ 1 ∷ 4 ∷ []) End) (record { end = 2; is_told = false }) (open_trace (3 ∷ 1 ∷ []))
-first_two_cover = record { items = refl; within = omega arith; end = omega arith; told = λ told. absurd (cc) }
+-- a record of two items
+abbrev first_two : Option Tail → List Record
+first_two tail = record { ticket = 0; asked = Ask 2; first = 0; count = 2; tail = tail } ∷ []
+
+-- three items, of which the first two have all that it hands out
+first_two_cover : Covers {T = ℕ} (ended (3 ∷ 1 ∷ 4 ∷ []) End) (first_two None) (open_trace (3 ∷ 1 ∷ []))
+first_two_cover = record {
+  items = refl;
+  within = omega arith;
+  ends = All-cons (λ (r : Record). r.first + r.count ≤ 2) _ [] (omega arith) (All-nil (λ (r : Record). r.first + r.count ≤ 2));
+  told = All-cons (λ (r : Record). is_end r.tail ≡ true → None ≡ Some End) _ [] (λ told. absurd (cc)) (All-nil (λ (r : Record). is_end r.tail ≡ true → None ≡ Some End));
+}
 
 -- where the end was reported, they don't
-end_isnt_covered : Covers {T = ℕ} (ended (3 ∷ 1 ∷ []) End) (record { end = 2; is_told = true }) (open_trace (3 ∷ 1 ∷ [])) → ⊥
-end_isnt_covered covers = let same = covers.told refl in absurd (cc)
+end_isnt_covered : Covers {T = ℕ} (ended (3 ∷ 1 ∷ []) End) (first_two (Some Ended)) (open_trace (3 ∷ 1 ∷ [])) → ⊥
+end_isnt_covered covers = let same = covers.told 0 (record { ticket = 0; asked = Close; first = 0; count = 0; tail = None }) (omega arith) refl in absurd (cc)
 
-third_isnt_covered : Covers {T = ℕ} (ended (3 ∷ 1 ∷ 4 ∷ []) End) (record { end = 3; is_told = false }) (open_trace (3 ∷ 1 ∷ [])) → ⊥
-third_isnt_covered covers = absurd (omega (arith, covers.end))
+-- nor does the first
+second_isnt_covered : Covers {T = ℕ} (ended (3 ∷ 1 ∷ 4 ∷ []) End) (first_two None) (open_trace (3 ∷ [])) → ⊥
+second_isnt_covered covers = absurd (omega (arith, covers.ends 0 (record { ticket = 0; asked = Close; first = 0; count = 0; tail = None }) (omega arith)))
+
+-- a result that is of no record wasn't offered
+offered_of_nothing : (r : ChunkResult ℕ) → IsOffered (λ _. Unit {0}) [] r → ⊥
+offered_of_nothing r (is, (k, entry, less, at, answers)) = absurd (omega (arith, less))
 
 -- ---- aggregates
 

@@ -8,8 +8,8 @@ pub mod Finishing
 pub mod Folded
 pub mod Folds
 pub mod Merged
+pub mod Offered
 pub mod Plans
-pub mod Reaching
 pub mod Reported
 pub mod Standing
 pub mod Valuing

@@ -1,5 +1,5 @@
 //! What is reported when all workers have been joined.
-ghost use Rattle.std.specs.Prelude.{◌≡◌, ◌≤◌, length, true, None, All, IfOk, IfSome, Ok};
+ghost use Rattle.std.specs.Prelude.{◌≡◌, ◌≤◌, length, None, All, IfOk, IfSome, Ok};
 ghost use Rattle.plinq_keyed.specs.History.{IsLegalHistory};
 ghost use Rattle.plinq_partition.specs.Partitions.{IsPartitionOf, all_shares};
 ghost use Rattle.plinq_partition.specs.GivenBack.{common_origin};
@@ -9,9 +9,7 @@ ghost use Rattle.plinq_run.specs.inner.Reported.{cause_in_merge, IsReportOf};
 ghost use Rattle.plinq_run.specs.Endings.{reported};
 ghost use Rattle.plinq_run.specs.inner.Faults.{first_reported};
 ghost use Rattle.plinq_run.specs.inner.Finishing.{Finishes};
-ghost use Rattle.plinq_run.specs.inner.Reaching.{accounts_for};
 
-use crate::accounting::account_for;
 use crate::merging::Merging;
 use crate::planning::{Conducted, Ended};
 use crate::report::Report;
@@ -65,11 +63,7 @@ pub(crate) fn finish<W: Taker, S: Source>(
 ) -> Result<Ended<S, W>, RunFault>
     ensures { Finishes merging back result }
 {
-    let Merging {
-        joiner,
-        coverage,
-        fault,
-    } = merging;
+    let Merging { joiner, fault } = merging;
     let Returned {
         partitions,
         worker_faults,
@@ -81,35 +75,23 @@ pub(crate) fn finish<W: Taker, S: Source>(
     let Ok(joined) = joiner.finish() else {
         return Err(RunFault::Incomplete);
     };
-    Ok(Ended {
-        partitions,
-        joined,
-        coverage,
-    })
+    Ok(Ended { partitions, joined })
 }
 
-/// The report of a run that has an answer, if the records account for it.
+/// The report of a run that has an answer, if its records are the whole history.
 pub(crate) fn report<S: Source, W: Taker>(conducted: Conducted<S, W>) -> Result<Report, RunFault>
     requires some { 1 ≤ length conducted.ended.partitions.items }
     requires of { All (IsPartitionOf conducted.chunked) conducted.ended.partitions.items }
     ensures told { IsReportOf (Ok conducted.ended.joined.ending) (reported result) }
     ensures legal { IfOk result (λ report. IsLegalHistory (common_origin conducted.ended.partitions.items) report.records.items) }
     ensures records { IfOk result (λ report. report.records.items ≡ in_ticket_order (all_shares conducted.ended.partitions.items)) }
-    ensures accounted { IfOk result (λ report. accounts_for conducted.ended.coverage report.records.items ≡ true) }
 {
     let Conducted { chunked, ended } = conducted;
-    let Ended {
-        partitions,
-        joined,
-        coverage,
-    } = ended;
+    let Ended { partitions, joined } = ended;
     let ending = joined.ending;
     let Ok(enumerator) = chunked.give_back(partitions) else {
         return Err(RunFault::Incomplete);
     };
     let records = enumerator.into_records();
-    if !account_for(&records, coverage) {
-        return Err(RunFault::Incomplete);
-    }
     Ok(Report { ending, records })
 }

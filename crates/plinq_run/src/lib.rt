@@ -16,13 +16,11 @@
 //! - A [`Gate`] is what workers pass on their way.
 #![tactic(auto)]
 
-mod accounting;
 mod aggregate_fault;
 mod aggregating;
 mod cancelling;
 mod chunk_pieces;
 mod combined;
-mod coverage;
 mod finishing;
 mod fold;
 mod fold_blocks;

@@ -7,16 +7,14 @@ ghost use Rattle.plinq_merge.specs.Keys.{is_offered};
 ghost use Rattle.plinq_merge.specs.Joining.{IsReady};
 ghost use Rattle.plinq_run.specs.inner.Merged.{Accepts, AcceptsInto};
 
-use crate::coverage::Coverage;
 use plinq_crew::Consumer;
 use plinq_merge::{Joiner, MergeFault, TakeInto, Taker};
 use plinq_ops::ChunkResult;
 
-/// A joiner, how far what it was offered reaches, and the fault after which it is offered nothing more.
+/// A joiner, and the fault after which it is offered nothing more.
 #[derive(Drop)]
 pub(crate) struct Merging<W, T> {
     pub(crate) joiner: Joiner<W, T>,
-    pub(crate) coverage: Coverage,
     pub(crate) fault: Option<MergeFault>,
 }
 
@@ -33,7 +31,6 @@ impl<W: Taker> Merging<W, W::Item> {
         if self.fault.is_some() {
             return;
         }
-        self.coverage.extend(&part);
         if let Err(fault) = self.joiner.offer(part, out) {
             self.fault = Some(fault);
         }

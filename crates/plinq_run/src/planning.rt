@@ -2,7 +2,7 @@
 ghost use Rattle.std.specs.Prelude.{◌≡◌, ◌≤◌, ◌+◌, drop, length, true, All, IfOk};
 ghost use Rattle.plinq_ops.specs.declared.results.ChunkResult.{ChunkResult};
 ghost use Rattle.plinq_cut.specs.OfPlan.{AreStopKeys};
-ghost use Rattle.plinq_partition.specs.Partitions.{IsPartitionOf, holding_of};
+ghost use Rattle.plinq_partition.specs.Partitions.{IsPartitionOf, all_shares, holding_of};
 ghost use Rattle.plinq_partition.specs.GivenBack.{common_origin};
 ghost use Rattle.plinq_stream.specs.declared.stream_pass.StreamPass.{StreamPass};
 ghost use Rattle.plinq_stream.specs.Passes.{IsPassOf, known};
@@ -10,11 +10,11 @@ ghost use Rattle.plinq_stream.specs.Streams.{HasReceivedAll};
 ghost use Rattle.plinq_crew.specs.Equipped.{IsReady};
 ghost use Rattle.plinq_crew.specs.Results.{IsPart};
 ghost use Rattle.plinq_crew.specs.Working.{IsWhollyAnsweredBy};
+ghost use Rattle.plinq_run.specs.Handed.{has_close};
 ghost use Rattle.plinq_run.specs.inner.Conducted.{HasConducted};
 ghost use Rattle.plinq_run.specs.inner.Plans.{MayRun};
 ghost use Rattle.plinq_run.specs.inner.Merged.{WereAccepted, EndsSo};
 
-use crate::coverage::Coverage;
 use crate::finishing::finish;
 use crate::kept_memory::keep_memory;
 use crate::merging::{Merging, MergingInto};
@@ -33,13 +33,11 @@ use std::thread::Threads;
 // How many results the queue has room for.
 const ROOM: usize = 256;
 
-/// What is left of a run that has an answer: the partitions, what has taken the answer's items and how it ended, and how far
-/// the parts reach that it rests on.
+/// What is left of a run that has an answer: the partitions, what has taken the answer's items and how it ended.
 #[derive(Drop)]
 pub(crate) struct Ended<S: Source, W> {
     pub(crate) partitions: Vec<Partition<S>>,
     pub(crate) joined: Joined<W>,
-    pub(crate) coverage: Coverage,
 }
 
 /// A run that has an answer, and the source that its partitions have shared.
@@ -68,13 +66,13 @@ where
     requires takes { W.can_take taker ≡ true }
     ensures back { IfOk result (λ ended. (1 ≤ length ended.partitions.items) × All (IsPartitionOf crew.now.chunked.now) ended.partitions.items × (common_origin ended.partitions.items ≡ (holding_of context.partition).origin)) }
     ensures started { IfOk result (λ ended. (2 ≤ length ended.partitions.items) × (length ended.partitions.items ≤ crew.now.workers + 1)) }
+    ensures closed { IfOk result (λ ended. has_close (all_shares ended.partitions.items) ≡ true) }
     ensures all { IfOk result (λ ended. (pass : StreamPass (ChunkResult P.Part)) × IsPassOf crew.now.stream.now pass × HasReceivedAll (known pass) × All (IsWhollyAnsweredBy (known pass)) (drop 1 ended.partitions.items)
         × WereAccepted W.made J.is_result crew.now.plan.now.order taker out.old (known pass).received ended.joined out.new) }
     ensures ends { EndsSo W.made J.is_result crew.now.plan.now.order taker out.old result out.new }
 {
     let mut merging = Merging {
         joiner: Joiner::new(crew.alloc, crew.plan.order, taker),
-        coverage: Coverage::none(),
         fault: None,
     };
     let mut into = MergingInto {

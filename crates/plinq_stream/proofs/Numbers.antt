@@ -1,14 +1,27 @@
 -- Numbers one after another.
-use Rattle.std.proofs.Common.{◌≡◌, ℕ, zero, suc, ◌+◌, ◌-◌, ◌<◌, ◌≤◌, ◌==◌, eqb-true, true, false, true≢false, [], ◌∷◌, take, drop, sym, ap, ◌∙◌, ⊎_elim, arith}
+use Rattle.std.proofs.Common.{◌≡◌, ℕ, zero, suc, ◌+◌, ◌-◌, ◌<◌, ◌≤◌, ◌==◌, eqb-true, eq-eqb, true, false, true≢false, [], ◌∷◌, take, drop, sym, ap, ◌∙◌, ⊎_elim, arith}
+use Rattle.std.proofs.lemmas.Bool.{cases_lt}
 use Rattle.plinq_stream.specs.declared.known.PassKnowledge.{PassKnowledge}
 use Rattle.plinq_stream.specs.Knowing.{numbers_from}
 use Rattle.plinq_stream.specs.Streams.{has, under, MayHandOut}
-use Rattle.plinq_stream.proofs.Under.{either-way, or-cases}
+use Rattle.plinq_stream.proofs.Under.{or-cases, or-first, or-second, either-way}
 
 -- they are at least the first
 from-above : (n m count : ℕ) → has m (numbers_from n count) ≡ true → n ≤ m
 from-above n m zero is = absurd (true≢false (sym is))
 from-above n m (suc count) is = ⊎_elim (λ e. let same : n ≡ m = eqb-true n m e in omega arith) (λ e. let rest = from-above (n + 1) m count e in omega arith) (or-cases (n == m) (has m (numbers_from (n + 1) count)) is)
+
+-- they are so many
+pub from-below : (n m count : ℕ) → has m (numbers_from n count) ≡ true → m < n + count
+from-below n m zero is = absurd (true≢false (sym is))
+from-below n m (suc count) is = ⊎_elim (λ e. let same : n ≡ m = eqb-true n m e in omega arith) (λ e. let rest = from-below (n + 1) m count e in omega arith)
+    (or-cases (n == m) (has m (numbers_from (n + 1) count)) is)
+
+-- and each of them is among them
+pub from-all : (n m count : ℕ) → n ≤ m → m < n + count → has m (numbers_from n count) ≡ true
+from-all n m zero above below = absurd (omega arith)
+from-all n m (suc count) above below = ⊎_elim (λ less. or-second (n == m) (has m (numbers_from (n + 1) count)) (from-all (n + 1) m count (omega arith) (omega arith)))
+    (λ most. or-first (n == m) (has m (numbers_from (n + 1) count)) (eq-eqb n m (omega arith))) (cases_lt n m)
 
 -- so many are left, and then one fewer
 left-after : (n most : ℕ) → n < most → most - n ≡ suc (most - (n + 1))

@@ -1,5 +1,5 @@
 -- Each step of a pass keeps the stream's rule.
-use Rattle.std.proofs.Common.{◌≡◌, ◌≢◌, ℕ, zero, suc, Bool, true, false, true≢false, List, [], ◌∷◌, ◌++◌, length, take, drop, set, All, if◌then◌else◌, refl, sym, ap, ◌∙◌, subst, append_assoc, ◌⊎◌, inl, inr, ⊎_elim, arith}
+use Rattle.std.proofs.Common.{◌≡◌, ◌≢◌, ℕ, ◌<◌, zero, suc, Bool, true, false, true≢false, List, [], ◌∷◌, ◌++◌, length, take, drop, set, All, if◌then◌else◌, refl, sym, ap, ◌∙◌, subst, append_assoc, ◌⊎◌, inl, inr, ⊎_elim, arith}
 use Rattle.std.proofs.lemmas.List.{append-nil}
 use Rattle.std.proofs.lemmas.List.Elements.{All-nil, All-push, All-head, All-tail}
 use Rattle.std.specs.Prelude.{Option, Some, None, IfNone, MatchOption}
@@ -12,6 +12,7 @@ use Rattle.crossbeam_queue.specs.Fifo.{Pushes, Pops, Forks, Merges, Learns, Held
 use Rattle.plinq_stream.specs.declared.known.PassKnowledge.{PassKnowledge}
 use Rattle.plinq_stream.specs.declared.sent.Sent.{Sent}
 use Rattle.plinq_stream.specs.Knowing.{nothing_known, first_known, with_sent, with_received, without_first, with_first, together}
+use Rattle.plinq_stream.proofs.Numbers.{from-below}
 use Rattle.plinq_stream.proofs.Under.{has-append, or-left, or-right, or-cases, or-none, or-first, or-second, either-way, has-split, under-append, under-apart}
 use Rattle.plinq_stream.specs.Streams.{has, under, Fits, IsNobodys, IsStream, MayHandOut, HasReceived, HasReceivedAll}
 
@@ -50,7 +51,7 @@ module _ {T : Type 0} (Carried : T → Type 0) where
     seat = λ n. 0;
     reader = 0;
     each = λ pass a at. let is = alone pass a at in subst (λ (x : ℕ × PassKnowledge T). Fits (λ n. 0) 0 [] [] x.0 x.1) (λ i. (is.0 i, is.1 i))
-        (record { alone = λ n h. refl; sent = λ n h. refl; only = λ n h. refl; received_all = λ h. (refl, refl) });
+        (record { alone = λ n h. refl; below = λ n h. from-below 0 n 64 h; sent = λ n h. refl; only = λ n h. refl; received_all = λ h. (refl, refl) });
     others = λ n h. refl;
     carried = All-nil (λ s. Carried s.item);
   }
@@ -72,6 +73,7 @@ module _ {T : Type 0} (Carried : T → Type 0) where
         λ n not. under-after n ∙ ap (λ l. under n before ++ l) (under-apart n s a.numbers own not) ∙ append-nil (under n before) in
         let fits : Fits h.seat h.reader h.received after pass b = record {
           alone = mine.alone;
+          below = mine.below;
           sent = λ n is. under-after n ∙ ap (λ l. l ++ under n (s ∷ [])) (mine.sent n is) ∙ sym (under-append n a.sent (s ∷ []));
           only = λ n not. under-append n a.sent (s ∷ []) ∙ ap (λ l. l ++ under n (s ∷ [])) (mine.only n not) ∙ under-apart n s a.numbers own not;
           received_all = mine.received_all;
@@ -86,7 +88,7 @@ module _ {T : Type 0} (Carried : T → Type 0) where
                 let theirs = h.each j u x.1 in
                 let apart : (n : ℕ) → has n u.numbers ≡ true → has n a.numbers ≡ false =
                 λ n is. ⊎_elim (λ both. absurd (x.0 (sym (theirs.alone n is) ∙ mine.alone n both))) (λ not. not) (either-way (has n a.numbers)) in
-                record { alone = theirs.alone; sent = λ n is. same n (apart n is) ∙ theirs.sent n is; only = theirs.only; received_all = theirs.received_all })
+                record { alone = theirs.alone; below = theirs.below; sent = λ n is. same n (apart n is) ∙ theirs.sent n is; only = theirs.only; received_all = theirs.received_all })
                 (at_set views pass j b u e);
             others = λ n nobody.
                 let not : has n a.numbers ≡ false = nobody pass b (set_at views pass a b at) in
@@ -106,6 +108,7 @@ module _ {T : Type 0} (Carried : T → Type 0) where
         let mine_all = mine.received_all may in
         let fits : Fits h.seat h.reader received stream pass b = record {
           alone = mine.alone;
+          below = mine.below;
           sent = mine.sent;
           only = mine.only;
           received_all = λ _. (mine_all.0, ap (λ l. l ++ s ∷ []) mine_all.1);
@@ -114,7 +117,7 @@ module _ {T : Type 0} (Carried : T → Type 0) where
         λ j u e. ⊎_elim (λ (x : (j ≡ pass) × (b ≡ u)). subst (λ (y : ℕ × PassKnowledge T). Fits h.seat h.reader received stream y.0 y.1) (λ i. (sym x.0 i, x.1 i)) fits)
         (λ (x : (j ≢ pass) × (get_elem? views j ≡ some u)).
         let theirs = h.each j u x.1 in
-        record { alone = theirs.alone; sent = theirs.sent; only = theirs.only; received_all = λ is. absurd (x.0 ((theirs.received_all is).0 ∙ sym mine_all.0)) })
+        record { alone = theirs.alone; below = theirs.below; sent = theirs.sent; only = theirs.only; received_all = λ is. absurd (x.0 ((theirs.received_all is).0 ∙ sym mine_all.0)) })
         (at_set views pass j b u e) in
         let others : (n : ℕ) → IsNobodys (set views pass b) n → under n stream ≡ [] =
         λ n nobody. h.others n (each-unset (λ u. has n u.numbers ≡ false) views pass a b at (nobody pass b (set_at views pass a b at)) nobody) in (
@@ -144,6 +147,7 @@ module _ {T : Type 0} (Carried : T → Type 0) where
         let was-rest : (n : ℕ) → has n (drop 1 a.numbers) ≡ true → has n a.numbers ≡ true = λ n is. has-split n a.numbers ∙ or-second (has n (take 1 a.numbers)) (has n (drop 1 a.numbers)) is in
         let fits-left : Fits seat h.reader h.received stream pass left = record {
           alone = λ n is. ⊎_elim (λ first. absurd (true≢false (sym is ∙ may.once n first))) (λ not. seat-old n not ∙ mine.alone n (was-rest n is)) (either-way (has n (take 1 a.numbers)));
+          below = λ n is. mine.below n (was-rest n is);
           sent = λ n is. mine.sent n (was-rest n is);
           only = λ n not. ⊎_elim (λ first. may.unsent n first)
               (λ none. mine.only n (has-split n a.numbers ∙ or-none (has n (take 1 a.numbers)) (has n (drop 1 a.numbers)) none not)) (either-way (has n (take 1 a.numbers)));
@@ -151,6 +155,7 @@ module _ {T : Type 0} (Carried : T → Type 0) where
         } in
         let fits-right : Fits seat h.reader h.received stream (length made) right = record {
           alone = seat-new;
+          below = λ n is. mine.below n (was-first n is);
           sent = λ n is. mine.sent n (was-first n is) ∙ may.unsent n is;
           only = λ n not. refl;
           received_all = λ is. absurd (true≢false (sym is));
@@ -167,6 +172,7 @@ module _ {T : Type 0} (Carried : T → Type 0) where
               record {
                 alone = λ n is. ⊎_elim (λ first. absurd (x.0 (sym (theirs.alone n is) ∙ mine.alone n (was-first n first)))) (λ not. seat-old n not ∙ theirs.alone n is)
                     (either-way (has n (take 1 a.numbers)));
+                below = theirs.below;
                 sent = theirs.sent;
                 only = theirs.only;
                 received_all = theirs.received_all;
@@ -198,6 +204,7 @@ module _ {T : Type 0} (Carried : T → Type 0) where
         λ n is. ⊎_elim (λ too. absurd (two (sym (theirs.alone n too) ∙ mine.alone n is))) (λ not. not) (either-way (has n b.numbers)) in
         let fits : Fits seat h.reader h.received stream pass both = record {
           alone = λ n is. ⊎_elim (λ own. seat-old n (apart n own) ∙ mine.alone n own) (λ new. seat-new n new) (or-cases (has n a.numbers) (has n b.numbers) (sym (has-append n a.numbers b.numbers) ∙ is));
+          below = λ n is. ⊎_elim (λ own. mine.below n own) (λ new. theirs.below n new) (or-cases (has n a.numbers) (has n b.numbers) (sym (has-append n a.numbers b.numbers) ∙ is));
           sent = λ n is. ⊎_elim
               (λ own. mine.sent n own ∙ sym (under-append n a.sent b.sent ∙ ap (λ l. under n a.sent ++ l) (theirs.only n (apart n own)) ∙ append-nil (under n a.sent)))
               (λ new. ⊎_elim (λ own. absurd (true≢false (sym new ∙ apart n own)))
@@ -210,6 +217,7 @@ module _ {T : Type 0} (Carried : T → Type 0) where
         } in
         let spent : Fits seat h.reader h.received stream other nothing_known = record {
           alone = λ n is. absurd (true≢false (sym is));
+          below = λ n is. absurd (true≢false (sym is));
           sent = λ n is. absurd (true≢false (sym is));
           only = λ n not. refl;
           received_all = λ is. absurd (true≢false (sym is));
@@ -225,6 +233,7 @@ module _ {T : Type 0} (Carried : T → Type 0) where
               let here = h.each j u x.1 in
               record {
                 alone = λ n is. ⊎_elim (λ too. absurd (far.0 (sym (here.alone n is) ∙ theirs.alone n too))) (λ not. seat-old n not ∙ here.alone n is) (either-way (has n b.numbers));
+                below = here.below;
                 sent = here.sent;
                 only = here.only;
                 received_all = here.received_all;
@@ -242,14 +251,23 @@ module _ {T : Type 0} (Carried : T → Type 0) where
         }
 
     pub has_come : a.receives ≡ true → Learns (IsStream Carried) pass a (HasReceived a)
-    has_come may items views h at n is =
+    has_come may items views h at =
         let mine = h.each pass a at in
-        sym (mine.sent n is) ∙ ap (λ l. under n (l ++ items)) (sym (mine.received_all may).1)
+        let same : h.received ++ items ≡ a.received ++ items = ap (λ l. l ++ items) (sym (mine.received_all may).1) in
+        record {
+          own = λ n is. sym (mine.sent n is) ∙ ap (under n) same;
+          none = λ n far.
+              ap (under n) (sym same)
+              ∙ h.others n (λ j u e. ⊎_elim (λ is. let near : n < 64 = (h.each j u e).below n is in absurd (omega (arith, near, far))) (λ not. not) (either-way (has n u.numbers)));
+        }
 
 -- at a moment at which the queue holds nothing, all has come
 module _ {T : Type 0} where
   come-at_empty : (a b : PassKnowledge T) → b ≡ a → (items : List (Sent T)) → length items ≡ 0 → HasReceived a items → HasReceivedAll b
-  come-at_empty a b same [] none come = subst HasReceivedAll (sym same) (λ n is. sym (come n is ∙ ap (under n) (append-nil a.received)))
+  come-at_empty a b same [] none come =
+      let all : a.received ++ [] ≡ a.received = append-nil a.received in
+      subst HasReceivedAll (sym same)
+      (record { own = λ n is. sym (come.own n is ∙ ap (under n) all); none = λ n far. ap (under n) (sym all) ∙ come.none n far })
   come-at_empty a b same (x ∷ items) none come = absurd (omega arith)
 
   pub all-come : (P : Sent T → Type 0) (a b : PassKnowledge T) (result : Option (Sent T)) → MatchOption result ((b ≡ a) × Held 0 (HasReceived a)) P → IfNone result (HasReceivedAll b)

@@ -1,9 +1,11 @@
 -- Numbers, and what was sent under them.
-use Rattle.std.proofs.Common.{◌≡◌, ◌≢◌, ℕ, ◌==◌, eqb-true, ne_eqb, eq-eqb, ◌||◌, Bool, true, false, true≢false, List, [], ◌∷◌, ◌++◌, take, drop, All, if◌then◌else◌, refl, sym, ap, ◌∙◌, subst, ◌⊎◌, inl, inr, ⊎_elim}
-use Rattle.std.proofs.lemmas.List.Elements.{All-head, All-tail}
+use Rattle.std.proofs.Common.{◌≡◌, ◌≢◌, ℕ, ◌<◌, ◌==◌, eqb-true, ne_eqb, eq-eqb, ◌||◌, Bool, true, false, true≢false, List, [], ◌∷◌, ◌++◌, take, drop, All, if◌then◌else◌, refl, sym, ap, ◌∙◌, subst, ◌⊎◌, inl, inr, ⊎_elim}
+use Rattle.std.proofs.lemmas.Bool.{cases_lt}
+use Rattle.std.proofs.lemmas.List.Elements.{All-nil, All-cons, All-head, All-tail}
 use Rattle.std.proofs.lemmas.List.Folds.{list_any-append}
+use Rattle.plinq_stream.specs.declared.known.PassKnowledge.{PassKnowledge}
 use Rattle.plinq_stream.specs.declared.sent.Sent.{Sent}
-use Rattle.plinq_stream.specs.Streams.{has, under}
+use Rattle.plinq_stream.specs.Streams.{has, under, HasReceivedAll}
 
 pub has-append : (n : ℕ) (xs ys : List ℕ) → has n (xs ++ ys) ≡ (has n xs || has n ys)
 has-append n xs ys = list_any-append (λ m. m == n) xs ys
@@ -73,3 +75,31 @@ module _ {T : Type 0} where
       let other = All-head (λ (x : Sent T). x.number ≢ n) s ss all in
       let rest = under-none n ss (All-tail (λ (x : Sent T). x.number ≢ n) s ss all) in
       ap (λ (b : Bool). if b then s.item ∷ under n ss else under n ss) (ne_eqb s.number n other) ∙ rest
+
+  -- what holds of all items holds of those under a number
+  pub under-all : (P : T → Type 0) (n : ℕ) (ss : List (Sent T)) → All (λ s. P s.item) ss → All P (under n ss)
+  under-all P n [] all = All-nil P
+  under-all P n (s ∷ ss) all =
+      let rest = under-all P n ss (All-tail (λ (x : Sent T). P x.item) s ss all) in
+      chosen (s.number == n) (All-head (λ (x : Sent T). P x.item) s ss all) rest
+    where
+      chosen : (b : Bool) → P s.item → All P (under n ss) → All P (if b then s.item ∷ under n ss else under n ss)
+      chosen true first rest = All-cons P s.item (under n ss) first rest
+      chosen false first rest = rest
+
+  -- and what holds of those under each number holds of all
+  pub all-under : (P : T → Type 0) (ss : List (Sent T)) → ((n : ℕ) → All P (under n ss)) → All (λ s. P s.item) ss
+  all-under P [] all = All-nil (λ (x : Sent T). P x.item)
+  all-under P (s ∷ ss) all =
+      All-cons (λ (x : Sent T). P x.item) s ss
+      (All-head P s.item (under s.number ss) (subst (λ (b : Bool). All P (if b then s.item ∷ under s.number ss else under s.number ss)) (eq-eqb s.number s.number refl) (all s.number)))
+      (all-under P ss (λ n. left n (s.number == n) (all n)))
+    where
+      left : (n : ℕ) (b : Bool) → All P (if b then s.item ∷ under n ss else under n ss) → All P (under n ss)
+      left n true all = All-tail P s.item (under n ss) all
+      left n false all = all
+
+  -- what holds of each item that was sent under 64 numbers holds of each that was received
+  pub each-received : (P : T → Type 0) (a : PassKnowledge T) → HasReceivedAll a → ((n : ℕ) → n < 64 → has n a.numbers ≡ true) → All (λ s. P s.item) a.sent → All (λ s. P s.item) a.received
+  each-received P a come numbers all =
+      all-under P a.received (λ n. ⊎_elim (λ near. subst (All P) (sym (come.own n (numbers n near))) (under-all P n a.sent all)) (λ far. subst (All P) (sym (come.none n far)) (All-nil P)) (cases_lt n 64))

@@ -1,5 +1,5 @@
 -- The rule of a stream: what holds between any two steps of any passes.
-use Rattle.std.specs.Prelude.{◌≡◌, refl, ℕ, ◌==◌, List, [], ◌∷◌, ◌++◌, take, drop, Bool, true, false, if◌then◌else◌, All}
+use Rattle.std.specs.Prelude.{◌≡◌, refl, ℕ, ◌<◌, ◌≤◌, ◌==◌, List, [], ◌∷◌, ◌++◌, take, drop, Bool, true, false, if◌then◌else◌, All}
 use Rattle.std.specs.List.{list_any}
 use mathlib.Core.Option.{some}
 use lib.ListN.{get_elem?}
@@ -21,6 +21,8 @@ module _ {T : Type 0} where
   pub record Fits (seat : ℕ → ℕ) (reader : ℕ) (received stream : List (Sent T)) (pass : ℕ) (a : PassKnowledge T) : Type 0 where
     -- its numbers are its own
     pub alone : (n : ℕ) → has n a.numbers ≡ true → seat n ≡ pass
+    -- and below 64
+    pub below : (n : ℕ) → has n a.numbers ≡ true → n < 64
     -- under each of them the stream has what it sent, in that order
     pub sent : (n : ℕ) → has n a.numbers ≡ true → under n stream ≡ under n a.sent
     -- and it sent nothing under any other
@@ -45,13 +47,17 @@ module _ {T : Type 0} where
     pub unsent : (n : ℕ) → has n (take 1 a.numbers) ≡ true → under n a.sent ≡ []
     pub once : (n : ℕ) → has n (take 1 a.numbers) ≡ true → has n (drop 1 a.numbers) ≡ false
 
-  -- what was sent under each of the pass's numbers is what it received under it, and then what these have
-  abbrev pub HasReceived : PassKnowledge T → List (Sent T) → Type 0
-  HasReceived a items = (n : ℕ) → has n a.numbers ≡ true → under n a.sent ≡ under n (a.received ++ items)
+  -- what was sent under each of the pass's numbers is what it received under it, and then what these have; no pass has a number
+  -- from 64 on, under which there is nothing
+  pub record HasReceived (a : PassKnowledge T) (items : List (Sent T)) : Type 0 where
+    pub own : (n : ℕ) → has n a.numbers ≡ true → under n a.sent ≡ under n (a.received ++ items)
+    pub none : (n : ℕ) → 64 ≤ n → under n (a.received ++ items) ≡ []
 
-  -- what was sent under each of the pass's numbers is what it received under it, in that order
-  abbrev pub HasReceivedAll : PassKnowledge T → Type 0
-  HasReceivedAll a = (n : ℕ) → has n a.numbers ≡ true → under n a.received ≡ under n a.sent
+  -- what was sent under each of the pass's numbers is what it received under it, in that order, and it received nothing under a
+  -- number that no pass has
+  pub record HasReceivedAll (a : PassKnowledge T) : Type 0 where
+    pub own : (n : ℕ) → has n a.numbers ≡ true → under n a.received ≡ under n a.sent
+    pub none : (n : ℕ) → 64 ≤ n → under n a.received ≡ []
 
 -- ---- worked rows
 

@@ -19,6 +19,5 @@ pub record Finishes {S U W T : Type 0} {source : SourceGhosts S U} (merging : Me
   pub taker : IfOk result (λ ended. ended.joined.taker ≡ taker_of merging.joiner)
   pub ending : IfOk result (λ ended. ending_of merging.joiner ≡ Ok ended.joined.ending)
   pub partitions : IfOk result (λ ended. ended.partitions ≡ back.partitions)
-  pub coverage : IfOk result (λ ended. ended.coverage ≡ merging.coverage)
   pub err : IfErr result (λ fault. cause_of fault ≡ cause_in_merge merging.fault)
   pub told : IfErr result (λ fault. option_or (first_reported merging.fault back.worker_faults back.worker_count) (Some Incomplete) ≡ Some fault)

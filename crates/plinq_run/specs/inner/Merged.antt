@@ -19,6 +19,7 @@ use Rattle.plinq_merge.specs.Joiners.{taker_of, order_of, ending_of, Takes, HasJ
 use Rattle.plinq_merge.specs.Mergers.{delivery_fault_of}
 use Rattle.plinq_merge.specs.Shown.{Merge, merged}
 use Rattle.plinq_merge.specs.Whole.{AreApart}
+use Rattle.plinq_partition.specs.Partitions.{all_shares}
 use Rattle.plinq_stream.specs.declared.sent.Sent.{Sent}
 use Rattle.plinq_crew.specs.Conducting.{AcceptsEach}
 use Rattle.plinq_crew.specs.Polls.{HasAccepted}
@@ -26,7 +27,7 @@ use Rattle.plinq_run.specs.declared.planning.Ended.{Ended}
 use Rattle.plinq_run.specs.declared.merging.Merging.{Merging}
 use Rattle.plinq_run.specs.declared.merging.MergingInto.{MergingInto}
 use Rattle.plinq_run.specs.declared.run_fault.RunFault.{RunFault}
-use Rattle.plinq_run.specs.inner.Reaching.{IsOffered, Grows, Reaches}
+use Rattle.plinq_run.specs.inner.Offered.{IsOffered}
 use Rattle.plinq_run.specs.Parting.{Breaks}
 use Rattle.plinq_run.specs.Runs.{cause_of}
 
@@ -51,8 +52,6 @@ module _ {W O T : Type 0} (made : W → O → Trace T → Result (Option Ending)
     pub takes : Takes made m.joiner part y told m'.joiner y'
     pub order : order_of m'.joiner ≡ order_of m.joiner
     pub kept : m'.fault ≡ offer_fault told
-    pub grows : Grows m.coverage m'.coverage
-    pub reaches : Reaches m'.coverage part
 
   abbrev pub AcceptsAfter : Option MergeFault → Merging W T → O → ChunkResult T → Merging W T → O → Type 0
   AcceptsAfter None m y part m' y' = WasOffered m y part m' y'
@@ -75,14 +74,14 @@ module _ {W O T : Type 0} (made : W → O → Trace T → Result (Option Ending)
     -- such parts were offered, of which no key is in two: they are joined, or the taker broke off what they merge to
     pub record HasMerged (m : Merging W T) (y : O) : Type 0 where
       pub offers : List (ChunkResult T)
-      pub are : All (IsOffered IsPart m.coverage) offers
+      pub are : All IsPart offers
       pub apart : AreApart offers
       pub stands : Stands m.fault m.joiner y offers
 
-    -- the taker has taken all that they merge to, and the answer has ended so
+    -- the taker has taken all that such parts of the partitions' records merge to, and the answer has ended so
     pub record HasEnded {S U : Type 0} {source : SourceGhosts S U} (ended : Ended S W U source) (y : O) : Type 0 where
       pub offers : List (ChunkResult T)
-      pub are : All (IsOffered IsPart ended.coverage) offers
+      pub are : All (IsOffered IsPart (all_shares ended.partitions.items)) offers
       pub apart : AreApart offers
       pub taken : made a x (merged order offers) (Ok (Some ended.joined.ending)) ended.joined.taker y
 

@@ -1,9 +1,12 @@
 use Rattle.std.proofs.Common.{rules, ◌≡◌, true, false, refl, sym, ap, ◌∙◌, subst, true≢false}
+use Rattle.plinq_partition.specs.Partitions.{holding_of}
 use Rattle.plinq_stream.specs.Passes.{known}
 use Rattle.plinq_crew.specs.Closing.{wants_close}
 use Rattle.plinq_crew.proofs.Coordinating.{stays-on}
+use Rattle.plinq_crew.proofs.Shares.{closes-stays}
 use Rattle.plinq_crew.proofs.Polls.{took-none, took-more}
 use Rattle.plinq_crew.specs.Conducting.{AcceptsEach}
+use Rattle.plinq_crew.specs.Working.{HasClosed}
 use Rattle.plinq_crew.proofs.conducting.accept_some.Goals as goal
 
 pub loop-preserved-then-not-wants_close : goal.loop-preserved-then-not-wants_close
@@ -12,6 +15,7 @@ loop-preserved-then-not-wants_close g c = record {
   finite = tt;
   coordinator = c.poll.ensures.coordinator;
   same = stays-on _ _ _ c.loop.invariant.same c.poll.ensures.same;
+  closed = λ had. closes-stays _ _ _ _ _ c.poll.new.self.worker_faults c.poll.ensures.closes (c.loop.invariant.closed had);
   ready = c.accept.ensures.ready;
   accepted = λ before start h.
       let Step = AcceptsEach g.X.Consumer.accepts g.J.RunSpec.is_result in
@@ -34,6 +38,7 @@ loop-preserved-else-not-wants_close g c = record {
   finite = tt;
   coordinator = c.poll.ensures.coordinator;
   same = stays-on _ _ _ c.loop.invariant.same c.poll.ensures.same;
+  closed = λ had. closes-stays _ _ _ _ _ c.poll.new.self.worker_faults c.poll.ensures.closes (c.loop.invariant.closed had);
   ready = c.loop.invariant.ready;
   accepted = λ before start h.
       let Step = AcceptsEach g.X.Consumer.accepts g.J.RunSpec.is_result in
@@ -45,3 +50,18 @@ loop-preserved-else-not-wants_close g c = record {
       (λ is. absurd (let over : closed ≡ true = search rules in true≢false (sym over ∙ is))) (λ _. refl)
       (took-none Step before start received (wants_close c.loop.closing) closed c.loop.consumer c.poll.ensures.closed (c.loop.invariant.accepted before start h));
 }
+
+pub loop-preserved : goal.loop-preserved
+loop-preserved g c = record {
+  can = tt;
+  finite = tt;
+  coordinator = search rules;
+  same = search rules;
+  closed = λ had now.
+      subst (λ p. HasClosed (holding_of p).share) (sym c.wait.ensures.partition) (closes-stays _ _ _ _ _ c.poll.new.self.worker_faults c.poll.ensures.closes (c.loop.invariant.closed had) now);
+  ready = search rules;
+  accepted = search rules;
+}
+
+pub returns-in-Over-clause-closed : goal.returns-in-Over-clause-closed
+returns-in-Over-clause-closed g c had = closes-stays _ _ _ _ _ c.poll.new.self.worker_faults c.poll.ensures.closes (c.loop.invariant.closed had)

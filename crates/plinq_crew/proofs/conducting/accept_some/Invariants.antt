@@ -1,4 +1,6 @@
+use Rattle.plinq_partition.specs.Partitions.{holding_of}
 use Rattle.plinq_stream.specs.Passes.{known}
+use Rattle.plinq_crew.specs.Polls.{StaysClosed}
 use Rattle.plinq_crew.specs.Closing.{wants_close}
 use Rattle.plinq_crew.specs.inner.Coordinating.{IsCoordinator, StaysSame, AcceptsOn}
 use Rattle.plinq_crew.proofs.conducting.accept_some.Given as goal
@@ -9,6 +11,7 @@ invariant-loop g l = record {
   finite : (goal.iterator-loop g).is_finite l.iterator';
   coordinator : IsCoordinator l.crew.chunked.now l.crew.stream.now l.coordinator;
   same : StaysSame l.fn.coordinator l.coordinator;
+  closed : StaysClosed l.fn.closing (holding_of l.fn.coordinator.partition).share l.closing (holding_of l.coordinator.partition).share;
   ready : g.X.Consumer.is_ready l.consumer;
   accepted : AcceptsOn g.X.Consumer.accepts g.J.RunSpec.is_result (known l.fn.coordinator.stream).received (wants_close l.fn.closing) l.fn.consumer (known l.coordinator.stream).received (wants_close l.closing) l.consumer;
 }

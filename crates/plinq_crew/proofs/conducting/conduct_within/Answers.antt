@@ -1,13 +1,16 @@
-use Rattle.std.proofs.Common.{rules, ◌≡◌, ◌≤◌, ◌+◌, [], length, refl, sym, ap, ◌∙◌, subst, arith}
-use Rattle.plinq_partition.specs.Partitions.{holding_of}
+use Rattle.std.proofs.Common.{rules, ◌≡◌, ◌≤◌, ◌+◌, [], All, true, true≢false, length, refl, sym, ap, ◌∙◌, subst, arith}
+use Rattle.plinq_partition.specs.Partitions.{all_shares, holding_of}
 use Rattle.plinq_stream.specs.Passes.{known}
-use Rattle.plinq_crew.specs.Closing.{wants_close}
+use Rattle.plinq_stream.specs.Streams.{has}
+use Rattle.plinq_stream.proofs.Under.{each-received}
+use Rattle.plinq_crew.specs.Closing.{wants_close, is_closed}
 use Rattle.plinq_crew.specs.Polls.{HasAccepted}
 use Rattle.plinq_crew.specs.Conducting.{AcceptsEach}
 use Rattle.plinq_crew.specs.declared.worker_count.WorkerCount.{WorkerCount}
 use Rattle.plinq_crew.specs.inner.Teams.{IsTeam}
-use Rattle.plinq_crew.specs.Working.{HasNumbersFrom}
+use Rattle.plinq_crew.specs.Working.{HasClosed, HasNumbersFrom, IsOfOne}
 use Rattle.plinq_crew.proofs.Coordinating.{may-go_on}
+use Rattle.plinq_crew.proofs.Shares.{none-before}
 use Rattle.plinq_crew.proofs.Working.{answered-same}
 use Rattle.plinq_crew.proofs.conducting.conduct_within.Goals as goal
 use Rattle.plinq_crew.proofs.conducting.conduct_within.Goals.{in-None, in-Some+then-not-accept_some}
@@ -28,6 +31,7 @@ loop-init g c =
         workers = c.requires.ready.workers;
       };
       origin = ap (λ p. (holding_of p).origin) c.new-coordinator.ensures.partition;
+      closed = λ is. absurd (true≢false (sym is));
       ready = c.requires.consumer;
       accepted = record {
         taken = [];
@@ -47,6 +51,7 @@ loop-preserved g c =
       finite = tt;
       may = may-go_on g.L.Lambda.meaning g.P.Task.makes g.J.RunSpec.is_result g.J.RunSpec.stops_at crew _ _ _ c.start_wanted.ensures.may c.accept_some.ensures.coordinator c.accept_some.ensures.same;
       origin = c.accept_some.ensures.same.origin ∙ ap (λ h. h.origin) c.start_wanted.ensures.same ∙ c.loop.invariant.origin;
+      closed = c.accept_some.ensures.closed (λ is. subst (λ h. HasClosed h.share) (sym c.start_wanted.ensures.same) (c.loop.invariant.closed is));
       ready = c.accept_some.ensures.ready;
       accepted = c.accept_some.ensures.accepted [] c.args.consumer.now
           (subst (λ xs. HasAccepted Step [] c.args.consumer.now xs (wants_close c.loop.closing) c.loop.consumer) (sym c.start_wanted.ensures.received) c.loop.invariant.accepted);
@@ -61,7 +66,9 @@ returns g c =
     let count = c.join_all-partitions.ensures.count in
     let ended : ((holding_of end.coordinator.partition).origin ≡ (holding_of c.args.context.partition).origin) × (1 ≤ end.coordinator.worker_count.wanted)
     × IsTeam crew.chunked.now crew.stream.now crew.workers end.coordinator.worker_count end.team
-    × HasAccepted Step [] x (known end.coordinator.stream).received (wants_close end.closing) end.consumer =
+    × HasAccepted Step [] x (known end.coordinator.stream).received (wants_close end.closing) end.consumer
+    × (end.coordinator.worker_count.started ≡ end.coordinator.worker_count.wanted → HasNumbersFrom (length end.team.handles.items) (known end.coordinator.stream))
+    × (is_closed end.closing ≡ true → HasClosed (holding_of end.coordinator.partition).share) =
     elim end.branch [
       | in-None w ↦ absurd (search rules)
       | in-Some+then-not-accept_some w ↦
@@ -72,19 +79,32 @@ returns g c =
             subst (λ (n : WorkerCount). 1 ≤ n.wanted) (sym same.worker_count) w.start_wanted.ensures.wanted,
             may.team,
             w.accept_some.ensures.accepted [] x (subst (λ xs. HasAccepted Step [] x xs (wants_close c.loop.closing) c.loop.consumer) (sym w.start_wanted.ensures.received) c.loop.invariant.accepted),
+            may.numbers,
+            w.accept_some.ensures.closed (λ is. subst (λ h. HasClosed h.share) (sym w.start_wanted.ensures.same) (c.loop.invariant.closed is)),
           )
     ] in
+    let partitions = c.join_all-partitions.result in
+    let last = c.close_at_last in
     record {
       some = omega (arith, count);
       of = c.join_all-partitions.ensures.of;
-      origin = c.join_all-partitions.ensures.origin ∙ ended.0;
-      started = count ∙ ap (λ n. n + 1) (sym ended.2.started);
-      wanted = (ended.1, ended.2.within);
+      origin = c.join_all-partitions.ensures.origin ∙ last.ensures.same.origin ∙ ended.0;
+      started = count ∙ ap (λ n. n + 1) (sym ended.2.started ∙ sym (ap (λ (n : WorkerCount). n.started) last.ensures.same.worker_count));
+      wanted = subst (λ (n : WorkerCount). (1 ≤ n.wanted) × (n.wanted ≤ crew.workers)) (sym last.ensures.same.worker_count) (ended.1, ended.2.within);
       pass = c.accept_rest.new.pass;
       of_stream = c.accept_rest.ensures.stream;
       all = c.accept_rest.ensures.all;
       answered = answered-same (known c.join_all-partitions.new.pass) (known c.accept_rest.new.pass) c.join_all-partitions.new.worker_faults _ c.accept_rest.ensures.sent c.accept_rest.ensures.numbers c.join_all-partitions.ensures.answered;
+      each = λ k d less started.
+          each-received (IsOfOne (all_shares partitions.items)) (known c.accept_rest.new.pass) c.accept_rest.ensures.all
+          (λ n near.
+          ap (has n) c.accept_rest.ensures.numbers
+          ∙ c.join_all-partitions.ensures.numbers (last.ensures.same.numbers ∙ ended.4 (subst (λ (n : WorkerCount). n.started ≡ n.wanted) last.ensures.same.worker_count started)) n near)
+          (subst (All (λ s. IsOfOne (all_shares partitions.items) s.item)) (sym c.accept_rest.ensures.sent) c.join_all-partitions.ensures.sent) k d less;
+      closed = λ none.
+          c.join_all-partitions.ensures.closed
+          (last.ensures.closed ended.5 (none-before last.new.self.worker_faults c.join_all-partitions.new.worker_faults c.join_all-partitions.ensures.kept none));
       wants_close = wants_close end.closing;
       accepted = c.accept_rest.ensures.accepted [] x
-          (subst (λ xs. HasAccepted Step [] x xs (wants_close end.closing) end.consumer) (sym c.join_all-partitions.ensures.received) ended.3);
+          (subst (λ xs. HasAccepted Step [] x xs (wants_close end.closing) end.consumer) (sym (c.join_all-partitions.ensures.received ∙ ap (λ p. (known p).received) last.ensures.stream)) ended.3);
     }

@@ -1,10 +1,11 @@
-use Rattle.std.proofs.Common.{◌≡◌, ◌≤◌, ◌+◌, All, true, length, drop, vec_len, vec_capacity}
-use Rattle.plinq_partition.specs.Partitions.{IsPartitionOf, holding_of}
+use Rattle.std.proofs.Common.{◌≡◌, ℕ, ◌<◌, ◌≤◌, ◌+◌, All, true, length, drop, vec_len, vec_capacity}
+use Rattle.plinq_partition.specs.Partitions.{IsPartitionOf, all_shares, holding_of}
 use Rattle.plinq_partition.specs.GivenBack.{common_origin}
 use Rattle.plinq_stream.specs.Passes.{IsPassOf, known}
+use Rattle.plinq_stream.specs.Streams.{has}
 use Rattle.plinq_crew.specs.inner.Handles.{IsHandleOf, AreNumbered}
 use Rattle.plinq_crew.specs.Noted.{StaysNoted}
-use Rattle.plinq_crew.specs.Working.{IsAnsweredBy}
+use Rattle.plinq_crew.specs.Working.{HasClosed, HasNumbersFrom, IsOfOne, IsAnsweredBy}
 use Rattle.plinq_crew.proofs.starting.join_all.Given as goal
 
 abbrev pub invariant-loop-handle : goal.invariant-loop-handle
@@ -21,6 +22,9 @@ invariant-loop-handle g l = record {
   received : (known l.pass).received ≡ (known l.fn.pass).received;
   above : All (λ s. length l.handles.items ≤ s.number) (known l.pass).sent;
   answered : All (IsAnsweredBy (length l.handles.items) (known l.pass) l.worker_faults) (drop 1 l.partitions.items);
+  sent : All (λ s. IsOfOne (all_shares l.partitions.items) s.item) (known l.pass).sent;
+  numbers : HasNumbersFrom (length l.fn.handles.items) (known l.fn.pass) → (n : ℕ) → length l.handles.items ≤ n → n < 64 → has n (known l.pass).numbers ≡ true;
+  closed : HasClosed (holding_of l.fn.first).share → HasClosed (all_shares l.partitions.items);
   kept : StaysNoted l.fn.worker_faults l.worker_faults;
 }
 

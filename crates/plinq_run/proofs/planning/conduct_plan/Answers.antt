@@ -43,7 +43,7 @@ returns-in-Ok-run_crew g c =
     let P = IsPart g.L.Lambda.meaning (g.P.Task.makes c.args.task.now) c.args.request.plan.now (g.S.Source.whole c.args.request.source) in
     let origin : (holding_of c.in-Ok-new.partition).origin ≡ g.S.Source.whole c.args.request.source = search rules in
     let made = c.in-Ok-run_crew.ensures in (
-      record { some = made.back.0; of = made.back.1; origin = made.back.2 ∙ origin },
+      record { some = made.back.0; of = made.back.1; origin = made.back.2 ∙ origin; closed = made.closed },
       ends-weaker g.W.TakeInto.made g.J.RunSpec.is_result P (λ r is. c.requires.carried r is) c.args.request.plan.now.order c.args.taker c.args.out.now {S = g.row.S.Denot} {U = g.row.L-Item.Denot} {source = g.S.Source} (Ok c.in-Ok-run_crew.ended) c.run_crew.new.out made.ends,
     )
 

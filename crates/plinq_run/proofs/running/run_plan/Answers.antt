@@ -1,11 +1,12 @@
 use Rattle.std.proofs.Common.{rules, ◌≡◌, ◌≤◌, ◌^◌, Err, IfOk, length, refl, sym, subst}
 use Rattle.plinq_keyed.specs.History.{IsLegalHistory}
 use Rattle.plinq_merge.specs.Delivering.{line_of, MadeBy}
+use Rattle.plinq_partition.specs.Partitions.{all_shares}
 use Rattle.plinq_crew.specs.Results.{IsPart}
 use Rattle.plinq_run.specs.inner.Conducted.{HasConducted}
 use Rattle.plinq_run.specs.inner.Plans.{MayMerge}
 use Rattle.plinq_run.specs.Reports.{Reports}
-use Rattle.plinq_run.proofs.Ended.{none-ended, whole-delivered, broken-delivered, whole-reported}
+use Rattle.plinq_run.proofs.Ended.{none-ended, whole-delivered, broken-delivered, whole-reported, reported-closed}
 use Rattle.plinq_run.proofs.Parts.{plain-part}
 use Rattle.plinq_run.proofs.Runs.{begun_line}
 use Rattle.plinq_run.proofs.running.run_plan.Goals as goal
@@ -30,6 +31,15 @@ returns-in_err-conducted-clause-reports g c =
     subst (λ r. Reports g.K.Sink.accepts g.K.Sink.refuses c.args.option (MayMerge meaning plan) t s s' r) (sym is)
     (broken-delivered meaning plan c.args.option c.requires.may.plan t few g.K.Sink.accepts g.K.Sink.refuses P (plain-part meaning plan t) d begun s s' fault h)
 
+pub returns-clause-closed : goal.returns-clause-closed
+returns-clause-closed g c =
+    let meaning = g.L.Lambda.meaning in
+    let plan = c.args.request.plan.now in
+    let t = g.S.Source.whole c.args.request.source in
+    let P = IsPart meaning (λ r x. x ≡ r) plan t in
+    let h = subst (λ r. HasConducted (MadeBy g.K.Sink.accepts g.K.Sink.refuses meaning) P plan.order t c.in-Ok.taker c.args.sink.now r c.conduct_plan.new.out) c.in_ok-conducted.was c.conduct_plan.ensures in
+    reported-closed (all_shares c.in_ok-conducted.conducted.ended.partitions.items) c.report.result c.report.ensures.records h.0.closed
+
 pub returns-clause-reports : goal.returns-clause-reports
 returns-clause-reports g c =
     let meaning = g.L.Lambda.meaning in
@@ -44,5 +54,5 @@ returns-clause-reports g c =
     let h = subst (λ r. HasConducted (MadeBy g.K.Sink.accepts g.K.Sink.refuses meaning) P plan.order t d s r s') c.in_ok-conducted.was c.conduct_plan.ensures in
     let ended = c.in_ok-conducted.conducted.ended in
     let legal = subst (λ u. IfOk c.report.result (λ r. IsLegalHistory u r.records.items)) h.0.origin c.report.ensures.legal in
-    whole-reported meaning plan c.args.option c.requires.may.plan t few g.K.Sink.accepts g.K.Sink.refuses ended.coverage s s' ended.joined.ending c.report.result
-    (whole-delivered meaning plan c.args.option c.requires.may.plan t few g.K.Sink.accepts g.K.Sink.refuses P (plain-part meaning plan t) d begun s s' ended h.1) c.report.ensures.told legal c.report.ensures.accounted
+    whole-reported meaning plan c.args.option c.requires.may.plan t few g.K.Sink.accepts g.K.Sink.refuses (all_shares ended.partitions.items) s s' ended.joined.ending c.report.result
+    (whole-delivered meaning plan c.args.option c.requires.may.plan t few g.K.Sink.accepts g.K.Sink.refuses P (plain-part meaning plan t) d begun s s' ended h.1) c.report.ensures.told legal c.report.ensures.records
