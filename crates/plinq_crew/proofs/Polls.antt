@@ -54,6 +54,13 @@ module _ {X Y : Type 0} (Step Step' : Y → X → Y → Type 0) (P : X → Type 
   steps-such y [] z all steps = steps
   steps-such y (x ∷ xs) z all (m, step, steps) = (m, on y x m (All-head P x xs all) step, steps-such m xs z (All-tail P x xs all) steps)
 
-  pub accepted-such : (y : Y) (received : List X) (wants_close : Bool) (z : Y) → All P received → HasAccepted Step [] y received wants_close z → HasAccepted Step' [] y received wants_close z
+  pub accepted-such : (y : Y) (received : List X) (wants_close : Bool) (z : Y) → All P received → HasAccepted Step [] y received wants_close z
+      → HasAccepted Step' [] y received wants_close z
   accepted-such y received wants_close z all h =
-      record { taken = h.taken; left = h.left; came = h.came; steps = steps-such y h.taken z (all-first h.taken h.left (subst (All P) h.came all)) h.steps; all = h.all }
+      record {
+        taken = h.taken;
+        left = h.left;
+        came = h.came;
+        steps = steps-such y h.taken z (all-first h.taken h.left (subst (All P) h.came all)) h.steps;
+        all = h.all;
+      }

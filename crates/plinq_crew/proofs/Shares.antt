@@ -38,7 +38,9 @@ module _ {X : Type 0} (P : X → Type 0) where
   own-sent : (number : ℕ) (ss : List (Sent X)) → All (λ s. s.number ≡ number) ss → All P (under number ss) → All (λ s. P s.item) ss
   own-sent number ss own all =
       all-under P ss (λ n. ⊎_elim (λ same. subst (λ m. All P (under m ss)) (eqb-true number n same) all)
-      (λ other. subst (All P) (sym (under-none n ss (All-weaker (λ (s : Sent X). s.number ≡ number) (λ s. s.number ≢ n) (λ s is same. apart n other (sym is ∙ same)) ss own))) (All-nil P))
+      (λ other.
+      let none = All-weaker (λ (s : Sent X). s.number ≡ number) (λ s. s.number ≢ n) (λ s is same. apart n other (sym is ∙ same)) ss own in
+      subst (All P) (sym (under-none n ss none)) (All-nil P))
       (either-way (number == n)))
     where
       apart : (n : ℕ) → (number == n) ≡ false → number ≡ n → ⊥
@@ -53,11 +55,13 @@ module _ {T : Type 0} where
       All-cons (IsOfOne (e ∷ es)) r rs (0, e, omega arith, refl, all.0)
       (All-weaker (IsOfOne es) (IsOfOne (e ∷ es)) (λ q (k, x, less, at, is). (suc k, x, omega (arith, less), at, is)) rs (all-one es rs all.1))
 
-  worked-one : (number : ℕ) (share : List Record) (fault : Option TakeFault) (a : PassKnowledge (ChunkResult T)) → HasWorked number share fault a → All (λ s. IsOfOne share s.item) a.sent
+  worked-one : (number : ℕ) (share : List Record) (fault : Option TakeFault) (a : PassKnowledge (ChunkResult T)) → HasWorked number share fault a
+      → All (λ s. IsOfOne share s.item) a.sent
   worked-one number share fault a h =
       let f = h.follows in
       own-sent (IsOfOne share) number a.sent h.own
-      (All-weaker (IsOfOne f.answered) (IsOfOne share) (λ r is. subst (λ rs. IsOfOne rs r) (sym f.share_is) (any-left (λ entry. Answers entry r) f.answered f.rest is))
+      (All-weaker (IsOfOne f.answered) (IsOfOne share)
+      (λ r is. subst (λ rs. IsOfOne rs r) (sym f.share_is) (any-left (λ entry. Answers entry r) f.answered f.rest is))
       (under number a.sent) (all-one f.answered (under number a.sent) f.are))
 
 -- ---- a worker's pass is taken in, and its partition comes after those that came before
@@ -66,7 +70,8 @@ module _ {S T : Type 0} {source : Ghosts S T} (ps : List (Partition S T source))
   pub closed-push : HasClosed (all_shares ps) → HasClosed (all_shares (ps ++ p ∷ []))
   closed-push is = subst HasClosed (sym (all_shares-last ps p)) (any-left (λ (r : Record). r.asked ≡ Close) (all_shares ps) (holding_of p).share is)
 
-  module _ {M : Type 0} (a b c : PassKnowledge (ChunkResult M)) (is : c ≡ together a b) (number : ℕ) (fault : Option TakeFault) (work : HasWorked number (holding_of p).share fault b) where
+  module _ {M : Type 0} (a b c : PassKnowledge (ChunkResult M)) (is : c ≡ together a b) (number : ℕ) (fault : Option TakeFault)
+      (work : HasWorked number (holding_of p).share fault b) where
     pub sent-push : All (λ s. IsOfOne (all_shares ps) s.item) a.sent → All (λ s. IsOfOne (all_shares (ps ++ p ∷ [])) s.item) c.sent
     sent-push before =
         let all = all_shares ps ++ (holding_of p).share in
@@ -75,12 +80,16 @@ module _ {S T : Type 0} {source : Ghosts S T} (ps : List (Partition S T source))
         let Both : Sent (ChunkResult M) → Type 0 = λ s. IsOfOne all s.item in
         subst (λ rs. All (λ s. IsOfOne rs s.item) c.sent) (sym (all_shares-last ps p))
         (subst (All Both) (sym (ap (λ (x : PassKnowledge (ChunkResult M)). x.sent) is))
-        (All-append Both a.sent b.sent (All-weaker Before Both (λ s one. any-left (λ entry. Answers entry s.item) (all_shares ps) (holding_of p).share one) a.sent before)
-        (All-weaker Now Both (λ s one. any-right (λ entry. Answers entry s.item) (all_shares ps) (holding_of p).share one) b.sent (worked-one number (holding_of p).share fault b work))))
+        (All-append Both a.sent b.sent
+        (All-weaker Before Both (λ s one. any-left (λ entry. Answers entry s.item) (all_shares ps) (holding_of p).share one) a.sent before)
+        (All-weaker Now Both (λ s one. any-right (λ entry. Answers entry s.item) (all_shares ps) (holding_of p).share one) b.sent
+        (worked-one number (holding_of p).share fault b work))))
 
-    pub numbers-push : (least : ℕ) → least ≡ number + 1 → ((n : ℕ) → least ≤ n → n < 64 → has n a.numbers ≡ true) → (n : ℕ) → number ≤ n → n < 64 → has n c.numbers ≡ true
+    pub numbers-push : (least : ℕ) → least ≡ number + 1 → ((n : ℕ) → least ≤ n → n < 64 → has n a.numbers ≡ true)
+        → (n : ℕ) → number ≤ n → n < 64 → has n c.numbers ≡ true
     numbers-push least next before n above near =
-        let both : has n c.numbers ≡ (has n a.numbers || has n b.numbers) = ap (λ (x : PassKnowledge (ChunkResult M)). has n x.numbers) is ∙ has-append n a.numbers b.numbers in
+        let both : has n c.numbers ≡ (has n a.numbers || has n b.numbers) =
+        ap (λ (x : PassKnowledge (ChunkResult M)). has n x.numbers) is ∙ has-append n a.numbers b.numbers in
         both ∙ ⊎_elim (λ more. or-first (has n a.numbers) (has n b.numbers) (before n (omega (arith, next)) near))
         (λ least. or-second (has n a.numbers) (has n b.numbers)
         (ap (λ (x : PassKnowledge (ChunkResult M)). has n x.numbers) work.knows ∙ or-first (number == n) false (eq-eqb number n (omega arith))))
@@ -91,9 +100,11 @@ module _ {S T : Type 0} {source : Ghosts S T} (ps : List (Partition S T source))
 stopped-closed : {T : Type 0} (a b : Holding T) → IsStopped a b → HasClosed b.share
 stopped-closed a b stopped = subst HasClosed (sym stopped.adds.share) (any-last (λ (r : Record). r.asked ≡ Close) a.share stopped.entry stopped.adds.asked_is)
 
-pub closes-stays : {T : Type 0} (is_over : Bool) (before after : Closing) (a b : Holding T) (faults : WorkerFaults) → ClosesInTime is_over before a faults after b → StaysClosed before a.share after b.share
+pub closes-stays : {T : Type 0} (is_over : Bool) (before after : Closing) (a b : Holding T) (faults : WorkerFaults)
+    → ClosesInTime is_over before a faults after b → StaysClosed before a.share after b.share
 closes-stays is_over before after a b faults closes had now =
-    ⊎_elim (λ was. subst (λ (h : Holding _). HasClosed h.share) (sym (closes.1 (ap is_closed (closes.0 was)))) (had was)) (λ not. stopped-closed a b (closes.2 not now)) (either-way (is_closed before))
+    ⊎_elim (λ was. subst (λ (h : Holding _). HasClosed h.share) (sym (closes.1 (ap is_closed (closes.0 was)))) (had was))
+    (λ not. stopped-closed a b (closes.2 not now)) (either-way (is_closed before))
 
 -- no fault was noted before where none is
 pub none-before : (faults faults' : WorkerFaults) → StaysNoted faults faults' → has_worker_fault faults' ≡ false → has_worker_fault faults ≡ false

@@ -92,17 +92,19 @@ module _ {L T : Type 0} (meaning : L → Meaning T) (worker : List (Op L)) where
   told-first t first key (Some (Refused code)) less within told at = (omega (arith, less, within, at.0), told refl ∙ at.1)
   told-first t first key (Some Closed) less within told at = tt
 
-pub result-covered : {L T : Type 0} (meaning : L → Meaning T) (plan : Plan L) (t first : Trace T) (records : List Record) (r : ChunkResult T) → length t.items ≤ 2 ^ 40 → Covers t records first
-    → IsOffered (IsResult meaning plan t) records r → IsResult meaning plan first r
+pub result-covered : {L T : Type 0} (meaning : L → Meaning T) (plan : Plan L) (t first : Trace T) (records : List Record) (r : ChunkResult T)
+    → length t.items ≤ 2 ^ 40 → Covers t records first → IsOffered (IsResult meaning plan t) records r → IsResult meaning plan first r
 result-covered meaning plan t first records r few covers offered =
     let (k, entry, less, at, answers) = offered.1 in
     let ends : entry.first + entry.count ≤ length first.items = subst (λ (e : Record). e.first + e.count ≤ length first.items) at (covers.ends k entry less) in
-    let told : is_end entry.tail ≡ true → first.ending ≡ t.ending = subst (λ (e : Record). is_end e.tail ≡ true → first.ending ≡ t.ending) at (covers.told k entry less) in
+    let told : is_end entry.tail ≡ true → first.ending ≡ t.ending =
+    subst (λ (e : Record). is_end e.tail ≡ true → first.ending ≡ t.ending) at (covers.told k entry less) in
     let within : end_of_result r ≤ length first.items = omega (arith, ends, answers.first, answers.count) in
     let offer = offer-first meaning plan.worker.now t first r few covers.items within offered.0.offer in
     record {
       offer = offer.0;
       uncut = λ by. offer.1 (offered.0.uncut by);
-      tail = told-first meaning plan.worker.now t first (end_of_result r) r.tail covers.within within (λ is. told (ap is_end (sym answers.tail) ∙ is)) offered.0.tail;
+      tail = told-first meaning plan.worker.now t first (end_of_result r) r.tail covers.within within
+          (λ is. told (ap is_end (sym answers.tail) ∙ is)) offered.0.tail;
       within = within;
     }

@@ -90,7 +90,8 @@ module _ {L T K : Type 0} (meaning : L → Meaning T) (plan : Plan L) (option : 
         → IsWhole meaning plan option undecided t few accepts refuses (all_shares ended.partitions.items) s s' ended.joined.ending
     whole-delivered s s' ended h =
         whole-run meaning plan option undecided t few accepts refuses (all_shares ended.partitions.items) s s' ended.joined.ending h.offers (line_of meaning ended.joined.taker)
-        (All-weaker (IsOffered P (all_shares ended.partitions.items)) (IsOffered (IsResult meaning plan t) (all_shares ended.partitions.items)) (λ r x. (plain r x.0, x.1)) h.offers h.are) h.apart
+        (All-weaker (IsOffered P (all_shares ended.partitions.items)) (IsOffered (IsResult meaning plan t) (all_shares ended.partitions.items))
+        (λ r x. (plain r x.0, x.1)) h.offers h.are) h.apart
         (subst (λ l. Gives accepts refuses l s (merged plan.order h.offers) (Ok (Some ended.joined.ending)) (line_of meaning ended.joined.taker) s') begun (let taken = h.taken in taken.gives))
 
     -- or the first batches of one
@@ -100,8 +101,9 @@ module _ {L T K : Type 0} (meaning : L → Meaning T) (plan : Plan L) (option : 
         (subst (λ l. Gives accepts refuses l s (merged plan.order h.offers) h.how (line_of meaning h.last) s') begun (let taken = h.taken in taken.gives)) h.breaks
 
   -- the report of a run is of the same answer, which its records account for
-  pub whole-reported : (records : List Record) (s s' : K) (e : Ending) (b : Result Report RunFault) → IsWhole meaning plan option undecided t few accepts refuses records s s' e → IsReportOf (Ok e) (reported b)
-      → IfOk b (λ r. IsLegalHistory t r.records.items) → IfOk b (λ r. r.records.items ≡ in_ticket_order records) → Reports accepts refuses option (MayMerge meaning plan) t s s' b
+  pub whole-reported : (records : List Record) (s s' : K) (e : Ending) (b : Result Report RunFault) → IsWhole meaning plan option undecided t few accepts refuses records s s' e
+      → IsReportOf (Ok e) (reported b) → IfOk b (λ r. IsLegalHistory t r.records.items) → IfOk b (λ r. r.records.items ≡ in_ticket_order records)
+      → Reports accepts refuses option (MayMerge meaning plan) t s s' b
   whole-reported records s s' e (Ok r) h is legal all =
       record {
         answer = h.answer;
@@ -118,7 +120,8 @@ module _ {L T K : Type 0} (meaning : L → Meaning T) (plan : Plan L) (option : 
       }
 
 -- and closed where they are
-pub reported-closed : (records : List Record) (b : Result Report RunFault) → IfOk b (λ r. r.records.items ≡ in_ticket_order records) → has_close records ≡ true → IfOk b (λ r. has_close r.records.items ≡ true)
+pub reported-closed : (records : List Record) (b : Result Report RunFault) → IfOk b (λ r. r.records.items ≡ in_ticket_order records) → has_close records ≡ true
+    → IfOk b (λ r. has_close r.records.items ≡ true)
 reported-closed records (Ok r) all is = ap has_close all ∙ closed-in_order records is
 reported-closed records (Err f) all is = tt
 

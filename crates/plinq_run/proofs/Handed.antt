@@ -47,13 +47,16 @@ placed-permutes r [] = IsPermutation-refl (r ∷ [])
 placed-permutes r (x ∷ rs) =
     elim (nat_le r.ticket x.ticket) as (λ b. IsPermutation (r ∷ x ∷ rs) (if b then r ∷ x ∷ rs else x ∷ placed r rs)) [
       | true ↦ IsPermutation-refl (r ∷ x ∷ rs)
-      | false ↦ IsPermutation-trans (r ∷ x ∷ rs) (x ∷ r ∷ rs) (x ∷ placed r rs) (IsPermutation-middle (r ∷ []) x rs) (IsPermutation-cons x (r ∷ rs) (placed r rs) (placed-permutes r rs))
+      | false ↦
+          IsPermutation-trans (r ∷ x ∷ rs) (x ∷ r ∷ rs) (x ∷ placed r rs) (IsPermutation-middle (r ∷ []) x rs)
+          (IsPermutation-cons x (r ∷ rs) (placed r rs) (placed-permutes r rs))
     ]
 
 in_order-permutes : (rs : List Record) → IsPermutation rs (in_ticket_order rs)
 in_order-permutes [] = IsPermutation-refl []
 in_order-permutes (r ∷ rs) =
-    IsPermutation-trans (r ∷ rs) (r ∷ in_ticket_order rs) (in_ticket_order (r ∷ rs)) (IsPermutation-cons r rs (in_ticket_order rs) (in_order-permutes rs)) (placed-permutes r (in_ticket_order rs))
+    IsPermutation-trans (r ∷ rs) (r ∷ in_ticket_order rs) (in_ticket_order (r ∷ rs)) (IsPermutation-cons r rs (in_ticket_order rs) (in_order-permutes rs))
+    (placed-permutes r (in_ticket_order rs))
 
 -- where one is a request to close, so it is in their order
 pub closed-in_order : (rs : List Record) → has_close rs ≡ true → has_close (in_ticket_order rs) ≡ true
@@ -73,6 +76,7 @@ covers-handed t rs legal =
     record {
       items = items ∙ ap (λ n. take n t.items) (sym size);
       within = omega (arith, size, prefix.within);
-      ends = All-permutation Ends h rs back (All-weaker (λ r. r.first + r.count ≤ (place_after t start h).given) Ends (λ r below. omega (arith, size, below)) h (run-within t start h run.0));
+      ends = All-permutation Ends h rs back
+          (All-weaker (λ r. r.first + r.count ≤ (place_after t start h).given) Ends (λ r below. omega (arith, size, below)) h (run-within t start h run.0));
       told = All-permutation Tells h rs back (λ k d less is. ap (λ b. cond b t.ending None) (list_any_at (λ r. is_end r.tail) h k d less is));
     }

@@ -157,12 +157,13 @@ module _ {W O T : Type 0} (made : W → O → Trace T → Result (Option Ending)
       record { offers = offers; are = are; apart = apart; last = stands.0; how = Err (delivery_fault_of fault); taken = stands.1; breaks = breaks-by fault (cause_of told) is }
 
 -- what is left of a run of which such parts were merged: where there is an answer, they are of its partitions' records
-module _ {W O T : Type 0} (made : W → O → Trace T → Result (Option Ending) DeliveryFault → W → O → Type 0) (lawful : IsTaking made) (P Q : ChunkResult T → Type 0) (on : (c : ChunkResult T) → P c → Q c) (order : Order) (a : W) (x : O)
+module _ {W O T : Type 0} (made : W → O → Trace T → Result (Option Ending) DeliveryFault → W → O → Type 0) (lawful : IsTaking made)
+    (P Q : ChunkResult T → Type 0) (on : (c : ChunkResult T) → P c → Q c) (order : Order) (a : W) (x : O)
     {S U : Type 0} {source : SourceGhosts S U} where
   ended-by : (m : Merging W T) (y : O) (result : Result (Ended S W U source) RunFault) → HasMerged made P order a x m y
       → OnOk result (m.fault ≡ None) → IfOk result (λ ended. ended.joined.taker ≡ taker_of m.joiner) → IfOk result (λ ended. ending_of m.joiner ≡ Ok ended.joined.ending)
-      → IfOk result (λ ended. (c : ChunkResult T) → P c → IsOffered Q (all_shares ended.partitions.items) c) → IfErr result (λ fault. cause_of fault ≡ cause_in_merge m.fault)
-      → EndsSo made Q order a x result y
+      → IfOk result (λ ended. (c : ChunkResult T) → P c → IsOffered Q (all_shares ended.partitions.items) c)
+      → IfErr result (λ fault. cause_of fault ≡ cause_in_merge m.fault) → EndsSo made Q order a x result y
   ended-by m y (Ok ended) h none taker ending all err =
       let stands = subst (λ f. Stands made P order a x f m.joiner y h.offers) none h.stands in
       record {
@@ -183,7 +184,8 @@ module _ {W O T : Type 0} (made : W → O → Trace T → Result (Option Ending)
       → (last.merging.now ≡ m) × (last.out.now ≡ y) → HasMerged made P order a x last.merging.now last.out.now → Finishes m back result
       → IfOk result (λ ended. (c : ChunkResult T) → P c → IsOffered Q (all_shares ended.partitions.items) c) → EndsSo made Q order a x result y
   merged-ended {m = m} {y = y} {result = result} last same h f all =
-      ended-by m y result (subst (λ n. HasMerged made P order a x n y) same.0 (subst (HasMerged made P order a x last.merging.now) same.1 h)) f.none f.taker f.ending all f.err
+      ended-by m y result (subst (λ n. HasMerged made P order a x n y) same.0 (subst (HasMerged made P order a x last.merging.now) same.1 h))
+      f.none f.taker f.ending all f.err
 
 -- parts of which less is said
 module _ {W O T : Type 0} (made : W → O → Trace T → Result (Option Ending) DeliveryFault → W → O → Type 0) (P Q : ChunkResult T → Type 0) (on : (c : ChunkResult T) → P c → Q c) (order : Order) (a : W) (x : O) where

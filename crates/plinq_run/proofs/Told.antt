@@ -62,7 +62,8 @@ none-noted fault faults worker_count is =
     let tickets = none-told faults.tickets Tickets (none-before _ _ after-thread) in
     or-none faults.memory faults.tickets (or-right (is_out_of_memory fault) faults.memory memory) tickets
 
-pub none-missing : (fault : Option MergeFault) (faults : WorkerFaults) (worker_count : WorkerCount) → first_reported fault faults worker_count ≡ None → worker_count.started ≡ worker_count.wanted
+pub none-missing : (fault : Option MergeFault) (faults : WorkerFaults) (worker_count : WorkerCount) → first_reported fault faults worker_count ≡ None
+    → worker_count.started ≡ worker_count.wanted
 none-missing fault faults worker_count is =
     let after-memory = none-after (reported_if (is_out_of_memory fault || faults.memory) Memory) _ (none-after (refused_by_sink fault) _ is) in
     let missing = none-told (not (worker_count.started == worker_count.wanted)) Thread (none-before _ _ after-memory) in
@@ -110,7 +111,8 @@ told-accepted made IsPart order a received first last wants_close (Err told) out
 
 -- where it is reported how the answer ended, the source was closed, and what was accepted is of the chunks of the records
 module _ {S U W T : Type 0} {source : SourceGhosts S U} {m : Merging W T} {back : Returned S U source} where
-  pub told-closed : (r : Result (Ended S W U source) RunFault) → Finishes m back r → (has_worker_fault back.worker_faults ≡ false → HasClosed (all_shares back.partitions.items))
+  pub told-closed : (r : Result (Ended S W U source) RunFault) → Finishes m back r
+      → (has_worker_fault back.worker_faults ≡ false → HasClosed (all_shares back.partitions.items))
       → IfOk r (λ ended. has_close (all_shares ended.partitions.items) ≡ true)
   told-closed (Ok ended) f closed =
       let (k, entry, less, at, asked) = closed (none-noted m.fault back.worker_faults back.worker_count f.first) in
@@ -122,6 +124,7 @@ module _ {S U W T : Type 0} {source : SourceGhosts S U} {m : Merging W T} {back 
       → IfOk r (λ ended. (c : ChunkResult T) → IsOfCrew back IsPart c → IsOffered IsPart (all_shares ended.partitions.items) c)
   told-offered IsPart (Ok ended) f = λ c is. (
     is.0,
-    subst (λ (ps : Vec (Partition S U source) Global). IsOfOne (all_shares ps.items) c) (sym f.partitions) (is.1 (none-missing m.fault back.worker_faults back.worker_count f.first)),
+    subst (λ (ps : Vec (Partition S U source) Global). IsOfOne (all_shares ps.items) c) (sym f.partitions)
+        (is.1 (none-missing m.fault back.worker_faults back.worker_count f.first)),
   )
   told-offered IsPart (Err told) f = tt

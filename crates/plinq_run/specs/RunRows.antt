@@ -233,7 +233,8 @@ first_two_cover = record {
   items = refl;
   within = omega arith;
   ends = All-cons (λ (r : Record). r.first + r.count ≤ 2) _ [] (omega arith) (All-nil (λ (r : Record). r.first + r.count ≤ 2));
-  told = All-cons (λ (r : Record). is_end r.tail ≡ true → None ≡ Some End) _ [] (λ told. absurd (cc)) (All-nil (λ (r : Record). is_end r.tail ≡ true → None ≡ Some End));
+  told = All-cons (λ (r : Record). is_end r.tail ≡ true → None ≡ Some End) _ [] (λ told. absurd (cc))
+      (All-nil (λ (r : Record). is_end r.tail ≡ true → None ≡ Some End));
 }
 
 -- where the end was reported, they don't

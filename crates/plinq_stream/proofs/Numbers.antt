@@ -20,7 +20,8 @@ from-below n m (suc count) is = ⊎_elim (λ e. let same : n ≡ m = eqb-true n 
 -- and each of them is among them
 pub from-all : (n m count : ℕ) → n ≤ m → m < n + count → has m (numbers_from n count) ≡ true
 from-all n m zero above below = absurd (omega arith)
-from-all n m (suc count) above below = ⊎_elim (λ less. or-second (n == m) (has m (numbers_from (n + 1) count)) (from-all (n + 1) m count (omega arith) (omega arith)))
+from-all n m (suc count) above below = ⊎_elim
+    (λ less. or-second (n == m) (has m (numbers_from (n + 1) count)) (from-all (n + 1) m count (omega arith) (omega arith)))
     (λ most. or-first (n == m) (has m (numbers_from (n + 1) count)) (eq-eqb n m (omega arith))) (cases_lt n m)
 
 -- so many are left, and then one fewer

@@ -204,7 +204,8 @@ module _ {T : Type 0} (Carried : T → Type 0) where
         λ n is. ⊎_elim (λ too. absurd (two (sym (theirs.alone n too) ∙ mine.alone n is))) (λ not. not) (either-way (has n b.numbers)) in
         let fits : Fits seat h.reader h.received stream pass both = record {
           alone = λ n is. ⊎_elim (λ own. seat-old n (apart n own) ∙ mine.alone n own) (λ new. seat-new n new) (or-cases (has n a.numbers) (has n b.numbers) (sym (has-append n a.numbers b.numbers) ∙ is));
-          below = λ n is. ⊎_elim (λ own. mine.below n own) (λ new. theirs.below n new) (or-cases (has n a.numbers) (has n b.numbers) (sym (has-append n a.numbers b.numbers) ∙ is));
+          below = λ n is. ⊎_elim (λ own. mine.below n own) (λ new. theirs.below n new)
+              (or-cases (has n a.numbers) (has n b.numbers) (sym (has-append n a.numbers b.numbers) ∙ is));
           sent = λ n is. ⊎_elim
               (λ own. mine.sent n own ∙ sym (under-append n a.sent b.sent ∙ ap (λ l. under n a.sent ++ l) (theirs.only n (apart n own)) ∙ append-nil (under n a.sent)))
               (λ new. ⊎_elim (λ own. absurd (true≢false (sym new ∙ apart n own)))

@@ -92,7 +92,8 @@ module _ {T : Type 0} where
   all-under P [] all = All-nil (λ (x : Sent T). P x.item)
   all-under P (s ∷ ss) all =
       All-cons (λ (x : Sent T). P x.item) s ss
-      (All-head P s.item (under s.number ss) (subst (λ (b : Bool). All P (if b then s.item ∷ under s.number ss else under s.number ss)) (eq-eqb s.number s.number refl) (all s.number)))
+      (All-head P s.item (under s.number ss)
+      (subst (λ (b : Bool). All P (if b then s.item ∷ under s.number ss else under s.number ss)) (eq-eqb s.number s.number refl) (all s.number)))
       (all-under P ss (λ n. left n (s.number == n) (all n)))
     where
       left : (n : ℕ) (b : Bool) → All P (if b then s.item ∷ under n ss else under n ss) → All P (under n ss)
@@ -100,6 +101,8 @@ module _ {T : Type 0} where
       left n false all = all
 
   -- what holds of each item that was sent under 64 numbers holds of each that was received
-  pub each-received : (P : T → Type 0) (a : PassKnowledge T) → HasReceivedAll a → ((n : ℕ) → n < 64 → has n a.numbers ≡ true) → All (λ s. P s.item) a.sent → All (λ s. P s.item) a.received
+  pub each-received : (P : T → Type 0) (a : PassKnowledge T) → HasReceivedAll a → ((n : ℕ) → n < 64 → has n a.numbers ≡ true) → All (λ s. P s.item) a.sent
+      → All (λ s. P s.item) a.received
   each-received P a come numbers all =
-      all-under P a.received (λ n. ⊎_elim (λ near. subst (All P) (sym (come.own n (numbers n near))) (under-all P n a.sent all)) (λ far. subst (All P) (sym (come.none n far)) (All-nil P)) (cases_lt n 64))
+      all-under P a.received (λ n. ⊎_elim (λ near. subst (All P) (sym (come.own n (numbers n near))) (under-all P n a.sent all))
+      (λ far. subst (All P) (sym (come.none n far)) (All-nil P)) (cases_lt n 64))

@@ -58,7 +58,8 @@ loop-preserved g c = record {
   coordinator = search rules;
   same = search rules;
   closed = λ had now.
-      subst (λ p. HasClosed (holding_of p).share) (sym c.wait.ensures.partition) (closes-stays _ _ _ _ _ c.poll.new.self.worker_faults c.poll.ensures.closes (c.loop.invariant.closed had) now);
+      subst (λ p. HasClosed (holding_of p).share) (sym c.wait.ensures.partition)
+      (closes-stays _ _ _ _ _ c.poll.new.self.worker_faults c.poll.ensures.closes (c.loop.invariant.closed had) now);
   ready = search rules;
   accepted = search rules;
 }

@@ -56,7 +56,8 @@ loop-handle-preserved g c =
           (All-push (IsAnsweredBy n both faults) (drop 1 before) worked.partition
           (All-weaker (IsAnsweredBy least a old) (IsAnsweredBy n both faults) (answered-before n least next a b both is old faults c.note_any.ensures.kept work.own) (drop 1 before) c.loop-handle.invariant.answered)
           (answered-now n least next a b both is old faults c.note_any.ensures.kept c.loop-handle.invariant.above worked.partition worked.fault c.note_any.ensures.noted work));
-      sent = subst (λ ps. All (λ s. IsOfOne (all_shares ps) s.item) both.sent) (sym pushed) (sent-push before worked.partition a b both is n worked.fault work c.loop-handle.invariant.sent);
+      sent = subst (λ ps. All (λ s. IsOfOne (all_shares ps) s.item) both.sent) (sym pushed)
+          (sent-push before worked.partition a b both is n worked.fault work c.loop-handle.invariant.sent);
       numbers = λ from. numbers-push before worked.partition a b both is n worked.fault work least next (c.loop-handle.invariant.numbers from);
       closed = λ was. subst (λ ps. HasClosed (all_shares ps)) (sym pushed) (closed-push before worked.partition (c.loop-handle.invariant.closed was));
       kept = (λ is. c.note_any.ensures.kept.0 (c.loop-handle.invariant.kept.0 is), λ is. c.note_any.ensures.kept.1 (c.loop-handle.invariant.kept.1 is));
@@ -66,7 +67,8 @@ pub join-requires-clause-other : goal.join-requires-clause-other
 join-requires-clause-other g c =
     let stream = c.args.stream.now in
     let handle = c.in-Some.handle in
-    let popped = All-pop (IsHandleOf c.args.chunked.now stream) c.loop-handle.handles.items c.pop.new.self.items (Some handle) c.in-Some.ensures.items c.loop-handle.invariant.handles in
+    let popped =
+    All-pop (IsHandleOf c.args.chunked.now stream) c.loop-handle.handles.items c.pop.new.self.items (Some handle) c.in-Some.ensures.items c.loop-handle.invariant.handles in
     pass-beside stream handle.promise.given.value c.join-worked.result.stream popped.1.1 c.join-worked.ensures.pass
 
 pub loop-handle-init : goal.loop-handle-init
@@ -87,8 +89,9 @@ loop-handle-init g c =
       receives = c.requires.receiver.receives;
       received = refl;
       above = subst (All (λ s. count ≤ s.number)) (sym none) (All-nil (λ (s : Sent _). count ≤ s.number));
-      answered = subst (λ ps. All (IsAnsweredBy count (known c.args.pass.now) c.args.worker_faults.now) (drop 1 ps)) (sym pushed) (All-nil (IsAnsweredBy count (known c.args.pass.now) c.args.worker_faults.now));
-      sent = subst (All (λ s. IsOfOne (all_shares c.push_reserved.new.self.items) s.item)) (sym none) (All-nil (λ (s : Sent _). IsOfOne (all_shares c.push_reserved.new.self.items) s.item));
+      answered = (let Is = IsAnsweredBy count (known c.args.pass.now) c.args.worker_faults.now in subst (λ ps. All Is (drop 1 ps)) (sym pushed) (All-nil Is));
+      sent = subst (All (λ s. IsOfOne (all_shares c.push_reserved.new.self.items) s.item)) (sym none)
+          (All-nil (λ (s : Sent _). IsOfOne (all_shares c.push_reserved.new.self.items) s.item));
       numbers = λ from n above near. ap (has n) from ∙ from-all count n (64 - count) above (omega (arith, above, near));
       closed = λ was. subst (λ ps. HasClosed (all_shares ps)) (sym pushed) (subst HasClosed (sym (append-nil (holding_of first).share)) was);
       kept = (λ is. is, λ is. is);

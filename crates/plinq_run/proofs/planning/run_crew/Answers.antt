@@ -60,7 +60,8 @@ returns-clause-ends g c =
     (λ sent. c.in-Ok.back.worker_count.started ≡ c.in-Ok.back.worker_count.wanted → IsOfOne (all_shares c.in-Ok.back.partitions.items) sent.item)
     (λ z sent z' of step. ((step.0, of), step.1)) _ _ _ last back.each back.accepted in
     let merged = accepted-all made lawful P order a x [] _ _ _ last such (begun-merged made lawful P order a x m x refl (c.new.ensures.order, begun)) in
-    merged-ended made lawful P IsPart (λ r is. is.0) order a x last (search rules, search rules) merged c.finish.ensures (told-offered IsPart c.finish.result c.finish.ensures)
+    merged-ended made lawful P IsPart (λ r is. is.0) order a x last (search rules, search rules) merged c.finish.ensures
+    (told-offered IsPart c.finish.result c.finish.ensures)
 
 pub returns-clause-closed : goal.returns-clause-closed
 returns-clause-closed g c =
