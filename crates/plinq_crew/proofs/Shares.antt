@@ -19,9 +19,8 @@ use Rattle.plinq_stream.specs.Streams.{has, under}
 use Rattle.plinq_stream.proofs.Under.{has-append, or-none, or-first, or-second, either-way, under-none, all-under}
 use Rattle.plinq_crew.specs.declared.closing.Closing.{Closing}
 use Rattle.plinq_crew.specs.declared.starting.WorkerFaults.{WorkerFaults}
-use Rattle.plinq_crew.specs.Closing.{is_closed}
+use Rattle.plinq_crew.specs.inner.Closing.{is_closed, ClosesInTime, StaysClosed}
 use Rattle.plinq_crew.specs.Noted.{has_worker_fault, StaysNoted}
-use Rattle.plinq_crew.specs.Polls.{ClosesInTime, StaysClosed}
 use Rattle.plinq_crew.specs.Working.{HasClosed, Answers, IsOfOne, HasWorked}
 
 module _ {X : Type 0} (P : X → Type 0) where

@@ -39,7 +39,7 @@ use Rattle.plinq_crew.specs.declared.worker.Equipment.{Equipment}
 use Rattle.plinq_crew.specs.declared.worker.Worked.{Worked}
 use Rattle.plinq_crew.specs.declared.worker.WorkerContext.{WorkerContext}
 use Rattle.plinq_crew.specs.declared.worker_count.WorkerCount.{WorkerCount}
-use Rattle.plinq_crew.specs.Closing.{wants_close, is_closed}
+use Rattle.plinq_crew.specs.inner.Closing.{wants_close, is_closed, ClosesInTime, StaysClosed}
 use Rattle.plinq_crew.specs.Conducting.{AcceptsEach, HasReturned, Conducts}
 use Rattle.plinq_crew.specs.Equipped.{IsEquipped, IsReady}
 use Rattle.plinq_crew.specs.inner.Handles.{IsHandleOf, AreNumbered}
@@ -47,7 +47,7 @@ use Rattle.plinq_crew.specs.inner.Coordinating.{IsCoordinator, StaysSame, CanSta
 use Rattle.plinq_crew.specs.inner.Scoped.{MayStartScope, ScopeReturns, MayWork, WorkReturns}
 use Rattle.plinq_crew.specs.inner.Teams.{IsTeam}
 use Rattle.plinq_crew.specs.Noted.{lacks_room, has_noted, has_worker_fault, StaysNoted}
-use Rattle.plinq_crew.specs.Polls.{IfCame, HasCome, ClosesInTime, StaysClosed, HasAccepted}
+use Rattle.plinq_crew.specs.Polls.{IfCame, HasCome, HasAccepted}
 use Rattle.plinq_crew.specs.Results.{IsPart}
 use Rattle.plinq_crew.specs.Working.{HasClosed, IsOfOne, IsAnsweredBy, IsBack, IsNewcomer, receiver_from}
 use Rattle.plinq_crew.specs.WorkerRows.{sent_under}

@@ -1,4 +1,3 @@
-pub mod Closing
 pub mod Conducting
 pub mod Equipped
 pub mod Plans

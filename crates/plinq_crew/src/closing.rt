@@ -1,5 +1,5 @@
 ghost use Rattle.std.specs.Prelude.{◌≡◌};
-ghost use Rattle.plinq_crew.specs.Closing.{wants_close, is_closed};
+ghost use Rattle.plinq_crew.specs.inner.Closing.{wants_close, is_closed};
 
 /// How far the closing of the source has come.
 #[derive(Clone, Copy)]

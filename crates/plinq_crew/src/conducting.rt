@@ -5,11 +5,10 @@ ghost use Rattle.plinq_ops.specs.Tails.{end_of_result};
 ghost use Rattle.plinq_partition.specs.Partitions.{holding_of};
 ghost use Rattle.plinq_stream.specs.Passes.{IsPassOf, known};
 ghost use Rattle.plinq_stream.specs.Streams.{HasReceivedAll};
-ghost use Rattle.plinq_crew.specs.Closing.{wants_close, is_closed};
+ghost use Rattle.plinq_crew.specs.inner.Closing.{wants_close, is_closed, StaysClosed};
 ghost use Rattle.plinq_crew.specs.Equipped.{IsReady};
 ghost use Rattle.plinq_crew.specs.Noted.{has_worker_fault};
 ghost use Rattle.plinq_crew.specs.Conducting.{Conducts};
-ghost use Rattle.plinq_crew.specs.Polls.{StaysClosed};
 ghost use Rattle.plinq_crew.specs.inner.Scoped.{MayStartScope, ScopeReturns};
 ghost use Rattle.plinq_crew.specs.inner.Coordinating.{IsCoordinator, StaysSame, AcceptsOn};
 
@@ -59,7 +58,8 @@ where
     ensures coordinator { IsCoordinator crew.now.chunked.now crew.now.stream.now coordinator.new }
     ensures same { StaysSame coordinator.old coordinator.new }
     ensures ready { X.is_ready consumer.new }
-    ensures over { result ≡ false → X.wants_no_more consumer.new ≡ true → is_closed closing.new ≡ false → has_worker_fault coordinator.new.worker_faults ≡ true }
+    ensures over { result ≡ false → X.wants_no_more consumer.new ≡ true → is_closed closing.new ≡ false
+        → has_worker_fault coordinator.new.worker_faults ≡ true }
     ensures closed { StaysClosed closing.old (holding_of coordinator.old.partition).share closing.new (holding_of coordinator.new.partition).share }
     ensures accepted { AcceptsOn X.accepts J.is_result (known coordinator.old.stream).received (wants_close closing.old) consumer.old
         (known coordinator.new.stream).received (wants_close closing.new) consumer.new }
@@ -111,7 +111,8 @@ where
     ensures all { HasReceivedAll (known pass.new) }
     ensures sent { (known pass.new).sent ≡ (known pass.old).sent }
     ensures numbers { (known pass.new).numbers ≡ (known pass.old).numbers }
-    ensures accepted { AcceptsOn X.accepts J.is_result (known pass.old).received (wants_close closing) consumer.old (known pass.new).received (wants_close closing) consumer.new }
+    ensures accepted { AcceptsOn X.accepts J.is_result (known pass.old).received (wants_close closing) consumer.old
+        (known pass.new).received (wants_close closing) consumer.new }
 {
     for _ in rt.forever() {
         match crew.stream.receive(rt, pass) {

@@ -2,8 +2,8 @@
 ghost use Rattle.std.specs.Prelude.{◌≡◌, true, false};
 ghost use Rattle.plinq_partition.specs.Partitions.{IsPartitionOf, holding_of};
 ghost use Rattle.plinq_crew.specs.Noted.{has_worker_fault, StaysNoted};
-ghost use Rattle.plinq_crew.specs.Closing.{wants_close, is_closed};
-ghost use Rattle.plinq_crew.specs.Polls.{IfCame, HasCome, ClosesInTime};
+ghost use Rattle.plinq_crew.specs.inner.Closing.{wants_close, is_closed, ClosesInTime};
+ghost use Rattle.plinq_crew.specs.Polls.{IfCame, HasCome};
 ghost use Rattle.plinq_crew.specs.Working.{HasClosed};
 ghost use Rattle.plinq_stream.specs.Passes.{known};
 ghost use Rattle.plinq_crew.specs.inner.Coordinating.{IsCoordinator, StaysSame};

@@ -1,6 +1,6 @@
 use Rattle.std.proofs.Common.{rules, ◌≡◌, true, false, refl, sym, ap, ◌∙◌, true≢false}
 use Rattle.plinq_stream.specs.Passes.{known}
-use Rattle.plinq_crew.specs.Closing.{wants_close}
+use Rattle.plinq_crew.specs.inner.Closing.{wants_close}
 use Rattle.plinq_crew.proofs.Polls.{took-more}
 use Rattle.plinq_crew.specs.Conducting.{AcceptsEach}
 use Rattle.plinq_crew.proofs.conducting.accept_rest.Goals as goal

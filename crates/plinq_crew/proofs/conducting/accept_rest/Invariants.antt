@@ -1,6 +1,6 @@
 use Rattle.std.proofs.Common.{◌≡◌, true}
 use Rattle.plinq_stream.specs.Passes.{IsPassOf, known}
-use Rattle.plinq_crew.specs.Closing.{wants_close}
+use Rattle.plinq_crew.specs.inner.Closing.{wants_close}
 use Rattle.plinq_crew.specs.inner.Coordinating.{AcceptsOn}
 use Rattle.plinq_crew.proofs.conducting.accept_rest.Given as goal
 

@@ -1,7 +1,7 @@
 use Rattle.std.proofs.Common.{rules, ◌≡◌, true, false, refl, sym, ap, ◌∙◌, subst, true≢false}
 use Rattle.plinq_partition.specs.Partitions.{holding_of}
 use Rattle.plinq_stream.specs.Passes.{known}
-use Rattle.plinq_crew.specs.Closing.{wants_close}
+use Rattle.plinq_crew.specs.inner.Closing.{wants_close}
 use Rattle.plinq_crew.proofs.Coordinating.{stays-on}
 use Rattle.plinq_crew.proofs.Shares.{closes-stays}
 use Rattle.plinq_crew.proofs.Polls.{took-none, took-more}

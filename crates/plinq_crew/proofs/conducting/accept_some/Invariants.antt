@@ -1,7 +1,6 @@
 use Rattle.plinq_partition.specs.Partitions.{holding_of}
 use Rattle.plinq_stream.specs.Passes.{known}
-use Rattle.plinq_crew.specs.Polls.{StaysClosed}
-use Rattle.plinq_crew.specs.Closing.{wants_close}
+use Rattle.plinq_crew.specs.inner.Closing.{wants_close, StaysClosed}
 use Rattle.plinq_crew.specs.inner.Coordinating.{IsCoordinator, StaysSame, AcceptsOn}
 use Rattle.plinq_crew.proofs.conducting.accept_some.Given as goal
 

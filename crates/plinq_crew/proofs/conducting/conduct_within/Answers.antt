@@ -3,7 +3,7 @@ use Rattle.plinq_partition.specs.Partitions.{all_shares, holding_of}
 use Rattle.plinq_stream.specs.Passes.{known}
 use Rattle.plinq_stream.specs.Streams.{has}
 use Rattle.plinq_stream.proofs.Under.{each-received}
-use Rattle.plinq_crew.specs.Closing.{wants_close, is_closed}
+use Rattle.plinq_crew.specs.inner.Closing.{wants_close, is_closed}
 use Rattle.plinq_crew.specs.Polls.{HasAccepted}
 use Rattle.plinq_crew.specs.Conducting.{AcceptsEach}
 use Rattle.plinq_crew.specs.declared.worker_count.WorkerCount.{WorkerCount}

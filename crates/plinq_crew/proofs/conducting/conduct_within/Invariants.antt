@@ -1,7 +1,7 @@
 use Rattle.std.proofs.Common.{◌≡◌, [], true}
 use Rattle.plinq_partition.specs.Partitions.{holding_of}
 use Rattle.plinq_stream.specs.Passes.{known}
-use Rattle.plinq_crew.specs.Closing.{wants_close, is_closed}
+use Rattle.plinq_crew.specs.inner.Closing.{wants_close, is_closed}
 use Rattle.plinq_crew.specs.Conducting.{AcceptsEach}
 use Rattle.plinq_crew.specs.Polls.{HasAccepted}
 use Rattle.plinq_crew.specs.Working.{HasClosed}
