@@ -32,11 +32,13 @@ use Rattle.plinq_partition.specs.Partitions.{all_shares}
 use Rattle.plinq_crew.specs.Plans.{IsUndecided}
 use Rattle.plinq_crew.specs.Results.{IsResult, IsPart}
 use Rattle.plinq_run.specs.declared.fold_blocks.FoldBlocks.{FoldBlocks}
+use Rattle.plinq_run.specs.declared.planning.Conducted.{Conducted}
 use Rattle.plinq_run.specs.declared.planning.Ended.{Ended}
 use Rattle.plinq_run.specs.declared.run_fault.RunFault.{RunFault}
 use Rattle.plinq_run.specs.Parting.{Breaks, IsFolded, WasGiven, GivesSome}
 use Rattle.plinq_run.specs.Runs.{Cause, Other, cause_of}
 use Rattle.plinq_run.specs.inner.Blocks.{can_fold, Passes, MadeBy}
+use Rattle.plinq_run.specs.inner.Conducted.{HasConducted, answer_ending}
 use Rattle.plinq_run.specs.inner.Folds.{IsFoldOf}
 use Rattle.plinq_run.specs.inner.Merged.{HasEnded, HasBrokenOff}
 use Rattle.plinq_run.specs.inner.Plans.{merged_answer, MayMerge}
@@ -114,16 +116,21 @@ module _ {L T A U W O : Type 0} (f : Folding T A U) (lawful : IsFolding f) (made
           taken = is;
         })
 
-    pub chunks-ended : {S V : Type 0} {source : SourceGhosts S V} (ended : Ended S W V source) (a : W) (x y : O) → HasEnded made (IsPart meaning (IsFoldOf f) plan t) plan.order a x ended y
+    chunks-ended : {S V : Type 0} {source : SourceGhosts S V} (ended : Ended S W V source) (a : W) (x y : O) → HasEnded made (IsPart meaning (IsFoldOf f) plan t) plan.order a x ended y
         → GivesSome f made (MayMerge meaning plan t) a x (Ok ended.joined.ending) y
     chunks-ended ended a x y h =
         let P : ChunkResult A → Type 0 = IsPart meaning (IsFoldOf f) plan t in
         chunks-some (Ok (Some ended.joined.ending)) a x h.offers ended.joined.taker y (All-weaker (IsOffered P (all_shares ended.partitions.items)) P (λ c z. z.0) h.offers h.are) h.apart tt h.taken
 
-    pub chunks-broken : (fault : RunFault) (a : W) (x y : O) → HasBrokenOff made (IsPart meaning (IsFoldOf f) plan t) plan.order a x fault y → GivesSome f made (MayMerge meaning plan t) a x (Err fault) y
+    chunks-broken : (fault : RunFault) (a : W) (x y : O) → HasBrokenOff made (IsPart meaning (IsFoldOf f) plan t) plan.order a x fault y → GivesSome f made (MayMerge meaning plan t) a x (Err fault) y
     chunks-broken fault a x y h =
         let some = chunks-some h.how a x h.offers h.last y h.are h.apart (breaks-over h.how (cause_of fault) h.breaks) h.taken in
         (some.0, some.1, h.how, some.2, h.breaks)
+
+    pub chunks-given : {S : Type 0} {source : SourceGhosts S T} (r : Result (Conducted S W T source) RunFault) (told : Result Ending RunFault) (a : W) (x y : O) → told ≡ answer_ending r
+        → HasConducted made (IsPart meaning (IsFoldOf f) plan t) plan.order t a x r y → GivesSome f made (MayMerge meaning plan t) a x told y
+    chunks-given (Ok c) told a x y is h = subst (λ z. GivesSome f made (MayMerge meaning plan t) a x z y) (sym is) (chunks-ended c.ended a x y h.1)
+    chunks-given (Err fault) told a x y is h = subst (λ z. GivesSome f made (MayMerge meaning plan t) a x z y) (sym is) (chunks-broken fault a x y h)
 
   -- the caller's thread folds what leaves the operators after the merge
   module _ {F : Type 0} (folding : F → Folding T A U) (P : ChunkResult T → Type 0) (plain : (r : ChunkResult T) → P r → IsResult meaning plan t r) (first : FoldBlocks L F W)
@@ -141,12 +148,17 @@ module _ {L T A U W O : Type 0} (f : Folding T A U) (lawful : IsFolding f) (made
         (subst (λ g. WasGiven g made (seq (stages_of meaning plan.after.now) (merged plan.order rs)) first.inner x how y) same
         (subst (λ ss. WasGiven (folding first.aggregator.now) made (seq ss (merged plan.order rs)) first.inner x how y) begun passes))
 
-    pub blocks-ended : {S V : Type 0} {source : SourceGhosts S V} (ended : Ended S (FoldBlocks L F W) V source) (x y : O) → HasEnded (MadeBy meaning folding made) P plan.order first x ended y
+    blocks-ended : {S V : Type 0} {source : SourceGhosts S V} (ended : Ended S (FoldBlocks L F W) V source) (x y : O) → HasEnded (MadeBy meaning folding made) P plan.order first x ended y
         → GivesSome f made (MayMerge meaning plan t) first.inner x (Ok ended.joined.ending) y
     blocks-ended ended x y h =
         blocks-some (Ok (Some ended.joined.ending)) x h.offers ended.joined.taker y (All-weaker (IsOffered P (all_shares ended.partitions.items)) P (λ c z. z.0) h.offers h.are) h.apart tt h.taken
 
-    pub blocks-broken : (fault : RunFault) (x y : O) → HasBrokenOff (MadeBy meaning folding made) P plan.order first x fault y → GivesSome f made (MayMerge meaning plan t) first.inner x (Err fault) y
+    blocks-broken : (fault : RunFault) (x y : O) → HasBrokenOff (MadeBy meaning folding made) P plan.order first x fault y → GivesSome f made (MayMerge meaning plan t) first.inner x (Err fault) y
     blocks-broken fault x y h =
         let some = blocks-some h.how x h.offers h.last y h.are h.apart (breaks-over h.how (cause_of fault) h.breaks) h.taken in
         (some.0, some.1, h.how, some.2, h.breaks)
+
+    pub blocks-given : {S : Type 0} {source : SourceGhosts S T} (r : Result (Conducted S (FoldBlocks L F W) T source) RunFault) (told : Result Ending RunFault) (x y : O) → told ≡ answer_ending r
+        → HasConducted (MadeBy meaning folding made) P plan.order t first x r y → GivesSome f made (MayMerge meaning plan t) first.inner x told y
+    blocks-given (Ok c) told x y is h = subst (λ z. GivesSome f made (MayMerge meaning plan t) first.inner x z y) (sym is) (blocks-ended c.ended x y h.1)
+    blocks-given (Err fault) told x y is h = subst (λ z. GivesSome f made (MayMerge meaning plan t) first.inner x z y) (sym is) (blocks-broken fault x y h)

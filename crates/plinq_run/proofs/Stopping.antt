@@ -20,6 +20,7 @@ use Rattle.plinq_run.specs.declared.run_fault.RunFault.TheVariants.{Memory, Sink
 use Rattle.plinq_run.specs.Reports.{Reports}
 use Rattle.plinq_run.specs.Runs.{HasRun, Cause, SinkRefused, Stopped, Other, cause_of, BreaksFor}
 use Rattle.plinq_run.specs.Stopping.{is_stopped, ReportsWith, RunsWith}
+use Rattle.plinq_run.specs.inner.Cancelling.{ReportsLent}
 
 -- a run that broke off was cut off
 breaks-cut : {K T : Type 0} (accepts : K → List T → K → Type 0) (refuses : K → List T → ℕ → K → Type 0) (cause : Cause) (bs : List (List T)) (s s' : K) → BreaksFor accepts refuses cause bs s s'
@@ -162,3 +163,43 @@ module _ {C K T : Type 0} (asks : C → ℕ → Bool → C → Type 0) (accepts 
       reports-plain (Err Tickets) h = record { answer = h.answer; may = h.may; broken = cut-plain (batches option h.answer) NoMemory h.broken }
       reports-plain (Err Thread) h = record { answer = h.answer; may = h.may; broken = cut-plain (batches option h.answer) NoMemory h.broken }
       reports-plain (Err Incomplete) h = record { answer = h.answer; may = h.may; broken = cut-plain (batches option h.answer) NoMemory h.broken }
+
+  -- what a run reports that lends them both
+  module _ (has_told : C → Bool) (keeps : (c : C) (n : ℕ) (answer : Bool) (c' : C) → asks c n answer c' → has_told c' ≡ (has_told c || answer))
+      (w w' : WithCancellation C K) (before : w.is_stopped ≡ false) where
+    abbrev Reported : WithCancellation C K → Result Report RunFault → Type 0
+    Reported = ReportsLent asks has_told accepts refuses option May t w
+
+    lent : (last : WithCancellation C K) (r : Result Report RunFault) → AreSame w last
+        → ReportsWith asks accepts refuses option May t (delivery_of w) (delivery_of last) r → Reported last r
+    lent last r same h = record { same = same; told = told-with (delivery_of w) (delivery_of last) has_told keeps r h; reports = h }
+
+    pub lent-stopped : (r : Result Report RunFault) → w'.is_stopped ≡ true → Lends w w' r → Reported w' (Err Cancelled)
+    lent-stopped r after h = lent w' (Err Cancelled) (reports-same w w' r h) (reports-stopped w w' r before after h)
+
+    pub lent-broken : (r told : Result Report RunFault) (fault : RunFault) → r ≡ Err fault → told ≡ Err fault → w'.is_stopped ≡ false → Lends w w' r → Reported w' told
+    lent-broken r told fault was is after h =
+        let h' = subst (Lends w w') was h in
+        subst (Reported w') (sym is)
+        (lent w' (Err fault) (reports-same w w' (Err fault) h') (broken-with (delivery_of w) (delivery_of w') fault (reports-passed w w' (Err fault) before after h')))
+
+    -- the token is asked once more
+    asked-same : (last : WithCancellation C K) (r : Result Report RunFault) → Lends w w' r → AreSame w' last → AreSame w last
+    asked-same last r h same = let first = reports-same w w' r h in record { token = same.token ∙ first.token; sink = same.sink ∙ first.sink }
+
+    pub lent-last : (r : Result Report RunFault) (report : Report) (last : WithCancellation C K) → r ≡ Ok report → w'.is_stopped ≡ false → Lends w w' r → AreSame w' last
+        → (answer : Bool) → IsAsked asks answer (delivery_of w') (delivery_of last) → answer ≡ true → Reported last (Err Cancelled)
+    lent-last r report last was after h same answer asked stops =
+        let passed = reports-passed w w' (Ok report) before after (subst (Lends w w') was h) in
+        lent last (Err Cancelled) (asked-same last r h same)
+        (stopped-last (delivery_of w) (delivery_of last) report (delivery_of w') passed (subst (λ b. IsAsked asks b (delivery_of w') (delivery_of last)) stops asked))
+
+    pub lent-let : (r : Result Report RunFault) (report : Report) (last : WithCancellation C K) → r ≡ Ok report → w'.is_stopped ≡ false → Lends w w' r → AreSame w' last
+        → (answer : Bool) → IsAsked asks answer (delivery_of w') (delivery_of last) → answer ≡ false → Reported last (Ok report)
+    lent-let r report last was after h same answer asked goes_on =
+        lent last (Ok report) (asked-same last r h same)
+        (record {
+          last = delivery_of w';
+          reported = reports-passed w w' (Ok report) before after (subst (Lends w w') was h);
+          lets = subst (λ b. IsAsked asks b (delivery_of w') (delivery_of last)) goes_on asked;
+        })

@@ -1,5 +1,6 @@
 -- Words that no public contract reaches: private contracts and proofs cite them.
 pub mod Blocks
+pub mod Cancelling
 pub mod Combining
 pub mod CombiningLawful
 pub mod Conducted

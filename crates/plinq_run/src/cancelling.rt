@@ -1,15 +1,15 @@
 //! The run of a query that a token may stop.
-ghost use Rattle.std.specs.Prelude.{◌≡◌, ◌||◌, [], true, false, IfOk, IfErr};
+ghost use Rattle.std.specs.Prelude.{◌≡◌, [], true, false, IfOk, IfErr};
 ghost use Rattle.plinq_source.specs.declared.ending.Ending.TheVariants.{End};
 ghost use Rattle.std.specs.List.{list_any};
 ghost use Rattle.plinq_keyed.specs.History.{IsLegalHistory};
-ghost use Rattle.plinq_merge.specs.Lent.{AreSame, delivery_of};
 ghost use Rattle.plinq_ops.specs.Answer.{MayAnswer};
 ghost use Rattle.plinq_ops.specs.Feeding.{is_empty_take};
 ghost use Rattle.plinq_ops.specs.Query.{merge_in_force};
 ghost use Rattle.plinq_run.specs.declared.run_fault.RunFault.TheVariants.{Cancelled};
 ghost use Rattle.plinq_run.specs.Handed.{has_close};
-ghost use Rattle.plinq_run.specs.Stopping.{is_stopped, ReportsSome, ReportsWith};
+ghost use Rattle.plinq_run.specs.Stopping.{is_stopped, ReportsSome};
+ghost use Rattle.plinq_run.specs.inner.Cancelling.{ReportsLent};
 
 use crate::report::Report;
 use crate::run_fault::RunFault;
@@ -66,7 +66,8 @@ where
     ensures none { list_any is_empty_take query.now.ops ≡ true → IfOk result (λ report. report.records.items ≡ []) }
     ensures closed { list_any is_empty_take query.now.ops ≡ false → IfOk result (λ report. has_close report.records.items ≡ true) }
     ensures told { C.has_told token.new ≡ is_stopped result }
-    ensures reports { ReportsSome C.asks K.accepts K.refuses (merge_in_force query.now.merge) (MayAnswer L.meaning query.now.ordered query.now.ops) (S.whole source) token.old sink.old 0 result token.new sink.new }
+    ensures reports { ReportsSome C.asks K.accepts K.refuses (merge_in_force query.now.merge)
+        (MayAnswer L.meaning query.now.ordered query.now.ops) (S.whole source) token.old sink.old 0 result token.new sink.new }
 {
     let mut with = WithCancellation {
         token,
@@ -96,15 +97,14 @@ where
     R: Threads + Wait + Sync,
     requires unasked { S.given source ≡ 0 }
     requires unstopped { with.old.is_stopped ≡ false }
-    ensures same { AreSame with.old with.new }
     ensures legal { IfOk result (λ report. IsLegalHistory (S.whole source) report.records.items) }
     ensures ended { list_any is_empty_take query.now.ops ≡ true → IfOk result (λ report. report.ending ≡ End) }
     ensures cancelled { list_any is_empty_take query.now.ops ≡ true → IfErr result (λ fault. fault ≡ Cancelled) }
     ensures untouched { list_any is_empty_take query.now.ops ≡ true → with.new.sink.now ≡ with.old.sink.now }
     ensures none { list_any is_empty_take query.now.ops ≡ true → IfOk result (λ report. report.records.items ≡ []) }
     ensures closed { list_any is_empty_take query.now.ops ≡ false → IfOk result (λ report. has_close report.records.items ≡ true) }
-    ensures told { C.has_told with.new.token.now ≡ (C.has_told with.old.token.now || is_stopped result) }
-    ensures reports { ReportsWith C.asks K.accepts K.refuses (merge_in_force query.now.merge) (MayAnswer L.meaning query.now.ordered query.now.ops) (S.whole source) (delivery_of with.old) (delivery_of with.new) result }
+    ensures reports { ReportsLent C.asks C.has_told K.accepts K.refuses (merge_in_force query.now.merge)
+        (MayAnswer L.meaning query.now.ordered query.now.ops) (S.whole source) with.old with.new result }
 {
     let told = run(rt, alloc, query, source, growth, gate, with);
     if with.is_stopped {

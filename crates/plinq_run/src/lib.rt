@@ -27,6 +27,7 @@ mod fold_blocks;
 mod folding;
 mod kept_memory;
 pub mod laws;
+mod limits;
 mod merging;
 mod parting;
 mod planning;
@@ -37,7 +38,6 @@ mod running;
 mod sequentially;
 mod tasks;
 mod valuing;
-mod window;
 
 pub use aggregate_fault::AggregateFault;
 pub use aggregating::aggregate;

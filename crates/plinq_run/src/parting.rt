@@ -4,10 +4,11 @@ ghost use Rattle.plinq_source.specs.Trace.{ended};
 ghost use Rattle.plinq_source.specs.declared.ending.Ending.TheVariants.{End};
 ghost use Rattle.plinq_ops.specs.Answer.{MayAnswer};
 ghost use Rattle.plinq_run.specs.Parting.{GivesSome};
+ghost use Rattle.plinq_run.specs.inner.Conducted.{answer_ending};
 ghost use Rattle.plinq_run.specs.inner.Plans.{MayMerge, MayRun};
 
 use crate::fold_blocks::FoldBlocks;
-use crate::planning::{Conducted, Ended, conduct_plan};
+use crate::planning::{Conducted, conduct_plan};
 use crate::run_fault::RunFault;
 use crate::run_request::RunRequest;
 use crate::tasks::{FoldChunks, Unchanged};
@@ -45,6 +46,18 @@ where
     }
 }
 
+/// How the answer of a run has ended.
+fn answer_ending<S: Source, W: Drop>(
+    conducted: Result<Conducted<S, W>, RunFault>,
+) -> Result<Ending, RunFault>
+    ensures { result ≡ answer_ending conducted }
+{
+    match conducted {
+        Ok(conducted) => Ok(conducted.ended.joined.ending),
+        Err(fault) => Err(fault),
+    }
+}
+
 /// Runs a plan that isn't decided and has no operator after the merge: its workers fold, and the taker is given an accumulator
 /// for each of their chunks.
 fn fold_chunks_into<'x, L, S, G, A, W, O, R>(
@@ -64,7 +77,8 @@ where
     requires may { MayRun S.given request }
     requires alone { request.plan.now.after.now ≡ [] }
     requires takes { W.can_take taker ≡ true }
-    ensures { GivesSome (A.folding aggregator.now) W.made (MayMerge L.meaning request.entry.plan.now (S.whole request.entry.source)) taker out.old result out.new }
+    ensures { GivesSome (A.folding aggregator.now) W.made (MayMerge L.meaning request.entry.plan.now (S.whole request.entry.source))
+        taker out.old result out.new }
 {
     let task = FoldChunks {
         aggregator,
@@ -72,10 +86,8 @@ where
     };
     let conducted = conduct_plan::<Brand, L, S, G, FoldChunks<'_, A, G>, W, O, R>(
         rt, request, &task, taker, out,
-    )?;
-    let Conducted { ended, .. } = conducted;
-    let Ended { joined, .. } = ended;
-    Ok(joined.ending)
+    );
+    answer_ending(conducted)
 }
 
 /// Runs a plan that isn't decided: the caller's thread folds what leaves the operators after the merge, and the taker is given
@@ -96,7 +108,8 @@ where
     R: Threads + Wait + Sync,
     requires may { MayRun S.given request }
     requires takes { W.can_take taker ≡ true }
-    ensures { GivesSome (A.folding aggregator.now) W.made (MayMerge L.meaning request.entry.plan.now (S.whole request.entry.source)) taker out.old result out.new }
+    ensures { GivesSome (A.folding aggregator.now) W.made (MayMerge L.meaning request.entry.plan.now (S.whole request.entry.source))
+        taker out.old result out.new }
 {
     let Ok(pipeline) = Pipeline::new(request.alloc, request.plan.after) else {
         return Err(RunFault::Memory);
@@ -117,10 +130,8 @@ where
         FoldBlocks<'_, '_, L, A, W>,
         O,
         R,
-    >(rt, request, &task, blocks, out)?;
-    let Conducted { ended, .. } = conducted;
-    let Ended { joined, .. } = ended;
-    Ok(joined.ending)
+    >(rt, request, &task, blocks, out);
+    answer_ending(conducted)
 }
 
 /// Folds the parts of a query's answer, and gives the accumulators to a taker as their turn comes. It is what a last step of

@@ -17,10 +17,10 @@ ghost use Rattle.plinq_run.specs.inner.Merged.{WereAccepted, EndsSo};
 
 use crate::finishing::finish;
 use crate::kept_memory::keep_memory;
+use crate::limits::progress_of;
 use crate::merging::{Merging, MergingInto};
 use crate::run_fault::RunFault;
 use crate::run_request::RunRequest;
-use crate::window::progress_of;
 use plinq_crew::{Crew, Gate, ResultStream, RunSpec, RunStopKeys, Task, WorkerContext, conduct};
 use plinq_cut::CutWord;
 use plinq_lambda::SharedLambda;

@@ -25,3 +25,8 @@ abbrev pub HasConducted : {S T M W O : Type 0} {source : Ghosts S T} → (W → 
     → Order → Trace T → W → O → Result (Conducted S W T source) RunFault → O → Type 0
 HasConducted made IsPart order t a x (Ok c) y = HaveShared t c × HasEnded made IsPart order a x c.ended y
 HasConducted made IsPart order t a x (Err fault) y = HasBrokenOff made IsPart order a x fault y
+
+-- how its answer has ended
+abbrev pub answer_ending : {S T W : Type 0} {source : Ghosts S T} → Result (Conducted S W T source) RunFault → Result Ending RunFault
+answer_ending (Ok c) = Ok c.ended.joined.ending
+answer_ending (Err fault) = Err fault
