@@ -50,6 +50,25 @@ pub fn write_batch<W: Write>(writer: &mut W, batch: &[i64]) -> Result<(), WriteF
     }
 }
 
+/// Writes one batch as [`write_batch`] does, by way of `text`. What that holds is of no account before and after.
+///
+/// # Errors
+///
+/// [`WriteFault`] as for [`write_batch`].
+pub(crate) fn write_batch_by<W: Write>(
+    writer: &mut W,
+    batch: &[i64],
+    text: &mut [u8; LINES_ROOM],
+) -> Result<(), WriteFault>
+    ensures { Writes (W.contents writer.old) (W.contents writer.new) result (batch_line batch.now) }
+{
+    if batch.len() > MOST_PLACED {
+        return write_long_batch(writer, batch);
+    }
+    let start = place_line(batch, text, LINES_ROOM);
+    write_from(writer, text, start)
+}
+
 fn write_only_number<W: Write>(writer: &mut W, x: i64) -> Result<(), WriteFault>
     ensures { Writes (W.contents writer.old) (W.contents writer.new) result (batch_line (x ∷ [])) }
 {

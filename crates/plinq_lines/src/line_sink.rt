@@ -2,7 +2,7 @@ ghost use Rattle.std.specs.Prelude.{◌≡◌};
 ghost use Rattle.std.specs.Io.KnownBytes.{Keeps};
 ghost use Rattle.plinq_lines.specs.LineSink.{write_failed, TakesLine, RefusesLine};
 
-use crate::batch_lines::{LINES_ROOM, write_batch, write_single_lines};
+use crate::batch_lines::{LINES_ROOM, write_batch_by, write_single_lines};
 use plinq_merge::Sink;
 use std::io::Write;
 use std::marker::Model;
@@ -25,7 +25,7 @@ pub struct LineSink<'a, W: Write> {
     writer: &'a mut W,
     start: Snapshot<W>,
     state: State,
-    /// Where lines of one number each are placed; it stands here so that it isn't cleared for each few of them.
+    /// Where lines are placed; it stands here so that it isn't cleared for each few of them.
     text: [u8; LINES_ROOM],
 }
 
@@ -90,7 +90,7 @@ impl<'a, W: Write> Sink for LineSink<'a, W> {
         if self.has_failed() {
             return Err(WRITE_FAILED);
         }
-        match write_batch(self.writer, items) {
+        match write_batch_by(self.writer, items, &mut self.text) {
             Ok(()) => {
                 self.state = State::Written;
                 Ok(())

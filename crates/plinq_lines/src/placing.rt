@@ -92,6 +92,7 @@ pub(crate) fn place_line(batch: &[i64], text: &mut [u8], end: usize) -> usize
     requires room { 21 * length batch.now + 1 ≤ end }
     requires within { end ≤ length text.old }
     ensures start { result ≤ end }
+    ensures same { length text.new ≡ length text.old }
     ensures placed { drop result text.new ≡ batch_line batch.now ++ drop end text.old }
 {
     text[end - 1] = b'\n';
