@@ -6,12 +6,15 @@ use std::io::{BufWriter, ErrorKind};
 use std::process::ExitCode;
 use std::{env, io};
 
+// How many bytes of output are held back until they are written.
+const HELD_BACK: usize = 65_536;
+
 fn main(rt: HostRuntime) -> ExitCode {
     let words = match words_of(&rt) {
         Ok(words) => words,
         Err(error) => return ExitCode::from(refuse(&rt, &error)),
     };
-    let mut out = match BufWriter::new(rt.alloc(), rt.stdout()) {
+    let mut out = match BufWriter::with_capacity(rt.alloc(), HELD_BACK, rt.stdout()) {
         Ok(out) => out,
         Err(_) => return ExitCode::from(refuse_for_memory(&rt)),
     };
