@@ -36,6 +36,16 @@ pub struct Returned<S: Source> {
     pub worker_count: WorkerCount,
 }
 
+/// Tells the consumer that nothing comes for now, where the thread is about to sleep. A moment's lack is not worth what it does
+/// then: a buffer that is flushed after each result writes too little at a time.
+fn tell_before_sleep<M, X: Consumer<M>>(consumer: &mut X, sleeps: bool)
+    ensures { consumer.new ≡ consumer.old }
+{
+    if sleeps {
+        consumer.idle();
+    }
+}
+
 /// Accepts what the workers send, until all have ended and nothing seems to be left in the queue, or more workers are wanted: says
 /// whether they are. Where they aren't, the source is closed if the consumer is over, unless a worker's fault stands noted.
 fn accept_some<L, S, J, P, X, R>(
@@ -76,7 +86,7 @@ where
                 }
             }
             Poll::Nothing(sleep) => {
-                consumer.idle();
+                tell_before_sleep::<P::Part, X>(consumer, sleep.is_some());
                 if !closing.wants_close() && coordinator.wants_more(crew) {
                     return true;
                 }
