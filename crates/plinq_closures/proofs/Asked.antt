@@ -44,88 +44,88 @@ gathers-answer f ordered is ops does same merge none t xs e h =
       gathered = h.gathered;
     })
 
-pub vec-answer : {L T V : Type 0} (f : L → Meaning T) (ordered : Bool) → ordered ≡ true → (merge : Option MergeOption) → merge ≡ None
+pub vec-answer : {L T V : Type 0} (workers : ℕ) (f : L → Meaning T) (ordered : Bool) → ordered ≡ true → (merge : Option MergeOption) → merge ≡ None
     → (ops : List (Op L)) (does : List (Op (Meaning T))) → map (over f) ops ≡ does → (t : Trace T) (items : V → List T) (r : Result (V × Ending) RunFault)
     → MatchResult r (λ it. GathersSome (merge_in_force merge) (MayAnswer f ordered ops t) (items it.0) it.1) IsShort
-    → MatchResult (run_told r) (λ it. GathersSome AutoBuffered (λ u. u ≡ answer_of (λ m. m) does t) (items it.0) it.1) HasNone
-vec-answer f ordered is merge none ops does same t items (Ok it) h = gathers-answer f ordered is ops does same merge none t (items it.0) it.1 h
-vec-answer f ordered is merge none ops does same t items (Err fault) short = short
+    → MatchResult (run_told r) (λ it. GathersSome AutoBuffered (λ u. u ≡ answer_of (λ m. m) does t) (items it.0) it.1) (HasNone workers)
+vec-answer workers f ordered is merge none ops does same t items (Ok it) h = gathers-answer f ordered is ops does same merge none t (items it.0) it.1 h
+vec-answer workers f ordered is merge none ops does same t items (Err fault) short = short
 
-pub tells-answer : {L T O : Type 0} (tell : List T → O) (f : L → Meaning T) (ordered : Bool) → ordered ≡ true → (ops : List (Op L)) (does : List (Op (Meaning T))) → map (over f) ops ≡ does
-    → (t : Trace T) (r : Result O AggregateFault) → TellsSome tell (MayAnswer f ordered ops t) r → Tells tell (answer_of (λ m. m) does t) (told_of r)
-tells-answer tell f ordered is ops does same t (Ok out) (u, may, value, well) =
+pub tells-answer : {L T O : Type 0} (workers : ℕ) (tell : List T → O) (f : L → Meaning T) (ordered : Bool) → ordered ≡ true → (ops : List (Op L)) (does : List (Op (Meaning T))) → map (over f) ops ≡ does
+    → (t : Trace T) (r : Result O AggregateFault) → TellsSome tell (MayAnswer f ordered ops t) r → Tells workers tell (answer_of (λ m. m) does t) (told_of r)
+tells-answer workers tell f ordered is ops does same t (Ok out) (u, may, value, well) =
     let it = only-answer f ordered is ops does same t u may in (value ∙ ap (λ v. tell v.items) it, ap (λ v. v.ending) (sym it) ∙ well)
-tells-answer tell f ordered is ops does same t (Err (Ended e)) (u, may, ending, bad) =
+tells-answer workers tell f ordered is ops does same t (Err (Ended e)) (u, may, ending, bad) =
     let it = only-answer f ordered is ops does same t u may in (ap (λ v. v.ending) (sym it) ∙ ending, bad)
-tells-answer tell f ordered is ops does same t (Err (Run fault)) short = short
+tells-answer workers tell f ordered is ops does same t (Err (Run fault)) short = short
 
 -- the first of its items, by a take of one
-pub tells-first : {L T : Type 0} (f : L → Meaning T) (ordered : Bool) → ordered ≡ true → (ops : List (Op L)) (does : List (Op (Meaning T))) → map (over f) ops ≡ does
+pub tells-first : {L T : Type 0} (workers : ℕ) (f : L → Meaning T) (ordered : Bool) → ordered ≡ true → (ops : List (Op L)) (does : List (Op (Meaning T))) → map (over f) ops ≡ does
     → (t : Trace T) (r : Result (Option T) AggregateFault) → TellsSome first_of (MayAnswer f ordered (ops ++ Take (pos 1) ∷ []) t) r
-    → Tells first_of (answer_of (λ m. m) (does ++ Take (pos 1) ∷ []) t) (told_of r)
-tells-first f ordered is ops does same t r told =
-    tells-answer first_of f ordered is (ops ++ Take (pos 1) ∷ []) (does ++ Take (pos 1) ∷ [])
+    → Tells workers first_of (answer_of (λ m. m) (does ++ Take (pos 1) ∷ []) t) (told_of r)
+tells-first workers f ordered is ops does same t r told =
+    tells-answer workers first_of f ordered is (ops ++ Take (pos 1) ∷ []) (does ++ Take (pos 1) ∷ [])
     (map-append (over f) ops (Take (pos 1) ∷ []) ∙ ap (λ xs. xs ++ Take (pos 1) ∷ []) same) t r told
 
 there-first : {T : Type 0} (xs : List T) → is_some (first_of xs) ≡ has_item xs
 there-first [] = refl
 there-first (x ∷ xs) = refl
 
-pub tells-there : {T : Type 0} (u : Trace T) (r : Result (Option T) ChainFault) → Tells first_of u r → Tells has_item u (is_there r)
-tells-there u (Ok first) (value, well) = (ap is_some value ∙ there-first u.items, well)
-tells-there u (Err (IsEnded e)) so = so
-tells-there u (Err (Build fault)) so = so
-tells-there u (Err (IsRun fault)) so = so
+pub tells-there : {T : Type 0} (workers : ℕ) (u : Trace T) (r : Result (Option T) ChainFault) → Tells workers first_of u r → Tells workers has_item u (is_there r)
+tells-there workers u (Ok first) (value, well) = (ap is_some value ∙ there-first u.items, well)
+tells-there workers u (Err (IsEnded e)) so = so
+tells-there workers u (Err (Build fault)) so = so
+tells-there workers u (Err (IsRun fault)) so = so
 
-pub tells-none : {T : Type 0} (u : Trace T) (r : Result Bool ChainFault) → Tells has_item u r → Tells has_none u (negated r)
-tells-none u (Ok is) (value, well) = (ap not value ∙ not-item u.items, well)
-tells-none u (Err (IsEnded e)) so = so
-tells-none u (Err (Build fault)) so = so
-tells-none u (Err (IsRun fault)) so = so
+pub tells-none : {T : Type 0} (workers : ℕ) (u : Trace T) (r : Result Bool ChainFault) → Tells workers has_item u r → Tells workers has_none u (negated r)
+tells-none workers u (Ok is) (value, well) = (ap not value ∙ not-item u.items, well)
+tells-none workers u (Err (IsEnded e)) so = so
+tells-none workers u (Err (Build fault)) so = so
+tells-none workers u (Err (IsRun fault)) so = so
 
 -- the item at a place, by a skip and a take of one
-pub tells-placed : {L T : Type 0} (f : L → Meaning T) (ordered : Bool) → ordered ≡ true → (ops : List (Op L)) (does : List (Op (Meaning T))) → map (over f) ops ≡ does
+pub tells-placed : {L T : Type 0} (workers : ℕ) (f : L → Meaning T) (ordered : Bool) → ordered ≡ true → (ops : List (Op L)) (does : List (Op (Meaning T))) → map (over f) ops ≡ does
     → (place : ℤ) (t : Trace T) (r : Result (Option T) AggregateFault) → TellsSome first_of (MayAnswer f ordered ((ops ++ Skip place ∷ []) ++ Take (pos 1) ∷ []) t) r
-    → Tells first_of (answer_of (λ m. m) ((does ++ Skip place ∷ []) ++ Take (pos 1) ∷ []) t) (told_of r)
-tells-placed f ordered is ops does same place t r told =
-    tells-first f ordered is (ops ++ Skip place ∷ []) (does ++ Skip place ∷ [])
+    → Tells workers first_of (answer_of (λ m. m) ((does ++ Skip place ∷ []) ++ Take (pos 1) ∷ []) t) (told_of r)
+tells-placed workers f ordered is ops does same place t r told =
+    tells-first workers f ordered is (ops ++ Skip place ∷ []) (does ++ Skip place ∷ [])
     (map-append (over f) ops (Skip place ∷ []) ∙ ap (λ xs. xs ++ Skip place ∷ []) same) t r told
 
-has-called : {F T : Type 0} (Step : F → T → Result ⊤ ℕ → F → Type 0) (u : Trace T) (by : F) (r : Result Ending RunFault) (g : F)
-    → CallsSome Step AutoBuffered (λ v. v ≡ u) by r g → HasCalled Step u by (run_told r) g
+has-called : {F T : Type 0} {workers : ℕ} (Step : F → T → Result ⊤ ℕ → F → Type 0) (u : Trace T) (by : F) (r : Result Ending RunFault) (g : F)
+    → CallsSome Step AutoBuffered (λ v. v ≡ u) by r g → HasCalled workers Step u by (run_told r) g
 has-called Step u by (Ok e) g h = record { calls = h }
 has-called Step u by (Err fault) g h = record { calls = h }
 
 -- what a closure was called with
-pub called-answer : {L F T : Type 0} (Step : F → T → Result ⊤ ℕ → F → Type 0) (f : L → Meaning T) (ordered : Bool) → ordered ≡ true → (merge : Option MergeOption) → merge ≡ None
+pub called-answer : {L F T : Type 0} {workers : ℕ} (Step : F → T → Result ⊤ ℕ → F → Type 0) (f : L → Meaning T) (ordered : Bool) → ordered ≡ true → (merge : Option MergeOption) → merge ≡ None
     → (ops : List (Op L)) (does : List (Op (Meaning T))) → map (over f) ops ≡ does → (t : Trace T) (by : F) (r : Result Ending RunFault) (told : Result Ending ChainFault) (g : F)
-    → told ≡ run_told r → CallsSome Step (merge_in_force merge) (MayAnswer f ordered ops t) by r g → HasCalled Step (answer_of (λ m. m) does t) by told g
-called-answer Step f ordered is merge none ops does same t by r told g as_told h =
+    → told ≡ run_told r → CallsSome Step (merge_in_force merge) (MayAnswer f ordered ops t) by r g → HasCalled workers Step (answer_of (λ m. m) does t) by told g
+called-answer {workers = workers} Step f ordered is merge none ops does same t by r told g as_told h =
     let calls = subst (λ o. CallsSome Step o (λ u. u ≡ answer_of (λ m. m) does t) by r g) (ap merge_in_force none) (record {
       answer = h.answer;
       may = only-answer f ordered is ops does same t h.answer h.may;
       calls = h.calls;
       all = h.all;
     }) in
-    subst (λ it. HasCalled Step (answer_of (λ m. m) does t) by it g) (sym as_told) (has-called Step (answer_of (λ m. m) does t) by r g calls)
+    subst (λ it. HasCalled workers Step (answer_of (λ m. m) does t) by it g) (sym as_told) (has-called Step (answer_of (λ m. m) does t) by r g calls)
 
 -- on one thread
-pub vec-sequentially : {L T V : Type 0} (f : L → Meaning T) (ops : List (Op L)) (does : List (Op (Meaning T))) → map (over f) ops ≡ does → (t : Trace T) (items : V → List T) (r : Result (V × Ending) RunFault)
+pub vec-sequentially : {L T V : Type 0} (workers : ℕ) (f : L → Meaning T) (ops : List (Op L)) (does : List (Op (Meaning T))) → map (over f) ops ≡ does → (t : Trace T) (items : V → List T) (r : Result (V × Ending) RunFault)
     → MatchResult r (λ it. ended (items it.0) it.1 ≡ answer_of f ops t) (λ fault. fault ≡ Memory)
-    → MatchResult (run_told r) (λ it. ended (items it.0) it.1 ≡ answer_of (λ m. m) does t) HasNone
-vec-sequentially f ops does same t items (Ok it) h = h ∙ only-answer f true refl ops does same t (answer_of f ops t) refl
-vec-sequentially f ops does same t items (Err fault) short = ap cause_of short
+    → MatchResult (run_told r) (λ it. ended (items it.0) it.1 ≡ answer_of (λ m. m) does t) (HasNone workers)
+vec-sequentially workers f ops does same t items (Ok it) h = h ∙ only-answer f true refl ops does same t (answer_of f ops t) refl
+vec-sequentially workers f ops does same t items (Err fault) short = ap cause_of short
 
-has-called_all : {F T : Type 0} (Step : F → T → Result ⊤ ℕ → F → Type 0) (u : Trace T) (by : F) (r : Result Ending RunFault) (g : F)
-    → CallsAll Step u by r g → HasCalledAll Step u by (run_told r) g
+has-called_all : {F T : Type 0} {workers : ℕ} (Step : F → T → Result ⊤ ℕ → F → Type 0) (u : Trace T) (by : F) (r : Result Ending RunFault) (g : F)
+    → CallsAll Step u by r g → HasCalledAll workers Step u by (run_told r) g
 has-called_all Step u by (Ok e) g h = record { calls = h }
 has-called_all Step u by (Err fault) g h = record { calls = h }
 
-pub called-sequentially : {L F T : Type 0} (Step : F → T → Result ⊤ ℕ → F → Type 0) (f : L → Meaning T) (ops : List (Op L)) (does : List (Op (Meaning T))) → map (over f) ops ≡ does
+pub called-sequentially : {L F T : Type 0} {workers : ℕ} (Step : F → T → Result ⊤ ℕ → F → Type 0) (f : L → Meaning T) (ops : List (Op L)) (does : List (Op (Meaning T))) → map (over f) ops ≡ does
     → (t : Trace T) (by : F) (r : Result Ending RunFault) (told : Result Ending ChainFault) (g : F) → told ≡ run_told r → CallsAll Step (answer_of f ops t) by r g
-    → HasCalledAll Step (answer_of (λ m. m) does t) by told g
-called-sequentially Step f ops does same t by r told g as_told h =
-    subst (λ it. HasCalledAll Step (answer_of (λ m. m) does t) by it g) (sym as_told) (has-called_all Step (answer_of (λ m. m) does t) by r g
+    → HasCalledAll workers Step (answer_of (λ m. m) does t) by told g
+called-sequentially {workers = workers} Step f ops does same t by r told g as_told h =
+    subst (λ it. HasCalledAll workers Step (answer_of (λ m. m) does t) by it g) (sym as_told) (has-called_all Step (answer_of (λ m. m) does t) by r g
     (subst (λ u. CallsAll Step u by r g) (only-answer f true refl ops does same t (answer_of f ops t) refl) h))
 
 -- a fault is passed on as it is
@@ -152,3 +152,7 @@ lacks-called (Err fault) lacks = lacks
 pub no-room : {O : Type 0} (r : Result O RunFault) → run_told r ≡ Err (IsRun Memory) → r ≡ Err Memory
 no-room (Ok out) is = absurd cc
 no-room (Err fault) is = cc
+
+pub lacks-negated : (r : Result Bool ChainFault) → LacksRoomAlone r → LacksRoomAlone (negated r)
+lacks-negated (Ok is) lacks = tt
+lacks-negated (Err fault) lacks = lacks

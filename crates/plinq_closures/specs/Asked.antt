@@ -1,9 +1,12 @@
 -- What is told of a chain's answer.
-use Rattle.std.specs.Prelude.{◌≡◌, ◌≢◌, refl, ℕ, List, Some, ⊤, Bool, not, Option, is_some, Result, Ok, Err}
+use Rattle.std.specs.Prelude.{◌≡◌, ◌≢◌, refl, ℕ, List, Some, ⊤, Bool, false, not, Option, is_some, Result, Ok, Err}
 use Rattle.plinq_source.specs.declared.ending.Ending.{Ending}
 use Rattle.plinq_source.specs.declared.ending.Ending.TheVariants.{End}
 use Rattle.plinq_source.specs.Trace.{Trace}
+use Rattle.plinq_ops.specs.declared.build_fault.BuildFault.{BuildFault}
+use Rattle.plinq_ops.specs.declared.build_fault.BuildFault.TheVariants.{NotAtSource, MergeTwice, DegreeTwice, DegreeOutOfRange, Memory as NoRoom}
 use Rattle.plinq_ops.specs.declared.merge_option.MergeOption.TheVariants.{AutoBuffered}
+use Rattle.plinq_ops.specs.Query.{is_degree}
 use Rattle.plinq_run.specs.declared.aggregate_fault.AggregateFault.{AggregateFault}
 use Rattle.plinq_run.specs.declared.aggregate_fault.AggregateFault.TheVariants.{Ended as WasEnded, Run as WasRun}
 use Rattle.plinq_run.specs.declared.run_fault.RunFault.{RunFault}
@@ -13,18 +16,26 @@ use Rattle.plinq_collect.specs.Telling.{IsShort}
 use Rattle.plinq_closures.specs.declared.chain_fault.ChainFault.{ChainFault}
 use Rattle.plinq_closures.specs.declared.chain_fault.ChainFault.TheVariants.{Build, Ended, Run}
 
--- there is no answer: the query can't be built, or memory, a thread or tickets were short
-abbrev pub HasNone : ChainFault → Type 0
-HasNone (Build fault) = ⊤
-HasNone (Ended e) = ⊥
-HasNone (Run fault) = IsShort fault
+-- why a query by so many workers can't be built: memory ran out, or they aren't from 1 to 64
+abbrev pub CantBuild : ℕ → BuildFault → Type 0
+CantBuild workers NoRoom = ⊤
+CantBuild workers DegreeOutOfRange = is_degree workers ≡ false
+CantBuild workers NotAtSource = ⊥
+CantBuild workers MergeTwice = ⊥
+CantBuild workers DegreeTwice = ⊥
+
+-- there is no answer: the query by so many workers can't be built, or memory, a thread or tickets were short
+abbrev pub HasNone : ℕ → ChainFault → Type 0
+HasNone workers (Build fault) = CantBuild workers fault
+HasNone workers (Ended e) = ⊥
+HasNone workers (Run fault) = IsShort fault
 
 -- this is told of the items of this answer, which ended well; or how it ended, which isn't well; or why there is none
-abbrev pub Tells : {T O : Type 0} → (List T → O) → Trace T → Result O ChainFault → Type 0
-Tells tell u (Ok out) = (out ≡ tell u.items) × (u.ending ≡ Some End)
-Tells tell u (Err (Ended e)) = (u.ending ≡ Some e) × (e ≢ End)
-Tells tell u (Err (Build fault)) = ⊤
-Tells tell u (Err (Run fault)) = IsShort fault
+abbrev pub Tells : {T O : Type 0} → ℕ → (List T → O) → Trace T → Result O ChainFault → Type 0
+Tells workers tell u (Ok out) = (out ≡ tell u.items) × (u.ending ≡ Some End)
+Tells workers tell u (Err (Ended e)) = (u.ending ≡ Some e) × (e ≢ End)
+Tells workers tell u (Err (Build fault)) = CantBuild workers fault
+Tells workers tell u (Err (Run fault)) = IsShort fault
 
 -- where a run has no answer, memory ran out
 abbrev pub LacksRoomAlone : {O : Type 0} → Result O ChainFault → Type 0
@@ -61,12 +72,12 @@ abbrev pub run_told : {O : Type 0} → Result O RunFault → Result O ChainFault
 run_told (Ok out) = Ok out
 run_told (Err fault) = Err (Run fault)
 
-module _ {F T : Type 0} (Step : F → T → Result ⊤ ℕ → F → Type 0) (u : Trace T) (f : F) where
+module _ {F T : Type 0} (workers : ℕ) (Step : F → T → Result ⊤ ℕ → F → Type 0) (u : Trace T) (f : F) where
   -- a closure was called with the items of this answer's batches, or with the first of them; where the query can't be built, it
   -- wasn't called
   abbrev pub WasCalled : Result Ending ChainFault → F → Type 0
   WasCalled (Ok e) g = CallsSome Step AutoBuffered (λ v. v ≡ u) f (Ok e) g
-  WasCalled (Err (Build fault)) g = g ≡ f
+  WasCalled (Err (Build fault)) g = CantBuild workers fault × (g ≡ f)
   WasCalled (Err (Ended e)) g = ⊥
   WasCalled (Err (Run fault)) g = CallsSome Step AutoBuffered (λ v. v ≡ u) f (Err fault) g
 
@@ -76,7 +87,7 @@ module _ {F T : Type 0} (Step : F → T → Result ⊤ ℕ → F → Type 0) (u 
   -- the same of the answer's items
   abbrev pub WasCalledAll : Result Ending ChainFault → F → Type 0
   WasCalledAll (Ok e) g = CallsAll Step u f (Ok e) g
-  WasCalledAll (Err (Build fault)) g = g ≡ f
+  WasCalledAll (Err (Build fault)) g = CantBuild workers fault × (g ≡ f)
   WasCalledAll (Err (Ended e)) g = ⊥
   WasCalledAll (Err (Run fault)) g = CallsAll Step u f (Err fault) g
 
@@ -90,6 +101,13 @@ no_room = refl
 
 a_code : LacksRoomOrRefused (Err (Run (Sink 7)))
 a_code = tt
+
+-- 64 workers are no reason, 65 are one
+too_few : CantBuild 64 DegreeOutOfRange → ⊥
+too_few is = absurd (let bad : ◌≡◌ {A = Bool} (is_degree 64) false = is in cc)
+
+too_many : CantBuild 65 DegreeOutOfRange
+too_many = refl
 
 -- a missing thread is no reason, whatever is asked
 no_thread : LacksRoomAlone {O = ℕ} (Err (Run Thread)) → ⊥

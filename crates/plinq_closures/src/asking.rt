@@ -42,7 +42,7 @@ impl<S: Steps<Item: Send> + Sync> Chain<S> {
         requires gives_one { S.gives_one self.now.steps }
         ensures { (ops : _) → S.does self.now.steps ops → MatchResult result
             (λ it. GathersSome AutoBuffered (λ u. u ≡ answer_of (λ f. f) ops (Src.whole source)) it.0.items it.1)
-            HasNone }
+            (HasNone workers) }
     {
         match query_of(alloc, workers, &self.steps) {
             Ok(query) => run_told(to_vec(rt, alloc, &query, source)),
@@ -71,7 +71,8 @@ impl<S: Steps<Item: Send> + Sync> Chain<S> {
         requires in_one_way { S.in_one_way self.now.steps }
         requires gives { S.gives self.now.steps }
         requires gives_one { S.gives_one self.now.steps }
-        ensures { (ops : _) → S.does self.now.steps ops → Tells first_of (answer_of (λ f. f) (ops ++ Op.Take (pos 1) ∷ []) (Src.whole source)) result }
+        ensures { (ops : _) → S.does self.now.steps ops →
+            Tells workers first_of (answer_of (λ f. f) (ops ++ Op.Take (pos 1) ∷ []) (Src.whole source)) result }
     {
         match query_of(alloc, workers, &self.steps) {
             Ok(query) => told(first(rt, alloc, query, source)),
@@ -100,7 +101,8 @@ impl<S: Steps<Item: Send> + Sync> Chain<S> {
         requires in_one_way { S.in_one_way self.now.steps }
         requires gives { S.gives self.now.steps }
         requires gives_one { S.gives_one self.now.steps }
-        ensures { (ops : _) → S.does self.now.steps ops → Tells has_item (answer_of (λ f. f) (ops ++ Op.Take (pos 1) ∷ []) (Src.whole source)) result }
+        ensures { (ops : _) → S.does self.now.steps ops →
+            Tells workers has_item (answer_of (λ f. f) (ops ++ Op.Take (pos 1) ∷ []) (Src.whole source)) result }
     {
         there(self.first(rt, alloc, workers, source))
     }
@@ -125,7 +127,7 @@ impl<S: Steps<Item: Send> + Sync> Chain<S> {
         requires in_one_way { S.in_one_way self.now.steps }
         requires gives { S.gives self.now.steps }
         requires gives_one { S.gives_one self.now.steps }
-        ensures { (ops : _) → S.does self.now.steps ops → Tells counted (answer_of (λ f. f) ops (Src.whole source)) result }
+        ensures { (ops : _) → S.does self.now.steps ops → Tells workers counted (answer_of (λ f. f) ops (Src.whole source)) result }
     {
         match query_of(alloc, workers, &self.steps) {
             Ok(query) => told(count(rt, alloc, &query, source)),

@@ -1,7 +1,9 @@
 //! The query that a chain's steps make.
-ghost use Rattle.std.specs.Prelude.{◌≡◌, ℕ, ◌++◌, [], true, None, map, IfOk};
+ghost use Rattle.std.specs.Prelude.{◌≡◌, ℕ, ◌++◌, [], true, None, map, IfOk, IfErr};
 ghost use Rattle.plinq_lambda.specs.Meaning.{Meaning};
 ghost use Rattle.plinq_ops.specs.declared.op.Op.{Op};
+ghost use Rattle.plinq_ops.specs.declared.build_fault.BuildFault.{BuildFault};
+ghost use Rattle.plinq_closures.specs.Asked.{CantBuild};
 ghost use Rattle.plinq_closures.specs.Only.{MayCall, HasOne};
 ghost use Rattle.plinq_closures.specs.Steps.{over, down, Agrees};
 
@@ -21,6 +23,7 @@ pub(crate) fn query_of<'a, S: Steps>(
     requires in_one_way { S.in_one_way steps.now }
     requires gives { S.gives steps.now }
     requires gives_one { S.gives_one steps.now }
+    ensures refused { IfErr result (CantBuild workers) }
     ensures ordered { IfOk result (λ q. (q.ordered ≡ true) × (q.merge ≡ None)) }
     ensures ops { (ops : _) → S.does steps.now ops → IfOk result (λ q. map (over ⟦<At<'a, S> as Lambda>⟧.meaning) q.ops ≡ ops) }
 {
@@ -32,7 +35,8 @@ pub(crate) fn query_of<'a, S: Steps>(
 
 /// A query with no step, which keeps its source's order.
 fn begun<L: Drop>(alloc: Global, workers: u64) -> Result<Query<L>, BuildFault>
-    ensures { IfOk result (λ q. (q.ops ≡ []) × (q.ordered ≡ true) × (q.merge ≡ None)) }
+    ensures refused { IfErr result (CantBuild workers) }
+    ensures begun { IfOk result (λ q. (q.ops ≡ []) × (q.ordered ≡ true) × (q.merge ≡ None)) }
 {
     let Ok(query) = Query::new(alloc).as_ordered() else {
         return Err(BuildFault::NotAtSource);
@@ -52,6 +56,7 @@ fn with_steps<'a, S: Steps>(
     requires called { MayCall (S.is_called steps.now) }
     requires one_map { (at : ℕ) (x : S.Item) → HasOne (S.maps steps.now at x) }
     requires one_test { (at : ℕ) (x : S.Item) → HasOne (S.tests steps.now at x) }
+    ensures refused { IfErr result (λ fault. fault ≡ BuildFault.Memory) }
     ensures settings { IfOk result (λ q. (q.ordered ≡ query.entry.ordered) × (q.merge ≡ query.entry.merge)) }
     ensures ops { (m : ℕ → Meaning S.Item) → Agrees (S.maps steps.now) (S.tests steps.now) m →
         IfOk result (λ q. map (over ⟦<At<'a, S> as Lambda>⟧.meaning) q.ops

@@ -41,7 +41,7 @@ impl<S: Steps<Item: Send> + Sync> Chain<S> {
         requires calls { (f : F) (x : S.Item) → F.pre f x }
         requires calls_in_one_way { (f : F) (x : S.Item) (a b : F.pre f x) → a ≡ b }
         ensures { (ops : _) → S.does self.now.steps ops →
-            HasCalled (λ f x r g. F.step f x r g) (answer_of (λ f. f) ops (Src.whole source)) by.old result by.new }
+            HasCalled workers (λ f x r g. F.step f x r g) (answer_of (λ f. f) ops (Src.whole source)) by.old result by.new }
     {
         match query_of(alloc, workers, &self.steps) {
             Ok(query) => run_told(for_each(rt, alloc, &query, source, by)),

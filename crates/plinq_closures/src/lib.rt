@@ -19,6 +19,7 @@ mod counted;
 mod lent;
 mod mapped;
 mod searching;
+mod searching_sequentially;
 mod sequentially;
 mod steps;
 mod tested;

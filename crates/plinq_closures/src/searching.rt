@@ -42,7 +42,7 @@ impl<S: Steps<Item: Send> + Sync> Chain<S> {
         requires gives { S.gives self.now.steps }
         requires gives_one { S.gives_one self.now.steps }
         ensures { (ops : _) → S.does self.now.steps ops →
-            Tells first_of (answer_of (λ f. f) ((ops ++ Op.Skip (pos place) ∷ []) ++ Op.Take (pos 1) ∷ []) (Src.whole source)) result }
+            Tells workers first_of (answer_of (λ f. f) ((ops ++ Op.Skip (pos place) ∷ []) ++ Op.Take (pos 1) ∷ []) (Src.whole source)) result }
     {
         match query_of(alloc, workers, &self.steps) {
             Ok(query) => told(element_at(rt, alloc, query, source, place)),
@@ -73,7 +73,7 @@ impl<S: Steps<Item: Send> + Sync> Chain<S> {
         requires gives { S.gives self.now.steps }
         requires gives_one { S.gives_one self.now.steps }
         ensures { (ops : _) → S.does self.now.steps ops →
-            Tells has_item
+            Tells workers has_item
             (answer_of (λ f. f) ((ops ++ Op.Filter (tests (λ x. Ok (S.Item.eq x item))) ∷ []) ++ Op.Take (pos 1) ∷ []) (Src.whole source))
             result }
     {
@@ -109,7 +109,7 @@ impl<S: Steps<Item: Send> + Sync> Chain<S> {
             × S.gives_one self.now.steps }
         ensures { (ops : _) (p : S.Item → Result Bool ℕ) → S.does self.now.steps ops →
             ((x : S.Item) → P.post by x (p x)) →
-            Tells has_item (answer_of (λ f. f) ((ops ++ Op.Filter (tests p) ∷ []) ++ Op.Take (pos 1) ∷ []) (Src.whole source))
+            Tells workers has_item (answer_of (λ f. f) ((ops ++ Op.Filter (tests p) ∷ []) ++ Op.Take (pos 1) ∷ []) (Src.whole source))
             result }
     {
         let chain = lent(&self.steps).filter(by);
@@ -142,7 +142,7 @@ impl<S: Steps<Item: Send> + Sync> Chain<S> {
             × S.gives_one self.now.steps }
         ensures { (ops : _) (p : S.Item → Result Bool ℕ) → S.does self.now.steps ops →
             ((x : S.Item) → P.post by x (p x)) →
-            Tells has_none (answer_of (λ f. f) ((ops ++ Op.SkipWhile (tests p) ∷ []) ++ Op.Take (pos 1) ∷ []) (Src.whole source))
+            Tells workers has_none (answer_of (λ f. f) ((ops ++ Op.SkipWhile (tests p) ∷ []) ++ Op.Take (pos 1) ∷ []) (Src.whole source))
             result }
     {
         let chain = lent(&self.steps).skip_while(by);
@@ -151,7 +151,7 @@ impl<S: Steps<Item: Send> + Sync> Chain<S> {
 }
 
 /// A chain of these steps.
-fn lent<'a, S: Steps>(steps: &'a S) -> Chain<Lent<'a, S>>
+pub(crate) fn lent<'a, S: Steps>(steps: &'a S) -> Chain<Lent<'a, S>>
     ensures { result.steps.steps.now ≡ steps.now }
 {
     Chain {

@@ -57,7 +57,7 @@ impl<'a, S: Steps<Item: Send> + Sync> Sequentially<'a, S> {
         requires gives_one { S.gives_one self.now.steps.now }
         ensures value { (ops : _) → S.does self.now.steps.now ops → MatchResult result
             (λ it. ended it.0.items it.1 ≡ answer_of (λ f. f) ops (Src.whole source))
-            HasNone }
+            (HasNone workers) }
         ensures memory { LacksRoomAlone result }
     {
         match query_of(alloc, workers, self.steps) {
@@ -87,7 +87,7 @@ impl<'a, S: Steps<Item: Send> + Sync> Sequentially<'a, S> {
         requires gives { S.gives self.now.steps.now }
         requires gives_one { S.gives_one self.now.steps.now }
         ensures value { (ops : _) → S.does self.now.steps.now ops →
-            Tells first_of (answer_of (λ f. f) (ops ++ Op.Take (pos 1) ∷ []) (Src.whole source)) result }
+            Tells workers first_of (answer_of (λ f. f) (ops ++ Op.Take (pos 1) ∷ []) (Src.whole source)) result }
         ensures memory { LacksRoomAlone result }
     {
         match query_of(alloc, workers, self.steps) {
@@ -118,7 +118,7 @@ impl<'a, S: Steps<Item: Send> + Sync> Sequentially<'a, S> {
         requires gives { S.gives self.now.steps.now }
         requires gives_one { S.gives_one self.now.steps.now }
         ensures value { (ops : _) → S.does self.now.steps.now ops →
-            Tells first_of (answer_of (λ f. f) ((ops ++ Op.Skip (pos place) ∷ []) ++ Op.Take (pos 1) ∷ []) (Src.whole source)) result }
+            Tells workers first_of (answer_of (λ f. f) ((ops ++ Op.Skip (pos place) ∷ []) ++ Op.Take (pos 1) ∷ []) (Src.whole source)) result }
         ensures memory { LacksRoomAlone result }
     {
         match query_of(alloc, workers, self.steps) {
@@ -148,7 +148,7 @@ impl<'a, S: Steps<Item: Send> + Sync> Sequentially<'a, S> {
         requires gives { S.gives self.now.steps.now }
         requires gives_one { S.gives_one self.now.steps.now }
         ensures value { (ops : _) → S.does self.now.steps.now ops →
-            Tells has_item (answer_of (λ f. f) (ops ++ Op.Take (pos 1) ∷ []) (Src.whole source)) result }
+            Tells workers has_item (answer_of (λ f. f) (ops ++ Op.Take (pos 1) ∷ []) (Src.whole source)) result }
         ensures memory { LacksRoomAlone result }
     {
         there(self.first(rt, alloc, workers, source))
@@ -175,7 +175,7 @@ impl<'a, S: Steps<Item: Send> + Sync> Sequentially<'a, S> {
         requires gives { S.gives self.now.steps.now }
         requires gives_one { S.gives_one self.now.steps.now }
         ensures value { (ops : _) → S.does self.now.steps.now ops →
-            Tells counted (answer_of (λ f. f) ops (Src.whole source)) result }
+            Tells workers counted (answer_of (λ f. f) ops (Src.whole source)) result }
         ensures memory { LacksRoomAlone result }
     {
         match query_of(alloc, workers, self.steps) {
@@ -209,7 +209,7 @@ impl<'a, S: Steps<Item: Send> + Sync> Sequentially<'a, S> {
         requires calls { (f : F) (x : S.Item) → F.pre f x }
         requires calls_in_one_way { (f : F) (x : S.Item) (a b : F.pre f x) → a ≡ b }
         ensures calls { (ops : _) → S.does self.now.steps.now ops →
-            HasCalledAll (λ f x r g. F.step f x r g) (answer_of (λ f. f) ops (Src.whole source)) by.old result by.new }
+            HasCalledAll workers (λ f x r g. F.step f x r g) (answer_of (λ f. f) ops (Src.whole source)) by.old result by.new }
         ensures uncalled { result ≡ Err (Run Memory) → by.new ≡ by.old }
         ensures memory { LacksRoomOrRefused result }
     {

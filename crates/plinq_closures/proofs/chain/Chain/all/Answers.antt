@@ -16,8 +16,8 @@ returns g c ops p does gives =
     let u = answer_of (λ f. f) (steps ++ Take (pos 1) ∷ []) (g.Src.Source.whole c.args.source) in
     let is = c.skip_while-chain.ensures in
     let same : c.skip_while-chain.result.steps.before.steps.now ≡ c.args.self.now.steps = ap (λ l. l.steps.now) is.0 ∙ c.lent.ensures in
-    subst (λ r. Tells has_none u r) (sym c.negated.ensures)
-    (tells-none u c.any.result (c.any.ensures steps (record {
+    subst (λ r. Tells c.args.workers has_none u r) (sym c.negated.ensures)
+    (tells-none c.args.workers u c.any.result (c.any.ensures steps (record {
       before = ops;
       was = subst (λ s. g.S.Steps.does s ops) (sym same) does;
       does = p;

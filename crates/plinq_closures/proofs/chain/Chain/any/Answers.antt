@@ -11,4 +11,4 @@ use Rattle.plinq_closures.proofs.chain.Chain.any.Goals as goal
 pub returns : goal.returns
 returns g c ops does =
     let u = answer_of (λ f. f) (ops ++ Take (pos 1) ∷ []) (g.Src.Source.whole c.args.source) in
-    subst (λ r. Tells has_item u r) (sym c.there.ensures) (tells-there u c.first.result (c.first.ensures ops does))
+    subst (λ r. Tells c.args.workers has_item u r) (sym c.there.ensures) (tells-there c.args.workers u c.first.result (c.first.ensures ops does))

@@ -11,7 +11,7 @@ use Rattle.plinq_closures.proofs.sequentially.Sequentially.any.Goals as goal
 pub returns-clause-value : goal.returns-clause-value
 returns-clause-value g c ops does =
     let u = answer_of (λ f. f) (ops ++ Take (pos 1) ∷ []) (g.Src.Source.whole c.args.source) in
-    subst (λ r. Tells has_item u r) (sym c.there.ensures) (tells-there u c.first.result (c.first.ensures.value ops does))
+    subst (λ r. Tells c.args.workers has_item u r) (sym c.there.ensures) (tells-there c.args.workers u c.first.result (c.first.ensures.value ops does))
 
 pub returns-clause-memory : goal.returns-clause-memory
 returns-clause-memory g c = subst LacksRoomAlone (sym c.there.ensures) (lacks-there c.first.result c.first.ensures.memory)

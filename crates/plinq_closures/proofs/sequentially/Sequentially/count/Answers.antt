@@ -10,8 +10,8 @@ use Rattle.plinq_closures.proofs.sequentially.Sequentially.count.Goals as goal
 pub returns-in-Ok-clause-value : goal.returns-in-Ok-clause-value
 returns-in-Ok-clause-value g c ops does =
     let t = g.Src.Source.whole c.args.source in
-    subst (λ r. Tells counted (answer_of (λ f. f) ops t) r) (sym c.told.ensures)
-    (tells-answer counted _ true refl c.in-Ok.query.ops ops (c.in-Ok.ensures.ops ops does) t c.count.result c.count.ensures.value)
+    subst (λ r. Tells c.args.workers counted (answer_of (λ f. f) ops t) r) (sym c.told.ensures)
+    (tells-answer c.args.workers counted _ true refl c.in-Ok.query.ops ops (c.in-Ok.ensures.ops ops does) t c.count.result c.count.ensures.value)
 
 pub returns-in-Ok-clause-memory : goal.returns-in-Ok-clause-memory
 returns-in-Ok-clause-memory g c = subst LacksRoomAlone (sym c.told.ensures) (lacks-told c.count.result c.count.ensures.memory)

@@ -11,8 +11,8 @@ use Rattle.plinq_closures.proofs.sequentially.Sequentially.first.Goals as goal
 pub returns-in-Ok-clause-value : goal.returns-in-Ok-clause-value
 returns-in-Ok-clause-value g c ops does =
     let t = g.Src.Source.whole c.args.source in
-    subst (λ r. Tells first_of (answer_of (λ f. f) (ops ++ Take (pos 1) ∷ []) t) r) (sym c.told.ensures)
-    (tells-first _ true refl c.in-Ok.query.ops ops (c.in-Ok.ensures.ops ops does) t c.first.result c.first.ensures.value)
+    subst (λ r. Tells c.args.workers first_of (answer_of (λ f. f) (ops ++ Take (pos 1) ∷ []) t) r) (sym c.told.ensures)
+    (tells-first c.args.workers _ true refl c.in-Ok.query.ops ops (c.in-Ok.ensures.ops ops does) t c.first.result c.first.ensures.value)
 
 pub returns-in-Ok-clause-memory : goal.returns-in-Ok-clause-memory
 returns-in-Ok-clause-memory g c = subst LacksRoomAlone (sym c.told.ensures) (lacks-told c.first.result c.first.ensures.memory)
