@@ -8,6 +8,7 @@
 //! - [`Steps`] is what a chain's steps have in common; no query of a user's own needs it.
 #![tactic(auto)]
 
+mod aggregating;
 mod asking;
 mod at;
 mod blocks;
