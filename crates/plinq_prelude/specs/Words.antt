@@ -24,5 +24,5 @@ pub use Rattle.plinq_collect.specs.Calling.{CallsSome, CallsAll, NoRoomOrRefused
 pub use Rattle.plinq_collect.specs.Equal.{IsTestOf}
 pub use Rattle.plinq_collect.specs.Folds.{first_of, has_item, has_none, counted}
 pub use Rattle.plinq_collect.specs.Telling.{items_of, IsGathered, GathersSome, IsShort, TellsSome, LacksRoom}
-pub use Rattle.plinq_closures.specs.Asked.{HasNone, HasCalled, HasCalledAll, Tells, LacksRoomAlone, LacksRoomOrRefused}
+pub use Rattle.plinq_closures.specs.Asked.{CantBuild, HasNone, HasCalled, HasCalledAll, Tells, LacksRoomAlone, LacksRoomOrRefused}
 pub use Rattle.plinq_closures.specs.Functions.{maps, tests}
