@@ -26,11 +26,11 @@ def document(count):
 FIRST_OF_MANY = b'{"version":1,"source":{"range":[5,1000000]},"query":[["as_ordered"],["filter","equal",5]]}'
 SHORT = ["run", "--merge", "not"], document(3)
 # (several times what a buffer holds)
-LONG = ["run", "--merge", "not"], document(20_000)
+LONG = ["run", "--merge", "not"], document(100_000)
 CASES = [
     SHORT,
     LONG,
-    (["run", "--merge", "full"], document(20_000)),
+    (["run", "--merge", "full"], document(100_000)),
     (["seq"], b'{"version":1,"source":{"list":[1,2],"refuse":7},"query":[]}'),
     (["run"], b'{"version":1,"source":{"list":[2,0]},"query":[["as_ordered"],["select","into",4]]}'),
     (["plan"], document(3)),
