@@ -88,7 +88,8 @@ where
         cancel_after,
         ..
     } = job;
-    let ending = run_into(rt, &query, source, growth, cancel_after, writer)?;
+    let (ended, _writer) = run_lines(rt, &query, source, growth, cancel_after, writer);
+    let ending = ended?;
     write_ending(writer, ending)?;
     Ok(ending)
 }
@@ -122,26 +123,7 @@ where
     }
 }
 
-// Runs a query, and writes the lines of its batches as they are delivered.
-fn run_into<R, W>(
-    rt: &R,
-    query: &Query<Formula>,
-    source: AnySource,
-    growth: Growth,
-    cancel_after: Option<u64>,
-    writer: &mut W,
-) -> Result<Ending, ServeFault>
-where
-    R: AllocGlobal + Threads + Wait + Sync,
-    W: Write,
-    requires unasked { ⟦<AnySource as Source>⟧.given source ≡ 0 }
-    ensures { Delivers query.now (⟦<AnySource as Source>⟧.whole source) (W.contents writer.old) (W.contents writer.new) cancel_after result }
-{
-    let (ended, _writer) = run_lines(rt, query, source, growth, cancel_after, writer);
-    ended
-}
-
-// The same, and the writer, which the lines have gone to.
+// Runs a query, and writes the lines of its batches as they are delivered. Gives back the writer, which they have gone to.
 fn run_lines<'a, R, W>(
     rt: &R,
     query: &Query<Formula>,
