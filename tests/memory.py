@@ -1,6 +1,6 @@
 #!/usr/bin/env python3
 """The limit of memory under which ./plinq starts the program (tools/limit.sh): what it is, and that a run which wants more
-reports it. Then what some runs take, and that they use it again.
+reports it. Then what some runs take, that first lines come at once, and that memory is used again.
 
     python3 tests/memory.py
 """
@@ -8,6 +8,7 @@ import os
 import re
 import subprocess
 import tempfile
+import threading
 
 from support.program import HANGS, PLINQ, ROOT, Outcome, Tests, build, run
 
@@ -16,7 +17,7 @@ OUT_OF_MEMORY = Outcome(5, b"", b"plinq: out of memory\n")
 # Documents of few bytes that want more memory than any machine has.
 HUNGRY = {
     "one line of 2^40 numbers": ("run --merge full", '{"version":1,"source":{"range":[0,1099511627776]},"query":[["as_ordered"]]}'),
-    "a list of 2^40 numbers in one thread": ("seq", '{"version":1,"source":{"range":[0,1099511627776]},"query":[["as_ordered"]]}'),
+    "one line of 2^40 numbers in one thread": ("seq --merge full", '{"version":1,"source":{"range":[0,1099511627776]},"query":[["as_ordered"]]}'),
     "expansions of great chunks": ("run", '{"version":1,"source":{"range":[0,1099511627776]},"query":[["select_many","repeat",65536],["take",390]],"growth":[65536,1,65536]}'),
     "expansions of great chunks in order": ("run", '{"version":1,"source":{"range":[0,1099511627776]},"query":[["as_ordered"],["select_many","repeat",65536],["take",390]],"growth":[65536,1,65536]}'),
     "nested expansions": ("run", '{"version":1,"source":{"list":[1]},"query":[["select_many","repeat",65536],["select_many","repeat",65536],["select_many","repeat",65536],["take",1]]}'),
@@ -27,6 +28,13 @@ SPARING = {
     "an aggregate in one thread": ("seq", '{"version":1,"source":{"range":[0,200000]},"query":[["select_many","repeat",100]],"aggregate":"count"}', 20_000_000, 60_000_000),
     "an aggregate of great expansions": ("run", '{"version":1,"source":{"range":[0,2000]},"query":[["select_many","repeat",65536]],"aggregate":"count"}', 131_072_000, 60_000_000),
     "a filter that keeps one, fully buffered": ("run --merge full", '{"version":1,"source":{"range":[0,20000000]},"query":[["as_ordered"],["filter","equal",7]]}', 7, 60_000_000),
+}
+# Documents of 2^40 items whose first lines come at once: the words, the operator, the first line, how many MB more are read.
+ENDLESS = {
+    "lines of 16 numbers in one thread": ("seq", '["skip",0]', b"0 1 2 3 4 5 6 7 8 9 10 11 12 13 14 15\n", 50),
+    "lines of one number in one thread": ("seq --merge not", '["skip",0]', b"0\n", 50),
+    "one number of all in one thread": ("seq --merge not", '["filter","equal",7]', b"7\n", 0),
+    "one number of all": ("run --merge not", '["filter","equal",7]', b"7\n", 0),
 }
 # 5,000 chunks, of each of which a worker makes a result of 16 KB.
 AGAIN = '{"version":1,"source":{"range":[0,10000000]},"query":[["as_ordered"],["filter","below",0]],"growth":[1,3,2048]}'
@@ -118,6 +126,24 @@ def sparing(tests):
         tests.check(f"{name}: it took {most} bytes at most", taken < most, taken)
 
 
+def endless(tests):
+    for name, (words, operator, line, more) in ENDLESS.items():
+        document = f'{{"version":1,"source":{{"range":[0,1099511627776]}},"query":[["as_ordered"],{operator}]}}'
+        with subprocess.Popen([PLINQ, *words.split()], stdin=subprocess.PIPE, stdout=subprocess.PIPE) as program:
+            late = threading.Timer(HANGS, program.kill)
+            late.start()
+            program.stdin.write(document.encode())
+            program.stdin.close()
+            first = program.stdout.readline()
+            read = sum(len(program.stdout.read(1_000_000)) for _ in range(more))
+            with open(f"/proc/{program.pid}/status", encoding="utf-8") as file:
+                taken = int(re.search(r"^VmHWM:\s+(\d+) kB", file.read(), re.M)[1]) * 1024
+            late.cancel()
+            program.kill()
+        tests.check(f"{name}: the first line comes before the source ends", (first, read) == (line, more * 1_000_000), (first, read))
+        tests.check(f"{name}: no more is held", taken < 30_000_000, taken)
+
+
 def again(tests):
     seen, _, pages = measured("run --workers 4", AGAIN)
     tests.check("what results gave back", seen == Outcome(0, b"end\n", b""), seen)
@@ -132,6 +158,7 @@ def main():
     started(tests)
     hungry(tests)
     sparing(tests)
+    endless(tests)
     again(tests)
     tests.end()
 

@@ -95,8 +95,8 @@ def problem(words, seen, right):
         return f"neither as with ample memory ({right}) nor out of memory: {seen}"
     if not right.output.startswith(seen.output):
         return f"what was written is no beginning of the right output ({right}): {seen}"
-    # (a run writes whole lines; help may break off anywhere)
-    if words[:1] == ["run"] and "--help" not in words and seen.output[-1:] not in (b"", b"\n"):
+    # (`run` and `seq` write whole lines; help may break off anywhere)
+    if words[:1] in (["run"], ["seq"]) and "--help" not in words and seen.output[-1:] not in (b"", b"\n"):
         return f"a line isn't whole: {seen}"
     return None
 

@@ -43,6 +43,8 @@ CASES = [
     (["run", "--merge", "not", "--cancel-after", "2"], document(20_000)),
     (["run", "--merge", "not"], FIRST_OF_MANY),
     (["run", "--merge", "not", "--cancel-after", "1"], FIRST_OF_MANY),
+    (["seq", "--merge", "not"], document(20_000)),
+    (["seq", "--merge", "not"], FIRST_OF_MANY),
     (["run", "--merge", "not", "--cancel-after", "1"], document(3)),
 ]
 
@@ -86,10 +88,10 @@ def cancelled_into_a_full_device(tests):
 
 
 def readers_that_leave(tests):
-    words, given = "run --merge not", document(1_000_000)
-    for reader, wanted in (("head -n 2", b"1\n2\n"), ("head -c 5", b"1\n2\n3"), ("true", b"")):
-        seen = as_shell(f"$0 {words} | {reader}; exit ${{PIPESTATUS[0]}}", given)
-        tests.check(f"a reader that leaves: {reader}", seen == Outcome(5, wanted, WRITE_FAILED), seen)
+    for words, given in (("run --merge not", document(1_000_000)), ("seq --merge not", document(2**40))):
+        for reader, wanted in (("head -n 2", b"1\n2\n"), ("head -c 5", b"1\n2\n3"), ("true", b"")):
+            seen = as_shell(f"$0 {words} | {reader}; exit ${{PIPESTATUS[0]}}", given)
+            tests.check(f"{words}, a reader that leaves: {reader}", seen == Outcome(5, wanted, WRITE_FAILED), seen)
 
 
 def failing(case, shim, **how):

@@ -1,6 +1,7 @@
 pub mod Known
 pub mod Answered
 mod Delivered
+mod OnOneThread
 mod HandedOut
 mod Histories
 mod ToldEnding

@@ -1,8 +1,9 @@
 ghost use Rattle.std.specs.Prelude.{◌≡◌};
-ghost use Rattle.plinq_cli.specs.ServeFaults.{serve_fault_of, serve_fault_of_run};
+ghost use Rattle.plinq_cli.specs.ServeFaults.{serve_fault_of, serve_fault_of_delivery, serve_fault_of_run};
 ghost use Rattle.plinq_cli.specs.declared.serve_fault.ServeFault.TheVariants.{Memory, Write};
 
 use plinq_lines::WriteFault;
+use plinq_merge::DeliveryFault;
 use plinq_partition::TakeFault;
 use plinq_run::RunFault;
 use plinq_source::OutOfMemory;
@@ -38,6 +39,17 @@ impl From<WriteFault> for ServeFault {
 
     fn from(_: WriteFault) -> ServeFault {
         ServeFault::Write
+    }
+}
+
+impl From<DeliveryFault> for ServeFault {
+    ghost from_gives = { λ fault e. e ≡ serve_fault_of_delivery fault };
+
+    fn from(fault: DeliveryFault) -> ServeFault {
+        match fault {
+            DeliveryFault::Memory => ServeFault::Memory,
+            DeliveryFault::Sink(_) => ServeFault::Write,
+        }
     }
 }
 

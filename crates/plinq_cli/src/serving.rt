@@ -2,8 +2,9 @@ ghost use Rattle.std.specs.Prelude.{◌≡◌, ◌≤◌, Some, None, IfOk, IfEr
 ghost use Rattle.plinq_keyed.specs.Keys.{keyed_from, element_lists};
 ghost use Rattle.plinq_partition.specs.Cuts.{cuts};
 ghost use Rattle.plinq_source.specs.Trace.{ended};
-ghost use Rattle.plinq_cli.specs.ServeFaults.{MayFail, told_of};
+ghost use Rattle.plinq_cli.specs.ServeFaults.{MayFail, told_of, told_of_one};
 ghost use Rattle.plinq_cli.specs.Served.{Delivers, LeavesWholeLines, Serves};
+ghost use Rattle.plinq_cli.specs.inner.Answering.{HasWrittenAnswer};
 ghost use Rattle.plinq_cli.specs.inner.Stopped.{Leaves};
 ghost use Rattle.plinq_lambda.specs.Formula.{formula_meaning};
 ghost use Rattle.plinq_ops.specs.Answer.{MayAnswer};
@@ -18,10 +19,9 @@ use plinq_enumerator::Growth;
 use plinq_keyed::{Guarded, Keyed};
 use plinq_lambda::Formula;
 use plinq_lines::{
-    LineSink, WriteFault, write_aggregate, write_answer, write_ending, write_history, write_parts,
-    write_plan,
+    LineSink, WriteFault, write_aggregate, write_ending, write_history, write_parts, write_plan,
 };
-use plinq_merge::{CancelAfter, Sink};
+use plinq_merge::{CancelAfter, DeliveryFault, Sink, deliver_sequentially};
 use plinq_ops::{Query, sequential};
 use plinq_partition::{OrderablePartitioner, RangeParts};
 use plinq_run::{AggregateFault, OpenGate, Report, RunFault, run, run_with};
@@ -196,7 +196,7 @@ where
     )
 }
 
-// Nothing is written before the answer is there.
+// Each batch is written as it comes.
 fn serve_items<W: Write>(alloc: Global, job: Job, writer: &mut W) -> Result<Ending, ServeFault>
     requires items { job.aggregate ≡ None }
     ensures written { Serves Command.Seq job (W.contents writer.old) (W.contents writer.new) result }
@@ -207,9 +207,53 @@ fn serve_items<W: Write>(alloc: Global, job: Job, writer: &mut W) -> Result<Endi
         mut source,
         ..
     } = job;
-    let (items, ending) = sequential(alloc, &query, &mut source)?;
-    write_answer(writer, query.merge_option(), items.as_slice(), ending)?;
+    let ending = answer_into(alloc, &query, &mut source, writer)?;
+    write_ending(writer, ending)?;
     Ok(ending)
+}
+
+// Answers a query on one thread, and writes the lines of its batches as they come.
+fn answer_into<W: Write>(
+    alloc: Global,
+    query: &Query<Formula>,
+    source: &mut AnySource,
+    writer: &mut W,
+) -> Result<Ending, ServeFault>
+    requires unasked { ⟦<AnySource as Source>⟧.given source.old ≡ 0 }
+    ensures { HasWrittenAnswer query.now (⟦<AnySource as Source>⟧.whole source.old) (W.contents writer.old) (W.contents writer.new) result }
+{
+    let (ended, _writer) = answer_lines(alloc, query, source, writer);
+    ended
+}
+
+// The same, and the writer, which the lines have gone to.
+fn answer_lines<'a, W: Write>(
+    alloc: Global,
+    query: &Query<Formula>,
+    source: &mut AnySource,
+    writer: &'a mut W,
+) -> (Result<Ending, ServeFault>, &'a mut W)
+    requires unasked { ⟦<AnySource as Source>⟧.given source.old ≡ 0 }
+    ensures writes { HasWrittenAnswer query.now (⟦<AnySource as Source>⟧.whole source.old) (W.contents writer.old) (W.contents result.1.now) result.0 }
+    ensures same { result.1.ghost_name ≡ writer.entry.ghost_name }
+{
+    let mut sink = LineSink::new(writer);
+    let delivered = deliver_sequentially(alloc, query, source, &mut sink);
+    let written = written_by(&sink);
+    (tell_answer(written, delivered), sink.into_writer())
+}
+
+// What is reported of an answer on one thread: a failing write before that memory ran out.
+fn tell_answer(
+    written: Result<(), WriteFault>,
+    delivered: Result<Ending, DeliveryFault>,
+) -> Result<Ending, ServeFault>
+    ensures { result ≡ told_of_one written delivered }
+{
+    match written {
+        Ok(()) => Ok(delivered?),
+        Err(_) => Err(ServeFault::Write),
+    }
 }
 
 // The items are folded as they come.

@@ -3,7 +3,7 @@ ghost use Rattle.plinq_lines.specs.AggregateText.{value_words, value_line, aggre
 ghost use Rattle.plinq_lines.specs.inner.Pieces.{piece_words};
 ghost use Rattle.plinq_lines.specs.Written.{Writes};
 
-use crate::answer_lines::write_ending;
+use crate::ending_lines::write_ending;
 use crate::piece::Piece;
 use crate::pieces::write_pieces;
 use crate::write_fault::WriteFault;

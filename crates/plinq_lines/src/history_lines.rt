@@ -3,7 +3,7 @@ ghost use Rattle.plinq_lines.specs.HistoryText.{asked_word, asked_number, tail_w
 ghost use Rattle.plinq_lines.specs.inner.Pieces.{piece_words};
 ghost use Rattle.plinq_lines.specs.Written.{Writes};
 
-use crate::answer_lines::write_ending;
+use crate::ending_lines::write_ending;
 use crate::piece::Piece;
 use crate::pieces::write_pieces;
 use crate::write_fault::WriteFault;

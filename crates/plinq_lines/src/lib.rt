@@ -4,8 +4,8 @@
 //!   of it (`specs/Written.antt`). None takes memory, and none flushes.
 //! - A [`LineSink`] writes each batch that a run delivers as its line (`TakesLine`, `RefusesLine`): batches that it took
 //!   one after another are their lines ([`laws`]).
-//! - [`write_batch`] writes the line of one batch (`batch_line`), [`write_batches`] those of a whole answer, a line
-//!   each, and [`write_ending`] the line of how it ended (`ending_words`). [`write_answer`] writes all of it (`answer_text`).
+//! - [`write_batch`] writes the line of one batch (`batch_line`), and [`write_ending`] the line of how an answer ended
+//!   (`ending_words`). The lines of an answer's batches and of its ending are its text (`answer_text`).
 //! - [`write_aggregate`] writes an aggregated answer (`aggregate_text`): the value's line, which [`write_value`] writes
 //!   (`value_line`), where it ended well, and the line of its ending.
 //! - [`write_plan`] writes the five lines of a query's plan (`plan_text`), [`write_parts`] those of a source cut into
@@ -14,9 +14,9 @@
 #![tactic(auto)]
 
 mod aggregate_lines;
-mod answer_lines;
 mod batch_lines;
 mod bytes;
+mod ending_lines;
 mod history_lines;
 pub mod laws;
 mod line_sink;
@@ -29,8 +29,8 @@ mod plan_lines;
 mod write_fault;
 
 pub use aggregate_lines::{write_aggregate, write_value};
-pub use answer_lines::{write_answer, write_batches, write_ending};
 pub use batch_lines::write_batch;
+pub use ending_lines::write_ending;
 pub use history_lines::write_history;
 pub use line_sink::{LineSink, WRITE_FAILED};
 pub use parts_lines::write_parts;

@@ -5,7 +5,7 @@ ghost use Rattle.plinq_lines.specs.Text.{line, ending_words};
 ghost use Rattle.plinq_lines.specs.PartsText.{truth, properties_line, element_words, part_line, part_lines};
 ghost use Rattle.plinq_lines.specs.Written.{Writes};
 
-use crate::answer_lines::write_ending;
+use crate::ending_lines::write_ending;
 use crate::piece::Piece;
 use crate::pieces::write_pieces;
 use crate::write_fault::WriteFault;

@@ -1,5 +1,6 @@
 pub mod Blocks
 pub mod Singles
+mod SentSoFar
 pub mod Holds
 pub mod Gains
 pub mod Joins

@@ -1,4 +1,4 @@
-ghost use Rattle.std.specs.Prelude.{◌≡◌, ℕ, [], IfOk, OnOk};
+ghost use Rattle.std.specs.Prelude.{◌≡◌, ℕ, [], true, Some, IfOk, OnOk};
 ghost use Rattle.plinq_ops.specs.Batches.{batch_size};
 ghost use Rattle.plinq_merge.specs.Buffer.{held_of, size_of, HasRoom};
 
@@ -18,6 +18,31 @@ pub(crate) enum Buffer<T> {
 
 /// How many items AutoBuffered puts into a batch.
 const AUTO_BUFFERED: usize = 16;
+
+/// How many items are given at once to a batch of all.
+const PIECE_ITEMS: usize = 512;
+
+impl<T> Buffer<T> {
+    /// How many items more fill a batch. Of a batch of all it is how many are worth a call.
+    pub(crate) fn missing(&self) -> usize {
+        match self {
+            Buffer::Ring(ring) => ring.capacity().saturating_sub(ring.len()),
+            Buffer::All(_) => PIECE_ITEMS,
+        }
+    }
+
+    /// Whether nothing is held back, and so many items are a batch.
+    #[inline(always)]
+    pub(crate) fn is_filled_by(&self, count: usize) -> bool
+        ensures empty { result ≡ true → held_of self.now ≡ [] }
+        ensures size { result ≡ true → size_of self.now ≡ Some count }
+    {
+        match self {
+            Buffer::Ring(ring) => ring.is_empty() && ring.capacity() == count,
+            Buffer::All(_) => false,
+        }
+    }
+}
 
 /// The buffer of a merge option, with nothing in it.
 pub(crate) fn buffer_of<T>(alloc: Global, option: MergeOption) -> Result<Buffer<T>, OutOfMemory>

@@ -10,7 +10,7 @@ use circular_buffer::HeapCircularBuffer;
 use plinq_source::Ending;
 
 /// Hands one batch to the sink.
-fn send<K: Sink>(batch: &[K::Item], sink: &mut K) -> Result<(), DeliveryFault>
+pub(crate) fn send<K: Sink>(batch: &[K::Item], sink: &mut K) -> Result<(), DeliveryFault>
     ensures { Delivers K.accepts K.refuses sink.old (batch.now ∷ []) result sink.new }
 {
     match sink.batch(batch) {

@@ -15,6 +15,8 @@ mod memory;
 #[cfg(test)]
 mod rows;
 #[cfg(test)]
+mod sent_at_once;
+#[cfg(test)]
 mod taken;
 #[cfg(test)]
 mod tokens;

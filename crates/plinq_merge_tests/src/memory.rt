@@ -1,9 +1,9 @@
 use crate::taken::{Offered, Taken, expect_ending, last, merger_of, ordered, part, result_of};
 use plinq_keyed::Tail;
 use plinq_lambda::Formula;
-use plinq_merge::{MergeFault, Merger, More};
-use plinq_ops::{ChunkResult, MergeOption};
-use plinq_source::Ending;
+use plinq_merge::{DeliveryFault, MergeFault, Merger, More, deliver_sequentially};
+use plinq_ops::{ChunkResult, MergeOption, Query};
+use plinq_source::{Ending, RangeSource};
 use std::alloc::Global;
 use std::process::Abort;
 
@@ -97,4 +97,38 @@ fn no_room_ends_a_merger_of_batches(rt: HostRuntime) {
 #[test]
 fn no_room_ends_a_merger_that_is_fully_buffered(rt: HostRuntime) {
     offer_till_failed(&rt, rt.alloc(), MergeOption::FullyBuffered);
+}
+
+// The batches of one thread are the first of the answer's, and all of them where the call answers its ending; where it doesn't, it
+// does the next time. Run with each allocation failing in turn.
+#[test]
+fn no_room_ends_a_delivery_by_one_thread(rt: HostRuntime) {
+    for option in [
+        MergeOption::NotBuffered,
+        MergeOption::AutoBuffered,
+        MergeOption::FullyBuffered,
+    ] {
+        let alloc = rt.alloc();
+        let Ok(query) = Query::<Formula>::new(alloc).with_merge(option) else {
+            return;
+        };
+        if !delivers(&rt, alloc, &query) {
+            assert!(rt; delivers(&rt, alloc, &query));
+        }
+    }
+}
+
+fn delivers(rt: &impl Abort, alloc: Global, query: &Query<Formula>) -> bool {
+    let Ok(mut source) = RangeSource::new(1, 40) else {
+        panic!(rt; "no such range");
+    };
+    let mut sink = Taken::new(alloc, usize::MAX);
+    let told = deliver_sequentially(alloc, query, &mut source, &mut sink);
+    let next = item_after(rt, &sink.batches);
+    match told {
+        Ok(ending) => assert!(rt; ending == Ending::End && next == 41),
+        Err(DeliveryFault::Memory | DeliveryFault::Sink(1_000)) => assert!(rt; next <= 40),
+        Err(DeliveryFault::Sink(_)) => panic!(rt; "no batch is refused"),
+    }
+    told.is_ok()
 }

@@ -1,6 +1,5 @@
 use crate::narrow::Narrow;
-use plinq_lines::{WriteFault, write_answer, write_batch};
-use plinq_ops::MergeOption;
+use plinq_lines::{WriteFault, write_batch, write_ending};
 use plinq_source::Ending;
 use std::alloc::Global;
 
@@ -29,13 +28,15 @@ const LONG: [i64; 18] = [
 const LINES: &[u8] =
     b"-12 345\n\n7\n-9223372036854775808 -10 -1 0 1 9 10 99 100 999999 9223372036854775807 12 13 14 15 16 17 18\n6\n78\nrefused 9\n";
 
-// Batches, and then an answer.
+// Batches, and then an ending.
 fn write_lines(out: &mut Narrow) -> Result<(), WriteFault> {
     write_batch(out, &[-12, 345])?;
     write_batch(out, &[])?;
     write_batch(out, &[7])?;
     write_batch(out, &LONG)?;
-    write_answer(out, MergeOption::NotBuffered, &[6, 78], Ending::Refused(9))
+    write_batch(out, &[6])?;
+    write_batch(out, &[78])?;
+    write_ending(out, Ending::Refused(9))
 }
 
 // Whether a writer with room for so many bytes took these of the lines, and then failed.

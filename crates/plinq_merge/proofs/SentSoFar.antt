@@ -1,0 +1,151 @@
+-- What was sent of an answer whose last items wait.
+use Rattle.std.specs.Prelude.{◌≡◌, ℕ, ◌+◌, ◌<◌, length, List, [], ◌∷◌, ◌++◌, drop, false, Option, Some, None, Result, Ok, Err, OnOk, IfOk, refl}
+use Rattle.std.proofs.Common.{sym, ◌∙◌, ap, subst, arith, append_assoc, append-nil}
+use Rattle.std.proofs.lemmas.List.{take-append-drop}
+use Rattle.plinq_source.specs.declared.ending.Ending.{Ending}
+use Rattle.plinq_source.specs.Trace.{Trace, open_trace, ended, followed}
+use Rattle.plinq_source.proofs.Followed.{trace_of, followed-followed}
+use Rattle.plinq_source.proofs.Steps.{IsNextItem, IsAtEnding}
+use Rattle.plinq_ops.specs.Stage.{Stage, seq, seq_after, some_takes_none}
+use Rattle.plinq_ops.specs.Feeding.{IsFed}
+use Rattle.plinq_ops.specs.Batches.{full_batches, held_back, batches_from}
+use Rattle.plinq_ops.specs.Sequential.{first_items, IsLeastDeciding}
+use Rattle.plinq_ops.proofs.Stages.{seq-followed}
+use Rattle.plinq_ops.proofs.Fed.{fed-none}
+use Rattle.plinq_ops.proofs.Answered.{fed-next, fed-decided, fed-at_ending, least-decided, least-at_ending, answer-fed}
+use Rattle.plinq_ops.proofs.Runs.{full_batches-append, held_back-append, batches_from-followed}
+use Rattle.plinq_merge.specs.declared.delivery_fault.DeliveryFault.{DeliveryFault}
+use Rattle.plinq_merge.specs.declared.delivery_fault.DeliveryFault.TheVariants.{Memory}
+use Rattle.plinq_merge.specs.Sending.{Leads, IsCutOff, Delivers}
+use Rattle.plinq_merge.proofs.Blocks.{full_batches-filled, held_back-filled}
+use Rattle.plinq_merge.specs.inner.Sent.{leads-append, cut-after, cut-before, delivers-as, delivers-after}
+
+-- what holds whatever the result is, and how the answer ends where one is told
+pub on-any : {A E : Type 0} (P : Type 0) (r : Result A E) → P → OnOk r P
+on-any P (Ok x) p = p
+on-any P (Err e) p = tt
+
+pub told-ending : {E : Type 0} (o : Option Ending) (e : Ending) (r : Result Ending E) → o ≡ Some e → IfOk r (λ told. told ≡ e) → IfOk r (λ told. o ≡ Some told)
+told-ending o e (Ok told) is same = is ∙ ap Some (sym same)
+told-ending o e (Err fault) is same = tt
+
+-- items that are one batch
+pub full_batches-one_batch : {T : Type 0} (n : ℕ) (xs : List T) → length xs ≡ n → 0 < n → full_batches (Some n) [] xs ≡ xs ∷ []
+full_batches-one_batch n xs same some = ap (full_batches (Some n) []) (sym (append-nil xs)) ∙ full_batches-filled n [] xs [] (omega (arith, same, some)) (omega (arith, same))
+
+pub held_back-one_batch : {T : Type 0} (n : ℕ) (xs : List T) → length xs ≡ n → 0 < n → held_back (Some n) [] xs ≡ []
+held_back-one_batch n xs same some = ap (held_back (Some n) []) (sym (append-nil xs)) ∙ held_back-filled n [] xs [] (omega (arith, same, some)) (omega (arith, same))
+
+module _ {K T : Type 0} (accepts : K → List T → K → Type 0) (refuses : K → List T → ℕ → K → Type 0) (size : Option ℕ) (ss : List (Stage T)) (s : K) where
+  -- these items were fed; of what came out, all but the last were given to the buffer, and their full batches sent
+  pub record HasSent (t : Trace T) (held made : List T) (ss' : List (Stage T)) (s' : K) (ending : Option Ending) : Type 0 where
+    pub out : List T
+    pub fed : IsFed ss t [] (out ++ made) ss' ending
+    pub keeps : held ≡ held_back size [] out
+    pub leads : Leads accepts s (full_batches size [] out) s'
+
+  pub sent-none : some_takes_none ss ≡ false → HasSent (open_trace []) [] [] ss s None
+  sent-none undecided = record { out = []; fed = fed-none ss [] undecided; keeps = refl; leads = refl }
+
+  -- one item more
+  pub sent-next : (ss' ss'' : List (Stage T)) (t : Trace T) (n : ℕ) (x : T) (held made made' : List T) (s' : K) (e : Option Ending) → IsNextItem t n x
+      → HasSent (first_items n t) held made ss' s' None → IsFed ss' (open_trace (x ∷ [])) made made' ss'' e → HasSent (first_items (n + 1) t) held made' ss'' s' e
+  sent-next ss' ss'' t n x held made made' s' e next before fed =
+      let more : List T = (seq ss' (open_trace (x ∷ []))).items in
+      let items : before.out ++ made' ≡ (before.out ++ made) ++ more = ap (λ ys. before.out ++ ys) fed.items ∙ sym (append_assoc before.out made more) in
+      let one : IsFed ss' (open_trace (x ∷ [])) (before.out ++ made) (before.out ++ made') ss'' e = record { items = items; told = fed.told; left = fed.left } in
+      record {
+        out = before.out;
+        fed = fed-next ss ss' ss'' t n x [] (before.out ++ made) (before.out ++ made') e next before.fed one;
+        keeps = before.keeps;
+        leads = before.leads;
+      }
+
+  -- the first of the items that waited were given to the buffer
+  pub sent-given : (t : Trace T) (held held' made given left : List T) (ss' : List (Stage T)) (s1 s2 : K) (e : Option Ending) → made ≡ given ++ left → held' ≡ held_back size held given
+      → Leads accepts s1 (full_batches size held given) s2 → HasSent t held made ss' s1 e → HasSent t held' left ss' s2 e
+  sent-given t held held' made given left ss' s1 s2 e parts keeps leads before =
+      let P : List T → Type 0 = λ xs. IsFed ss t [] xs ss' e in
+      let Q : List (List T) → Type 0 = λ bs. Leads accepts s bs s2 in
+      let batches : full_batches size [] (before.out ++ given) ≡ full_batches size [] before.out ++ full_batches size held given =
+      full_batches-append size [] before.out given ∙ ap (λ h. full_batches size [] before.out ++ full_batches size h given) (sym before.keeps) in
+      record {
+        out = before.out ++ given;
+        fed = subst P (ap (λ xs. before.out ++ xs) parts ∙ sym (append_assoc before.out given left)) before.fed;
+        keeps = keeps ∙ ap (λ h. held_back size h given) before.keeps ∙ sym (held_back-append size [] before.out given);
+        leads = subst Q (sym batches) (leads-append accepts s (full_batches size [] before.out) (full_batches size held given) s1 s2 before.leads leads);
+      }
+
+  -- all was fed, and the rest delivered or cut off
+  sent-rest : {A : Type 0} (t : Trace T) (held made : List T) (ss' : List (Stage T)) (s1 s2 : K) (e : Ending) (r : Result A DeliveryFault) → HasSent t held made ss' s1 (Some e)
+      → Delivers accepts refuses s1 (batches_from size held (ended made e)) r s2 → Delivers accepts refuses s (batches_from size [] (seq ss t)) r s2
+  sent-rest t held made ss' s1 s2 e r before rest =
+      let answer : ended (before.out ++ made) e ≡ seq ss t = answer-fed ss ss' t [] (before.out ++ made) e refl before.fed in
+      let all : batches_from size [] (seq ss t) ≡ full_batches size [] before.out ++ batches_from size held (ended made e) =
+      ap (batches_from size []) (sym answer) ∙ batches_from-followed size [] before.out (ended made e) ∙ ap (λ h. full_batches size [] before.out ++ batches_from size h (ended made e)) (sym before.keeps) in
+      delivers-as accepts refuses s (batches_from size [] (seq ss t)) (full_batches size [] before.out ++ batches_from size held (ended made e)) r s2 all
+      (delivers-after accepts refuses s (full_batches size [] before.out) (batches_from size held (ended made e)) s1 r s2 before.leads rest)
+
+  pub sent-decided : {A : Type 0} (ss' : List (Stage T)) (t : Trace T) (n : ℕ) (held made : List T) (s1 s2 : K) (e : Ending) (r : Result A DeliveryFault) → HasSent (first_items n t) held made ss' s1 (Some e)
+      → Delivers accepts refuses s1 (batches_from size held (ended made e)) r s2 → Delivers accepts refuses s (batches_from size [] (seq ss t)) r s2
+  sent-decided ss' t n held made s1 s2 e r all rest =
+      sent-rest t held made ss' s1 s2 e r (record { out = all.out; fed = fed-decided ss ss' ss' t n [] (all.out ++ made) e all.fed; keeps = all.keeps; leads = all.leads }) rest
+
+  pub sent-at_ending : {A : Type 0} (ss' : List (Stage T)) (t : Trace T) (n : ℕ) (held made : List T) (s1 s2 : K) (e : Ending) (r : Result A DeliveryFault) → IsAtEnding t n e
+      → HasSent (first_items n t) held made ss' s1 None → Delivers accepts refuses s1 (batches_from size held (ended made e)) r s2 → Delivers accepts refuses s (batches_from size [] (seq ss t)) r s2
+  sent-at_ending ss' t n held made s1 s2 e r at_ending all rest =
+      sent-rest t held made ss' s1 s2 e r (record { out = all.out; fed = fed-at_ending ss ss' ss' t n [] (all.out ++ made) e at_ending all.fed; keeps = all.keeps; leads = all.leads }) rest
+
+  -- how the answer ends
+  pub ending-decided : (ss' : List (Stage T)) (t : Trace T) (n : ℕ) (held made : List T) (s' : K) (e : Ending) → HasSent (first_items n t) held made ss' s' (Some e) → (seq ss t).ending ≡ Some e
+  ending-decided ss' t n held made s' e all = let fed = fed-decided ss ss' ss' t n [] (all.out ++ made) e all.fed in sym fed.told
+
+  pub ending-at_ending : (ss' : List (Stage T)) (t : Trace T) (n : ℕ) (held made : List T) (s' : K) (e : Ending) → IsAtEnding t n e → HasSent (first_items n t) held made ss' s' None → (seq ss t).ending ≡ Some e
+  ending-at_ending ss' t n held made s' e at_ending all = let fed = fed-at_ending ss ss' ss' t n [] (all.out ++ made) e at_ending all.fed in sym fed.told
+
+  -- what the answer goes on with after the first items
+  open-after : (ss' : List (Stage T)) (t : Trace T) (n : ℕ) (out : List T) → IsFed ss (first_items n t) [] out ss' None → (more : Trace T) × (seq ss t ≡ followed (open_trace out) more)
+  open-after ss' t n out fed =
+      let a : Trace T = first_items n t in
+      let b : Trace T = trace_of (drop n t.items) t.ending in
+      let whole : followed a b ≡ t = ap (λ xs. trace_of xs t.ending) (take-append-drop n t.items) in
+      let first : seq ss a ≡ open_trace out = ap (λ o. trace_of (seq ss a).items o) (sym fed.told) ∙ ap open_trace (sym fed.items) in
+      (seq (seq_after ss a) b, ap (seq ss) (sym whole) ∙ seq-followed ss a b ∙ ap (λ u. followed u (seq (seq_after ss a) b)) first)
+
+  -- a delivery that was cut off in the midst
+  pub sent-cut : (ss' : List (Stage T)) (t : Trace T) (n : ℕ) (held made given left : List T) (s1 s2 : K) (fault : DeliveryFault) → made ≡ given ++ left
+      → HasSent (first_items n t) held made ss' s1 None → IsCutOff accepts refuses s1 (full_batches size held given) fault s2
+      → IsCutOff accepts refuses s (batches_from size [] (seq ss t)) fault s2
+  sent-cut ss' t n held made given left s1 s2 fault parts before cut =
+      let more = open-after ss' t n (before.out ++ made) before.fed in
+      let rest : Trace T = followed (open_trace left) more.0 in
+      let answer : seq ss t ≡ followed (open_trace before.out) (followed (open_trace given) rest) =
+      more.1
+      ∙ ap (λ xs. followed (open_trace (before.out ++ xs)) more.0) parts
+      ∙ followed-followed (open_trace before.out) (open_trace (given ++ left)) more.0
+      ∙ ap (followed (open_trace before.out)) (followed-followed (open_trace given) (open_trace left) more.0) in
+      let later : List (List T) = batches_from size (held_back size held given) rest in
+      let all : batches_from size [] (seq ss t) ≡ full_batches size [] before.out ++ (full_batches size held given ++ later) =
+      ap (batches_from size []) answer
+      ∙ batches_from-followed size [] before.out (followed (open_trace given) rest)
+      ∙ ap (λ h. full_batches size [] before.out ++ batches_from size h (followed (open_trace given) rest)) (sym before.keeps)
+      ∙ ap (λ bs. full_batches size [] before.out ++ bs) (batches_from-followed size held given rest) in
+      let P : List (List T) → Type 0 = λ bs. IsCutOff accepts refuses s bs fault s2 in
+      subst P (sym all)
+      (cut-after accepts refuses s (full_batches size [] before.out) (full_batches size held given ++ later) fault s1 s2 before.leads
+      (cut-before accepts refuses s1 (full_batches size held given) later fault s2 cut))
+
+  -- memory ran out before an item came through
+  pub sent-stopped : (ss' : List (Stage T)) (t : Trace T) (n : ℕ) (held made : List T) (s' : K) → HasSent (first_items n t) held made ss' s' None
+      → IsCutOff accepts refuses s (batches_from size [] (seq ss t)) Memory s'
+  sent-stopped ss' t n held made s' before = sent-cut ss' t n held made [] made s' s' Memory refl before ([], [], refl, refl)
+
+  -- no item before it decided the answer
+  pub least-after : (ss' ss'' : List (Stage T)) (t : Trace T) (n : ℕ) (x : T) (held made made' : List T) (s' : K) (e : Ending) → IsNextItem t n x
+      → HasSent (first_items n t) held made ss' s' None → IsFed ss' (open_trace (x ∷ [])) made made' ss'' (Some e) → IsLeastDeciding ss t (n + 1)
+  least-after ss' ss'' t n x held made made' s' e next before fed =
+      least-decided ss ss' ss'' t n x [] (before.out ++ made) _ e next before.fed (sent-next ss' ss'' t n x held made made' s' (Some e) next before fed).fed
+
+  pub least-at : (ss' : List (Stage T)) (t : Trace T) (n : ℕ) (held made : List T) (s' : K) (e : Ending) → IsAtEnding t n e
+      → HasSent (first_items n t) held made ss' s' None → IsLeastDeciding ss t n
+  least-at ss' t n held made s' e at_ending all = least-at_ending ss ss' t n [] (all.out ++ made) e at_ending all.fed

@@ -1,0 +1,181 @@
+//! The delivery of a query's answer by one thread.
+ghost use Rattle.std.specs.Prelude.{◌≡◌, [], false, Some, IfOk, OnOk};
+ghost use Rattle.plinq_source.specs.Trace.{ended};
+ghost use Rattle.plinq_ops.specs.Batches.{batches, batches_from};
+ghost use Rattle.plinq_ops.specs.Operator.{stages_of};
+ghost use Rattle.plinq_ops.specs.Pipeline.{stages};
+ghost use Rattle.plinq_ops.specs.Query.{merge_in_force};
+ghost use Rattle.plinq_ops.specs.Sequential.{answer_of, IsLeastDeciding};
+ghost use Rattle.plinq_ops.specs.Stage.{some_takes_none, seq};
+ghost use Rattle.plinq_merge.specs.Buffer.{held_of, size_of, HasRoom};
+ghost use Rattle.plinq_merge.specs.Sending.{Delivers, IsFilled};
+ghost use Rattle.plinq_merge.specs.inner.Handing.{HandsOn};
+
+use crate::buffer::{Buffer, buffer_of};
+use crate::delivery_fault::DeliveryFault;
+use crate::sending::{deliver_full, deliver_last, send};
+use crate::sink::Sink;
+use plinq_lambda::Lambda;
+use plinq_ops::{Pipeline, Query};
+use plinq_source::{Ending, Source, Step};
+use std::alloc::Global;
+
+/// After so many items that fill no batch the sink is told that none is there.
+const QUIET_ITEMS: u64 = 65_536;
+
+/// Delivers a query's answer on one thread, and answers how it ends. A batch goes to the sink as soon as the item has come that
+/// fills it, so that no more items are held than a batch has, or one element's expansion; of FullyBuffered all are.
+///
+/// The source must have given nothing. It is asked for no element after the one that decides the answer.
+///
+/// # Errors
+///
+/// [`DeliveryFault::Memory`] where there is no room for what is left of the operators or for items, [`DeliveryFault::Sink`] where
+/// the sink refused a batch. What was delivered then are the first batches. The source may have given some of its elements.
+///
+/// ```text
+/// let ending = deliver_sequentially(alloc, &query, &mut source, &mut sink)?;
+/// ```
+pub fn deliver_sequentially<L, S, K>(
+    alloc: Global,
+    query: &Query<L>,
+    source: &mut S,
+    sink: &mut K,
+) -> Result<Ending, DeliveryFault>
+where
+    L: Lambda,
+    S: Source<Item = L::Item>,
+    K: Sink<Item = L::Item>,
+    requires { S.given source.old ≡ 0 }
+    ensures same { S.whole source.new ≡ S.whole source.old }
+    ensures ending { IfOk result (λ e. (answer_of L.meaning query.now.ops (S.whole source.old)).ending ≡ Some e) }
+    ensures delivered { Delivers K.accepts K.refuses sink.old
+        (batches (merge_in_force query.now.merge) (answer_of L.meaning query.now.ops (S.whole source.old))) result sink.new }
+    ensures least { OnOk result (IsLeastDeciding
+        (stages_of L.meaning query.now.ops) (S.whole source.old) (S.given source.new)) }
+{
+    if query.split().decided {
+        return Ok(Ending::End);
+    }
+    let mut pipeline = Pipeline::new(alloc, query.ops())?;
+    let mut buffer = buffer_of(alloc, query.merge_option())?;
+    deliver_all(alloc, &mut pipeline, &mut buffer, source, sink)
+}
+
+/// Sends the items of a source through a pipeline, up to the one that ends the run, and delivers what comes out.
+fn deliver_all<L, S, K>(
+    alloc: Global,
+    pipeline: &mut Pipeline<'_, L>,
+    buffer: &mut Buffer<L::Item>,
+    source: &mut S,
+    sink: &mut K,
+) -> Result<Ending, DeliveryFault>
+where
+    L: Lambda,
+    S: Source<Item = L::Item>,
+    K: Sink<Item = L::Item>,
+    requires undecided { some_takes_none (stages L.meaning pipeline.old) ≡ false }
+    requires fresh { S.given source.old ≡ 0 }
+    requires empty { held_of buffer.old ≡ [] }
+    requires room { HasRoom buffer.old }
+    ensures same { S.whole source.new ≡ S.whole source.old }
+    ensures ending { IfOk result (λ e. (seq (stages L.meaning pipeline.old) (S.whole source.old)).ending ≡ Some e) }
+    ensures delivered { Delivers K.accepts K.refuses sink.old
+        (batches_from (size_of buffer.old) [] (seq (stages L.meaning pipeline.old) (S.whole source.old))) result sink.new }
+    ensures least { OnOk result (IsLeastDeciding
+        (stages L.meaning pipeline.old) (S.whole source.old) (S.given source.new)) }
+{
+    let mut made = Vec::new(alloc);
+    let mut wanted = buffer.missing();
+    let mut quiet = 0;
+    loop {
+        match source.next() {
+            Step::Item(item) => {
+                if let Some(ending) = pipeline.feed(alloc, item, &mut made)? {
+                    return deliver_rest(buffer, &made, ending, sink);
+                }
+                deliver_ready(buffer, &mut made, &mut wanted, &mut quiet, sink)?;
+            }
+            Step::End => return deliver_rest(buffer, &made, Ending::End, sink),
+            Step::Refused(code) => return deliver_rest(buffer, &made, Ending::Refused(code), sink),
+        }
+    }
+}
+
+/// Delivers the batches that these items fill once there are as many as wanted, which is when they fill one, and until then nothing.
+#[inline(always)]
+fn deliver_ready<K: Sink>(
+    buffer: &mut Buffer<K::Item>,
+    made: &mut Vec<K::Item>,
+    wanted: &mut usize,
+    quiet: &mut u64,
+    sink: &mut K,
+) -> Result<(), DeliveryFault>
+where
+    K::Item: Copy,
+    requires { HasRoom buffer.old }
+    ensures room { OnOk result (HasRoom buffer.new) }
+    ensures size { size_of buffer.new ≡ size_of buffer.old }
+    ensures handed { HandsOn K.accepts K.refuses (size_of buffer.old) (held_of buffer.old) made.old.items sink.old result (held_of buffer.new) made.new.items sink.new }
+{
+    if made.len() < *wanted {
+        report_quiet(quiet, sink);
+        return Ok(());
+    }
+    *quiet = 0;
+    deliver_made(buffer, made.as_slice(), sink)?;
+    made.clear();
+    *wanted = buffer.missing();
+    Ok(())
+}
+
+/// Delivers the batches that these items fill. Where they are just one, it goes to the sink as it is.
+#[inline(always)]
+fn deliver_made<K: Sink>(
+    buffer: &mut Buffer<K::Item>,
+    made: &[K::Item],
+    sink: &mut K,
+) -> Result<(), DeliveryFault>
+where
+    K::Item: Copy,
+    requires { HasRoom buffer.old }
+    ensures room { OnOk result (HasRoom buffer.new) }
+    ensures size { size_of buffer.new ≡ size_of buffer.old }
+    ensures filled { IsFilled K.accepts K.refuses (size_of buffer.old) (held_of buffer.old) made.now sink.old result (held_of buffer.new) sink.new }
+{
+    if buffer.is_filled_by(made.len()) {
+        return send(made, sink);
+    }
+    deliver_full(buffer, made, sink)
+}
+
+/// Counts an item that fills no batch, and after many tells the sink.
+#[inline(always)]
+fn report_quiet<K: Sink>(quiet: &mut u64, sink: &mut K)
+    ensures { sink.new ≡ sink.old }
+{
+    *quiet = quiet.wrapping_add(1);
+    if *quiet == QUIET_ITEMS {
+        *quiet = 0;
+        sink.idle();
+    }
+}
+
+/// Delivers what the last items fill and leave, and answers the ending.
+fn deliver_rest<K: Sink>(
+    buffer: &mut Buffer<K::Item>,
+    made: &Vec<K::Item>,
+    ending: Ending,
+    sink: &mut K,
+) -> Result<Ending, DeliveryFault>
+where
+    K::Item: Copy,
+    requires { HasRoom buffer.old }
+    ensures told { IfOk result (λ e. e ≡ ending) }
+    ensures delivered { Delivers K.accepts K.refuses sink.old
+        (batches_from (size_of buffer.old) (held_of buffer.old) (ended made.now.items ending)) result sink.new }
+{
+    deliver_full(buffer, made.as_slice(), sink)?;
+    deliver_last(buffer, Some(ending), sink)?;
+    Ok(ending)
+}
