@@ -4,7 +4,9 @@ use plinq_lambda::Formula;
 use plinq_ops::{BuildFault, Query};
 use plinq_slice::{SliceSource, lines_source};
 use std::alloc::Global;
+use std::sync::Wait;
 use std::test::Fail;
+use std::thread::Threads;
 
 const NUMBERS: [i64; 3] = [4, 5, 6];
 
@@ -58,14 +60,22 @@ fn whether_all_are_below_six(rt: HostRuntime) -> Result<(), Fail> {
     Ok(())
 }
 
+fn has<R: Threads + Wait + Sync>(rt: &R, alloc: Global, item: i64) -> Result<bool, Fail> {
+    let query = even(alloc)?;
+    Ok(contains(rt, alloc, query, SliceSource::new(&NUMBERS)?, item)?)
+}
+
+fn has_by_one<R: Threads + Wait + Sync>(rt: &R, alloc: Global, item: i64) -> Result<bool, Fail> {
+    let query = even(alloc)?;
+    Ok(sequentially::contains(rt, alloc, query, SliceSource::new(&NUMBERS)?, item)?)
+}
+
 #[test]
-fn whether_one_is_four_or_five(rt: HostRuntime) -> Result<(), Fail> {
-    let (query, source) = (even(rt.alloc())?, SliceSource::new(&NUMBERS)?);
-    assert!(&rt; contains(&rt, rt.alloc(), query, source, 4)?);
-    let (query, source) = (even(rt.alloc())?, SliceSource::new(&NUMBERS)?);
-    assert!(&rt; !contains(&rt, rt.alloc(), query, source, 5)?);
-    let (query, source) = (even(rt.alloc())?, SliceSource::new(&NUMBERS)?);
-    assert!(&rt; sequentially::contains(&rt, rt.alloc(), query, source, 6)?);
+fn whether_an_item_is_among_them(rt: HostRuntime) -> Result<(), Fail> {
+    for (item, is_there) in [(4, true), (5, false), (6, true)] {
+        assert_eq!(&rt; has(&rt, rt.alloc(), item)?, is_there);
+        assert_eq!(&rt; has_by_one(&rt, rt.alloc(), item)?, is_there);
+    }
     Ok(())
 }
 
@@ -76,6 +86,14 @@ fn whether_a_text_has_a_line(rt: HostRuntime) -> Result<(), Fail> {
         let query = build::<Same<&str>, _>(rt.alloc(), |query| query.with_degree(2))?;
         let source = lines_source(rt.alloc(), text)?;
         assert_eq!(&rt; contains(&rt, rt.alloc(), query, source, line)?, is_there);
+    }
+    Ok(())
+}
+
+#[test]
+fn whether_a_text_has_a_line_by_one_thread(rt: HostRuntime) -> Result<(), Fail> {
+    let text = "a b\nb\n";
+    for (line, is_there) in [("b", true), ("a", false)] {
         let query = build::<Same<&str>, _>(rt.alloc(), |query| query.as_ordered())?;
         let source = lines_source(rt.alloc(), text)?;
         assert_eq!(&rt;

@@ -1,14 +1,107 @@
 //! What each call of a chain answers of seven numbers.
+//!
+//! The calls stand in functions over any steps: there what a call needs of the closures is given, and not proved at each.
 ghost use Rattle.std.specs.Prelude.{◌≡◌, pos, int_lt, nat_lt, length, Ok};
 
-use plinq_closures::{Chain, ChainFault};
+use plinq_closures::{Chain, ChainFault, Sequentially, Steps};
 use plinq_ops::BuildFault;
 use plinq_run::RunFault;
 use plinq_slice::{SliceSource, lines_source};
 use plinq_source::Ending;
+use std::alloc::Global;
+use std::sync::Wait;
 use std::test::Fail;
+use std::thread::Threads;
 
 const NUMBERS: [i64; 7] = [1, 4, 2, 8, 5, 7, 3];
+
+fn listed<S: Steps<Item = i64> + Sync, R: Threads + Wait + Sync>(
+    rt: &R,
+    alloc: Global,
+    chain: &Chain<S>,
+) -> Result<(Vec<i64>, Ending), Fail>
+    requires is_called { S.is_called chain.now.steps }
+    requires in_one_way { S.in_one_way chain.now.steps }
+    requires gives { S.gives chain.now.steps }
+    requires gives_one { S.gives_one chain.now.steps }
+{
+    Ok(chain.to_vec(rt, alloc, 4, SliceSource::new(&NUMBERS)?)?)
+}
+
+/// The first, the one at this place, whether there is any, and how many there are.
+fn told<S: Steps<Item = i64> + Sync, R: Threads + Wait + Sync>(
+    rt: &R,
+    alloc: Global,
+    chain: &Chain<S>,
+    place: u32,
+) -> Result<(Option<i64>, Option<i64>, bool, u64), Fail>
+    requires is_called { S.is_called chain.now.steps }
+    requires in_one_way { S.in_one_way chain.now.steps }
+    requires gives { S.gives chain.now.steps }
+    requires gives_one { S.gives_one chain.now.steps }
+{
+    let first = chain.first(rt, alloc, 4, SliceSource::new(&NUMBERS)?)?;
+    let at_place = chain.element_at(rt, alloc, 4, SliceSource::new(&NUMBERS)?, place)?;
+    let is_any = chain.any(rt, alloc, 4, SliceSource::new(&NUMBERS)?)?;
+    let count = chain.count(rt, alloc, 4, SliceSource::new(&NUMBERS)?)?;
+    Ok((first, at_place, is_any, count))
+}
+
+fn listed_by_one<S: Steps<Item = i64> + Sync, R: Threads + Wait + Sync>(
+    rt: &R,
+    alloc: Global,
+    chain: &Sequentially<'_, S>,
+) -> Result<(Vec<i64>, Ending), Fail>
+    requires is_called { S.is_called chain.now.steps.now }
+    requires in_one_way { S.in_one_way chain.now.steps.now }
+    requires gives { S.gives chain.now.steps.now }
+    requires gives_one { S.gives_one chain.now.steps.now }
+{
+    Ok(chain.to_vec(rt, alloc, 4, SliceSource::new(&NUMBERS)?)?)
+}
+
+fn told_by_one<S: Steps<Item = i64> + Sync, R: Threads + Wait + Sync>(
+    rt: &R,
+    alloc: Global,
+    chain: &Sequentially<'_, S>,
+    place: u32,
+) -> Result<(Option<i64>, Option<i64>, bool, u64), Fail>
+    requires is_called { S.is_called chain.now.steps.now }
+    requires in_one_way { S.in_one_way chain.now.steps.now }
+    requires gives { S.gives chain.now.steps.now }
+    requires gives_one { S.gives_one chain.now.steps.now }
+{
+    let first = chain.first(rt, alloc, 4, SliceSource::new(&NUMBERS)?)?;
+    let at_place = chain.element_at(rt, alloc, 4, SliceSource::new(&NUMBERS)?, place)?;
+    let is_any = chain.any(rt, alloc, 4, SliceSource::new(&NUMBERS)?)?;
+    let count = chain.count(rt, alloc, 4, SliceSource::new(&NUMBERS)?)?;
+    Ok((first, at_place, is_any, count))
+}
+
+/// Whether this is among them, and whether all are below it.
+fn looked_for<S: Steps<Item = i64> + Sync, R: Threads + Wait + Sync>(
+    rt: &R,
+    alloc: Global,
+    chain: &Chain<S>,
+    item: i64,
+) -> Result<(bool, bool), Fail>
+    requires is_called { S.is_called chain.now.steps }
+    requires in_one_way { S.in_one_way chain.now.steps }
+    requires gives { S.gives chain.now.steps }
+    requires gives_one { S.gives_one chain.now.steps }
+{
+    let is_there = chain.contains(rt, alloc, 4, SliceSource::new(&NUMBERS)?, item)?;
+    let are_below = chain.all(
+        rt,
+        alloc,
+        4,
+        SliceSource::new(&NUMBERS)?,
+        move |x: i64| -> Result<bool, u32>
+            ensures { result ≡ Ok (int_lt x item) }
+        { Ok(x < item) },
+    )?;
+    Ok((is_there, are_below))
+}
 
 #[test]
 fn counts_and_tests_in_their_order(rt: HostRuntime) -> Result<(), Fail> {
@@ -20,21 +113,25 @@ fn counts_and_tests_in_their_order(rt: HostRuntime) -> Result<(), Fail> {
             { Ok(x > 2) },
         )
         .take(3);
-    let source = SliceSource::new(&NUMBERS)?;
-    let (items, ending) = chain.to_vec(&rt, rt.alloc(), 4, source)?;
-    assert!(&rt; items.as_slice() == [4, 8, 5].as_slice() && ending == Ending::End);
-    let source = SliceSource::new(&NUMBERS)?;
-    assert_eq!(&rt; chain.first(&rt, rt.alloc(), 4, source)?, Some(4));
-    let source = SliceSource::new(&NUMBERS)?;
-    assert!(&rt; chain.any(&rt, rt.alloc(), 4, source)?);
-    let source = SliceSource::new(&NUMBERS)?;
-    assert_eq!(&rt; chain.count(&rt, rt.alloc(), 4, source)?, 3);
-    let source = SliceSource::new(&NUMBERS)?;
-    let refused = chain.count(&rt, rt.alloc(), 65, source);
-    assert_eq!(&rt;
-        refused,
-        Err(ChainFault::Build(BuildFault::DegreeOutOfRange))
+    assert!(&rt; told(&rt, rt.alloc(), &chain, 2)? == (Some(4), Some(5), true, 3));
+    assert!(&rt;
+        told_by_one(&rt, rt.alloc(), &chain.sequentially(), 3)? == (Some(4), None, true, 3)
     );
+    let (items, ending) = listed(&rt, rt.alloc(), &chain)?;
+    assert!(&rt; items.as_slice() == [4, 8, 5].as_slice() && ending == Ending::End);
+    Ok(())
+}
+
+#[test]
+fn no_workers_or_too_many_are_refused(rt: HostRuntime) -> Result<(), Fail> {
+    let chain = Chain::new();
+    for workers in [0, 65] {
+        let refused = chain.count(&rt, rt.alloc(), workers, SliceSource::new(&NUMBERS)?);
+        assert_eq!(&rt;
+            refused,
+            Err(ChainFault::Build(BuildFault::DegreeOutOfRange))
+        );
+    }
     Ok(())
 }
 
@@ -56,8 +153,7 @@ fn tests_from_the_front_and_a_map(rt: HostRuntime) -> Result<(), Fail> {
                 ensures { result ≡ Ok x }
             { Ok(x) },
         );
-    let source = SliceSource::new(&NUMBERS)?;
-    let (items, ending) = chain.to_vec(&rt, rt.alloc(), 2, source)?;
+    let (items, ending) = listed(&rt, rt.alloc(), &chain)?;
     assert!(&rt; items.as_slice() == [8, 5, 7].as_slice() && ending == Ending::End);
     Ok(())
 }
@@ -69,26 +165,8 @@ fn looks_for_items(rt: HostRuntime) -> Result<(), Fail> {
             ensures { result ≡ Ok (int_lt (pos 2) x) }
         { Ok(x > 2) },
     );
-    let source = SliceSource::new(&NUMBERS)?;
-    assert_eq!(&rt; chain.element_at(&rt, rt.alloc(), 4, source, 2)?, Some(5));
-    let source = SliceSource::new(&NUMBERS)?;
-    assert_eq!(&rt; chain.element_at(&rt, rt.alloc(), 4, source, 5)?, None);
-    for (item, is_there) in [(7, true), (2, false)] {
-        let source = SliceSource::new(&NUMBERS)?;
-        assert_eq!(&rt; chain.contains(&rt, rt.alloc(), 4, source, item)?, is_there);
-    }
-    for (bound, are_below) in [(9, true), (8, false)] {
-        let source = SliceSource::new(&NUMBERS)?;
-        let found = chain.all(
-            &rt,
-            rt.alloc(),
-            4,
-            source,
-            move |x: i64| -> Result<bool, u32>
-                ensures { result ≡ Ok (int_lt x bound) }
-            { Ok(x < bound) },
-        )?;
-        assert_eq!(&rt; found, are_below);
+    for (item, is_there, are_below) in [(2, false, false), (8, true, false), (9, false, true)] {
+        assert!(&rt; looked_for(&rt, rt.alloc(), &chain, item)? == (is_there, are_below));
     }
     Ok(())
 }
@@ -129,22 +207,11 @@ fn one_thread_answers_as_workers_do(rt: HostRuntime) -> Result<(), Fail> {
         )
         .take(2);
     let text = "one\n\ntwo\nthree";
-    let by_workers = chain.to_vec(&rt, rt.alloc(), 4, lines_source(rt.alloc(), text)?)?;
-    let by_one = chain.sequentially();
-    let items = by_one.to_vec(&rt, rt.alloc(), 4, lines_source(rt.alloc(), text)?)?;
-    assert!(&rt; items == by_workers && items.0.as_slice() == ["one", "two"].as_slice());
-    let source = lines_source(rt.alloc(), text)?;
-    assert_eq!(&rt; by_one.first(&rt, rt.alloc(), 4, source)?, Some("one"));
-    let source = lines_source(rt.alloc(), text)?;
-    assert_eq!(&rt;
-        by_one.element_at(&rt, rt.alloc(), 4, source, 1)?,
-        Some("two")
-    );
-    let source = lines_source(rt.alloc(), text)?;
-    assert!(&rt; by_one.any(&rt, rt.alloc(), 4, source)?);
-    let source = lines_source(rt.alloc(), text)?;
-    assert_eq!(&rt; by_one.count(&rt, rt.alloc(), 4, source)?, 2);
     let source = lines_source(rt.alloc(), text)?;
     assert!(&rt; chain.contains(&rt, rt.alloc(), 4, source, "two")?);
+    let by_workers = chain.to_vec(&rt, rt.alloc(), 4, lines_source(rt.alloc(), text)?)?;
+    let source = lines_source(rt.alloc(), text)?;
+    let items = chain.sequentially().to_vec(&rt, rt.alloc(), 4, source)?;
+    assert!(&rt; items == by_workers && items.0.as_slice() == ["one", "two"].as_slice());
     Ok(())
 }

@@ -7,8 +7,10 @@ use plinq_lambda::Formula;
 use plinq_ops::{BuildFault, Query};
 use plinq_source::{RangeSource, Source, SourceFault, Step};
 use std::alloc::Global;
+use std::sync::Wait;
 use std::sync::atomic::{AtomicU64, Ordering};
 use std::test::Fail;
+use std::thread::Threads;
 
 /// How far workers may be ahead of what is merged, with the default growth and six workers at work, and a chunk of each.
 const MOST: u64 = 6 * 65 * 512;
@@ -55,49 +57,63 @@ fn from_zero(left: &AtomicU64) -> Result<Counted<'_>, SourceFault>
     })
 }
 
+fn first_above<R: Threads + Wait + Sync>(
+    rt: &R,
+    alloc: Global,
+    workers: u64,
+    left: &AtomicU64,
+) -> Result<Option<i64>, Fail> {
+    let asked = build(
+        alloc,
+        |query| query
+            .as_ordered()?
+            .with_degree(workers)?
+            .filter(Formula::Above(99)),
+    )?;
+    Ok(first(rt, alloc, asked, from_zero(left)?)?)
+}
+
+fn any_above<R: Threads + Wait + Sync>(
+    rt: &R,
+    alloc: Global,
+    workers: u64,
+    left: &AtomicU64,
+) -> Result<bool, Fail> {
+    let asked = query(alloc, workers)?;
+    Ok(any(rt, alloc, asked, from_zero(left)?, Formula::Above(99))?)
+}
+
+fn all_below<R: Threads + Wait + Sync>(
+    rt: &R,
+    alloc: Global,
+    workers: u64,
+    left: &AtomicU64,
+) -> Result<bool, Fail> {
+    let asked = query(alloc, workers)?;
+    Ok(all(rt, alloc, asked, from_zero(left)?, Formula::Below(100))?)
+}
+
+fn at_hundred<R: Threads + Wait + Sync>(
+    rt: &R,
+    alloc: Global,
+    workers: u64,
+    left: &AtomicU64,
+) -> Result<Option<i64>, Fail> {
+    let asked = query(alloc, workers)?;
+    Ok(element_at(rt, alloc, asked, from_zero(left)?, 100)?)
+}
+
 #[test]
 fn a_source_is_left_once_the_answer_is_known(rt: HostRuntime) -> Result<(), Fail> {
     let left = AtomicU64::new(0);
     for workers in [1, 4] {
-        let asked = build(
-            rt.alloc(),
-            |query| query
-                .as_ordered()?
-                .with_degree(workers)?
-                .filter(Formula::Above(99)),
-        )?;
-        assert_eq!(rt;
-            first(&rt, rt.alloc(), asked, from_zero(&left)?)?,
-            Some(100)
-        );
+        assert_eq!(rt; first_above(&rt, rt.alloc(), workers, &left)?, Some(100));
         assert!(rt; left.load(Ordering::SeqCst) <= MOST);
-        let asked = query(rt.alloc(), workers)?;
-        assert!(rt;
-            any(
-                &rt,
-                rt.alloc(),
-                asked,
-                from_zero(&left)?,
-                Formula::Above(99)
-            )?
-        );
+        assert!(rt; any_above(&rt, rt.alloc(), workers, &left)?);
         assert!(rt; left.load(Ordering::SeqCst) <= MOST);
-        let asked = query(rt.alloc(), workers)?;
-        assert!(rt;
-            !all(
-                &rt,
-                rt.alloc(),
-                asked,
-                from_zero(&left)?,
-                Formula::Below(100)
-            )?
-        );
+        assert!(rt; !all_below(&rt, rt.alloc(), workers, &left)?);
         assert!(rt; left.load(Ordering::SeqCst) <= MOST);
-        let asked = query(rt.alloc(), workers)?;
-        assert_eq!(rt;
-            element_at(&rt, rt.alloc(), asked, from_zero(&left)?, 100)?,
-            Some(100)
-        );
+        assert_eq!(rt; at_hundred(&rt, rt.alloc(), workers, &left)?, Some(100));
         assert!(rt; left.load(Ordering::SeqCst) <= MOST);
     }
     Ok(())
