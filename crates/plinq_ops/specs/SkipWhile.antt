@@ -5,7 +5,7 @@ use Rattle.plinq_source.specs.declared.ending.Ending.TheVariants.{End, Refused, 
 use Rattle.plinq_source.specs.Trace.{Trace, open_trace, ended}
 
 -- by what the test says of the first of xs: where it passes, the answer is `rest`, that of those after it; where it fails, it is
--- xs, and none of them is tested; a fault ends what the operator gives
+-- xs, and none after the first is tested; a fault ends what the operator gives
 abbrev pub skipped_from : {T : Type 0} → Result Bool ℕ → List T → Option Ending → Trace T → Trace T
 skipped_from (Ok true) xs e rest = rest
 skipped_from (Ok false) xs e rest = record { items = xs; ending = e }

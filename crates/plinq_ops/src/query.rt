@@ -66,7 +66,7 @@ impl<L: Drop> Query<L> {
         Ok(self)
     }
 
-    /// The order isn't kept from here on (.NET's `ParallelEnumerable.AsUnordered`).
+    /// From here on the order need not be kept (.NET's `ParallelEnumerable.AsUnordered`).
     ///
     /// # Errors
     ///
