@@ -103,6 +103,21 @@ def sums(place, tests):
     ends("a test that tests nothing", "7 passed, 1 failed", one=PASSES, two="print('0 passed, 0 failed')")
 
 
+def jobs(place, tests):
+    """Each proof of rt ci has one job, where memory allows that as many are proved at a time as there are processors."""
+    place.tell("echo \"$RT_JOBS\" >jobs; " + COUNTED, one=PASSES)
+    for processors, gigabytes, given, wanted in ((4, 20, "", "4"), (4, 19, "", ""), (1, 5, "", "1"), (64, 400, "", "64"), (4, 400, "2", "2")):
+        place.write("bin/nproc", f"#!/bin/sh\necho {processors}\n", 0o755)
+        place.write("bin/grep", f"#!/bin/sh\necho 'MemAvailable: {gigabytes}000000 kB'\n", 0o755)
+        ran = subprocess.run(["./test"], cwd=place.top, env=place.env() | {"RT_JOBS": given}, stdin=subprocess.DEVNULL, capture_output=True, text=True, timeout=HANGS)
+        with open(f"{place.top}/jobs", encoding="utf-8") as file:
+            said = file.read().strip()
+        is_so = (ran.returncode, said) == (0, wanted)
+        tests.check(f"with {processors} processors, {gigabytes} GB and RT_JOBS={given} that is {wanted or 'left to rt'}", is_so, (ran, said))
+    for name in ("nproc", "grep"):
+        os.remove(f"{place.top}/bin/{name}")
+
+
 def streams(place, tests):
     place.tell(COUNTED, one="import sys; assert sys.stdin.read() == ''\n" + PASSES)
     env = os.environ | {"PATH": f"{place.top}/bin:{os.environ['PATH']}"}
@@ -152,7 +167,7 @@ def no_rt(place, tests):
     os.rename(f"{place.top}/bin/rt", f"{place.top}/bin/hidden")
     tools = f"{place.top}/tools-alone"
     os.mkdir(tools)
-    for name in "bash readlink dirname rm find sort xargs sha256sum cut flock sed".split():
+    for name in "bash readlink dirname rm find sort xargs sha256sum cut flock sed nproc grep".split():
         os.symlink(shutil.which(name), f"{tools}/{name}")
     ran = subprocess.run(["./test"], cwd=place.top, env={"PATH": tools}, capture_output=True, text=True, timeout=HANGS)
     lines = ran.stdout.splitlines()
@@ -218,6 +233,7 @@ def main():
     with tempfile.TemporaryDirectory() as folder:
         place = Place(folder)
         sums(place, tests)
+        jobs(place, tests)
         streams(place, tests)
         freshness(place, tests)
         no_rt(place, tests)
