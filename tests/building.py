@@ -310,7 +310,7 @@ def side_by_side(place, tests):
         place.let_go("low")
         place.wait_for("at-work-mid")
         calls = place.new_calls()
-        tests.check("what uses another is begun once that one is here", calls == ["low lib --jobs 4", *in_rooms("mid")], calls)
+        tests.check("what uses another is begun once that one is here", calls == ["low lib --jobs 4", in_rooms("side", "mid")[1]], calls)
         rooms = [os.path.dirname(at) for at, _, names in os.walk(place.temporary) if "main.rt" in names and at.endswith("plinq/src")]
         low = [f"{it}/../low/out/rlib/stamp" for it in rooms]
         is_so = [os.path.exists(it) and os.path.samefile(it, f"{place.top}/crates/low/out/rlib/stamp") for it in low]
@@ -346,8 +346,9 @@ def side_by_side(place, tests):
     tests.check("and where an rt ci is at work", calls == ALL_CALLS, calls)
 
 
-def in_rooms(*names):
-    return [f"{it} lib --jobs 2 in a room" for it in names]
+def in_rooms(*names, jobs=4):
+    """The first, which others wait for longest, has as many jobs as one alone, and what is beside it has one."""
+    return [f"{it} lib --jobs {jobs if at == 0 else 1} in a room" for at, it in enumerate(names)]
 
 
 def few_and_many(place, tests):
@@ -356,15 +357,20 @@ def few_and_many(place, tests):
         place.forget()
         place.has(processors=processors, memory=memory)
         status, _, errors, calls = place.run("--build")
-        is_so = status == 0 and (set(in_rooms("low", "side")) < set(calls) if jobs else calls == ALL_CALLS)
-        tests.check(f"with {processors} processors and {memory} GB {'two have two jobs each' if jobs else 'each is proved here'}", is_so, (calls, errors))
+        is_so = status == 0 and (set(in_rooms("low", "side", jobs=jobs)) < set(calls) if jobs else calls == ALL_CALLS)
+        said = f"the first has {jobs} jobs, and what is beside it one" if jobs else "each is proved here"
+        tests.check(f"with {processors} processors and {memory} GB {said}", is_so, (calls, errors))
         is_so = f"mid lib --jobs {jobs}" in calls or not jobs
         tests.check(f"with {processors} processors and {memory} GB one alone has {jobs or 'as many as rt gives it'}", is_so, calls)
     place.new_calls()
     for name in ("third", "fourth"):
         place.write(f"crates/{name}/src/lib.rt", f"{name}\n")
     place.write("crates.txt", f"fourth:\nthird:\n{CRATES}".replace("mid side", "fourth third mid side"))
-    for memory, seconds, wanted in ((10, "", ("low", "fourth")), (64, "", ("low", "fourth", "third")), (64, "# some\nside 200\nthird 61\n", ("side", "low", "third"))):
+    for memory, jobs, seconds, wanted in (
+        (10, 3, "", ("low", "fourth")),
+        (64, 4, "", ("low", "fourth", "third")),
+        (64, 4, "# some\nside 200\nthird 61\n", ("side", "low", "third")),
+    ):
         place.forget()
         place.has(memory=memory)
         place.write("tools/seconds", seconds)
@@ -373,7 +379,8 @@ def few_and_many(place, tests):
             place.wait_for(*(f"at-work-{it}" for it in wanted))
             time.sleep(0.5)
             calls = sorted(place.new_calls())
-            tests.check(f"{len(wanted)} are proved at a time, first what takes longest with others above it", calls == sorted(in_rooms(*wanted)), calls)
+            is_so = calls == sorted(in_rooms(*wanted, jobs=jobs))
+            tests.check(f"{len(wanted)} are proved at a time, first what takes longest with others above it", is_so, calls)
         started.communicate(timeout=HANGS)
         tests.check("and then the others", started.returncode == 0 and ALL_CALLS[-1] in place.new_calls())
     os.remove(f"{place.top}/tools/seconds")
