@@ -1,42 +1,62 @@
 //! Partitions on one thread: one beside another, one that is missing, lists that are given back, another type.
 ghost use Rattle.plinq_partition.specs.Partitions.{IsPartitionOf};
 
-use crate::expecting::{
-    expect, expect_records, expect_taken, expect_tried, expect_whole, give_back, range_of,
-};
-use plinq_enumerator::{Growth, replays};
+use crate::expecting::{Call, gives, have_all, is_chunk, range_of};
+use plinq_enumerator::Growth;
 use plinq_keyed::{Guarded, Tail};
 use plinq_partition::{Chunked, Partition, TakeFault};
-use plinq_source::{Ending, ListSource, RangeSource};
-use std::test::Fail;
+use plinq_source::{ListSource, RangeSource};
+use std::alloc::Global;
+use std::sync::Wait;
 
-#[test]
-fn two_partitions_take_in_turn(rt: HostRuntime) -> Result<(), Fail> {
-    let (chunked, mut first) = range_of(&rt, rt.alloc(), 3, Growth::DEFAULT);
+fn take_in_turn<R: Wait>(rt: &R, alloc: Global) -> bool {
+    let Some((chunked, mut first)) = range_of(alloc, 0, 3, Growth::DEFAULT) else {
+        return false;
+    };
     let mut second = chunked.dynamic(&mut first);
-    expect_taken(&rt, &chunked, &mut first, 0, &[0], None);
-    expect_tried(&rt, &chunked, &mut second, 1, &[1], None);
-    let partitions = vec![in rt.alloc(); first, second]?;
-    expect_whole(&rt, chunked, partitions, 2, 3);
-    Ok(())
+    let one = gives(rt, &chunked, &mut first, Call::Take(0, &[0], None));
+    let two = gives(rt, &chunked, &mut second, Call::Try(1, &[1], None));
+    let mut partitions = Vec::new(alloc);
+    if partitions.push(first).is_err() || partitions.push(second).is_err() {
+        return false;
+    }
+    one && two && have_all(chunked, partitions, 2, 1)
 }
 
 #[test]
-fn the_second_of_two_is_dropped(rt: HostRuntime) -> Result<(), Fail> {
-    let (chunked, mut first) = range_of(&rt, rt.alloc(), 4, Growth::DEFAULT);
+fn two_partitions_take_in_turn(rt: HostRuntime) {
+    assert!(rt; take_in_turn(&rt, rt.alloc()));
+}
+
+// What is reported where the second of two partitions, which each took once, isn't given back. The two records come with it.
+fn told_without_the_second<R: Wait>(rt: &R, alloc: Global) -> Option<TakeFault> {
+    let (chunked, mut first) = range_of(alloc, 0, 4, Growth::DEFAULT)?;
     let mut second = chunked.dynamic(&mut first);
-    expect_taken(&rt, &chunked, &mut first, 0, &[0], None);
-    expect_taken(&rt, &chunked, &mut second, 1, &[1], None);
+    let one = gives(rt, &chunked, &mut first, Call::Take(0, &[0], None));
+    let two = gives(rt, &chunked, &mut second, Call::Take(1, &[1], None));
     drop(second);
-    let Err((enumerator, fault)) = chunked.give_back(vec![in rt.alloc(); first]?) else {
-        panic!(rt; "whole without one of two");
+    let mut partitions = Vec::new(alloc);
+    if partitions.push(first).is_err() {
+        return None;
+    }
+    let Err((enumerator, fault)) = chunked.give_back(partitions) else {
+        return None;
     };
-    assert!(rt; fault == TakeFault::Incomplete { have: 1, all: 2 });
-    let Some(enumerator) = enumerator else {
-        panic!(rt; "away");
+    let records = match enumerator {
+        Some(enumerator) => enumerator.records().len(),
+        None => 0,
     };
-    expect_records(&rt, enumerator.records(), 2, 4);
-    Ok(())
+    if one && two && records == 2 {
+        Some(fault)
+    } else {
+        None
+    }
+}
+
+#[test]
+fn the_second_of_two_is_dropped(rt: HostRuntime) {
+    let told = told_without_the_second(&rt, rt.alloc());
+    assert!(rt; matches!(told, Some(TakeFault::Incomplete { have: 1, all: 2 })));
 }
 
 // Lends a list to a partition's next chunk.
@@ -47,44 +67,109 @@ fn lend(chunked: &Chunked<RangeSource>, partition: &mut Partition<RangeSource>, 
     partition.reuse(list);
 }
 
-#[test]
-fn a_chunk_takes_the_room_of_a_list_that_was_given_back(rt: HostRuntime) -> Result<(), Fail> {
-    let (chunked, mut partition) = range_of(&rt, rt.alloc(), 2, Growth::ONE);
-    lend(&chunked, &mut partition, vec![in rt.alloc(); 7, 8, 9]?);
-    let Ok(chunk) = partition.take(&rt, &chunked) else {
-        panic!(rt; "no chunk");
+// Whether a call that was lent a list of so many sevens gives what it is to give.
+fn gives_with<R: Wait>(
+    rt: &R,
+    alloc: Global,
+    chunked: &Chunked<RangeSource>,
+    partition: &mut Partition<RangeSource>,
+    sevens: usize,
+    call: Call<'_>,
+) -> bool
+    requires { IsPartitionOf chunked.now partition.old }
+    ensures { IsPartitionOf chunked.now partition.new }
+{
+    let Ok(list) = vec![in alloc; 7; sevens] else {
+        return false;
     };
-    assert!(rt; chunk.items.as_slice() == [0].as_slice() && chunk.items.capacity() == 3);
-    lend(&chunked, &mut partition, chunk.items);
-    expect_tried(&rt, &chunked, &mut partition, 1, &[1], None);
-    lend(&chunked, &mut partition, vec![in rt.alloc(); 7]?);
-    expect_taken(&rt, &chunked, &mut partition, 2, &[], Some(Tail::Ended));
-    lend(&chunked, &mut partition, vec![in rt.alloc(); 7]?);
-    assert!(rt; partition.stop(&rt, &chunked).is_ok());
-    expect_taken(&rt, &chunked, &mut partition, 2, &[], Some(Tail::Closed));
-    Ok(())
+    lend(chunked, partition, list);
+    gives(rt, chunked, partition, call)
+}
+
+// Whether a chunk of one item takes the room of a list of three, and the next one takes its.
+fn takes_the_room<R: Wait>(
+    rt: &R,
+    alloc: Global,
+    chunked: &Chunked<RangeSource>,
+    partition: &mut Partition<RangeSource>,
+) -> bool
+    requires { IsPartitionOf chunked.now partition.old }
+    ensures { IsPartitionOf chunked.now partition.new }
+{
+    let Ok(list) = vec![in alloc; 7, 8, 9] else {
+        return false;
+    };
+    lend(chunked, partition, list);
+    let Ok(chunk) = partition.take(rt, chunked) else {
+        return false;
+    };
+    let is_first = chunk.items.as_slice() == [0].as_slice() && chunk.items.capacity() == 3;
+    lend(chunked, partition, chunk.items);
+    gives(rt, chunked, partition, Call::Try(1, &[1], None)) && is_first
+}
+
+fn takes_rooms<R: Wait>(rt: &R, alloc: Global) -> bool {
+    let Some((chunked, mut partition)) = range_of(alloc, 0, 2, Growth::ONE) else {
+        return false;
+    };
+    let (ended, closed) = (Some(Tail::Ended), Some(Tail::Closed));
+    takes_the_room(rt, alloc, &chunked, &mut partition)
+        && gives_with(
+            rt,
+            alloc,
+            &chunked,
+            &mut partition,
+            1,
+            Call::Take(2, &[], ended),
+        )
+        && gives_with(rt, alloc, &chunked, &mut partition, 1, Call::Stop)
+        && gives(rt, &chunked, &mut partition, Call::Take(2, &[], closed))
 }
 
 #[test]
-fn a_list_that_is_too_small_grows(rt: HostRuntime) -> Result<(), Fail> {
-    let (chunked, mut partition) = range_of(&rt, rt.alloc(), 5, Growth::new(2, 1, 2)?);
-    lend(&chunked, &mut partition, vec![in rt.alloc(); 7]?);
-    expect_taken(&rt, &chunked, &mut partition, 0, &[0, 1], None);
-    Ok(())
+fn a_chunk_takes_the_room_of_a_list_that_was_given_back(rt: HostRuntime) {
+    assert!(rt; takes_rooms(&rt, rt.alloc()));
+}
+
+fn grows<R: Wait>(rt: &R, alloc: Global) -> bool {
+    let Ok(growth) = Growth::new(2, 1, 2) else {
+        return false;
+    };
+    let Some((chunked, mut partition)) = range_of(alloc, 0, 5, growth) else {
+        return false;
+    };
+    gives_with(
+        rt,
+        alloc,
+        &chunked,
+        &mut partition,
+        1,
+        Call::Take(0, &[0, 1], None),
+    )
+}
+
+#[test]
+fn a_list_that_is_too_small_grows(rt: HostRuntime) {
+    assert!(rt; grows(&rt, rt.alloc()));
+}
+
+// Whether a list of truths that refuses after them is handed out.
+fn are_handed_out<R: Wait>(rt: &R, alloc: Global) -> bool {
+    let (Ok(truths), Ok(growth)) = (vec![in alloc; true, false, false], Growth::new(2, 1, 2)) else {
+        return false;
+    };
+    let source = ListSource::refusing(alloc, truths, 7);
+    let Ok((chunked, mut partition)) = Chunked::new(alloc, source, growth) else {
+        return false;
+    };
+    let one = is_chunk(partition.take(rt, &chunked), 0, &[true, false], None);
+    let refused = Some(Tail::Refused(7));
+    let two = is_chunk(partition.try_take(&chunked), 2, &[false], refused);
+    matches!((one, two), (Ok(true), Ok(true)))
 }
 
 // Another item type, and a source that refuses.
 #[test]
-fn a_list_of_truths_is_handed_out(rt: HostRuntime) -> Result<(), Fail> {
-    let truths = vec![in rt.alloc(); true, false, false]?;
-    let source = ListSource::refusing(rt.alloc(), truths, 7);
-    let (chunked, mut partition) = Chunked::new(rt.alloc(), source, Growth::new(2, 1, 2)?)?;
-    expect(&rt, partition.take(&rt, &chunked), 0, &[true, false], None);
-    let refused = Some(Tail::Refused(7));
-    expect(&rt, partition.try_take(&chunked), 2, &[false], refused);
-    let Some(enumerator) = give_back(&rt, rt.alloc(), chunked, partition) else {
-        panic!(rt; "no room for a list of one");
-    };
-    assert!(rt; replays(enumerator.records(), 3, Ending::Refused(7)));
-    Ok(())
+fn a_list_of_truths_is_handed_out(rt: HostRuntime) {
+    assert!(rt; are_handed_out(&rt, rt.alloc()));
 }

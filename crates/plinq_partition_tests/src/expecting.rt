@@ -1,122 +1,129 @@
 //! What several tests ask for.
-ghost use Rattle.std.specs.Prelude.{◌≤◌, All, length};
+ghost use Rattle.std.specs.Prelude.{◌≤◌, All, IfSome, length};
 ghost use Rattle.plinq_partition.specs.Partitions.{IsPartitionOf};
 
-use plinq_enumerator::{Enumerator, Growth, replays};
+use plinq_enumerator::Growth;
 use plinq_keyed::{Chunk, Guarded, Record, Tail};
 use plinq_partition::{Chunked, Partition, TakeFault};
-use plinq_source::{Ending, RangeSource, Source};
+use plinq_source::RangeSource;
 use std::alloc::Global;
 use std::fmt::Display;
-use std::process::Abort;
 use std::sync::Wait;
 
-// Asks for the text of a fault.
-pub(crate) fn expect_words<T: Display>(rt: &impl Abort, alloc: Global, fault: &T, text: &str) {
-    let Ok(words) = format!(in alloc; "{fault}") else {
-        panic!(rt; "no room for words");
-    };
-    assert!(rt; words.as_str() == text, "{words}");
+/// Whether a fault has this text.
+pub(crate) fn says<T: Display>(alloc: Global, fault: &T, text: &str) -> bool {
+    match format!(in alloc; "{fault}") {
+        Ok(words) => words.as_str() == text,
+        Err(_) => false,
+    }
 }
 
-// The numbers from 0 on, as many as that, and their first partition.
+/// Some numbers, and their first partition, where there is room.
 pub(crate) fn range_of(
-    rt: &impl Abort,
     alloc: Global,
+    start: i64,
     count: u64,
     growth: Growth,
-) -> (Chunked<RangeSource>, Partition<RangeSource>)
-    ensures { IsPartitionOf result.0 result.1 }
+) -> Option<(Chunked<RangeSource>, Partition<RangeSource>)>
+    ensures { IfSome result (λ made. IsPartitionOf made.0 made.1) }
 {
-    let Ok(source) = RangeSource::new(0, count) else {
-        panic!(rt; "no such range");
+    let Ok(source) = RangeSource::new(start, count) else {
+        return None;
     };
-    let Ok(made) = Chunked::new(alloc, source, growth) else {
-        panic!(rt; "no room for the lock");
-    };
-    made
+    match Chunked::new(alloc, source, growth) {
+        Ok(made) => Some(made),
+        Err(_) => None,
+    }
 }
 
-// Asks that a partition takes this chunk.
-pub(crate) fn expect_taken<R: Wait + Abort>(
+/// A call of a partition, and the chunk that it is to give: its first key, its items and its tail.
+#[derive(Clone, Copy)]
+pub(crate) enum Call<'a> {
+    Take(u64, &'a [i64], Option<Tail>),
+    Try(u64, &'a [i64], Option<Tail>),
+    Stop,
+}
+
+/// Makes a call. Answers whether it gives that chunk.
+pub(crate) fn answer<R: Wait>(
     rt: &R,
     chunked: &Chunked<RangeSource>,
     partition: &mut Partition<RangeSource>,
-    first: u64,
-    items: &[i64],
-    tail: Option<Tail>,
-)
+    call: Call<'_>,
+) -> Result<bool, TakeFault>
     requires { IsPartitionOf chunked.now partition.old }
     ensures { IsPartitionOf chunked.now partition.new }
 {
-    expect(rt, partition.take(rt, chunked), first, items, tail);
+    match call {
+        Call::Take(first, items, tail) => is_chunk(partition.take(rt, chunked), first, items, tail),
+        Call::Try(first, items, tail) => is_chunk(partition.try_take(chunked), first, items, tail),
+        Call::Stop => {
+            partition.stop(rt, chunked)?;
+            Ok(true)
+        }
+    }
 }
 
-// The same by `try_take`.
-pub(crate) fn expect_tried(
-    rt: &impl Abort,
+/// Whether it is given.
+pub(crate) fn gives<R: Wait>(
+    rt: &R,
     chunked: &Chunked<RangeSource>,
     partition: &mut Partition<RangeSource>,
-    first: u64,
-    items: &[i64],
-    tail: Option<Tail>,
-)
+    call: Call<'_>,
+) -> bool
     requires { IsPartitionOf chunked.now partition.old }
     ensures { IsPartitionOf chunked.now partition.new }
 {
-    expect(rt, partition.try_take(chunked), first, items, tail);
+    matches!(answer(rt, chunked, partition, call), Ok(true))
 }
 
-pub(crate) fn expect<T: PartialEq + Drop>(
-    rt: &impl Abort,
+/// Whether a chunk begins with this key, and has these items and this tail.
+pub(crate) fn is_chunk<T: PartialEq + Drop>(
     chunk: Result<Chunk<T>, TakeFault>,
     first: u64,
     items: &[T],
     tail: Option<Tail>,
-) {
-    let Ok(chunk) = chunk else {
-        panic!(rt; "refused");
-    };
-    assert!(rt; chunk.first == first && chunk.items.as_slice() == items && chunk.tail == tail);
+) -> Result<bool, TakeFault> {
+    let chunk = chunk?;
+    Ok(chunk.first == first && chunk.items.as_slice() == items && chunk.tail == tail)
 }
 
-// Gives back a source's only partition, where there is room for the list of it.
-pub(crate) fn give_back<S: Source>(
-    rt: &impl Abort,
+/// Whether these are all partitions of a source, with so many records, of which the last has this ticket.
+pub(crate) fn have_all(
+    chunked: Chunked<RangeSource>,
+    partitions: Vec<Partition<RangeSource>>,
+    count: usize,
+    ticket: u64,
+) -> bool
+    requires some { 1 ≤ length partitions.items }
+    requires of { All (IsPartitionOf chunked) partitions.items }
+{
+    match chunked.give_back(partitions) {
+        Ok(enumerator) => are_so_many(enumerator.records(), count, ticket),
+        Err(_) => false,
+    }
+}
+
+fn are_so_many(records: &[Record], count: usize, ticket: u64) -> bool {
+    match records.last() {
+        Some(last) => records.len() == count && last.ticket == ticket,
+        None => false,
+    }
+}
+
+/// The same of a source's only partition; nothing where there is no room for a list of it.
+pub(crate) fn has_all(
     alloc: Global,
-    chunked: Chunked<S>,
-    partition: Partition<S>,
-) -> Option<Enumerator<S>>
+    chunked: Chunked<RangeSource>,
+    partition: Partition<RangeSource>,
+    count: usize,
+    ticket: u64,
+) -> Option<bool>
     requires { IsPartitionOf chunked partition }
 {
     let mut partitions = Vec::new(alloc);
     if partitions.push(partition).is_err() {
         return None;
     }
-    let Ok(enumerator) = chunked.give_back(partitions) else {
-        panic!(rt; "not whole");
-    };
-    Some(enumerator)
-}
-
-// Asks that records are so many, and replay over so many numbers.
-pub(crate) fn expect_records(rt: &impl Abort, records: &[Record], count: usize, items: u64) {
-    assert!(rt; records.len() == count && replays(records, items, Ending::End));
-}
-
-// Asks that the partitions of so many numbers are all of them, with so many records.
-pub(crate) fn expect_whole(
-    rt: &impl Abort,
-    chunked: Chunked<RangeSource>,
-    partitions: Vec<Partition<RangeSource>>,
-    count: usize,
-    items: u64,
-)
-    requires some { 1 ≤ length partitions.items }
-    requires of { All (IsPartitionOf chunked) partitions.items }
-{
-    let Ok(enumerator) = chunked.give_back(partitions) else {
-        panic!(rt; "not whole");
-    };
-    expect_records(rt, enumerator.records(), count, items);
+    Some(have_all(chunked, partitions, count, ticket))
 }

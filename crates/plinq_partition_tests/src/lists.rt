@@ -1,34 +1,28 @@
-use crate::expecting::expect_words;
+//! Lists in partitions, whose keys are those of the contract: what is asked for are rooms, and words.
+use crate::expecting::says;
 use plinq_keyed::{KeyProperties, Keyed};
 use plinq_partition::{OrderablePartitioner, PairParts, PartFault, RangeParts};
-use std::alloc::{AllocError, Global};
-use std::process::Abort;
-use std::test::Fail;
+use std::alloc::Global;
 
-// Elements with these keys, each its own value.
-fn pairs_of(alloc: Global, keys: &[u64]) -> Result<Vec<Keyed<u64>>, AllocError> {
-    let mut pairs = Vec::new(alloc);
-    for key in keys {
-        pairs.push(Keyed {
-            key: *key,
-            value: *key,
-        })?;
+// The numbers 0, 1 and 2, which are their own keys.
+fn numbers(alloc: Global) -> Option<RangeParts<u64>> {
+    match vec![in alloc; 0, 1, 2] {
+        Ok(numbers) => Some(RangeParts::new(alloc, numbers)),
+        Err(_) => None,
     }
-    Ok(pairs)
 }
 
-// Whether elements have these keys, and values equal to them.
-fn have_keys(elements: &[Keyed<u64>], keys: &[u64]) -> bool {
-    let is_own = |(element, key): (&Keyed<u64>, &u64)| element.key == *key && element.value == *key;
-    elements.len() == keys.len() && elements.iter().zip(keys).all(is_own)
+// An element whose value is its key.
+fn own(key: u64) -> Keyed<u64> {
+    Keyed { key, value: key }
 }
 
-// Asks that partitions have these keys, and values equal to them.
-fn expect_keys(rt: &impl Abort, parts: &[Vec<Keyed<u64>>], keys: &[&[u64]]) {
-    assert!(rt; parts.len() == keys.len());
-    for (part, keys) in parts.iter().zip(keys) {
-        assert!(rt; have_keys(part, keys));
-    }
+// Three elements under keys that rise.
+fn pairs(alloc: Global) -> Option<PairParts<u64>> {
+    let Ok(pairs) = vec![in alloc; own(3), own(10), own(11)] else {
+        return None;
+    };
+    PairParts::new(alloc, pairs).ok()
 }
 
 // What a partitioner promises, through the bound.
@@ -36,78 +30,50 @@ fn promised_by<P: OrderablePartitioner>(partitioner: &P) -> KeyProperties {
     partitioner.properties()
 }
 
-// The numbers from 0 on, as many as that, which are their own keys.
-fn numbers(alloc: Global, count: u64) -> Result<RangeParts<u64>, AllocError> {
-    let numbers: Vec<u64> = (0..count).collect(alloc)?;
-    Ok(RangeParts::new(alloc, numbers))
-}
-
 #[test]
-fn partitioners_promise_that_keys_rise(rt: HostRuntime) -> Result<(), Fail> {
-    let numbers = numbers(rt.alloc(), 2)?;
+fn partitioners_promise_that_keys_rise(rt: HostRuntime) {
+    let (Some(numbers), Some(pairs)) = (numbers(rt.alloc()), pairs(rt.alloc())) else {
+        panic!(rt; "no room");
+    };
     let promised = promised_by(&numbers);
     assert!(rt; promised.in_each && promised.across && promised.normalized);
-    let pairs = PairParts::new(rt.alloc(), pairs_of(rt.alloc(), &[4])?)?;
     let promised = promised_by(&pairs);
     assert!(rt; promised.in_each && promised.across && !promised.normalized);
-    Ok(())
+}
+
+// How many of two lists in so many partitions are refused.
+fn refusals(numbers: &RangeParts<u64>, pairs: &PairParts<u64>, n: u64) -> usize {
+    let first = usize::from(numbers.partitions(n).is_err());
+    first.wrapping_add(usize::from(pairs.partitions(n).is_err()))
 }
 
 // There is no room for so many lists: that is told at once, and not after trying.
 #[test]
-fn too_many_partitions_are_memory(rt: HostRuntime) -> Result<(), Fail> {
-    let numbers = numbers(rt.alloc(), 2)?;
-    assert!(rt; matches!(numbers.partitions(u64::MAX), Err(PartFault::Memory)));
-    let pairs = PairParts::new(rt.alloc(), pairs_of(rt.alloc(), &[4])?)?;
-    assert!(rt; matches!(pairs.partitions(u64::MAX), Err(PartFault::Memory)));
-    Ok(())
-}
-
-#[test]
-fn faults_in_words(rt: HostRuntime) {
-    expect_words(&rt, rt.alloc(), &PartFault::NoPartitions, "no partitions");
-    let not_supported = "no dynamic partitions";
-    expect_words(&rt, rt.alloc(), &PartFault::NotSupported, not_supported);
-    let falling = "keys not rising";
-    expect_words(&rt, rt.alloc(), &PartFault::KeysNotRising, falling);
-    expect_words(&rt, rt.alloc(), &PartFault::Memory, "out of memory");
-}
-
-// Counts partitions that were refused since memory ran out: 1, or 0 where they are there and have these keys.
-fn refusals(
-    rt: &impl Abort,
-    told: Result<Vec<Vec<Keyed<u64>>>, PartFault>,
-    keys: &[&[u64]],
-) -> usize {
-    match told {
-        Ok(parts) => {
-            expect_keys(rt, &parts, keys);
-            0
-        }
-        Err(fault) => {
-            assert!(rt; fault == PartFault::Memory);
-            1
-        }
-    }
+fn too_many_partitions_are_memory(rt: HostRuntime) {
+    let (Some(numbers), Some(pairs)) = (numbers(rt.alloc()), pairs(rt.alloc())) else {
+        panic!(rt; "no room");
+    };
+    assert!(rt; refusals(&numbers, &pairs, u64::MAX) == 2);
 }
 
 // A refused growth is Memory, and the next call answers. Run with each allocation failing in turn.
 #[test]
 fn a_refused_growth_is_memory(rt: HostRuntime) {
-    let Ok(three) = numbers(rt.alloc(), 3) else {
+    let (Some(numbers), Some(pairs)) = (numbers(rt.alloc()), pairs(rt.alloc())) else {
         return;
     };
-    let Ok(list) = pairs_of(rt.alloc(), &[3, 10, 11]) else {
-        return;
-    };
-    let Ok(pairs) = PairParts::new(rt.alloc(), list) else {
-        panic!(rt; "keys that rise were refused");
-    };
-    let mut refused = 0usize;
-    for _turn in 0..2 {
-        let of_range = refusals(&rt, three.partitions(2), &[&[0], &[1, 2]]);
-        let of_pairs = refusals(&rt, pairs.partitions(2), &[&[3], &[10, 11]]);
-        refused = refused.wrapping_add(of_range).wrapping_add(of_pairs);
+    let first = refusals(&numbers, &pairs, 2);
+    assert!(rt; first.wrapping_add(refusals(&numbers, &pairs, 2)) <= 1);
+}
+
+#[test]
+fn faults_in_words(rt: HostRuntime) {
+    for (fault, text) in [
+        (PartFault::NoPartitions, "no partitions"),
+        (PartFault::NotSupported, "no dynamic partitions"),
+        (PartFault::KeysNotRising, "keys not rising"),
+        (PartFault::Memory, "out of memory"),
+    ] {
+        assert!(rt; says(rt.alloc(), &fault, text), "{text}");
     }
-    assert!(rt; refused <= 1);
 }

@@ -1,14 +1,13 @@
 //! Many threads that take from one source.
-ghost use Rattle.std.specs.Prelude.{All, ◌≡◌, ◌<◌, length, IfOk};
+ghost use Rattle.std.specs.Prelude.{All, ◌≡◌, ◌≤◌, length, IfSome};
 ghost use Rattle.plinq_partition.specs.Partitions.{IsPartitionOf};
-ghost use Rattle.plinq_source.specs.declared.source.Source.{Ghosts};
 
+use crate::expecting::range_of;
 use plinq_enumerator::{Growth, replays};
 use plinq_keyed::{Guarded, Keyed, Record, check_in_each, check_normalized};
 use plinq_partition::{Chunked, Partition, TakeFault};
 use plinq_source::{Ending, RangeSource};
 use std::alloc::Global;
-use std::process::Abort;
 use std::sync::{Mutex, Wait};
 use std::test::Fail;
 use std::thread;
@@ -136,45 +135,64 @@ fn are_own(list: &[Keyed<i64>]) -> bool {
         .all(|element| i64::try_from(element.key) == Ok(element.value))
 }
 
-// Asks that the lists have the keys from 0 on, each once and in order in each list, each with its own number as value.
-fn expect_all(rt: &impl Abort, lists: &[Vec<Keyed<i64>>], count: u64) {
-    assert!(rt; check_in_each(lists));
-    assert!(rt; check_normalized(lists));
-    let mut found: u64 = 0;
+// How many elements lists have.
+fn items_in(lists: &[Vec<Keyed<i64>>]) -> u64 {
+    let mut count: u64 = 0;
     for list in lists {
-        found = found.wrapping_add(list.len() as u64);
-        assert!(rt; are_own(list));
+        count = count.wrapping_add(list.len() as u64);
     }
-    assert!(rt; found == count);
+    count
 }
 
-// Asks that records replay, and that nothing is lost or handed out twice.
-fn expect_row(rt: &impl Abort, row: &Row, records: &[Record], lists: &[Vec<Keyed<i64>>]) {
-    assert!(rt; replays(records, row.items, Ending::End) && lists.len() as u64 == row.threads);
+// Whether lists have the keys from 0 on, each once and in order in each list, each with its own number as value.
+fn are_all(lists: &[Vec<Keyed<i64>>], count: u64) -> bool {
+    check_in_each(lists)
+        && check_normalized(lists)
+        && lists.iter().all(|list| are_own(list))
+        && items_in(lists) == count
+}
+
+// Whether records replay, and nothing is lost or handed out twice.
+fn is_right(row: &Row, records: &[Record], lists: &[Vec<Keyed<i64>>]) -> bool {
     let count = count_of(records);
-    expect_all(rt, lists, count);
-    assert!(rt; row.stops || count == row.items);
+    replays(records, row.items, Ending::End)
+        && lists.len() as u64 == row.threads
+        && are_all(lists, count)
+        && (row.stops || count == row.items)
 }
 
-// The threads of a row take, and all is given back.
-fn run<R: Threads + Wait + Abort + Sync>(rt: &R, alloc: Global, row: Row) {
-    let Ok(source) = RangeSource::new(0, row.items) else {
-        panic!(rt; "no such range");
+// The partitions of a row.
+fn partitions_of(
+    alloc: Global,
+    row: Row,
+) -> Option<(Chunked<RangeSource>, Vec<Partition<RangeSource>>)>
+    ensures some { IfSome result (λ made. 1 ≤ length made.1.items) }
+    ensures of { IfSome result (λ made. All (IsPartitionOf made.0) made.1.items) }
+{
+    let (chunked, first) = range_of(alloc, 0, row.items, row.growth)?;
+    match chunked.partitions(first, row.threads) {
+        Ok(partitions) => {
+            if partitions.is_empty() {
+                return None;
+            }
+            Some((chunked, partitions))
+        }
+        Err(_) => None,
+    }
+}
+
+// Whether the threads of a row take what they should, and all is given back.
+fn all_take<R: Threads + Wait + Sync>(rt: &R, alloc: Global, row: Row) -> bool {
+    let Some((chunked, mut partitions)) = partitions_of(alloc, row) else {
+        return false;
     };
-    let Ok((chunked, first)) = Chunked::new(alloc, source, row.growth) else {
-        panic!(rt; "no room for the lock");
-    };
-    let Ok(mut partitions) = chunked.partitions(first, row.threads) else {
-        panic!(rt; "no room for the partitions");
-    };
-    assert!(rt; !partitions.is_empty());
     let lists: Lists = Mutex::new(Vec::new(alloc));
     work_all(rt, alloc, &chunked, row, &lists, &mut partitions);
     let lists = lists.into_inner();
-    let Ok(enumerator) = chunked.give_back(partitions) else {
-        panic!(rt; "not whole");
-    };
-    expect_row(rt, &row, enumerator.records(), &lists);
+    match chunked.give_back(partitions) {
+        Ok(enumerator) => is_right(&row, enumerator.records(), &lists),
+        Err(_) => false,
+    }
 }
 
 #[test]
@@ -190,7 +208,7 @@ fn many_threads_take_from_a_long_source(rt: HostRuntime) -> Result<(), Fail> {
                     half: 40,
                     stops,
                 };
-                run(&rt, rt.alloc(), row);
+                assert!(rt; all_take(&rt, rt.alloc(), row), "{threads} {stops}");
             }
         }
     }

@@ -1,25 +1,24 @@
 //! A partition that tries while another one is inside.
-ghost use Rattle.std.specs.Prelude.{All, ◌≡◌, length};
+ghost use Rattle.std.specs.Prelude.{All, ◌≡◌, IfSome, length};
 ghost use Rattle.plinq_partition.specs.Partitions.{IsPartitionOf};
 
-use crate::expecting::expect;
-use crate::refusals::expect_fault;
+use crate::expecting::is_chunk;
 use crossbeam_utils::Backoff;
 use plinq_enumerator::Growth;
 use plinq_partition::{Chunked, Partition, TakeFault};
 use plinq_source::{RangeSource, Source, Step};
-use std::process::Abort;
+use std::alloc::Global;
 use std::sync::Wait;
 use std::sync::atomic::{AtomicBool, Ordering};
 use std::thread;
 use std::thread::Threads;
 
-// What two threads tell one another, and whether one has waited for too long.
+// What two threads tell one another, and whether one has waited for too long or was answered otherwise than it should be.
 #[derive(Drop)]
 struct Signals {
     is_inside: AtomicBool,
     may_leave: AtomicBool,
-    gave_up: AtomicBool,
+    is_wrong: AtomicBool,
 }
 
 impl Signals {
@@ -32,7 +31,13 @@ impl Signals {
             }
             backoff.snooze();
         }
-        self.gave_up.store(true, Ordering::SeqCst);
+        self.is_wrong.store(true, Ordering::SeqCst);
+    }
+
+    fn expect(&self, is_right: bool) {
+        if !is_right {
+            self.is_wrong.store(true, Ordering::SeqCst);
+        }
     }
 }
 
@@ -65,13 +70,8 @@ impl<'a> Source for KeepsInside<'a> {
     }
 }
 
-const BUSY: TakeFault = TakeFault::Busy {
-    served: 0,
-    drawn: 1,
-};
-
 // The first takes, and is kept inside; the second tries meanwhile, and lets it leave.
-fn take_or_try<S: Source<Item = i64>, R: Wait + Abort>(
+fn take_or_try<S: Source<Item = i64>, R: Wait>(
     rt: &R,
     chunked: &Chunked<S>,
     signals: &Signals,
@@ -82,17 +82,24 @@ fn take_or_try<S: Source<Item = i64>, R: Wait + Abort>(
     ensures { IsPartitionOf chunked.now partition.new }
 {
     if place == 0 {
-        expect(rt, partition.take(rt, chunked), 0, &[0], None);
+        let told = is_chunk(partition.take(rt, chunked), 0, &[0], None);
+        signals.expect(matches!(told, Ok(true)));
         return;
     }
     signals.wait_for(&signals.is_inside);
-    expect_fault(rt, partition.try_take(chunked), BUSY);
-    assert!(rt; partition.requests() == 0);
+    let told = partition.try_take(chunked);
+    signals.expect(matches!(
+        told,
+        Err(TakeFault::Busy {
+            served: 0,
+            drawn: 1
+        })
+    ));
     signals.may_leave.store(true, Ordering::SeqCst);
 }
 
 // Each in a thread of its own.
-fn take_and_try<S: Source<Item = i64>, R: Threads + Wait + Sync + Abort>(
+fn take_and_try<S: Source<Item = i64>, R: Threads + Wait + Sync>(
     rt: &R,
     chunked: &Chunked<S>,
     signals: &Signals,
@@ -113,30 +120,43 @@ fn take_and_try<S: Source<Item = i64>, R: Threads + Wait + Sync + Abort>(
     );
 }
 
-#[test]
-fn another_one_is_inside(rt: HostRuntime) {
+// A source that keeps inside the lock who asks it, and two partitions of it.
+fn made<'a>(
+    alloc: Global,
+    signals: &'a Signals,
+) -> Option<(Chunked<KeepsInside<'a>>, Vec<Partition<KeepsInside<'a>>>)>
+    ensures count { IfSome result (λ made. length made.1.items ≡ 2) }
+    ensures of { IfSome result (λ made. All (IsPartitionOf made.0) made.1.items) }
+{
+    let Ok(range) = RangeSource::new(0, 3) else {
+        return None;
+    };
+    let source = KeepsInside { range, signals };
+    let Ok((chunked, first)) = Chunked::new(alloc, source, Growth::ONE) else {
+        return None;
+    };
+    match chunked.partitions(first, 2) {
+        Ok(partitions) => Some((chunked, partitions)),
+        Err(_) => None,
+    }
+}
+
+// Whether one is told that another one is inside, and takes after it.
+fn is_told<R: Threads + Wait + Sync>(rt: &R, alloc: Global) -> bool {
     let signals = Signals {
         is_inside: AtomicBool::new(false),
         may_leave: AtomicBool::new(false),
-        gave_up: AtomicBool::new(false),
+        is_wrong: AtomicBool::new(false),
     };
-    let Ok(range) = RangeSource::new(0, 3) else {
-        panic!(&rt; "no such range");
+    let Some((chunked, mut partitions)) = made(alloc, &signals) else {
+        return false;
     };
-    let source = KeepsInside {
-        range,
-        signals: &signals,
-    };
-    let Ok((chunked, first)) = Chunked::new(rt.alloc(), source, Growth::ONE) else {
-        panic!(&rt; "no room for the lock");
-    };
-    let Ok(mut partitions) = chunked.partitions(first, 2) else {
-        panic!(&rt; "no room for two partitions");
-    };
-    take_and_try(&rt, &chunked, &signals, &mut partitions);
-    assert!(&rt; !signals.gave_up.load(Ordering::SeqCst));
-    let [_, second] = partitions.as_mut_slice() else {
-        panic!(&rt; "not two");
-    };
-    expect(&rt, second.try_take(&chunked), 1, &[1], None);
+    take_and_try(rt, &chunked, &signals, &mut partitions);
+    let told = is_chunk(partitions[1].try_take(&chunked), 1, &[1], None);
+    matches!(told, Ok(true)) && !signals.is_wrong.load(Ordering::SeqCst)
+}
+
+#[test]
+fn another_one_is_inside(rt: HostRuntime) {
+    assert!(rt; is_told(&rt, rt.alloc()));
 }
