@@ -1,10 +1,11 @@
 -- What an ordered run delivers, by the definitions that proofs use and by those of the headline.
 use Rattle.std.specs.List.{list_any}
-use Rattle.std.specs.Prelude.{◌≡◌, refl, ℕ, List, [], ◌∷◌, ◌++◌, ◌+◌, ◌==◌, length, if◌then◌else◌, Bool, true, false, Option, Some, None, Result, Ok, Err}
-use Rattle.std.proofs.Common.{ap, sym, subst, ◌∙◌, append_assoc, append-nil}
+use Rattle.std.specs.Prelude.{◌≡◌, refl, ℕ, pos, negsuc, List, [], ◌∷◌, ◌++◌, ◌+◌, ◌==◌, ◌<◌, nat_le, length, if◌then◌else◌, Bool, true, false, Option, Some, None, Result, Ok, Err}
+use Rattle.std.proofs.Common.{arith, ap, sym, subst, ◌∙◌, append_assoc, append-nil}
+use Rattle.std.proofs.lemmas.Bool.Decides.{nat_tests}
 use Rattle.plinq_source.specs.declared.ending.Ending.{Ending}
 use Rattle.plinq_source.specs.declared.ending.Ending.TheVariants.{End, Refused, Fault}
-use Rattle.plinq_source.specs.Trace.{Trace, followed}
+use Rattle.plinq_source.specs.Trace.{Trace, ended, followed}
 use Rattle.plinq_lambda.specs.Meaning.{Meaning}
 use Rattle.plinq_ops.specs.declared.merge_option.MergeOption.{MergeOption}
 use Rattle.plinq_ops.specs.declared.merge_option.MergeOption.TheVariants.{Default, NotBuffered, AutoBuffered, FullyBuffered}
@@ -14,52 +15,78 @@ use Rattle.plinq_ops.specs.Answer.{MayAnswer}
 use Rattle.plinq_ops.specs.Batches.{batches, batches_from, full_batches, held_back, last_batch}
 use Rattle.plinq_ops.specs.Feeding.{is_empty_take}
 use Rattle.plinq_ops.specs.Operator.{selected, filtered, selected_many, taken_while, stage_of, stages_of}
+use Rattle.plinq_ops.specs.Query.{merge_in_force}
 use Rattle.plinq_ops.specs.Sequential.{answer_of}
-use Rattle.plinq_ops.specs.Stage.{joined, apply, seq}
-use Rattle.plinq_merge.specs.Sending.{Leads, TakesBeginning, RefusesNext}
+use Rattle.plinq_ops.specs.SkipWhile.{skipped_from, skipped_while}
+use Rattle.plinq_ops.specs.Stage.{joined, taken, apply, seq}
+use Rattle.plinq_merge.specs.Sending.{Leads, TakesBeginning}
 use Rattle.plinq_run.specs.declared.report.Report.{Report}
 use Rattle.plinq_run.specs.declared.run_fault.RunFault.{RunFault}
 use Rattle.plinq_run.specs.declared.run_fault.RunFault.TheVariants.{Memory, Sink, Tickets, Thread, Incomplete, Cancelled}
 use Rattle.plinq_run.specs.Endings.{reported}
-use Rattle.plinq_run.specs.Headline.{or_fault, does, answers, in_batches, all_at_once, handed_over, HasDelivered}
+use Rattle.plinq_run.specs.Headline.{before, or_fault, each, does, answers, in_batches, handed_over, HasDelivered}
 use Rattle.plinq_run.specs.Reports.{Reports}
 use Rattle.plinq_run.specs.Runs.{HasRun, Runs}
 use Rattle.plinq_run.proofs.Ended.{reports-runs, decided-run}
 
 -- ---- operators
 
-joined-same : {T : Type 0} (f g : T → Trace T) → ((x : T) → f x ≡ g x) → (xs : List T) (e : Option Ending) → joined f xs e ≡ joined g xs e
-joined-same f g same [] e = refl
-joined-same f g same (x ∷ xs) e = ap (λ t. followed t (joined f xs e)) (same x) ∙ ap (λ u. followed (g x) u) (joined-same f g same xs e)
-
 module _ {T : Type 0} where
-  selects : (r : Result T ℕ) → selected r ≡ or_fault r (λ y. record { items = y ∷ []; ending = None })
-  selects (Ok y) = refl
-  selects (Err code) = refl
+  selects : (r : Result T ℕ) (rest : Trace T) → followed (selected r) rest ≡ or_fault r (λ y. before (y ∷ []) rest)
+  selects (Ok y) rest = refl
+  selects (Err code) rest = refl
 
-  filters : (r : Result Bool ℕ) (x : T) → filtered r x ≡ or_fault r (λ passes. record { items = if passes then x ∷ [] else []; ending = None })
-  filters (Ok true) x = refl
-  filters (Ok false) x = refl
-  filters (Err code) x = refl
+  filters : (r : Result Bool ℕ) (x : T) (rest : Trace T) → followed (filtered r x) rest ≡ or_fault r (λ passes. if passes then before (x ∷ []) rest else rest)
+  filters (Ok true) x rest = refl
+  filters (Ok false) x rest = refl
+  filters (Err code) x rest = refl
 
-  expands : (r : Result (List T) ℕ) → selected_many r ≡ or_fault r (λ ys. record { items = ys; ending = None })
-  expands (Ok ys) = refl
-  expands (Err code) = refl
+  expands : (r : Result (List T) ℕ) (rest : Trace T) → followed (selected_many r) rest ≡ or_fault r (λ ys. before ys rest)
+  expands (Ok ys) rest = refl
+  expands (Err code) rest = refl
 
-  takes_while : (r : Result Bool ℕ) (x : T) → taken_while r x ≡ or_fault r (λ passes. if passes then record { items = x ∷ []; ending = None } else record { items = []; ending = Some End })
-  takes_while (Ok true) x = refl
-  takes_while (Ok false) x = refl
-  takes_while (Err code) x = refl
+  takes_while : (r : Result Bool ℕ) (x : T) (rest : Trace T) → followed (taken_while r x) rest ≡ or_fault r (λ passes. if passes then before (x ∷ []) rest else ended [] End)
+  takes_while (Ok true) x rest = refl
+  takes_while (Ok false) x rest = refl
+  takes_while (Err code) x rest = refl
+
+  skips_while : (r : Result Bool ℕ) (xs : List T) (e : Option Ending) (rest : Trace T)
+      → skipped_from r xs e rest ≡ or_fault r (λ passes. if passes then rest else record { items = xs; ending = e })
+  skips_while (Ok true) xs e rest = refl
+  skips_while (Ok false) xs e rest = refl
+  skips_while (Err code) xs e rest = refl
+
+  -- where each piece, followed by what comes of the later items, is what an item gives
+  joined-each : {A : Type 0} (asks : T → Result A ℕ) (gives : T → A → Trace T → Trace T → Trace T) (piece : T → Trace T)
+      → ((x : T) (here rest : Trace T) → followed (piece x) rest ≡ or_fault (asks x) (λ answer. gives x answer here rest))
+      → (xs : List T) (e : Option Ending) → joined piece xs e ≡ each asks gives xs e
+  joined-each asks gives piece same [] e = refl
+  joined-each asks gives piece same (x ∷ xs) e =
+      ap (λ u. followed (piece x) u) (joined-each asks gives piece same xs e) ∙ same x (record { items = x ∷ xs; ending = e }) (each asks gives xs e)
+
+  skipped-each : (test : T → Result Bool ℕ) (xs : List T) (e : Option Ending) → skipped_while test xs e ≡ each test (λ x passes here rest. if passes then rest else here) xs e
+  skipped-each test [] e = refl
+  skipped-each test (x ∷ xs) e =
+      ap (λ u. skipped_from (test x) (x ∷ xs) e u) (skipped-each test xs e) ∙ skips_while (test x) (x ∷ xs) e (each test (λ x passes here rest. if passes then rest else here) xs e)
+
+  with_none : (t : Trace T) (has_all : Bool) → nat_le 0 (length t.items) ≡ has_all → (if has_all then ended [] End else t) ≡ ended [] End
+  with_none t true is = refl
+  with_none t false is = let less : length t.items < 0 = grind (arith, nat_tests) in absurd (omega (arith, less))
+
+  none-taken : (t : Trace T) → taken 0 t ≡ ended [] End
+  none-taken t = with_none t (nat_le 0 (length t.items)) refl
 
   module _ {L : Type 0} (meaning : L → Meaning T) where
     applied : (op : Op L) (t : Trace T) → apply (stage_of meaning op) t ≡ does meaning op t
-    applied (Select f) t = joined-same _ _ (λ x. selects ((meaning f).map x)) t.items t.ending
-    applied (Filter f) t = joined-same _ _ (λ x. filters ((meaning f).test x) x) t.items t.ending
-    applied (SelectMany f) t = joined-same _ _ (λ x. expands ((meaning f).expand x)) t.items t.ending
-    applied (TakeWhile f) t = joined-same _ _ (λ x. takes_while ((meaning f).test x) x) t.items t.ending
-    applied (Take n) t = refl
-    applied (Skip n) t = refl
-    applied (SkipWhile f) t = refl
+    applied (Select f) t = joined-each (meaning f).map _ (λ x. selected ((meaning f).map x)) (λ x here rest. selects ((meaning f).map x) rest) t.items t.ending
+    applied (Filter f) t = joined-each (meaning f).test _ (λ x. filtered ((meaning f).test x) x) (λ x here rest. filters ((meaning f).test x) x rest) t.items t.ending
+    applied (SelectMany f) t = joined-each (meaning f).expand _ (λ x. selected_many ((meaning f).expand x)) (λ x here rest. expands ((meaning f).expand x) rest) t.items t.ending
+    applied (TakeWhile f) t = joined-each (meaning f).test _ (λ x. taken_while ((meaning f).test x) x) (λ x here rest. takes_while ((meaning f).test x) x rest) t.items t.ending
+    applied (SkipWhile f) t = skipped-each (meaning f).test t.items t.ending
+    applied (Take (pos n)) t = refl
+    applied (Take (negsuc n)) t = none-taken t
+    applied (Skip (pos n)) t = refl
+    applied (Skip (negsuc n)) t = refl
     applied AsUnordered t = refl
 
     pub answers-same : (ops : List (Op L)) (t : Trace T) → answer_of meaning ops t ≡ answers meaning ops t
@@ -97,9 +124,9 @@ module _ {T : Type 0} where
   last n (x ∷ xs) (Some (Fault code)) = refl
 
   -- the batches are all that is handed over, or the beginning of it where more may come
-  pub record IsBeginning (option : MergeOption) (u : Trace T) : Type 0 where
+  pub record IsBeginning (option : Option MergeOption) (u : Trace T) : Type 0 where
     pub more : List (List T)
-    pub parts : handed_over option u ≡ batches option u ++ more
+    pub parts : handed_over option u.items u.ending ≡ batches (merge_in_force option) u ++ more
     pub all : (e : Ending) → u.ending ≡ Some e → more ≡ []
 
   kept-none : (xs : List T) (ending : Option Ending) (e : Ending) → ending ≡ Some e → kept xs ending ≡ []
@@ -120,7 +147,7 @@ module _ {T : Type 0} where
   all-held hand [] = sym (append-nil hand)
   all-held hand (x ∷ xs) = all-held (hand ++ x ∷ []) xs ∙ append_assoc hand (x ∷ []) xs
 
-  at_end : (xs : List T) (e : Option Ending) → all_at_once xs e ≡ last_batch None xs e
+  at_end : (xs : List T) (e : Option Ending) → handed_over (Some FullyBuffered) xs e ≡ last_batch None xs e
   at_end [] None = refl
   at_end [] (Some e) = refl
   at_end (x ∷ xs) None = refl
@@ -128,55 +155,58 @@ module _ {T : Type 0} where
   at_end (x ∷ xs) (Some (Refused code)) = refl
   at_end (x ∷ xs) (Some (Fault code)) = refl
 
-  whole : (u : Trace T) → all_at_once u.items u.ending ≡ batches_from None [] u ++ []
+  whole : (u : Trace T) → handed_over (Some FullyBuffered) u.items u.ending ≡ batches_from None [] u ++ []
   whole u =
       at_end u.items u.ending
       ∙ ap (λ xs. last_batch None xs u.ending) (sym (all-held [] u.items))
       ∙ ap (λ zs. zs ++ last_batch None (held_back None [] u.items) u.ending) (sym (none-full [] u.items))
       ∙ sym (append-nil (batches_from None [] u))
 
-  begins : (option : MergeOption) (u : Trace T) → IsBeginning option u
-  begins NotBuffered u = record { more = kept (held_back (Some 1) [] u.items) u.ending; parts = by_size 1 u; all = kept-none (held_back (Some 1) [] u.items) u.ending }
-  begins AutoBuffered u = record { more = kept (held_back (Some 16) [] u.items) u.ending; parts = by_size 16 u; all = kept-none (held_back (Some 16) [] u.items) u.ending }
-  begins Default u = record { more = kept (held_back (Some 16) [] u.items) u.ending; parts = by_size 16 u; all = kept-none (held_back (Some 16) [] u.items) u.ending }
-  begins FullyBuffered u = record { more = []; parts = whole u; all = λ e is. refl }
+  begins : (option : Option MergeOption) (u : Trace T) → IsBeginning option u
+  begins (Some NotBuffered) u = record { more = kept (held_back (Some 1) [] u.items) u.ending; parts = by_size 1 u; all = kept-none (held_back (Some 1) [] u.items) u.ending }
+  begins (Some FullyBuffered) u = record { more = []; parts = whole u; all = λ e is. refl }
+  begins (Some AutoBuffered) u = record { more = kept (held_back (Some 16) [] u.items) u.ending; parts = by_size 16 u; all = kept-none (held_back (Some 16) [] u.items) u.ending }
+  begins (Some Default) u = record { more = kept (held_back (Some 16) [] u.items) u.ending; parts = by_size 16 u; all = kept-none (held_back (Some 16) [] u.items) u.ending }
+  begins None u = record { more = kept (held_back (Some 16) [] u.items) u.ending; parts = by_size 16 u; all = kept-none (held_back (Some 16) [] u.items) u.ending }
 
   -- ---- runs
 
-  module _ {K : Type 0} (accepts : K → List T → K → Type 0) (refuses : K → List T → ℕ → K → Type 0) (option : MergeOption) (u : Trace T) (s s' : K) where
-    first-of : TakesBeginning accepts s (batches option u) s' → TakesBeginning accepts s (handed_over option u) s'
+  module _ {K : Type 0} (accepts : K → List T → K → Type 0) (option : Option MergeOption) (u : Trace T) (s s' : K) where
+    ended-delivered : (e : Ending) → HasRun accepts (merge_in_force option) u s s' e → (u.ending ≡ Some e) × Leads accepts s (handed_over option u.items u.ending) s'
+    ended-delivered e h =
+        let b = begins option u in
+        let bs = batches (merge_in_force option) u in
+        let same : handed_over option u.items u.ending ≡ bs = b.parts ∙ ap (λ zs. bs ++ zs) (b.all e h.ending) ∙ append-nil bs in
+        (h.ending, subst (λ bs. Leads accepts s bs s') (sym same) h.delivered)
+
+    first-of : TakesBeginning accepts s (batches (merge_in_force option) u) s' → TakesBeginning accepts s (handed_over option u.items u.ending) s'
     first-of (first, rest, parts, leads) =
         let b = begins option u in
         (first, rest ++ b.more, b.parts ∙ ap (λ zs. zs ++ b.more) parts ∙ append_assoc first rest b.more, leads)
 
-    refused-of : (code : ℕ) → RefusesNext accepts refuses s (batches option u) code s' → RefusesNext accepts refuses s (handed_over option u) code s'
-    refused-of code (first, next, rest, between, parts, leads, refused) =
+    runs-delivered : (refuses : K → List T → ℕ → K → Type 0) (r : Result Report RunFault) → Runs accepts refuses (merge_in_force option) u s s' (reported r)
+        → HasDelivered accepts refuses option u s s' r
+    runs-delivered refuses (Ok report) h = ended-delivered report.ending h
+    runs-delivered refuses (Err (Sink code)) (first, next, rest, between, parts, leads, refused) =
         let b = begins option u in
         (first, next, rest ++ b.more, between, b.parts ∙ ap (λ zs. zs ++ b.more) parts ∙ append_assoc first (next ∷ rest) b.more, leads, refused)
-
-    runs-delivered : (r : Result Ending RunFault) → Runs accepts refuses option u s s' r → HasDelivered accepts refuses option u s s' r
-    runs-delivered (Ok e) h =
-        let b = begins option u in
-        let same : handed_over option u ≡ batches option u = b.parts ∙ ap (λ zs. batches option u ++ zs) (b.all e h.ending) ∙ append-nil (batches option u) in
-        (h.ending, subst (λ bs. Leads accepts s bs s') (sym same) h.delivered)
-    runs-delivered (Err (Sink code)) h = refused-of code h
-    runs-delivered (Err Memory) h = first-of h
-    runs-delivered (Err Thread) h = first-of h
-    runs-delivered (Err Tickets) h = first-of h
-    runs-delivered (Err Incomplete) h = first-of h
-    runs-delivered (Err Cancelled) h = absurd h
+    runs-delivered refuses (Err Memory) h = first-of h
+    runs-delivered refuses (Err Thread) h = first-of h
+    runs-delivered refuses (Err Tickets) h = first-of h
+    runs-delivered refuses (Err Incomplete) h = first-of h
+    runs-delivered refuses (Err Cancelled) h = absurd h
 
 -- an ordered run has delivered what one thread answers
-pub ordered-delivered : {L T K : Type 0} (meaning : L → Meaning T) (accepts : K → List T → K → Type 0) (refuses : K → List T → ℕ → K → Type 0) (option : MergeOption) (ordered : Bool) (ops : List (Op L)) (t : Trace T) (s s' : K)
-    (r : Result Report RunFault) → ordered ≡ true → Reports accepts refuses option (MayAnswer meaning ordered ops) t s s' r → HasDelivered accepts refuses option (answers meaning ops t) s s' (reported r)
+pub ordered-delivered : {L T K : Type 0} (meaning : L → Meaning T) (accepts : K → List T → K → Type 0) (refuses : K → List T → ℕ → K → Type 0) (option : Option MergeOption) (ordered : Bool) (ops : List (Op L)) (t : Trace T) (s s' : K)
+    (r : Result Report RunFault) → ordered ≡ true → Reports accepts refuses (merge_in_force option) (MayAnswer meaning ordered ops) t s s' r → HasDelivered accepts refuses option (answers meaning ops t) s s' r
 ordered-delivered meaning accepts refuses option ordered ops t s s' r is h =
-    runs-delivered accepts refuses option (answers meaning ops t) s s' (reported r)
-    (reports-runs accepts refuses option (MayAnswer meaning true ops) t s s' (answers meaning ops t) r (λ u may. may ∙ answers-same meaning ops t)
-    (subst (λ o. Reports accepts refuses option (MayAnswer meaning o ops) t s s' r) is h))
+    runs-delivered accepts option (answers meaning ops t) s s' refuses r
+    (reports-runs accepts refuses (merge_in_force option) (MayAnswer meaning true ops) t s s' (answers meaning ops t) r (λ u may. may ∙ answers-same meaning ops t)
+    (subst (λ o. Reports accepts refuses (merge_in_force option) (MayAnswer meaning o ops) t s s' r) is h))
 
 -- the run of a decided query has delivered that, which is nothing
-pub decided-delivered : {L T K : Type 0} (meaning : L → Meaning T) (accepts : K → List T → K → Type 0) (refuses : K → List T → ℕ → K → Type 0) (option : MergeOption) (ops : List (Op L)) (t : Trace T) (s : K)
-    → list_any is_empty_take ops ≡ true → HasDelivered accepts refuses option (answers meaning ops t) s s (Ok End)
-decided-delivered meaning accepts refuses option ops t s some =
-    runs-delivered accepts refuses option (answers meaning ops t) s s (Ok End)
-    (subst (λ u. HasRun accepts option u s s End) (answers-same meaning ops t) (decided-run meaning accepts option ops t s some))
+pub decided-delivered : {L T K : Type 0} (meaning : L → Meaning T) (accepts : K → List T → K → Type 0) (option : Option MergeOption) (ops : List (Op L)) (t : Trace T) (s : K) → list_any is_empty_take ops ≡ true
+    → ((answers meaning ops t).ending ≡ Some End) × Leads accepts s (handed_over option (answers meaning ops t).items (answers meaning ops t).ending) s
+decided-delivered meaning accepts option ops t s some =
+    ended-delivered accepts option (answers meaning ops t) s s End
+    (subst (λ u. HasRun accepts (merge_in_force option) u s s End) (answers-same meaning ops t) (decided-run meaning accepts (merge_in_force option) ops t s some))

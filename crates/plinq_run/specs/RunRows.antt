@@ -1,18 +1,18 @@
 -- Rows of runs: which deliveries and reports a run may give, and which not.
-use Rattle.std.specs.Prelude.{◌≡◌, refl, ℕ, ◌+◌, ◌≤◌, nat_lt, pos, List, [], ◌∷◌, ◌++◌, length, get_or, Bool, true, false, Option, Some, None, Result, Ok, Err}
+use Rattle.std.specs.Prelude.{◌≡◌, ◌||◌, refl, ℕ, ◌+◌, ◌≤◌, nat_lt, pos, List, [], ◌∷◌, ◌++◌, length, get_or, Bool, true, false, Option, Some, None, Result, Ok, Err}
 use Rattle.std.specs.Int.{int_max}
 use Rattle.std.specs.Global.{Vec}
 use Rattle.std.proofs.Common.{arith, ap, sym, subst, ◌∙◌}
 use Rattle.std.proofs.lemmas.List.{length-append}
 use Rattle.std.proofs.lemmas.List.Elements.{All-nil, All-cons}
 use Rattle.plinq_aggregate.specs.Numbers.{picking}
-use Rattle.plinq_source.specs.declared.ending.Ending.{Ending}
 use Rattle.plinq_source.specs.declared.ending.Ending.TheVariants.{End, Refused, Fault}
 use Rattle.plinq_source.specs.Trace.{Trace, ended, open_trace}
 use Rattle.plinq_keyed.specs.declared.event.Event.TheVariants.{Ask, Close}
 use Rattle.plinq_keyed.specs.declared.record.Record.{Record}
 use Rattle.plinq_keyed.specs.declared.tail.Tail.{Tail}
 use Rattle.plinq_keyed.specs.declared.tail.Tail.TheVariants.{Ended, Closed}
+use Rattle.plinq_merge.specs.declared.with_cancellation.WithCancellation.{WithCancellation}
 use Rattle.plinq_merge.specs.Sending.{Leads}
 use Rattle.plinq_merge.specs.Cancelling.{Delivery, Passes, IsAsked}
 use Rattle.plinq_ops.specs.declared.merge_option.MergeOption.TheVariants.{NotBuffered}
@@ -20,11 +20,13 @@ use Rattle.plinq_ops.specs.declared.results.ChunkResult.{ChunkResult}
 use Rattle.plinq_ops.specs.Answer.{Answer}
 use Rattle.plinq_ops.specs.Operator.{example}
 use Rattle.plinq_run.specs.declared.aggregate_fault.AggregateFault.TheVariants.{Ended as EndedSo, Run}
+use Rattle.plinq_run.specs.declared.report.Report.{Report}
 use Rattle.plinq_run.specs.declared.run_fault.RunFault.{RunFault}
 use Rattle.plinq_run.specs.declared.run_fault.RunFault.TheVariants.{Memory, Sink, Tickets, Thread, Incomplete, Cancelled}
 use Rattle.plinq_run.specs.Aggregates.{Aggregates}
 use Rattle.plinq_run.specs.Handed.{is_end, handed_trace}
 use Rattle.plinq_run.specs.Headline.{HasDelivered}
+use Rattle.plinq_run.specs.inner.Cancelling.{ReportsLent}
 use Rattle.plinq_run.specs.inner.Offered.{IsOffered, Covers}
 use Rattle.plinq_run.specs.Reports.{HasReported}
 use Rattle.plinq_run.specs.Runs.{Runs}
@@ -121,11 +123,11 @@ another_ending : Runs keeps refuses_with_9 NotBuffered four_two_five [] (4 ∷ 2
 another_ending run = let same = run.ending in absurd (cc)
 
 -- the same by the words of the headline
-abbrev Delivers : List ℕ → Result Ending RunFault → Type 0
-Delivers s' r = HasDelivered keeps refuses_with_9 NotBuffered four_two_five [] s' r
+abbrev Delivers : List ℕ → Result Report RunFault → Type 0
+Delivers s' r = HasDelivered keeps refuses_with_9 (Some NotBuffered) four_two_five [] s' r
 
-all_delivered : Delivers (4 ∷ 2 ∷ 5 ∷ []) (Ok End)
-all_delivered = (refl, (4 ∷ [], refl, (4 ∷ 2 ∷ [], refl, (4 ∷ 2 ∷ 5 ∷ [], refl, refl))))
+all_delivered : (records : Vec Record) → Delivers (4 ∷ 2 ∷ 5 ∷ []) (Ok (record { ending = End; records = records }))
+all_delivered records = (refl, (4 ∷ [], refl, (4 ∷ 2 ∷ [], refl, (4 ∷ 2 ∷ 5 ∷ [], refl, refl))))
 
 second_delivered_alone : Delivers (2 ∷ []) (Err Memory) → ⊥
 second_delivered_alone (sent, rest, parts, leads) = omega (arith, four_is_first sent rest 2 parts leads)
@@ -219,6 +221,13 @@ no_records records are report =
     let known : (handed_trace one_two records.items).ending ≡ None = rw are refl in
     let told : report.answer.ending ≡ None = ap (λ (t : Trace ℕ). t.ending) report.accounts.goes_on ∙ report.accounts.given.ending ∙ known in
     let same = report.has_run.ending in
+    absurd (cc)
+
+-- a token that has told of a stop, though another fault broke the run off
+told_of_no_stop : (w w' : WithCancellation Bool (List ℕ)) → w.token.now ≡ false → w'.token.now ≡ true
+    → ReportsLent at_one (λ told. told) keeps refuses_with_9 NotBuffered IsAnswer one_two w w' (Err Memory) → ⊥
+told_of_no_stop w w' untold told lent =
+    let same : true ≡ (false || false) = sym told ∙ lent.told ∙ ap (λ t. t || false) untold in
     absurd (cc)
 
 -- ---- what records hand out

@@ -93,7 +93,8 @@ where
     ensures untouched { list_any is_empty_take query.now.ops ≡ true → sink.new ≡ sink.old }
     ensures none { list_any is_empty_take query.now.ops ≡ true → IfOk result (λ report. report.records.items ≡ []) }
     ensures closed { list_any is_empty_take query.now.ops ≡ false → IfOk result (λ report. has_close report.records.items ≡ true) }
-    ensures ordered { query.now.ordered ≡ true → HasDelivered K.accepts K.refuses (merge_in_force query.now.merge) (answers L.meaning query.now.ops (S.whole source)) sink.old sink.new (reported result) }
+    ensures ordered { query.now.ordered ≡ true →
+        HasDelivered K.accepts K.refuses query.now.merge (answers L.meaning query.now.ops (S.whole source)) sink.old sink.new result }
     ensures reports { Reports K.accepts K.refuses (merge_in_force query.now.merge) (MayAnswer L.meaning query.now.ordered query.now.ops) (S.whole source) sink.old sink.new result }
 {
     let plan = query.split();

@@ -42,10 +42,10 @@ pub returns-then-plan-clause-ordered : goal.returns-then-plan-clause-ordered
 returns-then-plan-clause-ordered g c = λ ordered.
     let q = c.args.query.now in
     let is : c.split-plan.result.decided ≡ true = search rules in
-    decided-delivered g.L.Lambda.meaning g.K.Sink.accepts g.K.Sink.refuses (merge_in_force q.merge) q.ops (g.S.Source.whole c.args.source) c.args.sink.now (sym c.split-plan.ensures.plan.decided ∙ is)
+    decided-delivered g.L.Lambda.meaning g.K.Sink.accepts q.merge q.ops (g.S.Source.whole c.args.source) c.args.sink.now (sym c.split-plan.ensures.plan.decided ∙ is)
 
 pub returns-clause-ordered : goal.returns-clause-ordered
 returns-clause-ordered g c = λ ordered.
     let q = c.args.query.now in
-    ordered-delivered g.L.Lambda.meaning g.K.Sink.accepts g.K.Sink.refuses (merge_in_force q.merge) q.ordered q.ops (g.S.Source.whole c.args.source) c.args.sink.now c.run_plan.new.sink c.run_plan.result ordered
+    ordered-delivered g.L.Lambda.meaning g.K.Sink.accepts g.K.Sink.refuses q.merge q.ordered q.ops (g.S.Source.whole c.args.source) c.args.sink.now c.run_plan.new.sink c.run_plan.result ordered
     (returns-clause-reports g c)
