@@ -82,7 +82,7 @@ where
                     consumer.accept(part);
                     crew.progress
                         .window
-                        .move_to(consumer.merged(), consumer.merged_items());
+                        .move_to(consumer.next_key(), consumer.merged_items());
                 }
             }
             Poll::Nothing(sleep) => {

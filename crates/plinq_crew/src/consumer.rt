@@ -31,7 +31,7 @@ pub trait Consumer<M>: Drop {
         ensures { result ≡ wants_no_more self.now };
 
     /// The first key whose part is missing.
-    fn merged(&self) -> u64;
+    fn next_key(&self) -> u64;
 
     /// How many items had their turn so far, or the greatest number where there were more.
     fn merged_items(&self) -> u64;

@@ -9,7 +9,7 @@ pub trait Gate: Sync {
 
     /// Whether it may hold a worker back until another one has passed. Then all workers are at work at once, also where they are
     /// many more than there are cores.
-    fn holds_back(&self) -> bool {
+    fn may_block(&self) -> bool {
         true
     }
 }
@@ -23,7 +23,7 @@ impl Gate for OpenGate {
 
     fn after_chunk(&self, _worker: u64, _first: u64) {}
 
-    fn holds_back(&self) -> bool {
+    fn may_block(&self) -> bool {
         false
     }
 }

@@ -38,7 +38,7 @@ impl Progress {
 
     /// A worker has taken a chunk. The first after which more may come is reported, since another worker may be wanted then.
     pub(crate) fn note_taken(&self, is_last: bool) {
-        if !is_last && self.ramp_up.begins() {
+        if !is_last && self.ramp_up.note_begun() {
             self.tell();
         }
     }

@@ -38,7 +38,7 @@ impl RampUp {
     }
 
     /// A worker has taken a chunk after which more may come: says whether it is the first.
-    pub(crate) fn begins(&self) -> bool {
+    pub(crate) fn note_begun(&self) -> bool {
         if self.has_begun.load(Ordering::SeqCst) {
             return false;
         }

@@ -123,7 +123,7 @@ impl<W: Taker> Joiner<W, W::Item> {
     }
 
     /// The first key whose result is missing, while the answer is open. Takes no memory.
-    pub fn merged(&self) -> u64
+    pub fn next_key(&self) -> u64
         ensures { (offers : List (ChunkResult W.Item)) → WaitsFor self.now offers →
             ((key : ℕ) → key < result → is_offered offers key ≡ true) × (is_offered offers result ≡ false) }
     {

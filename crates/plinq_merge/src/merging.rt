@@ -86,12 +86,12 @@ impl<'a, L: Lambda> Merger<'a, L> {
 
     /// The first key whose result is missing, while the answer is open: all results before it are merged, and what was
     /// offered after it waits. Takes no memory.
-    pub fn merged(&self) -> u64
+    pub fn next_key(&self) -> u64
         ensures { (offers : List (ChunkResult L.Item)) → IsFor self.now offers →
             (answer (plan_of self.now) offers).ending ≡ None →
             ((key : ℕ) → key < result → is_offered offers key ≡ true) × (is_offered offers result ≡ false) }
     {
-        self.joiner.merged()
+        self.joiner.next_key()
     }
 
     /// How many items of results were merged so far; those of other results wait. Takes no memory.

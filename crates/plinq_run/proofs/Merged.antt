@@ -28,8 +28,8 @@ use Rattle.plinq_crew.specs.declared.worker.WorkerContext.{WorkerContext}
 use Rattle.plinq_crew.specs.Conducting.{AcceptsEach, Conducts}
 use Rattle.plinq_crew.specs.Polls.{HasAccepted}
 use Rattle.plinq_run.specs.declared.planning.Ended.{Ended}
-use Rattle.plinq_run.specs.declared.merging.Merging.{Merging}
-use Rattle.plinq_run.specs.declared.merging.MergingInto.{MergingInto}
+use Rattle.plinq_run.specs.declared.accepting.Merging.{Merging}
+use Rattle.plinq_run.specs.declared.accepting.MergingInto.{MergingInto}
 use Rattle.plinq_run.specs.declared.run_fault.RunFault.{RunFault}
 use Rattle.plinq_run.specs.inner.Merged.{offer_fault, AcceptsAfter, AreSame, AcceptsInto, Stands, HasMerged, HasBrokenOff, EndsSo}
 use Rattle.plinq_run.specs.Parting.{Breaks}

@@ -32,8 +32,8 @@ use Rattle.plinq_run.specs.declared.run_fault.RunFault.TheVariants.{Memory, Thre
 use Rattle.plinq_crew.specs.declared.conducting.Returned.{Returned}
 use Rattle.plinq_crew.specs.Polls.{HasAccepted}
 use Rattle.plinq_run.specs.declared.planning.Ended.{Ended}
-use Rattle.plinq_run.specs.declared.merging.Merging.{Merging}
-use Rattle.plinq_run.specs.declared.merging.MergingInto.{MergingInto}
+use Rattle.plinq_run.specs.declared.accepting.Merging.{Merging}
+use Rattle.plinq_run.specs.declared.accepting.MergingInto.{MergingInto}
 use Rattle.plinq_crew.specs.Conducting.{AcceptsEach, IsOfCrew}
 use Rattle.plinq_run.specs.Handed.{is_close, has_close}
 use Rattle.plinq_run.specs.inner.Finishing.{Finishes}

@@ -8,10 +8,10 @@ ghost use Rattle.plinq_run.specs.Aggregates.{AggregatesSome};
 
 use crate::aggregate_fault::AggregateFault;
 use crate::fold::Fold;
-use crate::folding::fold_plan;
 use crate::run_request::RunRequest;
 use crate::running::run;
 use crate::valuing::{value_after, value_of};
+use crate::worker_folds::fold_plan;
 use plinq_aggregate::GrowingAggregator;
 use plinq_crew::Gate;
 use plinq_enumerator::Growth;

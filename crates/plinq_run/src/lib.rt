@@ -16,28 +16,28 @@
 //! - A [`Gate`] is what workers pass on their way.
 #![tactic(auto)]
 
+mod accepting;
 mod aggregate_fault;
 mod aggregating;
 mod cancelling;
 mod chunk_pieces;
 mod combined;
-mod finishing;
 mod fold;
 mod fold_blocks;
-mod folding;
 mod kept_memory;
 pub mod laws;
 mod limits;
-mod merging;
 mod parting;
 mod planning;
 mod report;
+mod reporting;
 mod run_fault;
 mod run_request;
 mod running;
 mod sequentially;
 mod tasks;
 mod valuing;
+mod worker_folds;
 
 pub use aggregate_fault::AggregateFault;
 pub use aggregating::aggregate;

@@ -34,7 +34,7 @@ fn chunks_ahead(item_bytes: u64) -> u64
 /// How many workers are at work at first: one for each core, since on a machine that does nothing else more only take cores from
 /// one another. A gate that holds some back may need all of them.
 fn at_first<G: Gate, R: Threads>(rt: &R, gate: &G) -> u64 {
-    if gate.holds_back() {
+    if gate.may_block() {
         return u64::MAX;
     }
     match available_parallelism(rt) {

@@ -15,10 +15,10 @@ ghost use Rattle.plinq_run.specs.inner.Conducted.{HasConducted};
 ghost use Rattle.plinq_run.specs.inner.Plans.{MayRun};
 ghost use Rattle.plinq_run.specs.inner.Merged.{WereAccepted, EndsSo};
 
-use crate::finishing::finish;
+use crate::accepting::{Merging, MergingInto};
 use crate::kept_memory::keep_memory;
 use crate::limits::progress_of;
-use crate::merging::{Merging, MergingInto};
+use crate::reporting::finish;
 use crate::run_fault::RunFault;
 use crate::run_request::RunRequest;
 use plinq_crew::{Crew, Gate, ResultStream, RunSpec, RunStopKeys, Task, WorkerContext, conduct};

@@ -12,9 +12,9 @@ ghost use Rattle.plinq_run.specs.Headline.{answers, HasDelivered};
 ghost use Rattle.plinq_run.specs.inner.Plans.{MayMerge, MayRun};
 ghost use Rattle.plinq_run.specs.Reports.{Reports};
 
-use crate::finishing::report;
 use crate::planning::conduct_plan;
 use crate::report::Report;
+use crate::reporting::report;
 use crate::run_fault::RunFault;
 use crate::run_request::RunRequest;
 use crate::tasks::Unchanged;

@@ -4,7 +4,7 @@ use Rattle.std.specs.Option.{option_or}
 use Rattle.plinq_source.specs.declared.source.Source.{Ghosts as SourceGhosts}
 use Rattle.plinq_merge.specs.Joiners.{taker_of, ending_of}
 use Rattle.plinq_crew.specs.declared.conducting.Returned.{Returned}
-use Rattle.plinq_run.specs.declared.merging.Merging.{Merging}
+use Rattle.plinq_run.specs.declared.accepting.Merging.{Merging}
 use Rattle.plinq_run.specs.declared.planning.Ended.{Ended}
 use Rattle.plinq_run.specs.declared.run_fault.RunFault.{RunFault}
 use Rattle.plinq_run.specs.declared.run_fault.RunFault.TheVariants.{Incomplete}

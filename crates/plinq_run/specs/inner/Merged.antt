@@ -24,8 +24,8 @@ use Rattle.plinq_stream.specs.declared.sent.Sent.{Sent}
 use Rattle.plinq_crew.specs.Conducting.{AcceptsEach}
 use Rattle.plinq_crew.specs.Polls.{HasAccepted}
 use Rattle.plinq_run.specs.declared.planning.Ended.{Ended}
-use Rattle.plinq_run.specs.declared.merging.Merging.{Merging}
-use Rattle.plinq_run.specs.declared.merging.MergingInto.{MergingInto}
+use Rattle.plinq_run.specs.declared.accepting.Merging.{Merging}
+use Rattle.plinq_run.specs.declared.accepting.MergingInto.{MergingInto}
 use Rattle.plinq_run.specs.declared.run_fault.RunFault.{RunFault}
 use Rattle.plinq_run.specs.inner.Offered.{IsOffered}
 use Rattle.plinq_run.specs.Parting.{Breaks}

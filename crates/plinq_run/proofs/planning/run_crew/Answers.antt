@@ -6,7 +6,7 @@ use Rattle.plinq_partition.specs.Partitions.{all_shares}
 use Rattle.plinq_crew.specs.Conducting.{AcceptsEach, Conducts, IsOfCrew}
 use Rattle.plinq_crew.specs.Working.{IsOfOne}
 use Rattle.plinq_crew.proofs.Polls.{accepted-such}
-use Rattle.plinq_run.specs.declared.merging.Merging.{Merging}
+use Rattle.plinq_run.specs.declared.accepting.Merging.{Merging}
 use Rattle.plinq_run.specs.inner.Merged.{AcceptsInto, HasBrokenOff, WereAccepted}
 use Rattle.plinq_run.specs.declared.run_fault.RunFault.TheVariants.{Memory}
 use Rattle.plinq_run.proofs.Merged.{accepted-all, begun-merged, none-broken, merged-ended, conducts-same}

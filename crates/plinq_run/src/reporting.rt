@@ -10,7 +10,7 @@ ghost use Rattle.plinq_run.specs.Endings.{reported};
 ghost use Rattle.plinq_run.specs.inner.Faults.{first_reported};
 ghost use Rattle.plinq_run.specs.inner.Finishing.{Finishes};
 
-use crate::merging::Merging;
+use crate::accepting::Merging;
 use crate::planning::{Conducted, Ended};
 use crate::report::Report;
 use crate::run_fault::RunFault;

@@ -6,7 +6,7 @@ use Rattle.plinq_run.specs.inner.Conducted.{HasConducted}
 use Rattle.plinq_run.specs.inner.Folded.{FoldsSome}
 use Rattle.plinq_run.specs.inner.Plans.{MayMerge}
 use Rattle.plinq_run.proofs.Unfolded.{folded-ended, folded-broken}
-use Rattle.plinq_run.proofs.folding.fold_plan.Goals as goal
+use Rattle.plinq_run.proofs.worker_folds.fold_plan.Goals as goal
 
 pub returns-in_err-conducted : goal.returns-in_err-conducted
 returns-in_err-conducted g c =

@@ -79,11 +79,11 @@ impl<'a, 'b, W: TakeInto<O>, O> Consumer<W::Item> for MergingInto<'a, 'b, W, W::
         self.merging.is_over()
     }
 
-    fn merged(&self) -> u64
+    fn next_key(&self) -> u64
         ensures { (offers : List (ChunkResult W.Item)) → WaitsFor self.now.merging.now.joiner offers →
             ((key : ℕ) → key < result → is_offered offers key ≡ true) × (is_offered offers result ≡ false) }
     {
-        self.merging.joiner.merged()
+        self.merging.joiner.next_key()
     }
 
     fn merged_items(&self) -> u64 {
