@@ -1,5 +1,6 @@
 -- Rows of crews: what polls may leave, what may be accepted, who is started and what comes back, and what not.
-use Rattle.std.specs.Prelude.{◌≡◌, refl, ℕ, ◌+◌, ◌≤◌, ◌^◌, List, [], ◌∷◌, ◌++◌, length, get_or, None, Ok, Err, Bool, true, false, All, drop, vec_capacity}
+use Rattle.std.specs.Prelude.{◌≡◌, refl, ℕ, ◌+◌, ◌≤◌, ◌^◌, List, [], ◌∷◌, ◌++◌, length, get_or, All, drop}
+use Rattle.std.specs.Prelude.{None, Ok, Err, Bool, true, false, vec_capacity}
 use Rattle.std.specs.declared.thread.PromisedHandle.{PromisedHandle}
 use Rattle.std.proofs.Common.{arith, ap, sym, ◌∙◌, subst}
 use Rattle.std.proofs.lemmas.List.Elements.{All-head}
@@ -40,10 +41,10 @@ use Rattle.plinq_crew.specs.declared.worker.Worked.{Worked}
 use Rattle.plinq_crew.specs.declared.worker.WorkerContext.{WorkerContext}
 use Rattle.plinq_crew.specs.declared.worker_count.WorkerCount.{WorkerCount}
 use Rattle.plinq_crew.specs.inner.Closing.{wants_close, is_closed, ClosesInTime, StaysClosed}
-use Rattle.plinq_crew.specs.Conducting.{AcceptsEach, HasReturned, Conducts}
+use Rattle.plinq_crew.specs.Conducting.{AcceptsEach, IsOfCrew, HasReturned, Conducts}
 use Rattle.plinq_crew.specs.Equipped.{IsEquipped, IsReady}
 use Rattle.plinq_crew.specs.inner.Handles.{IsHandleOf, AreNumbered}
-use Rattle.plinq_crew.specs.inner.Coordinating.{IsCoordinator, StaysSame, CanStart}
+use Rattle.plinq_crew.specs.inner.Coordinating.{IsCoordinator, StaysSame, CanStart, AcceptsOn}
 use Rattle.plinq_crew.specs.inner.Scoped.{MayStartScope, ScopeReturns, MayWork, WorkReturns}
 use Rattle.plinq_crew.specs.inner.Teams.{IsTeam}
 use Rattle.plinq_crew.specs.Noted.{lacks_room, has_noted, has_worker_fault, StaysNoted}
@@ -215,6 +216,19 @@ module _ (s : Sent (ChunkResult ℕ)) where
 
   accepts_without_counting : s.item.count ≡ 2 → AcceptsEach counts is_first 3 s 3 → ⊥
   accepts_without_counting count accepts = omega (arith, count, accepts.1)
+
+  -- of one that came more, where none is to be dropped, all is accepted
+  one_more_is_left : s.item.count ≡ 2 → AcceptsOn counts is_first [] false 3 (s ∷ []) false 3 → ⊥
+  one_more_is_left count on =
+      let accepted = on [] 3 (record { taken = []; left = []; came = refl; steps = refl; all = λ _. refl }) in
+      all_taken accepted.taken accepted.left accepted.came accepted.steps (accepted.all refl)
+    where
+      all_taken : (taken left : List (Sent (ChunkResult ℕ))) → s ∷ [] ≡ taken ++ left → FoldsTo (AcceptsEach counts is_first) 3 taken 3
+          → left ≡ [] → ⊥
+      all_taken [] left came steps none = omega (arith, ap length came, ap length none)
+      all_taken (t ∷ []) left came (y, is, steps) none =
+          let two : 2 ≡ t.item.count = sym count ∙ ap (λ ts. (get_or ts 0 s).item.count) came in omega (arith, two, is.1, steps)
+      all_taken (t ∷ u ∷ ts) left came steps none = omega (arith, ap length came)
 
 -- ---- who may be started
 
@@ -415,9 +429,18 @@ module _ {L S J P T M X : Type 0} {source : Ghosts S T} (accepts : X → ChunkRe
   one_of_no_record : (s : Sent (ChunkResult M)) → (returned : Returns) → back.worker_count.started ≡ back.worker_count.wanted
       → (known returned.pass).received ≡ s ∷ [] → (IsOfOne (all_shares back.partitions.items) s.item → ⊥) → ⊥
   one_of_no_record s returned started one never =
-      never
-      (All-head (λ x. back.worker_count.started ≡ back.worker_count.wanted → IsOfOne (all_shares back.partitions.items) x.item) s []
-      (subst (λ ss. All (λ x. back.worker_count.started ≡ back.worker_count.wanted → IsOfOne (all_shares back.partitions.items) x.item) ss) one returned.each) started)
+      let IsOfSome : Sent (ChunkResult M) → Type 0 =
+      λ x. back.worker_count.started ≡ back.worker_count.wanted → IsOfOne (all_shares back.partitions.items) x.item in
+      never (All-head IsOfSome s [] (subst (All IsOfSome) one returned.each) started)
+
+  -- what is of a crew is such a part
+  no_part_of_a_crew : (c : ChunkResult M) → (IsPart c → ⊥) → IsOfCrew back IsPart c → ⊥
+  no_part_of_a_crew c never of = never of.0
+
+  -- and of a record of its workers, where all that were wanted were started
+  of_no_record_of_a_crew : (c : ChunkResult M) → back.worker_count.started ≡ back.worker_count.wanted
+      → (IsOfOne (all_shares back.partitions.items) c → ⊥) → IsOfCrew back IsPart c → ⊥
+  of_no_record_of_a_crew c started never of = never (of.1 started)
 
   -- nobody has closed the source, though no fault was noted
   nobody_has_closed : has_worker_fault back.worker_faults ≡ false → (HasClosed (all_shares back.partitions.items) → ⊥) → Returns → ⊥

@@ -17,7 +17,7 @@ use crate::consumer::Consumer;
 use crate::coordinator::Coordinator;
 use crate::poll::Poll;
 use crate::result_stream::{ResultPass, RunSpec};
-use crate::starting::{Team, WorkerFaults, join_all, start_wanted};
+use crate::starting::{Team, WorkerFaults, join_all};
 use crate::task::Task;
 use crate::worker::{Crew, Equipment, WorkerContext};
 use crate::worker_count::WorkerCount;
@@ -46,160 +46,148 @@ fn tell_before_sleep<M, X: Consumer<M>>(consumer: &mut X, sleeps: bool)
     }
 }
 
-/// Accepts what the workers send, until all have ended and nothing seems to be left in the queue, or more workers are wanted: says
-/// whether they are. Where they aren't, the source is closed if the consumer is over, unless a worker's fault stands noted.
-fn accept_some<L, S, J, P, X, R>(
-    rt: &R,
-    crew: &Crew<'_, L, S, J, P>,
-    coordinator: &mut Coordinator<S, P::Part>,
-    closing: &mut Closing,
-    consumer: &mut X,
-) -> bool
-where
-    L: SharedLambda,
-    S: Source<Item = L::Item>,
-    J: RunSpec<P::Part>,
-    P: Task<L::Item>,
-    X: Consumer<<P as Task<L::Item>>::Part>,
-    R: Wait,
-    requires coordinator { IsCoordinator crew.now.chunked.now crew.now.stream.now coordinator.old }
-    requires within { (c : ChunkResult P.Part) → J.is_result c → end_of_result c ≤ 2 ^ 40 }
-    requires ready { X.is_ready consumer.old }
-    ensures coordinator { IsCoordinator crew.now.chunked.now crew.now.stream.now coordinator.new }
-    ensures same { StaysSame coordinator.old coordinator.new }
-    ensures ready { X.is_ready consumer.new }
-    ensures over { result ≡ false → X.wants_no_more consumer.new ≡ true → is_closed closing.new ≡ false
-        → has_worker_fault coordinator.new.worker_faults ≡ true }
-    ensures closed { StaysClosed closing.old (holding_of coordinator.old.partition).share closing.new (holding_of coordinator.new.partition).share }
-    ensures accepted { AcceptsOn X.accepts J.is_result (known coordinator.old.stream).received (wants_close closing.old) consumer.old
-        (known coordinator.new.stream).received (wants_close closing.new) consumer.new }
-{
-    for _ in rt.forever() {
-        let is_over = consumer.is_over();
-        match coordinator.poll(rt, crew, is_over, closing) {
-            Poll::Came(part) => {
-                if !closing.wants_close() {
-                    consumer.accept(part);
-                    crew.progress
-                        .window
-                        .move_to(consumer.next_key(), consumer.merged_items());
-                }
-            }
-            Poll::Nothing(sleep) => {
-                tell_before_sleep::<P::Part, X>(consumer, sleep.is_some());
-                if !closing.wants_close() && coordinator.wants_more(crew) {
-                    return true;
-                }
-                coordinator.wait(rt, sleep);
-            }
-            Poll::Over => return false,
-        }
-    }
-    unreachable!()
-}
-
-/// Accepts what is left once all workers were joined, until the queue is empty.
-fn accept_rest<L, S, J, P, X, R>(
-    rt: &R,
-    crew: &Crew<'_, L, S, J, P>,
-    pass: &mut ResultPass<P::Part>,
-    closing: Closing,
-    consumer: &mut X,
-)
-where
-    L: SharedLambda,
-    S: Source<Item = L::Item>,
-    J: RunSpec<P::Part>,
-    P: Task<L::Item>,
-    X: Consumer<<P as Task<L::Item>>::Part>,
-    R: Wait,
-    requires stream { IsPassOf crew.now.stream.now pass.old }
-    requires receives { (known pass.old).receives ≡ true }
-    requires within { (c : ChunkResult P.Part) → J.is_result c → end_of_result c ≤ 2 ^ 40 }
-    requires ready { X.is_ready consumer.old }
-    ensures stream { IsPassOf crew.now.stream.now pass.new }
-    ensures all { HasReceivedAll (known pass.new) }
-    ensures sent { (known pass.new).sent ≡ (known pass.old).sent }
-    ensures numbers { (known pass.new).numbers ≡ (known pass.old).numbers }
-    ensures accepted { AcceptsOn X.accepts J.is_result (known pass.old).received (wants_close closing) consumer.old
-        (known pass.new).received (wants_close closing) consumer.new }
-{
-    for _ in rt.forever() {
-        match crew.stream.receive(rt, pass) {
-            Some(sent) => {
-                if !closing.wants_close() {
-                    consumer.accept(sent.item);
-                }
-            }
-            None => return,
-        }
-    }
-}
-
-/// Starts the workers, passes what they send to the consumer, and joins them.
-fn conduct_within<'s, Env, L, S, J, P, X, R>(
-    scope: &Scope<'s, Env>,
-    rt: &'s R,
-    crew: &'s Crew<'s, L, S, J, P>,
-    context: WorkerContext<S, P::Part>,
-    consumer: &mut X,
-) -> Result<Returned<S>, OutOfMemory>
+impl<'s, L, S, J, P> Crew<'s, L, S, J, P>
 where
     L: SharedLambda,
     S: Source<Item = L::Item>,
     J: RunSpec<P::Part> + Send + Sync,
     P: Task<L::Item>,
-    X: Consumer<<P as Task<L::Item>>::Part>,
-    R: Threads + Wait + Sync,
-    requires ready { IsReady L.meaning P.makes J.is_result J.stops_at crew.now context }
-    requires consumer { X.is_ready consumer.old }
-    ensures { Conducts X.accepts J.is_result crew.now context consumer.old consumer.new result }
 {
-    let Ok(handles) = Vec::with_capacity(crew.alloc, crew.workers as usize) else {
-        return Err(OutOfMemory);
-    };
-    let Ok(room) = Vec::with_capacity(crew.alloc, crew.workers as usize + 1) else {
-        return Err(OutOfMemory);
-    };
-    let WorkerContext {
-        partition,
-        stream,
-        cut,
-    } = context;
-    let mut coordinator = Coordinator::new(partition, stream);
-    let mut team = Team { handles, cut };
-    let mut closing = Closing::Open;
-    for _ in rt.forever() {
-        start_wanted(scope, rt, crew, &mut coordinator, &mut team);
-        if !accept_some(rt, crew, &mut coordinator, &mut closing, consumer) {
-            break;
+    /// Accepts what the workers send, until all have ended and nothing seems to be left in the queue, or more workers are wanted:
+    /// says whether they are. Where they aren't, the source is closed if the consumer is over, unless a worker's fault stands
+    /// noted.
+    fn accept_some<X: Consumer<P::Part>, R: Wait>(
+        &self,
+        rt: &R,
+        coordinator: &mut Coordinator<S, P::Part>,
+        closing: &mut Closing,
+        consumer: &mut X,
+    ) -> bool
+        requires coordinator { IsCoordinator self.now.chunked.now self.now.stream.now coordinator.old }
+        requires within { (c : ChunkResult P.Part) → J.is_result c → end_of_result c ≤ 2 ^ 40 }
+        requires ready { X.is_ready consumer.old }
+        ensures coordinator { IsCoordinator self.now.chunked.now self.now.stream.now coordinator.new }
+        ensures same { StaysSame coordinator.old coordinator.new }
+        ensures ready { X.is_ready consumer.new }
+        ensures over { result ≡ false → X.wants_no_more consumer.new ≡ true → is_closed closing.new ≡ false
+            → has_worker_fault coordinator.new.worker_faults ≡ true }
+        ensures closed { StaysClosed closing.old (holding_of coordinator.old.partition).share closing.new (holding_of coordinator.new.partition).share }
+        ensures accepted { AcceptsOn X.accepts J.is_result (known coordinator.old.stream).received (wants_close closing.old) consumer.old
+            (known coordinator.new.stream).received (wants_close closing.new) consumer.new }
+    {
+        for _ in rt.forever() {
+            let is_over = consumer.is_over();
+            match coordinator.poll(rt, self, is_over, closing) {
+                Poll::Came(part) => {
+                    if !closing.wants_close() {
+                        consumer.accept(part);
+                        self.progress
+                            .window
+                            .move_to(consumer.next_key(), consumer.merged_items());
+                    }
+                }
+                Poll::Nothing(sleep) => {
+                    tell_before_sleep::<P::Part, X>(consumer, sleep.is_some());
+                    if !closing.wants_close() && coordinator.wants_more(self) {
+                        return true;
+                    }
+                    coordinator.wait(rt, sleep);
+                }
+                Poll::Over => return false,
+            }
+        }
+        unreachable!()
+    }
+
+    /// Accepts what is left once all workers were joined, until the queue is empty.
+    fn accept_rest<X: Consumer<P::Part>, R: Wait>(
+        &self,
+        rt: &R,
+        pass: &mut ResultPass<P::Part>,
+        closing: Closing,
+        consumer: &mut X,
+    )
+        requires stream { IsPassOf self.now.stream.now pass.old }
+        requires receives { (known pass.old).receives ≡ true }
+        requires within { (c : ChunkResult P.Part) → J.is_result c → end_of_result c ≤ 2 ^ 40 }
+        requires ready { X.is_ready consumer.old }
+        ensures stream { IsPassOf self.now.stream.now pass.new }
+        ensures all { HasReceivedAll (known pass.new) }
+        ensures sent { (known pass.new).sent ≡ (known pass.old).sent }
+        ensures numbers { (known pass.new).numbers ≡ (known pass.old).numbers }
+        ensures accepted { AcceptsOn X.accepts J.is_result (known pass.old).received (wants_close closing) consumer.old
+            (known pass.new).received (wants_close closing) consumer.new }
+    {
+        for _ in rt.forever() {
+            match self.stream.receive(rt, pass) {
+                Some(sent) => {
+                    if !closing.wants_close() {
+                        consumer.accept(sent.item);
+                    }
+                }
+                None => return,
+            }
         }
     }
-    coordinator.close_at_last(rt, crew, closing);
-    let Team { handles, .. } = team;
-    let Coordinator {
-        partition,
-        mut stream,
-        worker_count,
-        mut worker_faults,
-        ..
-    } = coordinator;
-    let partitions = join_all(
-        rt,
-        crew.chunked,
-        crew.stream,
-        partition,
-        &mut stream,
-        handles,
-        room,
-        &mut worker_faults,
-    );
-    accept_rest(rt, crew, &mut stream, closing, consumer);
-    Ok(Returned {
-        partitions,
-        worker_faults,
-        worker_count,
-    })
+
+    /// Starts the workers, passes what they send to the consumer, and joins them.
+    fn conduct_within<Env, X: Consumer<P::Part>, R: Threads + Wait + Sync>(
+        &'s self,
+        scope: &Scope<'s, Env>,
+        rt: &'s R,
+        context: WorkerContext<S, P::Part>,
+        consumer: &mut X,
+    ) -> Result<Returned<S>, OutOfMemory>
+        requires ready { IsReady L.meaning P.makes J.is_result J.stops_at self.now context }
+        requires consumer { X.is_ready consumer.old }
+        ensures { Conducts X.accepts J.is_result self.now context consumer.old consumer.new result }
+    {
+        let Ok(handles) = Vec::with_capacity(self.alloc, self.workers as usize) else {
+            return Err(OutOfMemory);
+        };
+        let Ok(room) = Vec::with_capacity(self.alloc, self.workers as usize + 1) else {
+            return Err(OutOfMemory);
+        };
+        let WorkerContext {
+            partition,
+            stream,
+            cut,
+        } = context;
+        let mut coordinator = Coordinator::new(partition, stream);
+        let mut team = Team { handles, cut };
+        let mut closing = Closing::Open;
+        for _ in rt.forever() {
+            self.start_wanted(scope, rt, &mut coordinator, &mut team);
+            if !self.accept_some(rt, &mut coordinator, &mut closing, consumer) {
+                break;
+            }
+        }
+        coordinator.close_at_last(rt, self, closing);
+        let Team { handles, .. } = team;
+        let Coordinator {
+            partition,
+            mut stream,
+            worker_count,
+            mut worker_faults,
+            ..
+        } = coordinator;
+        let partitions = join_all(
+            rt,
+            self.chunked,
+            self.stream,
+            partition,
+            &mut stream,
+            handles,
+            room,
+            &mut worker_faults,
+        );
+        self.accept_rest(rt, &mut stream, closing, consumer);
+        Ok(Returned {
+            partitions,
+            worker_faults,
+            worker_count,
+        })
+    }
 }
 
 /// Starts a crew's workers, passes what they send to the consumer, and joins them.
@@ -235,7 +223,7 @@ where
         {
             let (equipment, lent) = taken;
             let Equipment { rt, crew, context } = equipment;
-            let returned = conduct_within(scope, rt, crew, context, lent);
+            let returned = crew.conduct_within(scope, rt, context, lent);
             (returned, lent)
         },
     );

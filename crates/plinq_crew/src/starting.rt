@@ -27,45 +27,6 @@ use std::snapshot::Snapshot;
 use std::sync::Wait;
 use std::thread::{Scope, Threads};
 
-/// Starts one worker, unless no thread can be had.
-fn start<'s, Env, L, S, J, P, R>(
-    scope: &Scope<'s, Env>,
-    rt: &'s R,
-    crew: &'s Crew<'s, L, S, J, P>,
-    worker: u64,
-    context: WorkerContext<S, P::Part>,
-) -> Option<WorkerHandle<S, P::Part>>
-where
-    L: SharedLambda,
-    S: Source<Item = L::Item>,
-    J: RunSpec<P::Part> + Send + Sync,
-    P: Task<L::Item>,
-    R: Threads + Wait + Sync,
-    requires new { IsNewcomer crew.now.stream.now worker context.partition context.stream }
-    requires equipped { IsEquipped L.meaning (P.makes crew.now.task.now) J.is_result J.stops_at crew.now.plan.now crew.now.chunked.now crew.now.cut.now context.partition context.cut }
-    ensures handle { IfSome result (IsHandleOf crew.now.chunked.now crew.now.stream.now) }
-    ensures number { IfSome result (λ handle. handle.promise.number ≡ worker) }
-{
-    let promise = WorkerPromise {
-        chunked: Snapshot::of(crew.chunked),
-        given: Snapshot::of(&context.stream),
-        number: worker,
-    };
-    let taken = (Equipment { rt, crew, context }, worker);
-    let handle = scope.spawn_with(
-        promise,
-        move || -> Worked<S, P::Part>
-            requires { MayWork L.meaning P.makes J.is_result J.stops_at taken.0 taken.1 }
-            ensures { WorkReturns taken.entry.0 taken.entry.1 result }
-        {
-            let (equipment, worker) = taken;
-            let Equipment { rt, crew, context } = equipment;
-            crew.work(rt, worker, context)
-        },
-    );
-    handle.ok()
-}
-
 /// The workers that were started, and the pass of the cut of which each has got one.
 #[derive(Drop)]
 pub(crate) struct Team<S: Source, M> {
@@ -73,44 +34,80 @@ pub(crate) struct Team<S: Source, M> {
     pub(crate) cut: CutPass,
 }
 
-/// Starts as many workers as are wanted by now, at least one, each with a new partition beside the caller's thread's own and a
-/// number of its own, or as many as there are threads to be had. Where one was missing before, none is started.
-pub(crate) fn start_wanted<'s, Env, L, S, J, P, R>(
-    scope: &Scope<'s, Env>,
-    rt: &'s R,
-    crew: &'s Crew<'s, L, S, J, P>,
-    coordinator: &mut Coordinator<S, P::Part>,
-    team: &mut Team<S, P::Part>,
-)
+impl<'s, L, S, J, P> Crew<'s, L, S, J, P>
 where
     L: SharedLambda,
     S: Source<Item = L::Item>,
     J: RunSpec<P::Part> + Send + Sync,
     P: Task<L::Item>,
-    R: Threads + Wait + Sync,
-    requires may { CanStart L.meaning P.makes J.is_result J.stops_at crew.now coordinator.old team.old }
-    ensures may { CanStart L.meaning P.makes J.is_result J.stops_at crew.now coordinator.new team.new }
-    ensures same { holding_of coordinator.new.partition ≡ holding_of coordinator.old.partition }
-    ensures received { (known coordinator.new.stream).received ≡ (known coordinator.old.stream).received }
-    ensures wanted { 1 ≤ coordinator.new.worker_count.wanted }
 {
-    let WorkerCount { wanted, started } = coordinator.worker_count;
-    if started != wanted {
-        return;
+    /// Starts one worker, unless no thread can be had.
+    fn start<Env, R: Threads + Wait + Sync>(
+        &'s self,
+        scope: &Scope<'s, Env>,
+        rt: &'s R,
+        worker: u64,
+        context: WorkerContext<S, P::Part>,
+    ) -> Option<WorkerHandle<S, P::Part>>
+        requires new { IsNewcomer self.now.stream.now worker context.partition context.stream }
+        requires equipped { IsEquipped L.meaning (P.makes self.now.task.now) J.is_result J.stops_at self.now.plan.now self.now.chunked.now self.now.cut.now context.partition context.cut }
+        ensures handle { IfSome result (IsHandleOf self.now.chunked.now self.now.stream.now) }
+        ensures number { IfSome result (λ handle. handle.promise.number ≡ worker) }
+    {
+        let promise = WorkerPromise {
+            chunked: Snapshot::of(self.chunked),
+            given: Snapshot::of(&context.stream),
+            number: worker,
+        };
+        let crew = self;
+        let taken = (Equipment { rt, crew, context }, worker);
+        let handle = scope.spawn_with(
+            promise,
+            move || -> Worked<S, P::Part>
+                requires { MayWork L.meaning P.makes J.is_result J.stops_at taken.0 taken.1 }
+                ensures { WorkReturns taken.entry.0 taken.entry.1 result }
+            {
+                let (equipment, worker) = taken;
+                let Equipment { rt, crew, context } = equipment;
+                crew.work(rt, worker, context)
+            },
+        );
+        handle.ok()
     }
-    let goal = crew.workers.min(wanted.max(crew.progress.wanted()).max(1));
-    coordinator.worker_count.wanted = goal;
-    for worker in started..goal {
-        let theirs = WorkerContext {
-            partition: crew.chunked.dynamic(&mut coordinator.partition),
-            stream: crew.stream.give_number(&mut coordinator.stream),
-            cut: crew.cut.split(&mut team.cut),
-        };
-        let Some(handle) = start(scope, rt, crew, worker, theirs) else {
+
+    /// Starts as many workers as are wanted by now, at least one, each with a new partition beside the caller's thread's own and a
+    /// number of its own, or as many as there are threads to be had. Where one was missing before, none is started.
+    pub(crate) fn start_wanted<Env, R: Threads + Wait + Sync>(
+        &'s self,
+        scope: &Scope<'s, Env>,
+        rt: &'s R,
+        coordinator: &mut Coordinator<S, P::Part>,
+        team: &mut Team<S, P::Part>,
+    )
+        requires may { CanStart L.meaning P.makes J.is_result J.stops_at self.now coordinator.old team.old }
+        ensures may { CanStart L.meaning P.makes J.is_result J.stops_at self.now coordinator.new team.new }
+        ensures same { holding_of coordinator.new.partition ≡ holding_of coordinator.old.partition }
+        ensures received { (known coordinator.new.stream).received ≡ (known coordinator.old.stream).received }
+        ensures wanted { 1 ≤ coordinator.new.worker_count.wanted }
+    {
+        let WorkerCount { wanted, started } = coordinator.worker_count;
+        if started != wanted {
             return;
-        };
-        team.handles.push_reserved(handle);
-        coordinator.worker_count.started = worker + 1;
+        }
+        let goal = self.workers.min(wanted.max(self.progress.wanted()).max(1));
+        coordinator.worker_count.wanted = goal;
+        for worker in started..goal {
+            let theirs = WorkerContext {
+                partition: self.chunked.dynamic(&mut coordinator.partition),
+                stream: self.stream.give_number(&mut coordinator.stream),
+                cut: self.cut.split(&mut team.cut),
+            };
+            let Some(handle) = self.start(scope, rt, worker, theirs) else {
+                return;
+            };
+            team.handles.push_reserved(handle);
+            coordinator.worker_count.started = worker + 1;
+        }
     }
 }
 

@@ -7,7 +7,7 @@ use Rattle.plinq_crew.proofs.Shares.{closes-stays}
 use Rattle.plinq_crew.proofs.Polls.{took-none, took-more}
 use Rattle.plinq_crew.specs.Conducting.{AcceptsEach}
 use Rattle.plinq_crew.specs.Working.{HasClosed}
-use Rattle.plinq_crew.proofs.conducting.accept_some.Goals as goal
+use Rattle.plinq_crew.proofs.worker.Crew.accept_some.Goals as goal
 
 pub loop-preserved-then-not-wants_close : goal.loop-preserved-then-not-wants_close
 loop-preserved-then-not-wants_close g c = record {

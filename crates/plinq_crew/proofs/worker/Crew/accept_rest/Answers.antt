@@ -3,7 +3,7 @@ use Rattle.plinq_stream.specs.Passes.{known}
 use Rattle.plinq_crew.specs.inner.Closing.{wants_close}
 use Rattle.plinq_crew.proofs.Polls.{took-more}
 use Rattle.plinq_crew.specs.Conducting.{AcceptsEach}
-use Rattle.plinq_crew.proofs.conducting.accept_rest.Goals as goal
+use Rattle.plinq_crew.proofs.worker.Crew.accept_rest.Goals as goal
 
 pub loop-preserved-then-not-wants_close : goal.loop-preserved-then-not-wants_close
 loop-preserved-then-not-wants_close g c = record {

@@ -7,11 +7,11 @@ use Rattle.plinq_crew.specs.inner.Handles.{IsHandleOf, AreNumbered}
 use Rattle.plinq_crew.proofs.Cuts.{equipped-beside}
 use Rattle.plinq_crew.proofs.Handles.{numbered-push}
 use Rattle.plinq_crew.proofs.Working.{first-handed, rest-handed, handed-receiver}
-use Rattle.plinq_crew.proofs.starting.start_wanted.Goals as goal
+use Rattle.plinq_crew.proofs.worker.Crew.start_wanted.Goals as goal
 
 pub start-requires-clause-equipped : goal.start-requires-clause-equipped
 start-requires-clause-equipped g c κs within =
-    let crew = c.args.crew.now in
+    let crew = c.args.self.now in
     let own = c.loop-worker.coordinator.partition in
     equipped-beside g.L.Lambda.meaning (g.P.Task.makes crew.task.now) g.J.RunSpec.is_result g.J.RunSpec.stops_at crew.plan.now crew.chunked.now crew.cut.now own c.dynamic.result c.loop-worker.team.cut c.split.result
     c.loop-worker.invariant.equipped c.dynamic.ensures.of.1 (ap (λ h. h.origin) c.dynamic.ensures.new) c.split.ensures.passes.1
@@ -32,7 +32,7 @@ start-requires-clause-new g c κs within =
 
 pub loop-worker-preserved : goal.loop-worker-preserved
 loop-worker-preserved g c =
-    let crew = c.args.crew.now in
+    let crew = c.args.self.now in
     let handles = c.loop-worker.team.handles.items in
     let handle = c.in-Some.handle in
     let less : c.loop-worker.worker < 64 = search rules in
@@ -62,7 +62,7 @@ loop-worker-preserved g c =
 
 pub returns-in_default-clause-may : goal.returns-in_default-clause-may
 returns-in_default-clause-may g c =
-    let crew = c.args.crew.now in
+    let crew = c.args.self.now in
     let less : c.loop-worker.worker < c.loop-worker.coordinator.worker_count.wanted = search rules in
     let counted : length c.loop-worker.team.handles.items ≡ c.loop-worker.worker = c.loop-worker.invariant.counted in
     let started : c.loop-worker.coordinator.worker_count.started ≡ length c.loop-worker.team.handles.items = c.loop-worker.invariant.team.started in

@@ -12,8 +12,8 @@ use Rattle.plinq_crew.specs.Working.{HasClosed, HasNumbersFrom, IsOfOne}
 use Rattle.plinq_crew.proofs.Coordinating.{may-go_on}
 use Rattle.plinq_crew.proofs.Shares.{none-before}
 use Rattle.plinq_crew.proofs.Working.{answered-same}
-use Rattle.plinq_crew.proofs.conducting.conduct_within.Goals as goal
-use Rattle.plinq_crew.proofs.conducting.conduct_within.Goals.{in-None, in-Some+then-not-accept_some}
+use Rattle.plinq_crew.proofs.worker.Crew.conduct_within.Goals as goal
+use Rattle.plinq_crew.proofs.worker.Crew.conduct_within.Goals.{in-None, in-Some+then-not-accept_some}
 
 pub loop-init : goal.loop-init
 loop-init g c =
@@ -44,7 +44,7 @@ loop-init g c =
 
 pub loop-preserved : goal.loop-preserved
 loop-preserved g c =
-    let crew = c.args.crew.now in
+    let crew = c.args.self.now in
     let Step = AcceptsEach g.X.Consumer.accepts g.J.RunSpec.is_result in
     record {
       can = tt;
@@ -59,7 +59,7 @@ loop-preserved g c =
 
 pub returns : goal.returns
 returns g c =
-    let crew = c.args.crew.now in
+    let crew = c.args.self.now in
     let Step = AcceptsEach g.X.Consumer.accepts g.J.RunSpec.is_result in
     let x = c.args.consumer.now in
     let end = c.match-next in
