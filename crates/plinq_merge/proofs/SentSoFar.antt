@@ -17,6 +17,7 @@ use Rattle.plinq_ops.proofs.Runs.{full_batches-append, held_back-append, batches
 use Rattle.plinq_merge.specs.declared.delivery_fault.DeliveryFault.{DeliveryFault}
 use Rattle.plinq_merge.specs.declared.delivery_fault.DeliveryFault.TheVariants.{Memory}
 use Rattle.plinq_merge.specs.Sending.{Leads, IsCutOff, Delivers}
+use Rattle.plinq_merge.specs.inner.OneThread.{DeliversAll}
 use Rattle.plinq_merge.proofs.Blocks.{full_batches-filled, held_back-filled}
 use Rattle.plinq_merge.specs.inner.Sent.{leads-append, cut-after, cut-before, delivers-as, delivers-after}
 
@@ -25,7 +26,7 @@ pub on-any : {A E : Type 0} (P : Type 0) (r : Result A E) → P → OnOk r P
 on-any P (Ok x) p = p
 on-any P (Err e) p = tt
 
-pub told-ending : {E : Type 0} (o : Option Ending) (e : Ending) (r : Result Ending E) → o ≡ Some e → IfOk r (λ told. told ≡ e) → IfOk r (λ told. o ≡ Some told)
+told-ending : {E : Type 0} (o : Option Ending) (e : Ending) (r : Result Ending E) → o ≡ Some e → IfOk r (λ told. told ≡ e) → IfOk r (λ told. o ≡ Some told)
 told-ending o e (Ok told) is same = is ∙ ap Some (sym same)
 told-ending o e (Err fault) is same = tt
 
@@ -77,31 +78,35 @@ module _ {K T : Type 0} (accepts : K → List T → K → Type 0) (refuses : K �
       }
 
   -- all was fed, and the rest delivered or cut off
-  sent-rest : {A : Type 0} (t : Trace T) (held made : List T) (ss' : List (Stage T)) (s1 s2 : K) (e : Ending) (r : Result A DeliveryFault) → HasSent t held made ss' s1 (Some e)
-      → Delivers accepts refuses s1 (batches_from size held (ended made e)) r s2 → Delivers accepts refuses s (batches_from size [] (seq ss t)) r s2
-  sent-rest t held made ss' s1 s2 e r before rest =
+  sent-rest : (t : Trace T) (given : ℕ) (held made : List T) (ss' : List (Stage T)) (s1 s2 : K) (e : Ending) (r : Result Ending DeliveryFault) → HasSent t held made ss' s1 (Some e)
+      → IsLeastDeciding ss t given → IfOk r (λ told. told ≡ e) → Delivers accepts refuses s1 (batches_from size held (ended made e)) r s2 → DeliversAll accepts refuses size ss t s given r s2
+  sent-rest t given held made ss' s1 s2 e r before least told rest =
       let answer : ended (before.out ++ made) e ≡ seq ss t = answer-fed ss ss' t [] (before.out ++ made) e refl before.fed in
       let all : batches_from size [] (seq ss t) ≡ full_batches size [] before.out ++ batches_from size held (ended made e) =
       ap (batches_from size []) (sym answer) ∙ batches_from-followed size [] before.out (ended made e) ∙ ap (λ h. full_batches size [] before.out ++ batches_from size h (ended made e)) (sym before.keeps) in
-      delivers-as accepts refuses s (batches_from size [] (seq ss t)) (full_batches size [] before.out ++ batches_from size held (ended made e)) r s2 all
-      (delivers-after accepts refuses s (full_batches size [] before.out) (batches_from size held (ended made e)) s1 r s2 before.leads rest)
+      record {
+        ending = told-ending (seq ss t).ending e r (sym before.fed.told) told;
+        delivered = delivers-as accepts refuses s (batches_from size [] (seq ss t)) (full_batches size [] before.out ++ batches_from size held (ended made e)) r s2 all
+            (delivers-after accepts refuses s (full_batches size [] before.out) (batches_from size held (ended made e)) s1 r s2 before.leads rest);
+        least = on-any (IsLeastDeciding ss t given) r least;
+      }
 
-  pub sent-decided : {A : Type 0} (ss' : List (Stage T)) (t : Trace T) (n : ℕ) (held made : List T) (s1 s2 : K) (e : Ending) (r : Result A DeliveryFault) → HasSent (first_items n t) held made ss' s1 (Some e)
-      → Delivers accepts refuses s1 (batches_from size held (ended made e)) r s2 → Delivers accepts refuses s (batches_from size [] (seq ss t)) r s2
-  sent-decided ss' t n held made s1 s2 e r all rest =
-      sent-rest t held made ss' s1 s2 e r (record { out = all.out; fed = fed-decided ss ss' ss' t n [] (all.out ++ made) e all.fed; keeps = all.keeps; leads = all.leads }) rest
+  -- an item decided the answer
+  pub sent-decided : (ss' ss'' : List (Stage T)) (t : Trace T) (n : ℕ) (x : T) (held made made' : List T) (s1 s2 : K) (e : Ending) (r : Result Ending DeliveryFault) → IsNextItem t n x
+      → HasSent (first_items n t) held made ss' s1 None → IsFed ss' (open_trace (x ∷ [])) made made' ss'' (Some e) → IfOk r (λ told. told ≡ e)
+      → Delivers accepts refuses s1 (batches_from size held (ended made' e)) r s2 → DeliversAll accepts refuses size ss t s (n + 1) r s2
+  sent-decided ss' ss'' t n x held made made' s1 s2 e r next before fed told rest =
+      let all = sent-next ss' ss'' t n x held made made' s1 (Some e) next before fed in
+      let whole : HasSent t held made' ss'' s1 (Some e) = record { out = all.out; fed = fed-decided ss ss'' ss'' t (n + 1) [] (all.out ++ made') e all.fed; keeps = all.keeps; leads = all.leads } in
+      sent-rest t (n + 1) held made' ss'' s1 s2 e r whole (least-decided ss ss' ss'' t n x [] (before.out ++ made) (all.out ++ made') e next before.fed all.fed) told rest
 
-  pub sent-at_ending : {A : Type 0} (ss' : List (Stage T)) (t : Trace T) (n : ℕ) (held made : List T) (s1 s2 : K) (e : Ending) (r : Result A DeliveryFault) → IsAtEnding t n e
-      → HasSent (first_items n t) held made ss' s1 None → Delivers accepts refuses s1 (batches_from size held (ended made e)) r s2 → Delivers accepts refuses s (batches_from size [] (seq ss t)) r s2
-  sent-at_ending ss' t n held made s1 s2 e r at_ending all rest =
-      sent-rest t held made ss' s1 s2 e r (record { out = all.out; fed = fed-at_ending ss ss' ss' t n [] (all.out ++ made) e at_ending all.fed; keeps = all.keeps; leads = all.leads }) rest
-
-  -- how the answer ends
-  pub ending-decided : (ss' : List (Stage T)) (t : Trace T) (n : ℕ) (held made : List T) (s' : K) (e : Ending) → HasSent (first_items n t) held made ss' s' (Some e) → (seq ss t).ending ≡ Some e
-  ending-decided ss' t n held made s' e all = let fed = fed-decided ss ss' ss' t n [] (all.out ++ made) e all.fed in sym fed.told
-
-  pub ending-at_ending : (ss' : List (Stage T)) (t : Trace T) (n : ℕ) (held made : List T) (s' : K) (e : Ending) → IsAtEnding t n e → HasSent (first_items n t) held made ss' s' None → (seq ss t).ending ≡ Some e
-  ending-at_ending ss' t n held made s' e at_ending all = let fed = fed-at_ending ss ss' ss' t n [] (all.out ++ made) e at_ending all.fed in sym fed.told
+  -- or the source has ended
+  pub sent-at_ending : (ss' : List (Stage T)) (t : Trace T) (n : ℕ) (held made : List T) (s1 s2 : K) (e : Ending) (r : Result Ending DeliveryFault) → IsAtEnding t n e
+      → HasSent (first_items n t) held made ss' s1 None → IfOk r (λ told. told ≡ e) → Delivers accepts refuses s1 (batches_from size held (ended made e)) r s2
+      → DeliversAll accepts refuses size ss t s n r s2
+  sent-at_ending ss' t n held made s1 s2 e r at_ending all told rest =
+      let whole : HasSent t held made ss' s1 (Some e) = record { out = all.out; fed = fed-at_ending ss ss' ss' t n [] (all.out ++ made) e at_ending all.fed; keeps = all.keeps; leads = all.leads } in
+      sent-rest t n held made ss' s1 s2 e r whole (least-at_ending ss ss' t n [] (all.out ++ made) e at_ending all.fed) told rest
 
   -- what the answer goes on with after the first items
   open-after : (ss' : List (Stage T)) (t : Trace T) (n : ℕ) (out : List T) → IsFed ss (first_items n t) [] out ss' None → (more : Trace T) × (seq ss t ≡ followed (open_trace out) more)
@@ -113,10 +118,10 @@ module _ {K T : Type 0} (accepts : K → List T → K → Type 0) (refuses : K �
       (seq (seq_after ss a) b, ap (seq ss) (sym whole) ∙ seq-followed ss a b ∙ ap (λ u. followed u (seq (seq_after ss a) b)) first)
 
   -- a delivery that was cut off in the midst
-  pub sent-cut : (ss' : List (Stage T)) (t : Trace T) (n : ℕ) (held made given left : List T) (s1 s2 : K) (fault : DeliveryFault) → made ≡ given ++ left
-      → HasSent (first_items n t) held made ss' s1 None → IsCutOff accepts refuses s1 (full_batches size held given) fault s2
-      → IsCutOff accepts refuses s (batches_from size [] (seq ss t)) fault s2
-  sent-cut ss' t n held made given left s1 s2 fault parts before cut =
+  pub sent-cut : (ss' : List (Stage T)) (t : Trace T) (n asked : ℕ) (held made given left : List T) (s1 s2 : K) (fault : DeliveryFault) (r : Result Ending DeliveryFault) → r ≡ Err fault
+      → made ≡ given ++ left → HasSent (first_items n t) held made ss' s1 None → IsCutOff accepts refuses s1 (full_batches size held given) fault s2
+      → DeliversAll accepts refuses size ss t s asked r s2
+  sent-cut ss' t n asked held made given left s1 s2 fault r is parts before cut =
       let more = open-after ss' t n (before.out ++ made) before.fed in
       let rest : Trace T = followed (open_trace left) more.0 in
       let answer : seq ss t ≡ followed (open_trace before.out) (followed (open_trace given) rest) =
@@ -131,21 +136,12 @@ module _ {K T : Type 0} (accepts : K → List T → K → Type 0) (refuses : K �
       ∙ ap (λ h. full_batches size [] before.out ++ batches_from size h (followed (open_trace given) rest)) (sym before.keeps)
       ∙ ap (λ bs. full_batches size [] before.out ++ bs) (batches_from-followed size held given rest) in
       let P : List (List T) → Type 0 = λ bs. IsCutOff accepts refuses s bs fault s2 in
-      subst P (sym all)
+      let part = subst P (sym all)
       (cut-after accepts refuses s (full_batches size [] before.out) (full_batches size held given ++ later) fault s1 s2 before.leads
-      (cut-before accepts refuses s1 (full_batches size held given) later fault s2 cut))
+      (cut-before accepts refuses s1 (full_batches size held given) later fault s2 cut)) in
+      rw is (record { ending = tt; delivered = part; least = tt })
 
   -- memory ran out before an item came through
-  pub sent-stopped : (ss' : List (Stage T)) (t : Trace T) (n : ℕ) (held made : List T) (s' : K) → HasSent (first_items n t) held made ss' s' None
-      → IsCutOff accepts refuses s (batches_from size [] (seq ss t)) Memory s'
-  sent-stopped ss' t n held made s' before = sent-cut ss' t n held made [] made s' s' Memory refl before ([], [], refl, refl)
-
-  -- no item before it decided the answer
-  pub least-after : (ss' ss'' : List (Stage T)) (t : Trace T) (n : ℕ) (x : T) (held made made' : List T) (s' : K) (e : Ending) → IsNextItem t n x
-      → HasSent (first_items n t) held made ss' s' None → IsFed ss' (open_trace (x ∷ [])) made made' ss'' (Some e) → IsLeastDeciding ss t (n + 1)
-  least-after ss' ss'' t n x held made made' s' e next before fed =
-      least-decided ss ss' ss'' t n x [] (before.out ++ made) _ e next before.fed (sent-next ss' ss'' t n x held made made' s' (Some e) next before fed).fed
-
-  pub least-at : (ss' : List (Stage T)) (t : Trace T) (n : ℕ) (held made : List T) (s' : K) (e : Ending) → IsAtEnding t n e
-      → HasSent (first_items n t) held made ss' s' None → IsLeastDeciding ss t n
-  least-at ss' t n held made s' e at_ending all = least-at_ending ss ss' t n [] (all.out ++ made) e at_ending all.fed
+  pub sent-stopped : (ss' : List (Stage T)) (t : Trace T) (n asked : ℕ) (held made : List T) (s' : K) (r : Result Ending DeliveryFault) → r ≡ Err Memory
+      → HasSent (first_items n t) held made ss' s' None → DeliversAll accepts refuses size ss t s asked r s'
+  sent-stopped ss' t n asked held made s' r is before = sent-cut ss' t n asked held made [] made s' s' Memory r is refl before ([], [], refl, refl)

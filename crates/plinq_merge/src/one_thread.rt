@@ -6,10 +6,11 @@ ghost use Rattle.plinq_ops.specs.Operator.{stages_of};
 ghost use Rattle.plinq_ops.specs.Pipeline.{stages};
 ghost use Rattle.plinq_ops.specs.Query.{merge_in_force};
 ghost use Rattle.plinq_ops.specs.Sequential.{answer_of, IsLeastDeciding};
-ghost use Rattle.plinq_ops.specs.Stage.{some_takes_none, seq};
+ghost use Rattle.plinq_ops.specs.Stage.{some_takes_none};
 ghost use Rattle.plinq_merge.specs.Buffer.{held_of, size_of, HasRoom};
 ghost use Rattle.plinq_merge.specs.Sending.{Delivers, IsFilled};
 ghost use Rattle.plinq_merge.specs.inner.Handing.{HandsOn};
+ghost use Rattle.plinq_merge.specs.inner.OneThread.{DeliversAll};
 
 use crate::buffer::{Buffer, buffer_of};
 use crate::delivery_fault::DeliveryFault;
@@ -79,11 +80,8 @@ where
     requires empty { held_of buffer.old ≡ [] }
     requires room { HasRoom buffer.old }
     ensures same { S.whole source.new ≡ S.whole source.old }
-    ensures ending { IfOk result (λ e. (seq (stages L.meaning pipeline.old) (S.whole source.old)).ending ≡ Some e) }
-    ensures delivered { Delivers K.accepts K.refuses sink.old
-        (batches_from (size_of buffer.old) [] (seq (stages L.meaning pipeline.old) (S.whole source.old))) result sink.new }
-    ensures least { OnOk result (IsLeastDeciding
-        (stages L.meaning pipeline.old) (S.whole source.old) (S.given source.new)) }
+    ensures delivers { DeliversAll K.accepts K.refuses (size_of buffer.old)
+        (stages L.meaning pipeline.old) (S.whole source.old) sink.old (S.given source.new) result sink.new }
 {
     let mut made = Vec::new(alloc);
     let mut wanted = buffer.missing();

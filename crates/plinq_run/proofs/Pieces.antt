@@ -12,7 +12,7 @@ use Rattle.plinq_ops.specs.Feeding.{IsFed}
 use Rattle.plinq_ops.specs.Sequential.{first_items, IsLeastDeciding}
 use Rattle.plinq_ops.proofs.Fed.{fed-none}
 use Rattle.plinq_ops.proofs.Answered.{fed-next, fed-decided, fed-at_ending, least-decided, least-at_ending}
-use Rattle.plinq_run.specs.Finished.{HasFinished}
+use Rattle.plinq_run.specs.inner.OneThread.{FoldsAll}
 
 module _ {T A O : Type 0} (f : Folding T A O) (ss : List (Stage T)) where
   -- these first items were fed; with the piece folded too, the accumulator is that of what came out
@@ -43,26 +43,23 @@ module _ {T A O : Type 0} (f : Folding T A O) (ss : List (Stage T)) where
   folded-full t acc acc' piece piece' ss' stays before = record { out = before.out; fed = before.fed; same = stays ∙ before.same }
 
   -- all of it
-  finished : (t : Trace T) (acc acc' : A) (piece : List T) (ss' : List (Stage T)) (e : Ending) → acc' ≡ fold f.update acc piece
-      → HasFolded t acc piece ss' (Some e) → HasFinished f (seq ss t) (record { acc = acc'; ending = e })
-  finished t acc acc' piece ss' e is all = record { ending = sym all.fed.told; acc = is ∙ all.same ∙ ap (folded f) all.fed.items }
+  finished : (t : Trace T) (given : ℕ) (acc acc' : A) (piece : List T) (ss' : List (Stage T)) (e : Ending) → acc' ≡ fold f.update acc piece
+      → HasFolded t acc piece ss' (Some e) → IsLeastDeciding ss t given → FoldsAll f ss t given (record { acc = acc'; ending = e })
+  finished t given acc acc' piece ss' e is all least =
+      record { folded = record { ending = sym all.fed.told; acc = is ∙ all.same ∙ ap (folded f) all.fed.items }; least = least }
 
-  pub finished-decided : (ss' : List (Stage T)) (t : Trace T) (n : ℕ) (acc acc' : A) (piece : List T) (e : Ending) → acc' ≡ fold f.update acc piece
-      → HasFolded (first_items n t) acc piece ss' (Some e) → HasFinished f (seq ss t) (record { acc = acc'; ending = e })
-  finished-decided ss' t n acc acc' piece e is all =
-      finished t acc acc' piece ss' e is (record { out = all.out; fed = fed-decided ss ss' ss' t n [] all.out e all.fed; same = all.same })
+  -- an item decided the answer
+  pub finished-decided : (ss' ss'' : List (Stage T)) (t : Trace T) (n : ℕ) (x : T) (acc acc' : A) (piece piece' : List T) (e : Ending) → IsNextItem t n x
+      → HasFolded (first_items n t) acc piece ss' None → IsFed ss' (open_trace (x ∷ [])) piece piece' ss'' (Some e) → acc' ≡ fold f.update acc piece'
+      → FoldsAll f ss t (n + 1) (record { acc = acc'; ending = e })
+  finished-decided ss' ss'' t n x acc acc' piece piece' e next before fed is =
+      let all = folded-next ss' ss'' t n x acc piece piece' (Some e) next before fed in
+      finished t (n + 1) acc acc' piece' ss'' e is (record { out = all.out; fed = fed-decided ss ss'' ss'' t (n + 1) [] all.out e all.fed; same = all.same })
+      (least-decided ss ss' ss'' t n x [] before.out all.out e next before.fed all.fed)
 
-  pub finished-at_ending : (ss' : List (Stage T)) (t : Trace T) (n : ℕ) (acc acc' : A) (piece : List T) (e : Ending) → IsAtEnding t n e → acc' ≡ fold f.update acc piece
-      → HasFolded (first_items n t) acc piece ss' None → HasFinished f (seq ss t) (record { acc = acc'; ending = e })
-  finished-at_ending ss' t n acc acc' piece e at_ending is all =
-      finished t acc acc' piece ss' e is (record { out = all.out; fed = fed-at_ending ss ss' ss' t n [] all.out e at_ending all.fed; same = all.same })
-
-  -- no item before it decided the answer
-  pub least-after : (ss' ss'' : List (Stage T)) (t : Trace T) (n : ℕ) (x : T) (acc : A) (piece piece' : List T) (e : Ending) → IsNextItem t n x
-      → HasFolded (first_items n t) acc piece ss' None → IsFed ss' (open_trace (x ∷ [])) piece piece' ss'' (Some e) → IsLeastDeciding ss t (n + 1)
-  least-after ss' ss'' t n x acc piece piece' e next before fed =
-      least-decided ss ss' ss'' t n x [] before.out _ e next before.fed (folded-next ss' ss'' t n x acc piece piece' (Some e) next before fed).fed
-
-  pub least-at : (ss' : List (Stage T)) (t : Trace T) (n : ℕ) (acc : A) (piece : List T) (e : Ending) → IsAtEnding t n e
-      → HasFolded (first_items n t) acc piece ss' None → IsLeastDeciding ss t n
-  least-at ss' t n acc piece e at_ending all = least-at_ending ss ss' t n [] all.out e at_ending all.fed
+  -- or the source has ended
+  pub finished-at_ending : (ss' : List (Stage T)) (t : Trace T) (n : ℕ) (acc acc' : A) (piece : List T) (e : Ending) → IsAtEnding t n e
+      → HasFolded (first_items n t) acc piece ss' None → acc' ≡ fold f.update acc piece → FoldsAll f ss t n (record { acc = acc'; ending = e })
+  finished-at_ending ss' t n acc acc' piece e at_ending all is =
+      finished t n acc acc' piece ss' e is (record { out = all.out; fed = fed-at_ending ss ss' ss' t n [] all.out e at_ending all.fed; same = all.same })
+      (least-at_ending ss ss' t n [] all.out e at_ending all.fed)

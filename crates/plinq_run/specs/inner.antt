@@ -10,6 +10,7 @@ pub mod Folded
 pub mod Folds
 pub mod Merged
 pub mod Offered
+pub mod OneThread
 pub mod Plans
 pub mod Reported
 pub mod Standing

@@ -4,8 +4,9 @@ ghost use Rattle.std.specs.List.{fold};
 ghost use Rattle.plinq_ops.specs.Operator.{stages_of};
 ghost use Rattle.plinq_ops.specs.Pipeline.{stages};
 ghost use Rattle.plinq_ops.specs.Sequential.{answer_of, IsLeastDeciding};
-ghost use Rattle.plinq_ops.specs.Stage.{some_takes_none, seq};
+ghost use Rattle.plinq_ops.specs.Stage.{some_takes_none};
 ghost use Rattle.plinq_run.specs.Finished.{HasFinished};
+ghost use Rattle.plinq_run.specs.inner.OneThread.{FoldsAll};
 
 use crate::combined::Combined;
 use plinq_aggregate::GrowingAggregator;
@@ -71,9 +72,7 @@ where
     requires undecided { some_takes_none (stages L.meaning pipeline.old) ≡ false }
     requires fresh { S.given source.old ≡ 0 }
     ensures same { S.whole source.new ≡ S.whole source.old }
-    ensures folded { IfOk result (HasFinished (A.folding aggregator.now) (seq (stages L.meaning pipeline.old) (S.whole source.old))) }
-    ensures least { OnOk result (IsLeastDeciding
-        (stages L.meaning pipeline.old) (S.whole source.old) (S.given source.new)) }
+    ensures folds { IfOk result (FoldsAll (A.folding aggregator.now) (stages L.meaning pipeline.old) (S.whole source.old) (S.given source.new)) }
 {
     let mut acc = aggregator.seed(alloc);
     let mut piece = Vec::new(alloc);

@@ -6,8 +6,7 @@ use Rattle.plinq_ops.specs.Feeding.{IsFed}
 use Rattle.plinq_ops.specs.Pipeline.{stages}
 use Rattle.plinq_ops.proofs.Fed.{undecided-left}
 use Rattle.plinq_merge.specs.declared.delivery_fault.DeliveryFault.TheVariants.{Memory}
-use Rattle.plinq_merge.specs.inner.Sent.{delivers-at_err}
-use Rattle.plinq_merge.proofs.SentSoFar.{on-any, told-ending, sent-none, sent-next, sent-given, sent-decided, sent-at_ending, ending-decided, ending-at_ending, sent-cut, sent-stopped, least-after, least-at}
+use Rattle.plinq_merge.proofs.SentSoFar.{sent-none, sent-next, sent-given, sent-decided, sent-at_ending, sent-cut, sent-stopped}
 use Rattle.plinq_merge.proofs.one_thread.deliver_all.Goals as goal
 
 pub loop-item-init : goal.loop-item-init
@@ -23,36 +22,14 @@ pub feed-requires : goal.feed-requires
 feed-requires g c = record { undecided = undecided-left _ _ _ _ _ c.loop-item.invariant.sent.fed }
 
 -- no room for what an item gives
-pub returns-in_err-ending-in-Item-clause-delivered : goal.returns-in_err-ending-in-Item-clause-delivered
-returns-in_err-ending-in-Item-clause-delivered g c =
+pub returns-in_err-ending-in-Item-clause-delivers : goal.returns-in_err-ending-in-Item-clause-delivers
+returns-in_err-ending-in-Item-clause-delivers g c =
     let is : c.from_residual.result ≡ Err Memory = search rules in
-    delivers-at_err _ _ _ _ _ Memory _ is (sent-stopped g.K.Sink.accepts g.K.Sink.refuses _ _ _ _ _ _ _ _ _ c.loop-item.invariant.sent)
+    sent-stopped g.K.Sink.accepts g.K.Sink.refuses _ _ _ _ _ _ _ _ _ _ _ is c.loop-item.invariant.sent
 
 -- an item that decides the answer
-pub returns-in-Some-clause-ending : goal.returns-in-Some-clause-ending
-returns-in-Some-clause-ending g c =
-    let m = g.L.Lambda.meaning in
-    let t = g.S.Source.whole c.args.source.now in
-    let n = g.S.Source.given c.loop-item.source in
-    let x = c.in-Item.item in
-    let next : IsNextItem t n x = next_item t n x (search (rules, c.loop-item.invariant.whole)) in
-    let fed : IsFed (stages m c.loop-item.pipeline) (open_trace (x ∷ [])) c.loop-item.made.items c.feed.new.out.items (stages m c.feed.new.self) (Some c.in-Some.ending) = search rules in
-    let all = sent-next g.K.Sink.accepts g.K.Sink.refuses _ _ _ _ (stages m c.feed.new.self) t n x _ _ _ _ _ next c.loop-item.invariant.sent fed in
-    told-ending _ c.in-Some.ending c.deliver_rest.result (ending-decided g.K.Sink.accepts g.K.Sink.refuses _ _ _ _ t (n + 1) _ _ _ _ all) c.deliver_rest.ensures.told
-
-pub returns-in-Some-clause-delivered : goal.returns-in-Some-clause-delivered
-returns-in-Some-clause-delivered g c =
-    let m = g.L.Lambda.meaning in
-    let t = g.S.Source.whole c.args.source.now in
-    let n = g.S.Source.given c.loop-item.source in
-    let x = c.in-Item.item in
-    let next : IsNextItem t n x = next_item t n x (search (rules, c.loop-item.invariant.whole)) in
-    let fed : IsFed (stages m c.loop-item.pipeline) (open_trace (x ∷ [])) c.loop-item.made.items c.feed.new.out.items (stages m c.feed.new.self) (Some c.in-Some.ending) = search rules in
-    let all = sent-next g.K.Sink.accepts g.K.Sink.refuses _ _ _ _ (stages m c.feed.new.self) t n x _ _ _ _ _ next c.loop-item.invariant.sent fed in
-    sent-decided g.K.Sink.accepts g.K.Sink.refuses _ _ _ _ t (n + 1) _ _ _ _ _ _ all (rw c.loop-item.invariant.size at c.deliver_rest.ensures.delivered)
-
-pub returns-in-Some-clause-least : goal.returns-in-Some-clause-least
-returns-in-Some-clause-least g c =
+pub returns-in-Some-clause-delivers : goal.returns-in-Some-clause-delivers
+returns-in-Some-clause-delivers g c =
     let m = g.L.Lambda.meaning in
     let t = g.S.Source.whole c.args.source.now in
     let n = g.S.Source.given c.loop-item.source in
@@ -60,7 +37,8 @@ returns-in-Some-clause-least g c =
     let next : IsNextItem t n x = next_item t n x (search (rules, c.loop-item.invariant.whole)) in
     let moved : g.S.Source.given c.next.new.self ≡ n + 1 = c.next.ensures.moved ∙ ap (λ u. given_after u n) c.loop-item.invariant.whole ∙ next.moved in
     let fed : IsFed (stages m c.loop-item.pipeline) (open_trace (x ∷ [])) c.loop-item.made.items c.feed.new.out.items (stages m c.feed.new.self) (Some c.in-Some.ending) = search rules in
-    on-any _ c.deliver_rest.result (rw moved (least-after g.K.Sink.accepts g.K.Sink.refuses _ _ _ _ (stages m c.feed.new.self) t n x _ _ _ _ _ next c.loop-item.invariant.sent fed))
+    rw moved (sent-decided g.K.Sink.accepts g.K.Sink.refuses _ _ _ _ (stages m c.feed.new.self) t n x _ _ _ _ _ _ _ next c.loop-item.invariant.sent fed c.deliver_rest.ensures.told
+    (rw c.loop-item.invariant.size at c.deliver_rest.ensures.delivered))
 
 -- an item that leaves the answer open
 pub loop-item-preserved : goal.loop-item-preserved
@@ -83,8 +61,8 @@ loop-item-preserved g c =
     }
 
 -- a batch that couldn't be delivered
-pub returns-in_err-deliver_ready-in-Item-clause-delivered : goal.returns-in_err-deliver_ready-in-Item-clause-delivered
-returns-in_err-deliver_ready-in-Item-clause-delivered g c =
+pub returns-in_err-deliver_ready-in-Item-clause-delivers : goal.returns-in_err-deliver_ready-in-Item-clause-delivers
+returns-in_err-deliver_ready-in-Item-clause-delivers g c =
     let m = g.L.Lambda.meaning in
     let t = g.S.Source.whole c.args.source.now in
     let n = g.S.Source.given c.loop-item.source in
@@ -95,55 +73,24 @@ returns-in_err-deliver_ready-in-Item-clause-delivered g c =
     let fed : IsFed (stages m c.loop-item.pipeline) (open_trace (x ∷ [])) c.loop-item.made.items c.feed.new.out.items (stages m c.feed.new.self) None = search rules in
     let all = sent-next g.K.Sink.accepts g.K.Sink.refuses _ _ _ _ (stages m c.feed.new.self) t n x _ _ _ _ _ next c.loop-item.invariant.sent fed in
     let handed = rw c.loop-item.invariant.size at c.in_err-deliver_ready-in-Item.ensures.handed in
-    delivers-at_err _ _ _ _ _ fault _ is
-    (sent-cut g.K.Sink.accepts g.K.Sink.refuses _ _ _ _ t (n + 1) _ _ handed.given handed.left _ _ fault handed.parts all handed.filled.sent)
+    sent-cut g.K.Sink.accepts g.K.Sink.refuses _ _ _ _ t (n + 1) _ _ _ handed.given handed.left _ _ fault _ is handed.parts all handed.filled.sent
 
-pub returns-in-End-clause-ending : goal.returns-in-End-clause-ending
-returns-in-End-clause-ending g c =
-    let t = g.S.Source.whole c.args.source.now in
-    let n = g.S.Source.given c.loop-item.source in
-    let law = g.met.S.Source g.world.𝓛 g.world.𝓜 g.world.𝓡 (λ s a. a, λ a. a, λ a. a, λ a. a) in
-    let ending : IsAtEnding t n End = at_end t n (law.ends c.args.source.now) (rw c.loop-item.invariant.whole at (law.within c.loop-item.source)) (search (rules, c.loop-item.invariant.whole)) in
-    told-ending _ End c.deliver_rest-in-End.result (ending-at_ending g.K.Sink.accepts g.K.Sink.refuses _ _ _ _ t n _ _ _ _ ending c.loop-item.invariant.sent) c.deliver_rest-in-End.ensures.told
-
-pub returns-in-End-clause-delivered : goal.returns-in-End-clause-delivered
-returns-in-End-clause-delivered g c =
-    let t = g.S.Source.whole c.args.source.now in
-    let n = g.S.Source.given c.loop-item.source in
-    let law = g.met.S.Source g.world.𝓛 g.world.𝓜 g.world.𝓡 (λ s a. a, λ a. a, λ a. a, λ a. a) in
-    let ending : IsAtEnding t n End = at_end t n (law.ends c.args.source.now) (rw c.loop-item.invariant.whole at (law.within c.loop-item.source)) (search (rules, c.loop-item.invariant.whole)) in
-    sent-at_ending g.K.Sink.accepts g.K.Sink.refuses _ _ _ _ t n _ _ _ _ _ _ ending c.loop-item.invariant.sent (rw c.loop-item.invariant.size at c.deliver_rest-in-End.ensures.delivered)
-
-pub returns-in-End-clause-least : goal.returns-in-End-clause-least
-returns-in-End-clause-least g c =
+pub returns-in-End-clause-delivers : goal.returns-in-End-clause-delivers
+returns-in-End-clause-delivers g c =
     let t = g.S.Source.whole c.args.source.now in
     let n = g.S.Source.given c.loop-item.source in
     let law = g.met.S.Source g.world.𝓛 g.world.𝓜 g.world.𝓡 (λ s a. a, λ a. a, λ a. a, λ a. a) in
     let ending : IsAtEnding t n End = at_end t n (law.ends c.args.source.now) (rw c.loop-item.invariant.whole at (law.within c.loop-item.source)) (search (rules, c.loop-item.invariant.whole)) in
     let moved : g.S.Source.given c.next.new.self ≡ n = c.next.ensures.moved ∙ ap (λ u. given_after u n) c.loop-item.invariant.whole ∙ ending.moved in
-    on-any _ c.deliver_rest-in-End.result (rw moved (least-at g.K.Sink.accepts g.K.Sink.refuses _ _ _ _ t n _ _ _ _ ending c.loop-item.invariant.sent))
+    rw moved (sent-at_ending g.K.Sink.accepts g.K.Sink.refuses _ _ _ _ t n _ _ _ _ _ _ ending c.loop-item.invariant.sent c.deliver_rest-in-End.ensures.told
+    (rw c.loop-item.invariant.size at c.deliver_rest-in-End.ensures.delivered))
 
-pub returns-in-Refused-clause-ending : goal.returns-in-Refused-clause-ending
-returns-in-Refused-clause-ending g c =
-    let t = g.S.Source.whole c.args.source.now in
-    let n = g.S.Source.given c.loop-item.source in
-    let law = g.met.S.Source g.world.𝓛 g.world.𝓜 g.world.𝓡 (λ s a. a, λ a. a, λ a. a, λ a. a) in
-    let ending : IsAtEnding t n (Refused c.in-Refused.code) = at_refusal t n c.in-Refused.code (rw c.loop-item.invariant.whole at (law.within c.loop-item.source)) (search (rules, c.loop-item.invariant.whole)) in
-    told-ending _ (Refused c.in-Refused.code) c.deliver_rest-in-Refused.result (ending-at_ending g.K.Sink.accepts g.K.Sink.refuses _ _ _ _ t n _ _ _ _ ending c.loop-item.invariant.sent) c.deliver_rest-in-Refused.ensures.told
-
-pub returns-in-Refused-clause-delivered : goal.returns-in-Refused-clause-delivered
-returns-in-Refused-clause-delivered g c =
-    let t = g.S.Source.whole c.args.source.now in
-    let n = g.S.Source.given c.loop-item.source in
-    let law = g.met.S.Source g.world.𝓛 g.world.𝓜 g.world.𝓡 (λ s a. a, λ a. a, λ a. a, λ a. a) in
-    let ending : IsAtEnding t n (Refused c.in-Refused.code) = at_refusal t n c.in-Refused.code (rw c.loop-item.invariant.whole at (law.within c.loop-item.source)) (search (rules, c.loop-item.invariant.whole)) in
-    sent-at_ending g.K.Sink.accepts g.K.Sink.refuses _ _ _ _ t n _ _ _ _ _ _ ending c.loop-item.invariant.sent (rw c.loop-item.invariant.size at c.deliver_rest-in-Refused.ensures.delivered)
-
-pub returns-in-Refused-clause-least : goal.returns-in-Refused-clause-least
-returns-in-Refused-clause-least g c =
+pub returns-in-Refused-clause-delivers : goal.returns-in-Refused-clause-delivers
+returns-in-Refused-clause-delivers g c =
     let t = g.S.Source.whole c.args.source.now in
     let n = g.S.Source.given c.loop-item.source in
     let law = g.met.S.Source g.world.𝓛 g.world.𝓜 g.world.𝓡 (λ s a. a, λ a. a, λ a. a, λ a. a) in
     let ending : IsAtEnding t n (Refused c.in-Refused.code) = at_refusal t n c.in-Refused.code (rw c.loop-item.invariant.whole at (law.within c.loop-item.source)) (search (rules, c.loop-item.invariant.whole)) in
     let moved : g.S.Source.given c.next.new.self ≡ n = c.next.ensures.moved ∙ ap (λ u. given_after u n) c.loop-item.invariant.whole ∙ ending.moved in
-    on-any _ c.deliver_rest-in-Refused.result (rw moved (least-at g.K.Sink.accepts g.K.Sink.refuses _ _ _ _ t n _ _ _ _ ending c.loop-item.invariant.sent))
+    rw moved (sent-at_ending g.K.Sink.accepts g.K.Sink.refuses _ _ _ _ t n _ _ _ _ _ _ ending c.loop-item.invariant.sent c.deliver_rest-in-Refused.ensures.told
+    (rw c.loop-item.invariant.size at c.deliver_rest-in-Refused.ensures.delivered))

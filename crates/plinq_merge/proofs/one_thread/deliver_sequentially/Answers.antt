@@ -1,12 +1,10 @@
-use Rattle.std.proofs.Common.{rules, ◌≡◌, true, false, Some, ap, sym, ◌∙◌, refl, subst}
+use Rattle.std.proofs.Common.{rules, ◌≡◌, true, false, ap, sym, ◌∙◌, refl}
 use Rattle.std.specs.List.{list_any}
-use Rattle.std.specs.Prelude.{IfOk, OnOk}
-use Rattle.plinq_ops.specs.Stage.{some_takes_none, seq}
+use Rattle.plinq_ops.specs.Stage.{some_takes_none}
 use Rattle.plinq_ops.specs.Operator.{stages_of}
 use Rattle.plinq_ops.specs.Batches.{batch_size}
 use Rattle.plinq_ops.specs.Feeding.{is_empty_take}
 use Rattle.plinq_ops.specs.Query.{merge_in_force}
-use Rattle.plinq_ops.specs.Sequential.{IsLeastDeciding}
 use Rattle.plinq_ops.proofs.Answered.{answer-of_none, least-of_none}
 use Rattle.plinq_ops.proofs.ByKey.{stages-begun}
 use Rattle.plinq_ops.proofs.Counts.{some_takes_none-stages_of}
@@ -49,25 +47,19 @@ deliver_all-requires-clause-undecided g c lives within =
 
 pub returns-clause-ending : goal.returns-clause-ending
 returns-clause-ending g c =
-    let m = g.L.Lambda.meaning in
-    let ops = c.args.query.now.ops in
-    let same : c.ops.result.now ≡ ops = search rules in
-    let begins = stages-begun m ops c.in_ok-pipeline.pipeline (rw same at c.in_ok-pipeline.ensures) in
-    subst (λ ss. IfOk c.deliver_all.result (λ e. (seq ss (g.S.Source.whole c.args.source.now)).ending ≡ Some e)) begins c.deliver_all.ensures.ending
+    let same : c.ops.result.now ≡ c.args.query.now.ops = search rules in
+    let begins = stages-begun g.L.Lambda.meaning c.args.query.now.ops c.in_ok-pipeline.pipeline (rw same at c.in_ok-pipeline.ensures) in
+    (rw begins at c.deliver_all.ensures.delivers).ending
 
 pub returns-clause-delivered : goal.returns-clause-delivered
 returns-clause-delivered g c =
-    let m = g.L.Lambda.meaning in
-    let ops = c.args.query.now.ops in
-    let same : c.ops.result.now ≡ ops = search rules in
-    let begins = stages-begun m ops c.in_ok-pipeline.pipeline (rw same at c.in_ok-pipeline.ensures) in
+    let same : c.ops.result.now ≡ c.args.query.now.ops = search rules in
+    let begins = stages-begun g.L.Lambda.meaning c.args.query.now.ops c.in_ok-pipeline.pipeline (rw same at c.in_ok-pipeline.ensures) in
     let size : size_of c.in_ok-buffer.buffer ≡ batch_size (merge_in_force c.args.query.now.merge) = c.in_ok-buffer.ensures.size ∙ ap batch_size c.merge_option.ensures in
-    rw (begins, size) at c.deliver_all.ensures.delivered
+    (rw (begins, size) at c.deliver_all.ensures.delivers).delivered
 
 pub returns-clause-least : goal.returns-clause-least
 returns-clause-least g c =
-    let m = g.L.Lambda.meaning in
-    let ops = c.args.query.now.ops in
-    let same : c.ops.result.now ≡ ops = search rules in
-    let begins = stages-begun m ops c.in_ok-pipeline.pipeline (rw same at c.in_ok-pipeline.ensures) in
-    subst (λ ss. OnOk c.deliver_all.result (IsLeastDeciding ss (g.S.Source.whole c.args.source.now) (g.S.Source.given c.deliver_all.new.source))) begins c.deliver_all.ensures.least
+    let same : c.ops.result.now ≡ c.args.query.now.ops = search rules in
+    let begins = stages-begun g.L.Lambda.meaning c.args.query.now.ops c.in_ok-pipeline.pipeline (rw same at c.in_ok-pipeline.ensures) in
+    (rw begins at c.deliver_all.ensures.delivers).least

@@ -5,7 +5,7 @@ use Rattle.plinq_source.proofs.Steps.{IsNextItem, IsAtEnding, next_item, at_end,
 use Rattle.plinq_ops.specs.Feeding.{IsFed}
 use Rattle.plinq_ops.specs.Pipeline.{stages}
 use Rattle.plinq_ops.proofs.Fed.{undecided-left}
-use Rattle.plinq_run.proofs.Pieces.{folded-none, folded-next, folded-full, finished-decided, finished-at_ending, least-after, least-at}
+use Rattle.plinq_run.proofs.Pieces.{folded-none, folded-next, folded-full, finished-decided, finished-at_ending}
 use Rattle.plinq_run.proofs.sequentially.fold_all.Goals as goal
 
 pub loop-item-init : goal.loop-item-init
@@ -17,19 +17,8 @@ pub feed-requires : goal.feed-requires
 feed-requires g c = record { undecided = undecided-left _ _ _ _ _ c.loop-item.invariant.1.fed }
 
 -- an item that decides the answer
-pub returns-in-Some-clause-folded : goal.returns-in-Some-clause-folded
-returns-in-Some-clause-folded g c =
-    let m = g.L.Lambda.meaning in
-    let f = g.A.GrowingAggregator.folding c.args.aggregator.now in
-    let t = g.S.Source.whole c.args.source.now in
-    let n = g.S.Source.given c.loop-item.source in
-    let x = c.in-Item.item in
-    let next : IsNextItem t n x = next_item t n x (search (rules, c.loop-item.invariant.0)) in
-    let fed : IsFed (stages m c.loop-item.pipeline) (open_trace (x ∷ [])) c.loop-item.piece.items c.feed.new.out.items (stages m c.feed.new.self) (Some c.in-Some.ending) = search rules in
-    finished-decided f _ (stages m c.feed.new.self) t (n + 1) _ _ _ _ (search rules) (folded-next f _ _ (stages m c.feed.new.self) t n x _ _ _ _ next c.loop-item.invariant.1 fed)
-
-pub returns-in-Some-clause-least : goal.returns-in-Some-clause-least
-returns-in-Some-clause-least g c =
+pub returns-in-Some-clause-folds : goal.returns-in-Some-clause-folds
+returns-in-Some-clause-folds g c =
     let m = g.L.Lambda.meaning in
     let f = g.A.GrowingAggregator.folding c.args.aggregator.now in
     let t = g.S.Source.whole c.args.source.now in
@@ -38,7 +27,7 @@ returns-in-Some-clause-least g c =
     let next : IsNextItem t n x = next_item t n x (search (rules, c.loop-item.invariant.0)) in
     let moved : g.S.Source.given c.next.new.self ≡ n + 1 = c.next.ensures.moved ∙ ap (λ u. given_after u n) c.loop-item.invariant.0 ∙ next.moved in
     let fed : IsFed (stages m c.loop-item.pipeline) (open_trace (x ∷ [])) c.loop-item.piece.items c.feed.new.out.items (stages m c.feed.new.self) (Some c.in-Some.ending) = search rules in
-    rw moved (least-after f _ _ (stages m c.feed.new.self) t n x _ _ _ _ next c.loop-item.invariant.1 fed)
+    rw moved (finished-decided f _ _ (stages m c.feed.new.self) t n x _ _ _ _ _ next c.loop-item.invariant.1 fed (search rules))
 
 -- an item that leaves the answer open
 pub loop-item-preserved : goal.loop-item-preserved
@@ -53,40 +42,22 @@ loop-item-preserved g c =
     let fed : IsFed (stages m c.loop-item.pipeline) (open_trace (x ∷ [])) c.loop-item.piece.items c.feed.new.out.items (stages m c.feed.new.self) None = search rules in
     (search rules, rw moved (folded-full f _ _ _ _ _ _ _ (search rules) (folded-next f _ _ (stages m c.feed.new.self) t n x _ _ _ _ next c.loop-item.invariant.1 fed)))
 
-pub returns-in-End-clause-folded : goal.returns-in-End-clause-folded
-returns-in-End-clause-folded g c =
-    let f = g.A.GrowingAggregator.folding c.args.aggregator.now in
-    let t = g.S.Source.whole c.args.source.now in
-    let n = g.S.Source.given c.loop-item.source in
-    let law = g.met.S.Source g.world.𝓛 g.world.𝓜 g.world.𝓡 (λ s a. a, λ a. a, λ a. a, λ a. a) in
-    let ending : IsAtEnding t n End = at_end t n (law.ends c.args.source.now) (rw c.loop-item.invariant.0 at (law.within c.loop-item.source)) (search (rules, c.loop-item.invariant.0)) in
-    finished-at_ending f _ _ t n _ _ _ _ ending (search rules) c.loop-item.invariant.1
-
-pub returns-in-End-clause-least : goal.returns-in-End-clause-least
-returns-in-End-clause-least g c =
+pub returns-in-End-clause-folds : goal.returns-in-End-clause-folds
+returns-in-End-clause-folds g c =
     let f = g.A.GrowingAggregator.folding c.args.aggregator.now in
     let t = g.S.Source.whole c.args.source.now in
     let n = g.S.Source.given c.loop-item.source in
     let law = g.met.S.Source g.world.𝓛 g.world.𝓜 g.world.𝓡 (λ s a. a, λ a. a, λ a. a, λ a. a) in
     let ending : IsAtEnding t n End = at_end t n (law.ends c.args.source.now) (rw c.loop-item.invariant.0 at (law.within c.loop-item.source)) (search (rules, c.loop-item.invariant.0)) in
     let moved : g.S.Source.given c.next.new.self ≡ n = c.next.ensures.moved ∙ ap (λ u. given_after u n) c.loop-item.invariant.0 ∙ ending.moved in
-    rw moved (least-at f _ _ t n _ _ _ ending c.loop-item.invariant.1)
+    rw moved (finished-at_ending f _ _ t n _ _ _ _ ending c.loop-item.invariant.1 (search rules))
 
-pub returns-in-Refused-clause-folded : goal.returns-in-Refused-clause-folded
-returns-in-Refused-clause-folded g c =
-    let f = g.A.GrowingAggregator.folding c.args.aggregator.now in
-    let t = g.S.Source.whole c.args.source.now in
-    let n = g.S.Source.given c.loop-item.source in
-    let law = g.met.S.Source g.world.𝓛 g.world.𝓜 g.world.𝓡 (λ s a. a, λ a. a, λ a. a, λ a. a) in
-    let ending : IsAtEnding t n (Refused c.in-Refused.code) = at_refusal t n c.in-Refused.code (rw c.loop-item.invariant.0 at (law.within c.loop-item.source)) (search (rules, c.loop-item.invariant.0)) in
-    finished-at_ending f _ _ t n _ _ _ _ ending (search rules) c.loop-item.invariant.1
-
-pub returns-in-Refused-clause-least : goal.returns-in-Refused-clause-least
-returns-in-Refused-clause-least g c =
+pub returns-in-Refused-clause-folds : goal.returns-in-Refused-clause-folds
+returns-in-Refused-clause-folds g c =
     let f = g.A.GrowingAggregator.folding c.args.aggregator.now in
     let t = g.S.Source.whole c.args.source.now in
     let n = g.S.Source.given c.loop-item.source in
     let law = g.met.S.Source g.world.𝓛 g.world.𝓜 g.world.𝓡 (λ s a. a, λ a. a, λ a. a, λ a. a) in
     let ending : IsAtEnding t n (Refused c.in-Refused.code) = at_refusal t n c.in-Refused.code (rw c.loop-item.invariant.0 at (law.within c.loop-item.source)) (search (rules, c.loop-item.invariant.0)) in
     let moved : g.S.Source.given c.next.new.self ≡ n = c.next.ensures.moved ∙ ap (λ u. given_after u n) c.loop-item.invariant.0 ∙ ending.moved in
-    rw moved (least-at f _ _ t n _ _ _ ending c.loop-item.invariant.1)
+    rw moved (finished-at_ending f _ _ t n _ _ _ _ ending c.loop-item.invariant.1 (search rules))

@@ -1,14 +1,13 @@
-use Rattle.std.proofs.Common.{rules, ◌≡◌, true, false, sym, ◌∙◌, refl, subst}
+use Rattle.std.proofs.Common.{rules, ◌≡◌, true, false, sym, ◌∙◌, refl}
 use Rattle.std.specs.List.{list_any}
-use Rattle.std.specs.Prelude.{IfOk, OnOk}
-use Rattle.plinq_ops.specs.Stage.{some_takes_none, seq}
+use Rattle.std.proofs.lemmas.Result.{IfOk-weaker}
+use Rattle.plinq_ops.specs.Stage.{some_takes_none}
 use Rattle.plinq_ops.specs.Operator.{stages_of}
 use Rattle.plinq_ops.specs.Feeding.{is_empty_take}
-use Rattle.plinq_ops.specs.Sequential.{IsLeastDeciding}
 use Rattle.plinq_ops.proofs.Answered.{answer-of_none, least-of_none}
 use Rattle.plinq_ops.proofs.ByKey.{stages-begun}
 use Rattle.plinq_ops.proofs.Counts.{some_takes_none-stages_of}
-use Rattle.plinq_run.specs.Finished.{HasFinished}
+use Rattle.plinq_run.specs.inner.OneThread.{FoldsAll}
 use Rattle.plinq_run.proofs.sequentially.fold_sequentially.Goals as goal
 
 -- a Take of none decides the answer
@@ -40,17 +39,12 @@ fold_all-requires-clause-undecided g c lives within =
 
 pub returns-clause-folded : goal.returns-clause-folded
 returns-clause-folded g c =
-    let m = g.L.Lambda.meaning in
-    let ops = c.args.query.now.ops in
-    let same : c.ops.result.now ≡ ops = search rules in
-    let begins = stages-begun m ops c.in_ok-pipeline.pipeline (rw same at c.in_ok-pipeline.ensures) in
-    let f = g.A.GrowingAggregator.folding c.args.aggregator.now in
-    subst (λ ss. IfOk c.fold_all.result (HasFinished f (seq ss (g.S.Source.whole c.args.source.now)))) begins c.fold_all.ensures.folded
+    let same : c.ops.result.now ≡ c.args.query.now.ops = search rules in
+    let begins = stages-begun g.L.Lambda.meaning c.args.query.now.ops c.in_ok-pipeline.pipeline (rw same at c.in_ok-pipeline.ensures) in
+    IfOk-weaker c.fold_all.result (FoldsAll _ _ _ _) _ (λ made folds. folds.folded) (rw begins at c.fold_all.ensures.folds)
 
 pub returns-clause-least : goal.returns-clause-least
 returns-clause-least g c =
-    let m = g.L.Lambda.meaning in
-    let ops = c.args.query.now.ops in
-    let same : c.ops.result.now ≡ ops = search rules in
-    let begins = stages-begun m ops c.in_ok-pipeline.pipeline (rw same at c.in_ok-pipeline.ensures) in
-    subst (λ ss. OnOk c.fold_all.result (IsLeastDeciding ss (g.S.Source.whole c.args.source.now) (g.S.Source.given c.fold_all.new.source))) begins c.fold_all.ensures.least
+    let same : c.ops.result.now ≡ c.args.query.now.ops = search rules in
+    let begins = stages-begun g.L.Lambda.meaning c.args.query.now.ops c.in_ok-pipeline.pipeline (rw same at c.in_ok-pipeline.ensures) in
+    IfOk-weaker c.fold_all.result (FoldsAll _ _ _ _) _ (λ made folds. folds.least) (rw begins at c.fold_all.ensures.folds)
