@@ -1,7 +1,8 @@
 -- A run into a sink with its token, in terms of the token and the sink.
-use Rattle.std.specs.Prelude.{◌≡◌, ℕ, List, [], ◌∷◌, Bool, true, false, ◌||◌, Result, Ok, Err, refl}
-use Rattle.std.proofs.Common.{sym, ◌∙◌, subst, append-nil}
+use Rattle.std.specs.Prelude.{◌≡◌, ℕ, List, [], ◌∷◌, Bool, true, false, ◌||◌, Result, Ok, Err, IfOk, IfErr, OnOk, refl}
+use Rattle.std.proofs.Common.{sym, ap, ◌∙◌, subst, append-nil}
 use Rattle.plinq_source.specs.Trace.{Trace}
+use Rattle.plinq_source.specs.declared.ending.Ending.TheVariants.{End}
 use Rattle.plinq_ops.specs.declared.merge_option.MergeOption.{MergeOption}
 use Rattle.plinq_ops.specs.Batches.{batches}
 use Rattle.plinq_merge.specs.declared.merge_fault.MergeFault.{MergeFault}
@@ -17,10 +18,11 @@ use Rattle.plinq_merge.proofs.Maps.{leads-map, cut-map}
 use Rattle.plinq_run.specs.declared.report.Report.{Report}
 use Rattle.plinq_run.specs.declared.run_fault.RunFault.{RunFault}
 use Rattle.plinq_run.specs.declared.run_fault.RunFault.TheVariants.{Memory, Sink, Tickets, Thread, Incomplete, Cancelled}
+use Rattle.plinq_run.specs.Endings.{reported}
 use Rattle.plinq_run.specs.Reports.{Reports}
 use Rattle.plinq_run.specs.Runs.{HasRun, Cause, SinkRefused, Stopped, Other, cause_of, BreaksFor}
 use Rattle.plinq_run.specs.Stopping.{is_stopped, ReportsWith, RunsWith}
-use Rattle.plinq_run.specs.inner.Cancelling.{ReportsLent}
+use Rattle.plinq_run.specs.inner.Cancelling.{ReportsLent, IsAskedAtLast}
 
 -- a run that broke off was cut off
 breaks-cut : {K T : Type 0} (accepts : K → List T → K → Type 0) (refuses : K → List T → ℕ → K → Type 0) (cause : Cause) (bs : List (List T)) (s s' : K) → BreaksFor accepts refuses cause bs s s'
@@ -28,6 +30,20 @@ breaks-cut : {K T : Type 0} (accepts : K → List T → K → Type 0) (refuses :
 breaks-cut accepts refuses (SinkRefused code) bs s s' h = (Refusal code, h)
 breaks-cut accepts refuses Stopped bs s s' h = absurd h
 breaks-cut accepts refuses Other bs s s' h = (NoMemory, h)
+
+-- what is reported of what a run told holds of what it told
+pub ok-told : (P : Report → Type 0) (told r : Result Report RunFault) → IfOk r (λ report. told ≡ Ok report) → IfOk told P → IfOk r P
+ok-told P told (Ok report) is h = subst (λ t. IfOk t P) is h
+ok-told P told (Err fault) is h = tt
+
+-- of one that ended well
+pub ended-told : (told r : Result Report RunFault) → IfOk r (λ report. told ≡ Ok report) → reported told ≡ Ok End → IfOk r (λ report. report.ending ≡ End)
+ended-told told (Ok report) is ends = let same : Ok report.ending ≡ Ok End = ap reported (sym is) ∙ ends in cc
+ended-told told (Err fault) is ends = tt
+
+pub cancelled-told : (told r : Result Report RunFault) → IfErr r (λ fault. OnOk told (fault ≡ Cancelled)) → reported told ≡ Ok End → IfErr r (λ fault. fault ≡ Cancelled)
+cancelled-told (Ok report) r is ends = is
+cancelled-told (Err fault) r is ends = absurd (let bad : Err fault ≡ Ok End = ends in cc)
 
 -- it never answers that it was cancelled
 pub reports-never : {K T : Type 0} (accepts : K → List T → K → Type 0) (refuses : K → List T → ℕ → K → Type 0) (option : MergeOption) (May : Trace T → Trace T → Type 0) (t : Trace T) (s s' : K) (r : Result Report RunFault)
@@ -174,32 +190,21 @@ module _ {C K T : Type 0} (asks : C → ℕ → Bool → C → Type 0) (accepts 
         → ReportsWith asks accepts refuses option May t (delivery_of w) (delivery_of last) r → Reported last r
     lent last r same h = record { same = same; told = told-with (delivery_of w) (delivery_of last) has_told keeps r h; reports = h }
 
-    pub lent-stopped : (r : Result Report RunFault) → w'.is_stopped ≡ true → Lends w w' r → Reported w' (Err Cancelled)
-    lent-stopped r after h = lent w' (Err Cancelled) (reports-same w w' r h) (reports-stopped w w' r before after h)
-
-    pub lent-broken : (r told : Result Report RunFault) (fault : RunFault) → r ≡ Err fault → told ≡ Err fault → w'.is_stopped ≡ false → Lends w w' r → Reported w' told
-    lent-broken r told fault was is after h =
-        let h' = subst (Lends w w') was h in
-        subst (Reported w') (sym is)
-        (lent w' (Err fault) (reports-same w w' (Err fault) h') (broken-with (delivery_of w) (delivery_of w') fault (reports-passed w w' (Err fault) before after h')))
-
     -- the token is asked once more
     asked-same : (last : WithCancellation C K) (r : Result Report RunFault) → Lends w w' r → AreSame w' last → AreSame w last
     asked-same last r h same = let first = reports-same w w' r h in record { token = same.token ∙ first.token; sink = same.sink ∙ first.sink }
 
-    pub lent-last : (r : Result Report RunFault) (report : Report) (last : WithCancellation C K) → r ≡ Ok report → w'.is_stopped ≡ false → Lends w w' r → AreSame w' last
-        → (answer : Bool) → IsAsked asks answer (delivery_of w') (delivery_of last) → answer ≡ true → Reported last (Err Cancelled)
-    lent-last r report last was after h same answer asked stops =
-        let passed = reports-passed w w' (Ok report) before after (subst (Lends w w') was h) in
-        lent last (Err Cancelled) (asked-same last r h same)
-        (stopped-last (delivery_of w) (delivery_of last) report (delivery_of w') passed (subst (λ b. IsAsked asks b (delivery_of w') (delivery_of last)) stops asked))
-
-    pub lent-let : (r : Result Report RunFault) (report : Report) (last : WithCancellation C K) → r ≡ Ok report → w'.is_stopped ≡ false → Lends w w' r → AreSame w' last
-        → (answer : Bool) → IsAsked asks answer (delivery_of w') (delivery_of last) → answer ≡ false → Reported last (Ok report)
-    lent-let r report last was after h same answer asked goes_on =
-        lent last (Ok report) (asked-same last r h same)
-        (record {
-          last = delivery_of w';
-          reported = reports-passed w w' (Ok report) before after (subst (Lends w w') was h);
-          lets = subst (λ b. IsAsked asks b (delivery_of w') (delivery_of last)) goes_on asked;
-        })
+    -- by what its token has answered by then, how it has ended, and what the token answers at last
+    pub lent-asked : (stopped : Bool) (told r : Result Report RunFault) (last : WithCancellation C K) → w'.is_stopped ≡ stopped → Lends w w' told → AreSame w' last
+        → IsAskedAtLast asks stopped told w' r last → Reported last r
+    lent-asked true told r last is h same (unchanged, cancelled) =
+        rw (unchanged, cancelled) (lent w' (Err Cancelled) (reports-same w w' told h) (reports-stopped w w' told before is h))
+    lent-asked false (Err fault) r last is h same (unchanged, broken) =
+        rw (unchanged, broken) (lent w' (Err fault) (reports-same w w' (Err fault) h)
+        (broken-with (delivery_of w) (delivery_of w') fault (reports-passed w w' (Err fault) before is h)))
+    lent-asked false (Ok report) r last is h same (true, asked, cancelled) =
+        rw cancelled (lent last (Err Cancelled) (asked-same last (Ok report) h same)
+        (stopped-last (delivery_of w) (delivery_of last) report (delivery_of w') (reports-passed w w' (Ok report) before is h) asked))
+    lent-asked false (Ok report) r last is h same (false, asked, lets) =
+        rw lets (lent last (Ok report) (asked-same last (Ok report) h same)
+        (record { last = delivery_of w'; reported = reports-passed w w' (Ok report) before is h; lets = asked }))

@@ -1,15 +1,16 @@
 //! The run of a query that a token may stop.
-ghost use Rattle.std.specs.Prelude.{◌≡◌, [], true, false, IfOk, IfErr};
+ghost use Rattle.std.specs.Prelude.{◌≡◌, [], true, false, IfOk, IfErr, OnOk, Ok};
 ghost use Rattle.plinq_source.specs.declared.ending.Ending.TheVariants.{End};
 ghost use Rattle.std.specs.List.{list_any};
 ghost use Rattle.plinq_keyed.specs.History.{IsLegalHistory};
 ghost use Rattle.plinq_ops.specs.Answer.{MayAnswer};
 ghost use Rattle.plinq_ops.specs.Feeding.{is_empty_take};
 ghost use Rattle.plinq_ops.specs.Query.{merge_in_force};
+ghost use Rattle.plinq_merge.specs.Lent.{AreSame};
 ghost use Rattle.plinq_run.specs.declared.run_fault.RunFault.TheVariants.{Cancelled};
 ghost use Rattle.plinq_run.specs.Handed.{has_close};
 ghost use Rattle.plinq_run.specs.Stopping.{is_stopped, ReportsSome};
-ghost use Rattle.plinq_run.specs.inner.Cancelling.{ReportsLent};
+ghost use Rattle.plinq_run.specs.inner.Cancelling.{IsAskedAtLast};
 
 use crate::report::Report;
 use crate::run_fault::RunFault;
@@ -75,38 +76,21 @@ where
         delivered: 0,
         is_stopped: false,
     };
-    run_within(rt, alloc, query, source, growth, gate, &mut with)
+    let told = run(rt, alloc, query, source, growth, gate, &mut with);
+    ask_at_last(&mut with, told)
 }
 
-/// Runs a query into a sink with its token.
-fn run_within<L, S, G, C, K, R>(
-    rt: &R,
-    alloc: Global,
-    query: &Query<L>,
-    source: S,
-    growth: Growth,
-    gate: &G,
+/// What is reported of a run that told so: before an ending the token is asked once more.
+fn ask_at_last<C: Cancel, K>(
     with: &mut WithCancellation<'_, C, K>,
+    told: Result<Report, RunFault>,
 ) -> Result<Report, RunFault>
-where
-    L: SharedLambda,
-    S: Source<Item = L::Item>,
-    G: Gate,
-    C: Cancel,
-    K: Sink<Item = L::Item>,
-    R: Threads + Wait + Sync,
-    requires unasked { S.given source ≡ 0 }
-    requires unstopped { with.old.is_stopped ≡ false }
-    ensures legal { IfOk result (λ report. IsLegalHistory (S.whole source) report.records.items) }
-    ensures ended { list_any is_empty_take query.now.ops ≡ true → IfOk result (λ report. report.ending ≡ End) }
-    ensures cancelled { list_any is_empty_take query.now.ops ≡ true → IfErr result (λ fault. fault ≡ Cancelled) }
-    ensures untouched { list_any is_empty_take query.now.ops ≡ true → with.new.sink.now ≡ with.old.sink.now }
-    ensures none { list_any is_empty_take query.now.ops ≡ true → IfOk result (λ report. report.records.items ≡ []) }
-    ensures closed { list_any is_empty_take query.now.ops ≡ false → IfOk result (λ report. has_close report.records.items ≡ true) }
-    ensures reports { ReportsLent C.asks C.has_told K.accepts K.refuses (merge_in_force query.now.merge)
-        (MayAnswer L.meaning query.now.ordered query.now.ops) (S.whole source) with.old with.new result }
+    ensures same { AreSame with.old with.new }
+    ensures told { IfOk result (λ report. told ≡ Ok report) }
+    ensures cancelled { IfErr result (λ fault. OnOk told (fault ≡ Cancelled)) }
+    ensures sink { with.new.sink.now ≡ with.old.sink.now }
+    ensures asked { IsAskedAtLast C.asks with.old.is_stopped told with.old result with.new }
 {
-    let told = run(rt, alloc, query, source, growth, gate, with);
     if with.is_stopped {
         return Err(RunFault::Cancelled);
     }
