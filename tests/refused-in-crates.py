@@ -21,9 +21,9 @@ from support.program import HANGS, ROOT, Tests, shared_library
 # are refused through the calls that use them, `offer_with` through `offer`, and `run_with` and those of the program by
 # refused-allocations.py.
 CALLS = {
-    "TicketLock::new": ("base", "lock::a_lock_that_is_refused_is_out_of_memory"),
-    "Enumerator::ask and close": ("base", "enumerators::a_refused_growth_changes_nothing"),
-    "Lambda::expand of Formula": ("base", "formulas::expands_or_says_that_memory_ran_out"),
+    "TicketLock::new": ("partition", "lock::a_lock_that_is_refused_is_out_of_memory"),
+    "Enumerator::ask and close": ("partition", "enumerators::a_refused_growth_changes_nothing"),
+    "Lambda::expand of Formula": ("partition", "formulas::expands_or_says_that_memory_ran_out"),
     "Chunked::new and partitions, Partition::take, try_take and stop": ("partition", "refusals::a_refused_allocation_changes_nothing"),
     "Partition::try_take of a first chunk": ("partition", "refusals::a_refused_first_chunk_uses_up_a_ticket"),
     "Partition::stop before any take": ("partition", "refusals::a_refused_stop_closes_nothing"),

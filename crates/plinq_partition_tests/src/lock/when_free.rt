@@ -3,9 +3,8 @@ ghost use Rattle.std.specs.Thread.{IsSync};
 ghost use Rattle.plinq_ticket.specs.Passes.{IsPassOf};
 
 use crate::lock::notes::Notes;
-use crate::lock::{LAST, Way, expect_whole, lock_of, try_in_vain, visit};
+use crate::lock::{LAST, Way, has_all, lock_of, try_in_vain, visit};
 use plinq_ticket::{LockFault, Pass, TicketLock};
-use std::process::Abort;
 use std::sync::Wait;
 use std::sync::atomic::{AtomicU64, Ordering};
 use std::thread;
@@ -45,30 +44,25 @@ fn linger() {
 }
 
 // How many tickets were drawn, as reported to a pass, while another one is inside.
-fn drawn_now(rt: &impl Abort, lock: &TicketLock<Notes>, pass: Pass<Notes>) -> (Pass<Notes>, u64)
+fn drawn_now(lock: &TicketLock<Notes>, pass: Pass<Notes>) -> (Pass<Notes>, u64)
     requires { IsPassOf lock.now pass }
     ensures { IsPassOf lock.now result.0 }
 {
-    let (pass, fault) = try_in_vain(rt, lock, pass);
-    match fault {
-        LockFault::Busy { drawn, .. } => (pass, drawn),
-        _ => panic!(rt; "not busy"),
+    let (pass, told) = try_in_vain(lock, pass);
+    match told {
+        Some(LockFault::Busy { drawn, .. }) => (pass, drawn),
+        _ => (pass, u64::MAX),
     }
 }
 
 // Waits until so many tickets were drawn, but not for ever, and a while more. Answers how many there are then.
-fn watch(
-    rt: &impl Abort,
-    lock: &TicketLock<Notes>,
-    pass: Pass<Notes>,
-    least: u64,
-) -> (Pass<Notes>, u64)
+fn watch(lock: &TicketLock<Notes>, pass: Pass<Notes>, least: u64) -> (Pass<Notes>, u64)
     requires { IsPassOf lock.now pass }
     ensures { IsPassOf lock.now result.0 }
 {
     let mut pass = pass;
     for _turn in 0..1_000_000 {
-        let (back, drawn) = drawn_now(rt, lock, pass);
+        let (back, drawn) = drawn_now(lock, pass);
         pass = back;
         if drawn >= least {
             break;
@@ -76,11 +70,11 @@ fn watch(
         yield_now();
     }
     linger();
-    drawn_now(rt, lock, pass)
+    drawn_now(lock, pass)
 }
 
 // Enters first, and stays until one of the others has drawn a ticket, and a while more. Answers how many were drawn by then.
-fn stay_until_drawn<R: Wait + Abort>(
+fn stay_until_drawn<R: Wait>(
     rt: &R,
     lock: &TicketLock<Notes>,
     pass: Pass<Notes>,
@@ -95,14 +89,14 @@ fn stay_until_drawn<R: Wait + Abort>(
         Err((pass, _)) => (lock.join(pass, watching), 0),
         Ok(held) => {
             standing.inside.store(1, Ordering::SeqCst);
-            let (watching, drawn) = watch(rt, lock, watching, 2);
+            let (watching, drawn) = watch(lock, watching, 2);
             (lock.join(lock.leave(held), watching), drawn)
         }
     }
 }
 
 // Enters first, and stays until so many others are about to enter, and a while more.
-fn stay_until_there<R: Wait + Abort>(
+fn stay_until_there<R: Wait>(
     rt: &R,
     lock: &TicketLock<Notes>,
     pass: Pass<Notes>,
@@ -124,7 +118,7 @@ fn stay_until_there<R: Wait + Abort>(
 }
 
 // Visits the lock once the first is inside.
-fn come<R: Wait + Abort>(
+fn come<R: Wait>(
     rt: &R,
     lock: &TicketLock<Notes>,
     pass: Pass<Notes>,
@@ -140,7 +134,7 @@ fn come<R: Wait + Abort>(
 }
 
 // Two others visit the lock, each in its own way. Answers the tickets.
-fn two_come<R: Threads + Wait + Sync + Abort>(
+fn two_come<R: Threads + Wait + Sync>(
     rt: &R,
     lock: &TicketLock<Notes>,
     pass: Pass<Notes>,
@@ -163,7 +157,9 @@ fn two_come<R: Threads + Wait + Sync + Abort>(
 
 #[test]
 fn a_pass_that_has_a_ticket_goes_first(rt: HostRuntime) {
-    let (lock, pass) = lock_of(&rt, rt.alloc());
+    let Some((lock, pass)) = lock_of(rt.alloc()) else {
+        panic!(rt; "no room for a lock");
+    };
     let (first, pass) = lock.split(pass);
     let (watching, others) = lock.split(pass);
     let standing = Standing::new();
@@ -179,23 +175,22 @@ fn a_pass_that_has_a_ticket_goes_first(rt: HostRuntime) {
     // (a pass that waits for the lock to be free has drawn none)
     assert!(rt; drawn == 2 && tickets == [Some(1), Some(2)]);
     let pass = lock.join(first, others);
-    expect_whole(&rt, lock, pass, 2, 1);
+    assert!(rt; has_all(lock, pass, 2, 1));
 }
 
-// How many of these are the last ticket. No other ticket may be among them.
-fn count_last(rt: &impl Abort, tickets: &[Option<u64>]) -> usize {
+// How many of two are the last ticket; too many where another ticket is among them.
+fn count_last(tickets: [Option<u64>; 2]) -> usize {
     let mut count = 0usize;
     for ticket in tickets {
-        assert!(rt; ticket.is_none() || *ticket == Some(LAST));
-        if ticket.is_some() {
-            count = count.wrapping_add(1);
+        if let Some(ticket) = ticket {
+            count = count.wrapping_add(if ticket == LAST { 1 } else { 9 });
         }
     }
     count
 }
 
 // Four others wait for the lock to be free. Answers how many have drawn the last ticket.
-fn four_come<R: Threads + Wait + Sync + Abort>(
+fn four_come<R: Threads + Wait + Sync>(
     rt: &R,
     lock: &TicketLock<Notes>,
     pass: Pass<Notes>,
@@ -219,7 +214,7 @@ fn four_come<R: Threads + Wait + Sync + Abort>(
     );
     let (left, ones) = left;
     let (right, others) = right;
-    let count = count_last(rt, &ones).wrapping_add(count_last(rt, &others));
+    let count = count_last(ones).wrapping_add(count_last(others));
     (lock.join(left, right), count)
 }
 
@@ -239,7 +234,6 @@ fn all_that_wait_are_told_that_tickets_are_spent(rt: HostRuntime) {
         || four_come(runtime, shared, others, they),
     );
     let (others, count) = others;
-    assert!(rt; count == 1);
     let pass = lock.join(first, others);
-    expect_whole(&rt, lock, pass, 1, LAST);
+    assert!(rt; count == 1 && has_all(lock, pass, 1, LAST));
 }

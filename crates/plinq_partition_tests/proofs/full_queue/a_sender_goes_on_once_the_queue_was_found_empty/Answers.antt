@@ -1,6 +1,6 @@
 use Rattle.std.proofs.Common.{arith, ap}
 use Rattle.plinq_stream.proofs.Numbers.{may-give_number}
-use Rattle.plinq_base_tests.proofs.full_queue.a_sender_goes_on_once_the_queue_was_found_empty.Goals as goal
+use Rattle.plinq_partition_tests.proofs.full_queue.a_sender_goes_on_once_the_queue_was_found_empty.Goals as goal
 
 pub give_number-theirs-requires-clause-first : goal.give_number-theirs-requires-clause-first
 give_number-theirs-requires-clause-first g c =

@@ -5,7 +5,7 @@ use Rattle.plinq_keyed.specs.declared.event.Event.TheVariants.{Close}
 use Rattle.plinq_keyed.specs.declared.tail.Tail.TheVariants.{Closed}
 use Rattle.plinq_keyed.specs.History.{Place, place_after, start, is_legal_history, next_record}
 use Rattle.plinq_keyed.proofs.Legal.{place_after-append, IsLegalHistory-append}
-use Rattle.plinq_base_tests.proofs.lock.notes.Notes.close.Goals as goal
+use Rattle.plinq_partition_tests.proofs.lock.notes.Notes.close.Goals as goal
 
 pub invariant_of-self-2 : goal.invariant_of-self-2
 invariant_of-self-2 c =

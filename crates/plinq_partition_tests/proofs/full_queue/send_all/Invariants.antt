@@ -1,7 +1,7 @@
 use Rattle.std.specs.Prelude.{◌≡◌, true}
 use Rattle.plinq_stream.specs.Passes.{IsPassOf, known}
 use Rattle.plinq_stream.specs.Streams.{has}
-use Rattle.plinq_base_tests.proofs.full_queue.send_all.Given as goal
+use Rattle.plinq_partition_tests.proofs.full_queue.send_all.Given as goal
 
 abbrev pub invariant-loop-item : goal.invariant-loop-item
 invariant-loop-item g l = record {
