@@ -1,5 +1,5 @@
 mod ItemLines
 pub mod LinesTaken
 mod PartWritten
-mod SinglesTaken
+mod BatchesTaken
 pub mod WrittenBytes

@@ -1,10 +1,10 @@
 -- A text that is written piece by piece: what is written of it, and what is left.
-use Rattle.std.proofs.Common.{◌≡◌, ℕ, List, [], ◌++◌, Result, refl, ap, sym, ◌∙◌, append_assoc}
+use Rattle.std.proofs.Common.{◌≡◌, ℕ, List, [], ◌++◌, Result, refl, ap, sym, ◌∙◌, append_assoc, append-nil}
 use Rattle.std.specs.Io.KnownBytes.{Appends}
 use Rattle.std.specs.Result.{IsErr}
 use Rattle.plinq_lines.specs.Written.{AppendsBeginning, Writes}
 use Rattle.std.proofs.KnownBytes.{Appends-nil, Appends-trans}
-use Rattle.plinq_lines.proofs.WrittenBytes.{Bytes, begins-as, begins-append, begins-after, writes-as, writes-at_err, writes-after}
+use Rattle.plinq_lines.proofs.WrittenBytes.{Bytes, appends-as, begins-as, begins-append, begins-after, writes-as, writes-at_err, writes-after}
 
 -- a first part of the whole text is written, and this part is left
 pub record PartWritten (start now : Bytes) (left whole : List ℕ) : Type 0 where
@@ -23,6 +23,10 @@ piece-written new piece rest p is h = record {
   written = Appends-trans _ _ _ p.done piece p.written h;
   parts = append_assoc p.done piece rest ∙ (ap (λ text. p.done ++ text) (sym is) ∙ p.parts);
 }
+
+-- nothing is left
+pub all-written : {start now : Bytes} {left whole : List ℕ} → PartWritten start now left whole → left ≡ [] → Appends start now whole
+all-written p none = appends-as _ _ _ _ (sym (append-nil p.done) ∙ ap (λ text. p.done ++ text) (sym none) ∙ p.parts) p.written
 
 -- the writer failed at a piece, and the function answers that by a `?`
 pub piece-failed : {A E : Type 0} {start now : Bytes} {left whole : List ℕ} (new : Bytes) (r : Result A E) (piece rest : List ℕ)

@@ -1,12 +1,15 @@
-ghost use Rattle.std.specs.Prelude.{◌≡◌, ◌≤◌, ◌++◌, ◌∷◌, [], length, drop};
+ghost use Rattle.std.specs.Prelude.{◌≡◌, ◌≤◌, ◌<◌, ◌++◌, ◌∷◌, [], Some, length, drop};
 ghost use Rattle.std.specs.List.{flat_map};
-ghost use Rattle.plinq_lines.specs.Text.{line, further_number, single_line, batch_line};
+ghost use Rattle.plinq_ops.specs.Batches.{full_batches};
+ghost use Rattle.plinq_lines.specs.Text.{line, further_number, batch_line};
 ghost use Rattle.plinq_lines.specs.Written.{Writes};
 
 use crate::bytes::write_bytes;
 use crate::piece::Piece;
 use crate::pieces::write_pieces;
-use crate::placing::{place_further_numbers, place_line, place_number, place_single_lines};
+use crate::placing::{
+    place_further_numbers, place_line, place_lines, place_number, place_single_lines,
+};
 use crate::write_fault::WriteFault;
 use std::io::Write;
 
@@ -18,11 +21,11 @@ const NUMBER_ROOM: usize = 21;
 
 const NUMBERS_ROOM: usize = 336;
 
-// How many lines of one number each are placed at once.
-const MOST_LINES: usize = 128;
+// How many numbers are placed at once where batches follow one another.
+const MOST_NUMBERS: usize = 128;
 
-/// The room that many such lines take.
-pub(crate) const LINES_ROOM: usize = 2688;
+/// The room that so many take, of which each may end a line.
+pub(crate) const LINES_ROOM: usize = 2816;
 
 const LINE_ROOM: usize = 337;
 
@@ -118,37 +121,68 @@ fn write_few_numbers<W: Write>(writer: &mut W, numbers: &[i64]) -> Result<(), Wr
     write_bytes(writer, &text[start..])
 }
 
-/// Writes each number as a line of its own. What `text` holds is of no account before and after.
+/// Writes the full batches of one size that these numbers make, each as its line. What `text` holds is of no account before and
+/// after.
 ///
 /// # Errors
 ///
 /// [`WriteFault`] as for [`write_batch`]: what was taken until then is a beginning of these lines.
-pub(crate) fn write_single_lines<W: Write>(
+pub(crate) fn write_batches_by<W: Write>(
     writer: &mut W,
+    size: usize,
     numbers: &[i64],
     text: &mut [u8; LINES_ROOM],
 ) -> Result<(), WriteFault>
-    ensures { Writes (W.contents writer.old) (W.contents writer.new) result (flat_map single_line numbers.now) }
+    requires { 0 < size }
+    ensures { Writes (W.contents writer.old) (W.contents writer.new) result (flat_map batch_line (full_batches (Some size) [] numbers.now)) }
+{
+    if size > MOST_NUMBERS {
+        return write_long_batches(writer, size, numbers);
+    }
+    let at_once = MOST_NUMBERS - MOST_NUMBERS % size;
+    let mut rest = numbers;
+    while rest.len() > at_once {
+        let (few, following) = rest.split_at(at_once);
+        write_few_batches(writer, size, few, text)?;
+        rest = following;
+    }
+    write_few_batches(writer, size, rest, text)
+}
+
+fn write_few_batches<W: Write>(
+    writer: &mut W,
+    size: usize,
+    numbers: &[i64],
+    text: &mut [u8; LINES_ROOM],
+) -> Result<(), WriteFault>
+    requires some { 0 < size }
+    requires few { length numbers.now ≤ 128 }
+    ensures { Writes (W.contents writer.old) (W.contents writer.new) result (flat_map batch_line (full_batches (Some size) [] numbers.now)) }
+{
+    if size == 1 {
+        let start = place_single_lines(numbers, text, LINES_ROOM);
+        return write_from(writer, text, start);
+    }
+    let (whole, _) = numbers.split_at(numbers.len() - numbers.len() % size);
+    let start = place_lines(size, whole, text, LINES_ROOM);
+    write_from(writer, text, start)
+}
+
+fn write_long_batches<W: Write>(
+    writer: &mut W,
+    size: usize,
+    numbers: &[i64],
+) -> Result<(), WriteFault>
+    requires { 0 < size }
+    ensures { Writes (W.contents writer.old) (W.contents writer.new) result (flat_map batch_line (full_batches (Some size) [] numbers.now)) }
 {
     let mut rest = numbers;
-    while !rest.is_empty() {
-        let (few, following) = rest.split_at(MOST_LINES.min(rest.len()));
-        write_few_single_lines(writer, few, text)?;
+    while rest.len() >= size {
+        let (batch, following) = rest.split_at(size);
+        write_long_batch(writer, batch)?;
         rest = following;
     }
     Ok(())
-}
-
-fn write_few_single_lines<W: Write>(
-    writer: &mut W,
-    numbers: &[i64],
-    text: &mut [u8; LINES_ROOM],
-) -> Result<(), WriteFault>
-    requires { length numbers.now ≤ 128 }
-    ensures { Writes (W.contents writer.old) (W.contents writer.new) result (flat_map single_line numbers.now) }
-{
-    let start = place_single_lines(numbers, text, LINES_ROOM);
-    write_from(writer, text, start)
 }
 
 fn write_from<W: Write>(writer: &mut W, text: &[u8], start: usize) -> Result<(), WriteFault>

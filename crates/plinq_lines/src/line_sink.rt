@@ -2,7 +2,7 @@ ghost use Rattle.std.specs.Prelude.{◌≡◌};
 ghost use Rattle.std.specs.Io.KnownBytes.{Keeps};
 ghost use Rattle.plinq_lines.specs.LineSink.{write_failed, TakesLine, RefusesLine};
 
-use crate::batch_lines::{LINES_ROOM, write_batch_by, write_single_lines};
+use crate::batch_lines::{LINES_ROOM, write_batch_by, write_batches_by};
 use plinq_merge::Sink;
 use std::io::Write;
 use std::marker::Model;
@@ -102,14 +102,14 @@ impl<'a, W: Write> Sink for LineSink<'a, W> {
         }
     }
 
-    fn batches_of_one(&mut self, items: &[i64]) -> Result<(), u32> {
-        if items.is_empty() {
+    fn batches_of(&mut self, size: usize, items: &[i64]) -> Result<(), u32> {
+        if items.len() < size {
             return Ok(());
         }
         if self.has_failed() {
             return Err(WRITE_FAILED);
         }
-        match write_single_lines(self.writer, items, &mut self.text) {
+        match write_batches_by(self.writer, size, items, &mut self.text) {
             Ok(()) => {
                 self.state = State::Written;
                 Ok(())

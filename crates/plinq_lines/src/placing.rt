@@ -1,8 +1,9 @@
 // Texts that are placed in an array from its end, each in front of what stands there already. So a line is made
 // without a copy of any digit, and written by one call.
-ghost use Rattle.std.specs.Prelude.{◌≡◌, ◌+◌, ◌*◌, ◌≤◌, ◌++◌, length, drop};
+ghost use Rattle.std.specs.Prelude.{◌≡◌, ◌+◌, ◌*◌, ◌%◌, ◌≤◌, ◌<◌, ◌++◌, [], Some, length, drop};
 ghost use Rattle.std.specs.List.{flat_map};
 ghost use Rattle.std.specs.Fmt.{signed_decimal};
+ghost use Rattle.plinq_ops.specs.Batches.{full_batches};
 ghost use Rattle.plinq_lines.specs.Text.{further_number, single_line, batch_line};
 
 use itoa::write_digits;
@@ -86,12 +87,34 @@ fn place_single_line(x: i64, text: &mut [u8], end: usize) -> usize
     place_number(x, text, end - 1)
 }
 
+// Places the lines of whole batches of one size.
+#[inline]
+pub(crate) fn place_lines(size: usize, numbers: &[i64], text: &mut [u8], end: usize) -> usize
+    requires some { 0 < size }
+    requires whole { length numbers.now % size ≡ 0 }
+    requires room { 22 * length numbers.now ≤ end }
+    requires within { end ≤ length text.old }
+    ensures start { result ≤ end }
+    ensures same { length text.new ≡ length text.old }
+    ensures placed { drop result text.new ≡ flat_map batch_line (full_batches (Some size) [] numbers.now) ++ drop end text.old }
+{
+    let mut rest = numbers;
+    let mut at = end;
+    while rest.len() >= size {
+        let (before, batch) = rest.split_at(rest.len() - size);
+        at = place_line(batch, text, at);
+        rest = before;
+    }
+    at
+}
+
 // Places the line of a batch.
 #[inline]
 pub(crate) fn place_line(batch: &[i64], text: &mut [u8], end: usize) -> usize
     requires room { 21 * length batch.now + 1 ≤ end }
     requires within { end ≤ length text.old }
     ensures start { result ≤ end }
+    ensures short { end ≤ result + 21 * length batch.now + 1 }
     ensures same { length text.new ≡ length text.old }
     ensures placed { drop result text.new ≡ batch_line batch.now ++ drop end text.old }
 {

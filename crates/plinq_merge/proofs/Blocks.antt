@@ -1,10 +1,13 @@
 -- Batches by blocks: items that fill a batch, and items that don't.
-use Rattle.std.specs.Prelude.{◌≡◌, ℕ, ◌+◌, ◌-◌, ◌<◌, ◌≤◌, ◌==◌, min, take, List, [], ◌∷◌, ◌++◌, length, true, false, Some, refl}
-use Rattle.std.proofs.Common.{sym, ◌∙◌, ap, arith, append-nil, append_assoc, length-append}
+use Rattle.std.specs.Prelude.{◌≡◌, ℕ, zero, suc, ◌+◌, ◌-◌, ◌*◌, ◌/◌, ◌%◌, ◌<◌, ◌≤◌, ◌==◌, min, take, drop, List, [], ◌∷◌, ◌++◌, length, true, false, Some, refl}
+use Rattle.std.proofs.Common.{sym, ◌∙◌, ap, arith, append-nil, append_assoc, length-append, length-drop}
+use Rattle.std.proofs.lemmas.List.{nil_from_length, take-append-drop}
+use Rattle.std.proofs.lemmas.Nat.{div-add-mod', mod_below}
 use Rattle.std.proofs.lemmas.Bool.Decides.{nat_tests}
 use Rattle.std.proofs.Math.Seq.{take-length}
 use Rattle.std.proofs.Common.{length-take-le}
 use Rattle.plinq_ops.specs.Batches.{full_batches, held_back}
+use Rattle.plinq_ops.proofs.Runs.{full_batches-append, held_back-append}
 
 not_full : (m n : ℕ) → m < n → (m == n) ≡ false
 not_full m n below = grind (arith, nat_tests)
@@ -64,3 +67,52 @@ short-filled n k held xs ys count is room short =
     let longer = length-filled n k held xs ys count is in
     let test : (length held + k == n) ≡ false = ap (λ j. j == n) (sym longer) ∙ short in
     grind (arith, nat_tests)
+
+-- ---- items of whole batches
+
+-- the first batch, and the others
+pub full_batches-first : {T : Type 0} (n : ℕ) (xs : List T) → 0 < n → n ≤ length xs → full_batches (Some n) [] xs ≡ take n xs ∷ full_batches (Some n) [] (drop n xs)
+full_batches-first n xs some enough =
+    let front : length (take n xs) ≡ n = length-take-le n xs enough in
+    ap (full_batches (Some n) []) (sym (take-append-drop n xs)) ∙ full_batches-filled n [] (take n xs) (drop n xs) (omega arith) (omega arith)
+
+held_back-first : {T : Type 0} (n : ℕ) (xs : List T) → 0 < n → n ≤ length xs → held_back (Some n) [] xs ≡ held_back (Some n) [] (drop n xs)
+held_back-first n xs some enough =
+    let front : length (take n xs) ≡ n = length-take-le n xs enough in
+    ap (held_back (Some n) []) (sym (take-append-drop n xs)) ∙ held_back-filled n [] (take n xs) (drop n xs) (omega arith) (omega arith)
+
+-- nothing is held back of them
+pub held_back-whole : {T : Type 0} (n k : ℕ) (xs : List T) → 0 < n → length xs ≡ k * n → held_back (Some n) [] xs ≡ []
+held_back-whole n zero xs some is = ap (held_back (Some n) []) (nil_from_length xs (omega (arith, is)))
+held_back-whole n (suc k) xs some is =
+    held_back-first n xs some (omega (arith, is)) ∙ held_back-whole n k (drop n xs) some (length-drop n xs ∙ omega (arith, is))
+
+-- their batches, and those of the items after them
+pub full_batches-whole : {T : Type 0} (n k : ℕ) (xs front back : List T) → 0 < n → front ++ back ≡ xs → length front ≡ k * n
+    → full_batches (Some n) [] xs ≡ full_batches (Some n) [] front ++ full_batches (Some n) [] back
+full_batches-whole n k xs front back some parts is =
+    ap (full_batches (Some n) []) (sym parts) ∙ full_batches-append (Some n) [] front back
+    ∙ ap (λ held. full_batches (Some n) [] front ++ full_batches (Some n) held back) (held_back-whole n k front some is)
+
+-- ---- the items after the last full batch
+
+whole-length : {T : Type 0} (n : ℕ) (xs : List T) → length (take (length xs - length xs % n) xs) ≡ length xs / n * n
+whole-length n xs = length-take-le (length xs - length xs % n) xs (omega arith) ∙ omega (arith, div-add-mod' (length xs) n)
+
+pub rest-short : {T : Type 0} (n : ℕ) (xs : List T) → 0 < n → length (drop (length xs - length xs % n) xs) < n
+rest-short n xs some = omega (arith, length-drop (length xs - length xs % n) xs, div-add-mod' (length xs) n, mod_below (length xs) n some)
+
+pub held_back-rest : {T : Type 0} (n : ℕ) (xs : List T) → 0 < n → held_back (Some n) [] xs ≡ drop (length xs - length xs % n) xs
+held_back-rest n xs some =
+    let front = take (length xs - length xs % n) xs in
+    let back = drop (length xs - length xs % n) xs in
+    ap (held_back (Some n) []) (sym (take-append-drop (length xs - length xs % n) xs)) ∙ held_back-append (Some n) [] front back
+    ∙ ap (λ held. held_back (Some n) held back) (held_back-whole n (length xs / n) front some (whole-length n xs))
+    ∙ held_back-short n [] back (omega (arith, rest-short n xs some))
+
+pub full_batches-before : {T : Type 0} (n : ℕ) (xs : List T) → 0 < n → full_batches (Some n) [] xs ≡ full_batches (Some n) [] (take (length xs - length xs % n) xs)
+full_batches-before n xs some =
+    let front = take (length xs - length xs % n) xs in
+    let back = drop (length xs - length xs % n) xs in
+    full_batches-whole n (length xs / n) xs front back some (take-append-drop (length xs - length xs % n) xs) (whole-length n xs)
+    ∙ ap (λ bs. full_batches (Some n) [] front ++ bs) (full_batches-short n [] back (omega (arith, rest-short n xs some))) ∙ append-nil (full_batches (Some n) [] front)

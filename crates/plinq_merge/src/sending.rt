@@ -1,7 +1,7 @@
 ghost use Rattle.std.specs.Prelude.{◌≡◌, ℕ, List, [], ◌∷◌, ◌<◌, ◌≤◌, length, Some, None, OnOk, MatchResult};
-ghost use Rattle.plinq_ops.specs.Batches.{last_batch};
+ghost use Rattle.plinq_ops.specs.Batches.{full_batches, last_batch};
 ghost use Rattle.plinq_merge.specs.Buffer.{held_of, size_of, HasRoom};
-ghost use Rattle.plinq_merge.specs.Sending.{Delivers, IsFilled, singles};
+ghost use Rattle.plinq_merge.specs.Sending.{Delivers, IsFilled};
 
 use crate::buffer::Buffer;
 use crate::delivery_fault::DeliveryFault;
@@ -19,11 +19,12 @@ pub(crate) fn send<K: Sink>(batch: &[K::Item], sink: &mut K) -> Result<(), Deliv
     }
 }
 
-/// Hands each item to the sink as a batch of its own.
-fn send_each<K: Sink>(items: &[K::Item], sink: &mut K) -> Result<(), DeliveryFault>
-    ensures { Delivers K.accepts K.refuses sink.old (singles items.now) result sink.new }
+/// Hands the full batches that these items make to the sink.
+fn send_full<K: Sink>(size: usize, items: &[K::Item], sink: &mut K) -> Result<(), DeliveryFault>
+    requires { 0 < size }
+    ensures { Delivers K.accepts K.refuses sink.old (full_batches (Some size) [] items.now) result sink.new }
 {
-    match sink.batches_of_one(items) {
+    match sink.batches_of(size, items) {
         Ok(()) => Ok(()),
         Err(code) => Err(DeliveryFault::Sink(code)),
     }
@@ -123,15 +124,8 @@ where
     ensures filled { IsFilled K.accepts K.refuses (Some ring.old.capacity) [] items.now sink.old result ring.new.items sink.new }
 {
     let size = ring.capacity();
-    if size == 1 {
-        return send_each(items, sink);
-    }
-    let mut rest = items;
-    while rest.len() >= size {
-        let (batch, others) = rest.split_at(size);
-        send(batch, sink)?;
-        rest = others;
-    }
+    send_full(size, items, sink)?;
+    let (_, rest) = items.split_at(items.len() - items.len() % size);
     ring.fill_from_slice(rest);
     Ok(())
 }

@@ -1,4 +1,5 @@
-ghost use Rattle.std.specs.Prelude.{◌≡◌, ℕ, List, MatchResult};
+ghost use Rattle.std.specs.Prelude.{◌≡◌, ℕ, ◌<◌, List, [], Some, MatchResult};
+ghost use Rattle.plinq_ops.specs.Batches.{full_batches};
 ghost use Rattle.plinq_merge.specs.Sending.{TakesEach, singles};
 
 /// Where the batches of an answer go.
@@ -30,22 +31,34 @@ pub trait Sink {
             (λ _. accepts self.old items.now self.new)
             (λ code. refuses self.old items.now code self.new) };
 
-    /// Takes batches of one item each, one after another, up to the first that it refuses. A sink that takes many at once more
-    /// quickly has its own.
+    /// Takes the full batches of one size that these items make, one after another, up to the first that it refuses. Items
+    /// that are left after them aren't delivered. A sink that takes many at once more quickly has its own.
     ///
     /// # Errors
     ///
     /// The sink's code for the first batch that it refuses; it was handed none of those after it.
-    fn batches_of_one(&mut self, items: &[Self::Item]) -> Result<(), u32>
-        ensures { TakesEach accepts refuses self.old (singles items.now) result self.new }
+    fn batches_of(&mut self, size: usize, items: &[Self::Item]) -> Result<(), u32>
+        requires { 0 < size }
+        ensures { TakesEach accepts refuses self.old (full_batches (Some size) [] items.now) result self.new }
     {
         let mut rest = items;
-        while !rest.is_empty() {
-            let (batch, others) = rest.split_at(1);
+        while rest.len() >= size {
+            let (batch, others) = rest.split_at(size);
             self.batch(batch)?;
             rest = others;
         }
         Ok(())
+    }
+
+    /// Takes batches of one item each, one after another, up to the first that it refuses.
+    ///
+    /// # Errors
+    ///
+    /// As [`Sink::batches_of`].
+    fn batches_of_one(&mut self, items: &[Self::Item]) -> Result<(), u32>
+        ensures { TakesEach accepts refuses self.old (singles items.now) result self.new }
+    {
+        self.batches_of(1, items)
     }
 
     /// No batch is there to be delivered now, and it may take a while until the next. A sink that holds back what it
