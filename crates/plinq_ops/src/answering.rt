@@ -1,10 +1,10 @@
-ghost use Rattle.std.specs.Prelude.{◌≡◌, false, Some, OnOk, IfOk};
+ghost use Rattle.std.specs.Prelude.{◌≡◌, false, OnOk, IfOk};
 ghost use Rattle.plinq_source.specs.Trace.{ended};
 ghost use Rattle.plinq_ops.specs.Stage.{some_takes_none};
 ghost use Rattle.plinq_ops.specs.Operator.{stages_of};
-ghost use Rattle.plinq_ops.specs.Feeding.{IsFed};
 ghost use Rattle.plinq_ops.specs.Pipeline.{stages};
 ghost use Rattle.plinq_ops.specs.Sequential.{answer_of, IsLeastDeciding};
+ghost use Rattle.plinq_ops.specs.inner.Answering.{IsAllFed};
 
 use crate::decided::is_decided;
 use crate::pipeline::Pipeline;
@@ -62,12 +62,10 @@ fn feed_all<L: Lambda, S: Source<Item = L::Item>>(
     requires fresh { S.given source.old ≡ 0 }
 
     ensures same { S.whole source.new ≡ S.whole source.old }
-    ensures fed { IfOk result (λ ending. IsFed
-        (stages L.meaning pipeline.old) (S.whole source.old)
+    ensures fed { IfOk result (IsAllFed
+        (stages L.meaning pipeline.old) (S.whole source.old) (S.given source.new)
         out.old.items out.new.items
-        (stages L.meaning pipeline.new) (Some ending)) }
-    ensures least { OnOk result (IsLeastDeciding
-        (stages L.meaning pipeline.old) (S.whole source.old) (S.given source.new)) }
+        (stages L.meaning pipeline.new)) }
 {
     loop {
         match source.next() {

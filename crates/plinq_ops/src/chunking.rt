@@ -4,7 +4,8 @@ ghost use Rattle.plinq_ops.specs.Stage.{some_takes_none};
 ghost use Rattle.plinq_ops.specs.Feeding.{is_empty_take};
 ghost use Rattle.plinq_ops.specs.ByKey.{is_by_key, left_at};
 ghost use Rattle.plinq_ops.specs.Cut.{most_items};
-ghost use Rattle.plinq_ops.specs.Chunk.{IsChunkResult, IsStop, chunk_answer, stop_over};
+ghost use Rattle.plinq_ops.specs.Chunk.{IsChunkResult, chunk_answer, stop_over};
+ghost use Rattle.plinq_ops.specs.inner.Chunking.{Gives};
 
 use crate::cutting::frag_end;
 use crate::frag_end::FragEnd;
@@ -79,8 +80,7 @@ fn work<L: Lambda>(
     requires within { first + length items.now ≤ most_items }
     requires empty { out.old.items ≡ [] }
 
-    ensures items { IfOk result (λ _. out.new.items ≡ (chunk_answer L.meaning worker.now cut first items.now).trace.items) }
-    ensures stop { IfOk result (IsStop (chunk_answer L.meaning worker.now cut first items.now)) }
+    ensures { IfOk result (Gives (chunk_answer L.meaning worker.now cut first items.now) out.new.items) }
 {
     let mut pipeline = Pipeline::at_key(alloc, worker, first)?;
     if pipeline.is_over() {
@@ -148,8 +148,7 @@ fn work_each<L: Lambda>(
     requires within { first + length items.now ≤ most_items }
     requires empty { out.old.items ≡ [] }
 
-    ensures items { IfOk result (λ _. out.new.items ≡ (chunk_answer L.meaning worker.now cut first items.now).trace.items) }
-    ensures stop { IfOk result (IsStop (chunk_answer L.meaning worker.now cut first items.now)) }
+    ensures { IfOk result (Gives (chunk_answer L.meaning worker.now cut first items.now) out.new.items) }
 {
     let mut pipeline = Pipeline::at_key(alloc, worker, first)?;
     for (at, item) in items.iter().enumerate() {

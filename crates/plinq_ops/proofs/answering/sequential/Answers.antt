@@ -35,13 +35,13 @@ returns-clause-answer g c =
     let ops = c.args.query.now.ops in
     let same : c.ops-ops.result.now ≡ ops = search rules in
     let begins = stages-begun m ops c.in_ok-pipeline.pipeline (rw same at c.in_ok-pipeline.ensures) in
-    let fed = rw begins at c.in_ok-ending.ensures.fed in
+    let all = rw begins at c.in_ok-ending.ensures.fed in
     answer-fed (stages_of m ops) _ (g.S.Source.whole c.args.source.now) c.new-items.result.items c.feed_all.new.out.items c.in_ok-ending.ending
-    c.new-items.ensures.items fed
+    c.new-items.ensures.items all.fed
 
 pub returns-clause-least : goal.returns-clause-least
 returns-clause-least g c =
     let m = g.L.Lambda.meaning in
     let ops = c.args.query.now.ops in
     let same : c.ops-ops.result.now ≡ ops = search rules in
-    rw (stages-begun m ops c.in_ok-pipeline.pipeline (rw same at c.in_ok-pipeline.ensures)) at c.in_ok-ending.ensures.least
+    (rw (stages-begun m ops c.in_ok-pipeline.pipeline (rw same at c.in_ok-pipeline.ensures)) at c.in_ok-ending.ensures.fed).least
