@@ -19,24 +19,25 @@ use Rattle.plinq_run.specs.declared.run_fault.RunFault.TheVariants.{Sink, Cancel
 abbrev pub before : {T : Type 0} → List T → Trace T → Trace T
 before xs t = record { items = xs ++ t.items; ending = t.ending }
 
--- by what a lambda answers; its fault ends all
+-- what is made of a lambda's answer; a fault is the ending, and no item comes of it
 abbrev pub or_fault : {A T : Type 0} → Result A ℕ → (A → Trace T) → Trace T
 or_fault (Ok answer) gives = gives answer
 or_fault (Err code) gives = ended [] (Fault code)
 
--- What becomes of items and an ending. `gives` says it from an item on. It gets the item, what the lambda answers for it, the trace
--- from that item on, and what becomes of the items after it
+-- What becomes of items and an ending. `gives` says it of an item: from the item, the lambda's answer, the trace from that item on,
+-- unchanged, and the rest: what becomes of the items after it. So what Filter makes from x on is x before the rest, or the rest
 abbrev pub each : {A T : Type 0} → (T → Result A ℕ) → (T → A → Trace T → Trace T → Trace T) → List T → Option Ending → Trace T
 each asks gives [] e = record { items = []; ending = e }
 each asks gives (x ∷ xs) e = or_fault (asks x) (λ answer. gives x answer (record { items = x ∷ xs; ending = e }) (each asks gives xs e))
 
--- what an operator makes of a trace, by what its lambda means; AsUnordered does nothing to what one thread answers
+-- What an operator makes of a trace, by what its lambda means. Take and TakeWhile end with End where they have their items, whatever
+-- follows; a negative number is as 0; AsUnordered does nothing to what one thread answers
 abbrev pub does : {L T : Type 0} → (L → Meaning T) → Op L → Trace T → Trace T
-does meaning (Select f) t = each (meaning f).map (λ x y here rest. before (y ∷ []) rest) t.items t.ending
-does meaning (Filter f) t = each (meaning f).test (λ x passes here rest. if passes then before (x ∷ []) rest else rest) t.items t.ending
-does meaning (SelectMany f) t = each (meaning f).expand (λ x ys here rest. before ys rest) t.items t.ending
-does meaning (TakeWhile f) t = each (meaning f).test (λ x passes here rest. if passes then before (x ∷ []) rest else ended [] End) t.items t.ending
-does meaning (SkipWhile f) t = each (meaning f).test (λ x passes here rest. if passes then rest else here) t.items t.ending
+does meaning (Select f) t = each (meaning f).map (λ x y unchanged rest. before (y ∷ []) rest) t.items t.ending
+does meaning (Filter f) t = each (meaning f).test (λ x passes unchanged rest. if passes then before (x ∷ []) rest else rest) t.items t.ending
+does meaning (SelectMany f) t = each (meaning f).expand (λ x ys unchanged rest. before ys rest) t.items t.ending
+does meaning (TakeWhile f) t = each (meaning f).test (λ x passes unchanged rest. if passes then before (x ∷ []) rest else ended [] End) t.items t.ending
+does meaning (SkipWhile f) t = each (meaning f).test (λ x passes unchanged rest. if passes then rest else unchanged) t.items t.ending
 does meaning (Take (pos n)) t = if nat_le n (length t.items) then ended (take n t.items) End else t
 does meaning (Take (negsuc n)) t = ended [] End
 does meaning (Skip (pos n)) t = record { items = drop n t.items; ending = t.ending }
@@ -54,16 +55,16 @@ in_batches n [] [] = []
 in_batches n hand [] = hand ∷ []
 in_batches n hand (x ∷ xs) = if length hand + 1 == n then (hand ++ x ∷ []) ∷ in_batches n [] xs else in_batches n (hand ++ x ∷ []) xs
 
--- the batches in which an answer is handed over: of 1, all items at once, or of 16; a last short one comes also before a fault, but
--- all at once only before End
+-- The batches in which an answer is handed over. NotBuffered: of 1. FullyBuffered: all items at once before End, and else none.
+-- Default, AutoBuffered or no option: of 16, the last perhaps shorter, whatever the ending
 abbrev pub handed_over : {T : Type 0} → Option MergeOption → List T → Option Ending → List (List T)
 handed_over (Some NotBuffered) xs e = in_batches 1 [] xs
 handed_over (Some FullyBuffered) (x ∷ xs) (Some End) = (x ∷ xs) ∷ []
 handed_over (Some FullyBuffered) xs e = []
 handed_over option xs e = in_batches 16 [] xs
 
--- What a run of this answer reports, and which batches its sink has taken then: all; those before the next, which it refused; or any
--- first ones. Without a token nothing cancels
+-- What a run of the answer u reports, and which batches its sink, s before and s' after, has taken then: all; those before the next,
+-- which it refused; or any first ones. `run` has no cancellation token, so it is never Cancelled
 abbrev pub HasDelivered : {K T : Type 0} → (K → List T → K → Type 0) → (K → List T → ℕ → K → Type 0) → Option MergeOption → Trace T → K → K → Result Report RunFault → Type 0
 HasDelivered accepts refuses option u s s' (Ok report) = (u.ending ≡ Some report.ending) × Leads accepts s (handed_over option u.items u.ending) s'
 HasDelivered {K} {T} accepts refuses option u s s' (Err (Sink code)) =
