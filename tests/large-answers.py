@@ -15,6 +15,7 @@ RUNS = (
     large.answers,
     large.aggregates,
     large.long_answers,
+    large.blocks,
     large.each_worker_count,
     large.long_histories,
     large.cancelled_runs,

@@ -43,6 +43,43 @@ def right(source, steps, merge, aggregate=None):
     return Outcome(status, "".join(it + "\n" for it in lines).encode(), b"")
 
 
+# Numbers about which a formula does something else, or its loop over a block does, and formulas with such bounds.
+EDGES = [-GREATEST - 1, -GREATEST, -(2**62) - 1, -(2**62), -2, -1, 0, 1, 2**62 - 1, 2**62, GREATEST - 1, GREATEST]
+FORMULAS = [
+    *(["add", it] for it in (1, -GREATEST - 1, 2**62, -(2**62), 1 - 2**62)),
+    *(["mul", it] for it in (-1, GREATEST)),
+    *(["mod", it] for it in (0, 2, -1)),
+    *(["into", it] for it in (0, -GREATEST - 1)),
+    *(["below", it] for it in (0, GREATEST)),
+    *(["above", it] for it in (0, -GREATEST - 1)),
+    ["equal", -1],
+    ["even"],
+    ["repeat", 2],
+    ["up_to"],
+]
+
+
+def edges_in_blocks(length, places):
+    """Blocks of that length: the edges in turn, and twos with each edge at each of these places."""
+    yield [EDGES[it % 12] for it in range(length)]
+    for place in places:
+        for edge in EDGES:
+            yield [edge if it == place else 2 for it in range(length)]
+
+
+def blocks(program):
+    """The same of blocks in which a formula meets its bounds, each block a chunk; of a great block, where a loop adds."""
+    for formula in FORMULAS:
+        for step in ("select", "filter", "take_while"):
+            for length in (16, 511) if formula[0] == "add" and step == "select" else (16,):
+                places = (0, length // 2, length - 1) if step == "select" else (length // 2,)
+                for at, block in enumerate(edges_in_blocks(length, places)):
+                    source, steps = {"list": block}, [ORDERED, [step, *formula]]
+                    text = json.dumps({"version": 1, "source": source, "query": steps, "growth": [512, 1, 512]}).encode()
+                    name = f"{step} {formula}, block {at} of {length}"
+                    yield name, right(source, steps, "full"), run(["run", "--workers", "1", "--merge", "full"], text, program)
+
+
 def in_any_order(outcome, merge):
     """An outcome without the order of its items: with these sorted, and whether they came in the batches of this merge option."""
     batches, last = batches_in(outcome.output)

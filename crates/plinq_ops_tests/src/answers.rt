@@ -1,68 +1,74 @@
 //! Answers of one thread, where there is room for them.
-ghost use Rattle.std.specs.Prelude.{◌≡◌, IfOk};
+ghost use Rattle.std.specs.Prelude.{◌≡◌, IfSome};
 
 use crate::building::ordered;
 use plinq_lambda::Formula;
 use plinq_ops::{Op, sequential};
 use plinq_source::{Ending, ListSource, RangeSource, Source};
-use std::alloc::{AllocError, Global};
-use std::process::Abort;
+use std::alloc::Global;
 
 /// A source of a list, which refuses after it where there is a code.
 pub(crate) fn source_of(
-    rt: &impl Abort,
     alloc: Global,
     list: &[i64],
     refusal: Option<u32>,
-) -> Result<ListSource<i64>, AllocError>
-    ensures { IfOk result (λ source. ⟦<ListSource<i64> as Source>⟧.given source ≡ 0) }
+) -> Option<ListSource<i64>>
+    ensures { IfSome result (λ source. ⟦<ListSource<i64> as Source>⟧.given source ≡ 0) }
 {
-    let list = Vec::from_slice(alloc, list)?;
-    assert!(rt; list.len() < 100);
-    Ok(match refusal {
-        None => ListSource::new(alloc, list),
-        Some(code) => ListSource::refusing(alloc, list, code),
-    })
+    if list.len() > 100 {
+        return None;
+    }
+    let Ok(list) = Vec::from_slice(alloc, list) else {
+        return None;
+    };
+    match refusal {
+        None => Some(ListSource::new(alloc, list)),
+        Some(code) => Some(ListSource::refusing(alloc, list, code)),
+    }
 }
 
-/// Asks one thread for so many items of a long range, the last of which is this one.
-fn expect_many(rt: &impl Abort, alloc: Global, op: Op<Formula>, count: usize, last: i64) {
-    let Ok(query) = ordered(alloc, &[op]) else {
-        panic!(rt; "no room for a query");
-    };
-    let Ok(mut source) = RangeSource::new(1, 5000) else {
-        panic!(rt; "no such range");
-    };
-    let Ok((items, ending)) = sequential(alloc, &query, &mut source) else {
-        panic!(rt; "no room for an answer");
-    };
-    let is_last = items.last() == Some(&last);
-    assert!(rt;
-        items.len() == count && is_last && ending == Ending::End,
-        "{op:?}"
-    );
+/// How many items one thread answers of a long range, and the last of them.
+fn count_and_last(alloc: Global, op: Op<Formula>) -> Option<(usize, i64)> {
+    let query = ordered(alloc, &[op])?;
+    let mut source = RangeSource::new(1, 5000).ok()?;
+    match sequential(alloc, &query, &mut source) {
+        Ok((items, ending)) => match items.last() {
+            Some(last) if ending == Ending::End => Some((items.len(), *last)),
+            _ => None,
+        },
+        Err(_) => None,
+    }
 }
 
 // Long lists and answers take no other path than short ones.
 #[test]
 fn answers_of_many_items(rt: HostRuntime) {
-    expect_many(&rt, rt.alloc(), Op::Select(Formula::Add(1)), 5000, 5001);
-    expect_many(&rt, rt.alloc(), Op::Filter(Formula::Even), 2500, 5000);
-    let repeat = Op::SelectMany(Formula::Repeat(3));
-    expect_many(&rt, rt.alloc(), repeat, 15_000, 5000);
+    for (op, count, last) in [
+        (Op::Select(Formula::Add(1)), 5000, 5001),
+        (Op::Filter(Formula::Even), 2500, 5000),
+        (Op::SelectMany(Formula::Repeat(3)), 15_000, 5000),
+    ] {
+        assert!(rt;
+            count_and_last(rt.alloc(), op) == Some((count, last)),
+            "{op:?}"
+        );
+    }
+}
+
+/// Whether the answer is right, if there is room for it.
+fn is_right_if_any(alloc: Global) -> bool {
+    let ops = [Op::SelectMany(Formula::Repeat(2)), Op::Skip(1), Op::Take(4)];
+    let (Some(query), Ok(mut source)) = (ordered(alloc, &ops), RangeSource::new(3, 4)) else {
+        return true;
+    };
+    match sequential(alloc, &query, &mut source) {
+        Ok((items, ending)) => items.as_slice() == [3, 4, 4, 5].as_slice() && ending == Ending::End,
+        Err(_) => true,
+    }
 }
 
 // Also where an allocation fails: run it with each allocation refused in turn.
 #[test]
 fn answers_or_says_that_memory_ran_out(rt: HostRuntime) {
-    let ops = [Op::SelectMany(Formula::Repeat(2)), Op::Skip(1), Op::Take(4)];
-    let Ok(query) = ordered(rt.alloc(), &ops) else {
-        return;
-    };
-    let Ok(mut source) = RangeSource::new(3, 4) else {
-        panic!(&rt; "a range of four")
-    };
-    if let Ok((items, ending)) = sequential(rt.alloc(), &query, &mut source) {
-        assert!(rt; items.as_slice() == [3, 4, 4, 5].as_slice() && ending == Ending::End);
-    }
+    assert!(rt; is_right_if_any(rt.alloc()));
 }

@@ -1,4 +1,4 @@
-use plinq_ops::{BuildFault, Built, Op, Query};
+use plinq_ops::{Built, Op, Query};
 use std::alloc::Global;
 
 /// The query with the builder call of this operator.
@@ -15,14 +15,16 @@ pub(crate) fn with<L: Drop>(query: Query<L>, op: Op<L>) -> Built<L> {
     }
 }
 
-/// An ordered query of these operators.
-pub(crate) fn ordered<L: Copy + Drop>(
-    alloc: Global,
-    ops: &[Op<L>],
-) -> Result<Query<L>, BuildFault> {
-    let mut query = Query::new(alloc).as_ordered().map_err(|(_, fault)| fault)?;
+/// An ordered query of these operators, where there is room for it.
+pub(crate) fn ordered<L: Copy + Drop>(alloc: Global, ops: &[Op<L>]) -> Option<Query<L>> {
+    let Ok(mut query) = Query::new(alloc).as_ordered() else {
+        return None;
+    };
     for op in ops {
-        query = with(query, *op).map_err(|(_, fault)| fault)?;
+        match with(query, *op) {
+            Ok(longer) => query = longer,
+            Err(_) => return None,
+        }
     }
-    Ok(query)
+    Some(query)
 }

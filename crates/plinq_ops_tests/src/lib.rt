@@ -11,8 +11,6 @@ mod building;
 #[cfg(test)]
 mod counted_steps;
 #[cfg(test)]
-mod formula_blocks;
-#[cfg(test)]
 mod pipelines;
 #[cfg(test)]
 mod queries;

