@@ -2,14 +2,14 @@
 ghost use Rattle.std.specs.Prelude.{◌≡◌, IfOk};
 ghost use Rattle.plinq_source.specs.Walked.{range_given};
 
-use plinq_collect::{all, any, build, element_at, first};
+use crate::queries::ordered;
+use plinq_collect::{all, any, element_at, first};
 use plinq_lambda::Formula;
-use plinq_ops::{BuildFault, Query};
+use plinq_ops::Built;
 use plinq_source::{RangeSource, Source, SourceFault, Step};
 use std::alloc::Global;
 use std::sync::Wait;
 use std::sync::atomic::{AtomicU64, Ordering};
-use std::test::Fail;
 use std::thread::Threads;
 
 /// How far workers may be ahead of what is merged, with the default growth and six workers at work, and a chunk of each.
@@ -43,78 +43,106 @@ impl<'a> Source for Counted<'a> {
     }
 }
 
-fn query(alloc: Global, workers: u64) -> Result<Query<Formula>, BuildFault> {
-    build(alloc, |query| query.as_ordered()?.with_degree(workers))
+fn query_above(alloc: Global, workers: u64) -> Built<Formula> {
+    ordered(alloc, workers)?.filter(Formula::Above(99))
 }
 
+/// The range of which the first hundred decide what is asked, of which none has left.
 fn from_zero(left: &AtomicU64) -> Result<Counted<'_>, SourceFault>
     ensures { IfOk result (λ s. range_given s.range ≡ 0) }
 {
     left.store(0, Ordering::SeqCst);
-    Ok(Counted {
-        range: RangeSource::new(0, 10_000_000)?,
-        left,
-    })
+    match RangeSource::new(0, 10_000_000) {
+        Ok(range) => Ok(Counted { range, left }),
+        Err(fault) => Err(fault),
+    }
 }
 
-fn first_above<R: Threads + Wait + Sync>(
+fn is_first_above<R: Threads + Wait + Sync>(
     rt: &R,
     alloc: Global,
     workers: u64,
     left: &AtomicU64,
-) -> Result<Option<i64>, Fail> {
-    let asked = build(
-        alloc,
-        |query| query
-            .as_ordered()?
-            .with_degree(workers)?
-            .filter(Formula::Above(99)),
-    )?;
-    Ok(first(rt, alloc, asked, from_zero(left)?)?)
+) -> bool {
+    let Ok(query) = query_above(alloc, workers) else {
+        return false;
+    };
+    match from_zero(left) {
+        Ok(source) => first(rt, alloc, query, source) == Ok(Some(100)),
+        Err(_) => false,
+    }
 }
 
-fn any_above<R: Threads + Wait + Sync>(
+fn is_any_above<R: Threads + Wait + Sync>(
     rt: &R,
     alloc: Global,
     workers: u64,
     left: &AtomicU64,
-) -> Result<bool, Fail> {
-    let asked = query(alloc, workers)?;
-    Ok(any(rt, alloc, asked, from_zero(left)?, Formula::Above(99))?)
+) -> bool {
+    let Ok(query) = ordered(alloc, workers) else {
+        return false;
+    };
+    match from_zero(left) {
+        Ok(source) => any(rt, alloc, query, source, Formula::Above(99)) == Ok(true),
+        Err(_) => false,
+    }
 }
 
-fn all_below<R: Threads + Wait + Sync>(
+fn are_not_all_below<R: Threads + Wait + Sync>(
     rt: &R,
     alloc: Global,
     workers: u64,
     left: &AtomicU64,
-) -> Result<bool, Fail> {
-    let asked = query(alloc, workers)?;
-    Ok(all(rt, alloc, asked, from_zero(left)?, Formula::Below(100))?)
+) -> bool {
+    let Ok(query) = ordered(alloc, workers) else {
+        return false;
+    };
+    match from_zero(left) {
+        Ok(source) => all(rt, alloc, query, source, Formula::Below(100)) == Ok(false),
+        Err(_) => false,
+    }
 }
 
-fn at_hundred<R: Threads + Wait + Sync>(
+fn is_at_hundred<R: Threads + Wait + Sync>(
     rt: &R,
     alloc: Global,
     workers: u64,
     left: &AtomicU64,
-) -> Result<Option<i64>, Fail> {
-    let asked = query(alloc, workers)?;
-    Ok(element_at(rt, alloc, asked, from_zero(left)?, 100)?)
+) -> bool {
+    let Ok(query) = ordered(alloc, workers) else {
+        return false;
+    };
+    match from_zero(left) {
+        Ok(source) => element_at(rt, alloc, query, source, 100) == Ok(Some(100)),
+        Err(_) => false,
+    }
+}
+
+fn are_few(left: &AtomicU64) -> bool {
+    left.load(Ordering::SeqCst) <= MOST
+}
+
+/// Whether all is answered, and but few items have left for each answer.
+fn ends_early<R: Threads + Wait + Sync>(
+    rt: &R,
+    alloc: Global,
+    workers: u64,
+    left: &AtomicU64,
+) -> bool {
+    is_first_above(rt, alloc, workers, left)
+        && are_few(left)
+        && is_any_above(rt, alloc, workers, left)
+        && are_few(left)
+        && are_not_all_below(rt, alloc, workers, left)
+        && are_few(left)
+        && is_at_hundred(rt, alloc, workers, left)
+        && are_few(left)
 }
 
 #[test]
-fn a_source_is_left_once_the_answer_is_known(rt: HostRuntime) -> Result<(), Fail> {
+fn a_source_is_left_once_the_answer_is_known(rt: HostRuntime) {
     let left = AtomicU64::new(0);
     for workers in [1, 4] {
-        assert_eq!(rt; first_above(&rt, rt.alloc(), workers, &left)?, Some(100));
-        assert!(rt; left.load(Ordering::SeqCst) <= MOST);
-        assert!(rt; any_above(&rt, rt.alloc(), workers, &left)?);
-        assert!(rt; left.load(Ordering::SeqCst) <= MOST);
-        assert!(rt; !all_below(&rt, rt.alloc(), workers, &left)?);
-        assert!(rt; left.load(Ordering::SeqCst) <= MOST);
-        assert_eq!(rt; at_hundred(&rt, rt.alloc(), workers, &left)?, Some(100));
-        assert!(rt; left.load(Ordering::SeqCst) <= MOST);
+        assert!(&rt; ends_early(&rt, rt.alloc(), workers, &left));
     }
-    Ok(())
 }

@@ -9,12 +9,10 @@ mod against_a_loop;
 #[cfg(test)]
 mod calling;
 #[cfg(test)]
-mod calls;
-#[cfg(test)]
 mod chains;
 #[cfg(test)]
 mod early_ends;
 #[cfg(test)]
-mod refused_room;
+mod queries;
 #[cfg(test)]
-mod slices;
+mod refused_room;
