@@ -160,9 +160,15 @@ fn chunks_grow_as_the_run_was_told(rt: HostRuntime) {
     assert!(rt; asks_for(&rt, rt.alloc(), 11, by(1), &grown));
     assert!(rt; asks_for(&rt, rt.alloc(), 3, Setting::by(1), &[1, 1, 1, 1]));
     // (a token is no reason for another growth)
-    let with_token = Setting {
-        cancel_after: Some(u64::MAX),
+    let cancel_after = Some(u64::MAX);
+    let grows = Setting {
+        cancel_after,
         ..by(1)
     };
-    assert!(rt; asks_for(&rt, rt.alloc(), 11, with_token, &grown));
+    assert!(rt; asks_for(&rt, rt.alloc(), 11, grows, &grown));
+    let stays = Setting {
+        cancel_after,
+        ..Setting::by(1)
+    };
+    assert!(rt; asks_for(&rt, rt.alloc(), 3, stays, &[1, 1, 1, 1]));
 }
