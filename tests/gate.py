@@ -104,17 +104,32 @@ def sums(place, tests):
 
 
 def jobs(place, tests):
-    """Each proof of rt ci has one job, where memory allows that as many are proved at a time as there are processors."""
+    """Each proof of rt ci has one job, where memory allows that as many are proved at a time as there are processors, and no
+    control group says otherwise."""
     place.tell("echo \"$RT_JOBS\" >jobs; " + COUNTED, one=PASSES)
-    for processors, gigabytes, given, wanted in ((4, 20, "", "4"), (4, 19, "", ""), (1, 5, "", "1"), (64, 400, "", "64"), (4, 400, "2", "2")):
+    free = {"cpu.max": "max 100000", "memory.max": "max", "cpu.cfs_quota_us": "-1", "memory.limit_in_bytes": "9223372036854771712"}
+    for processors, gigabytes, limits, given, wanted in (
+        (4, 20, {}, "", "4"),
+        (4, 20, free, "", "4"),
+        (4, 19, {}, "", ""),
+        (1, 5, {}, "", "1"),
+        (64, 400, {}, "", "64"),
+        (64, 400, {"cpu.max": "400000 100000"}, "", ""),
+        (64, 400, free | {"memory.max": "17179869184"}, "", ""),
+        (64, 400, free | {"cpu.cfs_quota_us": "400000"}, "", ""),
+        (64, 400, free | {"memory.limit_in_bytes": "17179869184"}, "", ""),
+        (4, 400, {"cpu.max": "400000 100000"}, "2", "2"),
+    ):
         place.write("bin/nproc", f"#!/bin/sh\necho {processors}\n", 0o755)
+        cases = "".join(f"/sys/fs/cgroup/*{name}) echo '{limit}' ;;\n" for name, limit in limits.items())
+        place.write("bin/cat", f'#!/bin/sh\ncase "$1" in\n{cases}*) exit 1 ;;\nesac\n', 0o755)
         place.write("bin/grep", f"#!/bin/sh\necho 'MemAvailable: {gigabytes}000000 kB'\n", 0o755)
         ran = subprocess.run(["./test"], cwd=place.top, env=place.env() | {"RT_JOBS": given}, stdin=subprocess.DEVNULL, capture_output=True, text=True, timeout=HANGS)
         with open(f"{place.top}/jobs", encoding="utf-8") as file:
             said = file.read().strip()
         is_so = (ran.returncode, said) == (0, wanted)
-        tests.check(f"with {processors} processors, {gigabytes} GB and RT_JOBS={given} that is {wanted or 'left to rt'}", is_so, (ran, said))
-    for name in ("nproc", "grep"):
+        tests.check(f"with {processors} processors, {gigabytes} GB, {limits} and RT_JOBS={given} that is {wanted or 'left to rt'}", is_so, (ran, said))
+    for name in ("nproc", "grep", "cat"):
         os.remove(f"{place.top}/bin/{name}")
 
 
@@ -167,7 +182,7 @@ def no_rt(place, tests):
     os.rename(f"{place.top}/bin/rt", f"{place.top}/bin/hidden")
     tools = f"{place.top}/tools-alone"
     os.mkdir(tools)
-    for name in "bash readlink dirname rm find sort xargs sha256sum cut flock sed nproc grep".split():
+    for name in "bash readlink dirname rm find sort xargs sha256sum cut flock sed".split():
         os.symlink(shutil.which(name), f"{tools}/{name}")
     ran = subprocess.run(["./test"], cwd=place.top, env={"PATH": tools}, capture_output=True, text=True, timeout=HANGS)
     lines = ran.stdout.splitlines()
