@@ -53,12 +53,6 @@ NAMED = {
     "plinq_groups::first_group_is_of_the_first_item": "abbrev pub grouping",
     "plinq_wait::WaitQueue::wake": "pub fn wake(&self)",
 }
-# Files that stand outside of specs/inner/ though no public contract reaches them, and why. Whoever changes the crate's code
-# anyway moves them.
-LEFT_OUTSIDE = {
-    "crates/plinq_closures/specs/Only.antt": "its crate and all above it are proved again where it moves",
-    "crates/plinq_source/specs/Values.antt": "its crate stands below all others: where it moves, each of them is proved again",
-}
 PLANS = "ghost use Rattle.plinq_run.specs.inner.Plans.{MayTake};\npub fn taken()\n    ensures { MayTake }\n{}\n"
 IS_REACHED = "plinq_run/specs/inner/Plans.antt: a public contract reaches it"
 # A file, what stands there once, what stands there in a copy, what the tool then says of it, and with which status.
@@ -144,9 +138,9 @@ def finds_lost(tests):
 
 
 def apart(root=ROOT):
-    """What stands on the wrong side of specs/inner/, as the tool says, without what is known."""
+    """What stands on the wrong side of specs/inner/, as the tool says."""
     seen = trusted("--apart", root=root)
-    return seen, [line for line in seen.stdout.splitlines() if line.partition(": ")[0] not in LEFT_OUTSIDE]
+    return seen, seen.stdout.splitlines()
 
 
 def stands_apart(tests):
@@ -154,8 +148,6 @@ def stands_apart(tests):
     followed."""
     seen, wrong = apart()
     tests.check("words that no public contract reaches stand in specs/inner/, and no others", seen.returncode == 0 and not wrong, f"{wrong} {seen.stderr}")
-    known = [path for path in LEFT_OUTSIDE if f"{path}: no public contract reaches it" not in seen.stdout]
-    tests.check("what is left outside is reached by none", not known, known)
     folders = [at for at, _, _ in os.walk(os.path.join(ROOT, "crates")) if at.endswith("specs/inner")]
     tests.check("some crates have such words", len(folders) > 2, folders)
 

@@ -5,7 +5,7 @@ use Rattle.std.proofs.Math.Path.{fun_ext}
 use Rattle.plinq_lambda.specs.Meaning.{Meaning}
 use Rattle.plinq_ops.specs.declared.op.Op.{Op}
 use Rattle.plinq_ops.specs.declared.op.Op.TheVariants.{Select}
-use Rattle.plinq_closures.specs.Only.{HasOne, answer_in, given-answer}
+use Rattle.plinq_closures.specs.inner.Only.{HasOne, answer_in, given-answer}
 use Rattle.plinq_closures.specs.Functions.{maps, tests}
 use Rattle.plinq_closures.specs.Steps.{over, kind_at, down, here_or, GivesSome, GivesOne, IsNothing, Agrees, DoesThen, ComesTo}
 

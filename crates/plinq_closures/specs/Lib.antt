@@ -2,5 +2,5 @@ pub mod Asked
 pub mod Blocks
 pub mod Functions
 pub mod Laws
-pub mod Only
 pub mod Steps
+pub mod inner

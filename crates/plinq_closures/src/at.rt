@@ -1,6 +1,6 @@
 ghost use Rattle.std.specs.Prelude.{◌≡◌, ℕ, Result, Err};
 ghost use Rattle.std.specs.Coded.{Π_prop};
-ghost use Rattle.plinq_closures.specs.Only.{MayCall, MayCall-prop, HasOne, HasOne-prop, answer_in};
+ghost use Rattle.plinq_closures.specs.inner.Only.{MayCall, MayCall-prop, HasOne, HasOne-prop, answer_in};
 
 use crate::steps::Steps;
 use plinq_lambda::{ExpandFault, Lambda};

@@ -4,7 +4,7 @@ ghost use Rattle.plinq_lambda.specs.Meaning.{Meaning};
 ghost use Rattle.plinq_ops.specs.declared.op.Op.{Op};
 ghost use Rattle.plinq_ops.specs.declared.build_fault.BuildFault.{BuildFault};
 ghost use Rattle.plinq_closures.specs.Asked.{CantBuild};
-ghost use Rattle.plinq_closures.specs.Only.{MayCall, HasOne};
+ghost use Rattle.plinq_closures.specs.inner.Only.{MayCall, HasOne};
 ghost use Rattle.plinq_closures.specs.Steps.{over, down, Agrees};
 
 use crate::at::At;

@@ -8,7 +8,7 @@ use Rattle.serde_json.specs.Data.{Data, Items, no_items, item, Members, no_membe
 use Rattle.serde_json.specs.Find.{as_str, as_array, as_object}
 use Rattle.plinq_source.specs.Trace.{Trace, ended, list_ending}
 use Rattle.plinq_source.specs.Text.{text_trace}
-use Rattle.plinq_source.specs.Values.{few-values}
+use Rattle.plinq_source.specs.inner.Values.{few-values}
 use Rattle.plinq_source.specs.Range.{range_items, is_range}
 use Rattle.plinq_source.specs.Repeat.{is_repeat}
 use Rattle.plinq_source.specs.declared.ending.Ending.TheVariants.{End}

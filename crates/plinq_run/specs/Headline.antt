@@ -93,6 +93,20 @@ passes_above_0 (suc n) = Ok true
 skipped_to_a_fault : answers {L = ℕ} (λ _. record example { test = passes_above_0 }) (SkipWhile 0 ∷ []) (ended (1 ∷ 0 ∷ 5 ∷ []) End) ≡ ended [] (Fault 1)
 skipped_to_a_fault = refl
 
+filtered_to_a_fault : answers {L = ℕ} (λ _. record example { test = passes_above_0 }) (Filter 0 ∷ []) (ended (1 ∷ 0 ∷ 5 ∷ []) End) ≡ ended (1 ∷ []) (Fault 1)
+filtered_to_a_fault = refl
+
+taken_to_a_fault : answers {L = ℕ} (λ _. record example { test = passes_above_0 }) (TakeWhile 0 ∷ []) (ended (1 ∷ 0 ∷ 5 ∷ []) End) ≡ ended (1 ∷ []) (Fault 1)
+taken_to_a_fault = refl
+
+-- what passes after one that didn't stays
+skipped_up_to_5 : answers {L = ℕ} (λ _. example) (SkipWhile 0 ∷ []) (ended (1 ∷ 5 ∷ 2 ∷ []) (Refused 7)) ≡ ended (5 ∷ 2 ∷ []) (Refused 7)
+skipped_up_to_5 = refl
+
+-- where all pass, or there are too few, the ending stays
+all_taken : answers {L = ℕ} (λ _. example) (TakeWhile 0 ∷ Take (pos 3) ∷ []) (ended (1 ∷ 2 ∷ []) (Refused 7)) ≡ ended (1 ∷ 2 ∷ []) (Refused 7)
+all_taken = refl
+
 -- a negative number of items is none
 none_skipped : answers {L = ℕ} (λ _. example) (Skip (pos 2) ∷ Skip (negsuc 4) ∷ []) (ended (1 ∷ 2 ∷ 3 ∷ []) (Refused 7)) ≡ ended (3 ∷ []) (Refused 7)
 none_skipped = refl

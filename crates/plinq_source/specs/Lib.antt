@@ -3,5 +3,5 @@ pub mod Concat
 pub mod Range
 pub mod Repeat
 pub mod Text
-pub mod Values
 pub mod Walked
+pub mod inner

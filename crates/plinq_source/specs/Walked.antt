@@ -7,7 +7,7 @@ use Rattle.plinq_source.specs.Trace.{Trace, ended, list_ending, list_ending-ends
 use Rattle.plinq_source.specs.Text.{tokens, refusal, text_trace, given_at}
 use Rattle.plinq_source.specs.Range.{range_items}
 use Rattle.plinq_source.specs.Concat.{concat, length-concat, concat-ends, concat-within}
-use Rattle.plinq_source.specs.Values.{few-values}
+use Rattle.plinq_source.specs.inner.Values.{few-values}
 use Rattle.plinq_source.specs.declared.ending.Ending.TheVariants.{End}
 use Rattle.plinq_source.specs.declared.source.Source.{Ghosts}
 use Rattle.plinq_source.specs.declared.list.ListSource.{ListSource}

@@ -3,7 +3,7 @@ use Rattle.std.specs.Prelude.{ℕ, Err}
 use Rattle.std.proofs.Common.{refl}
 use Rattle.std.specs.Coded.{Coded-set, coded_result, coded_ℕ, coded_bool}
 use Rattle.plinq_lambda.specs.Meaning.{Meaning}
-use Rattle.plinq_closures.specs.Only.{may_call, only_one}
+use Rattle.plinq_closures.specs.inner.Only.{may_call, only_one}
 use Rattle.plinq_closures.specs.Steps.{Agrees}
 use Rattle.plinq_closures.proofs.Put.{all_down}
 use Rattle.plinq_closures.proofs.building.query_of.Goals as goal

@@ -1,5 +1,5 @@
 -- What the step makes of a block is what its one answer to each item makes.
-use Rattle.plinq_closures.specs.Only.{given-answer}
+use Rattle.plinq_closures.specs.inner.Only.{given-answer}
 use Rattle.plinq_closures.proofs.at.AtLambda.count_passing.Goals as goal
 
 pub returns-clause-passing : goal.returns-clause-passing

@@ -1,5 +1,5 @@
 -- What the step answers is the one thing that it gives.
-use Rattle.plinq_closures.specs.Only.{given-answer}
+use Rattle.plinq_closures.specs.inner.Only.{given-answer}
 use Rattle.plinq_closures.proofs.at.AtLambda.map.Goals as goal
 
 pub returns : goal.returns
