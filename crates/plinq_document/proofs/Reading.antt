@@ -9,7 +9,7 @@ use Rattle.serde_json.specs.Read.{read}
 use Rattle.serde_json.specs.View.{items_view}
 use Rattle.serde_json.specs.declared.value.Value.{Value}
 use Rattle.plinq_document.specs.Values.{items_len}
-use Rattle.plinq_document.specs.Document.{document_of, document_meaning, json_of, few_steps}
+use Rattle.plinq_document.specs.Document.{document_of, json_of, few_steps}
 use Rattle.plinq_document.specs.declared.settings.Settings.{Settings}
 use Rattle.plinq_document.specs.declared.doc_fault.DocFault.TheVariants.{NotJson, Shape, TooLong}
 
@@ -24,12 +24,6 @@ json_of-unread bytes unread = by (is_utf8 bytes) (λ e. unread (IsUtf8-from_is_u
     by : (b : Bool) → (b ≡ true → read bytes ≡ None) → (if b then ok_or (read bytes) NotJson else Err NotJson) ≡ Err NotJson
     by true h = ap (λ o. ok_or o NotJson) (h refl)
     by false h = refl
-
--- a text that isn't too long asks for what its value does
-pub document_of-read : (settings : Settings) (bytes : List ℕ) (d : Data) → length bytes ≤ 2 ^ 24 → json_of bytes ≡ Ok d → document_of settings bytes ≡ document_meaning settings d
-document_of-read settings bytes d few reads =
-    let within : nat_le (length bytes) (2 ^ 24) ≡ true = grind (arith, nat_tests) in
-    rw (within, reads)
 
 -- a list of values has as many items as values
 pub items_len-items_view : (vs : List Value) → items_len (items_view vs) ≡ length vs
