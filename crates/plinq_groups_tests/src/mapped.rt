@@ -1,5 +1,5 @@
 //! Mapped runs by threads beside those of a plain loop.
-ghost use Rattle.std.specs.Prelude.{if◌then◌else◌, Ok, Err, ⊤};
+ghost use Rattle.std.specs.Prelude.{◌≡◌, if◌then◌else◌, Ok, Err, ⊤, IfSome};
 ghost use Rattle.std.specs.Int.{cast_unsigned, w64};
 ghost use Rattle.std.specs.Ordering.{int_eq};
 
@@ -8,10 +8,10 @@ use plinq_groups::{MakeOf, MapEach, MapFault};
 use plinq_lambda::Formula;
 use plinq_mapped::{run_mapped, to_vec_mapped};
 use plinq_merge::Sink;
-use plinq_ops::{BuildFault, MergeOption, Query};
+use plinq_ops::{Built, MergeOption, Query};
 use plinq_run::{OpenGate, RunFault};
-use plinq_source::{Ending, ListSource};
-use std::alloc::Global;
+use plinq_source::{Ending, ListSource, Source};
+use std::alloc::{AllocError, Global};
 use std::process::Abort;
 use std::sync::Wait;
 use std::test::*;
@@ -20,8 +20,11 @@ use std::thread::Threads;
 /// The code of the number of which nothing is made.
 const NOTHING: u32 = 5;
 
-/// The code with which the sink refuses a batch.
+/// The code with which the sink refuses a batch more than it takes.
 const FULL: u32 = 77;
+
+/// The code with which it refuses one after a batch that wasn't full, or one of too many items.
+const UNEVEN: u32 = 78;
 
 /// The bits of each number but one, of which nothing is made.
 #[derive(Clone, Copy)]
@@ -44,19 +47,21 @@ impl MakeOf for BitsOf {
     }
 }
 
-/// What a sink has taken, and how many batches it takes.
+/// What a sink has taken, in batches of this size but the last, and how many it takes.
 #[derive(Drop)]
 pub(crate) struct Taken {
     pub(crate) made: Vec<u64>,
-    pub(crate) sizes: Vec<usize>,
+    size: usize,
+    batches: usize,
     most: usize,
 }
 
 impl Taken {
-    pub(crate) fn new(alloc: Global, most: usize) -> Taken {
+    pub(crate) fn new(alloc: Global, size: usize, most: usize) -> Taken {
         Taken {
             made: Vec::new(alloc),
-            sizes: Vec::new(alloc),
+            size,
+            batches: 0,
             most,
         }
     }
@@ -70,116 +75,111 @@ impl Sink for Taken {
     ghost refuses = { λ _ _ _ _. ⊤ };
 
     fn batch(&mut self, items: &[u64]) -> Result<(), u32> {
-        if self.sizes.len() == self.most {
+        if self.batches == self.most {
             return Err(FULL);
         }
-        if self.sizes.push(items.len()).is_err() || self.made.extend_from_slice(items).is_err() {
+        if self.made.len() != self.batches.wrapping_mul(self.size) || items.len() > self.size {
+            return Err(UNEVEN);
+        }
+        self.batches = self.batches.wrapping_add(1);
+        if self.made.extend_from_slice(items).is_err() {
             return Err(0);
         }
         Ok(())
     }
 }
 
+/// The operators after the merge.
+#[derive(Clone, Copy)]
+enum After {
+    Nothing,
+    /// So many are taken.
+    Take(u8),
+    /// Five are left out, one that isn't below 147 ends the answer, and 40 are taken.
+    All,
+}
+
 /// No number is as large.
 const NONE: i64 = 1_000;
 
-/// What is asked of 200 numbers from 0 to 198.
+/// What is asked of 200 numbers from 0 to 198, of which those below 150 are kept.
 #[derive(Clone, Copy)]
 struct Setting {
     workers: u64,
     growth: Growth,
     option: MergeOption,
     is_ordered: bool,
-    /// Those below this are kept.
-    below: i64,
     after: After,
     /// Of this one nothing is made.
     but: i64,
 }
 
-/// The operators after the merge.
-#[derive(Clone, Copy)]
-struct After {
-    /// So many are left out at first.
-    skip: i64,
-    /// One that isn't below this ends the answer.
-    until: i64,
-    /// So many are taken at most.
-    most: i64,
-}
-
-const NOTHING_AFTER: After = After {
-    skip: 0,
-    until: NONE,
-    most: NONE,
-};
-
-const ALL_AFTER: After = After {
-    skip: 5,
-    until: 147,
-    most: 40,
-};
-
-/// Takes so many after the merge.
-fn taking(most: i64) -> After {
-    After {
-        skip: 0,
-        until: NONE,
-        most,
-    }
-}
-
-fn numbers(alloc: Global) -> Result<Vec<i64>, Fail> {
-    let mut numbers = Vec::with_capacity(alloc, 200)?;
-    for at in 0u16..200 {
-        numbers.push(i64::from(at.wrapping_mul(77) % 199))?;
-    }
-    Ok(numbers)
-}
-
-fn query_of(alloc: Global, setting: &Setting) -> Result<Query<Formula>, BuildFault> {
-    let mut query = Query::new(alloc);
-    if setting.is_ordered {
-        query = query.as_ordered()?;
-    }
+fn with_operators(query: Query<Formula>, setting: &Setting) -> Built<Formula> {
     let query = query
         .with_degree(setting.workers)?
         .with_merge(setting.option)?
-        .filter(Formula::Below(setting.below))?;
-    with_after(query, &setting.after)
+        .filter(Formula::Below(150))?;
+    let after = setting.after;
+    match after {
+        After::Nothing => Ok(query),
+        After::Take(most) => query.take(i64::from(most)),
+        After::All => query.skip(5)?.take_while(Formula::Below(147))?.take(40),
+    }
 }
 
-fn with_after(query: Query<Formula>, after: &After) -> Result<Query<Formula>, BuildFault> {
-    let mut query = query;
-    if after.skip > 0 {
-        query = query.skip(after.skip)?;
+fn query_of(alloc: Global, setting: &Setting) -> Built<Formula> {
+    let query = Query::new(alloc);
+    if setting.is_ordered {
+        return with_operators(query.as_ordered()?, setting);
     }
-    if after.until < NONE {
-        query = query.take_while(Formula::Below(after.until))?;
+    with_operators(query, setting)
+}
+
+fn number(at: u16) -> i64 {
+    i64::from(at.wrapping_mul(77) % 199)
+}
+
+fn source_of(alloc: Global) -> Option<ListSource<i64>>
+    ensures { IfSome result (λ source. ⟦<ListSource<i64> as Source>⟧.given source ≡ 0) }
+{
+    let mut numbers = Vec::new(alloc);
+    for at in 0..200 {
+        if numbers.push(number(at)).is_err() {
+            return None;
+        }
     }
-    if after.most < NONE {
-        query = query.take(after.most)?;
+    if numbers.len() > 1_000 {
+        return None;
     }
-    Ok(query)
+    Some(ListSource::new(alloc, numbers))
+}
+
+/// How many are left out at first, what ends the answer, and how many are taken.
+fn limits(after: After) -> (usize, i64, usize) {
+    match after {
+        After::Nothing => (0, NONE, 1_000),
+        After::Take(most) => (0, NONE, usize::from(most)),
+        After::All => (5, 147, 40),
+    }
 }
 
 /// What a plain loop makes, and how it ends.
-fn by_loop(alloc: Global, setting: &Setting) -> Result<(Vec<u64>, Ending), Fail> {
-    let after = setting.after;
+fn by_loop(alloc: Global, after: After, but: i64) -> Result<(Vec<u64>, Ending), AllocError> {
+    let (mut skip, until, most) = limits(after);
     let mut made = Vec::new(alloc);
-    let mut at = 0i64;
-    for number in &numbers(alloc)? {
-        if *number >= setting.below {
+    for at in 0..200 {
+        let number = number(at);
+        if number >= 150 {
             continue;
         }
-        at = at.wrapping_add(1);
-        if at <= after.skip {
+        if skip > 0 {
+            skip -= 1;
             continue;
         }
-        if *number >= after.until || at > after.skip.wrapping_add(after.most) {
+        if number >= until || made.len() == most {
             break;
         }
-        if *number == setting.but {
+        if number == but {
             return Ok((made, Ending::Fault(NOTHING)));
         }
         made.push(number.cast_unsigned())?;
@@ -187,85 +187,87 @@ fn by_loop(alloc: Global, setting: &Setting) -> Result<(Vec<u64>, Ending), Fail>
     Ok((made, Ending::End))
 }
 
-fn ask<R: Threads + Wait + Sync + Abort>(
+fn size_of(option: MergeOption) -> usize {
+    match option {
+        MergeOption::NotBuffered => 1,
+        MergeOption::Default | MergeOption::AutoBuffered => 16,
+        MergeOption::FullyBuffered => 1_000,
+    }
+}
+
+/// What was made, and how that ended.
+#[derive(Drop)]
+struct Told {
+    made: Vec<u64>,
+    ended: Result<Ending, RunFault>,
+}
+
+/// What a run delivers to a sink that takes so many batches.
+fn delivered<R: Threads + Wait + Sync>(
     rt: &R,
     alloc: Global,
     setting: &Setting,
     most: usize,
-) -> Result<(Taken, Result<Ending, RunFault>), Fail> {
-    let query = query_of(alloc, setting)?;
-    let list = numbers(alloc)?;
-    assert!(rt; list.len() <= 200);
-    let source = ListSource::new(alloc, list);
+) -> Option<Told> {
+    let Ok(query) = query_of(alloc, setting) else {
+        return None;
+    };
+    let source = source_of(alloc)?;
     let bits = MapEach {
         make: BitsOf { but: setting.but },
     };
-    let mut taken = Taken::new(alloc, most);
+    let mut taken = Taken::new(alloc, size_of(setting.option), most);
+    let growth = setting.growth;
     let ended = run_mapped(
-        rt,
-        alloc,
-        &query,
-        source,
-        setting.growth,
-        &OpenGate,
-        &bits,
-        &mut taken,
+        rt, alloc, &query, source, growth, &OpenGate, &bits, &mut taken,
     );
-    Ok((taken, ended))
+    Some(Told {
+        made: taken.made,
+        ended,
+    })
 }
 
-fn ask_for_all<R: Threads + Wait + Sync + Abort>(
-    rt: &R,
-    alloc: Global,
-    setting: &Setting,
-) -> Result<(Vec<u64>, Ending), Fail> {
-    let query = query_of(alloc, setting)?;
-    let list = numbers(alloc)?;
-    assert!(rt; list.len() <= 200);
+/// All that is made.
+fn listed<R: Threads + Wait + Sync>(rt: &R, alloc: Global, setting: &Setting) -> Option<Told> {
+    let Ok(query) = query_of(alloc, setting) else {
+        return None;
+    };
+    let source = source_of(alloc)?;
     let bits = MapEach {
         make: BitsOf { but: setting.but },
     };
-    let Ok(all) = to_vec_mapped(rt, alloc, &query, ListSource::new(alloc, list), &bits) else {
-        panic!(rt; "no list");
+    match to_vec_mapped(rt, alloc, &query, source, &bits) {
+        Ok((made, ending)) => Some(Told {
+            made,
+            ended: Ok(ending),
+        }),
+        Err(_) => None,
+    }
+}
+
+fn is_told(told: Option<Told>, made: &[u64], ended: Result<Ending, RunFault>) -> bool {
+    match told {
+        Some(told) => told.made.as_slice() == made && told.ended == ended,
+        None => false,
+    }
+}
+
+/// What is delivered of what is made, and in how many batches at most: nothing in none, where a fault comes before the one batch.
+fn to_deliver(option: MergeOption, made: &[u64], ending: Ending) -> (&[u64], usize) {
+    if option == MergeOption::FullyBuffered && ending != Ending::End {
+        (&[], 0)
+    } else {
+        (made, 1_000)
+    }
+}
+
+fn is_as_by_loop<R: Threads + Wait + Sync>(rt: &R, alloc: Global, setting: &Setting) -> bool {
+    let Ok((made, ending)) = by_loop(alloc, setting.after, setting.but) else {
+        return false;
     };
-    Ok(all)
-}
-
-/// Whether all batches but the last have so many items, and that has no more.
-fn are_of(sizes: &[usize], size: usize) -> bool {
-    match sizes.split_last() {
-        Some((last, full)) => *last <= size && full.iter().all(|each| *each == size),
-        None => true,
-    }
-}
-
-fn is_as_by_loop<R: Threads + Wait + Sync + Abort>(
-    rt: &R,
-    alloc: Global,
-    setting: &Setting,
-) -> Result<(), Fail> {
-    let (made, ending) = by_loop(alloc, setting)?;
-    let (taken, ended) = ask(rt, alloc, setting, 1_000)?;
-    assert_eq!(rt; ended, Ok(ending));
-    let (all, last) = ask_for_all(rt, alloc, setting)?;
-    assert_eq!(rt; all.as_slice(), made.as_slice());
-    assert_eq!(rt; last, ending);
-    match setting.option {
-        MergeOption::FullyBuffered if ending != Ending::End => assert!(rt; taken.sizes.is_empty()),
-        MergeOption::FullyBuffered => {
-            assert_eq!(rt; taken.made.as_slice(), made.as_slice());
-            assert!(rt; taken.sizes.len() <= 1);
-        }
-        MergeOption::NotBuffered => {
-            assert_eq!(rt; taken.made.as_slice(), made.as_slice());
-            assert!(rt; are_of(&taken.sizes, 1));
-        }
-        MergeOption::Default | MergeOption::AutoBuffered => {
-            assert_eq!(rt; taken.made.as_slice(), made.as_slice());
-            assert!(rt; are_of(&taken.sizes, 16));
-        }
-    }
-    Ok(())
+    let (wanted, most) = to_deliver(setting.option, &made, ending);
+    is_told(delivered(rt, alloc, setting, most), wanted, Ok(ending))
+        && is_told(listed(rt, alloc, setting), &made, Ok(ending))
 }
 
 const OPTIONS: [MergeOption; 3] = [
@@ -274,62 +276,90 @@ const OPTIONS: [MergeOption; 3] = [
     MergeOption::FullyBuffered,
 ];
 
-#[test]
-fn what_is_made_by_workers_and_after_the_merge(rt: HostRuntime) -> Result<(), Fail> {
+// Nothing is made of none, of the second, of one in the midst, of the last but one.
+const CASES: [(After, i64); 9] = [
+    (After::Nothing, NONE),
+    (After::Nothing, 77),
+    (After::Nothing, 33),
+    (After::Nothing, 122),
+    (After::Take(90), NONE),
+    (After::Take(90), 33),
+    (After::Take(3), 33),
+    (After::All, NONE),
+    (After::All, 51),
+];
+
+fn ask_in_order<R: Threads + Wait + Sync + Abort>(rt: &R, alloc: Global, growth: Growth) {
     for workers in [1, 2, 8, 64] {
-        for growth in [Growth::ONE, Growth::new(1, 3, 32)?] {
-            for option in OPTIONS {
-                // Nothing is made of none, of the second, of one in the midst, of the last but one.
-                for (after, but) in [
-                    (NOTHING_AFTER, NONE),
-                    (NOTHING_AFTER, 77),
-                    (NOTHING_AFTER, 33),
-                    (NOTHING_AFTER, 122),
-                    (taking(90), NONE),
-                    (taking(90), 33),
-                    (taking(3), 33),
-                    (ALL_AFTER, NONE),
-                    (ALL_AFTER, 51),
-                ] {
-                    let setting = Setting {
-                        workers,
-                        growth,
-                        option,
-                        is_ordered: true,
-                        below: 150,
-                        after,
-                        but,
-                    };
-                    is_as_by_loop(&rt, rt.alloc(), &setting)?;
-                }
+        for option in OPTIONS {
+            for (after, but) in CASES {
+                let setting = Setting {
+                    workers,
+                    growth,
+                    option,
+                    is_ordered: true,
+                    after,
+                    but,
+                };
+                assert!(rt; is_as_by_loop(rt, alloc, &setting));
             }
         }
     }
-    Ok(())
 }
 
 #[test]
-fn a_refused_batch_is_the_last(rt: HostRuntime) -> Result<(), Fail> {
-    for (workers, after) in [(1, NOTHING_AFTER), (8, NOTHING_AFTER), (8, taking(90))] {
-        let setting = Setting {
-            workers,
-            growth: Growth::ONE,
-            option: MergeOption::AutoBuffered,
-            is_ordered: true,
-            below: 150,
-            after,
-            but: NONE,
-        };
-        let (made, _) = by_loop(rt.alloc(), &setting)?;
-        let (taken, ended) = ask(&rt, rt.alloc(), &setting, 2)?;
-        assert_eq!(&rt; ended, Err(RunFault::Sink(FULL)));
-        assert_eq!(&rt; Some(taken.made.as_slice()), made.get(..32));
+fn what_is_made_by_workers_and_after_the_merge(rt: HostRuntime) -> Result<(), Fail> {
+    ask_in_order(&rt, rt.alloc(), Growth::ONE);
+    ask_in_order(&rt, rt.alloc(), Growth::new(1, 3, 32)?);
+    Ok(())
+}
+
+/// Whether a sink that takes two batches has the first 32 of what is made.
+fn are_two_batches<R: Threads + Wait + Sync>(
+    rt: &R,
+    alloc: Global,
+    workers: u64,
+    after: After,
+) -> bool {
+    let setting = Setting {
+        workers,
+        growth: Growth::ONE,
+        option: MergeOption::AutoBuffered,
+        is_ordered: true,
+        after,
+        but: NONE,
+    };
+    let Ok((made, _)) = by_loop(alloc, after, NONE) else {
+        return false;
+    };
+    match made.get(..32) {
+        Some(first) => {
+            let refused = Err(RunFault::Sink(FULL));
+            is_told(delivered(rt, alloc, &setting, 2), first, refused)
+        }
+        None => false,
     }
-    Ok(())
 }
 
 #[test]
-fn nothing_is_made_of_a_decided_query(rt: HostRuntime) -> Result<(), Fail> {
+fn a_refused_batch_is_the_last(rt: HostRuntime) {
+    for (workers, after) in [
+        (1, After::Nothing),
+        (8, After::Nothing),
+        (8, After::Take(90)),
+    ] {
+        assert!(rt; are_two_batches(&rt, rt.alloc(), workers, after));
+    }
+}
+
+/// Whether a query of which nothing is taken delivers no batch, and lists nothing.
+fn is_nothing<R: Threads + Wait + Sync>(rt: &R, alloc: Global, setting: &Setting) -> bool {
+    is_told(delivered(rt, alloc, setting, 0), &[], Ok(Ending::End))
+        && is_told(listed(rt, alloc, setting), &[], Ok(Ending::End))
+}
+
+#[test]
+fn nothing_is_made_of_a_decided_query(rt: HostRuntime) {
     for workers in [1, 2, 8, 64] {
         for option in OPTIONS {
             for is_ordered in [true, false] {
@@ -338,20 +368,13 @@ fn nothing_is_made_of_a_decided_query(rt: HostRuntime) -> Result<(), Fail> {
                     growth: Growth::ONE,
                     option,
                     is_ordered,
-                    below: 150,
-                    after: taking(0),
+                    after: After::Take(0),
                     but: 77,
                 };
-                let (taken, ended) = ask(&rt, rt.alloc(), &setting, 1_000)?;
-                assert_eq!(&rt; ended, Ok(Ending::End));
-                assert!(&rt; taken.sizes.is_empty());
-                let (all, last) = ask_for_all(&rt, rt.alloc(), &setting)?;
-                assert_eq!(&rt; last, Ending::End);
-                assert!(&rt; all.is_empty());
+                assert!(rt; is_nothing(&rt, rt.alloc(), &setting));
             }
         }
     }
-    Ok(())
 }
 
 fn count_of(items: &[u64], one: u64) -> usize {
@@ -374,84 +397,66 @@ fn are_of_all(some: &[u64], all: &[u64]) -> bool {
     true
 }
 
-/// What a query without an order has made: as much as a loop in some order, or less and then a fault.
-fn is_of_some_loop<R: Threads + Wait + Sync + Abort>(
-    rt: &R,
-    setting: &Setting,
-    all: &[u64],
-    most: usize,
-    made: &[u64],
-    ending: Ending,
-) {
-    assert!(rt; are_of_all(made, all));
-    assert!(rt; count_of(made, setting.but.cast_unsigned()) == 0);
-    if ending == Ending::End {
-        assert_eq!(rt; made.len(), most);
-        assert!(rt; setting.but == NONE || most < all.len());
-    } else {
-        assert_eq!(rt; ending, Ending::Fault(NOTHING));
-        assert!(rt; setting.but < NONE && made.len() < most);
-    }
+/// Whether a query without an order has made as much as a loop in some order, or less and then a fault. What is kept back until
+/// the end isn't there after one.
+fn is_of_some_loop(told: Option<Told>, setting: &Setting, all: &[u64], is_kept_back: bool) -> bool {
+    let Some(told) = told else {
+        return false;
+    };
+    let made = told.made.as_slice();
+    let most = limits(setting.after).2.min(all.len());
+    let is_right = match told.ended {
+        Ok(Ending::End) => made.len() == most && (setting.but == NONE || most < all.len()),
+        Ok(Ending::Fault(code)) => {
+            let is_shorter = made.len() < most && !(is_kept_back && !made.is_empty());
+            is_shorter && setting.but < NONE && code == NOTHING
+        }
+        _ => false,
+    };
+    is_right && are_of_all(made, all) && count_of(made, setting.but.cast_unsigned()) == 0
 }
 
-fn is_in_some_order<R: Threads + Wait + Sync + Abort>(
-    rt: &R,
-    alloc: Global,
-    setting: &Setting,
-) -> Result<(), Fail> {
-    let mut whole = *setting;
-    whole.after = NOTHING_AFTER;
-    whole.but = NONE;
-    let (all, _) = by_loop(alloc, &whole)?;
-    let mut most = all.len();
-    if setting.after.most == 90 {
-        most = most.min(90);
-    }
-    let (made, ending) = ask_for_all(rt, alloc, setting)?;
-    is_of_some_loop(rt, setting, all.as_slice(), most, made.as_slice(), ending);
-    let (taken, ended) = ask(rt, alloc, setting, 1_000)?;
-    let Ok(ending) = ended else {
-        panic!(rt; "no answer");
+fn is_in_some_order<R: Threads + Wait + Sync>(rt: &R, alloc: Global, setting: &Setting) -> bool {
+    let Ok((all, _)) = by_loop(alloc, After::Nothing, NONE) else {
+        return false;
     };
-    is_of_some_loop(
-        rt,
-        setting,
-        all.as_slice(),
-        most,
-        taken.made.as_slice(),
-        ending,
-    );
-    if setting.option == MergeOption::FullyBuffered {
-        assert!(rt; ending == Ending::End || taken.made.is_empty());
+    let is_kept_back = setting.option == MergeOption::FullyBuffered;
+    is_of_some_loop(listed(rt, alloc, setting), setting, &all, false)
+        && is_of_some_loop(
+            delivered(rt, alloc, setting, 1_000),
+            setting,
+            &all,
+            is_kept_back,
+        )
+}
+
+fn ask_in_any_order<R: Threads + Wait + Sync + Abort>(rt: &R, alloc: Global, growth: Growth) {
+    for workers in [1, 2, 8, 64] {
+        for option in OPTIONS {
+            for (after, but) in [
+                (After::Nothing, NONE),
+                (After::Nothing, 77),
+                (After::Nothing, 122),
+                (After::Take(90), NONE),
+                (After::Take(90), 77),
+            ] {
+                let setting = Setting {
+                    workers,
+                    growth,
+                    option,
+                    is_ordered: false,
+                    after,
+                    but,
+                };
+                assert!(rt; is_in_some_order(rt, alloc, &setting));
+            }
+        }
     }
-    Ok(())
 }
 
 #[test]
 fn what_is_made_in_any_order(rt: HostRuntime) -> Result<(), Fail> {
-    for workers in [1, 2, 8, 64] {
-        for growth in [Growth::ONE, Growth::new(1, 3, 32)?] {
-            for option in OPTIONS {
-                for (after, but) in [
-                    (NOTHING_AFTER, NONE),
-                    (NOTHING_AFTER, 77),
-                    (NOTHING_AFTER, 122),
-                    (taking(90), NONE),
-                    (taking(90), 77),
-                ] {
-                    let setting = Setting {
-                        workers,
-                        growth,
-                        option,
-                        is_ordered: false,
-                        below: 150,
-                        after,
-                        but,
-                    };
-                    is_in_some_order(&rt, rt.alloc(), &setting)?;
-                }
-            }
-        }
-    }
+    ask_in_any_order(&rt, rt.alloc(), Growth::ONE);
+    ask_in_any_order(&rt, rt.alloc(), Growth::new(1, 3, 32)?);
     Ok(())
 }

@@ -6,34 +6,47 @@ use plinq_enumerator::Growth;
 use plinq_groups::{Collect, GroupBy, MapEach};
 use plinq_lambda::Formula;
 use plinq_mapped::{run_mapped, to_vec_mapped};
-use plinq_ops::{BuildFault, Query};
+use plinq_ops::{Built, Query};
 use plinq_run::{AggregateFault, OpenGate, RunFault, aggregate};
 use plinq_source::{Ending, RangeSource};
 use std::alloc::Global;
-use std::process::Abort;
 use std::sync::Wait;
 use std::thread::Threads;
 
-/// The numbers from 1 to 17, or the first 9 of them.
-fn query_of(alloc: Global, workers: u64, is_cut: bool) -> Result<Query<Formula>, BuildFault> {
-    let query = Query::new(alloc).as_ordered()?.with_degree(workers)?;
-    let query = query.select(Formula::Add(0))?;
-    if is_cut {
-        Ok(query.take(9)?)
-    } else {
-        Ok(query)
+/// What is asked for.
+#[derive(Clone, Copy)]
+enum Asked {
+    Groups,
+    Run,
+    List,
+}
+
+/// The numbers from 1 to 17.
+fn all(alloc: Global, workers: u64) -> Built<Formula> {
+    Query::new(alloc)
+        .as_ordered()?
+        .with_degree(workers)?
+        .select(Formula::Add(0))
+}
+
+/// The first 9 of them, of groups by the workers, else after the merge.
+fn first(alloc: Global, asked: Asked, workers: u64) -> Built<Formula> {
+    let query = all(alloc, workers)?;
+    match asked {
+        Asked::Groups => query.take(9),
+        Asked::Run | Asked::List => query.filter(Formula::Above(0))?.take(9),
     }
 }
 
-/// Groups them by their lowest bits. Answers whether that was refused, for lack of memory or of a thread alone.
-fn is_refused<R: Threads + Wait + Sync + Abort>(
+/// Groups them by their lowest bits. Answers whether so many are in the group of 1.
+fn grouped<R: Threads + Wait + Sync>(
     rt: &R,
     alloc: Global,
     query: &Query<Formula>,
-    largest: usize,
-) -> bool {
+    count: usize,
+) -> Result<bool, RunFault> {
     let Ok(source) = RangeSource::new(1, 17) else {
-        panic!(rt; "no such range");
+        return Ok(false);
     };
     let by = GroupBy {
         key: Masked { mask: 7 },
@@ -42,157 +55,149 @@ fn is_refused<R: Threads + Wait + Sync + Abort>(
     match aggregate(rt, alloc, query, source, Growth::ONE, &OpenGate, &by) {
         Ok(groups) => {
             let map = groups.as_map();
-            let Some(items) = map.get(&1) else {
-                panic!(rt; "a group is missing");
-            };
-            assert!(rt; map.len() == 8 && items.as_slice().len() == largest);
-            false
+            match map.get(&1) {
+                Some(items) => Ok(map.len() == 8 && items.as_slice().len() == count),
+                None => Ok(false),
+            }
         }
-        Err(fault) => {
-            let memory = AggregateFault::Run(RunFault::Memory);
-            let thread = AggregateFault::Run(RunFault::Thread);
-            assert!(rt; fault == memory || fault == thread);
-            true
-        }
+        Err(AggregateFault::Run(fault)) => Err(fault),
+        Err(_) => Ok(false),
     }
 }
 
-/// Asks twice: of the two at most one is refused.
-fn ask_twice<R: Threads + Wait + Sync + Abort>(rt: &R, alloc: Global, workers: u64) {
-    for (is_cut, largest) in [(false, 3), (true, 2)] {
-        let Ok(query) = query_of(alloc, workers, is_cut) else {
-            return;
-        };
-        let first = is_refused(rt, alloc, &query, largest);
-        let second = is_refused(rt, alloc, &query, largest);
-        assert!(rt; !first || !second);
-    }
-}
-
-#[test]
-fn groups_by_one_worker_may_be_refused_room(rt: HostRuntime) {
-    ask_twice(&rt, rt.alloc(), 1);
-}
-
-#[test]
-fn groups_by_two_workers_may_be_refused_room(rt: HostRuntime) {
-    ask_twice(&rt, rt.alloc(), 2);
-}
-
-/// The same numbers, of which the first 9 are taken after the merge.
-fn query_with_two_parts(
-    alloc: Global,
-    workers: u64,
-    is_cut: bool,
-) -> Result<Query<Formula>, BuildFault> {
-    let query = query_of(alloc, workers, false)?;
-    if is_cut {
-        Ok(query.filter(Formula::Above(0))?.take(9)?)
-    } else {
-        Ok(query)
-    }
-}
-
-/// Makes something of each of them. Answers whether that was refused, for lack of memory or of a thread, or by a sink that lacks
-/// room.
-fn is_refused_mapped<R: Threads + Wait + Sync + Abort>(
+/// Makes something of each of them. Answers whether a sink took so many, which may lack room as well.
+fn delivered<R: Threads + Wait + Sync>(
     rt: &R,
     alloc: Global,
     query: &Query<Formula>,
-    most: usize,
-) -> bool {
+    count: usize,
+) -> Result<bool, RunFault> {
     let Ok(source) = RangeSource::new(1, 17) else {
-        panic!(rt; "no such range");
+        return Ok(false);
     };
     let bits = MapEach {
         make: BitsOf { but: 0 },
     };
-    let mut taken = Taken::new(alloc, 1_000);
+    let mut taken = Taken::new(alloc, 16, 1_000);
     let growth = Growth::ONE;
     match run_mapped(
         rt, alloc, query, source, growth, &OpenGate, &bits, &mut taken,
     ) {
-        Ok(ending) => {
-            assert!(rt; ending == Ending::End);
-            assert_eq!(rt; taken.made.len(), most);
-            false
-        }
-        Err(fault) => {
-            assert!(rt;
-                fault == RunFault::Memory || fault == RunFault::Thread || fault == RunFault::Sink(0)
-            );
-            true
-        }
+        Ok(ending) => Ok(ending == Ending::End && taken.made.len() == count),
+        Err(RunFault::Sink(0)) => Err(RunFault::Memory),
+        Err(fault) => Err(fault),
     }
 }
 
-/// Asks twice: of the two at most one is refused.
-fn map_twice<R: Threads + Wait + Sync + Abort>(rt: &R, alloc: Global, workers: u64) {
-    for (is_cut, most) in [(false, 17), (true, 9)] {
-        let Ok(query) = query_with_two_parts(alloc, workers, is_cut) else {
-            return;
-        };
-        let first = is_refused_mapped(rt, alloc, &query, most);
-        let second = is_refused_mapped(rt, alloc, &query, most);
-        assert!(rt; !first || !second);
-    }
-}
-
-#[test]
-fn a_mapped_run_by_one_worker_may_be_refused_room(rt: HostRuntime) {
-    map_twice(&rt, rt.alloc(), 1);
-}
-
-#[test]
-fn a_mapped_run_by_two_workers_may_be_refused_room(rt: HostRuntime) {
-    map_twice(&rt, rt.alloc(), 2);
-}
-
-/// Keeps what is made of each of them in a list. Answers whether that was refused, for lack of memory or of a thread.
-fn is_list_refused<R: Threads + Wait + Sync + Abort>(
+/// Keeps what is made of each of them in a list. Answers whether it has so many.
+fn listed<R: Threads + Wait + Sync>(
     rt: &R,
     alloc: Global,
     query: &Query<Formula>,
-    most: usize,
-) -> bool {
+    count: usize,
+) -> Result<bool, RunFault> {
     let Ok(source) = RangeSource::new(1, 17) else {
-        panic!(rt; "no such range");
+        return Ok(false);
     };
     let bits = MapEach {
         make: BitsOf { but: 0 },
     };
-    match to_vec_mapped(rt, alloc, query, source, &bits) {
-        Ok((made, ending)) => {
-            assert!(rt; ending == Ending::End);
-            assert_eq!(rt; made.len(), most);
-            assert_eq!(rt; made.first(), Some(&1));
-            false
-        }
-        Err(fault) => {
-            assert!(rt; fault == RunFault::Memory || fault == RunFault::Thread);
-            true
-        }
+    let (made, ending) = to_vec_mapped(rt, alloc, query, source, &bits)?;
+    Ok(ending == Ending::End && made.len() == count && made.first() == Some(&1))
+}
+
+fn told<R: Threads + Wait + Sync>(
+    rt: &R,
+    alloc: Global,
+    asked: Asked,
+    query: &Query<Formula>,
+    count: usize,
+) -> Result<bool, RunFault> {
+    match asked {
+        Asked::Groups => grouped(rt, alloc, query, count),
+        Asked::Run => delivered(rt, alloc, query, count),
+        Asked::List => listed(rt, alloc, query, count),
     }
 }
 
-/// Asks twice: of the two at most one is refused.
-fn list_twice<R: Threads + Wait + Sync + Abort>(rt: &R, alloc: Global, workers: u64) {
-    for (is_cut, most) in [(false, 17), (true, 9)] {
-        let Ok(query) = query_with_two_parts(alloc, workers, is_cut) else {
-            return;
-        };
-        let first = is_list_refused(rt, alloc, &query, most);
-        let second = is_list_refused(rt, alloc, &query, most);
-        assert!(rt; !first || !second);
+fn is_short(fault: RunFault) -> bool {
+    matches!(fault, RunFault::Memory | RunFault::Thread)
+}
+
+/// Whether of two answers at most one is refused, for lack of memory or of a thread alone.
+fn are_right(first: Result<bool, RunFault>, second: Result<bool, RunFault>) -> bool {
+    match first {
+        Ok(is_right) => match second {
+            Ok(is_right_too) => is_right && is_right_too,
+            Err(fault) => is_right && is_short(fault),
+        },
+        Err(fault) => is_short(fault) && second == Ok(true),
     }
+}
+
+/// Asks a query twice, if there is room for it.
+fn is_answered<R: Threads + Wait + Sync>(
+    rt: &R,
+    alloc: Global,
+    asked: Asked,
+    query: Built<Formula>,
+    count: usize,
+) -> bool {
+    match query {
+        Ok(query) => {
+            let first = told(rt, alloc, asked, &query, count);
+            let second = told(rt, alloc, asked, &query, count);
+            are_right(first, second)
+        }
+        Err(_) => true,
+    }
+}
+
+/// How many are in the group of 1 or taken: of all, and of the first 9.
+fn counts(asked: Asked) -> (usize, usize) {
+    match asked {
+        Asked::Groups => (3, 2),
+        Asked::Run | Asked::List => (17, 9),
+    }
+}
+
+fn are_answered<R: Threads + Wait + Sync>(
+    rt: &R,
+    alloc: Global,
+    asked: Asked,
+    workers: u64,
+) -> bool {
+    let (most, few) = counts(asked);
+    is_answered(rt, alloc, asked, all(alloc, workers), most)
+        && is_answered(rt, alloc, asked, first(alloc, asked, workers), few)
+}
+
+#[test]
+fn groups_by_one_worker_may_be_refused_room(rt: HostRuntime) {
+    assert!(rt; are_answered(&rt, rt.alloc(), Asked::Groups, 1));
+}
+
+#[test]
+fn groups_by_two_workers_may_be_refused_room(rt: HostRuntime) {
+    assert!(rt; are_answered(&rt, rt.alloc(), Asked::Groups, 2));
+}
+
+#[test]
+fn a_mapped_run_by_one_worker_may_be_refused_room(rt: HostRuntime) {
+    assert!(rt; are_answered(&rt, rt.alloc(), Asked::Run, 1));
+}
+
+#[test]
+fn a_mapped_run_by_two_workers_may_be_refused_room(rt: HostRuntime) {
+    assert!(rt; are_answered(&rt, rt.alloc(), Asked::Run, 2));
 }
 
 #[test]
 fn a_mapped_list_by_one_worker_may_be_refused_room(rt: HostRuntime) {
-    list_twice(&rt, rt.alloc(), 1);
+    assert!(rt; are_answered(&rt, rt.alloc(), Asked::List, 1));
 }
 
 #[test]
 fn a_mapped_list_by_two_workers_may_be_refused_room(rt: HostRuntime) {
-    list_twice(&rt, rt.alloc(), 2);
+    assert!(rt; are_answered(&rt, rt.alloc(), Asked::List, 2));
 }
