@@ -1,30 +1,40 @@
 ghost use Rattle.std.specs.Prelude.{◌<◌};
 
 use plinq_reorder::ReorderBuffer;
-use plinq_source::OutOfMemory;
-use std::process::Abort;
-use std::test::Fail;
+use std::alloc::Global;
 
-// Takes in an interval none of whose keys came before.
+// Takes in an interval, if none of its keys came before and there is room. Answers the letters whose turn has come.
 fn insert(
-    rt: &impl Abort,
     buffer: &mut ReorderBuffer<char>,
     first: u64,
     end: u64,
     payload: char,
-) -> Result<Option<char>, OutOfMemory>
+) -> Option<Option<char>>
     requires { first < end }
 {
-    assert!(rt; !buffer.overlaps(first, end));
-    buffer.insert(first, end, payload)
+    if buffer.overlaps(first, end) {
+        return None;
+    }
+    match buffer.insert(first, end, payload) {
+        Ok(letter) => Some(letter),
+        Err(_) => None,
+    }
+}
+
+fn go_in_order(alloc: Global) -> bool {
+    let mut buffer = ReorderBuffer::new(alloc);
+    let later = insert(&mut buffer, 2, 3, 'c');
+    let first = insert(&mut buffer, 0, 2, 'a');
+    let overlaps = buffer.overlaps(1, 3);
+    let next = buffer.take_next();
+    let last = buffer.take_next();
+    matches!((later, first), (Some(None), Some(Some('a'))))
+        && overlaps
+        && matches!((next, last), (Some('c'), None))
+        && buffer.next_key() == 3
 }
 
 #[test]
-fn intervals_go_in_the_order_of_their_keys(rt: HostRuntime) -> Result<(), Fail> {
-    let mut buffer = ReorderBuffer::new(rt.alloc());
-    assert!(rt; insert(&rt, &mut buffer, 2, 3, 'c')?.is_none());
-    assert!(rt; insert(&rt, &mut buffer, 0, 2, 'a')? == Some('a'));
-    assert!(rt; buffer.overlaps(1, 3) && buffer.take_next() == Some('c'));
-    assert!(rt; buffer.take_next().is_none() && buffer.next_key() == 3);
-    Ok(())
+fn intervals_go_in_the_order_of_their_keys(rt: HostRuntime) {
+    assert!(rt; go_in_order(rt.alloc()));
 }

@@ -2,29 +2,34 @@
 use plinq_merge::{DeliveryFault, MergeFault};
 use std::alloc::Global;
 use std::fmt::Display;
-use std::process::Abort;
 
-fn expect_words<T: Display>(rt: &impl Abort, alloc: Global, fault: &T, text: &str) {
-    let Ok(words) = format!(in alloc; "{fault}") else {
-        panic!(rt; "no room for words");
-    };
-    assert!(rt; words.as_str() == text, "{words}");
+fn says<T: Display>(alloc: Global, fault: &T, text: &str) -> bool {
+    match format!(in alloc; "{fault}") {
+        Ok(words) => words.as_str() == text,
+        Err(_) => false,
+    }
 }
 
 #[test]
 fn faults_of_a_merger_in_words(rt: HostRuntime) {
-    let alloc = rt.alloc();
-    let refused = "sink refused: 4294967295";
-    expect_words(&rt, alloc, &MergeFault::Memory, "out of memory");
-    expect_words(&rt, alloc, &MergeFault::Sink(4_294_967_295), refused);
-    expect_words(&rt, alloc, &MergeFault::Twice, "offered twice");
-    expect_words(&rt, alloc, &MergeFault::Gap, "results are missing");
-    expect_words(&rt, alloc, &MergeFault::Failed, "failed before");
-    expect_words(&rt, alloc, &MergeFault::Cancelled, "cancelled");
+    for (fault, text) in [
+        (MergeFault::Memory, "out of memory"),
+        (MergeFault::Sink(4_294_967_295), "sink refused: 4294967295"),
+        (MergeFault::Twice, "offered twice"),
+        (MergeFault::Gap, "results are missing"),
+        (MergeFault::Failed, "failed before"),
+        (MergeFault::Cancelled, "cancelled"),
+    ] {
+        assert!(rt; says(rt.alloc(), &fault, text), "{text}");
+    }
 }
 
 #[test]
 fn faults_of_a_delivery_in_words(rt: HostRuntime) {
-    expect_words(&rt, rt.alloc(), &DeliveryFault::Memory, "out of memory");
-    expect_words(&rt, rt.alloc(), &DeliveryFault::Sink(9), "sink refused: 9");
+    for (fault, text) in [
+        (DeliveryFault::Memory, "out of memory"),
+        (DeliveryFault::Sink(9), "sink refused: 9"),
+    ] {
+        assert!(rt; says(rt.alloc(), &fault, text), "{text}");
+    }
 }

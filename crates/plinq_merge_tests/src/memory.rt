@@ -1,102 +1,146 @@
-use crate::taken::{Offered, Taken, expect_ending, last, merger_of, ordered, part, result_of};
+ghost use Rattle.std.specs.Prelude.{⊤};
+
+use crate::offers::{merger_of, ordered, result_of};
 use plinq_keyed::Tail;
 use plinq_lambda::Formula;
-use plinq_merge::{DeliveryFault, MergeFault, Merger, More, deliver_sequentially};
-use plinq_ops::{ChunkResult, MergeOption, Query};
+use plinq_merge::{DeliveryFault, MergeFault, Merger, More, Sink, deliver_sequentially};
+use plinq_ops::{MergeOption, Query};
 use plinq_source::{Ending, RangeSource};
 use std::alloc::Global;
-use std::process::Abort;
 
-fn results_of(
-    rt: &impl Abort,
+// A sink that wants the numbers from 1 on. It takes room for each batch, and refuses one with 1,000 where there is none.
+#[derive(Drop)]
+struct Counted {
     alloc: Global,
-    offers: &[Offered<'_, i64>],
-) -> Option<Vec<ChunkResult<i64>>> {
-    let mut results = Vec::new(alloc);
-    for offered in offers {
-        results.push(result_of(rt, alloc, *offered).ok()?).ok()?;
-    }
-    Some(results)
+    count: i64,
+    is_wrong: bool,
 }
 
-// Asks that the batches have the items from 1 on, and answers which item comes next.
-fn item_after(rt: &impl Abort, batches: &[Vec<i64>]) -> i64 {
-    let mut next: i64 = 1;
-    for batch in batches {
-        for item in batch {
-            assert!(rt; *item == next);
-            next = item.wrapping_add(1);
+impl Counted {
+    fn new(alloc: Global) -> Counted {
+        Counted {
+            alloc,
+            count: 0,
+            is_wrong: false,
         }
     }
-    next
 }
 
-// Asks for an answer that fits whether the merger has failed before. Answers whether it has now.
-fn fails(rt: &impl Abort, answer: Result<More, MergeFault>, failed: bool) -> bool {
+impl Sink for Counted {
+    type Item = i64;
+
+    ghost accepts = { λ _ _ _. ⊤ };
+
+    ghost refuses = { λ _ _ _ _. ⊤ };
+
+    fn batch(&mut self, items: &[i64]) -> Result<(), u32> {
+        if Vec::from_slice(self.alloc, items).is_err() {
+            return Err(1_000);
+        }
+        for item in items {
+            self.count = self.count.wrapping_add(1);
+            self.is_wrong = self.is_wrong || *item != self.count;
+        }
+        Ok(())
+    }
+}
+
+// Whether an answer fits what a merger has done before.
+fn fits(answer: Result<More, MergeFault>, failed: bool) -> bool {
     match answer {
-        Ok(_) => assert!(rt; !failed),
-        Err(MergeFault::Memory | MergeFault::Sink(1_000)) => assert!(rt; !failed),
-        Err(fault) => assert!(rt; failed && fault == MergeFault::Failed),
-    }
-    answer.is_err()
-}
-
-// The batches delivered so far are the first of the answer's, and after an offer with no room the merger has failed. A
-// sink with no room refuses with 1,000. Run with each allocation failing in turn.
-fn offer_till_failed(rt: &impl Abort, alloc: Global, option: MergeOption) {
-    let Ok(query) = ordered(alloc) else {
-        return;
-    };
-    let offers = [part(2, &[3]), part(0, &[1, 2]), last(3, &[4], Tail::Ended)];
-    let Some(results) = results_of(rt, alloc, &offers) else {
-        return;
-    };
-    match merger_of::<Formula>(alloc, &query, option) {
-        Ok(merger) => offer_all(rt, alloc, merger, results),
-        Err(fault) => {
-            assert!(rt; fault == MergeFault::Memory);
-            assert!(rt; merger_of::<Formula>(alloc, &query, option).is_ok());
-        }
+        Ok(_) | Err(MergeFault::Memory | MergeFault::Sink(1_000)) => !failed,
+        Err(fault) => failed && fault == MergeFault::Failed,
     }
 }
 
-fn offer_all(
-    rt: &impl Abort,
-    alloc: Global,
-    merger: Merger<'_, Formula>,
-    results: Vec<ChunkResult<i64>>,
-) {
-    let mut sink = Taken::new(alloc, usize::MAX);
+// Whether a merger that has failed says so at its end, and one that hasn't has all of the answer.
+fn ends(merger: Merger<'_, Formula>, count: i64, failed: bool) -> bool {
+    let is_decided = merger.decided();
+    let told = merger.finish();
+    if failed {
+        !is_decided && told == Err(MergeFault::Failed)
+    } else {
+        is_decided && told == Ok(Ending::End) && count == 4
+    }
+}
+
+// Whether the batches delivered are the first of the answer's, and after an offer with no room the merger has failed.
+fn are_merged(alloc: Global, merger: Merger<'_, Formula>) -> bool {
+    let offers: [(u64, &[i64], Option<Tail>); 3] = [
+        (2, &[3], None),
+        (0, &[1, 2], None),
+        (3, &[4], Some(Tail::Ended)),
+    ];
+    let mut sink = Counted::new(alloc);
     let mut merger = merger;
     let mut failed = false;
-    for result in results {
-        assert!(rt; result.first <= 1_000_000 && result.count <= 1_000_000);
-        failed = fails(rt, merger.offer(result, &mut sink), failed);
+    for (first, items, tail) in offers {
+        let Some(offered) = result_of(alloc, first, items, tail) else {
+            return !sink.is_wrong;
+        };
+        let answer = merger.offer(offered, &mut sink);
+        if !fits(answer, failed) {
+            return false;
+        }
+        failed = answer.is_err();
     }
-    let next = item_after(rt, &sink.batches);
-    assert!(rt; failed || next == 5);
-    assert!(rt; merger.decided() != failed);
-    let ending = if failed {
-        Err(MergeFault::Failed)
-    } else {
-        Ok(Ending::End)
-    };
-    expect_ending(rt, merger.finish(), ending);
+    !sink.is_wrong && ends(merger, sink.count, failed)
 }
 
+// Whether a merger does so that is made at the second attempt where the first is refused.
+fn merges(alloc: Global, option: MergeOption) -> bool {
+    let Some(query) = ordered(alloc) else {
+        return true;
+    };
+    match merger_of(alloc, &query, option) {
+        Some(merger) => are_merged(alloc, merger),
+        None => merger_of(alloc, &query, option).is_some(),
+    }
+}
+
+// Run with each allocation failing in turn.
 #[test]
 fn no_room_ends_a_merger_that_is_not_buffered(rt: HostRuntime) {
-    offer_till_failed(&rt, rt.alloc(), MergeOption::NotBuffered);
+    assert!(rt; merges(rt.alloc(), MergeOption::NotBuffered));
 }
 
+// Run with each allocation failing in turn.
 #[test]
 fn no_room_ends_a_merger_of_batches(rt: HostRuntime) {
-    offer_till_failed(&rt, rt.alloc(), MergeOption::AutoBuffered);
+    assert!(rt; merges(rt.alloc(), MergeOption::AutoBuffered));
 }
 
+// Run with each allocation failing in turn.
 #[test]
 fn no_room_ends_a_merger_that_is_fully_buffered(rt: HostRuntime) {
-    offer_till_failed(&rt, rt.alloc(), MergeOption::FullyBuffered);
+    assert!(rt; merges(rt.alloc(), MergeOption::FullyBuffered));
+}
+
+// What one thread makes of 40 numbers: `Ok` says whether all were delivered in order; in a fault, for lack of room, it says so of the
+// first of them.
+fn delivered(alloc: Global, query: &Query<Formula>) -> Result<bool, bool> {
+    let Ok(mut source) = RangeSource::new(1, 40) else {
+        return Ok(false);
+    };
+    let mut sink = Counted::new(alloc);
+    match deliver_sequentially(alloc, query, &mut source, &mut sink) {
+        Ok(ending) => Ok(ending == Ending::End && sink.count == 40 && !sink.is_wrong),
+        Err(DeliveryFault::Memory | DeliveryFault::Sink(1_000)) => {
+            Err(sink.count < 40 && !sink.is_wrong)
+        }
+        Err(_) => Ok(false),
+    }
+}
+
+// Whether all are delivered, at the second attempt where there was no room at the first.
+fn delivers(alloc: Global, option: MergeOption) -> bool {
+    let Ok(query) = Query::new(alloc).with_merge(option) else {
+        return true;
+    };
+    match delivered(alloc, &query) {
+        Ok(is_right) => is_right,
+        Err(is_right) => is_right && delivered(alloc, &query) == Ok(true),
+    }
 }
 
 // The batches of one thread are the first of the answer's, and all of them where the call answers its ending; where it doesn't, it
@@ -108,27 +152,6 @@ fn no_room_ends_a_delivery_by_one_thread(rt: HostRuntime) {
         MergeOption::AutoBuffered,
         MergeOption::FullyBuffered,
     ] {
-        let alloc = rt.alloc();
-        let Ok(query) = Query::<Formula>::new(alloc).with_merge(option) else {
-            return;
-        };
-        if !delivers(&rt, alloc, &query) {
-            assert!(rt; delivers(&rt, alloc, &query));
-        }
+        assert!(rt; delivers(rt.alloc(), option), "{option:?}");
     }
-}
-
-fn delivers(rt: &impl Abort, alloc: Global, query: &Query<Formula>) -> bool {
-    let Ok(mut source) = RangeSource::new(1, 40) else {
-        panic!(rt; "no such range");
-    };
-    let mut sink = Taken::new(alloc, usize::MAX);
-    let told = deliver_sequentially(alloc, query, &mut source, &mut sink);
-    let next = item_after(rt, &sink.batches);
-    match told {
-        Ok(ending) => assert!(rt; ending == Ending::End && next == 41),
-        Err(DeliveryFault::Memory | DeliveryFault::Sink(1_000)) => assert!(rt; next <= 40),
-        Err(DeliveryFault::Sink(_)) => panic!(rt; "no batch is refused"),
-    }
-    told.is_ok()
 }

@@ -1,90 +1,77 @@
 //! Tokens, and offers that they stop.
-ghost use Rattle.std.specs.Prelude.{⊤};
-
-use crate::taken::{Taken, merger_of, ordered, part, result_of};
+use crate::offers::{Counts, merger_of, ordered, result_of};
 use plinq_lambda::Formula;
 use plinq_merge::{
     Cancel, CancelAfter, CancelFlag, MergeFault, Merger, NeverCancel, Sink, WithCancellation,
 };
 use plinq_ops::MergeOption;
-use std::process::Abort;
+use std::alloc::Global;
 use std::sync::atomic::{AtomicU64, Ordering};
-use std::test::Fail;
 
-/// Asks that a token answers so.
-fn expect_answers<C: Cancel>(rt: &impl Abort, token: &mut C, delivered: u64, answer: bool) {
-    assert!(rt; token.cancelled(delivered) == answer);
+/// Whether a token has told before it is asked, answers so, and has told then.
+fn answers<C: Cancel>(token: &mut C, delivered: u64, wanted: (bool, bool, bool)) -> bool {
+    let before = token.told();
+    let answer = token.cancelled(delivered);
+    before == wanted.0 && answer == wanted.1 && token.told() == wanted.2
 }
 
-fn expect_told<C: Cancel>(rt: &impl Abort, token: &C, told: bool) {
-    assert!(rt; token.told() == told);
+fn is_seen() -> bool {
+    let flag = CancelFlag::new();
+    let mut early = flag.token();
+    let is_unset = answers(&mut early, 0, (false, false, false));
+    flag.cancel();
+    let is_set = answers(&mut early, 0, (false, true, true));
+    let is_set_still = answers(&mut early, 0, (true, true, true));
+    flag.cancel();
+    let mut late = true;
+    // (whatever the number of batches)
+    for delivered in 0..4u64 {
+        late = late && answers(&mut flag.token(), delivered, (false, true, true));
+    }
+    is_unset && is_set && is_set_still && late
 }
 
 #[test]
 fn each_token_of_a_flag_sees_it(rt: HostRuntime) {
-    let flag = CancelFlag::new();
-    let mut early = flag.token();
-    expect_answers(&rt, &mut early, 0, false);
-    flag.cancel();
-    expect_told(&rt, &early, false);
-    expect_answers(&rt, &mut early, 0, true);
-    expect_told(&rt, &early, true);
-    expect_answers(&rt, &mut early, 0, true);
-    expect_told(&rt, &early, true);
-    flag.cancel();
-    let mut late = flag.token();
-    expect_told(&rt, &late, false);
-    expect_answers(&rt, &mut late, 0, true);
-    // (whatever the number of batches)
-    for delivered in 0..4u64 {
-        expect_answers(&rt, &mut flag.token(), delivered, true);
-    }
-}
-
-#[test]
-fn an_offer_stops_between_its_batches(rt: HostRuntime) -> Result<(), Fail> {
-    let query = ordered(rt.alloc())?;
-    let mut sink = Taken::new(rt.alloc(), usize::MAX);
-    let mut token = CancelAfter::new(2);
-    let mut merger: Merger<'_, Formula> = merger_of(rt.alloc(), &query, MergeOption::NotBuffered)?;
-    let offered = result_of(&rt, rt.alloc(), part(0, &[4, 2, 5]))?;
-    let told = merger.offer_with(offered, &mut token, &mut sink);
-    assert!(rt; told == Err(MergeFault::Cancelled) && token.told());
-    assert!(rt; merger.delivered() == 2 && sink.batches.len() == 2);
-    Ok(())
+    assert!(rt; is_seen());
 }
 
 #[test]
 fn a_token_that_never_stops_anything(rt: HostRuntime) {
-    expect_answers(&rt, &mut NeverCancel, u64::MAX, false);
+    assert!(rt; answers(&mut NeverCancel, u64::MAX, (false, false, false)));
 }
 
-/// A sink that counts how often it is told that nothing comes.
-#[derive(Drop)]
-struct Rests<'a> {
-    times: &'a AtomicU64,
-}
-
-impl<'a> Sink for Rests<'a> {
-    type Item = i64;
-
-    ghost accepts = { λ _ _ _. ⊤ };
-
-    ghost refuses = { λ _ _ _ _. ⊤ };
-
-    fn batch(&mut self, _: &[i64]) -> Result<(), u32> {
-        Ok(())
-    }
-
-    fn idle(&mut self) {
-        self.times.fetch_add(1, Ordering::SeqCst);
+/// How many batches of an offer of three are delivered, as its merger and its sink count them, where a token stops it after two.
+fn delivered(alloc: Global) -> Option<(u64, u64)> {
+    let query = ordered(alloc)?;
+    let mut merger: Merger<'_, Formula> = merger_of(alloc, &query, MergeOption::NotBuffered)?;
+    let offered = result_of(alloc, 0, &[4, 2, 5], None)?;
+    let rests = AtomicU64::new(0);
+    let mut sink = Counts {
+        taken: 0,
+        most: u64::MAX,
+        rests: &rests,
+    };
+    let mut token = CancelAfter::new(2);
+    match merger.offer_with(offered, &mut token, &mut sink) {
+        Err(MergeFault::Cancelled) if token.told() => Some((merger.delivered(), sink.taken)),
+        _ => None,
     }
 }
 
 #[test]
-fn a_sink_that_a_token_may_stop_is_told_that_nothing_comes(rt: HostRuntime) {
-    let times = AtomicU64::new(0);
-    let mut sink = Rests { times: &times };
+fn an_offer_stops_between_its_batches(rt: HostRuntime) {
+    assert!(rt; delivered(rt.alloc()) == Some((2, 2)));
+}
+
+/// How often a sink is told that nothing comes, which a token may stop.
+fn count_rests() -> u64 {
+    let rests = AtomicU64::new(0);
+    let mut sink = Counts {
+        taken: 0,
+        most: u64::MAX,
+        rests: &rests,
+    };
     let mut token = CancelAfter::new(0);
     let mut with = WithCancellation {
         token: &mut token,
@@ -93,5 +80,10 @@ fn a_sink_that_a_token_may_stop_is_told_that_nothing_comes(rt: HostRuntime) {
         is_stopped: false,
     };
     with.idle();
-    assert!(rt; times.load(Ordering::SeqCst) == 1);
+    rests.load(Ordering::SeqCst)
+}
+
+#[test]
+fn a_sink_that_a_token_may_stop_is_told_that_nothing_comes(rt: HostRuntime) {
+    assert!(rt; count_rests() == 1);
 }
