@@ -11,17 +11,23 @@
 
 mod bench_fault;
 mod item_work;
+mod job;
 mod measuring;
+mod seconds;
 mod spinning;
 mod stopping;
 mod summed;
+mod task;
 mod total;
 mod work;
 mod workload;
 
 use crate::bench_fault::BenchFault;
-use crate::measuring::{Round, Seen, best_of, run_it};
-use crate::stopping::{MANY, stop_it};
+use crate::job::Job;
+use crate::measuring::{Round, Seen, best_of, one_round};
+use crate::seconds::{Seconds, micros};
+use crate::stopping::stop_it;
+use crate::task::{Task, task_of};
 use crate::workload::Workload;
 use std::alloc::Global;
 use std::io::Print;
@@ -30,9 +36,6 @@ use std::sync::Wait;
 use std::thread::Threads;
 use std::time::{Clock, Duration};
 use std::{env, io};
-
-/// How many rounds there are where none are asked for.
-const ROUNDS: i64 = 4;
 
 fn main(rt: HostRuntime) -> ExitCode {
     let ended = match words(&rt) {
@@ -57,44 +60,12 @@ fn bench<R: Threads + Wait + Sync + Clock + Print>(
     alloc: Global,
     words: &[String],
 ) -> Result<(), BenchFault> {
-    match words {
-        [_, word] if word.as_str() == "check" => check(rt, alloc),
-        [_, word, name, workers] if word.as_str() == "stop" => {
-            let (workload, workers) = asked(name.as_str(), workers.as_str())?;
-            stop(rt, alloc, workload, workers, MANY)
-        }
-        [_, word, name, workers, items] if word.as_str() == "stop" => {
-            let (workload, workers) = asked(name.as_str(), workers.as_str())?;
-            let items = number(items.as_str())?;
-            stop(rt, alloc, workload, workers, items)
-        }
-        [_, name, workers] => {
-            let (workload, workers) = asked(name.as_str(), workers.as_str())?;
-            measure(rt, alloc, workload, workers, workload.usual_items(), ROUNDS)
-        }
-        [_, name, workers, items] => {
-            let (workload, workers) = asked(name.as_str(), workers.as_str())?;
-            let items = number(items.as_str())?;
-            measure(rt, alloc, workload, workers, items, ROUNDS)
-        }
-        [_, name, workers, items, rounds] => {
-            let (workload, workers) = asked(name.as_str(), workers.as_str())?;
-            let (items, rounds) = (number(items.as_str())?, number(rounds.as_str())?);
-            measure(rt, alloc, workload, workers, items, rounds)
-        }
-        _ => Err(BenchFault::Words),
+    match task_of(words) {
+        Some(Task::Check) => check(rt, alloc),
+        Some(Task::Stop(job)) => stop(rt, alloc, job),
+        Some(Task::Measure(job, rounds)) => measure(rt, alloc, job, rounds),
+        None => Err(BenchFault::Words),
     }
-}
-
-fn asked(name: &str, workers: &str) -> Result<(Workload, u64), BenchFault> {
-    match (Workload::named(name), workers.parse::<u64>()) {
-        (Some(workload), Ok(workers)) => Ok((workload, workers)),
-        _ => Err(BenchFault::Words),
-    }
-}
-
-fn number(word: &str) -> Result<i64, BenchFault> {
-    word.parse::<i64>().map_err(|_| BenchFault::Words)
 }
 
 fn check<R: Threads + Wait + Sync + Clock + Print>(
@@ -102,10 +73,12 @@ fn check<R: Threads + Wait + Sync + Clock + Print>(
     alloc: Global,
 ) -> Result<(), BenchFault> {
     for workload in Workload::ALL {
-        let seen = run_it(rt, alloc, workload, 2, 3_000)?;
-        if seen.sum != workload.looped(3_000) {
-            return Err(BenchFault::Sums);
-        }
+        let job = Job {
+            workload,
+            workers: 2,
+            items: 3_000,
+        };
+        let Round { seen, .. } = one_round(rt, alloc, job)?;
         let name = workload.name();
         println!(rt; "{name} sum={:x}", seen.sum)?;
     }
@@ -115,30 +88,22 @@ fn check<R: Threads + Wait + Sync + Clock + Print>(
 fn measure<R: Threads + Wait + Sync + Clock + Print>(
     rt: &R,
     alloc: Global,
-    workload: Workload,
-    workers: u64,
-    items: i64,
+    job: Job,
     rounds: i64,
 ) -> Result<(), BenchFault> {
-    let Round { looped, seen } = best_of(rt, alloc, workload, workers, items, rounds)?;
-    print(rt, workload, "loop", 1, items, looped, looped.time)?;
-    print(rt, workload, "run", workers, items, seen, looped.time)
+    let Round { looped, seen } = best_of(rt, alloc, job, rounds)?;
+    print(rt, job, "loop", 1, looped, looped.time)?;
+    print(rt, job, "run", job.workers, seen, looped.time)
 }
 
 fn stop<R: Threads + Wait + Sync + Clock + Print>(
     rt: &R,
     alloc: Global,
-    workload: Workload,
-    workers: u64,
-    items: i64,
+    job: Job,
 ) -> Result<(), BenchFault> {
-    let name = workload.name();
-    match stop_it(rt, alloc, workload, workers, items)? {
-        Some(time) => {
-            let took = micros(time);
-            let (seconds, rest) = (took / 1_000_000, took % 1_000_000);
-            println!(rt; "{name} plinq:stop {workers} {seconds}.{rest:06}")?;
-        }
+    let (name, workers) = (job.workload.name(), job.workers);
+    match stop_it(rt, alloc, job)? {
+        Some(time) => println!(rt; "{name} plinq:stop {workers} {}", Seconds(time))?,
         None => println!(rt; "{name} plinq:stop {workers} ended before the flag was set")?,
     }
     Ok(())
@@ -146,40 +111,29 @@ fn stop<R: Threads + Wait + Sync + Clock + Print>(
 
 fn print<R: Print>(
     rt: &R,
-    workload: Workload,
+    job: Job,
     what: &str,
     threads: u64,
-    items: i64,
     seen: Seen,
     plain: Duration,
 ) -> Result<(), BenchFault> {
-    let name = workload.name();
-    let took = micros(seen.time);
-    let rate = items.unsigned_abs().saturating_mul(1_000_000) / took.max(1);
-    let ratio = micros(plain).saturating_mul(100) / took.max(1);
+    let name = job.workload.name();
+    let took = micros(seen.time).max(1);
+    let rate = job.items.unsigned_abs().saturating_mul(1_000_000) / took;
+    let ratio = micros(plain).saturating_mul(100) / took;
     print!(rt;
-        "{name} plinq:{what} {threads} {}.{:06} {rate} x{}.{:02} sum={:x}",
-        took / 1_000_000,
-        took % 1_000_000,
+        "{name} plinq:{what} {threads} {} {rate} x{}.{:02} sum={:x}",
+        Seconds(seen.time),
         ratio / 100,
         ratio % 100,
         seen.sum
     )?;
-    if workload.shows_first() {
-        if let Some(first) = seen.first {
-            let first = micros(first);
-            print!(rt; " first={}.{:06}", first / 1_000_000, first % 1_000_000)?;
-        }
+    if let (true, Some(first)) = (job.workload.shows_first(), seen.first) {
+        print!(rt; " first={}", Seconds(first))?;
     }
-    if workload.shows_pulled() {
-        if let Some(pulled) = seen.pulled {
-            print!(rt; " pulled={pulled}")?;
-        }
+    if let (true, Some(pulled)) = (job.workload.shows_pulled(), seen.pulled) {
+        print!(rt; " pulled={pulled}")?;
     }
     println!(rt)?;
     Ok(())
-}
-
-fn micros(time: Duration) -> u64 {
-    u64::try_from(time.as_micros()).unwrap_or(u64::MAX)
 }

@@ -1,10 +1,16 @@
+ghost use Rattle.std.specs.Prelude.{◌≡◌};
+
 use crate::bench_fault::BenchFault;
+use crate::job::Job;
 use crate::summed::Summed;
 use crate::total::Total;
+use crate::work::Work;
 use crate::workload::Workload;
+use plinq_enumerator::Growth;
 use plinq_keyed::Record;
+use plinq_ops::Query;
 use plinq_run::{OpenGate, aggregate, run};
-use plinq_source::RangeSource;
+use plinq_source::{RangeSource, Source};
 use std::alloc::Global;
 use std::sync::Wait;
 use std::thread::Threads;
@@ -48,14 +54,12 @@ pub(crate) struct Round {
 pub(crate) fn best_of<R: Threads + Wait + Sync + Clock>(
     rt: &R,
     alloc: Global,
-    workload: Workload,
-    workers: u64,
-    items: i64,
+    job: Job,
     rounds: i64,
 ) -> Result<Round, BenchFault> {
-    let mut best = one_round(rt, alloc, workload, workers, items)?;
+    let mut best = one_round(rt, alloc, job)?;
     for already in 1..rounds {
-        let next = one_round(rt, alloc, workload, workers, items)?;
+        let next = one_round(rt, alloc, job)?;
         best = if already == 1 {
             next
         } else {
@@ -68,61 +72,83 @@ pub(crate) fn best_of<R: Threads + Wait + Sync + Clock>(
     Ok(best)
 }
 
-fn one_round<R: Threads + Wait + Sync + Clock>(
+/// A plain loop, and a run after it.
+pub(crate) fn one_round<R: Threads + Wait + Sync + Clock>(
     rt: &R,
     alloc: Global,
-    workload: Workload,
-    workers: u64,
-    items: i64,
+    job: Job,
 ) -> Result<Round, BenchFault> {
-    let looped = loop_it(rt, workload, items)?;
-    let seen = run_it(rt, alloc, workload, workers, items)?;
+    let looped = loop_it(rt, job)?;
+    let seen = run_it(rt, alloc, job)?;
     if seen.sum != looped.sum {
         return Err(BenchFault::Sums);
     }
     Ok(Round { looped, seen })
 }
 
-/// Runs a workload by threads.
-pub(crate) fn run_it<R: Threads + Wait + Sync + Clock>(
-    rt: &R,
-    alloc: Global,
-    workload: Workload,
-    workers: u64,
-    items: i64,
-) -> Result<Seen, BenchFault> {
-    let query = workload.query(alloc, workers, items)?;
-    let growth = workload.growth()?;
-    let source = RangeSource::new(0, workload.source_length(items.unsigned_abs()))?;
-    let start = Instant::now(rt)?;
-    if workload == Workload::Sum {
-        let sum = aggregate(rt, alloc, &query, source, growth, &OpenGate, &Total)?;
-        return Ok(Seen {
-            time: start.elapsed(rt)?,
-            sum,
-            first: None,
-            pulled: None,
-        });
-    }
-    let mut sink = Summed::new(rt, start);
-    let report = run(rt, alloc, &query, source, growth, &OpenGate, &mut sink)?;
-    Ok(Seen {
-        time: start.elapsed(rt)?,
-        sum: sink.sum,
-        first: sink.first,
-        pulled: Some(pulled(&report.records)),
-    })
-}
-
-// The same by a plain loop.
-fn loop_it<C: Clock>(clock: &C, workload: Workload, items: i64) -> Result<Seen, BenchFault> {
+fn loop_it<C: Clock>(clock: &C, job: Job) -> Result<Seen, BenchFault> {
     let start = Instant::now(clock)?;
-    let sum = workload.looped(items);
+    let sum = job.workload.looped(job.items);
     Ok(Seen {
         time: start.elapsed(clock)?,
         sum,
         first: None,
         pulled: None,
+    })
+}
+
+// Runs it by threads.
+fn run_it<R: Threads + Wait + Sync + Clock>(
+    rt: &R,
+    alloc: Global,
+    job: Job,
+) -> Result<Seen, BenchFault> {
+    let source = job.source()?;
+    let growth = job.workload.growth()?;
+    let query = job.workload.query(alloc, job.workers, job.items)?;
+    if job.workload == Workload::Sum {
+        aggregated(rt, alloc, &query, source, growth)
+    } else {
+        delivered(rt, alloc, &query, source, growth)
+    }
+}
+
+fn aggregated<R: Threads + Wait + Sync + Clock>(
+    rt: &R,
+    alloc: Global,
+    query: &Query<Work>,
+    source: RangeSource,
+    growth: Growth,
+) -> Result<Seen, BenchFault>
+    requires { ⟦<RangeSource as Source>⟧.given source ≡ 0 }
+{
+    let start = Instant::now(rt)?;
+    let sum = aggregate(rt, alloc, query, source, growth, &OpenGate, &Total)?;
+    Ok(Seen {
+        time: start.elapsed(rt)?,
+        sum,
+        first: None,
+        pulled: None,
+    })
+}
+
+fn delivered<R: Threads + Wait + Sync + Clock>(
+    rt: &R,
+    alloc: Global,
+    query: &Query<Work>,
+    source: RangeSource,
+    growth: Growth,
+) -> Result<Seen, BenchFault>
+    requires { ⟦<RangeSource as Source>⟧.given source ≡ 0 }
+{
+    let start = Instant::now(rt)?;
+    let mut sink = Summed::new(rt, start);
+    let report = run(rt, alloc, query, source, growth, &OpenGate, &mut sink)?;
+    Ok(Seen {
+        time: start.elapsed(rt)?,
+        sum: sink.sum,
+        first: sink.first,
+        pulled: Some(pulled(&report.records)),
     })
 }
 

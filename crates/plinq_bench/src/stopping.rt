@@ -1,17 +1,13 @@
 use crate::bench_fault::BenchFault;
+use crate::job::Job;
 use crate::summed::Summed;
-use crate::workload::Workload;
 use plinq_merge::CancelFlag;
 use plinq_run::{OpenGate, RunFault, run_with};
-use plinq_source::RangeSource;
 use std::alloc::Global;
 use std::io;
 use std::sync::Wait;
 use std::thread::{Threads, join, sleep};
 use std::time::{Clock, Duration, Instant};
-
-/// How many items a run is asked for where no number is given, so many that the flag comes first.
-pub(crate) const MANY: i64 = 1_000_000_000;
 
 // How long a run goes on before its flag is set, in milliseconds.
 const BEFORE: u64 = 200;
@@ -21,15 +17,13 @@ const BEFORE: u64 = 200;
 pub(crate) fn stop_it<R: Threads + Wait + Sync + Clock>(
     rt: &R,
     alloc: Global,
-    workload: Workload,
-    workers: u64,
-    items: i64,
+    job: Job,
 ) -> Result<Option<Duration>, BenchFault> {
     let flag = CancelFlag::new();
     let (set, stopped) = join(
         rt,
         || set_later(rt, &flag),
-        || run_until(rt, alloc, workload, workers, items, &flag),
+        || run_until(rt, alloc, job, &flag),
     );
     let (set, stopped) = (set?, stopped?);
     Ok(stopped.map(|stopped| stopped.saturating_duration_since(set)))
@@ -47,16 +41,14 @@ fn set_later<C: Clock>(clock: &C, flag: &CancelFlag) -> io::Result<Instant> {
 fn run_until<R: Threads + Wait + Sync + Clock>(
     rt: &R,
     alloc: Global,
-    workload: Workload,
-    workers: u64,
-    items: i64,
+    job: Job,
     flag: &CancelFlag,
 ) -> Result<Option<Instant>, BenchFault> {
-    let query = workload.query(alloc, workers, items)?;
-    let growth = workload.growth()?;
-    let source = RangeSource::new(0, workload.source_length(items.unsigned_abs()))?;
-    let mut token = flag.token();
+    let source = job.source()?;
+    let growth = job.workload.growth()?;
     let mut sink = Summed::new(rt, Instant::now(rt)?);
+    let query = job.workload.query(alloc, job.workers, job.items)?;
+    let mut token = flag.token();
     let told = run_with(
         rt, alloc, &query, source, growth, &OpenGate, &mut token, &mut sink,
     );

@@ -2,7 +2,7 @@ use crate::spinning::{mix, spin};
 use crate::work::{Cost, Work, kept, turns};
 use plinq_enumerator::{Growth, GrowthFault};
 use plinq_lambda::Formula;
-use plinq_ops::{BuildFault, MergeOption, Query};
+use plinq_ops::{BuildFault, MergeOption, Op, Query};
 use std::alloc::Global;
 
 // The turns of an element that takes about 0.7 microseconds.
@@ -112,47 +112,51 @@ impl Workload {
         workers: u64,
         items: i64,
     ) -> Result<Query<Work>, BuildFault> {
-        let query = match self {
-            Workload::Sum => Query::new(alloc),
-            _ => Query::new(alloc).as_ordered().map_err(|(_, fault)| fault)?,
+        let query = Query::new(alloc).with_degree(workers)?;
+        let query = query.with_merge(self.merge())?;
+        let query = if self == Workload::Sum {
+            query
+        } else {
+            query.as_ordered()?
         };
-        let query = query.with_degree(workers).map_err(|(_, fault)| fault)?;
-        let built = match self {
-            Workload::Cheap | Workload::Grown => {
-                let query = query.select(Work::Plain(Formula::Add(1)));
-                query
-                    .map_err(|(_, fault)| fault)?
-                    .filter(Work::Plain(Formula::Even))
+        let query = query.with_op(self.step(items))?;
+        match self.last_step(items) {
+            Some(op) => Ok(query.with_op(op)?),
+            None => Ok(query),
+        }
+    }
+
+    fn merge(self) -> MergeOption {
+        match self {
+            Workload::Full => MergeOption::FullyBuffered,
+            Workload::Streamed => MergeOption::NotBuffered,
+            _ => MergeOption::Default,
+        }
+    }
+
+    // The first of its operators.
+    fn step(self, items: i64) -> Op<Work> {
+        match self {
+            Workload::Cheap | Workload::Grown | Workload::Full => {
+                Op::Select(Work::Plain(Formula::Add(1)))
             }
-            Workload::Full => {
-                let query = query.with_merge(MergeOption::FullyBuffered);
-                query
-                    .map_err(|(_, fault)| fault)?
-                    .select(Work::Plain(Formula::Add(1)))
-            }
-            Workload::Heavy => query.select(Work::Spin(Cost::Fixed(TURNS))),
-            Workload::Skewed => query.select(Work::Spin(Cost::Skewed)),
-            Workload::Ramp => query.select(Work::Spin(Cost::Ramp(items.cast_unsigned()))),
-            Workload::Late => query.select(Work::Spin(Cost::Late(items.cast_unsigned()))),
-            Workload::Streamed => {
-                let query = query.with_merge(MergeOption::NotBuffered);
-                query
-                    .map_err(|(_, fault)| fault)?
-                    .select(Work::Spin(Cost::Fixed(TURNS)))
-            }
-            Workload::TakeWhile => {
-                let query = query.select(Work::Keep(TURNS));
-                query
-                    .map_err(|(_, fault)| fault)?
-                    .take_while(Work::Plain(Formula::Below(items)))
-            }
-            Workload::Take => {
-                let query = query.select(Work::Keep(TURNS));
-                query.map_err(|(_, fault)| fault)?.take(items)
-            }
-            Workload::Sum => query.filter(Work::Plain(Formula::Even)),
-        };
-        built.map_err(|(_, fault)| fault)
+            Workload::Heavy | Workload::Streamed => Op::Select(Work::Spin(Cost::Fixed(TURNS))),
+            Workload::Skewed => Op::Select(Work::Spin(Cost::Skewed)),
+            Workload::Ramp => Op::Select(Work::Spin(Cost::Ramp(items.cast_unsigned()))),
+            Workload::Late => Op::Select(Work::Spin(Cost::Late(items.cast_unsigned()))),
+            Workload::TakeWhile | Workload::Take => Op::Select(Work::Keep(TURNS)),
+            Workload::Sum => Op::Filter(Work::Plain(Formula::Even)),
+        }
+    }
+
+    // The one after that, where it has two.
+    fn last_step(self, items: i64) -> Option<Op<Work>> {
+        match self {
+            Workload::Cheap | Workload::Grown => Some(Op::Filter(Work::Plain(Formula::Even))),
+            Workload::TakeWhile => Some(Op::TakeWhile(Work::Plain(Formula::Below(items)))),
+            Workload::Take => Some(Op::Take(items)),
+            _ => None,
+        }
     }
 
     /// The sum of its answer, by a plain loop.
