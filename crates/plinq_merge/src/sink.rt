@@ -50,7 +50,8 @@ pub trait Sink {
         Ok(())
     }
 
-    /// Takes batches of one item each, one after another, up to the first that it refuses.
+    /// Takes batches of one item each, one after another, up to the first that it refuses: [`Sink::batches_of`] of size 1,
+    /// which is what a run calls.
     ///
     /// # Errors
     ///

@@ -92,8 +92,8 @@ fn offered_with<'a, L: Lambda, C: Cancel, K: Sink<Item = L::Item>>(
     merger.offer_with(offer, token, sink)
 }
 
-fn told<'a, L: Lambda>(merger: &Merger<'a, L>) -> (bool, u64) {
-    (merger.decided(), merger.delivered())
+fn told<'a, L: Lambda>(merger: &Merger<'a, L>) -> (bool, u64, u64) {
+    (merger.decided(), merger.delivered(), merger.next_key())
 }
 
 fn finished<'a, L: Lambda>(merger: Merger<'a, L>) -> Result<Ending, MergeFault> {

@@ -1,5 +1,5 @@
 //! The traits that a caller implements or calls, by their methods.
-ghost use Rattle.std.specs.Prelude.{◌≡◌, ⊤};
+ghost use Rattle.std.specs.Prelude.{◌≡◌, ◌<◌, ⊤};
 
 use plinq_enumerator::Enumerator;
 use plinq_keyed::{Guarded, KeyProperties, Record};
@@ -77,13 +77,24 @@ fn delivered<K: Sink>(sink: &mut K, items: &[K::Item]) -> Result<(), u32> {
     sink.batch(items)
 }
 
+fn delivered_by<K: Sink>(sink: &mut K, size: usize, items: &[K::Item]) -> Result<(), u32>
+    requires { 0 < size }
+{
+    sink.batches_of(size, items)
+}
+
+fn delivered_singly<K: Sink>(sink: &mut K, items: &[K::Item]) -> Result<(), u32> {
+    sink.batches_of_one(items)
+}
+
 fn cancelled<C: Cancel>(token: &mut C) -> (bool, bool) {
     (token.cancelled(0), token.told())
 }
 
-fn passed<G: Gate>(gate: &G) {
+fn passed<G: Gate>(gate: &G) -> bool {
     gate.before_take(0);
     gate.after_chunk(0, 0);
+    !gate.may_block()
 }
 
 /// A sink has one method to write.
@@ -110,8 +121,17 @@ fn is_delivered() -> bool {
     delivered(&mut sink, &[4, 2]) == Ok(()) && sink.batches == 1
 }
 
+// (a number that is left is no batch)
+fn are_delivered() -> bool {
+    let mut sink = Takes { batches: 0 };
+    delivered_by(&mut sink, 2, &[4, 2, 6]) == Ok(())
+        && delivered_singly(&mut sink, &[4, 2]) == Ok(())
+        && sink.batches == 3
+}
+
 #[test]
 fn a_sink_and_a_gate(rt: HostRuntime) {
     assert!(&rt; is_delivered());
-    passed(&OpenGate);
+    assert!(&rt; are_delivered());
+    assert!(&rt; passed(&OpenGate));
 }
