@@ -310,7 +310,7 @@ def side_by_side(place, tests):
         place.let_go("low")
         place.wait_for("at-work-mid")
         calls = place.new_calls()
-        tests.check("what uses another is begun once that one is here", calls == ["low lib --jobs 4", in_rooms("side", "mid")[1]], calls)
+        tests.check("what uses another is begun once that one is here", calls == ["low lib --jobs 4", "mid lib --jobs 3 in a room"], calls)
         rooms = [os.path.dirname(at) for at, _, names in os.walk(place.temporary) if "main.rt" in names and at.endswith("plinq/src")]
         low = [f"{it}/../low/out/rlib/stamp" for it in rooms]
         is_so = [os.path.exists(it) and os.path.samefile(it, f"{place.top}/crates/low/out/rlib/stamp") for it in low]
@@ -346,9 +346,9 @@ def side_by_side(place, tests):
     tests.check("and where an rt ci is at work", calls == ALL_CALLS, calls)
 
 
-def in_rooms(*names, jobs=4):
-    """The first, which others wait for longest, has as many jobs as one alone, and what is beside it has one."""
-    return [f"{it} lib --jobs {jobs if at == 0 else 1} in a room" for at, it in enumerate(names)]
+def in_rooms(*names, jobs=(4, 1, 1)):
+    """The first, which others wait for longest, has as many jobs as one alone, and what is beside it has one, or as many as told."""
+    return [f"{it} lib --jobs {given} in a room" for it, given in zip(names, jobs)]
 
 
 def few_and_many(place, tests):
@@ -357,7 +357,7 @@ def few_and_many(place, tests):
         place.forget()
         place.has(processors=processors, memory=memory)
         status, _, errors, calls = place.run("--build")
-        is_so = status == 0 and (set(in_rooms("low", "side", jobs=jobs)) < set(calls) if jobs else calls == ALL_CALLS)
+        is_so = status == 0 and (set(in_rooms("low", "side", jobs=(jobs, 1))) < set(calls) if jobs else calls == ALL_CALLS)
         said = f"the first has {jobs} jobs, and what is beside it one" if jobs else "each is proved here"
         tests.check(f"with {processors} processors and {memory} GB {said}", is_so, (calls, errors))
         is_so = f"mid lib --jobs {jobs}" in calls or not jobs
@@ -366,10 +366,15 @@ def few_and_many(place, tests):
     for name in ("third", "fourth"):
         place.write(f"crates/{name}/src/lib.rt", f"{name}\n")
     place.write("crates.txt", f"fourth:\nthird:\n{CRATES}".replace("mid side", "fourth third mid side"))
-    for memory, jobs, seconds, wanted in (
-        (10, 3, "", ("low", "fourth")),
-        (64, 4, "", ("low", "fourth", "third")),
-        (64, 4, "# some\nside 200\nthird 61\n", ("side", "low", "third")),
+    for memory, seconds, wanted, jobs, last in (
+        (10, "", ("low", "fourth"), (3, 1), 3),
+        (64, "", ("low", "fourth", "third"), (4, 1, 1), 4),
+        (64, "# some\nside 200\nthird 61\n", ("side", "low", "third"), (4, 1, 2), 4),
+        (12, "# some\nside 200\nthird 61\n", ("side", "low", "third"), (4, 1, 1), 4),
+        (24, "side 200\nlow 90\nthird 80\n", ("side", "low", "third"), (4, 2, 2), 4),
+        (64, "side 200 1\nthird 100 1\nmid 10 2", ("side", "third", "low"), (1, 1, 2), 2),
+        (64, "side 200 # slow\nlow slow\nmid 10 # quick\n", ("side", "low", "fourth"), (4, 1, 1), 4),
+        (10, "third 100 2\nlow 95 4\nmid 10 4\n", ("low", "third"), (3, 1), 3),
     ):
         place.forget()
         place.has(memory=memory)
@@ -382,7 +387,9 @@ def few_and_many(place, tests):
             is_so = calls == sorted(in_rooms(*wanted, jobs=jobs))
             tests.check(f"{len(wanted)} are proved at a time, first what takes longest with others above it", is_so, calls)
         started.communicate(timeout=HANGS)
-        tests.check("and then the others", started.returncode == 0 and ALL_CALLS[-1] in place.new_calls())
+        calls = place.new_calls()
+        is_so = started.returncode == 0 and ALL_CALLS[-1] in calls and f"mid lib --jobs {last}" in calls
+        tests.check(f"and then the others, the last by {last} jobs", is_so, calls)
     os.remove(f"{place.top}/tools/seconds")
     for name in ("third", "fourth"):
         shutil.rmtree(f"{place.top}/crates/{name}")
@@ -689,6 +696,15 @@ def two_at_once(place, tests):
     wanted = [(f"words: {it}; built of: four mid main side \n", 3) for it in range(4)]
     tests.check("of four at once all run the right program", ended == wanted, ended)
     tests.check("and one builds it", sorted(place.calls()[before:]) == sorted(ALL_CALLS), place.calls()[before:])
+    path = f"{place.top}/crates/plinq/out/plinq.built_from"
+    with open(path) as earlier:
+        place.write("crates/low/src/lib.rt", "four\n")
+        calls = place.run()[3]
+        with open(path) as later:
+            is_so = not calls and not os.path.sameopenfile(earlier.fileno(), later.fileno()) and earlier.read() == later.read() != ""
+    tests.check("who reads the note while it is written again reads a whole one", is_so, (calls, os.listdir(os.path.dirname(path))))
+    beside = [it for it in os.listdir(os.path.dirname(path)) if it.startswith("plinq.built_from.")]
+    tests.check("and nothing is left beside it", not beside, beside)
 
 
 def waits_for_the_gate(place, tests):
