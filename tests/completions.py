@@ -118,7 +118,8 @@ def types(tests, name, terminal):
 @contextlib.contextmanager
 def installed():
     with tempfile.TemporaryDirectory() as folder:
-        for it in ("here", "bin"):
+        # (where the last of these isn't there, fish fills it from all man pages, beside the test and after its end)
+        for it in ("here", "bin", ".local/share/fish/generated_completions"):
             os.makedirs(f"{folder}/{it}")
         with open(f"{folder}/bin/plinq", "w", encoding="utf-8") as file:
             file.write(PLINQ)
