@@ -30,6 +30,8 @@ class Place:
 
     def __init__(self, folder):
         self.top = folder
+        self.temporary = f"{folder}/temporary"
+        os.makedirs(self.temporary)
         os.makedirs(f"{folder}/bin")
         os.makedirs(f"{folder}/tools")
         shutil.copy(f"{ROOT}/test", folder)
@@ -59,7 +61,7 @@ class Place:
             self.write(f"tests/{name}.py", text)
 
     def env(self):
-        return os.environ | {"PATH": f"{self.top}/bin:{os.environ['PATH']}"}
+        return os.environ | {"PATH": f"{self.top}/bin:{os.environ['PATH']}", "TMPDIR": self.temporary}
 
     def start(self, **how):
         streams = {"stdout": subprocess.PIPE, "stderr": subprocess.PIPE} | how
@@ -191,23 +193,101 @@ def no_rt(place, tests):
     os.rename(f"{place.top}/bin/hidden", f"{place.top}/bin/rt")
 
 
+# A test that is at work until it is let go.
+HOLDS = """
+import os, time
+open("at-work-{name}", "w").close()
+while not os.path.exists("go-{name}"):
+    time.sleep(0.02)
+os.remove("at-work-{name}")
+print("1 passed, 0 failed")
+"""
+MINDS = "import signal; assert signal.getsignal(signal.SIGINT) == signal.default_int_handler and signal.getsignal(signal.SIGQUIT) == signal.SIG_DFL\n" + PASSES
+
+
+def wait_for(holds):
+    for _ in range(HANGS * 50):
+        if holds():
+            break
+        time.sleep(0.02)
+
+
+def side_by_side(place, tests):
+    """The tests run side by side, as many as there are processors: where one has ended, the next one begins."""
+    names = ["one", "two", "three", "four", "five"]
+
+    def at_work():
+        return [name for name in names if os.path.exists(f"{place.top}/at-work-{name}")]
+
+    for processors in (1, 2, 3, 64):
+        place.tell(COUNTED, **{name: HOLDS.replace("{name}", name) for name in names})
+        place.write("bin/nproc", f"#!/bin/sh\necho {processors}\n", 0o755)
+        started = place.start()
+        wanted, seen = [min(processors, left) for left in (5, 4, 3, 2, 1)], []
+        for many in wanted:
+            wait_for(lambda: len(at_work()) >= many or started.poll() is not None)
+            time.sleep(0.3)
+            seen.append(len(at_work()))
+            one = at_work()[-1]
+            place.write(f"go-{one}")
+            wait_for(lambda: one not in at_work())
+        output, errors = started.communicate(timeout=HANGS)
+        lines = output.splitlines()
+        is_so = (started.returncode, seen, lines[-1]) == (0, wanted, "10 passed, 0 failed") and all(f"== tests/{it}.py" in lines for it in names)
+        tests.check(f"five tests by {processors} processors", is_so, (started.returncode, seen, output, errors))
+        for name in names:
+            os.remove(f"{place.top}/go-{name}")
+    place.tell(COUNTED, one=MINDS, two=MINDS)
+    status, output, errors = place.run()
+    tests.check("a test can be interrupted by its own signals", (status, output.splitlines()[-1]) == (0, "9 passed, 0 failed"), (output, errors))
+    place.tell(COUNTED, one="import sys; print('one said', file=sys.stderr)\nprint('1 passed, 0 failed', end='')", two=PASSES)
+    status, output, errors = place.run()
+    lines = output.splitlines()
+    tests.check("what each test says stands below its name", lines[lines.index("== tests/one.py") + 1] == "1 passed, 0 failed", lines)
+    tests.check("and what it says of errors is passed on", errors.splitlines() == ["one said"], errors)
+    os.remove(f"{place.top}/bin/nproc")
+    tests.check("no file of theirs is left", not os.listdir(place.temporary), os.listdir(place.temporary))
+    place.write("bin/mktemp", "#!/bin/sh\nexit 1\n", 0o755)
+    status, output, errors = place.run()
+    os.remove(f"{place.top}/bin/mktemp")
+    is_so = status != 0 and output.splitlines()[-1] == "5 passed, 2 failed" and "tests/two.py: not run" in output
+    tests.check("where there is no room for what they say, they count as failed", is_so, (status, output, errors))
+
+
+# A test that ends a while after it was asked to, and leaves a file then.
+CLEANS = """
+import os, signal, sys, time
+def end(*_):
+    time.sleep(0.3)
+    open(f"ended-{name}", "w").close()
+    sys.exit(1)
+signal.signal(signal.SIGTERM, end)
+open("at-work-{name}.new", "w").close()
+os.rename("at-work-{name}.new", "at-work-{name}")
+while True:
+    time.sleep(0.02)
+"""
+
+
 def interruption(place, tests):
-    """An interruption ends rt ci as well, and ./test ends after it. (The stand-in takes a while, and leaves a file then.)"""
-    cleans = "trap 'sleep 0.3; echo >ended; exit 1' TERM; echo $$ >at-work.new; mv at-work.new at-work; while :; do sleep 0.02; done"
-    for which in (signal.SIGINT, signal.SIGTERM, signal.SIGHUP):
-        place.tell(cleans, one=PASSES)
-        started = place.start(stdout=subprocess.DEVNULL, stderr=subprocess.DEVNULL)
-        for _ in range(HANGS * 50):
-            if os.path.exists(f"{place.top}/at-work"):
-                break
-            time.sleep(0.02)
-        os.remove(f"{place.top}/at-work")
-        started.send_signal(which)
-        status = started.wait(timeout=HANGS)
-        has_ended = os.path.exists(f"{place.top}/ended")
-        tests.check(f"{which.name} ends rt ci, and then ./test", status == -which and has_ended, (status, has_ended))
-        if has_ended:
-            os.remove(f"{place.top}/ended")
+    """An interruption ends rt ci, or the tests, as well, and ./test ends after them. (Each stand-in takes a while, and leaves a file
+    then.)"""
+    cleans = "trap 'sleep 0.3; echo >ended-ci; exit 1' TERM; echo $$ >at-work.new; mv at-work.new at-work-ci; while :; do sleep 0.02; done"
+    place.write("bin/nproc", "#!/bin/sh\necho 2\n", 0o755)
+    for what, ci, names in (("rt ci", cleans, ["ci"]), ("the tests that run", COUNTED, ["one", "two"])):
+        for which in (signal.SIGINT, signal.SIGTERM, signal.SIGHUP):
+            place.tell(ci, one=CLEANS.replace("{name}", "one"), two=CLEANS.replace("{name}", "two"), z=PASSES)
+            started = place.start(stdout=subprocess.DEVNULL, stderr=subprocess.DEVNULL)
+            wait_for(lambda: all(os.path.exists(f"{place.top}/at-work-{name}") for name in names))
+            started.send_signal(which)
+            status = started.wait(timeout=HANGS)
+            ended, left = [name for name in names if os.path.exists(f"{place.top}/ended-{name}")], os.listdir(place.temporary)
+            tests.check(f"{which.name} ends {what}, and then ./test", (status, ended, left) == (-which, names, []), (status, ended, left))
+            for name in names:
+                os.remove(f"{place.top}/at-work-{name}")
+            for name in ended:
+                os.remove(f"{place.top}/ended-{name}")
+    os.remove(f"{place.top}/bin/nproc")
 
 
 # Stand-ins for dpkg-query, which finds the packages that stand in the file installed, and for apt-get, which does as told.
@@ -252,6 +332,7 @@ def main():
         streams(place, tests)
         freshness(place, tests)
         no_rt(place, tests)
+        side_by_side(place, tests)
         interruption(place, tests)
     with tempfile.TemporaryDirectory() as folder:
         packages(Place(folder), tests)
