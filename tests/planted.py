@@ -102,9 +102,11 @@ n + 11=>fn low::caller: no proof: it calls `low::first`, which is not proved
 71 + =>./proofs/Thing/method/Answers.antt:4:35: error: `returns`: as printed, the two types first differ where one has `8`
 72 + =>./proofs/Thing/method/Answers.antt:4:35: error: `gone`: `goal.gone`: module `low.proofs.Thing.method.Goals` has no `gone` that can be named from here
 72 + =>fn low::Thing::method: not proved
-u64 = 17=>./proofs/Thing/method/Answers.antt:4:35: error: `returns`: as printed, the two types first differ where one has `8`
+u64 = 17=>./proofs/Thing+T/method/Answers.antt:4:35: error: `returns`: as printed, the two types first differ where one has `8`
 n + 13=>./proofs/+turns/Answers.antt:4:35: error: `first-returns`: as printed, the two types first differ where one has `8`
 n + 14=>./proofs/+turns/Answers.antt:4:35: error: `second-returns`: as printed, the two types first differ where one has `8`
+n + 15=>./proofs/+first/Answers.antt:4:35: error: `returns-in-Ok-clause-least`: as printed, the two types first differ where one has `8`
+n + 16=>./proofs/+first/Answers.antt:4:35: error: `returns-in-Ok-clause-least`: as printed, the two types first differ where one has `8`
 n + text=>src/lib.rt:13:9: error[E0425]: cannot find value `text` in this scope
 n + ghost=>src/lib.rt:13:9: error: expected the end of the text
 """
@@ -188,6 +190,8 @@ def refused(place, tests):
     tests.check("a constant edits the functions that name it", (status, [it[-1] for it in checks]) == (0, ["0", "1", "1"]), (said, checks))
     place.plant(turns=("lib", "n + 1", "n + 13"))
     tests.check("a function that others call in turn", place.run()[2] == "1 passed, 0 failed")
+    place.plant(itself=("lib", "n + 1", "n + 15"))
+    tests.check("a function that calls itself", place.run()[2] == "1 passed, 0 failed")
     place.plant(first=edits["free"])
     place.add("must-fail", second=edits["closure"])
     tests.check("those of must-fail/ stay out", place.run()[2] == "1 passed, 0 failed")
@@ -210,6 +214,7 @@ def not_refused(place, tests):
     names("one that means the same in a caller of what is refused", ("lib", "first(5) + 6", "6 + first(5)"), "NOT REFUSED: ", **first)
     names("one that only a callee refuses", ("lib", "(5) + 6", "(5) + 61"), "NOT REFUSED for a goal of low::caller: ")
     names("one that a function in turn with it refuses", ("lib", "n + 1", "n + 14"), "NOT REFUSED for a goal of low::first: ")
+    names("one that a function which calls itself refuses", ("lib", "n + 2", "n + 16"), "NOT REFUSED for a goal of low::second: ")
     names("one that only renames a goal which is answered by hand", ("other", "7 + ", "72 + "), "NOT REFUSED for a goal of ")
     names("one that doesn't compile", ("lib", "n + 1", "n + text"), "BAD EDIT: it can't be compiled or read: src/lib.rt:13:9: error[E0425]")
     names("one that can't be read", ("lib", "n + 1", "n + ghost"), "BAD EDIT: it can't be compiled or read: src/lib.rt:13:9: error: ")
