@@ -1,360 +1,212 @@
 -- Operators that a worker applies by key: on the element at a position they do what is left of them there.
-use Rattle.std.specs.Prelude.{◌≡◌, ℕ, zero, suc, ◌+◌, ◌-◌, ◌<◌, ◌≤◌, ℤ, pos, negsuc, ◌+ℤ◌, ◌-ℤ◌, ◌<ℤ◌, List, [], ◌∷◌, length, drop, Bool, true, false, Option, Some, None, Result, Ok, Err, ⊤, refl}
+use Rattle.std.specs.Prelude.{◌≡◌, ℕ, ◌+◌, ◌-◌, ◌<◌, ◌≤◌, ℤ, pos, negsuc, ◌+ℤ◌, ◌-ℤ◌, ◌<ℤ◌, List, [], ◌∷◌, length, drop, Bool, true, false, cond, Option, None, Result, Ok, Err, refl}
 use Rattle.std.specs.List.{list_any}
-use Rattle.std.proofs.Common.{sym, ◌∙◌, ap, inl, inr, arith}
+use Rattle.std.proofs.Common.{sym, ◌∙◌, ap, subst, inl, inr, arith}
 use Rattle.std.proofs.lemmas.Int.{ints}
-use Rattle.std.proofs.lemmas.Bool.{lt-ltb, le-ltb, or_parts}
+use Rattle.std.proofs.lemmas.Bool.{lt-ltb, le-ltb, or_parts, and_parts}
 use Rattle.std.proofs.lemmas.List.{drop_all}
-use Rattle.std.proofs.lemmas.Bool.Decides.{leb_tells}
+use Rattle.std.proofs.lemmas.Bool.Decides.{leb_tells, nat_tests}
 use Rattle.std.proofs.Math.Seq.{drop-nil}
+use borrow.Author.Differences.{up, down}
 use Rattle.plinq_source.specs.declared.ending.Ending.{Ending}
-use Rattle.plinq_source.specs.declared.ending.Ending.TheVariants.{End, Refused, Fault}
-use Rattle.plinq_source.specs.Trace.{Trace, open_trace, ended, followed}
-use Rattle.plinq_source.proofs.Followed.{trace_of}
+use Rattle.plinq_source.specs.declared.ending.Ending.TheVariants.{End, Fault}
+use Rattle.plinq_source.specs.Trace.{Trace, open_trace, ended}
+use Rattle.plinq_source.proofs.Followed.{trace_of, followed-open_nil}
 use Rattle.plinq_lambda.specs.Meaning.{Meaning}
 use Rattle.plinq_ops.specs.declared.op.Op.{Op}
-use Rattle.plinq_ops.specs.declared.op.Op.TheVariants.{Select, Filter, SelectMany, Take, Skip, TakeWhile, SkipWhile, AsUnordered}
+use Rattle.plinq_ops.specs.declared.op.Op.TheVariants.{Select, Take, Skip, TakeWhile}
 use Rattle.plinq_ops.specs.declared.known.Known.TheVariants.{Key, Position}
-use Rattle.plinq_ops.specs.Stage.{Stage, taking, skipping, taken, skipped, apply, seq, stage_after, seq_after}
-use Rattle.plinq_ops.specs.Operator.{item_count, selected, taken_while, stage_of, stages_of, counted_off, stage_left}
+use Rattle.plinq_ops.specs.Stage.{Stage, taking, skipping, joined, taken, skipped, apply, seq, stage_after, seq_after}
+use Rattle.plinq_ops.specs.Operator.{item_count, selected, taken_while, stage_of, stages_of, counted_off, stage_left, keeps_count}
 use Rattle.plinq_ops.specs.Feeding.{is_empty_take}
 use Rattle.plinq_ops.specs.Fragment.{ended_here, taken_at, skipped_at, apply_at, position_after, fragment_at, fragment_of}
 use Rattle.plinq_ops.specs.Pipeline.{PipelineView, IsReached, stages}
-use Rattle.plinq_ops.specs.ByKey.{can_apply, is_by_key_from, is_by_key, left_at, passed_on, stages_at}
+use Rattle.plinq_ops.specs.ByKey.{can_apply, known_after, is_by_key_from, is_by_key, left_at, passed_on, stages_at}
 use Rattle.plinq_ops.proofs.Stages.{taken-short, taken-enough}
 use Rattle.plinq_ops.proofs.Open.{open-from_seq}
 use Rattle.plinq_ops.proofs.Operators.{stage_left-counted_off}
 
--- where positions aren't known no operator goes by them
-fragment_at-any : {L T : Type 0} (meaning : L → Meaning T) (ops : List (Op L)) (p : ℤ) (t : Trace T) → is_by_key_from Key ops ≡ true
-    → fragment_at meaning ops p t ≡ seq (left_at meaning ops p) t
-fragment_at-any meaning [] p t keyed = refl
-fragment_at-any meaning (Select f ∷ ops) p t keyed = fragment_at-any meaning ops p (apply (stage_of meaning (Select f)) t) keyed
-fragment_at-any meaning (Filter f ∷ ops) p t keyed = fragment_at-any meaning ops p (apply (stage_of meaning (Filter f)) t) keyed
-fragment_at-any meaning (SelectMany f ∷ ops) p t keyed = fragment_at-any meaning ops p (apply (stage_of meaning (SelectMany f)) t) keyed
-fragment_at-any meaning (Take n ∷ ops) p t keyed = absurd (cc)
-fragment_at-any meaning (Skip n ∷ ops) p t keyed = absurd (cc)
-fragment_at-any meaning (TakeWhile f ∷ ops) p t keyed = fragment_at-any meaning ops p (apply (stage_of meaning (TakeWhile f)) t) keyed
-fragment_at-any meaning (SkipWhile f ∷ ops) p t keyed = absurd (cc)
-fragment_at-any meaning (AsUnordered ∷ ops) p t keyed = absurd (cc)
-
-seq_after-any : {L T : Type 0} (meaning : L → Meaning T) (ops : List (Op L)) (p q : ℤ) (t : Trace T) → is_by_key_from Key ops ≡ true
-    → seq_after (left_at meaning ops p) t ≡ left_at meaning ops q
-seq_after-any meaning [] p q t keyed = refl
-seq_after-any meaning (Select f ∷ ops) p q t keyed =
-    ap (λ rest. stage_of meaning (Select f) ∷ rest) (seq_after-any meaning ops p q (apply (stage_of meaning (Select f)) t) keyed)
-seq_after-any meaning (Filter f ∷ ops) p q t keyed =
-    ap (λ rest. stage_of meaning (Filter f) ∷ rest) (seq_after-any meaning ops p q (apply (stage_of meaning (Filter f)) t) keyed)
-seq_after-any meaning (SelectMany f ∷ ops) p q t keyed =
-    ap (λ rest. stage_of meaning (SelectMany f) ∷ rest) (seq_after-any meaning ops p q (apply (stage_of meaning (SelectMany f)) t) keyed)
-seq_after-any meaning (Take n ∷ ops) p q t keyed = absurd (cc)
-seq_after-any meaning (Skip n ∷ ops) p q t keyed = absurd (cc)
-seq_after-any meaning (TakeWhile f ∷ ops) p q t keyed =
-    ap (λ rest. stage_of meaning (TakeWhile f) ∷ rest) (seq_after-any meaning ops p q (apply (stage_of meaning (TakeWhile f)) t) keyed)
-seq_after-any meaning (SkipWhile f ∷ ops) p q t keyed = absurd (cc)
-seq_after-any meaning (AsUnordered ∷ ops) p q t keyed = absurd (cc)
-
--- what may stand at a position on the way through operators by key: the one item, open or the last; no item, and an
--- ending; before position 0 no item
-abbrev pub IsAt : {T : Type 0} → ℤ → List T → Option Ending → Type 0
-IsAt (pos k) [] None = ⊥
-IsAt (pos k) [] (Some e) = ⊤
-IsAt (pos k) (x ∷ []) None = ⊤
-IsAt (pos k) (x ∷ []) (Some End) = ⊤
-IsAt (pos k) (x ∷ []) (Some (Refused code)) = ⊥
-IsAt (pos k) (x ∷ []) (Some (Fault code)) = ⊥
-IsAt (pos k) (x ∷ y ∷ xs) e = ⊥
-IsAt (negsuc k) [] e = ⊤
-IsAt (negsuc k) (x ∷ xs) e = ⊥
-
--- an operator makes of what stands at a position what is left of it there makes of it
-record IsPassedAt {L T : Type 0} (meaning : L → Meaning T) (op : Op L) (p : ℤ) (t : Trace T) : Type 0 where
-  pub same : apply_at meaning op p t ≡ apply (stage_left meaning op (counted_off op - item_count p)) t
-  pub at : IsAt (position_after op p) (apply_at meaning op p t).items (apply_at meaning op p t).ending
-
-selected-at : {T : Type 0} (k : ℕ) (r : Result T ℕ) → IsAt (pos k) (followed (selected r) (open_trace [])).items (followed (selected r) (open_trace [])).ending
-selected-at k (Ok y) = tt
-selected-at k (Err code) = tt
-
-selected-at_last : {T : Type 0} (k : ℕ) (r : Result T ℕ) → IsAt (pos k) (followed (selected r) (ended [] End)).items (followed (selected r) (ended [] End)).ending
-selected-at_last k (Ok y) = tt
-selected-at_last k (Err code) = tt
-
-passed-select : {L T : Type 0} (meaning : L → Meaning T) (f : L) (p : ℤ) (xs : List T) (e : Option Ending) → IsAt p xs e → IsPassedAt meaning (Select f) p (trace_of xs e)
-passed-select meaning f (pos k) [] None at = absurd at
-passed-select meaning f (pos k) [] (Some e) at = record { same = refl; at = tt }
-passed-select meaning f (pos k) (x ∷ []) None at = record { same = refl; at = selected-at k ((meaning f).map x) }
-passed-select meaning f (pos k) (x ∷ []) (Some End) at = record { same = refl; at = selected-at_last k ((meaning f).map x) }
-passed-select meaning f (pos k) (x ∷ []) (Some (Refused code)) at = absurd at
-passed-select meaning f (pos k) (x ∷ []) (Some (Fault code)) at = absurd at
-passed-select meaning f (pos k) (x ∷ y ∷ xs) e at = absurd at
-passed-select meaning f (negsuc k) [] e at = record { same = refl; at = tt }
-passed-select meaning f (negsuc k) (x ∷ xs) e at = absurd at
-
-taken_while-at : {T : Type 0} (k : ℕ) (r : Result Bool ℕ) (x : T) → IsAt (pos k) (followed (taken_while r x) (open_trace [])).items (followed (taken_while r x) (open_trace [])).ending
-taken_while-at k (Ok true) x = tt
-taken_while-at k (Ok false) x = tt
-taken_while-at k (Err code) x = tt
-
-taken_while-at_last : {T : Type 0} (k : ℕ) (r : Result Bool ℕ) (x : T) → IsAt (pos k) (followed (taken_while r x) (ended [] End)).items (followed (taken_while r x) (ended [] End)).ending
-taken_while-at_last k (Ok true) x = tt
-taken_while-at_last k (Ok false) x = tt
-taken_while-at_last k (Err code) x = tt
-
-passed-take_while : {L T : Type 0} (meaning : L → Meaning T) (f : L) (p : ℤ) (xs : List T) (e : Option Ending) → IsAt p xs e → IsPassedAt meaning (TakeWhile f) p (trace_of xs e)
-passed-take_while meaning f (pos k) [] None at = absurd at
-passed-take_while meaning f (pos k) [] (Some e) at = record { same = refl; at = tt }
-passed-take_while meaning f (pos k) (x ∷ []) None at = record { same = refl; at = taken_while-at k ((meaning f).test x) x }
-passed-take_while meaning f (pos k) (x ∷ []) (Some End) at = record { same = refl; at = taken_while-at_last k ((meaning f).test x) x }
-passed-take_while meaning f (pos k) (x ∷ []) (Some (Refused code)) at = absurd at
-passed-take_while meaning f (pos k) (x ∷ []) (Some (Fault code)) at = absurd at
-passed-take_while meaning f (pos k) (x ∷ y ∷ xs) e at = absurd at
-passed-take_while meaning f (negsuc k) [] e at = record { same = refl; at = tt }
-passed-take_while meaning f (negsuc k) (x ∷ xs) e at = absurd at
-
--- Take at a position
-record IsTakenAt {T : Type 0} (n : ℕ) (p : ℤ) (t : Trace T) : Type 0 where
-  pub same : taken_at (pos n) p t ≡ taken (n - item_count p) t
-  pub at : IsAt p (taken_at (pos n) p t).items (taken_at (pos n) p t).ending
-
-one_less : (m : ℕ) → pos (suc m) -ℤ pos 1 ≡ pos m
-one_less m = omega (arith, ints)
-
-taken_at-before : {T : Type 0} (m k : ℕ) (t : Trace T) → k < m → taken_at (pos (suc m)) (pos k) t ≡ t
-taken_at-before m k t before = rw (lt-ltb k (suc m) (omega arith), one_less m, lt-ltb k m before) refl
-
-taken_at-last : {T : Type 0} (m : ℕ) (t : Trace T) → taken_at (pos (suc m)) (pos m) t ≡ ended_here t
-taken_at-last m t = rw (lt-ltb m (suc m) (omega arith), one_less m, le-ltb m m (omega arith)) refl
-
-taken_at-past : {T : Type 0} (m k : ℕ) (t : Trace T) → m < k → taken_at (pos (suc m)) (pos k) t ≡ ended [] End
-taken_at-past m k t past = rw (le-ltb k (suc m) (omega arith)) refl
-
-taken_at-below : {T : Type 0} (m k : ℕ) (t : Trace T) → taken_at (pos (suc m)) (negsuc k) t ≡ t
-taken_at-below m k t = rw (one_less m) refl
-
-taken-none : {T : Type 0} (t : Trace T) → taken 0 t ≡ ended [] End
-taken-none t = taken-enough 0 t (omega arith)
+-- what may stand at a position on the way through operators by key: before position 0 no item; from there on no item
+-- and an ending, or the one item, open or the last
+data IsAt (T : Type 0) : ℤ → Trace T → Type 0 where
+  not_reached : {k : ℕ} (e : Option Ending) → IsAt T (negsuc k) (trace_of [] e)
+  no_item : {k : ℕ} (e : Ending) → IsAt T (pos k) (ended [] e)
+  one_item : {k : ℕ} (x : T) → IsAt T (pos k) (open_trace (x ∷ []))
+  last_item : {k : ℕ} (x : T) → IsAt T (pos k) (ended (x ∷ []) End)
 
 -- no position holds more than one item
-length-at : {T : Type 0} (p : ℤ) (xs : List T) (e : Option Ending) → IsAt p xs e → length xs ≤ 1
-length-at (pos k) [] e at = omega arith
-length-at (pos k) (x ∷ []) e at = omega arith
-length-at (pos k) (x ∷ y ∷ xs) e at = absurd at
-length-at (negsuc k) [] e at = omega arith
-length-at (negsuc k) (x ∷ xs) e at = absurd at
+length-at : {T : Type 0} {p : ℤ} {t : Trace T} → IsAt T p t → length t.items ≤ 1
+length-at (not_reached e) = omega arith
+length-at _ = omega arith
 
--- before position 0 stands none
-length-below : {T : Type 0} (k : ℕ) (xs : List T) (e : Option Ending) → IsAt (negsuc k) xs e → length xs ≡ 0
-length-below k [] e at = refl
-length-below k (x ∷ xs) e at = absurd at
+-- an item at one position may stand at another
+at-moved : {T : Type 0} {k : ℕ} {t : Trace T} (j : ℕ) → IsAt T (pos k) t → IsAt T (pos j) t
+at-moved j (no_item e) = no_item e
+at-moved j (one_item x) = one_item x
+at-moved j (last_item x) = last_item x
 
-ended_here-at : {T : Type 0} (k : ℕ) (xs : List T) (e : Option Ending) → IsAt (pos k) xs e
-    → (ended_here (trace_of xs e) ≡ taken 1 (trace_of xs e)) × IsAt (pos k) (ended_here (trace_of xs e)).items (ended_here (trace_of xs e)).ending
-ended_here-at k [] None at = absurd at
-ended_here-at k [] (Some e) at = (refl, tt)
-ended_here-at k (x ∷ []) None at = (refl, tt)
-ended_here-at k (x ∷ []) (Some End) at = (refl, tt)
-ended_here-at k (x ∷ []) (Some (Refused code)) at = absurd at
-ended_here-at k (x ∷ []) (Some (Fault code)) at = absurd at
-ended_here-at k (x ∷ y ∷ xs) e at = absurd at
+at-below : (T : Type 0) (p : ℤ) (e : Option Ending) → p <ℤ pos 0 → IsAt T p (trace_of [] e)
+at-below T (pos k) e below = absurd (omega (arith, ints, below))
+at-below T (negsuc k) e below = not_reached e
 
-taken_at-at : {T : Type 0} (m : ℕ) (p : ℤ) (xs : List T) (e : Option Ending) → IsAt p xs e → IsTakenAt (suc m) p (trace_of xs e)
-taken_at-at {T} m (pos k) xs e at =
-    let t : Trace T = trace_of xs e in
-    elim (leb_tells m k) [
-      | inr w ↦
-          let is = taken_at-before m k t w.1 in
-          record {
-            same = is ∙ sym (taken-short (suc m - k) t (omega (arith, w.1, length-at (pos k) xs e at)));
-            at = rw is at;
-          }
-      | inl w ↦ elim (leb_tells k m) [
+-- what ends here is what a Take of one leaves
+at-ended_here : {T : Type 0} {k : ℕ} {t : Trace T} → IsAt T (pos k) t → (ended_here t ≡ taken 1 t) × IsAt T (pos k) (ended_here t)
+at-ended_here (no_item e) = (refl, no_item e)
+at-ended_here (one_item x) = (refl, last_item x)
+at-ended_here (last_item x) = (refl, last_item x)
+
+at-joined : {T : Type 0} (piece : T → Trace T) {p : ℤ} {t : Trace T} → ((k : ℕ) (x : T) → IsAt T (pos k) (piece x)) → IsAt T p t → IsAt T p (joined piece t.items t.ending)
+at-joined piece each (not_reached e) = not_reached e
+at-joined piece each (no_item e) = no_item e
+at-joined {T} piece each (one_item {k = k} x) = subst (IsAt T (pos k)) (sym (followed-open_nil (piece x))) (each k x)
+at-joined piece each (last_item {k = k} x) = (at-ended_here (each k x)).1
+
+at-selected : {T : Type 0} (k : ℕ) (r : Result T ℕ) → IsAt T (pos k) (selected r)
+at-selected k (Ok y) = one_item y
+at-selected k (Err code) = no_item (Fault code)
+
+at-taken_while : {T : Type 0} (k : ℕ) (r : Result Bool ℕ) (x : T) → IsAt T (pos k) (taken_while r x)
+at-taken_while k (Ok true) x = one_item x
+at-taken_while k (Ok false) x = no_item End
+at-taken_while k (Err code) x = no_item (Fault code)
+
+at-taken : {T : Type 0} (c k : ℕ) (t : Trace T) → 0 < c → IsAt T (pos k) t → (taken_at (pos c) (pos k) t ≡ taken (c - k) t) × IsAt T (pos k) (taken_at (pos c) (pos k) t)
+at-taken {T} c k t some at =
+    let here = at-ended_here at in
+    let less : pos c -ℤ pos 1 ≡ pos (c - 1) = omega (arith, ints, some) in
+    elim (leb_tells c k) [
+      | inl w ↦
+          let is : taken_at (pos c) (pos k) t ≡ ended [] End = rw (le-ltb k c w.1) refl in
+          let none : c - k ≡ 0 = omega (arith, w.1) in
+          (is ∙ sym (ap (λ n. taken n t) none ∙ taken-enough 0 t (omega arith)), rw is (no_item End))
+      | inr w ↦ elim (leb_tells (c - 1) k) [
         | inl v ↦
-            let same : m ≡ k = omega (arith, w.1, v.1) in
-            let one : suc m - k ≡ 1 = omega (arith, same) in
-            let here = ended_here-at k xs e at in
-            let is : taken_at (pos (suc m)) (pos k) t ≡ ended_here t = ap (λ i. taken_at (pos (suc m)) (pos i) t) (sym same) ∙ taken_at-last m t in
-            record { same = is ∙ here.0 ∙ ap (λ n. taken n t) (sym one); at = rw is here.1 }
+            let is : taken_at (pos c) (pos k) t ≡ ended_here t = rw (lt-ltb k c w.1, less, le-ltb k (c - 1) v.1) refl in
+            let one : c - k ≡ 1 = omega (arith, w.1, v.1) in
+            (is ∙ here.0 ∙ ap (λ n. taken n t) (sym one), rw is here.1)
         | inr v ↦
-            let is = taken_at-past m k t v.1 in
-            let none : suc m - k ≡ 0 = omega (arith, v.1) in
-            record { same = is ∙ sym (taken-none t) ∙ ap (λ n. taken n t) (sym none); at = rw is tt }
+            let is : taken_at (pos c) (pos k) t ≡ t = rw (lt-ltb k c w.1, less, lt-ltb k (c - 1) v.1) refl in
+            (is ∙ sym (taken-short (c - k) t (omega (arith, v.1, length-at at))), rw is at)
       ]
     ]
-taken_at-at {T} m (negsuc k) xs e at =
-    let t : Trace T = trace_of xs e in
-    let is = taken_at-below m k t in
-    record {
-      same = is ∙ sym (taken-short (suc m - 0) t (omega (arith, length-below k xs e at)));
-      at = rw is at;
-    }
 
-passed-take : {L T : Type 0} (meaning : L → Meaning T) (n p : ℤ) (xs : List T) (e : Option Ending) → is_empty_take {L = L} (Take n) ≡ false → IsAt p xs e
-    → IsPassedAt meaning (Take n) p (trace_of xs e)
-passed-take meaning (pos zero) p xs e some at = absurd (cc)
-passed-take meaning (pos (suc m)) p xs e some at = let taken = taken_at-at m p xs e at in record { same = taken.same; at = taken.at }
-passed-take meaning (negsuc n) p xs e some at = absurd (cc)
+-- an operator makes of what stands at a position what is left of it there makes of it, and where it keeps the count of
+-- elements that stands at the position after it
+record IsPassedAt {L T : Type 0} (meaning : L → Meaning T) (op : Op L) (p : ℤ) (t : Trace T) : Type 0 where
+  pub same : apply_at meaning op p t ≡ apply (stage_left meaning op (counted_off op - item_count p)) t
+  pub at : keeps_count op ≡ true → IsAt T (position_after op p) (apply_at meaning op p t)
 
--- the number of items that stand before a position
-item_count-difference : (a b : ℕ) → item_count (pos a +ℤ negsuc b) ≡ a - suc b
-item_count-difference a b = elim (leb_tells (suc a) (suc b)) [
-  | inl w ↦ rw (lt-ltb a (suc b) (omega (arith, w.1))) (let none : 0 ≡ a - suc b = omega (arith, w.1) in none)
-  | inr w ↦ rw (le-ltb a (suc b) (omega (arith, w.1))) refl
-]
+passed-take : {L T : Type 0} (meaning : L → Meaning T) (n p : ℤ) (t : Trace T) → 0 < item_count n → IsAt T p t → IsPassedAt meaning (Take n) p t
+passed-take meaning n (pos k) t some at =
+    let taken = at-taken (item_count n) k t some at in
+    record { same = taken.0; at = λ keeps. taken.1 }
+passed-take {L} {T} meaning n (negsuc k) t some (not_reached e) =
+    let c : ℕ = item_count n in
+    let less : pos c -ℤ pos 1 ≡ pos (c - 1) = omega (arith, ints, some) in
+    let is : taken_at (pos c) (negsuc k) (trace_of [] e) ≡ trace_of [] e = rw less refl in
+    record { same = is ∙ sym (taken-short (c - 0) (trace_of [] e) (omega (arith, some))); at = λ keeps. rw is (not_reached e) }
 
-item_count-less : (p : ℤ) (n : ℕ) → item_count (p -ℤ pos n) ≡ item_count p - n
-item_count-less (pos k) zero = let same : k + 0 ≡ k - 0 = omega arith in same
-item_count-less (pos k) (suc n) = item_count-difference k n
-item_count-less (negsuc k) zero = item_count-difference 0 k ∙ (let none : 0 - suc k ≡ 0 - 0 = omega arith in none)
-item_count-less (negsuc k) (suc n) = let none : 0 ≡ 0 - suc n = omega arith in none
-
-at-below : (T : Type 0) (p : ℤ) (e : Option Ending) → p <ℤ pos 0 → IsAt {T = T} p [] e
-at-below T (pos k) e below = absurd (omega (arith, ints, below))
-at-below T (negsuc k) e below = tt
-
-at-moved : {T : Type 0} (j k : ℕ) (xs : List T) (e : Option Ending) → IsAt (pos k) xs e → IsAt (pos j) xs e
-at-moved j k [] None at = at
-at-moved j k [] (Some e) at = at
-at-moved j k (x ∷ []) None at = at
-at-moved j k (x ∷ []) (Some End) at = at
-at-moved j k (x ∷ []) (Some (Refused code)) at = at
-at-moved j k (x ∷ []) (Some (Fault code)) at = at
-at-moved j k (x ∷ y ∷ xs) e at = at
-
-passed-skip : {L T : Type 0} (meaning : L → Meaning T) (n p : ℤ) (xs : List T) (e : Option Ending) → IsAt p xs e → IsPassedAt meaning (Skip n) p (trace_of xs e)
-passed-skip {L} {T} meaning n (pos k) xs e at =
+passed-skip : {L T : Type 0} (meaning : L → Meaning T) (n p : ℤ) (t : Trace T) → IsAt T p t → IsPassedAt meaning (Skip n) p t
+passed-skip {L} {T} meaning n (pos k) t at =
     let c : ℕ = item_count n in
     elim (leb_tells c k) [
       | inl w ↦
-          let is : skipped_at (pos c) (pos k) (trace_of xs e) ≡ trace_of xs e = rw (le-ltb k c w.1) refl in
+          let is : skipped_at (pos c) (pos k) t ≡ t = rw (le-ltb k c w.1) refl in
           let none : c - k ≡ 0 = omega (arith, w.1) in
           let moved : pos k -ℤ pos c ≡ pos (k - c) = omega (arith, ints, w.1) in
-          record { same = is ∙ ap (λ i. skipped i (trace_of xs e)) (sym none); at = rw (is, moved) (at-moved (k - c) k xs e at) }
+          record { same = is ∙ ap (λ i. skipped i t) (sym none); at = λ keeps. rw (is, moved) (at-moved (k - c) at) }
       | inr w ↦
-          let is : skipped_at (pos c) (pos k) (trace_of xs e) ≡ trace_of [] e = rw (lt-ltb k c w.1) refl in
-          let all : drop (c - k) xs ≡ [] = drop_all (c - k) xs (omega (arith, w.1, length-at (pos k) xs e at)) in
-          record { same = is ∙ ap (λ ys. trace_of ys e) (sym all); at = rw is (at-below T (pos k -ℤ pos c) e (omega (arith, ints, w.1))) }
+          let is : skipped_at (pos c) (pos k) t ≡ trace_of [] t.ending = rw (lt-ltb k c w.1) refl in
+          let all : drop (c - k) t.items ≡ [] = drop_all (c - k) t.items (omega (arith, w.1, length-at at)) in
+          record { same = is ∙ ap (λ ys. trace_of ys t.ending) (sym all); at = λ keeps. rw is (at-below T (pos k -ℤ pos c) t.ending (omega (arith, ints, w.1))) }
     ]
-passed-skip {L} {T} meaning n (negsuc k) [] e at =
+passed-skip {L} {T} meaning n (negsuc k) t (not_reached e) =
     let c : ℕ = item_count n in
-    record { same = ap (λ ys. trace_of ys e) (sym (drop-nil (c - 0))); at = at-below T (negsuc k -ℤ pos c) e (omega (arith, ints)) }
-passed-skip meaning n (negsuc k) (x ∷ xs) e at = absurd at
+    record { same = ap (λ ys. trace_of ys e) (sym (drop-nil (c - 0))); at = λ keeps. at-below T (negsuc k -ℤ pos c) e (omega (arith, ints)) }
 
-fragment_at-passed : {L T : Type 0} (meaning : L → Meaning T) (op : Op L) (ops : List (Op L)) (p : ℤ) (t : Trace T) → IsPassedAt meaning op p t
-    → ((ys : List T) (o : Option Ending) → IsAt (position_after op p) ys o → fragment_at meaning ops (position_after op p) (trace_of ys o) ≡ seq (left_at meaning ops (position_after op p)) (trace_of ys o))
-    → fragment_at meaning (op ∷ ops) p t ≡ seq (left_at meaning (op ∷ ops) p) t
-fragment_at-passed meaning op ops p t passed others =
-    others (apply_at meaning op p t).items (apply_at meaning op p t).ending passed.at ∙ ap (seq (left_at meaning ops (position_after op p))) passed.same
+passed-at : {L T : Type 0} (meaning : L → Meaning T) (op : Op L) (p : ℤ) (t : Trace T) → can_apply Position op ≡ true → is_empty_take op ≡ false → IsAt T p t → IsPassedAt meaning op p t
+passed-at meaning (Select f) p t keyed some at = record { same = refl; at = λ keeps. at-joined _ (λ k x. at-selected k ((meaning f).map x)) at }
+passed-at meaning (Take n) p t keyed some at = passed-take meaning n p t (grind (arith, nat_tests)) at
+passed-at meaning (Skip n) p t keyed some at = passed-skip meaning n p t at
+passed-at meaning (TakeWhile f) p t keyed some at = record { same = refl; at = λ keeps. at-joined _ (λ k x. at-taken_while k ((meaning f).test x) x) at }
+passed-at meaning op p t keyed some at = record { same = refl; at = λ keeps. absurd (cc) }
 
--- the fragment of what stands at a position is what is left of the operators there makes of it
-pub fragment_at-keyed : {L T : Type 0} (meaning : L → Meaning T) (ops : List (Op L)) (p : ℤ) (xs : List T) (e : Option Ending)
-    → is_by_key ops ≡ true → list_any is_empty_take ops ≡ false → IsAt p xs e → fragment_at meaning ops p (trace_of xs e) ≡ seq (left_at meaning ops p) (trace_of xs e)
-fragment_at-keyed meaning [] p xs e keyed some at = refl
-fragment_at-keyed meaning (Select f ∷ ops) p xs e keyed some at =
-    fragment_at-passed meaning (Select f) ops p (trace_of xs e) (passed-select meaning f p xs e at) (λ ys o. fragment_at-keyed meaning ops p ys o keyed some)
-fragment_at-keyed meaning (Filter f ∷ ops) p xs e keyed some at = fragment_at-any meaning ops p (apply (stage_of meaning (Filter f)) (trace_of xs e)) keyed
-fragment_at-keyed meaning (SelectMany f ∷ ops) p xs e keyed some at = fragment_at-any meaning ops p (apply (stage_of meaning (SelectMany f)) (trace_of xs e)) keyed
-fragment_at-keyed meaning (Take n ∷ ops) p xs e keyed some at =
-    let none = or_parts _ _ some in
-    fragment_at-passed meaning (Take n) ops p (trace_of xs e) (passed-take meaning n p xs e none.0 at) (λ ys o. fragment_at-keyed meaning ops p ys o keyed none.1)
-fragment_at-keyed meaning (Skip n ∷ ops) p xs e keyed some at =
-    fragment_at-passed meaning (Skip n) ops p (trace_of xs e) (passed-skip meaning n p xs e at) (λ ys o. fragment_at-keyed meaning ops (p -ℤ pos (item_count n)) ys o keyed some)
-fragment_at-keyed meaning (TakeWhile f ∷ ops) p xs e keyed some at =
-    fragment_at-passed meaning (TakeWhile f) ops p (trace_of xs e) (passed-take_while meaning f p xs e at) (λ ys o. fragment_at-keyed meaning ops p ys o keyed some)
-fragment_at-keyed meaning (SkipWhile f ∷ ops) p xs e keyed some at = absurd (cc)
-fragment_at-keyed meaning (AsUnordered ∷ ops) p xs e keyed some at = absurd (cc)
+-- ---- what is left of the operators after what stands at a position is what is left of them at the next
 
--- what is left of the operators after what stands at a position is what is left of them at the next
-item_count-next : {T : Type 0} (p : ℤ) (xs : List T) → IsAt p xs None → item_count (p +ℤ pos 1) ≡ item_count p + length xs
-item_count-next (pos k) [] at = absurd at
-item_count-next (pos k) (x ∷ []) at = refl
-item_count-next (pos k) (x ∷ y ∷ xs) at = absurd at
-item_count-next (negsuc k) [] at = item_count-difference 1 k ∙ (let none : 1 - suc k ≡ 0 + 0 = omega arith in none)
-item_count-next (negsuc k) (x ∷ xs) at = absurd at
+-- the number of items that stand before a position
+item_count-parts : (p : ℤ) → item_count p ≡ up p - down p
+item_count-parts (pos k) = omega arith
+item_count-parts (negsuc k) = omega arith
 
-after-at : {L T : Type 0} (meaning : L → Meaning T) (op : Op L) (p : ℤ) (xs : List T) → can_apply Position op ≡ true → IsAt p xs None
-    → stage_after (stage_left meaning op (counted_off op - item_count p)) xs ≡ stage_left meaning op (counted_off op - item_count (p +ℤ pos 1))
-after-at meaning (Select f) p xs keyed at = refl
-after-at meaning (Filter f) p xs keyed at = refl
-after-at meaning (SelectMany f) p xs keyed at = refl
-after-at meaning (Take n) p xs keyed at = let fewer : (item_count n - item_count p) - length xs ≡ item_count n - item_count (p +ℤ pos 1) = omega (arith, item_count-next p xs at) in ap taking fewer
-after-at meaning (Skip n) p xs keyed at = let fewer : (item_count n - item_count p) - length xs ≡ item_count n - item_count (p +ℤ pos 1) = omega (arith, item_count-next p xs at) in ap skipping fewer
-after-at meaning (TakeWhile f) p xs keyed at = refl
-after-at meaning (SkipWhile f) p xs keyed at = absurd (cc)
-after-at meaning AsUnordered p xs keyed at = refl
+item_count-less : (p : ℤ) (n : ℕ) → item_count (p -ℤ pos n) ≡ item_count p - n
+item_count-less p n = omega (arith, ints, item_count-parts p, item_count-parts (p -ℤ pos n))
+
+fewer-left : {T : Type 0} (c : ℕ) {p : ℤ} {t : Trace T} → IsAt T p t → t.ending ≡ None → (c - item_count p) - length t.items ≡ c - item_count (p +ℤ pos 1)
+fewer-left c (not_reached {k = k} e) is_open = omega (arith, ints, item_count-parts (negsuc k +ℤ pos 1))
+fewer-left c (one_item x) is_open = omega arith
+fewer-left c _ is_open = absurd (cc)
+
+after-at : {L T : Type 0} (meaning : L → Meaning T) (op : Op L) (p : ℤ) (t : Trace T) → can_apply Position op ≡ true → IsAt T p t → t.ending ≡ None
+    → stage_after (stage_left meaning op (counted_off op - item_count p)) t.items ≡ stage_left meaning op (counted_off op - item_count (p +ℤ pos 1))
+after-at meaning (Take n) p t keyed at is_open = ap taking (fewer-left (item_count n) at is_open)
+after-at meaning (Skip n) p t keyed at is_open = ap skipping (fewer-left (item_count n) at is_open)
+after-at meaning op p t keyed at is_open = cc
 
 position_after-next : {L : Type 0} (op : Op L) (p : ℤ) → position_after op p +ℤ pos 1 ≡ position_after op (p +ℤ pos 1)
-position_after-next (Select f) p = refl
-position_after-next (Filter f) p = refl
-position_after-next (SelectMany f) p = refl
-position_after-next (Take n) p = refl
 position_after-next (Skip n) p = omega (arith, ints)
-position_after-next (TakeWhile f) p = refl
-position_after-next (SkipWhile f) p = refl
-position_after-next AsUnordered p = refl
+position_after-next op p = refl
 
-seq_after-passed : {L T : Type 0} (meaning : L → Meaning T) (op : Op L) (ops : List (Op L)) (p : ℤ) (xs : List T) → can_apply Position op ≡ true → IsAt p xs None → IsPassedAt meaning op p (open_trace xs)
-    → ((ys : List T) (o : Option Ending) → IsAt (position_after op p) ys o → (seq (left_at meaning ops (position_after op p)) (trace_of ys o)).ending ≡ None
-    → seq_after (left_at meaning ops (position_after op p)) (trace_of ys o) ≡ left_at meaning ops (position_after op p +ℤ pos 1))
-    → (seq (left_at meaning (op ∷ ops) p) (open_trace xs)).ending ≡ None → seq_after (left_at meaning (op ∷ ops) p) (open_trace xs) ≡ left_at meaning (op ∷ ops) (p +ℤ pos 1)
-seq_after-passed {L} {T} meaning op ops p xs applied at passed others is_open =
-    let t : Trace T = apply_at meaning op p (open_trace xs) in
-    let left : List (Stage T) = left_at meaning ops (position_after op p) in
-    let first = after-at meaning op p xs applied at in
-    let rest : seq_after left (apply (stage_left meaning op (counted_off op - item_count p)) (open_trace xs)) ≡ left_at meaning ops (position_after op (p +ℤ pos 1)) =
-    ap (seq_after left) (sym passed.same)
-    ∙ others t.items t.ending passed.at (ap (λ u. (seq left u).ending) passed.same ∙ is_open)
-    ∙ ap (left_at meaning ops) (position_after-next op p) in
-    cc
+-- where positions aren't known no operator goes by them
+keyed-anywhere : {L T : Type 0} (meaning : L → Meaning T) (ops : List (Op L)) (p q : ℤ) (t : Trace T) → is_by_key_from Key ops ≡ true
+    → (fragment_at meaning ops p t ≡ seq (left_at meaning ops p) t) × (seq_after (left_at meaning ops p) t ≡ left_at meaning ops q)
+keyed-anywhere meaning [] p q t keyed = (refl, refl)
+keyed-anywhere meaning (Take n ∷ ops) p q t keyed = absurd (cc)
+keyed-anywhere meaning (op ∷ ops) p q t keyed =
+    let rest = keyed-anywhere meaning ops p q (apply (stage_of meaning op) t) (cc) in
+    (cc, cc)
 
--- an operator after which positions aren't known
-seq_after-first : {L T : Type 0} (meaning : L → Meaning T) (op : Op L) (ops : List (Op L)) (p : ℤ) (xs : List T) → can_apply Position op ≡ true → IsAt p xs None → is_by_key_from Key ops ≡ true
-    → seq_after (left_at meaning (op ∷ ops) p) (open_trace xs) ≡ left_at meaning (op ∷ ops) (p +ℤ pos 1)
-seq_after-first meaning op ops p xs applied at keyed =
-    let first = after-at meaning op p xs applied at in
-    let rest = seq_after-any meaning ops (position_after op p) (position_after op (p +ℤ pos 1)) (apply (stage_left meaning op (counted_off op - item_count p)) (open_trace xs)) keyed in
-    cc
+-- the fragment of what stands at a position is what is left of the operators there makes of it, and where that leaves
+-- the run open, what is left of them then is what is left at the next
+record IsKeyedAt {L T : Type 0} (meaning : L → Meaning T) (ops : List (Op L)) (p : ℤ) (t : Trace T) : Type 0 where
+  pub same : fragment_at meaning ops p t ≡ seq (left_at meaning ops p) t
+  pub next : (seq (left_at meaning ops p) t).ending ≡ None → seq_after (left_at meaning ops p) t ≡ left_at meaning ops (p +ℤ pos 1)
 
--- where what stands at a position leaves the run open, what is left of the operators then is what is left at the next
-pub seq_after-keyed : {L T : Type 0} (meaning : L → Meaning T) (ops : List (Op L)) (p : ℤ) (xs : List T) (e : Option Ending)
-    → is_by_key ops ≡ true → list_any is_empty_take ops ≡ false → IsAt p xs e → (seq (left_at meaning ops p) (trace_of xs e)).ending ≡ None
-    → seq_after (left_at meaning ops p) (trace_of xs e) ≡ left_at meaning ops (p +ℤ pos 1)
-seq_after-keyed meaning ops p xs (Some f) keyed some at is_open = absurd (let bad : Some f ≡ None = open-from_seq (left_at meaning ops p) (ended xs f) is_open in cc)
-seq_after-keyed meaning [] p xs None keyed some at is_open = refl
-seq_after-keyed meaning (Select f ∷ ops) p xs None keyed some at is_open =
-    seq_after-passed meaning (Select f) ops p xs refl at (passed-select meaning f p xs None at) (λ ys o. seq_after-keyed meaning ops p ys o keyed some) is_open
-seq_after-keyed meaning (Filter f ∷ ops) p xs None keyed some at is_open = seq_after-first meaning (Filter f) ops p xs refl at keyed
-seq_after-keyed meaning (SelectMany f ∷ ops) p xs None keyed some at is_open = seq_after-first meaning (SelectMany f) ops p xs refl at keyed
-seq_after-keyed meaning (Take n ∷ ops) p xs None keyed some at is_open =
+keyed-at : {L T : Type 0} (meaning : L → Meaning T) (ops : List (Op L)) (p : ℤ) (t : Trace T) → is_by_key ops ≡ true → list_any is_empty_take ops ≡ false → IsAt T p t → IsKeyedAt meaning ops p t
+keyed-at meaning [] p t keyed some at = record { same = refl; next = λ is_open. refl }
+keyed-at {L} {T} meaning (op ∷ ops) p t keyed some at =
+    let both = and_parts (can_apply Position op) (is_by_key_from (known_after Position op) ops) keyed in
     let none = or_parts _ _ some in
-    seq_after-passed meaning (Take n) ops p xs refl at (passed-take meaning n p xs None none.0 at) (λ ys o. seq_after-keyed meaning ops p ys o keyed none.1) is_open
-seq_after-keyed meaning (Skip n ∷ ops) p xs None keyed some at is_open =
-    seq_after-passed meaning (Skip n) ops p xs refl at (passed-skip meaning n p xs None at) (λ ys o. seq_after-keyed meaning ops (p -ℤ pos (item_count n)) ys o keyed some) is_open
-seq_after-keyed meaning (TakeWhile f ∷ ops) p xs None keyed some at is_open =
-    seq_after-passed meaning (TakeWhile f) ops p xs refl at (passed-take_while meaning f p xs None at) (λ ys o. seq_after-keyed meaning ops p ys o keyed some) is_open
-seq_after-keyed meaning (SkipWhile f ∷ ops) p xs None keyed some at is_open = absurd (cc)
-seq_after-keyed meaning (AsUnordered ∷ ops) p xs None keyed some at is_open = absurd (cc)
+    let q : ℤ = position_after op p in
+    let u : Trace T = apply_at meaning op p t in
+    let left : List (Stage T) = left_at meaning ops q in
+    let passed = passed-at meaning op p t both.0 none.0 at in
+    let others : IsKeyedAt meaning ops q u =
+    elim (keeps_count op) as (λ v. v ≡ keeps_count op → is_by_key_from (cond v Position Key) ops ≡ true → IsKeyedAt meaning ops q u) [
+      | true ↦ λ keeps keyed. keyed-at meaning ops q u keyed none.1 (passed.at (sym keeps))
+      | false ↦ λ keeps keyed. let any = keyed-anywhere meaning ops q (q +ℤ pos 1) u keyed in record { same = any.0; next = λ is_open. any.1 }
+    ] refl both.1 in
+    record {
+      same = others.same ∙ ap (seq left) passed.same;
+      next = λ is_open.
+          let first = after-at meaning op p t both.0 at (open-from_seq (left_at meaning (op ∷ ops) p) t is_open) in
+          let rest = ap (seq_after left) (sym passed.same) ∙ others.next (ap (λ v. (seq left v).ending) passed.same ∙ is_open) ∙ ap (left_at meaning ops) (position_after-next op p) in
+          cc;
+    }
 
 -- the element of a key gives its fragment
 pub fragment_of-keyed : {L T : Type 0} (meaning : L → Meaning T) (ops : List (Op L)) (key : ℕ) (x : T) → is_by_key ops ≡ true → list_any is_empty_take ops ≡ false
     → fragment_of meaning ops key x ≡ seq (left_at meaning ops (pos key)) (open_trace (x ∷ []))
-fragment_of-keyed meaning ops key x keyed some = fragment_at-keyed meaning ops (pos key) (x ∷ []) None keyed some tt
+fragment_of-keyed meaning ops key x keyed some = (keyed-at meaning ops (pos key) (open_trace (x ∷ [])) keyed some (one_item x)).same
 
 -- and leaves after it what is left at the next key
 pub left_at-next : {L T : Type 0} (meaning : L → Meaning T) (ops : List (Op L)) (key : ℕ) (x : T) → is_by_key ops ≡ true → list_any is_empty_take ops ≡ false
     → (seq (left_at meaning ops (pos key)) (open_trace (x ∷ []))).ending ≡ None
     → seq_after (left_at meaning ops (pos key)) (open_trace (x ∷ [])) ≡ left_at meaning ops (pos (key + 1))
-left_at-next meaning ops key x keyed some is_open = seq_after-keyed meaning ops (pos key) (x ∷ []) None keyed some tt is_open
+left_at-next meaning ops key x keyed some is_open = (keyed-at meaning ops (pos key) (open_trace (x ∷ [])) keyed some (one_item x)).next is_open
 
 item_count-after : {L : Type 0} (op : Op L) (p : ℤ) → passed_on op (item_count p) ≡ item_count (position_after op p)
-item_count-after (Select f) p = refl
-item_count-after (Filter f) p = refl
-item_count-after (SelectMany f) p = refl
-item_count-after (Take n) p = refl
 item_count-after (Skip n) p = sym (item_count-less p (item_count n))
-item_count-after (TakeWhile f) p = refl
-item_count-after (SkipWhile f) p = refl
-item_count-after AsUnordered p = refl
+item_count-after op p = refl
 
 -- what is left once so many elements have reached the operators is what is left at the position of the next
 pub stages_at-position : {L T : Type 0} (meaning : L → Meaning T) (ops : List (Op L)) (p : ℤ) → stages_at meaning ops (item_count p) ≡ left_at meaning ops p
@@ -364,14 +216,8 @@ stages_at-position meaning (op ∷ ops) p =
     (ap (stages_at meaning ops) (item_count-after op p) ∙ stages_at-position meaning ops (position_after op p))
 
 passed_on-none : {L : Type 0} (op : Op L) (n : ℕ) → n ≡ 0 → passed_on op n ≡ 0
-passed_on-none (Select f) n none = none
-passed_on-none (Filter f) n none = none
-passed_on-none (SelectMany f) n none = none
-passed_on-none (Take k) n none = none
-passed_on-none (Skip k) n none = let still : n - item_count k ≡ 0 = omega (arith, none) in still
-passed_on-none (TakeWhile f) n none = none
-passed_on-none (SkipWhile f) n none = none
-passed_on-none AsUnordered n none = none
+passed_on-none (Skip k) n none = omega (arith, none)
+passed_on-none op n none = none
 
 -- at the start all of the operators is left
 pub stages_at-start : {L T : Type 0} (meaning : L → Meaning T) (ops : List (Op L)) (n : ℕ) → n ≡ 0 → stages_at meaning ops n ≡ stages_of meaning ops
