@@ -8,33 +8,33 @@ use Rattle.plinq_source.specs.declared.ending.Ending.{Ending}
 use Rattle.plinq_source.specs.declared.ending.Ending.TheVariants.{End}
 use Rattle.plinq_source.specs.Trace.{Trace, open_trace, ended}
 use Rattle.plinq_lambda.specs.Meaning.{Meaning}
-use Rattle.plinq_ops.specs.declared.remaining.Remaining.{Remaining}
+use Rattle.plinq_ops.specs.declared.stage_state.StageState.{StageState}
 use Rattle.plinq_ops.specs.Stage.{Stage, apply, stage_after, takes_none, some_takes_none}
 use Rattle.plinq_ops.specs.Feeding.{IsFed}
-use Rattle.plinq_ops.specs.Operator.{stage_now}
+use Rattle.plinq_ops.specs.Operator.{state_stage}
 use Rattle.plinq_ops.specs.Pipeline.{stages_now}
 use Rattle.plinq_ops.proofs.Fed.{fed-through, fed-told, fed-none, fed-ending}
 
 -- an item x that has become y on its way through the first i operators, which are as in `now`: whatever the rest makes of y,
 -- all make of x, unless a Take before had its last item
-pub record IsThrough {L T : Type 0} (meaning : L → Meaning T) (ops : List (Remaining L)) (x : T) (before out : List T)
-    (i : ℕ) (now : List (Remaining L)) (y : T) (last : Option Ending) : Type 0 where
+pub record IsThrough {L T : Type 0} (meaning : L → Meaning T) (ops : List (StageState L)) (x : T) (before out : List T)
+    (i : ℕ) (now : List (StageState L)) (y : T) (last : Option Ending) : Type 0 where
   pub same : out ≡ before
   pub undecided : some_takes_none (stages_now meaning (drop i now)) ≡ false
-  pub goes_on : (rest : List (Remaining L)) (after : List T) (e : Option Ending)
+  pub goes_on : (rest : List (StageState L)) (after : List T) (e : Option Ending)
       → IsFed (stages_now meaning (drop i now)) (open_trace (y ∷ [])) out after (stages_now meaning rest) e
       → IsFed (stages_now meaning ops) (open_trace (x ∷ [])) before after (stages_now meaning (take i now ++ rest)) (option_or e last)
 
 -- y before operator i: whatever the operators after it make of what it gives for y, all make of x
-pub record IsAt {L T : Type 0} (meaning : L → Meaning T) (ops : List (Remaining L)) (x : T) (before out : List T)
-    (i : ℕ) (op : Remaining L) (now : List (Remaining L)) (y : T) (last : Option Ending) : Type 0 where
+pub record IsAt {L T : Type 0} (meaning : L → Meaning T) (ops : List (StageState L)) (x : T) (before out : List T)
+    (i : ℕ) (op : StageState L) (now : List (StageState L)) (y : T) (last : Option Ending) : Type 0 where
   pub same : out ≡ before
   pub within : i < length now
-  pub takes_some : takes_none (stage_now meaning op) ≡ false
+  pub takes_some : takes_none (state_stage meaning op) ≡ false
   pub undecided : some_takes_none (stages_now meaning (drop (i + 1) now)) ≡ false
-  pub passed : (t : Trace T) (op' : Remaining L) (rest : List (Remaining L)) (after : List T) (e : Option Ending)
-      → t ≡ apply (stage_now meaning op) (open_trace (y ∷ []))
-      → stage_now meaning op' ≡ stage_after (stage_now meaning op) (y ∷ [])
+  pub passed : (t : Trace T) (op' : StageState L) (rest : List (StageState L)) (after : List T) (e : Option Ending)
+      → t ≡ apply (state_stage meaning op) (open_trace (y ∷ []))
+      → state_stage meaning op' ≡ stage_after (state_stage meaning op) (y ∷ [])
       → IsFed (stages_now meaning (drop (i + 1) now)) t out after (stages_now meaning rest) e
       → IsFed (stages_now meaning ops) (open_trace (x ∷ [])) before after (stages_now meaning (take i now ++ op' ∷ rest)) (option_or e last)
 
@@ -55,7 +55,7 @@ second_false true b none = absurd (cc)
 second_false false b none = none
 
 -- before the first operator
-pub through-none : {L T : Type 0} (meaning : L → Meaning T) (ops : List (Remaining L)) (x : T) (before : List T)
+pub through-none : {L T : Type 0} (meaning : L → Meaning T) (ops : List (StageState L)) (x : T) (before : List T)
     → some_takes_none (stages_now meaning ops) ≡ false → IsThrough meaning ops x before before 0 ops x None
 through-none meaning ops x before undecided =
     record {
@@ -65,7 +65,7 @@ through-none meaning ops x before undecided =
     }
 
 -- all operators have let the item through
-pub through-all : {L T : Type 0} {meaning : L → Meaning T} {ops : List (Remaining L)} {x : T} {before out : List T} {i : ℕ} {now : List (Remaining L)} {y : T} {last : Option Ending}
+pub through-all : {L T : Type 0} {meaning : L → Meaning T} {ops : List (StageState L)} {x : T} {before out : List T} {i : ℕ} {now : List (StageState L)} {y : T} {last : Option Ending}
     → length now ≤ i → IsThrough meaning ops x before out i now y last
     → IsFed (stages_now meaning ops) (open_trace (x ∷ [])) before (out ++ y ∷ []) (stages_now meaning now) last
 through-all {L} {T} {meaning} {ops} {x} {before} {out} {i} {now} {y} past through =
@@ -75,8 +75,8 @@ through-all {L} {T} {meaning} {ops} {x} {before} {out} {i} {now} {y} past throug
     rw (take-append-drop i now) at (through.goes_on (drop i now) (out ++ y ∷ []) None fed)
 
 -- at the next operator
-pub at-op : {L T : Type 0} {meaning : L → Meaning T} {ops : List (Remaining L)} {x : T} {before out : List T} {i : ℕ} {op : Remaining L} {now : List (Remaining L)} {y : T} {last : Option Ending}
-    (d : Remaining L) → i < length now → op ≡ get_or now i d → IsThrough meaning ops x before out i now y last
+pub at-op : {L T : Type 0} {meaning : L → Meaning T} {ops : List (StageState L)} {x : T} {before out : List T} {i : ℕ} {op : StageState L} {now : List (StageState L)} {y : T} {last : Option Ending}
+    (d : StageState L) → i < length now → op ≡ get_or now i d → IsThrough meaning ops x before out i now y last
     → IsAt meaning ops x before out i op now y last
 at-op {L} {T} {meaning} {ops} {x} {before} {out} {i} {op} {now} {y} {last} d within is through =
     let here : drop i now ≡ op ∷ drop (i + 1) now = drop_more now i d within ∙ ap (λ o. o ∷ drop (i + 1) now) (sym is) in
@@ -89,14 +89,14 @@ at-op {L} {T} {meaning} {ops} {x} {before} {out} {i} {op} {now} {y} {last} d wit
       passed = λ t op' rest after e gives stage_after fed.
           through.goes_on (op' ∷ rest) after e
           (rw here
-          (fed-through (stage_now meaning op) (stage_now meaning op') (y ∷ []) t (stages_now meaning (drop (i + 1) now))
+          (fed-through (state_stage meaning op) (state_stage meaning op') (y ∷ []) t (stages_now meaning (drop (i + 1) now))
           (stages_now meaning rest) out after e (sym gives) (sym stage_after) fed));
     }
 
 -- the operator gives one item
-pub through-item : {L T : Type 0} {meaning : L → Meaning T} {ops : List (Remaining L)} {x : T} {before out : List T} {i : ℕ} {op : Remaining L} {now : List (Remaining L)} {y : T} {last : Option Ending}
-    (y' : T) (op' : Remaining L) → IsAt meaning ops x before out i op now y last
-    → open_trace (y' ∷ []) ≡ apply (stage_now meaning op) (open_trace (y ∷ [])) → stage_now meaning op' ≡ stage_after (stage_now meaning op) (y ∷ [])
+pub through-item : {L T : Type 0} {meaning : L → Meaning T} {ops : List (StageState L)} {x : T} {before out : List T} {i : ℕ} {op : StageState L} {now : List (StageState L)} {y : T} {last : Option Ending}
+    (y' : T) (op' : StageState L) → IsAt meaning ops x before out i op now y last
+    → open_trace (y' ∷ []) ≡ apply (state_stage meaning op) (open_trace (y ∷ [])) → state_stage meaning op' ≡ stage_after (state_stage meaning op) (y ∷ [])
     → IsThrough meaning ops x before out (i + 1) (set now i op') y' last
 through-item {L} {T} {meaning} {ops} {x} {before} {out} {i} {op} {now} y' op' here gives stage_after =
     let others : drop (i + 1) (set now i op') ≡ drop (i + 1) now = drop-set-lt (i + 1) now i op' (omega arith) in
@@ -109,9 +109,9 @@ through-item {L} {T} {meaning} {ops} {x} {before} {out} {i} {op} {now} y' op' he
     }
 
 -- the operator gives its last item
-pub through-last : {L T : Type 0} {meaning : L → Meaning T} {ops : List (Remaining L)} {x : T} {before out : List T} {i : ℕ} {op : Remaining L} {now : List (Remaining L)} {y : T} {last : Option Ending}
-    (y' : T) (op' : Remaining L) → IsAt meaning ops x before out i op now y last
-    → ended (y' ∷ []) End ≡ apply (stage_now meaning op) (open_trace (y ∷ [])) → stage_now meaning op' ≡ stage_after (stage_now meaning op) (y ∷ [])
+pub through-last : {L T : Type 0} {meaning : L → Meaning T} {ops : List (StageState L)} {x : T} {before out : List T} {i : ℕ} {op : StageState L} {now : List (StageState L)} {y : T} {last : Option Ending}
+    (y' : T) (op' : StageState L) → IsAt meaning ops x before out i op now y last
+    → ended (y' ∷ []) End ≡ apply (state_stage meaning op) (open_trace (y ∷ [])) → state_stage meaning op' ≡ stage_after (state_stage meaning op) (y ∷ [])
     → IsThrough meaning ops x before out (i + 1) (set now i op') y' (Some End)
 through-last {L} {T} {meaning} {ops} {x} {before} {out} {i} {op} {now} {y} {last} y' op' here gives stage_after =
     let others : drop (i + 1) (set now i op') ≡ drop (i + 1) now = drop-set-lt (i + 1) now i op' (omega arith) in
@@ -129,9 +129,9 @@ whole : {A : Type 0} (xs ys : List A) (i : ℕ) (x : A) → take (i + 1) ys ≡ 
 whole xs ys i x front = sym (take-append-drop (i + 1) ys) ∙ ap (λ zs. zs ++ drop (i + 1) ys) front ∙ append_assoc (take i xs) (x ∷ []) (drop (i + 1) ys)
 
 -- a SelectMany, with the operators after it, makes this of the item
-pub through-expansion : {L T : Type 0} {meaning : L → Meaning T} {ops : List (Remaining L)} {x : T} {before out : List T} {i : ℕ} {op : Remaining L} {now : List (Remaining L)} {y : T} {last : Option Ending}
-    (s : Stage T) (now' : List (Remaining L)) (after : List T) (e : Option Ending) (d : Remaining L)
-    → i < length now → op ≡ get_or now i d → stage_now meaning op ≡ s → IsThrough meaning ops x before out i now y last
+pub through-expansion : {L T : Type 0} {meaning : L → Meaning T} {ops : List (StageState L)} {x : T} {before out : List T} {i : ℕ} {op : StageState L} {now : List (StageState L)} {y : T} {last : Option Ending}
+    (s : Stage T) (now' : List (StageState L)) (after : List T) (e : Option Ending) (d : StageState L)
+    → i < length now → op ≡ get_or now i d → state_stage meaning op ≡ s → IsThrough meaning ops x before out i now y last
     → take (i + 1) now' ≡ take (i + 1) now
     → IsFed (s ∷ stages_now meaning (drop (i + 1) now)) (open_trace (y ∷ [])) out after (s ∷ stages_now meaning (drop (i + 1) now')) e
     → IsFed (stages_now meaning ops) (open_trace (x ∷ [])) before after (stages_now meaning now') (option_or e last)
@@ -142,22 +142,22 @@ through-expansion {L} {T} {meaning} {ops} {x} {before} {out} {i} {op} {now} {y} 
     (through.goes_on (op ∷ drop (i + 1) now') after e (rw (here, expands) fed))
 
 -- the operators once one is as it is now
-set-parts : {L : Type 0} (now : List (Remaining L)) (i : ℕ) (op : Remaining L) → i < length now → set now i op ≡ take i now ++ op ∷ drop (i + 1) now
+set-parts : {L : Type 0} (now : List (StageState L)) (i : ℕ) (op : StageState L) → i < length now → set now i op ≡ take i now ++ op ∷ drop (i + 1) now
 set-parts now i op within = rw add-one (set_split now i op within)
 
 -- the operator gives nothing
-pub through-nothing : {L T : Type 0} {meaning : L → Meaning T} {ops : List (Remaining L)} {x : T} {before out : List T} {i : ℕ} {op : Remaining L} {now : List (Remaining L)} {y : T} {last : Option Ending}
-    (op' : Remaining L) → IsAt meaning ops x before out i op now y last
-    → open_trace [] ≡ apply (stage_now meaning op) (open_trace (y ∷ [])) → stage_now meaning op' ≡ stage_after (stage_now meaning op) (y ∷ [])
+pub through-nothing : {L T : Type 0} {meaning : L → Meaning T} {ops : List (StageState L)} {x : T} {before out : List T} {i : ℕ} {op : StageState L} {now : List (StageState L)} {y : T} {last : Option Ending}
+    (op' : StageState L) → IsAt meaning ops x before out i op now y last
+    → open_trace [] ≡ apply (state_stage meaning op) (open_trace (y ∷ [])) → state_stage meaning op' ≡ stage_after (state_stage meaning op) (y ∷ [])
     → IsFed (stages_now meaning ops) (open_trace (x ∷ [])) before out (stages_now meaning (set now i op')) last
 through-nothing {L} {T} {meaning} {ops} {x} {before} {out} {i} {op} {now} op' here gives stage_after =
     rw (set-parts now i op' here.within)
     (here.passed (open_trace []) op' (drop (i + 1) now) out None gives stage_after (fed-none (stages_now meaning (drop (i + 1) now)) out here.undecided))
 
 -- the operator ends the run
-pub through-ending : {L T : Type 0} {meaning : L → Meaning T} {ops : List (Remaining L)} {x : T} {before out : List T} {i : ℕ} {op : Remaining L} {now : List (Remaining L)} {y : T} {last : Option Ending}
-    (e : Ending) (op' : Remaining L) → IsAt meaning ops x before out i op now y last
-    → ended [] e ≡ apply (stage_now meaning op) (open_trace (y ∷ [])) → stage_now meaning op' ≡ stage_after (stage_now meaning op) (y ∷ [])
+pub through-ending : {L T : Type 0} {meaning : L → Meaning T} {ops : List (StageState L)} {x : T} {before out : List T} {i : ℕ} {op : StageState L} {now : List (StageState L)} {y : T} {last : Option Ending}
+    (e : Ending) (op' : StageState L) → IsAt meaning ops x before out i op now y last
+    → ended [] e ≡ apply (state_stage meaning op) (open_trace (y ∷ [])) → state_stage meaning op' ≡ stage_after (state_stage meaning op) (y ∷ [])
     → IsFed (stages_now meaning ops) (open_trace (x ∷ [])) before out (stages_now meaning (set now i op')) (Some e)
 through-ending {L} {T} {meaning} {ops} {x} {before} {out} {i} {op} {now} e op' here gives stage_after =
     let others = stages_now meaning (drop (i + 1) now) in
@@ -176,13 +176,13 @@ take-one xs ys i x within same =
     ap (take i) (whole xs ys i x (same ∙ take_more_set xs i x within)) ∙ take_at (take i xs) (x ∷ drop (i + 1) ys) i (length-take-le i xs (omega (arith, within)))
 
 -- what an operator makes of the items goes on through those after it
-pub through-first : {L T : Type 0} (meaning : L → Meaning T) (op op' : Remaining L) (ops ops' : List (Remaining L)) (i : ℕ) (xs : List T) (t : Trace T) (before after : List T) (e : Option Ending) (d : Remaining L)
+pub through-first : {L T : Type 0} (meaning : L → Meaning T) (op op' : StageState L) (ops ops' : List (StageState L)) (i : ℕ) (xs : List T) (t : Trace T) (before after : List T) (e : Option Ending) (d : StageState L)
     → i < length ops → op ≡ get_or ops i d → take (i + 1) ops' ≡ take (i + 1) (set ops i op')
-    → t ≡ apply (stage_now meaning op) (open_trace xs) → stage_now meaning op' ≡ stage_after (stage_now meaning op) xs
+    → t ≡ apply (state_stage meaning op) (open_trace xs) → state_stage meaning op' ≡ stage_after (state_stage meaning op) xs
     → IsFed (stages_now meaning (drop (i + 1) (set ops i op'))) t before after (stages_now meaning (drop (i + 1) ops')) e
     → IsFed (stages_now meaning (drop i ops)) (open_trace xs) before after (stages_now meaning (drop i ops')) e
 through-first {L} {T} meaning op op' ops ops' i xs t before after e d within is same gives stage_after fed =
     let here : drop i ops ≡ op ∷ drop (i + 1) ops = drop_more ops i d within ∙ ap (λ o. o ∷ drop (i + 1) ops) (sym is) in
     let others : drop (i + 1) (set ops i op') ≡ drop (i + 1) ops = drop-set-lt (i + 1) ops i op' (omega arith) in
     rw (here, drop-one ops ops' i op' within same)
-    (fed-through (stage_now meaning op) (stage_now meaning op') xs t (stages_now meaning (drop (i + 1) ops)) (stages_now meaning (drop (i + 1) ops')) before after e (sym gives) (sym stage_after) (rw others at fed))
+    (fed-through (state_stage meaning op) (state_stage meaning op') xs t (stages_now meaning (drop (i + 1) ops)) (stages_now meaning (drop (i + 1) ops')) before after e (sym gives) (sym stage_after) (rw others at fed))

@@ -11,8 +11,8 @@ use Rattle.plinq_ops.specs.declared.op.Op.{Op}
 use Rattle.plinq_ops.specs.declared.op.Op.TheVariants.{Select, Filter, SelectMany, Take, Skip, TakeWhile, SkipWhile, AsUnordered}
 use Rattle.plinq_ops.specs.declared.known.Known.{Known}
 use Rattle.plinq_ops.specs.declared.known.Known.TheVariants.{Nothing, Key, Position}
-use Rattle.plinq_ops.specs.declared.remaining.Remaining.{Remaining}
-use Rattle.plinq_ops.specs.declared.remaining.Remaining.TheVariants.{Mapping, Filtering, Expanding, Taking, Skipping, TakingWhile, SkippingWhile, Unchanged}
+use Rattle.plinq_ops.specs.declared.stage_state.StageState.{StageState}
+use Rattle.plinq_ops.specs.declared.stage_state.StageState.TheVariants.{Mapping, Filtering, Expanding, Taking, Skipping, TakingWhile, SkippingWhile, Unchanged}
 use Rattle.plinq_ops.specs.Stage.{Stage, pieces, taking, skipping, skipping_while, unchanged, apply}
 
 -- Select: the mapped item; a fault ends the answer
@@ -58,15 +58,15 @@ abbrev pub stages_of : {L T : Type 0} → (L → Meaning T) → List (Op L) → 
 stages_of meaning ops = map (stage_of meaning) ops
 
 -- what an operator does that some items may have reached
-abbrev pub stage_now : {L T : Type 0} → (L → Meaning T) → Remaining L → Stage T
-stage_now meaning (Mapping f) = stage_of meaning (Select f.now)
-stage_now meaning (Filtering f) = stage_of meaning (Filter f.now)
-stage_now meaning (Expanding f) = stage_of meaning (SelectMany f.now)
-stage_now meaning (Taking n) = taking n
-stage_now meaning (Skipping n) = skipping n
-stage_now meaning (TakingWhile f) = stage_of meaning (TakeWhile f.now)
-stage_now meaning (SkippingWhile f) = stage_of meaning (SkipWhile f.now)
-stage_now meaning Unchanged = unchanged
+abbrev pub state_stage : {L T : Type 0} → (L → Meaning T) → StageState L → Stage T
+state_stage meaning (Mapping f) = stage_of meaning (Select f.now)
+state_stage meaning (Filtering f) = stage_of meaning (Filter f.now)
+state_stage meaning (Expanding f) = stage_of meaning (SelectMany f.now)
+state_stage meaning (Taking n) = taking n
+state_stage meaning (Skipping n) = skipping n
+state_stage meaning (TakingWhile f) = stage_of meaning (TakeWhile f.now)
+state_stage meaning (SkippingWhile f) = stage_of meaning (SkipWhile f.now)
+state_stage meaning Unchanged = unchanged
 
 -- how many items a Take or a Skip counts off; the others count none
 abbrev pub counted_off : {L : Type 0} → Op L → ℕ

@@ -7,7 +7,7 @@ ghost use Rattle.plinq_ops.specs.Feeding.{IsFed};
 ghost use Rattle.plinq_ops.specs.Pipeline.{stages_now};
 
 use crate::passed::Passed;
-use crate::remaining::{Remaining, pass, pass_block};
+use crate::stage_state::{StageState, pass, pass_block};
 use plinq_lambda::{ExpandFault, Lambda};
 use plinq_source::{Ending, OutOfMemory};
 use std::alloc::{AllocError, Global};
@@ -15,7 +15,7 @@ use std::alloc::{AllocError, Global};
 /// Sends one item through operators, and appends the results to `out`.
 pub(crate) fn feed<L: Lambda>(
     alloc: Global,
-    ops: &mut [Remaining<'_, L>],
+    ops: &mut [StageState<'_, L>],
     item: L::Item,
     out: &mut Vec<L::Item>,
 ) -> Result<Option<Ending>, OutOfMemory>
@@ -28,7 +28,7 @@ pub(crate) fn feed<L: Lambda>(
     let mut item = item;
     let mut last = None;
     for at in 0..ops.len() {
-        if let Remaining::Expanding(f) = ops[at] {
+        if let StageState::Expanding(f) = ops[at] {
             let ending = feed_expansion(alloc, f, ops, at + 1, item, out)?;
             return Ok(ending.or(last));
         }
@@ -47,7 +47,7 @@ pub(crate) fn feed<L: Lambda>(
 #[cycle(blocks)]
 pub(crate) fn feed_block<L: Lambda>(
     alloc: Global,
-    ops: &mut [Remaining<'_, L>],
+    ops: &mut [StageState<'_, L>],
     from: usize,
     block: &mut Vec<L::Item>,
 ) -> Result<Option<Ending>, OutOfMemory>
@@ -62,7 +62,7 @@ pub(crate) fn feed_block<L: Lambda>(
     if from == ops.len() {
         return Ok(None);
     }
-    if let Remaining::Expanding(f) = ops[from] {
+    if let StageState::Expanding(f) = ops[from] {
         return feed_expansions(alloc, f, ops, from + 1, block);
     }
     let ending = pass_block(&mut ops[from], block);
@@ -76,7 +76,7 @@ pub(crate) fn feed_block<L: Lambda>(
 fn feed_expansions<L: Lambda>(
     alloc: Global,
     f: &L,
-    ops: &mut [Remaining<'_, L>],
+    ops: &mut [StageState<'_, L>],
     from: usize,
     block: &mut Vec<L::Item>,
 ) -> Result<Option<Ending>, OutOfMemory>
@@ -103,7 +103,7 @@ fn feed_expansions<L: Lambda>(
 fn feed_expansion<L: Lambda>(
     alloc: Global,
     f: &L,
-    ops: &mut [Remaining<'_, L>],
+    ops: &mut [StageState<'_, L>],
     from: usize,
     item: L::Item,
     out: &mut Vec<L::Item>,

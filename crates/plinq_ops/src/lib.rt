@@ -29,10 +29,10 @@ mod passed;
 mod pipeline;
 mod plan;
 mod query;
-mod remaining;
 mod results;
 mod skip_while;
 mod splitting;
+mod stage_state;
 
 pub use answering::sequential;
 pub use argument::Argument;

@@ -3,12 +3,12 @@ ghost use Rattle.plinq_source.specs.Trace.{open_trace};
 ghost use Rattle.plinq_ops.specs.Stage.{takes_none, some_takes_none};
 ghost use Rattle.plinq_ops.specs.ByKey.{is_by_key};
 ghost use Rattle.plinq_ops.specs.Feeding.{IsFed};
-ghost use Rattle.plinq_ops.specs.Operator.{stage_now};
+ghost use Rattle.plinq_ops.specs.Operator.{state_stage};
 ghost use Rattle.plinq_ops.specs.Pipeline.{IsReached, stages};
 
 use crate::feeding;
 use crate::op::Op;
-use crate::remaining::{Remaining, passed_on};
+use crate::stage_state::{StageState, passed_on};
 use plinq_lambda::Lambda;
 use plinq_source::{Ending, OutOfMemory};
 use std::alloc::Global;
@@ -22,7 +22,7 @@ use std::marker::Model;
 #[derive(Drop)]
 pub struct Pipeline<'a, L> {
     ops: &'a [Op<L>],
-    remaining: Vec<Remaining<'a, L>>,
+    remaining: Vec<StageState<'a, L>>,
 }
 
 impl<'a, L> Model for Pipeline<'a, L> {
@@ -65,7 +65,7 @@ impl<'a, L: Lambda> Pipeline<'a, L> {
         let mut left = Vec::with_capacity(alloc, ops.len())?;
         let mut reached = count;
         for op in ops {
-            left.push(Remaining::of(op, reached))?;
+            left.push(StageState::of(op, reached))?;
             reached = passed_on(op, reached);
         }
         let remaining = left;
@@ -129,8 +129,8 @@ impl<'a, L: Lambda> Pipeline<'a, L> {
 }
 
 /// Whether an operator is a Take that has no item left to take.
-fn takes_none<L: Lambda>(op: &Remaining<'_, L>) -> bool
-    ensures { result ≡ takes_none (stage_now L.meaning op.now) }
+fn takes_none<L: Lambda>(op: &StageState<'_, L>) -> bool
+    ensures { result ≡ takes_none (state_stage L.meaning op.now) }
 {
-    matches!(op, Remaining::Taking(0))
+    matches!(op, StageState::Taking(0))
 }

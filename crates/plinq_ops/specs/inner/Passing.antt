@@ -3,8 +3,8 @@ use Rattle.std.specs.Prelude.{ℕ, [], ◌∷◌, Bool, true, false, Option, Non
 use Rattle.plinq_source.specs.declared.ending.Ending.{Ending}
 use Rattle.plinq_source.specs.declared.ending.Ending.TheVariants.{End, Fault}
 use Rattle.plinq_source.specs.Trace.{Trace, open_trace, ended}
-use Rattle.plinq_ops.specs.declared.remaining.Remaining.{Remaining}
-use Rattle.plinq_ops.specs.declared.remaining.Remaining.TheVariants.{Expanding}
+use Rattle.plinq_ops.specs.declared.stage_state.StageState.{StageState}
+use Rattle.plinq_ops.specs.declared.stage_state.StageState.TheVariants.{Expanding}
 use Rattle.plinq_ops.specs.declared.passed.Passed.{Passed}
 use Rattle.plinq_ops.specs.declared.passed.Passed.TheVariants.{Nothing, Item, Last, Ends}
 
@@ -21,6 +21,6 @@ ending_of None = None
 ending_of (Some code) = Some (Fault code)
 
 -- an operator that can give more items than it was given
-abbrev pub expands : {L : Type 0} → Remaining L → Bool
+abbrev pub expands : {L : Type 0} → StageState L → Bool
 expands (Expanding f) = true
 expands op = false

@@ -2,7 +2,7 @@
 ghost use Rattle.std.specs.Prelude.{◌≡◌, ◌-◌, false, ◌∷◌, []};
 ghost use Rattle.plinq_source.specs.Trace.{open_trace};
 ghost use Rattle.plinq_ops.specs.Stage.{apply, stage_after, takes_none};
-ghost use Rattle.plinq_ops.specs.Operator.{counted_off, stage_left, stage_now};
+ghost use Rattle.plinq_ops.specs.Operator.{counted_off, stage_left, state_stage};
 ghost use Rattle.plinq_ops.specs.ByKey.{passed_on};
 ghost use Rattle.plinq_ops.specs.inner.Passing.{passed_trace, expands};
 
@@ -15,7 +15,7 @@ use plinq_source::Ending;
 
 /// What an operator still does, once some items have reached it.
 #[derive(Drop)]
-pub(crate) enum Remaining<'a, L> {
+pub(crate) enum StageState<'a, L> {
     /// Select: it maps each item.
     Mapping(&'a L),
     /// Where: it keeps the items that pass.
@@ -34,20 +34,20 @@ pub(crate) enum Remaining<'a, L> {
     Unchanged,
 }
 
-impl<'a, L: Lambda> Remaining<'a, L> {
+impl<'a, L: Lambda> StageState<'a, L> {
     /// What an operator still does, so many elements having reached it.
-    pub(crate) fn of(op: &'a Op<L>, reached: u64) -> Remaining<'a, L>
-        ensures { stage_now L.meaning result ≡ stage_left L.meaning op.now (counted_off op.now - reached) }
+    pub(crate) fn of(op: &'a Op<L>, reached: u64) -> StageState<'a, L>
+        ensures { state_stage L.meaning result ≡ stage_left L.meaning op.now (counted_off op.now - reached) }
     {
         match op {
-            Op::Select(f) => Remaining::Mapping(f),
-            Op::Filter(f) => Remaining::Filtering(f),
-            Op::SelectMany(f) => Remaining::Expanding(f),
-            Op::Take(_) => Remaining::Taking(op.counted_off().saturating_sub(reached)),
-            Op::Skip(_) => Remaining::Skipping(op.counted_off().saturating_sub(reached)),
-            Op::TakeWhile(f) => Remaining::TakingWhile(f),
-            Op::SkipWhile(f) => Remaining::SkippingWhile(f),
-            Op::AsUnordered => Remaining::Unchanged,
+            Op::Select(f) => StageState::Mapping(f),
+            Op::Filter(f) => StageState::Filtering(f),
+            Op::SelectMany(f) => StageState::Expanding(f),
+            Op::Take(_) => StageState::Taking(op.counted_off().saturating_sub(reached)),
+            Op::Skip(_) => StageState::Skipping(op.counted_off().saturating_sub(reached)),
+            Op::TakeWhile(f) => StageState::TakingWhile(f),
+            Op::SkipWhile(f) => StageState::SkippingWhile(f),
+            Op::AsUnordered => StageState::Unchanged,
         }
     }
 }
@@ -63,28 +63,28 @@ pub(crate) fn passed_on<L>(op: &Op<L>, reached: u64) -> u64
 }
 
 /// Sends one item through one operator but SelectMany; the result takes its place. Takes no memory.
-pub(crate) fn pass<L: Lambda>(op: &mut Remaining<'_, L>, item: &mut L::Item) -> Passed
+pub(crate) fn pass<L: Lambda>(op: &mut StageState<'_, L>, item: &mut L::Item) -> Passed
     requires in_place { expands op.old ≡ false }
-    requires takes_some { takes_none (stage_now L.meaning op.old) ≡ false }
+    requires takes_some { takes_none (state_stage L.meaning op.old) ≡ false }
     ensures passed { passed_trace result item.new
-        ≡ apply (stage_now L.meaning op.old) (open_trace (item.old ∷ [])) }
-    ensures left { stage_now L.meaning op.new ≡ stage_after (stage_now L.meaning op.old) (item.old ∷ []) }
+        ≡ apply (state_stage L.meaning op.old) (open_trace (item.old ∷ [])) }
+    ensures left { state_stage L.meaning op.new ≡ stage_after (state_stage L.meaning op.old) (item.old ∷ []) }
 {
     match op {
-        Remaining::Mapping(f) => match f.map(*item) {
+        StageState::Mapping(f) => match f.map(*item) {
             Ok(mapped) => {
                 *item = mapped;
                 Passed::Item
             }
             Err(code) => Passed::Ends(Ending::Fault(code)),
         },
-        Remaining::Filtering(f) => match f.test(*item) {
+        StageState::Filtering(f) => match f.test(*item) {
             Ok(true) => Passed::Item,
             Ok(false) => Passed::Nothing,
             Err(code) => Passed::Ends(Ending::Fault(code)),
         },
-        Remaining::Expanding(_) => unreachable!(),
-        Remaining::Taking(left) => {
+        StageState::Expanding(_) => unreachable!(),
+        StageState::Taking(left) => {
             *left -= 1;
             if *left == 0 {
                 Passed::Last
@@ -92,62 +92,62 @@ pub(crate) fn pass<L: Lambda>(op: &mut Remaining<'_, L>, item: &mut L::Item) -> 
                 Passed::Item
             }
         }
-        Remaining::Skipping(left) => {
+        StageState::Skipping(left) => {
             if *left == 0 {
                 return Passed::Item;
             }
             *left -= 1;
             Passed::Nothing
         }
-        Remaining::TakingWhile(f) => match f.test(*item) {
+        StageState::TakingWhile(f) => match f.test(*item) {
             Ok(true) => Passed::Item,
             Ok(false) => Passed::Ends(Ending::End),
             Err(code) => Passed::Ends(Ending::Fault(code)),
         },
-        Remaining::SkippingWhile(f) => match f.test(*item) {
+        StageState::SkippingWhile(f) => match f.test(*item) {
             Ok(true) => Passed::Nothing,
             Ok(false) => {
-                *op = Remaining::Unchanged;
+                *op = StageState::Unchanged;
                 Passed::Item
             }
             Err(code) => {
-                *op = Remaining::Unchanged;
+                *op = StageState::Unchanged;
                 Passed::Ends(Ending::Fault(code))
             }
         },
-        Remaining::Unchanged => Passed::Item,
+        StageState::Unchanged => Passed::Item,
     }
 }
 
 /// Sends a block of items through one operator but SelectMany; the results take its place. Answers how the run ended.
 /// Takes no memory.
 pub(crate) fn pass_block<L: Lambda>(
-    op: &mut Remaining<'_, L>,
+    op: &mut StageState<'_, L>,
     block: &mut Vec<L::Item>,
 ) -> Option<Ending>
     requires in_place { expands op.old ≡ false }
-    requires takes_some { takes_none (stage_now L.meaning op.old) ≡ false }
+    requires takes_some { takes_none (state_stage L.meaning op.old) ≡ false }
     ensures passed { record { items = block.new.items; ending = result }
-        ≡ apply (stage_now L.meaning op.old) (open_trace block.old.items) }
-    ensures left { stage_now L.meaning op.new ≡ stage_after (stage_now L.meaning op.old) block.old.items }
+        ≡ apply (state_stage L.meaning op.old) (open_trace block.old.items) }
+    ensures left { state_stage L.meaning op.new ≡ stage_after (state_stage L.meaning op.old) block.old.items }
 {
     match op {
-        Remaining::Mapping(f) => select(*f, block),
-        Remaining::Filtering(f) => filter(*f, block),
-        Remaining::Expanding(_) => unreachable!(),
-        Remaining::Taking(left) => take(left, block),
-        Remaining::Skipping(left) => {
+        StageState::Mapping(f) => select(*f, block),
+        StageState::Filtering(f) => filter(*f, block),
+        StageState::Expanding(_) => unreachable!(),
+        StageState::Taking(left) => take(left, block),
+        StageState::Skipping(left) => {
             skip(left, block);
             None
         }
-        Remaining::TakingWhile(f) => take_while(*f, block),
-        Remaining::SkippingWhile(f) => {
+        StageState::TakingWhile(f) => take_while(*f, block),
+        StageState::SkippingWhile(f) => {
             let (all_pass, ending) = skip_while(*f, block);
             if !all_pass {
-                *op = Remaining::Unchanged;
+                *op = StageState::Unchanged;
             }
             ending
         }
-        Remaining::Unchanged => None,
+        StageState::Unchanged => None,
     }
 }

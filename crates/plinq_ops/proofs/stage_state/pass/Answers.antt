@@ -1,5 +1,5 @@
 use Rattle.std.proofs.Common.{rules}
-use Rattle.plinq_ops.proofs.remaining.pass.Goals as goal
+use Rattle.plinq_ops.proofs.stage_state.pass.Goals as goal
 
 pub returns-then-left-eq0-clause-passed : goal.returns-then-left-eq0-clause-passed
 returns-then-left-eq0-clause-passed g c = search rules
