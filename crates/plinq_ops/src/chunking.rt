@@ -7,8 +7,8 @@ ghost use Rattle.plinq_ops.specs.Cut.{most_items};
 ghost use Rattle.plinq_ops.specs.Chunk.{IsChunkResult, chunk_answer, stop_over};
 ghost use Rattle.plinq_ops.specs.inner.Chunking.{Gives};
 
-use crate::cutting::frag_end;
 use crate::frag_end::FragEnd;
+use crate::fragmenting::frag_end;
 use crate::op::Op;
 use crate::pipeline::Pipeline;
 use crate::plan::Plan;

@@ -2,7 +2,7 @@ use Rattle.std.proofs.Common.{◌∙◌, ap, sym, refl, rules}
 use Rattle.plinq_ops.specs.Stage.{some_takes_none}
 use Rattle.plinq_ops.proofs.ByKey.{stages-reached}
 use Rattle.plinq_ops.proofs.Chunks.{fed-fragment, fragment-over}
-use Rattle.plinq_ops.proofs.cutting.fragment.Goals as goal
+use Rattle.plinq_ops.proofs.fragmenting.fragment.Goals as goal
 
 pub returns-then-is_over : goal.returns-then-is_over
 returns-then-is_over g c =
