@@ -103,8 +103,9 @@ passed-take meaning n (pos k) t some at =
 passed-take {L} {T} meaning n (negsuc k) t some (not_reached e) =
     let c : ℕ = item_count n in
     let less : pos c -ℤ pos 1 ≡ pos (c - 1) = omega (arith, ints, some) in
+    let short : 0 < c - 0 = omega (arith, some) in
     let is : taken_at (pos c) (negsuc k) (trace_of [] e) ≡ trace_of [] e = rw less refl in
-    record { same = is ∙ sym (taken-short (c - 0) (trace_of [] e) (omega (arith, some))); at = λ keeps. rw is (not_reached e) }
+    record { same = is ∙ sym (taken-short (c - 0) (trace_of [] e) short); at = λ keeps. rw is (not_reached e) }
 
 passed-skip : {L T : Type 0} (meaning : L → Meaning T) (n p : ℤ) (t : Trace T) → IsAt T p t → IsPassedAt meaning (Skip n) p t
 passed-skip {L} {T} meaning n (pos k) t at =
