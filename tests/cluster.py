@@ -17,6 +17,7 @@ import signal
 import subprocess
 import sys
 import tempfile
+import threading
 import time
 
 SYSTEM = "/usr/bin/python3"
@@ -280,6 +281,35 @@ def last_worker(tests, folder):
         tests.check("the last worker is killed", is_trouble(seen, ANSWER, f"plinq-cluster: scheduler {machines.address}: no worker is left"), seen)
 
 
+def lost_answer(tests, folder):
+    """The only worker is killed when a shard is answered, before the answer is fetched."""
+    from plinq_shards import cluster, progress, shard, trouble, workers
+
+    workers.be_quiet()
+    said = []
+    before, cluster.PATIENCE = cluster.PATIENCE, 3
+
+    def fetch(machines, worker):
+        with workers.remote(machines.address) as client:
+            there = cluster.Cluster(client, "here", PROGRAM, 1, progress.Progress(None))
+            asked = there.ask(shard.Shard(0, {"range": [0, 9]}, 9), ())
+            distributed.wait([asked.future], HANGS)
+            end(worker)
+            try:
+                said.append(asked.answer())
+            except trouble.Trouble as it:
+                said.append(it.line)
+
+    with Machines(folder) as machines:
+        worker = machines.worker("brief", "--no-nanny")
+        machines.are_there("brief")
+        fetching = threading.Thread(target=fetch, args=(machines, worker), daemon=True)
+        fetching.start()
+        fetching.join(HANGS)
+    cluster.PATIENCE = before
+    tests.check("the last worker is killed with an answer on it", said == ["plinq-cluster: here: no worker is left"], said)
+
+
 def deadly_shard(tests, folder):
     """A worker is killed at each try of one shard."""
     path = wrapper(folder, "deadly", f"""document=$(cat)\n[[ $document = *'[60000, 10000]'* ]] && kill -9 $PPID\n{PROGRAM} "$@" <<< "$document" """)
@@ -418,7 +448,7 @@ def help_and_progress(tests, folder):
 
 def processes(tests, folder):
     """What wants a cluster of processes."""
-    for it in (lost_worker, last_worker, deadly_shard, few_shards, other_programs, help_and_progress):
+    for it in (lost_worker, last_worker, lost_answer, deadly_shard, few_shards, other_programs, help_and_progress):
         it(tests, folder)
     with Machines(folder) as machines:
         for name in ("e", "f"):

@@ -1,6 +1,7 @@
 """Asks the workers of a Dask cluster. What is scheduled, sent again and moved between machines is Dask's work."""
+import asyncio
 import collections
-import contextlib
+import concurrent.futures
 import time
 
 import distributed
@@ -13,6 +14,8 @@ RETRIES = 3
 # How many seconds there may be no worker at all.
 PATIENCE = 30
 TICK = 0.25
+# What a call to a cluster ends with that is gone, now by one of them and now by another.
+GONE = (asyncio.CancelledError, concurrent.futures.CancelledError, distributed.CancelledError, distributed.comm.CommClosedError)
 # How many bytes of items one answer brings.
 MOST_BYTES = 16 << 20
 
@@ -94,12 +97,11 @@ class Cluster:
     def result(self, shard, future):
         """What a future comes to, or the one line that says why it comes to nothing."""
         try:
-            self.wait(future)
-            answer = future.result()
+            answer = self.fetched(future)
         except distributed.scheduler.KilledWorker as error:
             times, last = error.allowed_failures + 1, error.last_worker.address
             raise own(f"shard {shard.at}: lost with its worker {times} times, the last time {last}") from None
-        except (distributed.CancelledError, distributed.comm.CommClosedError):
+        except GONE:
             raise own(f"{self.where}: gone") from None
         except RuntimeError as error:
             raise own(f"shard {shard.at}: {error}") from None
@@ -107,10 +109,11 @@ class Cluster:
             raise own(answer["trouble"])
         return answer
 
-    def wait(self, future):
-        """Waits for a future, and shows meanwhile how far the cluster is."""
-        while not future.done():
-            with contextlib.suppress(distributed.TimeoutError):
-                distributed.wait([future], timeout=TICK)
+    def fetched(self, future):
+        """Waits for a future's result and fetches it, and shows meanwhile how far the cluster is. A result that is lost with its
+        worker before it is here is computed again, as soon as there is a worker."""
+        coming = asyncio.run_coroutine_threadsafe(self.client.gather(future, asynchronous=True), self.client.loop.asyncio_loop)
+        while not concurrent.futures.wait([coming], TICK).done:
             self.look()
             self.progress.show()
+        return coming.result()
