@@ -7,8 +7,10 @@ Those of a cluster want Dask (apt-get install python3-distributed), and those th
 parallel). They are counted as skipped where it isn't there; the plain loops are always run. In the place of other machines
 stands this one, by a name for which parallel needs no ssh.
 """
+import contextlib
 import json
 import os
+import random
 import re
 import shutil
 import socket
@@ -35,11 +37,19 @@ def recipes():
             yield heading, "".join(line[4:] or "\n" for line in block.splitlines(True)).strip("\n")
 
 
+def free_port():
+    """A port that is free, below those that the kernel gives to whoever asks for any, as other tests do meanwhile."""
+    with open("/proc/sys/net/ipv4/ip_local_port_range", encoding="utf-8") as file:
+        least = int(file.read().split()[0])
+    while True:
+        port = random.randrange(least // 2, least)
+        with contextlib.suppress(OSError), socket.create_server(("127.0.0.1", port)):
+            return port
+
+
 def on_this_machine(recipe):
     """The commands of a cluster, of which all but the last go on, at a port that is free."""
-    with socket.create_server(("127.0.0.1", 0)) as free:
-        port = free.getsockname()[1]
-    recipe = re.sub(r"(?m)^(dask .*)", r"\1 2> /dev/null &", recipe).replace("8786", str(port)).replace("node0", "127.0.0.1")
+    recipe = re.sub(r"(?m)^(dask .*)", r"\1 2> /dev/null &", recipe).replace("8786", str(free_port())).replace("node0", "127.0.0.1")
     return f"trap 'kill $(jobs -p); wait' EXIT\n{recipe}"
 
 
