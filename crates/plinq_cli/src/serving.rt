@@ -21,7 +21,7 @@ use plinq_lambda::Formula;
 use plinq_lines::{
     LineSink, WriteFault, write_aggregate, write_ending, write_history, write_parts, write_plan,
 };
-use plinq_merge::{CancelAfter, DeliveryFault, Sink, deliver_sequentially};
+use plinq_merge::{CancelAfter, DeliveryFault, Sink, deliver_in_blocks};
 use plinq_ops::{Query, sequential};
 use plinq_partition::{OrderablePartitioner, RangeParts};
 use plinq_run::{AggregateFault, OpenGate, Report, RunFault, run, run_with};
@@ -212,7 +212,7 @@ fn serve_items<W: Write>(alloc: Global, job: Job, writer: &mut W) -> Result<Endi
     Ok(ending)
 }
 
-// Answers a query on one thread, and writes the lines of its batches as they come.
+// Answers a query on one thread, and writes the lines of its batches as they come. The source keeps nobody waiting.
 fn answer_into<W: Write>(
     alloc: Global,
     query: &Query<Formula>,
@@ -238,7 +238,7 @@ fn answer_lines<'a, W: Write>(
     ensures same { result.1.ghost_name ≡ writer.entry.ghost_name }
 {
     let mut sink = LineSink::new(writer);
-    let delivered = deliver_sequentially(alloc, query, source, &mut sink);
+    let delivered = deliver_in_blocks(alloc, query, source, &mut sink);
     let written = written_by(&sink);
     (tell_answer(written, delivered), sink.into_writer())
 }

@@ -64,7 +64,7 @@ where
 }
 
 /// Sends the items of a source through a pipeline, up to the one that ends the run, and delivers what comes out.
-fn deliver_all<L, S, K>(
+pub(crate) fn deliver_all<L, S, K>(
     alloc: Global,
     pipeline: &mut Pipeline<'_, L>,
     buffer: &mut Buffer<L::Item>,
@@ -160,7 +160,7 @@ fn report_quiet<K: Sink>(quiet: &mut u64, sink: &mut K)
 }
 
 /// Delivers what the last items fill and leave, and answers the ending.
-fn deliver_rest<K: Sink>(
+pub(crate) fn deliver_rest<K: Sink>(
     buffer: &mut Buffer<K::Item>,
     made: &Vec<K::Item>,
     ending: Ending,

@@ -8,7 +8,9 @@ ghost use Rattle.plinq_ops.specs.Tails.{end_of_result};
 
 use plinq_keyed::Chunk;
 use plinq_lambda::Lambda;
-use plinq_merge::{Cancel, DeliveryFault, MergeFault, Merger, More, Sink, deliver_sequentially};
+use plinq_merge::{
+    Cancel, DeliveryFault, MergeFault, Merger, More, Sink, deliver_in_blocks, deliver_sequentially,
+};
 use plinq_ops::{
     ChunkResult, Fragment, MergeOption, Op, Plan, Query, chunk_result, fragment, sequential,
 };
@@ -59,6 +61,17 @@ fn delivered<L: Lambda, S: Source<Item = L::Item>, K: Sink<Item = L::Item>>(
     requires { S.given source.old ≡ 0 }
 {
     deliver_sequentially(alloc, query, source, sink)
+}
+
+fn delivered_in_blocks<L: Lambda, S: Source<Item = L::Item>, K: Sink<Item = L::Item>>(
+    alloc: Global,
+    query: &Query<L>,
+    source: &mut S,
+    sink: &mut K,
+) -> Result<Ending, DeliveryFault>
+    requires { S.given source.old ≡ 0 }
+{
+    deliver_in_blocks(alloc, query, source, sink)
 }
 
 fn made<'a, L: Lambda>(

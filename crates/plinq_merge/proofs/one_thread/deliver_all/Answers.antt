@@ -6,7 +6,7 @@ use Rattle.plinq_ops.specs.Feeding.{IsFed}
 use Rattle.plinq_ops.specs.Pipeline.{stages}
 use Rattle.plinq_ops.proofs.Fed.{undecided-left}
 use Rattle.plinq_merge.specs.declared.delivery_fault.DeliveryFault.TheVariants.{Memory}
-use Rattle.plinq_merge.proofs.SentSoFar.{sent-none, sent-next, sent-given, sent-decided, sent-at_ending, sent-cut, sent-stopped}
+use Rattle.plinq_merge.proofs.SentSoFar.{sent-none, sent-next, sent-given, sent-decided, sent-at_ending, sent-cut, sent-stopped, cut-all}
 use Rattle.plinq_merge.proofs.one_thread.deliver_all.Goals as goal
 
 pub loop-item-init : goal.loop-item-init
@@ -25,7 +25,7 @@ feed-requires g c = record { undecided = undecided-left _ _ _ _ _ c.loop-item.in
 pub returns-in_err-ending-in-Item-clause-delivers : goal.returns-in_err-ending-in-Item-clause-delivers
 returns-in_err-ending-in-Item-clause-delivers g c =
     let is : c.from_residual.result ≡ Err Memory = search rules in
-    sent-stopped g.K.Sink.accepts g.K.Sink.refuses _ _ _ _ _ _ _ _ _ _ _ is c.loop-item.invariant.sent
+    cut-all g.K.Sink.accepts g.K.Sink.refuses _ _ _ _ _ _ Memory _ is (sent-stopped g.K.Sink.accepts g.K.Sink.refuses _ _ _ _ _ _ _ _ _ _ is c.loop-item.invariant.sent)
 
 -- an item that decides the answer
 pub returns-in-Some-clause-delivers : goal.returns-in-Some-clause-delivers
@@ -73,7 +73,7 @@ returns-in_err-deliver_ready-in-Item-clause-delivers g c =
     let fed : IsFed (stages m c.loop-item.pipeline) (open_trace (x ∷ [])) c.loop-item.made.items c.feed.new.out.items (stages m c.feed.new.self) None = search rules in
     let all = sent-next g.K.Sink.accepts g.K.Sink.refuses _ _ _ _ (stages m c.feed.new.self) t n x _ _ _ _ _ next c.loop-item.invariant.sent fed in
     let handed = rw c.loop-item.invariant.size at c.in_err-deliver_ready-in-Item.ensures.handed in
-    sent-cut g.K.Sink.accepts g.K.Sink.refuses _ _ _ _ t (n + 1) _ _ _ handed.given handed.left _ _ fault _ is handed.parts all handed.filled.sent
+    cut-all g.K.Sink.accepts g.K.Sink.refuses _ _ _ _ _ _ fault _ is (sent-cut g.K.Sink.accepts g.K.Sink.refuses _ _ _ _ t (n + 1) _ _ handed.given handed.left _ _ fault _ is handed.parts all handed.filled.sent)
 
 pub returns-in-End-clause-delivers : goal.returns-in-End-clause-delivers
 returns-in-End-clause-delivers g c =

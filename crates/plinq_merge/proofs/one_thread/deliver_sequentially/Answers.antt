@@ -49,14 +49,14 @@ pub returns-clause-ending : goal.returns-clause-ending
 returns-clause-ending g c =
     let same : c.ops.result.now ≡ c.args.query.now.ops = search rules in
     let begins = stages-begun g.L.Lambda.meaning c.args.query.now.ops c.in_ok-pipeline.pipeline (rw same at c.in_ok-pipeline.ensures) in
-    (rw begins at c.deliver_all.ensures.delivers).ending
+    (rw begins at c.deliver_all.ensures.delivers).answer.ending
 
 pub returns-clause-delivered : goal.returns-clause-delivered
 returns-clause-delivered g c =
     let same : c.ops.result.now ≡ c.args.query.now.ops = search rules in
     let begins = stages-begun g.L.Lambda.meaning c.args.query.now.ops c.in_ok-pipeline.pipeline (rw same at c.in_ok-pipeline.ensures) in
     let size : size_of c.in_ok-buffer.buffer ≡ batch_size (merge_in_force c.args.query.now.merge) = c.in_ok-buffer.ensures.size ∙ ap batch_size c.merge_option.ensures in
-    (rw (begins, size) at c.deliver_all.ensures.delivers).delivered
+    (rw (begins, size) at c.deliver_all.ensures.delivers).answer.delivered
 
 pub returns-clause-least : goal.returns-clause-least
 returns-clause-least g c =
