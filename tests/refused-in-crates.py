@@ -38,6 +38,7 @@ CALLS = {
     "Merger::new and offer, AutoBuffered": ("merge", "memory::no_room_ends_a_merger_of_batches"),
     "Merger::new and offer, FullyBuffered": ("merge", "memory::no_room_ends_a_merger_that_is_fully_buffered"),
     "deliver_sequentially": ("merge", "memory::no_room_ends_a_delivery_by_one_thread"),
+    "deliver_in_blocks": ("merge", "memory::no_room_ends_a_delivery_in_blocks"),
     "build, to_vec and first": ("library", "refused_room::a_call_that_is_refused_is_answered_the_next_time"),
     "lines_source": ("library", "refused_room::lines_that_are_refused_are_given_the_next_time"),
     "for_each": ("library", "refused_room::calls_that_are_refused_are_made_the_next_time"),

@@ -1,9 +1,10 @@
 ghost use Rattle.std.specs.Prelude.{⊤};
 
 use crate::offers::{merger_of, ordered, result_of};
+use crate::sent_at_once::{How, deliver};
 use plinq_keyed::Tail;
 use plinq_lambda::Formula;
-use plinq_merge::{DeliveryFault, MergeFault, Merger, More, Sink, deliver_sequentially};
+use plinq_merge::{DeliveryFault, MergeFault, Merger, More, Sink};
 use plinq_ops::{MergeOption, Query};
 use plinq_source::{Ending, RangeSource};
 use std::alloc::Global;
@@ -116,30 +117,30 @@ fn no_room_ends_a_merger_that_is_fully_buffered(rt: HostRuntime) {
     assert!(rt; merges(rt.alloc(), MergeOption::FullyBuffered));
 }
 
-// What one thread makes of 40 numbers: `Ok` says whether all were delivered in order; in a fault, for lack of room, it says so of the
+// What one thread makes of so many numbers: `Ok` says whether all were delivered in order; in a fault, for lack of room, it says so of the
 // first of them.
-fn delivered(alloc: Global, query: &Query<Formula>) -> Result<bool, bool> {
-    let Ok(mut source) = RangeSource::new(1, 40) else {
+fn delivered(alloc: Global, how: How, query: &Query<Formula>, most: u32) -> Result<bool, bool> {
+    let Ok(mut source) = RangeSource::new(1, u64::from(most)) else {
         return Ok(false);
     };
     let mut sink = Counted::new(alloc);
-    match deliver_sequentially(alloc, query, &mut source, &mut sink) {
-        Ok(ending) => Ok(ending == Ending::End && sink.count == 40 && !sink.is_wrong),
+    match deliver(alloc, how, query, &mut source, &mut sink) {
+        Ok(ending) => Ok(ending == Ending::End && sink.count == i64::from(most) && !sink.is_wrong),
         Err(DeliveryFault::Memory | DeliveryFault::Sink(1_000)) => {
-            Err(sink.count < 40 && !sink.is_wrong)
+            Err(sink.count < i64::from(most) && !sink.is_wrong)
         }
         Err(_) => Ok(false),
     }
 }
 
 // Whether all are delivered, at the second attempt where there was no room at the first.
-fn delivers(alloc: Global, option: MergeOption) -> bool {
+fn delivers(alloc: Global, how: How, option: MergeOption, most: u32) -> bool {
     let Ok(query) = Query::new(alloc).with_merge(option) else {
         return true;
     };
-    match delivered(alloc, &query) {
+    match delivered(alloc, how, &query, most) {
         Ok(is_right) => is_right,
-        Err(is_right) => is_right && delivered(alloc, &query) == Ok(true),
+        Err(is_right) => is_right && delivered(alloc, how, &query, most) == Ok(true),
     }
 }
 
@@ -152,6 +153,21 @@ fn no_room_ends_a_delivery_by_one_thread(rt: HostRuntime) {
         MergeOption::AutoBuffered,
         MergeOption::FullyBuffered,
     ] {
-        assert!(rt; delivers(rt.alloc(), option), "{option:?}");
+        assert!(rt; delivers(rt.alloc(), How::Singly, option, 40), "{option:?}");
+    }
+}
+
+// The same of two blocks.
+#[test]
+fn no_room_ends_a_delivery_in_blocks(rt: HostRuntime) {
+    for option in [
+        MergeOption::NotBuffered,
+        MergeOption::AutoBuffered,
+        MergeOption::FullyBuffered,
+    ] {
+        assert!(rt;
+            delivers(rt.alloc(), How::InBlocks, option, 600),
+            "{option:?}"
+        );
     }
 }

@@ -16,12 +16,13 @@ fn query_of(alloc: Global, option: MergeOption, op: Op<Formula>) -> Built<Formul
 
 /// How an answer is delivered.
 #[derive(Clone, Copy)]
-enum How {
+pub(crate) enum How {
     Singly,
     InBlocks,
 }
 
-fn deliver<K: Sink<Item = i64>>(
+/// Delivers an answer so.
+pub(crate) fn deliver<K: Sink<Item = i64>>(
     alloc: Global,
     how: How,
     query: &Query<Formula>,
@@ -36,15 +37,15 @@ fn deliver<K: Sink<Item = i64>>(
     }
 }
 
+// Five items of each element, which a Select leaves as it is before that.
+fn later_fives(alloc: Global) -> Built<Formula> {
+    Query::new(alloc)
+        .with_op(Op::Select(Formula::Add(0)))?
+        .with_op(Op::SelectMany(Formula::Repeat(5)))
+}
+
 // What a source of 1, 2, 3 and so on gives next, once the sink has refused this batch.
-fn next_after(
-    alloc: Global,
-    how: How,
-    option: MergeOption,
-    op: Op<Formula>,
-    refused: u64,
-) -> Option<Step<i64>> {
-    let query = query_of(alloc, option, op).ok()?;
+fn next_after(alloc: Global, how: How, query: &Query<Formula>, refused: u64) -> Option<Step<i64>> {
     let mut source = RangeSource::new(1, 200_000).ok()?;
     let rests = AtomicU64::new(0);
     let mut sink = Counts {
@@ -52,27 +53,44 @@ fn next_after(
         most: refused,
         rests: &rests,
     };
-    match deliver(alloc, how, &query, &mut source, &mut sink) {
+    match deliver(alloc, how, query, &mut source, &mut sink) {
         Err(DeliveryFault::Sink(9)) => Some(source.next()),
         _ => None,
     }
 }
 
 // Whether it gives these numbers next, once the sink has refused these batches.
-fn are_next(
-    alloc: Global,
-    how: How,
-    option: MergeOption,
-    op: Op<Formula>,
-    rows: &[(u64, i64)],
-) -> bool {
+fn are_next(alloc: Global, how: How, query: Built<Formula>, rows: &[(u64, i64)]) -> bool {
+    let Ok(query) = query else {
+        return false;
+    };
     for (refused, next) in rows {
-        match next_after(alloc, how, option, op, *refused) {
+        match next_after(alloc, how, &query, *refused) {
             Some(Step::Item(given)) if given == *next => {}
             _ => return false,
         }
     }
     true
+}
+
+// Whether a source is asked for nothing where nothing is taken.
+fn asks_nothing(alloc: Global, how: How) -> bool {
+    let Ok(query) = query_of(alloc, MergeOption::NotBuffered, Op::Take(0)) else {
+        return false;
+    };
+    let Ok(mut source) = RangeSource::new(1, 200_000) else {
+        return false;
+    };
+    let rests = AtomicU64::new(0);
+    let mut sink = Counts {
+        taken: 0,
+        most: 0,
+        rests: &rests,
+    };
+    match deliver(alloc, how, &query, &mut source, &mut sink) {
+        Ok(Ending::End) => matches!(source.next(), Step::Item(1)),
+        _ => false,
+    }
 }
 
 #[test]
@@ -83,8 +101,7 @@ fn each_item_is_sent_at_once(rt: HostRuntime) {
         are_next(
             rt.alloc(),
             How::Singly,
-            MergeOption::NotBuffered,
-            even,
+            query_of(rt.alloc(), MergeOption::NotBuffered, even),
             &rows
         )
     );
@@ -98,8 +115,7 @@ fn sixteen_items_are_sent_at_once(rt: HostRuntime) {
         are_next(
             rt.alloc(),
             How::Singly,
-            MergeOption::AutoBuffered,
-            even,
+            query_of(rt.alloc(), MergeOption::AutoBuffered, even),
             &rows
         )
     );
@@ -115,8 +131,7 @@ fn a_batch_that_was_begun_is_filled_up(rt: HostRuntime) {
         are_next(
             rt.alloc(),
             How::Singly,
-            MergeOption::AutoBuffered,
-            fives,
+            query_of(rt.alloc(), MergeOption::AutoBuffered, fives),
             &rows
         )
     );
@@ -131,8 +146,7 @@ fn each_item_of_a_block_is_a_batch(rt: HostRuntime) {
         are_next(
             rt.alloc(),
             How::InBlocks,
-            MergeOption::NotBuffered,
-            even,
+            query_of(rt.alloc(), MergeOption::NotBuffered, even),
             &rows
         )
     );
@@ -147,8 +161,7 @@ fn a_batch_goes_on_in_the_next_block(rt: HostRuntime) {
         are_next(
             rt.alloc(),
             How::InBlocks,
-            MergeOption::AutoBuffered,
-            later,
+            query_of(rt.alloc(), MergeOption::AutoBuffered, later),
             &rows
         )
     );
@@ -162,23 +175,40 @@ fn expansions_come_one_by_one_in_any_case(rt: HostRuntime) {
         are_next(
             rt.alloc(),
             How::InBlocks,
-            MergeOption::AutoBuffered,
-            fives,
+            query_of(rt.alloc(), MergeOption::AutoBuffered, fives),
             &rows
         )
     );
 }
 
 #[test]
+fn later_expansions_come_one_by_one_too(rt: HostRuntime) {
+    let rows = [(0, 5), (1, 8), (2, 11)];
+    assert!(rt; are_next(rt.alloc(), How::InBlocks, later_fives(rt.alloc()), &rows));
+}
+
+#[test]
+fn a_query_that_takes_nothing_asks_for_nothing(rt: HostRuntime) {
+    assert!(rt; asks_nothing(rt.alloc(), How::Singly));
+    assert!(rt; asks_nothing(rt.alloc(), How::InBlocks));
+}
+
+#[test]
 fn a_full_answer_is_sent_at_its_end(rt: HostRuntime) {
     let full = MergeOption::FullyBuffered;
-    assert!(rt; are_next(rt.alloc(), How::Singly, full, Op::Take(700), &[(0, 701)]));
+    assert!(rt;
+        are_next(
+            rt.alloc(),
+            How::Singly,
+            query_of(rt.alloc(), full, Op::Take(700)),
+            &[(0, 701)]
+        )
+    );
     assert!(rt;
         are_next(
             rt.alloc(),
             How::InBlocks,
-            full,
-            Op::Take(700),
+            query_of(rt.alloc(), full, Op::Take(700)),
             &[(0, 1_025)]
         )
     );
