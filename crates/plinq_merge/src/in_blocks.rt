@@ -23,12 +23,12 @@ use std::alloc::Global;
 const BLOCK: u64 = 512;
 
 /// After so many blocks that fill no batch the sink is told that none is there.
-const QUIET_BLOCKS: u64 = 128;
+const QUIET_BLOCKS: u64 = 16;
 
-/// Delivers a query's answer on one thread as [`deliver_sequentially`](crate::deliver_sequentially) does, and asks the source
-/// for 512 elements at once. This is for a source that keeps nobody waiting: it may be asked for 511 elements more than the
-/// answer wants, and a batch waits for those of its block. A query with a SelectMany gets one element at a time, since
-/// expansions may be long.
+/// Delivers the batches and answers the ending of [`deliver_sequentially`](crate::deliver_sequentially), and asks the source
+/// for 512 elements at once. This is for a source and functions that keep nobody waiting: the source may be asked for 511
+/// elements more than the answer wants, each operator sees a block before the next one does, and a batch waits for all of
+/// its block. A query with a SelectMany gets one element at a time, since expansions may be long.
 ///
 /// The source must have given nothing.
 ///

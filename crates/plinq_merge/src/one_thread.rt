@@ -22,7 +22,7 @@ use plinq_source::{Ending, Source, Step};
 use std::alloc::Global;
 
 /// After so many items that fill no batch the sink is told that none is there.
-const QUIET_ITEMS: u64 = 65_536;
+const QUIET_ITEMS: u64 = 8_192;
 
 /// Delivers a query's answer on one thread, and answers how it ends. A batch goes to the sink as soon as the item has come that
 /// fills it, so that no more items are held than a batch has, or one element's expansion; of FullyBuffered all are.

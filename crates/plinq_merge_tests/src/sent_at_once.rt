@@ -246,8 +246,8 @@ fn are_rests_below(alloc: Global, how: How, below: i64, rests: u64) -> bool {
 #[test]
 fn a_sink_is_told_that_nothing_comes(rt: HostRuntime) {
     for how in [How::Singly, How::InBlocks] {
-        assert!(rt; are_rests_below(rt.alloc(), how, 100, 3));
+        assert!(rt; are_rests_below(rt.alloc(), how, 100, 24));
         assert!(rt; are_rests_below(rt.alloc(), how, 300_000, 0));
-        assert!(rt; count_rests(rt.alloc(), how, rare(rt.alloc())) == Some(2));
+        assert!(rt; count_rests(rt.alloc(), how, rare(rt.alloc())) == Some(24));
     }
 }
