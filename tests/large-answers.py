@@ -16,6 +16,7 @@ RUNS = (
     large.aggregates,
     large.long_answers,
     large.blocks,
+    large.around_blocks,
     large.each_worker_count,
     large.long_histories,
     large.cancelled_runs,

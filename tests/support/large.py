@@ -80,6 +80,29 @@ def blocks(program):
                     yield name, right(source, steps, "full"), run(["run", "--workers", "1", "--merge", "full"], text, program)
 
 
+# The lengths of a block and of two by which one thread asks its source, and of what is one element shorter or longer.
+AROUND_BLOCKS = (0, 1, 511, 512, 513, 1_023, 1_024, 1_025)
+
+
+def around_blocks(program):
+    """Answers of one thread that end, refuse, fault, or have their items so far, about where a block ends."""
+    for length in AROUND_BLOCKS:
+        numbers = list(range(length))
+        cases = {
+            "an end": ({"list": numbers}, [["select", "add", 1]]),
+            "a refusal": ({"list": numbers, "refuse": 7}, []),
+            "a wrong word": ({"text": " ".join(map(str, numbers)) + " x"}, [["skip", 1]]),
+            "a division": ({"list": [1] * length + [0, 1]}, [["select", "into", 9]]),
+            "a take": ({"range": [0, 2_000]}, [["filter", "above", -1], ["take", length]]),
+            "a prefix": ({"range": [0, 2_000]}, [["take_while", "below", length]]),
+            "a skip": ({"range": [0, length + 3]}, [["skip", length]]),
+        }
+        for name, (source, steps) in cases.items():
+            for merge in ("not", "auto", "full"):
+                text = document(source, [ORDERED, *steps])
+                yield f"{name} after {length}: seq --merge {merge}", right(source, [ORDERED, *steps], merge), run([*SEQ, "--merge", merge], text, program)
+
+
 def in_any_order(outcome, merge):
     """An outcome without the order of its items: with these sorted, and whether they came in the batches of this merge option."""
     batches, last = batches_in(outcome.output)
