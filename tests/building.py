@@ -707,6 +707,31 @@ def two_at_once(place, tests):
     tests.check("and nothing is left beside it", not beside, beside)
 
 
+def notes(place, tests):
+    """The note beside the program: its date, and what is left of one that can't be put in its place."""
+    path = f"{place.top}/crates/plinq/out/plinq.built_from"
+    place.write("crates/low/src/lib.rt", "dated\n")
+    place.write("orders/wait")
+    started = place.start()
+    place.wait_for("at-work-low")
+    looked = time.time()
+    os.remove(f"{place.top}/orders/wait")
+    os.remove(f"{place.top}/at-work-low")
+    started.communicate("", timeout=HANGS)
+    tests.check("the note is dated before the look at the sources", os.stat(path).st_mtime < looked, (os.stat(path).st_mtime, looked))
+    os.remove(f"{place.bin}/mv")
+    refuses = f'#!/usr/bin/env bash\n[[ $* != *built_from* ]] && exec {shutil.which("mv")} "$@"\n'
+    os.chmod(place.write("../bin/mv", refuses), 0o755)
+    place.write("crates/low/src/lib.rt", "unnoted\n")
+    seen = place.run()
+    os.remove(f"{place.bin}/mv")
+    os.symlink(shutil.which("mv"), f"{place.bin}/mv")
+    beside = [it for it in os.listdir(os.path.dirname(path)) if it.startswith("plinq.built_from.")]
+    tests.check("a note that can't be put in its place leaves nothing", not beside, (beside, seen))
+    status, output, _, calls = place.run()
+    tests.check("and the next use builds", "built of: unnoted mid main" in output and calls[-1:] == ALL_CALLS[-1:], (output, calls))
+
+
 def waits_for_the_gate(place, tests):
     place.write("crates/low/src/lib.rt", "low\n")
     place.write("orders/say-waiting")
@@ -746,6 +771,7 @@ def main():
         no_rt(place, tests)
         interruption(place, tests)
         two_at_once(place, tests)
+        notes(place, tests)
         waits_for_the_gate(place, tests)
     tests.end()
 
