@@ -310,7 +310,7 @@ def side_by_side(place, tests):
         place.let_go("low")
         place.wait_for("at-work-mid")
         calls = place.new_calls()
-        tests.check("what uses another is begun once that one is here", calls == ["low lib --jobs 4", "mid lib --jobs 3 in a room"], calls)
+        tests.check("what uses another is begun once that one is here", calls == ["low lib --jobs 1", "mid lib --jobs 1 in a room"], calls)
         rooms = [os.path.dirname(at) for at, _, names in os.walk(place.temporary) if "main.rt" in names and at.endswith("plinq/src")]
         low = [f"{it}/../low/out/rlib/stamp" for it in rooms]
         is_so = [os.path.exists(it) and os.path.samefile(it, f"{place.top}/crates/low/out/rlib/stamp") for it in low]
@@ -318,7 +318,7 @@ def side_by_side(place, tests):
         place.let_go("mid")
     output, errors = started.communicate(timeout=HANGS)
     calls = place.new_calls()
-    is_so = started.returncode == 0 and (sorted(calls[:2]), calls[2:]) == (["mid lib --jobs 4", "side lib --jobs 4"], ALL_CALLS[-1:])
+    is_so = started.returncode == 0 and (sorted(calls[:2]), calls[2:]) == (["mid lib --jobs 1", "side lib --jobs 1"], ALL_CALLS[-1:])
     tests.check("then all are here, and the program is built", is_so, (started.returncode, calls, errors))
     wanted = [f"plinq: proving {it}" for it in ("low (1 of 4)", "side (2 of 4)", "mid (3 of 4)")]
     wanted += [f"{it}, {number} of 20 functions checked" for it in wanted for number in (9, 20)]
@@ -329,11 +329,11 @@ def side_by_side(place, tests):
     with place.held("low"):
         started = place.start("--build")
         place.wait_for("at-work-low")
-        place.wait_for_call("side lib --jobs 4")
+        place.wait_for_call("side lib --jobs 1")
         place.new_calls()
     started.communicate(timeout=HANGS)
     calls = place.new_calls()
-    tests.check("what has nothing beside it is proved here", calls == ["low lib --jobs 4", "mid lib --jobs 4", *ALL_CALLS[-1:]], calls)
+    tests.check("what has nothing beside it is proved here", calls == ["low lib --jobs 1", "mid lib --jobs 1", *ALL_CALLS[-1:]], calls)
     place.write("crates/low/src/lib.rt", "changed\n")
     calls = place.run()[3]
     tests.check("where there is a program, each is proved here", calls == ALL_CALLS, calls)
@@ -346,38 +346,40 @@ def side_by_side(place, tests):
     tests.check("and where an rt ci is at work", calls == ALL_CALLS, calls)
 
 
-def in_rooms(*names, jobs=(4, 1, 1)):
-    """The first, which others wait for longest, has as many jobs as one alone, and what is beside it has one, or as many as told."""
+def in_rooms(*names, jobs=(1, 1, 1, 1)):
+    """Each has one job, or as many as told."""
     return [f"{it} lib --jobs {given} in a room" for it, given in zip(names, jobs)]
 
 
 def few_and_many(place, tests):
     """A first build by other numbers of processors, and of libraries."""
-    for processors, memory, jobs in ((1, 64, 0), (4, 1, 0), (4, 5, 0), (2, 64, 2), (4, 7, 2), (4, 10, 3), (8, 64, 4)):
+    for processors, memory, is_beside in ((1, 64, False), (4, 1, False), (4, 5, False), (2, 64, True), (4, 7, True), (8, 64, True)):
         place.forget()
         place.has(processors=processors, memory=memory)
         status, _, errors, calls = place.run("--build")
-        is_so = status == 0 and (set(in_rooms("low", "side", jobs=(jobs, 1))) < set(calls) if jobs else calls == ALL_CALLS)
-        said = f"the first has {jobs} jobs, and what is beside it one" if jobs else "each is proved here"
+        is_so = status == 0 and (set(in_rooms("low", "side")) < set(calls) if is_beside else calls == ALL_CALLS)
+        said = "two are proved side by side" if is_beside else "each is proved here, by as many jobs as rt gives it"
         tests.check(f"with {processors} processors and {memory} GB {said}", is_so, (calls, errors))
-        is_so = f"mid lib --jobs {jobs}" in calls or not jobs
-        tests.check(f"with {processors} processors and {memory} GB one alone has {jobs or 'as many as rt gives it'}", is_so, calls)
+        is_so = "mid lib --jobs 1" in calls or not is_beside
+        tests.check(f"with {processors} processors and {memory} GB one alone has one job", is_so, calls)
     place.new_calls()
     for name in ("third", "fourth"):
         place.write(f"crates/{name}/src/lib.rt", f"{name}\n")
     place.write("crates.txt", f"fourth:\nthird:\n{CRATES}".replace("mid side", "fourth third mid side"))
-    for memory, seconds, wanted, jobs, last in (
-        (10, "", ("low", "fourth"), (3, 1), 3),
-        (64, "", ("low", "fourth", "third"), (4, 1, 1), 4),
-        (64, "# some\nside 200\nthird 61\n", ("side", "low", "third"), (4, 1, 2), 4),
-        (12, "# some\nside 200\nthird 61\n", ("side", "low", "third"), (4, 1, 1), 4),
-        (24, "side 200\nlow 90\nthird 80\n", ("side", "low", "third"), (4, 2, 2), 4),
-        (64, "side 200 1\nthird 100 1\nmid 10 2", ("side", "third", "low"), (1, 1, 2), 2),
-        (64, "side 200 # slow\nlow slow\nmid 10 # quick\n", ("side", "low", "fourth"), (4, 1, 1), 4),
-        (10, "third 100 2\nlow 95 4\nmid 10 4\n", ("low", "third"), (3, 1), 3),
+    for processors, memory, seconds, wanted, jobs, last in (
+        (2, 64, "", ("low", "fourth"), (1, 1), 1),
+        (4, 10, "", ("low", "fourth", "third"), (1, 1, 1), 1),
+        (4, 64, "", ("low", "fourth", "third", "side"), (1, 1, 1, 1), 1),
+        (8, 64, "# some\nside 200\nthird 61\n", ("side", "low", "third", "fourth"), (1, 1, 1, 1), 1),
+        (4, 7, "# some\nside 200\nthird 61\n", ("side", "low"), (1, 1), 1),
+        (4, 64, "side 200 2\nthird 100 1\nmid 10 4", ("side", "third", "low"), (2, 1, 1), 4),
+        (2, 64, "side 200 4\nmid 10 4\n", ("side",), (2,), 2),
+        (4, 64, "side 200 3\nlow 100 4\n", ("side", "low"), (3, 1), 1),
+        (4, 64, "side 200 # slow\nlow slow 4\nmid 10 # quick\n", ("side", "low", "fourth", "third"), (1, 1, 1, 1), 1),
+        (4, 10, "third 100\nlow 95 3\nmid 10 4\n", ("low",), (3,), 3),
     ):
         place.forget()
-        place.has(memory=memory)
+        place.has(processors=processors, memory=memory)
         place.write("tools/seconds", seconds)
         with place.held("low", "side", "third", "fourth"):
             started = place.start("--build")
