@@ -1,20 +1,17 @@
 -- What was sent of an answer whose last items wait.
-use Rattle.std.specs.Prelude.{◌≡◌, ℕ, ◌+◌, ◌-◌, ◌<◌, ◌≤◌, length, List, [], ◌∷◌, ◌++◌, take, drop, nat_lt, if◌then◌else◌, Bool, true, false, Option, Some, None, Result, Ok, Err, OnOk, IfOk, refl}
-use Rattle.std.proofs.Common.{sym, ◌∙◌, ap, subst, arith, append_assoc, append-nil, length-drop}
-use Rattle.std.proofs.lemmas.Bool.Decides.{nat_tests}
-use Rattle.std.proofs.lemmas.List.{take-append-drop, length-take, length-take-le, length-append}
-use Rattle.std.proofs.Math.Seq.{take-append_seam}
+use Rattle.std.specs.Prelude.{◌≡◌, ℕ, ◌+◌, ◌<◌, ◌≤◌, length, List, [], ◌∷◌, ◌++◌, drop, false, Option, Some, None, Result, Ok, Err, OnOk, IfOk, refl}
+use Rattle.std.proofs.Common.{sym, ◌∙◌, ap, subst, arith, append_assoc, append-nil}
+use Rattle.std.proofs.lemmas.List.{take-append-drop}
 use Rattle.plinq_source.specs.declared.ending.Ending.{Ending}
-use Rattle.plinq_source.specs.Trace.{Trace, open_trace, ended, followed, items_from, ending_within}
+use Rattle.plinq_source.specs.Trace.{Trace, open_trace, ended, followed}
 use Rattle.plinq_source.proofs.Followed.{trace_of, followed-followed}
-use Rattle.plinq_source.proofs.Steps.{IsNextItem, IsAtEnding}
 use Rattle.plinq_ops.specs.Stage.{Stage, seq, seq_after, some_takes_none}
-use Rattle.plinq_ops.specs.Feeding.{IsFed}
+use Rattle.plinq_ops.specs.Feeding.{IsFed, FeedsFrom}
 use Rattle.plinq_ops.specs.Batches.{full_batches, held_back, batches_from}
 use Rattle.plinq_ops.specs.Sequential.{first_items}
 use Rattle.plinq_ops.proofs.Stages.{seq-followed}
-use Rattle.plinq_ops.proofs.Fed.{fed-none, fed-followed}
-use Rattle.plinq_ops.proofs.Answered.{fed-decided, fed-at_ending, least-decided, least-at_ending, answer-fed}
+use Rattle.plinq_ops.proofs.Fed.{fed-none}
+use Rattle.plinq_ops.proofs.Answered.{fed-on, fed-over, least-over, answer-fed}
 use Rattle.plinq_ops.proofs.Runs.{full_batches-append, held_back-append, batches_from-followed}
 use Rattle.plinq_merge.specs.declared.delivery_fault.DeliveryFault.{DeliveryFault}
 use Rattle.plinq_merge.specs.declared.delivery_fault.DeliveryFault.TheVariants.{Memory}
@@ -39,28 +36,6 @@ full_batches-one_batch n xs same some = ap (full_batches (Some n) []) (sym (appe
 pub held_back-one_batch : {T : Type 0} (n : ℕ) (xs : List T) → length xs ≡ n → 0 < n → held_back (Some n) [] xs ≡ []
 held_back-one_batch n xs same some = ap (held_back (Some n) []) (sym (append-nil xs)) ∙ held_back-filled n [] xs [] (omega (arith, same, some)) (omega (arith, same))
 
--- the next items of a list after the first
-take-block : {T : Type 0} (xs : List T) (n most : ℕ) → n ≤ length xs → take (n + length (take most (drop n xs))) xs ≡ take n xs ++ take most (drop n xs)
-take-block {T} xs n most within =
-    let block : List T = take most (drop n xs) in
-    let others : block ++ drop most (drop n xs) ≡ drop n xs = take-append-drop most (drop n xs) in
-    let long : length (take n xs) ≡ n = length-take-le n xs within in
-    let whole : (take n xs ++ block) ++ drop most (drop n xs) ≡ xs = append_assoc (take n xs) block (drop most (drop n xs)) ∙ ap (λ ys. take n xs ++ ys) others ∙ take-append-drop n xs in
-    let count : n + length block ≡ length (take n xs ++ block) = ap (λ k. k + length block) (sym long) ∙ sym (length-append (take n xs) block) in
-    ap (λ k. take k xs) count ∙ ap (take (length (take n xs ++ block))) (sym whole) ∙ take-append_seam (take n xs ++ block) (drop most (drop n xs))
-
--- where fewer are left than were asked for, all are handed out
-at_ending-if : {T : Type 0} (t : Trace T) (n most : ℕ) (e : Ending) (b : Bool) → n ≤ length t.items → nat_lt (length t.items - n) most ≡ b → (if b then t.ending else None) ≡ Some e
-    → IsAtEnding t (n + length (items_from t n most)) e
-at_ending-if t n most e true within less ends =
-    let few : length t.items - n < most = grind (arith, nat_tests) in
-    let all : n + length (items_from t n most) ≡ length t.items = omega (arith, within, few, length-take most (drop n t.items), length-drop n t.items) in
-    record { all = all; ends = ends; moved = omega (arith, all) }
-at_ending-if t n most e false within less ends = absurd (cc)
-
-pub at_ending-within : {T : Type 0} (t : Trace T) (n most : ℕ) (e : Ending) → n ≤ length t.items → ending_within t n most ≡ Some e → IsAtEnding t (n + length (items_from t n most)) e
-at_ending-within t n most e within is = at_ending-if t n most e (nat_lt (length t.items - n) most) within refl is
-
 module _ {K T : Type 0} (accepts : K → List T → K → Type 0) (refuses : K → List T → ℕ → K → Type 0) (size : Option ℕ) (ss : List (Stage T)) (s : K) where
   -- these items were fed; of what came out, all but the last were given to the buffer, and their full batches sent
   pub record HasSent (t : Trace T) (held made : List T) (ss' : List (Stage T)) (s' : K) (ending : Option Ending) : Type 0 where
@@ -72,34 +47,27 @@ module _ {K T : Type 0} (accepts : K → List T → K → Type 0) (refuses : K �
   pub sent-none : some_takes_none ss ≡ false → HasSent (open_trace []) [] [] ss s None
   sent-none undecided = record { out = []; fed = fed-none ss [] undecided; keeps = refl; leads = refl }
 
-  -- some items more
-  pub sent-more : (ss' ss'' : List (Stage T)) (t : Trace T) (n m : ℕ) (xs held made made' : List T) (s' : K) (e : Option Ending) → take m t.items ≡ take n t.items ++ xs
-      → HasSent (first_items n t) held made ss' s' None → IsFed ss' (open_trace xs) made made' ss'' e → HasSent (first_items m t) held made' ss'' s' e
-  sent-more ss' ss'' t n m xs held made made' s' e taken before fed =
-      let more : List T = (seq ss' (open_trace xs)).items in
-      let items : before.out ++ made' ≡ (before.out ++ made) ++ more = ap (λ ys. before.out ++ ys) fed.items ∙ sym (append_assoc before.out made more) in
-      let one : IsFed ss' (open_trace xs) (before.out ++ made) (before.out ++ made') ss'' e = record { items = items; told = fed.told; left = fed.left } in
+  -- what comes out stands after what was given to the buffer
+  feeds-after : (ss' ss'' : List (Stage T)) (t : Trace T) (n m : ℕ) (held made made' : List T) (s' : K) (e : Option Ending) (before : HasSent (first_items n t) held made ss' s' None)
+      → FeedsFrom ss' t n m made made' ss'' e → FeedsFrom ss' t n m (before.out ++ made) (before.out ++ made') ss'' e
+  feeds-after ss' ss'' t n m held made made' s' e before next =
+      let items : before.out ++ made' ≡ (before.out ++ made) ++ (seq ss' next.piece).items = ap (λ ys. before.out ++ ys) next.fed.items ∙ sym (append_assoc before.out made (seq ss' next.piece).items) in
+      record { piece = next.piece; given = next.given; fed = record { items = items; told = next.fed.told; left = next.fed.left } }
+
+  -- what the source gave next leaves the answer open
+  pub sent-on : (ss' ss'' : List (Stage T)) (t : Trace T) (n m : ℕ) (held made made' : List T) (s' : K)
+      → HasSent (first_items n t) held made ss' s' None → FeedsFrom ss' t n m made made' ss'' None → HasSent (first_items m t) held made' ss'' s' None
+  sent-on ss' ss'' t n m held made made' s' before next =
       record {
         out = before.out;
-        fed = rw taken (fed-followed ss ss' ss'' (first_items n t) (open_trace xs) [] (before.out ++ made) (before.out ++ made') e before.fed one);
+        fed = fed-on ss ss' ss'' t n m [] (before.out ++ made) (before.out ++ made') before.fed (feeds-after ss' ss'' t n m held made made' s' None before next);
         keeps = before.keeps;
         leads = before.leads;
       }
 
-  -- one item more
-  pub sent-next : (ss' ss'' : List (Stage T)) (t : Trace T) (n : ℕ) (x : T) (held made made' : List T) (s' : K) (e : Option Ending) → IsNextItem t n x
-      → HasSent (first_items n t) held made ss' s' None → IsFed ss' (open_trace (x ∷ [])) made made' ss'' e → HasSent (first_items (n + 1) t) held made' ss'' s' e
-  sent-next ss' ss'' t n x held made made' s' e next before fed = sent-more ss' ss'' t n (n + 1) (x ∷ []) held made made' s' e next.taken before fed
-
-  -- the next items as far as there are so many
-  pub sent-block : (ss' ss'' : List (Stage T)) (t : Trace T) (n most : ℕ) (held made made' : List T) (s' : K) (e : Option Ending) → n ≤ length t.items
-      → HasSent (first_items n t) held made ss' s' None → IsFed ss' (open_trace (items_from t n most)) made made' ss'' e
-      → HasSent (first_items (n + length (items_from t n most)) t) held made' ss'' s' e
-  sent-block ss' ss'' t n most held made made' s' e within before fed =
-      sent-more ss' ss'' t n (n + length (items_from t n most)) (items_from t n most) held made made' s' e (take-block t.items n most within) before fed
-
   -- the first of the items that waited were given to the buffer
-  pub sent-given : (t : Trace T) (held held' made given left : List T) (ss' : List (Stage T)) (s1 s2 : K) (e : Option Ending) → made ≡ given ++ left → held' ≡ held_back size held given
+  pub sent-given : (t : Trace T) (held held' made given left : List T) (ss' : List (Stage T)) (s1 s2 : K) (e : Option Ending) → made ≡ given ++ left
+      → held' ≡ held_back size held given
       → Leads accepts s1 (full_batches size held given) s2 → HasSent t held made ss' s1 e → HasSent t held' left ss' s2 e
   sent-given t held held' made given left ss' s1 s2 e parts keeps leads before =
       let P : List T → Type 0 = λ xs. IsFed ss t [] xs ss' e in
@@ -114,7 +82,8 @@ module _ {K T : Type 0} (accepts : K → List T → K → Type 0) (refuses : K �
       }
 
   -- all was fed, and the rest delivered or cut off
-  sent-rest : (t : Trace T) (held made : List T) (ss' : List (Stage T)) (s1 s2 : K) (e : Ending) (r : Result Ending DeliveryFault) → HasSent t held made ss' s1 (Some e)
+  sent-rest : (t : Trace T) (held made : List T) (ss' : List (Stage T)) (s1 s2 : K) (e : Ending) (r : Result Ending DeliveryFault)
+      → HasSent t held made ss' s1 (Some e)
       → IfOk r (λ told. told ≡ e) → Delivers accepts refuses s1 (batches_from size held (ended made e)) r s2 → DeliversAnswer accepts refuses size ss t s r s2
   sent-rest t held made ss' s1 s2 e r before told rest =
       let answer : ended (before.out ++ made) e ≡ seq ss t = answer-fed ss ss' t [] (before.out ++ made) e refl before.fed in
@@ -126,45 +95,32 @@ module _ {K T : Type 0} (accepts : K → List T → K → Type 0) (refuses : K �
             (delivers-after accepts refuses s (full_batches size [] before.out) (batches_from size held (ended made e)) s1 r s2 before.leads rest);
       }
 
-  -- the first items decided the answer
-  pub sent-answered : (ss' : List (Stage T)) (t : Trace T) (n : ℕ) (held made : List T) (s1 s2 : K) (e : Ending) (r : Result Ending DeliveryFault)
-      → HasSent (first_items n t) held made ss' s1 (Some e) → IfOk r (λ told. told ≡ e) → Delivers accepts refuses s1 (batches_from size held (ended made e)) r s2
-      → DeliversAnswer accepts refuses size ss t s r s2
-  sent-answered ss' t n held made s1 s2 e r all told rest =
-      let whole : HasSent t held made ss' s1 (Some e) = record { out = all.out; fed = fed-decided ss ss' ss' t n [] (all.out ++ made) e all.fed; keeps = all.keeps; leads = all.leads } in
-      sent-rest t held made ss' s1 s2 e r whole told rest
+  -- or it decides the answer, and the rest was delivered or cut off
+  pub sent-over : (ss' ss'' : List (Stage T)) (t : Trace T) (n m : ℕ) (held made made' : List T) (s1 s2 : K) (e : Ending) (r : Result Ending DeliveryFault)
+      → HasSent (first_items n t) held made ss' s1 None → FeedsFrom ss' t n m made made' ss'' (Some e) → IfOk r (λ told. told ≡ e)
+      → Delivers accepts refuses s1 (batches_from size held (ended made' e)) r s2 → DeliversAnswer accepts refuses size ss t s r s2
+  sent-over ss' ss'' t n m held made made' s1 s2 e r before next told rest =
+      let all : HasSent t held made' ss'' s1 (Some e) = record {
+        out = before.out;
+        fed = fed-over ss ss' ss'' t n m [] (before.out ++ made) (before.out ++ made') e before.fed (feeds-after ss' ss'' t n m held made made' s1 (Some e) before next);
+        keeps = before.keeps;
+        leads = before.leads;
+      } in
+      sent-rest t held made' ss'' s1 s2 e r all told rest
 
-  -- or the source has ended
-  pub sent-to_end : (ss' : List (Stage T)) (t : Trace T) (n : ℕ) (held made : List T) (s1 s2 : K) (e : Ending) (r : Result Ending DeliveryFault) → IsAtEnding t n e
-      → HasSent (first_items n t) held made ss' s1 None → IfOk r (λ told. told ≡ e) → Delivers accepts refuses s1 (batches_from size held (ended made e)) r s2
-      → DeliversAnswer accepts refuses size ss t s r s2
-  sent-to_end ss' t n held made s1 s2 e r at_ending all told rest =
-      let whole : HasSent t held made ss' s1 (Some e) = record { out = all.out; fed = fed-at_ending ss ss' ss' t n [] (all.out ++ made) e at_ending all.fed; keeps = all.keeps; leads = all.leads } in
-      sent-rest t held made ss' s1 s2 e r whole told rest
-
-  -- an item decided the answer, and no fewer do
-  pub sent-decided : (ss' ss'' : List (Stage T)) (t : Trace T) (n : ℕ) (x : T) (held made made' : List T) (s1 s2 : K) (e : Ending) (r : Result Ending DeliveryFault) → IsNextItem t n x
-      → HasSent (first_items n t) held made ss' s1 None → IsFed ss' (open_trace (x ∷ [])) made made' ss'' (Some e) → IfOk r (λ told. told ≡ e)
-      → Delivers accepts refuses s1 (batches_from size held (ended made' e)) r s2 → DeliversAll accepts refuses size ss t s (n + 1) r s2
-  sent-decided ss' ss'' t n x held made made' s1 s2 e r next before fed told rest =
-      let all = sent-next ss' ss'' t n x held made made' s1 (Some e) next before fed in
+  -- by one step of the source, so that no fewer items decide it
+  pub sent-by_step : (ss' ss'' : List (Stage T)) (t : Trace T) (n m : ℕ) (held made made' : List T) (s1 s2 : K) (e : Ending) (r : Result Ending DeliveryFault) → m ≤ n + 1
+      → HasSent (first_items n t) held made ss' s1 None → FeedsFrom ss' t n m made made' ss'' (Some e) → IfOk r (λ told. told ≡ e)
+      → Delivers accepts refuses s1 (batches_from size held (ended made' e)) r s2 → DeliversAll accepts refuses size ss t s m r s2
+  sent-by_step ss' ss'' t n m held made made' s1 s2 e r one before next told rest =
       record {
-        answer = sent-answered ss'' t (n + 1) held made' s1 s2 e r all told rest;
-        least = on-any _ r (least-decided ss ss' ss'' t n x [] (before.out ++ made) (all.out ++ made') e next before.fed all.fed);
-      }
-
-  -- or the source has ended, and so many items leave the answer open
-  pub sent-at_ending : (ss' : List (Stage T)) (t : Trace T) (n : ℕ) (held made : List T) (s1 s2 : K) (e : Ending) (r : Result Ending DeliveryFault) → IsAtEnding t n e
-      → HasSent (first_items n t) held made ss' s1 None → IfOk r (λ told. told ≡ e) → Delivers accepts refuses s1 (batches_from size held (ended made e)) r s2
-      → DeliversAll accepts refuses size ss t s n r s2
-  sent-at_ending ss' t n held made s1 s2 e r at_ending all told rest =
-      record {
-        answer = sent-to_end ss' t n held made s1 s2 e r at_ending all told rest;
-        least = on-any _ r (least-at_ending ss ss' t n [] (all.out ++ made) e at_ending all.fed);
+        answer = sent-over ss' ss'' t n m held made made' s1 s2 e r before next told rest;
+        least = on-any _ r (least-over ss ss' ss'' t n m [] (before.out ++ made) (before.out ++ made') e one before.fed (feeds-after ss' ss'' t n m held made made' s1 (Some e) before next));
       }
 
   -- what the answer goes on with after the first items
-  open-after : (ss' : List (Stage T)) (t : Trace T) (n : ℕ) (out : List T) → IsFed ss (first_items n t) [] out ss' None → (more : Trace T) × (seq ss t ≡ followed (open_trace out) more)
+  open-after : (ss' : List (Stage T)) (t : Trace T) (n : ℕ) (out : List T) → IsFed ss (first_items n t) [] out ss' None
+      → (more : Trace T) × (seq ss t ≡ followed (open_trace out) more)
   open-after ss' t n out fed =
       let a : Trace T = first_items n t in
       let b : Trace T = trace_of (drop n t.items) t.ending in
@@ -202,6 +158,7 @@ module _ {K T : Type 0} (accepts : K → List T → K → Type 0) (refuses : K �
   sent-stopped ss' t n held made s' r is before = sent-cut ss' t n held made [] made s' s' Memory r is refl before ([], [], refl, refl)
 
   -- of an answer that was cut off nothing is said of what the source gave
-  pub cut-all : (t : Trace T) (asked : ℕ) (s' : K) (fault : DeliveryFault) (r : Result Ending DeliveryFault) → r ≡ Err fault → DeliversAnswer accepts refuses size ss t s r s'
+  pub cut-all : (t : Trace T) (asked : ℕ) (s' : K) (fault : DeliveryFault) (r : Result Ending DeliveryFault) → r ≡ Err fault
+      → DeliversAnswer accepts refuses size ss t s r s'
       → DeliversAll accepts refuses size ss t s asked r s'
   cut-all t asked s' fault r is answer = record { answer = answer; least = rw is tt }

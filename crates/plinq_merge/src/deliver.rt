@@ -76,9 +76,8 @@ impl<'a, L: Lambda, K: Sink<Item = L::Item>> TakeInto<K> for Deliver<'a, L, L::I
         ensures made { MadeBy K.accepts K.refuses L.meaning self.old out.old (record { items = items.items; ending = ending }) result self.new out.new }
     {
         let mut block = items;
-        let ended = self.pipeline.feed_block(self.alloc, &mut block)?;
+        let ending = self.pipeline.feed_block(self.alloc, &mut block, ending)?;
         deliver_full(&mut self.buffer, block.as_slice(), out)?;
-        let ending = ended.or(ending);
         deliver_last(&mut self.buffer, ending, out)?;
         Ok(ending)
     }

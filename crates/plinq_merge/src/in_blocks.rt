@@ -107,7 +107,7 @@ where
     deliver_blocks(alloc, pipeline, buffer, source, sink)
 }
 
-/// Sends the items of a source through a pipeline, a block at a time, up to the one that ends the run, and delivers what comes
+/// Sends what a source gives through a pipeline, a block at a time, up to the one that ends the run, and delivers what comes
 /// out.
 fn deliver_blocks<L, S, K>(
     alloc: Global,
@@ -131,12 +131,7 @@ where
     let mut block = Vec::new(alloc);
     let mut quiet = 0;
     loop {
-        block.reserve(BLOCK as usize)?;
-        let end = source.fill(&mut block, BLOCK);
-        if let Some(ending) = pipeline.feed_block(alloc, &mut block)? {
-            return deliver_rest(buffer, &block, ending, sink);
-        }
-        if let Some(ending) = end {
+        if let Some(ending) = pipeline.feed_block_from(alloc, source, BLOCK, &mut block)? {
             return deliver_rest(buffer, &block, ending, sink);
         }
         deliver_block(buffer, &mut block, &mut quiet, sink)?;

@@ -18,7 +18,7 @@ use crate::sending::{deliver_full, deliver_last, send};
 use crate::sink::Sink;
 use plinq_lambda::Lambda;
 use plinq_ops::{Pipeline, Query};
-use plinq_source::{Ending, Source, Step};
+use plinq_source::{Ending, Source};
 use std::alloc::Global;
 
 /// After so many items that fill no batch the sink is told that none is there.
@@ -63,7 +63,7 @@ where
     deliver_all(alloc, &mut pipeline, &mut buffer, source, sink)
 }
 
-/// Sends the items of a source through a pipeline, up to the one that ends the run, and delivers what comes out.
+/// Sends what a source gives through a pipeline, up to the item that ends the run, or the ending, and delivers what comes out.
 pub(crate) fn deliver_all<L, S, K>(
     alloc: Global,
     pipeline: &mut Pipeline<'_, L>,
@@ -87,16 +87,10 @@ where
     let mut wanted = buffer.missing();
     let mut quiet = 0;
     loop {
-        match source.next() {
-            Step::Item(item) => {
-                if let Some(ending) = pipeline.feed(alloc, item, &mut made)? {
-                    return deliver_rest(buffer, &made, ending, sink);
-                }
-                deliver_ready(buffer, &mut made, &mut wanted, &mut quiet, sink)?;
-            }
-            Step::End => return deliver_rest(buffer, &made, Ending::End, sink),
-            Step::Refused(code) => return deliver_rest(buffer, &made, Ending::Refused(code), sink),
+        if let Some(ending) = pipeline.feed_from(alloc, source, &mut made)? {
+            return deliver_rest(buffer, &made, ending, sink);
         }
+        deliver_ready(buffer, &mut made, &mut wanted, &mut quiet, sink)?;
     }
 }
 

@@ -45,7 +45,7 @@ fn takes_in(alloc: Global) -> Option<bool> {
     if pipeline.is_over() {
         return None;
     }
-    let after_block = pipeline.feed_block(alloc, &mut block).ok()?;
+    let after_block = pipeline.feed_block(alloc, &mut block, None).ok()?;
     let is_open = after_one.is_none() && after_block.is_none();
     Some(is_open && out.as_slice() == [6].as_slice() && block.as_slice() == [7, 1].as_slice())
 }
@@ -53,6 +53,57 @@ fn takes_in(alloc: Global) -> Option<bool> {
 #[test]
 fn a_pipeline_takes_in_items_and_blocks(rt: HostRuntime) {
     assert!(rt; takes_in(rt.alloc()) == Some(true));
+}
+
+// An item, and then a refusal, one step after another.
+fn hears_a_refusal(alloc: Global) -> Option<bool> {
+    let ops = [Op::SelectMany(Formula::Repeat(2)), Op::Take(5)];
+    let list = Vec::from_slice(alloc, &[7]).ok()?;
+    let mut source = ListSource::refusing(alloc, list, 3);
+    let mut out = Vec::new(alloc);
+    let mut pipeline = Pipeline::new(alloc, &ops).ok()?;
+    if pipeline.is_over() {
+        return None;
+    }
+    let after_item = pipeline.feed_from(alloc, &mut source, &mut out).ok()?;
+    if pipeline.is_over() {
+        return None;
+    }
+    let after_all = pipeline.feed_from(alloc, &mut source, &mut out).ok()?;
+    let is_told = after_item.is_none() && after_all == Some(Ending::Refused(3));
+    Some(is_told && out.as_slice() == [7, 7].as_slice())
+}
+
+// A block with the end after it.
+fn hears_the_end_of_a_block(alloc: Global) -> Option<bool> {
+    let ops = [Op::SelectMany(Formula::Repeat(2)), Op::Take(5)];
+    let mut block = Vec::from_slice(alloc, &[4, 9]).ok()?;
+    let mut pipeline = Pipeline::new(alloc, &ops).ok()?;
+    if pipeline.is_over() {
+        return None;
+    }
+    let ending = Some(Ending::Refused(3));
+    let after_all = pipeline.feed_block(alloc, &mut block, ending).ok()?;
+    Some(after_all == ending && block.as_slice() == [4, 4, 9, 9].as_slice())
+}
+
+// The end alone, where a Take has items left to take.
+fn hears_the_end(alloc: Global) -> Option<bool> {
+    let ops = [Op::Select(Formula::Add(1)), Op::Take(5)];
+    let mut out = Vec::new(alloc);
+    let mut pipeline = Pipeline::new(alloc, &ops).ok()?;
+    if pipeline.is_over() {
+        return None;
+    }
+    let ending = pipeline.feed_end(alloc, Ending::End, &mut out).ok()?;
+    Some(ending == Some(Ending::End) && out.is_empty())
+}
+
+#[test]
+fn operators_hear_of_the_end(rt: HostRuntime) {
+    assert!(rt; hears_a_refusal(rt.alloc()) == Some(true));
+    assert!(rt; hears_the_end_of_a_block(rt.alloc()) == Some(true));
+    assert!(rt; hears_the_end(rt.alloc()) == Some(true));
 }
 
 // as_ordered, take_while, select_many, select; with a Take after them that no worker can apply

@@ -76,7 +76,7 @@ fn fed(alloc: Global, size: usize) -> Option<(Vec<i64>, u64)> {
             break;
         }
         let mut block = Vec::from_slice(alloc, items).ok()?;
-        let _ = pipeline.feed_block(alloc, &mut block).ok()?;
+        let _ = pipeline.feed_block(alloc, &mut block, None).ok()?;
         out.append(&mut block).ok()?;
     }
     Some((out, tested.load(Ordering::SeqCst)))

@@ -1,6 +1,5 @@
 -- One operator's part in feeding an item, by what it gives for the item.
-use Rattle.std.specs.Prelude.{◌≡◌, List, [], ◌∷◌, ◌++◌, true, false, Option, Some, None, is_some, refl}
-use Rattle.std.specs.Option.{option_or}
+use Rattle.std.specs.Prelude.{◌≡◌, List, [], ◌∷◌, ◌++◌, true, false, Option, Some, None, is_some, Result, Ok, Err, IfOk, refl}
 use Rattle.std.proofs.Common.{sym, ◌∙◌, ap, append-nil, append_assoc}
 use Rattle.plinq_source.specs.declared.ending.Ending.{Ending}
 use Rattle.plinq_source.specs.Trace.{Trace, open_trace, ended, continued, followed}
@@ -8,7 +7,12 @@ use Rattle.plinq_source.proofs.Followed.{trace_of, followed-ended, followed-open
 use Rattle.plinq_ops.specs.Stage.{Stage, pieces, apply, seq, stage_after, seq_after, some_takes_none}
 use Rattle.plinq_ops.specs.Feeding.{IsFed}
 use Rattle.plinq_ops.proofs.Stages.{seq-followed}
-use Rattle.plinq_ops.proofs.Open.{seq-nothing, seq_after-nothing, seq_after-followed, seq-ending_of_open, some-where_open, seq_after-open}
+use Rattle.plinq_ops.proofs.Open.{seq-nothing, seq_after-nothing, seq_after-followed, some-where_open, seq_after-open}
+
+-- two clauses of a last call
+pub IfOk-both : {X Y : Type 0} (r : Result X Y) (P Q R : X → Type 0) → ((x : X) → P x → Q x → R x) → IfOk r P → IfOk r Q → IfOk r R
+IfOk-both (Ok x) P Q R both p q = both x p q
+IfOk-both (Err e) P Q R both p q = tt
 
 -- a trace that ends with no item
 pub fed-ending : {T : Type 0} (ss ss' : List (Stage T)) (out : List T) (e : Ending) → some_takes_none ss ≡ false → IsFed ss (ended [] e) out out ss' (Some e)
@@ -19,16 +23,16 @@ fed-ending ss ss' out e undecided =
       left = λ bad. absurd (cc);
     }
 
--- the operators but the first see this trace in the place of the items
-pub fed-through : {T : Type 0} (s s' : Stage T) (xs : List T) (t : Trace T) (ss ss' : List (Stage T)) (before after : List T) (e : Option Ending)
-    → apply s (open_trace xs) ≡ t → stage_after s xs ≡ s' → IsFed ss t before after ss' e
-    → IsFed (s ∷ ss) (open_trace xs) before after (s' ∷ ss') e
-fed-through s s' xs t ss ss' before after e is rest fed =
+-- the operators but the first see this trace in the place of the items and their ending
+pub fed-through : {T : Type 0} (s s' : Stage T) (xs : List T) (told : Option Ending) (t : Trace T) (ss ss' : List (Stage T)) (before after : List T) (e : Option Ending)
+    → apply s (trace_of xs told) ≡ t → stage_after s xs ≡ s' → IsFed ss t before after ss' e
+    → IsFed (s ∷ ss) (trace_of xs told) before after (s' ∷ ss') e
+fed-through s s' xs told t ss ss' before after e is rest fed =
     record {
       items = fed.items ∙ ap (λ u. before ++ (seq ss u).items) (sym is);
       told = fed.told ∙ ap (λ u. (seq ss u).ending) (sym is);
       left = λ goes_on.
-          let others : ss' ≡ seq_after ss (apply s (open_trace xs)) = fed.left goes_on ∙ ap (seq_after ss) (sym is) in
+          let others : ss' ≡ seq_after ss (apply s (trace_of xs told)) = fed.left goes_on ∙ ap (seq_after ss) (sym is) in
           cc;
     }
 
@@ -57,33 +61,15 @@ fed-followed {T} ss ss' ss'' a b before between after e first second =
     }
 
 -- operators that left the run open have no Take of none
-pub undecided-left : {T : Type 0} (ss ss' : List (Stage T)) (a : Trace T) (before after : List T) → IsFed ss a before after ss' None → some_takes_none ss' ≡ false
+pub undecided-left : {T : Type 0} (ss ss' : List (Stage T)) (a : Trace T) (before after : List T) → IsFed ss a before after ss' None
+    → some_takes_none ss' ≡ false
 undecided-left ss ss' a before after fed =
     ap some_takes_none (fed.left refl) ∙ some-where_open (seq_after ss a) (seq_after-open ss a (sym fed.told))
 
--- the items end so: an operator that ended the run before has the last word
-pub fed-told : {T : Type 0} (xs : List T) (told : Option Ending) (ss ss' : List (Stage T)) (before after : List T) (e : Option Ending)
-    → IsFed ss (open_trace xs) before after ss' e → IsFed ss (trace_of xs told) before after ss' (option_or e told)
-fed-told xs None ss ss' before after None fed = fed
-fed-told xs None ss ss' before after (Some g) fed = fed
-fed-told {T} xs (Some f) ss ss' before after None fed =
-    let whole : ended (xs ++ []) f ≡ ended xs f = ap (λ zs. ended zs f) (append-nil xs) in
-    let answer : seq ss (ended xs f) ≡ ended (seq ss (open_trace xs)).items f =
-    ap (seq ss) (sym whole) ∙ seq-ending_of_open ss (open_trace xs) (seq ss (open_trace xs)).items f (ap (trace_of (seq ss (open_trace xs)).items) (sym fed.told)) in
-    record {
-      items = fed.items ∙ ap (λ u. before ++ u.items) (sym answer);
-      told = ap (λ u. u.ending) (sym answer);
-      left = λ bad. absurd (cc);
-    }
-fed-told {T} xs (Some f) ss ss' before after (Some g) fed =
-    let whole : ended (xs ++ []) f ≡ ended xs f = ap (λ zs. ended zs f) (append-nil xs) in
-    let answer : seq ss (ended xs f) ≡ seq ss (open_trace xs) =
-    ap (seq ss) (sym whole) ∙ seq-followed ss (open_trace xs) (ended [] f) ∙ followed-ended (seq ss (open_trace xs)) (seq (seq_after ss (open_trace xs)) (ended [] f)) g (sym fed.told) in
-    record {
-      items = fed.items ∙ ap (λ u. before ++ u.items) (sym answer);
-      told = fed.told ∙ ap (λ u. u.ending) (sym answer);
-      left = λ bad. absurd (cc);
-    }
+-- what came out stands after other items
+pub fed-appended : {T : Type 0} (ss ss' : List (Stage T)) (t : Trace T) (before out : List T) (e : Option Ending) → IsFed ss t [] out ss' e
+    → IsFed ss t before (before ++ out) ss' e
+fed-appended ss ss' t before out e fed = record { items = ap (λ xs. before ++ xs) fed.items; told = fed.told; left = fed.left }
 
 -- a run that has ended stays as it is, whatever comes after
 pub fed-ended_before : {T : Type 0} (ss ss' ss'' : List (Stage T)) (a b : Trace T) (before after : List T) (e : Option Ending) → is_some e ≡ true
@@ -105,4 +91,4 @@ none-from_is_some (Some x) none = absurd (let bad : true ≡ false = none in cc)
 pub fed-expansion : {T : Type 0} (piece : T → Trace T) (ss ss' : List (Stage T)) (x : T) (t : Trace T) (before after : List T) (e : Option Ending)
     → piece x ≡ t → IsFed ss t before after ss' e → IsFed (pieces piece ∷ ss) (open_trace (x ∷ [])) before after (pieces piece ∷ ss') e
 fed-expansion piece ss ss' x t before after e is fed =
-    fed-through (pieces piece) (pieces piece) (x ∷ []) t ss ss' before after e (followed-open_nil (piece x) ∙ is) refl fed
+    fed-through (pieces piece) (pieces piece) (x ∷ []) None t ss ss' before after e (followed-open_nil (piece x) ∙ is) refl fed

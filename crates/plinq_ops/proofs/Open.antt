@@ -1,10 +1,11 @@
 -- Open answers: an answer stays open only while the trace is, and then what is left of the operators goes on from there.
 use Rattle.std.specs.Prelude.{◌≡◌, List, [], ◌∷◌, ◌++◌, true, false, ◌||◌, Option, Some, None, is_some, ◌⊎◌, refl}
+use Rattle.std.specs.Option.{option_or}
 use Rattle.std.proofs.Common.{sym, ◌∙◌, ap, inl, inr, append-nil}
 use Rattle.plinq_source.specs.declared.ending.Ending.{Ending}
 use Rattle.plinq_source.specs.declared.ending.Ending.TheVariants.{End}
 use Rattle.plinq_source.specs.Trace.{Trace, open_trace, ended, continued, followed}
-use Rattle.plinq_source.proofs.Followed.{trace_of, followed-open_nil}
+use Rattle.plinq_source.proofs.Followed.{trace_of, followed-ended, followed-open_nil}
 use Rattle.plinq_ops.specs.Stage.{Stage, apply, seq, stage_after, seq_after, takes_none, some_takes_none}
 use Rattle.plinq_ops.proofs.Stages.{is_some-apply, apply-followed, after-after, after-nothing, apply-nothing, apply-takes_none, apply-ended_nil, seq-followed}
 
@@ -121,3 +122,21 @@ seq-ending_of_open {T} ss a xs e is =
     ∙ ap (λ t. followed t (seq left (ended [] e))) is
     ∙ ap (followed (open_trace xs)) (seq-nothing left (Some e) (some-where_open left left_open))
     ∙ ap (λ ys. ended ys e) (append-nil xs)
+
+or_none : {A : Type 0} (o : Option A) → option_or o None ≡ o
+or_none None = refl
+or_none (Some x) = refl
+
+apply-told_some : {T : Type 0} (s : Stage T) (xs : List T) (f : Ending) (e : Option Ending) → (apply s (open_trace xs)).ending ≡ e
+    → apply s (ended (xs ++ []) f) ≡ trace_of (apply s (open_trace xs)).items (option_or e (Some f))
+apply-told_some s xs f None is = seq-ending_of_open (s ∷ []) (open_trace xs) (apply s (open_trace xs)).items f (ap (trace_of (apply s (open_trace xs)).items) is)
+apply-told_some s xs f (Some g) is =
+    apply-followed s (open_trace xs) (ended [] f)
+    ∙ followed-ended (apply s (open_trace xs)) (apply (stage_after s xs) (ended [] f)) g is
+    ∙ ap (trace_of (apply s (open_trace xs)).items) is
+
+-- an operator that waits for no end: it passes the items, and where it hasn't ended the run, the ending
+pub apply-told : {T : Type 0} (s : Stage T) (xs : List T) (told : Option Ending)
+    → apply s (trace_of xs told) ≡ trace_of (apply s (open_trace xs)).items (option_or (apply s (open_trace xs)).ending told)
+apply-told s xs None = ap (trace_of (apply s (open_trace xs)).items) (sym (or_none (apply s (open_trace xs)).ending))
+apply-told s xs (Some f) = ap (λ zs. apply s (ended zs f)) (sym (append-nil xs)) ∙ apply-told_some s xs f (apply s (open_trace xs)).ending refl

@@ -1,33 +1,32 @@
 -- An item on its way through the operators, one after another.
-use Rattle.std.specs.Prelude.{◌≡◌, ℕ, ◌+◌, ◌<◌, ◌≤◌, List, [], ◌∷◌, ◌++◌, length, take, drop, Bool, true, false, ◌||◌, Option, Some, None, refl}
-use Rattle.std.specs.Option.{option_or}
+use Rattle.std.specs.Prelude.{◌≡◌, ℕ, ◌+◌, ◌<◌, ◌≤◌, List, [], ◌∷◌, ◌++◌, length, take, drop, Bool, true, false, ◌||◌, Option, None, refl}
 use Rattle.std.proofs.Common.{sym, ◌∙◌, ap, arith, append_assoc, add-one}
 use Rattle.std.proofs.Math.ListN.{get_or, set}
 use Rattle.std.proofs.lemmas.List.{drop_more, take_more, set_split, take_more_set, drop-set-lt, drop_all, take-append-drop, length-take-le, take_at, drop_at}
 use Rattle.plinq_source.specs.declared.ending.Ending.{Ending}
-use Rattle.plinq_source.specs.declared.ending.Ending.TheVariants.{End}
-use Rattle.plinq_source.specs.Trace.{Trace, open_trace, ended}
+use Rattle.plinq_source.specs.Trace.{Trace, open_trace}
+use Rattle.plinq_source.proofs.Followed.{trace_of}
 use Rattle.plinq_lambda.specs.Meaning.{Meaning}
 use Rattle.plinq_ops.specs.declared.stage_state.StageState.{StageState}
 use Rattle.plinq_ops.specs.Stage.{Stage, apply, stage_after, takes_none, some_takes_none}
 use Rattle.plinq_ops.specs.Feeding.{IsFed}
 use Rattle.plinq_ops.specs.Operator.{state_stage}
 use Rattle.plinq_ops.specs.Pipeline.{stages_now}
-use Rattle.plinq_ops.proofs.Fed.{fed-through, fed-told, fed-none, fed-ending}
+use Rattle.plinq_ops.proofs.Fed.{fed-through, fed-none}
 
 -- an item x that has become y on its way through the first i operators, which are as in `now`: whatever the rest makes of y,
--- all make of x, unless a Take before had its last item
+-- all make of x
 pub record IsThrough {L T : Type 0} (meaning : L → Meaning T) (ops : List (StageState L)) (x : T) (before out : List T)
-    (i : ℕ) (now : List (StageState L)) (y : T) (last : Option Ending) : Type 0 where
+    (i : ℕ) (now : List (StageState L)) (y : T) : Type 0 where
   pub same : out ≡ before
   pub undecided : some_takes_none (stages_now meaning (drop i now)) ≡ false
   pub goes_on : (rest : List (StageState L)) (after : List T) (e : Option Ending)
       → IsFed (stages_now meaning (drop i now)) (open_trace (y ∷ [])) out after (stages_now meaning rest) e
-      → IsFed (stages_now meaning ops) (open_trace (x ∷ [])) before after (stages_now meaning (take i now ++ rest)) (option_or e last)
+      → IsFed (stages_now meaning ops) (open_trace (x ∷ [])) before after (stages_now meaning (take i now ++ rest)) e
 
 -- y before operator i: whatever the operators after it make of what it gives for y, all make of x
 pub record IsAt {L T : Type 0} (meaning : L → Meaning T) (ops : List (StageState L)) (x : T) (before out : List T)
-    (i : ℕ) (op : StageState L) (now : List (StageState L)) (y : T) (last : Option Ending) : Type 0 where
+    (i : ℕ) (op : StageState L) (now : List (StageState L)) (y : T) : Type 0 where
   pub same : out ≡ before
   pub within : i < length now
   pub takes_some : takes_none (state_stage meaning op) ≡ false
@@ -36,15 +35,7 @@ pub record IsAt {L T : Type 0} (meaning : L → Meaning T) (ops : List (StageSta
       → t ≡ apply (state_stage meaning op) (open_trace (y ∷ []))
       → state_stage meaning op' ≡ stage_after (state_stage meaning op) (y ∷ [])
       → IsFed (stages_now meaning (drop (i + 1) now)) t out after (stages_now meaning rest) e
-      → IsFed (stages_now meaning ops) (open_trace (x ∷ [])) before after (stages_now meaning (take i now ++ op' ∷ rest)) (option_or e last)
-
-or_none : {A : Type 0} (o : Option A) → option_or o None ≡ o
-or_none None = refl
-or_none (Some x) = refl
-
-or_some : {A : Type 0} (o : Option A) (x : A) (p : Option A) → option_or (option_or o (Some x)) p ≡ option_or o (Some x)
-or_some None x p = refl
-or_some (Some y) x p = refl
+      → IsFed (stages_now meaning ops) (open_trace (x ∷ [])) before after (stages_now meaning (take i now ++ op' ∷ rest)) e
 
 first_false : (a b : Bool) → (a || b) ≡ false → a ≡ false
 first_false true b none = absurd (cc)
@@ -56,18 +47,18 @@ second_false false b none = none
 
 -- before the first operator
 pub through-none : {L T : Type 0} (meaning : L → Meaning T) (ops : List (StageState L)) (x : T) (before : List T)
-    → some_takes_none (stages_now meaning ops) ≡ false → IsThrough meaning ops x before before 0 ops x None
+    → some_takes_none (stages_now meaning ops) ≡ false → IsThrough meaning ops x before before 0 ops x
 through-none meaning ops x before undecided =
     record {
       same = refl;
       undecided = undecided;
-      goes_on = λ rest after e fed. rw (or_none e) fed;
+      goes_on = λ rest after e fed. fed;
     }
 
 -- all operators have let the item through
-pub through-all : {L T : Type 0} {meaning : L → Meaning T} {ops : List (StageState L)} {x : T} {before out : List T} {i : ℕ} {now : List (StageState L)} {y : T} {last : Option Ending}
-    → length now ≤ i → IsThrough meaning ops x before out i now y last
-    → IsFed (stages_now meaning ops) (open_trace (x ∷ [])) before (out ++ y ∷ []) (stages_now meaning now) last
+pub through-all : {L T : Type 0} {meaning : L → Meaning T} {ops : List (StageState L)} {x : T} {before out : List T} {i : ℕ} {now : List (StageState L)} {y : T}
+    → length now ≤ i → IsThrough meaning ops x before out i now y
+    → IsFed (stages_now meaning ops) (open_trace (x ∷ [])) before (out ++ y ∷ []) (stages_now meaning now) None
 through-all {L} {T} {meaning} {ops} {x} {before} {out} {i} {now} {y} past through =
     let none : drop i now ≡ [] = drop_all i now past in
     let fed : IsFed (stages_now meaning (drop i now)) (open_trace (y ∷ [])) out (out ++ y ∷ []) (stages_now meaning (drop i now)) None =
@@ -75,10 +66,10 @@ through-all {L} {T} {meaning} {ops} {x} {before} {out} {i} {now} {y} past throug
     rw (take-append-drop i now) at (through.goes_on (drop i now) (out ++ y ∷ []) None fed)
 
 -- at the next operator
-pub at-op : {L T : Type 0} {meaning : L → Meaning T} {ops : List (StageState L)} {x : T} {before out : List T} {i : ℕ} {op : StageState L} {now : List (StageState L)} {y : T} {last : Option Ending}
-    (d : StageState L) → i < length now → op ≡ get_or now i d → IsThrough meaning ops x before out i now y last
-    → IsAt meaning ops x before out i op now y last
-at-op {L} {T} {meaning} {ops} {x} {before} {out} {i} {op} {now} {y} {last} d within is through =
+pub at-op : {L T : Type 0} {meaning : L → Meaning T} {ops : List (StageState L)} {x : T} {before out : List T} {i : ℕ} {op : StageState L} {now : List (StageState L)} {y : T}
+    (d : StageState L) → i < length now → op ≡ get_or now i d → IsThrough meaning ops x before out i now y
+    → IsAt meaning ops x before out i op now y
+at-op {L} {T} {meaning} {ops} {x} {before} {out} {i} {op} {now} {y} d within is through =
     let here : drop i now ≡ op ∷ drop (i + 1) now = drop_more now i d within ∙ ap (λ o. o ∷ drop (i + 1) now) (sym is) in
     let undecided = rw here at through.undecided in
     record {
@@ -89,15 +80,15 @@ at-op {L} {T} {meaning} {ops} {x} {before} {out} {i} {op} {now} {y} {last} d wit
       passed = λ t op' rest after e gives stage_after fed.
           through.goes_on (op' ∷ rest) after e
           (rw here
-          (fed-through (state_stage meaning op) (state_stage meaning op') (y ∷ []) t (stages_now meaning (drop (i + 1) now))
+          (fed-through (state_stage meaning op) (state_stage meaning op') (y ∷ []) None t (stages_now meaning (drop (i + 1) now))
           (stages_now meaning rest) out after e (sym gives) (sym stage_after) fed));
     }
 
 -- the operator gives one item
-pub through-item : {L T : Type 0} {meaning : L → Meaning T} {ops : List (StageState L)} {x : T} {before out : List T} {i : ℕ} {op : StageState L} {now : List (StageState L)} {y : T} {last : Option Ending}
-    (y' : T) (op' : StageState L) → IsAt meaning ops x before out i op now y last
+pub through-item : {L T : Type 0} {meaning : L → Meaning T} {ops : List (StageState L)} {x : T} {before out : List T} {i : ℕ} {op : StageState L} {now : List (StageState L)} {y : T}
+    (y' : T) (op' : StageState L) → IsAt meaning ops x before out i op now y
     → open_trace (y' ∷ []) ≡ apply (state_stage meaning op) (open_trace (y ∷ [])) → state_stage meaning op' ≡ stage_after (state_stage meaning op) (y ∷ [])
-    → IsThrough meaning ops x before out (i + 1) (set now i op') y' last
+    → IsThrough meaning ops x before out (i + 1) (set now i op') y'
 through-item {L} {T} {meaning} {ops} {x} {before} {out} {i} {op} {now} y' op' here gives stage_after =
     let others : drop (i + 1) (set now i op') ≡ drop (i + 1) now = drop-set-lt (i + 1) now i op' (omega arith) in
     record {
@@ -108,33 +99,17 @@ through-item {L} {T} {meaning} {ops} {x} {before} {out} {i} {op} {now} y' op' he
           (here.passed (open_trace (y' ∷ [])) op' rest after e gives stage_after (rw others at fed));
     }
 
--- the operator gives its last item
-pub through-last : {L T : Type 0} {meaning : L → Meaning T} {ops : List (StageState L)} {x : T} {before out : List T} {i : ℕ} {op : StageState L} {now : List (StageState L)} {y : T} {last : Option Ending}
-    (y' : T) (op' : StageState L) → IsAt meaning ops x before out i op now y last
-    → ended (y' ∷ []) End ≡ apply (state_stage meaning op) (open_trace (y ∷ [])) → state_stage meaning op' ≡ stage_after (state_stage meaning op) (y ∷ [])
-    → IsThrough meaning ops x before out (i + 1) (set now i op') y' (Some End)
-through-last {L} {T} {meaning} {ops} {x} {before} {out} {i} {op} {now} {y} {last} y' op' here gives stage_after =
-    let others : drop (i + 1) (set now i op') ≡ drop (i + 1) now = drop-set-lt (i + 1) now i op' (omega arith) in
-    record {
-      same = here.same;
-      undecided = rw others here.undecided;
-      goes_on = λ rest after e fed.
-          rw (take_more_set now i op' here.within, append_assoc (take i now) (op' ∷ []) rest, ← or_some e End last)
-          (here.passed (ended (y' ∷ []) End) op' rest after (option_or e (Some End)) gives stage_after
-          (fed-told (y' ∷ []) (Some End) (stages_now meaning (drop (i + 1) now)) (stages_now meaning rest) out after e (rw others at fed)));
-    }
-
 -- a list of which the first items are known
 whole : {A : Type 0} (xs ys : List A) (i : ℕ) (x : A) → take (i + 1) ys ≡ take i xs ++ x ∷ [] → ys ≡ take i xs ++ x ∷ drop (i + 1) ys
 whole xs ys i x front = sym (take-append-drop (i + 1) ys) ∙ ap (λ zs. zs ++ drop (i + 1) ys) front ∙ append_assoc (take i xs) (x ∷ []) (drop (i + 1) ys)
 
 -- a SelectMany, with the operators after it, makes this of the item
-pub through-expansion : {L T : Type 0} {meaning : L → Meaning T} {ops : List (StageState L)} {x : T} {before out : List T} {i : ℕ} {op : StageState L} {now : List (StageState L)} {y : T} {last : Option Ending}
+pub through-expansion : {L T : Type 0} {meaning : L → Meaning T} {ops : List (StageState L)} {x : T} {before out : List T} {i : ℕ} {op : StageState L} {now : List (StageState L)} {y : T}
     (s : Stage T) (now' : List (StageState L)) (after : List T) (e : Option Ending) (d : StageState L)
-    → i < length now → op ≡ get_or now i d → state_stage meaning op ≡ s → IsThrough meaning ops x before out i now y last
+    → i < length now → op ≡ get_or now i d → state_stage meaning op ≡ s → IsThrough meaning ops x before out i now y
     → take (i + 1) now' ≡ take (i + 1) now
     → IsFed (s ∷ stages_now meaning (drop (i + 1) now)) (open_trace (y ∷ [])) out after (s ∷ stages_now meaning (drop (i + 1) now')) e
-    → IsFed (stages_now meaning ops) (open_trace (x ∷ [])) before after (stages_now meaning now') (option_or e last)
+    → IsFed (stages_now meaning ops) (open_trace (x ∷ [])) before after (stages_now meaning now') e
 through-expansion {L} {T} {meaning} {ops} {x} {before} {out} {i} {op} {now} {y} s now' after e d within is expands through same fed =
     let here : drop i now ≡ op ∷ drop (i + 1) now = drop_more now i d within ∙ ap (λ o. o ∷ drop (i + 1) now) (sym is) in
     let front : take (i + 1) now' ≡ take i now ++ op ∷ [] = same ∙ take_more now i d within ∙ ap (λ o. take i now ++ o ∷ []) (sym is) in
@@ -146,23 +121,31 @@ set-parts : {L : Type 0} (now : List (StageState L)) (i : ℕ) (op : StageState 
 set-parts now i op within = rw add-one (set_split now i op within)
 
 -- the operator gives nothing
-pub through-nothing : {L T : Type 0} {meaning : L → Meaning T} {ops : List (StageState L)} {x : T} {before out : List T} {i : ℕ} {op : StageState L} {now : List (StageState L)} {y : T} {last : Option Ending}
-    (op' : StageState L) → IsAt meaning ops x before out i op now y last
+pub through-nothing : {L T : Type 0} {meaning : L → Meaning T} {ops : List (StageState L)} {x : T} {before out : List T} {i : ℕ} {op : StageState L} {now : List (StageState L)} {y : T}
+    (op' : StageState L) → IsAt meaning ops x before out i op now y
     → open_trace [] ≡ apply (state_stage meaning op) (open_trace (y ∷ [])) → state_stage meaning op' ≡ stage_after (state_stage meaning op) (y ∷ [])
-    → IsFed (stages_now meaning ops) (open_trace (x ∷ [])) before out (stages_now meaning (set now i op')) last
+    → IsFed (stages_now meaning ops) (open_trace (x ∷ [])) before out (stages_now meaning (set now i op')) None
 through-nothing {L} {T} {meaning} {ops} {x} {before} {out} {i} {op} {now} op' here gives stage_after =
     rw (set-parts now i op' here.within)
     (here.passed (open_trace []) op' (drop (i + 1) now) out None gives stage_after (fed-none (stages_now meaning (drop (i + 1) now)) out here.undecided))
 
--- the operator ends the run
-pub through-ending : {L T : Type 0} {meaning : L → Meaning T} {ops : List (StageState L)} {x : T} {before out : List T} {i : ℕ} {op : StageState L} {now : List (StageState L)} {y : T} {last : Option Ending}
-    (e : Ending) (op' : StageState L) → IsAt meaning ops x before out i op now y last
-    → ended [] e ≡ apply (state_stage meaning op) (open_trace (y ∷ [])) → state_stage meaning op' ≡ stage_after (state_stage meaning op) (y ∷ [])
-    → IsFed (stages_now meaning ops) (open_trace (x ∷ [])) before out (stages_now meaning (set now i op')) (Some e)
-through-ending {L} {T} {meaning} {ops} {x} {before} {out} {i} {op} {now} e op' here gives stage_after =
-    let others = stages_now meaning (drop (i + 1) now) in
-    rw (set-parts now i op' here.within)
-    (here.passed (ended [] e) op' (drop (i + 1) now) out (Some e) gives stage_after (fed-ending others others out e here.undecided))
+-- what the operator gives has gone through those after it
+pub through-rest : {L T : Type 0} {meaning : L → Meaning T} {ops : List (StageState L)} {x : T} {before out : List T} {i : ℕ} {op : StageState L} {now : List (StageState L)} {y : T}
+    (t : Trace T) (op' : StageState L) (now' : List (StageState L)) (after : List T) (e : Option Ending) → IsAt meaning ops x before out i op now y
+    → t ≡ apply (state_stage meaning op) (open_trace (y ∷ [])) → state_stage meaning op' ≡ stage_after (state_stage meaning op) (y ∷ [])
+    → take (i + 1) now' ≡ take (i + 1) (set now i op')
+    → IsFed (stages_now meaning (drop (i + 1) (set now i op'))) t out after (stages_now meaning (drop (i + 1) now')) e
+    → IsFed (stages_now meaning ops) (open_trace (x ∷ [])) before after (stages_now meaning now') e
+through-rest {L} {T} {meaning} {ops} {x} {before} {out} {i} {op} {now} t op' now' after e here gives stage_after same fed =
+    let others : drop (i + 1) (set now i op') ≡ drop (i + 1) now = drop-set-lt (i + 1) now i op' (omega arith) in
+    rw (whole now now' i op' (same ∙ take_more_set now i op' here.within)) (here.passed t op' (drop (i + 1) now') after e gives stage_after (rw others at fed))
+
+-- and they take what it gives
+pub undecided-rest : {L T : Type 0} {meaning : L → Meaning T} {ops : List (StageState L)} {x : T} {before out : List T} {i : ℕ} {op : StageState L} {now : List (StageState L)} {y : T}
+    (op' : StageState L) → IsAt meaning ops x before out i op now y → some_takes_none (stages_now meaning (drop (i + 1) (set now i op'))) ≡ false
+undecided-rest {L} {T} {meaning} {ops} {x} {before} {out} {i} {op} {now} op' here =
+    let others : drop (i + 1) (set now i op') ≡ drop (i + 1) now = drop-set-lt (i + 1) now i op' (omega arith) in
+    rw others here.undecided
 
 -- ---- a block, from an operator on
 
@@ -176,13 +159,13 @@ take-one xs ys i x within same =
     ap (take i) (whole xs ys i x (same ∙ take_more_set xs i x within)) ∙ take_at (take i xs) (x ∷ drop (i + 1) ys) i (length-take-le i xs (omega (arith, within)))
 
 -- what an operator makes of the items goes on through those after it
-pub through-first : {L T : Type 0} (meaning : L → Meaning T) (op op' : StageState L) (ops ops' : List (StageState L)) (i : ℕ) (xs : List T) (t : Trace T) (before after : List T) (e : Option Ending) (d : StageState L)
+pub through-first : {L T : Type 0} (meaning : L → Meaning T) (op op' : StageState L) (ops ops' : List (StageState L)) (i : ℕ) (xs : List T) (told : Option Ending) (t : Trace T) (before after : List T) (e : Option Ending) (d : StageState L)
     → i < length ops → op ≡ get_or ops i d → take (i + 1) ops' ≡ take (i + 1) (set ops i op')
-    → t ≡ apply (state_stage meaning op) (open_trace xs) → state_stage meaning op' ≡ stage_after (state_stage meaning op) xs
+    → t ≡ apply (state_stage meaning op) (trace_of xs told) → state_stage meaning op' ≡ stage_after (state_stage meaning op) xs
     → IsFed (stages_now meaning (drop (i + 1) (set ops i op'))) t before after (stages_now meaning (drop (i + 1) ops')) e
-    → IsFed (stages_now meaning (drop i ops)) (open_trace xs) before after (stages_now meaning (drop i ops')) e
-through-first {L} {T} meaning op op' ops ops' i xs t before after e d within is same gives stage_after fed =
+    → IsFed (stages_now meaning (drop i ops)) (trace_of xs told) before after (stages_now meaning (drop i ops')) e
+through-first {L} {T} meaning op op' ops ops' i xs told t before after e d within is same gives stage_after fed =
     let here : drop i ops ≡ op ∷ drop (i + 1) ops = drop_more ops i d within ∙ ap (λ o. o ∷ drop (i + 1) ops) (sym is) in
     let others : drop (i + 1) (set ops i op') ≡ drop (i + 1) ops = drop-set-lt (i + 1) ops i op' (omega arith) in
     rw (here, drop-one ops ops' i op' within same)
-    (fed-through (state_stage meaning op) (state_stage meaning op') xs t (stages_now meaning (drop (i + 1) ops)) (stages_now meaning (drop (i + 1) ops')) before after e (sym gives) (sym stage_after) (rw others at fed))
+    (fed-through (state_stage meaning op) (state_stage meaning op') xs told t (stages_now meaning (drop (i + 1) ops)) (stages_now meaning (drop (i + 1) ops')) before after e (sym gives) (sym stage_after) (rw others at fed))

@@ -10,7 +10,7 @@ use crate::decided::is_decided;
 use crate::pipeline::Pipeline;
 use crate::query::Query;
 use plinq_lambda::Lambda;
-use plinq_source::{Ending, OutOfMemory, Source, Step};
+use plinq_source::{Ending, OutOfMemory, Source};
 use std::alloc::Global;
 
 /// The query's answer on one thread, as LINQ gives it: its items and how it ends. `AsUnordered` leaves the order as
@@ -51,7 +51,7 @@ pub fn sequential<L: Lambda, S: Source<Item = L::Item>>(
     Ok((items, ending))
 }
 
-/// Sends the items of a source through a pipeline, up to the one that ends the run, and the ending after them.
+/// Sends what a source gives through a pipeline, up to the item that ends the run, or the ending.
 fn feed_all<L: Lambda, S: Source<Item = L::Item>>(
     alloc: Global,
     pipeline: &mut Pipeline<'_, L>,
@@ -68,14 +68,8 @@ fn feed_all<L: Lambda, S: Source<Item = L::Item>>(
         (stages L.meaning pipeline.new)) }
 {
     loop {
-        match source.next() {
-            Step::Item(item) => {
-                if let Some(ending) = pipeline.feed(alloc, item, out)? {
-                    return Ok(ending);
-                }
-            }
-            Step::End => return Ok(Ending::End),
-            Step::Refused(code) => return Ok(Ending::Refused(code)),
+        if let Some(ending) = pipeline.feed_from(alloc, source, out)? {
+            return Ok(ending);
         }
     }
 }

@@ -89,7 +89,7 @@ fn work<L: Lambda>(
     let reached = count_within(first, items.len(), cut);
     let (block, rest) = items.split_at(reached);
     out.extend_from_slice(block)?;
-    if pipeline.feed_block(alloc, out)?.is_some() {
+    if pipeline.feed_block(alloc, out, None)?.is_some() {
         out.clear();
         return work_each(alloc, worker, first, items, cut, out);
     }

@@ -1,5 +1,6 @@
 ghost use Rattle.std.specs.Prelude.{◌≡◌, ◌≤◌, false, IfOk, OnOk, ◌∷◌, ◌++◌, [], length, take, drop};
-ghost use Rattle.plinq_source.specs.Trace.{open_trace};
+ghost use Rattle.plinq_source.specs.declared.ending.Ending.TheVariants.{End};
+ghost use Rattle.plinq_source.specs.Trace.{open_trace, ended};
 ghost use Rattle.plinq_ops.specs.declared.op.Op.TheVariants.{SelectMany};
 ghost use Rattle.plinq_ops.specs.Stage.{some_takes_none};
 ghost use Rattle.plinq_ops.specs.Operator.{stage_of};
@@ -26,52 +27,98 @@ pub(crate) fn feed<L: Lambda>(
         (stages_now L.meaning ops.new)) }
 {
     let mut item = item;
-    let mut last = None;
     for at in 0..ops.len() {
         if let StageState::Expanding(f) = ops[at] {
-            let ending = feed_expansion(alloc, f, ops, at + 1, item, out)?;
-            return Ok(ending.or(last));
+            let ended = feed_expansion(alloc, f, ops, at + 1, item, out)?;
+            return Ok(ended);
         }
         match pass(&mut ops[at], &mut item) {
             Passed::Item => {}
-            Passed::Last => last = Some(Ending::End),
-            Passed::Nothing => return Ok(last),
-            Passed::Ends(ending) => return Ok(Some(ending)),
+            Passed::Last => {
+                let ended = feed_last(alloc, ops, at + 1, item, out)?;
+                return Ok(ended);
+            }
+            Passed::Nothing => return Ok(None),
+            Passed::Ends(ending) => {
+                let ended = feed_end(alloc, ops, at + 1, ending, out)?;
+                return Ok(ended);
+            }
         }
     }
     out.push(item)?;
-    Ok(last)
+    Ok(None)
 }
 
-/// Sends a block of items through the operators from one on, one operator after another; the results take its place.
+/// Sends an operator's last item, and the end after it, through the operators from one on, and appends the results to `out`.
+fn feed_last<L: Lambda>(
+    alloc: Global,
+    ops: &mut [StageState<'_, L>],
+    from: usize,
+    item: L::Item,
+    out: &mut Vec<L::Item>,
+) -> Result<Option<Ending>, OutOfMemory>
+    requires within { from ≤ length ops.old }
+    requires undecided { some_takes_none (stages_now L.meaning (drop from ops.old)) ≡ false }
+    ensures others { IfOk result (λ _. take from ops.new ≡ take from ops.old) }
+    ensures fed { IfOk result (IsFed
+        (stages_now L.meaning (drop from ops.old)) (ended (item ∷ []) End)
+        out.old.items out.new.items
+        (stages_now L.meaning (drop from ops.new))) }
+{
+    let mut last = Vec::new(alloc);
+    last.push(item)?;
+    feed_rest(alloc, ops, from, last, Some(Ending::End), out)
+}
+
+/// Tells the operators from one on how the run ends, and appends what they held back until then to `out`.
+pub(crate) fn feed_end<L: Lambda>(
+    alloc: Global,
+    ops: &mut [StageState<'_, L>],
+    from: usize,
+    ending: Ending,
+    out: &mut Vec<L::Item>,
+) -> Result<Option<Ending>, OutOfMemory>
+    requires within { from ≤ length ops.old }
+    requires undecided { some_takes_none (stages_now L.meaning (drop from ops.old)) ≡ false }
+    ensures others { IfOk result (λ _. take from ops.new ≡ take from ops.old) }
+    ensures fed { IfOk result (IsFed
+        (stages_now L.meaning (drop from ops.old)) (ended [] ending)
+        out.old.items out.new.items
+        (stages_now L.meaning (drop from ops.new))) }
+{
+    feed_rest(alloc, ops, from, Vec::new(alloc), Some(ending), out)
+}
+
+/// Sends a block of items, and how the run ends after them if it does, through the operators from one on, one operator after
+/// another; the results take the block's place.
 #[cycle(blocks)]
 pub(crate) fn feed_block<L: Lambda>(
     alloc: Global,
     ops: &mut [StageState<'_, L>],
     from: usize,
     block: &mut Vec<L::Item>,
+    ending: Option<Ending>,
 ) -> Result<Option<Ending>, OutOfMemory>
     requires within { from ≤ length ops.old }
     requires undecided { some_takes_none (stages_now L.meaning (drop from ops.old)) ≡ false }
     ensures others { IfOk result (λ _. take from ops.new ≡ take from ops.old) }
     ensures fed { IfOk result (IsFed
-        (stages_now L.meaning (drop from ops.old)) (open_trace block.old.items)
+        (stages_now L.meaning (drop from ops.old)) (record { items = block.old.items; ending = ending })
         [] block.new.items
         (stages_now L.meaning (drop from ops.new))) }
 {
     if from == ops.len() {
-        return Ok(None);
+        return Ok(ending);
     }
     if let StageState::Expanding(f) = ops[from] {
-        return feed_expansions(alloc, f, ops, from + 1, block);
+        return feed_expansions(alloc, f, ops, from + 1, block, ending);
     }
-    let ending = pass_block(&mut ops[from], block);
-    let earlier = feed_block(alloc, ops, from + 1, block)?;
-    Ok(earlier.or(ending))
+    let ending = pass_block(&mut ops[from], block, ending);
+    feed_block(alloc, ops, from + 1, block, ending)
 }
 
 /// Sends the expansions of a block's items through the operators from one on, one expansion after another, so that no more
-/// than one is held that they haven't seen.
+/// than one is held that they haven't seen, and then the ending.
 #[cycle(blocks)]
 fn feed_expansions<L: Lambda>(
     alloc: Global,
@@ -79,23 +126,27 @@ fn feed_expansions<L: Lambda>(
     ops: &mut [StageState<'_, L>],
     from: usize,
     block: &mut Vec<L::Item>,
+    ending: Option<Ending>,
 ) -> Result<Option<Ending>, OutOfMemory>
     requires within { from ≤ length ops.old }
     requires undecided { some_takes_none (stages_now L.meaning (drop from ops.old)) ≡ false }
     ensures others { IfOk result (λ _. take from ops.new ≡ take from ops.old) }
     ensures fed { IfOk result (IsFed
-        (stage_of L.meaning (SelectMany f.now) ∷ stages_now L.meaning (drop from ops.old)) (open_trace block.old.items)
+        (stage_of L.meaning (SelectMany f.now) ∷ stages_now L.meaning (drop from ops.old)) (record { items = block.old.items; ending = ending })
         [] block.new.items
         (stage_of L.meaning (SelectMany f.now) ∷ stages_now L.meaning (drop from ops.new))) }
 {
     let items = std::mem::replace(block, Vec::new(alloc));
     for item in items.iter() {
-        let ending = feed_expansion(alloc, f, ops, from, *item, block)?;
-        if ending.is_some() {
-            return Ok(ending);
+        let ended = feed_expansion(alloc, f, ops, from, *item, block)?;
+        if ended.is_some() {
+            return Ok(ended);
         }
     }
-    Ok(None)
+    if ending.is_none() {
+        return Ok(None);
+    }
+    feed_rest(alloc, ops, from, Vec::new(alloc), ending, block)
 }
 
 /// Sends the expansion of one item through the operators from one on, and appends the results to `out`.
@@ -117,14 +168,38 @@ fn feed_expansion<L: Lambda>(
         (stage_of L.meaning (SelectMany f.now) ∷ stages_now L.meaning (drop from ops.new))) }
 {
     match f.expand(alloc, item) {
-        Ok(mut expansion) => {
-            let ending = feed_block(alloc, ops, from, &mut expansion)?;
-            append_or_take(out, expansion)?;
-            Ok(ending)
+        Ok(expansion) => feed_rest(alloc, ops, from, expansion, None, out),
+        Err(ExpandFault::Code(code)) => {
+            let ending = Some(Ending::Fault(code));
+            feed_rest(alloc, ops, from, Vec::new(alloc), ending, out)
         }
-        Err(ExpandFault::Code(code)) => Ok(Some(Ending::Fault(code))),
         Err(ExpandFault::Memory) => Err(OutOfMemory),
     }
+}
+
+/// Sends items, and how the run ends after them if it does, through the operators from one on, and appends the results to
+/// `out`.
+#[cycle(blocks)]
+fn feed_rest<L: Lambda>(
+    alloc: Global,
+    ops: &mut [StageState<'_, L>],
+    from: usize,
+    items: Vec<L::Item>,
+    ending: Option<Ending>,
+    out: &mut Vec<L::Item>,
+) -> Result<Option<Ending>, OutOfMemory>
+    requires within { from ≤ length ops.old }
+    requires undecided { some_takes_none (stages_now L.meaning (drop from ops.old)) ≡ false }
+    ensures others { IfOk result (λ _. take from ops.new ≡ take from ops.old) }
+    ensures fed { IfOk result (IsFed
+        (stages_now L.meaning (drop from ops.old)) (record { items = items.items; ending = ending })
+        out.old.items out.new.items
+        (stages_now L.meaning (drop from ops.new))) }
+{
+    let mut block = items;
+    let ending = feed_block(alloc, ops, from, &mut block, ending)?;
+    append_or_take(out, block)?;
+    Ok(ending)
 }
 
 /// Appends a list's items. Where nothing was there and there is no room for them, the list itself takes its place, and no item

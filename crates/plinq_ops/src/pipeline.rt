@@ -1,8 +1,8 @@
-ghost use Rattle.std.specs.Prelude.{◌≡◌, [], ◌∷◌, true, false, IfOk};
-ghost use Rattle.plinq_source.specs.Trace.{open_trace};
+ghost use Rattle.std.specs.Prelude.{◌≡◌, ◌<◌, ◌≤◌, ◌+◌, [], ◌∷◌, true, false, length, IfOk, OnOk};
+ghost use Rattle.plinq_source.specs.Trace.{open_trace, ended, items_from};
 ghost use Rattle.plinq_ops.specs.Stage.{takes_none, some_takes_none};
 ghost use Rattle.plinq_ops.specs.ByKey.{is_by_key};
-ghost use Rattle.plinq_ops.specs.Feeding.{IsFed};
+ghost use Rattle.plinq_ops.specs.Feeding.{IsFed, FeedsFrom, trace_of_step};
 ghost use Rattle.plinq_ops.specs.Operator.{state_stage};
 ghost use Rattle.plinq_ops.specs.Pipeline.{IsReached, stages};
 
@@ -10,7 +10,7 @@ use crate::feeding;
 use crate::op::Op;
 use crate::stage_state::{StageState, passed_on};
 use plinq_lambda::Lambda;
-use plinq_source::{Ending, OutOfMemory};
+use plinq_source::{Ending, OutOfMemory, Source, Step};
 use std::alloc::Global;
 use std::marker::Model;
 
@@ -89,7 +89,8 @@ impl<'a, L: Lambda> Pipeline<'a, L> {
     ///
     /// # Errors
     ///
-    /// [`OutOfMemory`] where there is no room for an expansion or in `out`; the pipeline is of no more use then.
+    /// [`OutOfMemory`] where there is no room for an expansion, for a Take's last item or in `out`; the pipeline is of no more
+    /// use then.
     pub fn feed(
         &mut self,
         alloc: Global,
@@ -106,8 +107,83 @@ impl<'a, L: Lambda> Pipeline<'a, L> {
         feeding::feed(alloc, self.remaining.as_mut_slice(), item, out)
     }
 
-    /// Feeds a block of items, which the results replace. Answers how the run ended, or `None` where
-    /// more items may follow.
+    /// Asks a source for its next element and feeds it, or the ending.
+    ///
+    /// # Errors
+    ///
+    /// Those of [`feed`](Pipeline::feed); the source has given the element then.
+    #[inline(always)]
+    pub fn feed_from<S: Source<Item = L::Item>>(
+        &mut self,
+        alloc: Global,
+        source: &mut S,
+        out: &mut Vec<L::Item>,
+    ) -> Result<Option<Ending>, OutOfMemory>
+        requires undecided { some_takes_none (stages L.meaning self.old) ≡ false }
+        ensures same { self.new.ops ≡ self.old.ops }
+        ensures whole { S.whole source.new ≡ S.whole source.old }
+        ensures one { S.given source.new ≤ S.given source.old + 1 }
+        ensures fed { IfOk result (FeedsFrom
+            (stages L.meaning self.old) (S.whole source.old) (S.given source.old) (S.given source.new)
+            out.old.items out.new.items
+            (stages L.meaning self.new)) }
+    {
+        let step = source.next();
+        self.feed_next(alloc, step, out)
+    }
+
+    // What a source gave: an item, or its ending.
+    #[inline(always)]
+    fn feed_next(
+        &mut self,
+        alloc: Global,
+        step: Step<L::Item>,
+        out: &mut Vec<L::Item>,
+    ) -> Result<Option<Ending>, OutOfMemory>
+        requires undecided { some_takes_none (stages L.meaning self.old) ≡ false }
+        ensures same { self.new.ops ≡ self.old.ops }
+        ensures fed { IfOk result (IsFed
+            (stages L.meaning self.old) (trace_of_step step)
+            out.old.items out.new.items
+            (stages L.meaning self.new)) }
+    {
+        match step {
+            Step::Item(item) => self.feed(alloc, item, out),
+            Step::End => {
+                let ended = self.feed_end(alloc, Ending::End, out)?;
+                Ok(ended)
+            }
+            Step::Refused(code) => {
+                let ended = self.feed_end(alloc, Ending::Refused(code), out)?;
+                Ok(ended)
+            }
+        }
+    }
+
+    /// Feeds the end: no item follows, and the source ended so. Appends to `out` what the operators held back until then, and
+    /// answers how the run ended.
+    ///
+    /// # Errors
+    ///
+    /// [`OutOfMemory`] where there is no room in `out`; the pipeline is of no more use then.
+    pub fn feed_end(
+        &mut self,
+        alloc: Global,
+        ending: Ending,
+        out: &mut Vec<L::Item>,
+    ) -> Result<Option<Ending>, OutOfMemory>
+        requires undecided { some_takes_none (stages L.meaning self.old) ≡ false }
+        ensures same { self.new.ops ≡ self.old.ops }
+        ensures fed { IfOk result (IsFed
+            (stages L.meaning self.old) (ended [] ending)
+            out.old.items out.new.items
+            (stages L.meaning self.new)) }
+    {
+        feeding::feed_end(alloc, self.remaining.as_mut_slice(), 0, ending, out)
+    }
+
+    /// Feeds a block of items, which the results replace, and the ending that comes after them, if one does. Answers how the
+    /// run ended, or `None` where more items may follow.
     ///
     /// # Errors
     ///
@@ -116,15 +192,46 @@ impl<'a, L: Lambda> Pipeline<'a, L> {
         &mut self,
         alloc: Global,
         block: &mut Vec<L::Item>,
+        ending: Option<Ending>,
     ) -> Result<Option<Ending>, OutOfMemory>
         requires undecided { some_takes_none (stages L.meaning self.old) ≡ false }
         ensures same { self.new.ops ≡ self.old.ops }
         ensures fed { IfOk result (IsFed
-            (stages L.meaning self.old) (open_trace block.old.items)
+            (stages L.meaning self.old) (record { items = block.old.items; ending = ending })
             [] block.new.items
             (stages L.meaning self.new)) }
     {
-        feeding::feed_block(alloc, self.remaining.as_mut_slice(), 0, block)
+        feeding::feed_block(alloc, self.remaining.as_mut_slice(), 0, block, ending)
+    }
+
+    /// Asks a source for `most` elements at once and feeds them, and the ending where fewer are left. The results stand in
+    /// `block`, which was empty.
+    ///
+    /// # Errors
+    ///
+    /// [`OutOfMemory`] where there is no room for the elements, and the errors of [`feed_block`](Pipeline::feed_block); the
+    /// source may have given the elements then.
+    pub fn feed_block_from<S: Source<Item = L::Item>>(
+        &mut self,
+        alloc: Global,
+        source: &mut S,
+        most: u64,
+        block: &mut Vec<L::Item>,
+    ) -> Result<Option<Ending>, OutOfMemory>
+        requires undecided { some_takes_none (stages L.meaning self.old) ≡ false }
+        requires some { 0 < most }
+        requires empty { block.old.items ≡ [] }
+        ensures same { self.new.ops ≡ self.old.ops }
+        ensures whole { S.whole source.new ≡ S.whole source.old }
+        ensures asked { OnOk result (S.given source.new ≡ S.given source.old + length (items_from (S.whole source.old) (S.given source.old) most)) }
+        ensures fed { IfOk result (FeedsFrom
+            (stages L.meaning self.old) (S.whole source.old) (S.given source.old) (S.given source.new)
+            [] block.new.items
+            (stages L.meaning self.new)) }
+    {
+        block.reserve(most as usize)?;
+        let ending = source.fill(block, most);
+        self.feed_block(alloc, block, ending)
     }
 }
 

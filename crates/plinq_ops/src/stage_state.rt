@@ -119,12 +119,24 @@ pub(crate) fn pass<L: Lambda>(op: &mut StageState<'_, L>, item: &mut L::Item) ->
     }
 }
 
-/// Sends a block of items through one operator but SelectMany; the results take its place. Answers how the run ended.
-/// Takes no memory.
+/// Sends a block of items, and how the run ends after them if it does, through one operator but SelectMany; the results take
+/// the block's place. Answers how the run ended. Takes no memory. An operator that waits for the end would hear of it here.
 pub(crate) fn pass_block<L: Lambda>(
     op: &mut StageState<'_, L>,
     block: &mut Vec<L::Item>,
+    ending: Option<Ending>,
 ) -> Option<Ending>
+    requires in_place { expands op.old ≡ false }
+    requires takes_some { takes_none (state_stage L.meaning op.old) ≡ false }
+    ensures passed { record { items = block.new.items; ending = result }
+        ≡ apply (state_stage L.meaning op.old) (record { items = block.old.items; ending = ending }) }
+    ensures left { state_stage L.meaning op.new ≡ stage_after (state_stage L.meaning op.old) block.old.items }
+{
+    pass_items(op, block).or(ending)
+}
+
+/// Sends a block of items through one operator but SelectMany. None of these operators waits for the end.
+fn pass_items<L: Lambda>(op: &mut StageState<'_, L>, block: &mut Vec<L::Item>) -> Option<Ending>
     requires in_place { expands op.old ≡ false }
     requires takes_some { takes_none (state_stage L.meaning op.old) ≡ false }
     ensures passed { record { items = block.new.items; ending = result }

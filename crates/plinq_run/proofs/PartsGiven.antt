@@ -1,13 +1,12 @@
 -- A taker that was given the accumulators of what was merged was given those of an answer.
 use Rattle.std.specs.Prelude.{◌≡◌, ◌≤◌, ◌^◌, List, [], length, Bool, true, false, not, ◌&&◌, Option, Some, None, Result, Ok, Err, All, refl}
 use Rattle.std.specs.List.{list_any}
-use Rattle.std.specs.Option.{option_or}
 use Rattle.std.proofs.Common.{sym, ◌∙◌, ap, subst}
 use Rattle.std.proofs.lemmas.List.Elements.{All-weaker}
 use Rattle.plinq_source.specs.declared.ending.Ending.{Ending}
 use Rattle.plinq_source.specs.declared.ending.Ending.TheVariants.{End}
 use Rattle.plinq_source.specs.declared.source.Source.{Ghosts as SourceGhosts}
-use Rattle.plinq_source.specs.Trace.{Trace, open_trace, followed, ended}
+use Rattle.plinq_source.specs.Trace.{Trace, followed, ended}
 use Rattle.plinq_lambda.specs.Meaning.{Meaning}
 use Rattle.plinq_aggregate.specs.Folding.{Folding, IsFolding}
 use Rattle.plinq_ops.specs.declared.op.Op.{Op}
@@ -73,11 +72,9 @@ begun-folds meaning can_take d ops reached some can =
     ap (λ b. not b && can_take d.inner) undecided ∙ can
 
 -- and so where the answer is open after items that were fed
-pub still-folds : {L T F W : Type 0} (meaning : L → Meaning T) (can_take : W → Bool) (d : FoldBlocks L F W) (ss : List (Stage T)) (xs out : List T) (fed told : Option Ending) → IsFed ss (open_trace xs) [] out (stages meaning d.pipeline) fed
-    → option_or fed told ≡ None → can_take d.inner ≡ true → can_fold meaning can_take d ≡ true
-still-folds meaning can_take d ss xs out None told is is_open can =
-    ap (λ b. not b && can_take d.inner) (undecided-left ss (stages meaning d.pipeline) (open_trace xs) [] out is) ∙ can
-still-folds meaning can_take d ss xs out (Some e) told is is_open can = absurd (cc)
+pub still-folds : {L T F W : Type 0} (meaning : L → Meaning T) (can_take : W → Bool) (d : FoldBlocks L F W) (ss : List (Stage T)) (t : Trace T) (out : List T) → IsFed ss t [] out (stages meaning d.pipeline) None
+    → can_take d.inner ≡ true → can_fold meaning can_take d ≡ true
+still-folds meaning can_take d ss t out fed can = ap (λ b. not b && can_take d.inner) (undecided-left ss (stages meaning d.pipeline) t [] out fed) ∙ can
 
 module _ {L T A U W O : Type 0} (f : Folding T A U) (lawful : IsFolding f) (made : W → O → Trace A → Result (Option Ending) DeliveryFault → W → O → Type 0) (taking : IsTaking made)
     (meaning : L → Meaning T) (plan : Plan L) (t : Trace T) (few : length t.items ≤ 2 ^ 40) (undecided : IsUndecided plan) where

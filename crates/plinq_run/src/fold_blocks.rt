@@ -50,14 +50,14 @@ where
         ensures made { MadeBy L.meaning A.folding W.made self.old out.old (record { items = items.items; ending = ending }) result self.new out.new }
     {
         let mut block = items;
-        let ended = self.pipeline.feed_block(self.alloc, &mut block)?;
+        let ending = self.pipeline.feed_block(self.alloc, &mut block, ending)?;
         let mut parts = Vec::with_capacity(self.alloc, 1)?;
         let seed = self.aggregator.seed(self.alloc);
         let part = self
             .aggregator
             .update_block(self.alloc, seed, block.as_slice())?;
         parts.push_reserved(part);
-        self.inner.take(parts, ended.or(ending), out)
+        self.inner.take(parts, ending, out)
     }
 
     fn idle(&self, out: &mut O)

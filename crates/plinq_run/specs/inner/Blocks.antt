@@ -1,6 +1,5 @@
 -- Items that go through operators, and are given on folded block by block.
 use Rattle.std.specs.Prelude.{◌≡◌, List, [], ◌∷◌, ◌++◌, Bool, not, ◌&&◌, Option, Some, None, Result, Ok, Err, refl}
-use Rattle.std.specs.Option.{option_or}
 use Rattle.std.proofs.Common.{sym, ◌∙◌, ap, subst}
 use Rattle.plinq_source.specs.declared.ending.Ending.{Ending}
 use Rattle.plinq_source.specs.Trace.{Trace, open_trace, followed}
@@ -11,7 +10,6 @@ use Rattle.plinq_ops.specs.Stage.{Stage, seq, seq_after, some_takes_none}
 use Rattle.plinq_ops.specs.Feeding.{IsFed}
 use Rattle.plinq_ops.specs.Pipeline.{stages}
 use Rattle.plinq_ops.proofs.Stages.{seq-followed}
-use Rattle.plinq_ops.proofs.Fed.{fed-told}
 use Rattle.plinq_merge.specs.declared.delivery_fault.DeliveryFault.{DeliveryFault}
 use Rattle.plinq_merge.specs.declared.delivery_fault.DeliveryFault.TheVariants.{Memory}
 use Rattle.plinq_merge.specs.Merging.{GoesOn}
@@ -99,7 +97,7 @@ module _ {T A U W O : Type 0} (f : Folding T A U) (lawful : IsFolding f) (made :
       (record { parts = trace_of (folded f out ∷ []) e; folds = as_one-folded f lawful (trace_of out e); last = b; taken = is })
 
   -- what came out of items that were fed was taken as one accumulator
-  passes-all : (how : Result (Option Ending) DeliveryFault) (now now' : List (Stage T)) (t : Trace T) (out : List T) (e : Option Ending) (a : W) (x : O) (b : W) (y : O) → IsFed now t [] out now' e → (how ≡ Ok None → e ≡ None)
+  pub passes-all : (how : Result (Option Ending) DeliveryFault) (now now' : List (Stage T)) (t : Trace T) (out : List T) (e : Option Ending) (a : W) (x : O) (b : W) (y : O) → IsFed now t [] out now' e → (how ≡ Ok None → e ≡ None)
       → made a x (trace_of (folded f out ∷ []) e) how b y → Passes f made now a x t how now' b y
   passes-all (Ok None) now now' t out e a x b y fed last is =
       let none : e ≡ None = last refl in
@@ -118,12 +116,6 @@ module _ {T A U W O : Type 0} (f : Folding T A U) (lawful : IsFolding f) (made :
       }
   passes-all (Ok (Some g)) now now' t out e a x b y fed last is = given-fed (Ok (Some g)) now now' t out e a x b y fed is
   passes-all (Err fault) now now' t out e a x b y fed last is = given-fed (Err fault) now now' t out e a x b y fed is
-
-  pub passes-fed : (how : Result (Option Ending) DeliveryFault) (now now' : List (Stage T)) (xs out : List T) (told fed e : Option Ending) (a : W) (x : O) (b : W) (y : O) → IsFed now (open_trace xs) [] out now' fed
-      → e ≡ option_or fed told → (how ≡ Ok None → e ≡ None) → made a x (trace_of (folded f out ∷ []) e) how b y → Passes f made now a x (trace_of xs told) how now' b y
-  passes-fed how now now' xs out told fed e a x b y is ends last taken =
-      passes-all how now now' (trace_of xs told) out e a x b y
-      (subst (IsFed now (trace_of xs told) [] out now') (sym ends) (fed-told xs told now now' [] out fed is)) last taken
 
 -- one trace after another
 pub made-lawful : {L F T A U W O : Type 0} (meaning : L → Meaning T) (folding : F → Folding T A U) → ((a : F) → IsFolding (folding a))

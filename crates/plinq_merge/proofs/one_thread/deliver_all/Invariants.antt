@@ -6,8 +6,8 @@ use Rattle.plinq_merge.proofs.SentSoFar.{HasSent}
 use Rattle.plinq_merge.proofs.one_thread.deliver_all.Given as goal
 
 -- the items given so far were fed and left the run open; what came out is sent, held back for a batch, or waits to be given to it
-abbrev pub invariant-loop-item : goal.invariant-loop-item
-invariant-loop-item g l =
+abbrev pub invariant-loop-made : goal.invariant-loop-made
+invariant-loop-made g l =
     record {
       whole : g.S.Source.whole l.source ≡ g.S.Source.whole l.fn.source;
       size : size_of l.buffer ≡ size_of l.fn.buffer;
@@ -16,5 +16,5 @@ invariant-loop-item g l =
           (first_items (g.S.Source.given l.source) (g.S.Source.whole l.fn.source)) (held_of l.buffer) l.made.items (stages g.L.Lambda.meaning l.pipeline) l.sink None;
     }
 
-abbrev pub decreases-loop-item : goal.decreases-loop-item
-decreases-loop-item g l = length (g.S.Source.whole l.source).items - g.S.Source.given l.source
+abbrev pub decreases-loop-made : goal.decreases-loop-made
+decreases-loop-made g l = length (g.S.Source.whole l.source).items - g.S.Source.given l.source

@@ -5,11 +5,11 @@ use Rattle.plinq_ops.specs.Sequential.{first_items}
 use Rattle.plinq_ops.proofs.answering.feed_all.Given as goal
 
 -- the items given so far were fed, and left the run open
-abbrev pub invariant-loop-item : goal.invariant-loop-item
-invariant-loop-item g l =
+abbrev pub invariant-loop-ending : goal.invariant-loop-ending
+invariant-loop-ending g l =
     (g.S.Source.whole l.source ≡ g.S.Source.whole l.fn.source)
     × IsFed (stages g.L.Lambda.meaning l.fn.pipeline) (first_items (g.S.Source.given l.source) (g.S.Source.whole l.fn.source))
     l.fn.out.items l.out.items (stages g.L.Lambda.meaning l.pipeline) None
 
-abbrev pub decreases-loop-item : goal.decreases-loop-item
-decreases-loop-item g l = length (g.S.Source.whole l.source).items - g.S.Source.given l.source
+abbrev pub decreases-loop-ending : goal.decreases-loop-ending
+decreases-loop-ending g l = length (g.S.Source.whole l.source).items - g.S.Source.given l.source

@@ -7,15 +7,17 @@ use Rattle.plinq_ops.specs.Pipeline.{stages_now}
 use Rattle.plinq_ops.proofs.feeding.+blocks.Given as goal
 
 abbrev pub decreases-feed_block : goal.decreases-feed_block
-decreases-feed_block g l = 3 * (length l.ops.now - l.from)
+decreases-feed_block g l = 4 * (length l.ops.now - l.from)
 
--- one more than that of `feed_block` over the same operators, which it calls
+-- each calls the one before it over the same operators
+abbrev pub decreases-feed_rest : goal.decreases-feed_rest
+decreases-feed_rest g l = 4 * (length l.ops.now - l.from) + 1
+
 abbrev pub decreases-feed_expansion : goal.decreases-feed_expansion
-decreases-feed_expansion g l = 3 * (length l.ops.now - l.from) + 1
+decreases-feed_expansion g l = 4 * (length l.ops.now - l.from) + 2
 
--- one more than that of `feed_expansion`
 abbrev pub decreases-feed_expansions : goal.decreases-feed_expansions
-decreases-feed_expansions g l = 3 * (length l.ops.now - l.from) + 2
+decreases-feed_expansions g l = 4 * (length l.ops.now - l.from) + 3
 
 abbrev pub invariant-feed_expansions-loop-item : goal.invariant-feed_expansions-loop-item
 invariant-feed_expansions-loop-item g l =

@@ -2,14 +2,14 @@ use Rattle.std.proofs.Common.{◌≡◌, length, ◌-◌, None}
 use Rattle.plinq_ops.specs.Pipeline.{stages}
 use Rattle.plinq_ops.specs.Sequential.{first_items}
 use Rattle.plinq_run.proofs.Pieces.{HasFolded}
-use Rattle.plinq_run.proofs.sequentially.fold_all.Given as goal
+use Rattle.plinq_run.proofs.sequential_fold.fold_all.Given as goal
 
 -- the items given so far were fed and left the run open, and what came out is folded but for the last piece
-abbrev pub invariant-loop-item : goal.invariant-loop-item
-invariant-loop-item g l =
+abbrev pub invariant-loop-piece : goal.invariant-loop-piece
+invariant-loop-piece g l =
     (g.S.Source.whole l.source ≡ g.S.Source.whole l.fn.source)
     × HasFolded (g.A.GrowingAggregator.folding l.aggregator) (stages g.L.Lambda.meaning l.fn.pipeline) (first_items (g.S.Source.given l.source) (g.S.Source.whole l.fn.source))
     l.acc l.piece.items (stages g.L.Lambda.meaning l.pipeline) None
 
-abbrev pub decreases-loop-item : goal.decreases-loop-item
-decreases-loop-item g l = length (g.S.Source.whole l.source).items - g.S.Source.given l.source
+abbrev pub decreases-loop-piece : goal.decreases-loop-piece
+decreases-loop-piece g l = length (g.S.Source.whole l.source).items - g.S.Source.given l.source

@@ -12,7 +12,7 @@ use crate::combined::Combined;
 use plinq_aggregate::GrowingAggregator;
 use plinq_lambda::Lambda;
 use plinq_ops::{Pipeline, Query};
-use plinq_source::{Ending, OutOfMemory, Source, Step};
+use plinq_source::{Ending, OutOfMemory, Source};
 use std::alloc::{AllocError, Global};
 
 /// After so many items a piece of the answer is folded.
@@ -58,7 +58,7 @@ where
     fold_all(alloc, &mut pipeline, source, aggregator)
 }
 
-/// Sends the items of a source through a pipeline, up to the one that ends the run, and folds what comes out.
+/// Sends what a source gives through a pipeline, up to the item that ends the run, or the ending, and folds what comes out.
 fn fold_all<L, S, A>(
     alloc: Global,
     pipeline: &mut Pipeline<'_, L>,
@@ -77,25 +77,11 @@ where
     let mut acc = aggregator.seed(alloc);
     let mut piece = Vec::new(alloc);
     loop {
-        match source.next() {
-            Step::Item(item) => {
-                if let Some(ending) = pipeline.feed(alloc, item, &mut piece)? {
-                    let acc = fold_piece(alloc, aggregator, acc, &piece)?;
-                    return Ok(Combined { acc, ending });
-                }
-                acc = fold_full(alloc, aggregator, acc, &mut piece)?;
-            }
-            Step::End => {
-                let acc = fold_piece(alloc, aggregator, acc, &piece)?;
-                let ending = Ending::End;
-                return Ok(Combined { acc, ending });
-            }
-            Step::Refused(code) => {
-                let acc = fold_piece(alloc, aggregator, acc, &piece)?;
-                let ending = Ending::Refused(code);
-                return Ok(Combined { acc, ending });
-            }
+        if let Some(ending) = pipeline.feed_from(alloc, source, &mut piece)? {
+            let acc = fold_piece(alloc, aggregator, acc, &piece)?;
+            return Ok(Combined { acc, ending });
         }
+        acc = fold_full(alloc, aggregator, acc, &mut piece)?;
     }
 }
 
