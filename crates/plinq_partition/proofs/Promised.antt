@@ -6,7 +6,7 @@ use Rattle.std.proofs.lemmas.Bool.{false≢true}
 use Rattle.plinq_keyed.specs.declared.keyed.Keyed.{Keyed}
 use Rattle.plinq_keyed.specs.Keys.{keys, key_lists, keyed_from, element_lists, rises, ordered_in_each, ordered_across, normalized, Keeps}
 use Rattle.plinq_partition.specs.Cuts.{cuts}
-use Rattle.plinq_partition.specs.declared.fault.PartFault.{PartFault}
+use Rattle.plinq_partition.specs.declared.part_fault.PartFault.{PartFault}
 use Rattle.plinq_partition.proofs.Whole.{ordered-cuts, normalized-cuts, rises-indexes}
 
 abbrev pub Parts : Type 0 → Type 0

@@ -9,24 +9,24 @@
 #![tactic(auto)]
 
 mod chunked;
-mod cutting;
 mod elements;
-mod fault;
+mod even_parts;
 mod laws;
 mod pair_parts;
+mod part_fault;
 mod partition;
 mod partitioner;
+mod partitioning;
 mod range_parts;
-mod sharing;
+mod requesting;
 mod take_fault;
-mod taking;
 
 pub use chunked::Chunked;
-pub use fault::PartFault;
 pub use laws::{
     chunked_keeps_its_promise, keys_of_a_partition_rise, keys_of_all_partitions_are_normalized,
 };
 pub use pair_parts::PairParts;
+pub use part_fault::PartFault;
 pub use partition::Partition;
 pub use partitioner::OrderablePartitioner;
 pub use range_parts::RangeParts;

@@ -1,11 +1,11 @@
 ghost use Rattle.std.specs.Prelude.{◌≡◌, ◌==◌, true, false, if◌then◌else◌, IfOk, IfErr};
 ghost use Rattle.plinq_keyed.specs.Keys.{keyed_from, element_lists, Keeps};
 ghost use Rattle.plinq_partition.specs.Cuts.{cuts};
-ghost use Rattle.plinq_partition.specs.declared.fault.PartFault.TheVariants.{NoPartitions, NotSupported, Memory};
+ghost use Rattle.plinq_partition.specs.declared.part_fault.PartFault.TheVariants.{NoPartitions, NotSupported, Memory};
 
-use crate::cutting::cut_elements;
 use crate::elements::Elements;
-use crate::fault::PartFault;
+use crate::even_parts::cut_elements;
+use crate::part_fault::PartFault;
 use crate::partitioner::OrderablePartitioner;
 use plinq_keyed::{KeyProperties, Keyed};
 use std::alloc::{AllocError, Global};

@@ -1,10 +1,10 @@
 ghost use Rattle.std.specs.Prelude.{◌≡◌, ◌≤◌, ◌==◌, if◌then◌else◌, IfOk, IfErr, OnOk};
 ghost use Rattle.plinq_keyed.specs.Keys.{element_lists};
 ghost use Rattle.plinq_partition.specs.Cuts.{cuts, cut_place};
-ghost use Rattle.plinq_partition.specs.declared.fault.PartFault.TheVariants.{NoPartitions, Memory};
+ghost use Rattle.plinq_partition.specs.declared.part_fault.PartFault.TheVariants.{NoPartitions, Memory};
 
 use crate::elements::Elements;
-use crate::fault::PartFault;
+use crate::part_fault::PartFault;
 use plinq_keyed::Keyed;
 use std::alloc::Global;
 

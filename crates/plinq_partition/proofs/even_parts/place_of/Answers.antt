@@ -1,5 +1,5 @@
 use Rattle.std.proofs.Common.{rules}
-use Rattle.plinq_partition.proofs.cutting.place_of.Goals as goal
+use Rattle.plinq_partition.proofs.even_parts.place_of.Goals as goal
 
 pub returns-clause-place : goal.returns-clause-place
 returns-clause-place c = search rules

@@ -2,7 +2,7 @@ use Rattle.std.proofs.Common.{◌≡◌, ◌≤◌, map, length, vec_len, vec_ca
 use Rattle.std.specs.List.{range_with_len}
 use Rattle.plinq_keyed.specs.Keys.{element_lists}
 use Rattle.plinq_partition.specs.Cuts.{cut, cut_place}
-use Rattle.plinq_partition.proofs.cutting.cut_elements.Given as goal
+use Rattle.plinq_partition.proofs.even_parts.cut_elements.Given as goal
 
 abbrev pub invariant-loop-part : goal.invariant-loop-part
 invariant-loop-part g l = record {

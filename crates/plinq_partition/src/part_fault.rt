@@ -1,5 +1,5 @@
 ghost use Rattle.std.specs.Prelude.{◌≡◌};
-ghost use Rattle.plinq_partition.specs.declared.fault.PartFault.TheVariants.{Memory};
+ghost use Rattle.plinq_partition.specs.declared.part_fault.PartFault.TheVariants.{Memory};
 
 use std::alloc::AllocError;
 use thiserror::Error;

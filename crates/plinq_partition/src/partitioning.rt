@@ -1,11 +1,11 @@
 ghost use Rattle.std.specs.Prelude.{◌≡◌, ◌≤◌, ◌^◌, ◌==◌, true, false, [], length, All, IfOk, IfErr, if◌then◌else◌};
-ghost use Rattle.plinq_partition.specs.declared.fault.PartFault.TheVariants.{NoPartitions, Memory};
+ghost use Rattle.plinq_partition.specs.declared.part_fault.PartFault.TheVariants.{NoPartitions, Memory};
 ghost use Rattle.plinq_partition.specs.Partitions.{Holding, holding_of, IsPartitionOf, AreMadeFrom, growth_of, new_beside, all_shares};
 ghost use Rattle.plinq_partition.specs.GivenBack.{IsGivenBack, common_origin};
 ghost use Rattle.plinq_ticket.specs.Shares.{in_ticket_order};
 
 use crate::chunked::Chunked;
-use crate::fault::PartFault;
+use crate::part_fault::PartFault;
 use crate::partition::Partition;
 use crate::partitioner::OrderablePartitioner;
 use crate::take_fault::TakeFault;

@@ -4,7 +4,7 @@ use Rattle.std.proofs.lemmas.List.{map-append}
 use Rattle.plinq_keyed.specs.Keys.{element_lists}
 use Rattle.plinq_partition.specs.Cuts.{cut, cut_place, between}
 use Rattle.plinq_partition.proofs.Whole.{cuts-more}
-use Rattle.plinq_partition.proofs.cutting.cut_elements.Goals as goal
+use Rattle.plinq_partition.proofs.even_parts.cut_elements.Goals as goal
 
 pub loop-part-preserved : goal.loop-part-preserved
 loop-part-preserved g c =
