@@ -21,7 +21,7 @@ use Rattle.plinq_partition.specs.Partitions.{Holding, IsPartitionOf, all_shares,
 use Rattle.plinq_partition.specs.declared.chunked.Chunked.{Chunked}
 use Rattle.plinq_partition.specs.declared.partition.Partition.{Partition}
 use Rattle.plinq_partition.specs.declared.take_fault.TakeFault.TheVariants.{Memory, Spent, Busy, Incomplete, Away}
-use Rattle.plinq_stream.specs.declared.known.PassKnowledge.{PassKnowledge}
+use Rattle.plinq_stream.specs.declared.pass_knowledge.PassKnowledge.{PassKnowledge}
 use Rattle.plinq_stream.specs.declared.sent.Sent.{Sent}
 use Rattle.plinq_stream.specs.declared.stream.Stream.{Stream}
 use Rattle.plinq_stream.specs.declared.stream_pass.StreamPass.{StreamPass}

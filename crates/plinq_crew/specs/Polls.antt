@@ -2,7 +2,7 @@
 use Rattle.std.specs.Prelude.{◌≡◌, ⊤, List, [], ◌++◌, Bool, false}
 use Rattle.std.specs.List.{FoldsTo}
 use Rattle.plinq_ops.specs.declared.results.ChunkResult.{ChunkResult}
-use Rattle.plinq_stream.specs.declared.known.PassKnowledge.{PassKnowledge}
+use Rattle.plinq_stream.specs.declared.pass_knowledge.PassKnowledge.{PassKnowledge}
 use Rattle.plinq_stream.specs.declared.sent.Sent.{Sent}
 use Rattle.plinq_stream.specs.Knowing.{with_received}
 use Rattle.plinq_crew.specs.declared.poll.Poll.{Poll}

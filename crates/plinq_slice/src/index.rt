@@ -2,7 +2,7 @@ ghost use Rattle.std.specs.Prelude.{◌≡◌, ◌≤◌, ◌^◌, map, nat_le, 
 ghost use Rattle.std.specs.List.{range_with_len};
 ghost use Rattle.plinq_source.specs.Trace.{ended};
 ghost use Rattle.plinq_source.specs.declared.ending.Ending.TheVariants.{End};
-ghost use Rattle.plinq_source.specs.declared.fault.SourceFault.TheVariants.{TooLarge};
+ghost use Rattle.plinq_source.specs.declared.source_fault.SourceFault.TheVariants.{TooLarge};
 
 use crate::item_at::ItemAt;
 use plinq_source::{Source, SourceFault, Step};

@@ -2,7 +2,7 @@
 ghost use Rattle.std.specs.Prelude.{◌≡◌, ◌^◌, vec_len, nat_le, is_ok, IfOk, IfErr};
 ghost use Rattle.plinq_source.specs.Trace.{ended};
 ghost use Rattle.plinq_source.specs.declared.ending.Ending.TheVariants.{End};
-ghost use Rattle.plinq_source.specs.declared.fault.SourceFault.TheVariants.{TooLarge};
+ghost use Rattle.plinq_source.specs.declared.source_fault.SourceFault.TheVariants.{TooLarge};
 
 use plinq_source::{ListSource, Source, SourceFault};
 use std::alloc::Global;

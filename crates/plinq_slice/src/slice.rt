@@ -1,7 +1,7 @@
 ghost use Rattle.std.specs.Prelude.{◌≡◌, ◌≤◌, ◌^◌, length, nat_le, is_ok, IfOk, IfErr};
 ghost use Rattle.plinq_source.specs.Trace.{ended};
 ghost use Rattle.plinq_source.specs.declared.ending.Ending.TheVariants.{End};
-ghost use Rattle.plinq_source.specs.declared.fault.SourceFault.TheVariants.{TooLarge};
+ghost use Rattle.plinq_source.specs.declared.source_fault.SourceFault.TheVariants.{TooLarge};
 
 use plinq_source::{Source, SourceFault, Step};
 

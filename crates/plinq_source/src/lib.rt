@@ -12,7 +12,6 @@
 mod concat;
 mod digits;
 mod ending;
-mod fault;
 mod limits;
 mod list;
 mod memory;
@@ -20,16 +19,17 @@ mod number;
 mod range;
 mod repeat;
 mod source;
+mod source_fault;
 mod step;
 mod text;
 
 pub use concat::ConcatSource;
 pub use ending::Ending;
-pub use fault::SourceFault;
 pub use list::ListSource;
 pub use memory::OutOfMemory;
 pub use range::RangeSource;
 pub use repeat::RepeatSource;
 pub use source::Source;
+pub use source_fault::SourceFault;
 pub use step::Step;
 pub use text::TextSource;

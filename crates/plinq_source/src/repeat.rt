@@ -4,9 +4,9 @@ ghost use Rattle.plinq_source.specs.Repeat.{is_repeat};
 ghost use Rattle.plinq_source.specs.declared.ending.Ending.TheVariants.{End};
 
 use crate::ending::Ending;
-use crate::fault::SourceFault;
 use crate::limits::MOST_ITEMS;
 use crate::source::Source;
+use crate::source_fault::SourceFault;
 use crate::step::Step;
 use std::mem::replace;
 

@@ -1,7 +1,7 @@
 -- Numbers one after another.
 use Rattle.std.proofs.Common.{◌≡◌, ℕ, zero, suc, ◌+◌, ◌-◌, ◌<◌, ◌≤◌, ◌==◌, eqb-true, eq-eqb, true, false, true≢false, [], ◌∷◌, take, drop, sym, ap, ◌∙◌, ⊎_elim, arith}
 use Rattle.std.proofs.lemmas.Bool.{cases_lt}
-use Rattle.plinq_stream.specs.declared.known.PassKnowledge.{PassKnowledge}
+use Rattle.plinq_stream.specs.declared.pass_knowledge.PassKnowledge.{PassKnowledge}
 use Rattle.plinq_stream.specs.Knowing.{numbers_from}
 use Rattle.plinq_stream.specs.Streams.{has, under, MayHandOut}
 use Rattle.plinq_stream.proofs.Under.{or-cases, or-first, or-second, either-way}

@@ -3,7 +3,7 @@ use Rattle.std.proofs.Common.{◌≡◌, ◌≢◌, ℕ, ◌<◌, ◌==◌, eqb-
 use Rattle.std.proofs.lemmas.Bool.{cases_lt}
 use Rattle.std.proofs.lemmas.List.Elements.{All-nil, All-cons, All-head, All-tail}
 use Rattle.std.proofs.lemmas.List.Folds.{list_any-append}
-use Rattle.plinq_stream.specs.declared.known.PassKnowledge.{PassKnowledge}
+use Rattle.plinq_stream.specs.declared.pass_knowledge.PassKnowledge.{PassKnowledge}
 use Rattle.plinq_stream.specs.declared.sent.Sent.{Sent}
 use Rattle.plinq_stream.specs.Streams.{has, under, HasReceivedAll}
 

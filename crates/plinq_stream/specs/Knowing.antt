@@ -1,6 +1,6 @@
 -- What a pass knows, and what becomes of it at each step.
 use Rattle.std.specs.Prelude.{◌≡◌, refl, ℕ, ◌+◌, zero, suc, List, [], ◌∷◌, ◌++◌, take, drop, true, false}
-use Rattle.plinq_stream.specs.declared.known.PassKnowledge.{PassKnowledge}
+use Rattle.plinq_stream.specs.declared.pass_knowledge.PassKnowledge.{PassKnowledge}
 use Rattle.plinq_stream.specs.declared.sent.Sent.{Sent}
 
 -- so many numbers from that one on

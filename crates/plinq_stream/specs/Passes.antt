@@ -1,7 +1,7 @@
 -- What a clause says of a stream and its passes.
 use Rattle.std.specs.Prelude.{◌≡◌, []}
 use Rattle.crossbeam_queue.specs.Passes.{view, IsPassOf as IsQueuePassOf}
-use Rattle.plinq_stream.specs.declared.known.PassKnowledge.{PassKnowledge}
+use Rattle.plinq_stream.specs.declared.pass_knowledge.PassKnowledge.{PassKnowledge}
 use Rattle.plinq_stream.specs.declared.stream.Stream.{Stream}
 use Rattle.plinq_stream.specs.declared.stream_pass.StreamPass.{StreamPass}
 

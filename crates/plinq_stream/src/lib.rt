@@ -12,7 +12,7 @@
 #![tactic(auto)]
 
 mod admits;
-mod known;
+mod pass_knowledge;
 mod plays;
 mod sent;
 mod stream;

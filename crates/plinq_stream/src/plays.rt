@@ -4,7 +4,7 @@ ghost use Rattle.plinq_stream.specs.Knowing.{with_sent, with_received, without_f
 ghost use Rattle.plinq_stream.specs.Streams.{HasReceived};
 
 use crate::admits::Admits;
-use crate::known::PassKnowledge;
+use crate::pass_knowledge::PassKnowledge;
 use crate::sent::Sent;
 use crossbeam_queue::protocol::{Join, Lesson, Outcome, Split};
 use std::marker::PhantomData;

@@ -1,5 +1,5 @@
 use crate::admits::Admits;
-use crate::known::PassKnowledge;
+use crate::pass_knowledge::PassKnowledge;
 use crate::sent::Sent;
 use crossbeam_queue::RuledArrayQueue;
 use crossbeam_queue::protocol::Protocol;

@@ -1,4 +1,4 @@
-use crate::known::PassKnowledge;
+use crate::pass_knowledge::PassKnowledge;
 use crate::sent::Sent;
 use crossbeam_queue::Pass;
 
