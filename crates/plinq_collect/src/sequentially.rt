@@ -11,10 +11,10 @@ ghost use Rattle.plinq_collect.specs.Folds.{first_of, has_item, has_none, counte
 ghost use Rattle.plinq_collect.specs.Telling.{LacksRoom, TellsSome};
 
 use crate::calling::visit_all;
-use crate::counted::Counted;
 use crate::equal_to::EqualTo;
 use crate::first_item::FirstItem;
 use crate::is_there::IsThere;
+use crate::item_count::ItemCount;
 use crate::telling::negated;
 use crate::visits::Visitor;
 use plinq_aggregate::{Aggregator, fold_sequential};
@@ -258,7 +258,7 @@ where
     ensures value { TellsSome counted (λ u. u ≡ answer_of L.meaning query.now.ops (S.whole source)) result }
     ensures memory { LacksRoom result }
 {
-    aggregate(rt, alloc, query, source, &Counted::<L>(PhantomData))
+    aggregate(rt, alloc, query, source, &ItemCount::<L>(PhantomData))
 }
 
 /// Whether the query has an item, of which one is asked for.

@@ -6,10 +6,10 @@ ghost use Rattle.plinq_collect.specs.Equal.{IsTestOf};
 ghost use Rattle.plinq_collect.specs.Folds.{first_of, has_item, has_none, counted};
 ghost use Rattle.plinq_collect.specs.Telling.{TellsSome, negated};
 
-use crate::counted::Counted;
 use crate::equal_to::EqualTo;
 use crate::first_item::FirstItem;
 use crate::is_there::IsThere;
+use crate::item_count::ItemCount;
 use plinq_enumerator::Growth;
 use plinq_lambda::SharedLambda;
 use plinq_ops::Query;
@@ -180,7 +180,7 @@ where
     requires { S.given source ≡ 0 }
     ensures { TellsSome counted (MayAnswer L.meaning query.now.ordered query.now.ops (S.whole source)) result }
 {
-    let counted = Counted::<L>(PhantomData);
+    let counted = ItemCount::<L>(PhantomData);
     aggregate(
         rt,
         alloc,

@@ -6,7 +6,7 @@ ghost use Rattle.plinq_lambda.specs.Short.{formula_meaning-short};
 ghost use Rattle.plinq_lambda.specs.declared.formula.Formula.TheVariants.{Add};
 
 use crate::expand_fault::ExpandFault;
-use crate::kind::Kind;
+use crate::formula_kind::FormulaKind;
 use crate::lambda::Lambda;
 use crate::sums::{NEAR, add_each, are_near};
 use std::alloc::{AllocError, Global};
@@ -84,36 +84,36 @@ impl Lambda for Formula {
     fn map_block(&self, block: &mut [i64]) -> (usize, Option<u32>) {
         match *self {
             Formula::Add(c) => map_sums(c, block),
-            Formula::Mul(c) => Kind(Formula::Mul(c)).map_block(block),
-            Formula::Mod(c) => Kind(Formula::Mod(c)).map_block(block),
-            Formula::Into(c) => Kind(Formula::Into(c)).map_block(block),
-            Formula::Below(c) => Kind(Formula::Below(c)).map_block(block),
-            Formula::Above(c) => Kind(Formula::Above(c)).map_block(block),
-            Formula::Equal(c) => Kind(Formula::Equal(c)).map_block(block),
-            Formula::Even => Kind(Formula::Even).map_block(block),
-            f => Kind(f).map_block(block),
+            Formula::Mul(c) => FormulaKind(Formula::Mul(c)).map_block(block),
+            Formula::Mod(c) => FormulaKind(Formula::Mod(c)).map_block(block),
+            Formula::Into(c) => FormulaKind(Formula::Into(c)).map_block(block),
+            Formula::Below(c) => FormulaKind(Formula::Below(c)).map_block(block),
+            Formula::Above(c) => FormulaKind(Formula::Above(c)).map_block(block),
+            Formula::Equal(c) => FormulaKind(Formula::Equal(c)).map_block(block),
+            Formula::Even => FormulaKind(Formula::Even).map_block(block),
+            f => FormulaKind(f).map_block(block),
         }
     }
 
     fn filter_block(&self, block: &mut [i64]) -> (usize, Option<u32>) {
         match *self {
-            Formula::Mod(c) => Kind(Formula::Mod(c)).filter_block(block),
-            Formula::Below(c) => Kind(Formula::Below(c)).filter_block(block),
-            Formula::Above(c) => Kind(Formula::Above(c)).filter_block(block),
-            Formula::Equal(c) => Kind(Formula::Equal(c)).filter_block(block),
-            Formula::Even => Kind(Formula::Even).filter_block(block),
-            f => Kind(f).filter_block(block),
+            Formula::Mod(c) => FormulaKind(Formula::Mod(c)).filter_block(block),
+            Formula::Below(c) => FormulaKind(Formula::Below(c)).filter_block(block),
+            Formula::Above(c) => FormulaKind(Formula::Above(c)).filter_block(block),
+            Formula::Equal(c) => FormulaKind(Formula::Equal(c)).filter_block(block),
+            Formula::Even => FormulaKind(Formula::Even).filter_block(block),
+            f => FormulaKind(f).filter_block(block),
         }
     }
 
     fn count_passing(&self, block: &[i64]) -> (usize, Option<u32>) {
         match *self {
-            Formula::Mod(c) => Kind(Formula::Mod(c)).count_passing(block),
-            Formula::Below(c) => Kind(Formula::Below(c)).count_passing(block),
-            Formula::Above(c) => Kind(Formula::Above(c)).count_passing(block),
-            Formula::Equal(c) => Kind(Formula::Equal(c)).count_passing(block),
-            Formula::Even => Kind(Formula::Even).count_passing(block),
-            f => Kind(f).count_passing(block),
+            Formula::Mod(c) => FormulaKind(Formula::Mod(c)).count_passing(block),
+            Formula::Below(c) => FormulaKind(Formula::Below(c)).count_passing(block),
+            Formula::Above(c) => FormulaKind(Formula::Above(c)).count_passing(block),
+            Formula::Equal(c) => FormulaKind(Formula::Equal(c)).count_passing(block),
+            Formula::Even => FormulaKind(Formula::Even).count_passing(block),
+            f => FormulaKind(f).count_passing(block),
         }
     }
 
@@ -131,7 +131,7 @@ fn map_sums(c: i64, block: &mut [i64]) -> (usize, Option<u32>)
         add_each(c, block);
         return (block.len(), None);
     }
-    Kind(Formula::Add(c)).map_block(block)
+    FormulaKind(Formula::Add(c)).map_block(block)
 }
 
 // What an element is mapped to. It is inlined, as `test_one` is: they run for each item, and the call would cost more than

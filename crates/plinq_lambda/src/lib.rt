@@ -10,8 +10,8 @@
 
 mod expand_fault;
 mod formula;
+mod formula_kind;
 mod formula_words;
-mod kind;
 mod lambda;
 pub mod laws;
 mod named;

@@ -11,8 +11,8 @@ use Rattle.plinq_merge.specs.declared.merge_fault.MergeFault.{MergeFault}
 use Rattle.plinq_merge.specs.declared.merge_fault.MergeFault.TheVariants.{Memory, Sink, Twice, Gap, Failed, Cancelled}
 use Rattle.plinq_merge.specs.declared.more.More.{More}
 use Rattle.plinq_merge.specs.declared.more.More.TheVariants.{Yes, No}
-use Rattle.plinq_merge.specs.declared.standing.Standing.{Standing}
-use Rattle.plinq_merge.specs.declared.standing.Standing.TheVariants.{Open, Decided, Failed as HasFailed}
+use Rattle.plinq_merge.specs.declared.joiner_state.JoinerState.{JoinerState}
+use Rattle.plinq_merge.specs.declared.joiner_state.JoinerState.TheVariants.{Open, Decided, Failed as HasFailed}
 use Rattle.plinq_merge.specs.declared.joiner.Joiner.{Joiner}
 use Rattle.plinq_merge.specs.declared.joining.Joining.{Joining}
 use Rattle.plinq_merge.specs.Keys.{AreNew}
@@ -30,7 +30,7 @@ AreOneMore offers r offers' = (offers' ≡ offers) ⊎ ((offers' ≡ offers ++ r
 
 module _ {W O T : Type 0} (made : W → O → Trace T → Result (Option Ending) DeliveryFault → W → O → Type 0) where
   -- the taker has taken something, or nothing changed
-  pub moved-at : (w : Joining W T) (standing : Standing) (r : ChunkResult T) (y : O) (result : Result More MergeFault) (w' : Joining W T) (standing' : Standing) (y' : O)
+  pub moved-at : (w : Joining W T) (standing : JoinerState) (r : ChunkResult T) (y : O) (result : Result More MergeFault) (w' : Joining W T) (standing' : JoinerState) (y' : O)
       → AnswersOffer made w standing r y result w' standing' y' → (w' ≡ w) ⊎ ((gained : Trace T) × (how : Result (Option Ending) DeliveryFault) × made w.taker y gained how w'.taker y')
   moved-at w Open r y (Ok Yes) w' standing' y' o = let joins = o.1 in inr (joins.gained, Ok None, joins.taken)
   moved-at w Open r y (Ok No) w' standing' y' o = let joins = o.2 in inr (joins.gained, Ok (Some o.0), joins.taken)
@@ -44,7 +44,7 @@ module _ {W O T : Type 0} (made : W → O → Trace T → Result (Option Ending)
   moved-at w HasFailed r y result w' standing' y' o = inl o.1
 
   module _ (a : W) (x : O) where
-    cases-at : {P : Type 0} (w : Joining W T) (standing : Standing) (y : O) (offers : List (ChunkResult T)) → HasJoinedAt made a x w standing y offers
+    cases-at : {P : Type 0} (w : Joining W T) (standing : JoinerState) (y : O) (offers : List (ChunkResult T)) → HasJoinedAt made a x w standing y offers
         → (is_decided standing ≡ false → finished standing ≡ Err Gap → Waits w.order w.row offers → made a x (merged w.order offers) (Ok None) w.taker y → P)
         → ((e : Ending) → is_decided standing ≡ true → finished standing ≡ Ok e → made a x (merged w.order offers) (Ok (Some e)) w.taker y → P) → P
     cases-at w Open y offers joined still ended = still refl refl joined.0 joined.1
@@ -67,7 +67,7 @@ module _ {W O T : Type 0} (made : W → O → Trace T → Result (Option Ending)
           (taken-after made lawful a x (merged w.order offers) joins.gained (merged w.order (offers ++ r ∷ [])) w.taker y result w'.taker y'
           (ap (λ t. t.ending) (merged-waits w.order w.row offers waits)) before joins.taken (joins.grows offers waits))
 
-      takes-at : (w : Joining W T) (standing : Standing) (r : ChunkResult T) (y : O) (more : More) (w' : Joining W T) (standing' : Standing) (y' : O) (offers : List (ChunkResult T)) → w'.order ≡ w.order
+      takes-at : (w : Joining W T) (standing : JoinerState) (r : ChunkResult T) (y : O) (more : More) (w' : Joining W T) (standing' : JoinerState) (y' : O) (offers : List (ChunkResult T)) → w'.order ≡ w.order
           → HasJoinedAt made a x w standing y offers → AnswersOffer made w standing r y (Ok more) w' standing' y'
           → (offers' : List (ChunkResult T)) × AreOneMore offers r offers' × HasJoinedAt made a x w' standing' y' offers'
       takes-at w Open r y Yes w' standing' y' offers same joined o =
@@ -108,7 +108,7 @@ module _ {W O T : Type 0} (made : W → O → Trace T → Result (Option Ending)
           → made a x (merged (order_of j) offers) (Err NoMemory) (taker_of j) y
       joined-stopped j y offers waits before = stopped-at j.work y offers waits before
 
-      breaks-at : (w : Joining W T) (standing : Standing) (r : ChunkResult T) (y : O) (fault : MergeFault) (w' : Joining W T) (standing' : Standing) (y' : O) (offers : List (ChunkResult T)) → w'.order ≡ w.order
+      breaks-at : (w : Joining W T) (standing : JoinerState) (r : ChunkResult T) (y : O) (fault : MergeFault) (w' : Joining W T) (standing' : JoinerState) (y' : O) (offers : List (ChunkResult T)) → w'.order ≡ w.order
           → HasJoinedAt made a x w standing y offers → AnswersOffer made w standing r y (Err fault) w' standing' y'
           → (offers' : List (ChunkResult T)) × AreOneMore offers r offers' × ((last : W) × made a x (merged w.order offers') (Err (delivery_fault_of fault)) last y')
       breaks-at w Open r y Memory w' standing' y' offers same joined o =

@@ -7,8 +7,8 @@ use Rattle.plinq_merge.specs.declared.merge_fault.MergeFault.{MergeFault}
 use Rattle.plinq_merge.specs.declared.merge_fault.MergeFault.TheVariants.{Memory, Sink, Twice, Gap, Failed, Cancelled}
 use Rattle.plinq_merge.specs.declared.more.More.{More}
 use Rattle.plinq_merge.specs.declared.more.More.TheVariants.{No}
-use Rattle.plinq_merge.specs.declared.standing.Standing.{Standing}
-use Rattle.plinq_merge.specs.declared.standing.Standing.TheVariants.{Open, Decided, Failed as HasFailed}
+use Rattle.plinq_merge.specs.declared.joiner_state.JoinerState.{JoinerState}
+use Rattle.plinq_merge.specs.declared.joiner_state.JoinerState.TheVariants.{Open, Decided, Failed as HasFailed}
 use Rattle.plinq_merge.specs.declared.delivery_fault.DeliveryFault.{DeliveryFault}
 use Rattle.plinq_merge.specs.declared.delivery_fault.DeliveryFault.TheVariants.{Memory as NoMemory, Sink as Refusal}
 use Rattle.plinq_merge.specs.declared.with_cancellation.WithCancellation.{WithCancellation}
@@ -92,7 +92,7 @@ module _ {C K T : Type 0} (asks : C → ℕ → Bool → C → Type 0) (accepts 
 
   module _ {L : Type 0} (meaning : L → Meaning T) (decided : Bool) where
     -- without a token no offer is cancelled
-    pub offers-never : (x : Work L T) (standing : Standing) (r : ChunkResult T) (w : WithCancellation C K) (told : Result More MergeFault) (x' : Work L T) (standing' : Standing) (w' : WithCancellation C K)
+    pub offers-never : (x : Work L T) (standing : JoinerState) (r : ChunkResult T) (w : WithCancellation C K) (told : Result More MergeFault) (x' : Work L T) (standing' : JoinerState) (w' : WithCancellation C K)
         → Offers meaning decided (Takes asks accepts) (Refuses asks refuses) x standing r w told x' standing' w' → told ≡ Err Cancelled → ⊥
     offers-never x Open r w (Ok more) x' standing' w' o is = cc
     offers-never x Open r w (Err Memory) x' standing' w' o is = cc
@@ -104,7 +104,7 @@ module _ {C K T : Type 0} (asks : C → ℕ → Bool → C → Type 0) (accepts 
     offers-never x (Decided e) r w told x' standing' w' o is = let bad : Err Cancelled ≡ Ok No = sym is ∙ o.0 in cc
     offers-never x HasFailed r w told x' standing' w' o is = let bad : Err Cancelled ≡ Err Failed = sym is ∙ o.0 in cc
 
-    pub offers-stopped : (x : Work L T) (standing : Standing) (r : ChunkResult T) (w : WithCancellation C K) (told : Result More MergeFault) (x' : Work L T) (standing' : Standing) (w' : WithCancellation C K)
+    pub offers-stopped : (x : Work L T) (standing : JoinerState) (r : ChunkResult T) (w : WithCancellation C K) (told : Result More MergeFault) (x' : Work L T) (standing' : JoinerState) (w' : WithCancellation C K)
         → w.is_stopped ≡ false → w'.is_stopped ≡ true → SendsSome (Takes asks accepts) (Refuses asks refuses) w told w'
         → Offers meaning decided (Takes asks accepts) (Refuses asks refuses) x standing r w told x' standing' w' → IsCancelled meaning decided asks accepts x standing r (delivery_of w) standing' (delivery_of w')
     offers-stopped x Open r w (Ok more) x' standing' w' before after sends o = let on = leads-on w sends.0 w' sends.1 in absurd (let bad : true ≡ false = sym after ∙ on.still ∙ before in cc)
@@ -119,7 +119,7 @@ module _ {C K T : Type 0} (asks : C → ℕ → Bool → C → Type 0) (accepts 
     offers-stopped x (Decided e) r w told x' standing' w' before after sends o = absurd (let bad : true ≡ false = sym after ∙ ap (λ y. y.is_stopped) o.3 ∙ before in cc)
     offers-stopped x HasFailed r w told x' standing' w' before after sends o = absurd (let bad : true ≡ false = sym after ∙ ap (λ y. y.is_stopped) o.3 ∙ before in cc)
 
-    pub offers-passed : (x : Work L T) (standing : Standing) (r : ChunkResult T) (w : WithCancellation C K) (told : Result More MergeFault) (x' : Work L T) (standing' : Standing) (w' : WithCancellation C K)
+    pub offers-passed : (x : Work L T) (standing : JoinerState) (r : ChunkResult T) (w : WithCancellation C K) (told : Result More MergeFault) (x' : Work L T) (standing' : JoinerState) (w' : WithCancellation C K)
         → w.is_stopped ≡ false → w'.is_stopped ≡ false → Offers meaning decided (Takes asks accepts) (Refuses asks refuses) x standing r w told x' standing' w'
         → Offers meaning decided (Passes asks accepts) (IsRefused asks refuses) x standing r (delivery_of w) told x' standing' (delivery_of w')
     offers-passed x standing r w told x' standing' w' before after o =
@@ -129,7 +129,7 @@ module _ {C K T : Type 0} (asks : C → ℕ → Bool → C → Type 0) (accepts 
 
 module _ {C K T L : Type 0} (asks : C → ℕ → Bool → C → Type 0) (accepts : K → List T → K → Type 0) (refuses : K → List T → ℕ → K → Type 0) (meaning : L → Meaning T) (decided : Bool) where
   -- an offer that wasn't cancelled
-  pub offers-with : (x : Work L T) (standing : Standing) (r : ChunkResult T) (d : Delivery C K) (told : Result More MergeFault) (x' : Work L T) (standing' : Standing) (d' : Delivery C K) → (told ≡ Err Cancelled → ⊥)
+  pub offers-with : (x : Work L T) (standing : JoinerState) (r : ChunkResult T) (d : Delivery C K) (told : Result More MergeFault) (x' : Work L T) (standing' : JoinerState) (d' : Delivery C K) → (told ≡ Err Cancelled → ⊥)
       → Offers meaning decided (Passes asks accepts) (IsRefused asks refuses) x standing r d told x' standing' d' → OffersWith meaning decided asks accepts refuses x standing r d told x' standing' d'
   offers-with x standing r d (Ok more) x' standing' d' never o = o
   offers-with x standing r d (Err Memory) x' standing' d' never o = o
@@ -140,7 +140,7 @@ module _ {C K T L : Type 0} (asks : C → ℕ → Bool → C → Type 0) (accept
   offers-with x standing r d (Err Cancelled) x' standing' d' never o = absurd (never refl)
 
   -- an offer with a token that never stops
-  pub offers-without : ((c c' : C) (n : ℕ) → asks c n true c' → ⊥) → (x : Work L T) (standing : Standing) (r : ChunkResult T) (d : Delivery C K) (told : Result More MergeFault) (x' : Work L T) (standing' : Standing) (d' : Delivery C K)
+  pub offers-without : ((c c' : C) (n : ℕ) → asks c n true c' → ⊥) → (x : Work L T) (standing : JoinerState) (r : ChunkResult T) (d : Delivery C K) (told : Result More MergeFault) (x' : Work L T) (standing' : JoinerState) (d' : Delivery C K)
       → AsksEach asks accepts refuses d told d' → OffersWith meaning decided asks accepts refuses x standing r d told x' standing' d'
       → Offers meaning decided (Passes asks accepts) (IsRefused asks refuses) x standing r d told x' standing' d'
   offers-without never x standing r d (Ok more) x' standing' d' asked o = o

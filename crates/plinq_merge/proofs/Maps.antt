@@ -7,8 +7,8 @@ use Rattle.plinq_merge.specs.declared.merge_fault.MergeFault.{MergeFault}
 use Rattle.plinq_merge.specs.declared.merge_fault.MergeFault.TheVariants.{Memory, Sink, Twice, Gap, Failed, Cancelled}
 use Rattle.plinq_merge.specs.declared.more.More.{More}
 use Rattle.plinq_merge.specs.declared.more.More.TheVariants.{Yes, No}
-use Rattle.plinq_merge.specs.declared.standing.Standing.{Standing}
-use Rattle.plinq_merge.specs.declared.standing.Standing.TheVariants.{Open, Decided, Failed as HasFailed}
+use Rattle.plinq_merge.specs.declared.joiner_state.JoinerState.{JoinerState}
+use Rattle.plinq_merge.specs.declared.joiner_state.JoinerState.TheVariants.{Open, Decided, Failed as HasFailed}
 use Rattle.plinq_merge.specs.declared.delivery_fault.DeliveryFault.{DeliveryFault}
 use Rattle.plinq_merge.specs.declared.delivery_fault.DeliveryFault.TheVariants.{Memory as NoMemory, Sink as Refusal}
 use Rattle.plinq_merge.specs.Sending.{Leads, IsCutOff}
@@ -36,7 +36,7 @@ brings-map merge offers r P Q on brings = record { are_new = brings.are_new; gai
 pub offers-map : {L K M T : Type 0} (meaning : L → Meaning T) (decided : Bool) (accepts : K → List T → K → Type 0) (refuses : K → List T → ℕ → K → Type 0) (accepts' : M → List T → M → Type 0) (refuses' : M → List T → ℕ → M → Type 0)
     (s s' : K) (t t' : M) → ((bs : List (List T)) → Leads accepts s bs s' → Leads accepts' t bs t')
     → ((bs : List (List T)) (fault : DeliveryFault) → IsCutOff accepts refuses s bs fault s' → IsCutOff accepts' refuses' t bs fault t') → (s' ≡ s → t' ≡ t)
-    → (w : Work L T) (standing : Standing) (r : ChunkResult T) (result : Result More MergeFault) (w' : Work L T) (standing' : Standing)
+    → (w : Work L T) (standing : JoinerState) (r : ChunkResult T) (result : Result More MergeFault) (w' : Work L T) (standing' : JoinerState)
     → Offers meaning decided accepts refuses w standing r s result w' standing' s' → Offers meaning decided accepts' refuses' w standing r t result w' standing' t'
 offers-map meaning decided accepts refuses accepts' refuses' s s' t t' leads cuts same w Open r (Ok Yes) w' standing' o =
     (o.0, λ offers rests. let on = o.1 offers rests in (brings-map _ offers r _ _ leads on.0, on.1))

@@ -5,7 +5,7 @@ use Rattle.plinq_lambda.specs.Meaning.{Meaning}
 use Rattle.plinq_ops.specs.declared.results.ChunkResult.{ChunkResult}
 use Rattle.plinq_merge.specs.declared.merge_fault.MergeFault.{MergeFault}
 use Rattle.plinq_merge.specs.declared.more.More.{More}
-use Rattle.plinq_merge.specs.declared.standing.Standing.{Standing}
+use Rattle.plinq_merge.specs.declared.joiner_state.JoinerState.{JoinerState}
 use Rattle.plinq_merge.specs.Cancelling.{Counts, CountsNot, Delivery, IsRefused, Passes, Tally}
 use Rattle.plinq_merge.specs.Mergers.{AsksEach}
 use Rattle.plinq_merge.specs.Working.{Work}
@@ -22,7 +22,7 @@ module _ {C K T L : Type 0} (asks : C → ℕ → Bool → C → Type 0) (accept
   offers-seen : {M : Type 0} (f : Delivery C K → M) (accepts' : M → List T → M → Type 0) (refuses' : M → List T → ℕ → M → Type 0)
       → ((d : Delivery C K) (b : List T) (d' : Delivery C K) → Passes asks accepts d b d' → accepts' (f d) b (f d'))
       → ((d : Delivery C K) (b : List T) (code : ℕ) (d' : Delivery C K) → IsRefused asks refuses d b code d' → refuses' (f d) b code (f d'))
-      → (w : Work L T) (standing : Standing) (r : ChunkResult T) (d : Delivery C K) (told : Result More MergeFault) (w' : Work L T) (standing' : Standing) (d' : Delivery C K)
+      → (w : Work L T) (standing : JoinerState) (r : ChunkResult T) (d : Delivery C K) (told : Result More MergeFault) (w' : Work L T) (standing' : JoinerState) (d' : Delivery C K)
       → AsksEach asks accepts refuses d told d' → OffersWith meaning decided asks accepts refuses w standing r d told w' standing' d'
       → Offers meaning decided accepts' refuses' w standing r (f d) told w' standing' (f d')
   offers-seen f accepts' refuses' takes refused w standing r d told w' standing' d' asked o =
@@ -32,12 +32,12 @@ module _ {C K T L : Type 0} (asks : C → ℕ → Bool → C → Type 0) (accept
       (λ is. ap f is)
       w standing r told w' standing' (offers-without asks accepts refuses meaning decided never w standing r d told w' standing' d' asked o)
 
-  pub offers-plain : (w : Work L T) (standing : Standing) (r : ChunkResult T) (d : Delivery C K) (told : Result More MergeFault) (w' : Work L T) (standing' : Standing) (d' : Delivery C K)
+  pub offers-plain : (w : Work L T) (standing : JoinerState) (r : ChunkResult T) (d : Delivery C K) (told : Result More MergeFault) (w' : Work L T) (standing' : JoinerState) (d' : Delivery C K)
       → AsksEach asks accepts refuses d told d' → OffersWith meaning decided asks accepts refuses w standing r d told w' standing' d'
       → Offers meaning decided accepts refuses w standing r d.sink told w' standing' d'.sink
   offers-plain = offers-seen (λ d. d.sink) accepts refuses (λ d b d' passes. passes.taken) (λ d b code d' refused. refused.refused)
 
-  pub offers-counted : (w : Work L T) (standing : Standing) (r : ChunkResult T) (d : Delivery C K) (told : Result More MergeFault) (w' : Work L T) (standing' : Standing) (d' : Delivery C K)
+  pub offers-counted : (w : Work L T) (standing : JoinerState) (r : ChunkResult T) (d : Delivery C K) (told : Result More MergeFault) (w' : Work L T) (standing' : JoinerState) (d' : Delivery C K)
       → AsksEach asks accepts refuses d told d' → OffersWith meaning decided asks accepts refuses w standing r d told w' standing' d'
       → Offers meaning decided (Counts accepts) (CountsNot refuses) w standing r (tally_of d) told w' standing' (tally_of d')
   offers-counted =

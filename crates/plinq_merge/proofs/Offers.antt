@@ -17,8 +17,8 @@ use Rattle.plinq_merge.specs.declared.more.More.TheVariants.{Yes, No}
 use Rattle.plinq_merge.specs.declared.merge_fault.MergeFault.{MergeFault}
 use Rattle.plinq_merge.specs.declared.merge_fault.MergeFault.TheVariants.{Memory, Sink, Twice, Gap, Failed, Cancelled}
 use Rattle.plinq_merge.specs.declared.delivery_fault.DeliveryFault.TheVariants.{Memory as NoMemory, Sink as Refusal}
-use Rattle.plinq_merge.specs.declared.standing.Standing.{Standing}
-use Rattle.plinq_merge.specs.declared.standing.Standing.TheVariants.{Open, Decided, Failed as HasFailed}
+use Rattle.plinq_merge.specs.declared.joiner_state.JoinerState.{JoinerState}
+use Rattle.plinq_merge.specs.declared.joiner_state.JoinerState.TheVariants.{Open, Decided, Failed as HasFailed}
 use Rattle.plinq_merge.specs.Buffer.{held_of, size_of}
 use Rattle.plinq_merge.specs.Shown.{Merge, answer}
 use Rattle.plinq_merge.specs.Keys.{is_offered}
@@ -46,21 +46,21 @@ module _ {L T : Type 0} (meaning : L → Meaning T) (decided : Bool) where
   rests-open w offers rests = ap (λ t. t.ending) (answer-rests meaning decided w offers rests)
 
   -- `decided` reports whether the answer has an ending
-  pub decided-answer : (w : Work L T) (standing : Standing) (offers : List (ChunkResult T)) → StandsFor meaning decided w standing offers
+  pub decided-answer : (w : Work L T) (standing : JoinerState) (offers : List (ChunkResult T)) → StandsFor meaning decided w standing offers
       → is_decided standing ≡ is_some (answer (merge_of meaning decided w) offers).ending
   decided-answer w Open offers stands = ap is_some (sym (rests-open w offers stands))
   decided-answer w (Decided e) offers stands = ap is_some (sym stands)
   decided-answer w HasFailed offers stands = absurd stands
 
   -- `finish` reports which
-  pub finished-answer : (w : Work L T) (standing : Standing) (offers : List (ChunkResult T)) → StandsFor meaning decided w standing offers
+  pub finished-answer : (w : Work L T) (standing : JoinerState) (offers : List (ChunkResult T)) → StandsFor meaning decided w standing offers
       → finished standing ≡ finish_of (answer (merge_of meaning decided w) offers).ending
   finished-answer w Open offers stands = ap finish_of (sym (rests-open w offers stands))
   finished-answer w (Decided e) offers stands = ap finish_of (sym stands)
   finished-answer w HasFailed offers stands = absurd stands
 
   -- while the answer is open, the next key is the first that is missing
-  pub next-is_missing : (w : Work L T) (standing : Standing) (offers : List (ChunkResult T)) → StandsFor meaning decided w standing offers
+  pub next-is_missing : (w : Work L T) (standing : JoinerState) (offers : List (ChunkResult T)) → StandsFor meaning decided w standing offers
       → (answer (merge_of meaning decided w) offers).ending ≡ None → ((key : ℕ) → key < w.row.buffer.next → is_offered offers key ≡ true) × (is_offered offers w.row.buffer.next ≡ false)
   next-is_missing w Open offers stands still = next-waits w.order w.row offers stands.waits
   next-is_missing w (Decided e) offers stands still = absurd (let bad : Some e ≡ None = sym stands ∙ still in cc)
@@ -68,7 +68,7 @@ module _ {L T : Type 0} (meaning : L → Meaning T) (decided : Bool) where
 
   module _ {K : Type 0} (accepts : K → List T → K → Type 0) (refuses : K → List T → ℕ → K → Type 0) where
     -- what the joiner did is what the merger owes
-    pub offers-joined : (w : Work L T) (standing : Standing) (r : ChunkResult T) (s : K) (result : Result More MergeFault) (w' : Work L T) (standing' : Standing) (s' : K)
+    pub offers-joined : (w : Work L T) (standing : JoinerState) (r : ChunkResult T) (s : K) (result : Result More MergeFault) (w' : Work L T) (standing' : JoinerState) (s' : K)
         → w'.order ≡ w.order → (standing' ≡ Open → seq (stages meaning w'.taker.pipeline) (open_trace []) ≡ open_trace [])
         → AnswersOffer (MadeBy accepts refuses meaning) w standing r s result w' standing' s' → Offers meaning decided accepts refuses w standing r s result w' standing' s'
     offers-joined w Open r s (Ok Yes) w' standing' s' same nothing o =
@@ -92,12 +92,12 @@ module _ {L T : Type 0} (meaning : L → Meaning T) (decided : Bool) where
     due w t = batches_from (size_of w.taker.buffer) (held_of w.taker.buffer) (seq (stages meaning w.taker.pipeline) t)
 
     -- it is made for the same as before
-    plan-joined : (w : Work L T) (standing : Standing) (r : ChunkResult T) (s : K) (result : Result More MergeFault) (w' : Work L T) (standing' : Standing) (s' : K)
+    plan-joined : (w : Work L T) (standing : JoinerState) (r : ChunkResult T) (s : K) (result : Result More MergeFault) (w' : Work L T) (standing' : JoinerState) (s' : K)
         → AnswersOffer (MadeBy accepts refuses meaning) w standing r s result w' standing' s' → KeepsPlan (line_of meaning w.taker) (line_of meaning w'.taker)
     plan-joined w standing r s result w' standing' s' o =
         elim (moved-at (MadeBy accepts refuses meaning) w standing r s result w' standing' s' o) [ inl same ↦ plan-same w w' same | inr moved ↦ let made = moved.2 in made.plan ]
 
-    pub merge-joined : (w : Work L T) (standing : Standing) (r : ChunkResult T) (s : K) (result : Result More MergeFault) (w' : Work L T) (standing' : Standing) (s' : K) → w'.order ≡ w.order
+    pub merge-joined : (w : Work L T) (standing : JoinerState) (r : ChunkResult T) (s : K) (result : Result More MergeFault) (w' : Work L T) (standing' : JoinerState) (s' : K) → w'.order ≡ w.order
         → AnswersOffer (MadeBy accepts refuses meaning) w standing r s result w' standing' s' → merge_of meaning decided w' ≡ merge_of meaning decided w
     merge-joined w standing r s result w' standing' s' same o =
         let plan = plan-joined w standing r s result w' standing' s' o in
@@ -107,7 +107,7 @@ module _ {L T : Type 0} (meaning : L → Meaning T) (decided : Bool) where
         ∙ ap (λ n. record m { after = stages_of meaning w.taker.pipeline.ops; order = w.order; size = n }) plan.size
 
     -- what was delivered, whatever the offers
-    pub sends-joined : (w : Work L T) (standing : Standing) (r : ChunkResult T) (s : K) (result : Result More MergeFault) (w' : Work L T) (standing' : Standing) (s' : K)
+    pub sends-joined : (w : Work L T) (standing : JoinerState) (r : ChunkResult T) (s : K) (result : Result More MergeFault) (w' : Work L T) (standing' : JoinerState) (s' : K)
         → AnswersOffer (MadeBy accepts refuses meaning) w standing r s result w' standing' s' → SendsSome accepts refuses s result s'
     sends-joined w Open r s (Ok Yes) w' standing' s' o = let gives = o.1.taken.gives in (full_batches (size_of w.taker.buffer) (held_of w.taker.buffer) gives.out, gives.leads)
     sends-joined w Open r s (Ok No) w' standing' s' o = (due w o.2.gained, o.2.taken.gives.1)

@@ -7,8 +7,8 @@ use Rattle.plinq_ops.specs.declared.results.ChunkResult.{ChunkResult}
 use Rattle.plinq_merge.specs.declared.delivery_fault.DeliveryFault.{DeliveryFault}
 use Rattle.plinq_merge.specs.declared.merge_fault.MergeFault.{MergeFault}
 use Rattle.plinq_merge.specs.declared.more.More.{More}
-use Rattle.plinq_merge.specs.declared.standing.Standing.{Standing}
-use Rattle.plinq_merge.specs.declared.standing.Standing.TheVariants.{Open, Decided, Failed}
+use Rattle.plinq_merge.specs.declared.joiner_state.JoinerState.{JoinerState}
+use Rattle.plinq_merge.specs.declared.joiner_state.JoinerState.TheVariants.{Open, Decided, Failed}
 use Rattle.plinq_merge.specs.declared.joiner.Joiner.{Joiner}
 use Rattle.plinq_merge.specs.declared.joining.Joining.{Joining}
 use Rattle.plinq_merge.specs.Shown.{merged}
@@ -40,7 +40,7 @@ module _ {W O T : Type 0} (made : W → O → Trace T → Result (Option Ending)
   Takes j r y result j' y' = AnswersOffer made j.work j.standing r y result j'.work j'.standing y'
 
   module _ (a : W) (x : O) where
-    abbrev pub HasJoinedAt : Joining W T → Standing → O → List (ChunkResult T) → Type 0
+    abbrev pub HasJoinedAt : Joining W T → JoinerState → O → List (ChunkResult T) → Type 0
     HasJoinedAt w Open y offers = Waits w.order w.row offers × made a x (merged w.order offers) (Ok None) w.taker y
     HasJoinedAt w (Decided e) y offers = made a x (merged w.order offers) (Ok (Some e)) w.taker y
     HasJoinedAt w Failed y offers = ⊥

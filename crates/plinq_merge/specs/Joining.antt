@@ -10,8 +10,8 @@ use Rattle.plinq_merge.specs.declared.merge_fault.MergeFault.{MergeFault}
 use Rattle.plinq_merge.specs.declared.merge_fault.MergeFault.TheVariants.{Memory, Sink, Twice, Gap, Failed, Cancelled}
 use Rattle.plinq_merge.specs.declared.more.More.{More}
 use Rattle.plinq_merge.specs.declared.more.More.TheVariants.{Yes, No}
-use Rattle.plinq_merge.specs.declared.standing.Standing.{Standing}
-use Rattle.plinq_merge.specs.declared.standing.Standing.TheVariants.{Open, Decided, Failed as HasFailed}
+use Rattle.plinq_merge.specs.declared.joiner_state.JoinerState.{JoinerState}
+use Rattle.plinq_merge.specs.declared.joiner_state.JoinerState.TheVariants.{Open, Decided, Failed as HasFailed}
 use Rattle.plinq_merge.specs.declared.row.Row.{Row}
 use Rattle.plinq_merge.specs.declared.joiner.Joiner.{Joiner}
 use Rattle.plinq_merge.specs.declared.joining.Joining.{Joining}
@@ -60,7 +60,7 @@ module _ {W O T : Type 0} (made : W → O → Trace T → Result (Option Ending)
     pub waits : result ≡ Ok None → (offers : List (ChunkResult T)) → Waits w.order w.row offers → Waits w'.order w'.row (offers ++ r ∷ [])
 
   -- what an offer answers and does, where the answer is open
-  abbrev pub JoinsOffer : Joining W T → ChunkResult T → O → Result More MergeFault → Joining W T → Standing → O → Type 0
+  abbrev pub JoinsOffer : Joining W T → ChunkResult T → O → Result More MergeFault → Joining W T → JoinerState → O → Type 0
   JoinsOffer w r y (Ok Yes) w' standing' y' = (standing' ≡ Open) × Joins w r y (Ok None) w' y'
   JoinsOffer w r y (Ok No) w' standing' y' = (e : Ending) × (standing' ≡ Decided e) × Joins w r y (Ok (Some e)) w' y'
   JoinsOffer w r y (Err Memory) w' standing' y' = (standing' ≡ HasFailed) × Joins w r y (Err NoMemory) w' y'
@@ -72,7 +72,7 @@ module _ {W O T : Type 0} (made : W → O → Trace T → Result (Option Ending)
   JoinsOffer w r y (Err Cancelled) w' standing' y' = ⊥
 
   -- a decided joiner answers No, a failed one Failed, and nothing changes
-  abbrev pub AnswersOffer : Joining W T → Standing → ChunkResult T → O → Result More MergeFault → Joining W T → Standing → O → Type 0
+  abbrev pub AnswersOffer : Joining W T → JoinerState → ChunkResult T → O → Result More MergeFault → Joining W T → JoinerState → O → Type 0
   AnswersOffer w Open r y result w' standing' y' = JoinsOffer w r y result w' standing' y'
   AnswersOffer w (Decided e) r y result w' standing' y' = (result ≡ Ok No) × (w' ≡ w) × (standing' ≡ Decided e) × (y' ≡ y)
   AnswersOffer w HasFailed r y result w' standing' y' = (result ≡ Err Failed) × (w' ≡ w) × (standing' ≡ HasFailed) × (y' ≡ y)

@@ -7,8 +7,8 @@ use Rattle.plinq_merge.specs.declared.merge_fault.MergeFault.{MergeFault}
 use Rattle.plinq_merge.specs.declared.merge_fault.MergeFault.TheVariants.{Memory, Sink, Twice, Gap, Failed, Cancelled}
 use Rattle.plinq_merge.specs.declared.more.More.{More}
 use Rattle.plinq_merge.specs.declared.more.More.TheVariants.{Yes, No}
-use Rattle.plinq_merge.specs.declared.standing.Standing.{Standing}
-use Rattle.plinq_merge.specs.declared.standing.Standing.TheVariants.{Open, Decided, Failed as HasFailed}
+use Rattle.plinq_merge.specs.declared.joiner_state.JoinerState.{JoinerState}
+use Rattle.plinq_merge.specs.declared.joiner_state.JoinerState.TheVariants.{Open, Decided, Failed as HasFailed}
 use Rattle.plinq_merge.specs.declared.delivery_fault.DeliveryFault.TheVariants.{Memory as NoMemory, Sink as Refusal}
 use Rattle.plinq_merge.specs.Cancelling.{Delivery, Passes, IsRefused, IsKeptBack}
 use Rattle.plinq_merge.specs.Sending.{Leads, IsCutOff}
@@ -17,7 +17,7 @@ use Rattle.plinq_merge.specs.Keys.{AreNew, IsDuplicate}
 use Rattle.plinq_merge.specs.Working.{Work, merge_of, Rests}
 
 -- the merger stands for these offers: with them the answer is open, or it has this ending; a failed one stands for none
-abbrev pub StandsFor : {L T : Type 0} → (L → Meaning T) → Bool → Work L T → Standing → List (ChunkResult T) → Type 0
+abbrev pub StandsFor : {L T : Type 0} → (L → Meaning T) → Bool → Work L T → JoinerState → List (ChunkResult T) → Type 0
 StandsFor meaning decided w Open offers = Rests meaning decided w offers
 StandsFor meaning decided w (Decided e) offers = (answer (merge_of meaning decided w) offers).ending ≡ Some e
 StandsFor meaning decided w HasFailed offers = ⊥
@@ -31,7 +31,7 @@ pub record Brings {T : Type 0} (merge : Merge T) (offers : List (ChunkResult T))
 
 -- what an offer answers and does, where the answer is open
 abbrev pub TakesOffer : {L K T : Type 0} → (L → Meaning T) → Bool → (K → List T → K → Type 0) → (K → List T → ℕ → K → Type 0)
-    → Work L T → ChunkResult T → K → Result More MergeFault → Work L T → Standing → K → Type 0
+    → Work L T → ChunkResult T → K → Result More MergeFault → Work L T → JoinerState → K → Type 0
 TakesOffer {L} {K} {T} meaning decided accepts refuses w r s (Ok Yes) w' standing' s' =
     (standing' ≡ Open) × ((offers : List (ChunkResult T)) → Rests meaning decided w offers
     → Brings (merge_of meaning decided w) offers r (λ gained. Leads accepts s gained s') × Rests meaning decided w' (offers ++ r ∷ []))
@@ -52,32 +52,32 @@ TakesOffer meaning decided accepts refuses w r s (Err Cancelled) w' standing' s'
 
 -- a decided merger answers No, a failed one Failed, and nothing changes
 abbrev pub Offers : {L K T : Type 0} → (L → Meaning T) → Bool → (K → List T → K → Type 0) → (K → List T → ℕ → K → Type 0)
-    → Work L T → Standing → ChunkResult T → K → Result More MergeFault → Work L T → Standing → K → Type 0
+    → Work L T → JoinerState → ChunkResult T → K → Result More MergeFault → Work L T → JoinerState → K → Type 0
 Offers meaning decided accepts refuses w Open r s result w' standing' s' = TakesOffer meaning decided accepts refuses w r s result w' standing' s'
 Offers meaning decided accepts refuses w (Decided e) r s result w' standing' s' = (result ≡ Ok No) × (w' ≡ w) × (standing' ≡ Decided e) × (s' ≡ s)
 Offers meaning decided accepts refuses w HasFailed r s result w' standing' s' = (result ≡ Err Failed) × (w' ≡ w) × (standing' ≡ HasFailed) × (s' ≡ s)
 
 -- the token kept a batch back: the merger has failed, and of the batches that the definition gains the first were delivered
 abbrev pub IsCancelled : {L C K T : Type 0} → (L → Meaning T) → Bool → (C → ℕ → Bool → C → Type 0) → (K → List T → K → Type 0)
-    → Work L T → Standing → ChunkResult T → Delivery C K → Standing → Delivery C K → Type 0
+    → Work L T → JoinerState → ChunkResult T → Delivery C K → JoinerState → Delivery C K → Type 0
 IsCancelled {L} {C} {K} {T} meaning decided asks accepts w standing r d standing' d' =
     (standing ≡ Open) × (standing' ≡ HasFailed) × ((offers : List (ChunkResult T)) → Rests meaning decided w offers
     → Brings (merge_of meaning decided w) offers r (λ gained. IsKeptBack asks accepts d gained d'))
 
 -- the same of an offer with a token, which is asked before each batch
 abbrev pub OffersWith : {L C K T : Type 0} → (L → Meaning T) → Bool → (C → ℕ → Bool → C → Type 0) → (K → List T → K → Type 0) → (K → List T → ℕ → K → Type 0)
-    → Work L T → Standing → ChunkResult T → Delivery C K → Result More MergeFault → Work L T → Standing → Delivery C K → Type 0
+    → Work L T → JoinerState → ChunkResult T → Delivery C K → Result More MergeFault → Work L T → JoinerState → Delivery C K → Type 0
 OffersWith meaning decided asks accepts refuses w standing r d (Ok more) w' standing' d' = Offers meaning decided (Passes asks accepts) (IsRefused asks refuses) w standing r d (Ok more) w' standing' d'
 OffersWith meaning decided asks accepts refuses w standing r d (Err Cancelled) w' standing' d' = IsCancelled meaning decided asks accepts w standing r d standing' d'
 OffersWith meaning decided asks accepts refuses w standing r d (Err fault) w' standing' d' = Offers meaning decided (Passes asks accepts) (IsRefused asks refuses) w standing r d (Err fault) w' standing' d'
 
-abbrev pub is_decided : Standing → Bool
+abbrev pub is_decided : JoinerState → Bool
 is_decided Open = false
 is_decided (Decided e) = true
 is_decided HasFailed = false
 
 -- how a merger finishes: with the answer's ending, or with Gap where it is open
-abbrev pub finished : Standing → Result Ending MergeFault
+abbrev pub finished : JoinerState → Result Ending MergeFault
 finished Open = Err Gap
 finished (Decided e) = Ok e
 finished HasFailed = Err Failed

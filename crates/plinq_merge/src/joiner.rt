@@ -1,5 +1,5 @@
 ghost use Rattle.std.specs.Prelude.{◌≡◌, ◌<◌, ◌≤◌, ◌^◌, ℕ, List, [], true, false, Ok, Err, IfOk, IfErr};
-ghost use Rattle.plinq_merge.specs.declared.standing.Standing.TheVariants.{Open, Decided};
+ghost use Rattle.plinq_merge.specs.declared.joiner_state.JoinerState.TheVariants.{Open, Decided};
 ghost use Rattle.plinq_ops.specs.declared.results.ChunkResult.{ChunkResult};
 ghost use Rattle.plinq_ops.specs.Tails.{end_of_result};
 ghost use Rattle.plinq_merge.specs.Keys.{is_offered};
@@ -8,10 +8,10 @@ ghost use Rattle.plinq_merge.specs.Joiners.{taker_of, order_of, WaitsFor, has_de
 
 use crate::delivery_fault::DeliveryFault;
 use crate::joined::Joined;
+use crate::joiner_state::JoinerState;
 use crate::joining::Joining;
 use crate::merge_fault::MergeFault;
 use crate::more::More;
-use crate::standing::Standing;
 use crate::taker::{TakeInto, Taker};
 use plinq_ops::{ChunkResult, Order};
 use plinq_source::Ending;
@@ -21,7 +21,7 @@ use std::alloc::Global;
 #[derive(Drop)]
 pub struct Joiner<W, T> {
     pub(crate) work: Joining<W, T>,
-    pub(crate) standing: Standing,
+    pub(crate) standing: JoinerState,
 }
 
 impl<W: Taker> Joiner<W, W::Item> {
@@ -36,7 +36,7 @@ impl<W: Taker> Joiner<W, W::Item> {
     {
         Joiner {
             work: Joining::new(alloc, order, taker),
-            standing: Standing::Open,
+            standing: JoinerState::Open,
         }
     }
 
@@ -49,7 +49,7 @@ impl<W: Taker> Joiner<W, W::Item> {
     {
         Joiner {
             work: Joining::new(alloc, order, taker),
-            standing: Standing::Decided(ending),
+            standing: JoinerState::Decided(ending),
         }
     }
 
@@ -77,9 +77,9 @@ impl<W: Taker> Joiner<W, W::Item> {
         ensures takes { Takes W.made self.old offered out.old result self.new out.new }
     {
         match self.standing {
-            Standing::Failed => return Err(MergeFault::Failed),
-            Standing::Decided(_) => return Ok(More::No),
-            Standing::Open => {}
+            JoinerState::Failed => return Err(MergeFault::Failed),
+            JoinerState::Decided(_) => return Ok(More::No),
+            JoinerState::Open => {}
         }
         let end = offered.first + offered.count;
         if self.work.row.buffer.overlaps(offered.first, end) {
@@ -88,15 +88,15 @@ impl<W: Taker> Joiner<W, W::Item> {
         match self.work.join(offered, out) {
             Ok(None) => Ok(More::Yes),
             Ok(Some(ending)) => {
-                self.standing = Standing::Decided(ending);
+                self.standing = JoinerState::Decided(ending);
                 Ok(More::No)
             }
             Err(DeliveryFault::Memory) => {
-                self.standing = Standing::Failed;
+                self.standing = JoinerState::Failed;
                 Err(MergeFault::Memory)
             }
             Err(DeliveryFault::Sink(code)) => {
-                self.standing = Standing::Failed;
+                self.standing = JoinerState::Failed;
                 Err(MergeFault::Sink(code))
             }
         }
@@ -116,9 +116,9 @@ impl<W: Taker> Joiner<W, W::Item> {
         ensures { result ≡ has_decided self.now }
     {
         match self.standing {
-            Standing::Open => false,
-            Standing::Decided(_) => true,
-            Standing::Failed => false,
+            JoinerState::Open => false,
+            JoinerState::Decided(_) => true,
+            JoinerState::Failed => false,
         }
     }
 
@@ -144,9 +144,9 @@ impl<W: Taker> Joiner<W, W::Item> {
         ensures { result ≡ ending_of self.now }
     {
         match self.standing {
-            Standing::Open => Err(MergeFault::Gap),
-            Standing::Decided(ending) => Ok(ending),
-            Standing::Failed => Err(MergeFault::Failed),
+            JoinerState::Open => Err(MergeFault::Gap),
+            JoinerState::Decided(ending) => Ok(ending),
+            JoinerState::Failed => Err(MergeFault::Failed),
         }
     }
 

@@ -24,6 +24,7 @@ mod flag_token;
 mod in_blocks;
 mod joined;
 mod joiner;
+mod joiner_state;
 mod joining;
 pub mod laws;
 mod merge_fault;
@@ -37,7 +38,6 @@ mod pending;
 mod row;
 mod sending;
 mod sink;
-mod standing;
 mod taker;
 mod with_cancellation;
 

@@ -10,9 +10,9 @@ use std::alloc::Global;
 
 /// A formula whose kind is known where it is made, so that its loops over a block are those of this kind.
 #[derive(Drop)]
-pub(crate) struct Kind(pub(crate) Formula);
+pub(crate) struct FormulaKind(pub(crate) Formula);
 
-impl Lambda for Kind {
+impl Lambda for FormulaKind {
     type Item = i64;
 
     ghost meaning = { λ kind. formula_meaning kind.0 };

@@ -6,9 +6,9 @@ use std::marker::PhantomData;
 
 /// How many items a query over this lambda has, modulo 2^64.
 #[derive(Drop)]
-pub(crate) struct Counted<L>(pub(crate) PhantomData<L>);
+pub(crate) struct ItemCount<L>(pub(crate) PhantomData<L>);
 
-impl<L: SharedLambda> Aggregator for Counted<L> {
+impl<L: SharedLambda> Aggregator for ItemCount<L> {
     type Item = L::Item;
 
     type Acc = u64;

@@ -1,8 +1,8 @@
 use plinq_source::Ending;
 
-/// How a merger stands.
+/// How a joiner stands.
 #[derive(Clone, Copy, Debug, PartialEq, Eq)]
-pub(crate) enum Standing {
+pub(crate) enum JoinerState {
     /// The answer is open.
     Open,
     /// The answer is decided, and all its batches were delivered.
