@@ -7,9 +7,9 @@ ghost use Rattle.plinq_collect.specs.Folds.{first_of, has_item, counted};
 ghost use Rattle.plinq_collect.specs.Telling.{GathersSome};
 ghost use Rattle.plinq_closures.specs.Asked.{HasNone, Tells, told_of, is_there, run_told};
 
-use crate::building::query_of;
 use crate::chain::Chain;
 use crate::chain_fault::ChainFault;
+use crate::chain_queries::query_of;
 use crate::steps::Steps;
 use plinq_collect::{count, first, to_vec};
 use plinq_run::{AggregateFault, RunFault};

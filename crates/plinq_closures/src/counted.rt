@@ -3,7 +3,7 @@ ghost use Rattle.plinq_closures.specs.Functions.{tests};
 ghost use Rattle.plinq_closures.specs.Steps.{over, here_or, IsNothing, does_nothing, DoesThen};
 ghost use Rattle.plinq_closures.specs.Laws.{nothing_given, nothing_else, some_then, one_then, comes_to-tested};
 
-use crate::blocks::nothing_done;
+use crate::block_closures::nothing_done;
 use crate::steps::Steps;
 use plinq_ops::Op;
 

@@ -8,14 +8,14 @@
 //! - [`Steps`] is what a chain's steps have in common; no query of a user's own needs it.
 #![tactic(auto)]
 
-mod aggregating;
 mod asking;
 mod at;
-mod blocks;
-mod building;
-mod calling;
+mod block_closures;
 mod chain;
+mod chain_aggregates;
+mod chain_calls;
 mod chain_fault;
+mod chain_queries;
 mod counted;
 mod lent;
 mod mapped;

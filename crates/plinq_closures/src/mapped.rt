@@ -5,7 +5,7 @@ ghost use Rattle.plinq_closures.specs.Functions.{maps};
 ghost use Rattle.plinq_closures.specs.Steps.{here_or, IsNothing, DoesThen};
 ghost use Rattle.plinq_closures.specs.Laws.{nothing_given, nothing_else, some_then, one_then, comes_to-mapped};
 
-use crate::blocks::{map_each, nothing_done};
+use crate::block_closures::{map_each, nothing_done};
 use crate::steps::Steps;
 use plinq_ops::Op;
 

@@ -7,9 +7,9 @@ ghost use Rattle.plinq_closures.specs.Asked.{Tells, negated};
 ghost use Rattle.plinq_closures.specs.Functions.{tests};
 
 use crate::asking::told;
-use crate::building::query_of;
 use crate::chain::Chain;
 use crate::chain_fault::ChainFault;
+use crate::chain_queries::query_of;
 use crate::lent::Lent;
 use crate::steps::Steps;
 use plinq_collect::element_at;

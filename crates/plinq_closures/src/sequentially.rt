@@ -8,9 +8,9 @@ ghost use Rattle.plinq_closures.specs.declared.chain_fault.ChainFault.TheVariant
 ghost use Rattle.plinq_closures.specs.Asked.{HasNone, HasCalledAll, LacksRoomAlone, LacksRoomOrRefused, Tells};
 
 use crate::asking::{run_told, there, told};
-use crate::building::query_of;
 use crate::chain::Chain;
 use crate::chain_fault::ChainFault;
+use crate::chain_queries::query_of;
 use crate::steps::Steps;
 use plinq_collect::sequentially::{count, element_at, first, for_each, to_vec};
 use plinq_source::{Ending, Source};

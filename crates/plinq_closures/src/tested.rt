@@ -4,7 +4,7 @@ ghost use Rattle.plinq_closures.specs.Functions.{tests};
 ghost use Rattle.plinq_closures.specs.Steps.{over, here_or, IsNothing, DoesThen};
 ghost use Rattle.plinq_closures.specs.Laws.{nothing_given, nothing_else, some_then, one_then, comes_to-tested};
 
-use crate::blocks::{count_each, filter_each, nothing_done};
+use crate::block_closures::{count_each, filter_each, nothing_done};
 use crate::steps::Steps;
 use plinq_ops::Op;
 

@@ -2,7 +2,7 @@ ghost use Rattle.std.specs.Prelude.{◌≡◌, [], ⊤, refl};
 ghost use Rattle.plinq_closures.specs.Steps.{IsNothing};
 ghost use Rattle.plinq_closures.specs.Laws.{nothing_given, nothing_else, no_steps};
 
-use crate::blocks::nothing_done;
+use crate::block_closures::nothing_done;
 use crate::steps::Steps;
 use plinq_ops::Op;
 use std::marker::PhantomData;

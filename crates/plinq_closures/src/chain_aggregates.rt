@@ -5,9 +5,9 @@ ghost use Rattle.plinq_ops.specs.Sequential.{answer_of};
 ghost use Rattle.plinq_closures.specs.Asked.{LacksRoomAlone, Tells};
 
 use crate::asking::told;
-use crate::building::query_of;
 use crate::chain::Chain;
 use crate::chain_fault::ChainFault;
+use crate::chain_queries::query_of;
 use crate::sequentially::Sequentially;
 use crate::steps::Steps;
 use plinq_aggregate::{Aggregator, GrowingAggregator};

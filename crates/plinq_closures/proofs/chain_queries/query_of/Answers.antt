@@ -6,7 +6,7 @@ use Rattle.plinq_lambda.specs.Meaning.{Meaning}
 use Rattle.plinq_closures.specs.inner.Only.{may_call, only_one}
 use Rattle.plinq_closures.specs.Steps.{Agrees}
 use Rattle.plinq_closures.proofs.Put.{all_down}
-use Rattle.plinq_closures.proofs.building.query_of.Goals as goal
+use Rattle.plinq_closures.proofs.chain_queries.query_of.Goals as goal
 
 pub with_steps-requires-clause-called : goal.with_steps-requires-clause-called
 with_steps-requires-clause-called g c = may_call c.requires.is_called (g.met.S.Steps.one_call c.args.steps.now c.requires.in_one_way)

@@ -4,7 +4,7 @@ use Rattle.plinq_closures.specs.Steps.{over}
 use Rattle.plinq_closures.specs.Laws.{step_meaning}
 use Rattle.plinq_closures.specs.Steps.{Agrees}
 use Rattle.plinq_closures.proofs.Put.{put_down}
-use Rattle.plinq_closures.proofs.building.+with_steps.Goals as goal
+use Rattle.plinq_closures.proofs.chain_queries.+with_steps.Goals as goal
 
 pub returns-in-Ok-clause-ops : goal.returns-in-Ok-clause-ops
 returns-in-Ok-clause-ops g t c m is =

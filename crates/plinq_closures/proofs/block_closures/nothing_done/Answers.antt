@@ -1,7 +1,7 @@
 -- The first item faults.
 use Rattle.std.proofs.Common.{sym, ◌∙◌}
 use Rattle.plinq_closures.proofs.Within.{nothing_mapped, nothing_filtered, nothing_passes}
-use Rattle.plinq_closures.proofs.blocks.nothing_done.Goals as goal
+use Rattle.plinq_closures.proofs.block_closures.nothing_done.Goals as goal
 
 pub returns-else-is_empty-clause-mapped : goal.returns-else-is_empty-clause-mapped
 returns-else-is_empty-clause-mapped g c = nothing_mapped c.args.block.now (sym c.is_empty.ensures ∙ c.if-is_empty.false)

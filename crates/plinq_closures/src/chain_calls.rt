@@ -4,9 +4,9 @@ ghost use Rattle.plinq_ops.specs.Sequential.{answer_of};
 ghost use Rattle.plinq_closures.specs.Asked.{HasCalled};
 
 use crate::asking::run_told;
-use crate::building::query_of;
 use crate::chain::Chain;
 use crate::chain_fault::ChainFault;
+use crate::chain_queries::query_of;
 use crate::steps::Steps;
 use plinq_collect::for_each;
 use plinq_source::{Ending, Source};

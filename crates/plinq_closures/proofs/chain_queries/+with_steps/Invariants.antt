@@ -1,4 +1,4 @@
-use Rattle.plinq_closures.proofs.building.+with_steps.Given as goal
+use Rattle.plinq_closures.proofs.chain_queries.+with_steps.Given as goal
 
 abbrev pub decreases-with_steps : goal.decreases-with_steps
 decreases-with_steps g l = l.count
