@@ -6,7 +6,7 @@
 //! meaning `plinq_document`'s, and the lines are `plinq_lines`'.
 #![tactic(auto)]
 
-mod aggregating;
+mod aggregate_values;
 mod failure;
 mod input;
 mod input_fault;

@@ -10,7 +10,7 @@ ghost use Rattle.plinq_lambda.specs.Formula.{formula_meaning};
 ghost use Rattle.plinq_ops.specs.Answer.{MayAnswer};
 ghost use Rattle.plinq_ops.specs.Query.{merge_in_force};
 
-use crate::aggregating::{value_by_one, value_by_threads};
+use crate::aggregate_values::{value_by_one, value_by_threads};
 use crate::rounds::{drive_partitions, told_ending};
 use crate::serve_fault::ServeFault;
 use plinq_arguments::Command;

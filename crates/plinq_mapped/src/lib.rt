@@ -8,7 +8,7 @@
 mod collecting;
 mod deliver_made;
 mod keep_made;
-mod running;
+mod mapped_runs;
 
 pub use collecting::to_vec_mapped;
-pub use running::run_mapped;
+pub use mapped_runs::run_mapped;

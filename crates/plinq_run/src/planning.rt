@@ -17,8 +17,8 @@ ghost use Rattle.plinq_run.specs.inner.Merged.{WereAccepted, EndsSo};
 
 use crate::accepting::{Merging, MergingInto};
 use crate::kept_memory::keep_memory;
-use crate::limits::progress_of;
 use crate::reporting::finish;
+use crate::run_ahead::progress_of;
 use crate::run_fault::RunFault;
 use crate::run_request::RunRequest;
 use plinq_crew::{Crew, Gate, ResultStream, RunSpec, RunStopKeys, Task, WorkerContext, conduct};

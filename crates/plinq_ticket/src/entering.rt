@@ -9,7 +9,7 @@ ghost use Rattle.plinq_ticket.specs.inner.Steps.{IsInside};
 use crate::held::{Entry, Held, Stay};
 use crate::lock_fault::LockFault;
 use crate::pass::{Pass, Token};
-use crate::steps::VALUE;
+use crate::table_steps::VALUE;
 use crate::ticket_lock::TicketLock;
 use crate::view::View;
 use atomic_table::Seat;

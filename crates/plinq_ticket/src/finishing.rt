@@ -4,7 +4,7 @@ ghost use Rattle.plinq_ticket.specs.Passes.{IsPassOf};
 
 use crate::lock_fault::LockFault;
 use crate::pass::{Pass, Token};
-use crate::steps::{NEXT, SERVING, VALUE};
+use crate::table_steps::{NEXT, SERVING, VALUE};
 use crate::ticket_lock::TicketLock;
 use plinq_keyed::Guarded;
 

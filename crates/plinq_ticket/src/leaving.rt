@@ -4,7 +4,7 @@ ghost use Rattle.plinq_ticket.specs.Shares.{AddsAtMostOne, added};
 
 use crate::held::{Entry, Held, Stay};
 use crate::pass::{Pass, Token};
-use crate::steps::VALUE;
+use crate::table_steps::VALUE;
 use crate::ticket_lock::TicketLock;
 use plinq_keyed::Guarded;
 

@@ -20,7 +20,7 @@ mod phase;
 mod plays;
 mod sharing;
 mod standing;
-mod steps;
+mod table_steps;
 mod ticket_lock;
 mod view;
 

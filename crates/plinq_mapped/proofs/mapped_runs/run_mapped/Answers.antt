@@ -3,7 +3,7 @@ use Rattle.plinq_ops.specs.Answer.{MayAnswer}
 use Rattle.plinq_ops.specs.Query.{merge_in_force}
 use Rattle.plinq_mapped.specs.Mapped.{RunsMadeOf}
 use Rattle.plinq_mapped.proofs.MadeOf.{runs-made, ordered-made}
-use Rattle.plinq_mapped.proofs.running.run_mapped.Goals as goal
+use Rattle.plinq_mapped.proofs.mapped_runs.run_mapped.Goals as goal
 
 pub returns-clause-runs : goal.returns-clause-runs
 returns-clause-runs g c =
