@@ -2,7 +2,7 @@
 use Rattle.std.specs.Prelude.{◌≡◌, List, [], ◌∷◌, ◌++◌, true, false, Option, Some, None, is_some, Result, Ok, Err, IfOk, refl}
 use Rattle.std.proofs.Common.{sym, ◌∙◌, ap, append-nil, append_assoc}
 use Rattle.plinq_source.specs.declared.ending.Ending.{Ending}
-use Rattle.plinq_source.specs.Trace.{Trace, open_trace, ended, continued, followed}
+use Rattle.plinq_source.specs.Trace.{Trace, open_trace, continued, followed}
 use Rattle.plinq_source.proofs.Followed.{trace_of, followed-ended, followed-open_nil}
 use Rattle.plinq_ops.specs.Stage.{Stage, pieces, apply, seq, stage_after, seq_after, some_takes_none}
 use Rattle.plinq_ops.specs.Feeding.{IsFed}
@@ -13,15 +13,6 @@ use Rattle.plinq_ops.proofs.Open.{seq-nothing, seq_after-nothing, seq_after-foll
 pub IfOk-both : {X Y : Type 0} (r : Result X Y) (P Q R : X → Type 0) → ((x : X) → P x → Q x → R x) → IfOk r P → IfOk r Q → IfOk r R
 IfOk-both (Ok x) P Q R both p q = both x p q
 IfOk-both (Err e) P Q R both p q = tt
-
--- a trace that ends with no item
-pub fed-ending : {T : Type 0} (ss ss' : List (Stage T)) (out : List T) (e : Ending) → some_takes_none ss ≡ false → IsFed ss (ended [] e) out out ss' (Some e)
-fed-ending ss ss' out e undecided =
-    record {
-      items = sym (append-nil out) ∙ ap (λ t. out ++ t.items) (sym (seq-nothing ss (Some e) undecided));
-      told = ap (λ t. t.ending) (sym (seq-nothing ss (Some e) undecided));
-      left = λ bad. absurd (cc);
-    }
 
 -- the operators but the first see this trace in the place of the items and their ending
 pub fed-through : {T : Type 0} (s s' : Stage T) (xs : List T) (told : Option Ending) (t : Trace T) (ss ss' : List (Stage T)) (before after : List T) (e : Option Ending)
