@@ -14,7 +14,7 @@ import sys
 import tempfile
 
 ROOT = os.path.dirname(os.path.dirname(os.path.abspath(__file__)))
-BELOW = ["plinq_source", "plinq_lambda", "plinq_keyed", "plinq_ops", "plinq_reorder", "plinq_merge"]
+BELOW = ["plinq_words", "plinq_source", "plinq_lambda", "plinq_keyed", "plinq_ops", "plinq_reorder", "plinq_merge"]
 
 PROGRAM = """
 //! Makes results, and offers them to a merger: WHAT COUNT LENGTH.

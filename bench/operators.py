@@ -16,7 +16,7 @@ import sys
 import tempfile
 
 ROOT = os.path.dirname(os.path.dirname(os.path.abspath(__file__)))
-BELOW = ["plinq_source", "plinq_lambda", "plinq_keyed", "plinq_ops"]
+BELOW = ["plinq_words", "plinq_source", "plinq_lambda", "plinq_keyed", "plinq_ops"]
 
 
 def build(tree, name, folder):

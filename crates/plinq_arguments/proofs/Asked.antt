@@ -17,9 +17,9 @@ use Rattle.clap.specs.declared.error.Error.{Error}
 use Rattle.clap.specs.declared.parser.matches.ArgMatches.{ArgMatches}
 use Rattle.clap.proofs.WalkLemmas.{both, first_value-rows, one_text-rows}
 use Rattle.clap.proofs.ValueTestLemmas.{accepts-Accepts, Accepts-accepts}
-use Rattle.plinq_document.specs.Words.{beside}
+use Rattle.plinq_words.specs.Tables.{beside}
 use Rattle.plinq_ops.specs.MergeWords.{merge_named}
-use Rattle.plinq_document.specs.Degrees.{degree_of}
+use Rattle.plinq_settings.specs.Degrees.{degree_of}
 use Rattle.plinq_ops.specs.Query.{is_degree}
 use Rattle.std.proofs.lemmas.Bool.{le-leb}
 use Rattle.std.proofs.lemmas.Bool.Decides.{nat_tests}

@@ -11,7 +11,7 @@ use Rattle.clap.specs.declared.builder.value_parser.ValueParser.TheVariants as p
 use Rattle.clap.specs.declared.error.kind.ErrorKind.{ErrorKind}
 use Rattle.clap.specs.declared.error.kind.ErrorKind.TheVariants.{OutOfMemory}
 use Rattle.plinq_ops.specs.declared.merge_option.MergeOption.{MergeOption}
-use Rattle.plinq_document.specs.Words.{beside}
+use Rattle.plinq_words.specs.Tables.{beside}
 use Rattle.plinq_ops.specs.MergeWords.{merge_name, merge_named, merge_options}
 use Rattle.plinq_arguments.specs.declared.arguments.Arguments.{Arguments}
 use Rattle.plinq_arguments.specs.declared.command.Command.{Command}

@@ -1,5 +1,5 @@
 use crate::command::Command;
-use plinq_document::Settings;
+use plinq_settings::Settings;
 
 /// What a command line asks for.
 #[derive(Clone, Copy, Debug, PartialEq, Eq)]

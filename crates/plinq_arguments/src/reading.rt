@@ -1,7 +1,7 @@
 ghost use Rattle.std.specs.Prelude.{◌≡◌, map, option_and_then, IfOk, MatchResult};
 ghost use Rattle.std.specs.String.{string_bytes};
 ghost use Rattle.clap.specs.Words.{app_of, found_of, kind_of, rows_of, subcommand_rows_of};
-ghost use Rattle.plinq_document.specs.Words.{beside};
+ghost use Rattle.plinq_words.specs.Tables.{beside};
 ghost use Rattle.plinq_arguments.specs.Arguments.{AddsItsShape, IsAsked, IsPlinq, Refuses, arguments_in, cancel_of, command_names, merge_of, run_app, subcommand_app, workers_of};
 
 use crate::arguments::Arguments;
@@ -9,8 +9,8 @@ use crate::command::Command;
 use clap::builder::ValueParser;
 use clap::error::ErrorKind;
 use clap::{Arg, ArgMatches};
-use plinq_document::{Degree, Settings};
 use plinq_ops::MergeOption;
+use plinq_settings::{Degree, Settings};
 use std::alloc::{AllocError, Global};
 
 /// The greatest number of batches after which a run can be cancelled.

@@ -20,8 +20,7 @@ pub use input::read_input;
 pub use input_fault::InputFault;
 pub use performing::perform;
 pub use plinq_arguments::{Arguments, Command, read_arguments};
-pub use plinq_document::{
-    AnySource, Degree, DocFault, Job, Kind, PlainSource, Settings, StepFault, read_document,
-};
+pub use plinq_document::{AnySource, DocFault, Job, Kind, PlainSource, StepFault, read_document};
+pub use plinq_settings::{Degree, Settings};
 pub use serve_fault::ServeFault;
 pub use serving::serve;

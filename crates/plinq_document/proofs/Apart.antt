@@ -1,6 +1,6 @@
 -- A document means the same whether or not its source was read apart from its other members.
-use Rattle.std.proofs.Common.{◌≡◌, ℕ, ◌^◌, ◌≤◌, ℤ, Bool, true, false, List, length, Option, Some, None, Result, Ok, Err, Ordering, Less, Equal, Greater, nat_cmp, is_eq, bytes_eq, true≢false, option_map, refl, sym, ap, ◌∙◌, arith, le-leb}
-use Rattle.std.specs.Prelude.{◌&&◌, codes, if◌then◌else◌, nat_le, option_and_then, ⊤}
+use Rattle.std.proofs.Common.{◌≡◌, ℕ, ◌^◌, ◌≤◌, ℤ, Bool, true, false, List, length, Option, Some, None, Result, Ok, Err, Ordering, Less, Equal, Greater, nat_cmp, is_eq, bytes_eq, true≢false, refl, sym, ap, ◌∙◌, le-leb}
+use Rattle.std.specs.Prelude.{◌&&◌, codes, if◌then◌else◌, option_and_then, ⊤}
 use Rattle.std.specs.Cmp.Lexicographic.{slice_cmp}
 use Rattle.std.specs.Ordering.{match_ordering}
 use Rattle.std.proofs.lemmas.Map.Text.{is_eq-slice_cmp}
@@ -9,7 +9,6 @@ use Rattle.serde_json.specs.Data.{Data, Items, string, array, object, Members, n
 use Rattle.serde_json.specs.Find.{as_array, get_member}
 use Rattle.serde_json.proofs.Views.{get_member-put, get_member-put_other}
 use Rattle.plinq_source.specs.Trace.{Trace, ended, list_ending}
-use Rattle.plinq_enumerator.specs.Growing.{GrowthRule}
 use Rattle.plinq_document.specs.Results.{◌>>=◌, ◌>>◌, or_shape}
 use Rattle.plinq_document.specs.Jobs.{JobView}
 use Rattle.plinq_document.specs.Values.{whole_number}
@@ -18,7 +17,6 @@ use Rattle.plinq_document.specs.Growths.{counts_or_default, growth_counts, growt
 use Rattle.plinq_document.specs.Aggregates.{aggregate_or_none, aggregate_in}
 use Rattle.plinq_document.specs.Steps.{with_steps_of}
 use Rattle.plinq_document.specs.Sources.{whole_numbers, code_of, list_source, text_source, source_of, source_in}
-use Rattle.plinq_document.specs.PlainWalked.{plain_whole}
 use Rattle.plinq_document.specs.Document.{is_top_name, are_top_names, names_check, few_steps, steps_in, new_query, document_meaning}
 use Rattle.plinq_document.specs.inner.Apart.{IsSourceOf, IsUnderSource, AreApart, source_apart, meaning_apart}
 use Rattle.plinq_document.specs.declared.kind.Kind.{Kind}
@@ -26,7 +24,7 @@ use Rattle.plinq_document.specs.declared.growth_counts.GrowthCounts.{GrowthCount
 use Rattle.plinq_document.specs.declared.version.Version.{Version}
 use Rattle.plinq_document.specs.declared.version.Version.TheVariants.{One, Two}
 use Rattle.plinq_document.specs.declared.plain_source.PlainSource.{PlainSource}
-use Rattle.plinq_document.specs.declared.settings.Settings.{Settings}
+use Rattle.plinq_settings.specs.declared.settings.Settings.{Settings}
 use Rattle.plinq_document.specs.declared.doc_fault.DocFault.{DocFault}
 use Rattle.plinq_document.specs.declared.doc_fault.DocFault.TheVariants.{Shape}
 

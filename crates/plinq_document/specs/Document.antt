@@ -14,7 +14,7 @@ use Rattle.plinq_document.specs.Sources.{source_in}
 use Rattle.plinq_document.specs.Growths.{growth_counts, growth_of}
 use Rattle.plinq_document.specs.Aggregates.{aggregate_in}
 use Rattle.plinq_document.specs.Steps.{with_steps_of}
-use Rattle.plinq_document.specs.declared.settings.Settings.{Settings}
+use Rattle.plinq_settings.specs.declared.settings.Settings.{Settings}
 use Rattle.plinq_document.specs.declared.doc_fault.DocFault.{DocFault}
 use Rattle.plinq_document.specs.declared.doc_fault.DocFault.TheVariants.{TooLong, NotJson, Shape}
 

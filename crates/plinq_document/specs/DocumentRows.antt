@@ -13,7 +13,7 @@ use Rattle.plinq_document.specs.Document.{document_meaning}
 use Rattle.plinq_document.specs.Sources.{bound_of, few_together}
 use Rattle.plinq_document.specs.Jobs.{JobView}
 use Rattle.plinq_document.specs.Steps.{since}
-use Rattle.plinq_document.specs.declared.settings.Settings.{Settings}
+use Rattle.plinq_settings.specs.declared.settings.Settings.{Settings}
 use Rattle.plinq_document.specs.declared.version.Version.TheVariants.{One, Two}
 use Rattle.plinq_document.specs.declared.kind.Kind.{Kind}
 use Rattle.plinq_document.specs.declared.kind.Kind.TheVariants.{Sum, Count, Min, Max}

@@ -1,8 +1,6 @@
 pub mod PlainWalked
 pub mod Walked
-pub mod Words
 pub mod Values
-pub mod Degrees
 pub mod Formulas
 pub mod Results
 pub mod Versions

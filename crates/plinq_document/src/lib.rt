@@ -3,15 +3,14 @@
 //! `read_document` answers `document_of`, one definition that looks in turn at the length, the JSON, the version, the
 //! names, the steps, the shape of the growth, the aggregate, the source, the growth and the calls of the steps. A `Job` is
 //! seen as its query, the trace of its source, of which nothing is given yet, its growth, and its aggregate, if it has one.
-//! A `Degree` is from 1 to 64. The [`laws`] say that a part of a concatenation has a bound, and keeps to it, and that the
-//! words of operators and formulas, and no others, are read as these.
+//! The [`laws`] say that a part of a concatenation has a bound, and keeps to it, and that the words of operators and formulas,
+//! and no others, are read as these.
 #![tactic(auto)]
 
 mod aggregates;
 mod any_source;
 mod by_tokens;
 mod concats;
-mod degree;
 mod doc_fault;
 mod document;
 mod formulas;
@@ -22,7 +21,6 @@ pub mod laws;
 mod other_step;
 mod plain_source;
 mod plain_sources;
-mod settings;
 mod source_name;
 mod sources;
 mod step_call;
@@ -31,12 +29,10 @@ mod values;
 mod version;
 
 pub use any_source::AnySource;
-pub use degree::Degree;
 pub use doc_fault::{DocFault, StepFault};
 pub use document::read_document;
 pub use job::Job;
 pub use kind::Kind;
 pub use plain_source::PlainSource;
-pub use settings::Settings;
 pub use step_call::StepCall;
 pub use version::Version;

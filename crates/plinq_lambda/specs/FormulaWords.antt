@@ -2,7 +2,7 @@
 use Rattle.std.specs.Prelude.{◌≡◌, refl, ℕ, ℤ, pos, List, [], ◌∷◌, Option, Some, None, codes}
 use Rattle.plinq_lambda.specs.declared.formula.Formula.{Formula}
 use Rattle.plinq_lambda.specs.declared.formula.Formula.TheVariants.{Add, Mul, Mod, Into, Below, Above, Equal, Even, Repeat, UpTo}
-use Rattle.plinq_lambda.specs.Named.{first_named}
+use Rattle.plinq_words.specs.Named.{first_named}
 
 -- the name of a formula
 abbrev pub formula_name : Formula → List ℕ

@@ -3,6 +3,5 @@ pub mod Meaning
 pub mod Block
 pub mod Short
 pub mod FaultRows
-pub mod Named
 pub mod FormulaWords
 pub mod inner

@@ -2,7 +2,7 @@ ghost use Rattle.std.specs.Prelude.{◌≡◌};
 ghost use Rattle.plinq_lambda.specs.FormulaWords.{formula_name, formula_number, formula_named};
 
 use crate::formula::Formula;
-use crate::named::{Named, first_named};
+use plinq_words::{Named, first_named};
 
 impl Named for Formula {
     ghost its_name = { formula_name };

@@ -5,7 +5,7 @@
 //! A [`SharedLambda`] is one that threads may share.
 //! A [`Formula`] is the lambda over `i64` that a document can name; its meaning is `formula_meaning`, over whole
 //! numbers with a check of the range at the end. Only `expand` takes memory, and that at once. Documents and plans call a
-//! formula by its name and number (`formula_name`, [`Formula::named`]), as they call by name whatever is [`Named`].
+//! formula by its name and number (`formula_name`, [`Formula::named`]).
 #![tactic(auto)]
 
 mod expand_fault;
@@ -14,10 +14,8 @@ mod formula_kind;
 mod formula_words;
 mod lambda;
 pub mod laws;
-mod named;
 mod sums;
 
 pub use expand_fault::ExpandFault;
 pub use formula::Formula;
 pub use lambda::{Lambda, SharedLambda};
-pub use named::{Named, first_named};

@@ -7,8 +7,9 @@ ghost use Rattle.plinq_lines.specs.Written.{Writes};
 use crate::piece::Piece;
 use crate::pieces::write_pieces;
 use crate::write_fault::WriteFault;
-use plinq_lambda::{Formula, Named};
+use plinq_lambda::Formula;
 use plinq_ops::{Argument, Op};
+use plinq_words::Named;
 use std::io::Write;
 
 /// Writes a line of this name and of operators in order, or `none`.

@@ -6,8 +6,9 @@ use crate::op_words::write_part;
 use crate::piece::Piece;
 use crate::pieces::write_pieces;
 use crate::write_fault::WriteFault;
-use plinq_lambda::{Formula, Named};
+use plinq_lambda::Formula;
 use plinq_ops::{MergeOption, Order, Query};
+use plinq_words::Named;
 use std::io::Write;
 
 /// Writes the five lines of a query's plan. Takes no memory.

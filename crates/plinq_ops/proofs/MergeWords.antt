@@ -1,6 +1,6 @@
 -- The words of merge options.
 use Rattle.std.specs.Prelude.{◌≡◌, ℕ, List, Some, ⊤, refl}
-use Rattle.plinq_lambda.proofs.Words.{first_named-has}
+use Rattle.plinq_words.proofs.FoundByName.{first_named-has}
 use Rattle.plinq_ops.specs.declared.merge_option.MergeOption.{MergeOption}
 use Rattle.plinq_ops.specs.declared.merge_option.MergeOption.TheVariants.{Default, NotBuffered, AutoBuffered, FullyBuffered}
 use Rattle.plinq_ops.specs.MergeWords.{merge_name, merge_options, merge_named}

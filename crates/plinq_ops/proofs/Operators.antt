@@ -7,7 +7,7 @@ use Rattle.plinq_source.specs.declared.ending.Ending.TheVariants.{End}
 use Rattle.plinq_source.specs.Trace.{Trace, ended, continued}
 use Rattle.plinq_lambda.specs.Meaning.{Meaning}
 use Rattle.plinq_lambda.specs.declared.formula.Formula.{Formula}
-use Rattle.plinq_lambda.proofs.Words.{Each, first_named-has}
+use Rattle.plinq_words.proofs.FoundByName.{Each, first_named-has}
 use Rattle.plinq_ops.specs.declared.argument.Argument.{Argument}
 use Rattle.plinq_ops.specs.declared.argument.Argument.TheVariants.{Nothing as NoArgument, Formula as FormulaArgument, Number}
 use Rattle.plinq_ops.specs.declared.op.Op.{Op}

@@ -1,6 +1,6 @@
 -- The words of merge options.
 use Rattle.std.specs.Prelude.{◌≡◌, refl, ℕ, List, [], ◌∷◌, Option, None, codes}
-use Rattle.plinq_lambda.specs.Named.{first_named}
+use Rattle.plinq_words.specs.Named.{first_named}
 use Rattle.plinq_ops.specs.declared.merge_option.MergeOption.{MergeOption}
 use Rattle.plinq_ops.specs.declared.merge_option.MergeOption.TheVariants.{Default, NotBuffered, AutoBuffered, FullyBuffered}
 

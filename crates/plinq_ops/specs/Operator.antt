@@ -4,7 +4,7 @@ use Rattle.plinq_source.specs.declared.ending.Ending.TheVariants.{End, Refused, 
 use Rattle.plinq_source.specs.Trace.{Trace, open_trace, ended}
 use Rattle.plinq_lambda.specs.Meaning.{Meaning}
 use Rattle.plinq_lambda.specs.declared.formula.Formula.{Formula}
-use Rattle.plinq_lambda.specs.Named.{first_named}
+use Rattle.plinq_words.specs.Named.{first_named}
 use Rattle.plinq_ops.specs.declared.argument.Argument.{Argument}
 use Rattle.plinq_ops.specs.declared.argument.Argument.TheVariants.{Nothing as NoArgument, Formula as FormulaArgument, Number}
 use Rattle.plinq_ops.specs.declared.op.Op.{Op}

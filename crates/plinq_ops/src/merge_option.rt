@@ -1,7 +1,7 @@
 ghost use Rattle.std.specs.Prelude.{◌≡◌};
 ghost use Rattle.plinq_ops.specs.MergeWords.{merge_name, merge_named};
 
-use plinq_lambda::{Named, first_named};
+use plinq_words::{Named, first_named};
 
 /// How a query's results are handed over, after `ParallelMergeOptions` of .NET.
 #[derive(Clone, Copy, Debug, PartialEq, Eq)]

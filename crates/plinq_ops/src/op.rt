@@ -3,7 +3,8 @@ ghost use Rattle.plinq_ops.specs.Operator.{counted_off, needed, keeps_count, op_
 
 use crate::argument::Argument;
 use crate::known::Known;
-use plinq_lambda::{Formula, Named, first_named};
+use plinq_lambda::Formula;
+use plinq_words::{Named, first_named};
 
 /// One operator of a query, over lambdas `L`.
 #[derive(Clone, Copy, Debug, PartialEq, Eq, Drop)]

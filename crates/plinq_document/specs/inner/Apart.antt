@@ -1,5 +1,5 @@
 -- A document whose source was read apart from its other members.
-use Rattle.std.specs.Prelude.{◌≡◌, ℕ, ℤ, List, ◌∷◌, length, Option, Some, None, IfSome, option_and_then, Result, Ok, Err, codes}
+use Rattle.std.specs.Prelude.{◌≡◌, ℕ, ℤ, List, ◌∷◌, length, Option, Some, None, IfSome, option_and_then, Result, Ok, codes}
 use Rattle.json.specs.Token.{Token}
 use Rattle.json.specs.Json as json
 use Rattle.json.specs.Json.{items, members, value}
@@ -7,8 +7,6 @@ use Rattle.serde_json.specs.Data.{Data, Num, number, Items, Members, no_members}
 use Rattle.serde_json.specs.Find.{get_member}
 use Rattle.serde_json.specs.Read.{number_of, of_json, of_items, of_members, converted}
 use Rattle.plinq_source.specs.Trace.{Trace}
-use Rattle.plinq_lambda.specs.declared.formula.Formula.{Formula}
-use Rattle.plinq_ops.specs.Query.{QueryView}
 use Rattle.plinq_document.specs.PlainWalked.{plain_whole, plain_given}
 use Rattle.plinq_document.specs.Results.{◌>>=◌, ◌>>◌}
 use Rattle.plinq_document.specs.Jobs.{JobView}
@@ -20,7 +18,7 @@ use Rattle.plinq_document.specs.Steps.{with_steps_of}
 use Rattle.plinq_document.specs.Document.{are_top_names, names_check, steps_in, new_query}
 use Rattle.plinq_document.specs.declared.version.Version.{Version}
 use Rattle.plinq_document.specs.declared.plain_source.PlainSource.{PlainSource}
-use Rattle.plinq_document.specs.declared.settings.Settings.{Settings}
+use Rattle.plinq_settings.specs.declared.settings.Settings.{Settings}
 use Rattle.plinq_document.specs.declared.doc_fault.DocFault.{DocFault}
 
 -- the whole numbers that the items of a JSON list are

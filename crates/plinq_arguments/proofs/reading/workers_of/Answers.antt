@@ -1,7 +1,7 @@
 use Rattle.std.proofs.Common.{rules, ◌≡◌, ◌∙◌, sym}
 use Rattle.std.specs.Prelude.{option_and_then}
 use Rattle.std.specs.Str.Parse.{ParsesUnsigned, ExplainsUnsignedError, HasUnsignedDigitsIfOk}
-use Rattle.plinq_document.specs.Degrees.{degree_of}
+use Rattle.plinq_settings.specs.Degrees.{degree_of}
 use Rattle.plinq_arguments.proofs.Asked.{workers_read}
 use Rattle.plinq_arguments.proofs.reading.workers_of.Goals as goal
 

@@ -1,6 +1,5 @@
-use Rattle.std.proofs.Common.{◌≡◌, ◌^◌, ◌<◌, ◌≤◌, ◌∷◌, length, Some, None, Ok, sym, ap, subst, ◌∙◌, arith, rules}
+use Rattle.std.proofs.Common.{◌≡◌, ◌^◌, ◌<◌, ◌≤◌, ◌∷◌, length, Some, None, Ok, sym, ap, ◌∙◌, arith, rules}
 use Rattle.json.specs.Token.{Token}
-use Rattle.serde_json.specs.Data.{array}
 use Rattle.plinq_document.specs.inner.Apart.{EndsList}
 use Rattle.plinq_document.proofs.Tokens.{list-read, list-members}
 use Rattle.plinq_document.proofs.by_tokens.read_list.Goals as goal

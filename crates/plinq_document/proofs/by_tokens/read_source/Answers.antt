@@ -1,9 +1,6 @@
-use Rattle.std.proofs.Common.{◌≡◌, ◌∷◌, ap, subst, ◌∙◌, arith, rules}
+use Rattle.std.proofs.Common.{◌≡◌, ◌∷◌, rules}
 use Rattle.json.specs.Token.{Token}
-use Rattle.json.specs.Json.{parse_map}
-use Rattle.serde_json.specs.Data.{Members, object}
-use Rattle.plinq_document.specs.inner.Apart.{Reads, ReadsMembers, IsSourceOf}
-use Rattle.plinq_document.proofs.Tokens.{value-object, made-source}
+use Rattle.plinq_document.proofs.Tokens.{made-source}
 use Rattle.plinq_document.proofs.by_tokens.read_source.Goals as goal
 
 pub returns-clause-read : goal.returns-clause-read

@@ -1,5 +1,5 @@
 ghost use Rattle.std.specs.Prelude.{◌≡◌, ◌≤◌};
-ghost use Rattle.plinq_document.specs.Degrees.{degree_of};
+ghost use Rattle.plinq_settings.specs.Degrees.{degree_of};
 
 use std::marker::Model;
 

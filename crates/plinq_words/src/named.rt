@@ -1,5 +1,5 @@
 ghost use Rattle.std.specs.Prelude.{◌≡◌, ℕ, List};
-ghost use Rattle.plinq_lambda.specs.Named.{first_named};
+ghost use Rattle.plinq_words.specs.Named.{first_named};
 
 /// What has a name, by which documents, plans and command lines call it.
 pub trait Named: Copy {
