@@ -1,9 +1,9 @@
 -- What was sent of an answer whose last items wait.
 use Rattle.std.specs.Prelude.{◌≡◌, ℕ, ◌+◌, ◌<◌, ◌≤◌, length, List, [], ◌∷◌, ◌++◌, drop, false, Option, Some, None, Result, Ok, Err, OnOk, IfOk, refl}
 use Rattle.std.proofs.Common.{sym, ◌∙◌, ap, subst, arith, append_assoc, append-nil}
-use Rattle.std.proofs.lemmas.List.{take-append-drop}
+use Rattle.std.proofs.lemmas.List.{length-take, take-append-drop}
 use Rattle.plinq_source.specs.declared.ending.Ending.{Ending}
-use Rattle.plinq_source.specs.Trace.{Trace, open_trace, ended, followed}
+use Rattle.plinq_source.specs.Trace.{Trace, open_trace, ended, followed, items_from}
 use Rattle.plinq_source.proofs.Followed.{trace_of, followed-followed}
 use Rattle.plinq_ops.specs.Stage.{Stage, seq, seq_after, some_takes_none}
 use Rattle.plinq_ops.specs.Feeding.{IsFed, FeedsFrom}
@@ -11,12 +11,12 @@ use Rattle.plinq_ops.specs.Batches.{full_batches, held_back, batches_from}
 use Rattle.plinq_ops.specs.Sequential.{first_items}
 use Rattle.plinq_ops.proofs.Stages.{seq-followed}
 use Rattle.plinq_ops.proofs.Fed.{fed-none}
-use Rattle.plinq_ops.proofs.Answered.{fed-on, fed-over, least-over, answer-fed}
+use Rattle.plinq_ops.proofs.Answered.{fed-on, fed-over, deciding-over, answer-fed}
 use Rattle.plinq_ops.proofs.Runs.{full_batches-append, held_back-append, batches_from-followed}
 use Rattle.plinq_merge.specs.declared.delivery_fault.DeliveryFault.{DeliveryFault}
 use Rattle.plinq_merge.specs.declared.delivery_fault.DeliveryFault.TheVariants.{Memory}
 use Rattle.plinq_merge.specs.Sending.{Leads, IsCutOff, Delivers}
-use Rattle.plinq_merge.specs.inner.OneThread.{DeliversAnswer, DeliversAll}
+use Rattle.plinq_merge.specs.inner.OneThread.{DeliversAnswer}
 use Rattle.plinq_merge.proofs.Blocks.{full_batches-filled, held_back-filled}
 use Rattle.plinq_merge.specs.inner.Sent.{leads-append, cut-after, cut-before, delivers-as, delivers-after}
 
@@ -28,6 +28,10 @@ on-any P (Err e) p = tt
 told-ending : {E : Type 0} (o : Option Ending) (e : Ending) (r : Result Ending E) → o ≡ Some e → IfOk r (λ told. told ≡ e) → IfOk r (λ told. o ≡ Some told)
 told-ending o e (Ok told) is same = is ∙ ap Some (sym same)
 told-ending o e (Err fault) is same = tt
+
+-- a source that was asked for so many items gave no more
+pub within-block : {T : Type 0} (t : Trace T) (n m most : ℕ) → m ≡ n + length (items_from t n most) → m ≤ n + most
+within-block t n m most is = omega (arith, is, length-take most (drop n t.items))
 
 -- items that are one batch
 pub full_batches-one_batch : {T : Type 0} (n : ℕ) (xs : List T) → length xs ≡ n → 0 < n → full_batches (Some n) [] xs ≡ xs ∷ []
@@ -81,41 +85,21 @@ module _ {K T : Type 0} (accepts : K → List T → K → Type 0) (refuses : K �
         leads = subst Q (sym batches) (leads-append accepts s (full_batches size [] before.out) (full_batches size held given) s1 s2 before.leads leads);
       }
 
-  -- all was fed, and the rest delivered or cut off
-  sent-rest : (t : Trace T) (held made : List T) (ss' : List (Stage T)) (s1 s2 : K) (e : Ending) (r : Result Ending DeliveryFault)
-      → HasSent t held made ss' s1 (Some e)
-      → IfOk r (λ told. told ≡ e) → Delivers accepts refuses s1 (batches_from size held (ended made e)) r s2 → DeliversAnswer accepts refuses size ss t s r s2
-  sent-rest t held made ss' s1 s2 e r before told rest =
-      let answer : ended (before.out ++ made) e ≡ seq ss t = answer-fed ss ss' t [] (before.out ++ made) e refl before.fed in
-      let all : batches_from size [] (seq ss t) ≡ full_batches size [] before.out ++ batches_from size held (ended made e) =
-      ap (batches_from size []) (sym answer) ∙ batches_from-followed size [] before.out (ended made e) ∙ ap (λ h. full_batches size [] before.out ++ batches_from size h (ended made e)) (sym before.keeps) in
-      record {
-        ending = told-ending (seq ss t).ending e r (sym before.fed.told) told;
-        delivered = delivers-as accepts refuses s (batches_from size [] (seq ss t)) (full_batches size [] before.out ++ batches_from size held (ended made e)) r s2 all
-            (delivers-after accepts refuses s (full_batches size [] before.out) (batches_from size held (ended made e)) s1 r s2 before.leads rest);
-      }
-
-  -- or it decides the answer, and the rest was delivered or cut off
-  pub sent-over : (ss' ss'' : List (Stage T)) (t : Trace T) (n m : ℕ) (held made made' : List T) (s1 s2 : K) (e : Ending) (r : Result Ending DeliveryFault)
+  -- what the source gave next decides the answer, and the rest was delivered or cut off
+  pub sent-over : (most : ℕ) (ss' ss'' : List (Stage T)) (t : Trace T) (n m : ℕ) (held made made' : List T) (s1 s2 : K) (e : Ending) (r : Result Ending DeliveryFault) → m ≤ n + most
       → HasSent (first_items n t) held made ss' s1 None → FeedsFrom ss' t n m made made' ss'' (Some e) → IfOk r (λ told. told ≡ e)
-      → Delivers accepts refuses s1 (batches_from size held (ended made' e)) r s2 → DeliversAnswer accepts refuses size ss t s r s2
-  sent-over ss' ss'' t n m held made made' s1 s2 e r before next told rest =
-      let all : HasSent t held made' ss'' s1 (Some e) = record {
-        out = before.out;
-        fed = fed-over ss ss' ss'' t n m [] (before.out ++ made) (before.out ++ made') e before.fed (feeds-after ss' ss'' t n m held made made' s1 (Some e) before next);
-        keeps = before.keeps;
-        leads = before.leads;
-      } in
-      sent-rest t held made' ss'' s1 s2 e r all told rest
-
-  -- by one step of the source, so that no fewer items decide it
-  pub sent-by_step : (ss' ss'' : List (Stage T)) (t : Trace T) (n m : ℕ) (held made made' : List T) (s1 s2 : K) (e : Ending) (r : Result Ending DeliveryFault) → m ≤ n + 1
-      → HasSent (first_items n t) held made ss' s1 None → FeedsFrom ss' t n m made made' ss'' (Some e) → IfOk r (λ told. told ≡ e)
-      → Delivers accepts refuses s1 (batches_from size held (ended made' e)) r s2 → DeliversAll accepts refuses size ss t s m r s2
-  sent-by_step ss' ss'' t n m held made made' s1 s2 e r one before next told rest =
+      → Delivers accepts refuses s1 (batches_from size held (ended made' e)) r s2 → DeliversAnswer accepts refuses size most ss t s m r s2
+  sent-over most ss' ss'' t n m held made made' s1 s2 e r block before next told rest =
+      let out : List T = before.out ++ made' in
+      let last = feeds-after ss' ss'' t n m held made made' s1 (Some e) before next in
+      let fed : IsFed ss t [] out ss'' (Some e) = fed-over ss ss' ss'' t n m [] (before.out ++ made) out e before.fed last in
+      let all : batches_from size [] (seq ss t) ≡ full_batches size [] before.out ++ batches_from size held (ended made' e) =
+      ap (batches_from size []) (sym (answer-fed ss ss'' t [] out e refl fed)) ∙ batches_from-followed size [] before.out (ended made' e) ∙ ap (λ h. full_batches size [] before.out ++ batches_from size h (ended made' e)) (sym before.keeps) in
       record {
-        answer = sent-over ss' ss'' t n m held made made' s1 s2 e r before next told rest;
-        least = on-any _ r (least-over ss ss' ss'' t n m [] (before.out ++ made) (before.out ++ made') e one before.fed (feeds-after ss' ss'' t n m held made made' s1 (Some e) before next));
+        ending = told-ending (seq ss t).ending e r (sym fed.told) told;
+        delivered = delivers-as accepts refuses s (batches_from size [] (seq ss t)) (full_batches size [] before.out ++ batches_from size held (ended made' e)) r s2 all
+            (delivers-after accepts refuses s (full_batches size [] before.out) (batches_from size held (ended made' e)) s1 r s2 before.leads rest);
+        blocks = on-any _ r (deciding-over most ss ss' ss'' t n m [] (before.out ++ made) out e block before.fed last);
       }
 
   -- what the answer goes on with after the first items
@@ -129,10 +113,10 @@ module _ {K T : Type 0} (accepts : K → List T → K → Type 0) (refuses : K �
       (seq (seq_after ss a) b, ap (seq ss) (sym whole) ∙ seq-followed ss a b ∙ ap (λ u. followed u (seq (seq_after ss a) b)) first)
 
   -- a delivery that was cut off in the midst
-  pub sent-cut : (ss' : List (Stage T)) (t : Trace T) (n : ℕ) (held made given left : List T) (s1 s2 : K) (fault : DeliveryFault) (r : Result Ending DeliveryFault) → r ≡ Err fault
+  pub sent-cut : (most : ℕ) (ss' : List (Stage T)) (t : Trace T) (n m : ℕ) (held made given left : List T) (s1 s2 : K) (fault : DeliveryFault) (r : Result Ending DeliveryFault) → r ≡ Err fault
       → made ≡ given ++ left → HasSent (first_items n t) held made ss' s1 None → IsCutOff accepts refuses s1 (full_batches size held given) fault s2
-      → DeliversAnswer accepts refuses size ss t s r s2
-  sent-cut ss' t n held made given left s1 s2 fault r is parts before cut =
+      → DeliversAnswer accepts refuses size most ss t s m r s2
+  sent-cut most ss' t n m held made given left s1 s2 fault r is parts before cut =
       let more = open-after ss' t n (before.out ++ made) before.fed in
       let rest : Trace T = followed (open_trace left) more.0 in
       let answer : seq ss t ≡ followed (open_trace before.out) (followed (open_trace given) rest) =
@@ -150,15 +134,9 @@ module _ {K T : Type 0} (accepts : K → List T → K → Type 0) (refuses : K �
       let part = subst P (sym all)
       (cut-after accepts refuses s (full_batches size [] before.out) (full_batches size held given ++ later) fault s1 s2 before.leads
       (cut-before accepts refuses s1 (full_batches size held given) later fault s2 cut)) in
-      rw is (record { ending = tt; delivered = part })
+      rw is (record { ending = tt; delivered = part; blocks = tt })
 
   -- memory ran out before an item came through
-  pub sent-stopped : (ss' : List (Stage T)) (t : Trace T) (n : ℕ) (held made : List T) (s' : K) (r : Result Ending DeliveryFault) → r ≡ Err Memory
-      → HasSent (first_items n t) held made ss' s' None → DeliversAnswer accepts refuses size ss t s r s'
-  sent-stopped ss' t n held made s' r is before = sent-cut ss' t n held made [] made s' s' Memory r is refl before ([], [], refl, refl)
-
-  -- of an answer that was cut off nothing is said of what the source gave
-  pub cut-all : (t : Trace T) (asked : ℕ) (s' : K) (fault : DeliveryFault) (r : Result Ending DeliveryFault) → r ≡ Err fault
-      → DeliversAnswer accepts refuses size ss t s r s'
-      → DeliversAll accepts refuses size ss t s asked r s'
-  cut-all t asked s' fault r is answer = record { answer = answer; least = rw is tt }
+  pub sent-stopped : (most : ℕ) (ss' : List (Stage T)) (t : Trace T) (n m : ℕ) (held made : List T) (s' : K) (r : Result Ending DeliveryFault) → r ≡ Err Memory
+      → HasSent (first_items n t) held made ss' s' None → DeliversAnswer accepts refuses size most ss t s m r s'
+  sent-stopped most ss' t n m held made s' r is before = sent-cut most ss' t n m held made [] made s' s' Memory r is refl before ([], [], refl, refl)

@@ -1,9 +1,10 @@
 //! The delivery of a query's answer by one thread, many elements at a time.
 ghost use Rattle.std.specs.Prelude.{◌≡◌, [], false, Some, IfOk, OnOk};
 ghost use Rattle.plinq_ops.specs.Batches.{batches};
+ghost use Rattle.plinq_ops.specs.Operator.{stages_of};
 ghost use Rattle.plinq_ops.specs.Pipeline.{stages};
 ghost use Rattle.plinq_ops.specs.Query.{merge_in_force};
-ghost use Rattle.plinq_ops.specs.Sequential.{answer_of};
+ghost use Rattle.plinq_ops.specs.Sequential.{answer_of, IsDecidingInBlocks};
 ghost use Rattle.plinq_ops.specs.Stage.{some_takes_none};
 ghost use Rattle.plinq_merge.specs.Buffer.{held_of, size_of, HasRoom};
 ghost use Rattle.plinq_merge.specs.Sending.{Delivers, IsFilled};
@@ -54,6 +55,8 @@ where
     ensures ending { IfOk result (λ e. (answer_of L.meaning query.now.ops (S.whole source.old)).ending ≡ Some e) }
     ensures delivered { Delivers K.accepts K.refuses sink.old
         (batches (merge_in_force query.now.merge) (answer_of L.meaning query.now.ops (S.whole source.old))) result sink.new }
+    ensures blocks { OnOk result (IsDecidingInBlocks 512
+        (stages_of L.meaning query.now.ops) (S.whole source.old) (S.given source.new)) }
 {
     if query.split().decided {
         return Ok(Ending::End);
@@ -98,8 +101,8 @@ where
     requires empty { held_of buffer.old ≡ [] }
     requires room { HasRoom buffer.old }
     ensures same { S.whole source.new ≡ S.whole source.old }
-    ensures delivers { DeliversAnswer K.accepts K.refuses (size_of buffer.old)
-        (stages L.meaning pipeline.old) (S.whole source.old) sink.old result sink.new }
+    ensures delivers { DeliversAnswer K.accepts K.refuses (size_of buffer.old) BLOCK
+        (stages L.meaning pipeline.old) (S.whole source.old) sink.old (S.given source.new) result sink.new }
 {
     if singly {
         return deliver_all(alloc, pipeline, buffer, source, sink);
@@ -125,8 +128,8 @@ where
     requires empty { held_of buffer.old ≡ [] }
     requires room { HasRoom buffer.old }
     ensures same { S.whole source.new ≡ S.whole source.old }
-    ensures delivers { DeliversAnswer K.accepts K.refuses (size_of buffer.old)
-        (stages L.meaning pipeline.old) (S.whole source.old) sink.old result sink.new }
+    ensures delivers { DeliversAnswer K.accepts K.refuses (size_of buffer.old) BLOCK
+        (stages L.meaning pipeline.old) (S.whole source.old) sink.old (S.given source.new) result sink.new }
 {
     let mut block = Vec::new(alloc);
     let mut quiet = 0;

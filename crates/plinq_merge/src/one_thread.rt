@@ -10,7 +10,7 @@ ghost use Rattle.plinq_ops.specs.Stage.{some_takes_none};
 ghost use Rattle.plinq_merge.specs.Buffer.{held_of, size_of, HasRoom};
 ghost use Rattle.plinq_merge.specs.Sending.{Delivers, IsFilled};
 ghost use Rattle.plinq_merge.specs.inner.Handing.{HandsOn};
-ghost use Rattle.plinq_merge.specs.inner.OneThread.{DeliversAll};
+ghost use Rattle.plinq_merge.specs.inner.OneThread.{DeliversAnswer};
 
 use crate::buffer::{Buffer, buffer_of};
 use crate::delivery_fault::DeliveryFault;
@@ -80,7 +80,7 @@ where
     requires empty { held_of buffer.old ≡ [] }
     requires room { HasRoom buffer.old }
     ensures same { S.whole source.new ≡ S.whole source.old }
-    ensures delivers { DeliversAll K.accepts K.refuses (size_of buffer.old)
+    ensures delivers { DeliversAnswer K.accepts K.refuses (size_of buffer.old) 1
         (stages L.meaning pipeline.old) (S.whole source.old) sink.old (S.given source.new) result sink.new }
 {
     let mut made = Vec::new(alloc);

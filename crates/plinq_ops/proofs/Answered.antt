@@ -13,7 +13,7 @@ use Rattle.plinq_source.proofs.Followed.{trace_of, followed-ended}
 use Rattle.plinq_source.proofs.Steps.{IsNextItem, IsAtEnding, next_item, at_end, at_refusal}
 use Rattle.plinq_ops.specs.Stage.{Stage, seq, some_takes_none}
 use Rattle.plinq_ops.specs.Feeding.{IsFed, FeedsFrom, IsGiven, trace_of_step, seen}
-use Rattle.plinq_ops.specs.Sequential.{first_items, IsLeastDeciding}
+use Rattle.plinq_ops.specs.Sequential.{first_items, IsLeastDeciding, IsDecidingInBlocks}
 use Rattle.plinq_ops.proofs.Stages.{seq-followed}
 use Rattle.plinq_ops.proofs.Open.{seq-open_before, seq-takes_none, open-from_seq}
 use Rattle.plinq_ops.proofs.Fed.{fed-followed, fed-ended_before}
@@ -149,28 +149,45 @@ decided-where_open : {T : Type 0} (ss ss'' : List (Stage T)) (t : Trace T) (m : 
 decided-where_open ss ss'' t m before after None e all fed fewer = rw (← fed.told) refl
 decided-where_open ss ss'' t m before after (Some f) e all fed fewer = absurd (omega (arith, fewer, all refl))
 
--- no fewer items decide it than one step's
-pub least-over : {T : Type 0} (ss ss' ss'' : List (Stage T)) (t : Trace T) (n m : ℕ) (before between after : List T) (e : Ending) → m ≤ n + 1
-    → IsFed ss (first_items n t) before between ss' None → FeedsFrom ss' t n m between after ss'' (Some e) → IsLeastDeciding ss t m
-least-over ss ss' ss'' t n m before between after e one first next =
+-- the items before the last block don't decide it
+pub deciding-over : {T : Type 0} (size : ℕ) (ss ss' ss'' : List (Stage T)) (t : Trace T) (n m : ℕ) (before between after : List T) (e : Ending) → m ≤ n + size
+    → IsFed ss (first_items n t) before between ss' None → FeedsFrom ss' t n m between after ss'' (Some e) → IsDecidingInBlocks size ss t m
+deciding-over size ss ss' ss'' t n m before between after e block first next =
     record {
       within = next.given.within;
-      open_before = λ j below. open-up_to ss t n j (sym first.told) (omega (arith, below, one));
+      open_before = λ some. open-up_to ss t n (m - size) (sym first.told) (omega (arith, block));
       decided = decided-where_open ss ss'' t m before after next.piece.ending e next.given.all (fed-given ss ss' ss'' t next.piece n m before between after (Some e) next.given first next.fed);
     }
+
+-- nor do those before the last of greater blocks
+pub deciding-wider : {T : Type 0} (size most : ℕ) (ss : List (Stage T)) (t : Trace T) (n : ℕ) → size ≤ most → IsDecidingInBlocks size ss t n → IsDecidingInBlocks most ss t n
+deciding-wider size most ss t n wider is =
+    record { within = is.within; open_before = λ some. open-up_to ss t (n - size) (n - most) (is.open_before some) (omega arith); decided = is.decided }
+
+-- where they come one by one, no fewer decide it
+pub deciding-singly : {T : Type 0} (ss : List (Stage T)) (t : Trace T) (n : ℕ) → IsDecidingInBlocks 1 ss t n → IsLeastDeciding ss t n
+deciding-singly ss t n is =
+    record { within = is.within; open_before = λ j below. open-up_to ss t (n - 1) j (is.open_before (omega arith)) (omega arith); decided = is.decided }
+
+pub least-over : {T : Type 0} (ss ss' ss'' : List (Stage T)) (t : Trace T) (n m : ℕ) (before between after : List T) (e : Ending) → m ≤ n + 1
+    → IsFed ss (first_items n t) before between ss' None → FeedsFrom ss' t n m between after ss'' (Some e) → IsLeastDeciding ss t m
+least-over ss ss' ss'' t n m before between after e one first next = deciding-singly ss t m (deciding-over 1 ss ss' ss'' t n m before between after e one first next)
 
 -- a Take of none decides the answer with no item
 pub answer-of_none : {T : Type 0} (ss : List (Stage T)) (t : Trace T) → some_takes_none ss ≡ true → seq ss t ≡ ended [] End
 answer-of_none ss t none =
     seq-followed ss (open_trace []) t ∙ followed-ended (seq ss (open_trace [])) _ End (ap (λ u. u.ending) (seq-takes_none ss none)) ∙ seq-takes_none ss none
 
-pub least-of_none : {T : Type 0} (ss : List (Stage T)) (t : Trace T) → some_takes_none ss ≡ true → IsLeastDeciding ss t 0
-least-of_none ss t none =
+pub deciding-of_none : {T : Type 0} (size : ℕ) (ss : List (Stage T)) (t : Trace T) → some_takes_none ss ≡ true → IsDecidingInBlocks size ss t 0
+deciding-of_none size ss t none =
     record {
       within = omega arith;
-      open_before = λ j below. absurd (omega arith);
+      open_before = λ some. absurd (omega arith);
       decided = λ fewer. rw (seq-takes_none ss none) refl;
     }
+
+pub least-of_none : {T : Type 0} (ss : List (Stage T)) (t : Trace T) → some_takes_none ss ≡ true → IsLeastDeciding ss t 0
+least-of_none ss t none = deciding-singly ss t 0 (deciding-of_none 1 ss t none)
 
 -- the answer to all that was fed, begun with nothing
 pub answer-fed : {T : Type 0} (ss ss' : List (Stage T)) (t : Trace T) (before after : List T) (e : Ending) → before ≡ []

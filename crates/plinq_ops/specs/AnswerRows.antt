@@ -8,7 +8,7 @@ use Rattle.plinq_source.specs.Trace.{Trace, ended}
 use Rattle.plinq_ops.specs.declared.op.Op.TheVariants.{Select, Take, SkipWhile, AsUnordered}
 use Rattle.plinq_ops.specs.Stage.{taking, skipping_while, seq}
 use Rattle.plinq_ops.specs.Operator.{example}
-use Rattle.plinq_ops.specs.Sequential.{first_items, IsLeastDeciding}
+use Rattle.plinq_ops.specs.Sequential.{first_items, IsLeastDeciding, IsDecidingInBlocks}
 use Rattle.plinq_ops.specs.Answer.{Answer}
 
 -- the rows' source
@@ -80,6 +80,17 @@ one_is_too_few least = let decided = least.decided (omega arith) in absurd (cc)
 
 three_are_too_many : IsLeastDeciding (taking 2 ∷ []) three_items 3 → ⊥
 three_are_too_many least = let decided = least.open_before 2 (omega arith) in absurd (cc)
+
+-- the first item decides a Take of 1, and may come in a block of two; the third would be one of the next block
+block_of_two : IsDecidingInBlocks 2 (taking 1 ∷ []) three_items 2
+block_of_two = record { within = omega arith; open_before = λ some. refl; decided = λ fewer. refl }
+
+block_too_many : IsDecidingInBlocks 2 (taking 1 ∷ []) three_items 3 → ⊥
+block_too_many came = let decided = came.open_before (omega arith) in absurd (cc)
+
+-- where nothing is taken, not one of any block comes
+block_for_nothing : IsDecidingInBlocks 512 (taking 0 ∷ []) three_items 1 → ⊥
+block_for_nothing came = let decided = came.open_before (omega arith) in absurd (cc)
 
 -- the first that fails a SkipWhile is all that a Take of 1 after it waits for
 skip_while_and_take : seq (skipping_while example.test ∷ taking 1 ∷ []) (ended (1 ∷ 9 ∷ 3 ∷ []) End) ≡ ended (9 ∷ []) End

@@ -2,7 +2,7 @@ use Rattle.std.proofs.Common.{rules, ◌≡◌, [], None, Err, ◌∙◌, sym, r
 use Rattle.plinq_ops.proofs.Fed.{undecided-left}
 use Rattle.plinq_ops.proofs.Answered.{feeds-smaller}
 use Rattle.plinq_merge.specs.declared.delivery_fault.DeliveryFault.TheVariants.{Memory}
-use Rattle.plinq_merge.proofs.SentSoFar.{sent-none, sent-on, sent-given, sent-over, sent-cut, sent-stopped}
+use Rattle.plinq_merge.proofs.SentSoFar.{sent-none, sent-on, sent-given, sent-over, sent-cut, sent-stopped, within-block}
 use Rattle.plinq_merge.proofs.in_blocks.deliver_blocks.Goals as goal
 
 pub loop-block-init : goal.loop-block-init
@@ -22,14 +22,14 @@ feed_block_from-requires-clause-undecided g c lives within = undecided-left _ _ 
 pub returns-in_err-ending-clause-delivers : goal.returns-in_err-ending-clause-delivers
 returns-in_err-ending-clause-delivers g c =
     let is : c.from_residual.result ≡ Err Memory = search rules in
-    sent-stopped g.K.Sink.accepts g.K.Sink.refuses _ _ _ _ _ _ _ _ _ _ is c.loop-block.invariant.sent
+    sent-stopped g.K.Sink.accepts g.K.Sink.refuses _ _ _ _ _ _ _ _ _ _ _ _ is c.loop-block.invariant.sent
 
 -- a block that decides the answer
 pub returns-in-Some-clause-delivers : goal.returns-in-Some-clause-delivers
 returns-in-Some-clause-delivers g c =
     let before = c.loop-block.invariant in
     let next = rw (c.in-Some.is, before.whole) at c.in_ok-ending.ensures.fed in
-    sent-over g.K.Sink.accepts g.K.Sink.refuses _ _ _ _ _ _ _ _ _ _ _ _ _ _ _ before.sent next c.deliver_rest.ensures.told (rw before.size at c.deliver_rest.ensures.delivered)
+    sent-over g.K.Sink.accepts g.K.Sink.refuses _ _ _ _ _ _ _ _ _ _ _ _ _ _ _ _ (within-block (g.S.Source.whole c.loop-block.source) _ _ _ c.in_ok-ending.ensures.asked) before.sent next c.deliver_rest.ensures.told (rw before.size at c.deliver_rest.ensures.delivered)
 
 -- a block that leaves the answer open
 pub loop-block-preserved : goal.loop-block-preserved
@@ -57,7 +57,7 @@ returns-in_err-deliver_block-clause-delivers g c =
     let all = sent-on g.K.Sink.accepts g.K.Sink.refuses _ _ _ _ _ _ _ _ _ _ _ _ before.sent next in
     let handed = rw before.size at c.in_err-deliver_block.ensures.filled in
     let made = c.feed_block_from.new.block.items in
-    sent-cut g.K.Sink.accepts g.K.Sink.refuses _ _ _ _ _ _ _ _ made [] _ _ fault _ is (sym (append-nil made)) all handed.sent
+    sent-cut g.K.Sink.accepts g.K.Sink.refuses _ _ _ _ _ _ _ _ _ _ made [] _ _ fault _ is (sym (append-nil made)) all handed.sent
 
 pub loop-block-smaller : goal.loop-block-smaller
 loop-block-smaller g c = rw c.feed_block_from.ensures.whole (feeds-smaller _ _ _ _ _ _ _ (rw c.in_default.is at c.in_ok-ending.ensures.fed))

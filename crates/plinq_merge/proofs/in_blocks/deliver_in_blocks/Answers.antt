@@ -5,7 +5,7 @@ use Rattle.plinq_ops.specs.Operator.{stages_of}
 use Rattle.plinq_ops.specs.Batches.{batch_size}
 use Rattle.plinq_ops.specs.Feeding.{is_empty_take}
 use Rattle.plinq_ops.specs.Query.{merge_in_force}
-use Rattle.plinq_ops.proofs.Answered.{answer-of_none}
+use Rattle.plinq_ops.proofs.Answered.{answer-of_none, deciding-of_none}
 use Rattle.plinq_ops.proofs.ByKey.{stages-begun}
 use Rattle.plinq_ops.proofs.Counts.{some_takes_none-stages_of}
 use Rattle.plinq_merge.specs.Buffer.{size_of}
@@ -28,6 +28,14 @@ returns-then-split-clause-delivered g c =
     let none : some_takes_none (stages_of m ops) ≡ true = sym (some_takes_none-stages_of m ops) ∙ sym decided ∙ search rules in
     rw (answer-of_none (stages_of m ops) (g.S.Source.whole c.args.source.now) none) refl
 
+pub returns-then-split-clause-blocks : goal.returns-then-split-clause-blocks
+returns-then-split-clause-blocks g c =
+    let m = g.L.Lambda.meaning in
+    let ops = c.args.query.now.ops in
+    let decided : c.split.result.decided ≡ list_any is_empty_take ops = c.split.ensures.plan.decided in
+    let none : some_takes_none (stages_of m ops) ≡ true = sym (some_takes_none-stages_of m ops) ∙ sym decided ∙ search rules in
+    rw c.requires (deciding-of_none 512 (stages_of m ops) (g.S.Source.whole c.args.source.now) none)
+
 pub deliver_answer-requires-clause-undecided : goal.deliver_answer-requires-clause-undecided
 deliver_answer-requires-clause-undecided g c lives within =
     let m = g.L.Lambda.meaning in
@@ -49,3 +57,9 @@ returns-clause-delivered g c =
     let begins = stages-begun g.L.Lambda.meaning c.args.query.now.ops c.in_ok-pipeline.pipeline (rw same at c.in_ok-pipeline.ensures) in
     let size : size_of c.in_ok-buffer.buffer ≡ batch_size (merge_in_force c.args.query.now.merge) = c.in_ok-buffer.ensures.size ∙ ap batch_size c.merge_option.ensures in
     (rw (begins, size) at c.deliver_answer.ensures.delivers).delivered
+
+pub returns-clause-blocks : goal.returns-clause-blocks
+returns-clause-blocks g c =
+    let same : c.ops.result.now ≡ c.args.query.now.ops = search rules in
+    let begins = stages-begun g.L.Lambda.meaning c.args.query.now.ops c.in_ok-pipeline.pipeline (rw same at c.in_ok-pipeline.ensures) in
+    (rw begins at c.deliver_answer.ensures.delivers).blocks

@@ -2,7 +2,7 @@ use Rattle.std.proofs.Common.{rules, ◌≡◌, ◌++◌, None, Err, ◌∙◌, 
 use Rattle.plinq_ops.proofs.Fed.{undecided-left}
 use Rattle.plinq_ops.proofs.Answered.{feeds-smaller}
 use Rattle.plinq_merge.specs.declared.delivery_fault.DeliveryFault.TheVariants.{Memory}
-use Rattle.plinq_merge.proofs.SentSoFar.{sent-none, sent-on, sent-given, sent-by_step, sent-cut, sent-stopped, cut-all}
+use Rattle.plinq_merge.proofs.SentSoFar.{sent-none, sent-on, sent-given, sent-over, sent-cut, sent-stopped}
 use Rattle.plinq_merge.proofs.one_thread.deliver_all.Goals as goal
 
 pub loop-made-init : goal.loop-made-init
@@ -21,14 +21,14 @@ feed_from-requires-clause-undecided g c lives within = undecided-left _ _ _ _ _ 
 pub returns-in_err-ending-clause-delivers : goal.returns-in_err-ending-clause-delivers
 returns-in_err-ending-clause-delivers g c =
     let is : c.from_residual.result ≡ Err Memory = search rules in
-    cut-all g.K.Sink.accepts g.K.Sink.refuses _ _ _ _ _ _ Memory _ is (sent-stopped g.K.Sink.accepts g.K.Sink.refuses _ _ _ _ _ _ _ _ _ _ is c.loop-made.invariant.sent)
+    sent-stopped g.K.Sink.accepts g.K.Sink.refuses _ _ _ _ _ _ _ _ _ _ _ _ is c.loop-made.invariant.sent
 
 -- what decides the answer
 pub returns-in-Some-clause-delivers : goal.returns-in-Some-clause-delivers
 returns-in-Some-clause-delivers g c =
     let before = c.loop-made.invariant in
     let next = rw (c.in-Some.is, before.whole) at c.in_ok-ending.ensures.fed in
-    sent-by_step g.K.Sink.accepts g.K.Sink.refuses _ _ _ _ _ _ _ _ _ _ _ _ _ _ _ c.feed_from.ensures.one before.sent next c.deliver_rest.ensures.told (rw before.size at c.deliver_rest.ensures.delivered)
+    sent-over g.K.Sink.accepts g.K.Sink.refuses _ _ _ _ _ _ _ _ _ _ _ _ _ _ _ _ c.feed_from.ensures.one before.sent next c.deliver_rest.ensures.told (rw before.size at c.deliver_rest.ensures.delivered)
 
 -- an item that leaves the answer open
 pub loop-made-preserved : goal.loop-made-preserved
@@ -54,7 +54,7 @@ returns-in_err-deliver_ready-clause-delivers g c =
     let next = rw (c.in_default.is, before.whole) at c.in_ok-ending.ensures.fed in
     let all = sent-on g.K.Sink.accepts g.K.Sink.refuses _ _ _ _ _ _ _ _ _ _ _ _ before.sent next in
     let handed = rw before.size at c.in_err-deliver_ready.ensures.handed in
-    cut-all g.K.Sink.accepts g.K.Sink.refuses _ _ _ _ _ _ fault _ is (sent-cut g.K.Sink.accepts g.K.Sink.refuses _ _ _ _ _ _ _ _ handed.given handed.left _ _ fault _ is handed.parts all handed.filled.sent)
+    sent-cut g.K.Sink.accepts g.K.Sink.refuses _ _ _ _ _ _ _ _ _ _ handed.given handed.left _ _ fault _ is handed.parts all handed.filled.sent
 
 pub loop-made-smaller : goal.loop-made-smaller
 loop-made-smaller g c = rw c.feed_from.ensures.whole (feeds-smaller _ _ _ _ _ _ _ (rw c.in_default.is at c.in_ok-ending.ensures.fed))

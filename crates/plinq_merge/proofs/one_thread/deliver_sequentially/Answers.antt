@@ -5,7 +5,8 @@ use Rattle.plinq_ops.specs.Operator.{stages_of}
 use Rattle.plinq_ops.specs.Batches.{batch_size}
 use Rattle.plinq_ops.specs.Feeding.{is_empty_take}
 use Rattle.plinq_ops.specs.Query.{merge_in_force}
-use Rattle.plinq_ops.proofs.Answered.{answer-of_none, least-of_none}
+use Rattle.std.proofs.lemmas.Result.{on_ok_weaker}
+use Rattle.plinq_ops.proofs.Answered.{answer-of_none, least-of_none, deciding-singly}
 use Rattle.plinq_ops.proofs.ByKey.{stages-begun}
 use Rattle.plinq_ops.proofs.Counts.{some_takes_none-stages_of}
 use Rattle.plinq_merge.specs.Buffer.{size_of}
@@ -49,17 +50,17 @@ pub returns-clause-ending : goal.returns-clause-ending
 returns-clause-ending g c =
     let same : c.ops.result.now ≡ c.args.query.now.ops = search rules in
     let begins = stages-begun g.L.Lambda.meaning c.args.query.now.ops c.in_ok-pipeline.pipeline (rw same at c.in_ok-pipeline.ensures) in
-    (rw begins at c.deliver_all.ensures.delivers).answer.ending
+    (rw begins at c.deliver_all.ensures.delivers).ending
 
 pub returns-clause-delivered : goal.returns-clause-delivered
 returns-clause-delivered g c =
     let same : c.ops.result.now ≡ c.args.query.now.ops = search rules in
     let begins = stages-begun g.L.Lambda.meaning c.args.query.now.ops c.in_ok-pipeline.pipeline (rw same at c.in_ok-pipeline.ensures) in
     let size : size_of c.in_ok-buffer.buffer ≡ batch_size (merge_in_force c.args.query.now.merge) = c.in_ok-buffer.ensures.size ∙ ap batch_size c.merge_option.ensures in
-    (rw (begins, size) at c.deliver_all.ensures.delivers).answer.delivered
+    (rw (begins, size) at c.deliver_all.ensures.delivers).delivered
 
 pub returns-clause-least : goal.returns-clause-least
 returns-clause-least g c =
     let same : c.ops.result.now ≡ c.args.query.now.ops = search rules in
     let begins = stages-begun g.L.Lambda.meaning c.args.query.now.ops c.in_ok-pipeline.pipeline (rw same at c.in_ok-pipeline.ensures) in
-    (rw begins at c.deliver_all.ensures.delivers).least
+    on_ok_weaker _ (deciding-singly _ _ _) (rw begins at c.deliver_all.ensures.delivers).blocks
