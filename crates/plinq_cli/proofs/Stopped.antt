@@ -9,7 +9,7 @@ use Rattle.plinq_merge.specs.Cancelling.{Delivery, Passes, IsRefused}
 use Rattle.plinq_merge.specs.Mergers.{delivery_fault_of, StopsShort}
 use Rattle.plinq_merge.specs.Sending.{Leads}
 use Rattle.plinq_merge.specs.Tokens.{AsksAfter, most_of}
-use Rattle.plinq_merge.proofs.Maps.{cut-map}
+use Rattle.plinq_merge.proofs.Lent.{cut-map}
 use Rattle.plinq_ops.specs.declared.merge_option.MergeOption.{MergeOption}
 use Rattle.plinq_ops.specs.Batches.{batches}
 use Rattle.plinq_run.specs.declared.report.Report.{Report}

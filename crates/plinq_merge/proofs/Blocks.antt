@@ -8,6 +8,7 @@ use Rattle.std.proofs.Math.Seq.{take-length}
 use Rattle.std.proofs.Common.{length-take-le}
 use Rattle.plinq_ops.specs.Batches.{full_batches, held_back}
 use Rattle.plinq_ops.proofs.Runs.{full_batches-append, held_back-append}
+use Rattle.plinq_merge.specs.Sending.{singles}
 
 not_full : (m n : ℕ) → m < n → (m == n) ≡ false
 not_full m n below = grind (arith, nat_tests)
@@ -68,24 +69,36 @@ short-filled n k held xs ys count is room short =
     let test : (length held + k == n) ≡ false = ap (λ j. j == n) (sym longer) ∙ short in
     grind (arith, nat_tests)
 
+-- items that fill up a batch, and the others
+pub taken-full : {T : Type 0} (n k : ℕ) (held xs : List T) → length held < n → length (held ++ take k xs) ≡ n
+    → (full_batches (Some n) held xs ≡ (held ++ take k xs) ∷ full_batches (Some n) [] (drop k xs)) × (held_back (Some n) held xs ≡ held_back (Some n) [] (drop k xs))
+taken-full n k held xs room full =
+    let long : length held + length (take k xs) ≡ n = sym (length-append held (take k xs)) ∙ full in (
+      ap (full_batches (Some n) held) (sym (take-append-drop k xs)) ∙ full_batches-filled n held (take k xs) (drop k xs) (omega arith) long,
+      ap (held_back (Some n) held) (sym (take-append-drop k xs)) ∙ held_back-filled n held (take k xs) (drop k xs) (omega arith) long,
+    )
+
+-- items that are one batch
+pub one-batch : {T : Type 0} (n : ℕ) (xs : List T) → length xs ≡ n → 0 < n → (full_batches (Some n) [] xs ≡ xs ∷ []) × (held_back (Some n) [] xs ≡ [])
+one-batch n xs same some = (
+  ap (full_batches (Some n) []) (sym (append-nil xs)) ∙ full_batches-filled n [] xs [] (omega arith) (omega arith),
+  ap (held_back (Some n) []) (sym (append-nil xs)) ∙ held_back-filled n [] xs [] (omega arith) (omega arith),
+)
+
 -- ---- items of whole batches
 
 -- the first batch, and the others
 pub full_batches-first : {T : Type 0} (n : ℕ) (xs : List T) → 0 < n → n ≤ length xs → full_batches (Some n) [] xs ≡ take n xs ∷ full_batches (Some n) [] (drop n xs)
-full_batches-first n xs some enough =
-    let front : length (take n xs) ≡ n = length-take-le n xs enough in
-    ap (full_batches (Some n) []) (sym (take-append-drop n xs)) ∙ full_batches-filled n [] (take n xs) (drop n xs) (omega arith) (omega arith)
+full_batches-first n xs some enough = (taken-full n n [] xs some (length-take-le n xs enough)).0
 
-held_back-first : {T : Type 0} (n : ℕ) (xs : List T) → 0 < n → n ≤ length xs → held_back (Some n) [] xs ≡ held_back (Some n) [] (drop n xs)
-held_back-first n xs some enough =
-    let front : length (take n xs) ≡ n = length-take-le n xs enough in
-    ap (held_back (Some n) []) (sym (take-append-drop n xs)) ∙ held_back-filled n [] (take n xs) (drop n xs) (omega arith) (omega arith)
+pub full_batches-split : {T : Type 0} (n : ℕ) (xs front back : List T) → 0 < n → n ≤ length xs → front ≡ take n xs → back ≡ drop n xs → full_batches (Some n) [] xs ≡ front ∷ full_batches (Some n) [] back
+full_batches-split n xs front back some enough first rest = rw (first, rest) (full_batches-first n xs some enough)
 
 -- nothing is held back of them
 pub held_back-whole : {T : Type 0} (n k : ℕ) (xs : List T) → 0 < n → length xs ≡ k * n → held_back (Some n) [] xs ≡ []
 held_back-whole n zero xs some is = ap (held_back (Some n) []) (nil_from_length xs (omega (arith, is)))
 held_back-whole n (suc k) xs some is =
-    held_back-first n xs some (omega (arith, is)) ∙ held_back-whole n k (drop n xs) some (length-drop n xs ∙ omega (arith, is))
+    (taken-full n n [] xs some (length-take-le n xs (omega (arith, is)))).1 ∙ held_back-whole n k (drop n xs) some (length-drop n xs ∙ omega (arith, is))
 
 -- their batches, and those of the items after them
 pub full_batches-whole : {T : Type 0} (n k : ℕ) (xs front back : List T) → 0 < n → front ++ back ≡ xs → length front ≡ k * n
@@ -116,3 +129,8 @@ full_batches-before n xs some =
     let back = drop (length xs - length xs % n) xs in
     full_batches-whole n (length xs / n) xs front back some (take-append-drop (length xs - length xs % n) xs) (whole-length n xs)
     ∙ ap (λ bs. full_batches (Some n) [] front ++ bs) (full_batches-short n [] back (omega (arith, rest-short n xs some))) ∙ append-nil (full_batches (Some n) [] front)
+
+-- batches of one item each
+pub full_batches-one : {T : Type 0} (xs : List T) → full_batches (Some 1) [] xs ≡ singles xs
+full_batches-one [] = refl
+full_batches-one (x ∷ xs) = ap (λ bs. (x ∷ []) ∷ bs) (full_batches-one xs)

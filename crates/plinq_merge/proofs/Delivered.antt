@@ -1,35 +1,42 @@
 -- What was delivered of items that were fed to operators.
-use Rattle.std.specs.Prelude.{◌≡◌, ℕ, ◌<◌, List, [], length, true, false, not, ◌&&◌, Option, Some, None, IfSome, Ok, refl}
+use Rattle.std.specs.Prelude.{◌≡◌, ℕ, ◌<◌, List, [], length, true, false, not, ◌&&◌, Option, Some, None, IfSome, Ok, refl, ◌+◌, ◌≤◌, ◌++◌, drop, Result, Err, OnOk, IfOk}
 use Rattle.std.specs.List.{list_any}
-use Rattle.std.proofs.Common.{sym, ◌∙◌, ap, subst}
+use Rattle.std.proofs.Common.{sym, ◌∙◌, ap, subst, arith, append_assoc, append-nil}
 use Rattle.std.proofs.lemmas.Bool.{lt-ltb}
+use Rattle.std.proofs.lemmas.List.{length-take, take-append-drop}
 use Rattle.plinq_source.specs.declared.ending.Ending.{Ending}
-use Rattle.plinq_source.specs.Trace.{Trace, open_trace, followed}
-use Rattle.plinq_source.proofs.Followed.{trace_of}
+use Rattle.plinq_source.specs.Trace.{Trace, open_trace, followed, ended, items_from}
+use Rattle.plinq_source.proofs.Followed.{trace_of, followed-followed}
+use Rattle.plinq_source.specs.declared.ending.Ending.TheVariants.{End}
 use Rattle.plinq_lambda.specs.Meaning.{Meaning}
 use Rattle.plinq_ops.specs.declared.op.Op.{Op}
 use Rattle.plinq_ops.specs.Stage.{Stage, seq, seq_after, some_takes_none}
 use Rattle.plinq_ops.specs.Operator.{stages_of}
-use Rattle.plinq_ops.specs.Feeding.{IsFed, is_empty_take}
-use Rattle.plinq_ops.specs.Batches.{full_batches, held_back, last_batch, batches_from}
-use Rattle.plinq_ops.specs.Pipeline.{IsReached, stages}
+use Rattle.plinq_ops.specs.Feeding.{IsFed, is_empty_take, FeedsFrom}
+use Rattle.plinq_ops.specs.Batches.{held_back, batches_from, full_batches}
+use Rattle.plinq_ops.specs.Pipeline.{IsReached, PipelineView, stages}
 use Rattle.plinq_ops.proofs.Stages.{seq-followed}
 use Rattle.plinq_ops.proofs.ByKey.{stages-begun}
 use Rattle.plinq_ops.proofs.Counts.{some_takes_none-stages_of}
-use Rattle.plinq_ops.proofs.Fed.{undecided-left}
+use Rattle.plinq_ops.proofs.Fed.{undecided-left, fed-none}
 use Rattle.plinq_ops.proofs.Open.{open-from_seq}
-use Rattle.plinq_ops.proofs.Runs.{batches_from-open}
+use Rattle.plinq_ops.proofs.Runs.{batches_from-open, full_batches-append, held_back-append, batches_from-followed}
+use Rattle.plinq_ops.specs.Sequential.{first_items}
+use Rattle.plinq_ops.proofs.Answered.{fed-on, fed-over, deciding-over, deciding-of_none, answer-of_none, answer-fed}
 use Rattle.plinq_merge.specs.declared.deliver.Deliver.{Deliver}
 use Rattle.plinq_merge.specs.declared.delivery_fault.DeliveryFault.{DeliveryFault}
+use Rattle.plinq_merge.specs.declared.delivery_fault.DeliveryFault.TheVariants.{Memory}
 use Rattle.plinq_merge.specs.Buffer.{held_of, size_of, HasRoom}
-use Rattle.plinq_merge.specs.Sending.{Leads, IsCutOff}
+use Rattle.plinq_merge.specs.Sending.{Leads, IsCutOff, Delivers, IsFilled}
 use Rattle.plinq_merge.specs.Merging.{GoesOn}
-use Rattle.plinq_merge.specs.inner.Sent.{leads-append, cut-after, cut-before}
 use Rattle.plinq_merge.specs.Delivering.{Line, KeepsPlan, line_of, is_below, can_deliver, Made}
+use Rattle.plinq_merge.specs.inner.Handing.{HandsOn}
+use Rattle.plinq_merge.specs.inner.OneThread.{DeliversAnswer}
+use Rattle.plinq_merge.specs.inner.Sent.{leads-append, cut-after, cut-before, delivers-as, delivers-after}
 
 -- what a trace gives that was fed, before what comes after it
-fed-answer : {T : Type 0} (ss ss' : List (Stage T)) (t : Trace T) (out : List T) (e : Option Ending) → IsFed ss t [] out ss' e → seq ss t ≡ trace_of out e
-fed-answer ss ss' t out e fed = let items = fed.items in let told = fed.told in ap (λ xs. trace_of xs (seq ss t).ending) (sym items) ∙ ap (trace_of out) (sym told)
+pub fed-answer : {T : Type 0} (ss ss' : List (Stage T)) (t : Trace T) (out : List T) (e : Option Ending) → IsFed ss t [] out ss' e → seq ss t ≡ trace_of out e
+fed-answer ss ss' t out e fed = ap (λ xs. trace_of xs (seq ss t).ending) (sym fed.items) ∙ ap (trace_of out) (sym fed.told)
 
 -- where more may follow, it has not ended
 pub fed-open : {T : Type 0} (ss ss' : List (Stage T)) (t : Trace T) (out : List T) → IsFed ss t [] out ss' None → t.ending ≡ None
@@ -49,13 +56,14 @@ below-room : {T : Type 0} (size : Option ℕ) (held : List T) → IfSome size (�
 below-room None held room = refl
 below-room (Some n) held room = lt-ltb (length held) n room
 
--- where the answer is open after items that were fed, more may come
-pub can-deliver : {L T : Type 0} (meaning : L → Meaning T) (d : Deliver L T) (ss : List (Stage T)) (t : Trace T) (out : List T)
-    → IsFed ss t [] out (stages meaning d.pipeline) None
-    → HasRoom d.buffer → can_deliver meaning d ≡ true
-can-deliver meaning d ss t out fed room =
-    let undecided = undecided-left ss (stages meaning d.pipeline) t [] out fed in
-    ap (λ b. not b && is_below (size_of d.buffer) (held_of d.buffer)) undecided ∙ below-room (size_of d.buffer) (held_of d.buffer) room
+-- where no operator takes none, more may come
+can-undecided : {L T : Type 0} (meaning : L → Meaning T) (d : Deliver L T) → some_takes_none (stages meaning d.pipeline) ≡ false → HasRoom d.buffer → can_deliver meaning d ≡ true
+can-undecided meaning d undecided room = ap (λ b. not b && is_below (size_of d.buffer) (held_of d.buffer)) undecided ∙ below-room (size_of d.buffer) (held_of d.buffer) room
+
+-- so it may where the answer is open after items that were fed
+pub can-deliver : {L T : Type 0} (meaning : L → Meaning T) (d : Deliver L T) (ss : List (Stage T)) (t : Trace T) (out : List T) → IsFed ss t [] out (stages meaning d.pipeline) None → HasRoom d.buffer
+    → can_deliver meaning d ≡ true
+can-deliver meaning d ss t out fed room = can-undecided meaning d (undecided-left ss (stages meaning d.pipeline) t [] out fed) room
 
 -- a delivery that has taken nothing
 pub begun-line : {L T : Type 0} (meaning : L → Meaning T) (d : Deliver L T) (ops : List (Op L)) (size : Option ℕ) → IsReached meaning ops 0 d.pipeline
@@ -69,57 +77,158 @@ begun-line {L} {T} meaning d ops size reached empty same =
     ∙ ap (λ h. record l { after = after; now = after; held = h }) empty
     ∙ ap (λ n. record l { after = after; now = after; held = []; size = n }) same
 
-pub begun-can : {L T : Type 0} (meaning : L → Meaning T) (d : Deliver L T) (ops : List (Op L)) → IsReached meaning ops 0 d.pipeline → HasRoom d.buffer
-    → list_any is_empty_take ops ≡ false
-    → can_deliver meaning d ≡ true
+pub begun-undecided : {L T : Type 0} (meaning : L → Meaning T) (p : PipelineView L) (ops : List (Op L)) → IsReached meaning ops 0 p → list_any is_empty_take ops ≡ false → some_takes_none (stages meaning p) ≡ false
+begun-undecided meaning p ops reached some = ap some_takes_none (stages-begun meaning ops p reached) ∙ sym (some_takes_none-stages_of meaning ops) ∙ some
+
+pub begun-can : {L T : Type 0} (meaning : L → Meaning T) (d : Deliver L T) (ops : List (Op L)) → IsReached meaning ops 0 d.pipeline → HasRoom d.buffer → list_any is_empty_take ops ≡ false → can_deliver meaning d ≡ true
 begun-can meaning d ops reached room some =
-    let undecided : some_takes_none (stages meaning d.pipeline) ≡ false = ap some_takes_none (stages-begun meaning ops d.pipeline reached) ∙ sym (some_takes_none-stages_of meaning ops) ∙ some in
-    ap (λ b. not b && is_below (size_of d.buffer) (held_of d.buffer)) undecided ∙ below-room (size_of d.buffer) (held_of d.buffer) room
+    can-undecided meaning d (begun-undecided meaning d.pipeline ops reached some) room
 
 module _ {K T : Type 0} (accepts : K → List T → K → Type 0) (refuses : K → List T → ℕ → K → Type 0) where
-  -- the full batches were cut off
-  pub cut-full : (l : Line T) (ss' : List (Stage T)) (t : Trace T) (out : List T) (e : Option Ending) (s : K) (fault : DeliveryFault) (s' : K)
-      → IsFed l.now t [] out ss' e
-      → IsCutOff accepts refuses s (full_batches l.size l.held out) fault s' → IsCutOff accepts refuses s (batches_from l.size l.held (seq l.now t)) fault s'
-  cut-full l ss' t out e s fault s' fed cut =
-      let P : Trace T → Type 0 = λ u. IsCutOff accepts refuses s (batches_from l.size l.held u) fault s' in
-      subst P (sym (fed-answer l.now ss' t out e fed)) (cut-before accepts refuses s (full_batches l.size l.held out) (last_batch l.size (held_back l.size l.held out) e) fault s' cut)
-
-  -- the last batch was cut off
-  pub cut-last : (l : Line T) (ss' : List (Stage T)) (t : Trace T) (out : List T) (e : Option Ending) (s s1 : K) (fault : DeliveryFault) (s' : K)
-      → IsFed l.now t [] out ss' e
-      → Leads accepts s (full_batches l.size l.held out) s1 → IsCutOff accepts refuses s1 (last_batch l.size (held_back l.size l.held out) e) fault s'
-      → IsCutOff accepts refuses s (batches_from l.size l.held (seq l.now t)) fault s'
-  cut-last l ss' t out e s s1 fault s' fed full cut =
-      let P : Trace T → Type 0 = λ u. IsCutOff accepts refuses s (batches_from l.size l.held u) fault s' in
-      subst P (sym (fed-answer l.now ss' t out e fed))
-      (cut-after accepts refuses s (full_batches l.size l.held out) (last_batch l.size (held_back l.size l.held out) e) fault s1 s' full cut)
-
   -- all batches were delivered
-  pub made-fed : (l l' : Line T) (t : Trace T) (out : List T) (e : Option Ending) (s s1 s' : K) → IsFed l.now t [] out l'.now e → KeepsPlan l l'
-      → (e ≡ None → l'.held ≡ held_back l.size l.held out) → Leads accepts s (full_batches l.size l.held out) s1
-      → Leads accepts s1 (last_batch l.size (held_back l.size l.held out) e) s'
-      → Made accepts refuses l s t (Ok e) l' s'
-  made-fed l l' t out None s s1 s' fed plan held full last =
-      let Q : List (List T) → Type 0 = λ bs. Leads accepts s1 bs s' in
-      let same : s' ≡ s1 = subst Q (batches_from-open l.size (held_back l.size l.held out) []) last in
-      let R : K → Type 0 = λ k. Leads accepts s (full_batches l.size l.held out) k in
+  pub made-fed : (l l' : Line T) (t : Trace T) (out : List T) (e : Option Ending) (s s' : K) → IsFed l.now t [] out l'.now e → KeepsPlan l l' → (e ≡ None → l'.held ≡ held_back l.size l.held out)
+      → Leads accepts s (batches_from l.size l.held (trace_of out e)) s' → Made accepts refuses l s t (Ok e) l' s'
+  made-fed l l' t out None s s' fed plan held leads =
+      let P : List (List T) → Type 0 = λ bs. Leads accepts s bs s' in
       record {
         plan = plan;
-        gives = record {
-          out = out;
-          on = fed-goes_on l.now l'.now t out fed;
-          held = held refl;
-          leads = subst R (sym same) full;
-        };
+        gives = record { out = out; on = fed-goes_on l.now l'.now t out fed; held = held refl; leads = subst P (batches_from-open l.size l.held out) leads };
       }
-  made-fed l l' t out (Some e) s s1 s' fed plan held full last =
+  made-fed l l' t out (Some e) s s' fed plan held leads =
       let answer = fed-answer l.now l'.now t out (Some e) fed in
       let P : Trace T → Type 0 = λ u. Leads accepts s (batches_from l.size l.held u) s' in
+      record { plan = plan; gives = (ap (λ u. u.ending) answer, subst P (sym answer) leads) }
+
+-- what holds whatever the result is, and how the answer ends where one is told
+pub on-any : {A E : Type 0} (P : Type 0) (r : Result A E) → P → OnOk r P
+on-any P (Ok x) p = p
+on-any P (Err e) p = tt
+
+told-ending : {E : Type 0} (o : Option Ending) (e : Ending) (r : Result Ending E) → o ≡ Some e → IfOk r (λ told. told ≡ e) → IfOk r (λ told. o ≡ Some told)
+told-ending o e (Ok told) is same = is ∙ ap Some (sym same)
+told-ending o e (Err fault) is same = tt
+
+-- a source that was asked for so many items gave no more
+pub within-block : {T : Type 0} (t : Trace T) (n m most : ℕ) → m ≡ n + length (items_from t n most) → m ≤ n + most
+within-block t n m most is = omega (arith, is, length-take most (drop n t.items))
+
+-- all of the items were handed on
+pub hands-all : {K T A : Type 0} (accepts : K → List T → K → Type 0) (refuses : K → List T → ℕ → K → Type 0) (size : Option ℕ) (held made : List T) (s : K) (r : Result A DeliveryFault) (held' : List T) (s' : K)
+    → IsFilled accepts refuses size held made s r held' s' → HandsOn accepts refuses size held made s r held' [] s'
+hands-all accepts refuses size held made s r held' s' filled = record { given = made; left = []; parts = sym (append-nil made); waits = on-any _ r refl; filled = filled }
+
+module _ {K T : Type 0} (accepts : K → List T → K → Type 0) (refuses : K → List T → ℕ → K → Type 0) (size : Option ℕ) (ss : List (Stage T)) (s : K) where
+  -- these items were fed; of what came out, all but the last were given to the buffer, and their full batches sent
+  pub record HasSent (t : Trace T) (held made : List T) (ss' : List (Stage T)) (s' : K) (ending : Option Ending) : Type 0 where
+    pub out : List T
+    pub fed : IsFed ss t [] (out ++ made) ss' ending
+    pub keeps : held ≡ held_back size [] out
+    pub leads : Leads accepts s (full_batches size [] out) s'
+
+  pub sent-none : some_takes_none ss ≡ false → HasSent (open_trace []) [] [] ss s None
+  sent-none undecided = record { out = []; fed = fed-none ss [] undecided; keeps = refl; leads = refl }
+
+  -- what comes out stands after what was given to the buffer
+  feeds-after : (ss' ss'' : List (Stage T)) (t : Trace T) (n m : ℕ) (held made made' : List T) (s' : K) (e : Option Ending) (before : HasSent (first_items n t) held made ss' s' None)
+      → FeedsFrom ss' t n m made made' ss'' e → FeedsFrom ss' t n m (before.out ++ made) (before.out ++ made') ss'' e
+  feeds-after ss' ss'' t n m held made made' s' e before next =
+      let items : before.out ++ made' ≡ (before.out ++ made) ++ (seq ss' next.piece).items = ap (λ ys. before.out ++ ys) next.fed.items ∙ sym (append_assoc before.out made (seq ss' next.piece).items) in
+      record { piece = next.piece; given = next.given; fed = record { items = items; told = next.fed.told; left = next.fed.left } }
+
+  -- what the source gave next leaves the answer open
+  pub sent-on : (ss' ss'' : List (Stage T)) (t : Trace T) (n m : ℕ) (held made made' : List T) (s' : K)
+      → HasSent (first_items n t) held made ss' s' None → FeedsFrom ss' t n m made made' ss'' None → HasSent (first_items m t) held made' ss'' s' None
+  sent-on ss' ss'' t n m held made made' s' before next =
       record {
-        plan = plan;
-        gives = (
-          ap (λ u. u.ending) answer,
-          subst P (sym answer) (leads-append accepts s (full_batches l.size l.held out) (last_batch l.size (held_back l.size l.held out) (Some e)) s1 s' full last),
-        );
+        out = before.out;
+        fed = fed-on ss ss' ss'' t n m [] (before.out ++ made) (before.out ++ made') before.fed (feeds-after ss' ss'' t n m held made made' s' None before next);
+        keeps = before.keeps;
+        leads = before.leads;
       }
+
+  -- the first of the items that waited were handed on
+  pub sent-handed : {A : Type 0} (t : Trace T) (held held' made left : List T) (ss' : List (Stage T)) (s1 s2 : K) (e : Option Ending) (x : A)
+      → HandsOn accepts refuses size held made s1 (Ok x) held' left s2 → HasSent t held made ss' s1 e → HasSent t held' left ss' s2 e
+  sent-handed t held held' made left ss' s1 s2 e x hands before =
+      let given : List T = hands.given in
+      let P : List T → Type 0 = λ xs. IsFed ss t [] xs ss' e in
+      let Q : List (List T) → Type 0 = λ bs. Leads accepts s bs s2 in
+      let parts : made ≡ given ++ left = hands.parts ∙ ap (λ xs. given ++ xs) (sym hands.waits) in
+      let batches : full_batches size [] (before.out ++ given) ≡ full_batches size [] before.out ++ full_batches size held given =
+      full_batches-append size [] before.out given ∙ ap (λ h. full_batches size [] before.out ++ full_batches size h given) (sym before.keeps) in
+      record {
+        out = before.out ++ given;
+        fed = subst P (ap (λ xs. before.out ++ xs) parts ∙ sym (append_assoc before.out given left)) before.fed;
+        keeps = hands.filled.held ∙ ap (λ h. held_back size h given) before.keeps ∙ sym (held_back-append size [] before.out given);
+        leads = subst Q (sym batches) (leads-append accepts s (full_batches size [] before.out) (full_batches size held given) s1 s2 before.leads hands.filled.sent);
+      }
+
+  -- what the source gave next decides the answer, and the rest was delivered or cut off
+  pub sent-over : (most : ℕ) (ss' ss'' : List (Stage T)) (t : Trace T) (n m : ℕ) (held made made' : List T) (s1 s2 : K) (e : Ending) (r : Result Ending DeliveryFault) → m ≤ n + most
+      → HasSent (first_items n t) held made ss' s1 None → FeedsFrom ss' t n m made made' ss'' (Some e) → IfOk r (λ told. told ≡ e)
+      → Delivers accepts refuses s1 (batches_from size held (ended made' e)) r s2 → DeliversAnswer accepts refuses size most ss t s m r s2
+  sent-over most ss' ss'' t n m held made made' s1 s2 e r block before next told rest =
+      let out : List T = before.out ++ made' in
+      let last = feeds-after ss' ss'' t n m held made made' s1 (Some e) before next in
+      let fed : IsFed ss t [] out ss'' (Some e) = fed-over ss ss' ss'' t n m [] (before.out ++ made) out e before.fed last in
+      let all : batches_from size [] (seq ss t) ≡ full_batches size [] before.out ++ batches_from size held (ended made' e) =
+      ap (batches_from size []) (sym (answer-fed ss ss'' t [] out e refl fed)) ∙ batches_from-followed size [] before.out (ended made' e) ∙ ap (λ h. full_batches size [] before.out ++ batches_from size h (ended made' e)) (sym before.keeps) in
+      record {
+        ending = told-ending (seq ss t).ending e r (sym fed.told) told;
+        delivered = delivers-as accepts refuses s (batches_from size [] (seq ss t)) (full_batches size [] before.out ++ batches_from size held (ended made' e)) r s2 all
+            (delivers-after accepts refuses s (full_batches size [] before.out) (batches_from size held (ended made' e)) s1 r s2 before.leads rest);
+        blocks = on-any _ r (deciding-over most ss ss' ss'' t n m [] (before.out ++ made) out e block before.fed last);
+      }
+
+  -- what the answer goes on with after the first items
+  open-after : (ss' : List (Stage T)) (t : Trace T) (n : ℕ) (out : List T) → IsFed ss (first_items n t) [] out ss' None
+      → (more : Trace T) × (seq ss t ≡ followed (open_trace out) more)
+  open-after ss' t n out fed =
+      let a : Trace T = first_items n t in
+      let b : Trace T = trace_of (drop n t.items) t.ending in
+      let whole : followed a b ≡ t = ap (λ xs. trace_of xs t.ending) (take-append-drop n t.items) in
+      let first : seq ss a ≡ open_trace out = ap (λ o. trace_of (seq ss a).items o) (sym fed.told) ∙ ap open_trace (sym fed.items) in
+      (seq (seq_after ss a) b, ap (seq ss) (sym whole) ∙ seq-followed ss a b ∙ ap (λ u. followed u (seq (seq_after ss a) b)) first)
+
+  -- a delivery that was cut off in the midst
+  pub sent-cut : {A : Type 0} (most : ℕ) (ss' : List (Stage T)) (t : Trace T) (n m : ℕ) (held held' made made' : List T) (s1 s2 : K) (fault : DeliveryFault) (r : Result Ending DeliveryFault) → r ≡ Err fault
+      → HandsOn {A = A} accepts refuses size held made s1 (Err fault) held' made' s2 → HasSent (first_items n t) held made ss' s1 None → DeliversAnswer accepts refuses size most ss t s m r s2
+  sent-cut most ss' t n m held held' made made' s1 s2 fault r is hands before =
+      let given : List T = hands.given in
+      let left : List T = hands.left in
+      let more = open-after ss' t n (before.out ++ made) before.fed in
+      let rest : Trace T = followed (open_trace left) more.0 in
+      let answer : seq ss t ≡ followed (open_trace before.out) (followed (open_trace given) rest) =
+      more.1
+      ∙ ap (λ xs. followed (open_trace (before.out ++ xs)) more.0) hands.parts
+      ∙ followed-followed (open_trace before.out) (open_trace (given ++ left)) more.0
+      ∙ ap (followed (open_trace before.out)) (followed-followed (open_trace given) (open_trace left) more.0) in
+      let later : List (List T) = batches_from size (held_back size held given) rest in
+      let all : batches_from size [] (seq ss t) ≡ full_batches size [] before.out ++ (full_batches size held given ++ later) =
+      ap (batches_from size []) answer
+      ∙ batches_from-followed size [] before.out (followed (open_trace given) rest)
+      ∙ ap (λ h. full_batches size [] before.out ++ batches_from size h (followed (open_trace given) rest)) (sym before.keeps)
+      ∙ ap (λ bs. full_batches size [] before.out ++ bs) (batches_from-followed size held given rest) in
+      let P : List (List T) → Type 0 = λ bs. IsCutOff accepts refuses s bs fault s2 in
+      let part = subst P (sym all)
+      (cut-after accepts refuses s (full_batches size [] before.out) (full_batches size held given ++ later) fault s1 s2 before.leads
+      (cut-before accepts refuses s1 (full_batches size held given) later fault s2 hands.filled.sent)) in
+      rw is (record { ending = tt; delivered = part; blocks = tt })
+
+  -- memory ran out before an item came through
+  pub sent-stopped : (most : ℕ) (ss' : List (Stage T)) (t : Trace T) (n m : ℕ) (held made : List T) (s' : K) (r : Result Ending DeliveryFault) → r ≡ Err Memory
+      → HasSent (first_items n t) held made ss' s' None → DeliversAnswer accepts refuses size most ss t s m r s'
+  sent-stopped most ss' t n m held made s' r is before =
+      let none : HandsOn {A = Ending} accepts refuses size held made s' (Err Memory) held made s' =
+      record { given = []; left = made; parts = refl; waits = tt; filled = record { held = tt; sent = ([], [], refl, refl) } } in
+      sent-cut most ss' t n m held held made made s' s' Memory r is none before
+
+  -- or before anything was fed
+  pub answer-stopped : (most : ℕ) (t : Trace T) (m : ℕ) (r : Result Ending DeliveryFault) → r ≡ Err Memory → DeliversAnswer accepts refuses size most ss t s m r s
+  answer-stopped most t m r is = rw is (record { ending = tt; delivered = ([], batches_from size [] (seq ss t), refl, refl); blocks = tt })
+
+  -- a Take of none decides the answer
+  pub answer-none : (most : ℕ) (t : Trace T) (m : ℕ) → some_takes_none ss ≡ true → m ≡ 0 → DeliversAnswer accepts refuses size most ss t s m (Ok End) s
+  answer-none most t m none fresh =
+      let is = answer-of_none ss t none in
+      record { ending = ap (λ u. u.ending) is; delivered = rw is refl; blocks = rw fresh (deciding-of_none most ss t none) }

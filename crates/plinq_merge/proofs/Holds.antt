@@ -67,11 +67,7 @@ module _ {T : Type 0} where
 
   -- by arrival they give nothing
   pub nothing-placed : (offers : List (ChunkResult T)) → All (λ p. p.1.payload ≡ open_trace []) (all_placed ByArrival [] offers)
-  nothing-placed offers = All-placed (λ p. p.1.payload ≡ open_trace []) ByArrival [] offers (All-nil (λ p. p.1.payload ≡ open_trace [])) (all-refl offers)
-    where
-      all-refl : (rs : List (ChunkResult T)) → All (λ r. waiting_trace ByArrival r ≡ open_trace []) rs
-      all-refl [] = All-nil (λ r. waiting_trace ByArrival r ≡ open_trace [])
-      all-refl (r ∷ rs) = All-cons (λ r. waiting_trace ByArrival r ≡ open_trace []) r rs refl (all-refl rs)
+  nothing-placed offers = All-placed (λ p. p.1.payload ≡ open_trace []) ByArrival [] offers (All-nil (λ p. p.1.payload ≡ open_trace [])) (λ k r below. refl)
 
   pub nothing-given : (ps : List (Interval (Trace T))) → All (λ p. p.1.payload ≡ open_trace []) ps → all_given ps ≡ open_trace []
   nothing-given [] none = refl

@@ -8,7 +8,7 @@ use Rattle.plinq_ops.specs.declared.results.ChunkResult.{ChunkResult}
 use Rattle.plinq_merge.specs.declared.delivery_fault.DeliveryFault.{DeliveryFault}
 use Rattle.plinq_merge.specs.declared.delivery_fault.DeliveryFault.TheVariants.{Memory as NoMemory, Sink as Refusal}
 use Rattle.plinq_merge.specs.declared.merge_fault.MergeFault.{MergeFault}
-use Rattle.plinq_merge.specs.declared.merge_fault.MergeFault.TheVariants.{Memory, Sink, Twice, Gap, Failed, Cancelled}
+use Rattle.plinq_merge.specs.declared.merge_fault.MergeFault.TheVariants.{Memory, Sink, Twice, Gap}
 use Rattle.plinq_merge.specs.declared.more.More.{More}
 use Rattle.plinq_merge.specs.declared.more.More.TheVariants.{Yes, No}
 use Rattle.plinq_merge.specs.declared.joiner_state.JoinerState.{JoinerState}
@@ -37,11 +37,8 @@ module _ {W O T : Type 0} (made : W → O → Trace T → Result (Option Ending)
   moved-at w Open r y (Err Memory) w' standing' y' o = let joins = o.1 in inr (joins.gained, Err NoMemory, joins.taken)
   moved-at w Open r y (Err (Sink code)) w' standing' y' o = let joins = o.1 in inr (joins.gained, Err (Refusal code), joins.taken)
   moved-at w Open r y (Err Twice) w' standing' y' o = inl o.0
-  moved-at w Open r y (Err Gap) w' standing' y' o = absurd o
-  moved-at w Open r y (Err Failed) w' standing' y' o = absurd o
-  moved-at w Open r y (Err Cancelled) w' standing' y' o = absurd o
-  moved-at w (Decided e) r y result w' standing' y' o = inl o.1
-  moved-at w HasFailed r y result w' standing' y' o = inl o.1
+  moved-at w Open r y (Err fault) w' standing' y' o = absurd o
+  moved-at w standing r y result w' standing' y' o = inl o.1
 
   module _ (a : W) (x : O) where
     cases-at : {P : Type 0} (w : Joining W T) (standing : JoinerState) (y : O) (offers : List (ChunkResult T)) → HasJoinedAt made a x w standing y offers
@@ -125,9 +122,7 @@ module _ {W O T : Type 0} (made : W → O → Trace T → Result (Option Ending)
           )
       breaks-at w Open r y Twice w' standing' y' offers same joined o =
           (offers, inl refl, (w.taker, subst (λ z. made a x (merged w.order offers) (Err NoMemory) w.taker z) (sym o.2) (stopped-at w y offers joined.0 joined.1)))
-      breaks-at w Open r y Gap w' standing' y' offers same joined o = absurd o
-      breaks-at w Open r y Failed w' standing' y' offers same joined o = absurd o
-      breaks-at w Open r y Cancelled w' standing' y' offers same joined o = absurd o
+      breaks-at w Open r y fault w' standing' y' offers same joined o = absurd o
       breaks-at w (Decided e) r y fault w' standing' y' offers same joined o = absurd (let bad : Err fault ≡ Ok No = o.0 in cc)
       breaks-at w HasFailed r y fault w' standing' y' offers same joined o = absurd joined
 

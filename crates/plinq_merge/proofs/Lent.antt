@@ -1,24 +1,83 @@
--- A token and a sink that are lent as one sink: what was delivered, in terms of a delivery.
-use Rattle.std.specs.Prelude.{◌≡◌, ℕ, List, [], ◌∷◌, Bool, true, false, Result, Ok, Err, refl}
+-- Offers with a token: a token and a sink as one sink, what is delivered in terms of either, and what the token has answered.
+use Rattle.std.specs.Prelude.{◌≡◌, ℕ, List, [], ◌∷◌, Bool, Result, Ok, Err, true, false, ◌||◌, refl}
 use Rattle.std.proofs.Common.{ap, sym, ◌∙◌, subst}
+use Rattle.std.proofs.Math.Bool.{or-false, or-true}
 use Rattle.plinq_lambda.specs.Meaning.{Meaning}
 use Rattle.plinq_ops.specs.declared.results.ChunkResult.{ChunkResult}
 use Rattle.plinq_merge.specs.declared.merge_fault.MergeFault.{MergeFault}
-use Rattle.plinq_merge.specs.declared.merge_fault.MergeFault.TheVariants.{Memory, Sink, Twice, Gap, Failed, Cancelled}
+use Rattle.plinq_merge.specs.declared.merge_fault.MergeFault.TheVariants.{Memory, Sink, Twice, Cancelled, Failed}
 use Rattle.plinq_merge.specs.declared.more.More.{More}
-use Rattle.plinq_merge.specs.declared.more.More.TheVariants.{No}
+use Rattle.plinq_merge.specs.declared.more.More.TheVariants.{Yes, No}
 use Rattle.plinq_merge.specs.declared.joiner_state.JoinerState.{JoinerState}
 use Rattle.plinq_merge.specs.declared.joiner_state.JoinerState.TheVariants.{Open, Decided, Failed as HasFailed}
 use Rattle.plinq_merge.specs.declared.delivery_fault.DeliveryFault.{DeliveryFault}
 use Rattle.plinq_merge.specs.declared.delivery_fault.DeliveryFault.TheVariants.{Memory as NoMemory, Sink as Refusal}
 use Rattle.plinq_merge.specs.declared.with_cancellation.WithCancellation.{WithCancellation}
-use Rattle.plinq_merge.specs.Cancelling.{Delivery, Passes, IsRefused, IsKeptBack}
-use Rattle.plinq_merge.specs.Lent.{AreSame, delivery_of, Takes, KeptOrRefused, Refuses}
-use Rattle.plinq_merge.specs.Mergers.{SendsSome, AsksEach, delivery_fault_of}
-use Rattle.plinq_merge.specs.Working.{Work}
-use Rattle.plinq_merge.specs.Offering.{Offers, OffersWith, IsCancelled}
 use Rattle.plinq_merge.specs.Sending.{Leads, IsCutOff}
-use Rattle.plinq_merge.proofs.Maps.{brings-map, offers-map}
+use Rattle.plinq_merge.specs.Shown.{Merge}
+use Rattle.plinq_merge.specs.Working.{Work}
+use Rattle.plinq_merge.specs.Offering.{Brings, Offers, OffersWith, IsCancelled}
+use Rattle.plinq_merge.specs.Cancelling.{Delivery, Passes, IsRefused, IsKeptBack, Counts, CountsNot, Tally}
+use Rattle.plinq_merge.specs.Mergers.{AsksEach, delivery_fault_of, is_cancelled, SendsSome}
+use Rattle.plinq_merge.specs.Lent.{AreSame, delivery_of, Takes, KeptOrRefused, Refuses}
+
+pub leads-map : {K M B : Type 0} (f : K → M) (accepts : K → B → K → Type 0) (accepts' : M → B → M → Type 0) → ((s : K) (b : B) (s' : K) → accepts s b s' → accepts' (f s) b (f s'))
+    → (s : K) (bs : List B) (s' : K) → Leads accepts s bs s' → Leads accepts' (f s) bs (f s')
+leads-map f accepts accepts' takes s [] s' leads = ap f leads
+leads-map f accepts accepts' takes s (b ∷ bs) s' leads = (f leads.0, takes s b leads.0 leads.1, leads-map f accepts accepts' takes leads.0 bs s' leads.2)
+
+pub cut-map : {K M B : Type 0} (f : K → M) (accepts : K → B → K → Type 0) (refuses : K → B → ℕ → K → Type 0) (accepts' : M → B → M → Type 0) (refuses' : M → B → ℕ → M → Type 0)
+    → ((s : K) (b : B) (s' : K) → accepts s b s' → accepts' (f s) b (f s')) → ((s : K) (b : B) (code : ℕ) (s' : K) → refuses s b code s' → refuses' (f s) b code (f s'))
+    → (s : K) (bs : List B) (fault : DeliveryFault) (s' : K) → IsCutOff accepts refuses s bs fault s' → IsCutOff accepts' refuses' (f s) bs fault (f s')
+cut-map f accepts refuses accepts' refuses' takes refused s bs NoMemory s' cut = (cut.0, cut.1, cut.2, leads-map f accepts accepts' takes s cut.0 s' cut.3)
+cut-map f accepts refuses accepts' refuses' takes refused s bs (Refusal code) s' cut =
+    (cut.0, cut.1, cut.2, f cut.3, cut.4, leads-map f accepts accepts' takes s cut.0 cut.3 cut.5, refused cut.3 cut.1 code s' cut.6)
+
+pub brings-map : {T : Type 0} (merge : Merge T) (offers : List (ChunkResult T)) (r : ChunkResult T) (P Q : List (List T) → Type 0) → ((bs : List (List T)) → P bs → Q bs)
+    → Brings merge offers r P → Brings merge offers r Q
+brings-map merge offers r P Q on brings = record { are_new = brings.are_new; gained = brings.gained; grows = brings.grows; sent = on brings.gained brings.sent }
+
+-- an offer, where what is delivered goes from s to s', and in the other words from t to t'
+pub offers-map : {L K M T : Type 0} (meaning : L → Meaning T) (decided : Bool) (accepts : K → List T → K → Type 0) (refuses : K → List T → ℕ → K → Type 0) (accepts' : M → List T → M → Type 0) (refuses' : M → List T → ℕ → M → Type 0)
+    (s s' : K) (t t' : M) → ((bs : List (List T)) → Leads accepts s bs s' → Leads accepts' t bs t')
+    → ((bs : List (List T)) (fault : DeliveryFault) → IsCutOff accepts refuses s bs fault s' → IsCutOff accepts' refuses' t bs fault t') → (s' ≡ s → t' ≡ t)
+    → (w : Work L T) (standing : JoinerState) (r : ChunkResult T) (result : Result More MergeFault) (w' : Work L T) (standing' : JoinerState)
+    → Offers meaning decided accepts refuses w standing r s result w' standing' s' → Offers meaning decided accepts' refuses' w standing r t result w' standing' t'
+offers-map meaning decided accepts refuses accepts' refuses' s s' t t' leads cuts same w Open r (Ok Yes) w' standing' o =
+    (o.0, λ offers rests. let on = o.1 offers rests in (brings-map _ offers r _ _ leads on.0, on.1))
+offers-map meaning decided accepts refuses accepts' refuses' s s' t t' leads cuts same w Open r (Ok No) w' standing' o =
+    (o.0, o.1, λ offers rests. let on = o.2 offers rests in (brings-map _ offers r _ _ leads on.0, on.1))
+offers-map meaning decided accepts refuses accepts' refuses' s s' t t' leads cuts same w Open r (Err Memory) w' standing' o =
+    (o.0, λ offers rests. brings-map _ offers r _ _ (λ bs. cuts bs NoMemory) (o.1 offers rests))
+offers-map meaning decided accepts refuses accepts' refuses' s s' t t' leads cuts same w Open r (Err (Sink code)) w' standing' o =
+    (o.0, λ offers rests. brings-map _ offers r _ _ (λ bs. cuts bs (Refusal code)) (o.1 offers rests))
+offers-map meaning decided accepts refuses accepts' refuses' s s' t t' leads cuts same w Open r (Err Twice) w' standing' o = (o.0, o.1, same o.2, o.3)
+offers-map meaning decided accepts refuses accepts' refuses' s s' t t' leads cuts same w Open r (Err fault) w' standing' o = absurd o
+offers-map meaning decided accepts refuses accepts' refuses' s s' t t' leads cuts same w standing r result w' standing' o = (o.0, o.1, o.2, same o.3)
+
+module _ {C : Type 0} (asks : C → ℕ → Bool → C → Type 0) (has_told : C → Bool) (keeps : (t : C) (n : ℕ) (answer : Bool) (t' : C) → asks t n answer t' → has_told t' ≡ (has_told t || answer)) where
+  pub lets-told : (t : C) (n : ℕ) (t' : C) → asks t n false t' → has_told t' ≡ has_told t
+  lets-told t n t' asked = keeps t n false t' asked ∙ or-false (has_told t)
+
+  pub stops-told : (t : C) (n : ℕ) (t' : C) → asks t n true t' → has_told t' ≡ true
+  stops-told t n t' asked = keeps t n true t' asked ∙ or-true (has_told t)
+
+  module _ {K T : Type 0} (accepts : K → List T → K → Type 0) (refuses : K → List T → ℕ → K → Type 0) where
+    -- nothing, where each batch passed
+    pub leads-told : (d : Delivery C K) (bs : List (List T)) (d' : Delivery C K) → Leads (Passes asks accepts) d bs d' → has_told d'.token ≡ has_told d.token
+    leads-told d [] d' leads = ap (λ x. has_told x.token) leads
+    leads-told d (b ∷ bs) d' leads = leads-told leads.0 bs d' leads.2 ∙ lets-told d.token d.delivered leads.0.token leads.1.asked
+
+    pub cut-told : (d : Delivery C K) (bs : List (List T)) (fault : DeliveryFault) (d' : Delivery C K) → IsCutOff (Passes asks accepts) (IsRefused asks refuses) d bs fault d' → has_told d'.token ≡ has_told d.token
+    cut-told d bs NoMemory d' cut = leads-told d cut.0 d' cut.3
+    cut-told d bs (Refusal code) d' cut = lets-told cut.3.token cut.3.delivered d'.token cut.6.asked ∙ leads-told d cut.0 cut.3 cut.5
+
+    pub asks-told : (d : Delivery C K) (r : Result More MergeFault) (d' : Delivery C K) → AsksEach asks accepts refuses d r d' → has_told d'.token ≡ (has_told d.token || is_cancelled r)
+    asks-told d (Ok more) d' asked = leads-told d asked.0 d' asked.1 ∙ sym (or-false (has_told d.token))
+    asks-told d (Err Cancelled) d' asked =
+        let last = asked.1.last in
+        stops-told last.token last.delivered d'.token asked.1.stops.asked ∙ sym (or-true (has_told d.token))
+    asks-told d (Err fault) d' asked = cut-told d asked.0 (delivery_fault_of fault) d' asked.1 ∙ sym (or-false (has_told d.token))
 
 same-as : {C K : Type 0} (w w' : WithCancellation C K) → w' ≡ w → AreSame w w'
 same-as w w' is = record { token = ap (λ x. x.token.ghost_name) is; sink = ap (λ x. x.sink.ghost_name) is }
@@ -83,24 +142,15 @@ module _ {C K T : Type 0} (asks : C → ℕ → Bool → C → Type 0) (accepts 
   pub asks-on : (w : WithCancellation C K) (r : Result More MergeFault) (w' : WithCancellation C K) → w.is_stopped ≡ false → w'.is_stopped ≡ false → (r ≡ Err Cancelled → ⊥)
       → SendsSome (Takes asks accepts) (Refuses asks refuses) w r w' → AsksEach asks accepts refuses (delivery_of w) r (delivery_of w')
   asks-on w (Ok more) w' before after never sends = let on = leads-on w sends.0 w' sends.1 in (sends.0, on.leads)
-  asks-on w (Err Memory) w' before after never sends = (sends.0, cut-on w sends.0 NoMemory w' before after sends.1)
-  asks-on w (Err (Sink code)) w' before after never sends = (sends.0, cut-on w sends.0 (Refusal code) w' before after sends.1)
-  asks-on w (Err Twice) w' before after never sends = (sends.0, cut-on w sends.0 NoMemory w' before after sends.1)
-  asks-on w (Err Gap) w' before after never sends = (sends.0, cut-on w sends.0 NoMemory w' before after sends.1)
-  asks-on w (Err Failed) w' before after never sends = (sends.0, cut-on w sends.0 NoMemory w' before after sends.1)
   asks-on w (Err Cancelled) w' before after never sends = absurd (never refl)
+  asks-on w (Err fault) w' before after never sends = (sends.0, cut-on w sends.0 (delivery_fault_of fault) w' before after sends.1)
 
   module _ {L : Type 0} (meaning : L → Meaning T) (decided : Bool) where
     -- without a token no offer is cancelled
     pub offers-never : (x : Work L T) (standing : JoinerState) (r : ChunkResult T) (w : WithCancellation C K) (told : Result More MergeFault) (x' : Work L T) (standing' : JoinerState) (w' : WithCancellation C K)
         → Offers meaning decided (Takes asks accepts) (Refuses asks refuses) x standing r w told x' standing' w' → told ≡ Err Cancelled → ⊥
-    offers-never x Open r w (Ok more) x' standing' w' o is = cc
-    offers-never x Open r w (Err Memory) x' standing' w' o is = cc
-    offers-never x Open r w (Err (Sink code)) x' standing' w' o is = cc
-    offers-never x Open r w (Err Twice) x' standing' w' o is = cc
-    offers-never x Open r w (Err Gap) x' standing' w' o is = o
-    offers-never x Open r w (Err Failed) x' standing' w' o is = o
     offers-never x Open r w (Err Cancelled) x' standing' w' o is = o
+    offers-never x Open r w told x' standing' w' o is = cc
     offers-never x (Decided e) r w told x' standing' w' o is = let bad : Err Cancelled ≡ Ok No = sym is ∙ o.0 in cc
     offers-never x HasFailed r w told x' standing' w' o is = let bad : Err Cancelled ≡ Err Failed = sym is ∙ o.0 in cc
 
@@ -113,11 +163,8 @@ module _ {C K T : Type 0} (asks : C → ℕ → Bool → C → Type 0) (accepts 
     offers-stopped x Open r w (Err (Sink code)) x' standing' w' before after sends o =
         (refl, o.0, λ offers rests. brings-map _ offers r _ _ (λ bs. cut-kept w bs (Refusal code) w' before after) (o.1 offers rests))
     offers-stopped x Open r w (Err Twice) x' standing' w' before after sends o = absurd (let bad : true ≡ false = sym after ∙ ap (λ y. y.is_stopped) o.2 ∙ before in cc)
-    offers-stopped x Open r w (Err Gap) x' standing' w' before after sends o = absurd o
-    offers-stopped x Open r w (Err Failed) x' standing' w' before after sends o = absurd o
-    offers-stopped x Open r w (Err Cancelled) x' standing' w' before after sends o = absurd o
-    offers-stopped x (Decided e) r w told x' standing' w' before after sends o = absurd (let bad : true ≡ false = sym after ∙ ap (λ y. y.is_stopped) o.3 ∙ before in cc)
-    offers-stopped x HasFailed r w told x' standing' w' before after sends o = absurd (let bad : true ≡ false = sym after ∙ ap (λ y. y.is_stopped) o.3 ∙ before in cc)
+    offers-stopped x Open r w (Err fault) x' standing' w' before after sends o = absurd o
+    offers-stopped x standing r w told x' standing' w' before after sends o = absurd (let bad : true ≡ false = sym after ∙ ap (λ y. y.is_stopped) o.3 ∙ before in cc)
 
     pub offers-passed : (x : Work L T) (standing : JoinerState) (r : ChunkResult T) (w : WithCancellation C K) (told : Result More MergeFault) (x' : Work L T) (standing' : JoinerState) (w' : WithCancellation C K)
         → w.is_stopped ≡ false → w'.is_stopped ≡ false → Offers meaning decided (Takes asks accepts) (Refuses asks refuses) x standing r w told x' standing' w'
@@ -131,22 +178,42 @@ module _ {C K T L : Type 0} (asks : C → ℕ → Bool → C → Type 0) (accept
   -- an offer that wasn't cancelled
   pub offers-with : (x : Work L T) (standing : JoinerState) (r : ChunkResult T) (d : Delivery C K) (told : Result More MergeFault) (x' : Work L T) (standing' : JoinerState) (d' : Delivery C K) → (told ≡ Err Cancelled → ⊥)
       → Offers meaning decided (Passes asks accepts) (IsRefused asks refuses) x standing r d told x' standing' d' → OffersWith meaning decided asks accepts refuses x standing r d told x' standing' d'
-  offers-with x standing r d (Ok more) x' standing' d' never o = o
-  offers-with x standing r d (Err Memory) x' standing' d' never o = o
-  offers-with x standing r d (Err (Sink code)) x' standing' d' never o = o
-  offers-with x standing r d (Err Twice) x' standing' d' never o = o
-  offers-with x standing r d (Err Gap) x' standing' d' never o = o
-  offers-with x standing r d (Err Failed) x' standing' d' never o = o
   offers-with x standing r d (Err Cancelled) x' standing' d' never o = absurd (never refl)
+  offers-with x standing r d told x' standing' d' never o = o
 
   -- an offer with a token that never stops
   pub offers-without : ((c c' : C) (n : ℕ) → asks c n true c' → ⊥) → (x : Work L T) (standing : JoinerState) (r : ChunkResult T) (d : Delivery C K) (told : Result More MergeFault) (x' : Work L T) (standing' : JoinerState) (d' : Delivery C K)
       → AsksEach asks accepts refuses d told d' → OffersWith meaning decided asks accepts refuses x standing r d told x' standing' d'
       → Offers meaning decided (Passes asks accepts) (IsRefused asks refuses) x standing r d told x' standing' d'
-  offers-without never x standing r d (Ok more) x' standing' d' asked o = o
-  offers-without never x standing r d (Err Memory) x' standing' d' asked o = o
-  offers-without never x standing r d (Err (Sink code)) x' standing' d' asked o = o
-  offers-without never x standing r d (Err Twice) x' standing' d' asked o = o
-  offers-without never x standing r d (Err Gap) x' standing' d' asked o = o
-  offers-without never x standing r d (Err Failed) x' standing' d' asked o = o
-  offers-without never x standing r d (Err Cancelled) x' standing' d' asked o = let kept = asked.1 in let stops = kept.stops in absurd (never _ _ _ stops.asked)
+  offers-without never x standing r d (Err Cancelled) x' standing' d' asked o = absurd (never _ _ _ asked.1.stops.asked)
+  offers-without never x standing r d told x' standing' d' asked o = o
+
+-- what is left of a delivery without its token
+abbrev pub tally_of : {C K : Type 0} → Delivery C K → Tally K
+tally_of d = record { sink = d.sink; delivered = d.delivered }
+
+module _ {C K T L : Type 0} (asks : C → ℕ → Bool → C → Type 0) (accepts : K → List T → K → Type 0) (refuses : K → List T → ℕ → K → Type 0) (meaning : L → Meaning T) (decided : Bool) (never : (c c' : C) (n : ℕ) → asks c n true c' → ⊥) where
+  -- along a function of deliveries
+  offers-seen : {M : Type 0} (f : Delivery C K → M) (accepts' : M → List T → M → Type 0) (refuses' : M → List T → ℕ → M → Type 0)
+      → ((d : Delivery C K) (b : List T) (d' : Delivery C K) → Passes asks accepts d b d' → accepts' (f d) b (f d'))
+      → ((d : Delivery C K) (b : List T) (code : ℕ) (d' : Delivery C K) → IsRefused asks refuses d b code d' → refuses' (f d) b code (f d'))
+      → (w : Work L T) (standing : JoinerState) (r : ChunkResult T) (d : Delivery C K) (told : Result More MergeFault) (w' : Work L T) (standing' : JoinerState) (d' : Delivery C K)
+      → AsksEach asks accepts refuses d told d' → OffersWith meaning decided asks accepts refuses w standing r d told w' standing' d'
+      → Offers meaning decided accepts' refuses' w standing r (f d) told w' standing' (f d')
+  offers-seen f accepts' refuses' takes refused w standing r d told w' standing' d' asked o =
+      offers-map meaning decided (Passes asks accepts) (IsRefused asks refuses) accepts' refuses' d d' (f d) (f d')
+      (λ bs. leads-map f (Passes asks accepts) accepts' takes d bs d')
+      (λ bs fault. cut-map f (Passes asks accepts) (IsRefused asks refuses) accepts' refuses' takes refused d bs fault d')
+      (λ is. ap f is)
+      w standing r told w' standing' (offers-without asks accepts refuses meaning decided never w standing r d told w' standing' d' asked o)
+
+  pub offers-plain : (w : Work L T) (standing : JoinerState) (r : ChunkResult T) (d : Delivery C K) (told : Result More MergeFault) (w' : Work L T) (standing' : JoinerState) (d' : Delivery C K)
+      → AsksEach asks accepts refuses d told d' → OffersWith meaning decided asks accepts refuses w standing r d told w' standing' d'
+      → Offers meaning decided accepts refuses w standing r d.sink told w' standing' d'.sink
+  offers-plain = offers-seen (λ d. d.sink) accepts refuses (λ d b d' passes. passes.taken) (λ d b code d' refused. refused.refused)
+
+  pub offers-counted : (w : Work L T) (standing : JoinerState) (r : ChunkResult T) (d : Delivery C K) (told : Result More MergeFault) (w' : Work L T) (standing' : JoinerState) (d' : Delivery C K)
+      → AsksEach asks accepts refuses d told d' → OffersWith meaning decided asks accepts refuses w standing r d told w' standing' d'
+      → Offers meaning decided (Counts accepts) (CountsNot refuses) w standing r (tally_of d) told w' standing' (tally_of d')
+  offers-counted =
+      offers-seen tally_of (Counts accepts) (CountsNot refuses) (λ d b d' passes. (passes.taken, passes.counts)) (λ d b code d' refused. (refused.refused, refused.counts))

@@ -1,35 +1,152 @@
--- What an offer to a merger answers, by what its joiner did; what a merger reports of the answer.
-use Rattle.std.specs.Prelude.{◌≡◌, ℕ, ◌<◌, List, [], Bool, true, false, not, Option, Some, None, Result, Ok, Err, is_some, refl}
+-- What an offer to a merger brings: what the answer gains by it, and what the merger answers and reports.
+use Rattle.std.specs.Prelude.{◌≡◌, ℕ, List, [], ◌∷◌, ◌++◌, Bool, true, false, cond, Option, Some, None, Result, Ok, Err, is_some, refl, ◌<◌, not}
 use Rattle.std.proofs.Common.{sym, ◌∙◌, ap, subst, inl, inr}
 use Rattle.std.proofs.lemmas.Bool.{and_parts}
-use Rattle.plinq_source.specs.Trace.{Trace, open_trace}
+use Rattle.plinq_source.specs.declared.ending.Ending.{Ending}
+use Rattle.plinq_source.specs.declared.ending.Ending.TheVariants.{End}
+use Rattle.plinq_source.specs.Trace.{Trace, open_trace, ended, followed}
+use Rattle.plinq_source.proofs.Followed.{followed-followed, followed-open_nil}
 use Rattle.plinq_lambda.specs.Meaning.{Meaning}
-use Rattle.plinq_ops.specs.declared.op.Op.{Op}
 use Rattle.plinq_ops.specs.declared.results.ChunkResult.{ChunkResult}
-use Rattle.plinq_ops.specs.Stage.{seq, some_takes_none}
+use Rattle.plinq_ops.specs.Stage.{Stage, seq, some_takes_none}
 use Rattle.plinq_ops.specs.Operator.{stages_of}
-use Rattle.plinq_ops.specs.Batches.{full_batches, batches_from}
+use Rattle.plinq_ops.specs.Batches.{full_batches, held_back, batches_from}
 use Rattle.plinq_ops.specs.Pipeline.{stages}
+use Rattle.plinq_ops.proofs.Runs.{held_back-append, batches_from-followed, batches_from-open}
+use Rattle.plinq_ops.specs.declared.op.Op.{Op}
 use Rattle.plinq_ops.proofs.Open.{seq-nothing}
+use Rattle.plinq_merge.specs.declared.delivery_fault.DeliveryFault.{DeliveryFault}
 use Rattle.plinq_merge.specs.declared.deliver.Deliver.{Deliver}
 use Rattle.plinq_merge.specs.declared.more.More.{More}
 use Rattle.plinq_merge.specs.declared.more.More.TheVariants.{Yes, No}
 use Rattle.plinq_merge.specs.declared.merge_fault.MergeFault.{MergeFault}
-use Rattle.plinq_merge.specs.declared.merge_fault.MergeFault.TheVariants.{Memory, Sink, Twice, Gap, Failed, Cancelled}
+use Rattle.plinq_merge.specs.declared.merge_fault.MergeFault.TheVariants.{Memory, Sink, Twice}
 use Rattle.plinq_merge.specs.declared.delivery_fault.DeliveryFault.TheVariants.{Memory as NoMemory, Sink as Refusal}
 use Rattle.plinq_merge.specs.declared.joiner_state.JoinerState.{JoinerState}
 use Rattle.plinq_merge.specs.declared.joiner_state.JoinerState.TheVariants.{Open, Decided, Failed as HasFailed}
 use Rattle.plinq_merge.specs.Buffer.{held_of, size_of}
-use Rattle.plinq_merge.specs.Shown.{Merge, answer}
-use Rattle.plinq_merge.specs.Keys.{is_offered}
-use Rattle.plinq_merge.specs.Joining.{Waits, AnswersOffer}
-use Rattle.plinq_merge.specs.Delivering.{is_below, can_deliver, KeepsPlan, line_of, MadeBy}
-use Rattle.plinq_merge.specs.Mergers.{SendsSome}
+use Rattle.plinq_merge.specs.Sending.{Leads, Delivers}
+use Rattle.plinq_merge.specs.Shown.{Merge, merged, answer, shown}
+use Rattle.plinq_merge.specs.Merging.{GoesOn}
+use Rattle.plinq_merge.specs.Joining.{Joins, Waits, AnswersOffer}
+use Rattle.plinq_merge.specs.Delivering.{Line, line_of, Gives, MadeBy, is_below, can_deliver, KeepsPlan}
 use Rattle.plinq_merge.specs.Working.{Work, merge_of, Rests}
-use Rattle.plinq_merge.specs.Offering.{StandsFor, Offers, finished, finish_of, is_decided}
+use Rattle.plinq_merge.specs.Offering.{Brings, StandsFor, Offers, finished, finish_of, is_decided}
+use Rattle.plinq_merge.specs.Keys.{is_offered}
+use Rattle.plinq_merge.specs.Mergers.{SendsSome}
 use Rattle.plinq_merge.proofs.Joins.{next-waits}
 use Rattle.plinq_merge.proofs.Joiners.{moved-at}
-use Rattle.plinq_merge.proofs.Gains.{answer-rests, brings-joined, rests-joined, ends-joined}
+
+pub answer-open : {T : Type 0} (merge : Merge T) (offers : List (ChunkResult T)) → merge.decided ≡ false → answer merge offers ≡ seq merge.after (merged merge.order offers)
+answer-open merge offers undecided = ap (λ b. cond b (ended [] End) (seq merge.after (merged merge.order offers))) undecided
+
+-- what operators give that go on after a trace, and give nothing of nothing
+answer-on : {T : Type 0} (ss : List (Stage T)) (t : Trace T) (out : List T) (ss' : List (Stage T)) → GoesOn ss t out None ss' → seq ss' (open_trace []) ≡ open_trace [] → seq ss t ≡ open_trace out
+answer-on ss t out ss' on nothing =
+    ap (seq ss) (sym (followed-open_nil t)) ∙ on.answers (open_trace []) ∙ ap (followed (open_trace out)) nothing ∙ followed-open_nil (open_trace out)
+
+module _ {K T : Type 0} (accepts : K → List T → K → Type 0) (refuses : K → List T → ℕ → K → Type 0) where
+  -- what was delivered of a trace are the batches of what it gives
+  delivers-gives : (l : Line T) (s : K) (t : Trace T) (r : Result (Option Ending) DeliveryFault) (l' : Line T) (s' : K) → (r ≡ Ok None → seq l'.now (open_trace []) ≡ open_trace [])
+      → Gives accepts refuses l s t r l' s' → Delivers accepts refuses s (batches_from l.size l.held (seq l.now t)) r s'
+  delivers-gives l s t (Ok None) l' s' nothing on =
+      let all : batches_from l.size l.held (seq l.now t) ≡ full_batches l.size l.held on.out =
+      ap (batches_from l.size l.held) (answer-on l.now t on.out l'.now on.on (nothing refl)) ∙ batches_from-open l.size l.held on.out in
+      subst (λ bs. Leads accepts s bs s') (sym all) on.leads
+  delivers-gives l s t (Ok (Some e)) l' s' nothing gives = gives.1
+  delivers-gives l s t (Err fault) l' s' nothing gives = gives
+
+module _ {L T : Type 0} (meaning : L → Meaning T) (decided : Bool) where
+  -- the answer of an open merger is open
+  pub answer-rests : (w : Work L T) (offers : List (ChunkResult T)) → (rests : Rests meaning decided w offers) → answer (merge_of meaning decided w) offers ≡ open_trace rests.out
+  answer-rests w offers rests =
+      answer-open (merge_of meaning decided w) offers rests.undecided
+      ∙ answer-on (stages_of meaning w.taker.pipeline.ops) (merged w.order offers) rests.out (stages meaning w.taker.pipeline) rests.on rests.nothing
+
+  -- the answer to one offer more, by what the offers merge to then
+  pub answer-gained : (w : Work L T) (offers : List (ChunkResult T)) (r : ChunkResult T) (gained : Trace T) → (rests : Rests meaning decided w offers)
+      → merged w.order (offers ++ r ∷ []) ≡ followed (merged w.order offers) gained
+      → answer (merge_of meaning decided w) (offers ++ r ∷ []) ≡ followed (open_trace rests.out) (seq (stages meaning w.taker.pipeline) gained)
+  answer-gained w offers r gained rests grows =
+      answer-open (merge_of meaning decided w) (offers ++ r ∷ []) rests.undecided ∙ ap (seq (stages_of meaning w.taker.pipeline.ops)) grows ∙ rests.on.answers gained
+
+  -- the batches that it gains
+  shown-gained : (w : Work L T) (offers : List (ChunkResult T)) (r : ChunkResult T) (gained : Trace T) → (rests : Rests meaning decided w offers)
+      → merged w.order (offers ++ r ∷ []) ≡ followed (merged w.order offers) gained
+      → shown (merge_of meaning decided w) (offers ++ r ∷ [])
+      ≡ shown (merge_of meaning decided w) offers ++ batches_from (size_of w.taker.buffer) (held_of w.taker.buffer) (seq (stages meaning w.taker.pipeline) gained)
+  shown-gained w offers r gained rests grows =
+      let size : Option ℕ = size_of w.taker.buffer in
+      let more : Trace T = seq (stages meaning w.taker.pipeline) gained in
+      let so_far : shown (merge_of meaning decided w) offers ≡ full_batches size [] rests.out =
+      ap (batches_from size []) (answer-rests w offers rests) ∙ batches_from-open size [] rests.out in
+      ap (batches_from size []) (answer-gained w offers r gained rests grows)
+      ∙ batches_from-followed size [] rests.out more
+      ∙ ap (λ h. full_batches size [] rests.out ++ batches_from size h more) (sym rests.held)
+      ∙ ap (λ bs. bs ++ batches_from size (held_of w.taker.buffer) more) (sym so_far)
+
+  module _ {K : Type 0} (accepts : K → List T → K → Type 0) (refuses : K → List T → ℕ → K → Type 0) where
+    -- of what it gains as much was delivered as the result says
+    pub brings-joined : (w : Work L T) (offers : List (ChunkResult T)) (r : ChunkResult T) (s : K) (result : Result (Option Ending) DeliveryFault) (w' : Work L T) (s' : K)
+        → (result ≡ Ok None → seq (stages meaning w'.taker.pipeline) (open_trace []) ≡ open_trace []) → Rests meaning decided w offers → Joins (MadeBy accepts refuses meaning) w r s result w' s'
+        → Brings (merge_of meaning decided w) offers r (λ gained. Delivers accepts refuses s gained result s')
+    brings-joined w offers r s result w' s' nothing rests joins =
+        let l : Line T = line_of meaning w.taker in
+        record {
+          are_new = joins.are_new offers rests.waits;
+          gained = batches_from l.size l.held (seq l.now joins.gained);
+          grows = shown-gained w offers r joins.gained rests (joins.grows offers rests.waits);
+          sent = delivers-gives accepts refuses l s joins.gained result (line_of meaning w'.taker) s' nothing joins.taken.gives;
+        }
+
+    -- the answer goes on
+    pub rests-joined : (w : Work L T) (offers : List (ChunkResult T)) (r : ChunkResult T) (s : K) (w' : Work L T) (s' : K) → w'.order ≡ w.order
+        → seq (stages meaning w'.taker.pipeline) (open_trace []) ≡ open_trace [] → Rests meaning decided w offers → Joins (MadeBy accepts refuses meaning) w r s (Ok None) w' s'
+        → Rests meaning decided w' (offers ++ r ∷ [])
+    rests-joined w offers r s w' s' same nothing rests joins =
+        let l : Line T = line_of meaning w.taker in
+        let l' : Line T = line_of meaning w'.taker in
+        let made = joins.taken in
+        let plan = made.plan in
+        let next = made.gives in
+        let gained = joins.gained in
+        record {
+          undecided = rests.undecided;
+          waits = joins.waits refl offers rests.waits;
+          out = rests.out ++ next.out;
+          on = record {
+            answers = λ rest.
+                ap (λ ss. seq ss (followed (merged w'.order (offers ++ r ∷ [])) rest)) plan.after
+                ∙ ap (λ o. seq l.after (followed (merged o (offers ++ r ∷ [])) rest)) same
+                ∙ ap (λ t. seq l.after (followed t rest)) (joins.grows offers rests.waits)
+                ∙ ap (seq l.after) (followed-followed (merged w.order offers) gained rest)
+                ∙ rests.on.answers (followed gained rest)
+                ∙ ap (followed (open_trace rests.out)) (next.on.answers rest)
+                ∙ sym (followed-followed (open_trace rests.out) (open_trace next.out) (seq l'.now rest));
+          };
+          nothing = nothing;
+          held =
+              next.held
+              ∙ ap (λ h. held_back l.size h next.out) rests.held
+              ∙ sym (held_back-append l.size [] rests.out next.out)
+              ∙ ap (λ n. held_back n [] (rests.out ++ next.out)) (sym plan.size);
+        }
+
+    -- the answer has ended
+    pub ends-joined : (w : Work L T) (offers : List (ChunkResult T)) (r : ChunkResult T) (s : K) (e : Ending) (w' : Work L T) (s' : K) → Rests meaning decided w offers
+        → Joins (MadeBy accepts refuses meaning) w r s (Ok (Some e)) w' s' → (answer (merge_of meaning decided w) (offers ++ r ∷ [])).ending ≡ Some e
+    ends-joined w offers r s e w' s' rests joins =
+        let made = joins.taken in
+        let gives = made.gives in
+        ap (λ t. t.ending) (answer-gained w offers r joins.gained rests (joins.grows offers rests.waits)) ∙ gives.0
+
+abbrev answered : Option Ending → Result (Option Ending) DeliveryFault
+answered e = Ok e
+
+-- an answer that has ended isn't open
+pub some_not_none : {A : Type 0} (e : Option Ending) → is_some e ≡ true → answered e ≡ answered None → A
+some_not_none None some none = absurd (let bad : false ≡ true = some in cc)
+some_not_none (Some e) some none = absurd (cc)
 
 -- operators that can take items give nothing of nothing
 pub nothing-given : {L T : Type 0} (meaning : L → Meaning T) (d : Deliver L T) → can_deliver meaning d ≡ true → seq (stages meaning d.pipeline) (open_trace []) ≡ open_trace []
@@ -78,11 +195,8 @@ module _ {L T : Type 0} (meaning : L → Meaning T) (decided : Bool) where
     offers-joined w Open r s (Err Memory) w' standing' s' same nothing o = (o.0, λ offers rests. brings-joined meaning decided accepts refuses w offers r s (Err NoMemory) w' s' (λ bad. absurd (cc)) rests o.1)
     offers-joined w Open r s (Err (Sink code)) w' standing' s' same nothing o = (o.0, λ offers rests. brings-joined meaning decided accepts refuses w offers r s (Err (Refusal code)) w' s' (λ bad. absurd (cc)) rests o.1)
     offers-joined w Open r s (Err Twice) w' standing' s' same nothing o = (o.0, o.1, o.2, λ offers rests. o.3 offers rests.waits)
-    offers-joined w Open r s (Err Gap) w' standing' s' same nothing o = absurd o
-    offers-joined w Open r s (Err Failed) w' standing' s' same nothing o = absurd o
-    offers-joined w Open r s (Err Cancelled) w' standing' s' same nothing o = absurd o
-    offers-joined w (Decided e) r s result w' standing' s' same nothing o = o
-    offers-joined w HasFailed r s result w' standing' s' same nothing o = o
+    offers-joined w Open r s (Err fault) w' standing' s' same nothing o = absurd o
+    offers-joined w standing r s result w' standing' s' same nothing o = o
 
     plan-same : (w w' : Work L T) → w' ≡ w → KeepsPlan (line_of meaning w.taker) (line_of meaning w'.taker)
     plan-same w w' same = record { after = ap (λ x. stages_of meaning x.taker.pipeline.ops) same; size = ap (λ x. size_of x.taker.buffer) same }
@@ -114,9 +228,7 @@ module _ {L T : Type 0} (meaning : L → Meaning T) (decided : Bool) where
     sends-joined w Open r s (Err Memory) w' standing' s' o = (due w o.1.gained, o.1.taken.gives)
     sends-joined w Open r s (Err (Sink code)) w' standing' s' o = (due w o.1.gained, o.1.taken.gives)
     sends-joined w Open r s (Err Twice) w' standing' s' o = ([], ([], [], refl, o.2))
-    sends-joined w Open r s (Err Gap) w' standing' s' o = absurd o
-    sends-joined w Open r s (Err Failed) w' standing' s' o = absurd o
-    sends-joined w Open r s (Err Cancelled) w' standing' s' o = absurd o
+    sends-joined w Open r s (Err fault) w' standing' s' o = absurd o
     sends-joined w (Decided e) r s result w' standing' s' o = subst (λ x. SendsSome accepts refuses s x s') (sym o.0) ([], o.3)
     sends-joined w HasFailed r s result w' standing' s' o = subst (λ x. SendsSome accepts refuses s x s') (sym o.0) ([], ([], [], refl, o.3))
 

@@ -1,7 +1,7 @@
 -- The answer to offers of one source is how the sequential answer begins, and all of it where all was offered.
 use Rattle.std.specs.Prelude.{◌≡◌, ℕ, ◌+◌, ◌<◌, ◌≤◌, ◌^◌, ◌==◌, List, [], ◌∷◌, length, take, drop, true, false, ◌||◌, cond, Option, Some, None, All, is_some, refl}
 use Rattle.std.specs.Option.{IfSome, option_or}
-use Rattle.std.proofs.Common.{sym, ◌∙◌, ap, subst, inl, inr, arith, append-nil}
+use Rattle.std.proofs.Common.{sym, ◌∙◌, ap, subst, inl, inr, arith}
 use Rattle.std.proofs.lemmas.Bool.{or_left, or_right, or_from, cases_lt, false_from_ne_true}
 use Rattle.std.proofs.lemmas.Bool.Decides.{nat_tests}
 use Rattle.std.proofs.lemmas.List.{take-append-drop}
@@ -23,7 +23,6 @@ use Rattle.plinq_ops.specs.Batches.{batches_from}
 use Rattle.plinq_ops.specs.Row.{AreOffers}
 use Rattle.plinq_ops.proofs.Glue.{glued-append}
 use Rattle.plinq_ops.proofs.Rows.{row-next, glue-whole}
-use Rattle.plinq_ops.proofs.Runs.{batches_from-grown}
 use Rattle.plinq_ops.proofs.Stages.{seq-followed}
 use Rattle.plinq_ops.specs.Tails.{end_of_result, told_at, EndsAt}
 use Rattle.plinq_reorder.specs.Intervals.{Interval, is_within, has_key, are_apart, IsFree, insert, unbroken, first_gap, IsRow}
@@ -32,8 +31,9 @@ use Rattle.plinq_reorder.proofs.Insert.{apart-insert, has_key-insert}
 use Rattle.plinq_reorder.proofs.Gap.{unbroken-row, All-unbroken, gap-missing, gap-most}
 use Rattle.plinq_merge.specs.Shown.{Merge, waiting_trace, placed, all_placed, all_told, all_given, ending_at, row, merged, answer, shown}
 use Rattle.plinq_merge.specs.Keys.{is_offered}
+use Rattle.plinq_merge.specs.Deliveries.{batches-first}
 use Rattle.plinq_merge.specs.Whole.{AreTrueTails, AreApart, AreWhole, AreFirstOf}
-use Rattle.plinq_merge.proofs.Gains.{answer-open}
+use Rattle.plinq_merge.proofs.Offers.{answer-open}
 use Rattle.plinq_merge.proofs.Holds.{All-placed, arrived-by_key}
 
 -- ---- what the tails say
@@ -196,15 +196,11 @@ answer-begins {L} {T} meaning worker t merge offers few by_key undecided are tai
           ∙ ap (λ u. followed u rest) (sym (by_key-answer merge offers by_key undecided)),
     )
 
-pub batches-first : {T : Type 0} (size : Option ℕ) (xs : List T) (e : Option Ending) (b : Trace T) → AreFirstOf (batches_from size [] (trace_of xs e)) (batches_from size [] (followed (trace_of xs e) b))
-batches-first size xs None b = (_, batches_from-grown size [] xs b)
-batches-first size xs (Some e) b = ([], sym (append-nil (batches_from size [] (trace_of xs (Some e)))))
-
 pub shown-first : {L T : Type 0} (meaning : L → Meaning T) (worker : List (Op L)) (t : Trace T) (merge : Merge T) (offers : List (ChunkResult T)) → length t.items ≤ 2 ^ 40 → merge.order ≡ ByKey → merge.decided ≡ false
     → AreOffers meaning worker t offers → AreTrueTails t offers → AreFirstOf (shown merge offers) (batches_from merge.size [] (seq merge.after (glue meaning worker t)))
 shown-first meaning worker t merge offers few by_key undecided are tails =
     let begins = answer-begins meaning worker t merge offers few by_key undecided are tails in
-    let first = batches-first merge.size (answer merge offers).items (answer merge offers).ending begins.0 in
+    let first = batches-first merge.size [] (answer merge offers) begins.0 in
     (first.0, ap (batches_from merge.size []) begins.1 ∙ first.1)
 
 -- an answer that has ended is the sequential one

@@ -8,7 +8,7 @@ ghost use Rattle.plinq_merge.specs.Deliveries.{made-lawful};
 
 use crate::buffer::{Buffer, buffer_of};
 use crate::delivery_fault::DeliveryFault;
-use crate::sending::{deliver_full, deliver_last};
+use crate::sending::deliver_piece;
 use crate::sink::Sink;
 use crate::taker::{TakeInto, Taker};
 use plinq_lambda::Lambda;
@@ -77,8 +77,7 @@ impl<'a, L: Lambda, K: Sink<Item = L::Item>> TakeInto<K> for Deliver<'a, L, L::I
     {
         let mut block = items;
         let ending = self.pipeline.feed_block(self.alloc, &mut block, ending)?;
-        deliver_full(&mut self.buffer, block.as_slice(), out)?;
-        deliver_last(&mut self.buffer, ending, out)?;
+        deliver_piece(&mut self.buffer, block.as_slice(), ending, out)?;
         Ok(ending)
     }
 

@@ -1,28 +1,24 @@
 //! The delivery of a query's answer by one thread.
-ghost use Rattle.std.specs.Prelude.{◌≡◌, [], false, Some, IfOk, OnOk};
-ghost use Rattle.plinq_source.specs.Trace.{ended};
-ghost use Rattle.plinq_ops.specs.Batches.{batches, batches_from};
+ghost use Rattle.std.specs.Prelude.{◌≡◌, ◌<◌, Some, IfOk, OnOk};
+ghost use Rattle.plinq_ops.specs.Batches.{batch_size, batches};
 ghost use Rattle.plinq_ops.specs.Operator.{stages_of};
-ghost use Rattle.plinq_ops.specs.Pipeline.{stages};
 ghost use Rattle.plinq_ops.specs.Query.{merge_in_force};
-ghost use Rattle.plinq_ops.specs.Sequential.{answer_of, IsLeastDeciding};
-ghost use Rattle.plinq_ops.specs.Stage.{some_takes_none};
-ghost use Rattle.plinq_merge.specs.Buffer.{held_of, size_of, HasRoom};
-ghost use Rattle.plinq_merge.specs.Sending.{Delivers, IsFilled};
-ghost use Rattle.plinq_merge.specs.inner.Handing.{HandsOn};
+ghost use Rattle.plinq_ops.specs.Sequential.{answer_of, IsDecidingInBlocks, IsLeastDeciding};
+ghost use Rattle.plinq_merge.specs.Sending.{Delivers};
 ghost use Rattle.plinq_merge.specs.inner.OneThread.{DeliversAnswer};
 
-use crate::buffer::{Buffer, buffer_of};
+use crate::buffer::buffer_of;
 use crate::delivery_fault::DeliveryFault;
-use crate::sending::{deliver_full, deliver_last, send};
+use crate::in_blocks::deliver_blocks;
+use crate::singly::deliver_all;
 use crate::sink::Sink;
 use plinq_lambda::Lambda;
-use plinq_ops::{Pipeline, Query};
+use plinq_ops::{Op, Pipeline, Query};
 use plinq_source::{Ending, Source};
 use std::alloc::Global;
 
-/// After so many items that fill no batch the sink is told that none is there.
-const QUIET_ITEMS: u64 = 8_192;
+/// How many elements a source is asked for at once.
+const BLOCK: u64 = 512;
 
 /// Delivers a query's answer on one thread, and answers how it ends. A batch goes to the sink as soon as the item has come that
 /// fills it, so that no more items are held than a batch has, or one element's expansion; of FullyBuffered all are.
@@ -55,19 +51,26 @@ where
     ensures least { OnOk result (IsLeastDeciding
         (stages_of L.meaning query.now.ops) (S.whole source.old) (S.given source.new)) }
 {
-    if query.split().decided {
-        return Ok(Ending::End);
-    }
-    let mut pipeline = Pipeline::new(alloc, query.ops())?;
-    let mut buffer = buffer_of(alloc, query.merge_option())?;
-    deliver_all(alloc, &mut pipeline, &mut buffer, source, sink)
+    deliver_answer(alloc, query, 1, source, sink)
 }
 
-/// Sends what a source gives through a pipeline, up to the item that ends the run, or the ending, and delivers what comes out.
-pub(crate) fn deliver_all<L, S, K>(
+/// Delivers the batches and answers the ending of [`deliver_sequentially`], and asks the source
+/// for 512 elements at once. This is for a source and functions that keep nobody waiting: the source may be asked for 511
+/// elements more than the answer wants, each operator sees a block before the next one does, and a batch waits for all of
+/// its block. A query with a SelectMany gets one element at a time, since expansions may be long.
+///
+/// The source must have given nothing.
+///
+/// # Errors
+///
+/// Those of [`deliver_sequentially`].
+///
+/// ```text
+/// let ending = deliver_in_blocks(alloc, &query, &mut source, &mut sink)?;
+/// ```
+pub fn deliver_in_blocks<L, S, K>(
     alloc: Global,
-    pipeline: &mut Pipeline<'_, L>,
-    buffer: &mut Buffer<L::Item>,
+    query: &Query<L>,
     source: &mut S,
     sink: &mut K,
 ) -> Result<Ending, DeliveryFault>
@@ -75,99 +78,55 @@ where
     L: Lambda,
     S: Source<Item = L::Item>,
     K: Sink<Item = L::Item>,
-    requires undecided { some_takes_none (stages L.meaning pipeline.old) ≡ false }
-    requires fresh { S.given source.old ≡ 0 }
-    requires empty { held_of buffer.old ≡ [] }
-    requires room { HasRoom buffer.old }
+    requires { S.given source.old ≡ 0 }
     ensures same { S.whole source.new ≡ S.whole source.old }
-    ensures delivers { DeliversAnswer K.accepts K.refuses (size_of buffer.old) 1
-        (stages L.meaning pipeline.old) (S.whole source.old) sink.old (S.given source.new) result sink.new }
+    ensures ending { IfOk result (λ e. (answer_of L.meaning query.now.ops (S.whole source.old)).ending ≡ Some e) }
+    ensures delivered { Delivers K.accepts K.refuses sink.old
+        (batches (merge_in_force query.now.merge) (answer_of L.meaning query.now.ops (S.whole source.old))) result sink.new }
+    ensures blocks { OnOk result (IsDecidingInBlocks 512
+        (stages_of L.meaning query.now.ops) (S.whole source.old) (S.given source.new)) }
 {
-    let mut made = Vec::new(alloc);
-    let mut wanted = buffer.missing();
-    let mut quiet = 0;
-    loop {
-        if let Some(ending) = pipeline.feed_from(alloc, source, &mut made)? {
-            return deliver_rest(buffer, &made, ending, sink);
+    if expands(query.ops()) {
+        return deliver_answer(alloc, query, 1, source, sink);
+    }
+    deliver_answer(alloc, query, BLOCK, source, sink)
+}
+
+/// Whether an operator is a SelectMany.
+fn expands<L>(ops: &[Op<L>]) -> bool {
+    for op in ops {
+        if let Op::SelectMany(_) = op {
+            return true;
         }
-        deliver_ready(buffer, &mut made, &mut wanted, &mut quiet, sink)?;
     }
+    false
 }
 
-/// Delivers the batches that these items fill once there are as many as wanted, which is when they fill one, and until then nothing.
-#[inline(always)]
-fn deliver_ready<K: Sink>(
-    buffer: &mut Buffer<K::Item>,
-    made: &mut Vec<K::Item>,
-    wanted: &mut usize,
-    quiet: &mut u64,
-    sink: &mut K,
-) -> Result<(), DeliveryFault>
-where
-    K::Item: Copy,
-    requires { HasRoom buffer.old }
-    ensures room { OnOk result (HasRoom buffer.new) }
-    ensures size { size_of buffer.new ≡ size_of buffer.old }
-    ensures handed { HandsOn K.accepts K.refuses (size_of buffer.old) (held_of buffer.old) made.old.items sink.old result (held_of buffer.new) made.new.items sink.new }
-{
-    if made.len() < *wanted {
-        report_quiet(quiet, sink);
-        return Ok(());
-    }
-    *quiet = 0;
-    deliver_made(buffer, made.as_slice(), sink)?;
-    made.clear();
-    *wanted = buffer.missing();
-    Ok(())
-}
-
-/// Delivers the batches that these items fill. Where they are just one, it goes to the sink as it is.
-#[inline(always)]
-fn deliver_made<K: Sink>(
-    buffer: &mut Buffer<K::Item>,
-    made: &[K::Item],
-    sink: &mut K,
-) -> Result<(), DeliveryFault>
-where
-    K::Item: Copy,
-    requires { HasRoom buffer.old }
-    ensures room { OnOk result (HasRoom buffer.new) }
-    ensures size { size_of buffer.new ≡ size_of buffer.old }
-    ensures filled { IsFilled K.accepts K.refuses (size_of buffer.old) (held_of buffer.old) made.now sink.old result (held_of buffer.new) sink.new }
-{
-    if buffer.is_filled_by(made.len()) {
-        return send(made, sink);
-    }
-    deliver_full(buffer, made, sink)
-}
-
-/// Counts an item that fills no batch, and after many tells the sink.
-#[inline(always)]
-fn report_quiet<K: Sink>(quiet: &mut u64, sink: &mut K)
-    ensures { sink.new ≡ sink.old }
-{
-    *quiet = quiet.wrapping_add(1);
-    if *quiet == QUIET_ITEMS {
-        *quiet = 0;
-        sink.idle();
-    }
-}
-
-/// Delivers what the last items fill and leave, and answers the ending.
-pub(crate) fn deliver_rest<K: Sink>(
-    buffer: &mut Buffer<K::Item>,
-    made: &Vec<K::Item>,
-    ending: Ending,
+/// Delivers a query's answer, and asks the source for so many elements at once.
+fn deliver_answer<L, S, K>(
+    alloc: Global,
+    query: &Query<L>,
+    most: u64,
+    source: &mut S,
     sink: &mut K,
 ) -> Result<Ending, DeliveryFault>
 where
-    K::Item: Copy,
-    requires { HasRoom buffer.old }
-    ensures told { IfOk result (λ e. e ≡ ending) }
-    ensures delivered { Delivers K.accepts K.refuses sink.old
-        (batches_from (size_of buffer.old) (held_of buffer.old) (ended made.now.items ending)) result sink.new }
+    L: Lambda,
+    S: Source<Item = L::Item>,
+    K: Sink<Item = L::Item>,
+    requires some { 0 < most }
+    requires fresh { S.given source.old ≡ 0 }
+    ensures same { S.whole source.new ≡ S.whole source.old }
+    ensures delivers { DeliversAnswer K.accepts K.refuses (batch_size (merge_in_force query.now.merge)) most
+        (stages_of L.meaning query.now.ops) (S.whole source.old) sink.old (S.given source.new) result sink.new }
 {
-    deliver_full(buffer, made.as_slice(), sink)?;
-    deliver_last(buffer, Some(ending), sink)?;
-    Ok(ending)
+    if query.split().decided {
+        return Ok(Ending::End);
+    }
+    let mut pipeline = Pipeline::new(alloc, query.ops())?;
+    let mut buffer = buffer_of(alloc, query.merge_option())?;
+    if most == 1 {
+        return deliver_all(alloc, &mut pipeline, &mut buffer, source, sink);
+    }
+    deliver_blocks(alloc, most, &mut pipeline, &mut buffer, source, sink)
 }

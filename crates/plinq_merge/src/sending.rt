@@ -1,5 +1,6 @@
-ghost use Rattle.std.specs.Prelude.{◌≡◌, ℕ, List, [], ◌∷◌, ◌<◌, ◌≤◌, length, Some, None, OnOk, MatchResult};
-ghost use Rattle.plinq_ops.specs.Batches.{full_batches, last_batch};
+ghost use Rattle.std.specs.Prelude.{◌≡◌, ℕ, List, [], ◌∷◌, ◌<◌, ◌≤◌, length, Some, None, IfOk, OnOk, MatchResult};
+ghost use Rattle.plinq_source.specs.Trace.{ended};
+ghost use Rattle.plinq_ops.specs.Batches.{batches_from, full_batches, held_back, last_batch};
 ghost use Rattle.plinq_merge.specs.Buffer.{held_of, size_of, HasRoom};
 ghost use Rattle.plinq_merge.specs.Sending.{Delivers, IsFilled};
 
@@ -80,6 +81,44 @@ where
             Ok(())
         }
     }
+}
+
+/// Hands out the batches that a piece of an answer fills, and all of them where the answer ends with it.
+pub(crate) fn deliver_piece<K: Sink>(
+    buffer: &mut Buffer<K::Item>,
+    items: &[K::Item],
+    ending: Option<Ending>,
+    sink: &mut K,
+) -> Result<(), DeliveryFault>
+where
+    K::Item: Copy,
+    requires { HasRoom buffer.old }
+    ensures size { size_of buffer.new ≡ size_of buffer.old }
+    ensures room { OnOk result (ending ≡ None → HasRoom buffer.new) }
+    ensures held { OnOk result (ending ≡ None → held_of buffer.new ≡ held_back (size_of buffer.old) (held_of buffer.old) items.now) }
+    ensures sent { Delivers K.accepts K.refuses sink.old
+        (batches_from (size_of buffer.old) (held_of buffer.old) (record { items = items.now; ending = ending })) result sink.new }
+{
+    deliver_full(buffer, items, sink)?;
+    deliver_last(buffer, ending, sink)
+}
+
+/// Delivers what the last items fill and leave, and answers the ending.
+pub(crate) fn deliver_rest<K: Sink>(
+    buffer: &mut Buffer<K::Item>,
+    made: &Vec<K::Item>,
+    ending: Ending,
+    sink: &mut K,
+) -> Result<Ending, DeliveryFault>
+where
+    K::Item: Copy,
+    requires { HasRoom buffer.old }
+    ensures told { IfOk result (λ e. e ≡ ending) }
+    ensures delivered { Delivers K.accepts K.refuses sink.old
+        (batches_from (size_of buffer.old) (held_of buffer.old) (ended made.now.items ending)) result sink.new }
+{
+    deliver_piece(buffer, made.as_slice(), Some(ending), sink)?;
+    Ok(ending)
 }
 
 /// Fills up the batch that was begun, and goes on with the items after it.

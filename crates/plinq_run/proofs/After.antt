@@ -11,7 +11,7 @@ use Rattle.plinq_merge.specs.declared.cancel_after.CancelAfter.{CancelAfter}
 use Rattle.plinq_merge.specs.Cancelling.{Delivery, Passes, IsStopped}
 use Rattle.plinq_merge.specs.Sending.{Leads}
 use Rattle.plinq_merge.specs.Tokens.{AsksAfter, most_of}
-use Rattle.plinq_merge.proofs.Maps.{leads-map}
+use Rattle.plinq_merge.proofs.Lent.{leads-map}
 use Rattle.plinq_run.specs.declared.report.Report.{Report}
 use Rattle.plinq_run.specs.declared.run_fault.RunFault.{RunFault}
 use Rattle.plinq_run.specs.declared.run_fault.RunFault.TheVariants.{Memory, Sink, Tickets, Thread, Incomplete, Cancelled}

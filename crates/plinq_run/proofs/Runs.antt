@@ -18,15 +18,16 @@ use Rattle.plinq_ops.specs.Operator.{stages_of}
 use Rattle.plinq_ops.specs.Row.{AreOffers}
 use Rattle.plinq_ops.specs.Stage.{seq, seq_after}
 use Rattle.plinq_ops.proofs.Stages.{seq-followed}
+use Rattle.plinq_merge.specs.Deliveries.{batches-first}
 use Rattle.plinq_merge.specs.declared.delivery_fault.DeliveryFault.{DeliveryFault}
 use Rattle.plinq_merge.specs.declared.delivery_fault.DeliveryFault.TheVariants.{Memory as NoMemory, Sink as Refusal}
 use Rattle.plinq_merge.specs.Delivering.{Line, Gives}
 use Rattle.plinq_merge.specs.Sending.{Leads, IsCutOff}
 use Rattle.plinq_merge.specs.Shown.{Merge, merged, answer, shown}
 use Rattle.plinq_merge.specs.Whole.{AreTrueTails, AreApart, AreFirstOf}
-use Rattle.plinq_merge.proofs.Gains.{answer-open}
+use Rattle.plinq_merge.proofs.Offers.{answer-open}
 use Rattle.plinq_merge.specs.inner.Sent.{cut-before}
-use Rattle.plinq_merge.proofs.Whole.{merged-begins, batches-first}
+use Rattle.plinq_merge.proofs.Whole.{merged-begins}
 use Rattle.plinq_run.specs.declared.run_fault.RunFault.{RunFault}
 use Rattle.plinq_run.specs.inner.Merged.{merge_for}
 use Rattle.plinq_run.specs.Parting.{Breaks}
@@ -101,7 +102,7 @@ module _ {L T : Type 0} (meaning : L → Meaning T) (plan : Plan L) (option : Me
   begun-shown : (t : Trace T) (offers : List (ChunkResult T)) → (begun : HasBegun meaning plan t offers) → AreFirstOf (shown Made offers) (batches option (merged_answer meaning plan begun.taken))
   begun-shown t offers begun =
       let begins = begun-answer t offers begun in
-      let first = batches-first (batch_size option) (answer Made offers).items (answer Made offers).ending begins.0 in
+      let first = batches-first (batch_size option) [] (answer Made offers) begins.0 in
       (first.0, ap (batches_from (batch_size option) []) begins.1 ∙ first.1)
 
 -- what begins to deliver the answer of this plan

@@ -1,6 +1,7 @@
 -- A run into a sink with its token, in terms of the token and the sink.
 use Rattle.std.specs.Prelude.{◌≡◌, ℕ, List, [], ◌∷◌, Bool, true, false, ◌||◌, Result, Ok, Err, IfOk, IfErr, OnOk, refl}
 use Rattle.std.proofs.Common.{sym, ap, ◌∙◌, subst, append-nil}
+use Rattle.std.proofs.Math.Bool.{or-false, or-true}
 use Rattle.plinq_source.specs.Trace.{Trace}
 use Rattle.plinq_source.specs.declared.ending.Ending.TheVariants.{End}
 use Rattle.plinq_ops.specs.declared.merge_option.MergeOption.{MergeOption}
@@ -12,9 +13,7 @@ use Rattle.plinq_merge.specs.Cancelling.{Delivery, Passes, IsRefused, IsAsked, I
 use Rattle.plinq_merge.specs.Lent.{AreSame, delivery_of, Takes, Refuses}
 use Rattle.plinq_merge.specs.Mergers.{delivery_fault_of, StopsShort}
 use Rattle.plinq_merge.specs.Sending.{Leads}
-use Rattle.plinq_merge.proofs.Asked.{or-false, or-true, lets-told, stops-told, leads-told, cut-told}
-use Rattle.plinq_merge.proofs.Lent.{leads-on, cut-same, cut-on, cut-kept}
-use Rattle.plinq_merge.proofs.Maps.{leads-map, cut-map}
+use Rattle.plinq_merge.proofs.Lent.{leads-map, cut-map, lets-told, stops-told, leads-told, cut-told, leads-on, cut-same, cut-on, cut-kept}
 use Rattle.plinq_run.specs.declared.report.Report.{Report}
 use Rattle.plinq_run.specs.declared.run_fault.RunFault.{RunFault}
 use Rattle.plinq_run.specs.declared.run_fault.RunFault.TheVariants.{Memory, Sink, Tickets, Thread, Incomplete, Cancelled}

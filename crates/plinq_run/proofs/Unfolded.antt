@@ -20,7 +20,7 @@ use Rattle.plinq_reorder.specs.Intervals.{is_within}
 use Rattle.plinq_merge.specs.Keys.{is_offered}
 use Rattle.plinq_merge.specs.Shown.{merged, answer}
 use Rattle.plinq_merge.specs.Whole.{AreApart}
-use Rattle.plinq_merge.proofs.Gains.{answer-open}
+use Rattle.plinq_merge.proofs.Offers.{answer-open}
 use Rattle.plinq_run.specs.declared.combined.Combined.{Combined}
 use Rattle.plinq_run.specs.declared.fold.Fold.{Fold}
 use Rattle.plinq_run.specs.inner.Combining.{Made, MadeBy}

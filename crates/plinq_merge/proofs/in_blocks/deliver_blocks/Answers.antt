@@ -1,8 +1,8 @@
-use Rattle.std.proofs.Common.{rules, ◌≡◌, [], None, Err, ◌∙◌, sym, refl, append-nil}
+use Rattle.std.proofs.Common.{rules, ◌≡◌, Err, ◌∙◌, refl}
 use Rattle.plinq_ops.proofs.Fed.{undecided-left}
 use Rattle.plinq_ops.proofs.Answered.{feeds-smaller}
 use Rattle.plinq_merge.specs.declared.delivery_fault.DeliveryFault.TheVariants.{Memory}
-use Rattle.plinq_merge.proofs.SentSoFar.{sent-none, sent-on, sent-given, sent-over, sent-cut, sent-stopped, within-block}
+use Rattle.plinq_merge.proofs.Delivered.{hands-all, sent-none, sent-on, sent-handed, sent-over, sent-cut, sent-stopped, within-block}
 use Rattle.plinq_merge.proofs.in_blocks.deliver_blocks.Goals as goal
 
 pub loop-block-init : goal.loop-block-init
@@ -36,28 +36,21 @@ pub loop-block-preserved : goal.loop-block-preserved
 loop-block-preserved g c =
     let before = c.loop-block.invariant in
     let next = rw (c.in_default.is, before.whole) at c.in_ok-ending.ensures.fed in
-    let all = sent-on g.K.Sink.accepts g.K.Sink.refuses _ _ _ _ _ _ _ _ _ _ _ _ before.sent next in
-    let handed = rw before.size at c.in_ok-deliver_block.ensures.filled in
-    let made = c.feed_block_from.new.block.items in
     record {
       whole = c.feed_block_from.ensures.whole ∙ before.whole;
       size = c.deliver_block.ensures.size ∙ before.size;
       room = search rules;
       empty = search rules;
-      sent = sent-given g.K.Sink.accepts g.K.Sink.refuses _ _ _ _ _ _ _ made [] _ _ _ None (sym (append-nil made)) handed.held handed.sent all;
+      sent = sent-handed g.K.Sink.accepts g.K.Sink.refuses _ _ _ _ _ _ _ _ _ _ _ _ _ (hands-all _ _ _ _ _ _ _ _ _ (rw before.size at c.in_ok-deliver_block.ensures.filled)) (sent-on g.K.Sink.accepts g.K.Sink.refuses _ _ _ _ _ _ _ _ _ _ _ _ before.sent next);
     }
 
 -- a batch that couldn't be delivered
 pub returns-in_err-deliver_block-clause-delivers : goal.returns-in_err-deliver_block-clause-delivers
 returns-in_err-deliver_block-clause-delivers g c =
     let before = c.loop-block.invariant in
-    let fault = c.in_err-deliver_block.field-0.0 in
-    let is : c.from_residual-in_err-deliver_block.result ≡ Err fault = search rules in
     let next = rw (c.in_default.is, before.whole) at c.in_ok-ending.ensures.fed in
-    let all = sent-on g.K.Sink.accepts g.K.Sink.refuses _ _ _ _ _ _ _ _ _ _ _ _ before.sent next in
-    let handed = rw before.size at c.in_err-deliver_block.ensures.filled in
-    let made = c.feed_block_from.new.block.items in
-    sent-cut g.K.Sink.accepts g.K.Sink.refuses _ _ _ _ _ _ _ _ _ _ made [] _ _ fault _ is (sym (append-nil made)) all handed.sent
+    let is : c.from_residual-in_err-deliver_block.result ≡ Err c.in_err-deliver_block.field-0.0 = search rules in
+    sent-cut g.K.Sink.accepts g.K.Sink.refuses _ _ _ _ _ _ _ _ _ _ _ _ _ _ _ _ is (hands-all _ _ _ _ _ _ _ _ _ (rw before.size at c.in_err-deliver_block.ensures.filled)) (sent-on g.K.Sink.accepts g.K.Sink.refuses _ _ _ _ _ _ _ _ _ _ _ _ before.sent next)
 
 pub loop-block-smaller : goal.loop-block-smaller
 loop-block-smaller g c = rw c.feed_block_from.ensures.whole (feeds-smaller _ _ _ _ _ _ _ (rw c.in_default.is at c.in_ok-ending.ensures.fed))

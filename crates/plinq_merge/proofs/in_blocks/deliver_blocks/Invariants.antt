@@ -2,7 +2,7 @@ use Rattle.std.proofs.Common.{◌≡◌, length, ◌-◌, [], None}
 use Rattle.plinq_ops.specs.Pipeline.{stages}
 use Rattle.plinq_ops.specs.Sequential.{first_items}
 use Rattle.plinq_merge.specs.Buffer.{held_of, size_of, HasRoom}
-use Rattle.plinq_merge.proofs.SentSoFar.{HasSent}
+use Rattle.plinq_merge.proofs.Delivered.{HasSent}
 use Rattle.plinq_merge.proofs.in_blocks.deliver_blocks.Given as goal
 
 -- the items given so far were fed and left the run open; what came out is sent, or held back for a batch

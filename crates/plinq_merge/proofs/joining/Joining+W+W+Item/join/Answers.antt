@@ -2,7 +2,7 @@ use Rattle.std.proofs.Common.{rules, ◌≡◌, Ok, Err, None, true, is_some, re
 use Rattle.plinq_ops.proofs.Fed.{none-from_is_some}
 use Rattle.plinq_merge.specs.declared.delivery_fault.DeliveryFault.TheVariants.{Memory}
 use Rattle.plinq_merge.specs.Merging.{TakesIn}
-use Rattle.plinq_merge.proofs.Gains.{some_not_none}
+use Rattle.plinq_merge.proofs.Offers.{some_not_none}
 use Rattle.plinq_merge.proofs.Joins.{joins-unkept, joins-over, joins-drained}
 use Rattle.plinq_merge.proofs.joining.Joining+W+W+Item.join.Goals as goal
 

@@ -1,6 +1,6 @@
 use Rattle.std.proofs.Common.{◌≡◌, ℕ, true, false, Bool}
 use Rattle.plinq_merge.specs.declared.never_cancel.NeverCancel.{NeverCancel}
-use Rattle.plinq_merge.proofs.Never.{offers-plain, offers-counted}
+use Rattle.plinq_merge.proofs.Lent.{offers-plain, offers-counted}
 use Rattle.plinq_merge.proofs.merger.Merger.offer.Goals as goal
 
 abbrev never : NeverCancel → ℕ → Bool → NeverCancel → Type 0

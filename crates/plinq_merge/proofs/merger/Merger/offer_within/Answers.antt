@@ -2,7 +2,7 @@ use Rattle.std.proofs.Common.{Err}
 use Rattle.plinq_merge.specs.declared.merge_fault.MergeFault.TheVariants.{Cancelled}
 use Rattle.plinq_merge.specs.Lent.{delivery_of}
 use Rattle.plinq_merge.proofs.Lent.{sends-same, asks-stopped, asks-on, offers-never, offers-stopped, offers-passed, offers-with}
-use Rattle.plinq_merge.proofs.Asked.{asks-told}
+use Rattle.plinq_merge.proofs.Lent.{asks-told}
 use Rattle.plinq_merge.proofs.merger.Merger.offer_within.Goals as goal
 
 pub returns-then-with-clause-same : goal.returns-then-with-clause-same

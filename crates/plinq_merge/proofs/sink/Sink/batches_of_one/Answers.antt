@@ -1,4 +1,4 @@
-use Rattle.plinq_merge.proofs.Singles.{full_batches-one}
+use Rattle.plinq_merge.proofs.Blocks.{full_batches-one}
 use Rattle.plinq_merge.proofs.sink.Sink.batches_of_one.Goals as goal
 
 pub returns : goal.returns

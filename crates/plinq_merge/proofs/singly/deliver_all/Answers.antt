@@ -1,9 +1,9 @@
-use Rattle.std.proofs.Common.{rules, ◌≡◌, ◌++◌, None, Err, ◌∙◌, ap, sym, refl}
+use Rattle.std.proofs.Common.{rules, ◌≡◌, Err, ◌∙◌, refl}
 use Rattle.plinq_ops.proofs.Fed.{undecided-left}
 use Rattle.plinq_ops.proofs.Answered.{feeds-smaller}
 use Rattle.plinq_merge.specs.declared.delivery_fault.DeliveryFault.TheVariants.{Memory}
-use Rattle.plinq_merge.proofs.SentSoFar.{sent-none, sent-on, sent-given, sent-over, sent-cut, sent-stopped}
-use Rattle.plinq_merge.proofs.one_thread.deliver_all.Goals as goal
+use Rattle.plinq_merge.proofs.Delivered.{sent-none, sent-on, sent-handed, sent-over, sent-cut, sent-stopped}
+use Rattle.plinq_merge.proofs.singly.deliver_all.Goals as goal
 
 pub loop-made-init : goal.loop-made-init
 loop-made-init g c =
@@ -35,26 +35,20 @@ pub loop-made-preserved : goal.loop-made-preserved
 loop-made-preserved g c =
     let before = c.loop-made.invariant in
     let next = rw (c.in_default.is, before.whole) at c.in_ok-ending.ensures.fed in
-    let all = sent-on g.K.Sink.accepts g.K.Sink.refuses _ _ _ _ _ _ _ _ _ _ _ _ before.sent next in
-    let handed = rw before.size at c.in_ok-deliver_ready.ensures.handed in
-    let parts : c.feed_from.new.out.items ≡ handed.given ++ c.deliver_ready.new.made.items = handed.parts ∙ ap (λ ys. handed.given ++ ys) (sym handed.waits) in
     record {
       whole = c.feed_from.ensures.whole ∙ before.whole;
       size = c.deliver_ready.ensures.size ∙ before.size;
       room = search rules;
-      sent = sent-given g.K.Sink.accepts g.K.Sink.refuses _ _ _ _ _ _ c.feed_from.new.out.items handed.given c.deliver_ready.new.made.items _ _ _ None parts handed.filled.held handed.filled.sent all;
+      sent = sent-handed g.K.Sink.accepts g.K.Sink.refuses _ _ _ _ _ _ _ _ _ _ _ _ _ (rw before.size at c.in_ok-deliver_ready.ensures.handed) (sent-on g.K.Sink.accepts g.K.Sink.refuses _ _ _ _ _ _ _ _ _ _ _ _ before.sent next);
     }
 
 -- a batch that couldn't be delivered
 pub returns-in_err-deliver_ready-clause-delivers : goal.returns-in_err-deliver_ready-clause-delivers
 returns-in_err-deliver_ready-clause-delivers g c =
     let before = c.loop-made.invariant in
-    let fault = c.in_err-deliver_ready.field-0.0 in
-    let is : c.from_residual-in_err-deliver_ready.result ≡ Err fault = search rules in
     let next = rw (c.in_default.is, before.whole) at c.in_ok-ending.ensures.fed in
-    let all = sent-on g.K.Sink.accepts g.K.Sink.refuses _ _ _ _ _ _ _ _ _ _ _ _ before.sent next in
-    let handed = rw before.size at c.in_err-deliver_ready.ensures.handed in
-    sent-cut g.K.Sink.accepts g.K.Sink.refuses _ _ _ _ _ _ _ _ _ _ handed.given handed.left _ _ fault _ is handed.parts all handed.filled.sent
+    let is : c.from_residual-in_err-deliver_ready.result ≡ Err c.in_err-deliver_ready.field-0.0 = search rules in
+    sent-cut g.K.Sink.accepts g.K.Sink.refuses _ _ _ _ _ _ _ _ _ _ _ _ _ _ _ _ is (rw before.size at c.in_err-deliver_ready.ensures.handed) (sent-on g.K.Sink.accepts g.K.Sink.refuses _ _ _ _ _ _ _ _ _ _ _ _ before.sent next)
 
 pub loop-made-smaller : goal.loop-made-smaller
 loop-made-smaller g c = rw c.feed_from.ensures.whole (feeds-smaller _ _ _ _ _ _ _ (rw c.in_default.is at c.in_ok-ending.ensures.fed))

@@ -2,8 +2,8 @@ use Rattle.std.proofs.Common.{◌≡◌, length, ◌-◌, None}
 use Rattle.plinq_ops.specs.Pipeline.{stages}
 use Rattle.plinq_ops.specs.Sequential.{first_items}
 use Rattle.plinq_merge.specs.Buffer.{held_of, size_of, HasRoom}
-use Rattle.plinq_merge.proofs.SentSoFar.{HasSent}
-use Rattle.plinq_merge.proofs.one_thread.deliver_all.Given as goal
+use Rattle.plinq_merge.proofs.Delivered.{HasSent}
+use Rattle.plinq_merge.proofs.singly.deliver_all.Given as goal
 
 -- the items given so far were fed and left the run open; what came out is sent, held back for a batch, or waits to be given to it
 abbrev pub invariant-loop-made : goal.invariant-loop-made

@@ -1,0 +1,55 @@
+use Rattle.std.proofs.Common.{rules, ◌≡◌, true, false, Err, ap, sym, ◌∙◌}
+use Rattle.std.specs.List.{list_any}
+use Rattle.plinq_ops.specs.Stage.{some_takes_none}
+use Rattle.plinq_ops.specs.Operator.{stages_of}
+use Rattle.plinq_ops.specs.Batches.{batch_size}
+use Rattle.plinq_ops.specs.Feeding.{is_empty_take}
+use Rattle.plinq_ops.specs.Query.{merge_in_force}
+use Rattle.plinq_ops.proofs.ByKey.{stages-begun}
+use Rattle.plinq_ops.proofs.Counts.{some_takes_none-stages_of}
+use Rattle.plinq_merge.specs.declared.delivery_fault.DeliveryFault.TheVariants.{Memory}
+use Rattle.plinq_merge.specs.Buffer.{size_of}
+use Rattle.plinq_merge.proofs.Delivered.{begun-undecided}
+use Rattle.plinq_merge.proofs.Delivered.{answer-none, answer-stopped}
+use Rattle.plinq_merge.proofs.one_thread.deliver_answer.Goals as goal
+
+pub returns-then-split-clause-delivers : goal.returns-then-split-clause-delivers
+returns-then-split-clause-delivers g c =
+    let ops = c.args.query.now.ops in
+    let decided : c.split.result.decided ≡ list_any is_empty_take ops = c.split.ensures.plan.decided in
+    let none : some_takes_none (stages_of g.L.Lambda.meaning ops) ≡ true = sym (some_takes_none-stages_of g.L.Lambda.meaning ops) ∙ sym decided ∙ search rules in
+    answer-none _ _ _ _ _ _ _ _ none c.requires.fresh
+
+pub returns-in_err-pipeline-clause-delivers : goal.returns-in_err-pipeline-clause-delivers
+returns-in_err-pipeline-clause-delivers g c = let is : c.from_residual.result ≡ Err Memory = search rules in answer-stopped _ _ _ _ _ _ _ _ _ is
+
+pub returns-in_err-buffer-clause-delivers : goal.returns-in_err-buffer-clause-delivers
+returns-in_err-buffer-clause-delivers g c = let is : c.from_residual-in_err-buffer.result ≡ Err Memory = search rules in answer-stopped _ _ _ _ _ _ _ _ _ is
+
+pub deliver_all-requires-clause-undecided : goal.deliver_all-requires-clause-undecided
+deliver_all-requires-clause-undecided g c lives within =
+    let decided : c.split.result.decided ≡ list_any is_empty_take c.args.query.now.ops = c.split.ensures.plan.decided in
+    let some : list_any is_empty_take c.args.query.now.ops ≡ false = sym decided ∙ search rules in
+    let same : c.ops.result.now ≡ c.args.query.now.ops = search rules in
+    begun-undecided g.L.Lambda.meaning c.in_ok-pipeline.pipeline c.args.query.now.ops (rw same at c.in_ok-pipeline.ensures) some
+
+pub deliver_blocks-requires-clause-undecided : goal.deliver_blocks-requires-clause-undecided
+deliver_blocks-requires-clause-undecided g c lives within =
+    let decided : c.split.result.decided ≡ list_any is_empty_take c.args.query.now.ops = c.split.ensures.plan.decided in
+    let some : list_any is_empty_take c.args.query.now.ops ≡ false = sym decided ∙ search rules in
+    let same : c.ops.result.now ≡ c.args.query.now.ops = search rules in
+    begun-undecided g.L.Lambda.meaning c.in_ok-pipeline.pipeline c.args.query.now.ops (rw same at c.in_ok-pipeline.ensures) some
+
+pub returns-then-most-eq1-clause-delivers : goal.returns-then-most-eq1-clause-delivers
+returns-then-most-eq1-clause-delivers g c =
+    let same : c.ops.result.now ≡ c.args.query.now.ops = search rules in
+    let begins = stages-begun g.L.Lambda.meaning c.args.query.now.ops c.in_ok-pipeline.pipeline (rw same at c.in_ok-pipeline.ensures) in
+    let size : size_of c.in_ok-buffer.buffer ≡ batch_size (merge_in_force c.args.query.now.merge) = c.in_ok-buffer.ensures.size ∙ ap batch_size c.merge_option.ensures in
+    rw c.if-most-eq1.true (rw (begins, size) at c.deliver_all.ensures.delivers)
+
+pub returns-clause-delivers : goal.returns-clause-delivers
+returns-clause-delivers g c =
+    let same : c.ops.result.now ≡ c.args.query.now.ops = search rules in
+    let begins = stages-begun g.L.Lambda.meaning c.args.query.now.ops c.in_ok-pipeline.pipeline (rw same at c.in_ok-pipeline.ensures) in
+    let size : size_of c.in_ok-buffer.buffer ≡ batch_size (merge_in_force c.args.query.now.merge) = c.in_ok-buffer.ensures.size ∙ ap batch_size c.merge_option.ensures in
+    rw (begins, size) at c.deliver_blocks.ensures.delivers
