@@ -110,26 +110,24 @@ module _ {W O T : Type 0} (made : W → O → Trace T → Result (Option Ending)
       }
 
   -- the interval under the next key was taken, and is open
-  pub moved-next : (w0 : Joining W T) (y0 : O) (w : Joining W T) (y : O) (buffer : Buffered (Trace T)) (p : Trace T) (w2 : Joining W T) (y2 : O) → HasMoved made w0 y0 w y
-      → TakesNext w.row.buffer p buffer → made w.taker y p (Ok None) w2.taker y2 → p.ending ≡ None → w2.row ≡ record w.row { buffer = buffer } → w2.order ≡ w.order → HasMoved made w0 y0 w2 y2
-  moved-next w0 y0 w y buffer p w2 y2 moved takes taken none same same_order =
+  pub moved-next : (w0 : Joining W T) (y0 : O) (w : Joining W T) (y : O) (buffer : Buffered (Trace T)) (p : Trace T) (a : W) (n : ℕ) (z : O) → HasMoved made w0 y0 w y
+      → TakesNext w.row.buffer p buffer → made w.taker y p (Ok None) a z → p.ending ≡ None → HasMoved made w0 y0 (record w { row = record w.row { buffer = buffer }; taker = a; items = n }) z
+  moved-next w0 y0 w y buffer p a n z moved takes taken none =
+      let row : Row T = record w.row { buffer = buffer } in
       let all : open_trace (moved.items ++ p.items) ≡ followed (open_trace moved.items) p = ap (trace_of (moved.items ++ p.items)) (sym none) in
       record {
         items = moved.items ++ p.items;
-        taken = taken-after w0.taker y0 (open_trace moved.items) p (open_trace (moved.items ++ p.items)) w.taker y (Ok None) w2.taker y2 refl moved.taken taken all;
+        taken = taken-after w0.taker y0 (open_trace moved.items) p (open_trace (moved.items ++ p.items)) w.taker y (Ok None) a z refl moved.taken taken all;
         rest =
             moved.rest
             ∙ ap (followed (open_trace moved.items)) (rest-next w.row p buffer takes)
-            ∙ sym (followed-followed (open_trace moved.items) p (rest_of (record w.row { buffer = buffer })))
-            ∙ ap (λ t. followed t (rest_of (record w.row { buffer = buffer }))) (sym all)
-            ∙ ap (λ r. followed (open_trace (moved.items ++ p.items)) (rest_of r)) (sym same);
-        order = same_order ∙ moved.order;
+            ∙ sym (followed-followed (open_trace moved.items) p (rest_of row))
+            ∙ ap (λ t. followed t (rest_of row)) (sym all);
+        order = moved.order;
         holds = λ offers gone h.
-            subst (λ t. Holds w2.order w2.row offers t) (followed-followed gone (open_trace moved.items) p ∙ ap (followed gone) (sym all))
-            (subst (λ o. Holds o w2.row offers (followed (followed gone (open_trace moved.items)) p)) (sym same_order)
-            (subst (λ r. Holds w.order r offers (followed (followed gone (open_trace moved.items)) p)) (sym same)
-            (holds-next w.order w.row p buffer offers (followed gone (open_trace moved.items)) takes (moved.holds offers gone h))));
-        keys = λ key. ap (λ r. is_taken r.buffer key) same ∙ takes.keys key ∙ moved.keys key;
+            subst (Holds w.order row offers) (followed-followed gone (open_trace moved.items) p ∙ ap (followed gone) (sym all))
+            (holds-next w.order w.row p buffer offers (followed gone (open_trace moved.items)) takes (moved.holds offers gone h));
+        keys = λ key. takes.keys key ∙ moved.keys key;
       }
 
   -- that interval ended the answer, or broke it off
@@ -184,26 +182,19 @@ module _ {W O T : Type 0} (made : W → O → Trace T → Result (Option Ending)
       }
 
   -- it is open, and was taken with what the row gave after it
-  pub joins-drained : (w : Joining W T) (r : ChunkResult T) (y : O) (hand : Trace T) (row1 : Row T) (w2 : Joining W T) (y2 : O) (result : Result (Option Ending) DeliveryFault) (w' : Joining W T) (y' : O)
+  pub joins-drained : (w : Joining W T) (r : ChunkResult T) (y : O) (hand : Trace T) (row1 : Row T) (a : W) (z : O) (result : Result (Option Ending) DeliveryFault) (w' : Joining W T) (y' : O)
       → IsFresh w.row.buffer r.first (end_of_result r) → TakesIn w.order w.row r hand row1
       → ((key : ℕ) → is_taken row1.buffer key ≡ is_taken w.row.buffer key || is_within r.first (end_of_result r) key)
-      → made w.taker y hand (Ok None) w2.taker y2 → hand.ending ≡ None → w2.row ≡ row1 → w2.order ≡ w.order → made w2.taker y2 (rest_of w2.row) result w'.taker y'
-      → (result ≡ Ok None → (offers : List (ChunkResult T)) (out : List T) → Holds w2.order w2.row offers (open_trace out) → HasKeys w2.row offers → Waits w'.order w'.row offers)
-      → Joins made w r y result w' y'
-  joins-drained w r y hand row1 w2 y2 result w' y' fresh takes keys taken none same same_order drained waits =
+      → made w.taker y hand (Ok None) a z → hand.ending ≡ None → made a z (rest_of row1) result w'.taker y'
+      → (result ≡ Ok None → (offers : List (ChunkResult T)) (out : List T) → Holds w.order row1 offers (open_trace out) → HasKeys row1 offers → Waits w'.order w'.row offers) → Joins made w r y result w' y'
+  joins-drained w r y hand row1 a z result w' y' fresh takes keys taken none drained waits =
       record {
         gained = followed hand (rest_of row1);
-        taken = taken-after w.taker y hand (rest_of w2.row) (followed hand (rest_of row1)) w2.taker y2 result w'.taker y' none taken drained (ap (λ q. followed hand (rest_of q)) (sym same));
+        taken = taken-after w.taker y hand (rest_of row1) (followed hand (rest_of row1)) a z result w'.taker y' none taken drained refl;
         are_new = λ offers before. new-waits w.order w.row offers r fresh before;
         grows = λ offers before. grows-taken w.order w.row row1 hand offers r takes before;
         waits = λ is_open offers before.
             waits is_open (offers ++ r ∷ []) (before.out ++ hand.items)
-            (subst (λ o. Holds o w2.row (offers ++ r ∷ []) (open_trace (before.out ++ hand.items))) (sym same_order)
-            (subst (λ q. Holds w.order q (offers ++ r ∷ []) (open_trace (before.out ++ hand.items))) (sym same)
-            (subst (Holds w.order row1 (offers ++ r ∷ [])) (ap (followed (open_trace before.out)) (open-is hand none)) (takes offers (open_trace before.out) before.holds))))
-            (λ key.
-            is_offered-append offers r key
-            ∙ ap (λ v. v || is_within r.first (end_of_result r) key) (before.keys key)
-            ∙ sym (keys key)
-            ∙ ap (λ q. is_taken q.buffer key) (sym same));
+            (subst (Holds w.order row1 (offers ++ r ∷ [])) (ap (followed (open_trace before.out)) (open-is hand none)) (takes offers (open_trace before.out) before.holds))
+            (λ key. is_offered-append offers r key ∙ ap (λ v. v || is_within r.first (end_of_result r) key) (before.keys key) ∙ sym (keys key));
       }

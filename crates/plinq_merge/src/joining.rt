@@ -59,7 +59,7 @@ impl<W: Taker> Joining<W, W::Item> {
         ensures joins { Joins W.made self.old offered out.old result self.new out.new }
     {
         let hand = self.row.accept(self.alloc, self.order, offered)?;
-        let ending = self.take(hand, out)?;
+        let ending = give(&mut self.taker, &mut self.items, hand, out)?;
         if ending.is_some() {
             return Ok(ending);
         }
@@ -78,7 +78,7 @@ impl<W: Taker> Joining<W, W::Item> {
             Holds self.old.order self.old.row offers (open_trace out) → HasKeys self.old.row offers → Waits self.new.order self.new.row offers }
     {
         while let Some(part) = self.row.buffer.take_next() {
-            let ending = self.take(part, out)?;
+            let ending = give(&mut self.taker, &mut self.items, part, out)?;
             if ending.is_some() {
                 return Ok(ending);
             }
@@ -89,23 +89,22 @@ impl<W: Taker> Joining<W, W::Item> {
         }
         self.taker.take(Vec::new(self.alloc), ending, out)
     }
+}
 
-    /// Gives the taker items whose turn has come.
-    fn take<O>(
-        &mut self,
-        hand: Pending<W::Item>,
-        out: &mut O,
-    ) -> Result<Option<Ending>, DeliveryFault>
-    where
-        W: TakeInto<O>,
-        requires { W.can_take self.old.taker ≡ true }
-        ensures ready { result ≡ Ok None → W.can_take self.new.taker ≡ true }
-        ensures row { self.new.row ≡ self.old.row }
-        ensures order { self.new.order ≡ self.old.order }
-        ensures last { result ≡ Ok None → hand.ending ≡ None }
-        ensures takes { W.made self.old.taker out.old hand result self.new.taker out.new }
-    {
-        self.items = self.items.saturating_add(hand.items.len() as u64);
-        self.taker.take(hand.items, hand.ending, out)
-    }
+/// Gives a taker items whose turn has come, and counts them.
+fn give<W, O>(
+    taker: &mut W,
+    items: &mut u64,
+    hand: Pending<W::Item>,
+    out: &mut O,
+) -> Result<Option<Ending>, DeliveryFault>
+where
+    W: TakeInto<O>,
+    requires { W.can_take taker.old ≡ true }
+    ensures ready { result ≡ Ok None → W.can_take taker.new ≡ true }
+    ensures last { result ≡ Ok None → hand.ending ≡ None }
+    ensures made { W.made taker.old out.old hand result taker.new out.new }
+{
+    *items = items.saturating_add(hand.items.len() as u64);
+    taker.take(hand.items, hand.ending, out)
 }

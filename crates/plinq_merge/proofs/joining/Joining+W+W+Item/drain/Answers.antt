@@ -12,16 +12,12 @@ loop-part-init g c = record { ready = c.requires.ready; moves = moved-none g.W.T
 pub loop-part-preserved : goal.loop-part-preserved
 loop-part-preserved g c =
     let w = c.loop-part.self in
-    let p = c.in-Some.part in
-    let taken = c.take.ensures in
     let none : c.in_ok-ending.ending ≡ None = none-from_is_some _ (search rules) in
-    let was : c.take.result ≡ Ok c.in_ok-ending.ending = search rules in
-    let is : c.take.result ≡ Ok None = was ∙ ap Ok none in
-    let takes : TakesNext w.row.buffer p c.take_next.new.self = search rules in
+    let takes : TakesNext w.row.buffer c.in-Some.part c.take_next.new.self = search rules in
     record {
-      ready = taken.ready is;
-      moves = moved-next g.W.TakeInto.made g.met.W.TakeInto.lawful c.args.self.now c.args.out.now w c.loop-part.out c.take_next.new.self p c.take.new.self c.take.new.out c.loop-part.invariant.moves takes
-          (subst (λ r. g.W.TakeInto.made w.taker c.loop-part.out p r c.take.new.self.taker c.take.new.out) is taken.takes) (taken.last is) taken.row taken.order;
+      ready = c.in_ok-ending.ensures.ready (ap Ok none);
+      moves = moved-next g.W.TakeInto.made g.met.W.TakeInto.lawful c.args.self.now c.args.out.now w c.loop-part.out c.take_next.new.self c.in-Some.part c.give.new.taker c.give.new.items c.give.new.out c.loop-part.invariant.moves takes
+          (rw none at c.in_ok-ending.ensures.made) (c.in_ok-ending.ensures.last (ap Ok none));
     }
 
 pub returns-then-is_none-clause-waits : goal.returns-then-is_none-clause-waits
