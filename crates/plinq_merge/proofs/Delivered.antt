@@ -1,5 +1,5 @@
 -- What was delivered of items that were fed to operators.
-use Rattle.std.specs.Prelude.{◌≡◌, ℕ, ◌<◌, List, [], length, true, false, not, ◌&&◌, Option, Some, None, IfSome, Ok, refl, ◌+◌, ◌≤◌, ◌++◌, drop, Result, Err, OnOk, IfOk}
+use Rattle.std.specs.Prelude.{◌≡◌, Bool, ℕ, ◌<◌, List, [], length, true, false, not, ◌&&◌, Option, Some, None, IfSome, Ok, refl, ◌+◌, ◌≤◌, ◌++◌, drop, Result, Err, OnOk, IfOk}
 use Rattle.std.specs.List.{list_any}
 use Rattle.std.proofs.Common.{sym, ◌∙◌, ap, subst, arith, append_assoc, append-nil}
 use Rattle.std.proofs.lemmas.Bool.{lt-ltb}
@@ -77,12 +77,14 @@ begun-line {L} {T} meaning d ops size reached empty same =
     ∙ ap (λ h. record l { after = after; now = after; held = h }) empty
     ∙ ap (λ n. record l { after = after; now = after; held = []; size = n }) same
 
-pub begun-undecided : {L T : Type 0} (meaning : L → Meaning T) (p : PipelineView L) (ops : List (Op L)) → IsReached meaning ops 0 p → list_any is_empty_take ops ≡ false → some_takes_none (stages meaning p) ≡ false
-begun-undecided meaning p ops reached some = ap some_takes_none (stages-begun meaning ops p reached) ∙ sym (some_takes_none-stages_of meaning ops) ∙ some
+pub begun-undecided : {L T : Type 0} (meaning : L → Meaning T) (p : PipelineView L) (ops ops' : List (Op L)) (decided : Bool) → decided ≡ list_any is_empty_take ops → decided ≡ false → ops' ≡ ops → IsReached meaning ops' 0 p
+    → some_takes_none (stages meaning p) ≡ false
+begun-undecided meaning p ops ops' decided is undecided same reached =
+    ap some_takes_none (stages-begun meaning ops' p reached) ∙ sym (some_takes_none-stages_of meaning ops') ∙ ap (list_any is_empty_take) same ∙ sym is ∙ undecided
 
 pub begun-can : {L T : Type 0} (meaning : L → Meaning T) (d : Deliver L T) (ops : List (Op L)) → IsReached meaning ops 0 d.pipeline → HasRoom d.buffer → list_any is_empty_take ops ≡ false → can_deliver meaning d ≡ true
 begun-can meaning d ops reached room some =
-    can-undecided meaning d (begun-undecided meaning d.pipeline ops reached some) room
+    can-undecided meaning d (begun-undecided meaning d.pipeline ops ops false (sym some) refl refl reached) room
 
 module _ {K T : Type 0} (accepts : K → List T → K → Type 0) (refuses : K → List T → ℕ → K → Type 0) where
   -- all batches were delivered

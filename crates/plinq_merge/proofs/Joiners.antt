@@ -4,6 +4,7 @@ use Rattle.std.proofs.Common.{sym, ◌∙◌, ap, subst, inl, inr}
 use Rattle.plinq_source.specs.declared.ending.Ending.{Ending}
 use Rattle.plinq_source.specs.Trace.{Trace, open_trace}
 use Rattle.plinq_source.proofs.Followed.{followed-open_nil}
+use Rattle.plinq_ops.specs.declared.order.Order.{Order}
 use Rattle.plinq_ops.specs.declared.results.ChunkResult.{ChunkResult}
 use Rattle.plinq_merge.specs.declared.delivery_fault.DeliveryFault.{DeliveryFault}
 use Rattle.plinq_merge.specs.declared.delivery_fault.DeliveryFault.TheVariants.{Memory as NoMemory, Sink as Refusal}
@@ -29,17 +30,6 @@ abbrev pub AreOneMore : {T : Type 0} → List (ChunkResult T) → ChunkResult T 
 AreOneMore offers r offers' = (offers' ≡ offers) ⊎ ((offers' ≡ offers ++ r ∷ []) × AreNew offers r)
 
 module _ {W O T : Type 0} (made : W → O → Trace T → Result (Option Ending) DeliveryFault → W → O → Type 0) where
-  -- the taker has taken something, or nothing changed
-  pub moved-at : (w : Joining W T) (standing : JoinerState) (r : ChunkResult T) (y : O) (result : Result More MergeFault) (w' : Joining W T) (standing' : JoinerState) (y' : O)
-      → AnswersOffer made w standing r y result w' standing' y' → (w' ≡ w) ⊎ ((gained : Trace T) × (how : Result (Option Ending) DeliveryFault) × made w.taker y gained how w'.taker y')
-  moved-at w Open r y (Ok Yes) w' standing' y' o = let joins = o.1 in inr (joins.gained, Ok None, joins.taken)
-  moved-at w Open r y (Ok No) w' standing' y' o = let joins = o.2 in inr (joins.gained, Ok (Some o.0), joins.taken)
-  moved-at w Open r y (Err Memory) w' standing' y' o = let joins = o.1 in inr (joins.gained, Err NoMemory, joins.taken)
-  moved-at w Open r y (Err (Sink code)) w' standing' y' o = let joins = o.1 in inr (joins.gained, Err (Refusal code), joins.taken)
-  moved-at w Open r y (Err Twice) w' standing' y' o = inl o.0
-  moved-at w Open r y (Err fault) w' standing' y' o = absurd o
-  moved-at w standing r y result w' standing' y' o = inl o.1
-
   module _ (a : W) (x : O) where
     cases-at : {P : Type 0} (w : Joining W T) (standing : JoinerState) (y : O) (offers : List (ChunkResult T)) → HasJoinedAt made a x w standing y offers
         → (is_decided standing ≡ false → finished standing ≡ Err Gap → Waits w.order w.row offers → made a x (merged w.order offers) (Ok None) w.taker y → P)
@@ -56,42 +46,11 @@ module _ {W O T : Type 0} (made : W → O → Trace T → Result (Option Ending)
 
     module _ (lawful : IsTaking made) where
       -- with one offer more the taker has taken what they merge to then
-      made-grown : (w : Joining W T) (r : ChunkResult T) (y : O) (result : Result (Option Ending) DeliveryFault) (w' : Joining W T) (y' : O) (offers : List (ChunkResult T)) → w'.order ≡ w.order
-          → Waits w.order w.row offers → made a x (merged w.order offers) (Ok None) w.taker y → Joins made w r y result w' y'
-          → made a x (merged w'.order (offers ++ r ∷ [])) result w'.taker y'
-      made-grown w r y result w' y' offers same waits before joins =
-          subst (λ o. made a x (merged o (offers ++ r ∷ [])) result w'.taker y') (sym same)
-          (taken-after made lawful a x (merged w.order offers) joins.gained (merged w.order (offers ++ r ∷ [])) w.taker y result w'.taker y'
-          (ap (λ t. t.ending) (merged-waits w.order w.row offers waits)) before joins.taken (joins.grows offers waits))
-
-      takes-at : (w : Joining W T) (standing : JoinerState) (r : ChunkResult T) (y : O) (more : More) (w' : Joining W T) (standing' : JoinerState) (y' : O) (offers : List (ChunkResult T)) → w'.order ≡ w.order
-          → HasJoinedAt made a x w standing y offers → AnswersOffer made w standing r y (Ok more) w' standing' y'
-          → (offers' : List (ChunkResult T)) × AreOneMore offers r offers' × HasJoinedAt made a x w' standing' y' offers'
-      takes-at w Open r y Yes w' standing' y' offers same joined o =
-          let joins = o.1 in (
-            offers ++ r ∷ [],
-            inr (refl, joins.are_new offers joined.0),
-            subst (λ s. HasJoinedAt made a x w' s y' (offers ++ r ∷ [])) (sym o.0)
-                (joins.waits refl offers joined.0, made-grown w r y (Ok None) w' y' offers same joined.0 joined.1 joins),
-          )
-      takes-at w Open r y No w' standing' y' offers same joined o =
-          let joins = o.2 in (
-            offers ++ r ∷ [],
-            inr (refl, joins.are_new offers joined.0),
-            subst (λ s. HasJoinedAt made a x w' s y' (offers ++ r ∷ [])) (sym o.1) (made-grown w r y (Ok (Some o.0)) w' y' offers same joined.0 joined.1 joins),
-          )
-      takes-at w (Decided e) r y more w' standing' y' offers same joined o = (
-        offers,
-        inl refl,
-        subst (λ s. HasJoinedAt made a x w' s y' offers) (sym o.2)
-            (subst (λ v. HasJoinedAt made a x v (Decided e) y' offers) (sym o.1) (subst (λ z. HasJoinedAt made a x w (Decided e) z offers) (sym o.3) joined)),
-      )
-      takes-at w HasFailed r y more w' standing' y' offers same joined o = absurd joined
-
-      -- an offer that was taken in
-      pub takes-joined : (j : Joiner W T) (r : ChunkResult T) (y : O) (more : More) (j' : Joiner W T) (y' : O) (offers : List (ChunkResult T)) → order_of j' ≡ order_of j
-          → HasJoined made a x j y offers → Takes made j r y (Ok more) j' y' → (offers' : List (ChunkResult T)) × AreOneMore offers r offers' × HasJoined made a x j' y' offers'
-      takes-joined j r y more j' y' offers same joined o = takes-at j.work j.standing r y more j'.work j'.standing y' offers same joined o
+      made-grown : (w : Joining W T) (r : ChunkResult T) (y : O) (result : Result (Option Ending) DeliveryFault) (w' : Joining W T) (y' : O) (offers : List (ChunkResult T)) (order : Order) → order ≡ w.order
+          → Waits w.order w.row offers → made a x (merged w.order offers) (Ok None) w.taker y → Joins made w r y result w' y' → made a x (merged order (offers ++ r ∷ [])) result w'.taker y'
+      made-grown w r y result w' y' offers order same waits before joins =
+          taken-after made lawful a x (merged w.order offers) joins.gained (merged order (offers ++ r ∷ [])) w.taker y result w'.taker y'
+          (ap (λ t. t.ending) (merged-waits w.order w.row offers waits)) before joins.taken (ap (λ o. merged o (offers ++ r ∷ [])) same ∙ joins.grows offers waits)
 
       -- what waits for more may have broken off there for lack of memory
       stopped-at : (w : Joining W T) (y : O) (offers : List (ChunkResult T)) → Waits w.order w.row offers → made a x (merged w.order offers) (Ok None) w.taker y
@@ -105,32 +64,50 @@ module _ {W O T : Type 0} (made : W → O → Trace T → Result (Option Ending)
           → made a x (merged (order_of j) offers) (Err NoMemory) (taker_of j) y
       joined-stopped j y offers waits before = stopped-at j.work y offers waits before
 
-      breaks-at : (w : Joining W T) (standing : JoinerState) (r : ChunkResult T) (y : O) (fault : MergeFault) (w' : Joining W T) (standing' : JoinerState) (y' : O) (offers : List (ChunkResult T)) → w'.order ≡ w.order
-          → HasJoinedAt made a x w standing y offers → AnswersOffer made w standing r y (Err fault) w' standing' y'
-          → (offers' : List (ChunkResult T)) × AreOneMore offers r offers' × ((last : W) × made a x (merged w.order offers') (Err (delivery_fault_of fault)) last y')
-      breaks-at w Open r y Memory w' standing' y' offers same joined o =
-          let joins = o.1 in (
-            offers ++ r ∷ [],
-            inr (refl, joins.are_new offers joined.0),
-            (w'.taker, subst (λ k. made a x (merged k (offers ++ r ∷ [])) (Err NoMemory) w'.taker y') same (made-grown w r y (Err NoMemory) w' y' offers same joined.0 joined.1 joins)),
-          )
-      breaks-at w Open r y (Sink code) w' standing' y' offers same joined o =
-          let joins = o.1 in (
-            offers ++ r ∷ [],
-            inr (refl, joins.are_new offers joined.0),
-            (w'.taker, subst (λ k. made a x (merged k (offers ++ r ∷ [])) (Err (Refusal code)) w'.taker y') same (made-grown w r y (Err (Refusal code)) w' y' offers same joined.0 joined.1 joins)),
-          )
-      breaks-at w Open r y Twice w' standing' y' offers same joined o =
-          (offers, inl refl, (w.taker, subst (λ z. made a x (merged w.order offers) (Err NoMemory) w.taker z) (sym o.2) (stopped-at w y offers joined.0 joined.1)))
-      breaks-at w Open r y fault w' standing' y' offers same joined o = absurd o
-      breaks-at w (Decided e) r y fault w' standing' y' offers same joined o = absurd (let bad : Err fault ≡ Ok No = o.0 in cc)
-      breaks-at w HasFailed r y fault w' standing' y' offers same joined o = absurd joined
+      -- where an offer is taken in, the answer is open or has ended; where it is refused, the taker broke off what is merged then
+      abbrev LeavesAt : Joining W T → Result More MergeFault → Joining W T → JoinerState → O → List (ChunkResult T) → Type 0
+      LeavesAt w (Ok more) w' standing' y' offers = HasJoinedAt made a x w' standing' y' offers
+      LeavesAt w (Err fault) w' standing' y' offers = (last : W) × made a x (merged w.order offers) (Err (delivery_fault_of fault)) last y'
 
-      -- an offer that was refused: the taker broke off what is merged then
+      added : {P : List (ChunkResult T) → Type 0} (w : Joining W T) (r : ChunkResult T) (y : O) (result : Result (Option Ending) DeliveryFault) (w' : Joining W T) (y' : O) (offers : List (ChunkResult T)) → Joins made w r y result w' y'
+          → Waits w.order w.row offers → P (offers ++ r ∷ []) → (offers' : List (ChunkResult T)) × AreOneMore offers r offers' × P offers'
+      added w r y result w' y' offers joins waits p = (offers ++ r ∷ [], inr (refl, joins.are_new offers waits), p)
+
+      offered-at : (w : Joining W T) (standing : JoinerState) (r : ChunkResult T) (y : O) (result : Result More MergeFault) (w' : Joining W T) (standing' : JoinerState) (y' : O) (offers : List (ChunkResult T)) → w'.order ≡ w.order
+          → HasJoinedAt made a x w standing y offers → AnswersOffer made w standing r y result w' standing' y'
+          → (offers' : List (ChunkResult T)) × AreOneMore offers r offers' × LeavesAt w result w' standing' y' offers'
+      offered-at w Open r y (Ok Yes) w' standing' y' offers same joined o =
+          added w r y (Ok None) w' y' offers o.1 joined.0
+          (subst (λ s. HasJoinedAt made a x w' s y' (offers ++ r ∷ [])) (sym o.0) (o.1.waits refl offers joined.0, made-grown w r y (Ok None) w' y' offers w'.order same joined.0 joined.1 o.1))
+      offered-at w Open r y (Ok No) w' standing' y' offers same joined o =
+          added w r y (Ok (Some o.0)) w' y' offers o.2 joined.0
+          (subst (λ s. HasJoinedAt made a x w' s y' (offers ++ r ∷ [])) (sym o.1) (made-grown w r y (Ok (Some o.0)) w' y' offers w'.order same joined.0 joined.1 o.2))
+      offered-at w Open r y (Err Memory) w' standing' y' offers same joined o =
+          added w r y (Err NoMemory) w' y' offers o.1 joined.0 (w'.taker, made-grown w r y (Err NoMemory) w' y' offers w.order refl joined.0 joined.1 o.1)
+      offered-at w Open r y (Err (Sink code)) w' standing' y' offers same joined o =
+          added w r y (Err (Refusal code)) w' y' offers o.1 joined.0 (w'.taker, made-grown w r y (Err (Refusal code)) w' y' offers w.order refl joined.0 joined.1 o.1)
+      offered-at w Open r y (Err Twice) w' standing' y' offers same joined o =
+          (offers, inl refl, (w.taker, subst (λ z. made a x (merged w.order offers) (Err NoMemory) w.taker z) (sym o.2) (stopped-at w y offers joined.0 joined.1)))
+      offered-at w Open r y (Err fault) w' standing' y' offers same joined o = absurd o
+      offered-at w (Decided e) r y (Ok more) w' standing' y' offers same joined o = (
+        offers,
+        inl refl,
+        subst (λ s. HasJoinedAt made a x w' s y' offers) (sym o.2)
+            (subst (λ v. HasJoinedAt made a x v (Decided e) y' offers) (sym o.1) (subst (λ z. HasJoinedAt made a x w (Decided e) z offers) (sym o.3) joined)),
+      )
+      offered-at w (Decided e) r y (Err fault) w' standing' y' offers same joined o = absurd (let bad : Err fault ≡ Ok No = o.0 in cc)
+      offered-at w HasFailed r y result w' standing' y' offers same joined o = absurd joined
+
+      -- an offer that was taken in
+      pub takes-joined : (j : Joiner W T) (r : ChunkResult T) (y : O) (more : More) (j' : Joiner W T) (y' : O) (offers : List (ChunkResult T)) → order_of j' ≡ order_of j
+          → HasJoined made a x j y offers → Takes made j r y (Ok more) j' y' → (offers' : List (ChunkResult T)) × AreOneMore offers r offers' × HasJoined made a x j' y' offers'
+      takes-joined j r y more j' y' offers same joined o = offered-at j.work j.standing r y (Ok more) j'.work j'.standing y' offers same joined o
+
+      -- one that was refused
       pub takes-broken : (j : Joiner W T) (r : ChunkResult T) (y : O) (fault : MergeFault) (j' : Joiner W T) (y' : O) (offers : List (ChunkResult T)) → order_of j' ≡ order_of j
           → HasJoined made a x j y offers → Takes made j r y (Err fault) j' y'
           → (offers' : List (ChunkResult T)) × AreOneMore offers r offers' × ((last : W) × made a x (merged (order_of j) offers') (Err (delivery_fault_of fault)) last y')
-      takes-broken j r y fault j' y' offers same joined o = breaks-at j.work j.standing r y fault j'.work j'.standing y' offers same joined o
+      takes-broken j r y fault j' y' offers same joined o = offered-at j.work j.standing r y (Err fault) j'.work j'.standing y' offers same joined o
 
   module _ (lawful : IsTaking made) where
     -- nothing was offered to a new joiner

@@ -130,25 +130,6 @@ module _ {W O T : Type 0} (made : W → O → Trace T → Result (Option Ending)
         keys = λ key. takes.keys key ∙ moved.keys key;
       }
 
-  -- that interval ended the answer, or broke it off
-  pub moved-over : (w0 : Joining W T) (y0 : O) (w : Joining W T) (y : O) (buffer : Buffered (Trace T)) (p : Trace T) (r : Result (Option Ending) DeliveryFault) (b : W) (z : O) → HasMoved made w0 y0 w y
-      → TakesNext w.row.buffer p buffer → made w.taker y p r b z → (r ≡ Ok None → ⊥) → made w0.taker y0 (rest_of w0.row) r b z
-  moved-over w0 y0 w y buffer p r b z moved takes taken over =
-      taken-after w0.taker y0 (open_trace moved.items) (rest_of w.row) (rest_of w0.row) w.taker y r b z refl moved.taken
-      (taken-over w.taker y p (rest_of (record w.row { buffer = buffer })) (rest_of w.row) r b z over taken (rest-next w.row p buffer takes)) moved.rest
-
-  -- the row came to a gap, and this is the source's ending there
-  pub moved-end : (w0 : Joining W T) (y0 : O) (w : Joining W T) (y : O) (e : Option Ending) (r : Result (Option Ending) DeliveryFault) (b : W) (z : O) → HasMoved made w0 y0 w y
-      → IsAtGap w.row.buffer → e ≡ ending_at w.row.told w.row.buffer.next → made w.taker y (trace_of [] e) r b z → made w0.taker y0 (rest_of w0.row) r b z
-  moved-end w0 y0 w y e r b z moved gap is taken =
-      taken-after w0.taker y0 (open_trace moved.items) (rest_of w.row) (rest_of w0.row) w.taker y r b z refl moved.taken
-      (subst (λ t. made w.taker y t r b z) (sym (rest-gap w.row gap ∙ ap (trace_of []) (sym is))) taken) moved.rest
-
-  -- it doesn't end there
-  pub moved-gap : (w0 : Joining W T) (y0 : O) (w : Joining W T) (y : O) → HasMoved made w0 y0 w y → IsAtGap w.row.buffer → ending_at w.row.told w.row.buffer.next ≡ None
-      → made w0.taker y0 (rest_of w0.row) (Ok None) w.taker y
-  moved-gap w0 y0 w y moved gap none = moved-end w0 y0 w y None (Ok None) w.taker y moved gap (sym none) (lawful.begins w.taker y)
-
   -- and the row waits for the same offers
   pub moved-waits : (w0 : Joining W T) (y0 : O) (w : Joining W T) (y : O) (offers : List (ChunkResult T)) (out : List T) → HasMoved made w0 y0 w y → IsAtGap w.row.buffer
       → ending_at w.row.told w.row.buffer.next ≡ None → Holds w0.order w0.row offers (open_trace out) → HasKeys w0.row offers → Waits w.order w.row offers

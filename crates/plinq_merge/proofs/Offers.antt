@@ -1,6 +1,6 @@
 -- What an offer to a merger brings: what the answer gains by it, and what the merger answers and reports.
-use Rattle.std.specs.Prelude.{◌≡◌, ℕ, List, [], ◌∷◌, ◌++◌, Bool, true, false, cond, Option, Some, None, Result, Ok, Err, is_some, refl, ◌<◌, not}
-use Rattle.std.proofs.Common.{sym, ◌∙◌, ap, subst, inl, inr}
+use Rattle.std.specs.Prelude.{◌≡◌, ℕ, List, [], ◌∷◌, ◌++◌, Bool, true, false, cond, Option, Some, None, Result, Ok, Err, is_some, refl, not}
+use Rattle.std.proofs.Common.{sym, ◌∙◌, ap, subst}
 use Rattle.std.proofs.lemmas.Bool.{and_parts}
 use Rattle.plinq_source.specs.declared.ending.Ending.{Ending}
 use Rattle.plinq_source.specs.declared.ending.Ending.TheVariants.{End}
@@ -29,13 +29,10 @@ use Rattle.plinq_merge.specs.Sending.{Leads, Delivers}
 use Rattle.plinq_merge.specs.Shown.{Merge, merged, answer, shown}
 use Rattle.plinq_merge.specs.Merging.{GoesOn}
 use Rattle.plinq_merge.specs.Joining.{Joins, Waits, AnswersOffer}
-use Rattle.plinq_merge.specs.Delivering.{Line, line_of, Gives, MadeBy, is_below, can_deliver, KeepsPlan}
+use Rattle.plinq_merge.specs.Delivering.{Line, line_of, Gives, MadeBy, is_below, can_deliver}
 use Rattle.plinq_merge.specs.Working.{Work, merge_of, Rests}
-use Rattle.plinq_merge.specs.Offering.{Brings, StandsFor, Offers, finished, finish_of, is_decided}
-use Rattle.plinq_merge.specs.Keys.{is_offered}
+use Rattle.plinq_merge.specs.Offering.{Brings, Offers}
 use Rattle.plinq_merge.specs.Mergers.{SendsSome}
-use Rattle.plinq_merge.proofs.Joins.{next-waits}
-use Rattle.plinq_merge.proofs.Joiners.{moved-at}
 
 pub answer-open : {T : Type 0} (merge : Merge T) (offers : List (ChunkResult T)) → merge.decided ≡ false → answer merge offers ≡ seq merge.after (merged merge.order offers)
 answer-open merge offers undecided = ap (λ b. cond b (ended [] End) (seq merge.after (merged merge.order offers))) undecided
@@ -159,30 +156,6 @@ nothing-given meaning d can =
     none-taken false is = refl
 
 module _ {L T : Type 0} (meaning : L → Meaning T) (decided : Bool) where
-  rests-open : (w : Work L T) (offers : List (ChunkResult T)) → Rests meaning decided w offers → (answer (merge_of meaning decided w) offers).ending ≡ None
-  rests-open w offers rests = ap (λ t. t.ending) (answer-rests meaning decided w offers rests)
-
-  -- `decided` reports whether the answer has an ending
-  pub decided-answer : (w : Work L T) (standing : JoinerState) (offers : List (ChunkResult T)) → StandsFor meaning decided w standing offers
-      → is_decided standing ≡ is_some (answer (merge_of meaning decided w) offers).ending
-  decided-answer w Open offers stands = ap is_some (sym (rests-open w offers stands))
-  decided-answer w (Decided e) offers stands = ap is_some (sym stands)
-  decided-answer w HasFailed offers stands = absurd stands
-
-  -- `finish` reports which
-  pub finished-answer : (w : Work L T) (standing : JoinerState) (offers : List (ChunkResult T)) → StandsFor meaning decided w standing offers
-      → finished standing ≡ finish_of (answer (merge_of meaning decided w) offers).ending
-  finished-answer w Open offers stands = ap finish_of (sym (rests-open w offers stands))
-  finished-answer w (Decided e) offers stands = ap finish_of (sym stands)
-  finished-answer w HasFailed offers stands = absurd stands
-
-  -- while the answer is open, the next key is the first that is missing
-  pub next-is_missing : (w : Work L T) (standing : JoinerState) (offers : List (ChunkResult T)) → StandsFor meaning decided w standing offers
-      → (answer (merge_of meaning decided w) offers).ending ≡ None → ((key : ℕ) → key < w.row.buffer.next → is_offered offers key ≡ true) × (is_offered offers w.row.buffer.next ≡ false)
-  next-is_missing w Open offers stands still = next-waits w.order w.row offers stands.waits
-  next-is_missing w (Decided e) offers stands still = absurd (let bad : Some e ≡ None = sym stands ∙ still in cc)
-  next-is_missing w HasFailed offers stands still = absurd stands
-
   module _ {K : Type 0} (accepts : K → List T → K → Type 0) (refuses : K → List T → ℕ → K → Type 0) where
     -- what the joiner did is what the merger owes
     pub offers-joined : (w : Work L T) (standing : JoinerState) (r : ChunkResult T) (s : K) (result : Result More MergeFault) (w' : Work L T) (standing' : JoinerState) (s' : K)
@@ -198,27 +171,9 @@ module _ {L T : Type 0} (meaning : L → Meaning T) (decided : Bool) where
     offers-joined w Open r s (Err fault) w' standing' s' same nothing o = absurd o
     offers-joined w standing r s result w' standing' s' same nothing o = o
 
-    plan-same : (w w' : Work L T) → w' ≡ w → KeepsPlan (line_of meaning w.taker) (line_of meaning w'.taker)
-    plan-same w w' same = record { after = ap (λ x. stages_of meaning x.taker.pipeline.ops) same; size = ap (λ x. size_of x.taker.buffer) same }
-
     -- the batches of what the operators make of a trace
     abbrev due : Work L T → Trace T → List (List T)
     due w t = batches_from (size_of w.taker.buffer) (held_of w.taker.buffer) (seq (stages meaning w.taker.pipeline) t)
-
-    -- it is made for the same as before
-    plan-joined : (w : Work L T) (standing : JoinerState) (r : ChunkResult T) (s : K) (result : Result More MergeFault) (w' : Work L T) (standing' : JoinerState) (s' : K)
-        → AnswersOffer (MadeBy accepts refuses meaning) w standing r s result w' standing' s' → KeepsPlan (line_of meaning w.taker) (line_of meaning w'.taker)
-    plan-joined w standing r s result w' standing' s' o =
-        elim (moved-at (MadeBy accepts refuses meaning) w standing r s result w' standing' s' o) [ inl same ↦ plan-same w w' same | inr moved ↦ let made = moved.2 in made.plan ]
-
-    pub merge-joined : (w : Work L T) (standing : JoinerState) (r : ChunkResult T) (s : K) (result : Result More MergeFault) (w' : Work L T) (standing' : JoinerState) (s' : K) → w'.order ≡ w.order
-        → AnswersOffer (MadeBy accepts refuses meaning) w standing r s result w' standing' s' → merge_of meaning decided w' ≡ merge_of meaning decided w
-    merge-joined w standing r s result w' standing' s' same o =
-        let plan = plan-joined w standing r s result w' standing' s' o in
-        let m : Merge T = merge_of meaning decided w' in
-        ap (λ ss. record m { after = ss }) plan.after
-        ∙ ap (λ x. record m { after = stages_of meaning w.taker.pipeline.ops; order = x }) same
-        ∙ ap (λ n. record m { after = stages_of meaning w.taker.pipeline.ops; order = w.order; size = n }) plan.size
 
     -- what was delivered, whatever the offers
     pub sends-joined : (w : Work L T) (standing : JoinerState) (r : ChunkResult T) (s : K) (result : Result More MergeFault) (w' : Work L T) (standing' : JoinerState) (s' : K)

@@ -1,4 +1,4 @@
-use Rattle.std.proofs.Common.{rules, ◌≡◌, true, false, Err, ap, sym, ◌∙◌}
+use Rattle.std.proofs.Common.{rules, ◌≡◌, true, Err, ap, sym, ◌∙◌}
 use Rattle.std.specs.List.{list_any}
 use Rattle.plinq_ops.specs.Stage.{some_takes_none}
 use Rattle.plinq_ops.specs.Operator.{stages_of}
@@ -27,18 +27,10 @@ pub returns-in_err-buffer-clause-delivers : goal.returns-in_err-buffer-clause-de
 returns-in_err-buffer-clause-delivers g c = let is : c.from_residual-in_err-buffer.result ≡ Err Memory = search rules in answer-stopped _ _ _ _ _ _ _ _ _ is
 
 pub deliver_all-requires-clause-undecided : goal.deliver_all-requires-clause-undecided
-deliver_all-requires-clause-undecided g c lives within =
-    let decided : c.split.result.decided ≡ list_any is_empty_take c.args.query.now.ops = c.split.ensures.plan.decided in
-    let some : list_any is_empty_take c.args.query.now.ops ≡ false = sym decided ∙ search rules in
-    let same : c.ops.result.now ≡ c.args.query.now.ops = search rules in
-    begun-undecided g.L.Lambda.meaning c.in_ok-pipeline.pipeline c.args.query.now.ops (rw same at c.in_ok-pipeline.ensures) some
+deliver_all-requires-clause-undecided g c lives within = begun-undecided g.L.Lambda.meaning c.in_ok-pipeline.pipeline c.args.query.now.ops c.ops.result.now c.split.result.decided c.split.ensures.plan.decided (search rules) (search rules) c.in_ok-pipeline.ensures
 
 pub deliver_blocks-requires-clause-undecided : goal.deliver_blocks-requires-clause-undecided
-deliver_blocks-requires-clause-undecided g c lives within =
-    let decided : c.split.result.decided ≡ list_any is_empty_take c.args.query.now.ops = c.split.ensures.plan.decided in
-    let some : list_any is_empty_take c.args.query.now.ops ≡ false = sym decided ∙ search rules in
-    let same : c.ops.result.now ≡ c.args.query.now.ops = search rules in
-    begun-undecided g.L.Lambda.meaning c.in_ok-pipeline.pipeline c.args.query.now.ops (rw same at c.in_ok-pipeline.ensures) some
+deliver_blocks-requires-clause-undecided g c lives within = begun-undecided g.L.Lambda.meaning c.in_ok-pipeline.pipeline c.args.query.now.ops c.ops.result.now c.split.result.decided c.split.ensures.plan.decided (search rules) (search rules) c.in_ok-pipeline.ensures
 
 pub returns-then-most-eq1-clause-delivers : goal.returns-then-most-eq1-clause-delivers
 returns-then-most-eq1-clause-delivers g c =
