@@ -4,6 +4,7 @@ use Rattle.std.specs.List.{list_any}
 use Rattle.std.proofs.Common.{sym, ◌∙◌, ap, subst, arith, append_assoc, append-nil}
 use Rattle.std.proofs.lemmas.Bool.{lt-ltb}
 use Rattle.std.proofs.lemmas.List.{length-take, take-append-drop}
+use Rattle.std.proofs.lemmas.Result.{IfOk-weaker}
 use Rattle.plinq_source.specs.declared.ending.Ending.{Ending}
 use Rattle.plinq_source.specs.Trace.{Trace, open_trace, followed, ended, items_from}
 use Rattle.plinq_source.proofs.Followed.{trace_of, followed-followed}
@@ -69,13 +70,7 @@ can-deliver meaning d ss t out fed room = can-undecided meaning d (undecided-lef
 pub begun-line : {L T : Type 0} (meaning : L → Meaning T) (d : Deliver L T) (ops : List (Op L)) (size : Option ℕ) → IsReached meaning ops 0 d.pipeline
     → held_of d.buffer ≡ [] → size_of d.buffer ≡ size
     → line_of meaning d ≡ record { after = stages_of meaning ops; now = stages_of meaning ops; held = []; size = size }
-begun-line {L} {T} meaning d ops size reached empty same =
-    let l : Line T = line_of meaning d in
-    let after : List (Stage T) = stages_of meaning ops in
-    ap (λ x. record l { after = stages_of meaning x }) reached.same
-    ∙ ap (λ ss. record l { after = after; now = ss }) (stages-begun meaning ops d.pipeline reached)
-    ∙ ap (λ h. record l { after = after; now = after; held = h }) empty
-    ∙ ap (λ n. record l { after = after; now = after; held = []; size = n }) same
+begun-line meaning d ops size reached empty same = rw (reached.same, stages-begun meaning ops d.pipeline reached, empty, same) refl
 
 pub begun-undecided : {L T : Type 0} (meaning : L → Meaning T) (p : PipelineView L) (ops ops' : List (Op L)) (decided : Bool) → decided ≡ list_any is_empty_take ops → decided ≡ false → ops' ≡ ops → IsReached meaning ops' 0 p
     → some_takes_none (stages meaning p) ≡ false
@@ -101,14 +96,10 @@ module _ {K T : Type 0} (accepts : K → List T → K → Type 0) (refuses : K �
       let P : Trace T → Type 0 = λ u. Leads accepts s (batches_from l.size l.held u) s' in
       record { plan = plan; gives = (ap (λ u. u.ending) answer, subst P (sym answer) leads) }
 
--- what holds whatever the result is, and how the answer ends where one is told
+-- what holds whatever the result is
 pub on-any : {A E : Type 0} (P : Type 0) (r : Result A E) → P → OnOk r P
 on-any P (Ok x) p = p
 on-any P (Err e) p = tt
-
-told-ending : {E : Type 0} (o : Option Ending) (e : Ending) (r : Result Ending E) → o ≡ Some e → IfOk r (λ told. told ≡ e) → IfOk r (λ told. o ≡ Some told)
-told-ending o e (Ok told) is same = is ∙ ap Some (sym same)
-told-ending o e (Err fault) is same = tt
 
 -- a source that was asked for so many items gave no more
 pub within-block : {T : Type 0} (t : Trace T) (n m most : ℕ) → m ≡ n + length (items_from t n most) → m ≤ n + most
@@ -176,21 +167,11 @@ module _ {K T : Type 0} (accepts : K → List T → K → Type 0) (refuses : K �
       let all : batches_from size [] (seq ss t) ≡ full_batches size [] before.out ++ batches_from size held (ended made' e) =
       ap (batches_from size []) (sym (answer-fed ss ss'' t [] out e refl fed)) ∙ batches_from-followed size [] before.out (ended made' e) ∙ ap (λ h. full_batches size [] before.out ++ batches_from size h (ended made' e)) (sym before.keeps) in
       record {
-        ending = told-ending (seq ss t).ending e r (sym fed.told) told;
+        ending = IfOk-weaker r (λ x. x ≡ e) (λ x. (seq ss t).ending ≡ Some x) (λ x same. sym fed.told ∙ ap Some (sym same)) told;
         delivered = delivers-as accepts refuses s (batches_from size [] (seq ss t)) (full_batches size [] before.out ++ batches_from size held (ended made' e)) r s2 all
             (delivers-after accepts refuses s (full_batches size [] before.out) (batches_from size held (ended made' e)) s1 r s2 before.leads rest);
         blocks = on-any _ r (deciding-over most ss ss' ss'' t n m [] (before.out ++ made) out e block before.fed last);
       }
-
-  -- what the answer goes on with after the first items
-  open-after : (ss' : List (Stage T)) (t : Trace T) (n : ℕ) (out : List T) → IsFed ss (first_items n t) [] out ss' None
-      → (more : Trace T) × (seq ss t ≡ followed (open_trace out) more)
-  open-after ss' t n out fed =
-      let a : Trace T = first_items n t in
-      let b : Trace T = trace_of (drop n t.items) t.ending in
-      let whole : followed a b ≡ t = ap (λ xs. trace_of xs t.ending) (take-append-drop n t.items) in
-      let first : seq ss a ≡ open_trace out = ap (λ o. trace_of (seq ss a).items o) (sym fed.told) ∙ ap open_trace (sym fed.items) in
-      (seq (seq_after ss a) b, ap (seq ss) (sym whole) ∙ seq-followed ss a b ∙ ap (λ u. followed u (seq (seq_after ss a) b)) first)
 
   -- a delivery that was cut off in the midst
   pub sent-cut : {A : Type 0} (most : ℕ) (ss' : List (Stage T)) (t : Trace T) (n m : ℕ) (held held' made made' : List T) (s1 s2 : K) (fault : DeliveryFault) (r : Result Ending DeliveryFault) → r ≡ Err fault
@@ -198,13 +179,16 @@ module _ {K T : Type 0} (accepts : K → List T → K → Type 0) (refuses : K �
   sent-cut most ss' t n m held held' made made' s1 s2 fault r is hands before =
       let given : List T = hands.given in
       let left : List T = hands.left in
-      let more = open-after ss' t n (before.out ++ made) before.fed in
-      let rest : Trace T = followed (open_trace left) more.0 in
+      let others : Trace T = trace_of (drop n t.items) t.ending in
+      let more : Trace T = seq ss' others in
+      let rest : Trace T = followed (open_trace left) more in
+      let on = fed-goes_on ss ss' (first_items n t) (before.out ++ made) before.fed in
       let answer : seq ss t ≡ followed (open_trace before.out) (followed (open_trace given) rest) =
-      more.1
-      ∙ ap (λ xs. followed (open_trace (before.out ++ xs)) more.0) hands.parts
-      ∙ followed-followed (open_trace before.out) (open_trace (given ++ left)) more.0
-      ∙ ap (followed (open_trace before.out)) (followed-followed (open_trace given) (open_trace left) more.0) in
+      ap (λ xs. seq ss (trace_of xs t.ending)) (sym (take-append-drop n t.items))
+      ∙ on.answers others
+      ∙ ap (λ xs. followed (open_trace (before.out ++ xs)) more) hands.parts
+      ∙ followed-followed (open_trace before.out) (open_trace (given ++ left)) more
+      ∙ ap (followed (open_trace before.out)) (followed-followed (open_trace given) (open_trace left) more) in
       let later : List (List T) = batches_from size (held_back size held given) rest in
       let all : batches_from size [] (seq ss t) ≡ full_batches size [] before.out ++ (full_batches size held given ++ later) =
       ap (batches_from size []) answer

@@ -4,6 +4,4 @@ pub mod Joins
 pub mod Delivered
 pub mod Offers
 pub mod Whole
-pub mod Told
-pub mod Joiners
 pub mod Lent

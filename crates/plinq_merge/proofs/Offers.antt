@@ -1,7 +1,7 @@
--- What an offer to a merger brings: what the answer gains by it, and what the merger answers and reports.
+-- What an offer to a merger brings: what the answer gains by it, and what the merger answers.
 use Rattle.std.specs.Prelude.{◌≡◌, ℕ, List, [], ◌∷◌, ◌++◌, Bool, true, false, cond, Option, Some, None, Result, Ok, Err, is_some, refl, not}
 use Rattle.std.proofs.Common.{sym, ◌∙◌, ap, subst}
-use Rattle.std.proofs.lemmas.Bool.{and_parts}
+use Rattle.std.proofs.lemmas.Bool.{and_parts, not-true}
 use Rattle.plinq_source.specs.declared.ending.Ending.{Ending}
 use Rattle.plinq_source.specs.declared.ending.Ending.TheVariants.{End}
 use Rattle.plinq_source.specs.Trace.{Trace, open_trace, ended, followed}
@@ -137,11 +137,8 @@ module _ {L T : Type 0} (meaning : L → Meaning T) (decided : Bool) where
         let gives = made.gives in
         ap (λ t. t.ending) (answer-gained w offers r joins.gained rests (joins.grows offers rests.waits)) ∙ gives.0
 
-abbrev answered : Option Ending → Result (Option Ending) DeliveryFault
-answered e = Ok e
-
 -- an answer that has ended isn't open
-pub some_not_none : {A : Type 0} (e : Option Ending) → is_some e ≡ true → answered e ≡ answered None → A
+pub some_not_none : {A : Type 0} (e : Option Ending) → is_some e ≡ true → ◌≡◌ {A = Result (Option Ending) DeliveryFault} (Ok e) (Ok None) → A
 some_not_none None some none = absurd (let bad : false ≡ true = some in cc)
 some_not_none (Some e) some none = absurd (cc)
 
@@ -149,11 +146,7 @@ some_not_none (Some e) some none = absurd (cc)
 pub nothing-given : {L T : Type 0} (meaning : L → Meaning T) (d : Deliver L T) → can_deliver meaning d ≡ true → seq (stages meaning d.pipeline) (open_trace []) ≡ open_trace []
 nothing-given meaning d can =
     let parts = and_parts (not (some_takes_none (stages meaning d.pipeline))) (is_below (size_of d.buffer) (held_of d.buffer)) can in
-    seq-nothing (stages meaning d.pipeline) None (none-taken (some_takes_none (stages meaning d.pipeline)) parts.0)
-  where
-    none-taken : (b : Bool) → not b ≡ true → b ≡ false
-    none-taken true is = absurd (cc)
-    none-taken false is = refl
+    seq-nothing (stages meaning d.pipeline) None (not-true (some_takes_none (stages meaning d.pipeline)) parts.0)
 
 module _ {L T : Type 0} (meaning : L → Meaning T) (decided : Bool) where
   module _ {K : Type 0} (accepts : K → List T → K → Type 0) (refuses : K → List T → ℕ → K → Type 0) where

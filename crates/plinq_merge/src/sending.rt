@@ -94,8 +94,8 @@ where
     K::Item: Copy,
     requires { HasRoom buffer.old }
     ensures size { size_of buffer.new ≡ size_of buffer.old }
-    ensures room { OnOk result (ending ≡ None → HasRoom buffer.new) }
-    ensures held { OnOk result (ending ≡ None → held_of buffer.new ≡ held_back (size_of buffer.old) (held_of buffer.old) items.now) }
+    ensures kept { OnOk result (ending ≡ None →
+        HasRoom buffer.new × (held_of buffer.new ≡ held_back (size_of buffer.old) (held_of buffer.old) items.now)) }
     ensures sent { Delivers K.accepts K.refuses sink.old
         (batches_from (size_of buffer.old) (held_of buffer.old) (record { items = items.now; ending = ending })) result sink.new }
 {

@@ -19,7 +19,7 @@ use Rattle.plinq_merge.specs.Mergers.{delivery_fault_of}
 use Rattle.plinq_merge.specs.Shown.{merged}
 use Rattle.plinq_merge.specs.Taking.{IsTaking}
 use Rattle.plinq_merge.specs.Whole.{AreApart}
-use Rattle.plinq_merge.proofs.Joiners.{AreOneMore, joined-cases, takes-joined, takes-broken, joined-stopped}
+use Rattle.plinq_merge.proofs.Joins.{AreOneMore, joined-cases, takes-joined, takes-broken, joined-stopped}
 use Rattle.plinq_partition.specs.Partitions.{all_shares}
 use Rattle.plinq_stream.specs.declared.sent.Sent.{Sent}
 use Rattle.plinq_crew.specs.declared.conducting.Returned.{Returned}

@@ -1,4 +1,4 @@
-use Rattle.plinq_merge.proofs.Told.{told-of_record}
+use Rattle.plinq_merge.proofs.Whole.{told-of_record}
 use Rattle.plinq_merge.proofs.laws.tails_tell_the_end.Goals as goal
 
 pub returns : goal.returns

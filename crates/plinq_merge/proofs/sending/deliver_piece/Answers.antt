@@ -10,13 +10,12 @@ returns-in_err-deliver_full-clause-sent g c =
     let is : c.from_residual.result ≡ Err c.in_err-deliver_full.field-0.0 = search rules in
     delivers-at_err _ _ _ _ _ _ _ is (cut-before _ _ _ _ _ _ _ c.in_err-deliver_full.ensures.filled.sent)
 
-pub returns-clause-room : goal.returns-clause-room
-returns-clause-room g c = on-any (c.args.ending ≡ None → HasRoom c.deliver_last.new.buffer) _ (λ none. rw (c.deliver_last.ensures.same none) c.in_ok-deliver_full.ensures.room)
-
-pub returns-clause-held : goal.returns-clause-held
-returns-clause-held g c =
+pub returns-clause-kept : goal.returns-clause-kept
+returns-clause-kept g c =
     let before = c.args.buffer.now in
-    on-any (c.args.ending ≡ None → held_of c.deliver_last.new.buffer ≡ held_back (size_of before) (held_of before) c.args.items.now) _ (λ none. rw (c.deliver_last.ensures.same none) c.in_ok-deliver_full.ensures.filled.held)
+    let after = c.deliver_last.new.buffer in
+    on-any (c.args.ending ≡ None → HasRoom after × (held_of after ≡ held_back (size_of before) (held_of before) c.args.items.now)) _
+    (λ none. rw (c.deliver_last.ensures.same none) (c.in_ok-deliver_full.ensures.room, c.in_ok-deliver_full.ensures.filled.held))
 
 pub returns-clause-sent : goal.returns-clause-sent
 returns-clause-sent g c =

@@ -1,6 +1,6 @@
 use Rattle.std.proofs.Common.{rules, ◌≡◌, [], None, refl, sym, ap, ◌∙◌, subst}
 use Rattle.plinq_merge.specs.Joiners.{HasJoined}
-use Rattle.plinq_merge.proofs.Joiners.{begun-joined}
+use Rattle.plinq_merge.proofs.Joins.{begun-joined}
 use Rattle.plinq_stream.specs.Passes.{IsPassOf, known}
 use Rattle.plinq_partition.specs.Partitions.{all_shares}
 use Rattle.plinq_crew.specs.Conducting.{AcceptsEach, Conducts, IsOfCrew}
