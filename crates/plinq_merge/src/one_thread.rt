@@ -54,10 +54,10 @@ where
     deliver_answer(alloc, query, 1, source, sink)
 }
 
-/// Delivers the batches and answers the ending of [`deliver_sequentially`], and asks the source
-/// for 512 elements at once. This is for a source and functions that keep nobody waiting: the source may be asked for 511
-/// elements more than the answer wants, each operator sees a block before the next one does, and a batch waits for all of
-/// its block. A query with a SelectMany gets one element at a time, since expansions may be long.
+/// Delivers the batches and answers the ending of [`deliver_sequentially`], and asks the source for 512 elements at once. This
+/// is for a source and functions that keep nobody waiting: the source may be asked for 511 elements more than the answer wants,
+/// each operator sees a block before the next one does, and a batch waits for all of its block. A query with a SelectMany gets
+/// one element at a time, since expansions may be long.
 ///
 /// The source must have given nothing.
 ///
