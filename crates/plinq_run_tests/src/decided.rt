@@ -2,13 +2,13 @@
 ghost use Rattle.std.specs.Prelude.{◌≡◌, IfSome};
 ghost use Rattle.plinq_source.specs.Walked.{range_given};
 
+use crate::testing::{Taken, query_of};
 use plinq_aggregate::Count;
 use plinq_enumerator::Growth;
 use plinq_lambda::Formula;
 use plinq_ops::{MergeOption, Op, Query};
 use plinq_run::{OpenGate, aggregate, run};
 use plinq_source::{Ending, RangeSource, Source, Step};
-use plinq_testing::{Taken, query_of};
 use std::alloc::Global;
 use std::sync::Wait;
 use std::sync::atomic::{AtomicBool, Ordering};

@@ -1,12 +1,12 @@
 //! What is reported to a gate.
 use crate::asked::{Setting, ask_range};
+use crate::testing::{WORKERS, built};
 use plinq_aggregate::Sum;
 use plinq_enumerator::Growth;
 use plinq_lambda::Formula;
 use plinq_ops::{BuildFault, MergeOption, Op, Query};
 use plinq_run::{Gate, aggregate};
 use plinq_source::RangeSource;
-use plinq_testing::{WORKERS, built};
 use std::alloc::{AllocError, Global};
 use std::sync::Wait;
 use std::sync::atomic::{AtomicBool, AtomicU64, Ordering};

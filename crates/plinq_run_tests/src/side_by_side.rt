@@ -1,8 +1,8 @@
 //! That workers go at once.
 use crate::asked::{Setting, ask_range};
+use crate::testing::waits_for;
 use plinq_lambda::Formula;
 use plinq_run::Gate;
-use plinq_testing::waits_for;
 use std::alloc::Global;
 use std::sync::Wait;
 use std::sync::atomic::{AtomicBool, AtomicU64, Ordering};

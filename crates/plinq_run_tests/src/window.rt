@@ -1,12 +1,12 @@
 //! How far workers run ahead of what is merged.
 use crate::asked::{Setting, ask_range};
+use crate::testing::ordered;
 use plinq_aggregate::Count;
 use plinq_enumerator::Growth;
 use plinq_lambda::Formula;
 use plinq_ops::{MergeOption, Op};
 use plinq_run::{Gate, aggregate};
 use plinq_source::RangeSource;
-use plinq_testing::ordered;
 use std::alloc::Global;
 use std::hint::spin_loop;
 use std::sync::Wait;

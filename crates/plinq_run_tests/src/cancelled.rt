@@ -1,24 +1,22 @@
 //! What a run has delivered that its token stopped.
 ghost use Rattle.std.specs.Prelude.{◌≡◌, false, ⊤};
 
+use crate::testing::{Taken, WORKERS, built, ordered, waits_for};
 use plinq_enumerator::Growth;
 use plinq_lambda::Formula;
 use plinq_merge::{Cancel, CancelAfter, CancelFlag, Sink};
 use plinq_ops::{MergeOption, Query};
-use plinq_run::{OpenGate, Report, RunFault, run_with};
-use plinq_source::RangeSource;
-use plinq_testing::{Taken, WORKERS, built, ordered, waits_for};
+use plinq_run::{OpenGate, RunFault, run_with};
+use plinq_source::{Ending, RangeSource};
 use std::alloc::Global;
 use std::sync::Wait;
 use std::sync::atomic::{AtomicU64, Ordering};
 use std::test::*;
 use std::thread::{Threads, join};
 
-fn is_cancelled(told: &Result<Report, RunFault>) -> bool {
-    matches!(told, Err(RunFault::Cancelled))
-}
+const CANCELLED: Result<Ending, RunFault> = Err(RunFault::Cancelled);
 
-/// What a run of so many numbers reports.
+/// How a run of so many numbers ends.
 fn told_of<C, K, R>(
     rt: &R,
     alloc: Global,
@@ -26,7 +24,7 @@ fn told_of<C, K, R>(
     count: u64,
     token: &mut C,
     sink: &mut K,
-) -> Result<Report, RunFault>
+) -> Result<Ending, RunFault>
 where
     C: Cancel,
     K: Sink<Item = i64>,
@@ -36,7 +34,7 @@ where
     let Ok(source) = RangeSource::new(1, count) else {
         return Err(RunFault::Incomplete);
     };
-    run_with(
+    match run_with(
         rt,
         alloc,
         query,
@@ -45,7 +43,10 @@ where
         &OpenGate,
         token,
         sink,
-    )
+    ) {
+        Ok(report) => Ok(report.ending),
+        Err(fault) => Err(fault),
+    }
 }
 
 /// How many batches a run has delivered that its token stops after so many, and whether the token has told so.
@@ -58,7 +59,7 @@ fn delivered<R: Threads + Wait + Sync>(
     let mut token = CancelAfter::new(most);
     let mut sink = Taken::new(alloc, usize::MAX);
     let told = told_of(rt, alloc, query, 3, &mut token, &mut sink);
-    (sink.batches.len(), is_cancelled(&told), token.told())
+    (sink.batches.len(), told == CANCELLED, token.told())
 }
 
 #[test]
@@ -86,7 +87,7 @@ fn is_stopped_at_once<R: Threads + Wait + Sync>(
     let mut token = flag.token();
     let mut sink = Taken::new(alloc, usize::MAX);
     let told = told_of(rt, alloc, query, 17, &mut token, &mut sink);
-    is_cancelled(&told) && sink.batches.is_empty()
+    told == CANCELLED && sink.batches.is_empty()
 }
 
 /// A sink that counts batches, and sets a flag when it has taken so many.
@@ -132,7 +133,7 @@ fn is_stopped_at_the_third<R: Threads + Wait + Sync>(
         last: 0,
     };
     let told = told_of(rt, alloc, query, 17, &mut token, &mut sink);
-    is_cancelled(&told) && sink.taken == 2 && sink.last == 2
+    told == CANCELLED && sink.taken == 2 && sink.last == 2
 }
 
 /// How many numbers a run is asked for that another thread stops.
@@ -189,7 +190,7 @@ fn is_stopped_by_another<R: Threads + Wait + Sync>(
         has_come
     };
     let (told, has_come) = join(rt, running, stopping);
-    is_cancelled(&told) && has_come && taken.load(Ordering::SeqCst) == STOPPED_AT
+    told == CANCELLED && has_come && taken.load(Ordering::SeqCst) == STOPPED_AT
 }
 
 #[test]

@@ -1,13 +1,11 @@
 //! What a sink is told that has refused a batch.
 ghost use Rattle.std.specs.Prelude.{⊤};
 
-use plinq_enumerator::Growth;
+use crate::testing::{Numbers, WORKERS, ending_of, ordered, waits_for};
 use plinq_lambda::Formula;
 use plinq_merge::Sink;
 use plinq_ops::MergeOption;
-use plinq_run::{Gate, RunFault, run};
-use plinq_source::RangeSource;
-use plinq_testing::{WORKERS, ordered, waits_for};
+use plinq_run::{Gate, RunFault};
 use std::alloc::Global;
 use std::sync::Wait;
 use std::sync::atomic::{AtomicBool, AtomicU64, Ordering};
@@ -73,9 +71,8 @@ fn is_told<R: Threads + Wait + Sync>(rt: &R, alloc: Global, workers: u64) -> Opt
     };
     let gate = Lingers { heard: &heard };
     let mut sink = Refuses { heard: &heard };
-    let source = RangeSource::new(0, 3).ok()?;
-    let query = ordered::<Formula>(alloc, MergeOption::NotBuffered, workers).ok()?;
-    match run(rt, alloc, &query, source, Growth::ONE, &gate, &mut sink) {
+    let query = ordered::<Formula>(alloc, MergeOption::NotBuffered, workers);
+    match ending_of(rt, alloc, query, Numbers::below(3), &gate, &mut sink) {
         Err(RunFault::Sink(9)) => Some(heard.was_told.load(Ordering::SeqCst)),
         _ => None,
     }

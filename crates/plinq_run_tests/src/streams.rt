@@ -1,12 +1,10 @@
 ghost use Rattle.std.specs.Prelude.{⊤};
 
-use plinq_enumerator::Growth;
+use crate::testing::{KeepsBack, Numbers, WORKERS, ending_of, query_of};
 use plinq_lambda::Formula;
 use plinq_merge::Sink;
 use plinq_ops::{MergeOption, Op};
-use plinq_run::run;
-use plinq_source::{Ending, RangeSource};
-use plinq_testing::{KeepsBack, WORKERS, query_of};
+use plinq_source::Ending;
 use std::alloc::Global;
 use std::sync::Wait;
 use std::sync::atomic::{AtomicU64, Ordering};
@@ -64,17 +62,9 @@ fn is_added<K: Sink<Item = i64>, R: Threads + Wait + Sync>(
     gate: &KeepsBack<'_>,
     sink: &mut K,
 ) -> bool {
-    let Ok(source) = RangeSource::new(0, 3) else {
-        return false;
-    };
     let add_one = [Op::Select(Formula::Add(1))];
-    let Ok(query) = query_of(alloc, &add_one, MergeOption::NotBuffered, workers) else {
-        return false;
-    };
-    match run(rt, alloc, &query, source, Growth::ONE, gate, sink) {
-        Ok(report) => report.ending == Ending::End && !gate.gave_up(),
-        Err(_) => false,
-    }
+    let query = query_of(alloc, &add_one, MergeOption::NotBuffered, workers);
+    ending_of(rt, alloc, query, Numbers::below(3), gate, sink) == Ok(Ending::End) && !gate.gave_up()
 }
 
 /// Whether three batches come, where key 1 waits for the first.

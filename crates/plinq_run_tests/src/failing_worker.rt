@@ -4,13 +4,13 @@ ghost use Rattle.plinq_source.specs.Walked.{range_given};
 ghost use Rattle.plinq_lambda.specs.Formula.{formula_meaning};
 ghost use Rattle.plinq_lambda.specs.Short.{formula_meaning-short};
 
+use crate::testing::{Taken, built, lingers, waits_for};
 use plinq_enumerator::Growth;
 use plinq_lambda::{ExpandFault, Formula, Lambda};
 use plinq_merge::Sink;
 use plinq_ops::{BuildFault, MergeOption, Query};
 use plinq_run::{Gate, RunFault, run};
 use plinq_source::{RangeSource, Source, Step};
-use plinq_testing::{Taken, built, lingers, waits_for};
 use std::alloc::Global;
 use std::sync::Wait;
 use std::sync::atomic::{AtomicBool, AtomicU64, Ordering};

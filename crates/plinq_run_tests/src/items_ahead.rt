@@ -1,13 +1,12 @@
 //! How many items workers send ahead of what is merged, where each element is expanded to many.
 ghost use Rattle.std.specs.Prelude.{⊤};
 
-use plinq_enumerator::Growth;
+use crate::testing::{Numbers, built, ending_of, lingers, waits_for};
 use plinq_lambda::Formula;
 use plinq_merge::Sink;
 use plinq_ops::{BuildFault, MergeOption, Query};
-use plinq_run::{Gate, run};
-use plinq_source::{Ending, RangeSource};
-use plinq_testing::{built, lingers, waits_for};
+use plinq_run::Gate;
+use plinq_source::Ending;
 use std::alloc::Global;
 use std::sync::Wait;
 use std::sync::atomic::{AtomicU64, Ordering};
@@ -126,16 +125,9 @@ fn are_few<R: Threads + Wait + Sync>(rt: &R, alloc: Global, workers: u64, by_key
         sum: 0,
         is_in_order: true,
     };
-    let Ok(source) = RangeSource::new(0, NUMBERS) else {
-        return false;
-    };
-    let Ok(query) = expanding(alloc, workers, by_key) else {
-        return false;
-    };
-    match run(rt, alloc, &query, source, Growth::ONE, &gate, &mut sink) {
-        Ok(report) => report.ending == Ending::End && sink.has_all(by_key) && sink.had_few(),
-        Err(_) => false,
-    }
+    let query = expanding(alloc, workers, by_key);
+    let told = ending_of(rt, alloc, query, Numbers::below(NUMBERS), &gate, &mut sink);
+    told == Ok(Ending::End) && sink.has_all(by_key) && sink.had_few()
 }
 
 #[test]

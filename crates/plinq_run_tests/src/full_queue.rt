@@ -1,13 +1,13 @@
 //! More results than the queue has room for.
 ghost use Rattle.std.specs.Prelude.{⊤};
 
+use crate::testing::{Numbers, ending_of, ordered, waits_for};
 use plinq_enumerator::Growth;
 use plinq_lambda::Formula;
 use plinq_merge::Sink;
 use plinq_ops::MergeOption;
-use plinq_run::{Gate, run};
-use plinq_source::{Ending, RangeSource};
-use plinq_testing::{ordered, waits_for};
+use plinq_run::Gate;
+use plinq_source::Ending;
 use std::alloc::Global;
 use std::sync::Wait;
 use std::sync::atomic::{AtomicU64, Ordering};
@@ -87,18 +87,15 @@ fn all_come<R: Threads + Wait + Sync>(rt: &R, alloc: Global, workers: u64, growt
         next: 0,
         is_wrong: false,
     };
-    let Ok(source) = RangeSource::new(0, 2_000) else {
-        return false;
+    let query = ordered::<Formula>(alloc, MergeOption::NotBuffered, workers);
+    let numbers = Numbers {
+        growth,
+        ..Numbers::below(2_000)
     };
-    let Ok(query) = ordered::<Formula>(alloc, MergeOption::NotBuffered, workers) else {
-        return false;
-    };
-    match run(rt, alloc, &query, source, growth, &gate, &mut sink) {
-        Ok(report) => {
-            report.ending == Ending::End && !sink.gave_up && !sink.is_wrong && sink.next == 2_000
-        }
-        Err(_) => false,
-    }
+    ending_of(rt, alloc, query, numbers, &gate, &mut sink) == Ok(Ending::End)
+        && !sink.gave_up
+        && !sink.is_wrong
+        && sink.next == 2_000
 }
 
 #[test]

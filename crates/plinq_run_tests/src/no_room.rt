@@ -2,13 +2,13 @@
 ghost use Rattle.std.specs.Prelude.{Ok, true, []};
 ghost use Rattle.std.proofs.Common.{arith};
 
+use crate::testing::{Numbers, Taken, WORKERS, built, ending_of, ordered};
 use plinq_aggregate::Sum;
 use plinq_enumerator::Growth;
 use plinq_lambda::{ExpandFault, Lambda};
 use plinq_ops::{BuildFault, MergeOption, Query};
-use plinq_run::{AggregateFault, OpenGate, RunFault, aggregate, run};
+use plinq_run::{AggregateFault, OpenGate, RunFault, aggregate};
 use plinq_source::RangeSource;
-use plinq_testing::{Taken, WORKERS, built, ordered};
 use std::alloc::Global;
 use std::sync::Wait;
 use std::test::*;
@@ -45,13 +45,14 @@ fn expanding(alloc: Global, workers: u64) -> Result<Query<NoRoom>, BuildFault> {
 
 /// Whether a run says that memory ran out, and delivers nothing.
 fn is_told<R: Threads + Wait + Sync>(rt: &R, alloc: Global, workers: u64) -> bool {
-    let (Ok(source), Ok(query)) = (RangeSource::new(0, 100), expanding(alloc, workers)) else {
-        return false;
-    };
     let mut sink = Taken::new(alloc, usize::MAX);
-    let growth = Growth::DEFAULT;
-    let told = run(rt, alloc, &query, source, growth, &OpenGate, &mut sink);
-    matches!(told, Err(RunFault::Memory)) && sink.batches.is_empty()
+    let numbers = Numbers {
+        growth: Growth::DEFAULT,
+        ..Numbers::below(100)
+    };
+    let query = expanding(alloc, workers);
+    let told = ending_of(rt, alloc, query, numbers, &OpenGate, &mut sink);
+    told == Err(RunFault::Memory) && sink.batches.is_empty()
 }
 
 #[test]
@@ -63,7 +64,10 @@ fn a_worker_without_room_is_told_as_memory(rt: HostRuntime) {
 
 /// Whether an aggregate says so, whose workers fold what they compute.
 fn is_told_of_a_fold<R: Threads + Wait + Sync>(rt: &R, alloc: Global, workers: u64) -> bool {
-    let (Ok(source), Ok(query)) = (RangeSource::new(0, 100), expanding(alloc, workers)) else {
+    let Ok(source) = RangeSource::new(0, 100) else {
+        return false;
+    };
+    let Ok(query) = expanding(alloc, workers) else {
         return false;
     };
     let told = aggregate(rt, alloc, &query, source, Growth::DEFAULT, &OpenGate, &Sum);

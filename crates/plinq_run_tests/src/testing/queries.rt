@@ -3,10 +3,10 @@ use plinq_ops::{BuildFault, Built, MergeOption, Op, Query};
 use std::alloc::Global;
 
 /// How many workers a test asks with: one, some, and the most that there can be.
-pub const WORKERS: [u64; 3] = [1, 2, 64];
+pub(crate) const WORKERS: [u64; 3] = [1, 2, 64];
 
 /// All merge options.
-pub const OPTIONS: [MergeOption; 4] = [
+pub(crate) const OPTIONS: [MergeOption; 4] = [
     MergeOption::Default,
     MergeOption::NotBuffered,
     MergeOption::AutoBuffered,
@@ -14,12 +14,12 @@ pub const OPTIONS: [MergeOption; 4] = [
 ];
 
 /// What a builder call answered, without the query of one that failed.
-pub fn built<L: Lambda>(answer: Built<L>) -> Result<Query<L>, BuildFault> {
+pub(crate) fn built<L: Lambda>(answer: Built<L>) -> Result<Query<L>, BuildFault> {
     answer.map_err(|(_, fault)| fault)
 }
 
 /// A query that keeps the order, without an operator.
-pub fn ordered<L: Lambda>(
+pub(crate) fn ordered<L: Lambda>(
     alloc: Global,
     option: MergeOption,
     workers: u64,
@@ -38,7 +38,7 @@ fn with_all<L: Lambda + Copy>(query: Query<L>, ops: &[Op<L>]) -> Result<Query<L>
 }
 
 /// A query that keeps the order, with these operators.
-pub fn query_of<L: Lambda + Copy>(
+pub(crate) fn query_of<L: Lambda + Copy>(
     alloc: Global,
     ops: &[Op<L>],
     option: MergeOption,

@@ -1,12 +1,12 @@
 //! What workers do after a key that ends the run.
 ghost use Rattle.std.specs.Prelude.{Ok, Err, false};
 
+use crate::testing::{Numbers, Taken, built, ending_of, waits_for};
 use plinq_enumerator::Growth;
 use plinq_lambda::{ExpandFault, Lambda};
 use plinq_ops::{BuildFault, Query};
-use plinq_run::{Gate, Report, RunFault, run};
-use plinq_source::{Ending, RangeSource};
-use plinq_testing::{Taken, built, waits_for};
+use plinq_run::Gate;
+use plinq_source::Ending;
 use std::alloc::Global;
 use std::sync::Wait;
 use std::sync::atomic::{AtomicBool, AtomicU64, Ordering};
@@ -85,14 +85,6 @@ fn taking_while(alloc: Global, greatest: &AtomicU64) -> Result<Query<Noting<'_>>
     built(query.take_while(Noting { greatest }))
 }
 
-/// Whether a run reported an answer that ended well.
-fn is_well(told: &Result<Report, RunFault>) -> bool {
-    match told {
-        Ok(report) => report.ending == Ending::End,
-        Err(_) => false,
-    }
-}
-
 /// The greatest of 1, 2 and 3 that is tested by two workers, of which the second has its chunk before the first has ended the
 /// run.
 fn greatest_tested<R: Threads + Wait + Sync>(rt: &R, alloc: Global) -> Option<u64> {
@@ -103,11 +95,16 @@ fn greatest_tested<R: Threads + Wait + Sync>(rt: &R, alloc: Global) -> Option<u6
         goes_on: AtomicU64::new(0),
         gave_up: AtomicBool::new(false),
     };
-    let source = RangeSource::new(1, 3).ok()?;
-    let query = taking_while(alloc, &greatest).ok()?;
+    let numbers = Numbers {
+        first: 1,
+        count: 3,
+        growth: Growth::ONE,
+    };
+    let query = taking_while(alloc, &greatest);
     let mut sink = Taken::new(alloc, usize::MAX);
-    let told = run(rt, alloc, &query, source, Growth::ONE, &gate, &mut sink);
-    if is_well(&told) && sink.batches.is_empty() && !gate.gave_up.load(Ordering::SeqCst) {
+    let told = ending_of(rt, alloc, query, numbers, &gate, &mut sink);
+    let is_well = told == Ok(Ending::End) && sink.batches.is_empty();
+    if is_well && !gate.gave_up.load(Ordering::SeqCst) {
         return Some(greatest.load(Ordering::SeqCst));
     }
     None

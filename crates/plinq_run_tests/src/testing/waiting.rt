@@ -4,7 +4,7 @@ use std::sync::atomic::{AtomicBool, AtomicU64, Ordering};
 use std::thread::yield_now;
 
 /// Waits until a word is at least so much, and says whether it ever was.
-pub fn waits_for(word: &AtomicU64, least: u64) -> bool {
+pub(crate) fn waits_for(word: &AtomicU64, least: u64) -> bool {
     let backoff = Backoff::new();
     for _turn in 0..10_000_000 {
         if word.load(Ordering::SeqCst) >= least {
@@ -16,7 +16,7 @@ pub fn waits_for(word: &AtomicU64, least: u64) -> bool {
 }
 
 /// Waits a while, in which other threads that have nothing to do fall asleep.
-pub fn lingers() {
+pub(crate) fn lingers() {
     for _turn in 0..10_000 {
         yield_now();
     }
@@ -24,7 +24,7 @@ pub fn lingers() {
 
 /// A gate that keeps the worker back that has taken a chunk which begins with this key, until a word is at least so much.
 #[derive(Drop)]
-pub struct KeepsBack<'a> {
+pub(crate) struct KeepsBack<'a> {
     key: u64,
     word: &'a AtomicU64,
     least: u64,
@@ -33,7 +33,7 @@ pub struct KeepsBack<'a> {
 
 impl<'a> KeepsBack<'a> {
     /// It keeps back the worker whose chunk begins with this key.
-    pub fn at(key: u64, word: &'a AtomicU64, least: u64) -> KeepsBack<'a> {
+    pub(crate) fn at(key: u64, word: &'a AtomicU64, least: u64) -> KeepsBack<'a> {
         KeepsBack {
             key,
             word,
@@ -43,7 +43,7 @@ impl<'a> KeepsBack<'a> {
     }
 
     /// Whether the word was still less after a long time.
-    pub fn gave_up(&self) -> bool {
+    pub(crate) fn gave_up(&self) -> bool {
         self.has_given_up.load(Ordering::SeqCst)
     }
 }

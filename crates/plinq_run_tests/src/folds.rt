@@ -2,13 +2,13 @@
 ghost use Rattle.plinq_aggregate.specs.Numbers.{counting};
 ghost use Rattle.plinq_aggregate.specs.Lawful.{counting-lawful};
 
+use crate::testing::{WORKERS, ordered, query_of};
 use plinq_aggregate::{Aggregator, Sum};
 use plinq_enumerator::Growth;
 use plinq_lambda::Formula;
 use plinq_ops::{MergeOption, Op};
 use plinq_run::{Gate, aggregate};
 use plinq_source::RangeSource;
-use plinq_testing::{WORKERS, ordered, query_of};
 use std::alloc::Global;
 use std::hint::spin_loop;
 use std::sync::Wait;

@@ -5,16 +5,16 @@ use std::alloc::Global;
 
 /// A sink that keeps the batches, and refuses number `refused` with 9.
 #[derive(Drop)]
-pub struct Taken {
+pub(crate) struct Taken {
     alloc: Global,
     /// The batches that it has taken, in their order.
-    pub batches: Vec<Vec<i64>>,
+    pub(crate) batches: Vec<Vec<i64>>,
     refused: usize,
 }
 
 impl Taken {
     /// It has no batch yet. (`usize::MAX`: it refuses none.)
-    pub fn new(alloc: Global, refused: usize) -> Taken {
+    pub(crate) fn new(alloc: Global, refused: usize) -> Taken {
         Taken {
             alloc,
             batches: Vec::new(alloc),

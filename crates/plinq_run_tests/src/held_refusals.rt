@@ -3,13 +3,11 @@ ghost use Rattle.std.specs.Prelude.{⊤};
 ghost use Rattle.plinq_lambda.specs.Formula.{formula_meaning};
 ghost use Rattle.plinq_lambda.specs.Short.{formula_meaning-short};
 
-use plinq_enumerator::Growth;
+use crate::testing::{Numbers, Taken, WORKERS, ending_of, query_of, waits_for};
 use plinq_lambda::{ExpandFault, Formula, Lambda};
 use plinq_merge::Sink;
 use plinq_ops::{MergeOption, Op};
-use plinq_run::{Gate, RunFault, run};
-use plinq_source::RangeSource;
-use plinq_testing::{Taken, WORKERS, query_of, waits_for};
+use plinq_run::{Gate, RunFault};
 use std::alloc::Global;
 use std::sync::Wait;
 use std::sync::atomic::{AtomicBool, AtomicU64, Ordering};
@@ -137,23 +135,21 @@ fn ends<R: Threads + Wait + Sync>(
         formula: Formula::Add(0),
         holds: &holds,
     };
-    let Ok(source) = RangeSource::new(0, 100) else {
-        return false;
-    };
-    let ops = [Op::Select(sending)];
-    let Ok(query) = query_of(alloc, &ops, MergeOption::NotBuffered, workers) else {
-        return false;
-    };
+    let query = query_of(
+        alloc,
+        &[Op::Select(sending)],
+        MergeOption::NotBuffered,
+        workers,
+    );
     let mut sink = Refusing {
         taken: Taken::new(alloc, refused as usize),
         holds: &holds,
     };
-    let told = run(rt, alloc, &query, source, Growth::ONE, &holds, &mut sink);
-    let Refusing { taken, .. } = sink;
-    matches!(told, Err(RunFault::Sink(9)))
+    let told = ending_of(rt, alloc, query, Numbers::below(100), &holds, &mut sink);
+    told == Err(RunFault::Sink(9))
         && !holds.gave_up.load(Ordering::SeqCst)
-        && taken.batches.len() as u64 == refused
-        && are_first(&taken.batches)
+        && sink.taken.batches.len() as u64 == refused
+        && are_first(&sink.taken.batches)
 }
 
 #[test]

@@ -2,6 +2,7 @@
 //! in turn.
 ghost use Rattle.std.specs.Prelude.{⊤};
 
+use crate::testing::built;
 use plinq_aggregate::Sum;
 use plinq_enumerator::Growth;
 use plinq_lambda::Formula;
@@ -9,7 +10,6 @@ use plinq_merge::Sink;
 use plinq_ops::{BuildFault, MergeOption, Query};
 use plinq_run::{AggregateFault, OpenGate, RunFault, aggregate, run};
 use plinq_source::{Ending, RangeSource};
-use plinq_testing::built;
 use std::alloc::Global;
 use std::sync::Wait;
 use std::thread::Threads;
