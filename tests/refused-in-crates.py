@@ -21,14 +21,14 @@ from support.program import HANGS, ROOT, Tests, shared_library
 # are refused through the calls that use them, `offer_with` through `offer`, and `run_with` and those of the program by
 # refused-allocations.py.
 CALLS = {
-    "TicketLock::new": ("partition", "lock::a_lock_that_is_refused_is_out_of_memory"),
-    "Enumerator::ask and close": ("partition", "enumerators::a_refused_growth_changes_nothing"),
-    "Lambda::expand of Formula": ("partition", "formulas::expands_or_says_that_memory_ran_out"),
-    "Chunked::new and partitions, Partition::take, try_take and stop": ("partition", "refusals::a_refused_allocation_changes_nothing"),
-    "Partition::try_take of a first chunk": ("partition", "refusals::a_refused_first_chunk_uses_up_a_ticket"),
-    "Partition::stop before any take": ("partition", "refusals::a_refused_stop_closes_nothing"),
-    "Chunked::with_first_ticket and TicketLock::with_first_ticket": ("partition", "refusals::a_refused_start_at_a_ticket_is_memory"),
-    "RangeParts::partitions and PairParts::partitions": ("partition", "lists::a_refused_growth_is_memory"),
+    "TicketLock::new": ("merge", "lock::a_lock_that_is_refused_is_out_of_memory"),
+    "Enumerator::ask and close": ("merge", "enumerators::a_refused_growth_changes_nothing"),
+    "Lambda::expand of Formula": ("merge", "formulas::expands_or_says_that_memory_ran_out"),
+    "Chunked::new and partitions, Partition::take, try_take and stop": ("merge", "refusals::a_refused_allocation_changes_nothing"),
+    "Partition::try_take of a first chunk": ("merge", "refusals::a_refused_first_chunk_uses_up_a_ticket"),
+    "Partition::stop before any take": ("merge", "refusals::a_refused_stop_closes_nothing"),
+    "Chunked::with_first_ticket and TicketLock::with_first_ticket": ("merge", "refusals::a_refused_start_at_a_ticket_is_memory"),
+    "RangeParts::partitions and PairParts::partitions": ("merge", "lists::a_refused_growth_is_memory"),
     "the builder calls of Query": ("merge", "refused_room::a_builder_call_that_is_refused_hands_the_query_back"),
     "sequential": ("merge", "refused_room::an_answer_that_is_refused_is_given_the_next_time"),
     "sequential with a Skip and a Take": ("merge", "answers::answers_or_says_that_memory_ran_out"),

@@ -1,14 +1,6 @@
 //! How a merger says why it refuses, and how a delivery does.
+use crate::expecting::says;
 use plinq_merge::{DeliveryFault, MergeFault};
-use std::alloc::Global;
-use std::fmt::Display;
-
-fn says<T: Display>(alloc: Global, fault: &T, text: &str) -> bool {
-    match format!(in alloc; "{fault}") {
-        Ok(words) => words.as_str() == text,
-        Err(_) => false,
-    }
-}
 
 #[test]
 fn faults_of_a_merger_in_words(rt: HostRuntime) {

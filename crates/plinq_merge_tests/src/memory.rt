@@ -85,7 +85,8 @@ fn are_merged(alloc: Global, merger: Merger<'_, Formula>) -> bool {
         }
         failed = answer.is_err();
     }
-    !sink.is_wrong && ends(merger, sink.count, failed)
+    let is_end = ends(merger, sink.count, failed);
+    is_end && !sink.is_wrong
 }
 
 // Whether a merger does so that is made at the second attempt where the first is refused.

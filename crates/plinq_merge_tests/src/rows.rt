@@ -38,9 +38,11 @@ fn are_merged(alloc: Global) -> Option<bool> {
         batches: 0,
         are_wanted: false,
     };
-    let are_taken = merger.offer(last, &mut sink).is_ok() && merger.offer(first, &mut sink).is_ok();
+    let is_last_taken = merger.offer(last, &mut sink).is_ok();
+    let is_first_taken = merger.offer(first, &mut sink).is_ok();
+    let is_end = merger.finish() == Ok(Ending::End);
     let is_one = sink.batches == 1 && sink.are_wanted;
-    Some(are_taken && is_one && merger.finish() == Ok(Ending::End))
+    Some(is_last_taken && is_first_taken && is_end && is_one)
 }
 
 #[test]

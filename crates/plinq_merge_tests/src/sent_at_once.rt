@@ -73,6 +73,17 @@ fn are_next(alloc: Global, how: How, query: Built<Formula>, rows: &[(u64, i64)])
     true
 }
 
+// The same of a query with one operator.
+fn are_next_of(
+    alloc: Global,
+    how: How,
+    option: MergeOption,
+    op: Op<Formula>,
+    rows: &[(u64, i64)],
+) -> bool {
+    are_next(alloc, how, query_of(alloc, option, op), rows)
+}
+
 // Whether a source is asked for nothing where nothing is taken.
 fn asks_nothing(alloc: Global, how: How) -> bool {
     let Ok(query) = query_of(alloc, MergeOption::NotBuffered, Op::Take(0)) else {
@@ -98,10 +109,11 @@ fn each_item_is_sent_at_once(rt: HostRuntime) {
     let even = Op::Filter(Formula::Even);
     let rows = [(0, 3), (4, 11)];
     assert!(rt;
-        are_next(
+        are_next_of(
             rt.alloc(),
             How::Singly,
-            query_of(rt.alloc(), MergeOption::NotBuffered, even),
+            MergeOption::NotBuffered,
+            even,
             &rows
         )
     );
@@ -112,10 +124,11 @@ fn sixteen_items_are_sent_at_once(rt: HostRuntime) {
     let even = Op::Filter(Formula::Even);
     let rows = [(0, 33), (2, 97)];
     assert!(rt;
-        are_next(
+        are_next_of(
             rt.alloc(),
             How::Singly,
-            query_of(rt.alloc(), MergeOption::AutoBuffered, even),
+            MergeOption::AutoBuffered,
+            even,
             &rows
         )
     );
@@ -128,10 +141,11 @@ fn a_batch_that_was_begun_is_filled_up(rt: HostRuntime) {
     let fives = Op::SelectMany(Formula::Repeat(5));
     let rows = [(0, 5), (1, 8), (2, 11)];
     assert!(rt;
-        are_next(
+        are_next_of(
             rt.alloc(),
             How::Singly,
-            query_of(rt.alloc(), MergeOption::AutoBuffered, fives),
+            MergeOption::AutoBuffered,
+            fives,
             &rows
         )
     );
@@ -143,10 +157,11 @@ fn each_item_of_a_block_is_a_batch(rt: HostRuntime) {
     let even = Op::Filter(Formula::Even);
     let rows = [(0, 513), (255, 513), (256, 1_025)];
     assert!(rt;
-        are_next(
+        are_next_of(
             rt.alloc(),
             How::InBlocks,
-            query_of(rt.alloc(), MergeOption::NotBuffered, even),
+            MergeOption::NotBuffered,
+            even,
             &rows
         )
     );
@@ -158,10 +173,11 @@ fn a_batch_goes_on_in_the_next_block(rt: HostRuntime) {
     let later = Op::Skip(17);
     let rows = [(0, 513), (29, 513), (30, 1_025), (61, 1_025), (62, 1_537)];
     assert!(rt;
-        are_next(
+        are_next_of(
             rt.alloc(),
             How::InBlocks,
-            query_of(rt.alloc(), MergeOption::AutoBuffered, later),
+            MergeOption::AutoBuffered,
+            later,
             &rows
         )
     );
@@ -172,10 +188,11 @@ fn expansions_come_one_by_one_in_any_case(rt: HostRuntime) {
     let fives = Op::SelectMany(Formula::Repeat(5));
     let rows = [(0, 5), (1, 8), (2, 11)];
     assert!(rt;
-        are_next(
+        are_next_of(
             rt.alloc(),
             How::InBlocks,
-            query_of(rt.alloc(), MergeOption::AutoBuffered, fives),
+            MergeOption::AutoBuffered,
+            fives,
             &rows
         )
     );
@@ -196,19 +213,13 @@ fn a_query_that_takes_nothing_asks_for_nothing(rt: HostRuntime) {
 #[test]
 fn a_full_answer_is_sent_at_its_end(rt: HostRuntime) {
     let full = MergeOption::FullyBuffered;
+    assert!(rt; are_next_of(rt.alloc(), How::Singly, full, Op::Take(700), &[(0, 701)]));
     assert!(rt;
-        are_next(
-            rt.alloc(),
-            How::Singly,
-            query_of(rt.alloc(), full, Op::Take(700)),
-            &[(0, 701)]
-        )
-    );
-    assert!(rt;
-        are_next(
+        are_next_of(
             rt.alloc(),
             How::InBlocks,
-            query_of(rt.alloc(), full, Op::Take(700)),
+            full,
+            Op::Take(700),
             &[(0, 1_025)]
         )
     );

@@ -1,4 +1,0 @@
-use Rattle.plinq_partition_tests.proofs.chunked.lend.Goals as goal
-
-pub returns : goal.returns
-returns c = c.reuse.ensures.of c.args.chunked.now c.requires
