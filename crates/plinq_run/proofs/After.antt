@@ -14,7 +14,7 @@ use Rattle.plinq_merge.specs.Tokens.{AsksAfter, most_of}
 use Rattle.plinq_merge.proofs.Lent.{leads-map}
 use Rattle.plinq_run.specs.declared.report.Report.{Report}
 use Rattle.plinq_run.specs.declared.run_fault.RunFault.{RunFault}
-use Rattle.plinq_run.specs.declared.run_fault.RunFault.TheVariants.{Memory, Sink, Tickets, Thread, Incomplete, Cancelled}
+use Rattle.plinq_run.specs.declared.run_fault.RunFault.TheVariants.{Cancelled}
 use Rattle.plinq_run.specs.Stopping.{RunsWith, StopsAfter}
 
 module _ {K T : Type 0} (accepts : K → List T → K → Type 0) where
@@ -80,8 +80,4 @@ module _ {K T : Type 0} (accepts : K → List T → K → Type 0) where
           subst (λ s. Leads accepts d.sink (take (most_of d.token) (batches option u)) s) (sym stops.sink)
               (subst (λ l. Leads accepts d.sink l last.sink) (sym first) (sinks d h.sent last h.leads)),
         )
-    stops-after (Err (Sink code)) h = tt
-    stops-after (Err Memory) h = tt
-    stops-after (Err Tickets) h = tt
-    stops-after (Err Thread) h = tt
-    stops-after (Err Incomplete) h = tt
+    stops-after (Err fault) h = tt

@@ -10,7 +10,7 @@ use Rattle.plinq_lambda.specs.Meaning.{Meaning}
 use Rattle.plinq_keyed.specs.declared.chunk.Chunk.{Chunk}
 use Rattle.plinq_keyed.specs.declared.record.Record.{Record}
 use Rattle.plinq_keyed.specs.declared.tail.Tail.{Tail}
-use Rattle.plinq_keyed.specs.declared.tail.Tail.TheVariants.{Ended, Refused, Closed}
+use Rattle.plinq_keyed.specs.declared.tail.Tail.TheVariants.{Closed}
 use Rattle.plinq_keyed.specs.Keys.{is_among}
 use Rattle.plinq_ops.specs.declared.frag_end.FragEnd.TheVariants.{Dropped}
 use Rattle.plinq_ops.specs.declared.op.Op.{Op}
@@ -88,9 +88,8 @@ module _ {L T : Type 0} (meaning : L → Meaning T) (worker : List (Op L)) where
   told-first : (t first : Trace T) (key : ℕ) (tail : Option Tail) → length first.items ≤ length t.items → key ≤ length first.items → (is_end tail ≡ true → first.ending ≡ t.ending)
       → IfSome (told_at key tail) (EndsAt t) → IfSome (told_at key tail) (EndsAt first)
   told-first t first key None less within told at = tt
-  told-first t first key (Some Ended) less within told at = (omega (arith, less, within, at.0), told refl ∙ at.1)
-  told-first t first key (Some (Refused code)) less within told at = (omega (arith, less, within, at.0), told refl ∙ at.1)
   told-first t first key (Some Closed) less within told at = tt
+  told-first t first key (Some tail) less within told at = (omega (arith, less, within, at.0), told refl ∙ at.1)
 
 pub result-covered : {L T : Type 0} (meaning : L → Meaning T) (plan : Plan L) (t first : Trace T) (records : List Record) (r : ChunkResult T)
     → length t.items ≤ 2 ^ 40 → Covers t records first → IsOffered (IsResult meaning plan t) records r → IsResult meaning plan first r

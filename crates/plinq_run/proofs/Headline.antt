@@ -4,11 +4,11 @@ use Rattle.std.specs.Prelude.{◌≡◌, refl, ℕ, pos, negsuc, List, [], ◌�
 use Rattle.std.proofs.Common.{arith, ap, sym, subst, ◌∙◌, append_assoc, append-nil}
 use Rattle.std.proofs.lemmas.Bool.Decides.{nat_tests}
 use Rattle.plinq_source.specs.declared.ending.Ending.{Ending}
-use Rattle.plinq_source.specs.declared.ending.Ending.TheVariants.{End, Refused, Fault}
+use Rattle.plinq_source.specs.declared.ending.Ending.TheVariants.{End}
 use Rattle.plinq_source.specs.Trace.{Trace, ended, followed}
 use Rattle.plinq_lambda.specs.Meaning.{Meaning}
 use Rattle.plinq_ops.specs.declared.merge_option.MergeOption.{MergeOption}
-use Rattle.plinq_ops.specs.declared.merge_option.MergeOption.TheVariants.{Default, NotBuffered, AutoBuffered, FullyBuffered}
+use Rattle.plinq_ops.specs.declared.merge_option.MergeOption.TheVariants.{NotBuffered, FullyBuffered}
 use Rattle.plinq_ops.specs.declared.op.Op.{Op}
 use Rattle.plinq_ops.specs.declared.op.Op.TheVariants.{Select, Filter, SelectMany, Take, Skip, TakeWhile, SkipWhile, AsUnordered}
 use Rattle.plinq_ops.specs.Answer.{MayAnswer}
@@ -22,7 +22,7 @@ use Rattle.plinq_ops.specs.Stage.{joined, taken, apply, seq}
 use Rattle.plinq_merge.specs.Sending.{Leads, TakesBeginning}
 use Rattle.plinq_run.specs.declared.report.Report.{Report}
 use Rattle.plinq_run.specs.declared.run_fault.RunFault.{RunFault}
-use Rattle.plinq_run.specs.declared.run_fault.RunFault.TheVariants.{Memory, Sink, Tickets, Thread, Incomplete, Cancelled}
+use Rattle.plinq_run.specs.declared.run_fault.RunFault.TheVariants.{Sink, Cancelled}
 use Rattle.plinq_run.specs.Endings.{reported}
 use Rattle.plinq_run.specs.Headline.{before, or_fault, each, does, answers, in_batches, handed_over, HasDelivered}
 use Rattle.plinq_run.specs.Reports.{Reports}
@@ -38,8 +38,7 @@ module _ {T : Type 0} where
 
   filters : (r : Result Bool ℕ) (x : T) (rest : Trace T) → followed (filtered r x) rest ≡ or_fault r (λ passes. if passes then before (x ∷ []) rest else rest)
   filters (Ok true) x rest = refl
-  filters (Ok false) x rest = refl
-  filters (Err code) x rest = refl
+  filters answer x rest = refl
 
   expands : (r : Result (List T) ℕ) (rest : Trace T) → followed (selected_many r) rest ≡ or_fault r (λ ys. before ys rest)
   expands (Ok ys) rest = refl
@@ -47,14 +46,12 @@ module _ {T : Type 0} where
 
   takes_while : (r : Result Bool ℕ) (x : T) (rest : Trace T) → followed (taken_while r x) rest ≡ or_fault r (λ passes. if passes then before (x ∷ []) rest else ended [] End)
   takes_while (Ok true) x rest = refl
-  takes_while (Ok false) x rest = refl
-  takes_while (Err code) x rest = refl
+  takes_while answer x rest = refl
 
   skips_while : (r : Result Bool ℕ) (xs : List T) (e : Option Ending) (rest : Trace T)
       → skipped_from r xs e rest ≡ or_fault r (λ passes. if passes then rest else record { items = xs; ending = e })
   skips_while (Ok true) xs e rest = refl
-  skips_while (Ok false) xs e rest = refl
-  skips_while (Err code) xs e rest = refl
+  skips_while answer xs e rest = refl
 
   -- where each piece, followed by what comes of the later items, is what an item gives
   joined-each : {A : Type 0} (asks : T → Result A ℕ) (gives : T → A → Trace T → Trace T → Trace T) (piece : T → Trace T)
@@ -116,12 +113,9 @@ module _ {T : Type 0} where
   kept xs (Some e) = []
 
   last : (n : ℕ) (xs : List T) (e : Option Ending) → in_hand xs ≡ last_batch (Some n) xs e ++ kept xs e
-  last n [] None = refl
   last n [] (Some e) = refl
-  last n (x ∷ xs) None = refl
   last n (x ∷ xs) (Some End) = refl
-  last n (x ∷ xs) (Some (Refused code)) = refl
-  last n (x ∷ xs) (Some (Fault code)) = refl
+  last n xs e = refl
 
   -- the batches are all that is handed over, or the beginning of it where more may come
   pub record IsBeginning (option : Option MergeOption) (u : Trace T) : Type 0 where
@@ -148,12 +142,9 @@ module _ {T : Type 0} where
   all-held hand (x ∷ xs) = all-held (hand ++ x ∷ []) xs ∙ append_assoc hand (x ∷ []) xs
 
   at_end : (xs : List T) (e : Option Ending) → handed_over (Some FullyBuffered) xs e ≡ last_batch None xs e
-  at_end [] None = refl
   at_end [] (Some e) = refl
-  at_end (x ∷ xs) None = refl
   at_end (x ∷ xs) (Some End) = refl
-  at_end (x ∷ xs) (Some (Refused code)) = refl
-  at_end (x ∷ xs) (Some (Fault code)) = refl
+  at_end xs e = refl
 
   whole : (u : Trace T) → handed_over (Some FullyBuffered) u.items u.ending ≡ batches_from None [] u ++ []
   whole u =
@@ -165,9 +156,7 @@ module _ {T : Type 0} where
   begins : (option : Option MergeOption) (u : Trace T) → IsBeginning option u
   begins (Some NotBuffered) u = record { more = kept (held_back (Some 1) [] u.items) u.ending; parts = by_size 1 u; all = kept-none (held_back (Some 1) [] u.items) u.ending }
   begins (Some FullyBuffered) u = record { more = []; parts = whole u; all = λ e is. refl }
-  begins (Some AutoBuffered) u = record { more = kept (held_back (Some 16) [] u.items) u.ending; parts = by_size 16 u; all = kept-none (held_back (Some 16) [] u.items) u.ending }
-  begins (Some Default) u = record { more = kept (held_back (Some 16) [] u.items) u.ending; parts = by_size 16 u; all = kept-none (held_back (Some 16) [] u.items) u.ending }
-  begins None u = record { more = kept (held_back (Some 16) [] u.items) u.ending; parts = by_size 16 u; all = kept-none (held_back (Some 16) [] u.items) u.ending }
+  begins option u = record { more = kept (held_back (Some 16) [] u.items) u.ending; parts = by_size 16 u; all = kept-none (held_back (Some 16) [] u.items) u.ending }
 
   -- ---- runs
 
@@ -190,11 +179,8 @@ module _ {T : Type 0} where
     runs-delivered refuses (Err (Sink code)) (first, next, rest, between, parts, leads, refused) =
         let b = begins option u in
         (first, next, rest ++ b.more, between, b.parts ∙ ap (λ zs. zs ++ b.more) parts ∙ append_assoc first (next ∷ rest) b.more, leads, refused)
-    runs-delivered refuses (Err Memory) h = first-of h
-    runs-delivered refuses (Err Thread) h = first-of h
-    runs-delivered refuses (Err Tickets) h = first-of h
-    runs-delivered refuses (Err Incomplete) h = first-of h
     runs-delivered refuses (Err Cancelled) h = absurd h
+    runs-delivered refuses (Err fault) h = first-of h
 
 -- an ordered run has delivered what one thread answers
 pub ordered-delivered : {L T K : Type 0} (meaning : L → Meaning T) (accepts : K → List T → K → Type 0) (refuses : K → List T → ℕ → K → Type 0) (option : Option MergeOption) (ordered : Bool) (ops : List (Op L)) (t : Trace T) (s s' : K)

@@ -12,7 +12,7 @@ use Rattle.plinq_ops.specs.declared.results.ChunkResult.{ChunkResult}
 use Rattle.plinq_merge.specs.declared.delivery_fault.DeliveryFault.{DeliveryFault}
 use Rattle.plinq_merge.specs.declared.delivery_fault.DeliveryFault.TheVariants.{Memory as NoMemory}
 use Rattle.plinq_merge.specs.declared.merge_fault.MergeFault.{MergeFault}
-use Rattle.plinq_merge.specs.declared.merge_fault.MergeFault.TheVariants.{Memory, Sink, Twice, Gap, Failed, Cancelled}
+use Rattle.plinq_merge.specs.declared.merge_fault.MergeFault.TheVariants.{Sink, Gap}
 use Rattle.plinq_merge.specs.declared.more.More.{More}
 use Rattle.plinq_merge.specs.Joiners.{taker_of, order_of, ending_of, Takes}
 use Rattle.plinq_merge.specs.Mergers.{delivery_fault_of}
@@ -50,12 +50,8 @@ apart-more offers r offers' (inr more) apart = subst AreApart (sym more.0) (apar
 
 -- a fault of the merge has the cause for which the taker broke off
 breaks-by : (fault : MergeFault) (cause : Cause) → cause ≡ cause_in_merge (Some fault) → Breaks (Err (delivery_fault_of fault)) cause
-breaks-by Memory cause is = is
 breaks-by (Sink code) cause is = is
-breaks-by Twice cause is = is
-breaks-by Gap cause is = is
-breaks-by Failed cause is = is
-breaks-by Cancelled cause is = is
+breaks-by fault cause is = is
 
 ok-same : {a b : Ending} → (let one : Result Ending MergeFault = Ok a in one ≡ Ok b) → a ≡ b
 ok-same same = cc

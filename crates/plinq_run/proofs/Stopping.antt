@@ -16,10 +16,10 @@ use Rattle.plinq_merge.specs.Sending.{Leads}
 use Rattle.plinq_merge.proofs.Lent.{leads-map, cut-map, lets-told, stops-told, leads-told, cut-told, leads-on, cut-same, cut-on, cut-kept}
 use Rattle.plinq_run.specs.declared.report.Report.{Report}
 use Rattle.plinq_run.specs.declared.run_fault.RunFault.{RunFault}
-use Rattle.plinq_run.specs.declared.run_fault.RunFault.TheVariants.{Memory, Sink, Tickets, Thread, Incomplete, Cancelled}
+use Rattle.plinq_run.specs.declared.run_fault.RunFault.TheVariants.{Sink, Cancelled}
 use Rattle.plinq_run.specs.Endings.{reported}
 use Rattle.plinq_run.specs.Reports.{Reports}
-use Rattle.plinq_run.specs.Runs.{HasRun, Cause, SinkRefused, Stopped, Other, cause_of, BreaksFor}
+use Rattle.plinq_run.specs.Runs.{HasRun, HasBroken, Cause, SinkRefused, Stopped, Other, cause_of, BreaksFor}
 use Rattle.plinq_run.specs.Stopping.{is_stopped, ReportsWith, RunsWith}
 use Rattle.plinq_run.specs.inner.Cancelling.{ReportsLent, IsAskedAtLast}
 
@@ -48,12 +48,8 @@ cancelled-told (Err fault) r is ends = absurd (let bad : Err fault ≡ Ok End = 
 pub reports-never : {K T : Type 0} (accepts : K → List T → K → Type 0) (refuses : K → List T → ℕ → K → Type 0) (option : MergeOption) (May : Trace T → Trace T → Type 0) (t : Trace T) (s s' : K) (r : Result Report RunFault)
     → Reports accepts refuses option May t s s' r → is_stopped r ≡ false
 reports-never accepts refuses option May t s s' (Ok report) h = refl
-reports-never accepts refuses option May t s s' (Err (Sink code)) h = refl
-reports-never accepts refuses option May t s s' (Err Memory) h = refl
-reports-never accepts refuses option May t s s' (Err Tickets) h = refl
-reports-never accepts refuses option May t s s' (Err Thread) h = refl
-reports-never accepts refuses option May t s s' (Err Incomplete) h = refl
 reports-never accepts refuses option May t s s' (Err Cancelled) h = absurd h.broken
+reports-never accepts refuses option May t s s' (Err fault) h = refl
 
 module _ {C K T : Type 0} (asks : C → ℕ → Bool → C → Type 0) (accepts : K → List T → K → Type 0) (refuses : K → List T → ℕ → K → Type 0) (option : MergeOption) (May : Trace T → Trace T → Type 0) (t : Trace T) where
   abbrev Lends : WithCancellation C K → WithCancellation C K → Result Report RunFault → Type 0
@@ -97,12 +93,8 @@ module _ {C K T : Type 0} (asks : C → ℕ → Bool → C → Type 0) (accepts 
 
   module _ (d d' : Delivery C K) where
     pub broken-with : (fault : RunFault) → Reports (Passes asks accepts) (IsRefused asks refuses) option May t d d' (Err fault) → ReportsWith asks accepts refuses option May t d d' (Err fault)
-    broken-with (Sink code) h = h
-    broken-with Memory h = h
-    broken-with Tickets h = h
-    broken-with Thread h = h
-    broken-with Incomplete h = h
     broken-with Cancelled h = absurd h.broken
+    broken-with fault h = h
 
     -- at the last question
     pub stopped-last : (report : Report) (last : Delivery C K) → Reports (Passes asks accepts) (IsRefused asks refuses) option May t d last (Ok report) → IsAsked asks true last d'
@@ -128,11 +120,9 @@ module _ {C K T : Type 0} (asks : C → ℕ → Bool → C → Type 0) (accepts 
         let last = stopped.last in
         let stops = stopped.stops in
         stops-told asks has_told keeps last.token last.delivered d'.token stops.asked ∙ sym (or-true (has_told d.token))
-    told-with has_told keeps (Err (Sink code)) h = cut-told asks has_told keeps accepts refuses d (batches option h.answer) (delivery_fault_of (Refusal code)) d' h.broken ∙ sym (or-false (has_told d.token))
-    told-with has_told keeps (Err Memory) h = cut-told asks has_told keeps accepts refuses d (batches option h.answer) (delivery_fault_of NoMemory) d' h.broken ∙ sym (or-false (has_told d.token))
-    told-with has_told keeps (Err Tickets) h = cut-told asks has_told keeps accepts refuses d (batches option h.answer) (delivery_fault_of NoMemory) d' h.broken ∙ sym (or-false (has_told d.token))
-    told-with has_told keeps (Err Thread) h = cut-told asks has_told keeps accepts refuses d (batches option h.answer) (delivery_fault_of NoMemory) d' h.broken ∙ sym (or-false (has_told d.token))
-    told-with has_told keeps (Err Incomplete) h = cut-told asks has_told keeps accepts refuses d (batches option h.answer) (delivery_fault_of NoMemory) d' h.broken ∙ sym (or-false (has_told d.token))
+    told-with has_told keeps (Err fault) h =
+        let cut = breaks-cut (Passes asks accepts) (IsRefused asks refuses) (cause_of fault) (batches option h.answer) d d' h.broken in
+        cut-told asks has_told keeps accepts refuses d (batches option h.answer) (delivery_fault_of cut.0) d' cut.1 ∙ sym (or-false (has_told d.token))
 
     -- where there is one answer
     pub reports-with-runs : (v : Trace T) (r : Result Report RunFault) → ((u : Trace T) → May t u → u ≡ v) → ReportsWith asks accepts refuses option May t d d' r → RunsWith asks accepts refuses option v d d' r
@@ -140,11 +130,7 @@ module _ {C K T : Type 0} (asks : C → ℕ → Bool → C → Type 0) (accepts 
         let reported = h.reported in
         (h.last, subst (λ u. HasRun (Passes asks accepts) option u d h.last report.ending) (only reported.answer reported.may) reported.has_run, h.lets)
     reports-with-runs v (Err Cancelled) only h = subst (λ u. IsStopped asks accepts d (batches option u) d') (only h.answer h.may) h.stopped
-    reports-with-runs v (Err (Sink code)) only h = subst (λ u. BreaksFor (Passes asks accepts) (IsRefused asks refuses) (SinkRefused code) (batches option u) d d') (only h.answer h.may) h.broken
-    reports-with-runs v (Err Memory) only h = subst (λ u. BreaksFor (Passes asks accepts) (IsRefused asks refuses) Other (batches option u) d d') (only h.answer h.may) h.broken
-    reports-with-runs v (Err Tickets) only h = subst (λ u. BreaksFor (Passes asks accepts) (IsRefused asks refuses) Other (batches option u) d d') (only h.answer h.may) h.broken
-    reports-with-runs v (Err Thread) only h = subst (λ u. BreaksFor (Passes asks accepts) (IsRefused asks refuses) Other (batches option u) d d') (only h.answer h.may) h.broken
-    reports-with-runs v (Err Incomplete) only h = subst (λ u. BreaksFor (Passes asks accepts) (IsRefused asks refuses) Other (batches option u) d d') (only h.answer h.may) h.broken
+    reports-with-runs v (Err fault) only h = subst (λ u. HasBroken (Passes asks accepts) (IsRefused asks refuses) option u d d' fault) (only h.answer h.may) h.broken
 
     -- with a token that never stops anything
     module _ (never : (c c' : C) (n : ℕ) → asks c n true c' → ⊥) where
@@ -174,10 +160,7 @@ module _ {C K T : Type 0} (asks : C → ℕ → Bool → C → Type 0) (accepts 
           }
       reports-plain (Err Cancelled) h = let stopped = h.stopped in let stops = stopped.stops in absurd (never _ _ _ stops.asked)
       reports-plain (Err (Sink code)) h = record { answer = h.answer; may = h.may; broken = cut-plain (batches option h.answer) (Refusal code) h.broken }
-      reports-plain (Err Memory) h = record { answer = h.answer; may = h.may; broken = cut-plain (batches option h.answer) NoMemory h.broken }
-      reports-plain (Err Tickets) h = record { answer = h.answer; may = h.may; broken = cut-plain (batches option h.answer) NoMemory h.broken }
-      reports-plain (Err Thread) h = record { answer = h.answer; may = h.may; broken = cut-plain (batches option h.answer) NoMemory h.broken }
-      reports-plain (Err Incomplete) h = record { answer = h.answer; may = h.may; broken = cut-plain (batches option h.answer) NoMemory h.broken }
+      reports-plain (Err fault) h = record { answer = h.answer; may = h.may; broken = cut-plain (batches option h.answer) NoMemory h.broken }
 
   -- what a run reports that lends them both
   module _ (has_told : C → Bool) (keeps : (c : C) (n : ℕ) (answer : Bool) (c' : C) → asks c n answer c' → has_told c' ≡ (has_told c || answer))
