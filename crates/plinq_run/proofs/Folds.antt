@@ -1,24 +1,30 @@
--- Merging folded results is folding what the results merge to.
-use Rattle.std.specs.Prelude.{◌≡◌, ℕ, ◌+◌, ◌==◌, List, [], ◌∷◌, Bool, true, false, cond, ⊤, Option, None, refl}
+-- Merging folded results is folding what the results merge to; what is a fold is one of a result.
+use Rattle.std.specs.Prelude.{◌≡◌, ℕ, ◌+◌, ◌==◌, List, [], ◌∷◌, Bool, true, false, cond, ◌||◌, ⊤, Option, None, All, refl}
 use Rattle.std.specs.List.{fold}
 use Rattle.std.specs.Option.{option_or}
 use Rattle.std.specs.Ordering.{nat_cmp, match_ordering}
 use Rattle.std.specs.declared.cmp.Ordering.{Ordering}
 use Rattle.std.specs.declared.cmp.Ordering.TheVariants.{Less, Equal, Greater}
 use Rattle.std.proofs.Common.{sym, ◌∙◌, ap, subst}
+use Rattle.std.proofs.lemmas.List.Elements.{All-cons, All-head, All-tail, All-nil}
 use Rattle.plinq_source.specs.declared.ending.Ending.{Ending}
 use Rattle.plinq_source.specs.Trace.{Trace, open_trace}
+use Rattle.plinq_lambda.specs.Meaning.{Meaning}
 use Rattle.plinq_aggregate.specs.Folding.{Folding, folded, IsFolding}
 use Rattle.plinq_ops.specs.declared.order.Order.{Order}
 use Rattle.plinq_ops.specs.declared.order.Order.TheVariants.{ByKey, ByArrival}
+use Rattle.plinq_ops.specs.declared.plan.Plan.{Plan}
 use Rattle.plinq_ops.specs.declared.results.ChunkResult.{ChunkResult}
 use Rattle.plinq_ops.specs.Chunk.{result_trace, run_ending}
 use Rattle.plinq_ops.specs.Tails.{end_of_result, told_at}
 use Rattle.plinq_reorder.specs.declared.span.Span.{Span}
-use Rattle.plinq_reorder.specs.Intervals.{Interval, insert, unbroken, first_gap}
+use Rattle.plinq_reorder.specs.Intervals.{Interval, insert, unbroken, first_gap, is_within}
+use Rattle.plinq_merge.specs.Keys.{is_offered}
+use Rattle.plinq_merge.specs.Whole.{AreApart}
 use Rattle.plinq_merge.specs.Shown.{at_once, waiting_trace, placed, all_placed, all_told, all_given, ending_at, row, arrived, merged}
+use Rattle.plinq_crew.specs.Results.{IsResult, IsPart}
 use Rattle.plinq_run.specs.Parting.{IsFolded}
-use Rattle.plinq_run.specs.inner.Folds.{combined, IsFoldOf, AreFoldsOf}
+use Rattle.plinq_run.specs.inner.Folds.{IsFoldOf, AreFoldsOf}
 use Rattle.plinq_run.specs.inner.Standing.{stand-none, followed-folded}
 
 module _ {T A O : Type 0} (f : Folding T A O) where
@@ -42,17 +48,14 @@ module _ {T A O : Type 0} (f : Folding T A O) where
 
   given-folded : (ps : List (Interval (Trace T))) (qs : List (Interval (Trace A))) → AreRowsAlike ps qs → IsFolded f (all_given ps) (all_given qs)
   given-folded [] [] alike = folded-nothing
-  given-folded [] (q ∷ qs) alike = absurd alike
-  given-folded (p ∷ ps) [] alike = absurd alike
   given-folded (p ∷ ps) (q ∷ qs) alike =
       let one = alike.0 in
       followed-folded f p.1.payload (all_given ps) q.1.payload (all_given qs) one.trace (given-folded ps qs alike.1)
+  given-folded ps qs alike = absurd alike
 
   unbroken-alike : (key : ℕ) (ps : List (Interval (Trace T))) (qs : List (Interval (Trace A))) → AreRowsAlike ps qs
       → AreRowsAlike (unbroken key ps) (unbroken key qs) × (first_gap key qs ≡ first_gap key ps)
   unbroken-alike key [] [] alike = (tt, refl)
-  unbroken-alike key [] (q ∷ qs) alike = absurd alike
-  unbroken-alike key (p ∷ ps) [] alike = absurd alike
   unbroken-alike key (p ∷ ps) (q ∷ qs) alike =
       let one = alike.0 in
       let later = subst (λ k. AreRowsAlike (unbroken p.1.end ps) (unbroken k qs) × (first_gap k qs ≡ first_gap p.1.end ps)) (sym one.end) (unbroken-alike p.1.end ps qs alike.1) in
@@ -60,6 +63,7 @@ module _ {T A O : Type 0} (f : Folding T A O) where
       elim [ true ↦ ((one, later.0), later.1) | false ↦ (tt, refl) ] in
       subst (λ k. AreRowsAlike (unbroken key (p ∷ ps)) (cond (k == key) (q ∷ unbroken q.1.end qs) []) × (cond (k == key) (first_gap q.1.end qs) key ≡ first_gap key (p ∷ ps)))
       (sym one.key) (here (p.0 == key))
+  unbroken-alike key ps qs alike = absurd alike
 
   row-folded : (told : Option (ℕ × Ending)) (key : ℕ) (ps : List (Interval (Trace T))) (qs : List (Interval (Trace A))) → AreRowsAlike ps qs → IsFolded f (row told key ps) (row told key qs)
   row-folded told key ps qs alike =
@@ -71,8 +75,6 @@ module _ {T A O : Type 0} (f : Folding T A O) where
   insert-alike : (ps : List (Interval (Trace T))) (qs : List (Interval (Trace A))) (first end : ℕ) (p : Trace T) (q : Trace A) → AreRowsAlike ps qs → IsFolded f p q
       → AreRowsAlike (insert ps first end p) (insert qs first end q)
   insert-alike [] [] first end p q alike trace = (record { key = refl; end = refl; trace = trace }, tt)
-  insert-alike [] (b ∷ bs) first end p q alike trace = absurd alike
-  insert-alike (a ∷ ps) [] first end p q alike trace = absurd alike
   insert-alike (a ∷ ps) (b ∷ qs) first end p q alike trace =
       let one = alike.0 in
       let r : Span (Trace T) = record { end = end; payload = p } in
@@ -84,6 +86,7 @@ module _ {T A O : Type 0} (f : Folding T A O) where
         | Greater ↦ (one, insert-alike ps qs first end p q alike.1 trace)
       ] in
       subst (λ k. AreRowsAlike (insert (a ∷ ps) first end p) (match_ordering (nat_cmp first k) ((first, s) ∷ b ∷ qs) ((b.0, s) ∷ qs) (b ∷ insert qs first end q))) (sym one.key) (here (nat_cmp first a.0))
+  insert-alike ps bs first end p q alike trace = absurd alike
 
   result-folded : IsFolding f → (r : ChunkResult T) (c : ChunkResult A) → IsFoldOf f r c → IsFolded f (result_trace r) (result_trace c)
   result-folded lawful r c is =
@@ -115,27 +118,24 @@ module _ {T A O : Type 0} (f : Folding T A O) where
   all_placed-alike : IsFolding f → (order : Order) (ps : List (Interval (Trace T))) (qs : List (Interval (Trace A))) (rs : List (ChunkResult T)) (cs : List (ChunkResult A)) → AreRowsAlike ps qs → AreFoldsOf f rs cs
       → AreRowsAlike (all_placed order ps rs) (all_placed order qs cs)
   all_placed-alike lawful order ps qs [] [] alike are = alike
-  all_placed-alike lawful order ps qs [] (c ∷ cs) alike are = absurd are
-  all_placed-alike lawful order ps qs (r ∷ rs) [] alike are = absurd are
   all_placed-alike lawful order ps qs (r ∷ rs) (c ∷ cs) alike are =
       all_placed-alike lawful order (placed order ps r) (placed order qs c) rs cs (placed-alike lawful order ps qs r c alike are.0) are.1
+  all_placed-alike lawful order ps qs rs cs alike are = absurd are
 
   all_told-alike : (told : Option (ℕ × Ending)) (rs : List (ChunkResult T)) (cs : List (ChunkResult A)) → AreFoldsOf f rs cs → all_told told cs ≡ all_told told rs
   all_told-alike told [] [] are = refl
-  all_told-alike told [] (c ∷ cs) are = absurd are
-  all_told-alike told (r ∷ rs) [] are = absurd are
   all_told-alike told (r ∷ rs) (c ∷ cs) are =
       let is = are.0 in
       ap (λ k. all_told (option_or told (told_at k c.tail)) cs) (after-alike r c is)
       ∙ ap (λ tail. all_told (option_or told (told_at (end_of_result r) tail)) cs) is.tail
       ∙ all_told-alike (option_or told (told_at (end_of_result r) r.tail)) rs cs are.1
+  all_told-alike told rs cs are = absurd are
 
   arrived-folded : IsFolding f → (order : Order) (rs : List (ChunkResult T)) (cs : List (ChunkResult A)) → AreFoldsOf f rs cs → IsFolded f (arrived order rs) (arrived order cs)
   arrived-folded lawful order [] [] are = folded-nothing
-  arrived-folded lawful order [] (c ∷ cs) are = absurd are
-  arrived-folded lawful order (r ∷ rs) [] are = absurd are
   arrived-folded lawful order (r ∷ rs) (c ∷ cs) are =
       followed-folded f (at_once order r) (arrived order rs) (at_once order c) (arrived order cs) (once-folded lawful order r c are.0) (arrived-folded lawful order rs cs are.1)
+  arrived-folded lawful order rs cs are = absurd are
 
   -- what folded results merge to stands for what the results do
   pub merged-folded : IsFolding f → (order : Order) (rs : List (ChunkResult T)) (cs : List (ChunkResult A)) → AreFoldsOf f rs cs → IsFolded f (merged order rs) (merged order cs)
@@ -145,10 +145,40 @@ module _ {T A O : Type 0} (f : Folding T A O) where
       (subst (λ told. IsFolded f (row (all_told None rs) 0 (all_placed order [] rs)) (row told 0 (all_placed order [] cs))) (sym (all_told-alike None rs cs are))
       (row-folded (all_told None rs) 0 (all_placed order [] rs) (all_placed order [] cs) (all_placed-alike lawful order [] [] rs cs tt are)))
 
-  -- the accumulator of folded results is that of the results' items
-  pub merged-combined : IsFolding f → (order : Order) (rs : List (ChunkResult T)) (cs : List (ChunkResult A)) → AreFoldsOf f rs cs
-      → combined f (merged order cs).items ≡ folded f (merged order rs).items
-  merged-combined lawful order rs cs are = (merged-folded lawful order rs cs are).items []
+-- ---- the results that folds are of
 
-  pub merged-ending : IsFolding f → (order : Order) (rs : List (ChunkResult T)) (cs : List (ChunkResult A)) → AreFoldsOf f rs cs → (merged order cs).ending ≡ (merged order rs).ending
-  merged-ending lawful order rs cs are = (merged-folded lawful order rs cs are).ending
+module _ {T A O : Type 0} (f : Folding T A O) where
+  -- folds have the keys of their results
+  folds-within : (r : ChunkResult T) (c : ChunkResult A) → IsFoldOf f r c → (key : ℕ) → is_within c.first (end_of_result c) key ≡ is_within r.first (end_of_result r) key
+  folds-within r c is key = rw (is.first, is.count) refl
+
+  folds-offered : (rs : List (ChunkResult T)) (cs : List (ChunkResult A)) → AreFoldsOf f rs cs → (key : ℕ) → is_offered cs key ≡ is_offered rs key
+  folds-offered [] [] are key = refl
+  folds-offered (r ∷ rs) (c ∷ cs) are key =
+      ap (λ b. b || is_offered cs key) (folds-within r c are.0 key) ∙ ap (λ b. is_within r.first (end_of_result r) key || b) (folds-offered rs cs are.1 key)
+  folds-offered rs cs are key = absurd are
+
+  pub folds-apart : (rs : List (ChunkResult T)) (cs : List (ChunkResult A)) → AreFoldsOf f rs cs → AreApart cs → AreApart rs
+  folds-apart [] [] are apart = tt
+  folds-apart (r ∷ rs) (c ∷ cs) are apart = (
+    λ key within. sym (folds-offered rs cs are.1 key) ∙ apart.0 key (folds-within r c are.0 key ∙ within),
+    folds-apart rs cs are.1 apart.1,
+  )
+  folds-apart rs cs are apart = absurd are
+
+module _ {L T A O : Type 0} (f : Folding T A O) (meaning : L → Meaning T) (plan : Plan L) (t : Trace T) where
+  abbrev IsFold : ChunkResult A → Type 0
+  IsFold c = IsPart meaning (IsFoldOf f) plan t c
+
+  -- the results that these are the folds of
+  pub record AreUnfolded (cs : List (ChunkResult A)) : Type 0 where
+    pub results : List (ChunkResult T)
+    pub are : All (IsResult meaning plan t) results
+    pub folds : AreFoldsOf f results cs
+
+  pub unfolded : (cs : List (ChunkResult A)) → All IsFold cs → AreUnfolded cs
+  unfolded [] are = record { results = []; are = All-nil (IsResult meaning plan t); folds = tt }
+  unfolded (c ∷ cs) are =
+      let one : IsFold c = All-head IsFold c cs are in
+      let more = unfolded cs (All-tail IsFold c cs are) in
+      record { results = one.result ∷ more.results; are = All-cons (IsResult meaning plan t) one.result more.results one.is more.are; folds = (one.made, more.folds) }

@@ -1,9 +1,7 @@
 pub mod After
 mod Arrived
-pub mod Batches
 mod Covered
 mod Ended
-mod Finished
 mod Folds
 mod Handed
 mod Headline
@@ -13,7 +11,7 @@ mod Parts
 mod Runs
 mod Stopping
 mod Told
-mod Unfolded
+mod Valued
 mod Without
 mod Pieces
 mod ChunkPieces

@@ -32,21 +32,18 @@ use Rattle.plinq_crew.specs.Plans.{IsUndecided}
 use Rattle.plinq_crew.specs.Results.{IsResult, IsPart}
 use Rattle.plinq_run.specs.declared.fold_blocks.FoldBlocks.{FoldBlocks}
 use Rattle.plinq_run.specs.declared.planning.Conducted.{Conducted}
-use Rattle.plinq_run.specs.declared.planning.Ended.{Ended}
 use Rattle.plinq_run.specs.declared.run_fault.RunFault.{RunFault}
 use Rattle.plinq_run.specs.Parting.{Breaks, IsFolded, WasGiven, GivesSome}
 use Rattle.plinq_run.specs.Runs.{Cause, Other, cause_of}
 use Rattle.plinq_run.specs.inner.Blocks.{can_fold, Passes, MadeBy}
 use Rattle.plinq_run.specs.inner.Conducted.{HasConducted, answer_ending}
 use Rattle.plinq_run.specs.inner.Folds.{IsFoldOf}
-use Rattle.plinq_run.specs.inner.Merged.{HasEnded, HasBrokenOff}
 use Rattle.plinq_run.specs.inner.Plans.{merged_answer, MayMerge}
 use Rattle.plinq_run.specs.inner.Offered.{IsOffered}
 use Rattle.plinq_run.specs.inner.Standing.{IsOver, given-none, given-past}
 use Rattle.plinq_run.proofs.Ended.{merged-may, may-sequential}
-use Rattle.plinq_run.proofs.Folds.{merged-folded}
+use Rattle.plinq_run.proofs.Folds.{merged-folded, folds-apart, unfolded}
 use Rattle.plinq_run.proofs.Runs.{begun-in}
-use Rattle.plinq_run.proofs.Unfolded.{folds-apart, unfolded}
 
 breaks-over : (how : Result (Option Ending) DeliveryFault) (cause : Cause) → Breaks how cause → IsOver how
 breaks-over (Ok None) cause breaks = breaks
@@ -99,11 +96,25 @@ module _ {L T A U W O : Type 0} (f : Folding T A U) (lawful : IsFolding f) (made
         subst (λ v. WasGiven f made v a x how y) (sym same) (given-past f lawful made taking how (seq ss first) a x y rest over given),
       )
 
+  -- where what was taken of such parts is so of an answer of the source, a run that was conducted has given one
+  module _ {V M : Type 0} (taken : V → O → Trace M → Result (Option Ending) DeliveryFault → V → O → Type 0) (P : ChunkResult M → Type 0) (first : V) (a : W) (x : O)
+      (some : (how : Result (Option Ending) DeliveryFault) (offers : List (ChunkResult M)) (last : V) (y : O) → All P offers → AreApart offers → IsOver how
+      → taken first x (merged plan.order offers) how last y → (u : Trace T) × (MayMerge meaning plan t u) × WasGiven f made u a x how y) where
+    conducted-given : {S : Type 0} {source : SourceGhosts S T} (r : Result (Conducted S V T source) RunFault) (y : O) → HasConducted taken P plan.order t first x r y
+        → GivesSome f made (MayMerge meaning plan t) a x (answer_ending r) y
+    conducted-given (Ok c) y h =
+        let offered = IsOffered P (all_shares c.ended.partitions.items) in
+        let ends = h.1 in
+        some (Ok (Some c.ended.joined.ending)) ends.offers c.ended.joined.taker y (All-weaker offered P (λ c z. z.0) ends.offers ends.are) ends.apart tt ends.taken
+    conducted-given (Err fault) y h =
+        let given = some h.how h.offers h.last y h.are h.apart (breaks-over h.how (cause_of fault) h.breaks) h.taken in
+        (given.0, given.1, h.how, given.2, h.breaks)
+
   -- workers that fold
-  module _ (alone : plan.after.now ≡ []) where
-    chunks-some : (how : Result (Option Ending) DeliveryFault) (a : W) (x : O) (cs : List (ChunkResult A)) (b : W) (y : O) → All (IsPart meaning (IsFoldOf f) plan t) cs → AreApart cs → IsOver how
+  module _ (alone : plan.after.now ≡ []) (a : W) (x : O) where
+    chunks-some : (how : Result (Option Ending) DeliveryFault) (cs : List (ChunkResult A)) (b : W) (y : O) → All (IsPart meaning (IsFoldOf f) plan t) cs → AreApart cs → IsOver how
         → made a x (merged plan.order cs) how b y → (u : Trace T) × (MayMerge meaning plan t u) × WasGiven f made u a x how y
-    chunks-some how a x cs b y are apart over is =
+    chunks-some how cs b y are apart over is =
         let un = unfolded f meaning plan t cs are in
         given-some how a x y un.results un.are (folds-apart f un.results cs un.folds apart) over
         (record {
@@ -113,49 +124,26 @@ module _ {L T A U W O : Type 0} (f : Folding T A U) (lawful : IsFolding f) (made
           taken = is;
         })
 
-    chunks-ended : {S V : Type 0} {source : SourceGhosts S V} (ended : Ended S W V source) (a : W) (x y : O) → HasEnded made (IsPart meaning (IsFoldOf f) plan t) plan.order a x ended y
-        → GivesSome f made (MayMerge meaning plan t) a x (Ok ended.joined.ending) y
-    chunks-ended ended a x y h =
-        let P : ChunkResult A → Type 0 = IsPart meaning (IsFoldOf f) plan t in
-        chunks-some (Ok (Some ended.joined.ending)) a x h.offers ended.joined.taker y (All-weaker (IsOffered P (all_shares ended.partitions.items)) P (λ c z. z.0) h.offers h.are) h.apart tt h.taken
-
-    chunks-broken : (fault : RunFault) (a : W) (x y : O) → HasBrokenOff made (IsPart meaning (IsFoldOf f) plan t) plan.order a x fault y → GivesSome f made (MayMerge meaning plan t) a x (Err fault) y
-    chunks-broken fault a x y h =
-        let some = chunks-some h.how a x h.offers h.last y h.are h.apart (breaks-over h.how (cause_of fault) h.breaks) h.taken in
-        (some.0, some.1, h.how, some.2, h.breaks)
-
-    pub chunks-given : {S : Type 0} {source : SourceGhosts S T} (r : Result (Conducted S W T source) RunFault) (told : Result Ending RunFault) (a : W) (x y : O) → told ≡ answer_ending r
-        → HasConducted made (IsPart meaning (IsFoldOf f) plan t) plan.order t a x r y → GivesSome f made (MayMerge meaning plan t) a x told y
-    chunks-given (Ok c) told a x y is h = subst (λ z. GivesSome f made (MayMerge meaning plan t) a x z y) (sym is) (chunks-ended c.ended a x y h.1)
-    chunks-given (Err fault) told a x y is h = subst (λ z. GivesSome f made (MayMerge meaning plan t) a x z y) (sym is) (chunks-broken fault a x y h)
+    pub chunks-given : {S : Type 0} {source : SourceGhosts S T} (r : Result (Conducted S W T source) RunFault) (y : O) → HasConducted made (IsPart meaning (IsFoldOf f) plan t) plan.order t a x r y
+        → GivesSome f made (MayMerge meaning plan t) a x (answer_ending r) y
+    chunks-given r y h = conducted-given made (IsPart meaning (IsFoldOf f) plan t) a a x chunks-some r y h
 
   -- the caller's thread folds what leaves the operators after the merge
   module _ {F : Type 0} (folding : F → Folding T A U) (P : ChunkResult T → Type 0) (plain : (r : ChunkResult T) → P r → IsResult meaning plan t r) (first : FoldBlocks L F W)
-      (same : folding first.aggregator.now ≡ f) (begun : stages meaning first.pipeline ≡ stages_of meaning plan.after.now) where
-    passes-over : (g : Folding T A U) (how : Result (Option Ending) DeliveryFault) (now now' : List (Stage T)) (a : W) (x : O) (v : Trace T) (b : W) (y : O) → IsOver how → Passes g made now a x v how now' b y → WasGiven g made (seq now v) a x how y
-    passes-over g (Ok None) now now' a x v b y over is = absurd over
-    passes-over g (Ok (Some e)) now now' a x v b y over is = is
-    passes-over g (Err fault) now now' a x v b y over is = is
+      (same : folding first.aggregator.now ≡ f) (begun : stages meaning first.pipeline ≡ stages_of meaning plan.after.now) (x : O) where
+    passes-over : (g : Folding T A U) (how : Result (Option Ending) DeliveryFault) (now now' : List (Stage T)) (a : W) (v : Trace T) (b : W) (y : O) → IsOver how → Passes g made now a x v how now' b y
+        → WasGiven g made (seq now v) a x how y
+    passes-over g (Ok None) now now' a v b y over is = absurd over
+    passes-over g how now now' a v b y over is = is
 
-    blocks-some : (how : Result (Option Ending) DeliveryFault) (x : O) (rs : List (ChunkResult T)) (last : FoldBlocks L F W) (y : O) → All P rs → AreApart rs → IsOver how
+    blocks-some : (how : Result (Option Ending) DeliveryFault) (rs : List (ChunkResult T)) (last : FoldBlocks L F W) (y : O) → All P rs → AreApart rs → IsOver how
         → MadeBy meaning folding made first x (merged plan.order rs) how last y → (u : Trace T) × (MayMerge meaning plan t u) × WasGiven f made u first.inner x how y
-    blocks-some how x rs last y are apart over is =
-        let passes = passes-over (folding first.aggregator.now) how (stages meaning first.pipeline) (stages meaning last.pipeline) first.inner x (merged plan.order rs) last.inner y over is.passes in
+    blocks-some how rs last y are apart over is =
+        let passes = passes-over (folding first.aggregator.now) how (stages meaning first.pipeline) (stages meaning last.pipeline) first.inner (merged plan.order rs) last.inner y over is.passes in
         given-some how first.inner x y rs (All-weaker P (IsResult meaning plan t) plain rs are) apart over
         (subst (λ g. WasGiven g made (seq (stages_of meaning plan.after.now) (merged plan.order rs)) first.inner x how y) same
         (subst (λ ss. WasGiven (folding first.aggregator.now) made (seq ss (merged plan.order rs)) first.inner x how y) begun passes))
 
-    blocks-ended : {S V : Type 0} {source : SourceGhosts S V} (ended : Ended S (FoldBlocks L F W) V source) (x y : O) → HasEnded (MadeBy meaning folding made) P plan.order first x ended y
-        → GivesSome f made (MayMerge meaning plan t) first.inner x (Ok ended.joined.ending) y
-    blocks-ended ended x y h =
-        blocks-some (Ok (Some ended.joined.ending)) x h.offers ended.joined.taker y (All-weaker (IsOffered P (all_shares ended.partitions.items)) P (λ c z. z.0) h.offers h.are) h.apart tt h.taken
-
-    blocks-broken : (fault : RunFault) (x y : O) → HasBrokenOff (MadeBy meaning folding made) P plan.order first x fault y → GivesSome f made (MayMerge meaning plan t) first.inner x (Err fault) y
-    blocks-broken fault x y h =
-        let some = blocks-some h.how x h.offers h.last y h.are h.apart (breaks-over h.how (cause_of fault) h.breaks) h.taken in
-        (some.0, some.1, h.how, some.2, h.breaks)
-
-    pub blocks-given : {S : Type 0} {source : SourceGhosts S T} (r : Result (Conducted S (FoldBlocks L F W) T source) RunFault) (told : Result Ending RunFault) (x y : O) → told ≡ answer_ending r
-        → HasConducted (MadeBy meaning folding made) P plan.order t first x r y → GivesSome f made (MayMerge meaning plan t) first.inner x told y
-    blocks-given (Ok c) told x y is h = subst (λ z. GivesSome f made (MayMerge meaning plan t) first.inner x z y) (sym is) (blocks-ended c.ended x y h.1)
-    blocks-given (Err fault) told x y is h = subst (λ z. GivesSome f made (MayMerge meaning plan t) first.inner x z y) (sym is) (blocks-broken fault x y h)
+    pub blocks-given : {S : Type 0} {source : SourceGhosts S T} (r : Result (Conducted S (FoldBlocks L F W) T source) RunFault) (y : O)
+        → HasConducted (MadeBy meaning folding made) P plan.order t first x r y → GivesSome f made (MayMerge meaning plan t) first.inner x (answer_ending r) y
+    blocks-given r y h = conducted-given (MadeBy meaning folding made) P first first.inner x blocks-some r y h

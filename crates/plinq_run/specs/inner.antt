@@ -6,7 +6,6 @@ pub mod CombiningLawful
 pub mod Conducted
 pub mod Faults
 pub mod Finishing
-pub mod Folded
 pub mod Folds
 pub mod Merged
 pub mod Offered

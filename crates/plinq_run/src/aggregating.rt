@@ -7,11 +7,9 @@ ghost use Rattle.plinq_ops.specs.Feeding.{is_empty_take};
 ghost use Rattle.plinq_run.specs.Aggregates.{AggregatesSome};
 
 use crate::aggregate_fault::AggregateFault;
-use crate::fold::Fold;
-use crate::run_request::RunRequest;
-use crate::running::run;
-use crate::valuing::{value_after, value_of};
-use crate::worker_folds::fold_plan;
+use crate::combiner::Combiner;
+use crate::parting::fold_into;
+use crate::valuing::value_of;
 use plinq_aggregate::GrowingAggregator;
 use plinq_crew::Gate;
 use plinq_enumerator::Growth;
@@ -25,10 +23,10 @@ use std::thread::Threads;
 /// The aggregate of a query's answer (.NET's `Aggregate` with a seed, an update, a combine and a result selector).
 ///
 /// As many workers as the query's degree take chunks that grow so. Where all operators are the workers' own, each of them
-/// folds its chunks' results from the seed. The caller's thread combines the accumulators: by key, or without
-/// `as_ordered` as they come. Where operators stand after the merge, it folds the batches that leave these as they come.
-/// How long batches would be, by the query's merge option, doesn't change the value. A decided query asks the source for
-/// nothing, and its value is that of no items.
+/// folds its chunks' results from the seed; where operators stand after the merge, the caller's thread folds each block that
+/// leaves these. It combines the accumulators: by key, or without `as_ordered` as they come. How long batches would be, by
+/// the query's merge option, doesn't change the value. A decided query asks the source for nothing, and its value is that of
+/// no items.
 ///
 /// # Errors
 ///
@@ -57,20 +55,13 @@ where
     ensures decided { list_any is_empty_take query.now.ops ≡ true → result ≡ Ok (aggregated (A.folding aggregator.now) []) }
     ensures value { AggregatesSome (A.folding aggregator.now) (MayAnswer L.meaning query.now.ordered query.now.ops (S.whole source)) result }
 {
-    let plan = query.split();
-    if plan.decided || !plan.after.is_empty() {
-        let mut fold = Fold::new(alloc, aggregator);
-        let report = run(rt, alloc, query, source, growth, gate, &mut fold);
-        return value_after(fold, report);
+    if query.split().decided {
+        return Ok(aggregator.result(aggregator.seed(alloc)));
     }
-    let request = RunRequest {
-        alloc,
-        plan: &plan,
-        workers: query.degree(),
-        source,
-        growth,
-        gate,
-    };
-    let combined = fold_plan(rt, request, aggregator);
-    value_of(aggregator, combined)
+    let mut acc = aggregator.seed(alloc);
+    let combiner = Combiner { alloc, aggregator };
+    let told = fold_into(
+        rt, alloc, query, source, growth, gate, aggregator, combiner, &mut acc,
+    );
+    value_of(aggregator, acc, told)
 }

@@ -22,7 +22,7 @@ mod aggregating;
 mod cancelling;
 mod chunk_pieces;
 mod combined;
-mod fold;
+mod combiner;
 mod fold_blocks;
 mod kept_memory;
 pub mod laws;
@@ -37,7 +37,6 @@ mod running;
 mod sequential_fold;
 mod tasks;
 mod valuing;
-mod worker_folds;
 
 pub use aggregate_fault::AggregateFault;
 pub use aggregating::aggregate;

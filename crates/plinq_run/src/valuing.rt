@@ -1,13 +1,8 @@
 //! The value of an aggregate.
 ghost use Rattle.std.specs.Prelude.{◌≡◌};
-ghost use Rattle.plinq_run.specs.inner.Valuing.{aggregate_of, value_at};
-ghost use Rattle.plinq_run.specs.inner.Folded.{value_of};
-ghost use Rattle.plinq_run.specs.Endings.{reported};
+ghost use Rattle.plinq_run.specs.inner.Valuing.{value_at, value_of};
 
 use crate::aggregate_fault::AggregateFault;
-use crate::combined::Combined;
-use crate::fold::Fold;
-use crate::report::Report;
 use crate::run_fault::RunFault;
 use plinq_aggregate::GrowingAggregator;
 use plinq_source::Ending;
@@ -26,30 +21,16 @@ fn value_at<A: GrowingAggregator>(
     }
 }
 
-/// What is reported of a run whose workers folded.
+/// What is reported of an accumulator of a run that told so.
 pub(crate) fn value_of<A: GrowingAggregator>(
     aggregator: &A,
-    combined: Result<Combined<A::Acc>, RunFault>,
+    acc: A::Acc,
+    told: Result<Ending, RunFault>,
 ) -> Result<A::Out, AggregateFault>
-    ensures { result ≡ value_of (A.folding aggregator.now) combined }
+    ensures { result ≡ value_of (A.folding aggregator.now) acc told }
 {
-    match combined {
-        Ok(combined) => value_at(aggregator, combined.acc, combined.ending),
-        Err(fault) => Err(AggregateFault::Run(fault)),
-    }
-}
-
-/// What is reported of a run that ended so, and gave its batches to this fold. It refuses none but where memory runs out.
-pub(crate) fn value_after<A: GrowingAggregator>(
-    fold: Fold<'_, A, A::Acc>,
-    run: Result<Report, RunFault>,
-) -> Result<A::Out, AggregateFault>
-    ensures { result ≡ aggregate_of (A.folding fold.entry.aggregator.now) fold.entry.acc (reported run) }
-{
-    let aggregator = fold.aggregator;
-    match run {
-        Ok(report) => value_at(aggregator, fold.so_far(), report.ending),
-        Err(RunFault::Sink(_)) => Err(AggregateFault::Run(RunFault::Memory)),
+    match told {
+        Ok(ending) => value_at(aggregator, acc, ending),
         Err(fault) => Err(AggregateFault::Run(fault)),
     }
 }

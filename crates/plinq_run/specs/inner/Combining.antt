@@ -6,24 +6,19 @@ use Rattle.plinq_source.specs.Trace.{Trace}
 use Rattle.plinq_aggregate.specs.Folding.{Folding}
 use Rattle.plinq_merge.specs.declared.delivery_fault.DeliveryFault.{DeliveryFault}
 use Rattle.plinq_merge.specs.declared.delivery_fault.DeliveryFault.TheVariants.{Memory, Sink}
-use Rattle.plinq_run.specs.declared.fold.Fold.{Fold}
-use Rattle.plinq_run.specs.inner.Valuing.{so_far}
+use Rattle.plinq_run.specs.declared.combiner.Combiner.{Combiner}
 
 -- whatever comes can be combined
-abbrev pub takes_all : {F A : Type 0} → Fold F A → Bool
+abbrev pub takes_all : {F : Type 0} → Combiner F → Bool
 takes_all d = true
 
--- a trace was combined after what was so far, and the answer ends as it does; only memory may run out
-abbrev pub Combines : {T A O : Type 0} → Folding T A O → Option A → Trace A → Result (Option Ending) DeliveryFault → Option A → Type 0
-Combines f acc t (Ok e) acc' = (t.ending ≡ e) × (so_far f acc' ≡ fold f.combine (so_far f acc) t.items)
+-- a trace was combined after an accumulator, and the answer ends as it does; only memory may run out
+abbrev pub Combines : {T A O : Type 0} → Folding T A O → A → Trace A → Result (Option Ending) DeliveryFault → A → Type 0
+Combines f acc t (Ok e) acc' = (t.ending ≡ e) × (acc' ≡ fold f.combine acc t.items)
 Combines f acc t (Err Memory) acc' = ⊤
 Combines f acc t (Err (Sink code)) acc' = ⊥
 
 -- by the same aggregator
-pub record Made {F T A O : Type 0} (folding : F → Folding T A O) (d : Fold F A) (t : Trace A) (r : Result (Option Ending) DeliveryFault) (d' : Fold F A) : Type 0 where
+pub record MadeBy {F T A O : Type 0} (folding : F → Folding T A O) (d : Combiner F) (acc : A) (t : Trace A) (r : Result (Option Ending) DeliveryFault) (d' : Combiner F) (acc' : A) : Type 0 where
   pub same : d'.aggregator ≡ d.aggregator
-  pub combines : Combines (folding d.aggregator.now) d.acc t r d'.acc
-
--- it has nothing to put anywhere
-abbrev pub MadeBy : {F T A O : Type 0} → (F → Folding T A O) → Fold F A → Unit {0} → Trace A → Result (Option Ending) DeliveryFault → Fold F A → Unit {0} → Type 0
-MadeBy folding d x t r d' x' = Made folding d t r d'
+  pub combines : Combines (folding d.aggregator.now) acc t r acc'

@@ -5,10 +5,6 @@ use Rattle.plinq_aggregate.specs.Folding.{Folding, folded}
 use Rattle.plinq_aggregate.specs.Numbers.{counting}
 use Rattle.plinq_ops.specs.declared.results.ChunkResult.{ChunkResult}
 
--- accumulators, combined one after another from the seed on
-abbrev pub combined : {T A O : Type 0} → Folding T A O → List A → A
-combined f accs = fold f.combine f.seed accs
-
 module _ {T A O : Type 0} (f : Folding T A O) where
   -- a result with the fold of its items in their place
   pub record IsFoldOf (r : ChunkResult T) (c : ChunkResult A) : Type 0 where
@@ -28,8 +24,8 @@ module _ {T A O : Type 0} (f : Folding T A O) where
 -- ---- worked rows
 
 -- two parts of three items
-three_are_counted : combined counting (folded counting (pos 7 ∷ pos 8 ∷ []) ∷ folded counting (pos 9 ∷ []) ∷ []) ≡ 3
+three_are_counted : fold counting.combine counting.seed (folded counting (pos 7 ∷ pos 8 ∷ []) ∷ folded counting (pos 9 ∷ []) ∷ []) ≡ 3
 three_are_counted = refl
 
-of_no_parts_the_seed : combined counting [] ≡ 0
+of_no_parts_the_seed : fold counting.combine counting.seed [] ≡ 0
 of_no_parts_the_seed = refl
