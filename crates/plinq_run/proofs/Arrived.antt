@@ -32,6 +32,15 @@ use Rattle.plinq_run.proofs.Without.{without, without-all, taken_by, AreWithin, 
 
 -- ---- what arrived
 
+module _ {L T : Type 0} (meaning : L → Meaning T) (plan : Plan L) (t : Trace T) where
+  are-within : (rs : List (ChunkResult T)) → All (IsResult meaning plan t) rs → AreWithin t.items rs
+  are-within [] are = tt
+  are-within (r ∷ rs) are = ((All-head (IsResult meaning plan t) r rs are).within, are-within rs (All-tail (IsResult meaning plan t) r rs are))
+
+  pub are-true_tails : (rs : List (ChunkResult T)) → All (IsResult meaning plan t) rs → AreTrueTails t rs
+  are-true_tails [] are = tt
+  are-true_tails (r ∷ rs) are = ((All-head (IsResult meaning plan t) r rs are).tail, are-true_tails rs (All-tail (IsResult meaning plan t) r rs are))
+
 module _ {L T : Type 0} (meaning : L → Meaning T) (plan : Plan L) (t : Trace T) (few : length t.items ≤ 2 ^ 40) (by : plan.order ≡ ByArrival) (keyless : are_keyless plan.worker.now ≡ true) where
   abbrev worker : List (Op L)
   worker = plan.worker.now
@@ -57,14 +66,6 @@ module _ {L T : Type 0} (meaning : L → Meaning T) (plan : Plan L) (t : Trace T
       ap (λ u. followed u (arrived ByArrival rs)) (result-glued r (All-head (IsResult meaning plan t) r rs are))
       ∙ ap (followed (glued meaning worker 0 xs None)) (arrived-glued rs (All-tail (IsResult meaning plan t) r rs are) ∙ glued-keyless meaning worker 0 (0 + length xs) ys None keyless)
       ∙ sym (glued-append meaning worker 0 xs ys None)
-
-  are-within : (rs : List (ChunkResult T)) → All (IsResult meaning plan t) rs → AreWithin t.items rs
-  are-within [] are = tt
-  are-within (r ∷ rs) are = ((All-head (IsResult meaning plan t) r rs are).within, are-within rs (All-tail (IsResult meaning plan t) r rs are))
-
-  are-told : (rs : List (ChunkResult T)) → All (IsResult meaning plan t) rs → AreTrueTails t rs
-  are-told [] are = tt
-  are-told (r ∷ rs) are = ((All-head (IsResult meaning plan t) r rs are).tail, are-told rs (All-tail (IsResult meaning plan t) r rs are))
 
 -- ---- the row of keys: nothing but the source's ending, where all keys before it were offered
 
@@ -110,7 +111,7 @@ arrival-begins {L} {T} meaning plan t few by keyless offers are apart =
     let told : Option (ℕ × Ending) = all_told None offers in
     let keys : Trace T = row told 0 (all_placed ByArrival [] offers) in
     let rest : Trace T = glued meaning ws (0 + length xs) left t.ending in
-    let any : IsRearranged t taken = record { items = rearranged-taken t.items offers (are-within meaning plan t few by keyless offers are) apart; ending = refl } in
+    let any : IsRearranged t taken = record { items = rearranged-taken t.items offers (are-within meaning plan t offers are) apart; ending = refl } in
     let all : glue meaning ws taken ≡ followed first rest =
     glued-append meaning ws 0 xs left t.ending ∙ ap (λ u. followed u rest) (sym (arrived-glued meaning plan t few by keyless offers are)) in
     elim (row-comes offers apart) [
@@ -118,7 +119,7 @@ arrival-begins {L} {T} meaning plan t few by keyless offers are apart =
           let same : followed first keys ≡ first = ap (followed first) none ∙ followed-open_nil first in
           (taken, any, rest, all ∙ ap (λ u. followed u rest) (sym same))
       | inr come ↦
-          let tells : IfSome told (EndsAt t) = told-true t None offers tt (are-told meaning plan t few by keyless offers are) in
+          let tells : IfSome told (EndsAt t) = told-true t None offers tt (are-true_tails meaning plan t offers are) in
           let ends : EndsAt t come.place = subst (λ o. IfSome o (EndsAt t)) come.told_is tells in
           let gone : left ≡ [] = without-all (is_offered offers) 0 t.items (λ j from below. come.keys j (omega (arith, below, ends.0))) in
           let same : rest ≡ keys =

@@ -1,23 +1,19 @@
 -- How a run ends: from its first offer to its report.
-use Rattle.std.specs.Prelude.{◌≡◌, ℕ, ◌≤◌, ◌^◌, List, [], ◌++◌, length, Bool, true, false, Some, Result, Ok, Err, IfOk, refl}
+use Rattle.std.specs.Prelude.{◌≡◌, ℕ, ◌≤◌, ◌^◌, List, [], length, Bool, true, false, Result, Ok, Err, IfOk, refl}
 use Rattle.std.specs.List.{list_any}
 use Rattle.std.proofs.Common.{sym, ◌∙◌, ap, subst, append-nil}
-use Rattle.std.proofs.lemmas.List.Elements.{All-weaker}
 use Rattle.plinq_source.specs.declared.ending.Ending.{Ending}
 use Rattle.plinq_source.specs.declared.ending.Ending.TheVariants.{End}
-use Rattle.plinq_source.specs.declared.source.Source.{Ghosts as SourceGhosts}
 use Rattle.plinq_source.specs.Trace.{Trace, ended}
 use Rattle.plinq_lambda.specs.Meaning.{Meaning}
 use Rattle.plinq_keyed.specs.History.{IsLegalHistory}
 use Rattle.plinq_keyed.specs.declared.record.Record.{Record}
 use Rattle.plinq_ticket.specs.Shares.{in_ticket_order}
-use Rattle.plinq_partition.specs.Partitions.{all_shares}
 use Rattle.plinq_ops.specs.declared.merge_option.MergeOption.{MergeOption}
 use Rattle.plinq_ops.specs.declared.op.Op.{Op}
 use Rattle.plinq_ops.specs.declared.order.Order.{Order}
 use Rattle.plinq_ops.specs.declared.order.Order.TheVariants.{ByKey, ByArrival}
 use Rattle.plinq_ops.specs.declared.plan.Plan.{Plan}
-use Rattle.plinq_ops.specs.declared.results.ChunkResult.{ChunkResult}
 use Rattle.plinq_ops.specs.Batches.{batches}
 use Rattle.plinq_ops.specs.ByKey.{are_keyless, is_by_key}
 use Rattle.plinq_ops.specs.Feeding.{is_empty_take}
@@ -33,34 +29,19 @@ use Rattle.plinq_ops.proofs.Answers.{IsRearranged-refl, Answer-rearranged, Answe
 use Rattle.plinq_ops.proofs.Counts.{some_takes_none-stages_of}
 use Rattle.plinq_ops.proofs.Glue.{answer_of-split}
 use Rattle.plinq_ops.proofs.Parts.{worker-keyless}
-use Rattle.plinq_merge.specs.declared.deliver.Deliver.{Deliver}
-use Rattle.plinq_merge.specs.Delivering.{line_of, Gives, MadeBy}
 use Rattle.plinq_merge.specs.Sending.{Leads}
-use Rattle.plinq_merge.specs.Shown.{merged}
-use Rattle.plinq_run.specs.declared.planning.Ended.{Ended}
 use Rattle.plinq_run.specs.declared.report.Report.{Report}
 use Rattle.plinq_run.specs.declared.run_fault.RunFault.{RunFault}
 use Rattle.plinq_run.specs.Endings.{reported}
 use Rattle.plinq_run.specs.Handed.{handed_trace, has_close}
-use Rattle.plinq_run.specs.inner.Merged.{HasEnded, HasBrokenOff}
 use Rattle.plinq_crew.specs.Plans.{IsUndecided}
 use Rattle.plinq_run.specs.inner.Plans.{merged_answer}
-use Rattle.plinq_run.specs.inner.Offered.{IsOffered}
 use Rattle.plinq_run.specs.inner.Plans.{MayTake, MayMerge}
 use Rattle.plinq_run.specs.Reports.{IsBroken, HasReported, Reports}
-use Rattle.plinq_crew.specs.Results.{IsResult}
 use Rattle.plinq_run.specs.Runs.{HasRun, HasBroken, BreaksFor, Other, Runs, cause_of}
 use Rattle.plinq_run.specs.inner.Reported.{IsReportOf}
 use Rattle.plinq_run.proofs.Handed.{closed-in_order, covers-handed}
-use Rattle.plinq_run.proofs.Runs.{begun_line, IsWhole, whole-run, broken-run}
-
--- nothing was sent yet
-pub none-sent : {K B : Type 0} (accepts : K → B → K → Type 0) (s : K) (bs : List B) → (x : List B) × (x' : List B) × (bs ≡ x ++ x') × Leads accepts s x s
-none-sent accepts s bs = ([], bs, refl, refl)
-
--- by key the items are taken in their order
-by_key-merged : {L T : Type 0} (meaning : L → Meaning T) (plan : Plan L) (t u : Trace T) → plan.order ≡ ByKey → MayMerge meaning plan t u → u ≡ merged_answer meaning plan t
-by_key-merged meaning plan t u by may = may.is ∙ ap (merged_answer meaning plan) (subst (λ o. MayTake o t may.taken) by may.may)
+use Rattle.plinq_run.proofs.Runs.{IsWhole}
 
 -- the order of the source always may be
 may-same : {T : Type 0} (order : Order) (t : Trace T) → MayTake order t t
@@ -78,28 +59,11 @@ none-ended meaning accepts refuses option plan t s fault told =
     record {
       answer = merged_answer meaning plan t;
       may = merged-may meaning plan t;
-      broken = subst (λ x. BreaksFor accepts refuses x (batches option (merged_answer meaning plan t)) s s) (sym told) (none-sent accepts s (batches option (merged_answer meaning plan t)));
+      broken = subst (λ x. BreaksFor accepts refuses x (batches option (merged_answer meaning plan t)) s s) (sym told) ([], batches option (merged_answer meaning plan t), refl, refl);
     }
 
--- a run that delivers
 module _ {L T K : Type 0} (meaning : L → Meaning T) (plan : Plan L) (option : MergeOption) (undecided : IsUndecided plan) (t : Trace T) (few : length t.items ≤ 2 ^ 40)
     (accepts : K → List T → K → Type 0) (refuses : K → List T → ℕ → K → Type 0) where
-  module _ (P : ChunkResult T → Type 0) (plain : (r : ChunkResult T) → P r → IsResult meaning plan t r) (first : Deliver L T) (begun : line_of meaning first ≡ begun_line meaning plan option) where
-    -- it has delivered an answer
-    pub whole-delivered : {S U : Type 0} {source : SourceGhosts S U} (s s' : K) (ended : Ended S (Deliver L T) U source) → HasEnded (MadeBy accepts refuses meaning) P plan.order first s ended s'
-        → IsWhole meaning plan option undecided t few accepts refuses (all_shares ended.partitions.items) s s' ended.joined.ending
-    whole-delivered s s' ended h =
-        whole-run meaning plan option undecided t few accepts refuses (all_shares ended.partitions.items) s s' ended.joined.ending h.offers (line_of meaning ended.joined.taker)
-        (All-weaker (IsOffered P (all_shares ended.partitions.items)) (IsOffered (IsResult meaning plan t) (all_shares ended.partitions.items))
-        (λ r x. (plain r x.0, x.1)) h.offers h.are) h.apart
-        (subst (λ l. Gives accepts refuses l s (merged plan.order h.offers) (Ok (Some ended.joined.ending)) (line_of meaning ended.joined.taker) s') begun (let taken = h.taken in taken.gives))
-
-    -- or the first batches of one
-    pub broken-delivered : (s s' : K) (fault : RunFault) → HasBrokenOff (MadeBy accepts refuses meaning) P plan.order first s fault s' → IsBroken accepts refuses option (MayMerge meaning plan) t s s' fault
-    broken-delivered s s' fault h =
-        broken-run meaning plan option undecided t few accepts refuses h.how s s' fault h.offers (line_of meaning h.last) (All-weaker P (IsResult meaning plan t) plain h.offers h.are) h.apart
-        (subst (λ l. Gives accepts refuses l s (merged plan.order h.offers) h.how (line_of meaning h.last) s') begun (let taken = h.taken in taken.gives)) h.breaks
-
   -- the report of a run is of the same answer, which its records account for
   pub whole-reported : (records : List Record) (s s' : K) (e : Ending) (b : Result Report RunFault) → IsWhole meaning plan option undecided t few accepts refuses records s s' e
       → IsReportOf (Ok e) (reported b) → IfOk b (λ r. IsLegalHistory t r.records.items) → IfOk b (λ r. r.records.items ≡ in_ticket_order records)
@@ -167,27 +131,18 @@ planned-answer meaning q plan t is undecided =
     ∙ ap (λ ws. answer_of meaning (after_part (order_of q.ordered) q.ops) (glue meaning ws t)) is.worker
     ∙ sym (answer_of-split meaning (order_of q.ordered) q.ops t (sym is.decided ∙ undecided))
 
--- by key nothing else
-planned-only : {L T : Type 0} (meaning : L → Meaning T) (q : QueryView L) (plan : Plan L) (t u : Trace T) → IsPlanOf q plan → q.ordered ≡ true → plan.decided ≡ false
-    → MayMerge meaning plan t u → u ≡ answer_of meaning q.ops t
-planned-only meaning q plan t u is ordered undecided may =
-    by_key-merged meaning plan t u (is.order ∙ ap order_of ordered) may ∙ planned-answer meaning q plan t is undecided
-
--- and by arrival what the query may answer
-planned-any : {L T : Type 0} (meaning : L → Meaning T) (q : QueryView L) (plan : Plan L) (t u : Trace T) → IsPlanOf q plan → q.ordered ≡ false → plan.decided ≡ false
-    → MayMerge meaning plan t u → Answer meaning false q.ops t u
-planned-any meaning q plan t u is ordered undecided may =
-    let any : IsRearranged t may.taken = subst (λ o. MayTake o t may.taken) (is.order ∙ ap order_of ordered) may.may in
-    subst (λ v. Answer meaning false q.ops t v) (sym (may.is ∙ planned-answer meaning q plan may.taken is undecided)) (Answer-rearranged meaning q.ops t may.taken any)
-
 -- a plan answers what the query may
 pub planned-may : {L T : Type 0} (meaning : L → Meaning T) (q : QueryView L) (plan : Plan L) (t u : Trace T) (ordered : Bool) → q.ordered ≡ ordered → IsPlanOf q plan → plan.decided ≡ false
     → MayMerge meaning plan t u → MayAnswer meaning ordered q.ops t u
-planned-may meaning q plan t u true ordered is undecided may = planned-only meaning q plan t u is ordered undecided may
-planned-may meaning q plan t u false ordered is undecided may = planned-any meaning q plan t u is ordered undecided may
+planned-may meaning q plan t u true ordered is undecided may =
+    let same : may.taken ≡ t = subst (λ o. MayTake o t may.taken) (is.order ∙ ap order_of ordered) may.may in
+    may.is ∙ ap (merged_answer meaning plan) same ∙ planned-answer meaning q plan t is undecided
+planned-may meaning q plan t u false ordered is undecided may =
+    let any : IsRearranged t may.taken = subst (λ o. MayTake o t may.taken) (is.order ∙ ap order_of ordered) may.may in
+    subst (λ v. Answer meaning false q.ops t v) (sym (may.is ∙ planned-answer meaning q plan may.taken is undecided)) (Answer-rearranged meaning q.ops t may.taken any)
 
 -- by arrival the workers look at no keys
-pub planned-keyless : {L : Type 0} (q : QueryView L) (plan : Plan L) → IsPlanOf q plan → plan.order ≡ ByArrival → are_keyless plan.worker.now ≡ true
+planned-keyless : {L : Type 0} (q : QueryView L) (plan : Plan L) → IsPlanOf q plan → plan.order ≡ ByArrival → are_keyless plan.worker.now ≡ true
 planned-keyless {L} q plan is by =
     ap are_keyless is.worker ∙ ap (λ o. are_keyless (worker_part o q.ops)) (sym is.order ∙ by) ∙ worker-keyless q.ops
 

@@ -7,7 +7,6 @@ mod Handed
 mod Headline
 mod Merged
 mod PartsGiven
-mod Parts
 mod Runs
 mod Stopping
 mod Told

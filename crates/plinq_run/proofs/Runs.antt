@@ -7,6 +7,8 @@ use Rattle.plinq_source.specs.Trace.{Trace, followed}
 use Rattle.plinq_source.proofs.Followed.{followed-ended}
 use Rattle.plinq_lambda.specs.Meaning.{Meaning}
 use Rattle.plinq_keyed.specs.declared.record.Record.{Record}
+use Rattle.plinq_partition.specs.Partitions.{all_shares}
+use Rattle.plinq_source.specs.declared.source.Source.{Ghosts as SourceGhosts}
 use Rattle.plinq_ops.specs.declared.merge_option.MergeOption.{MergeOption}
 use Rattle.plinq_ops.specs.declared.order.Order.{Order}
 use Rattle.plinq_ops.specs.declared.order.Order.TheVariants.{ByKey, ByArrival}
@@ -21,34 +23,32 @@ use Rattle.plinq_ops.proofs.Stages.{seq-followed}
 use Rattle.plinq_merge.specs.Deliveries.{batches-first}
 use Rattle.plinq_merge.specs.declared.delivery_fault.DeliveryFault.{DeliveryFault}
 use Rattle.plinq_merge.specs.declared.delivery_fault.DeliveryFault.TheVariants.{Memory as NoMemory, Sink as Refusal}
-use Rattle.plinq_merge.specs.Delivering.{Line, Gives}
+use Rattle.plinq_merge.specs.declared.deliver.Deliver.{Deliver}
+use Rattle.plinq_merge.specs.Delivering.{Line, line_of, Gives, MadeBy}
 use Rattle.plinq_merge.specs.Sending.{Leads, IsCutOff}
 use Rattle.plinq_merge.specs.Shown.{Merge, merged, answer, shown}
-use Rattle.plinq_merge.specs.Whole.{AreTrueTails, AreApart, AreFirstOf}
+use Rattle.plinq_merge.specs.Whole.{AreApart, AreFirstOf}
 use Rattle.plinq_merge.proofs.Offers.{answer-open}
 use Rattle.plinq_merge.specs.inner.Sent.{cut-before}
 use Rattle.plinq_merge.proofs.Whole.{merged-begins}
 use Rattle.plinq_run.specs.declared.run_fault.RunFault.{RunFault}
-use Rattle.plinq_run.specs.inner.Merged.{merge_for}
+use Rattle.plinq_run.specs.declared.planning.Ended.{Ended}
+use Rattle.plinq_run.specs.inner.Merged.{merge_for, HasEnded, HasBrokenOff}
 use Rattle.plinq_run.specs.Parting.{Breaks}
 use Rattle.plinq_crew.specs.Plans.{IsUndecided}
 use Rattle.plinq_run.specs.inner.Plans.{merged_answer}
 use Rattle.plinq_run.specs.inner.Offered.{IsOffered, Covers}
 use Rattle.plinq_run.specs.inner.Plans.{MayTake, MayMerge}
 use Rattle.plinq_run.specs.Reports.{IsBroken}
-use Rattle.plinq_crew.specs.Results.{IsResult}
+use Rattle.plinq_crew.specs.Results.{IsResult, IsPart}
 use Rattle.plinq_run.specs.Runs.{HasRun, Cause, SinkRefused, Other, cause_of, BreaksFor}
-use Rattle.plinq_run.proofs.Arrived.{arrival-begins}
+use Rattle.plinq_run.proofs.Arrived.{are-true_tails, arrival-begins}
 use Rattle.plinq_run.proofs.Covered.{result-covered}
 
 module _ {L T : Type 0} (meaning : L → Meaning T) (plan : Plan L) (t : Trace T) where
   are-offers : (rs : List (ChunkResult T)) → All (IsResult meaning plan t) rs → AreOffers meaning plan.worker.now t rs
   are-offers [] are = tt
   are-offers (r ∷ rs) are = ((All-head (IsResult meaning plan t) r rs are).offer, are-offers rs (All-tail (IsResult meaning plan t) r rs are))
-
-  are-true_tails : (rs : List (ChunkResult T)) → All (IsResult meaning plan t) rs → AreTrueTails t rs
-  are-true_tails [] are = tt
-  are-true_tails (r ∷ rs) are = ((All-head (IsResult meaning plan t) r rs are).tail, are-true_tails rs (All-tail (IsResult meaning plan t) r rs are))
 
   -- the fragments of the source's items, in an order in which they may be taken, begin with what was merged
   pub record HasBegun (offers : List (ChunkResult T)) : Type 0 where
@@ -59,7 +59,7 @@ module _ {L T : Type 0} (meaning : L → Meaning T) (plan : Plan L) (t : Trace T
 
   pub begun-in : (order : Order) → plan.order ≡ order → length t.items ≤ 2 ^ 40 → IsUndecided plan → (offers : List (ChunkResult T)) → All (IsResult meaning plan t) offers → AreApart offers → HasBegun offers
   begun-in ByKey by few undecided offers are apart =
-      let begins = merged-begins meaning plan.worker.now t few offers (are-offers offers are) (are-true_tails offers are) in
+      let begins = merged-begins meaning plan.worker.now t few offers (are-offers offers are) (are-true_tails meaning plan t offers are) in
       record {
         taken = t;
         may = subst (λ o. MayTake o t t) (sym by) refl;
@@ -105,6 +105,10 @@ module _ {L T : Type 0} (meaning : L → Meaning T) (plan : Plan L) (option : Me
       let first = batches-first (batch_size option) [] (answer Made offers) begins.0 in
       (first.0, ap (batches_from (batch_size option) []) begins.1 ∙ first.1)
 
+-- what is sent as it is
+pub plain-part : {L T : Type 0} (meaning : L → Meaning T) (plan : Plan L) (t : Trace T) (r : ChunkResult T) → IsPart meaning (λ x c. c ≡ x) plan t r → IsResult meaning plan t r
+plain-part meaning plan t r h = subst (IsResult meaning plan t) (sym h.made) h.is
+
 -- what begins to deliver the answer of this plan
 abbrev pub begun_line : {L T : Type 0} → (L → Meaning T) → Plan L → MergeOption → Line T
 begun_line meaning plan option = record { after = stages_of meaning plan.after.now; now = stages_of meaning plan.after.now; held = []; size = batch_size option }
@@ -117,20 +121,6 @@ module _ {L T K : Type 0} (meaning : L → Meaning T) (plan : Plan L) (option : 
     pub may : MayMerge meaning plan t answer
     pub accounts : (first : Trace T) → Covers t records first → MayMerge meaning plan first answer
     pub has_run : HasRun accepts option answer s s' e
-
-  pub whole-run : (records : List Record) (s : K) (s' : K) (e : Ending) (offers : List (ChunkResult T)) (l' : Line T) → All (IsOffered (IsResult meaning plan t) records) offers → AreApart offers
-      → Gives accepts refuses (begun_line meaning plan option) s (merged plan.order offers) (Ok (Some e)) l' s' → IsWhole records s s' e
-  whole-run records s s' e offers l' are apart gives =
-      let made : Merge T = merge_for meaning plan option in
-      let open_now : answer made offers ≡ seq made.after (merged plan.order offers) = answer-open made offers undecided.undecided in
-      let ended : (answer made offers).ending ≡ Some e = ap (λ u. u.ending) open_now ∙ gives.0 in
-      record {
-        answer = answer made offers;
-        may = ended-answer meaning plan option undecided t offers e few (All-weaker (IsOffered (IsResult meaning plan t) records) (IsResult meaning plan t) (λ r x. x.0) offers are) apart ended;
-        accounts = λ first covers. ended-answer meaning plan option undecided first offers e (omega (arith, few, covers.within))
-            (All-weaker (IsOffered (IsResult meaning plan t) records) (IsResult meaning plan first) (λ r x. result-covered meaning plan t first records r few covers x) offers are) apart ended;
-        has_run = record { delivered = subst (λ u. Leads accepts s (batches option u) s') (sym open_now) gives.1; ending = ended };
-      }
 
   short-of : (s : K) (offers : List (ChunkResult T)) (fault : DeliveryFault) (s' : K) (told : RunFault) (cause : Cause) → All (IsResult meaning plan t) offers → AreApart offers
       → IsCutOff accepts refuses s (batches_from (batch_size option) [] (seq (stages_of meaning plan.after.now) (merged plan.order offers))) fault s'
@@ -149,12 +139,36 @@ module _ {L T K : Type 0} (meaning : L → Meaning T) (plan : Plan L) (option : 
         broken = subst (λ c. BreaksFor accepts refuses c all s s') (sym is) (on all (subst (λ bs. IsCutOff accepts refuses s bs fault s') (sym first.1) sent));
       }
 
-  -- it was broken off
-  pub broken-run : (how : Result (Option Ending) DeliveryFault) (s : K) (s' : K) (told : RunFault) (offers : List (ChunkResult T)) (l' : Line T) → All (IsResult meaning plan t) offers → AreApart offers
-      → Gives accepts refuses (begun_line meaning plan option) s (merged plan.order offers) how l' s' → Breaks how (cause_of told) → IsBroken accepts refuses option (MayMerge meaning plan) t s s' told
-  broken-run (Ok None) s s' told offers l' are apart gives breaks = absurd breaks
-  broken-run (Ok (Some e)) s s' told offers l' are apart gives breaks =
-      let all : List (List T) = batches_from (batch_size option) [] (seq (stages_of meaning plan.after.now) (merged plan.order offers)) in
-      short-of s offers NoMemory s' told Other are apart (all, [], sym (append-nil all), gives.1) (λ bs x. x) breaks
-  broken-run (Err NoMemory) s s' told offers l' are apart gives breaks = short-of s offers NoMemory s' told Other are apart gives (λ bs x. x) breaks
-  broken-run (Err (Refusal code)) s s' told offers l' are apart gives breaks = short-of s offers (Refusal code) s' told (SinkRefused code) are apart gives (λ bs x. x) breaks
+  -- where such parts were merged
+  module _ (P : ChunkResult T → Type 0) (plain : (r : ChunkResult T) → P r → IsResult meaning plan t r) (first : Deliver L T) (begun : line_of meaning first ≡ begun_line meaning plan option) where
+    pub whole-delivered : {S U : Type 0} {source : SourceGhosts S U} (s s' : K) (ended : Ended S (Deliver L T) U source) → HasEnded (MadeBy accepts refuses meaning) P plan.order first s ended s'
+        → IsWhole (all_shares ended.partitions.items) s s' ended.joined.ending
+    whole-delivered s s' ended h =
+        let made : Merge T = merge_for meaning plan option in
+        let records = all_shares ended.partitions.items in
+        let taken = h.taken in
+        let gives = subst (λ l. Gives accepts refuses l s (merged plan.order h.offers) (Ok (Some ended.joined.ending)) (line_of meaning ended.joined.taker) s') begun taken.gives in
+        let open_now : answer made h.offers ≡ seq made.after (merged plan.order h.offers) = answer-open made h.offers undecided.undecided in
+        let ends : (answer made h.offers).ending ≡ Some ended.joined.ending = ap (λ u. u.ending) open_now ∙ gives.0 in
+        record {
+          answer = answer made h.offers;
+          may = ended-answer meaning plan option undecided t h.offers ended.joined.ending few (All-weaker (IsOffered P records) (IsResult meaning plan t) (λ r x. plain r x.0) h.offers h.are) h.apart ends;
+          accounts = λ first covers. ended-answer meaning plan option undecided first h.offers ended.joined.ending (omega (arith, few, covers.within))
+              (All-weaker (IsOffered P records) (IsResult meaning plan first) (λ r x. result-covered meaning plan t first records r few covers (plain r x.0, x.1)) h.offers h.are) h.apart ends;
+          has_run = record { delivered = subst (λ u. Leads accepts s (batches option u) s') (sym open_now) gives.1; ending = ends };
+        }
+
+    -- or broken off
+    broken-by : (how : Result (Option Ending) DeliveryFault) (s s' : K) (told : RunFault) (offers : List (ChunkResult T)) (l' : Line T) → All (IsResult meaning plan t) offers → AreApart offers
+        → Gives accepts refuses (begun_line meaning plan option) s (merged plan.order offers) how l' s' → Breaks how (cause_of told) → IsBroken accepts refuses option (MayMerge meaning plan) t s s' told
+    broken-by (Ok None) s s' told offers l' are apart gives breaks = absurd breaks
+    broken-by (Ok (Some e)) s s' told offers l' are apart gives breaks =
+        let all : List (List T) = batches_from (batch_size option) [] (seq (stages_of meaning plan.after.now) (merged plan.order offers)) in
+        short-of s offers NoMemory s' told Other are apart (all, [], sym (append-nil all), gives.1) (λ bs x. x) breaks
+    broken-by (Err NoMemory) s s' told offers l' are apart gives breaks = short-of s offers NoMemory s' told Other are apart gives (λ bs x. x) breaks
+    broken-by (Err (Refusal code)) s s' told offers l' are apart gives breaks = short-of s offers (Refusal code) s' told (SinkRefused code) are apart gives (λ bs x. x) breaks
+
+    pub broken-delivered : (s s' : K) (fault : RunFault) → HasBrokenOff (MadeBy accepts refuses meaning) P plan.order first s fault s' → IsBroken accepts refuses option (MayMerge meaning plan) t s s' fault
+    broken-delivered s s' fault h =
+        broken-by h.how s s' fault h.offers (line_of meaning h.last) (All-weaker P (IsResult meaning plan t) plain h.offers h.are) h.apart
+        (subst (λ l. Gives accepts refuses l s (merged plan.order h.offers) h.how (line_of meaning h.last) s') begun (let taken = h.taken in taken.gives)) h.breaks

@@ -1,5 +1,5 @@
 -- Where a run reports no fault, all that its workers were to send was received.
-use Rattle.std.proofs.Common.{eqb-true, ◌≡◌, ◌||◌, List, [], drop, Option, Some, None, is_some, true, false, true≢false, All, Result, Ok, Err, IfOk, OnOk, Vec, not, Bool, refl, sym, ap, ◌∙◌, subst}
+use Rattle.std.proofs.Common.{eqb-true, ◌≡◌, ◌||◌, [], drop, Option, Some, None, is_some, true, false, true≢false, All, Result, Ok, Err, IfOk, Vec, not, Bool, refl, sym, ap, ◌∙◌, subst}
 use Rattle.std.proofs.lemmas.List.Elements.{All-weaker}
 use Rattle.std.proofs.lemmas.List.Folds.{list_any-from_Any}
 use Rattle.std.specs.Prelude.{◌==◌}
@@ -16,10 +16,8 @@ use Rattle.plinq_merge.specs.Joiners.{taker_of, ending_of}
 use Rattle.plinq_keyed.specs.declared.record.Record.{Record}
 use Rattle.plinq_partition.specs.declared.partition.Partition.{Partition}
 use Rattle.plinq_partition.specs.Partitions.{all_shares}
-use Rattle.plinq_stream.specs.declared.pass_knowledge.PassKnowledge.{PassKnowledge}
-use Rattle.plinq_stream.specs.declared.sent.Sent.{Sent}
 use Rattle.plinq_stream.specs.declared.stream_pass.StreamPass.{StreamPass}
-use Rattle.plinq_stream.specs.Passes.{known}
+use Rattle.plinq_stream.specs.Passes.{IsPassOf, known}
 use Rattle.plinq_stream.specs.Streams.{HasReceivedAll}
 use Rattle.plinq_stream.proofs.Under.{or-none, or-right}
 use Rattle.plinq_crew.specs.declared.starting.WorkerFaults.{WorkerFaults}
@@ -30,16 +28,20 @@ use Rattle.plinq_crew.specs.declared.worker_count.WorkerCount.{WorkerCount}
 use Rattle.plinq_run.specs.declared.run_fault.RunFault.{RunFault}
 use Rattle.plinq_run.specs.declared.run_fault.RunFault.TheVariants.{Memory, Thread, Tickets}
 use Rattle.plinq_crew.specs.declared.conducting.Returned.{Returned}
-use Rattle.plinq_crew.specs.Polls.{HasAccepted}
 use Rattle.plinq_run.specs.declared.planning.Ended.{Ended}
 use Rattle.plinq_run.specs.declared.accepting.Merging.{Merging}
 use Rattle.plinq_run.specs.declared.accepting.MergingInto.{MergingInto}
-use Rattle.plinq_crew.specs.Conducting.{AcceptsEach, IsOfCrew}
+use Rattle.plinq_crew.specs.Conducting.{AcceptsEach, IsOfCrew, HasReturned}
 use Rattle.plinq_run.specs.Handed.{is_close, has_close}
 use Rattle.plinq_run.specs.inner.Finishing.{Finishes}
 use Rattle.plinq_run.specs.inner.Offered.{IsOffered}
-use Rattle.plinq_run.specs.inner.Merged.{AcceptsInto, Stands, WereAccepted}
+use Rattle.plinq_run.specs.inner.Merged.{AcceptsInto, Stands, HasMerged, EndsSo, WereAccepted}
 use Rattle.plinq_run.specs.inner.Faults.{first_reported, reported_if, refused_by_sink, is_out_of_memory}
+use Rattle.plinq_merge.specs.Taking.{IsTaking}
+use Rattle.plinq_crew.specs.declared.worker.Crew.{Crew}
+use Rattle.plinq_crew.specs.declared.worker.WorkerContext.{WorkerContext}
+use Rattle.plinq_crew.proofs.Polls.{accepted-such}
+use Rattle.plinq_run.proofs.Merged.{accepted-all, begun-merged, merged-ended}
 
 none-before : {A : Type 0} (x y : Option A) → option_or x y ≡ None → x ≡ None
 none-before None y is = refl
@@ -62,7 +64,7 @@ none-noted fault faults worker_count is =
     let tickets = none-told faults.tickets Tickets (none-before _ _ after-thread) in
     or-none faults.memory faults.tickets (or-right (is_out_of_memory fault) faults.memory memory) tickets
 
-pub none-missing : (fault : Option MergeFault) (faults : WorkerFaults) (worker_count : WorkerCount) → first_reported fault faults worker_count ≡ None
+none-missing : (fault : Option MergeFault) (faults : WorkerFaults) (worker_count : WorkerCount) → first_reported fault faults worker_count ≡ None
     → worker_count.started ≡ worker_count.wanted
 none-missing fault faults worker_count is =
     let after-memory = none-after (reported_if (is_out_of_memory fault || faults.memory) Memory) _ (none-after (refused_by_sink fault) _ is) in
@@ -73,46 +75,10 @@ none-missing fault faults worker_count is =
     not-not true is = refl
     not-not false is = sym is
 
--- of what is reported with these partitions: a pass of the stream has received all that was sent; and what else is known of it
-pub told-all : {X S T M : Type 0} {source : SourceGhosts S T} (IsOf : StreamPass (ChunkResult M) → Type 0) (partitions_of : X → Vec (Partition S T source) Global) (Else : X → PassKnowledge (ChunkResult M) → Type 0)
-    (a : PassKnowledge (ChunkResult M)) (b : StreamPass (ChunkResult M)) (faults : WorkerFaults) (fault : Option MergeFault) (worker_count : WorkerCount) (partitions : Vec (Partition S T source) Global) (r : Result X RunFault)
-    → IsOf b → (known b).sent ≡ a.sent → (known b).numbers ≡ a.numbers → OnOk r (first_reported fault faults worker_count ≡ None) → IfOk r (λ x. partitions_of x ≡ partitions)
-    → HasReceivedAll (known b) → All (IsAnsweredBy 0 a faults) (drop 1 partitions.items) → IfOk r (λ x. Else x (known b))
-    → IfOk r (λ x. (p : StreamPass (ChunkResult M)) × IsOf p × HasReceivedAll (known p) × All (IsWhollyAnsweredBy (known p)) (drop 1 (partitions_of x).items) × Else x (known p))
-told-all IsOf partitions_of Else a b faults fault worker_count partitions (Ok x) of sent numbers none same all answered also = (
-  b,
-  of,
-  all,
-  subst (λ ps. All (IsWhollyAnsweredBy (known b)) (drop 1 ps.items)) (sym same)
-      (All-weaker (IsAnsweredBy 0 a faults) (IsWhollyAnsweredBy (known b)) (answered-wholly a (known b) faults sent numbers (none-noted fault faults worker_count none)) (drop 1 partitions.items) answered),
-  also,
-)
-told-all IsOf partitions_of Else a b faults fault worker_count partitions (Err told) of sent numbers none same all answered also = tt
-
--- what was received was accepted, where it is reported how the answer ended
-pub told-accepted : {S U W O T : Type 0} {source : SourceGhosts S U} (made : W → O → Trace T → Result (Option Ending) DeliveryFault → W → O → Type 0) (IsPart : ChunkResult T → Type 0) (order : Order) (a : W) {x y : O}
-    {m : Merging W T} {back : Returned S U source} (received : List (Sent (ChunkResult T))) (first last : MergingInto W T O) (wants_close : Bool) (r : Result (Ended S W U source) RunFault) → first.out.now ≡ x → (last.merging.now ≡ m) × (last.out.now ≡ y)
-    → Stands made IsPart order a x None first.merging.now.joiner x [] → first.merging.now.fault ≡ None → Finishes m back r → HasAccepted (AcceptsEach (AcceptsInto made) IsPart) [] first received wants_close last
-    → IfOk r (λ ended. WereAccepted made IsPart order a x received ended.joined y)
-told-accepted made IsPart order a received first last wants_close (Ok ended) out same new sound f taken =
-    record {
-      first = first;
-      new = new;
-      sound = sound;
-      last = last;
-      still = ap (λ n. n.fault) same.0 ∙ f.none;
-      ending = ap (λ n. ending_of n.joiner) same.0 ∙ f.ending;
-      taker = f.taker ∙ ap (λ n. taker_of n.joiner) (sym same.0);
-      out = (out, same.1);
-      wants_close = wants_close;
-      taken = taken;
-    }
-told-accepted made IsPart order a received first last wants_close (Err told) out same new sound f taken = tt
-
--- where it is reported how the answer ended, the source was closed, and what was accepted is of the chunks of the records
+-- Where it is reported how the answer ended, no worker had a fault and none was missing. So the source was closed, what was accepted is of the
+-- chunks of the records, and all that was sent was received
 module _ {S U W T : Type 0} {source : SourceGhosts S U} {m : Merging W T} {back : Returned S U source} where
-  pub told-closed : (r : Result (Ended S W U source) RunFault) → Finishes m back r
-      → (has_worker_fault back.worker_faults ≡ false → HasClosed (all_shares back.partitions.items))
+  pub told-closed : (r : Result (Ended S W U source) RunFault) → Finishes m back r → (has_worker_fault back.worker_faults ≡ false → HasClosed (all_shares back.partitions.items))
       → IfOk r (λ ended. has_close (all_shares ended.partitions.items) ≡ true)
   told-closed (Ok ended) f closed =
       let (k, entry, less, at, asked) = closed (none-noted m.fault back.worker_faults back.worker_count f.first) in
@@ -120,7 +86,7 @@ module _ {S U W T : Type 0} {source : SourceGhosts S U} {m : Merging W T} {back 
       ∙ list_any-from_Any (λ (r : Record). is_close r.asked) (all_shares back.partitions.items) (k, entry, less, at, ap is_close asked)
   told-closed (Err told) f closed = tt
 
-  pub told-offered : (IsPart : ChunkResult T → Type 0) (r : Result (Ended S W U source) RunFault) → Finishes m back r
+  told-offered : (IsPart : ChunkResult T → Type 0) (r : Result (Ended S W U source) RunFault) → Finishes m back r
       → IfOk r (λ ended. (c : ChunkResult T) → IsOfCrew back IsPart c → IsOffered IsPart (all_shares ended.partitions.items) c)
   told-offered IsPart (Ok ended) f = λ c is. (
     is.0,
@@ -128,3 +94,42 @@ module _ {S U W T : Type 0} {source : SourceGhosts S U} {m : Merging W T} {back 
         (is.1 (none-missing m.fault back.worker_faults back.worker_count f.first)),
   )
   told-offered IsPart (Err told) f = tt
+
+  module _ {L J P O : Type 0} (made : W → O → Trace T → Result (Option Ending) DeliveryFault → W → O → Type 0) (IsPart : ChunkResult T → Type 0) (order : Order) (a : W) (x : O) {y : O}
+      (crew : Crew L S J P U U T source) (context : WorkerContext S T U source) (first last : MergingInto W T O) (out : first.out.now ≡ x) (same : (last.merging.now ≡ m) × (last.out.now ≡ y))
+      (new : Stands made IsPart order a x None first.merging.now.joiner x []) (sound : first.merging.now.fault ≡ None) where
+    pub told-all : (r : Result (Ended S W U source) RunFault) → Finishes m back r → HasReturned (AcceptsInto made) IsPart crew context first last back
+        → IfOk r (λ ended. (pass : StreamPass (ChunkResult T)) × IsPassOf crew.stream.now pass × HasReceivedAll (known pass) × All (IsWhollyAnsweredBy (known pass)) (drop 1 ended.partitions.items)
+        × WereAccepted made IsPart order a x (known pass).received ended.joined y)
+    told-all (Ok ended) f h = (
+      h.pass,
+      h.of_stream,
+      h.all,
+      subst (λ (ps : Vec (Partition S U source) Global). All (IsWhollyAnsweredBy (known h.pass)) (drop 1 ps.items)) (sym f.partitions)
+          (All-weaker (IsAnsweredBy 0 (known h.pass) back.worker_faults) (IsWhollyAnsweredBy (known h.pass))
+          (answered-wholly (known h.pass) (known h.pass) back.worker_faults refl refl (none-noted m.fault back.worker_faults back.worker_count f.first)) (drop 1 back.partitions.items) h.answered),
+      record {
+        first = first;
+        new = new;
+        sound = sound;
+        last = last;
+        still = ap (λ n. n.fault) same.0 ∙ f.none;
+        ending = ap (λ n. ending_of n.joiner) same.0 ∙ f.ending;
+        taker = f.taker ∙ ap (λ n. taker_of n.joiner) (sym same.0);
+        out = (out, same.1);
+        wants_close = h.wants_close;
+        taken = h.accepted;
+      },
+    )
+    told-all (Err told) f h = tt
+
+    -- the answer has ended so, or it was broken off
+    pub told-ends : IsTaking made → (r : Result (Ended S W U source) RunFault) → Finishes m back r → HasReturned (AcceptsInto made) IsPart crew context first last back → EndsSo made IsPart order a x r y
+    told-ends lawful r f h =
+        let P = IsOfCrew back IsPart in
+        let begun = subst (HasMerged made P order a x first.merging.now) (sym out) (begun-merged made lawful P order a x first.merging.now x sound new) in
+        let such =
+        accepted-such (AcceptsEach (AcceptsInto made) IsPart) (AcceptsEach (AcceptsInto made) P)
+        (λ sent. back.worker_count.started ≡ back.worker_count.wanted → IsOfOne (all_shares back.partitions.items) sent.item)
+        (λ z sent z' of step. ((step.0, of), step.1)) first (known h.pass).received h.wants_close last h.each h.accepted in
+        merged-ended made lawful P IsPart (λ c is. is.0) order a x last same (accepted-all made lawful P order a x [] (known h.pass).received h.wants_close first last such begun) f (told-offered IsPart r f)

@@ -16,7 +16,7 @@ use Rattle.plinq_merge.specs.Merging.{GoesOn}
 use Rattle.plinq_merge.specs.Taking.{IsTaking}
 use Rattle.plinq_run.specs.declared.fold_blocks.FoldBlocks.{FoldBlocks}
 use Rattle.plinq_run.specs.Parting.{StandFor, WasGiven}
-use Rattle.plinq_run.specs.inner.Standing.{IsOver, stand-none, stand-append, as_one-folded, given-past, given-after, given-stops}
+use Rattle.plinq_run.specs.inner.Standing.{IsOver, stand-none, stand-append, as_one-folded, given-none, given-past, given-after, given-stops}
 
 -- no operator has ended the answer, and the taker of accumulators can take more
 abbrev pub can_fold : {L T F W : Type 0} → (L → Meaning T) → (W → Bool) → FoldBlocks L F W → Bool
@@ -116,6 +116,12 @@ module _ {T A U W O : Type 0} (f : Folding T A U) (lawful : IsFolding f) (made :
       }
   passes-all (Ok (Some g)) now now' t out e a x b y fed last is = given-fed (Ok (Some g)) now now' t out e a x b y fed is
   passes-all (Err fault) now now' t out e a x b y fed last is = given-fed (Err fault) now now' t out e a x b y fed is
+
+-- nothing was given on, for want of memory
+pub passes-none : {L F T A U W O : Type 0} (meaning : L → Meaning T) (folding : F → Folding T A U) → ((a : F) → IsFolding (folding a))
+    → (made : W → O → Trace A → Result (Option Ending) DeliveryFault → W → O → Type 0) → IsTaking made → (d : FoldBlocks L F W) (x : O) (t : Trace T)
+    → WasGiven (folding d.aggregator.now) made (seq (stages meaning d.pipeline) t) d.inner x (Err Memory) x
+passes-none meaning folding lawful made taking d x t = given-none (folding d.aggregator.now) (lawful d.aggregator.now) made taking (seq (stages meaning d.pipeline) t) d.inner x
 
 -- one trace after another
 pub made-lawful : {L F T A U W O : Type 0} (meaning : L → Meaning T) (folding : F → Folding T A U) → ((a : F) → IsFolding (folding a))

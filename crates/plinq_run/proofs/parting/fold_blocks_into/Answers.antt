@@ -3,7 +3,7 @@ use Rattle.plinq_crew.specs.Results.{IsPart}
 use Rattle.plinq_ops.proofs.ByKey.{stages-begun}
 use Rattle.plinq_run.specs.declared.fold_blocks.FoldBlocks.{FoldBlocks}
 use Rattle.plinq_run.specs.declared.run_fault.RunFault.TheVariants.{Memory}
-use Rattle.plinq_run.proofs.Parts.{plain-part}
+use Rattle.plinq_run.proofs.Runs.{plain-part}
 use Rattle.plinq_run.proofs.PartsGiven.{none-given, begun-folds, blocks-given}
 use Rattle.plinq_run.proofs.parting.fold_blocks_into.Goals as goal
 

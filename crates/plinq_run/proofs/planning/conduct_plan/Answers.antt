@@ -27,16 +27,13 @@ run_crew-requires-clause-ready g c lifetimes outlive =
     }
 
 pub returns-in_default : goal.returns-in_default
-returns-in_default g c =
-    none-broken g.W.TakeInto.made g.met.W.TakeInto.lawful (IsPart g.L.Lambda.meaning (g.P.Task.makes c.args.task.now) c.args.request.plan.now (g.S.Source.whole c.args.request.source)) c.args.request.plan.now.order c.args.taker c.args.out.now _ refl
+returns-in_default g c = none-broken g.W.TakeInto.made g.met.W.TakeInto.lawful _ _ _ _ _ refl
 
 pub returns-in_default-new : goal.returns-in_default-new
-returns-in_default-new g c =
-    none-broken g.W.TakeInto.made g.met.W.TakeInto.lawful (IsPart g.L.Lambda.meaning (g.P.Task.makes c.args.task.now) c.args.request.plan.now (g.S.Source.whole c.args.request.source)) c.args.request.plan.now.order c.args.taker c.args.out.now _ refl
+returns-in_default-new g c = none-broken g.W.TakeInto.made g.met.W.TakeInto.lawful _ _ _ _ _ refl
 
 pub returns-in_default-new-2 : goal.returns-in_default-new-2
-returns-in_default-new-2 g c =
-    none-broken g.W.TakeInto.made g.met.W.TakeInto.lawful (IsPart g.L.Lambda.meaning (g.P.Task.makes c.args.task.now) c.args.request.plan.now (g.S.Source.whole c.args.request.source)) c.args.request.plan.now.order c.args.taker c.args.out.now _ refl
+returns-in_default-new-2 g c = none-broken g.W.TakeInto.made g.met.W.TakeInto.lawful _ _ _ _ _ refl
 
 pub returns-in-Ok-run_crew : goal.returns-in-Ok-run_crew
 returns-in-Ok-run_crew g c =

@@ -11,22 +11,14 @@ use Rattle.plinq_run.specs.inner.OneThread.{FoldsAll}
 use Rattle.plinq_run.proofs.sequential_fold.fold_sequentially.Goals as goal
 
 -- a Take of none decides the answer
-pub returns-then-split-clause-folded : goal.returns-then-split-clause-folded
-returns-then-split-clause-folded g c =
-    let m = g.L.Lambda.meaning in
-    let ops = c.args.query.now.ops in
-    let decided : c.split.result.decided ≡ list_any is_empty_take ops = c.split.ensures.plan.decided in
-    let none : some_takes_none (stages_of m ops) ≡ true = sym (some_takes_none-stages_of m ops) ∙ sym decided ∙ search rules in
+pub returns-then-split : goal.returns-then-split
+returns-then-split g c =
+    let ss = stages_of g.L.Lambda.meaning c.args.query.now.ops in
+    let t = g.S.Source.whole c.args.source.now in
+    let decided : c.split.result.decided ≡ list_any is_empty_take c.args.query.now.ops = c.split.ensures.plan.decided in
+    let none : some_takes_none ss ≡ true = sym (some_takes_none-stages_of g.L.Lambda.meaning c.args.query.now.ops) ∙ sym decided ∙ search rules in
     let seed : c.seed.result ≡ (g.A.GrowingAggregator.folding c.args.aggregator.now).seed = c.seed.ensures in
-    rw (answer-of_none (stages_of m ops) (g.S.Source.whole c.args.source.now) none) (record { ending = refl; acc = seed })
-
-pub returns-then-split-clause-least : goal.returns-then-split-clause-least
-returns-then-split-clause-least g c =
-    let m = g.L.Lambda.meaning in
-    let ops = c.args.query.now.ops in
-    let decided : c.split.result.decided ≡ list_any is_empty_take ops = c.split.ensures.plan.decided in
-    let none : some_takes_none (stages_of m ops) ≡ true = sym (some_takes_none-stages_of m ops) ∙ sym decided ∙ search rules in
-    rw c.requires (least-of_none (stages_of m ops) (g.S.Source.whole c.args.source.now) none)
+    record { same = refl; folded = rw (answer-of_none ss t none) (record { ending = refl; acc = seed }); least = rw c.requires (least-of_none ss t none) }
 
 pub fold_all-requires-clause-undecided : goal.fold_all-requires-clause-undecided
 fold_all-requires-clause-undecided g c lives within =
@@ -37,14 +29,13 @@ fold_all-requires-clause-undecided g c lives within =
     let some : list_any is_empty_take ops ≡ false = rw same (sym decided ∙ search rules) in
     rw (stages-begun m ops c.in_ok-pipeline.pipeline c.in_ok-pipeline.ensures) (sym (some_takes_none-stages_of m ops) ∙ some)
 
-pub returns-clause-folded : goal.returns-clause-folded
-returns-clause-folded g c =
+pub returns : goal.returns
+returns g c =
     let same : c.ops.result.now ≡ c.args.query.now.ops = search rules in
     let begins = stages-begun g.L.Lambda.meaning c.args.query.now.ops c.in_ok-pipeline.pipeline (rw same at c.in_ok-pipeline.ensures) in
-    IfOk-weaker c.fold_all.result (FoldsAll _ _ _ _) _ (λ made folds. folds.folded) (rw begins at c.fold_all.ensures.folds)
-
-pub returns-clause-least : goal.returns-clause-least
-returns-clause-least g c =
-    let same : c.ops.result.now ≡ c.args.query.now.ops = search rules in
-    let begins = stages-begun g.L.Lambda.meaning c.args.query.now.ops c.in_ok-pipeline.pipeline (rw same at c.in_ok-pipeline.ensures) in
-    IfOk-weaker c.fold_all.result (FoldsAll _ _ _ _) _ (λ made folds. folds.least) (rw begins at c.fold_all.ensures.folds)
+    let folds = rw begins at c.fold_all.ensures.folds in
+    record {
+      same = c.fold_all.ensures.same;
+      folded = IfOk-weaker c.fold_all.result (FoldsAll _ _ _ _) _ (λ made is. is.folded) folds;
+      least = IfOk-weaker c.fold_all.result (FoldsAll _ _ _ _) _ (λ made is. is.least) folds;
+    }

@@ -2,42 +2,37 @@ use Rattle.std.proofs.Common.{rules, ◌≡◌, [], ◌∷◌, Err, None, refl}
 use Rattle.plinq_source.proofs.Followed.{trace_of}
 use Rattle.plinq_aggregate.specs.Folding.{folded}
 use Rattle.plinq_ops.specs.Pipeline.{stages}
-use Rattle.plinq_ops.specs.Stage.{seq}
 use Rattle.plinq_merge.specs.declared.delivery_fault.DeliveryFault.TheVariants.{Memory}
-use Rattle.plinq_run.specs.inner.Blocks.{passes-all}
-use Rattle.plinq_run.specs.inner.Standing.{given-none}
+use Rattle.plinq_run.specs.inner.Blocks.{passes-all, passes-none}
 use Rattle.plinq_run.proofs.PartsGiven.{still-folds}
 use Rattle.plinq_merge.proofs.Delivered.{fed-open}
 use Rattle.plinq_run.proofs.fold_blocks.FoldBlocksTakeInto.take.Goals as goal
 
 pub returns-in_err-ending-clause-made : goal.returns-in_err-ending-clause-made
 returns-in_err-ending-clause-made g c =
-    let d = c.args.self.now in
-    let lawful = g.met.A.GrowingAggregator.lawful d.aggregator.now in
     let is : c.from_residual.result ≡ Err Memory = search rules in
+    let t = trace_of c.args.items.items c.args.ending in
     rw is (record {
       same = refl;
-      passes = given-none (g.A.GrowingAggregator.folding d.aggregator.now) lawful g.W.TakeInto.made g.met.W.TakeInto.lawful (seq (stages g.L.Lambda.meaning d.pipeline) (trace_of c.args.items.items c.args.ending)) d.inner c.args.out.now;
+      passes = passes-none g.L.Lambda.meaning g.A.GrowingAggregator.folding g.met.A.GrowingAggregator.lawful g.W.TakeInto.made g.met.W.TakeInto.lawful c.args.self.now c.args.out.now t;
     })
 
 pub returns-in_err-parts-clause-made : goal.returns-in_err-parts-clause-made
 returns-in_err-parts-clause-made g c =
-    let d = c.args.self.now in
-    let lawful = g.met.A.GrowingAggregator.lawful d.aggregator.now in
     let is : c.from_residual-in_err-parts.result ≡ Err Memory = search rules in
+    let t = trace_of c.args.items.items c.args.ending in
     rw is (record {
       same = refl;
-      passes = given-none (g.A.GrowingAggregator.folding d.aggregator.now) lawful g.W.TakeInto.made g.met.W.TakeInto.lawful (seq (stages g.L.Lambda.meaning d.pipeline) (trace_of c.args.items.items c.args.ending)) d.inner c.args.out.now;
+      passes = passes-none g.L.Lambda.meaning g.A.GrowingAggregator.folding g.met.A.GrowingAggregator.lawful g.W.TakeInto.made g.met.W.TakeInto.lawful c.args.self.now c.args.out.now t;
     })
 
 pub returns-in_err-part-clause-made : goal.returns-in_err-part-clause-made
 returns-in_err-part-clause-made g c =
-    let d = c.args.self.now in
-    let lawful = g.met.A.GrowingAggregator.lawful d.aggregator.now in
     let is : c.from_residual-in_err-part.result ≡ Err Memory = search rules in
+    let t = trace_of c.args.items.items c.args.ending in
     rw is (record {
       same = refl;
-      passes = given-none (g.A.GrowingAggregator.folding d.aggregator.now) lawful g.W.TakeInto.made g.met.W.TakeInto.lawful (seq (stages g.L.Lambda.meaning d.pipeline) (trace_of c.args.items.items c.args.ending)) d.inner c.args.out.now;
+      passes = passes-none g.L.Lambda.meaning g.A.GrowingAggregator.folding g.met.A.GrowingAggregator.lawful g.W.TakeInto.made g.met.W.TakeInto.lawful c.args.self.now c.args.out.now t;
     })
 
 pub returns-clause-ready : goal.returns-clause-ready
