@@ -9,12 +9,13 @@ use Rattle.plinq_aggregate.specs.Folding.{Folding, folded}
 use Rattle.plinq_lambda.specs.Meaning.{Meaning}
 use Rattle.plinq_keyed.specs.declared.chunk.Chunk.{Chunk}
 use Rattle.plinq_ops.specs.declared.op.Op.{Op}
+use Rattle.plinq_ops.specs.declared.frag_end.FragEnd.{FragEnd}
 use Rattle.plinq_ops.specs.declared.frag_end.FragEnd.TheVariants.{More, Dropped}
 use Rattle.plinq_ops.specs.declared.results.ChunkResult.{ChunkResult}
 use Rattle.plinq_ops.specs.Fragment.{fragment_of}
 use Rattle.plinq_ops.specs.Chunk.{ChunkAnswer, no_more, dropped_at, before_answer, chunk_answer, AfterItems, IsChunkResult, IsToldBy}
 use Rattle.plinq_crew.specs.Results.{IsMadeOf}
-use Rattle.plinq_run.specs.inner.Folds.{IsFoldOf}
+use Rattle.plinq_run.specs.inner.Folds.{IsFoldOf, IsFoldOfChunk}
 
 -- after an answer that leaves the run open that of the items after it
 abbrev joined_by : {T : Type 0} → Option ℕ → ChunkAnswer T → ChunkAnswer T → ChunkAnswer T
@@ -96,43 +97,38 @@ module _ {L T : Type 0} (meaning : L → Meaning T) (worker : List (Op L)) (cut 
         }
 
     -- the fold of a chunk's result whose items are these
-    of_chunk : (chunk : Chunk T) (out : List T) (c : ChunkResult A) → length out < 2 ^ 63
+    of_chunk : (chunk : Chunk T) (out : List T) (acc : A) (how : FragEnd) (at : Option ℕ) (c : ChunkResult A) → IsFoldOfChunk chunk acc how at c → length out < 2 ^ 63 → acc ≡ folded f out
         → out ≡ (chunk_answer meaning worker cut chunk.first chunk.items.items).trace.items
-        → c.stop ≡ (chunk_answer meaning worker cut chunk.first chunk.items.items).stop
-        → MatchBool (chunk_answer meaning worker cut chunk.first chunk.items.items).dropped (c.ending ≡ Dropped) (IsToldBy c.ending (chunk_answer meaning worker cut chunk.first chunk.items.items).trace.ending)
-        → c.first ≡ chunk.first → c.count ≡ length chunk.items.items → c.tail ≡ chunk.tail → c.items.items ≡ folded f out ∷ []
+        → at ≡ (chunk_answer meaning worker cut chunk.first chunk.items.items).stop
+        → MatchBool (chunk_answer meaning worker cut chunk.first chunk.items.items).dropped (how ≡ Dropped) (IsToldBy how (chunk_answer meaning worker cut chunk.first chunk.items.items).trace.ending)
         → IsMadeOf meaning (IsFoldOf f) worker cut chunk c
-    of_chunk chunk out c few items stop ending first count tail acc =
+    of_chunk chunk out acc how at c told few same items stop ending =
         let list : Vec T = record { ptr = chunk.items.ptr; len = length out; cap = length out; alloc = chunk.items.alloc; items = out; ok = (refl, omega arith); small = few } in
         record {
-          result = record { first = c.first; count = c.count; items = list; ending = c.ending; stop = c.stop; tail = c.tail };
-          is = record { first = first; count = count; items = items; ending = ending; stop = stop; tail = tail };
-          made = record { first = refl; count = refl; items = acc; ending = refl; stop = refl; tail = refl };
-          same = record { first = refl; count = refl; ending = refl; stop = refl; tail = refl };
+          result = record { first = c.first; count = c.count; items = list; ending = how; stop = at; tail = c.tail };
+          is = record { first = told.first; count = told.count; items = items; ending = ending; stop = stop; tail = told.tail };
+          made = record { first = refl; count = refl; items = told.items ∙ ap (λ a. a ∷ []) same; ending = told.ending; stop = told.stop; tail = refl };
+          same = record { first = refl; count = refl; ending = told.ending; stop = told.stop; tail = refl };
         }
 
     -- no item is left
     pub folded-all : (chunk : Chunk T) (first : ℕ) (rest : List T) (acc : A) (count : ℕ) (c : ChunkResult A) → rest ≡ [] → count < 2 ^ 63
-        → HasFoldedTo (chunk_answer meaning worker cut chunk.first chunk.items.items) first rest acc count
-        → c.first ≡ chunk.first → c.count ≡ length chunk.items.items → c.items.items ≡ acc ∷ [] → c.ending ≡ More → c.stop ≡ None → c.tail ≡ chunk.tail
-        → IsMadeOf meaning (IsFoldOf f) worker cut chunk c
-    folded-all chunk first rest acc count c none few before is_first is_count is_acc is_ending is_stop is_tail =
+        → HasFoldedTo (chunk_answer meaning worker cut chunk.first chunk.items.items) first rest acc count → IsFoldOfChunk chunk acc More None c → IsMadeOf meaning (IsFoldOf f) worker cut chunk c
+    folded-all chunk first rest acc count c none few before told =
         let all : ChunkAnswer T = chunk_answer meaning worker cut chunk.first chunk.items.items in
         let here : chunk_answer meaning worker cut first rest ≡ no_more = ap (chunk_answer meaning worker cut first) none in
         let items : before.out ≡ all.trace.items = sym (before.after.items ∙ ap (λ (u : ChunkAnswer T). before.out ++ u.trace.items) here ∙ append-nil before.out) in
+        let stop : None ≡ all.stop = sym (before.after.stop ∙ ap (λ (u : ChunkAnswer T). u.stop) here) in
         let dropped : all.dropped ≡ false = before.after.dropped ∙ ap (λ (u : ChunkAnswer T). u.dropped) here in
         let ending : all.trace.ending ≡ None = before.after.ending ∙ ap (λ (u : ChunkAnswer T). u.trace.ending) here in
-        of_chunk chunk before.out c (omega (arith, before.counted, few)) items (is_stop ∙ sym (before.after.stop ∙ ap (λ (u : ChunkAnswer T). u.stop) here))
-        (rw (dropped, is_ending) ending) is_first is_count is_tail (is_acc ∙ ap (λ a. a ∷ []) before.same)
+        of_chunk chunk before.out acc More None c told (omega (arith, before.counted, few)) before.same items stop (rw dropped ending)
 
     -- a piece in which the run stopped
     pub folded-stopped : (chunk : Chunk T) (first : ℕ) (rest block others : List T) (acc acc' : A) (count : ℕ) (piece : Chunk T) (r : ChunkResult T) (c : ChunkResult A)
         → rest ≡ block ++ others → piece.first ≡ first → piece.items.items ≡ block → IsChunkResult meaning worker cut piece r → is_some r.stop ≡ true
         → acc' ≡ fold f.update acc r.items.items → count + length r.items.items < 2 ^ 63
-        → HasFoldedTo (chunk_answer meaning worker cut chunk.first chunk.items.items) first rest acc count
-        → c.first ≡ chunk.first → c.count ≡ length chunk.items.items → c.items.items ≡ acc' ∷ [] → c.ending ≡ r.ending → c.stop ≡ r.stop → c.tail ≡ chunk.tail
-        → IsMadeOf meaning (IsFoldOf f) worker cut chunk c
-    folded-stopped chunk first rest block others acc acc' count piece r c parts at is made stopped next few before is_first is_count is_acc is_ending is_stop is_tail =
+        → HasFoldedTo (chunk_answer meaning worker cut chunk.first chunk.items.items) first rest acc count → IsFoldOfChunk chunk acc' r.ending r.stop c → IsMadeOf meaning (IsFoldOf f) worker cut chunk c
+    folded-stopped chunk first rest block others acc acc' count piece r c parts at is made stopped next few before told =
         let all : ChunkAnswer T = chunk_answer meaning worker cut chunk.first chunk.items.items in
         let a : ChunkAnswer T = chunk_answer meaning worker cut first block in
         let b : ChunkAnswer T = chunk_answer meaning worker cut (first + length block) others in
@@ -143,8 +139,9 @@ module _ {L T : Type 0} (meaning : L → Meaning T) (worker : List (Op L)) (cut 
         ap (chunk_answer meaning worker cut first) parts ∙ answer-append first block others ∙ joined-stopped a.stop a b (ap is_some (sym made_stop) ∙ stopped) in
         let items : before.out ++ r.items.items ≡ all.trace.items =
         sym (before.after.items ∙ ap (λ (u : ChunkAnswer T). before.out ++ u.trace.items) whole ∙ ap (λ zs. before.out ++ zs) (sym made_items)) in
+        let stop : r.stop ≡ all.stop = made_stop ∙ sym (before.after.stop ∙ ap (λ (u : ChunkAnswer T). u.stop) whole) in
         let dropped : all.dropped ≡ a.dropped = before.after.dropped ∙ ap (λ (u : ChunkAnswer T). u.dropped) whole in
         let ending : all.trace.ending ≡ a.trace.ending = before.after.ending ∙ ap (λ (u : ChunkAnswer T). u.trace.ending) whole in
         let long : length (before.out ++ r.items.items) ≡ count + length r.items.items = length-append before.out r.items.items ∙ ap (λ n. n + length r.items.items) before.counted in
-        of_chunk chunk (before.out ++ r.items.items) c (omega (arith, long, few)) items (is_stop ∙ made_stop ∙ sym (before.after.stop ∙ ap (λ (u : ChunkAnswer T). u.stop) whole))
-        (rw (dropped, ending, is_ending) made_ending) is_first is_count is_tail (is_acc ∙ ap (λ a. a ∷ []) (next ∙ more-folded acc before.out r.items.items before.same))
+        of_chunk chunk (before.out ++ r.items.items) acc' r.ending r.stop c told (omega (arith, long, few)) (next ∙ more-folded acc before.out r.items.items before.same) items stop
+        (rw (dropped, ending) made_ending)

@@ -1,6 +1,5 @@
 pub mod After
 mod Arrived
-mod Covered
 mod Ended
 mod Folds
 mod Handed

@@ -43,7 +43,7 @@ use Rattle.plinq_run.specs.Reports.{IsBroken}
 use Rattle.plinq_crew.specs.Results.{IsResult, IsPart}
 use Rattle.plinq_run.specs.Runs.{HasRun, Cause, SinkRefused, Other, cause_of, BreaksFor}
 use Rattle.plinq_run.proofs.Arrived.{are-true_tails, arrival-begins}
-use Rattle.plinq_run.proofs.Covered.{result-covered}
+use Rattle.plinq_run.proofs.Handed.{result-covered}
 
 module _ {L T : Type 0} (meaning : L → Meaning T) (plan : Plan L) (t : Trace T) where
   are-offers : (rs : List (ChunkResult T)) → All (IsResult meaning plan t) rs → AreOffers meaning plan.worker.now t rs

@@ -1,5 +1,6 @@
 //! The pieces of a chunk whose results are folded one after another.
-ghost use Rattle.std.specs.Prelude.{◌≡◌, ◌+◌, ◌<◌, ◌≤◌, ◌^◌, length, [], ◌∷◌, IfOk};
+ghost use Rattle.std.specs.Prelude.{◌≡◌, ◌+◌, ◌<◌, ◌≤◌, ◌^◌, IfOk};
+ghost use Rattle.plinq_run.specs.inner.Folds.{IsFoldOfChunk};
 
 use plinq_keyed::Chunk;
 use plinq_ops::{ChunkResult, FragEnd, Op};
@@ -80,12 +81,7 @@ pub(crate) fn folded<T, C: Drop>(
     ending: FragEnd,
     stop: Option<u64>,
 ) -> Result<ChunkResult<C>, OutOfMemory>
-    ensures first { IfOk result (λ c. c.first ≡ chunk.now.first) }
-    ensures count { IfOk result (λ c. c.count ≡ length chunk.now.items.items) }
-    ensures items { IfOk result (λ c. c.items.items ≡ acc ∷ []) }
-    ensures ending { IfOk result (λ c. c.ending ≡ ending) }
-    ensures stop { IfOk result (λ c. c.stop ≡ stop) }
-    ensures tail { IfOk result (λ c. c.tail ≡ chunk.now.tail) }
+    ensures { IfOk result (IsFoldOfChunk chunk.now acc ending stop) }
 {
     let mut items = Vec::with_capacity(alloc, 1)?;
     items.push_reserved(acc);

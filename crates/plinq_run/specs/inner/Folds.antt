@@ -1,9 +1,20 @@
 -- Folds of results: accumulators in the place of items.
-use Rattle.std.specs.Prelude.{◌≡◌, refl, pos, List, [], ◌∷◌, ⊤}
+use Rattle.std.specs.Prelude.{◌≡◌, refl, ℕ, pos, List, [], ◌∷◌, length, Option, ⊤}
 use Rattle.std.specs.List.{fold}
 use Rattle.plinq_aggregate.specs.Folding.{Folding, folded}
 use Rattle.plinq_aggregate.specs.Numbers.{counting}
+use Rattle.plinq_keyed.specs.declared.chunk.Chunk.{Chunk}
+use Rattle.plinq_ops.specs.declared.frag_end.FragEnd.{FragEnd}
 use Rattle.plinq_ops.specs.declared.results.ChunkResult.{ChunkResult}
+
+-- what is sent of a chunk: an accumulator in the place of its result's items, and how that stopped
+pub record IsFoldOfChunk {T A : Type 0} (chunk : Chunk T) (acc : A) (how : FragEnd) (at : Option ℕ) (c : ChunkResult A) : Type 0 where
+  pub first : c.first ≡ chunk.first
+  pub count : c.count ≡ length chunk.items.items
+  pub items : c.items.items ≡ acc ∷ []
+  pub ending : c.ending ≡ how
+  pub stop : c.stop ≡ at
+  pub tail : c.tail ≡ chunk.tail
 
 module _ {T A O : Type 0} (f : Folding T A O) where
   -- a result with the fold of its items in their place

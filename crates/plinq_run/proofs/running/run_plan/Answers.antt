@@ -30,17 +30,8 @@ returns-in_err-conducted-clause-reports g c =
     subst (λ r. Reports g.K.Sink.accepts g.K.Sink.refuses c.args.option (MayMerge meaning plan) t s s' r) (sym is)
     (broken-delivered meaning plan c.args.option c.requires.may.plan t few g.K.Sink.accepts g.K.Sink.refuses P (plain-part meaning plan t) d begun s s' fault h)
 
-pub returns-clause-closed : goal.returns-clause-closed
-returns-clause-closed g c =
-    let meaning = g.L.Lambda.meaning in
-    let plan = c.args.request.plan.now in
-    let t = g.S.Source.whole c.args.request.source in
-    let P = IsPart meaning (λ r x. x ≡ r) plan t in
-    let h = subst (λ r. HasConducted (MadeBy g.K.Sink.accepts g.K.Sink.refuses meaning) P plan.order t c.in-Ok.taker c.args.sink.now r c.conduct_plan.new.out) c.in_ok-conducted.was c.conduct_plan.ensures in
-    reported-closed (all_shares c.in_ok-conducted.conducted.ended.partitions.items) c.report.result c.report.ensures.records h.0.closed
-
-pub returns-clause-reports : goal.returns-clause-reports
-returns-clause-reports g c =
+pub returns : goal.returns
+returns g c =
     let meaning = g.L.Lambda.meaning in
     let plan = c.args.request.plan.now in
     let t = g.S.Source.whole c.args.request.source in
@@ -52,6 +43,12 @@ returns-clause-reports g c =
     let s' = c.conduct_plan.new.out in
     let h = subst (λ r. HasConducted (MadeBy g.K.Sink.accepts g.K.Sink.refuses meaning) P plan.order t d s r s') c.in_ok-conducted.was c.conduct_plan.ensures in
     let ended = c.in_ok-conducted.conducted.ended in
-    let legal = subst (λ u. IfOk c.report.result (λ r. IsLegalHistory u r.records.items)) h.0.origin c.report.ensures.legal in
-    whole-reported meaning plan c.args.option c.requires.may.plan t few g.K.Sink.accepts g.K.Sink.refuses (all_shares ended.partitions.items) s s' ended.joined.ending c.report.result
-    (whole-delivered meaning plan c.args.option c.requires.may.plan t few g.K.Sink.accepts g.K.Sink.refuses P (plain-part meaning plan t) d begun s s' ended h.1) c.report.ensures.told legal c.report.ensures.records
+    let records = all_shares ended.partitions.items in
+    let report = c.report.ensures in
+    let legal = subst (λ u. IfOk c.report.result (λ r. IsLegalHistory u r.records.items)) h.0.origin report.legal in
+    record {
+      legal = legal;
+      closed = reported-closed records c.report.result report.records h.0.closed;
+      reports = whole-reported meaning plan c.args.option c.requires.may.plan t few g.K.Sink.accepts g.K.Sink.refuses records s s' ended.joined.ending c.report.result
+          (whole-delivered meaning plan c.args.option c.requires.may.plan t few g.K.Sink.accepts g.K.Sink.refuses P (plain-part meaning plan t) d begun s s' ended h.1) report.told legal report.records;
+    }

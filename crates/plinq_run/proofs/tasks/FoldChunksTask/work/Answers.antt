@@ -15,15 +15,13 @@ returns-then-is_some g c =
     let block = c.split_at.result.0.now in
     let others = c.split_at.result.1.now in
     let r = c.in_ok-made-2.made in
-    let told = c.in_ok-stopped.ensures in
     let parts : c.loop-rest.rest.now ≡ block ++ others = search rules in
     let stopped : is_some r.stop ≡ true = search rules in
     let next : c.in_ok-acc.acc ≡ fold f.update c.loop-rest.acc r.items.items = search rules in
     let sum : c.in_ok-count.count ≡ c.loop-rest.count + length r.items.items = search rules in
     let few : c.loop-rest.count + length r.items.items < 2 ^ 63 = omega (arith, sum, c.in_ok-count.ensures.few) in
     folded-stopped m w c.args.cut f c.args.chunk.now c.loop-rest.first c.loop-rest.rest.now block others c.loop-rest.acc c.in_ok-acc.acc c.loop-rest.count c.in_ok-piece_of.field-0 r c.in_ok-stopped.stopped
-    parts c.in_ok-piece_of.ensures.first c.in_ok-piece_of.ensures.items c.in_ok-made-2.ensures stopped next few c.loop-rest.invariant.folded
-    told.first told.count told.items told.ending told.stop told.tail
+    parts c.in_ok-piece_of.ensures.first c.in_ok-piece_of.ensures.items c.in_ok-made-2.ensures stopped next few c.loop-rest.invariant.folded c.in_ok-stopped.ensures
 
 -- a piece that leaves the run open
 pub loop-rest-preserved : goal.loop-rest-preserved
@@ -55,10 +53,8 @@ returns g c =
     let m = g.L.Lambda.meaning in
     let f = g.A.GrowingAggregator.folding c.args.self.now.aggregator.now in
     let w = c.args.plan.now.worker.now in
-    let told = c.in_ok-all.ensures in
     let none : c.loop-rest.rest.now ≡ [] = nil_from_length c.loop-rest.rest.now (search rules) in
-    folded-all m w c.args.cut f c.args.chunk.now c.loop-rest.first c.loop-rest.rest.now c.loop-rest.acc c.loop-rest.count c.in_ok-all.all none c.loop-rest.invariant.few c.loop-rest.invariant.folded
-    told.first told.count told.items told.ending told.stop told.tail
+    folded-all m w c.args.cut f c.args.chunk.now c.loop-rest.first c.loop-rest.rest.now c.loop-rest.acc c.loop-rest.count c.in_ok-all.all none c.loop-rest.invariant.few c.loop-rest.invariant.folded c.in_ok-all.ensures
 
 -- elements that don't expand: what is sent is made of the chunk's result
 pub returns-then-not-expands : goal.returns-then-not-expands
