@@ -27,7 +27,8 @@ use Rattle.plinq_run.specs.Endings.{reported}
 use Rattle.plinq_run.specs.Headline.{before, or_fault, each, does, answers, in_batches, handed_over, HasDelivered}
 use Rattle.plinq_run.specs.Reports.{Reports}
 use Rattle.plinq_run.specs.Runs.{HasRun, Runs}
-use Rattle.plinq_run.proofs.Ended.{reports-runs, decided-run}
+use Rattle.plinq_run.proofs.Stopping.{reports-runs}
+use Rattle.plinq_run.proofs.Runs.{decided-run}
 
 -- ---- operators
 

@@ -1,15 +1,10 @@
 pub mod After
 mod Arrived
-mod Ended
 mod Folds
 mod Handed
 mod Headline
 mod Merged
 mod PartsGiven
+mod Pieces
 mod Runs
 mod Stopping
-mod Told
-mod Valued
-mod Without
-mod Pieces
-mod ChunkPieces

@@ -1,12 +1,23 @@
--- One part more, and all that were accepted.
-use Rattle.std.specs.Prelude.{◌≡◌, List, [], Bool, Option, Some, None, Result, Ok, Err, All, IfOk, IfErr, OnOk}
-use Rattle.std.proofs.Common.{refl, sym, ◌∙◌, ap, subst, inl, inr}
+-- What was accepted of the parts that workers send is merged; and what is told of it: where no fault is, it is all that was sent.
+use Rattle.std.specs.Prelude.{◌≡◌, List, [], Bool, Option, Some, None, Result, Ok, Err, All, IfOk, ◌==◌}
+use Rattle.std.specs.Option.{option_or}
+use Rattle.std.specs.declared.alloc.Global.{Global}
+use Rattle.std.proofs.Common.{refl, sym, ◌∙◌, ap, subst, inl, inr, eqb-true, ◌||◌, drop, is_some, true, false, true≢false, Vec, not}
 use Rattle.std.proofs.lemmas.Fn.{chained_keeps}
 use Rattle.std.proofs.lemmas.List.Elements.{All-nil, All-push, All-weaker}
+use Rattle.std.proofs.lemmas.List.Folds.{list_any-from_Any}
 use Rattle.plinq_source.specs.declared.ending.Ending.{Ending}
 use Rattle.plinq_source.specs.declared.memory.OutOfMemory.{OutOfMemory}
 use Rattle.plinq_source.specs.declared.source.Source.{Ghosts as SourceGhosts}
 use Rattle.plinq_source.specs.Trace.{Trace, open_trace}
+use Rattle.plinq_keyed.specs.declared.record.Record.{Record}
+use Rattle.plinq_partition.specs.Partitions.{all_shares}
+use Rattle.plinq_partition.specs.declared.partition.Partition.{Partition}
+use Rattle.plinq_stream.specs.declared.sent.Sent.{Sent}
+use Rattle.plinq_stream.specs.declared.stream_pass.StreamPass.{StreamPass}
+use Rattle.plinq_stream.specs.Passes.{IsPassOf, known}
+use Rattle.plinq_stream.specs.Streams.{HasReceivedAll}
+use Rattle.plinq_stream.proofs.Under.{or-none, or-right}
 use Rattle.plinq_ops.specs.declared.order.Order.{Order}
 use Rattle.plinq_ops.specs.declared.results.ChunkResult.{ChunkResult}
 use Rattle.plinq_merge.specs.declared.delivery_fault.DeliveryFault.{DeliveryFault}
@@ -20,24 +31,32 @@ use Rattle.plinq_merge.specs.Shown.{merged}
 use Rattle.plinq_merge.specs.Taking.{IsTaking}
 use Rattle.plinq_merge.specs.Whole.{AreApart}
 use Rattle.plinq_merge.proofs.Joins.{AreOneMore, joined-cases, takes-joined, takes-broken, joined-stopped}
-use Rattle.plinq_partition.specs.Partitions.{all_shares}
-use Rattle.plinq_stream.specs.declared.sent.Sent.{Sent}
+use Rattle.plinq_merge.specs.declared.joiner.Joiner.{Joiner}
 use Rattle.plinq_crew.specs.declared.conducting.Returned.{Returned}
 use Rattle.plinq_crew.specs.declared.worker.Crew.{Crew}
 use Rattle.plinq_crew.specs.declared.worker.WorkerContext.{WorkerContext}
-use Rattle.plinq_crew.specs.Conducting.{AcceptsEach, Conducts}
+use Rattle.plinq_crew.specs.Conducting.{AcceptsEach, Conducts, IsOfCrew, HasReturned}
 use Rattle.plinq_crew.specs.Polls.{HasAccepted}
+use Rattle.plinq_crew.specs.declared.starting.WorkerFaults.{WorkerFaults}
+use Rattle.plinq_crew.specs.Noted.{has_worker_fault}
+use Rattle.plinq_crew.specs.Working.{HasClosed, IsOfOne, IsAnsweredBy, IsWhollyAnsweredBy}
+use Rattle.plinq_crew.proofs.Working.{answered-wholly}
+use Rattle.plinq_crew.specs.declared.worker_count.WorkerCount.{WorkerCount}
+use Rattle.plinq_crew.proofs.Polls.{accepted-such}
 use Rattle.plinq_run.specs.declared.planning.Ended.{Ended}
 use Rattle.plinq_run.specs.declared.accepting.Merging.{Merging}
 use Rattle.plinq_run.specs.declared.accepting.MergingInto.{MergingInto}
 use Rattle.plinq_run.specs.declared.run_fault.RunFault.{RunFault}
-use Rattle.plinq_run.specs.inner.Merged.{offer_fault, AcceptsAfter, AreSame, AcceptsInto, Stands, HasMerged, HasBrokenOff, EndsSo}
+use Rattle.plinq_run.specs.inner.Merged.{offer_fault, AcceptsAfter, AreSame, AcceptsInto, Stands, HasMerged, HasBrokenOff, EndsSo, WereAccepted}
 use Rattle.plinq_run.specs.Parting.{Breaks}
 use Rattle.plinq_run.specs.inner.Finishing.{Finishes}
 use Rattle.plinq_run.specs.inner.Offered.{IsOffered}
 use Rattle.plinq_run.specs.Runs.{Cause, Other, cause_of}
 use Rattle.plinq_run.specs.inner.Reported.{cause_in_merge}
-use Rattle.plinq_run.proofs.Without.{apart-push}
+use Rattle.plinq_run.specs.declared.run_fault.RunFault.TheVariants.{Memory, Thread, Tickets}
+use Rattle.plinq_run.specs.Handed.{is_close, has_close}
+use Rattle.plinq_run.specs.inner.Faults.{first_reported, reported_if, refused_by_sink, is_out_of_memory}
+use Rattle.plinq_run.proofs.Arrived.{apart-push}
 
 are-more : {T : Type 0} (IsPart : ChunkResult T → Type 0) (offers : List (ChunkResult T)) (r : ChunkResult T) (offers' : List (ChunkResult T))
     → AreOneMore offers r offers' → All IsPart offers → IsPart r → All IsPart offers'
@@ -94,7 +113,7 @@ module _ {W O T : Type 0} (made : W → O → Trace T → Result (Option Ending)
       (record { offers = offers; are = are; apart = apart; stands = subst (λ f. Stands made IsPart order a x f m.joiner y offers) (sym same) stands }))
 
   -- all that were accepted
-  pub accepted-all : (before : List (Sent (ChunkResult T))) (received : List (Sent (ChunkResult T))) (wants_close : Bool) (m m' : MergingInto W T O)
+  accepted-all : (before : List (Sent (ChunkResult T))) (received : List (Sent (ChunkResult T))) (wants_close : Bool) (m m' : MergingInto W T O)
       → HasAccepted (AcceptsEach (AcceptsInto made) IsPart) before m received wants_close m' → HasMerged made IsPart order a x m.merging.now m.out.now
       → HasMerged made IsPart order a x m'.merging.now m'.out.now
   accepted-all before received wants_close m m' accepted h =
@@ -105,7 +124,7 @@ module _ {W O T : Type 0} (made : W → O → Trace T → Result (Option Ending)
       accepted.taken m m' h accepted.steps
 
   -- nothing was offered yet
-  pub begun-merged : (m : Merging W T) (y : O) → m.fault ≡ None → Stands made IsPart order a x None m.joiner y [] → HasMerged made IsPart order a x m y
+  begun-merged : (m : Merging W T) (y : O) → m.fault ≡ None → Stands made IsPart order a x None m.joiner y [] → HasMerged made IsPart order a x m y
   begun-merged m y none stands =
       record { offers = []; are = All-nil IsPart; apart = tt; stands = subst (λ f. Stands made IsPart order a x f m.joiner y []) (sym none) stands }
 
@@ -128,60 +147,22 @@ module _ {W O T : Type 0} (made : W → O → Trace T → Result (Option Ending)
   broken-by : (fault : Option MergeFault) (m : Merging W T) (y : O) (told : RunFault) → cause_of told ≡ cause_in_merge fault
       → (offers : List (ChunkResult T)) → All IsPart offers → AreApart offers → Stands made IsPart order a x fault m.joiner y offers → HasBrokenOff made IsPart order a x told y
   broken-by None m y told is offers are apart stands =
+      let last = taker_of m.joiner in
+      let broken : (how : Result (Option Ending) DeliveryFault) → made a x (merged order offers) how last y → Breaks how (cause_of told) → HasBrokenOff made IsPart order a x told y =
+      λ how taken breaks. record { offers = offers; are = are; apart = apart; last = last; how = how; taken = taken; breaks = breaks } in
       joined-cases made a x m.joiner y offers stands.1
-      (λ no gap waits before.
-      record {
-        offers = offers;
-        are = are;
-        apart = apart;
-        last = taker_of m.joiner;
-        how = Err NoMemory;
-        taken = subst (λ o. made a x (merged o offers) (Err NoMemory) (taker_of m.joiner) y) stands.0 (joined-stopped made a x lawful m.joiner y offers waits before);
-        breaks = is;
-      })
-      (λ e yes ok all.
-      record {
-        offers = offers;
-        are = are;
-        apart = apart;
-        last = taker_of m.joiner;
-        how = Ok (Some e);
-        taken = subst (λ o. made a x (merged o offers) (Ok (Some e)) (taker_of m.joiner) y) stands.0 all;
-        breaks = is;
-      })
+      (λ no gap waits before. broken (Err NoMemory) (subst (λ o. made a x (merged o offers) (Err NoMemory) last y) stands.0 (joined-stopped made a x lawful m.joiner y offers waits before)) is)
+      (λ e yes ok all. broken (Ok (Some e)) (subst (λ o. made a x (merged o offers) (Ok (Some e)) last y) stands.0 all) is)
   broken-by (Some fault) m y told is offers are apart stands =
       record { offers = offers; are = are; apart = apart; last = stands.0; how = Err (delivery_fault_of fault); taken = stands.1; breaks = breaks-by fault (cause_of told) is }
 
--- what is left of a run of which such parts were merged: where there is an answer, they are of its partitions' records
-module _ {W O T : Type 0} (made : W → O → Trace T → Result (Option Ending) DeliveryFault → W → O → Type 0) (lawful : IsTaking made)
-    (P Q : ChunkResult T → Type 0) (on : (c : ChunkResult T) → P c → Q c) (order : Order) (a : W) (x : O)
-    {S U : Type 0} {source : SourceGhosts S U} where
-  ended-by : (m : Merging W T) (y : O) (result : Result (Ended S W U source) RunFault) → HasMerged made P order a x m y
-      → OnOk result (m.fault ≡ None) → IfOk result (λ ended. ended.joined.taker ≡ taker_of m.joiner) → IfOk result (λ ended. ending_of m.joiner ≡ Ok ended.joined.ending)
-      → IfOk result (λ ended. (c : ChunkResult T) → P c → IsOffered Q (all_shares ended.partitions.items) c)
-      → IfErr result (λ fault. cause_of fault ≡ cause_in_merge m.fault) → EndsSo made Q order a x result y
-  ended-by m y (Ok ended) h none taker ending all err =
-      let stands = subst (λ f. Stands made P order a x f m.joiner y h.offers) none h.stands in
-      record {
-        offers = h.offers;
-        are = All-weaker P (IsOffered Q (all_shares ended.partitions.items)) all h.offers h.are;
-        apart = h.apart;
-        taken = subst (λ b. made a x (merged order h.offers) (Ok (Some ended.joined.ending)) b y) (sym taker)
-            (joined-cases made a x m.joiner y h.offers stands.1
-            (λ no gap waits before. absurd (gap-not_ok ended.joined.ending (sym ending ∙ gap)))
-            (λ e yes ok all. subst (λ o. made a x (merged o h.offers) (Ok (Some ended.joined.ending)) (taker_of m.joiner) y) stands.0
-            (subst (λ e'. made a x (merged (order_of m.joiner) h.offers) (Ok (Some e')) (taker_of m.joiner) y) (ok-same (sym ok ∙ ending)) all)));
-      }
-  ended-by m y (Err fault) h none taker ending all err =
-      broken-by made lawful Q order a x m.fault m y fault err h.offers (All-weaker P Q on h.offers h.are) h.apart h.stands
-
-  -- what is reported of what was merged
-  pub merged-ended : {m : Merging W T} {y : O} {back : Returned S U source} {result : Result (Ended S W U source) RunFault} (last : MergingInto W T O)
-      → (last.merging.now ≡ m) × (last.out.now ≡ y) → HasMerged made P order a x last.merging.now last.out.now → Finishes m back result
-      → IfOk result (λ ended. (c : ChunkResult T) → P c → IsOffered Q (all_shares ended.partitions.items) c) → EndsSo made Q order a x result y
-  merged-ended {m = m} {y = y} {result = result} last same h f all =
-      ended-by m y result (subst (λ n. HasMerged made P order a x n y) same.0 (subst (HasMerged made P order a x last.merging.now) same.1 h))
-      f.none f.taker f.ending all f.err
+  -- where the joiner has ended the answer, its taker has taken all that was offered
+  ended-by : (j : Joiner W T) (y : O) (e : Ending) (offers : List (ChunkResult T)) → Stands made IsPart order a x None j y offers → ending_of j ≡ Ok e → made a x (merged order offers) (Ok (Some e)) (taker_of j) y
+  ended-by j y e offers stands ending =
+      joined-cases made a x j y offers stands.1
+      (λ no gap waits before. absurd (gap-not_ok e (sym ending ∙ gap)))
+      (λ e' yes ok all. subst (λ o. made a x (merged o offers) (Ok (Some e)) (taker_of j) y) stands.0
+      (subst (λ d. made a x (merged (order_of j) offers) (Ok (Some d)) (taker_of j) y) (ok-same (sym ok ∙ ending)) all))
 
 -- parts of which less is said
 module _ {W O T : Type 0} (made : W → O → Trace T → Result (Option Ending) DeliveryFault → W → O → Type 0) (P Q : ChunkResult T → Type 0) (on : (c : ChunkResult T) → P c → Q c) (order : Order) (a : W) (x : O) where
@@ -200,3 +181,109 @@ conducts-same made IsPart crew context m m' (Ok back) h =
     chained_keeps (AcceptsEach (AcceptsInto made) IsPart) (λ xs z. AreSame m z)
     (λ xs z sent z' at step. let so = step.1 in record { merging = so.same.merging ∙ at.merging; out = so.same.out ∙ at.out }) accepted.taken m m' (record { merging = refl; out = refl }) accepted.steps
 conducts-same made IsPart crew context m m' (Err fault) h = record { merging = ap (λ x. x.merging.ghost_name) h; out = ap (λ x. x.out.ghost_name) h }
+
+-- ---- what is told
+
+none-before : {A : Type 0} (x y : Option A) → option_or x y ≡ None → x ≡ None
+none-before None y is = refl
+none-before (Some x) y is = is
+
+none-after : {A : Type 0} (x y : Option A) → option_or x y ≡ None → y ≡ None
+none-after None y is = is
+none-after (Some x) y is = absurd (true≢false (ap is_some is))
+
+none-told : (b : Bool) (fault : RunFault) → reported_if b fault ≡ None → b ≡ false
+none-told true fault is = absurd (true≢false (ap is_some is))
+none-told false fault is = refl
+
+none-noted : (fault : Option MergeFault) (faults : WorkerFaults) (worker_count : WorkerCount) → first_reported fault faults worker_count ≡ None → has_worker_fault faults ≡ false
+none-noted fault faults worker_count is =
+    let after-sink = none-after (refused_by_sink fault) _ is in
+    let memory = none-told (is_out_of_memory fault || faults.memory) Memory (none-before _ _ after-sink) in
+    let after-memory = none-after (reported_if (is_out_of_memory fault || faults.memory) Memory) _ after-sink in
+    let after-thread = none-after (reported_if (not (worker_count.started == worker_count.wanted)) Thread) _ after-memory in
+    let tickets = none-told faults.tickets Tickets (none-before _ _ after-thread) in
+    or-none faults.memory faults.tickets (or-right (is_out_of_memory fault) faults.memory memory) tickets
+
+none-missing : (fault : Option MergeFault) (faults : WorkerFaults) (worker_count : WorkerCount) → first_reported fault faults worker_count ≡ None
+    → worker_count.started ≡ worker_count.wanted
+none-missing fault faults worker_count is =
+    let after-memory = none-after (reported_if (is_out_of_memory fault || faults.memory) Memory) _ (none-after (refused_by_sink fault) _ is) in
+    let missing = none-told (not (worker_count.started == worker_count.wanted)) Thread (none-before _ _ after-memory) in
+    eqb-true worker_count.started worker_count.wanted (not-not (worker_count.started == worker_count.wanted) missing)
+  where
+    not-not : (b : Bool) → not b ≡ false → b ≡ true
+    not-not true is = refl
+    not-not false is = sym is
+
+-- Where it is reported how the answer ended, no worker had a fault and none was missing. So the source was closed, what was accepted is of the
+-- chunks of the records, and all that was sent was received
+module _ {S U W T : Type 0} {source : SourceGhosts S U} {m : Merging W T} {back : Returned S U source} where
+  pub told-closed : (r : Result (Ended S W U source) RunFault) → Finishes m back r → (has_worker_fault back.worker_faults ≡ false → HasClosed (all_shares back.partitions.items))
+      → IfOk r (λ ended. has_close (all_shares ended.partitions.items) ≡ true)
+  told-closed (Ok ended) f closed =
+      let (k, entry, less, at, asked) = closed (none-noted m.fault back.worker_faults back.worker_count f.first) in
+      ap (λ (ps : Vec (Partition S U source) Global). has_close (all_shares ps.items)) f.partitions
+      ∙ list_any-from_Any (λ (r : Record). is_close r.asked) (all_shares back.partitions.items) (k, entry, less, at, ap is_close asked)
+  told-closed (Err told) f closed = tt
+
+  module _ {L J P O : Type 0} (made : W → O → Trace T → Result (Option Ending) DeliveryFault → W → O → Type 0) (IsPart : ChunkResult T → Type 0) (order : Order) (a : W) (x : O) {y : O}
+      (crew : Crew L S J P U U T source) (context : WorkerContext S T U source) (first last : MergingInto W T O) (out : first.out.now ≡ x) (same : (last.merging.now ≡ m) × (last.out.now ≡ y))
+      (new : Stands made IsPart order a x None first.merging.now.joiner x []) (sound : first.merging.now.fault ≡ None) where
+    pub told-all : (r : Result (Ended S W U source) RunFault) → Finishes m back r → HasReturned (AcceptsInto made) IsPart crew context first last back
+        → IfOk r (λ ended. (pass : StreamPass (ChunkResult T)) × IsPassOf crew.stream.now pass × HasReceivedAll (known pass) × All (IsWhollyAnsweredBy (known pass)) (drop 1 ended.partitions.items)
+        × WereAccepted made IsPart order a x (known pass).received ended.joined y)
+    told-all (Ok ended) f h = (
+      h.pass,
+      h.of_stream,
+      h.all,
+      subst (λ (ps : Vec (Partition S U source) Global). All (IsWhollyAnsweredBy (known h.pass)) (drop 1 ps.items)) (sym f.partitions)
+          (All-weaker (IsAnsweredBy 0 (known h.pass) back.worker_faults) (IsWhollyAnsweredBy (known h.pass))
+          (answered-wholly (known h.pass) (known h.pass) back.worker_faults refl refl (none-noted m.fault back.worker_faults back.worker_count f.first)) (drop 1 back.partitions.items) h.answered),
+      record {
+        first = first;
+        new = new;
+        sound = sound;
+        last = last;
+        still = ap (λ n. n.fault) same.0 ∙ f.none;
+        ending = ap (λ n. ending_of n.joiner) same.0 ∙ f.ending;
+        taker = f.taker ∙ ap (λ n. taker_of n.joiner) (sym same.0);
+        out = (out, same.1);
+        wants_close = h.wants_close;
+        taken = h.accepted;
+      },
+    )
+    told-all (Err told) f h = tt
+
+    -- what was accepted was merged, and is of the crew's chunks where no worker was missing
+    crew-merged : IsTaking made → HasReturned (AcceptsInto made) IsPart crew context first last back → HasMerged made (IsOfCrew back IsPart) order a x m y
+    crew-merged lawful h =
+        let P = IsOfCrew back IsPart in
+        let begun = subst (HasMerged made P order a x first.merging.now) (sym out) (begun-merged made lawful P order a x first.merging.now x sound new) in
+        let such =
+        accepted-such (AcceptsEach (AcceptsInto made) IsPart) (AcceptsEach (AcceptsInto made) P)
+        (λ sent. back.worker_count.started ≡ back.worker_count.wanted → IsOfOne (all_shares back.partitions.items) sent.item)
+        (λ z sent z' of step. ((step.0, of), step.1)) first (known h.pass).received h.wants_close last h.each h.accepted in
+        let all = accepted-all made lawful P order a x [] (known h.pass).received h.wants_close first last such begun in
+        subst (λ n. HasMerged made P order a x n y) same.0 (subst (HasMerged made P order a x last.merging.now) same.1 all)
+
+    -- the answer has ended so, or it was broken off
+    pub told-ends : IsTaking made → (r : Result (Ended S W U source) RunFault) → Finishes m back r → HasReturned (AcceptsInto made) IsPart crew context first last back → EndsSo made IsPart order a x r y
+    told-ends lawful (Ok ended) f h =
+        let all = crew-merged lawful h in
+        let stands = subst (λ fault. Stands made IsPart order a x fault m.joiner y all.offers) f.none all.stands in
+        let of : (c : ChunkResult T) → IsOfCrew back IsPart c → IsOffered IsPart (all_shares ended.partitions.items) c =
+        λ c is. (
+          is.0,
+          subst (λ (ps : Vec (Partition S U source) Global). IsOfOne (all_shares ps.items) c) (sym f.partitions) (is.1 (none-missing m.fault back.worker_faults back.worker_count f.first)),
+        ) in
+        record {
+          offers = all.offers;
+          are = All-weaker (IsOfCrew back IsPart) (IsOffered IsPart (all_shares ended.partitions.items)) of all.offers all.are;
+          apart = all.apart;
+          taken = subst (λ b. made a x (merged order all.offers) (Ok (Some ended.joined.ending)) b y) (sym f.taker)
+              (ended-by made lawful IsPart order a x m.joiner y ended.joined.ending all.offers stands f.ending);
+        }
+    told-ends lawful (Err fault) f h =
+        let all = crew-merged lawful h in
+        broken-by made lawful IsPart order a x m.fault m y fault f.err all.offers (All-weaker (IsOfCrew back IsPart) IsPart (λ c is. is.0) all.offers all.are) all.apart all.stands

@@ -1,4 +1,4 @@
--- A taker that was given the accumulators of what was merged was given those of an answer.
+-- A taker that was given the accumulators of what was merged was given those of an answer; and its value, where it combines them.
 use Rattle.std.specs.Prelude.{◌≡◌, ◌≤◌, ◌^◌, List, [], length, Bool, true, false, not, ◌&&◌, Option, Some, None, Result, Ok, Err, All, refl}
 use Rattle.std.specs.List.{list_any}
 use Rattle.std.proofs.Common.{sym, ◌∙◌, ap, subst}
@@ -8,7 +8,8 @@ use Rattle.plinq_source.specs.declared.ending.Ending.TheVariants.{End}
 use Rattle.plinq_source.specs.declared.source.Source.{Ghosts as SourceGhosts}
 use Rattle.plinq_source.specs.Trace.{Trace, followed, ended}
 use Rattle.plinq_lambda.specs.Meaning.{Meaning}
-use Rattle.plinq_aggregate.specs.Folding.{Folding, IsFolding}
+use Rattle.plinq_aggregate.specs.Folding.{Folding, IsFolding, folded}
+use Rattle.plinq_partition.specs.Partitions.{all_shares}
 use Rattle.plinq_ops.specs.declared.op.Op.{Op}
 use Rattle.plinq_ops.specs.declared.plan.Plan.{Plan}
 use Rattle.plinq_ops.specs.declared.results.ChunkResult.{ChunkResult}
@@ -23,11 +24,10 @@ use Rattle.plinq_ops.proofs.Counts.{some_takes_none-stages_of}
 use Rattle.plinq_ops.proofs.Fed.{undecided-left}
 use Rattle.plinq_ops.proofs.Stages.{seq-followed}
 use Rattle.plinq_merge.specs.declared.delivery_fault.DeliveryFault.{DeliveryFault}
-use Rattle.plinq_merge.specs.declared.delivery_fault.DeliveryFault.TheVariants.{Memory}
+use Rattle.plinq_merge.specs.declared.delivery_fault.DeliveryFault.TheVariants.{Memory, Sink}
 use Rattle.plinq_merge.specs.Shown.{merged}
 use Rattle.plinq_merge.specs.Taking.{IsTaking}
 use Rattle.plinq_merge.specs.Whole.{AreApart}
-use Rattle.plinq_partition.specs.Partitions.{all_shares}
 use Rattle.plinq_crew.specs.Plans.{IsUndecided}
 use Rattle.plinq_crew.specs.Results.{IsResult, IsPart}
 use Rattle.plinq_run.specs.declared.fold_blocks.FoldBlocks.{FoldBlocks}
@@ -41,9 +41,12 @@ use Rattle.plinq_run.specs.inner.Folds.{IsFoldOf}
 use Rattle.plinq_run.specs.inner.Plans.{merged_answer, MayMerge}
 use Rattle.plinq_run.specs.inner.Offered.{IsOffered}
 use Rattle.plinq_run.specs.inner.Standing.{IsOver, given-none, given-past}
-use Rattle.plinq_run.proofs.Ended.{merged-may, may-sequential}
+use Rattle.plinq_run.specs.declared.combiner.Combiner.{Combiner}
+use Rattle.plinq_run.specs.Aggregates.{Aggregates, AggregatesSome}
+use Rattle.plinq_run.specs.inner.Valuing.{value_at, value_of}
+use Rattle.plinq_run.specs.inner.Combining.{MadeBy as CombinedBy}
+use Rattle.plinq_run.proofs.Runs.{merged-may, may-sequential, begun-in}
 use Rattle.plinq_run.proofs.Folds.{merged-folded, folds-apart, unfolded}
-use Rattle.plinq_run.proofs.Runs.{begun-in}
 
 breaks-over : (how : Result (Option Ending) DeliveryFault) (cause : Cause) → Breaks how cause → IsOver how
 breaks-over (Ok None) cause breaks = breaks
@@ -147,3 +150,25 @@ module _ {L T A U W O : Type 0} (f : Folding T A U) (lawful : IsFolding f) (made
     pub blocks-given : {S : Type 0} {source : SourceGhosts S T} (r : Result (Conducted S (FoldBlocks L F W) T source) RunFault) (y : O)
         → HasConducted (MadeBy meaning folding made) P plan.order t first x r y → GivesSome f made (MayMerge meaning plan t) first.inner x (answer_ending r) y
     blocks-given r y h = conducted-given (MadeBy meaning folding made) P first first.inner x blocks-some r y h
+
+-- ---- the value of parts that were combined
+
+value-ended : {T A O : Type 0} (f : Folding T A O) (u : Trace T) (acc : A) (e : Ending) → u.ending ≡ Some e → acc ≡ folded f u.items → Aggregates f u (value_at f acc e)
+value-ended f u acc End ends is = (ap f.tell is, ends)
+value-ended f u acc e ends is = (ends, λ well. cc)
+
+module _ {F T A O : Type 0} (folding : F → Folding T A O) (d : Combiner F) where
+  -- no sink refuses
+  breaks-other : (x : A) (parts : Trace A) (how : Result (Option Ending) DeliveryFault) (d' : Combiner F) (y : A) (cause : Cause) → CombinedBy folding d x parts how d' y → Breaks how cause → cause ≡ Other
+  breaks-other x parts (Ok None) d' y cause made breaks = absurd breaks
+  breaks-other x parts (Err (Sink code)) d' y cause made breaks = absurd made.combines
+  breaks-other x parts how d' y cause made breaks = breaks
+
+  pub value-given : (IsAnswer : Trace T → Type 0) (acc : A) (r : Result Ending RunFault) → GivesSome (folding d.aggregator.now) (CombinedBy folding) IsAnswer d (folding d.aggregator.now).seed r acc
+      → AggregatesSome (folding d.aggregator.now) IsAnswer (value_of (folding d.aggregator.now) acc r)
+  value-given IsAnswer acc (Ok e) (u, is, given) =
+      let folds = given.folds in
+      let taken = given.taken in
+      (u, is, value-ended (folding d.aggregator.now) u acc e (sym folds.ending ∙ taken.combines.0) (taken.combines.1 ∙ folds.items []))
+  value-given IsAnswer acc (Err fault) (u, is, how, given, breaks) =
+      (u, is, breaks-other (folding d.aggregator.now).seed given.parts how given.last acc (cause_of fault) given.taken breaks)

@@ -1,14 +1,18 @@
--- What was merged is how an answer begins, and all of it where the answer has ended.
-use Rattle.std.specs.Prelude.{◌≡◌, ℕ, ◌≤◌, ◌^◌, List, [], ◌∷◌, length, Option, Some, None, Result, Ok, Err, All, refl}
+-- How a run ends: what was merged is how an answer begins, and all of it where the answer has ended; and what is reported then.
+use Rattle.std.specs.Prelude.{◌≡◌, ℕ, ◌≤◌, ◌^◌, List, [], ◌∷◌, length, Option, Some, None, Result, Ok, Err, All, refl, Bool, true, false, IfOk}
+use Rattle.std.specs.List.{list_any}
 use Rattle.std.proofs.Common.{sym, ◌∙◌, ap, subst, append-nil, arith}
 use Rattle.std.proofs.lemmas.List.Elements.{All-head, All-tail, All-weaker}
 use Rattle.plinq_source.specs.declared.ending.Ending.{Ending}
-use Rattle.plinq_source.specs.Trace.{Trace, followed}
+use Rattle.plinq_source.specs.Trace.{Trace, followed, ended}
 use Rattle.plinq_source.proofs.Followed.{followed-ended}
+use Rattle.plinq_source.specs.declared.source.Source.{Ghosts as SourceGhosts}
+use Rattle.plinq_source.specs.declared.ending.Ending.TheVariants.{End}
 use Rattle.plinq_lambda.specs.Meaning.{Meaning}
 use Rattle.plinq_keyed.specs.declared.record.Record.{Record}
+use Rattle.plinq_keyed.specs.History.{IsLegalHistory}
+use Rattle.plinq_ticket.specs.Shares.{in_ticket_order}
 use Rattle.plinq_partition.specs.Partitions.{all_shares}
-use Rattle.plinq_source.specs.declared.source.Source.{Ghosts as SourceGhosts}
 use Rattle.plinq_ops.specs.declared.merge_option.MergeOption.{MergeOption}
 use Rattle.plinq_ops.specs.declared.order.Order.{Order}
 use Rattle.plinq_ops.specs.declared.order.Order.TheVariants.{ByKey, ByArrival}
@@ -18,8 +22,20 @@ use Rattle.plinq_ops.specs.Batches.{batch_size, batches, batches_from}
 use Rattle.plinq_ops.specs.Fragment.{glue}
 use Rattle.plinq_ops.specs.Operator.{stages_of}
 use Rattle.plinq_ops.specs.Row.{AreOffers}
-use Rattle.plinq_ops.specs.Stage.{seq, seq_after}
+use Rattle.plinq_ops.specs.Stage.{seq, seq_after, some_takes_none}
 use Rattle.plinq_ops.proofs.Stages.{seq-followed}
+use Rattle.plinq_ops.specs.declared.op.Op.{Op}
+use Rattle.plinq_ops.specs.ByKey.{are_keyless, is_by_key}
+use Rattle.plinq_ops.specs.Feeding.{is_empty_take}
+use Rattle.plinq_ops.specs.Answer.{IsRearranged, Answer, MayAnswer}
+use Rattle.plinq_ops.specs.Plan.{IsPlanOf, order_of, worker_part, after_part}
+use Rattle.plinq_ops.specs.Query.{QueryView}
+use Rattle.plinq_ops.specs.Sequential.{answer_of}
+use Rattle.plinq_ops.proofs.Answered.{answer-of_none}
+use Rattle.plinq_ops.proofs.Answers.{IsRearranged-refl, Answer-rearranged, Answer-sequential}
+use Rattle.plinq_ops.proofs.Counts.{some_takes_none-stages_of}
+use Rattle.plinq_ops.proofs.Glue.{answer_of-split}
+use Rattle.plinq_ops.proofs.Parts.{worker-keyless}
 use Rattle.plinq_merge.specs.Deliveries.{batches-first}
 use Rattle.plinq_merge.specs.declared.delivery_fault.DeliveryFault.{DeliveryFault}
 use Rattle.plinq_merge.specs.declared.delivery_fault.DeliveryFault.TheVariants.{Memory as NoMemory, Sink as Refusal}
@@ -31,19 +47,22 @@ use Rattle.plinq_merge.specs.Whole.{AreApart, AreFirstOf}
 use Rattle.plinq_merge.proofs.Offers.{answer-open}
 use Rattle.plinq_merge.specs.inner.Sent.{cut-before}
 use Rattle.plinq_merge.proofs.Whole.{merged-begins}
+use Rattle.plinq_crew.specs.Plans.{IsUndecided}
+use Rattle.plinq_crew.specs.Results.{IsResult, IsPart}
 use Rattle.plinq_run.specs.declared.run_fault.RunFault.{RunFault}
 use Rattle.plinq_run.specs.declared.planning.Ended.{Ended}
 use Rattle.plinq_run.specs.inner.Merged.{merge_for, HasEnded, HasBrokenOff}
 use Rattle.plinq_run.specs.Parting.{Breaks}
-use Rattle.plinq_crew.specs.Plans.{IsUndecided}
-use Rattle.plinq_run.specs.inner.Plans.{merged_answer}
+use Rattle.plinq_run.specs.inner.Plans.{merged_answer, MayTake, MayMerge}
 use Rattle.plinq_run.specs.inner.Offered.{IsOffered, Covers}
-use Rattle.plinq_run.specs.inner.Plans.{MayTake, MayMerge}
-use Rattle.plinq_run.specs.Reports.{IsBroken}
-use Rattle.plinq_crew.specs.Results.{IsResult, IsPart}
+use Rattle.plinq_run.specs.Reports.{IsBroken, HasReported, Reports}
 use Rattle.plinq_run.specs.Runs.{HasRun, Cause, SinkRefused, Other, cause_of, BreaksFor}
+use Rattle.plinq_run.specs.declared.report.Report.{Report}
+use Rattle.plinq_run.specs.Endings.{reported}
+use Rattle.plinq_run.specs.Handed.{handed_trace, has_close}
+use Rattle.plinq_run.specs.inner.Reported.{IsReportOf}
 use Rattle.plinq_run.proofs.Arrived.{are-true_tails, arrival-begins}
-use Rattle.plinq_run.proofs.Handed.{result-covered}
+use Rattle.plinq_run.proofs.Handed.{result-covered, closed-in_order, covers-handed}
 
 module _ {L T : Type 0} (meaning : L → Meaning T) (plan : Plan L) (t : Trace T) where
   are-offers : (rs : List (ChunkResult T)) → All (IsResult meaning plan t) rs → AreOffers meaning plan.worker.now t rs
@@ -172,3 +191,113 @@ module _ {L T K : Type 0} (meaning : L → Meaning T) (plan : Plan L) (option : 
     broken-delivered s s' fault h =
         broken-by h.how s s' fault h.offers (line_of meaning h.last) (All-weaker P (IsResult meaning plan t) plain h.offers h.are) h.apart
         (subst (λ l. Gives accepts refuses l s (merged plan.order h.offers) h.how (line_of meaning h.last) s') begun (let taken = h.taken in taken.gives)) h.breaks
+
+-- ---- what is reported
+
+-- the order of the source always may be
+may-same : {T : Type 0} (order : Order) (t : Trace T) → MayTake order t t
+may-same ByKey t = refl
+may-same ByArrival t = IsRearranged-refl t
+
+-- there always is an answer
+pub merged-may : {L T : Type 0} (meaning : L → Meaning T) (plan : Plan L) (t : Trace T) → MayMerge meaning plan t (merged_answer meaning plan t)
+merged-may meaning plan t = record { taken = t; may = may-same plan.order t; is = refl }
+
+-- before the first offer the first of an answer's batches, none, were delivered
+pub none-ended : {L T K : Type 0} (meaning : L → Meaning T) (accepts : K → List T → K → Type 0) (refuses : K → List T → ℕ → K → Type 0) (option : MergeOption) (plan : Plan L) (t : Trace T) (s : K) (fault : RunFault)
+    → cause_of fault ≡ Other → IsBroken accepts refuses option (MayMerge meaning plan) t s s fault
+none-ended meaning accepts refuses option plan t s fault told =
+    record {
+      answer = merged_answer meaning plan t;
+      may = merged-may meaning plan t;
+      broken = subst (λ x. BreaksFor accepts refuses x (batches option (merged_answer meaning plan t)) s s) (sym told) ([], batches option (merged_answer meaning plan t), refl, refl);
+    }
+
+module _ {L T K : Type 0} (meaning : L → Meaning T) (plan : Plan L) (option : MergeOption) (undecided : IsUndecided plan) (t : Trace T) (few : length t.items ≤ 2 ^ 40)
+    (accepts : K → List T → K → Type 0) (refuses : K → List T → ℕ → K → Type 0) where
+  -- the report of a run is of the same answer, which its records account for
+  pub whole-reported : (records : List Record) (s s' : K) (e : Ending) (b : Result Report RunFault) → IsWhole meaning plan option undecided t few accepts refuses records s s' e
+      → IsReportOf (Ok e) (reported b) → IfOk b (λ r. IsLegalHistory t r.records.items) → IfOk b (λ r. r.records.items ≡ in_ticket_order records)
+      → Reports accepts refuses option (MayMerge meaning plan) t s s' b
+  whole-reported records s s' e (Ok r) h is legal all =
+      record {
+        answer = h.answer;
+        may = h.may;
+        accounts = subst (λ hs. MayMerge meaning plan (handed_trace t hs) h.answer) (sym all)
+            (h.accounts (handed_trace t (in_ticket_order records)) (covers-handed t records (subst (IsLegalHistory t) all legal)));
+        has_run = subst (λ x. HasRun accepts option h.answer s s' x) (sym is) h.has_run;
+      }
+  whole-reported records s s' e (Err f) h is legal all =
+      record {
+        answer = h.answer;
+        may = h.may;
+        broken = subst (λ x. BreaksFor accepts refuses x (batches option h.answer) s s') (sym is) (batches option h.answer, [], sym (append-nil (batches option h.answer)), h.has_run.delivered);
+      }
+
+-- and closed where they are
+pub reported-closed : (records : List Record) (b : Result Report RunFault) → IfOk b (λ r. r.records.items ≡ in_ticket_order records) → has_close records ≡ true
+    → IfOk b (λ r. has_close r.records.items ≡ true)
+reported-closed records (Ok r) all is = ap has_close all ∙ closed-in_order records is
+reported-closed records (Err f) all is = tt
+
+-- the run of a decided plan: nothing, and the end
+pub decided-run : {L T K : Type 0} (meaning : L → Meaning T) (accepts : K → List T → K → Type 0) (option : MergeOption) (ops : List (Op L)) (t : Trace T) (s : K)
+    → list_any is_empty_take ops ≡ true → HasRun accepts option (answer_of meaning ops t) s s End
+decided-run meaning accepts option ops t s some =
+    let is : answer_of meaning ops t ≡ ended [] End = answer-of_none (stages_of meaning ops) t (sym (some_takes_none-stages_of meaning ops) ∙ some) in
+    record {
+      delivered = subst (λ v. Leads accepts s (batches option v) s) (sym is) refl;
+      ending = ap (λ (v : Trace _). v.ending) is;
+    }
+
+-- its answer rests on no record
+decided-accounts : {L T : Type 0} (meaning : L → Meaning T) (ops : List (Op L)) (t u : Trace T) → list_any is_empty_take ops ≡ true → answer_of meaning ops t ≡ answer_of meaning ops u
+decided-accounts meaning ops t u some =
+    let none : some_takes_none (stages_of meaning ops) ≡ true = sym (some_takes_none-stages_of meaning ops) ∙ some in
+    answer-of_none (stages_of meaning ops) t none ∙ sym (answer-of_none (stages_of meaning ops) u none)
+
+-- a plan answers what the query does
+planned-answer : {L T : Type 0} (meaning : L → Meaning T) (q : QueryView L) (plan : Plan L) (t : Trace T) → IsPlanOf q plan → plan.decided ≡ false
+    → merged_answer meaning plan t ≡ answer_of meaning q.ops t
+planned-answer meaning q plan t is undecided =
+    ap (λ xs. answer_of meaning xs (glue meaning plan.worker.now t)) is.after
+    ∙ ap (λ ws. answer_of meaning (after_part (order_of q.ordered) q.ops) (glue meaning ws t)) is.worker
+    ∙ sym (answer_of-split meaning (order_of q.ordered) q.ops t (sym is.decided ∙ undecided))
+
+-- a plan answers what the query may
+pub planned-may : {L T : Type 0} (meaning : L → Meaning T) (q : QueryView L) (plan : Plan L) (t u : Trace T) (ordered : Bool) → q.ordered ≡ ordered → IsPlanOf q plan → plan.decided ≡ false
+    → MayMerge meaning plan t u → MayAnswer meaning ordered q.ops t u
+planned-may meaning q plan t u true ordered is undecided may =
+    let same : may.taken ≡ t = subst (λ o. MayTake o t may.taken) (is.order ∙ ap order_of ordered) may.may in
+    may.is ∙ ap (merged_answer meaning plan) same ∙ planned-answer meaning q plan t is undecided
+planned-may meaning q plan t u false ordered is undecided may =
+    let any : IsRearranged t may.taken = subst (λ o. MayTake o t may.taken) (is.order ∙ ap order_of ordered) may.may in
+    subst (λ v. Answer meaning false q.ops t v) (sym (may.is ∙ planned-answer meaning q plan may.taken is undecided)) (Answer-rearranged meaning q.ops t may.taken any)
+
+-- by arrival the workers look at no keys
+planned-keyless : {L : Type 0} (q : QueryView L) (plan : Plan L) → IsPlanOf q plan → plan.order ≡ ByArrival → are_keyless plan.worker.now ≡ true
+planned-keyless {L} q plan is by =
+    ap are_keyless is.worker ∙ ap (λ o. are_keyless (worker_part o q.ops)) (sym is.order ∙ by) ∙ worker-keyless q.ops
+
+-- the plan of a query that isn't decided needs workers
+pub planned-undecided : {L : Type 0} (q : QueryView L) (plan : Plan L) → IsPlanOf q plan → is_by_key plan.worker.now ≡ true
+    → (plan.decided ≡ false → (list_any is_empty_take plan.worker.now ≡ false) × (list_any is_empty_take plan.after.now ≡ false)) → plan.decided ≡ false → IsUndecided plan
+planned-undecided q plan is keyed parts undecided =
+    record { keyed = keyed; worker = (parts undecided).0; after = (parts undecided).1; undecided = undecided; keyless = planned-keyless q plan is }
+
+-- what one thread answers may be answered
+pub may-sequential : {L T : Type 0} (meaning : L → Meaning T) (ordered : Bool) (ops : List (Op L)) (t : Trace T) → MayAnswer meaning ordered ops t (answer_of meaning ops t)
+may-sequential meaning true ops t = refl
+may-sequential meaning false ops t = Answer-sequential meaning false ops t
+
+-- a decided query may answer what it does, of whatever source
+pub decided-reports : {L T K : Type 0} (meaning : L → Meaning T) (accepts : K → List T → K → Type 0) (refuses : K → List T → ℕ → K → Type 0) (option : MergeOption) (ordered : Bool) (ops : List (Op L)) (t : Trace T) (s : K) (r : Report)
+    → list_any is_empty_take ops ≡ true → r.ending ≡ End → HasReported accepts refuses option (MayAnswer meaning ordered ops) t s s r
+decided-reports meaning accepts refuses option ordered ops t s r some ends =
+    let first = handed_trace t r.records.items in
+    record {
+      answer = answer_of meaning ops t;
+      may = may-sequential meaning ordered ops t;
+      accounts = subst (λ v. MayAnswer meaning ordered ops first v) (decided-accounts meaning ops first t some) (may-sequential meaning ordered ops first);
+      has_run = subst (λ e. HasRun accepts option (answer_of meaning ops t) s s e) (sym ends) (decided-run meaning accepts option ops t s some);
+    }

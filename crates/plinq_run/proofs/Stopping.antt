@@ -1,4 +1,4 @@
--- A run into a sink with its token, in terms of the token and the sink.
+-- What is reported of a run; and of one into a sink with its token, in terms of the token and the sink.
 use Rattle.std.specs.Prelude.{◌≡◌, ℕ, List, [], ◌∷◌, Bool, true, false, ◌||◌, Result, Ok, Err, IfOk, IfErr, OnOk, refl}
 use Rattle.std.proofs.Common.{sym, ap, ◌∙◌, subst, append-nil}
 use Rattle.std.proofs.Math.Bool.{or-false, or-true}
@@ -19,9 +19,10 @@ use Rattle.plinq_run.specs.declared.run_fault.RunFault.{RunFault}
 use Rattle.plinq_run.specs.declared.run_fault.RunFault.TheVariants.{Sink, Cancelled}
 use Rattle.plinq_run.specs.Endings.{reported}
 use Rattle.plinq_run.specs.Reports.{Reports}
-use Rattle.plinq_run.specs.Runs.{HasRun, HasBroken, Cause, SinkRefused, Stopped, Other, cause_of, BreaksFor}
+use Rattle.plinq_run.specs.Runs.{HasRun, HasBroken, Cause, SinkRefused, Stopped, Other, cause_of, BreaksFor, Runs}
 use Rattle.plinq_run.specs.Stopping.{is_stopped, ReportsWith, RunsWith}
 use Rattle.plinq_run.specs.inner.Cancelling.{ReportsLent, IsAskedAtLast}
+use Rattle.plinq_run.specs.Handed.{handed_trace}
 
 -- a run that broke off was cut off
 breaks-cut : {K T : Type 0} (accepts : K → List T → K → Type 0) (refuses : K → List T → ℕ → K → Type 0) (cause : Cause) (bs : List (List T)) (s s' : K) → BreaksFor accepts refuses cause bs s s'
@@ -29,6 +30,24 @@ breaks-cut : {K T : Type 0} (accepts : K → List T → K → Type 0) (refuses :
 breaks-cut accepts refuses (SinkRefused code) bs s s' h = (Refusal code, h)
 breaks-cut accepts refuses Stopped bs s s' h = absurd h
 breaks-cut accepts refuses Other bs s s' h = (NoMemory, h)
+
+module _ {K T : Type 0} (accepts : K → List T → K → Type 0) (refuses : K → List T → ℕ → K → Type 0) (option : MergeOption) (May : Trace T → Trace T → Type 0) (t : Trace T) (s s' : K) where
+  -- what is answered to more is answered here
+  pub reports-weaker : (May' : Trace T → Trace T → Type 0) (b : Result Report RunFault) → ((x u : Trace T) → May x u → May' x u) → Reports accepts refuses option May t s s' b
+      → Reports accepts refuses option May' t s s' b
+  reports-weaker May' (Ok r) f h = record { answer = h.answer; may = f t h.answer h.may; accounts = f (handed_trace t r.records.items) h.answer h.accounts; has_run = h.has_run }
+  reports-weaker May' (Err fault) f h = record { answer = h.answer; may = f t h.answer h.may; broken = h.broken }
+
+  -- where there is one answer, it was delivered
+  pub reports-runs : (v : Trace T) (b : Result Report RunFault) → ((u : Trace T) → May t u → u ≡ v) → Reports accepts refuses option May t s s' b → Runs accepts refuses option v s s' (reported b)
+  reports-runs v (Ok r) only h = subst (λ u. HasRun accepts option u s s' r.ending) (only h.answer h.may) h.has_run
+  reports-runs v (Err f) only h = subst (λ u. HasBroken accepts refuses option u s s' f) (only h.answer h.may) h.broken
+
+  -- and what the records hand out has the same
+  pub reports-accounts : (F : Trace T → Trace T) (b : Result Report RunFault) → ((x u : Trace T) → May x u → u ≡ F x) → Reports accepts refuses option May t s s' b
+      → IfOk b (λ r. F (handed_trace t r.records.items) ≡ F t)
+  reports-accounts F (Ok r) only h = sym (only (handed_trace t r.records.items) h.answer h.accounts) ∙ only t h.answer h.may
+  reports-accounts F (Err f) only h = tt
 
 -- what is reported of what a run told holds of what it told
 pub ok-told : (P : Report → Type 0) (told r : Result Report RunFault) → IfOk r (λ report. told ≡ Ok report) → IfOk told P → IfOk r P

@@ -3,7 +3,7 @@ use Rattle.plinq_source.specs.declared.ending.Ending.TheVariants.{End}
 use Rattle.plinq_source.specs.Trace.{ended}
 use Rattle.plinq_ops.specs.Answer.{MayAnswer}
 use Rattle.plinq_run.specs.inner.Plans.{MayMerge}
-use Rattle.plinq_run.proofs.Ended.{planned-may, planned-undecided}
+use Rattle.plinq_run.proofs.Runs.{planned-may, planned-undecided}
 use Rattle.plinq_run.proofs.PartsGiven.{gives-weaker, decided-may}
 use Rattle.plinq_run.proofs.parting.fold_into.Goals as goal
 

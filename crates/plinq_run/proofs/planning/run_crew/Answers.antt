@@ -4,8 +4,7 @@ use Rattle.plinq_merge.proofs.Joins.{begun-joined}
 use Rattle.plinq_crew.specs.Conducting.{Conducts}
 use Rattle.plinq_run.specs.inner.Merged.{AcceptsInto, HasBrokenOff}
 use Rattle.plinq_run.specs.declared.run_fault.RunFault.TheVariants.{Memory}
-use Rattle.plinq_run.proofs.Merged.{none-broken, conducts-same}
-use Rattle.plinq_run.proofs.Told.{told-all, told-ends, told-closed}
+use Rattle.plinq_run.proofs.Merged.{none-broken, conducts-same, told-all, told-ends, told-closed}
 use Rattle.plinq_run.proofs.planning.run_crew.Goals as goal
 
 pub returns-in_default-clause-ends : goal.returns-in_default-clause-ends

@@ -5,7 +5,8 @@ use Rattle.plinq_ops.specs.Query.{merge_in_force}
 use Rattle.plinq_run.specs.inner.Plans.{MayMerge}
 use Rattle.plinq_run.specs.Reports.{Reports}
 use Rattle.plinq_run.proofs.Headline.{decided-delivered, ordered-delivered}
-use Rattle.plinq_run.proofs.Ended.{decided-reports, planned-may, planned-undecided, reports-weaker}
+use Rattle.plinq_run.proofs.Runs.{decided-reports, planned-may, planned-undecided}
+use Rattle.plinq_run.proofs.Stopping.{reports-weaker}
 use Rattle.plinq_run.proofs.running.run.Goals as goal
 
 pub run_plan-requires-clause-may : goal.run_plan-requires-clause-may

@@ -6,8 +6,7 @@ use Rattle.plinq_crew.specs.Results.{IsPart}
 use Rattle.plinq_run.specs.inner.Conducted.{HasConducted}
 use Rattle.plinq_run.specs.inner.Plans.{MayMerge}
 use Rattle.plinq_run.specs.Reports.{Reports}
-use Rattle.plinq_run.proofs.Ended.{none-ended, whole-reported, reported-closed}
-use Rattle.plinq_run.proofs.Runs.{begun_line, plain-part, whole-delivered, broken-delivered}
+use Rattle.plinq_run.proofs.Runs.{none-ended, whole-reported, reported-closed, begun_line, plain-part, whole-delivered, broken-delivered}
 use Rattle.plinq_run.proofs.running.run_plan.Goals as goal
 
 pub returns-in_default-clause-reports : goal.returns-in_default-clause-reports

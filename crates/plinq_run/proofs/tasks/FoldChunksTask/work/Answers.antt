@@ -3,7 +3,7 @@ use Rattle.std.specs.Prelude.{is_some}
 use Rattle.std.specs.List.{fold}
 use Rattle.std.proofs.lemmas.List.{nil_from_length}
 use Rattle.plinq_ops.specs.Chunk.{chunk_answer}
-use Rattle.plinq_run.proofs.ChunkPieces.{HasFoldedTo, folded-piece, folded-all, folded-stopped}
+use Rattle.plinq_run.proofs.Pieces.{HasFoldedTo, folded-piece, folded-all, folded-stopped}
 use Rattle.plinq_run.proofs.tasks.FoldChunksTask.work.Goals as goal
 
 -- a piece in which the run stopped

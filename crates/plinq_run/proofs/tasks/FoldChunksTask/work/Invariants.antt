@@ -1,7 +1,7 @@
 use Rattle.std.proofs.Common.{◌+◌, ◌<◌, ◌≤◌, ◌^◌, length}
 use Rattle.plinq_ops.specs.Chunk.{chunk_answer}
 use Rattle.plinq_ops.specs.Cut.{most_items}
-use Rattle.plinq_run.proofs.ChunkPieces.{HasFoldedTo}
+use Rattle.plinq_run.proofs.Pieces.{HasFoldedTo}
 use Rattle.plinq_run.proofs.tasks.FoldChunksTask.work.Given as goal
 
 -- what the pieces so far gave is folded, and they left the run open
