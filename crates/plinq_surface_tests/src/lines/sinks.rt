@@ -17,8 +17,9 @@ fn take_all<K: Sink<Item = i64>>(sink: &mut K) -> Result<(), u32> {
 fn is_each_a_line(alloc: Global) -> bool {
     let mut out = Vec::new(alloc);
     let mut sink = LineSink::new(&mut out);
-    let told = take_all(&mut sink);
-    told.is_ok() && !sink.has_failed() && sink.into_writer().as_slice() == LINES
+    let is_told = take_all(&mut sink).is_ok() && !sink.has_failed();
+    let out = sink.into_writer();
+    is_told && out.as_slice() == LINES
 }
 
 #[test]

@@ -1,5 +1,4 @@
-//! The names that the program's crates have, at their places and in their shapes: a change that loses one is refused here.
-//! Those of the crates below are `plinq_surface_tests`'.
+//! The names that the program's crates have.
 use plinq_cli::{
     AnySource, Command, Degree, DocFault, InputFault, Job, Kind, ServeFault, Settings, StepFault,
     read_document, read_input, serve,
