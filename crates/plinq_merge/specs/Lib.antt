@@ -1,4 +1,5 @@
 pub mod Sending
+pub mod Expanding
 pub mod Tokens
 pub mod Cancelling
 pub mod Lent

@@ -15,7 +15,7 @@ use plinq_ops::Pipeline;
 use plinq_source::{Ending, Source};
 use std::alloc::Global;
 
-/// After so many blocks that fill no batch the sink is told that none is there.
+/// After so many blocks that fill no batch the sink is told that none is there: by blocks of 512, after 8,192 elements.
 const QUIET_BLOCKS: u64 = 16;
 
 /// Sends what a source gives through a pipeline, a block at a time, up to the one that ends the run, and delivers what comes

@@ -1,5 +1,7 @@
 //! The delivery of a query's answer by one thread.
-ghost use Rattle.std.specs.Prelude.{◌≡◌, ◌<◌, Some, IfOk, OnOk};
+ghost use Rattle.std.specs.Prelude.{◌≡◌, ◌<◌, Some, IfOk, OnOk, true};
+ghost use Rattle.std.specs.List.{list_any};
+ghost use Rattle.plinq_merge.specs.Expanding.{is_select_many};
 ghost use Rattle.plinq_ops.specs.Batches.{batch_size, batches};
 ghost use Rattle.plinq_ops.specs.Operator.{stages_of};
 ghost use Rattle.plinq_ops.specs.Query.{merge_in_force};
@@ -85,6 +87,8 @@ where
         (batches (merge_in_force query.now.merge) (answer_of L.meaning query.now.ops (S.whole source.old))) result sink.new }
     ensures blocks { OnOk result (IsDecidingInBlocks 512
         (stages_of L.meaning query.now.ops) (S.whole source.old) (S.given source.new)) }
+    ensures singly { list_any is_select_many query.now.ops ≡ true → OnOk result (IsLeastDeciding
+        (stages_of L.meaning query.now.ops) (S.whole source.old) (S.given source.new)) }
 {
     if expands(query.ops()) {
         return deliver_answer(alloc, query, 1, source, sink);
@@ -92,14 +96,18 @@ where
     deliver_answer(alloc, query, BLOCK, source, sink)
 }
 
-/// Whether an operator is a SelectMany.
-fn expands<L>(ops: &[Op<L>]) -> bool {
-    for op in ops {
-        if let Op::SelectMany(_) = op {
-            return true;
-        }
-    }
-    false
+// Whether an operator is a SelectMany.
+fn is_select_many<L>(op: &Op<L>) -> bool
+    ensures { result ≡ is_select_many op.now }
+{
+    matches!(op, Op::SelectMany(_))
+}
+
+// Whether there is a SelectMany.
+fn expands<L>(ops: &[Op<L>]) -> bool
+    ensures { result ≡ list_any is_select_many ops.now }
+{
+    ops.iter().any(|op| is_select_many(op))
 }
 
 /// Delivers a query's answer, and asks the source for so many elements at once.
@@ -125,6 +133,7 @@ where
     }
     let mut pipeline = Pipeline::new(alloc, query.ops())?;
     let mut buffer = buffer_of(alloc, query.merge_option())?;
+    // (for one element at a time this loop is the faster)
     if most == 1 {
         return deliver_all(alloc, &mut pipeline, &mut buffer, source, sink);
     }

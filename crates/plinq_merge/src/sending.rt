@@ -32,7 +32,7 @@ fn send_full<K: Sink>(size: usize, items: &[K::Item], sink: &mut K) -> Result<()
 }
 
 /// Hands out what is left in the buffer, if the answer ends and as its ending says.
-pub(crate) fn deliver_last<K: Sink>(
+fn deliver_last<K: Sink>(
     buffer: &mut Buffer<K::Item>,
     ending: Option<Ending>,
     sink: &mut K,

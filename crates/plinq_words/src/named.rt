@@ -13,8 +13,8 @@ pub trait Named: Copy {
 /// The first of these that has this name. Takes no memory.
 ///
 /// ```text
-/// first_named(&[Formula::Even, Formula::UpTo], "up_to")   // Some(Formula::UpTo)
-/// first_named(&[Formula::Even, Formula::UpTo], "upto")    // None
+/// first_named(&[Unit::Metre, Unit::Mile], "mile")    // Some(Unit::Mile)
+/// first_named(&[Unit::Metre, Unit::Mile], "miles")   // None
 /// ```
 pub fn first_named<T: Named>(all: &[T], name: &str) -> Option<T>
     ensures { result ≡ first_named T.its_name all.now name.now }
