@@ -1,8 +1,7 @@
 -- What was accepted of the parts that workers send is merged; and what is told of it: where no fault is, it is all that was sent.
-use Rattle.std.specs.Prelude.{◌≡◌, List, [], Bool, Option, Some, None, Result, Ok, Err, All, IfOk, ◌==◌}
-use Rattle.std.specs.Option.{option_or}
+use Rattle.std.specs.Prelude.{◌≡◌, List, [], Bool, Option, Some, None, Result, Ok, Err, All, IfOk}
 use Rattle.std.specs.declared.alloc.Global.{Global}
-use Rattle.std.proofs.Common.{refl, sym, ◌∙◌, ap, subst, inl, inr, eqb-true, ◌||◌, drop, is_some, true, false, true≢false, Vec, not}
+use Rattle.std.proofs.Common.{refl, sym, ◌∙◌, ap, subst, inl, inr, drop, true, false, Vec}
 use Rattle.std.proofs.lemmas.Fn.{chained_keeps}
 use Rattle.std.proofs.lemmas.List.Elements.{All-nil, All-push, All-weaker}
 use Rattle.std.proofs.lemmas.List.Folds.{list_any-from_Any}
@@ -17,7 +16,7 @@ use Rattle.plinq_stream.specs.declared.sent.Sent.{Sent}
 use Rattle.plinq_stream.specs.declared.stream_pass.StreamPass.{StreamPass}
 use Rattle.plinq_stream.specs.Passes.{IsPassOf, known}
 use Rattle.plinq_stream.specs.Streams.{HasReceivedAll}
-use Rattle.plinq_stream.proofs.Under.{or-none, or-right}
+use Rattle.plinq_stream.proofs.Under.{or-none}
 use Rattle.plinq_ops.specs.declared.order.Order.{Order}
 use Rattle.plinq_ops.specs.declared.results.ChunkResult.{ChunkResult}
 use Rattle.plinq_merge.specs.declared.delivery_fault.DeliveryFault.{DeliveryFault}
@@ -53,19 +52,9 @@ use Rattle.plinq_run.specs.inner.Finishing.{Finishes}
 use Rattle.plinq_run.specs.inner.Offered.{IsOffered}
 use Rattle.plinq_run.specs.Runs.{Cause, Other, cause_of}
 use Rattle.plinq_run.specs.inner.Reported.{cause_in_merge}
-use Rattle.plinq_run.specs.declared.run_fault.RunFault.TheVariants.{Memory, Thread, Tickets}
 use Rattle.plinq_run.specs.Handed.{is_close, has_close}
-use Rattle.plinq_run.specs.inner.Faults.{first_reported, reported_if, refused_by_sink, is_out_of_memory}
+use Rattle.plinq_run.specs.inner.Faults.{AreSound}
 use Rattle.plinq_run.proofs.Arrived.{apart-push}
-
-are-more : {T : Type 0} (IsPart : ChunkResult T → Type 0) (offers : List (ChunkResult T)) (r : ChunkResult T) (offers' : List (ChunkResult T))
-    → AreOneMore offers r offers' → All IsPart offers → IsPart r → All IsPart offers'
-are-more IsPart offers r offers' (inl same) are good = subst (All IsPart) (sym same) are
-are-more IsPart offers r offers' (inr more) are good = subst (All IsPart) (sym more.0) (All-push IsPart offers r are good)
-
-apart-more : {T : Type 0} (offers : List (ChunkResult T)) (r : ChunkResult T) (offers' : List (ChunkResult T)) → AreOneMore offers r offers' → AreApart offers → AreApart offers'
-apart-more offers r offers' (inl same) apart = subst AreApart (sym same) apart
-apart-more offers r offers' (inr more) apart = subst AreApart (sym more.0) (apart-push offers r apart more.1)
 
 -- a fault of the merge has the cause for which the taker broke off
 breaks-by : (fault : MergeFault) (cause : Cause) → cause ≡ cause_in_merge (Some fault) → Breaks (Err (delivery_fault_of fault)) cause
@@ -79,6 +68,16 @@ gap-not_ok : (e : Ending) → (let one : Result Ending MergeFault = Ok e in one 
 gap-not_ok e bad = cc
 
 module _ {W O T : Type 0} (made : W → O → Trace T → Result (Option Ending) DeliveryFault → W → O → Type 0) (lawful : IsTaking made) (IsPart : ChunkResult T → Type 0) (order : Order) (a : W) (x : O) where
+  -- one part more, or none
+  more-merged : (fault : Option MergeFault) (m : Merging W T) (y : O) (part : ChunkResult T) (offers offers' : List (ChunkResult T)) → m.fault ≡ fault → IsPart part → All IsPart offers → AreApart offers
+      → AreOneMore offers part offers' → Stands made IsPart order a x fault m.joiner y offers' → HasMerged made IsPart order a x m y
+  more-merged fault m y part offers offers' kept is are apart (inl same) stands =
+      let stand = subst (λ f. Stands made IsPart order a x f m.joiner y offers') (sym kept) stands in
+      record { offers = offers'; are = subst (All IsPart) (sym same) are; apart = subst AreApart (sym same) apart; stands = stand }
+  more-merged fault m y part offers offers' kept is are apart (inr more) stands =
+      let stand = subst (λ f. Stands made IsPart order a x f m.joiner y offers') (sym kept) stands in
+      record { offers = offers'; are = subst (All IsPart) (sym more.0) (All-push IsPart offers part are is); apart = subst AreApart (sym more.0) (apart-push offers part apart more.1); stands = stand }
+
   -- a part was offered to a joiner that had no fault
   offered-by : (told : Result More MergeFault) (m : Merging W T) (y : O) (part : ChunkResult T) (m' : Merging W T) (y' : O) → Takes made m.joiner part y told m'.joiner y'
       → order_of m'.joiner ≡ order_of m.joiner → m'.fault ≡ offer_fault told → IsPart part
@@ -86,21 +85,11 @@ module _ {W O T : Type 0} (made : W → O → Trace T → Result (Option Ending)
       → HasMerged made IsPart order a x m' y'
   offered-by (Ok more) m y part m' y' takes same kept is offers are apart stands =
       let on = takes-joined made a x lawful m.joiner part y more m'.joiner y' offers same stands.1 takes in
-      record {
-        offers = on.0;
-        are = are-more IsPart offers part on.0 on.1 are is;
-        apart = apart-more offers part on.0 on.1 apart;
-        stands = subst (λ f. Stands made IsPart order a x f m'.joiner y' on.0) (sym kept) (same ∙ stands.0, on.2);
-      }
+      more-merged None m' y' part offers on.0 kept is are apart on.1 (same ∙ stands.0, on.2)
   offered-by (Err fault) m y part m' y' takes same kept is offers are apart stands =
       let on = takes-broken made a x lawful m.joiner part y fault m'.joiner y' offers same stands.1 takes in
-      record {
-        offers = on.0;
-        are = are-more IsPart offers part on.0 on.1 are is;
-        apart = apart-more offers part on.0 on.1 apart;
-        stands = subst (λ f. Stands made IsPart order a x f m'.joiner y' on.0) (sym kept)
-            (on.2.0, subst (λ o. made a x (merged o on.0) (Err (delivery_fault_of fault)) on.2.0 y') stands.0 on.2.1);
-      }
+      let broke = subst (λ o. made a x (merged o on.0) (Err (delivery_fault_of fault)) on.2.0 y') stands.0 on.2.1 in
+      more-merged (Some fault) m' y' part offers on.0 kept is are apart on.1 (on.2.0, broke)
 
   accepted-by : (fault : Option MergeFault) (m : Merging W T) (y : O) (part : ChunkResult T) (m' : Merging W T) (y' : O) → m.fault ≡ fault → AcceptsAfter made fault m y part m' y' → IsPart part
       → (offers : List (ChunkResult T)) → All IsPart offers → AreApart offers → Stands made IsPart order a x fault m.joiner y offers
@@ -184,37 +173,8 @@ conducts-same made IsPart crew context m m' (Err fault) h = record { merging = a
 
 -- ---- what is told
 
-none-before : {A : Type 0} (x y : Option A) → option_or x y ≡ None → x ≡ None
-none-before None y is = refl
-none-before (Some x) y is = is
-
-none-after : {A : Type 0} (x y : Option A) → option_or x y ≡ None → y ≡ None
-none-after None y is = is
-none-after (Some x) y is = absurd (true≢false (ap is_some is))
-
-none-told : (b : Bool) (fault : RunFault) → reported_if b fault ≡ None → b ≡ false
-none-told true fault is = absurd (true≢false (ap is_some is))
-none-told false fault is = refl
-
-none-noted : (fault : Option MergeFault) (faults : WorkerFaults) (worker_count : WorkerCount) → first_reported fault faults worker_count ≡ None → has_worker_fault faults ≡ false
-none-noted fault faults worker_count is =
-    let after-sink = none-after (refused_by_sink fault) _ is in
-    let memory = none-told (is_out_of_memory fault || faults.memory) Memory (none-before _ _ after-sink) in
-    let after-memory = none-after (reported_if (is_out_of_memory fault || faults.memory) Memory) _ after-sink in
-    let after-thread = none-after (reported_if (not (worker_count.started == worker_count.wanted)) Thread) _ after-memory in
-    let tickets = none-told faults.tickets Tickets (none-before _ _ after-thread) in
-    or-none faults.memory faults.tickets (or-right (is_out_of_memory fault) faults.memory memory) tickets
-
-none-missing : (fault : Option MergeFault) (faults : WorkerFaults) (worker_count : WorkerCount) → first_reported fault faults worker_count ≡ None
-    → worker_count.started ≡ worker_count.wanted
-none-missing fault faults worker_count is =
-    let after-memory = none-after (reported_if (is_out_of_memory fault || faults.memory) Memory) _ (none-after (refused_by_sink fault) _ is) in
-    let missing = none-told (not (worker_count.started == worker_count.wanted)) Thread (none-before _ _ after-memory) in
-    eqb-true worker_count.started worker_count.wanted (not-not (worker_count.started == worker_count.wanted) missing)
-  where
-    not-not : (b : Bool) → not b ≡ false → b ≡ true
-    not-not true is = refl
-    not-not false is = sym is
+none-noted : (faults : WorkerFaults) (worker_count : WorkerCount) → AreSound faults worker_count → has_worker_fault faults ≡ false
+none-noted faults worker_count sound = or-none faults.memory faults.tickets sound.memory sound.tickets
 
 -- Where it is reported how the answer ended, no worker had a fault and none was missing. So the source was closed, what was accepted is of the
 -- chunks of the records, and all that was sent was received
@@ -222,7 +182,7 @@ module _ {S U W T : Type 0} {source : SourceGhosts S U} {m : Merging W T} {back 
   pub told-closed : (r : Result (Ended S W U source) RunFault) → Finishes m back r → (has_worker_fault back.worker_faults ≡ false → HasClosed (all_shares back.partitions.items))
       → IfOk r (λ ended. has_close (all_shares ended.partitions.items) ≡ true)
   told-closed (Ok ended) f closed =
-      let (k, entry, less, at, asked) = closed (none-noted m.fault back.worker_faults back.worker_count f.first) in
+      let (k, entry, less, at, asked) = closed (none-noted back.worker_faults back.worker_count f.sound) in
       ap (λ (ps : Vec (Partition S U source) Global). has_close (all_shares ps.items)) f.partitions
       ∙ list_any-from_Any (λ (r : Record). is_close r.asked) (all_shares back.partitions.items) (k, entry, less, at, ap is_close asked)
   told-closed (Err told) f closed = tt
@@ -239,7 +199,7 @@ module _ {S U W T : Type 0} {source : SourceGhosts S U} {m : Merging W T} {back 
       h.all,
       subst (λ (ps : Vec (Partition S U source) Global). All (IsWhollyAnsweredBy (known h.pass)) (drop 1 ps.items)) (sym f.partitions)
           (All-weaker (IsAnsweredBy 0 (known h.pass) back.worker_faults) (IsWhollyAnsweredBy (known h.pass))
-          (answered-wholly (known h.pass) (known h.pass) back.worker_faults refl refl (none-noted m.fault back.worker_faults back.worker_count f.first)) (drop 1 back.partitions.items) h.answered),
+          (answered-wholly (known h.pass) (known h.pass) back.worker_faults refl refl (none-noted back.worker_faults back.worker_count f.sound)) (drop 1 back.partitions.items) h.answered),
       record {
         first = first;
         new = new;
@@ -275,7 +235,7 @@ module _ {S U W T : Type 0} {source : SourceGhosts S U} {m : Merging W T} {back 
         let of : (c : ChunkResult T) → IsOfCrew back IsPart c → IsOffered IsPart (all_shares ended.partitions.items) c =
         λ c is. (
           is.0,
-          subst (λ (ps : Vec (Partition S U source) Global). IsOfOne (all_shares ps.items) c) (sym f.partitions) (is.1 (none-missing m.fault back.worker_faults back.worker_count f.first)),
+          subst (λ (ps : Vec (Partition S U source) Global). IsOfOne (all_shares ps.items) c) (sym f.partitions) (is.1 (let sound = f.sound in sound.started)),
         ) in
         record {
           offers = all.offers;

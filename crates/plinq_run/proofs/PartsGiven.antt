@@ -16,6 +16,8 @@ use Rattle.plinq_ops.specs.declared.results.ChunkResult.{ChunkResult}
 use Rattle.plinq_ops.specs.Answer.{MayAnswer}
 use Rattle.plinq_ops.specs.Feeding.{IsFed, is_empty_take}
 use Rattle.plinq_ops.specs.Operator.{stages_of}
+use Rattle.plinq_ops.specs.Plan.{IsPlanOf}
+use Rattle.plinq_ops.specs.Query.{QueryView}
 use Rattle.plinq_ops.specs.Pipeline.{IsReached, stages}
 use Rattle.plinq_ops.specs.Stage.{Stage, seq, seq_after, some_takes_none}
 use Rattle.plinq_ops.proofs.Answered.{answer-of_none}
@@ -45,7 +47,7 @@ use Rattle.plinq_run.specs.declared.combiner.Combiner.{Combiner}
 use Rattle.plinq_run.specs.Aggregates.{Aggregates, AggregatesSome}
 use Rattle.plinq_run.specs.inner.Valuing.{value_at, value_of}
 use Rattle.plinq_run.specs.inner.Combining.{MadeBy as CombinedBy}
-use Rattle.plinq_run.proofs.Runs.{merged-may, may-sequential, begun-in}
+use Rattle.plinq_run.proofs.Runs.{merged-may, may-sequential, begun-in, planned-may}
 use Rattle.plinq_run.proofs.Folds.{merged-folded, folds-apart, unfolded}
 
 breaks-over : (how : Result (Option Ending) DeliveryFault) (cause : Cause) → Breaks how cause → IsOver how
@@ -58,6 +60,12 @@ pub gives-weaker : {T A U W O : Type 0} (f : Folding T A U) (made : W → O → 
     → ((u : Trace T) → P u → Q u) → GivesSome f made P a x r y → GivesSome f made Q a x r y
 gives-weaker f made P Q a x (Ok e) y on h = (h.0, on h.0 h.1, h.2)
 gives-weaker f made P Q a x (Err fault) y on h = (h.0, on h.0 h.1, h.2, h.3, h.4)
+
+-- a plan gives of what its query may answer
+pub planned-given : {L T A U W O : Type 0} (f : Folding T A U) (made : W → O → Trace A → Result (Option Ending) DeliveryFault → W → O → Type 0) (meaning : L → Meaning T) (q : QueryView L) (plan : Plan L) (t : Trace T) (a : W) (x : O)
+    (r : Result Ending RunFault) (y : O) → IsPlanOf q plan → plan.decided ≡ false → GivesSome f made (MayMerge meaning plan t) a x r y → GivesSome f made (MayAnswer meaning q.ordered q.ops t) a x r y
+planned-given f made meaning q plan t a x r y is undecided =
+    gives-weaker f made (MayMerge meaning plan t) (MayAnswer meaning q.ordered q.ops t) a x r y (λ u. planned-may meaning q plan t u q.ordered refl is undecided)
 
 -- a decided query answers nothing
 pub decided-may : {L T : Type 0} (meaning : L → Meaning T) (ordered : Bool) (ops : List (Op L)) (t u : Trace T) → list_any is_empty_take ops ≡ true → u ≡ ended [] End → MayAnswer meaning ordered ops t u

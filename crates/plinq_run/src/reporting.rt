@@ -7,7 +7,7 @@ ghost use Rattle.plinq_ticket.specs.Shares.{in_ticket_order};
 ghost use Rattle.plinq_run.specs.Runs.{Other, cause_of};
 ghost use Rattle.plinq_run.specs.inner.Reported.{cause_in_merge, IsReportOf};
 ghost use Rattle.plinq_run.specs.Endings.{reported};
-ghost use Rattle.plinq_run.specs.inner.Faults.{first_reported};
+ghost use Rattle.plinq_run.specs.inner.Faults.{first_reported, AreSound};
 ghost use Rattle.plinq_run.specs.inner.Finishing.{Finishes};
 
 use crate::accepting::Merging;
@@ -22,6 +22,7 @@ use plinq_source::Source;
 fn worker_fault(worker_faults: WorkerFaults, worker_count: WorkerCount) -> Option<RunFault>
     ensures first { result ≡ first_reported None worker_faults worker_count }
     ensures told { IfSome result (λ fault. cause_of fault ≡ Other) }
+    ensures sound { result ≡ None → AreSound worker_faults worker_count }
 {
     if worker_faults.memory {
         return Some(RunFault::Memory);
@@ -44,6 +45,7 @@ pub(crate) fn first_fault(
     ensures first { result ≡ first_reported fault worker_faults worker_count }
     ensures told { IfSome result (λ told. cause_of told ≡ cause_in_merge fault) }
     ensures none { result ≡ None → fault ≡ None }
+    ensures sound { result ≡ None → AreSound worker_faults worker_count }
 {
     match fault {
         Some(MergeFault::Sink(code)) => Some(RunFault::Sink(code)),

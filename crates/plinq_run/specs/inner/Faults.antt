@@ -49,6 +49,12 @@ first_reported fault faults worker_count =
     (option_or (reported_if faults.tickets Tickets)
     (reported_if (is_incomplete fault) Incomplete))))
 
+-- no worker had a fault, and all that were wanted were started
+pub record AreSound (faults : WorkerFaults) (worker_count : WorkerCount) : Type 0 where
+  pub memory : faults.memory ≡ false
+  pub tickets : faults.tickets ≡ false
+  pub started : worker_count.started ≡ worker_count.wanted
+
 -- ---- worked rows
 
 abbrev short_of : Bool → Bool → WorkerFaults

@@ -9,9 +9,6 @@ on-any P (Err e) p = tt
 pub returns-then-with-clause-cancelled : goal.returns-then-with-clause-cancelled
 returns-then-with-clause-cancelled g c = on-any _ c.args.told refl
 
-pub returns-then-with-clause-asked : goal.returns-then-with-clause-asked
-returns-then-with-clause-asked g c = rw c.if-with.true (refl, refl)
-
 pub returns-in_err-report-clause-asked : goal.returns-in_err-report-clause-asked
 returns-in_err-report-clause-asked g c =
     let told : c.args.told ≡ Err c.in_err-report.field-0.0 = search rules in
