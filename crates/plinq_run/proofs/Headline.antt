@@ -157,7 +157,8 @@ module _ {T : Type 0} where
   begins : (option : Option MergeOption) (u : Trace T) → IsBeginning option u
   begins (Some NotBuffered) u = record { more = kept (held_back (Some 1) [] u.items) u.ending; parts = by_size 1 u; all = kept-none (held_back (Some 1) [] u.items) u.ending }
   begins (Some FullyBuffered) u = record { more = []; parts = whole u; all = λ e is. refl }
-  begins option u = record { more = kept (held_back (Some 16) [] u.items) u.ending; parts = by_size 16 u; all = kept-none (held_back (Some 16) [] u.items) u.ending }
+  begins option u =
+      record { more = kept (held_back (Some 16) [] u.items) u.ending; parts = by_size 16 u; all = kept-none (held_back (Some 16) [] u.items) u.ending }
 
   -- ---- runs
 

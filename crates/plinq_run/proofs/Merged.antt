@@ -69,14 +69,21 @@ gap-not_ok e bad = cc
 
 module _ {W O T : Type 0} (made : W → O → Trace T → Result (Option Ending) DeliveryFault → W → O → Type 0) (lawful : IsTaking made) (IsPart : ChunkResult T → Type 0) (order : Order) (a : W) (x : O) where
   -- one part more, or none
-  more-merged : (fault : Option MergeFault) (m : Merging W T) (y : O) (part : ChunkResult T) (offers offers' : List (ChunkResult T)) → m.fault ≡ fault → IsPart part → All IsPart offers → AreApart offers
+  more-merged : (fault : Option MergeFault) (m : Merging W T) (y : O) (part : ChunkResult T) (offers offers' : List (ChunkResult T)) → m.fault ≡ fault
+      → IsPart part → All IsPart offers → AreApart offers
       → AreOneMore offers part offers' → Stands made IsPart order a x fault m.joiner y offers' → HasMerged made IsPart order a x m y
   more-merged fault m y part offers offers' kept is are apart (inl same) stands =
       let stand = subst (λ f. Stands made IsPart order a x f m.joiner y offers') (sym kept) stands in
       record { offers = offers'; are = subst (All IsPart) (sym same) are; apart = subst AreApart (sym same) apart; stands = stand }
   more-merged fault m y part offers offers' kept is are apart (inr more) stands =
       let stand = subst (λ f. Stands made IsPart order a x f m.joiner y offers') (sym kept) stands in
-      record { offers = offers'; are = subst (All IsPart) (sym more.0) (All-push IsPart offers part are is); apart = subst AreApart (sym more.0) (apart-push offers part apart more.1); stands = stand }
+      record {
+        offers = offers';
+        are = subst (All IsPart) (sym more.0) (All-push IsPart offers part are is);
+        apart = subst AreApart (sym more.0)
+            (apart-push offers part apart more.1);
+        stands = stand;
+      }
 
   -- a part was offered to a joiner that had no fault
   offered-by : (told : Result More MergeFault) (m : Merging W T) (y : O) (part : ChunkResult T) (m' : Merging W T) (y' : O) → Takes made m.joiner part y told m'.joiner y'
@@ -137,16 +144,19 @@ module _ {W O T : Type 0} (made : W → O → Trace T → Result (Option Ending)
       → (offers : List (ChunkResult T)) → All IsPart offers → AreApart offers → Stands made IsPart order a x fault m.joiner y offers → HasBrokenOff made IsPart order a x told y
   broken-by None m y told is offers are apart stands =
       let last = taker_of m.joiner in
-      let broken : (how : Result (Option Ending) DeliveryFault) → made a x (merged order offers) how last y → Breaks how (cause_of told) → HasBrokenOff made IsPart order a x told y =
+      let broken : (how : Result (Option Ending) DeliveryFault) → made a x (merged order offers) how last y → Breaks how (cause_of told) → HasBrokenOff made
+      IsPart order a x told y =
       λ how taken breaks. record { offers = offers; are = are; apart = apart; last = last; how = how; taken = taken; breaks = breaks } in
       joined-cases made a x m.joiner y offers stands.1
-      (λ no gap waits before. broken (Err NoMemory) (subst (λ o. made a x (merged o offers) (Err NoMemory) last y) stands.0 (joined-stopped made a x lawful m.joiner y offers waits before)) is)
+      (λ no gap waits before. broken (Err NoMemory)
+      (subst (λ o. made a x (merged o offers) (Err NoMemory) last y) stands.0 (joined-stopped made a x lawful m.joiner y offers waits before)) is)
       (λ e yes ok all. broken (Ok (Some e)) (subst (λ o. made a x (merged o offers) (Ok (Some e)) last y) stands.0 all) is)
   broken-by (Some fault) m y told is offers are apart stands =
       record { offers = offers; are = are; apart = apart; last = stands.0; how = Err (delivery_fault_of fault); taken = stands.1; breaks = breaks-by fault (cause_of told) is }
 
   -- where the joiner has ended the answer, its taker has taken all that was offered
-  ended-by : (j : Joiner W T) (y : O) (e : Ending) (offers : List (ChunkResult T)) → Stands made IsPart order a x None j y offers → ending_of j ≡ Ok e → made a x (merged order offers) (Ok (Some e)) (taker_of j) y
+  ended-by : (j : Joiner W T) (y : O) (e : Ending) (offers : List (ChunkResult T)) → Stands made IsPart order a x None j y offers → ending_of j ≡ Ok e
+      → made a x (merged order offers) (Ok (Some e)) (taker_of j) y
   ended-by j y e offers stands ending =
       joined-cases made a x j y offers stands.1
       (λ no gap waits before. absurd (gap-not_ok e (sym ending ∙ gap)))
@@ -179,7 +189,8 @@ none-noted faults worker_count sound = or-none faults.memory faults.tickets soun
 -- Where it is reported how the answer ended, no worker had a fault and none was missing. So the source was closed, what was accepted is of the
 -- chunks of the records, and all that was sent was received
 module _ {S U W T : Type 0} {source : SourceGhosts S U} {m : Merging W T} {back : Returned S U source} where
-  pub told-closed : (r : Result (Ended S W U source) RunFault) → Finishes m back r → (has_worker_fault back.worker_faults ≡ false → HasClosed (all_shares back.partitions.items))
+  pub told-closed : (r : Result (Ended S W U source) RunFault) → Finishes m back r
+      → (has_worker_fault back.worker_faults ≡ false → HasClosed (all_shares back.partitions.items))
       → IfOk r (λ ended. has_close (all_shares ended.partitions.items) ≡ true)
   told-closed (Ok ended) f closed =
       let (k, entry, less, at, asked) = closed (none-noted back.worker_faults back.worker_count f.sound) in
@@ -187,11 +198,14 @@ module _ {S U W T : Type 0} {source : SourceGhosts S U} {m : Merging W T} {back 
       ∙ list_any-from_Any (λ (r : Record). is_close r.asked) (all_shares back.partitions.items) (k, entry, less, at, ap is_close asked)
   told-closed (Err told) f closed = tt
 
-  module _ {L J P O : Type 0} (made : W → O → Trace T → Result (Option Ending) DeliveryFault → W → O → Type 0) (IsPart : ChunkResult T → Type 0) (order : Order) (a : W) (x : O) {y : O}
-      (crew : Crew L S J P U U T source) (context : WorkerContext S T U source) (first last : MergingInto W T O) (out : first.out.now ≡ x) (same : (last.merging.now ≡ m) × (last.out.now ≡ y))
+  module _ {L J P O : Type 0} (made : W → O → Trace T → Result (Option Ending) DeliveryFault → W → O → Type 0) (IsPart : ChunkResult T → Type 0)
+      (order : Order) (a : W) (x : O) {y : O}
+      (crew : Crew L S J P U U T source) (context : WorkerContext S T U source) (first last : MergingInto W T O) (out : first.out.now ≡ x)
+      (same : (last.merging.now ≡ m) × (last.out.now ≡ y))
       (new : Stands made IsPart order a x None first.merging.now.joiner x []) (sound : first.merging.now.fault ≡ None) where
     pub told-all : (r : Result (Ended S W U source) RunFault) → Finishes m back r → HasReturned (AcceptsInto made) IsPart crew context first last back
-        → IfOk r (λ ended. (pass : StreamPass (ChunkResult T)) × IsPassOf crew.stream.now pass × HasReceivedAll (known pass) × All (IsWhollyAnsweredBy (known pass)) (drop 1 ended.partitions.items)
+        → IfOk r (λ ended. (pass : StreamPass (ChunkResult T)) × IsPassOf crew.stream.now pass × HasReceivedAll (known pass) × All
+        (IsWhollyAnsweredBy (known pass)) (drop 1 ended.partitions.items)
         × WereAccepted made IsPart order a x (known pass).received ended.joined y)
     told-all (Ok ended) f h = (
       h.pass,
@@ -199,7 +213,8 @@ module _ {S U W T : Type 0} {source : SourceGhosts S U} {m : Merging W T} {back 
       h.all,
       subst (λ (ps : Vec (Partition S U source) Global). All (IsWhollyAnsweredBy (known h.pass)) (drop 1 ps.items)) (sym f.partitions)
           (All-weaker (IsAnsweredBy 0 (known h.pass) back.worker_faults) (IsWhollyAnsweredBy (known h.pass))
-          (answered-wholly (known h.pass) (known h.pass) back.worker_faults refl refl (none-noted back.worker_faults back.worker_count f.sound)) (drop 1 back.partitions.items) h.answered),
+          (answered-wholly (known h.pass) (known h.pass) back.worker_faults refl refl (none-noted back.worker_faults back.worker_count f.sound))
+          (drop 1 back.partitions.items) h.answered),
       record {
         first = first;
         new = new;
@@ -228,7 +243,8 @@ module _ {S U W T : Type 0} {source : SourceGhosts S U} {m : Merging W T} {back 
         subst (λ n. HasMerged made P order a x n y) same.0 (subst (HasMerged made P order a x last.merging.now) same.1 all)
 
     -- the answer has ended so, or it was broken off
-    pub told-ends : IsTaking made → (r : Result (Ended S W U source) RunFault) → Finishes m back r → HasReturned (AcceptsInto made) IsPart crew context first last back → EndsSo made IsPart order a x r y
+    pub told-ends : IsTaking made → (r : Result (Ended S W U source) RunFault) → Finishes m back r
+        → HasReturned (AcceptsInto made) IsPart crew context first last back → EndsSo made IsPart order a x r y
     told-ends lawful (Ok ended) f h =
         let all = crew-merged lawful h in
         let stands = subst (λ fault. Stands made IsPart order a x fault m.joiner y all.offers) f.none all.stands in
@@ -246,4 +262,5 @@ module _ {S U W T : Type 0} {source : SourceGhosts S U} {m : Merging W T} {back 
         }
     told-ends lawful (Err fault) f h =
         let all = crew-merged lawful h in
-        broken-by made lawful IsPart order a x m.fault m y fault f.err all.offers (All-weaker (IsOfCrew back IsPart) IsPart (λ c is. is.0) all.offers all.are) all.apart all.stands
+        broken-by made lawful IsPart order a x m.fault m y fault f.err all.offers
+        (All-weaker (IsOfCrew back IsPart) IsPart (λ c is. is.0) all.offers all.are) all.apart all.stands

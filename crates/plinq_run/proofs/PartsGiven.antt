@@ -62,10 +62,13 @@ gives-weaker f made P Q a x (Ok e) y on h = (h.0, on h.0 h.1, h.2)
 gives-weaker f made P Q a x (Err fault) y on h = (h.0, on h.0 h.1, h.2, h.3, h.4)
 
 -- a plan gives of what its query may answer
-pub planned-given : {L T A U W O : Type 0} (f : Folding T A U) (made : W → O → Trace A → Result (Option Ending) DeliveryFault → W → O → Type 0) (meaning : L → Meaning T) (q : QueryView L) (plan : Plan L) (t : Trace T) (a : W) (x : O)
-    (r : Result Ending RunFault) (y : O) → IsPlanOf q plan → plan.decided ≡ false → GivesSome f made (MayMerge meaning plan t) a x r y → GivesSome f made (MayAnswer meaning q.ordered q.ops t) a x r y
+pub planned-given : {L T A U W O : Type 0} (f : Folding T A U) (made : W → O → Trace A → Result (Option Ending) DeliveryFault → W → O → Type 0)
+    (meaning : L → Meaning T) (q : QueryView L) (plan : Plan L) (t : Trace T) (a : W) (x : O)
+    (r : Result Ending RunFault) (y : O) → IsPlanOf q plan → plan.decided ≡ false → GivesSome f made (MayMerge meaning plan t) a x r y
+    → GivesSome f made (MayAnswer meaning q.ordered q.ops t) a x r y
 planned-given f made meaning q plan t a x r y is undecided =
-    gives-weaker f made (MayMerge meaning plan t) (MayAnswer meaning q.ordered q.ops t) a x r y (λ u. planned-may meaning q plan t u q.ordered refl is undecided)
+    gives-weaker f made (MayMerge meaning plan t) (MayAnswer meaning q.ordered q.ops t) a x r y
+    (λ u. planned-may meaning q plan t u q.ordered refl is undecided)
 
 -- a decided query answers nothing
 pub decided-may : {L T : Type 0} (meaning : L → Meaning T) (ordered : Bool) (ops : List (Op L)) (t u : Trace T) → list_any is_empty_take ops ≡ true → u ≡ ended [] End → MayAnswer meaning ordered ops t u
@@ -108,22 +111,26 @@ module _ {L T A U W O : Type 0} (f : Folding T A U) (lawful : IsFolding f) (made
       )
 
   -- where what was taken of such parts is so of an answer of the source, a run that was conducted has given one
-  module _ {V M : Type 0} (taken : V → O → Trace M → Result (Option Ending) DeliveryFault → V → O → Type 0) (P : ChunkResult M → Type 0) (first : V) (a : W) (x : O)
+  module _ {V M : Type 0} (taken : V → O → Trace M → Result (Option Ending) DeliveryFault → V → O → Type 0) (P : ChunkResult M → Type 0) (first : V) (a : W)
+      (x : O)
       (some : (how : Result (Option Ending) DeliveryFault) (offers : List (ChunkResult M)) (last : V) (y : O) → All P offers → AreApart offers → IsOver how
       → taken first x (merged plan.order offers) how last y → (u : Trace T) × (MayMerge meaning plan t u) × WasGiven f made u a x how y) where
-    conducted-given : {S : Type 0} {source : SourceGhosts S T} (r : Result (Conducted S V T source) RunFault) (y : O) → HasConducted taken P plan.order t first x r y
+    conducted-given : {S : Type 0} {source : SourceGhosts S T} (r : Result (Conducted S V T source) RunFault) (y : O)
+        → HasConducted taken P plan.order t first x r y
         → GivesSome f made (MayMerge meaning plan t) a x (answer_ending r) y
     conducted-given (Ok c) y h =
         let offered = IsOffered P (all_shares c.ended.partitions.items) in
         let ends = h.1 in
-        some (Ok (Some c.ended.joined.ending)) ends.offers c.ended.joined.taker y (All-weaker offered P (λ c z. z.0) ends.offers ends.are) ends.apart tt ends.taken
+        some (Ok (Some c.ended.joined.ending)) ends.offers c.ended.joined.taker y (All-weaker offered P (λ c z. z.0) ends.offers ends.are) ends.apart tt
+        ends.taken
     conducted-given (Err fault) y h =
         let given = some h.how h.offers h.last y h.are h.apart (breaks-over h.how (cause_of fault) h.breaks) h.taken in
         (given.0, given.1, h.how, given.2, h.breaks)
 
   -- workers that fold
   module _ (alone : plan.after.now ≡ []) (a : W) (x : O) where
-    chunks-some : (how : Result (Option Ending) DeliveryFault) (cs : List (ChunkResult A)) (b : W) (y : O) → All (IsPart meaning (IsFoldOf f) plan t) cs → AreApart cs → IsOver how
+    chunks-some : (how : Result (Option Ending) DeliveryFault) (cs : List (ChunkResult A)) (b : W) (y : O) → All (IsPart meaning (IsFoldOf f) plan t) cs
+        → AreApart cs → IsOver how
         → made a x (merged plan.order cs) how b y → (u : Trace T) × (MayMerge meaning plan t u) × WasGiven f made u a x how y
     chunks-some how cs b y are apart over is =
         let un = unfolded f meaning plan t cs are in
@@ -135,22 +142,27 @@ module _ {L T A U W O : Type 0} (f : Folding T A U) (lawful : IsFolding f) (made
           taken = is;
         })
 
-    pub chunks-given : {S : Type 0} {source : SourceGhosts S T} (r : Result (Conducted S W T source) RunFault) (y : O) → HasConducted made (IsPart meaning (IsFoldOf f) plan t) plan.order t a x r y
+    pub chunks-given : {S : Type 0} {source : SourceGhosts S T} (r : Result (Conducted S W T source) RunFault) (y : O)
+        → HasConducted made (IsPart meaning (IsFoldOf f) plan t) plan.order t a x r y
         → GivesSome f made (MayMerge meaning plan t) a x (answer_ending r) y
     chunks-given r y h = conducted-given made (IsPart meaning (IsFoldOf f) plan t) a a x chunks-some r y h
 
   -- the caller's thread folds what leaves the operators after the merge
   module _ {F : Type 0} (folding : F → Folding T A U) (P : ChunkResult T → Type 0) (plain : (r : ChunkResult T) → P r → IsResult meaning plan t r) (first : FoldBlocks L F W)
       (same : folding first.aggregator.now ≡ f) (begun : stages meaning first.pipeline ≡ stages_of meaning plan.after.now) (x : O) where
-    passes-over : (g : Folding T A U) (how : Result (Option Ending) DeliveryFault) (now now' : List (Stage T)) (a : W) (v : Trace T) (b : W) (y : O) → IsOver how → Passes g made now a x v how now' b y
+    passes-over : (g : Folding T A U) (how : Result (Option Ending) DeliveryFault) (now now' : List (Stage T)) (a : W) (v : Trace T) (b : W) (y : O)
+        → IsOver how → Passes g made now a x v how now' b y
         → WasGiven g made (seq now v) a x how y
     passes-over g (Ok None) now now' a v b y over is = absurd over
     passes-over g how now now' a v b y over is = is
 
-    blocks-some : (how : Result (Option Ending) DeliveryFault) (rs : List (ChunkResult T)) (last : FoldBlocks L F W) (y : O) → All P rs → AreApart rs → IsOver how
+    blocks-some : (how : Result (Option Ending) DeliveryFault) (rs : List (ChunkResult T)) (last : FoldBlocks L F W) (y : O) → All P rs → AreApart rs
+        → IsOver how
         → MadeBy meaning folding made first x (merged plan.order rs) how last y → (u : Trace T) × (MayMerge meaning plan t u) × WasGiven f made u first.inner x how y
     blocks-some how rs last y are apart over is =
-        let passes = passes-over (folding first.aggregator.now) how (stages meaning first.pipeline) (stages meaning last.pipeline) first.inner (merged plan.order rs) last.inner y over is.passes in
+        let passes =
+        passes-over (folding first.aggregator.now) how (stages meaning first.pipeline) (stages meaning last.pipeline) first.inner (merged plan.order rs)
+        last.inner y over is.passes in
         given-some how first.inner x y rs (All-weaker P (IsResult meaning plan t) plain rs are) apart over
         (subst (λ g. WasGiven g made (seq (stages_of meaning plan.after.now) (merged plan.order rs)) first.inner x how y) same
         (subst (λ ss. WasGiven (folding first.aggregator.now) made (seq ss (merged plan.order rs)) first.inner x how y) begun passes))
@@ -161,18 +173,21 @@ module _ {L T A U W O : Type 0} (f : Folding T A U) (lawful : IsFolding f) (made
 
 -- ---- the value of parts that were combined
 
-value-ended : {T A O : Type 0} (f : Folding T A O) (u : Trace T) (acc : A) (e : Ending) → u.ending ≡ Some e → acc ≡ folded f u.items → Aggregates f u (value_at f acc e)
+value-ended : {T A O : Type 0} (f : Folding T A O) (u : Trace T) (acc : A) (e : Ending) → u.ending ≡ Some e → acc ≡ folded f u.items
+    → Aggregates f u (value_at f acc e)
 value-ended f u acc End ends is = (ap f.tell is, ends)
 value-ended f u acc e ends is = (ends, λ well. cc)
 
 module _ {F T A O : Type 0} (folding : F → Folding T A O) (d : Combiner F) where
   -- no sink refuses
-  breaks-other : (x : A) (parts : Trace A) (how : Result (Option Ending) DeliveryFault) (d' : Combiner F) (y : A) (cause : Cause) → CombinedBy folding d x parts how d' y → Breaks how cause → cause ≡ Other
+  breaks-other : (x : A) (parts : Trace A) (how : Result (Option Ending) DeliveryFault) (d' : Combiner F) (y : A) (cause : Cause)
+      → CombinedBy folding d x parts how d' y → Breaks how cause → cause ≡ Other
   breaks-other x parts (Ok None) d' y cause made breaks = absurd breaks
   breaks-other x parts (Err (Sink code)) d' y cause made breaks = absurd made.combines
   breaks-other x parts how d' y cause made breaks = breaks
 
-  pub value-given : (IsAnswer : Trace T → Type 0) (acc : A) (r : Result Ending RunFault) → GivesSome (folding d.aggregator.now) (CombinedBy folding) IsAnswer d (folding d.aggregator.now).seed r acc
+  pub value-given : (IsAnswer : Trace T → Type 0) (acc : A) (r : Result Ending RunFault)
+      → GivesSome (folding d.aggregator.now) (CombinedBy folding) IsAnswer d (folding d.aggregator.now).seed r acc
       → AggregatesSome (folding d.aggregator.now) IsAnswer (value_of (folding d.aggregator.now) acc r)
   value-given IsAnswer acc (Ok e) (u, is, given) =
       let folds = given.folds in

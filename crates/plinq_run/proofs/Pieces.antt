@@ -104,10 +104,12 @@ module _ {L T : Type 0} (meaning : L → Meaning T) (worker : List (Op L)) (cut 
         }
 
     -- the fold of a chunk's result whose items are these
-    of_chunk : (chunk : Chunk T) (out : List T) (acc : A) (how : FragEnd) (at : Option ℕ) (c : ChunkResult A) → IsFoldOfChunk chunk acc how at c → length out < 2 ^ 63 → acc ≡ folded f out
+    of_chunk : (chunk : Chunk T) (out : List T) (acc : A) (how : FragEnd) (at : Option ℕ) (c : ChunkResult A) → IsFoldOfChunk chunk acc how at c
+        → length out < 2 ^ 63 → acc ≡ folded f out
         → out ≡ (chunk_answer meaning worker cut chunk.first chunk.items.items).trace.items
         → at ≡ (chunk_answer meaning worker cut chunk.first chunk.items.items).stop
-        → MatchBool (chunk_answer meaning worker cut chunk.first chunk.items.items).dropped (how ≡ Dropped) (IsToldBy how (chunk_answer meaning worker cut chunk.first chunk.items.items).trace.ending)
+        → MatchBool (chunk_answer meaning worker cut chunk.first chunk.items.items).dropped (how ≡ Dropped)
+        (IsToldBy how (chunk_answer meaning worker cut chunk.first chunk.items.items).trace.ending)
         → IsMadeOf meaning (IsFoldOf f) worker cut chunk c
     of_chunk chunk out acc how at c told few same items stop ending =
         let list : Vec T = record { ptr = chunk.items.ptr; len = length out; cap = length out; alloc = chunk.items.alloc; items = out; ok = (refl, omega arith); small = few } in
@@ -120,7 +122,8 @@ module _ {L T : Type 0} (meaning : L → Meaning T) (worker : List (Op L)) (cut 
 
     -- no item is left
     pub folded-all : (chunk : Chunk T) (first : ℕ) (rest : List T) (acc : A) (count : ℕ) (c : ChunkResult A) → rest ≡ [] → count < 2 ^ 63
-        → HasFoldedTo (chunk_answer meaning worker cut chunk.first chunk.items.items) first rest acc count → IsFoldOfChunk chunk acc More None c → IsMadeOf meaning (IsFoldOf f) worker cut chunk c
+        → HasFoldedTo (chunk_answer meaning worker cut chunk.first chunk.items.items) first rest acc count → IsFoldOfChunk chunk acc More None c
+        → IsMadeOf meaning (IsFoldOf f) worker cut chunk c
     folded-all chunk first rest acc count c none few before told =
         let all : ChunkAnswer T = chunk_answer meaning worker cut chunk.first chunk.items.items in
         let here : chunk_answer meaning worker cut first rest ≡ no_more = ap (chunk_answer meaning worker cut first) none in
@@ -134,7 +137,8 @@ module _ {L T : Type 0} (meaning : L → Meaning T) (worker : List (Op L)) (cut 
     pub folded-stopped : (chunk : Chunk T) (first : ℕ) (rest block others : List T) (acc acc' : A) (count : ℕ) (piece : Chunk T) (r : ChunkResult T) (c : ChunkResult A)
         → rest ≡ block ++ others → piece.first ≡ first → piece.items.items ≡ block → IsChunkResult meaning worker cut piece r → is_some r.stop ≡ true
         → acc' ≡ fold f.update acc r.items.items → count + length r.items.items < 2 ^ 63
-        → HasFoldedTo (chunk_answer meaning worker cut chunk.first chunk.items.items) first rest acc count → IsFoldOfChunk chunk acc' r.ending r.stop c → IsMadeOf meaning (IsFoldOf f) worker cut chunk c
+        → HasFoldedTo (chunk_answer meaning worker cut chunk.first chunk.items.items) first rest acc count → IsFoldOfChunk chunk acc' r.ending r.stop c
+        → IsMadeOf meaning (IsFoldOf f) worker cut chunk c
     folded-stopped chunk first rest block others acc acc' count piece r c parts at is made stopped next few before told =
         let all : ChunkAnswer T = chunk_answer meaning worker cut chunk.first chunk.items.items in
         let a : ChunkAnswer T = chunk_answer meaning worker cut first block in
@@ -150,7 +154,8 @@ module _ {L T : Type 0} (meaning : L → Meaning T) (worker : List (Op L)) (cut 
         let dropped : all.dropped ≡ a.dropped = before.after.dropped ∙ ap (λ (u : ChunkAnswer T). u.dropped) whole in
         let ending : all.trace.ending ≡ a.trace.ending = before.after.ending ∙ ap (λ (u : ChunkAnswer T). u.trace.ending) whole in
         let long : length (before.out ++ r.items.items) ≡ count + length r.items.items = length-append before.out r.items.items ∙ ap (λ n. n + length r.items.items) before.counted in
-        of_chunk chunk (before.out ++ r.items.items) acc' r.ending r.stop c told (omega (arith, long, few)) (next ∙ more-folded acc before.out r.items.items before.same) items stop
+        of_chunk chunk (before.out ++ r.items.items) acc' r.ending r.stop c told (omega (arith, long, few))
+        (next ∙ more-folded acc before.out r.items.items before.same) items stop
         (rw (dropped, ending) made_ending)
 
 -- ---- on one thread

@@ -125,7 +125,8 @@ module _ {L T : Type 0} (meaning : L → Meaning T) (plan : Plan L) (option : Me
       (first.0, ap (batches_from (batch_size option) []) begins.1 ∙ first.1)
 
 -- what is sent as it is
-pub plain-part : {L T : Type 0} (meaning : L → Meaning T) (plan : Plan L) (t : Trace T) (r : ChunkResult T) → IsPart meaning (λ x c. c ≡ x) plan t r → IsResult meaning plan t r
+pub plain-part : {L T : Type 0} (meaning : L → Meaning T) (plan : Plan L) (t : Trace T) (r : ChunkResult T) → IsPart meaning (λ x c. c ≡ x) plan t r
+    → IsResult meaning plan t r
 plain-part meaning plan t r h = subst (IsResult meaning plan t) (sym h.made) h.is
 
 -- what begins to deliver the answer of this plan
@@ -166,26 +167,32 @@ module _ {L T K : Type 0} (meaning : L → Meaning T) (plan : Plan L) (option : 
         let made : Merge T = merge_for meaning plan option in
         let records = all_shares ended.partitions.items in
         let taken = h.taken in
-        let gives = subst (λ l. Gives accepts refuses l s (merged plan.order h.offers) (Ok (Some ended.joined.ending)) (line_of meaning ended.joined.taker) s') begun taken.gives in
+        let gives =
+        subst (λ l. Gives accepts refuses l s (merged plan.order h.offers) (Ok (Some ended.joined.ending)) (line_of meaning ended.joined.taker) s') begun
+        taken.gives in
         let open_now : answer made h.offers ≡ seq made.after (merged plan.order h.offers) = answer-open made h.offers undecided.undecided in
         let ends : (answer made h.offers).ending ≡ Some ended.joined.ending = ap (λ u. u.ending) open_now ∙ gives.0 in
         record {
           answer = answer made h.offers;
-          may = ended-answer meaning plan option undecided t h.offers ended.joined.ending few (All-weaker (IsOffered P records) (IsResult meaning plan t) (λ r x. plain r x.0) h.offers h.are) h.apart ends;
+          may = ended-answer meaning plan option undecided t h.offers ended.joined.ending few
+              (All-weaker (IsOffered P records) (IsResult meaning plan t) (λ r x. plain r x.0) h.offers h.are) h.apart ends;
           accounts = λ first covers. ended-answer meaning plan option undecided first h.offers ended.joined.ending (omega (arith, few, covers.within))
-              (All-weaker (IsOffered P records) (IsResult meaning plan first) (λ r x. result-covered meaning plan t first records r few covers (plain r x.0, x.1)) h.offers h.are) h.apart ends;
+              (All-weaker (IsOffered P records) (IsResult meaning plan first)
+              (λ r x. result-covered meaning plan t first records r few covers (plain r x.0, x.1)) h.offers h.are) h.apart ends;
           has_run = record { delivered = subst (λ u. Leads accepts s (batches option u) s') (sym open_now) gives.1; ending = ends };
         }
 
     -- or broken off
-    broken-by : (how : Result (Option Ending) DeliveryFault) (s s' : K) (told : RunFault) (offers : List (ChunkResult T)) (l' : Line T) → All (IsResult meaning plan t) offers → AreApart offers
+    broken-by : (how : Result (Option Ending) DeliveryFault) (s s' : K) (told : RunFault) (offers : List (ChunkResult T)) (l' : Line T)
+        → All (IsResult meaning plan t) offers → AreApart offers
         → Gives accepts refuses (begun_line meaning plan option) s (merged plan.order offers) how l' s' → Breaks how (cause_of told) → IsBroken accepts refuses option (MayMerge meaning plan) t s s' told
     broken-by (Ok None) s s' told offers l' are apart gives breaks = absurd breaks
     broken-by (Ok (Some e)) s s' told offers l' are apart gives breaks =
         let all : List (List T) = batches_from (batch_size option) [] (seq (stages_of meaning plan.after.now) (merged plan.order offers)) in
         short-of s offers NoMemory s' told Other are apart (all, [], sym (append-nil all), gives.1) (λ bs x. x) breaks
     broken-by (Err NoMemory) s s' told offers l' are apart gives breaks = short-of s offers NoMemory s' told Other are apart gives (λ bs x. x) breaks
-    broken-by (Err (Refusal code)) s s' told offers l' are apart gives breaks = short-of s offers (Refusal code) s' told (SinkRefused code) are apart gives (λ bs x. x) breaks
+    broken-by (Err (Refusal code)) s s' told offers l' are apart gives breaks =
+        short-of s offers (Refusal code) s' told (SinkRefused code) are apart gives (λ bs x. x) breaks
 
     pub broken-delivered : (s s' : K) (fault : RunFault) → HasBrokenOff (MadeBy accepts refuses meaning) P plan.order first s fault s' → IsBroken accepts refuses option (MayMerge meaning plan) t s s' fault
     broken-delivered s s' fault h =
@@ -210,7 +217,8 @@ none-ended meaning accepts refuses option plan t s fault told =
     record {
       answer = merged_answer meaning plan t;
       may = merged-may meaning plan t;
-      broken = subst (λ x. BreaksFor accepts refuses x (batches option (merged_answer meaning plan t)) s s) (sym told) ([], batches option (merged_answer meaning plan t), refl, refl);
+      broken = subst (λ x. BreaksFor accepts refuses x (batches option (merged_answer meaning plan t)) s s) (sym told)
+          ([], batches option (merged_answer meaning plan t), refl, refl);
     }
 
 module _ {L T K : Type 0} (meaning : L → Meaning T) (plan : Plan L) (option : MergeOption) (undecided : IsUndecided plan) (t : Trace T) (few : length t.items ≤ 2 ^ 40)

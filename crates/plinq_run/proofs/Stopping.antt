@@ -149,7 +149,8 @@ module _ {C K T : Type 0} (asks : C → ℕ → Bool → C → Type 0) (accepts 
         let reported = h.reported in
         (h.last, subst (λ u. HasRun (Passes asks accepts) option u d h.last report.ending) (only reported.answer reported.may) reported.has_run, h.lets)
     reports-with-runs v (Err Cancelled) only h = subst (λ u. IsStopped asks accepts d (batches option u) d') (only h.answer h.may) h.stopped
-    reports-with-runs v (Err fault) only h = subst (λ u. HasBroken (Passes asks accepts) (IsRefused asks refuses) option u d d' fault) (only h.answer h.may) h.broken
+    reports-with-runs v (Err fault) only h =
+        subst (λ u. HasBroken (Passes asks accepts) (IsRefused asks refuses) option u d d' fault) (only h.answer h.may) h.broken
 
     -- with a token that never stops anything
     module _ (never : (c c' : C) (n : ℕ) → asks c n true c' → ⊥) where

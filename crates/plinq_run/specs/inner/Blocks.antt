@@ -121,7 +121,8 @@ module _ {T A U W O : Type 0} (f : Folding T A U) (lawful : IsFolding f) (made :
 pub passes-none : {L F T A U W O : Type 0} (meaning : L → Meaning T) (folding : F → Folding T A U) → ((a : F) → IsFolding (folding a))
     → (made : W → O → Trace A → Result (Option Ending) DeliveryFault → W → O → Type 0) → IsTaking made → (d : FoldBlocks L F W) (x : O) (t : Trace T)
     → WasGiven (folding d.aggregator.now) made (seq (stages meaning d.pipeline) t) d.inner x (Err Memory) x
-passes-none meaning folding lawful made taking d x t = given-none (folding d.aggregator.now) (lawful d.aggregator.now) made taking (seq (stages meaning d.pipeline) t) d.inner x
+passes-none meaning folding lawful made taking d x t =
+    given-none (folding d.aggregator.now) (lawful d.aggregator.now) made taking (seq (stages meaning d.pipeline) t) d.inner x
 
 -- one trace after another
 pub made-lawful : {L F T A U W O : Type 0} (meaning : L → Meaning T) (folding : F → Folding T A U) → ((a : F) → IsFolding (folding a))

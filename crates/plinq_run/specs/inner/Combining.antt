@@ -19,6 +19,7 @@ Combines f acc t (Err Memory) acc' = ⊤
 Combines f acc t (Err (Sink code)) acc' = ⊥
 
 -- by the same aggregator
-pub record MadeBy {F T A O : Type 0} (folding : F → Folding T A O) (d : Combiner F) (acc : A) (t : Trace A) (r : Result (Option Ending) DeliveryFault) (d' : Combiner F) (acc' : A) : Type 0 where
+pub record MadeBy {F T A O : Type 0} (folding : F → Folding T A O) (d : Combiner F) (acc : A) (t : Trace A) (r : Result (Option Ending) DeliveryFault)
+    (d' : Combiner F) (acc' : A) : Type 0 where
   pub same : d'.aggregator ≡ d.aggregator
   pub combines : Combines (folding d.aggregator.now) acc t r acc'

@@ -20,7 +20,8 @@ module _ {T A O : Type 0} (f : Folding T A O) where
   combines-on acc xs acc1 t (Err Memory) acc2 first second = tt
   combines-on acc xs acc1 t (Err (Sink code)) acc2 first second = second
 
-  combines-broken : (acc : A) (t : Trace A) (fault : DeliveryFault) (acc1 : A) (rest : Trace A) → Combines f acc t (Err fault) acc1 → Combines f acc (followed t rest) (Err fault) acc1
+  combines-broken : (acc : A) (t : Trace A) (fault : DeliveryFault) (acc1 : A) (rest : Trace A) → Combines f acc t (Err fault) acc1
+      → Combines f acc (followed t rest) (Err fault) acc1
   combines-broken acc t Memory acc1 rest broken = tt
   combines-broken acc t (Sink code) acc1 rest broken = broken
 
@@ -31,9 +32,11 @@ made-lawful folding =
       goes_on = λ d x xs d1 x1 t r d2 x2 first second.
           record {
             same = second.same ∙ first.same;
-            combines = combines-on (folding d.aggregator.now) x xs x1 t r x2 first.combines (subst (λ a. Combines (folding a.now) x1 t r x2) first.same second.combines);
+            combines = combines-on (folding d.aggregator.now) x xs x1 t r x2 first.combines
+                (subst (λ a. Combines (folding a.now) x1 t r x2) first.same second.combines);
           };
       ends = λ d x t e d' x' rest made. subst (λ u. MadeBy folding d x u (Ok (Some e)) d' x') (sym (followed-ended t rest e made.combines.0)) made;
-      breaks = λ d x t fault d' x' rest made. record { same = made.same; combines = combines-broken (folding d.aggregator.now) x t fault x' rest made.combines };
+      breaks = λ d x t fault d' x' rest made. record
+          { same = made.same; combines = combines-broken (folding d.aggregator.now) x t fault x' rest made.combines };
       stops = λ d x xs d' x' rest made. record { same = made.same; combines = tt };
     }

@@ -11,8 +11,12 @@ use Rattle.plinq_run.proofs.aggregating.aggregate.Goals as goal
 pub returns-then-split-clause-value : goal.returns-then-split-clause-value
 returns-then-split-clause-value g c =
     let q = c.args.query.now in
-    let is : c.split.result.decided ≡ true = search rules in
-    (ended [] End, decided-may g.L.Lambda.meaning q.ordered q.ops (g.S.Source.whole c.args.source) (ended [] End) (sym c.split.ensures.plan.decided ∙ is) refl, (search rules, refl))
+    let is : c.split.result.decided ≡ true = search rules in (
+      ended [] End,
+      decided-may g.L.Lambda.meaning q.ordered q.ops (g.S.Source.whole c.args.source) (ended [] End) (sym c.split.ensures.plan.decided ∙ is)
+          refl,
+      (search rules, refl),
+    )
 
 pub returns-clause-value : goal.returns-clause-value
 returns-clause-value g c =

@@ -29,5 +29,7 @@ returns g c =
     let lawful = (g.met.A.GrowingAggregator g.world.𝓛 g.world.𝓜 g.world.𝓡 (λ s a. a, λ a. a, λ a. a, λ a. a)).lawful c.args.aggregator.now in
     let first : FoldBlocks _ _ _ = record { alloc = c.args.request.alloc; pipeline = c.in-Ok.pipeline; aggregator = c.args.aggregator; inner = c.args.taker } in
     let begun = stages-begun meaning plan.after.now c.in-Ok.pipeline c.in-Ok.ensures in
-    rw c.answer_ending.ensures (blocks-given (folding c.args.aggregator.now) lawful g.W.TakeInto.made g.met.W.TakeInto.lawful meaning plan t few c.requires.may.plan folding
-    (IsPart meaning (λ r x. x ≡ r) plan t) (plain-part meaning plan t) first refl begun c.args.out.now c.conduct_plan-conducted.result c.conduct_plan-conducted.new.out c.conduct_plan-conducted.ensures)
+    rw c.answer_ending.ensures
+    (blocks-given (folding c.args.aggregator.now) lawful g.W.TakeInto.made g.met.W.TakeInto.lawful meaning plan t few c.requires.may.plan folding
+    (IsPart meaning (λ r x. x ≡ r) plan t) (plain-part meaning plan t) first refl begun c.args.out.now c.conduct_plan-conducted.result
+    c.conduct_plan-conducted.new.out c.conduct_plan-conducted.ensures)

@@ -8,5 +8,6 @@ returns g c =
     let few : length t.items ≤ 2 ^ 40 = (g.met.S.Source g.world.𝓛 g.world.𝓜 g.world.𝓡 (λ s a. a, λ a. a, λ a. a, λ a. a)).few c.args.request.source in
     let f = g.A.GrowingAggregator.folding c.args.aggregator.now in
     let lawful = (g.met.A.GrowingAggregator g.world.𝓛 g.world.𝓜 g.world.𝓡 (λ s a. a, λ a. a, λ a. a, λ a. a)).lawful c.args.aggregator.now in
-    rw c.answer_ending.ensures (chunks-given f lawful g.W.TakeInto.made g.met.W.TakeInto.lawful g.L.Lambda.meaning c.args.request.plan.now t few c.requires.may.plan c.requires.alone
+    rw c.answer_ending.ensures
+    (chunks-given f lawful g.W.TakeInto.made g.met.W.TakeInto.lawful g.L.Lambda.meaning c.args.request.plan.now t few c.requires.may.plan c.requires.alone
     c.args.taker c.args.out.now c.conduct_plan-conducted.result c.conduct_plan-conducted.new.out c.conduct_plan-conducted.ensures)

@@ -35,6 +35,8 @@ returns g c =
       back = search rules;
       started = search rules;
       closed = told-closed c.finish.result c.finish.ensures back.closed;
-      all = told-all made IsPart crew.plan.now.order a x crew c.args.context _ last refl (search rules, search rules) (c.new.ensures.order, begun) refl c.finish.result c.finish.ensures back;
-      ends = told-ends made IsPart crew.plan.now.order a x crew c.args.context _ last refl (search rules, search rules) (c.new.ensures.order, begun) refl lawful c.finish.result c.finish.ensures back;
+      all = told-all made IsPart crew.plan.now.order a x crew c.args.context _ last refl (search rules, search rules) (c.new.ensures.order, begun) refl
+          c.finish.result c.finish.ensures back;
+      ends = told-ends made IsPart crew.plan.now.order a x crew c.args.context _ last refl (search rules, search rules) (c.new.ensures.order, begun) refl
+          lawful c.finish.result c.finish.ensures back;
     }

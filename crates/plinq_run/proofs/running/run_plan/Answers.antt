@@ -48,6 +48,8 @@ returns g c =
     record {
       legal = legal;
       closed = reported-closed records c.report.result report.records h.0.closed;
-      reports = whole-reported meaning plan c.args.option c.requires.may.plan t few g.K.Sink.accepts g.K.Sink.refuses records s s' ended.joined.ending c.report.result
-          (whole-delivered meaning plan c.args.option c.requires.may.plan t few g.K.Sink.accepts g.K.Sink.refuses P (plain-part meaning plan t) d begun s s' ended h.1) report.told legal report.records;
+      reports = whole-reported meaning plan c.args.option c.requires.may.plan t few g.K.Sink.accepts g.K.Sink.refuses records s s' ended.joined.ending
+          c.report.result
+          (whole-delivered meaning plan c.args.option c.requires.may.plan t few g.K.Sink.accepts g.K.Sink.refuses P (plain-part meaning plan t) d begun s s'
+          ended h.1) report.told legal report.records;
     }

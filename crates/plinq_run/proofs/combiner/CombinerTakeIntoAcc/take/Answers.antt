@@ -12,6 +12,8 @@ returns-clause-made g c =
     let f = g.A.GrowingAggregator.folding c.args.self.now.aggregator.now in
     let from : into_iter_items c.into_iter-part-iterator.result ≡ items = search rules in
     let many : into_iter_len c.into_iter-part-iterator.result ≡ length items = search rules in
-    let end = YieldsList-end (YieldsList-from_vec items from many) c.loop-part.yielded c.loop-part.part-iterator c.loop-part.yielded_by c.next.result c.next.new.self c.in-None.is c.next.ensures.steps in
+    let end =
+    YieldsList-end (YieldsList-from_vec items from many) c.loop-part.yielded c.loop-part.part-iterator c.loop-part.yielded_by c.next.result c.next.new.self
+    c.in-None.is c.next.ensures.steps in
     let all : c.loop-part.yielded ≡ items = sym (map-id c.loop-part.yielded) ∙ end.0 in
     record { same = refl; combines = (refl, c.loop-part.invariant ∙ ap (fold f.combine c.args.out.now) all) }

@@ -14,7 +14,8 @@ returns-in_err-ending-clause-made g c =
     let t = trace_of c.args.items.items c.args.ending in
     rw is (record {
       same = refl;
-      passes = passes-none g.L.Lambda.meaning g.A.GrowingAggregator.folding g.met.A.GrowingAggregator.lawful g.W.TakeInto.made g.met.W.TakeInto.lawful c.args.self.now c.args.out.now t;
+      passes = passes-none g.L.Lambda.meaning g.A.GrowingAggregator.folding g.met.A.GrowingAggregator.lawful g.W.TakeInto.made g.met.W.TakeInto.lawful
+          c.args.self.now c.args.out.now t;
     })
 
 pub returns-in_err-parts-clause-made : goal.returns-in_err-parts-clause-made
@@ -23,7 +24,8 @@ returns-in_err-parts-clause-made g c =
     let t = trace_of c.args.items.items c.args.ending in
     rw is (record {
       same = refl;
-      passes = passes-none g.L.Lambda.meaning g.A.GrowingAggregator.folding g.met.A.GrowingAggregator.lawful g.W.TakeInto.made g.met.W.TakeInto.lawful c.args.self.now c.args.out.now t;
+      passes = passes-none g.L.Lambda.meaning g.A.GrowingAggregator.folding g.met.A.GrowingAggregator.lawful g.W.TakeInto.made g.met.W.TakeInto.lawful
+          c.args.self.now c.args.out.now t;
     })
 
 pub returns-in_err-part-clause-made : goal.returns-in_err-part-clause-made
@@ -32,7 +34,8 @@ returns-in_err-part-clause-made g c =
     let t = trace_of c.args.items.items c.args.ending in
     rw is (record {
       same = refl;
-      passes = passes-none g.L.Lambda.meaning g.A.GrowingAggregator.folding g.met.A.GrowingAggregator.lawful g.W.TakeInto.made g.met.W.TakeInto.lawful c.args.self.now c.args.out.now t;
+      passes = passes-none g.L.Lambda.meaning g.A.GrowingAggregator.folding g.met.A.GrowingAggregator.lawful g.W.TakeInto.made g.met.W.TakeInto.lawful
+          c.args.self.now c.args.out.now t;
     })
 
 pub returns-clause-ready : goal.returns-clause-ready

@@ -21,7 +21,8 @@ returns-then-is_some g c =
     let sum : c.in_ok-count.count ≡ c.loop-rest.count + length r.items.items = search rules in
     let few : c.loop-rest.count + length r.items.items < 2 ^ 63 = omega (arith, sum, c.in_ok-count.ensures.few) in
     folded-stopped m w c.args.cut f c.args.chunk.now c.loop-rest.first c.loop-rest.rest.now block others c.loop-rest.acc c.in_ok-acc.acc c.loop-rest.count c.in_ok-piece_of.field-0 r c.in_ok-stopped.stopped
-    parts c.in_ok-piece_of.ensures.first c.in_ok-piece_of.ensures.items c.in_ok-made-2.ensures stopped next few c.loop-rest.invariant.folded c.in_ok-stopped.ensures
+    parts c.in_ok-piece_of.ensures.first c.in_ok-piece_of.ensures.items c.in_ok-made-2.ensures stopped next few c.loop-rest.invariant.folded
+    c.in_ok-stopped.ensures
 
 -- a piece that leaves the run open
 pub loop-rest-preserved : goal.loop-rest-preserved
@@ -54,7 +55,8 @@ returns g c =
     let f = g.A.GrowingAggregator.folding c.args.self.now.aggregator.now in
     let w = c.args.plan.now.worker.now in
     let none : c.loop-rest.rest.now ≡ [] = nil_from_length c.loop-rest.rest.now (search rules) in
-    folded-all m w c.args.cut f c.args.chunk.now c.loop-rest.first c.loop-rest.rest.now c.loop-rest.acc c.loop-rest.count c.in_ok-all.all none c.loop-rest.invariant.few c.loop-rest.invariant.folded c.in_ok-all.ensures
+    folded-all m w c.args.cut f c.args.chunk.now c.loop-rest.first c.loop-rest.rest.now c.loop-rest.acc c.loop-rest.count c.in_ok-all.all none
+    c.loop-rest.invariant.few c.loop-rest.invariant.folded c.in_ok-all.ensures
 
 -- elements that don't expand: what is sent is made of the chunk's result
 pub returns-then-not-expands : goal.returns-then-not-expands
