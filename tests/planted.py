@@ -28,6 +28,8 @@ with open(f"{top}/calls", "a") as calls:
     print(os.getcwd().startswith(top), " ".join(sys.argv[1:]), len(found), file=calls)
 while os.path.exists(f"{top}/waits") and os.getcwd().startswith(f"{top}/tmp"):
     time.sleep(0.02)
+if "kills" in found:
+    os.kill(os.getppid(), 9)
 print("\\n".join(found or ["logic=proved"]))
 sys.exit(1 if found else 0)
 """
@@ -107,6 +109,7 @@ n + 13=>./proofs/+turns/Answers.antt:4:35: error: `first-returns`: as printed, t
 n + 14=>./proofs/+turns/Answers.antt:4:35: error: `second-returns`: as printed, the two types first differ where one has `8`
 n + 15=>./proofs/+first/Answers.antt:4:35: error: `returns-in-Ok-clause-least`: as printed, the two types first differ where one has `8`
 n + 16=>./proofs/+first/Answers.antt:4:35: error: `returns-in-Ok-clause-least`: as printed, the two types first differ where one has `8`
+    11=>fn high::main: no proof: expected answers in ./proofs/main/Answers.antt; `search` did not prove `returns`
 n + text=>src/lib.rt:13:9: error[E0425]: cannot find value `text` in this scope
 n + ghost=>src/lib.rt:13:9: error: expected the end of the text
 """
@@ -136,7 +139,7 @@ class Place:
 
     def plant(self, folder="planted", says=SAYS, **edits):
         """Puts the edits in the place of those that are there: each a file of src/, and an old and a new text."""
-        for it in ("calls", "crates/low/planted", "crates/low/must-fail"):
+        for it in ("calls", "crates/low/planted", "crates/low/must-fail", "crates/high/planted"):
             path = f"{self.top}/{it}"
             shutil.rmtree(path) if os.path.isdir(path) else os.path.exists(path) and os.remove(path)
         self.write("calls")
@@ -145,9 +148,9 @@ class Place:
         self.write("crates/low/src/other.rt", OTHER)
         self.add(folder, **edits)
 
-    def add(self, folder, **edits):
+    def add(self, folder, crate="low", **edits):
         for name, (file, old, new) in edits.items():
-            self.write(f"crates/low/{folder}/{name}.edit", f"file: src/{file}.rt\nold: {old}\nnew: {new}\n")
+            self.write(f"crates/{crate}/{folder}/{name}.edit", f"file: src/{file}.rt\nold: {old}\nnew: {new}\n")
 
     def start(self, *words):
         env = os.environ | {"PATH": f"{self.top}/bin:{os.environ['PATH']}", "TOP": self.top, "TMPDIR": f"{self.top}/tmp"}
@@ -233,21 +236,47 @@ def not_refused(place, tests):
         tests.check(f"{words[0]} passes nothing", (status, last) == (1, wanted), (status, last))
 
 
+def side_by_side(place, tests):
+    """Several crates, a process each: what each says and counts comes together, also where one breaks off."""
+    place.plant(low=("lib", "n + 1", "n + 11"), other=("lib", "n + 2", "2 + n"))
+    place.add("planted", "high", main=("main", "    1", "    11"))
+    for words in ((), ("--jobs", "1")):
+        status, said, last, checks = place.run(*words)
+        is_so = (status, last, len(said)) == (1, "2 passed, 1 failed", 3) and said["high/planted/main"] == "refused"
+        tests.check(f"two crates {' '.join(words)}", is_so, (status, said, last))
+    place.plant(low=("lib", "n + 1", "n + 11"))
+    place.add("planted", "high", main=("main", "    1", "    11"))
+    status, said, last, checks = place.run("--jobs", "2")
+    tests.check("all edits of two crates are refused", (status, last) == (0, "2 passed, 0 failed"), (status, said))
+    tests.check("each by one job", {" ".join(it[1:-1]) for it in checks} == {"check --jobs 1", "check --jobs 1 --allow-holes"}, checks)
+    place.plant(says=SAYS.replace("    11=>", "    12=>kills\n    11=>"), low=("lib", "n + 1", "n + 11"))
+    place.add("planted", "high", main=("main", "    1", "    12"))
+    status, said, last, checks = place.run("--jobs", "2")
+    tests.check("a crate whose process is killed is one that failed", (status, last) == (1, "1 passed, 1 failed"), (status, said, last))
+    # (nobody has removed its room)
+    for it in os.listdir(f"{place.top}/tmp"):
+        shutil.rmtree(f"{place.top}/tmp/{it}")
+
+
 def interruption(place, tests):
     for which in (signal.SIGINT, signal.SIGTERM, signal.SIGHUP):
-        place.plant(one=("lib", "n + 1", "n + 11"))
-        # (what checks in the room waits there, however slow this machine is)
-        place.write("waits")
-        started = place.start()
-        for _ in range(HANGS * 50):
-            if os.listdir(f"{place.top}/tmp"):
-                break
-            time.sleep(0.02)
-        time.sleep(0.2)
-        started.send_signal(which)
-        os.path.exists(f"{place.top}/waits") and os.remove(f"{place.top}/waits")
-        started.communicate(timeout=HANGS)
-        tests.check(f"{which.name} ends it, and no room is left", started.returncode != 0 and os.listdir(f"{place.top}/tmp") == [], started.returncode)
+        for crates in (1, 2):
+            place.plant(one=("lib", "n + 1", "n + 11"))
+            if crates == 2:
+                place.add("planted", "high", main=("main", "    1", "    11"))
+            # (what checks in the room waits there, however slow this machine is)
+            place.write("waits")
+            started = place.start("--jobs", "2")
+            for _ in range(HANGS * 50):
+                if len(os.listdir(f"{place.top}/tmp")) == crates:
+                    break
+                time.sleep(0.02)
+            time.sleep(0.2)
+            started.send_signal(which)
+            started.communicate(timeout=HANGS)
+            os.remove(f"{place.top}/waits")
+            ended = started.returncode != 0 and os.listdir(f"{place.top}/tmp") == []
+            tests.check(f"{which.name} ends it at {crates}, and no room is left", ended, started.returncode)
 
 
 def stand(tests):
@@ -274,6 +303,7 @@ def main():
         place = Place(folder)
         refused(place, tests)
         not_refused(place, tests)
+        side_by_side(place, tests)
         interruption(place, tests)
     tests.end()
 
