@@ -1,11 +1,10 @@
 -- Batches by blocks: items that fill a batch, and items that don't.
 use Rattle.std.specs.Prelude.{◌≡◌, ℕ, zero, suc, ◌+◌, ◌-◌, ◌*◌, ◌/◌, ◌%◌, ◌<◌, ◌≤◌, ◌==◌, min, take, drop, List, [], ◌∷◌, ◌++◌, length, true, false, Some, refl}
-use Rattle.std.proofs.Common.{sym, ◌∙◌, ap, arith, append-nil, append_assoc, length-append, length-drop}
+use Rattle.std.proofs.Common.{sym, ◌∙◌, ap, arith, append-nil, append_assoc, length-append, length-drop, length-take-le}
 use Rattle.std.proofs.lemmas.List.{nil_from_length, take-append-drop}
 use Rattle.std.proofs.lemmas.Nat.{div-add-mod', mod_below}
 use Rattle.std.proofs.lemmas.Bool.Decides.{nat_tests}
 use Rattle.std.proofs.Math.Seq.{take-length}
-use Rattle.std.proofs.Common.{length-take-le}
 use Rattle.plinq_ops.specs.Batches.{full_batches, held_back}
 use Rattle.plinq_ops.proofs.Runs.{full_batches-append, held_back-append}
 use Rattle.plinq_merge.specs.Sending.{singles}
@@ -16,38 +15,34 @@ not_full m n below = grind (arith, nat_tests)
 is_filled : (m n : ℕ) → m ≡ n → (m == n) ≡ true
 is_filled m n same = grind (arith, nat_tests)
 
--- items that don't fill a batch give none
+-- items that don't fill a batch give none, and are held back after the others
+pub short : {T : Type 0} (n : ℕ) (held xs : List T) → length held + length xs < n
+    → (full_batches (Some n) held xs ≡ []) × (held_back (Some n) held xs ≡ held ++ xs)
+short n held [] few = (refl, sym (append-nil held))
+short n held (x ∷ xs) few =
+    let more : length (held ++ x ∷ []) ≡ length held + 1 = length-append held (x ∷ []) in
+    let later = short n (held ++ x ∷ []) xs (omega arith) in
+    rw (not_full (length held + 1) n (omega arith)) (later.0, later.1 ∙ append_assoc held (x ∷ []) xs)
+
 pub full_batches-short : {T : Type 0} (n : ℕ) (held xs : List T) → length held + length xs < n → full_batches (Some n) held xs ≡ []
-full_batches-short n held [] short = refl
-full_batches-short n held (x ∷ xs) short =
-    let more : length (held ++ x ∷ []) ≡ length held + 1 = length-append held (x ∷ []) in
-    rw (not_full (length held + 1) n (omega arith)) (full_batches-short n (held ++ x ∷ []) xs (omega arith))
+full_batches-short n held xs few = (short n held xs few).0
 
--- they are held back after the others
-pub held_back-short : {T : Type 0} (n : ℕ) (held xs : List T) → length held + length xs < n → held_back (Some n) held xs ≡ held ++ xs
-held_back-short n held [] short = sym (append-nil held)
-held_back-short n held (x ∷ xs) short =
+-- items that fill a batch give it, and nothing is held back
+pub filled : {T : Type 0} (n : ℕ) (held xs : List T) → 0 < length xs → length held + length xs ≡ n
+    → (full_batches (Some n) held xs ≡ (held ++ xs) ∷ []) × (held_back (Some n) held xs ≡ [])
+filled n held [] some same = absurd (omega arith)
+filled n held (x ∷ []) some same = rw (is_filled (length held + 1) n (omega arith)) (refl, refl)
+filled n held (x ∷ (y ∷ xs)) some same =
     let more : length (held ++ x ∷ []) ≡ length held + 1 = length-append held (x ∷ []) in
-    rw (not_full (length held + 1) n (omega arith)) (held_back-short n (held ++ x ∷ []) xs (omega arith) ∙ append_assoc held (x ∷ []) xs)
+    let later = filled n (held ++ x ∷ []) (y ∷ xs) (omega arith) (omega arith) in
+    rw (not_full (length held + 1) n (omega arith)) (later.0 ∙ ap (λ b. b ∷ []) (append_assoc held (x ∷ []) (y ∷ xs)), later.1)
 
--- items that fill a batch give it
 pub full_batches-filled : {T : Type 0} (n : ℕ) (held xs ys : List T) → 0 < length xs → length held + length xs ≡ n
     → full_batches (Some n) held (xs ++ ys) ≡ (held ++ xs) ∷ full_batches (Some n) [] ys
-full_batches-filled n held [] ys some same = absurd (omega arith)
-full_batches-filled n held (x ∷ []) ys some same = rw (is_filled (length held + 1) n (omega arith))
-full_batches-filled n held (x ∷ (y ∷ xs)) ys some same =
-    let more : length (held ++ x ∷ []) ≡ length held + 1 = length-append held (x ∷ []) in
-    rw (not_full (length held + 1) n (omega arith))
-    (full_batches-filled n (held ++ x ∷ []) (y ∷ xs) ys (omega arith) (omega arith)
-    ∙ ap (λ b. b ∷ full_batches (Some n) [] ys) (append_assoc held (x ∷ []) (y ∷ xs)))
-
-pub held_back-filled : {T : Type 0} (n : ℕ) (held xs ys : List T) → 0 < length xs → length held + length xs ≡ n
-    → held_back (Some n) held (xs ++ ys) ≡ held_back (Some n) [] ys
-held_back-filled n held [] ys some same = absurd (omega arith)
-held_back-filled n held (x ∷ []) ys some same = rw (is_filled (length held + 1) n (omega arith))
-held_back-filled n held (x ∷ (y ∷ xs)) ys some same =
-    let more : length (held ++ x ∷ []) ≡ length held + 1 = length-append held (x ∷ []) in
-    rw (not_full (length held + 1) n (omega arith)) (held_back-filled n (held ++ x ∷ []) (y ∷ xs) ys (omega arith) (omega arith))
+full_batches-filled n held xs ys some same =
+    let one = filled n held xs some same in
+    full_batches-append (Some n) held xs ys ∙ ap (λ bs. bs ++ full_batches (Some n) (held_back (Some n) held xs) ys) one.0
+    ∙ ap (λ h. (held ++ xs) ∷ full_batches (Some n) h ys) one.1
 
 -- all of the items fit
 pub filled-all : {T : Type 0} (n k : ℕ) (held xs ys : List T) → k ≡ min (length xs) (n - length held) → length held + length xs ≤ n
@@ -56,34 +51,24 @@ filled-all n k held xs ys count fits is =
     let all : k ≡ length xs = omega arith in
     is ∙ ap (λ j. held ++ take j xs) all ∙ ap (λ zs. held ++ zs) (take-length xs)
 
-pub length-filled : {T : Type 0} (n k : ℕ) (held xs ys : List T) → k ≡ min (length xs) (n - length held) → ys ≡ held ++ take k xs → length ys ≡ length held + k
-length-filled n k held xs ys count is =
-    let taken : length (take k xs) ≡ k = length-take-le k xs (omega arith) in
-    ap length is ∙ length-append held (take k xs) ∙ ap (λ j. length held + j) taken
-
 -- where the batch isn't full, all of the items fit
-pub short-filled : {T : Type 0} (n k : ℕ) (held xs ys : List T) → k ≡ min (length xs) (n - length held) → ys ≡ held ++ take k xs → length held < n → (length ys == n) ≡ false
-    → length held + length xs < n
-short-filled n k held xs ys count is room short =
-    let longer = length-filled n k held xs ys count is in
-    let test : (length held + k == n) ≡ false = ap (λ j. j == n) (sym longer) ∙ short in
+pub short-filled : {T : Type 0} (n k : ℕ) (held xs ys : List T) → k ≡ min (length xs) (n - length held) → ys ≡ held ++ take k xs → length held < n
+    → (length ys == n) ≡ false → length held + length xs < n
+short-filled n k held xs ys count is room test =
+    let longer : length ys ≡ length held + length (take k xs) = ap length is ∙ length-append held (take k xs) in
+    let taken : length (take k xs) ≡ k = length-take-le k xs (omega arith) in
     grind (arith, nat_tests)
 
 -- items that fill up a batch, and the others
 pub taken-full : {T : Type 0} (n k : ℕ) (held xs : List T) → length held < n → length (held ++ take k xs) ≡ n
     → (full_batches (Some n) held xs ≡ (held ++ take k xs) ∷ full_batches (Some n) [] (drop k xs)) × (held_back (Some n) held xs ≡ held_back (Some n) [] (drop k xs))
 taken-full n k held xs room full =
-    let long : length held + length (take k xs) ≡ n = sym (length-append held (take k xs)) ∙ full in (
-      ap (full_batches (Some n) held) (sym (take-append-drop k xs)) ∙ full_batches-filled n held (take k xs) (drop k xs) (omega arith) long,
-      ap (held_back (Some n) held) (sym (take-append-drop k xs)) ∙ held_back-filled n held (take k xs) (drop k xs) (omega arith) long,
+    let long : length held + length (take k xs) ≡ n = sym (length-append held (take k xs)) ∙ full in
+    let parts = sym (take-append-drop k xs) in (
+      ap (full_batches (Some n) held) parts ∙ full_batches-filled n held (take k xs) (drop k xs) (omega arith) long,
+      ap (held_back (Some n) held) parts ∙ held_back-append (Some n) held (take k xs) (drop k xs)
+          ∙ ap (λ h. held_back (Some n) h (drop k xs)) (filled n held (take k xs) (omega arith) long).1,
     )
-
--- items that are one batch
-pub one-batch : {T : Type 0} (n : ℕ) (xs : List T) → length xs ≡ n → 0 < n → (full_batches (Some n) [] xs ≡ xs ∷ []) × (held_back (Some n) [] xs ≡ [])
-one-batch n xs same some = (
-  ap (full_batches (Some n) []) (sym (append-nil xs)) ∙ full_batches-filled n [] xs [] (omega arith) (omega arith),
-  ap (held_back (Some n) []) (sym (append-nil xs)) ∙ held_back-filled n [] xs [] (omega arith) (omega arith),
-)
 
 -- ---- items of whole batches
 
@@ -121,7 +106,7 @@ held_back-rest n xs some =
     let back = drop (length xs - length xs % n) xs in
     ap (held_back (Some n) []) (sym (take-append-drop (length xs - length xs % n) xs)) ∙ held_back-append (Some n) [] front back
     ∙ ap (λ held. held_back (Some n) held back) (held_back-whole n (length xs / n) front some (whole-length n xs))
-    ∙ held_back-short n [] back (omega (arith, rest-short n xs some))
+    ∙ (short n [] back (omega (arith, rest-short n xs some))).1
 
 pub full_batches-before : {T : Type 0} (n : ℕ) (xs : List T) → 0 < n → full_batches (Some n) [] xs ≡ full_batches (Some n) [] (take (length xs - length xs % n) xs)
 full_batches-before n xs some =

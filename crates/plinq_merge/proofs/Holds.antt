@@ -132,87 +132,68 @@ module _ {T : Type 0} where
       ∙ followed-open_nil (followed first (at_once ByArrival r))
       ∙ ap (λ t. followed t (at_once ByArrival r)) (sym (followed-open_nil first) ∙ ap (followed first) (sym none))
 
-  -- the row with one result more, whose interval is placed among those that wait
-  abbrev with_placed : Row T → List (Interval (Trace T)) → ChunkResult T → Row T
-  with_placed row held r = record { buffer = record { next = row.buffer.next; held = held }; told = option_or row.told (told_at (end_of_result r) r.tail) }
+  -- ---- a result that came into the row
 
-  holds-placed : (order : Order) (row : Row T) (offers : List (ChunkResult T)) (gone : Trace T) (r : ChunkResult T) (held : List (Interval (Trace T))) → (h : Holds order row offers gone)
-      → placed order (h.done ++ row.buffer.held) r ≡ h.done ++ held → Holds order (with_placed row held r) (offers ++ r ∷ []) (followed gone (at_once order r))
-  holds-placed order row offers gone r held h place =
+  takes-placed : (order : Order) (before : Row T) (r : ChunkResult T) (after : Row T)
+      → ((done : List (Interval (Trace T))) → All (λ s. s.0 < before.buffer.next) done
+      → placed order (done ++ before.buffer.held) r ≡ done ++ after.buffer.held)
+      → after.buffer.next ≡ before.buffer.next → after.told ≡ option_or before.told (told_at (end_of_result r) r.tail)
+      → TakesIn order before r (at_once order r) after
+  takes-placed order before r after place next told offers gone h =
       record {
         done = h.done;
-        placed = all_placed-append order [] offers r ∙ ap (λ qs. placed order qs r) h.placed ∙ place;
-        is_row = h.is_row;
-        before = h.before;
-        told = all_told-append None offers r ∙ ap (λ t. option_or t (told_at (end_of_result r) r.tail)) h.told;
+        placed = all_placed-append order [] offers r ∙ ap (λ qs. placed order qs r) h.placed ∙ place h.done h.before;
+        is_row = subst (IsRow 0 h.done) (sym next) h.is_row;
+        before = subst (λ k. All (λ s. s.0 < k) h.done) (sym next) h.before;
+        told = all_told-append None offers r ∙ ap (λ t. option_or t (told_at (end_of_result r) r.tail)) h.told ∙ sym told;
         gave =
             ap (λ t. followed t (all_given h.done)) (arrived-append order offers r)
-            ∙ swap order offers (arrived order offers) r h.done row.buffer.held h.placed
+            ∙ swap order offers (arrived order offers) r h.done before.buffer.held h.placed
             ∙ ap (λ t. followed t (at_once order r)) h.gave;
       }
 
-  -- a result of no keys has no interval
-  pub holds-none : (order : Order) (row : Row T) (offers : List (ChunkResult T)) (gone : Trace T) (r : ChunkResult T) → r.count ≡ 0 → Holds order row offers gone
-      → Holds order (with_placed row row.buffer.held r) (offers ++ r ∷ []) (followed gone (at_once order r))
-  holds-none order row offers gone r none h = holds-placed order row offers gone r row.buffer.held h (rw none refl)
+  -- one of no keys has no interval
+  pub takes-none : (order : Order) (before : Row T) (r : ChunkResult T) (after : Row T) → r.count ≡ 0 → after.buffer ≡ before.buffer
+      → after.told ≡ option_or before.told (told_at (end_of_result r) r.tail) → TakesIn order before r (at_once order r) after
+  takes-none order before r after none same told =
+      takes-placed order before r after (λ done below. rw none (ap (λ b. done ++ b.held) (sym same))) (ap (λ b. b.next) same) told
 
   -- that of any other waits among the others
-  pub holds-inserted : (order : Order) (row : Row T) (offers : List (ChunkResult T)) (gone : Trace T) (r : ChunkResult T) → 0 < r.count → IsFresh row.buffer r.first (end_of_result r)
-      → Holds order row offers gone
-      → Holds order (with_placed row (insert row.buffer.held r.first (end_of_result r) (waiting_trace order r)) r) (offers ++ r ∷ []) (followed gone (at_once order r))
-  holds-inserted order row offers gone r some fresh h =
+  takes-held : (order : Order) (before : Row T) (r : ChunkResult T) (after : Row T) → 0 < r.count → IsFresh before.buffer r.first (end_of_result r)
+      → after.buffer ≡ inserted before.buffer r.first (end_of_result r) (waiting_trace order r)
+      → after.told ≡ option_or before.told (told_at (end_of_result r) r.tail)
+      → TakesIn order before r (at_once order r) after
+  takes-held order before r after some fresh same told =
       let q : Trace T = waiting_trace order r in
-      let past = after-next row.buffer r.first (end_of_result r) fresh (omega arith) in
+      let past = after-next before.buffer r.first (end_of_result r) fresh (omega arith) in
       let test : (r.count == 0) ≡ false = grind (arith, nat_tests) in
-      holds-placed order row offers gone r (insert row.buffer.held r.first (end_of_result r) q) h
-      (ap (λ b. cond b (h.done ++ row.buffer.held) (insert (h.done ++ row.buffer.held) r.first (end_of_result r) q)) test
-      ∙ insert-after h.done row.buffer.held r.first (end_of_result r) q
-      (All-weaker (λ s. s.0 < row.buffer.next) (λ s. s.0 < r.first) (λ s before. omega (arith, past)) h.done h.before))
+      takes-placed order before r after (λ done below.
+      ap (λ b. cond b (done ++ before.buffer.held) (insert (done ++ before.buffer.held) r.first (end_of_result r) q)) test
+      ∙ insert-after done before.buffer.held r.first (end_of_result r) q
+      (All-weaker (λ s. s.0 < before.buffer.next) (λ s. s.0 < r.first) (λ s gone. omega (arith, past)) done below)
+      ∙ ap (λ b. done ++ b.held) (sym same)) (ap (λ b. b.next) same) told
 
-  -- ---- a result that came into the row
-
-  -- what the row hands back
-  abbrev pub handed_back : Option (Trace T) → Trace T
-  handed_back None = open_trace []
-  handed_back (Some p) = p
-
-  holds-as : (order : Order) (row : Row T) (buffer : Buffered (Trace T)) (told : Option (ℕ × Ending)) (offers : List (ChunkResult T)) (gone gone' : Trace T)
-      → row.buffer ≡ buffer → row.told ≡ told → gone ≡ gone' → Holds order (record { buffer = buffer; told = told }) offers gone → Holds order row offers gone'
-  holds-as order row buffer told offers gone gone' same same_told same_gone h =
-      subst (Holds order row offers) same_gone
-      (subst (λ b. Holds order (record { buffer = b; told = row.told }) offers gone) (sym same)
-      (subst (λ t. Holds order (record { buffer = buffer; told = t }) offers gone) (sym same_told) h))
-
-  -- one of no keys
-  pub takes-none : (order : Order) (before : Row T) (r : ChunkResult T) (hand : Trace T) (after : Row T) → r.count ≡ 0 → after.buffer ≡ before.buffer
-      → after.told ≡ option_or before.told (told_at (end_of_result r) r.tail) → hand ≡ at_once order r → TakesIn order before r hand after
-  takes-none order before r hand after none same told is offers gone h =
-      holds-as order after before.buffer _ (offers ++ r ∷ []) _ (followed gone hand) same told (ap (followed gone) (sym is)) (holds-none order before offers gone r none h)
-
-  -- one of fresh keys
-  pub takes-inserted : (order : Order) (before : Row T) (r : ChunkResult T) (hand : Trace T) (turn : Option (Trace T)) (after : Row T) → 0 < r.count → IsFresh before.buffer r.first (end_of_result r)
+  -- or its turn has come, and the row hands back what it gives
+  pub takes-inserted : (order : Order) (before : Row T) (r : ChunkResult T) (turn : Option (Trace T)) (after : Row T) → 0 < r.count
+      → IsFresh before.buffer r.first (end_of_result r)
       → Inserts before.buffer r.first (end_of_result r) (waiting_trace order r) turn after.buffer → after.told ≡ option_or before.told (told_at (end_of_result r) r.tail)
-      → hand ≡ followed (at_once order r) (handed_back turn) → TakesIn order before r hand after
-  takes-inserted order before r hand None after some fresh inserts told is offers gone h =
-      holds-as order after (inserted before.buffer r.first (end_of_result r) (waiting_trace order r)) _ (offers ++ r ∷ []) _ (followed gone hand) inserts told
-      (ap (followed gone) (sym (is ∙ followed-open_nil (at_once order r)))) (holds-inserted order before offers gone r some fresh h)
-  takes-inserted order before r hand (Some p) after some fresh inserts told is offers gone h =
+      → TakesIn order before r (followed (at_once order r) (unwrap_or turn (open_trace []))) after
+  takes-inserted order before r None after some fresh inserts told offers gone h =
+      subst (Holds order after (offers ++ r ∷ [])) (ap (followed gone) (sym (followed-open_nil (at_once order r))))
+      (takes-held order before r after some fresh inserts told offers gone h)
+  takes-inserted order before r (Some p) after some fresh inserts told offers gone h =
       let q : Trace T = waiting_trace order r in
-      let row : Row T = with_placed before (insert before.buffer.held r.first (end_of_result r) q) r in
-      holds-as order after after.buffer _ (offers ++ r ∷ []) _ (followed gone hand) refl told
-      (followed-followed gone (at_once order r) q ∙ ap (followed gone) (ap (followed (at_once order r)) (sym inserts.0) ∙ sym is))
-      (holds-next order row q after.buffer (offers ++ r ∷ []) (followed gone (at_once order r)) inserts.1 (holds-inserted order before offers gone r some fresh h))
+      let row : Row T = record { buffer = inserted before.buffer r.first (end_of_result r) q; told = after.told } in
+      subst (Holds order after (offers ++ r ∷ []))
+      (followed-followed gone (at_once order r) q ∙ ap (λ x. followed gone (followed (at_once order r) x)) (sym inserts.0))
+      (holds-next order row q after.buffer (offers ++ r ∷ []) (followed gone (at_once order r)) inserts.1
+      (takes-held order before r row some fresh refl told offers gone h))
 
-  -- what is in hand by key: what the row hands back, or nothing
-  pub by_key-hand : (turn : Option (Trace T)) (nothing : Trace T) → nothing ≡ open_trace [] → unwrap_or turn nothing ≡ handed_back turn
-  by_key-hand None nothing empty = empty
-  by_key-hand (Some p) nothing empty = refl
-
-  -- by arrival the result is, since the row hands back nothing but its keys
+  -- by arrival it hands back nothing but keys
   pub by_arrival-hand : (r : ChunkResult T) (b : Buffered (Trace T)) (turn : Option (Trace T)) (b' : Buffered (Trace T)) → Inserts b r.first (end_of_result r) (open_trace []) turn b'
-      → result_trace r ≡ followed (result_trace r) (handed_back turn)
-  by_arrival-hand r b None b' inserts = sym (followed-open_nil (result_trace r))
-  by_arrival-hand r b (Some p) b' inserts = sym (ap (followed (result_trace r)) inserts.0 ∙ followed-open_nil (result_trace r))
+      → followed (result_trace r) (unwrap_or turn (open_trace [])) ≡ result_trace r
+  by_arrival-hand r b None b' inserts = followed-open_nil (result_trace r)
+  by_arrival-hand r b (Some p) b' inserts = ap (followed (result_trace r)) inserts.0 ∙ followed-open_nil (result_trace r)
 
   -- at a gap the row gives no more than the source's ending
   pub rest-gap : (row : Row T) → IsAtGap row.buffer → rest_of row ≡ trace_of [] (ending_at row.told row.buffer.next)

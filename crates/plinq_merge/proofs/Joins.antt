@@ -1,5 +1,6 @@
 -- What the taker has taken, and which offers a row or a joiner stands for, with one offer more.
 use Rattle.std.specs.Prelude.{◌≡◌, ℕ, ◌<◌, List, [], ◌∷◌, ◌++◌, true, false, ◌||◌, nat_lt, ◌⊎◌, Option, Some, None, Result, Ok, Err, refl}
+use Rattle.std.specs.Option.{option_or}
 use Rattle.std.proofs.Common.{sym, ◌∙◌, ap, subst, inl, inr, arith}
 use Rattle.std.proofs.lemmas.Bool.{or_left, or_from, lt-ltb, le-ltb}
 use Rattle.std.proofs.lemmas.List.Elements.{All-nil}
@@ -8,9 +9,9 @@ use Rattle.plinq_source.specs.Trace.{Trace, open_trace, followed}
 use Rattle.plinq_source.proofs.Followed.{trace_of, followed-followed, followed-open_nil}
 use Rattle.plinq_ops.specs.declared.order.Order.{Order}
 use Rattle.plinq_ops.specs.declared.results.ChunkResult.{ChunkResult}
-use Rattle.plinq_ops.specs.Tails.{end_of_result}
+use Rattle.plinq_ops.specs.Tails.{end_of_result, told_at}
 use Rattle.plinq_reorder.specs.Intervals.{is_within}
-use Rattle.plinq_reorder.specs.Buffered.{Buffered, is_taken, IsFresh, TakesNext, IsAtGap}
+use Rattle.plinq_reorder.specs.Buffered.{Buffered, is_taken, IsFresh, inserted, TakesNext, IsAtGap}
 use Rattle.plinq_merge.specs.declared.delivery_fault.DeliveryFault.{DeliveryFault}
 use Rattle.plinq_merge.specs.declared.delivery_fault.DeliveryFault.TheVariants.{Memory as NoMemory, Sink as Refusal}
 use Rattle.plinq_merge.specs.declared.row.Row.{Row}
@@ -22,7 +23,7 @@ use Rattle.plinq_merge.specs.declared.more.More.TheVariants.{Yes, No}
 use Rattle.plinq_merge.specs.declared.joiner_state.JoinerState.{JoinerState}
 use Rattle.plinq_merge.specs.declared.joiner_state.JoinerState.TheVariants.{Open, Decided, Failed as HasFailed}
 use Rattle.plinq_merge.specs.declared.joiner.Joiner.{Joiner}
-use Rattle.plinq_merge.specs.Shown.{ending_at, at_once, merged}
+use Rattle.plinq_merge.specs.Shown.{ending_at, at_once, waiting_trace, merged}
 use Rattle.plinq_merge.specs.Keys.{is_offered, AreNew}
 use Rattle.plinq_merge.specs.Merging.{Holds, TakesIn}
 use Rattle.plinq_merge.specs.Taking.{IsTaking}
@@ -30,7 +31,7 @@ use Rattle.plinq_merge.specs.Joining.{rest_of, HasKeys, Waits, HasMoved, Joins, 
 use Rattle.plinq_merge.specs.Offering.{is_decided, finished}
 use Rattle.plinq_merge.specs.Joiners.{taker_of, order_of, WaitsFor, has_decided, ending_of, Takes, HasJoinedAt, HasJoined}
 use Rattle.plinq_merge.specs.Mergers.{delivery_fault_of}
-use Rattle.plinq_merge.proofs.Holds.{is_offered-append, merged-holds, holds-next, holds-none, holds-inserted, rest-gap, rest-next}
+use Rattle.plinq_merge.proofs.Holds.{is_offered-append, merged-holds, holds-next, takes-none, takes-inserted, rest-gap, rest-next}
 
 module _ {T : Type 0} where
   -- where the next key is missing, all that the offers merge to was taken
@@ -38,28 +39,24 @@ module _ {T : Type 0} where
   merged-waits order row offers waits =
       merged-holds order row offers (open_trace waits.out) waits.holds ∙ ap (followed (open_trace waits.out)) waits.nothing ∙ followed-open_nil (open_trace waits.out)
 
-  new-waits : (order : Order) (row : Row T) (offers : List (ChunkResult T)) (r : ChunkResult T) → IsFresh row.buffer r.first (end_of_result r) → Waits order row offers → AreNew offers r
-  new-waits order row offers r fresh waits key within = waits.keys key ∙ fresh key within
-
   -- the offers gain what is in hand, and what the row gives after it
-  grows-held : (order : Order) (row row1 : Row T) (hand : Trace T) (offers : List (ChunkResult T)) (r : ChunkResult T) → (waits : Waits order row offers)
-      → Holds order row1 (offers ++ r ∷ []) (followed (open_trace waits.out) hand) → merged order (offers ++ r ∷ []) ≡ followed (merged order offers) (followed hand (rest_of row1))
-  grows-held order row row1 hand offers r waits h =
-      merged-holds order row1 (offers ++ r ∷ []) (followed (open_trace waits.out) hand) h
+  grows-taken : (order : Order) (row row1 : Row T) (hand : Trace T) (offers : List (ChunkResult T)) (r : ChunkResult T) → TakesIn order row r hand row1
+      → Waits order row offers → merged order (offers ++ r ∷ []) ≡ followed (merged order offers) (followed hand (rest_of row1))
+  grows-taken order row row1 hand offers r takes waits =
+      merged-holds order row1 (offers ++ r ∷ []) (followed (open_trace waits.out) hand) (takes offers (open_trace waits.out) waits.holds)
       ∙ followed-followed (open_trace waits.out) hand (rest_of row1)
       ∙ ap (λ t. followed t (followed hand (rest_of row1))) (sym (merged-waits order row offers waits))
 
-  grows-taken : (order : Order) (row row1 : Row T) (hand : Trace T) (offers : List (ChunkResult T)) (r : ChunkResult T) → TakesIn order row r hand row1
-      → Waits order row offers → merged order (offers ++ r ∷ []) ≡ followed (merged order offers) (followed hand (rest_of row1))
-  grows-taken order row row1 hand offers r takes waits = grows-held order row row1 hand offers r waits (takes offers (open_trace waits.out) waits.holds)
-
-  -- the trace that the offers gain by a result that couldn't be kept
-  gained-unkept : (order : Order) (row : Row T) (r : ChunkResult T) → IsFresh row.buffer r.first (end_of_result r)
-      → (gained : Trace T) × ((offers : List (ChunkResult T)) → Waits order row offers → merged order (offers ++ r ∷ []) ≡ followed (merged order offers) gained)
-  gained-unkept order row r fresh =
+  -- a row that has taken in a result which couldn't be kept
+  takes-unkept : (order : Order) (row : Row T) (r : ChunkResult T) → IsFresh row.buffer r.first (end_of_result r)
+      → (hand : Trace T) × (row1 : Row T) × TakesIn order row r hand row1
+  takes-unkept order row r fresh =
+      let kept : Buffered (Trace T) → Row T = λ b. record { buffer = b; told = option_or row.told (told_at (end_of_result r) r.tail) } in
       elim (none_or_some r.count) [
-        | inl none ↦ (_, λ offers waits. grows-held order row _ (at_once order r) offers r waits (holds-none order row offers (open_trace waits.out) r none waits.holds))
-        | inr some ↦ (_, λ offers waits. grows-held order row _ (at_once order r) offers r waits (holds-inserted order row offers (open_trace waits.out) r some fresh waits.holds))
+        | inl none ↦ (at_once order r, kept row.buffer, takes-none order row r (kept row.buffer) none refl refl)
+        | inr some ↦
+            let held : Buffered (Trace T) = inserted row.buffer r.first (end_of_result r) (waiting_trace order r) in
+            (_, kept held, takes-inserted order row r None (kept held) some fresh refl refl)
       ]
     where
       none_or_some : (n : ℕ) → (n ≡ 0) ⊎ (0 < n)
@@ -97,10 +94,6 @@ module _ {W O T : Type 0} (made : W → O → Trace T → Result (Option Ending)
   taken-over a x t rest all (Ok None) b y over taken is = absurd (over refl)
   taken-over a x t rest all (Ok (Some e)) b y over taken is = subst (λ s. made a x s (Ok (Some e)) b y) (sym is) (lawful.ends a x t e b y rest taken)
   taken-over a x t rest all (Err fault) b y over taken is = subst (λ s. made a x s (Err fault) b y) (sym is) (lawful.breaks a x t fault b y rest taken)
-
-  -- nothing was taken, for want of memory
-  taken-broken : (a : W) (x : O) (t : Trace T) → made a x t (Err NoMemory) a x
-  taken-broken a x t = lawful.stops a x [] a x t (lawful.begins a x)
 
   -- nothing was taken yet
   pub moved-none : (w : Joining W T) (y : O) → HasMoved made w y w y
@@ -147,49 +140,51 @@ module _ {W O T : Type 0} (made : W → O → Trace T → Result (Option Ending)
         nothing = rest-gap w.row gap ∙ ap (trace_of []) none;
       }
 
-  -- ---- a result was joined
+  -- ---- a result of new keys was joined
 
-  -- it couldn't be kept
-  pub joins-unkept : (w : Joining W T) (r : ChunkResult T) (y : O) (w' : Joining W T) → IsFresh w.row.buffer r.first (end_of_result r) → w'.taker ≡ w.taker → Joins made w r y (Err NoMemory) w' y
-  joins-unkept w r y w' fresh same =
-      let gained = gained-unkept w.order w.row r fresh in
-      record {
-        gained = gained.0;
-        taken = subst (λ b. made w.taker y gained.0 (Err NoMemory) b y) (sym same) (taken-broken w.taker y gained.0);
-        are_new = λ offers waits. new-waits w.order w.row offers r fresh waits;
-        grows = gained.1;
-        waits = λ bad. absurd (cc);
-      }
+  module _ (w : Joining W T) (r : ChunkResult T) (y : O) (fresh : IsFresh w.row.buffer r.first (end_of_result r)) where
+    module _ (hand : Trace T) (row1 : Row T) (takes : TakesIn w.order w.row r hand row1) where
+      joins-taken : (result : Result (Option Ending) DeliveryFault) (w' : Joining W T) (y' : O)
+          → made w.taker y (followed hand (rest_of row1)) result w'.taker y'
+          → (result ≡ Ok None → (offers : List (ChunkResult T)) → Waits w.order w.row offers → Waits w'.order w'.row (offers ++ r ∷ []))
+          → Joins made w r y result w' y'
+      joins-taken result w' y' taken waits =
+          record {
+            gained = followed hand (rest_of row1);
+            taken = taken;
+            are_new = λ offers before key within. before.keys key ∙ fresh key within;
+            grows = λ offers before. grows-taken w.order w.row row1 hand offers r takes before;
+            waits = waits;
+          }
 
-  -- what was in hand ended the answer, or broke it off
-  pub joins-over : (w : Joining W T) (r : ChunkResult T) (y : O) (hand : Trace T) (row1 : Row T) (result : Result (Option Ending) DeliveryFault) (w' : Joining W T) (y' : O)
-      → IsFresh w.row.buffer r.first (end_of_result r) → TakesIn w.order w.row r hand row1 → made w.taker y hand result w'.taker y' → (result ≡ Ok None → ⊥) → Joins made w r y result w' y'
-  joins-over w r y hand row1 result w' y' fresh takes taken over =
-      record {
-        gained = followed hand (rest_of row1);
-        taken = taken-over w.taker y hand (rest_of row1) (followed hand (rest_of row1)) result w'.taker y' over taken refl;
-        are_new = λ offers waits. new-waits w.order w.row offers r fresh waits;
-        grows = λ offers waits. grows-taken w.order w.row row1 hand offers r takes waits;
-        waits = λ none. absurd (over none);
-      }
+      -- what was in hand ended the answer, or broke it off
+      pub joins-over : (result : Result (Option Ending) DeliveryFault) (w' : Joining W T) (y' : O) → made w.taker y hand result w'.taker y'
+          → (result ≡ Ok None → ⊥)
+          → Joins made w r y result w' y'
+      joins-over result w' y' taken over =
+          joins-taken result w' y' (taken-over w.taker y hand (rest_of row1) _ result w'.taker y' over taken refl) (λ none. absurd (over none))
 
-  -- it is open, and was taken with what the row gave after it
-  pub joins-drained : (w : Joining W T) (r : ChunkResult T) (y : O) (hand : Trace T) (row1 : Row T) (a : W) (z : O) (result : Result (Option Ending) DeliveryFault) (w' : Joining W T) (y' : O)
-      → IsFresh w.row.buffer r.first (end_of_result r) → TakesIn w.order w.row r hand row1
-      → ((key : ℕ) → is_taken row1.buffer key ≡ is_taken w.row.buffer key || is_within r.first (end_of_result r) key)
-      → made w.taker y hand (Ok None) a z → hand.ending ≡ None → made a z (rest_of row1) result w'.taker y'
-      → (result ≡ Ok None → (offers : List (ChunkResult T)) (out : List T) → Holds w.order row1 offers (open_trace out) → HasKeys row1 offers → Waits w'.order w'.row offers) → Joins made w r y result w' y'
-  joins-drained w r y hand row1 a z result w' y' fresh takes keys taken none drained waits =
-      record {
-        gained = followed hand (rest_of row1);
-        taken = taken-after w.taker y hand (rest_of row1) (followed hand (rest_of row1)) a z result w'.taker y' none taken drained refl;
-        are_new = λ offers before. new-waits w.order w.row offers r fresh before;
-        grows = λ offers before. grows-taken w.order w.row row1 hand offers r takes before;
-        waits = λ is_open offers before.
-            waits is_open (offers ++ r ∷ []) (before.out ++ hand.items)
-            (subst (Holds w.order row1 (offers ++ r ∷ [])) (ap (followed (open_trace before.out)) (open-is hand none)) (takes offers (open_trace before.out) before.holds))
-            (λ key. is_offered-append offers r key ∙ ap (λ v. v || is_within r.first (end_of_result r) key) (before.keys key) ∙ sym (keys key));
-      }
+      -- it is open, and was taken with what the row gave after it
+      pub joins-drained : (a : W) (z : O) (result : Result (Option Ending) DeliveryFault) (w' : Joining W T) (y' : O)
+          → ((key : ℕ) → is_taken row1.buffer key ≡ is_taken w.row.buffer key || is_within r.first (end_of_result r) key)
+          → made w.taker y hand (Ok None) a z → hand.ending ≡ None → made a z (rest_of row1) result w'.taker y'
+          → (result ≡ Ok None → (offers : List (ChunkResult T)) (out : List T) → Holds w.order row1 offers (open_trace out) → HasKeys row1 offers
+          → Waits w'.order w'.row offers)
+          → Joins made w r y result w' y'
+      joins-drained a z result w' y' keys taken none drained waits =
+          joins-taken result w' y' (taken-after w.taker y hand (rest_of row1) _ a z result w'.taker y' none taken drained refl) (λ is_open offers before.
+          waits is_open (offers ++ r ∷ []) (before.out ++ hand.items)
+          (subst (Holds w.order row1 (offers ++ r ∷ [])) (ap (followed (open_trace before.out)) (open-is hand none))
+          (takes offers (open_trace before.out) before.holds))
+          (λ key. is_offered-append offers r key ∙ ap (λ v. v || is_within r.first (end_of_result r) key) (before.keys key) ∙ sym (keys key)))
+
+    -- it couldn't be kept
+    pub joins-unkept : (w' : Joining W T) → w'.taker ≡ w.taker → Joins made w r y (Err NoMemory) w' y
+    joins-unkept w' same =
+        let kept = takes-unkept w.order w.row r fresh in
+        let stopped = lawful.stops w.taker y [] w.taker y (followed kept.0 (rest_of kept.1)) (lawful.begins w.taker y) in
+        joins-taken kept.0 kept.1 kept.2 (Err NoMemory) w' y
+        (subst (λ b. made w.taker y (followed kept.0 (rest_of kept.1)) (Err NoMemory) b y) (sym same) stopped) (λ bad. absurd (cc))
 
 -- the offers so far, or these and one more, of which no key was offered before
 abbrev pub AreOneMore : {T : Type 0} → List (ChunkResult T) → ChunkResult T → List (ChunkResult T) → Type 0
@@ -219,48 +214,46 @@ module _ {W O T : Type 0} (made : W → O → Trace T → Result (Option Ending)
           (ap (λ t. t.ending) (merged-waits w.order w.row offers waits)) before joins.taken (ap (λ o. merged o (offers ++ r ∷ [])) same ∙ joins.grows offers waits)
 
       -- what waits for more may have broken off there for lack of memory
-      stopped-at : (w : Joining W T) (y : O) (offers : List (ChunkResult T)) → Waits w.order w.row offers → made a x (merged w.order offers) (Ok None) w.taker y
-          → made a x (merged w.order offers) (Err NoMemory) w.taker y
-      stopped-at w y offers waits before =
-          let is = merged-waits w.order w.row offers waits in
-          subst (λ t. made a x t (Err NoMemory) w.taker y) (followed-open_nil (open_trace waits.out) ∙ sym is)
-          (lawful.stops a x waits.out w.taker y (open_trace []) (subst (λ t. made a x t (Ok None) w.taker y) is before))
-
       pub joined-stopped : (j : Joiner W T) (y : O) (offers : List (ChunkResult T)) → WaitsFor j offers → made a x (merged (order_of j) offers) (Ok None) (taker_of j) y
           → made a x (merged (order_of j) offers) (Err NoMemory) (taker_of j) y
-      joined-stopped j y offers waits before = stopped-at j.work y offers waits before
+      joined-stopped j y offers waits before =
+          let is = merged-waits (order_of j) j.work.row offers waits in
+          subst (λ t. made a x t (Err NoMemory) (taker_of j) y) (followed-open_nil (open_trace waits.out) ∙ sym is)
+          (lawful.stops a x waits.out (taker_of j) y (open_trace []) (subst (λ t. made a x t (Ok None) (taker_of j) y) is before))
 
       -- where an offer is taken in, the answer is open or has ended; where it is refused, the taker broke off what is merged then
       abbrev LeavesAt : Joining W T → Result More MergeFault → Joining W T → JoinerState → O → List (ChunkResult T) → Type 0
       LeavesAt w (Ok more) w' standing' y' offers = HasJoinedAt made a x w' standing' y' offers
       LeavesAt w (Err fault) w' standing' y' offers = (last : W) × made a x (merged w.order offers) (Err (delivery_fault_of fault)) last y'
 
-      added : {P : List (ChunkResult T) → Type 0} (w : Joining W T) (r : ChunkResult T) (y : O) (result : Result (Option Ending) DeliveryFault) (w' : Joining W T) (y' : O) (offers : List (ChunkResult T)) → Joins made w r y result w' y'
-          → Waits w.order w.row offers → P (offers ++ r ∷ []) → (offers' : List (ChunkResult T)) × AreOneMore offers r offers' × P offers'
-      added w r y result w' y' offers joins waits p = (offers ++ r ∷ [], inr (refl, joins.are_new offers waits), p)
-
-      offered-at : (w : Joining W T) (standing : JoinerState) (r : ChunkResult T) (y : O) (result : Result More MergeFault) (w' : Joining W T) (standing' : JoinerState) (y' : O) (offers : List (ChunkResult T)) → w'.order ≡ w.order
-          → HasJoinedAt made a x w standing y offers → AnswersOffer made w standing r y result w' standing' y'
+      offered-at : (w : Joining W T) (standing : JoinerState) (r : ChunkResult T) (y : O) (result : Result More MergeFault) (w' : Joining W T)
+          (standing' : JoinerState) (y' : O)
+          (offers : List (ChunkResult T)) → w'.order ≡ w.order → HasJoinedAt made a x w standing y offers
+          → AnswersOffer made w standing r y result w' standing' y'
           → (offers' : List (ChunkResult T)) × AreOneMore offers r offers' × LeavesAt w result w' standing' y' offers'
       offered-at w Open r y (Ok Yes) w' standing' y' offers same joined o =
-          added w r y (Ok None) w' y' offers o.1 joined.0
-          (subst (λ s. HasJoinedAt made a x w' s y' (offers ++ r ∷ [])) (sym o.0) (o.1.waits refl offers joined.0, made-grown w r y (Ok None) w' y' offers w'.order same joined.0 joined.1 o.1))
-      offered-at w Open r y (Ok No) w' standing' y' offers same joined o =
-          added w r y (Ok (Some o.0)) w' y' offers o.2 joined.0
-          (subst (λ s. HasJoinedAt made a x w' s y' (offers ++ r ∷ [])) (sym o.1) (made-grown w r y (Ok (Some o.0)) w' y' offers w'.order same joined.0 joined.1 o.2))
-      offered-at w Open r y (Err Memory) w' standing' y' offers same joined o =
-          added w r y (Err NoMemory) w' y' offers o.1 joined.0 (w'.taker, made-grown w r y (Err NoMemory) w' y' offers w.order refl joined.0 joined.1 o.1)
-      offered-at w Open r y (Err (Sink code)) w' standing' y' offers same joined o =
-          added w r y (Err (Refusal code)) w' y' offers o.1 joined.0 (w'.taker, made-grown w r y (Err (Refusal code)) w' y' offers w.order refl joined.0 joined.1 o.1)
-      offered-at w Open r y (Err Twice) w' standing' y' offers same joined o =
-          (offers, inl refl, (w.taker, subst (λ z. made a x (merged w.order offers) (Err NoMemory) w.taker z) (sym o.2) (stopped-at w y offers joined.0 joined.1)))
-      offered-at w Open r y (Err fault) w' standing' y' offers same joined o = absurd o
-      offered-at w (Decided e) r y (Ok more) w' standing' y' offers same joined o = (
-        offers,
-        inl refl,
-        subst (λ s. HasJoinedAt made a x w' s y' offers) (sym o.2)
-            (subst (λ v. HasJoinedAt made a x v (Decided e) y' offers) (sym o.1) (subst (λ z. HasJoinedAt made a x w (Decided e) z offers) (sym o.3) joined)),
+          let on = made-grown w r y (Ok None) w' y' offers w'.order same joined.0 joined.1 o.1 in
+          (offers ++ r ∷ [], inr (refl, o.1.are_new offers joined.0), rw o.0 (o.1.waits refl offers joined.0, on))
+      offered-at w Open r y (Ok No) w' standing' y' offers same joined o = (
+        offers ++ r ∷ [],
+        inr (refl, o.2.are_new offers joined.0),
+        rw o.1
+            (made-grown w r y (Ok (Some o.0)) w' y' offers w'.order same joined.0 joined.1 o.2),
       )
+      offered-at w Open r y (Err Memory) w' standing' y' offers same joined o = (
+        offers ++ r ∷ [],
+        inr (refl, o.1.are_new offers joined.0),
+        (w'.taker, made-grown w r y (Err NoMemory) w' y' offers w.order refl joined.0 joined.1 o.1),
+      )
+      offered-at w Open r y (Err (Sink code)) w' standing' y' offers same joined o = (
+        offers ++ r ∷ [],
+        inr (refl, o.1.are_new offers joined.0),
+        (w'.taker, made-grown w r y (Err (Refusal code)) w' y' offers w.order refl joined.0 joined.1 o.1),
+      )
+      offered-at w Open r y (Err Twice) w' standing' y' offers same joined o =
+          (offers, inl refl, (w.taker, rw o.2 (joined-stopped (record { work = w; standing = Open }) y offers joined.0 joined.1)))
+      offered-at w Open r y (Err fault) w' standing' y' offers same joined o = absurd o
+      offered-at w (Decided e) r y (Ok more) w' standing' y' offers same joined o = (offers, inl refl, rw (o.2, o.1, o.3) joined)
       offered-at w (Decided e) r y (Err fault) w' standing' y' offers same joined o = absurd (let bad : Err fault ≡ Ok No = o.0 in cc)
       offered-at w HasFailed r y result w' standing' y' offers same joined o = absurd joined
 

@@ -5,11 +5,11 @@ use Rattle.std.proofs.Math.Bool.{or-false, or-true}
 use Rattle.plinq_lambda.specs.Meaning.{Meaning}
 use Rattle.plinq_ops.specs.declared.results.ChunkResult.{ChunkResult}
 use Rattle.plinq_merge.specs.declared.merge_fault.MergeFault.{MergeFault}
-use Rattle.plinq_merge.specs.declared.merge_fault.MergeFault.TheVariants.{Memory, Sink, Twice, Cancelled, Failed}
+use Rattle.plinq_merge.specs.declared.merge_fault.MergeFault.TheVariants.{Memory, Sink, Twice, Cancelled}
 use Rattle.plinq_merge.specs.declared.more.More.{More}
 use Rattle.plinq_merge.specs.declared.more.More.TheVariants.{Yes, No}
 use Rattle.plinq_merge.specs.declared.joiner_state.JoinerState.{JoinerState}
-use Rattle.plinq_merge.specs.declared.joiner_state.JoinerState.TheVariants.{Open, Decided, Failed as HasFailed}
+use Rattle.plinq_merge.specs.declared.joiner_state.JoinerState.TheVariants.{Open}
 use Rattle.plinq_merge.specs.declared.delivery_fault.DeliveryFault.{DeliveryFault}
 use Rattle.plinq_merge.specs.declared.delivery_fault.DeliveryFault.TheVariants.{Memory as NoMemory, Sink as Refusal}
 use Rattle.plinq_merge.specs.declared.with_cancellation.WithCancellation.{WithCancellation}
@@ -17,8 +17,8 @@ use Rattle.plinq_merge.specs.Sending.{Leads, IsCutOff}
 use Rattle.plinq_merge.specs.Shown.{Merge}
 use Rattle.plinq_merge.specs.Working.{Work}
 use Rattle.plinq_merge.specs.Offering.{Brings, Offers, OffersWith, IsCancelled}
-use Rattle.plinq_merge.specs.Cancelling.{Delivery, Passes, IsRefused, IsKeptBack, Counts, CountsNot, Tally}
-use Rattle.plinq_merge.specs.Mergers.{AsksEach, delivery_fault_of, is_cancelled, SendsSome}
+use Rattle.plinq_merge.specs.Cancelling.{Delivery, Passes, IsRefused, IsKeptBack}
+use Rattle.plinq_merge.specs.Mergers.{AsksEach, delivery_fault_of, is_cancelled, told_with, SendsSome}
 use Rattle.plinq_merge.specs.Lent.{AreSame, delivery_of, Takes, KeptOrRefused, Refuses}
 
 pub leads-map : {K M B : Type 0} (f : K → M) (accepts : K → B → K → Type 0) (accepts' : M → B → M → Type 0) → ((s : K) (b : B) (s' : K) → accepts s b s' → accepts' (f s) b (f s'))
@@ -130,90 +130,67 @@ module _ {C K T : Type 0} (asks : C → ℕ → Bool → C → Type 0) (accepts 
       let P : Bool → Type 0 = λ is. KeptOrRefused asks refuses is (delivery_of m) cut.1 code (delivery_of w') in
       record { sent = cut.0; kept = cut.1; rest = cut.2; parts = cut.4; last = delivery_of m; leads = on.leads; stops = subst P after (end.was (on.still ∙ before)) }
 
-  pub sends-same : (w : WithCancellation C K) (r : Result More MergeFault) (w' : WithCancellation C K) → SendsSome (Takes asks accepts) (Refuses asks refuses) w r w' → AreSame w w'
+  abbrev Sends : WithCancellation C K → Result More MergeFault → WithCancellation C K → Type 0
+  Sends w r w' = SendsSome (Takes asks accepts) (Refuses asks refuses) w r w'
+
+  pub sends-same : (w : WithCancellation C K) (r : Result More MergeFault) (w' : WithCancellation C K) → Sends w r w' → AreSame w w'
   sends-same w (Ok more) w' sends = let on = leads-on w sends.0 w' sends.1 in on.same
+  sends-same w (Err Cancelled) w' sends = absurd sends
   sends-same w (Err fault) w' sends = cut-same w sends.0 (delivery_fault_of fault) w' sends.1
 
-  pub asks-stopped : (w : WithCancellation C K) (r : Result More MergeFault) (w' : WithCancellation C K) → w.is_stopped ≡ false → w'.is_stopped ≡ true
-      → SendsSome (Takes asks accepts) (Refuses asks refuses) w r w' → AsksEach asks accepts refuses (delivery_of w) (Err Cancelled) (delivery_of w')
-  asks-stopped w (Ok more) w' before after sends = let on = leads-on w sends.0 w' sends.1 in absurd (let bad : true ≡ false = sym after ∙ on.still ∙ before in cc)
-  asks-stopped w (Err fault) w' before after sends = (sends.0, cut-kept w sends.0 (delivery_fault_of fault) w' before after sends.1)
+  module _ (w w' : WithCancellation C K) (before : w.is_stopped ≡ false) where
+    -- where each batch passed, the token hasn't stopped
+    not-stopped : {P : Type 0} → w'.is_stopped ≡ w.is_stopped → w'.is_stopped ≡ true → P
+    not-stopped still after = absurd (let bad : true ≡ false = sym after ∙ still ∙ before in cc)
 
-  pub asks-on : (w : WithCancellation C K) (r : Result More MergeFault) (w' : WithCancellation C K) → w.is_stopped ≡ false → w'.is_stopped ≡ false → (r ≡ Err Cancelled → ⊥)
-      → SendsSome (Takes asks accepts) (Refuses asks refuses) w r w' → AsksEach asks accepts refuses (delivery_of w) r (delivery_of w')
-  asks-on w (Ok more) w' before after never sends = let on = leads-on w sends.0 w' sends.1 in (sends.0, on.leads)
-  asks-on w (Err Cancelled) w' before after never sends = absurd (never refl)
-  asks-on w (Err fault) w' before after never sends = (sends.0, cut-on w sends.0 (delivery_fault_of fault) w' before after sends.1)
+    -- the token was asked before each batch
+    pub asks-within : (stops : Bool) (r : Result More MergeFault) → w'.is_stopped ≡ stops → Sends w r w'
+        → AsksEach asks accepts refuses (delivery_of w) (told_with stops r) (delivery_of w')
+    asks-within stops (Err Cancelled) after sends = absurd sends
+    asks-within true (Ok more) after sends = let on = leads-on w sends.0 w' sends.1 in not-stopped on.still after
+    asks-within true (Err fault) after sends = (sends.0, cut-kept w sends.0 (delivery_fault_of fault) w' before after sends.1)
+    asks-within false (Ok more) after sends = let on = leads-on w sends.0 w' sends.1 in (sends.0, on.leads)
+    asks-within false (Err fault) after sends = (sends.0, cut-on w sends.0 (delivery_fault_of fault) w' before after sends.1)
 
-  module _ {L : Type 0} (meaning : L → Meaning T) (decided : Bool) where
-    -- without a token no offer is cancelled
-    pub offers-never : (x : Work L T) (standing : JoinerState) (r : ChunkResult T) (w : WithCancellation C K) (told : Result More MergeFault) (x' : Work L T) (standing' : JoinerState) (w' : WithCancellation C K)
-        → Offers meaning decided (Takes asks accepts) (Refuses asks refuses) x standing r w told x' standing' w' → told ≡ Err Cancelled → ⊥
-    offers-never x Open r w (Err Cancelled) x' standing' w' o is = o
-    offers-never x Open r w told x' standing' w' o is = cc
-    offers-never x (Decided e) r w told x' standing' w' o is = let bad : Err Cancelled ≡ Ok No = sym is ∙ o.0 in cc
-    offers-never x HasFailed r w told x' standing' w' o is = let bad : Err Cancelled ≡ Err Failed = sym is ∙ o.0 in cc
+    module _ {L : Type 0} (meaning : L → Meaning T) (decided : Bool) (x : Work L T) (r : ChunkResult T) (x' : Work L T) (standing' : JoinerState) where
+      abbrev OffersTo : JoinerState → Result More MergeFault → Type 0
+      OffersTo standing told = Offers meaning decided (Takes asks accepts) (Refuses asks refuses) x standing r w told x' standing' w'
 
-    pub offers-stopped : (x : Work L T) (standing : JoinerState) (r : ChunkResult T) (w : WithCancellation C K) (told : Result More MergeFault) (x' : Work L T) (standing' : JoinerState) (w' : WithCancellation C K)
-        → w.is_stopped ≡ false → w'.is_stopped ≡ true → SendsSome (Takes asks accepts) (Refuses asks refuses) w told w'
-        → Offers meaning decided (Takes asks accepts) (Refuses asks refuses) x standing r w told x' standing' w' → IsCancelled meaning decided asks accepts x standing r (delivery_of w) standing' (delivery_of w')
-    offers-stopped x Open r w (Ok more) x' standing' w' before after sends o = let on = leads-on w sends.0 w' sends.1 in absurd (let bad : true ≡ false = sym after ∙ on.still ∙ before in cc)
-    offers-stopped x Open r w (Err Memory) x' standing' w' before after sends o =
-        (refl, o.0, λ offers rests. brings-map _ offers r _ _ (λ bs. cut-kept w bs NoMemory w' before after) (o.1 offers rests))
-    offers-stopped x Open r w (Err (Sink code)) x' standing' w' before after sends o =
-        (refl, o.0, λ offers rests. brings-map _ offers r _ _ (λ bs. cut-kept w bs (Refusal code) w' before after) (o.1 offers rests))
-    offers-stopped x Open r w (Err Twice) x' standing' w' before after sends o = absurd (let bad : true ≡ false = sym after ∙ ap (λ y. y.is_stopped) o.2 ∙ before in cc)
-    offers-stopped x Open r w (Err fault) x' standing' w' before after sends o = absurd o
-    offers-stopped x standing r w told x' standing' w' before after sends o = absurd (let bad : true ≡ false = sym after ∙ ap (λ y. y.is_stopped) o.3 ∙ before in cc)
+      offers-stopped : (standing : JoinerState) (told : Result More MergeFault) → w'.is_stopped ≡ true → Sends w told w' → OffersTo standing told
+          → IsCancelled meaning decided asks accepts x standing r (delivery_of w) standing' (delivery_of w')
+      offers-stopped Open (Ok more) after sends o = let on = leads-on w sends.0 w' sends.1 in not-stopped on.still after
+      offers-stopped Open (Err Memory) after sends o =
+          (refl, o.0, λ offers rests. brings-map _ offers r _ _ (λ bs. cut-kept w bs NoMemory w' before after) (o.1 offers rests))
+      offers-stopped Open (Err (Sink code)) after sends o =
+          (refl, o.0, λ offers rests. brings-map _ offers r _ _ (λ bs. cut-kept w bs (Refusal code) w' before after) (o.1 offers rests))
+      offers-stopped Open (Err Twice) after sends o = not-stopped (ap (λ y. y.is_stopped) o.2) after
+      offers-stopped Open (Err fault) after sends o = absurd o
+      offers-stopped standing told after sends o = not-stopped (ap (λ y. y.is_stopped) o.3) after
 
-    pub offers-passed : (x : Work L T) (standing : JoinerState) (r : ChunkResult T) (w : WithCancellation C K) (told : Result More MergeFault) (x' : Work L T) (standing' : JoinerState) (w' : WithCancellation C K)
-        → w.is_stopped ≡ false → w'.is_stopped ≡ false → Offers meaning decided (Takes asks accepts) (Refuses asks refuses) x standing r w told x' standing' w'
-        → Offers meaning decided (Passes asks accepts) (IsRefused asks refuses) x standing r (delivery_of w) told x' standing' (delivery_of w')
-    offers-passed x standing r w told x' standing' w' before after o =
-        offers-map meaning decided (Takes asks accepts) (Refuses asks refuses) (Passes asks accepts) (IsRefused asks refuses) w w' (delivery_of w) (delivery_of w')
-        (λ bs leads. let on = leads-on w bs w' leads in on.leads) (λ bs fault cut. cut-on w bs fault w' before after cut) (λ is. ap delivery_of is)
-        x standing r told x' standing' o
+      -- an offer to a token and a sink as one sink is one to both
+      pub offers-within : (standing : JoinerState) (stops : Bool) (told : Result More MergeFault) → w'.is_stopped ≡ stops → Sends w told w'
+          → OffersTo standing told
+          → OffersWith meaning decided asks accepts refuses x standing r (delivery_of w) (told_with stops told) x' standing' (delivery_of w')
+      offers-within standing stops (Err Cancelled) after sends o = absurd sends
+      offers-within standing true told after sends o = offers-stopped standing told after sends o
+      offers-within standing false told after sends o =
+          offers-map meaning decided (Takes asks accepts) (Refuses asks refuses) (Passes asks accepts) (IsRefused asks refuses) w w' (delivery_of w)
+          (delivery_of w')
+          (λ bs leads. let on = leads-on w bs w' leads in on.leads) (λ bs fault cut. cut-on w bs fault w' before after cut)
+          (ap delivery_of) x standing r told x' standing' o
 
-module _ {C K T L : Type 0} (asks : C → ℕ → Bool → C → Type 0) (accepts : K → List T → K → Type 0) (refuses : K → List T → ℕ → K → Type 0) (meaning : L → Meaning T) (decided : Bool) where
-  -- an offer that wasn't cancelled
-  pub offers-with : (x : Work L T) (standing : JoinerState) (r : ChunkResult T) (d : Delivery C K) (told : Result More MergeFault) (x' : Work L T) (standing' : JoinerState) (d' : Delivery C K) → (told ≡ Err Cancelled → ⊥)
-      → Offers meaning decided (Passes asks accepts) (IsRefused asks refuses) x standing r d told x' standing' d' → OffersWith meaning decided asks accepts refuses x standing r d told x' standing' d'
-  offers-with x standing r d (Err Cancelled) x' standing' d' never o = absurd (never refl)
-  offers-with x standing r d told x' standing' d' never o = o
-
-  -- an offer with a token that never stops
-  pub offers-without : ((c c' : C) (n : ℕ) → asks c n true c' → ⊥) → (x : Work L T) (standing : JoinerState) (r : ChunkResult T) (d : Delivery C K) (told : Result More MergeFault) (x' : Work L T) (standing' : JoinerState) (d' : Delivery C K)
-      → AsksEach asks accepts refuses d told d' → OffersWith meaning decided asks accepts refuses x standing r d told x' standing' d'
-      → Offers meaning decided (Passes asks accepts) (IsRefused asks refuses) x standing r d told x' standing' d'
-  offers-without never x standing r d (Err Cancelled) x' standing' d' asked o = absurd (never _ _ _ asked.1.stops.asked)
-  offers-without never x standing r d told x' standing' d' asked o = o
-
--- what is left of a delivery without its token
-abbrev pub tally_of : {C K : Type 0} → Delivery C K → Tally K
-tally_of d = record { sink = d.sink; delivered = d.delivered }
-
-module _ {C K T L : Type 0} (asks : C → ℕ → Bool → C → Type 0) (accepts : K → List T → K → Type 0) (refuses : K → List T → ℕ → K → Type 0) (meaning : L → Meaning T) (decided : Bool) (never : (c c' : C) (n : ℕ) → asks c n true c' → ⊥) where
-  -- along a function of deliveries
-  offers-seen : {M : Type 0} (f : Delivery C K → M) (accepts' : M → List T → M → Type 0) (refuses' : M → List T → ℕ → M → Type 0)
-      → ((d : Delivery C K) (b : List T) (d' : Delivery C K) → Passes asks accepts d b d' → accepts' (f d) b (f d'))
+-- where the token never stops, along a function of deliveries
+module _ {C K T L M : Type 0} (asks : C → ℕ → Bool → C → Type 0) (never : (c c' : C) (n : ℕ) → asks c n true c' → ⊥) (accepts : K → List T → K → Type 0)
+    (refuses : K → List T → ℕ → K → Type 0) (meaning : L → Meaning T) (decided : Bool) (accepts' : M → List T → M → Type 0)
+    (refuses' : M → List T → ℕ → M → Type 0) where
+  pub offers-seen : (f : Delivery C K → M) → ((d : Delivery C K) (b : List T) (d' : Delivery C K) → Passes asks accepts d b d' → accepts' (f d) b (f d'))
       → ((d : Delivery C K) (b : List T) (code : ℕ) (d' : Delivery C K) → IsRefused asks refuses d b code d' → refuses' (f d) b code (f d'))
-      → (w : Work L T) (standing : JoinerState) (r : ChunkResult T) (d : Delivery C K) (told : Result More MergeFault) (w' : Work L T) (standing' : JoinerState) (d' : Delivery C K)
-      → AsksEach asks accepts refuses d told d' → OffersWith meaning decided asks accepts refuses w standing r d told w' standing' d'
+      → (w : Work L T) (standing : JoinerState) (r : ChunkResult T) (d : Delivery C K) (told : Result More MergeFault) (w' : Work L T) (standing' : JoinerState)
+      (d' : Delivery C K) → AsksEach asks accepts refuses d told d' → OffersWith meaning decided asks accepts refuses w standing r d told w' standing' d'
       → Offers meaning decided accepts' refuses' w standing r (f d) told w' standing' (f d')
-  offers-seen f accepts' refuses' takes refused w standing r d told w' standing' d' asked o =
+  offers-seen f takes refused w standing r d (Err Cancelled) w' standing' d' asked o = absurd (never _ _ _ asked.1.stops.asked)
+  offers-seen f takes refused w standing r d told w' standing' d' asked o =
       offers-map meaning decided (Passes asks accepts) (IsRefused asks refuses) accepts' refuses' d d' (f d) (f d')
       (λ bs. leads-map f (Passes asks accepts) accepts' takes d bs d')
       (λ bs fault. cut-map f (Passes asks accepts) (IsRefused asks refuses) accepts' refuses' takes refused d bs fault d')
-      (λ is. ap f is)
-      w standing r told w' standing' (offers-without asks accepts refuses meaning decided never w standing r d told w' standing' d' asked o)
-
-  pub offers-plain : (w : Work L T) (standing : JoinerState) (r : ChunkResult T) (d : Delivery C K) (told : Result More MergeFault) (w' : Work L T) (standing' : JoinerState) (d' : Delivery C K)
-      → AsksEach asks accepts refuses d told d' → OffersWith meaning decided asks accepts refuses w standing r d told w' standing' d'
-      → Offers meaning decided accepts refuses w standing r d.sink told w' standing' d'.sink
-  offers-plain = offers-seen (λ d. d.sink) accepts refuses (λ d b d' passes. passes.taken) (λ d b code d' refused. refused.refused)
-
-  pub offers-counted : (w : Work L T) (standing : JoinerState) (r : ChunkResult T) (d : Delivery C K) (told : Result More MergeFault) (w' : Work L T) (standing' : JoinerState) (d' : Delivery C K)
-      → AsksEach asks accepts refuses d told d' → OffersWith meaning decided asks accepts refuses w standing r d told w' standing' d'
-      → Offers meaning decided (Counts accepts) (CountsNot refuses) w standing r (tally_of d) told w' standing' (tally_of d')
-  offers-counted =
-      offers-seen tally_of (Counts accepts) (CountsNot refuses) (λ d b d' passes. (passes.taken, passes.counts)) (λ d b code d' refused. (refused.refused, refused.counts))
+      (ap f) w standing r told w' standing' o

@@ -1,5 +1,5 @@
 -- What an offer to a merger brings: what the answer gains by it, and what the merger answers.
-use Rattle.std.specs.Prelude.{◌≡◌, ℕ, List, [], ◌∷◌, ◌++◌, Bool, true, false, cond, Option, Some, None, Result, Ok, Err, is_some, refl, not}
+use Rattle.std.specs.Prelude.{◌≡◌, ℕ, List, [], ◌∷◌, ◌++◌, Bool, true, false, cond, Option, Some, None, Result, Ok, Err, refl, not}
 use Rattle.std.proofs.Common.{sym, ◌∙◌, ap, subst}
 use Rattle.std.proofs.lemmas.Bool.{and_parts, not-true}
 use Rattle.plinq_source.specs.declared.ending.Ending.{Ending}
@@ -136,11 +136,6 @@ module _ {L T : Type 0} (meaning : L → Meaning T) (decided : Bool) where
         let made = joins.taken in
         let gives = made.gives in
         ap (λ t. t.ending) (answer-gained w offers r joins.gained rests (joins.grows offers rests.waits)) ∙ gives.0
-
--- an answer that has ended isn't open
-pub some_not_none : {A : Type 0} (e : Option Ending) → is_some e ≡ true → ◌≡◌ {A = Result (Option Ending) DeliveryFault} (Ok e) (Ok None) → A
-some_not_none None some none = absurd (let bad : false ≡ true = some in cc)
-some_not_none (Some e) some none = absurd (cc)
 
 -- operators that can take items give nothing of nothing
 pub nothing-given : {L T : Type 0} (meaning : L → Meaning T) (d : Deliver L T) → can_deliver meaning d ≡ true → seq (stages meaning d.pipeline) (open_trace []) ≡ open_trace []

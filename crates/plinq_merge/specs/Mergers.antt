@@ -59,9 +59,10 @@ delivery_fault_of Cancelled = NoMemory
 abbrev pub StopsShort : {K B : Type 0} → (K → B → K → Type 0) → (K → B → ℕ → K → Type 0) → K → List B → MergeFault → K → Type 0
 StopsShort accepts refuses s bs fault s' = IsCutOff accepts refuses s bs (delivery_fault_of fault) s'
 
--- some batches were delivered, or the first of some
+-- some batches were delivered, or the first of some; no offer without a token is cancelled
 abbrev pub SendsSome : {K B : Type 0} → (K → B → K → Type 0) → (K → B → ℕ → K → Type 0) → K → Result More MergeFault → K → Type 0
 SendsSome {K} {B} accepts refuses s (Ok more) s' = (bs : List B) × Leads accepts s bs s'
+SendsSome accepts refuses s (Err Cancelled) s' = ⊥
 SendsSome {K} {B} accepts refuses s (Err fault) s' = (bs : List B) × StopsShort accepts refuses s bs fault s'
 
 -- the token was asked before each of them, and where that stopped the delivery, before one more
@@ -70,6 +71,11 @@ abbrev pub AsksEach : {C K T : Type 0} → (C → ℕ → Bool → C → Type 0)
 AsksEach asks accepts refuses d (Ok more) d' = SendsSome (Passes asks accepts) (IsRefused asks refuses) d (Ok more) d'
 AsksEach {C} {K} {T} asks accepts refuses d (Err Cancelled) d' = (bs : List (List T)) × IsKeptBack asks accepts d bs d'
 AsksEach asks accepts refuses d (Err fault) d' = SendsSome (Passes asks accepts) (IsRefused asks refuses) d (Err fault) d'
+
+-- what an offer answers whose delivery the token may have stopped
+abbrev pub told_with : Bool → Result More MergeFault → Result More MergeFault
+told_with true told = Err Cancelled
+told_with false told = told
 
 -- the token has stopped it
 abbrev pub is_cancelled : Result More MergeFault → Bool

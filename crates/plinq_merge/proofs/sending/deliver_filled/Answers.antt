@@ -1,6 +1,6 @@
-use Rattle.std.proofs.Common.{rules, ◌≡◌, ◌<◌, ◌+◌, [], ◌∷◌, ◌++◌, length, Err, arith, take, drop, ◌∙◌, sym, refl, ◌==◌, false}
+use Rattle.std.proofs.Common.{rules, ◌≡◌, [], ◌∷◌, ◌++◌, length, Err, arith, take, drop, ◌∙◌, sym, refl, ◌==◌, false}
 use Rattle.plinq_merge.specs.Sending.{Leads, IsCutOff}
-use Rattle.plinq_merge.proofs.Blocks.{taken-full, full_batches-short, held_back-short, filled-all, short-filled}
+use Rattle.plinq_merge.proofs.Blocks.{taken-full, short, filled-all, short-filled}
 use Rattle.plinq_merge.specs.inner.Sent.{cut-before, delivers-at_err, delivers-after, delivers-as}
 use Rattle.plinq_merge.proofs.sending.deliver_filled.Goals as goal
 
@@ -12,11 +12,10 @@ returns-then-not-is_full-clause-filled g c =
     let k = c.fill_from_slice-taken.result in
     let is : c.fill_from_slice-taken.new.self.items ≡ held ++ take k xs = search rules in
     let test : (length c.fill_from_slice-taken.new.self.items == n) ≡ false = search rules in
-    let short : length held + length xs < n = short-filled n k held xs c.fill_from_slice-taken.new.self.items c.fill_from_slice-taken.ensures.count is c.requires test in
-    record {
-      held = filled-all n k held xs c.fill_from_slice-taken.new.self.items c.fill_from_slice-taken.ensures.count (omega arith) is ∙ sym (held_back-short n held xs short);
-      sent = rw (full_batches-short n held xs short) refl;
-    }
+    let few = short-filled n k held xs c.fill_from_slice-taken.new.self.items c.fill_from_slice-taken.ensures.count is c.requires test in
+    let kept = short n held xs few in
+    let all = filled-all n k held xs c.fill_from_slice-taken.new.self.items c.fill_from_slice-taken.ensures.count (omega arith) is in
+    record { held = all ∙ sym kept.1; sent = rw kept.0 refl }
 
 pub returns-in_err-sent-clause-filled : goal.returns-in_err-sent-clause-filled
 returns-in_err-sent-clause-filled g c =

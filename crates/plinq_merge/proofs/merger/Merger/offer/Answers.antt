@@ -1,6 +1,7 @@
 use Rattle.std.proofs.Common.{◌≡◌, ℕ, true, false, Bool}
 use Rattle.plinq_merge.specs.declared.never_cancel.NeverCancel.{NeverCancel}
-use Rattle.plinq_merge.proofs.Lent.{offers-plain, offers-counted}
+use Rattle.plinq_merge.specs.Cancelling.{Counts, CountsNot}
+use Rattle.plinq_merge.proofs.Lent.{offers-seen}
 use Rattle.plinq_merge.proofs.merger.Merger.offer.Goals as goal
 
 abbrev never : NeverCancel → ℕ → Bool → NeverCancel → Type 0
@@ -13,10 +14,16 @@ pub returns-clause-takes : goal.returns-clause-takes
 returns-clause-takes g c =
     let m = c.args.self.now in
     let m' = c.offer_with.new.self in
-    offers-plain never g.K.Sink.accepts g.K.Sink.refuses g.L.Lambda.meaning m.decided nothing-stops m.joiner.work m.joiner.standing c.args.offered _ c.offer_with.result m'.joiner.work m'.joiner.standing _ c.offer_with.ensures.asks c.offer_with.ensures.takes
+    offers-seen never nothing-stops g.K.Sink.accepts g.K.Sink.refuses g.L.Lambda.meaning m.decided g.K.Sink.accepts g.K.Sink.refuses (λ d. d.sink)
+    (λ d b d' passes. passes.taken) (λ d b code d' refused. refused.refused) m.joiner.work m.joiner.standing c.args.offered _ c.offer_with.result
+    m'.joiner.work m'.joiner.standing _ c.offer_with.ensures.asks c.offer_with.ensures.takes
 
 pub returns-clause-counts : goal.returns-clause-counts
 returns-clause-counts g c =
     let m = c.args.self.now in
     let m' = c.offer_with.new.self in
-    offers-counted never g.K.Sink.accepts g.K.Sink.refuses g.L.Lambda.meaning m.decided nothing-stops m.joiner.work m.joiner.standing c.args.offered _ c.offer_with.result m'.joiner.work m'.joiner.standing _ c.offer_with.ensures.asks c.offer_with.ensures.takes
+    offers-seen never nothing-stops g.K.Sink.accepts g.K.Sink.refuses g.L.Lambda.meaning m.decided (Counts g.K.Sink.accepts) (CountsNot g.K.Sink.refuses)
+    (λ d. record { sink = d.sink; delivered = d.delivered }) (λ d b d' passes. (passes.taken, passes.counts))
+    (λ d b code d' refused. (refused.refused, refused.counts))
+    m.joiner.work m.joiner.standing c.args.offered _ c.offer_with.result m'.joiner.work m'.joiner.standing _ c.offer_with.ensures.asks
+    c.offer_with.ensures.takes
