@@ -2,7 +2,7 @@
 use Rattle.std.specs.Prelude.{◌≡◌, ℕ, ◌<◌, List, [], ◌∷◌, ◌++◌, true, false, ◌||◌, nat_lt, ◌⊎◌, Option, Some, None, Result, Ok, Err, refl}
 use Rattle.std.specs.Option.{option_or}
 use Rattle.std.proofs.Common.{sym, ◌∙◌, ap, subst, inl, inr, arith}
-use Rattle.std.proofs.lemmas.Bool.{or_left, or_from, lt-ltb, le-ltb}
+use Rattle.std.proofs.lemmas.Bool.{or_from, le-ltb}
 use Rattle.std.proofs.lemmas.List.Elements.{All-nil}
 use Rattle.plinq_source.specs.declared.ending.Ending.{Ending}
 use Rattle.plinq_source.specs.Trace.{Trace, open_trace, followed}
@@ -24,7 +24,7 @@ use Rattle.plinq_merge.specs.declared.joiner_state.JoinerState.{JoinerState}
 use Rattle.plinq_merge.specs.declared.joiner_state.JoinerState.TheVariants.{Open, Decided, Failed as HasFailed}
 use Rattle.plinq_merge.specs.declared.joiner.Joiner.{Joiner}
 use Rattle.plinq_merge.specs.Shown.{ending_at, at_once, waiting_trace, merged}
-use Rattle.plinq_merge.specs.Keys.{is_offered, AreNew}
+use Rattle.plinq_merge.specs.Keys.{AreNew}
 use Rattle.plinq_merge.specs.Merging.{Holds, TakesIn}
 use Rattle.plinq_merge.specs.Taking.{IsTaking}
 use Rattle.plinq_merge.specs.Joining.{rest_of, HasKeys, Waits, HasMoved, Joins, AnswersOffer}
@@ -71,12 +71,6 @@ module _ {T : Type 0} where
       let begun : Waits order (row_in none None) [] =
       record { out = []; holds = holds; keys = λ key. sym (or_from (nat_lt key 0) false (le-ltb key 0 (omega arith)) refl); missing = refl; nothing = refl } in
       subst (λ b. Waits order (row_in b row.told) []) (sym empty) (subst (λ t. Waits order (row_in none t) []) (sym told) begun)
-
-  -- while more may follow, the next key is the first that is missing
-  pub next-waits : (order : Order) (row : Row T) (offers : List (ChunkResult T)) → Waits order row offers
-      → ((key : ℕ) → key < row.buffer.next → is_offered offers key ≡ true) × (is_offered offers row.buffer.next ≡ false)
-  next-waits order row offers waits =
-      (λ key before. waits.keys key ∙ or_left _ _ (lt-ltb key row.buffer.next before), waits.keys row.buffer.next ∙ waits.missing)
 
   open-is : (t : Trace T) → t.ending ≡ None → t ≡ open_trace t.items
   open-is t none = ap (trace_of t.items) none

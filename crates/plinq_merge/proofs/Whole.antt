@@ -265,3 +265,6 @@ module _ {L T : Type 0} (meaning : L → Meaning T) (worker : List (Op L)) (t : 
   -- and so is that to all of the source
   pub answer-whole : AreWhole t offers → answer merge offers ≡ seq merge.after (glue meaning worker t)
   answer-whole all = by_key-answer ∙ ap (seq merge.after) (merged-whole meaning worker t few offers are tails all)
+
+-- what the laws state
+pub ruleset of_source = (shown-first, decided-whole, answer-whole)

@@ -1,6 +1,8 @@
 //! Laws of what merged results show, each the contract of a function with nothing to do.
 //!
 //! They speak of results of one source, for a merger by key: whatever was offered of it, and in whatever order.
+#![tactic(auto, using(crate::proofs::Whole::of_source))]
+
 ghost use Rattle.std.specs.Prelude.{◌≡◌, ◌≤◌, List, [], length, false, Some};
 ghost use Rattle.std.specs.List.{Contains};
 ghost use Rattle.plinq_source.specs.declared.ending.Ending.{Ending};
