@@ -1,12 +1,12 @@
 -- What was delivered of items that were fed to operators.
 use Rattle.std.specs.Prelude.{◌≡◌, Bool, ℕ, ◌<◌, List, [], length, true, false, not, ◌&&◌, Option, Some, None, IfSome, Ok, refl, ◌+◌, ◌≤◌, ◌++◌, drop, Result, Err, OnOk, IfOk}
 use Rattle.std.specs.List.{list_any}
-use Rattle.std.proofs.Common.{sym, ◌∙◌, ap, subst, arith, append_assoc, append-nil}
+use Rattle.std.proofs.Common.{sym, ◌∙◌, ap, subst, append_assoc, append-nil}
 use Rattle.std.proofs.lemmas.Bool.{lt-ltb}
-use Rattle.std.proofs.lemmas.List.{length-take, take-append-drop}
+use Rattle.std.proofs.lemmas.List.{take-append-drop}
 use Rattle.std.proofs.lemmas.Result.{IfOk-weaker}
 use Rattle.plinq_source.specs.declared.ending.Ending.{Ending}
-use Rattle.plinq_source.specs.Trace.{Trace, open_trace, followed, ended, items_from}
+use Rattle.plinq_source.specs.Trace.{Trace, open_trace, followed, ended}
 use Rattle.plinq_source.proofs.Followed.{trace_of, followed-followed}
 use Rattle.plinq_source.specs.declared.ending.Ending.TheVariants.{End}
 use Rattle.plinq_lambda.specs.Meaning.{Meaning}
@@ -31,6 +31,7 @@ use Rattle.plinq_merge.specs.Buffer.{held_of, size_of, HasRoom}
 use Rattle.plinq_merge.specs.Sending.{Leads, IsCutOff, Delivers, IsFilled}
 use Rattle.plinq_merge.specs.Merging.{GoesOn}
 use Rattle.plinq_merge.specs.Delivering.{Line, KeepsPlan, line_of, is_below, can_deliver, Made}
+use Rattle.plinq_merge.specs.Deliveries.{batches-on}
 use Rattle.plinq_merge.specs.inner.Handing.{HandsOn}
 use Rattle.plinq_merge.specs.inner.OneThread.{DeliversAnswer}
 use Rattle.plinq_merge.specs.inner.Sent.{leads-append, cut-after, cut-before, delivers-as, delivers-after}
@@ -101,10 +102,6 @@ pub on-any : {A E : Type 0} (P : Type 0) (r : Result A E) → P → OnOk r P
 on-any P (Ok x) p = p
 on-any P (Err e) p = tt
 
--- a source that was asked for so many items gave no more
-pub within-block : {T : Type 0} (t : Trace T) (n m most : ℕ) → m ≡ n + length (items_from t n most) → m ≤ n + most
-within-block t n m most is = omega (arith, is, length-take most (drop n t.items))
-
 -- all of the items were handed on
 pub hands-all : {K T A : Type 0} (accepts : K → List T → K → Type 0) (refuses : K → List T → ℕ → K → Type 0) (size : Option ℕ) (held made : List T) (s : K) (r : Result A DeliveryFault) (held' : List T) (s' : K)
     → IsFilled accepts refuses size held made s r held' s' → HandsOn accepts refuses size held made s r held' [] s'
@@ -125,8 +122,11 @@ module _ {K T : Type 0} (accepts : K → List T → K → Type 0) (refuses : K �
   feeds-after : (ss' ss'' : List (Stage T)) (t : Trace T) (n m : ℕ) (held made made' : List T) (s' : K) (e : Option Ending) (before : HasSent (first_items n t) held made ss' s' None)
       → FeedsFrom ss' t n m made made' ss'' e → FeedsFrom ss' t n m (before.out ++ made) (before.out ++ made') ss'' e
   feeds-after ss' ss'' t n m held made made' s' e before next =
-      let items : before.out ++ made' ≡ (before.out ++ made) ++ (seq ss' next.piece).items = ap (λ ys. before.out ++ ys) next.fed.items ∙ sym (append_assoc before.out made (seq ss' next.piece).items) in
-      record { piece = next.piece; given = next.given; fed = record { items = items; told = next.fed.told; left = next.fed.left } }
+      record {
+        piece = next.piece;
+        given = next.given;
+        fed = record { items = ap (λ ys. before.out ++ ys) next.fed.items ∙ sym (append_assoc before.out made _); told = next.fed.told; left = next.fed.left };
+      }
 
   -- what the source gave next leaves the answer open
   pub sent-on : (ss' ss'' : List (Stage T)) (t : Trace T) (n m : ℕ) (held made made' : List T) (s' : K)
@@ -164,12 +164,10 @@ module _ {K T : Type 0} (accepts : K → List T → K → Type 0) (refuses : K �
       let out : List T = before.out ++ made' in
       let last = feeds-after ss' ss'' t n m held made made' s1 (Some e) before next in
       let fed : IsFed ss t [] out ss'' (Some e) = fed-over ss ss' ss'' t n m [] (before.out ++ made) out e before.fed last in
-      let all : batches_from size [] (seq ss t) ≡ full_batches size [] before.out ++ batches_from size held (ended made' e) =
-      ap (batches_from size []) (sym (answer-fed ss ss'' t [] out e refl fed)) ∙ batches_from-followed size [] before.out (ended made' e) ∙ ap (λ h. full_batches size [] before.out ++ batches_from size h (ended made' e)) (sym before.keeps) in
+      let all = batches-on size [] before.out held (seq ss t) (ended made' e) (sym (answer-fed ss ss'' t [] out e refl fed)) before.keeps in
       record {
         ending = IfOk-weaker r (λ x. x ≡ e) (λ x. (seq ss t).ending ≡ Some x) (λ x same. sym fed.told ∙ ap Some (sym same)) told;
-        delivered = delivers-as accepts refuses s (batches_from size [] (seq ss t)) (full_batches size [] before.out ++ batches_from size held (ended made' e)) r s2 all
-            (delivers-after accepts refuses s (full_batches size [] before.out) (batches_from size held (ended made' e)) s1 r s2 before.leads rest);
+        delivered = delivers-as accepts refuses s _ _ r s2 all (delivers-after accepts refuses s _ _ s1 r s2 before.leads rest);
         blocks = on-any _ r (deciding-over most ss ss' ss'' t n m [] (before.out ++ made) out e block before.fed last);
       }
 
@@ -189,16 +187,11 @@ module _ {K T : Type 0} (accepts : K → List T → K → Type 0) (refuses : K �
       ∙ ap (λ xs. followed (open_trace (before.out ++ xs)) more) hands.parts
       ∙ followed-followed (open_trace before.out) (open_trace (given ++ left)) more
       ∙ ap (followed (open_trace before.out)) (followed-followed (open_trace given) (open_trace left) more) in
-      let later : List (List T) = batches_from size (held_back size held given) rest in
-      let all : batches_from size [] (seq ss t) ≡ full_batches size [] before.out ++ (full_batches size held given ++ later) =
-      ap (batches_from size []) answer
-      ∙ batches_from-followed size [] before.out (followed (open_trace given) rest)
-      ∙ ap (λ h. full_batches size [] before.out ++ batches_from size h (followed (open_trace given) rest)) (sym before.keeps)
+      let all = batches-on size [] before.out held (seq ss t) (followed (open_trace given) rest) answer before.keeps
       ∙ ap (λ bs. full_batches size [] before.out ++ bs) (batches_from-followed size held given rest) in
-      let P : List (List T) → Type 0 = λ bs. IsCutOff accepts refuses s bs fault s2 in
-      let part = subst P (sym all)
-      (cut-after accepts refuses s (full_batches size [] before.out) (full_batches size held given ++ later) fault s1 s2 before.leads
-      (cut-before accepts refuses s1 (full_batches size held given) later fault s2 hands.filled.sent)) in
+      let part = subst (λ bs. IsCutOff accepts refuses s bs fault s2) (sym all)
+      (cut-after accepts refuses s (full_batches size [] before.out) _ fault s1 s2 before.leads
+      (cut-before accepts refuses s1 (full_batches size held given) _ fault s2 hands.filled.sent)) in
       rw is (record { ending = tt; delivered = part; blocks = tt })
 
   -- memory ran out before an item came through
@@ -218,3 +211,6 @@ module _ {K T : Type 0} (accepts : K → List T → K → Type 0) (refuses : K �
   answer-none most t m none fresh =
       let is = answer-of_none ss t none in
       record { ending = ap (λ u. u.ending) is; delivered = rw is refl; blocks = rw fresh (deciding-of_none most ss t none) }
+
+-- what a loop that delivers keeps
+pub ruleset sending_on = (sent-none, sent-on, sent-handed)

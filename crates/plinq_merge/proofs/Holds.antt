@@ -1,10 +1,11 @@
 -- What a row of keys stands for: with one offer more, and once the interval under its next key has gone.
-use Rattle.std.specs.Prelude.{◌≡◌, ℕ, ◌<◌, ◌==◌, List, [], ◌∷◌, ◌++◌, true, false, ◌||◌, cond, Option, Some, None, All, refl}
+use Rattle.std.specs.Prelude.{◌≡◌, ℕ, ◌<◌, ◌==◌, List, [], ◌∷◌, ◌++◌, length, true, false, ◌||◌, cond, Option, Some, None, All, refl}
 use Rattle.std.specs.Option.{option_or, unwrap_or}
 use Rattle.std.proofs.Common.{sym, ◌∙◌, ap, subst, arith, append_assoc}
 use Rattle.std.proofs.lemmas.Bool.Decides.{nat_tests}
-use Rattle.std.proofs.lemmas.List.Elements.{All-nil, All-cons, All-head, All-tail, All-push, All-weaker}
+use Rattle.std.proofs.lemmas.List.Elements.{All-nil, All-head, All-tail, All-push, All-weaker, All-take}
 use Rattle.std.proofs.Math.Bool.{or_assoc, or-false}
+use Rattle.std.proofs.Math.Seq.{take-append_seam}
 use Rattle.plinq_source.specs.declared.ending.Ending.{Ending}
 use Rattle.plinq_source.specs.Trace.{Trace, open_trace, followed}
 use Rattle.plinq_source.proofs.Followed.{trace_of, followed-followed, followed-open_nil}
@@ -74,10 +75,6 @@ module _ {T : Type 0} where
   nothing-given (p ∷ ps) none =
       ap (λ t. followed t (all_given ps)) (All-head (λ q. q.1.payload ≡ open_trace []) p ps none) ∙ nothing-given ps (All-tail (λ q. q.1.payload ≡ open_trace []) p ps none)
 
-  All-first : (Q : Interval (Trace T) → Type 0) (ps qs : List (Interval (Trace T))) → All Q (ps ++ qs) → All Q ps
-  All-first Q [] qs all = All-nil Q
-  All-first Q (p ∷ ps) qs all = All-cons Q p ps (All-head Q p (ps ++ qs) all) (All-first Q ps qs (All-tail Q p (ps ++ qs) all))
-
   all_given-append : (ps qs : List (Interval (Trace T))) → all_given (ps ++ qs) ≡ followed (all_given ps) (all_given qs)
   all_given-append [] qs = refl
   all_given-append (p ∷ ps) qs = ap (followed p.1.payload) (all_given-append ps qs) ∙ sym (followed-followed p.1.payload (all_given ps) (all_given qs))
@@ -127,7 +124,8 @@ module _ {T : Type 0} where
   swap ByKey offers first r done rest is = ap (λ t. followed t (all_given done)) (followed-open_nil first) ∙ sym (followed-open_nil (followed first (all_given done)))
   swap ByArrival offers first r done rest is =
       let empty : Interval (Trace T) → Type 0 = λ p. p.1.payload ≡ open_trace [] in
-      let none : all_given done ≡ open_trace [] = nothing-given done (All-first empty done rest (subst (All empty) is (nothing-placed offers))) in
+      let none : all_given done ≡ open_trace [] = nothing-given done
+      (rw take-append_seam at (All-take empty (length done) (done ++ rest) (subst (All empty) is (nothing-placed offers)))) in
       ap (followed (followed first (at_once ByArrival r))) none
       ∙ followed-open_nil (followed first (at_once ByArrival r))
       ∙ ap (λ t. followed t (at_once ByArrival r)) (sym (followed-open_nil first) ∙ ap (followed first) (sym none))

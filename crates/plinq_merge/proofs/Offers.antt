@@ -5,14 +5,14 @@ use Rattle.std.proofs.lemmas.Bool.{and_parts, not-true}
 use Rattle.plinq_source.specs.declared.ending.Ending.{Ending}
 use Rattle.plinq_source.specs.declared.ending.Ending.TheVariants.{End}
 use Rattle.plinq_source.specs.Trace.{Trace, open_trace, ended, followed}
-use Rattle.plinq_source.proofs.Followed.{followed-followed, followed-open_nil}
+use Rattle.plinq_source.proofs.Followed.{followed-open_nil}
 use Rattle.plinq_lambda.specs.Meaning.{Meaning}
 use Rattle.plinq_ops.specs.declared.results.ChunkResult.{ChunkResult}
 use Rattle.plinq_ops.specs.Stage.{Stage, seq, some_takes_none}
 use Rattle.plinq_ops.specs.Operator.{stages_of}
 use Rattle.plinq_ops.specs.Batches.{full_batches, held_back, batches_from}
 use Rattle.plinq_ops.specs.Pipeline.{stages}
-use Rattle.plinq_ops.proofs.Runs.{held_back-append, batches_from-followed, batches_from-open}
+use Rattle.plinq_ops.proofs.Runs.{held_back-append, batches_from-open}
 use Rattle.plinq_ops.specs.declared.op.Op.{Op}
 use Rattle.plinq_ops.proofs.Open.{seq-nothing}
 use Rattle.plinq_merge.specs.declared.delivery_fault.DeliveryFault.{DeliveryFault}
@@ -30,6 +30,7 @@ use Rattle.plinq_merge.specs.Shown.{Merge, merged, answer, shown}
 use Rattle.plinq_merge.specs.Merging.{GoesOn}
 use Rattle.plinq_merge.specs.Joining.{Joins, Waits, AnswersOffer}
 use Rattle.plinq_merge.specs.Delivering.{Line, line_of, Gives, MadeBy, is_below, can_deliver}
+use Rattle.plinq_merge.specs.Deliveries.{batches-on, goes_on-on}
 use Rattle.plinq_merge.specs.Working.{Work, merge_of, Rests}
 use Rattle.plinq_merge.specs.Offering.{Brings, Offers}
 use Rattle.plinq_merge.specs.Mergers.{SendsSome}
@@ -53,74 +54,65 @@ module _ {K T : Type 0} (accepts : K → List T → K → Type 0) (refuses : K �
   delivers-gives l s t (Ok (Some e)) l' s' nothing gives = gives.1
   delivers-gives l s t (Err fault) l' s' nothing gives = gives
 
-module _ {L T : Type 0} (meaning : L → Meaning T) (decided : Bool) where
-  -- the answer of an open merger is open
-  pub answer-rests : (w : Work L T) (offers : List (ChunkResult T)) → (rests : Rests meaning decided w offers) → answer (merge_of meaning decided w) offers ≡ open_trace rests.out
-  answer-rests w offers rests =
-      answer-open (merge_of meaning decided w) offers rests.undecided
-      ∙ answer-on (stages_of meaning w.taker.pipeline.ops) (merged w.order offers) rests.out (stages meaning w.taker.pipeline) rests.on rests.nothing
+module _ {L T : Type 0} (meaning : L → Meaning T) (decided : Bool) (w : Work L T) (r : ChunkResult T) where
+  module _ (offers : List (ChunkResult T)) (rests : Rests meaning decided w offers) (gained : Trace T)
+      (grows : merged w.order (offers ++ r ∷ []) ≡ followed (merged w.order offers) gained) where
+    -- the answer to one offer more, by what the offers merge to then
+    answer-gained : answer (merge_of meaning decided w) (offers ++ r ∷ []) ≡ followed (open_trace rests.out) (seq (stages meaning w.taker.pipeline) gained)
+    answer-gained =
+        answer-open (merge_of meaning decided w) (offers ++ r ∷ []) rests.undecided ∙ ap (seq (stages_of meaning w.taker.pipeline.ops)) grows
+        ∙ rests.on.answers gained
 
-  -- the answer to one offer more, by what the offers merge to then
-  pub answer-gained : (w : Work L T) (offers : List (ChunkResult T)) (r : ChunkResult T) (gained : Trace T) → (rests : Rests meaning decided w offers)
-      → merged w.order (offers ++ r ∷ []) ≡ followed (merged w.order offers) gained
-      → answer (merge_of meaning decided w) (offers ++ r ∷ []) ≡ followed (open_trace rests.out) (seq (stages meaning w.taker.pipeline) gained)
-  answer-gained w offers r gained rests grows =
-      answer-open (merge_of meaning decided w) (offers ++ r ∷ []) rests.undecided ∙ ap (seq (stages_of meaning w.taker.pipeline.ops)) grows ∙ rests.on.answers gained
+    -- the batches that it gains
+    shown-gained : shown (merge_of meaning decided w) (offers ++ r ∷ [])
+        ≡ shown (merge_of meaning decided w) offers ++ batches_from (size_of w.taker.buffer) (held_of w.taker.buffer)
+        (seq (stages meaning w.taker.pipeline) gained)
+    shown-gained =
+        let size : Option ℕ = size_of w.taker.buffer in
+        let more : Trace T = seq (stages meaning w.taker.pipeline) gained in
+        let before : answer (merge_of meaning decided w) offers ≡ open_trace rests.out =
+        answer-open (merge_of meaning decided w) offers rests.undecided
+        ∙ answer-on (stages_of meaning w.taker.pipeline.ops) (merged w.order offers) rests.out (stages meaning w.taker.pipeline) rests.on rests.nothing in
+        batches-on size [] rests.out (held_of w.taker.buffer) _ more answer-gained rests.held
+        ∙ ap (λ bs. bs ++ batches_from size (held_of w.taker.buffer) more) (sym (ap (batches_from size []) before ∙ batches_from-open size [] rests.out))
 
-  -- the batches that it gains
-  shown-gained : (w : Work L T) (offers : List (ChunkResult T)) (r : ChunkResult T) (gained : Trace T) → (rests : Rests meaning decided w offers)
-      → merged w.order (offers ++ r ∷ []) ≡ followed (merged w.order offers) gained
-      → shown (merge_of meaning decided w) (offers ++ r ∷ [])
-      ≡ shown (merge_of meaning decided w) offers ++ batches_from (size_of w.taker.buffer) (held_of w.taker.buffer) (seq (stages meaning w.taker.pipeline) gained)
-  shown-gained w offers r gained rests grows =
-      let size : Option ℕ = size_of w.taker.buffer in
-      let more : Trace T = seq (stages meaning w.taker.pipeline) gained in
-      let so_far : shown (merge_of meaning decided w) offers ≡ full_batches size [] rests.out =
-      ap (batches_from size []) (answer-rests w offers rests) ∙ batches_from-open size [] rests.out in
-      ap (batches_from size []) (answer-gained w offers r gained rests grows)
-      ∙ batches_from-followed size [] rests.out more
-      ∙ ap (λ h. full_batches size [] rests.out ++ batches_from size h more) (sym rests.held)
-      ∙ ap (λ bs. bs ++ batches_from size (held_of w.taker.buffer) more) (sym so_far)
+  module _ {K : Type 0} (accepts : K → List T → K → Type 0) (refuses : K → List T → ℕ → K → Type 0) (s : K) (w' : Work L T) (s' : K) where
+    abbrev JoinsTo : Result (Option Ending) DeliveryFault → Type 0
+    JoinsTo result = Joins (MadeBy accepts refuses meaning) w r s result w' s'
 
-  module _ {K : Type 0} (accepts : K → List T → K → Type 0) (refuses : K → List T → ℕ → K → Type 0) where
+    abbrev GivesNothing : Type 0
+    GivesNothing = seq (stages meaning w'.taker.pipeline) (open_trace []) ≡ open_trace []
+
     -- of what it gains as much was delivered as the result says
-    pub brings-joined : (w : Work L T) (offers : List (ChunkResult T)) (r : ChunkResult T) (s : K) (result : Result (Option Ending) DeliveryFault) (w' : Work L T) (s' : K)
-        → (result ≡ Ok None → seq (stages meaning w'.taker.pipeline) (open_trace []) ≡ open_trace []) → Rests meaning decided w offers → Joins (MadeBy accepts refuses meaning) w r s result w' s'
-        → Brings (merge_of meaning decided w) offers r (λ gained. Delivers accepts refuses s gained result s')
-    brings-joined w offers r s result w' s' nothing rests joins =
+    brings-joined : (result : Result (Option Ending) DeliveryFault) → (result ≡ Ok None → GivesNothing) → JoinsTo result → (offers : List (ChunkResult T))
+        → Rests meaning decided w offers → Brings (merge_of meaning decided w) offers r (λ gained. Delivers accepts refuses s gained result s')
+    brings-joined result nothing joins offers rests =
         let l : Line T = line_of meaning w.taker in
         record {
           are_new = joins.are_new offers rests.waits;
           gained = batches_from l.size l.held (seq l.now joins.gained);
-          grows = shown-gained w offers r joins.gained rests (joins.grows offers rests.waits);
+          grows = shown-gained offers rests joins.gained (joins.grows offers rests.waits);
           sent = delivers-gives accepts refuses l s joins.gained result (line_of meaning w'.taker) s' nothing joins.taken.gives;
         }
 
     -- the answer goes on
-    pub rests-joined : (w : Work L T) (offers : List (ChunkResult T)) (r : ChunkResult T) (s : K) (w' : Work L T) (s' : K) → w'.order ≡ w.order
-        → seq (stages meaning w'.taker.pipeline) (open_trace []) ≡ open_trace [] → Rests meaning decided w offers → Joins (MadeBy accepts refuses meaning) w r s (Ok None) w' s'
+    rests-joined : w'.order ≡ w.order → GivesNothing → JoinsTo (Ok None) → (offers : List (ChunkResult T)) → Rests meaning decided w offers
         → Rests meaning decided w' (offers ++ r ∷ [])
-    rests-joined w offers r s w' s' same nothing rests joins =
+    rests-joined same nothing joins offers rests =
         let l : Line T = line_of meaning w.taker in
         let l' : Line T = line_of meaning w'.taker in
         let made = joins.taken in
         let plan = made.plan in
         let next = made.gives in
-        let gained = joins.gained in
+        let both : GoesOn l.after (followed (merged w.order offers) joins.gained) (rests.out ++ next.out) None l'.now =
+        goes_on-on l.after l.now l'.now (merged w.order offers) joins.gained rests.out next.out rests.on next.on in
+        let all = ap (λ o. merged o (offers ++ r ∷ [])) same ∙ joins.grows offers rests.waits in
         record {
           undecided = rests.undecided;
           waits = joins.waits refl offers rests.waits;
           out = rests.out ++ next.out;
-          on = record {
-            answers = λ rest.
-                ap (λ ss. seq ss (followed (merged w'.order (offers ++ r ∷ [])) rest)) plan.after
-                ∙ ap (λ o. seq l.after (followed (merged o (offers ++ r ∷ [])) rest)) same
-                ∙ ap (λ t. seq l.after (followed t rest)) (joins.grows offers rests.waits)
-                ∙ ap (seq l.after) (followed-followed (merged w.order offers) gained rest)
-                ∙ rests.on.answers (followed gained rest)
-                ∙ ap (followed (open_trace rests.out)) (next.on.answers rest)
-                ∙ sym (followed-followed (open_trace rests.out) (open_trace next.out) (seq l'.now rest));
-          };
+          on = subst (λ t. GoesOn l'.after t (rests.out ++ next.out) None l'.now) (sym all)
+              (subst (λ ss. GoesOn ss (followed (merged w.order offers) joins.gained) (rests.out ++ next.out) None l'.now) (sym plan.after) both);
           nothing = nothing;
           held =
               next.held
@@ -130,12 +122,44 @@ module _ {L T : Type 0} (meaning : L → Meaning T) (decided : Bool) where
         }
 
     -- the answer has ended
-    pub ends-joined : (w : Work L T) (offers : List (ChunkResult T)) (r : ChunkResult T) (s : K) (e : Ending) (w' : Work L T) (s' : K) → Rests meaning decided w offers
-        → Joins (MadeBy accepts refuses meaning) w r s (Ok (Some e)) w' s' → (answer (merge_of meaning decided w) (offers ++ r ∷ [])).ending ≡ Some e
-    ends-joined w offers r s e w' s' rests joins =
+    ends-joined : (e : Ending) → JoinsTo (Ok (Some e)) → (offers : List (ChunkResult T)) → Rests meaning decided w offers
+        → (answer (merge_of meaning decided w) (offers ++ r ∷ [])).ending ≡ Some e
+    ends-joined e joins offers rests =
         let made = joins.taken in
         let gives = made.gives in
-        ap (λ t. t.ending) (answer-gained w offers r joins.gained rests (joins.grows offers rests.waits)) ∙ gives.0
+        ap (λ t. t.ending) (answer-gained offers rests joins.gained (joins.grows offers rests.waits)) ∙ gives.0
+
+    module _ (standing' : JoinerState) where
+      -- what the joiner did is what the merger owes
+      pub offers-joined : (standing : JoinerState) (result : Result More MergeFault) → w'.order ≡ w.order → (standing' ≡ Open → GivesNothing)
+          → AnswersOffer (MadeBy accepts refuses meaning) w standing r s result w' standing' s'
+          → Offers meaning decided accepts refuses w standing r s result w' standing' s'
+      offers-joined Open (Ok Yes) same nothing o =
+          (o.0, λ offers rests. (brings-joined (Ok None) (λ _. nothing o.0) o.1 offers rests, rests-joined same (nothing o.0) o.1 offers rests))
+      offers-joined Open (Ok No) same nothing o =
+          (o.0, o.1, λ offers rests. (brings-joined (Ok (Some o.0)) (λ bad. absurd (cc)) o.2 offers rests, ends-joined o.0 o.2 offers rests))
+      offers-joined Open (Err Memory) same nothing o = (o.0, brings-joined (Err NoMemory) (λ bad. absurd (cc)) o.1)
+      offers-joined Open (Err (Sink code)) same nothing o = (o.0, brings-joined (Err (Refusal code)) (λ bad. absurd (cc)) o.1)
+      offers-joined Open (Err Twice) same nothing o = (o.0, o.1, o.2, λ offers rests. o.3 offers rests.waits)
+      offers-joined Open (Err fault) same nothing o = absurd o
+      offers-joined standing result same nothing o = o
+
+      -- the batches of what the operators make of a trace
+      abbrev due : Trace T → List (List T)
+      due t = batches_from (size_of w.taker.buffer) (held_of w.taker.buffer) (seq (stages meaning w.taker.pipeline) t)
+
+      -- what was delivered, whatever the offers
+      pub sends-joined : (standing : JoinerState) (result : Result More MergeFault)
+          → AnswersOffer (MadeBy accepts refuses meaning) w standing r s result w' standing' s'
+          → SendsSome accepts refuses s result s'
+      sends-joined Open (Ok Yes) o = let gives = o.1.taken.gives in (full_batches (size_of w.taker.buffer) (held_of w.taker.buffer) gives.out, gives.leads)
+      sends-joined Open (Ok No) o = (due o.2.gained, o.2.taken.gives.1)
+      sends-joined Open (Err Memory) o = (due o.1.gained, o.1.taken.gives)
+      sends-joined Open (Err (Sink code)) o = (due o.1.gained, o.1.taken.gives)
+      sends-joined Open (Err Twice) o = ([], ([], [], refl, o.2))
+      sends-joined Open (Err fault) o = absurd o
+      sends-joined (Decided e) result o = rw o.0 ([], o.3)
+      sends-joined HasFailed result o = rw o.0 ([], ([], [], refl, o.3))
 
 -- operators that can take items give nothing of nothing
 pub nothing-given : {L T : Type 0} (meaning : L → Meaning T) (d : Deliver L T) → can_deliver meaning d ≡ true → seq (stages meaning d.pipeline) (open_trace []) ≡ open_trace []
@@ -144,37 +168,6 @@ nothing-given meaning d can =
     seq-nothing (stages meaning d.pipeline) None (not-true (some_takes_none (stages meaning d.pipeline)) parts.0)
 
 module _ {L T : Type 0} (meaning : L → Meaning T) (decided : Bool) where
-  module _ {K : Type 0} (accepts : K → List T → K → Type 0) (refuses : K → List T → ℕ → K → Type 0) where
-    -- what the joiner did is what the merger owes
-    pub offers-joined : (w : Work L T) (standing : JoinerState) (r : ChunkResult T) (s : K) (result : Result More MergeFault) (w' : Work L T) (standing' : JoinerState) (s' : K)
-        → w'.order ≡ w.order → (standing' ≡ Open → seq (stages meaning w'.taker.pipeline) (open_trace []) ≡ open_trace [])
-        → AnswersOffer (MadeBy accepts refuses meaning) w standing r s result w' standing' s' → Offers meaning decided accepts refuses w standing r s result w' standing' s'
-    offers-joined w Open r s (Ok Yes) w' standing' s' same nothing o =
-        (o.0, λ offers rests. (brings-joined meaning decided accepts refuses w offers r s (Ok None) w' s' (λ _. nothing o.0) rests o.1, rests-joined meaning decided accepts refuses w offers r s w' s' same (nothing o.0) rests o.1))
-    offers-joined w Open r s (Ok No) w' standing' s' same nothing o =
-        (o.0, o.1, λ offers rests. (brings-joined meaning decided accepts refuses w offers r s (Ok (Some o.0)) w' s' (λ bad. absurd (cc)) rests o.2, ends-joined meaning decided accepts refuses w offers r s o.0 w' s' rests o.2))
-    offers-joined w Open r s (Err Memory) w' standing' s' same nothing o = (o.0, λ offers rests. brings-joined meaning decided accepts refuses w offers r s (Err NoMemory) w' s' (λ bad. absurd (cc)) rests o.1)
-    offers-joined w Open r s (Err (Sink code)) w' standing' s' same nothing o = (o.0, λ offers rests. brings-joined meaning decided accepts refuses w offers r s (Err (Refusal code)) w' s' (λ bad. absurd (cc)) rests o.1)
-    offers-joined w Open r s (Err Twice) w' standing' s' same nothing o = (o.0, o.1, o.2, λ offers rests. o.3 offers rests.waits)
-    offers-joined w Open r s (Err fault) w' standing' s' same nothing o = absurd o
-    offers-joined w standing r s result w' standing' s' same nothing o = o
-
-    -- the batches of what the operators make of a trace
-    abbrev due : Work L T → Trace T → List (List T)
-    due w t = batches_from (size_of w.taker.buffer) (held_of w.taker.buffer) (seq (stages meaning w.taker.pipeline) t)
-
-    -- what was delivered, whatever the offers
-    pub sends-joined : (w : Work L T) (standing : JoinerState) (r : ChunkResult T) (s : K) (result : Result More MergeFault) (w' : Work L T) (standing' : JoinerState) (s' : K)
-        → AnswersOffer (MadeBy accepts refuses meaning) w standing r s result w' standing' s' → SendsSome accepts refuses s result s'
-    sends-joined w Open r s (Ok Yes) w' standing' s' o = let gives = o.1.taken.gives in (full_batches (size_of w.taker.buffer) (held_of w.taker.buffer) gives.out, gives.leads)
-    sends-joined w Open r s (Ok No) w' standing' s' o = (due w o.2.gained, o.2.taken.gives.1)
-    sends-joined w Open r s (Err Memory) w' standing' s' o = (due w o.1.gained, o.1.taken.gives)
-    sends-joined w Open r s (Err (Sink code)) w' standing' s' o = (due w o.1.gained, o.1.taken.gives)
-    sends-joined w Open r s (Err Twice) w' standing' s' o = ([], ([], [], refl, o.2))
-    sends-joined w Open r s (Err fault) w' standing' s' o = absurd o
-    sends-joined w (Decided e) r s result w' standing' s' o = subst (λ x. SendsSome accepts refuses s x s') (sym o.0) ([], o.3)
-    sends-joined w HasFailed r s result w' standing' s' o = subst (λ x. SendsSome accepts refuses s x s') (sym o.0) ([], ([], [], refl, o.3))
-
   -- nothing was offered to a new merger
   pub begun-rests : (w : Work L T) (d : Deliver L T) (ops : List (Op L)) (size : Option ℕ) → decided ≡ false → Waits w.order w.row [] → w.taker ≡ d → can_deliver meaning d ≡ true
       → line_of meaning d ≡ record { after = stages_of meaning ops; now = stages_of meaning ops; held = []; size = size } → Rests meaning decided w []

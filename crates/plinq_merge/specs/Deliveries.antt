@@ -4,12 +4,13 @@ use Rattle.std.proofs.Common.{sym, ◌∙◌, ap, subst, append-nil}
 use Rattle.plinq_source.specs.declared.ending.Ending.{Ending}
 use Rattle.plinq_source.specs.Trace.{Trace, open_trace, followed}
 use Rattle.plinq_source.proofs.Followed.{trace_of, followed-followed, followed-ended}
-use Rattle.plinq_ops.specs.Stage.{seq, seq_after}
+use Rattle.plinq_ops.specs.Stage.{Stage, seq, seq_after}
 use Rattle.plinq_ops.specs.Batches.{full_batches, held_back, batches_from}
 use Rattle.plinq_ops.proofs.Stages.{seq-followed}
 use Rattle.plinq_ops.proofs.Runs.{full_batches-append, held_back-append, batches_from-followed, batches_from-open}
 use Rattle.plinq_merge.specs.declared.delivery_fault.DeliveryFault.{DeliveryFault}
 use Rattle.plinq_merge.specs.declared.delivery_fault.DeliveryFault.TheVariants.{Memory}
+use Rattle.plinq_merge.specs.Merging.{GoesOn}
 use Rattle.plinq_merge.specs.Sending.{Leads, IsCutOff}
 use Rattle.plinq_merge.specs.inner.Sent.{leads-append, cut-after, cut-before}
 use Rattle.plinq_merge.specs.Taking.{IsTaking}
@@ -24,6 +25,25 @@ batches-first {T} size held a b = by_ending a.items a.ending
     by_ending xs None = (batches_from size (held_back size held xs) b, batches_from-followed size held xs b ∙ ap (λ bs. bs ++ batches_from size (held_back size held xs) b) (sym (batches_from-open size held xs)))
     by_ending xs (Some e) = ([], sym (append-nil (batches_from size held (trace_of xs (Some e)))))
 
+-- those of open items and of what comes after them
+pub batches-on : {T : Type 0} (size : Option ℕ) (held xs held' : List T) (all rest : Trace T) → all ≡ followed (open_trace xs) rest
+    → held' ≡ held_back size held xs
+    → batches_from size held all ≡ full_batches size held xs ++ batches_from size held' rest
+batches-on size held xs held' all rest is keeps =
+    ap (batches_from size held) is ∙ batches_from-followed size held xs rest ∙ ap (λ h. full_batches size held xs ++ batches_from size h rest) (sym keeps)
+
+-- operators go on after one trace, and then after another
+pub goes_on-on : {T : Type 0} (now now1 now2 : List (Stage T)) (t u : Trace T) (xs ys : List T) → GoesOn now t xs None now1 → GoesOn now1 u ys None now2
+    → GoesOn now (followed t u) (xs ++ ys) None now2
+goes_on-on now now1 now2 t u xs ys first second =
+    record {
+      answers = λ rest.
+          ap (seq now) (followed-followed t u rest)
+          ∙ first.answers (followed u rest)
+          ∙ ap (followed (open_trace xs)) (second.answers rest)
+          ∙ sym (followed-followed (open_trace xs) (open_trace ys) (seq now2 rest));
+    }
+
 module _ {K T : Type 0} (accepts : K → List T → K → Type 0) (refuses : K → List T → ℕ → K → Type 0) where
   gives-begins : (l : Line T) (s : K) → DeliversOn accepts refuses l s (open_trace []) l s
   gives-begins l s = record { out = []; on = record { answers = λ rest. refl }; held = refl; leads = refl }
@@ -32,9 +52,7 @@ module _ {K T : Type 0} (accepts : K → List T → K → Type 0) (refuses : K �
   answer-after : (l : Line T) (s : K) (xs : List T) (l1 : Line T) (s1 : K) (t : Trace T) → KeepsPlan l l1 → (on : DeliversOn accepts refuses l s (open_trace xs) l1 s1)
       → batches_from l.size l.held (seq l.now (followed (open_trace xs) t)) ≡ full_batches l.size l.held on.out ++ batches_from l1.size l1.held (seq l1.now t)
   answer-after l s xs l1 s1 t plan on =
-      ap (batches_from l.size l.held) (on.on.answers t)
-      ∙ batches_from-followed l.size l.held on.out (seq l1.now t)
-      ∙ ap (λ h. full_batches l.size l.held on.out ++ batches_from l.size h (seq l1.now t)) (sym on.held)
+      batches-on l.size l.held on.out l1.held _ (seq l1.now t) (on.on.answers t) on.held
       ∙ ap (λ n. full_batches l.size l.held on.out ++ batches_from n l1.held (seq l1.now t)) (sym plan.size)
 
   gives-goes_on : (l : Line T) (s : K) (xs : List T) (l1 : Line T) (s1 : K) (t : Trace T) (r : Result (Option Ending) DeliveryFault) (l2 : Line T) (s2 : K)
@@ -42,13 +60,7 @@ module _ {K T : Type 0} (accepts : K → List T → K → Type 0) (refuses : K �
   gives-goes_on l s xs l1 s1 t (Ok None) l2 s2 plan first second =
       record {
         out = first.out ++ second.out;
-        on = record {
-          answers = λ rest.
-              ap (seq l.now) (followed-followed (open_trace xs) t rest)
-              ∙ first.on.answers (followed t rest)
-              ∙ ap (followed (open_trace first.out)) (second.on.answers rest)
-              ∙ sym (followed-followed (open_trace first.out) (open_trace second.out) (seq l2.now rest));
-        };
+        on = goes_on-on l.now l1.now l2.now (open_trace xs) t first.out second.out first.on second.on;
         held =
             second.held
             ∙ ap (λ n. held_back n l1.held second.out) plan.size

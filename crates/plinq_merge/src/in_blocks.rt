@@ -20,6 +20,7 @@ const QUIET_BLOCKS: u64 = 16;
 
 /// Sends what a source gives through a pipeline, a block at a time, up to the one that ends the run, and delivers what comes
 /// out.
+#[tactic(auto, using(crate::proofs::Delivered::sending_on))]
 pub(crate) fn deliver_blocks<L, S, K>(
     alloc: Global,
     most: u64,

@@ -20,6 +20,7 @@ use std::alloc::Global;
 const QUIET_ITEMS: u64 = 8_192;
 
 /// Sends what a source gives through a pipeline, up to the item that ends the run, or the ending, and delivers what comes out.
+#[tactic(auto, using(crate::proofs::Delivered::sending_on))]
 pub(crate) fn deliver_all<L, S, K>(
     alloc: Global,
     pipeline: &mut Pipeline<'_, L>,

@@ -1,19 +1,10 @@
-use Rattle.std.proofs.Common.{rules, ◌≡◌, Err, ◌∙◌, refl}
+use Rattle.std.proofs.Common.{rules, arith, ◌≡◌, Err, drop, ◌∙◌}
+use Rattle.std.proofs.lemmas.List.{length-take}
 use Rattle.plinq_ops.proofs.Fed.{undecided-left}
 use Rattle.plinq_ops.proofs.Answered.{feeds-smaller}
 use Rattle.plinq_merge.specs.declared.delivery_fault.DeliveryFault.TheVariants.{Memory}
-use Rattle.plinq_merge.proofs.Delivered.{hands-all, sent-none, sent-on, sent-handed, sent-over, sent-cut, sent-stopped, within-block}
+use Rattle.plinq_merge.proofs.Delivered.{hands-all, sent-on, sent-handed, sent-over, sent-cut, sent-stopped}
 use Rattle.plinq_merge.proofs.in_blocks.deliver_blocks.Goals as goal
-
-pub loop-block-init : goal.loop-block-init
-loop-block-init g c =
-    record {
-      whole = refl;
-      size = refl;
-      room = c.requires.room;
-      empty = c.new-block.ensures.items;
-      sent = rw (c.requires.fresh, c.requires.empty) (sent-none g.K.Sink.accepts g.K.Sink.refuses _ _ _ c.requires.undecided);
-    }
 
 pub feed_block_from-requires-clause-undecided : goal.feed_block_from-requires-clause-undecided
 feed_block_from-requires-clause-undecided g c lives within = undecided-left _ _ _ _ _ c.loop-block.invariant.sent.fed
@@ -29,7 +20,14 @@ pub returns-in-Some-clause-delivers : goal.returns-in-Some-clause-delivers
 returns-in-Some-clause-delivers g c =
     let before = c.loop-block.invariant in
     let next = rw (c.in-Some.is, before.whole) at c.in_ok-ending.ensures.fed in
-    sent-over g.K.Sink.accepts g.K.Sink.refuses _ _ _ _ _ _ _ _ _ _ _ _ _ _ _ _ (within-block (g.S.Source.whole c.loop-block.source) _ _ _ c.in_ok-ending.ensures.asked) before.sent next c.deliver_rest.ensures.told (rw before.size at c.deliver_rest.ensures.delivered)
+    sent-over g.K.Sink.accepts g.K.Sink.refuses _ _ _ _ _ _ _ _ _ _ _ _ _ _ _ _
+    (omega (
+      arith,
+      c.in_ok-ending.ensures.asked,
+      length-take c.args.most
+          (drop (g.S.Source.given c.loop-block.source) (g.S.Source.whole c.loop-block.source).items),
+    )) before.sent next c.deliver_rest.ensures.told
+    (rw before.size at c.deliver_rest.ensures.delivered)
 
 -- a block that leaves the answer open
 pub loop-block-preserved : goal.loop-block-preserved
@@ -41,7 +39,9 @@ loop-block-preserved g c =
       size = c.deliver_block.ensures.size ∙ before.size;
       room = search rules;
       empty = search rules;
-      sent = sent-handed g.K.Sink.accepts g.K.Sink.refuses _ _ _ _ _ _ _ _ _ _ _ _ _ (hands-all _ _ _ _ _ _ _ _ _ (rw before.size at c.in_ok-deliver_block.ensures.filled)) (sent-on g.K.Sink.accepts g.K.Sink.refuses _ _ _ _ _ _ _ _ _ _ _ _ before.sent next);
+      sent = sent-handed g.K.Sink.accepts g.K.Sink.refuses _ _ _ _ _ _ _ _ _ _ _ _ _
+          (hands-all _ _ _ _ _ _ _ _ _ (rw before.size at c.in_ok-deliver_block.ensures.filled))
+          (sent-on g.K.Sink.accepts g.K.Sink.refuses _ _ _ _ _ _ _ _ _ _ _ _ before.sent next);
     }
 
 -- a batch that couldn't be delivered

@@ -1,18 +1,9 @@
-use Rattle.std.proofs.Common.{rules, ◌≡◌, Err, ◌∙◌, refl}
+use Rattle.std.proofs.Common.{rules, ◌≡◌, Err}
 use Rattle.plinq_ops.proofs.Fed.{undecided-left}
 use Rattle.plinq_ops.proofs.Answered.{feeds-smaller}
 use Rattle.plinq_merge.specs.declared.delivery_fault.DeliveryFault.TheVariants.{Memory}
-use Rattle.plinq_merge.proofs.Delivered.{sent-none, sent-on, sent-handed, sent-over, sent-cut, sent-stopped}
+use Rattle.plinq_merge.proofs.Delivered.{sent-on, sent-over, sent-cut, sent-stopped}
 use Rattle.plinq_merge.proofs.singly.deliver_all.Goals as goal
-
-pub loop-made-init : goal.loop-made-init
-loop-made-init g c =
-    record {
-      whole = refl;
-      size = refl;
-      room = c.requires.room;
-      sent = rw (c.requires.fresh, c.requires.empty, c.new-made.ensures.items) (sent-none g.K.Sink.accepts g.K.Sink.refuses _ _ _ c.requires.undecided);
-    }
 
 pub feed_from-requires-clause-undecided : goal.feed_from-requires-clause-undecided
 feed_from-requires-clause-undecided g c lives within = undecided-left _ _ _ _ _ c.loop-made.invariant.sent.fed
@@ -29,18 +20,6 @@ returns-in-Some-clause-delivers g c =
     let before = c.loop-made.invariant in
     let next = rw (c.in-Some.is, before.whole) at c.in_ok-ending.ensures.fed in
     sent-over g.K.Sink.accepts g.K.Sink.refuses _ _ _ _ _ _ _ _ _ _ _ _ _ _ _ _ c.feed_from.ensures.one before.sent next c.deliver_rest.ensures.told (rw before.size at c.deliver_rest.ensures.delivered)
-
--- an item that leaves the answer open
-pub loop-made-preserved : goal.loop-made-preserved
-loop-made-preserved g c =
-    let before = c.loop-made.invariant in
-    let next = rw (c.in_default.is, before.whole) at c.in_ok-ending.ensures.fed in
-    record {
-      whole = c.feed_from.ensures.whole ∙ before.whole;
-      size = c.deliver_ready.ensures.size ∙ before.size;
-      room = search rules;
-      sent = sent-handed g.K.Sink.accepts g.K.Sink.refuses _ _ _ _ _ _ _ _ _ _ _ _ _ (rw before.size at c.in_ok-deliver_ready.ensures.handed) (sent-on g.K.Sink.accepts g.K.Sink.refuses _ _ _ _ _ _ _ _ _ _ _ _ before.sent next);
-    }
 
 -- a batch that couldn't be delivered
 pub returns-in_err-deliver_ready-clause-delivers : goal.returns-in_err-deliver_ready-clause-delivers
