@@ -23,7 +23,7 @@ use Rattle.plinq_ops.proofs.Fed.{undecided-left, fed-none}
 use Rattle.plinq_ops.proofs.Open.{open-from_seq}
 use Rattle.plinq_ops.proofs.Runs.{batches_from-open, full_batches-append, held_back-append, batches_from-followed}
 use Rattle.plinq_ops.specs.Sequential.{first_items}
-use Rattle.plinq_ops.proofs.Answered.{fed-on, fed-over, deciding-over, deciding-of_none, answer-of_none, answer-fed}
+use Rattle.plinq_ops.proofs.Answered.{fed-on, fed-over, deciding-over, deciding-wider, deciding-singly, deciding-of_none, answer-of_none, answer-fed}
 use Rattle.plinq_merge.specs.declared.deliver.Deliver.{Deliver}
 use Rattle.plinq_merge.specs.declared.delivery_fault.DeliveryFault.{DeliveryFault}
 use Rattle.plinq_merge.specs.declared.delivery_fault.DeliveryFault.TheVariants.{Memory}
@@ -34,7 +34,7 @@ use Rattle.plinq_merge.specs.Delivering.{Line, KeepsPlan, line_of, is_below, can
 use Rattle.plinq_merge.specs.Deliveries.{batches-on}
 use Rattle.plinq_merge.specs.inner.Handing.{HandsOn}
 use Rattle.plinq_merge.specs.inner.OneThread.{DeliversAnswer}
-use Rattle.plinq_merge.specs.inner.Sent.{leads-append, cut-after, cut-before, delivers-as, delivers-after}
+use Rattle.plinq_merge.specs.inner.Sent.{leads-append, cut-after, cut-before, delivers-at_err, delivers-as, delivers-after}
 
 -- what a trace gives that was fed, before what comes after it
 pub fed-answer : {T : Type 0} (ss ss' : List (Stage T)) (t : Trace T) (out : List T) (e : Option Ending) → IsFed ss t [] out ss' e → seq ss t ≡ trace_of out e
@@ -212,5 +212,16 @@ module _ {K T : Type 0} (accepts : K → List T → K → Type 0) (refuses : K �
       let is = answer-of_none ss t none in
       record { ending = ap (λ u. u.ending) is; delivered = rw is refl; blocks = rw fresh (deciding-of_none most ss t none) }
 
--- what a loop that delivers keeps
+-- ---- what the search is told
+
+-- what breaks off, and what goes on
+pub ruleset delivering = (delivers-at_err, cut-before, delivers-after)
+
+-- before anything was fed
+pub ruleset stopping = (answer-stopped)
+
+-- what a loop keeps
 pub ruleset sending_on = (sent-none, sent-on, sent-handed)
+
+-- blocks of other lengths
+pub ruleset deciding = (deciding-wider, deciding-singly)

@@ -2,7 +2,7 @@
 use Rattle.std.specs.Prelude.{◌≡◌, ℕ, ◌<◌, List, [], ◌∷◌, ◌++◌, true, false, ◌||◌, nat_lt, ◌⊎◌, Option, Some, None, Result, Ok, Err, refl}
 use Rattle.std.specs.Option.{option_or}
 use Rattle.std.proofs.Common.{sym, ◌∙◌, ap, subst, inl, inr, arith}
-use Rattle.std.proofs.lemmas.Bool.{or_from, le-ltb}
+use Rattle.std.proofs.lemmas.Bool.{or_from, le-ltb, cases_lt}
 use Rattle.std.proofs.lemmas.List.Elements.{All-nil}
 use Rattle.plinq_source.specs.declared.ending.Ending.{Ending}
 use Rattle.plinq_source.specs.Trace.{Trace, open_trace, followed}
@@ -52,15 +52,11 @@ module _ {T : Type 0} where
       → (hand : Trace T) × (row1 : Row T) × TakesIn order row r hand row1
   takes-unkept order row r fresh =
       let kept : Buffered (Trace T) → Row T = λ b. record { buffer = b; told = option_or row.told (told_at (end_of_result r) r.tail) } in
-      elim (none_or_some r.count) [
-        | inl none ↦ (at_once order r, kept row.buffer, takes-none order row r (kept row.buffer) none refl refl)
-        | inr some ↦
-            let held : Buffered (Trace T) = inserted row.buffer r.first (end_of_result r) (waiting_trace order r) in
-            (_, kept held, takes-inserted order row r None (kept held) some fresh refl refl)
+      let held : Buffered (Trace T) = inserted row.buffer r.first (end_of_result r) (waiting_trace order r) in
+      elim (cases_lt 0 r.count) [
+        | inl some ↦ (_, kept held, takes-inserted order row r None (kept held) some fresh refl refl)
+        | inr few ↦ (_, kept row.buffer, takes-none order row r (kept row.buffer) (omega arith) refl refl)
       ]
-    where
-      none_or_some : (n : ℕ) → (n ≡ 0) ⊎ (0 < n)
-      none_or_some n = grind arith
 
   -- a row in which nothing is waits for no offers
   pub begun-waits : (order : Order) (row : Row T) → row.buffer ≡ record { next = 0; held = [] } → row.told ≡ None → Waits order row []
@@ -137,12 +133,10 @@ module _ {W O T : Type 0} (made : W → O → Trace T → Result (Option Ending)
   -- ---- a result of new keys was joined
 
   module _ (w : Joining W T) (r : ChunkResult T) (y : O) (fresh : IsFresh w.row.buffer r.first (end_of_result r)) where
-    module _ (hand : Trace T) (row1 : Row T) (takes : TakesIn w.order w.row r hand row1) where
-      joins-taken : (result : Result (Option Ending) DeliveryFault) (w' : Joining W T) (y' : O)
-          → made w.taker y (followed hand (rest_of row1)) result w'.taker y'
-          → (result ≡ Ok None → (offers : List (ChunkResult T)) → Waits w.order w.row offers → Waits w'.order w'.row (offers ++ r ∷ []))
-          → Joins made w r y result w' y'
-      joins-taken result w' y' taken waits =
+    module _ (hand : Trace T) (row1 : Row T) (takes : TakesIn w.order w.row r hand row1) (result : Result (Option Ending) DeliveryFault) (w' : Joining W T) (y' : O) where
+      joins-taken : made w.taker y (followed hand (rest_of row1)) result w'.taker y'
+          → (result ≡ Ok None → (offers : List (ChunkResult T)) → Waits w.order w.row offers → Waits w'.order w'.row (offers ++ r ∷ [])) → Joins made w r y result w' y'
+      joins-taken taken waits =
           record {
             gained = followed hand (rest_of row1);
             taken = taken;
@@ -152,24 +146,18 @@ module _ {W O T : Type 0} (made : W → O → Trace T → Result (Option Ending)
           }
 
       -- what was in hand ended the answer, or broke it off
-      pub joins-over : (result : Result (Option Ending) DeliveryFault) (w' : Joining W T) (y' : O) → made w.taker y hand result w'.taker y'
-          → (result ≡ Ok None → ⊥)
-          → Joins made w r y result w' y'
-      joins-over result w' y' taken over =
-          joins-taken result w' y' (taken-over w.taker y hand (rest_of row1) _ result w'.taker y' over taken refl) (λ none. absurd (over none))
+      pub joins-over : made w.taker y hand result w'.taker y' → (result ≡ Ok None → ⊥) → Joins made w r y result w' y'
+      joins-over taken over = joins-taken (taken-over w.taker y hand (rest_of row1) _ result w'.taker y' over taken refl) (λ none. absurd (over none))
 
       -- it is open, and was taken with what the row gave after it
-      pub joins-drained : (a : W) (z : O) (result : Result (Option Ending) DeliveryFault) (w' : Joining W T) (y' : O)
-          → ((key : ℕ) → is_taken row1.buffer key ≡ is_taken w.row.buffer key || is_within r.first (end_of_result r) key)
+      pub joins-drained : (a : W) (z : O) → ((key : ℕ) → is_taken row1.buffer key ≡ is_taken w.row.buffer key || is_within r.first (end_of_result r) key)
           → made w.taker y hand (Ok None) a z → hand.ending ≡ None → made a z (rest_of row1) result w'.taker y'
           → (result ≡ Ok None → (offers : List (ChunkResult T)) (out : List T) → Holds w.order row1 offers (open_trace out) → HasKeys row1 offers
-          → Waits w'.order w'.row offers)
-          → Joins made w r y result w' y'
-      joins-drained a z result w' y' keys taken none drained waits =
-          joins-taken result w' y' (taken-after w.taker y hand (rest_of row1) _ a z result w'.taker y' none taken drained refl) (λ is_open offers before.
+          → Waits w'.order w'.row offers) → Joins made w r y result w' y'
+      joins-drained a z keys taken none drained waits =
+          joins-taken (taken-after w.taker y hand (rest_of row1) _ a z result w'.taker y' none taken drained refl) (λ is_open offers before.
           waits is_open (offers ++ r ∷ []) (before.out ++ hand.items)
-          (subst (Holds w.order row1 (offers ++ r ∷ [])) (ap (followed (open_trace before.out)) (open-is hand none))
-          (takes offers (open_trace before.out) before.holds))
+          (subst (Holds w.order row1 (offers ++ r ∷ [])) (ap (followed (open_trace before.out)) (open-is hand none)) (takes offers (open_trace before.out) before.holds))
           (λ key. is_offered-append offers r key ∙ ap (λ v. v || is_within r.first (end_of_result r) key) (before.keys key) ∙ sym (keys key)))
 
     -- it couldn't be kept
@@ -200,13 +188,6 @@ module _ {W O T : Type 0} (made : W → O → Trace T → Result (Option Ending)
     joined-cases j y offers joined still ended = cases-at j.work j.standing y offers joined still ended
 
     module _ (lawful : IsTaking made) where
-      -- with one offer more the taker has taken what they merge to then
-      made-grown : (w : Joining W T) (r : ChunkResult T) (y : O) (result : Result (Option Ending) DeliveryFault) (w' : Joining W T) (y' : O) (offers : List (ChunkResult T)) (order : Order) → order ≡ w.order
-          → Waits w.order w.row offers → made a x (merged w.order offers) (Ok None) w.taker y → Joins made w r y result w' y' → made a x (merged order (offers ++ r ∷ [])) result w'.taker y'
-      made-grown w r y result w' y' offers order same waits before joins =
-          taken-after made lawful a x (merged w.order offers) joins.gained (merged order (offers ++ r ∷ [])) w.taker y result w'.taker y'
-          (ap (λ t. t.ending) (merged-waits w.order w.row offers waits)) before joins.taken (ap (λ o. merged o (offers ++ r ∷ [])) same ∙ joins.grows offers waits)
-
       -- what waits for more may have broken off there for lack of memory
       pub joined-stopped : (j : Joiner W T) (y : O) (offers : List (ChunkResult T)) → WaitsFor j offers → made a x (merged (order_of j) offers) (Ok None) (taker_of j) y
           → made a x (merged (order_of j) offers) (Err NoMemory) (taker_of j) y
@@ -215,54 +196,52 @@ module _ {W O T : Type 0} (made : W → O → Trace T → Result (Option Ending)
           subst (λ t. made a x t (Err NoMemory) (taker_of j) y) (followed-open_nil (open_trace waits.out) ∙ sym is)
           (lawful.stops a x waits.out (taker_of j) y (open_trace []) (subst (λ t. made a x t (Ok None) (taker_of j) y) is before))
 
-      -- where an offer is taken in, the answer is open or has ended; where it is refused, the taker broke off what is merged then
-      abbrev LeavesAt : Joining W T → Result More MergeFault → Joining W T → JoinerState → O → List (ChunkResult T) → Type 0
-      LeavesAt w (Ok more) w' standing' y' offers = HasJoinedAt made a x w' standing' y' offers
-      LeavesAt w (Err fault) w' standing' y' offers = (last : W) × made a x (merged w.order offers) (Err (delivery_fault_of fault)) last y'
+      module _ (w w' : Joining W T) (standing' : JoinerState) (r : ChunkResult T) (y y' : O) (offers : List (ChunkResult T)) (same : w'.order ≡ w.order) where
+        -- where an offer is taken in, the answer is open or has ended; where it is refused, the taker broke off what is merged then
+        abbrev LeavesAt : Result More MergeFault → List (ChunkResult T) → Type 0
+        LeavesAt (Ok more) all = HasJoinedAt made a x w' standing' y' all
+        LeavesAt (Err fault) all = (last : W) × made a x (merged w.order all) (Err (delivery_fault_of fault)) last y'
 
-      offered-at : (w : Joining W T) (standing : JoinerState) (r : ChunkResult T) (y : O) (result : Result More MergeFault) (w' : Joining W T)
-          (standing' : JoinerState) (y' : O)
-          (offers : List (ChunkResult T)) → w'.order ≡ w.order → HasJoinedAt made a x w standing y offers
-          → AnswersOffer made w standing r y result w' standing' y'
-          → (offers' : List (ChunkResult T)) × AreOneMore offers r offers' × LeavesAt w result w' standing' y' offers'
-      offered-at w Open r y (Ok Yes) w' standing' y' offers same joined o =
-          let on = made-grown w r y (Ok None) w' y' offers w'.order same joined.0 joined.1 o.1 in
-          (offers ++ r ∷ [], inr (refl, o.1.are_new offers joined.0), rw o.0 (o.1.waits refl offers joined.0, on))
-      offered-at w Open r y (Ok No) w' standing' y' offers same joined o = (
-        offers ++ r ∷ [],
-        inr (refl, o.2.are_new offers joined.0),
-        rw o.1
-            (made-grown w r y (Ok (Some o.0)) w' y' offers w'.order same joined.0 joined.1 o.2),
-      )
-      offered-at w Open r y (Err Memory) w' standing' y' offers same joined o = (
-        offers ++ r ∷ [],
-        inr (refl, o.1.are_new offers joined.0),
-        (w'.taker, made-grown w r y (Err NoMemory) w' y' offers w.order refl joined.0 joined.1 o.1),
-      )
-      offered-at w Open r y (Err (Sink code)) w' standing' y' offers same joined o = (
-        offers ++ r ∷ [],
-        inr (refl, o.1.are_new offers joined.0),
-        (w'.taker, made-grown w r y (Err (Refusal code)) w' y' offers w.order refl joined.0 joined.1 o.1),
-      )
-      offered-at w Open r y (Err Twice) w' standing' y' offers same joined o =
-          (offers, inl refl, (w.taker, rw o.2 (joined-stopped (record { work = w; standing = Open }) y offers joined.0 joined.1)))
-      offered-at w Open r y (Err fault) w' standing' y' offers same joined o = absurd o
-      offered-at w (Decided e) r y (Ok more) w' standing' y' offers same joined o = (offers, inl refl, rw (o.2, o.1, o.3) joined)
-      offered-at w (Decided e) r y (Err fault) w' standing' y' offers same joined o = absurd (let bad : Err fault ≡ Ok No = o.0 in cc)
-      offered-at w HasFailed r y result w' standing' y' offers same joined o = absurd joined
+        abbrev more : List (ChunkResult T)
+        more = offers ++ r ∷ []
+
+        -- with one offer more the taker has taken what they merge to then
+        grown : (how : Result (Option Ending) DeliveryFault) (order : Order) → order ≡ w.order → HasJoinedAt made a x w Open y offers → Joins made w r y how w' y'
+            → made a x (merged order more) how w'.taker y'
+        grown how order is joined joins =
+            taken-after made lawful a x (merged w.order offers) joins.gained (merged order more) w.taker y how w'.taker y'
+            (ap (λ t. t.ending) (merged-waits w.order w.row offers joined.0)) joined.1 joins.taken (ap (λ o. merged o more) is ∙ joins.grows offers joined.0)
+
+        offered-at : (standing : JoinerState) (result : Result More MergeFault) → HasJoinedAt made a x w standing y offers
+            → AnswersOffer made w standing r y result w' standing' y' → (all : List (ChunkResult T)) × AreOneMore offers r all × LeavesAt result all
+        offered-at Open (Ok Yes) joined o =
+            (more, inr (refl, o.1.are_new offers joined.0), rw o.0 (o.1.waits refl offers joined.0, grown (Ok None) w'.order same joined o.1))
+        offered-at Open (Ok No) joined o = (more, inr (refl, o.2.are_new offers joined.0), rw o.1 (grown (Ok (Some o.0)) w'.order same joined o.2))
+        offered-at Open (Err Memory) joined o = (more, inr (refl, o.1.are_new offers joined.0), (w'.taker, grown (Err NoMemory) w.order refl joined o.1))
+        offered-at Open (Err (Sink code)) joined o =
+            (more, inr (refl, o.1.are_new offers joined.0), (w'.taker, grown (Err (Refusal code)) w.order refl joined o.1))
+        offered-at Open (Err Twice) joined o =
+            (offers, inl refl, (w.taker, rw o.2 (joined-stopped (record { work = w; standing = Open }) y offers joined.0 joined.1)))
+        offered-at Open (Err fault) joined o = absurd o
+        offered-at (Decided e) (Ok more) joined o = (offers, inl refl, rw (o.2, o.1, o.3) joined)
+        offered-at (Decided e) (Err fault) joined o = absurd (let bad : Err fault ≡ Ok No = o.0 in cc)
+        offered-at HasFailed result joined o = absurd joined
 
       -- an offer that was taken in
       pub takes-joined : (j : Joiner W T) (r : ChunkResult T) (y : O) (more : More) (j' : Joiner W T) (y' : O) (offers : List (ChunkResult T)) → order_of j' ≡ order_of j
           → HasJoined made a x j y offers → Takes made j r y (Ok more) j' y' → (offers' : List (ChunkResult T)) × AreOneMore offers r offers' × HasJoined made a x j' y' offers'
-      takes-joined j r y more j' y' offers same joined o = offered-at j.work j.standing r y (Ok more) j'.work j'.standing y' offers same joined o
+      takes-joined j r y more j' y' offers same joined o = offered-at j.work j'.work j'.standing r y y' offers same j.standing (Ok more) joined o
 
       -- one that was refused
       pub takes-broken : (j : Joiner W T) (r : ChunkResult T) (y : O) (fault : MergeFault) (j' : Joiner W T) (y' : O) (offers : List (ChunkResult T)) → order_of j' ≡ order_of j
           → HasJoined made a x j y offers → Takes made j r y (Err fault) j' y'
           → (offers' : List (ChunkResult T)) × AreOneMore offers r offers' × ((last : W) × made a x (merged (order_of j) offers') (Err (delivery_fault_of fault)) last y')
-      takes-broken j r y fault j' y' offers same joined o = offered-at j.work j.standing r y (Err fault) j'.work j'.standing y' offers same joined o
+      takes-broken j r y fault j' y' offers same joined o = offered-at j.work j'.work j'.standing r y y' offers same j.standing (Err fault) joined o
 
   module _ (lawful : IsTaking made) where
     -- nothing was offered to a new joiner
     pub begun-joined : (j : Joiner W T) (x : O) → j.standing ≡ Open → WaitsFor j [] → HasJoined made (taker_of j) x j x []
     begun-joined j x still waits = subst (λ s. HasJoinedAt made (taker_of j) x j.work s x []) (sym still) (waits, lawful.begins (taker_of j) x)
+
+-- where nothing was offered yet
+pub ruleset beginning = (begun-waits)

@@ -89,9 +89,8 @@ module _ {L T : Type 0} (meaning : L → Meaning T) (worker : List (Op L)) (t : 
       let few = length-reply t p asked.asked in
       All-cons IsToldTrue asked h (answer-told p asked within parts.0) (all-told (next_place t p asked.asked) h (omega (arith, moved, few, within)) parts.1)
 
-  pub told-of_record : (h : List Record) (asked : Record) (r : ChunkResult T) → IsLegalHistory t h → Contains h asked → IsResultOf meaning worker t asked r
-      → IsTrueTail t r
-  told-of_record h asked r legal there = All-contains IsToldTrue h asked (all-told start h (omega arith) (and_parts (is_run t start h) _ legal).0) there r
+  pub told-of_record : (h : List Record) (asked : Record) → IsLegalHistory t h → Contains h asked → IsToldTrue asked
+  told-of_record h asked legal there = All-contains IsToldTrue h asked (all-told start h (omega arith) (and_parts (is_run t start h) _ legal).0) there
 
 -- ---- what the tails say
 
@@ -109,25 +108,18 @@ pub record ArePlaced {T : Type 0} (before : List (Interval (Trace T))) (offers :
 
 placed-one : {T : Type 0} (order : Order) (ps : List (Interval (Trace T))) (r : ChunkResult T) → are_apart 0 ps ≡ true → IsFree ps r.first (end_of_result r)
     → (are_apart 0 (placed order ps r) ≡ true) × ((key : ℕ) → has_key (placed order ps r) key ≡ has_key ps key || is_within r.first (end_of_result r) key)
-placed-one {T} order ps r apart free =
-    let qs : List (Interval (Trace T)) = insert ps r.first (end_of_result r) (waiting_trace order r) in
-    elim (r.count == 0) as (λ v. v ≡ (r.count == 0)
-    → (are_apart 0 (cond v ps qs) ≡ true) × ((key : ℕ) → has_key (cond v ps qs) key ≡ has_key ps key || is_within r.first (end_of_result r) key)) [
-      | true ↦ λ is. (
-        apart,
-        λ key. sym
-            (ap (λ b. has_key ps key || b) (not_within-none r.first r.count key (same_key r.count 0 (sym is))) ∙ or-false (has_key ps key)),
-      )
-      | false ↦ λ is.
-          let first : r.first < end_of_result r = some r.first r.count is in (
-            apart-insert 0 r.first (end_of_result r) (waiting_trace order r) ps apart (omega arith) first free,
-            λ key. has_key-insert 0 r.first
-                (end_of_result r) (waiting_trace order r) ps key apart first free,
+placed-one order ps r apart free =
+    elim (cases_lt 0 r.count) [
+      | inl some ↦
+          let test : (r.count == 0) ≡ false = grind (arith, nat_tests) in
+          rw test (
+            apart-insert 0 r.first (end_of_result r) (waiting_trace order r) ps apart (omega arith) (omega arith) free,
+            λ key. has_key-insert 0 r.first (end_of_result r) (waiting_trace order r) ps key apart (omega arith) free,
           )
-    ] refl
-  where
-    some : (first n : ℕ) → false ≡ (n == 0) → first < first + n
-    some first n is = grind (arith, nat_tests)
+      | inr few ↦
+          let none : r.count ≡ 0 = omega arith in
+          rw none (apart, λ key. sym (ap (λ b. has_key ps key || b) (not_within-none r.first 0 key refl) ∙ or-false (has_key ps key)))
+    ]
 
 pub placed-all : {T : Type 0} (order : Order) (ps : List (Interval (Trace T))) (offers : List (ChunkResult T)) → are_apart 0 ps ≡ true → AreApart offers
     → ((key : ℕ) → is_offered offers key ≡ true → has_key ps key ≡ false) → ArePlaced ps offers (all_placed order ps offers)

@@ -9,6 +9,7 @@ ghost use Rattle.plinq_merge.specs.inner.OneThread.{DeliversAnswer};
 use crate::buffer::Buffer;
 use crate::delivery_fault::DeliveryFault;
 use crate::sending::{deliver_full, deliver_rest};
+use crate::singly::deliver_all;
 use crate::sink::Sink;
 use plinq_lambda::Lambda;
 use plinq_ops::Pipeline;
@@ -18,8 +19,8 @@ use std::alloc::Global;
 /// After so many blocks that fill no batch the sink is told that none is there: by blocks of 512, after 8,192 elements.
 const QUIET_BLOCKS: u64 = 16;
 
-/// Sends what a source gives through a pipeline, a block at a time, up to the one that ends the run, and delivers what comes
-/// out.
+/// Sends what a source gives through a pipeline, so many elements at a time, up to those that end the run, and delivers what
+/// comes out.
 #[tactic(auto, using(crate::proofs::Delivered::sending_on))]
 pub(crate) fn deliver_blocks<L, S, K>(
     alloc: Global,
@@ -42,6 +43,10 @@ where
     ensures delivers { DeliversAnswer K.accepts K.refuses (size_of buffer.old) most
         (stages L.meaning pipeline.old) (S.whole source.old) sink.old (S.given source.new) result sink.new }
 {
+    // (for one element at a time that loop is the faster)
+    if most == 1 {
+        return deliver_all(alloc, pipeline, buffer, source, sink);
+    }
     let mut block = Vec::new(alloc);
     let mut quiet = 0;
     loop {

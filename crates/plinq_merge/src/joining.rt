@@ -27,6 +27,7 @@ pub(crate) struct Joining<W, T> {
 
 impl<W: Taker> Joining<W, W::Item> {
     /// Results of which none was offered yet.
+    #[tactic(auto, using(crate::proofs::Joins::beginning))]
     pub(crate) fn new(alloc: Global, order: Order, taker: W) -> Joining<W, W::Item>
         ensures order { result.order ≡ order }
         ensures taker { result.taker ≡ taker }

@@ -12,7 +12,6 @@ ghost use Rattle.plinq_merge.specs.inner.OneThread.{DeliversAnswer};
 use crate::buffer::buffer_of;
 use crate::delivery_fault::DeliveryFault;
 use crate::in_blocks::deliver_blocks;
-use crate::singly::deliver_all;
 use crate::sink::Sink;
 use plinq_lambda::Lambda;
 use plinq_ops::{Op, Pipeline, Query};
@@ -35,6 +34,7 @@ const BLOCK: u64 = 512;
 /// ```text
 /// let ending = deliver_sequentially(alloc, &query, &mut source, &mut sink)?;
 /// ```
+#[tactic(auto, using(crate::proofs::Delivered::deciding))]
 pub fn deliver_sequentially<L, S, K>(
     alloc: Global,
     query: &Query<L>,
@@ -70,6 +70,7 @@ where
 /// ```text
 /// let ending = deliver_in_blocks(alloc, &query, &mut source, &mut sink)?;
 /// ```
+#[tactic(auto, using(crate::proofs::Delivered::deciding))]
 pub fn deliver_in_blocks<L, S, K>(
     alloc: Global,
     query: &Query<L>,
@@ -111,6 +112,7 @@ fn expands<L>(ops: &[Op<L>]) -> bool
 }
 
 /// Delivers a query's answer, and asks the source for so many elements at once.
+#[tactic(auto, using(crate::proofs::Delivered::stopping))]
 fn deliver_answer<L, S, K>(
     alloc: Global,
     query: &Query<L>,
@@ -133,9 +135,5 @@ where
     }
     let mut pipeline = Pipeline::new(alloc, query.ops())?;
     let mut buffer = buffer_of(alloc, query.merge_option())?;
-    // (for one element at a time this loop is the faster)
-    if most == 1 {
-        return deliver_all(alloc, &mut pipeline, &mut buffer, source, sink);
-    }
     deliver_blocks(alloc, most, &mut pipeline, &mut buffer, source, sink)
 }

@@ -84,6 +84,7 @@ where
 }
 
 /// Hands out the batches that a piece of an answer fills, and all of them where the answer ends with it.
+#[tactic(auto, using(crate::proofs::Delivered::delivering))]
 pub(crate) fn deliver_piece<K: Sink>(
     buffer: &mut Buffer<K::Item>,
     items: &[K::Item],
@@ -104,6 +105,7 @@ where
 }
 
 /// Delivers what the last items fill and leave, and answers the ending.
+#[tactic(auto, using(crate::proofs::Delivered::delivering))]
 pub(crate) fn deliver_rest<K: Sink>(
     buffer: &mut Buffer<K::Item>,
     made: &Vec<K::Item>,

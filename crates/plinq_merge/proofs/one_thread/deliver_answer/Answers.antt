@@ -20,24 +20,8 @@ returns-then-split-clause-delivers g c =
     let none : some_takes_none (stages_of g.L.Lambda.meaning ops) ≡ true = sym (some_takes_none-stages_of g.L.Lambda.meaning ops) ∙ sym decided ∙ search rules in
     answer-none _ _ _ _ _ _ _ _ none c.requires.fresh
 
-pub returns-in_err-pipeline-clause-delivers : goal.returns-in_err-pipeline-clause-delivers
-returns-in_err-pipeline-clause-delivers g c = let is : c.from_residual.result ≡ Err Memory = search rules in answer-stopped _ _ _ _ _ _ _ _ _ is
-
-pub returns-in_err-buffer-clause-delivers : goal.returns-in_err-buffer-clause-delivers
-returns-in_err-buffer-clause-delivers g c = let is : c.from_residual-in_err-buffer.result ≡ Err Memory = search rules in answer-stopped _ _ _ _ _ _ _ _ _ is
-
-pub deliver_all-requires-clause-undecided : goal.deliver_all-requires-clause-undecided
-deliver_all-requires-clause-undecided g c lives within = begun-undecided g.L.Lambda.meaning c.in_ok-pipeline.pipeline c.args.query.now.ops c.ops.result.now c.split.result.decided c.split.ensures.plan.decided (search rules) (search rules) c.in_ok-pipeline.ensures
-
 pub deliver_blocks-requires-clause-undecided : goal.deliver_blocks-requires-clause-undecided
 deliver_blocks-requires-clause-undecided g c lives within = begun-undecided g.L.Lambda.meaning c.in_ok-pipeline.pipeline c.args.query.now.ops c.ops.result.now c.split.result.decided c.split.ensures.plan.decided (search rules) (search rules) c.in_ok-pipeline.ensures
-
-pub returns-then-most-eq1-clause-delivers : goal.returns-then-most-eq1-clause-delivers
-returns-then-most-eq1-clause-delivers g c =
-    let same : c.ops.result.now ≡ c.args.query.now.ops = search rules in
-    let begins = stages-begun g.L.Lambda.meaning c.args.query.now.ops c.in_ok-pipeline.pipeline (rw same at c.in_ok-pipeline.ensures) in
-    let size : size_of c.in_ok-buffer.buffer ≡ batch_size (merge_in_force c.args.query.now.merge) = c.in_ok-buffer.ensures.size ∙ ap batch_size c.merge_option.ensures in
-    rw c.if-most-eq1.true (rw (begins, size) at c.deliver_all.ensures.delivers)
 
 pub returns-clause-delivers : goal.returns-clause-delivers
 returns-clause-delivers g c =
