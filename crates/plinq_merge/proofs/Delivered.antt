@@ -23,6 +23,7 @@ use Rattle.plinq_ops.proofs.Fed.{undecided-left, fed-none}
 use Rattle.plinq_ops.proofs.Open.{open-from_seq}
 use Rattle.plinq_ops.proofs.Runs.{batches_from-open, full_batches-append, held_back-append, batches_from-followed}
 use Rattle.plinq_ops.specs.Sequential.{first_items}
+use Rattle.plinq_ops.proofs.Batched.{full_batches-none, held_back-none}
 use Rattle.plinq_ops.proofs.Answered.{fed-on, fed-over, deciding-over, deciding-wider, deciding-singly, deciding-of_none, answer-of_none, answer-fed}
 use Rattle.plinq_merge.specs.declared.deliver.Deliver.{Deliver}
 use Rattle.plinq_merge.specs.declared.delivery_fault.DeliveryFault.{DeliveryFault}
@@ -34,7 +35,8 @@ use Rattle.plinq_merge.specs.Delivering.{Line, KeepsPlan, line_of, is_below, can
 use Rattle.plinq_merge.specs.Deliveries.{batches-on}
 use Rattle.plinq_merge.specs.inner.Handing.{HandsOn}
 use Rattle.plinq_merge.specs.inner.OneThread.{DeliversAnswer}
-use Rattle.plinq_merge.specs.inner.Sent.{leads-append, cut-after, cut-before, delivers-at_err, delivers-as, delivers-after}
+use Rattle.plinq_merge.proofs.Blocks.{full_batches-split, full_batches-short}
+use Rattle.plinq_merge.specs.inner.Sent.{leads-append, cut-after, cut-before, up_to-more, up_to-leads, up_to-cut, delivers-at_err, delivers-as, delivers-after}
 
 -- what a trace gives that was fed, before what comes after it
 pub fed-answer : {T : Type 0} (ss ss' : List (Stage T)) (t : Trace T) (out : List T) (e : Option Ending) → IsFed ss t [] out ss' e → seq ss t ≡ trace_of out e
@@ -216,6 +218,12 @@ module _ {K T : Type 0} (accepts : K → List T → K → Type 0) (refuses : K �
 
 -- what breaks off, and what goes on
 pub ruleset delivering = (delivers-at_err, cut-before, delivers-after)
+
+-- where one batch takes all
+pub ruleset buffering = (full_batches-none, held_back-none)
+
+-- batch by batch
+pub ruleset handing = (up_to-more, up_to-leads, up_to-cut, full_batches-split, full_batches-short)
 
 -- before anything was fed
 pub ruleset stopping = (answer-stopped)

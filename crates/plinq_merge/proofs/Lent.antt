@@ -33,27 +33,26 @@ cut-map f accepts refuses accepts' refuses' takes refused s bs NoMemory s' cut =
 cut-map f accepts refuses accepts' refuses' takes refused s bs (Refusal code) s' cut =
     (cut.0, cut.1, cut.2, f cut.3, cut.4, leads-map f accepts accepts' takes s cut.0 cut.3 cut.5, refused cut.3 cut.1 code s' cut.6)
 
-pub brings-map : {T : Type 0} (merge : Merge T) (offers : List (ChunkResult T)) (r : ChunkResult T) (P Q : List (List T) → Type 0) → ((bs : List (List T)) → P bs → Q bs)
+brings-map : {T : Type 0} (merge : Merge T) (offers : List (ChunkResult T)) (r : ChunkResult T) (P Q : List (List T) → Type 0)
+    → ((bs : List (List T)) → P bs → Q bs)
     → Brings merge offers r P → Brings merge offers r Q
 brings-map merge offers r P Q on brings = record { are_new = brings.are_new; gained = brings.gained; grows = brings.grows; sent = on brings.gained brings.sent }
 
 -- an offer, where what is delivered goes from s to s', and in the other words from t to t'
-pub offers-map : {L K M T : Type 0} (meaning : L → Meaning T) (decided : Bool) (accepts : K → List T → K → Type 0) (refuses : K → List T → ℕ → K → Type 0) (accepts' : M → List T → M → Type 0) (refuses' : M → List T → ℕ → M → Type 0)
-    (s s' : K) (t t' : M) → ((bs : List (List T)) → Leads accepts s bs s' → Leads accepts' t bs t')
-    → ((bs : List (List T)) (fault : DeliveryFault) → IsCutOff accepts refuses s bs fault s' → IsCutOff accepts' refuses' t bs fault t') → (s' ≡ s → t' ≡ t)
-    → (w : Work L T) (standing : JoinerState) (r : ChunkResult T) (result : Result More MergeFault) (w' : Work L T) (standing' : JoinerState)
-    → Offers meaning decided accepts refuses w standing r s result w' standing' s' → Offers meaning decided accepts' refuses' w standing r t result w' standing' t'
-offers-map meaning decided accepts refuses accepts' refuses' s s' t t' leads cuts same w Open r (Ok Yes) w' standing' o =
-    (o.0, λ offers rests. let on = o.1 offers rests in (brings-map _ offers r _ _ leads on.0, on.1))
-offers-map meaning decided accepts refuses accepts' refuses' s s' t t' leads cuts same w Open r (Ok No) w' standing' o =
-    (o.0, o.1, λ offers rests. let on = o.2 offers rests in (brings-map _ offers r _ _ leads on.0, on.1))
-offers-map meaning decided accepts refuses accepts' refuses' s s' t t' leads cuts same w Open r (Err Memory) w' standing' o =
-    (o.0, λ offers rests. brings-map _ offers r _ _ (λ bs. cuts bs NoMemory) (o.1 offers rests))
-offers-map meaning decided accepts refuses accepts' refuses' s s' t t' leads cuts same w Open r (Err (Sink code)) w' standing' o =
-    (o.0, λ offers rests. brings-map _ offers r _ _ (λ bs. cuts bs (Refusal code)) (o.1 offers rests))
-offers-map meaning decided accepts refuses accepts' refuses' s s' t t' leads cuts same w Open r (Err Twice) w' standing' o = (o.0, o.1, same o.2, o.3)
-offers-map meaning decided accepts refuses accepts' refuses' s s' t t' leads cuts same w Open r (Err fault) w' standing' o = absurd o
-offers-map meaning decided accepts refuses accepts' refuses' s s' t t' leads cuts same w standing r result w' standing' o = (o.0, o.1, o.2, same o.3)
+module _ {L K M T : Type 0} (meaning : L → Meaning T) (decided : Bool) (accepts : K → List T → K → Type 0) (refuses : K → List T → ℕ → K → Type 0)
+    (accepts' : M → List T → M → Type 0) (refuses' : M → List T → ℕ → M → Type 0) (s s' : K) (t t' : M)
+    (leads : (bs : List (List T)) → Leads accepts s bs s' → Leads accepts' t bs t')
+    (cuts : (bs : List (List T)) (fault : DeliveryFault) → IsCutOff accepts refuses s bs fault s' → IsCutOff accepts' refuses' t bs fault t')
+    (same : s' ≡ s → t' ≡ t) (w : Work L T) (r : ChunkResult T) (w' : Work L T) (standing' : JoinerState) where
+  offers-map : (standing : JoinerState) (result : Result More MergeFault) → Offers meaning decided accepts refuses w standing r s result w' standing' s'
+      → Offers meaning decided accepts' refuses' w standing r t result w' standing' t'
+  offers-map Open (Ok Yes) o = (o.0, λ offers rests. let on = o.1 offers rests in (brings-map _ offers r _ _ leads on.0, on.1))
+  offers-map Open (Ok No) o = (o.0, o.1, λ offers rests. let on = o.2 offers rests in (brings-map _ offers r _ _ leads on.0, on.1))
+  offers-map Open (Err Memory) o = (o.0, λ offers rests. brings-map _ offers r _ _ (λ bs. cuts bs NoMemory) (o.1 offers rests))
+  offers-map Open (Err (Sink code)) o = (o.0, λ offers rests. brings-map _ offers r _ _ (λ bs. cuts bs (Refusal code)) (o.1 offers rests))
+  offers-map Open (Err Twice) o = (o.0, o.1, same o.2, o.3)
+  offers-map Open (Err fault) o = absurd o
+  offers-map standing result o = (o.0, o.1, o.2, same o.3)
 
 module _ {C : Type 0} (asks : C → ℕ → Bool → C → Type 0) (has_told : C → Bool) (keeps : (t : C) (n : ℕ) (answer : Bool) (t' : C) → asks t n answer t' → has_told t' ≡ (has_told t || answer)) where
   pub lets-told : (t : C) (n : ℕ) (t' : C) → asks t n false t' → has_told t' ≡ has_told t
@@ -113,22 +112,19 @@ module _ {C K T : Type 0} (asks : C → ℕ → Bool → C → Type 0) (accepts 
       → IsCutOff (Takes asks accepts) (Refuses asks refuses) w bs fault w' → IsCutOff (Passes asks accepts) (IsRefused asks refuses) (delivery_of w) bs fault (delivery_of w')
   cut-on w bs NoMemory w' before after cut = let on = leads-on w cut.0 w' cut.3 in (cut.0, cut.1, cut.2, on.leads)
   cut-on w bs (Refusal code) w' before after cut =
-      let m = cut.3 in
-      let on = leads-on w cut.0 m cut.5 in
+      let on = leads-on w cut.0 cut.3 cut.5 in
       let end = cut.6 in
-      let P : Bool → Type 0 = λ is. KeptOrRefused asks refuses is (delivery_of m) cut.1 code (delivery_of w') in
-      (cut.0, cut.1, cut.2, delivery_of m, cut.4, on.leads, subst P after (end.was (on.still ∙ before)))
+      (cut.0, cut.1, cut.2, delivery_of cut.3, cut.4, on.leads, rw after at (end.was (on.still ∙ before)))
 
   -- a batch was kept back
   pub cut-kept : (w : WithCancellation C K) (bs : List (List T)) (fault : DeliveryFault) (w' : WithCancellation C K) → w.is_stopped ≡ false → w'.is_stopped ≡ true
       → IsCutOff (Takes asks accepts) (Refuses asks refuses) w bs fault w' → IsKeptBack asks accepts (delivery_of w) bs (delivery_of w')
   cut-kept w bs NoMemory w' before after cut = let on = leads-on w cut.0 w' cut.3 in absurd (let bad : true ≡ false = sym after ∙ on.still ∙ before in cc)
   cut-kept w bs (Refusal code) w' before after cut =
-      let m = cut.3 in
-      let on = leads-on w cut.0 m cut.5 in
+      let on = leads-on w cut.0 cut.3 cut.5 in
       let end = cut.6 in
-      let P : Bool → Type 0 = λ is. KeptOrRefused asks refuses is (delivery_of m) cut.1 code (delivery_of w') in
-      record { sent = cut.0; kept = cut.1; rest = cut.2; parts = cut.4; last = delivery_of m; leads = on.leads; stops = subst P after (end.was (on.still ∙ before)) }
+      let stops = rw after at (end.was (on.still ∙ before)) in
+      record { sent = cut.0; kept = cut.1; rest = cut.2; parts = cut.4; last = delivery_of cut.3; leads = on.leads; stops = stops }
 
   abbrev Sends : WithCancellation C K → Result More MergeFault → WithCancellation C K → Type 0
   Sends w r w' = SendsSome (Takes asks accepts) (Refuses asks refuses) w r w'
@@ -175,22 +171,22 @@ module _ {C K T : Type 0} (asks : C → ℕ → Bool → C → Type 0) (accepts 
       offers-within standing true told after sends o = offers-stopped standing told after sends o
       offers-within standing false told after sends o =
           offers-map meaning decided (Takes asks accepts) (Refuses asks refuses) (Passes asks accepts) (IsRefused asks refuses) w w' (delivery_of w)
-          (delivery_of w')
-          (λ bs leads. let on = leads-on w bs w' leads in on.leads) (λ bs fault cut. cut-on w bs fault w' before after cut)
-          (ap delivery_of) x standing r told x' standing' o
+          (delivery_of w') (λ bs leads. let on = leads-on w bs w' leads in on.leads) (λ bs fault cut. cut-on w bs fault w' before after cut) (ap delivery_of)
+          x r x' standing' standing told o
 
 -- where the token never stops, along a function of deliveries
 module _ {C K T L M : Type 0} (asks : C → ℕ → Bool → C → Type 0) (never : (c c' : C) (n : ℕ) → asks c n true c' → ⊥) (accepts : K → List T → K → Type 0)
     (refuses : K → List T → ℕ → K → Type 0) (meaning : L → Meaning T) (decided : Bool) (accepts' : M → List T → M → Type 0)
-    (refuses' : M → List T → ℕ → M → Type 0) where
-  pub offers-seen : (f : Delivery C K → M) → ((d : Delivery C K) (b : List T) (d' : Delivery C K) → Passes asks accepts d b d' → accepts' (f d) b (f d'))
-      → ((d : Delivery C K) (b : List T) (code : ℕ) (d' : Delivery C K) → IsRefused asks refuses d b code d' → refuses' (f d) b code (f d'))
-      → (w : Work L T) (standing : JoinerState) (r : ChunkResult T) (d : Delivery C K) (told : Result More MergeFault) (w' : Work L T) (standing' : JoinerState)
-      (d' : Delivery C K) → AsksEach asks accepts refuses d told d' → OffersWith meaning decided asks accepts refuses w standing r d told w' standing' d'
+    (refuses' : M → List T → ℕ → M → Type 0) (f : Delivery C K → M)
+    (takes : (d : Delivery C K) (b : List T) (d' : Delivery C K) → Passes asks accepts d b d' → accepts' (f d) b (f d'))
+    (refused : (d : Delivery C K) (b : List T) (code : ℕ) (d' : Delivery C K) → IsRefused asks refuses d b code d' → refuses' (f d) b code (f d'))
+    (w : Work L T) (r : ChunkResult T) (d : Delivery C K) (w' : Work L T) (standing' : JoinerState) (d' : Delivery C K) where
+  pub offers-seen : (standing : JoinerState) (told : Result More MergeFault) → AsksEach asks accepts refuses d told d'
+      → OffersWith meaning decided asks accepts refuses w standing r d told w' standing' d'
       → Offers meaning decided accepts' refuses' w standing r (f d) told w' standing' (f d')
-  offers-seen f takes refused w standing r d (Err Cancelled) w' standing' d' asked o = absurd (never _ _ _ asked.1.stops.asked)
-  offers-seen f takes refused w standing r d told w' standing' d' asked o =
+  offers-seen standing (Err Cancelled) asked o = absurd (never _ _ _ asked.1.stops.asked)
+  offers-seen standing told asked o =
       offers-map meaning decided (Passes asks accepts) (IsRefused asks refuses) accepts' refuses' d d' (f d) (f d')
       (λ bs. leads-map f (Passes asks accepts) accepts' takes d bs d')
       (λ bs fault. cut-map f (Passes asks accepts) (IsRefused asks refuses) accepts' refuses' takes refused d bs fault d')
-      (ap f) w standing r told w' standing' o
+      (ap f) w r w' standing' standing told o

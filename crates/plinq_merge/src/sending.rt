@@ -62,6 +62,7 @@ fn deliver_last<K: Sink>(
 }
 
 /// Hands out the batches that these items fill, and holds the rest back.
+#[tactic(auto, using(crate::proofs::Delivered::buffering))]
 pub(crate) fn deliver_full<K: Sink>(
     buffer: &mut Buffer<K::Item>,
     items: &[K::Item],
@@ -151,6 +152,7 @@ where
 }
 
 /// Hands out full batches as parts of the items themselves, and holds back what is left of them.
+#[tactic(auto, using(crate::proofs::Delivered::delivering))]
 fn hand_whole<K: Sink>(
     ring: &mut HeapCircularBuffer<K::Item>,
     items: &[K::Item],

@@ -37,6 +37,7 @@ pub trait Sink {
     /// # Errors
     ///
     /// The sink's code for the first batch that it refuses; it was handed none of those after it.
+    #[tactic(auto, using(crate::proofs::Delivered::handing))]
     fn batches_of(&mut self, size: usize, items: &[Self::Item]) -> Result<(), u32>
         requires { 0 < size }
         ensures { TakesEach accepts refuses self.old (full_batches (Some size) [] items.now) result self.new }

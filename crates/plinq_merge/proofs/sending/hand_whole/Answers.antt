@@ -5,14 +5,6 @@ use Rattle.plinq_merge.proofs.Blocks.{held_back-rest, rest-short, filled-all}
 use Rattle.plinq_merge.specs.inner.Sent.{delivers-at_err}
 use Rattle.plinq_merge.proofs.sending.hand_whole.Goals as goal
 
-pub returns-in_err-send_full-clause-filled : goal.returns-in_err-send_full-clause-filled
-returns-in_err-send_full-clause-filled g c =
-    let n = c.args.ring.now.capacity in
-    let size : c.capacity-size.result ≡ n = search rules in
-    let is : c.from_residual.result ≡ Err c.in_err-send_full.field-0.0 = search rules in
-    let cut : IsCutOff g.K.Sink.accepts g.K.Sink.refuses c.args.sink.now (full_batches (Some n) [] c.args.items.now) c.in_err-send_full.field-0.0 c.send_full.new.sink = search rules in
-    record { held = rw is tt; sent = delivers-at_err _ _ _ _ _ c.in_err-send_full.field-0.0 _ is cut }
-
 pub returns-clause-filled : goal.returns-clause-filled
 returns-clause-filled g c =
     let n = c.args.ring.now.capacity in

@@ -6,20 +6,6 @@ use Rattle.plinq_merge.specs.Joining.{Waits}
 use Rattle.plinq_merge.proofs.Joins.{moved-none, moved-next, moved-waits}
 use Rattle.plinq_merge.proofs.joining.Joining+W+W+Item.drain.Goals as goal
 
-pub loop-part-init : goal.loop-part-init
-loop-part-init g c = record { ready = c.requires.ready; moves = moved-none g.W.TakeInto.made g.met.W.TakeInto.lawful c.args.self.now c.args.out.now }
-
-pub loop-part-preserved : goal.loop-part-preserved
-loop-part-preserved g c =
-    let w = c.loop-part.self in
-    let none : c.in_ok-ending.ending ≡ None = none-from_is_some _ (search rules) in
-    let takes : TakesNext w.row.buffer c.in-Some.part c.take_next.new.self = search rules in
-    record {
-      ready = c.in_ok-ending.ensures.ready (ap Ok none);
-      moves = moved-next g.W.TakeInto.made g.met.W.TakeInto.lawful c.args.self.now c.args.out.now w c.loop-part.out c.take_next.new.self c.in-Some.part c.give.new.taker c.give.new.items c.give.new.out c.loop-part.invariant.moves takes
-          (rw none at c.in_ok-ending.ensures.made) (c.in_ok-ending.ensures.last (ap Ok none));
-    }
-
 pub returns-then-is_none-clause-waits : goal.returns-then-is_none-clause-waits
 returns-then-is_none-clause-waits g c = λ is_open offers out h keys.
     let w = c.loop-part.self in

@@ -15,8 +15,8 @@ returns-clause-takes g c =
     let m = c.args.self.now in
     let m' = c.offer_with.new.self in
     offers-seen never nothing-stops g.K.Sink.accepts g.K.Sink.refuses g.L.Lambda.meaning m.decided g.K.Sink.accepts g.K.Sink.refuses (λ d. d.sink)
-    (λ d b d' passes. passes.taken) (λ d b code d' refused. refused.refused) m.joiner.work m.joiner.standing c.args.offered _ c.offer_with.result
-    m'.joiner.work m'.joiner.standing _ c.offer_with.ensures.asks c.offer_with.ensures.takes
+    (λ d b d' passes. passes.taken) (λ d b code d' refused. refused.refused) m.joiner.work c.args.offered _ m'.joiner.work m'.joiner.standing _
+    m.joiner.standing c.offer_with.result c.offer_with.ensures.asks c.offer_with.ensures.takes
 
 pub returns-clause-counts : goal.returns-clause-counts
 returns-clause-counts g c =
@@ -24,6 +24,5 @@ returns-clause-counts g c =
     let m' = c.offer_with.new.self in
     offers-seen never nothing-stops g.K.Sink.accepts g.K.Sink.refuses g.L.Lambda.meaning m.decided (Counts g.K.Sink.accepts) (CountsNot g.K.Sink.refuses)
     (λ d. record { sink = d.sink; delivered = d.delivered }) (λ d b d' passes. (passes.taken, passes.counts))
-    (λ d b code d' refused. (refused.refused, refused.counts))
-    m.joiner.work m.joiner.standing c.args.offered _ c.offer_with.result m'.joiner.work m'.joiner.standing _ c.offer_with.ensures.asks
-    c.offer_with.ensures.takes
+    (λ d b code d' refused. (refused.refused, refused.counts)) m.joiner.work c.args.offered _ m'.joiner.work m'.joiner.standing _
+    m.joiner.standing c.offer_with.result c.offer_with.ensures.asks c.offer_with.ensures.takes

@@ -13,13 +13,6 @@ loop-rest-preserved g c =
     let sent : Leads g.Self.Sink.accepts c.loop-rest.self (batch ∷ []) c.batch.new.self = search rules in
     up_to-more _ _ _ _ _ (batch ∷ []) _ _ c.loop-rest.invariant all sent
 
-pub returns-in_err-batch : goal.returns-in_err-batch
-returns-in_err-batch g c =
-    let batch = c.split_at.result.0.now in
-    let all = full_batches-split c.args.size c.loop-rest.rest.now batch c.split_at.result.1.now c.requires (search rules) (search rules) (search rules) in
-    let is : c.from_residual.result ≡ Err c.in_err-batch.field-0.0 = search rules in
-    rw is (up_to-cut g.Self.Sink.accepts g.Self.Sink.refuses c.args.self.now _ _ _ (Sink c.in_err-batch.field-0.0) _ c.loop-rest.invariant (rw all ([], batch, full_batches (Some c.args.size) [] c.split_at.result.1.now, c.loop-rest.self, refl, refl, c.in_err-batch.ensures)))
-
 pub returns : goal.returns
 returns g c =
     let short : length c.loop-rest.rest.now < c.args.size = search rules in
