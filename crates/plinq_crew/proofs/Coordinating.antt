@@ -1,15 +1,24 @@
 -- The caller's thread goes on among its workers.
-use Rattle.std.proofs.Common.{◌≡◌, ℕ, Bool, sym, ◌∙◌, subst}
+use Rattle.std.proofs.Common.{◌≡◌, ℕ, Bool, true, false, refl, sym, ap, ◌∙◌, subst}
 use Rattle.plinq_source.specs.declared.source.Source.{Ghosts}
 use Rattle.plinq_lambda.specs.Meaning.{Meaning}
 use Rattle.plinq_ops.specs.declared.results.ChunkResult.{ChunkResult}
+use Rattle.plinq_stream.specs.declared.pass_knowledge.PassKnowledge.{PassKnowledge}
+use Rattle.plinq_stream.specs.Passes.{known}
+use Rattle.plinq_crew.specs.declared.closing.Closing.{Closing}
 use Rattle.plinq_crew.specs.declared.coordinator.Coordinator.{Coordinator}
+use Rattle.plinq_crew.specs.declared.poll.Poll.TheVariants.{Came}
 use Rattle.plinq_crew.specs.declared.starting.Team.{Team}
 use Rattle.plinq_crew.specs.declared.worker.Crew.{Crew}
 use Rattle.plinq_crew.specs.declared.worker_count.WorkerCount.{WorkerCount}
-use Rattle.plinq_crew.specs.inner.Coordinating.{IsCoordinator, StaysSame, CanStart}
+use Rattle.plinq_crew.specs.inner.Closing.{wants_close}
+use Rattle.plinq_crew.specs.inner.Coordinating.{IsCoordinator, StaysSame, ClosesInTime, CanStart, AcceptsMore}
 use Rattle.plinq_crew.specs.inner.Teams.{IsTeam}
+use Rattle.plinq_crew.specs.Conducting.{AcceptsEach}
+use Rattle.plinq_crew.specs.Polls.{HasAccepted, HasCome}
 use Rattle.plinq_crew.proofs.Cuts.{equipped-beside}
+use Rattle.plinq_crew.proofs.Polls.{took-none, took-more}
+use Rattle.plinq_crew.proofs.Shares.{closes-stays}
 
 module _ {S T M : Type 0} {source : Ghosts S T} where
   pub stays-on : (a b c : Coordinator S M T source) → StaysSame a b → StaysSame b c → StaysSame a c
@@ -26,4 +35,37 @@ module _ {S T M : Type 0} {source : Ghosts S T} where
         equipped = equipped-beside meaning (makes crew.task.now) MaySend stops_at crew.plan.now crew.chunked.now crew.cut.now a.partition b.partition t.cut t.cut may.equipped is.of same.origin may.equipped.sees;
         team = subst (λ w. IsTeam crew.chunked.now crew.stream.now crew.workers w t) (sym same.worker_count) may.team;
         workers = may.workers;
+      }
+
+-- one poll more: the source may have been closed at it
+module _ {S T M X : Type 0} {source : Ghosts S T} {is_ready : X → Type 0} {accepts : X → ChunkResult M → X → Type 0} {IsPart : ChunkResult M → Type 0} {is_over : Bool}
+    {a b c : Coordinator S M T source} {k l m : Closing} {x y : X} (more : AcceptsMore is_ready accepts IsPart a k x b l y) (same : StaysSame b c)
+    (closes : ClosesInTime is_over l b m c) where
+  -- nothing came
+  pub accepts-nothing : known c.stream ≡ known b.stream → AcceptsMore is_ready accepts IsPart a k x c m y
+  accepts-nothing none =
+      let Step = AcceptsEach accepts IsPart in
+      record {
+        same = stays-on a b c more.same same;
+        ready = more.ready;
+        closed = λ had. closes-stays closes (more.closed had);
+        accepted = λ before start h.
+            subst (λ (p : PassKnowledge (ChunkResult M)). HasAccepted Step before start p.received (wants_close m) y) (sym none)
+            (took-none Step before start (known b.stream).received (wants_close l) (wants_close m) y closes.drops (more.accepted before start h));
+      }
+
+  -- this came, and it was accepted unless it is dropped
+  pub accepts-one : (part : ChunkResult M) (z : X) → IsPart part → HasCome (known b.stream) (Came part) (known c.stream) → is_ready z
+      → (wants_close m ≡ false → accepts y part z) → (wants_close m ≡ true → z ≡ y) → AcceptsMore is_ready accepts IsPart a k x c m z
+  accepts-one part z is come ready step keeps =
+      let Step = AcceptsEach accepts IsPart in
+      record {
+        same = stays-on a b c more.same same;
+        ready = ready;
+        closed = λ had. closes-stays closes (more.closed had);
+        accepted = λ before start h.
+            took-more Step before start (known b.stream).received (known c.stream).received (wants_close m) (wants_close m) y come.0 z
+            (ap (λ (p : PassKnowledge (ChunkResult M)). p.received) come.2) refl
+            (λ open_now. (subst IsPart (sym come.1) is, subst (λ r. accepts y r z) (sym come.1) (step open_now))) keeps
+            (took-none Step before start (known b.stream).received (wants_close l) (wants_close m) y closes.drops (more.accepted before start h));
       }

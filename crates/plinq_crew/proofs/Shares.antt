@@ -18,8 +18,10 @@ use Rattle.plinq_stream.specs.Knowing.{together}
 use Rattle.plinq_stream.specs.Streams.{has, under}
 use Rattle.plinq_stream.proofs.Under.{has-append, or-none, or-first, or-second, either-way, under-none, all-under}
 use Rattle.plinq_crew.specs.declared.closing.Closing.{Closing}
+use Rattle.plinq_crew.specs.declared.coordinator.Coordinator.{Coordinator}
 use Rattle.plinq_crew.specs.declared.starting.WorkerFaults.{WorkerFaults}
-use Rattle.plinq_crew.specs.inner.Closing.{is_closed, ClosesInTime, StaysClosed}
+use Rattle.plinq_crew.specs.inner.Closing.{is_closed, StaysClosed}
+use Rattle.plinq_crew.specs.inner.Coordinating.{ClosesInTime}
 use Rattle.plinq_crew.specs.Noted.{has_worker_fault, StaysNoted}
 use Rattle.plinq_crew.specs.Working.{HasClosed, Answers, IsOfOne, HasWorked}
 
@@ -99,11 +101,11 @@ module _ {S T : Type 0} {source : Ghosts S T} (ps : List (Partition S T source))
 stopped-closed : {T : Type 0} (a b : Holding T) → IsStopped a b → HasClosed b.share
 stopped-closed a b stopped = subst HasClosed (sym stopped.adds.share) (any-last (λ (r : Record). r.asked ≡ Close) a.share stopped.entry stopped.adds.asked_is)
 
-pub closes-stays : {T : Type 0} (is_over : Bool) (before after : Closing) (a b : Holding T) (faults : WorkerFaults)
-    → ClosesInTime is_over before a faults after b → StaysClosed before a.share after b.share
-closes-stays is_over before after a b faults closes had now =
-    ⊎_elim (λ was. subst (λ (h : Holding _). HasClosed h.share) (sym (closes.1 (ap is_closed (closes.0 was)))) (had was))
-    (λ not. stopped-closed a b (closes.2 not now)) (either-way (is_closed before))
+module _ {S T M : Type 0} {source : Ghosts S T} {is_over : Bool} {before after : Closing} {a b : Coordinator S M T source} (closes : ClosesInTime is_over before a after b) where
+  pub closes-stays : StaysClosed before (holding_of a.partition).share after (holding_of b.partition).share
+  closes-stays had now =
+      ⊎_elim (λ was. subst (λ (h : Holding T). HasClosed h.share) (sym (closes.unclosed (ap is_closed (closes.once was)))) (had was))
+      (λ not. stopped-closed (holding_of a.partition) (holding_of b.partition) (closes.closed not now)) (either-way (is_closed before))
 
 -- no fault was noted before where none is
 pub none-before : (faults faults' : WorkerFaults) → StaysNoted faults faults' → has_worker_fault faults' ≡ false → has_worker_fault faults ≡ false

@@ -1,13 +1,14 @@
 -- Rows of crews: what polls may leave, what may be accepted, who is started and what comes back, and what not.
 use Rattle.std.specs.Prelude.{◌≡◌, refl, ℕ, ◌+◌, ◌≤◌, ◌^◌, List, [], ◌∷◌, ◌++◌, length, get_or, All, drop}
 use Rattle.std.specs.Prelude.{None, Ok, Err, Bool, true, false, vec_capacity}
+use Rattle.std.specs.Global.{Vec}
 use Rattle.std.specs.declared.thread.PromisedHandle.{PromisedHandle}
 use Rattle.std.proofs.Common.{arith, ap, sym, ◌∙◌, subst}
+use Rattle.std.proofs.lemmas.List.{length-append}
 use Rattle.std.proofs.lemmas.List.Elements.{All-head}
 use Rattle.std.specs.List.{FoldsTo}
 use Rattle.plinq_source.specs.declared.memory.OutOfMemory.{OutOfMemory}
 use Rattle.plinq_source.specs.declared.source.Source.{Ghosts}
-use Rattle.plinq_source.specs.Trace.{open_trace}
 use Rattle.plinq_lambda.specs.Meaning.{Meaning}
 use Rattle.plinq_keyed.specs.Keys.{is_among}
 use Rattle.plinq_cut.specs.declared.cut_pass.CutPass.{CutPass}
@@ -17,7 +18,7 @@ use Rattle.plinq_ops.specs.declared.plan.Plan.{Plan}
 use Rattle.plinq_ops.specs.declared.results.ChunkResult.{ChunkResult}
 use Rattle.plinq_ops.specs.Cut.{stop_keys}
 use Rattle.plinq_partition.specs.GivenBack.{common_origin}
-use Rattle.plinq_partition.specs.Partitions.{Holding, IsPartitionOf, all_shares, holding_of}
+use Rattle.plinq_partition.specs.Partitions.{IsPartitionOf, all_shares, holding_of}
 use Rattle.plinq_partition.specs.declared.chunked.Chunked.{Chunked}
 use Rattle.plinq_partition.specs.declared.partition.Partition.{Partition}
 use Rattle.plinq_partition.specs.declared.take_fault.TakeFault.TheVariants.{Memory, Spent, Busy, Incomplete, Away}
@@ -27,7 +28,7 @@ use Rattle.plinq_stream.specs.declared.stream.Stream.{Stream}
 use Rattle.plinq_stream.specs.declared.stream_pass.StreamPass.{StreamPass}
 use Rattle.plinq_stream.specs.Knowing.{with_received}
 use Rattle.plinq_stream.specs.Passes.{IsPassOf, known}
-use Rattle.plinq_stream.specs.Streams.{has, under}
+use Rattle.plinq_stream.specs.Streams.{HasReceivedAll, has, under}
 use Rattle.plinq_crew.specs.declared.closing.Closing.TheVariants.{Open, Wanted, Closed}
 use Rattle.plinq_crew.specs.declared.coordinator.Coordinator.{Coordinator}
 use Rattle.plinq_crew.specs.declared.conducting.Returned.{Returned}
@@ -40,12 +41,14 @@ use Rattle.plinq_crew.specs.declared.worker.Equipment.{Equipment}
 use Rattle.plinq_crew.specs.declared.worker.Worked.{Worked}
 use Rattle.plinq_crew.specs.declared.worker.WorkerContext.{WorkerContext}
 use Rattle.plinq_crew.specs.declared.worker_count.WorkerCount.{WorkerCount}
-use Rattle.plinq_crew.specs.inner.Closing.{wants_close, is_closed, ClosesInTime, StaysClosed}
+use Rattle.plinq_crew.specs.inner.Closing.{wants_close, is_closed, StaysClosed}
 use Rattle.plinq_crew.specs.Conducting.{AcceptsEach, IsOfCrew, HasReturned, Conducts}
 use Rattle.plinq_crew.specs.Equipped.{IsEquipped, IsReady}
 use Rattle.plinq_crew.specs.inner.Handles.{IsHandleOf, AreNumbered}
-use Rattle.plinq_crew.specs.inner.Coordinating.{IsCoordinator, StaysSame, CanStart, AcceptsOn}
+use Rattle.plinq_crew.specs.inner.Coordinating.{IsCoordinator, StaysSame, ClosesInTime, ClosesAtLast, CanStart, AcceptsOn, AcceptsMore, AcceptsRest}
+use Rattle.plinq_crew.specs.inner.Joining.{MayJoin, HasJoined}
 use Rattle.plinq_crew.specs.inner.Scoped.{MayStartScope, ScopeReturns, MayWork, WorkReturns}
+use Rattle.plinq_crew.specs.inner.Taking.{MayTakeNext}
 use Rattle.plinq_crew.specs.inner.Teams.{IsTeam}
 use Rattle.plinq_crew.specs.Noted.{lacks_room, has_noted, has_worker_fault, StaysNoted}
 use Rattle.plinq_crew.specs.Polls.{IfCame, HasCome, HasAccepted}
@@ -101,25 +104,43 @@ tickets_are_a_fault = refl
 no_fault_is_none : has_worker_fault nothing_noted ≡ false
 no_fault_is_none = refl
 
-abbrev holding : Holding ℕ
-holding = record { origin = open_trace []; share = []; requests = 0 }
+module _ {S T M : Type 0} {source : Ghosts S T} (c c' : Coordinator S M T source) where
+  -- a poll that says it has closed the source has one record more
+  closed_without_a_record : (holding_of c'.partition).share ≡ (holding_of c.partition).share → ClosesInTime true Open c Closed c' → ⊥
+  closed_without_a_record same closes =
+      let stopped = closes.closed refl refl in
+      omega (arith, ap length same, ap length stopped.adds.share, length-append (holding_of c.partition).share (stopped.entry ∷ []))
 
--- a poll that says it has closed the source has one record more
-closed_without_a_record : (faults : WorkerFaults) → ClosesInTime true Open holding faults Closed holding → ⊥
-closed_without_a_record faults closes = let stopped = closes.2 refl refl in omega (arith, ap length stopped.adds.share)
+  -- where all is over and no fault stands noted, the source is closed
+  over_and_unclosed : has_worker_fault c'.worker_faults ≡ false → ClosesInTime true Open c Wanted c' → ⊥
+  over_and_unclosed none closes = let noted = closes.over refl refl in absurd (cc)
 
--- where all is over and no fault stands noted, the source is closed
-over_and_unclosed : ClosesInTime true Open holding nothing_noted Wanted holding → ⊥
-over_and_unclosed closes = let same = closes.4 refl refl in absurd (cc)
+  -- where it isn't closed yet, no record was added
+  unclosed_with_a_record : length (holding_of c'.partition).share ≡ length (holding_of c.partition).share + 1
+      → ClosesInTime false Open c Open c' → ⊥
+  unclosed_with_a_record one closes = omega (arith, one, ap (λ h. length h.share) (closes.unclosed refl))
 
--- where it isn't closed yet, no record was added
-unclosed_with_a_record : (faults : WorkerFaults) (b : Holding ℕ) → length b.share ≡ 1
-    → ClosesInTime false Open holding faults Open b → ⊥
-unclosed_with_a_record faults b one closes = omega (arith, one, ap (λ h. length h.share) (closes.1 refl))
+  -- where all is over, it is to be closed
+  over_and_open : ClosesInTime true Open c Open c' → ⊥
+  over_and_open closes = let same = closes.wanted refl refl in absurd (cc)
 
--- where all is over, it is to be closed
-over_and_open : (faults : WorkerFaults) → ClosesInTime true Open holding faults Open holding → ⊥
-over_and_open faults closes = let same = closes.3 refl refl in absurd (cc)
+  -- one that has closed it doesn't say that it hasn't
+  closed_and_forgotten : ClosesInTime true Closed c Open c' → ⊥
+  closed_and_forgotten closes = let same = ap is_closed (closes.once refl) in absurd (cc)
+
+  -- and once it was to be closed it stays so
+  wanted_and_forgotten : ClosesInTime false Wanted c Open c' → ⊥
+  wanted_and_forgotten closes = let same = closes.drops refl in absurd (cc)
+
+  -- a fault that was noted before
+  closed_and_unnoted : c.worker_faults.memory ≡ true → c'.worker_faults.memory ≡ false → ClosesInTime true Open c Closed c' → ⊥
+  closed_and_unnoted noted none closes = let same = closes.kept.0 noted in absurd (cc)
+
+  -- at last nobody has closed it, though no fault stands noted
+  unclosed_at_last : has_worker_fault c'.worker_faults ≡ false → (holding_of c'.partition).share ≡ [] → ClosesAtLast Open c c' → ⊥
+  unclosed_at_last none empty closes =
+      let (k, r, less, at, is) = closes.closed (λ is. absurd (cc)) none in
+      omega (arith, less, ap length empty)
 
 -- where it is closed or to be closed, what comes is dropped
 closed_drops : wants_close Closed ≡ true
@@ -133,10 +154,6 @@ open_drops_nothing = refl
 
 wanted_is_unclosed : is_closed Wanted ≡ false
 wanted_is_unclosed = refl
-
--- one that has closed it doesn't say that it hasn't
-closed_and_forgotten : (faults : WorkerFaults) → ClosesInTime true Closed holding faults Open holding → ⊥
-closed_and_forgotten faults closes = let same = ap is_closed (closes.0 refl) in absurd (cc)
 
 -- where a poll has closed it, there is a record of that
 closed_unrecorded : StaysClosed Open [] Closed [] → ⊥
@@ -356,11 +373,51 @@ module _ {S T M C : Type 0} {source : Ghosts S T} (chunked : Chunked S T source)
   started_meanwhile : c.worker_count.started ≡ 1 → c'.worker_count.started ≡ 2 → StaysSame c c' → ⊥
   started_meanwhile one two same = omega (arith, one, two, ap (λ (w : WorkerCount). w.started) same.worker_count)
 
+module _ {S T M C X : Type 0} {source : Ghosts S T} (is_ready : X → Type 0) (accepts : X → ChunkResult M → X → Type 0)
+    (IsPart : ChunkResult M → Type 0) (stream : Stream (ChunkResult M) C) (c c' : Coordinator S M T source) (x x' : X) where
+  -- a consumer can accept no more
+  accepts_no_more : (is_ready x' → ⊥) → AcceptsMore is_ready accepts IsPart c Open x c' Open x' → ⊥
+  accepts_no_more never more = never more.ready
+
+  -- the source was closed since, and there is no record of that
+  closed_unrecorded_since : (holding_of c'.partition).share ≡ [] → AcceptsMore is_ready accepts IsPart c Open x c' Closed x' → ⊥
+  closed_unrecorded_since empty more =
+      let (k, r, less, at, is) = more.closed (λ is. absurd (cc)) refl in
+      omega (arith, less, ap length empty)
+
+  -- at last something that was sent wasn't received
+  rest_is_left : (p p' : StreamPass (ChunkResult M)) → (HasReceivedAll (known p') → ⊥)
+      → AcceptsRest accepts IsPart stream Open p x p' x' → ⊥
+  rest_is_left p p' never rest = never rest.all
+
 module _ {L S J P T M : Type 0} {source : Ghosts S T} (meaning : L → Meaning T)
     (makes : P → ChunkResult T → ChunkResult M → Type 0) (MaySend : ChunkResult M → Type 0) (stops_at : ℕ → Bool)
     (crew : Crew L S J P T T M source) (c : Coordinator S M T source) (team : Team S M T source) where
   starts_for_nobody : crew.workers ≡ 0 → CanStart meaning makes MaySend stops_at crew c team → ⊥
   starts_for_nobody none can = omega (arith, none, can.workers.0)
+
+-- ---- who is joined, and who takes a chunk
+
+module _ {L S J P T M : Type 0} {source : Ghosts S T} (crew : Crew L S J P T T M source) (first : Partition S T source)
+    (p p' : StreamPass (ChunkResult M)) (handle : PromisedHandle (Worked S M T source) (WorkerPromise S M T source))
+    (faults faults' : WorkerFaults) where
+  no_room_for_the_first : (room : Vec (Partition S T source)) → vec_capacity room ≡ 1 → MayJoin crew first p (handle ∷ []) room → ⊥
+  no_room_for_the_first room one may = omega (arith, one, may.room)
+
+  joins_into_others : (room : Vec (Partition S T source)) → room.items ≡ first ∷ [] → MayJoin crew first p [] room → ⊥
+  joins_into_others room one may = omega (arith, ap length one, ap length may.empty)
+
+  -- one that was started doesn't come back, or its fault is forgotten
+  one_is_not_joined : HasJoined crew first p (handle ∷ []) faults 0 p' faults' (first ∷ []) → ⊥
+  one_is_not_joined joined = omega (arith, joined.count)
+
+  joined_and_forgotten : (back : Partition S T source) → faults.memory ≡ true → faults'.memory ≡ false
+      → HasJoined crew first p (handle ∷ []) faults 0 p' faults' (first ∷ back ∷ []) → ⊥
+  joined_and_forgotten back noted none joined = let same = joined.kept.0 noted in absurd (cc)
+
+  takes_of_too_many : (meaning : L → Meaning T) (stops_at : ℕ → Bool) (pass : CutPass) → length (holding_of first).origin.items ≡ 2 ^ 40 + 1
+      → MayTakeNext meaning stops_at crew first pass → ⊥
+  takes_of_too_many meaning stops_at pass many may = omega (arith, many, may.few)
 
 module _ {L S J P R T M : Type 0} {source : Ghosts S T} (meaning : L → Meaning T)
     (makes : P → ChunkResult T → ChunkResult M → Type 0) (MaySend : ChunkResult M → Type 0) (stops_at : ℕ → Bool)

@@ -2,5 +2,7 @@
 pub mod Closing
 pub mod Coordinating
 pub mod Handles
+pub mod Joining
 pub mod Scoped
+pub mod Taking
 pub mod Teams

@@ -2,22 +2,20 @@
 ghost use Rattle.std.specs.Prelude.{◌≡◌, ◌≤◌, ◌^◌, true, false};
 ghost use Rattle.plinq_ops.specs.declared.results.ChunkResult.{ChunkResult};
 ghost use Rattle.plinq_ops.specs.Tails.{end_of_result};
-ghost use Rattle.plinq_partition.specs.Partitions.{holding_of};
 ghost use Rattle.plinq_stream.specs.Passes.{IsPassOf, known};
-ghost use Rattle.plinq_stream.specs.Streams.{HasReceivedAll};
-ghost use Rattle.plinq_crew.specs.inner.Closing.{wants_close, is_closed, StaysClosed};
+ghost use Rattle.plinq_crew.specs.inner.Closing.{is_closed};
 ghost use Rattle.plinq_crew.specs.Equipped.{IsReady};
 ghost use Rattle.plinq_crew.specs.Noted.{has_worker_fault};
 ghost use Rattle.plinq_crew.specs.Conducting.{Conducts};
 ghost use Rattle.plinq_crew.specs.inner.Scoped.{MayStartScope, ScopeReturns};
-ghost use Rattle.plinq_crew.specs.inner.Coordinating.{IsCoordinator, StaysSame, AcceptsOn};
+ghost use Rattle.plinq_crew.specs.inner.Coordinating.{IsCoordinator, AcceptsMore, AcceptsRest};
 
 use crate::closing::Closing;
 use crate::consumer::Consumer;
 use crate::coordinator::Coordinator;
 use crate::poll::Poll;
 use crate::result_stream::{ResultPass, RunSpec};
-use crate::starting::{Team, WorkerFaults, join_all};
+use crate::starting::{Team, WorkerFaults};
 use crate::task::Task;
 use crate::worker::{Crew, Equipment, WorkerContext};
 use crate::worker_count::WorkerCount;
@@ -67,17 +65,13 @@ where
         requires within { (c : ChunkResult P.Part) → J.is_result c → end_of_result c ≤ 2 ^ 40 }
         requires ready { X.is_ready consumer.old }
         ensures coordinator { IsCoordinator self.now.chunked.now self.now.stream.now coordinator.new }
-        ensures same { StaysSame coordinator.old coordinator.new }
-        ensures ready { X.is_ready consumer.new }
         ensures over { result ≡ false → X.wants_no_more consumer.new ≡ true → is_closed closing.new ≡ false
             → has_worker_fault coordinator.new.worker_faults ≡ true }
-        ensures closed { StaysClosed closing.old (holding_of coordinator.old.partition).share closing.new (holding_of coordinator.new.partition).share }
-        ensures accepted { AcceptsOn X.accepts J.is_result (known coordinator.old.stream).received (wants_close closing.old) consumer.old
-            (known coordinator.new.stream).received (wants_close closing.new) consumer.new }
+        ensures more { AcceptsMore X.is_ready X.accepts J.is_result coordinator.old closing.old consumer.old coordinator.new closing.new consumer.new }
     {
         for _ in rt.forever() {
             let is_over = consumer.is_over();
-            match coordinator.poll(rt, self, is_over, closing) {
+            match self.poll(rt, coordinator, is_over, closing) {
                 Poll::Came(part) => {
                     if !closing.wants_close() {
                         consumer.accept(part);
@@ -88,7 +82,7 @@ where
                 }
                 Poll::Nothing(sleep) => {
                     tell_before_sleep::<P::Part, X>(consumer, sleep.is_some());
-                    if !closing.wants_close() && coordinator.wants_more(self) {
+                    if !closing.wants_close() && self.wants_more(coordinator.worker_count) {
                         return true;
                     }
                     coordinator.wait(rt, sleep);
@@ -111,12 +105,7 @@ where
         requires receives { (known pass.old).receives ≡ true }
         requires within { (c : ChunkResult P.Part) → J.is_result c → end_of_result c ≤ 2 ^ 40 }
         requires ready { X.is_ready consumer.old }
-        ensures stream { IsPassOf self.now.stream.now pass.new }
-        ensures all { HasReceivedAll (known pass.new) }
-        ensures sent { (known pass.new).sent ≡ (known pass.old).sent }
-        ensures numbers { (known pass.new).numbers ≡ (known pass.old).numbers }
-        ensures accepted { AcceptsOn X.accepts J.is_result (known pass.old).received (wants_close closing) consumer.old
-            (known pass.new).received (wants_close closing) consumer.new }
+        ensures { AcceptsRest X.accepts J.is_result self.now.stream.now closing pass.old consumer.old pass.new consumer.new }
     {
         for _ in rt.forever() {
             match self.stream.receive(rt, pass) {
@@ -162,7 +151,7 @@ where
                 break;
             }
         }
-        coordinator.close_at_last(rt, self, closing);
+        self.close_at_last(rt, &mut coordinator, closing);
         let Team { handles, .. } = team;
         let Coordinator {
             partition,
@@ -171,10 +160,8 @@ where
             mut worker_faults,
             ..
         } = coordinator;
-        let partitions = join_all(
+        let partitions = self.join_all(
             rt,
-            self.chunked,
-            self.stream,
             partition,
             &mut stream,
             handles,
@@ -195,7 +182,7 @@ where
 /// # Errors
 ///
 /// [`OutOfMemory`] where there is no room for what the workers bring back. No worker was started then.
-pub fn conduct<'x, J, L, S, P, X, R>(
+pub fn conduct<'x, J, L: SharedLambda, S: Source<Item = L::Item>, P: Task<L::Item>, X, R>(
     rt: &'x R,
     crew: &'x Crew<'x, L, S, J, P>,
     context: WorkerContext<S, P::Part>,
@@ -203,9 +190,6 @@ pub fn conduct<'x, J, L, S, P, X, R>(
 ) -> Result<Returned<S>, OutOfMemory>
 where
     J: RunSpec<P::Part> + Send + Sync,
-    L: SharedLambda,
-    S: Source<Item = L::Item>,
-    P: Task<L::Item>,
     X: Consumer<<P as Task<L::Item>>::Part>,
     R: Threads + Wait + Sync,
     requires ready { IsReady L.meaning P.makes J.is_result J.stops_at crew.now context }

@@ -1,12 +1,10 @@
 //! The caller's thread among its workers: it receives what they send, and closes the source in time.
-ghost use Rattle.std.specs.Prelude.{◌≡◌, true, false};
+ghost use Rattle.std.specs.Prelude.{◌≡◌, false};
 ghost use Rattle.plinq_partition.specs.Partitions.{IsPartitionOf, holding_of};
-ghost use Rattle.plinq_crew.specs.Noted.{has_worker_fault, StaysNoted};
-ghost use Rattle.plinq_crew.specs.inner.Closing.{wants_close, is_closed, ClosesInTime};
+ghost use Rattle.plinq_crew.specs.Noted.{has_worker_fault};
 ghost use Rattle.plinq_crew.specs.Polls.{IfCame, HasCome};
-ghost use Rattle.plinq_crew.specs.Working.{HasClosed};
 ghost use Rattle.plinq_stream.specs.Passes.{known};
-ghost use Rattle.plinq_crew.specs.inner.Coordinating.{IsCoordinator, StaysSame};
+ghost use Rattle.plinq_crew.specs.inner.Coordinating.{IsCoordinator, StaysSame, ClosesInTime, ClosesAtLast};
 
 use crate::closing::Closing;
 use crate::poll::Poll;
@@ -53,107 +51,103 @@ impl<S: Source, M: Drop> Coordinator<S, M> {
         }
     }
 
+    /// Spins for a moment, or sleeps, where nothing was there at a poll.
+    pub(crate) fn wait<R: Wait>(&self, rt: &R, sleep: Option<Key<'_>>) {
+        match sleep {
+            Some(sleep) => {
+                sleep.wait(rt);
+                self.patience.reset();
+            }
+            None => self.patience.spin(),
+        }
+    }
+}
+
+impl<'s, L, S, J, P> Crew<'s, L, S, J, P>
+where
+    L: Lambda,
+    S: Source<Item = L::Item>,
+    J: RunSpec<P::Part>,
+    P: Task<L::Item>,
+{
     /// Closes the source once nothing more is wanted: the answer is decided, or there was a fault. Workers that wait are let
     /// on after that, so that they take nothing more. Where there is no memory to close it, it is tried again at the next
     /// poll.
-    fn close_in_time<L, J, P, R>(
-        &mut self,
+    fn close_in_time<R: Wait>(
+        &self,
         rt: &R,
-        crew: &Crew<'_, L, S, J, P>,
+        coordinator: &mut Coordinator<S, P::Part>,
         is_over: bool,
         closing: &mut Closing,
     )
-    where
-        L: Lambda<Item = S::Item>,
-        J: RunSpec<M>,
-        P: Task<S::Item, Part = M>,
-        R: Wait,
-        requires of { IsPartitionOf crew.now.chunked.now self.old.partition }
-        ensures of { IsPartitionOf crew.now.chunked.now self.new.partition }
-        ensures origin { (holding_of self.new.partition).origin ≡ (holding_of self.old.partition).origin }
-        ensures stream { self.new.stream ≡ self.old.stream }
-        ensures worker_count { self.new.worker_count ≡ self.old.worker_count }
-        ensures kept { StaysNoted self.old.worker_faults self.new.worker_faults }
-        ensures closed { wants_close closing.old ≡ true → wants_close closing.new ≡ true }
-        ensures closes { ClosesInTime is_over closing.old (holding_of self.old.partition) self.new.worker_faults closing.new (holding_of self.new.partition) }
+        requires of { IsPartitionOf self.now.chunked.now coordinator.old.partition }
+        ensures of { IsPartitionOf self.now.chunked.now coordinator.new.partition }
+        ensures origin { (holding_of coordinator.new.partition).origin ≡ (holding_of coordinator.old.partition).origin }
+        ensures stream { coordinator.new.stream ≡ coordinator.old.stream }
+        ensures worker_count { coordinator.new.worker_count ≡ coordinator.old.worker_count }
+        ensures closes { ClosesInTime is_over closing.old coordinator.old closing.new coordinator.new }
     {
         if closing.is_closed() {
             return;
         }
-        let is_whole = self.worker_count.started == self.worker_count.wanted
-            && !crew.progress.has_failed();
+        let is_whole = coordinator.worker_count.started == coordinator.worker_count.wanted
+            && !self.progress.has_failed();
         if is_whole && !closing.wants_close() && !is_over {
             return;
         }
         *closing = Closing::Wanted;
-        match self.partition.stop(rt, crew.chunked) {
+        match coordinator.partition.stop(rt, self.chunked) {
             Ok(()) => *closing = Closing::Closed,
-            Err(fault) => self.worker_faults.note(fault),
+            Err(fault) => coordinator.worker_faults.note(fault),
         }
-        crew.progress.window.let_all_on();
+        self.progress.window.let_all_on();
     }
 
     /// Closes the source where no poll has: what is accepted once workers were joined may be what decides the answer.
-    pub(crate) fn close_at_last<L, J, P, R>(
-        &mut self,
+    pub(crate) fn close_at_last<R: Wait>(
+        &self,
         rt: &R,
-        crew: &Crew<'_, L, S, J, P>,
+        coordinator: &mut Coordinator<S, P::Part>,
         closing: Closing,
     )
-    where
-        L: Lambda<Item = S::Item>,
-        J: RunSpec<M>,
-        P: Task<S::Item, Part = M>,
-        R: Wait,
-        requires coordinator { IsCoordinator crew.now.chunked.now crew.now.stream.now self.old }
-        ensures coordinator { IsCoordinator crew.now.chunked.now crew.now.stream.now self.new }
-        ensures same { StaysSame self.old self.new }
-        ensures stream { self.new.stream ≡ self.old.stream }
-        ensures kept { StaysNoted self.old.worker_faults self.new.worker_faults }
-        ensures closed { (is_closed closing ≡ true → HasClosed (holding_of self.old.partition).share) → has_worker_fault self.new.worker_faults ≡ false
-            → HasClosed (holding_of self.new.partition).share }
+        requires coordinator { IsCoordinator self.now.chunked.now self.now.stream.now coordinator.old }
+        ensures coordinator { IsCoordinator self.now.chunked.now self.now.stream.now coordinator.new }
+        ensures closes { ClosesAtLast closing coordinator.old coordinator.new }
     {
         if closing.is_closed() {
             return;
         }
-        if let Err(fault) = self.partition.stop(rt, crew.chunked) {
-            self.worker_faults.note(fault);
+        if let Err(fault) = coordinator.partition.stop(rt, self.chunked) {
+            coordinator.worker_faults.note(fault);
         }
     }
 
     /// The next result that a worker has sent. Where none comes for a while, the thread is to sleep until something is
     /// reported, so that it takes no processor from a worker.
-    pub(crate) fn poll<'c, L, J, P, R>(
-        &mut self,
+    pub(crate) fn poll<R: Wait>(
+        &self,
         rt: &R,
-        crew: &Crew<'c, L, S, J, P>,
+        coordinator: &mut Coordinator<S, P::Part>,
         is_over: bool,
         closing: &mut Closing,
-    ) -> Poll<'c, M>
-    where
-        L: Lambda<Item = S::Item>,
-        J: RunSpec<M>,
-        P: Task<S::Item, Part = M>,
-        R: Wait,
-        requires coordinator { IsCoordinator crew.now.chunked.now crew.now.stream.now self.old }
-        ensures coordinator { IsCoordinator crew.now.chunked.now crew.now.stream.now self.new }
-        ensures same { StaysSame self.old self.new }
+    ) -> Poll<'s, P::Part>
+        requires coordinator { IsCoordinator self.now.chunked.now self.now.stream.now coordinator.old }
+        ensures coordinator { IsCoordinator self.now.chunked.now self.now.stream.now coordinator.new }
+        ensures same { StaysSame coordinator.old coordinator.new }
         ensures carried { IfCame result J.is_result }
-        ensures received { HasCome (known self.old.stream) result (known self.new.stream) }
-        ensures kept { StaysNoted self.old.worker_faults self.new.worker_faults }
-        ensures closed { wants_close closing.old ≡ true → wants_close closing.new ≡ true }
-        ensures closes { ClosesInTime is_over closing.old (holding_of self.old.partition) self.new.worker_faults closing.new (holding_of self.new.partition) }
+        ensures received { HasCome (known coordinator.old.stream) result (known coordinator.new.stream) }
+        ensures closes { ClosesInTime is_over closing.old coordinator.old closing.new coordinator.new }
     {
-        let sleep = if self.patience.is_over() {
-            Some(crew.progress.announce_sleep())
+        let sleep = if coordinator.patience.is_over() {
+            Some(self.progress.announce_sleep())
         } else {
             None
         };
-        let have_ended = crew.progress.have_ended(self.worker_count.started);
-        self.close_in_time(rt, crew, is_over, closing);
-        match crew.stream.try_receive(&mut self.stream) {
+        let have_ended = self.progress.have_ended(coordinator.worker_count.started);
+        self.close_in_time(rt, coordinator, is_over, closing);
+        match self.stream.try_receive(&mut coordinator.stream) {
             Some(sent) => {
-                self.patience.reset();
+                coordinator.patience.reset();
                 Poll::Came(sent.item)
             }
             None => {
@@ -166,28 +160,7 @@ impl<S: Source, M: Drop> Coordinator<S, M> {
     }
 
     /// Whether more workers are wanted than were by now.
-    pub(crate) fn wants_more<L, J, P>(&self, crew: &Crew<'_, L, S, J, P>) -> bool
-    where
-        L: Lambda<Item = S::Item>,
-        J: RunSpec<M>,
-        P: Task<S::Item, Part = M>,
-    {
-        self.worker_count.wanted < crew.workers.min(crew.progress.wanted())
-    }
-
-    /// Spins for a moment, or sleeps, where nothing was there at a poll.
-    pub(crate) fn wait<R: Wait>(&mut self, rt: &R, sleep: Option<Key<'_>>)
-        ensures partition { self.new.partition ≡ self.old.partition }
-        ensures stream { self.new.stream ≡ self.old.stream }
-        ensures worker_count { self.new.worker_count ≡ self.old.worker_count }
-        ensures worker_faults { self.new.worker_faults ≡ self.old.worker_faults }
-    {
-        match sleep {
-            Some(sleep) => {
-                sleep.wait(rt);
-                self.patience.reset();
-            }
-            None => self.patience.spin(),
-        }
+    pub(crate) fn wants_more(&self, worker_count: WorkerCount) -> bool {
+        worker_count.wanted < self.workers.min(self.progress.wanted())
     }
 }

@@ -1,13 +1,12 @@
 //! Starting the workers of a run, and having them back.
-ghost use Rattle.std.specs.Prelude.{◌≡◌, ℕ, ◌≤◌, ◌<◌, ◌+◌, [], drop, length, true, false, not, ◌||◌, All, IfSome, vec_capacity};
-ghost use Rattle.plinq_partition.specs.Partitions.{IsPartitionOf, all_shares, holding_of};
-ghost use Rattle.plinq_partition.specs.GivenBack.{common_origin};
+ghost use Rattle.std.specs.Prelude.{◌≡◌, ◌≤◌, true, false, not, ◌||◌, IfSome};
+ghost use Rattle.plinq_partition.specs.Partitions.{holding_of};
 ghost use Rattle.plinq_crew.specs.Equipped.{IsEquipped};
 ghost use Rattle.plinq_crew.specs.Noted.{lacks_room, has_worker_fault, has_noted, StaysNoted};
-ghost use Rattle.plinq_crew.specs.inner.Handles.{IsHandleOf, AreNumbered};
-ghost use Rattle.plinq_crew.specs.Working.{HasClosed, HasNumbersFrom, IsNewcomer, IsOfOne, IsReceiver, IsAnsweredBy};
-ghost use Rattle.plinq_stream.specs.Passes.{IsPassOf, known};
-ghost use Rattle.plinq_stream.specs.Streams.{has};
+ghost use Rattle.plinq_crew.specs.inner.Handles.{IsHandleOf};
+ghost use Rattle.plinq_crew.specs.inner.Joining.{MayJoin, HasJoined};
+ghost use Rattle.plinq_crew.specs.Working.{IsNewcomer};
+ghost use Rattle.plinq_stream.specs.Passes.{known};
 ghost use Rattle.plinq_crew.specs.inner.Coordinating.{CanStart};
 ghost use Rattle.plinq_crew.specs.inner.Scoped.{MayWork, WorkReturns};
 
@@ -19,10 +18,8 @@ use crate::worker::{Crew, Equipment, Worked, WorkerContext};
 use crate::worker_count::WorkerCount;
 use plinq_cut::CutPass;
 use plinq_lambda::SharedLambda;
-use plinq_ops::ChunkResult;
-use plinq_partition::{Chunked, Partition, TakeFault};
+use plinq_partition::{Partition, TakeFault};
 use plinq_source::Source;
-use plinq_stream::Stream;
 use std::snapshot::Snapshot;
 use std::sync::Wait;
 use std::thread::{Scope, Threads};
@@ -109,6 +106,31 @@ where
             coordinator.worker_count.started = worker + 1;
         }
     }
+
+    /// Joins the workers. Their partitions come after the one that is given, and their passes are taken in.
+    pub(crate) fn join_all<R: Threads>(
+        &self,
+        rt: &R,
+        first: Partition<S>,
+        pass: &mut ResultPass<P::Part>,
+        handles: Vec<WorkerHandle<S, P::Part>>,
+        room: Vec<Partition<S>>,
+        worker_faults: &mut WorkerFaults,
+    ) -> Vec<Partition<S>>
+        requires { MayJoin self.now first pass.old handles.items room }
+        ensures { HasJoined self.now first pass.old handles.items worker_faults.old 0 pass.new worker_faults.new result.items }
+    {
+        let mut handles = handles;
+        let mut partitions = room;
+        partitions.push_reserved(first);
+        while let Some(handle) = handles.pop() {
+            let worked = handle.join(rt);
+            worker_faults.note_any(worked.fault);
+            self.stream.join(pass, worked.stream);
+            partitions.push_reserved(worked.partition);
+        }
+        partitions
+    }
 }
 
 /// Why workers ended before they saw a tail.
@@ -149,51 +171,4 @@ impl WorkerFaults {
             self.note(fault);
         }
     }
-}
-
-/// Joins the workers. Their partitions come after the one that is given, and their passes are taken in.
-pub(crate) fn join_all<S, M, C, R>(
-    rt: &R,
-    chunked: &Chunked<S>,
-    stream: &Stream<ChunkResult<M>, C>,
-    first: Partition<S>,
-    pass: &mut ResultPass<M>,
-    handles: Vec<WorkerHandle<S, M>>,
-    room: Vec<Partition<S>>,
-    worker_faults: &mut WorkerFaults,
-) -> Vec<Partition<S>>
-where
-    S: Source,
-    M: Drop,
-    C: plinq_stream::Admits<ChunkResult<M>>,
-    R: Threads,
-    requires of { IsPartitionOf chunked.now first }
-    requires pass { IsPassOf stream.now pass.old }
-    requires receiver { IsReceiver (known pass.old) }
-    requires handles { All (IsHandleOf chunked.now stream.now) handles.items }
-    requires numbered { AreNumbered 0 handles.items }
-    requires empty { room.items ≡ [] }
-    requires room { length handles.items < vec_capacity room }
-    ensures count { length result.items ≡ length handles.items + 1 }
-    ensures of { All (IsPartitionOf chunked.now) result.items }
-    ensures origin { common_origin result.items ≡ (holding_of first).origin }
-    ensures pass { IsPassOf stream.now pass.new }
-    ensures receives { (known pass.new).receives ≡ true }
-    ensures received { (known pass.new).received ≡ (known pass.old).received }
-    ensures answered { All (IsAnsweredBy 0 (known pass.new) worker_faults.new) (drop 1 result.items) }
-    ensures sent { All (λ s. IsOfOne (all_shares result.items) s.item) (known pass.new).sent }
-    ensures numbers { HasNumbersFrom (length handles.items) (known pass.old) → (n : ℕ) → n < 64 → has n (known pass.new).numbers ≡ true }
-    ensures closed { HasClosed (holding_of first).share → HasClosed (all_shares result.items) }
-    ensures kept { StaysNoted worker_faults.old worker_faults.new }
-{
-    let mut handles = handles;
-    let mut partitions = room;
-    partitions.push_reserved(first);
-    while let Some(handle) = handles.pop() {
-        let worked = handle.join(rt);
-        worker_faults.note_any(worked.fault);
-        stream.join(pass, worked.stream);
-        partitions.push_reserved(worked.partition);
-    }
-    partitions
 }

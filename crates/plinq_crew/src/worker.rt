@@ -1,13 +1,10 @@
 //! What a worker does: it takes chunks until one has a tail, and sends their results.
-ghost use Rattle.std.specs.Prelude.{◌≡◌, ◌≤◌, ◌^◌, length, true, false, All, IfOk, IfErr};
-ghost use Rattle.std.specs.List.{list_any};
+ghost use Rattle.std.specs.Prelude.{◌≡◌, All, IfOk, IfErr};
 ghost use Rattle.plinq_cut.specs.Passes.{IsPassOf as IsCutPassOf};
-ghost use Rattle.plinq_ops.specs.Feeding.{is_empty_take};
-ghost use Rattle.plinq_ops.specs.ByKey.{is_by_key};
 ghost use Rattle.plinq_ops.specs.declared.results.ChunkResult.{ChunkResult};
 ghost use Rattle.plinq_partition.specs.Partitions.{IsPartitionOf, holding_of};
-ghost use Rattle.plinq_cut.specs.OfPlan.{AreStopKeys};
 ghost use Rattle.plinq_crew.specs.Equipped.{IsEquipped};
+ghost use Rattle.plinq_crew.specs.inner.Taking.{MayTakeNext};
 ghost use Rattle.plinq_crew.specs.Results.{IsPart};
 ghost use Rattle.plinq_crew.specs.Working.{IsNewcomer, HasWorked, HasTakenChunk, HasLeft};
 ghost use Rattle.plinq_stream.specs.Passes.{IsPassOf, known};
@@ -96,12 +93,7 @@ where
         partition: &mut Partition<S>,
         pass: &mut CutPass,
     ) -> Result<ChunkResult<P::Part>, TakeFault>
-        requires of { IsPartitionOf self.now.chunked.now partition.old }
-        requires cut { IsCutPassOf self.now.cut.now pass.old }
-        requires stop_keys { AreStopKeys L.meaning self.now.plan.now (holding_of partition.old).origin J.stops_at }
-        requires keyed { is_by_key self.now.plan.now.worker.now ≡ true }
-        requires some { list_any is_empty_take self.now.plan.now.worker.now ≡ false }
-        requires few { length (holding_of partition.old).origin.items ≤ 2 ^ 40 }
+        requires { MayTakeNext L.meaning J.stops_at self.now partition.old pass.old }
         ensures of { IsPartitionOf self.now.chunked.now partition.new }
         ensures origin { (holding_of partition.new).origin ≡ (holding_of partition.old).origin }
         ensures cut { IsCutPassOf self.now.cut.now pass.new }

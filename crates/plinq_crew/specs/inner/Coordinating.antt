@@ -1,20 +1,25 @@
 -- The caller's thread among its workers.
-use Rattle.std.specs.Prelude.{◌≡◌, ◌≤◌, ℕ, Bool, List, length}
+use Rattle.std.specs.Prelude.{◌≡◌, ◌≤◌, ℕ, Bool, List, length, true, false}
 use Rattle.plinq_source.specs.declared.source.Source.{Ghosts}
 use Rattle.plinq_lambda.specs.Meaning.{Meaning}
 use Rattle.plinq_ops.specs.declared.results.ChunkResult.{ChunkResult}
 use Rattle.plinq_partition.specs.declared.chunked.Chunked.{Chunked}
-use Rattle.plinq_partition.specs.Partitions.{IsPartitionOf, holding_of}
+use Rattle.plinq_partition.specs.Partitions.{IsPartitionOf, IsStopped, holding_of}
 use Rattle.plinq_stream.specs.declared.sent.Sent.{Sent}
 use Rattle.plinq_stream.specs.declared.stream.Stream.{Stream}
+use Rattle.plinq_stream.specs.declared.stream_pass.StreamPass.{StreamPass}
 use Rattle.plinq_stream.specs.Passes.{IsPassOf, known}
+use Rattle.plinq_stream.specs.Streams.{HasReceivedAll}
+use Rattle.plinq_crew.specs.declared.closing.Closing.{Closing}
 use Rattle.plinq_crew.specs.declared.coordinator.Coordinator.{Coordinator}
 use Rattle.plinq_crew.specs.declared.starting.Team.{Team}
 use Rattle.plinq_crew.specs.declared.worker.Crew.{Crew}
 use Rattle.plinq_crew.specs.Conducting.{AcceptsEach}
 use Rattle.plinq_crew.specs.Equipped.{IsEquipped}
+use Rattle.plinq_crew.specs.Noted.{has_worker_fault, StaysNoted}
 use Rattle.plinq_crew.specs.Polls.{HasAccepted}
-use Rattle.plinq_crew.specs.Working.{HasNumbersFrom, IsReceiver}
+use Rattle.plinq_crew.specs.Working.{HasClosed, HasNumbersFrom, IsReceiver}
+use Rattle.plinq_crew.specs.inner.Closing.{wants_close, is_closed, StaysClosed}
 use Rattle.plinq_crew.specs.inner.Teams.{IsTeam}
 
 module _ {S T M : Type 0} {source : Ghosts S T} where
@@ -30,6 +35,25 @@ module _ {S T M : Type 0} {source : Ghosts S T} where
     pub numbers : (known c'.stream).numbers ≡ (known c.stream).numbers
     pub worker_count : c'.worker_count ≡ c.worker_count
 
+  -- The source is closed once at most, by a close of the coordinator's own, and not where that was done before. Where all is over
+  -- it was closed by then, or some fault stands noted. What comes from then on is dropped, and what was noted stays noted
+  pub record ClosesInTime (is_over : Bool) (before : Closing) (c : Coordinator S M T source) (after : Closing) (c' : Coordinator S M T source) : Type 0 where
+    pub once : is_closed before ≡ true → after ≡ before
+    pub unclosed : is_closed after ≡ is_closed before → holding_of c'.partition ≡ holding_of c.partition
+    pub closed : is_closed before ≡ false → is_closed after ≡ true → IsStopped (holding_of c.partition) (holding_of c'.partition)
+    pub wanted : is_over ≡ true → is_closed before ≡ false → wants_close after ≡ true
+    pub over : is_over ≡ true → is_closed after ≡ false → has_worker_fault c'.worker_faults ≡ true
+    pub drops : wants_close before ≡ true → wants_close after ≡ true
+    pub kept : StaysNoted c.worker_faults c'.worker_faults
+
+  -- the source is closed by now, unless some fault stands noted; what was received is the same, and who was started
+  pub record ClosesAtLast (closing : Closing) (c c' : Coordinator S M T source) : Type 0 where
+    pub same : StaysSame c c'
+    pub stream : c'.stream ≡ c.stream
+    pub kept : StaysNoted c.worker_faults c'.worker_faults
+    pub closed : (is_closed closing ≡ true → HasClosed (holding_of c.partition).share) → has_worker_fault c'.worker_faults ≡ false
+        → HasClosed (holding_of c'.partition).share
+
   -- it can start those workers that are wanted: it has what each is to be given
   pub record CanStart {L J P : Type 0} (meaning : L → Meaning T) (makes : P → ChunkResult T → ChunkResult M → Type 0) (MaySend : ChunkResult M → Type 0) (stops_at : ℕ → Bool)
       (crew : Crew L S J P T T M source) (c : Coordinator S M T source) (t : Team S M T source) : Type 0 where
@@ -44,3 +68,21 @@ module _ {S T M : Type 0} {source : Ghosts S T} where
 abbrev pub AcceptsOn : {X M : Type 0} → (X → ChunkResult M → X → Type 0) → (ChunkResult M → Type 0) → List (Sent (ChunkResult M)) → Bool → X → List (Sent (ChunkResult M)) → Bool → X → Type 0
 AcceptsOn accepts IsPart received wants_close x received' wants_close' x' =
     (before : _) (start : _) → HasAccepted (AcceptsEach accepts IsPart) before start received wants_close x → HasAccepted (AcceptsEach accepts IsPart) before start received' wants_close' x'
+
+module _ {S T M X : Type 0} {source : Ghosts S T} (is_ready : X → Type 0) (accepts : X → ChunkResult M → X → Type 0) (IsPart : ChunkResult M → Type 0) where
+  -- the consumer has accepted what came since, as far as it was to, and can accept more; where the source was closed since, the
+  -- coordinator's own record says so
+  pub record AcceptsMore (c : Coordinator S M T source) (before : Closing) (x : X) (c' : Coordinator S M T source) (after : Closing) (x' : X) : Type 0 where
+    pub same : StaysSame c c'
+    pub ready : is_ready x'
+    pub closed : StaysClosed before (holding_of c.partition).share after (holding_of c'.partition).share
+    pub accepted : AcceptsOn accepts IsPart (known c.stream).received (wants_close before) x (known c'.stream).received (wants_close after) x'
+
+-- all that was sent was received, and accepted where what comes isn't dropped
+pub record AcceptsRest {M C X : Type 0} (accepts : X → ChunkResult M → X → Type 0) (IsPart : ChunkResult M → Type 0) (stream : Stream (ChunkResult M) C)
+    (closing : Closing) (p : StreamPass (ChunkResult M)) (x : X) (p' : StreamPass (ChunkResult M)) (x' : X) : Type 0 where
+  pub of : IsPassOf stream p'
+  pub all : HasReceivedAll (known p')
+  pub sent : (known p').sent ≡ (known p).sent
+  pub numbers : (known p').numbers ≡ (known p).numbers
+  pub accepted : AcceptsOn accepts IsPart (known p).received (wants_close closing) x (known p').received (wants_close closing) x'

@@ -1,4 +1,4 @@
-use Rattle.std.proofs.Common.{rules, ◌≡◌, ◌≤◌, ◌+◌, [], All, true, true≢false, length, refl, sym, ap, ◌∙◌, subst, arith}
+use Rattle.std.proofs.Common.{rules, ◌≡◌, ◌≤◌, [], All, true, true≢false, length, refl, sym, ap, ◌∙◌, subst, arith}
 use Rattle.plinq_partition.specs.Partitions.{all_shares, holding_of}
 use Rattle.plinq_stream.specs.Passes.{known}
 use Rattle.plinq_stream.specs.Streams.{has}
@@ -44,16 +44,16 @@ loop-init g c =
 
 pub loop-preserved : goal.loop-preserved
 loop-preserved g c =
-    let crew = c.args.self.now in
     let Step = AcceptsEach g.X.Consumer.accepts g.J.RunSpec.is_result in
+    let more = c.accept_some.ensures.more in
     record {
       can = tt;
       finite = tt;
-      may = may-go_on g.L.Lambda.meaning g.P.Task.makes g.J.RunSpec.is_result g.J.RunSpec.stops_at crew _ _ _ c.start_wanted.ensures.may c.accept_some.ensures.coordinator c.accept_some.ensures.same;
-      origin = c.accept_some.ensures.same.origin ∙ ap (λ h. h.origin) c.start_wanted.ensures.same ∙ c.loop.invariant.origin;
-      closed = c.accept_some.ensures.closed (λ is. subst (λ h. HasClosed h.share) (sym c.start_wanted.ensures.same) (c.loop.invariant.closed is));
-      ready = c.accept_some.ensures.ready;
-      accepted = c.accept_some.ensures.accepted [] c.args.consumer.now
+      may = may-go_on g.L.Lambda.meaning g.P.Task.makes g.J.RunSpec.is_result g.J.RunSpec.stops_at c.args.self.now _ _ _ c.start_wanted.ensures.may c.accept_some.ensures.coordinator more.same;
+      origin = more.same.origin ∙ ap (λ h. h.origin) c.start_wanted.ensures.same ∙ c.loop.invariant.origin;
+      closed = more.closed (λ is. subst (λ h. HasClosed h.share) (sym c.start_wanted.ensures.same) (c.loop.invariant.closed is));
+      ready = more.ready;
+      accepted = more.accepted [] c.args.consumer.now
           (subst (λ xs. HasAccepted Step [] c.args.consumer.now xs (wants_close c.loop.closing) c.loop.consumer) (sym c.start_wanted.ensures.received) c.loop.invariant.accepted);
     }
 
@@ -72,39 +72,40 @@ returns g c =
     elim end.branch [
       | in-None w ↦ absurd (search rules)
       | in-Some+then-not-accept_some w ↦
-          let same = w.accept_some.ensures.same in
+          let more = w.accept_some.ensures.more in
+          let same = more.same in
           let may = may-go_on g.L.Lambda.meaning g.P.Task.makes g.J.RunSpec.is_result g.J.RunSpec.stops_at crew _ _ _ w.start_wanted.ensures.may w.accept_some.ensures.coordinator same in
           rw (w.coordinator-is, w.team-is, w.closing-is, w.consumer-is) (
             same.origin ∙ ap (λ h. h.origin) w.start_wanted.ensures.same ∙ c.loop.invariant.origin,
             subst (λ (n : WorkerCount). 1 ≤ n.wanted) (sym same.worker_count) w.start_wanted.ensures.wanted,
             may.team,
-            w.accept_some.ensures.accepted [] x (subst (λ xs. HasAccepted Step [] x xs (wants_close c.loop.closing) c.loop.consumer) (sym w.start_wanted.ensures.received) c.loop.invariant.accepted),
+            more.accepted [] x (subst (λ xs. HasAccepted Step [] x xs (wants_close c.loop.closing) c.loop.consumer) (sym w.start_wanted.ensures.received) c.loop.invariant.accepted),
             may.numbers,
-            w.accept_some.ensures.closed (λ is. subst (λ h. HasClosed h.share) (sym w.start_wanted.ensures.same) (c.loop.invariant.closed is)),
+            more.closed (λ is. subst (λ h. HasClosed h.share) (sym w.start_wanted.ensures.same) (c.loop.invariant.closed is)),
           )
     ] in
     let partitions = c.join_all-partitions.result in
-    let last = c.close_at_last in
+    let last = c.close_at_last.ensures.closes in
     record {
       some = omega (arith, count);
       of = c.join_all-partitions.ensures.of;
-      origin = c.join_all-partitions.ensures.origin ∙ last.ensures.same.origin ∙ ended.0;
-      started = count ∙ ap (λ n. n + 1) (sym ended.2.started ∙ sym (ap (λ (n : WorkerCount). n.started) last.ensures.same.worker_count));
-      wanted = subst (λ (n : WorkerCount). (1 ≤ n.wanted) × (n.wanted ≤ crew.workers)) (sym last.ensures.same.worker_count) (ended.1, ended.2.within);
+      origin = c.join_all-partitions.ensures.origin ∙ last.same.origin ∙ ended.0;
+      started = omega (arith, count, ended.2.started, ap (λ (n : WorkerCount). n.started) last.same.worker_count);
+      wanted = subst (λ (n : WorkerCount). (1 ≤ n.wanted) × (n.wanted ≤ crew.workers)) (sym last.same.worker_count) (ended.1, ended.2.within);
       pass = c.accept_rest.new.pass;
-      of_stream = c.accept_rest.ensures.stream;
+      of_stream = c.accept_rest.ensures.of;
       all = c.accept_rest.ensures.all;
       answered = answered-same (known c.join_all-partitions.new.pass) (known c.accept_rest.new.pass) c.join_all-partitions.new.worker_faults _ c.accept_rest.ensures.sent c.accept_rest.ensures.numbers c.join_all-partitions.ensures.answered;
       each = λ k d less started.
           each-received (IsOfOne (all_shares partitions.items)) (known c.accept_rest.new.pass) c.accept_rest.ensures.all
           (λ n near.
           ap (has n) c.accept_rest.ensures.numbers
-          ∙ c.join_all-partitions.ensures.numbers (last.ensures.same.numbers ∙ ended.4 (subst (λ (n : WorkerCount). n.started ≡ n.wanted) last.ensures.same.worker_count started)) n near)
+          ∙ c.join_all-partitions.ensures.numbers (last.same.numbers ∙ ended.4 (subst (λ (n : WorkerCount). n.started ≡ n.wanted) last.same.worker_count started)) n (omega arith) near)
           (subst (All (λ s. IsOfOne (all_shares partitions.items) s.item)) (sym c.accept_rest.ensures.sent) c.join_all-partitions.ensures.sent) k d less;
       closed = λ none.
           c.join_all-partitions.ensures.closed
-          (last.ensures.closed ended.5 (none-before last.new.self.worker_faults c.join_all-partitions.new.worker_faults c.join_all-partitions.ensures.kept none));
+          (last.closed ended.5 (none-before c.close_at_last.new.coordinator.worker_faults c.join_all-partitions.new.worker_faults c.join_all-partitions.ensures.kept none));
       wants_close = wants_close end.closing;
       accepted = c.accept_rest.ensures.accepted [] x
-          (subst (λ xs. HasAccepted Step [] x xs (wants_close end.closing) end.consumer) (sym (c.join_all-partitions.ensures.received ∙ ap (λ p. (known p).received) last.ensures.stream)) ended.3);
+          (subst (λ xs. HasAccepted Step [] x xs (wants_close end.closing) end.consumer) (sym (c.join_all-partitions.ensures.received ∙ ap (λ p. (known p).received) last.stream)) ended.3);
     }

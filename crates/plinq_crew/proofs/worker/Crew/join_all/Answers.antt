@@ -13,12 +13,11 @@ use Rattle.plinq_crew.specs.Working.{HasClosed, IsOfOne, IsAnsweredBy, HasWorked
 use Rattle.plinq_crew.proofs.Handles.{common_origin-push, drop-push, numbered-pop}
 use Rattle.plinq_crew.proofs.Shares.{closed-push, sent-push, numbers-push}
 use Rattle.plinq_crew.proofs.Working.{above-both, answered-before, answered-now}
-use Rattle.plinq_crew.proofs.starting.join_all.Goals as goal
+use Rattle.plinq_crew.proofs.worker.Crew.join_all.Goals as goal
 
 pub loop-handle-preserved : goal.loop-handle-preserved
 loop-handle-preserved g c =
-    let chunked = c.args.chunked.now in
-    let stream = c.args.stream.now in
+    let chunked = c.args.self.now.chunked.now in
     let before = c.loop-handle.partitions.items in
     let left = c.pop.new.self.items in
     let handle = c.in-Some.handle in
@@ -26,8 +25,9 @@ loop-handle-preserved g c =
     let a = known c.loop-handle.pass in
     let b = known worked.stream in
     let both = known c.join.new.pass in
+    let joined = c.loop-handle.invariant.joined in
     let last : c.loop-handle.handles.items ≡ left ++ handle ∷ [] = c.in-Some.ensures.items in
-    let popped = All-pop (IsHandleOf chunked stream) c.loop-handle.handles.items left (Some handle) last c.loop-handle.invariant.handles in
+    let popped = All-pop (IsHandleOf chunked c.args.self.now.stream.now) c.loop-handle.handles.items left (Some handle) last c.loop-handle.invariant.handles in
     let numbered = numbered-pop 0 left handle (subst (AreNumbered 0) last c.loop-handle.invariant.numbered) in
     let number : handle.promise.number ≡ length left = (let at : handle.promise.number ≡ 0 + length left = numbered.1 in omega (arith, at)) in
     let next : length c.loop-handle.handles.items ≡ length left + 1 = ap length last ∙ length-append left (handle ∷ []) in
@@ -44,31 +44,33 @@ loop-handle-preserved g c =
       handles = popped.0;
       numbered = numbered.0;
       some = search rules;
-      count = (let at : length c.push_reserved-in-Some.new.self.items ≡ length before + 1 = ap length pushed ∙ length-append before (worked.partition ∷ []) in let sum = c.loop-handle.invariant.count in omega (arith, at, sum, next));
-      of = rw pushed (All-push (IsPartitionOf chunked) before worked.partition c.loop-handle.invariant.of of);
-      origin = ap common_origin pushed ∙ common_origin-push before worked.partition c.loop-handle.invariant.some ∙ c.loop-handle.invariant.origin;
       room = search rules;
-      pass = c.join.ensures.pass;
-      receives = ap (λ k. k.receives) is ∙ c.loop-handle.invariant.receives;
-      received = ap (λ k. k.received) is ∙ c.loop-handle.invariant.received;
       above = above-both a b both is n least next c.loop-handle.invariant.above work.own;
-      answered = subst (All (IsAnsweredBy n both faults)) (sym (ap (drop 1) pushed ∙ drop-push before worked.partition c.loop-handle.invariant.some))
-          (All-push (IsAnsweredBy n both faults) (drop 1 before) worked.partition
-          (All-weaker (IsAnsweredBy least a old) (IsAnsweredBy n both faults) (answered-before n least next a b both is old faults c.note_any.ensures.kept work.own) (drop 1 before) c.loop-handle.invariant.answered)
-          (answered-now n least next a b both is old faults c.note_any.ensures.kept c.loop-handle.invariant.above worked.partition worked.fault c.note_any.ensures.noted work));
-      sent = subst (λ ps. All (λ s. IsOfOne (all_shares ps) s.item) both.sent) (sym pushed)
-          (sent-push before worked.partition a b both is n worked.fault work c.loop-handle.invariant.sent);
-      numbers = λ from. numbers-push before worked.partition a b both is n worked.fault work least next (c.loop-handle.invariant.numbers from);
-      closed = λ was. subst (λ ps. HasClosed (all_shares ps)) (sym pushed) (closed-push before worked.partition (c.loop-handle.invariant.closed was));
-      kept = (λ is. c.note_any.ensures.kept.0 (c.loop-handle.invariant.kept.0 is), λ is. c.note_any.ensures.kept.1 (c.loop-handle.invariant.kept.1 is));
+      joined = record {
+        count = (let at : length c.push_reserved-in-Some.new.self.items ≡ length before + 1 = ap length pushed ∙ length-append before (worked.partition ∷ []) in omega (arith, at, joined.count, next));
+        of = rw pushed (All-push (IsPartitionOf chunked) before worked.partition joined.of of);
+        origin = ap common_origin pushed ∙ common_origin-push before worked.partition c.loop-handle.invariant.some ∙ joined.origin;
+        pass = c.join.ensures.pass;
+        receives = ap (λ k. k.receives) is ∙ joined.receives;
+        received = ap (λ k. k.received) is ∙ joined.received;
+        answered = subst (All (IsAnsweredBy n both faults)) (sym (ap (drop 1) pushed ∙ drop-push before worked.partition c.loop-handle.invariant.some))
+            (All-push (IsAnsweredBy n both faults) (drop 1 before) worked.partition
+            (All-weaker (IsAnsweredBy least a old) (IsAnsweredBy n both faults) (answered-before n least next a b both is old faults c.note_any.ensures.kept work.own) (drop 1 before) joined.answered)
+            (answered-now n least next a b both is old faults c.note_any.ensures.kept c.loop-handle.invariant.above worked.partition worked.fault c.note_any.ensures.noted work));
+        sent = subst (λ ps. All (λ s. IsOfOne (all_shares ps) s.item) both.sent) (sym pushed)
+            (sent-push before worked.partition a b both is n worked.fault work joined.sent);
+        numbers = λ from. numbers-push before worked.partition a b both is n worked.fault work least next (joined.numbers from);
+        closed = λ was. subst (λ ps. HasClosed (all_shares ps)) (sym pushed) (closed-push before worked.partition (joined.closed was));
+        kept = (λ is. c.note_any.ensures.kept.0 (joined.kept.0 is), λ is. c.note_any.ensures.kept.1 (joined.kept.1 is));
+      };
     }
 
 pub join-requires-clause-other : goal.join-requires-clause-other
 join-requires-clause-other g c =
-    let stream = c.args.stream.now in
+    let stream = c.args.self.now.stream.now in
     let handle = c.in-Some.handle in
     let popped =
-    All-pop (IsHandleOf c.args.chunked.now stream) c.loop-handle.handles.items c.pop.new.self.items (Some handle) c.in-Some.ensures.items c.loop-handle.invariant.handles in
+    All-pop (IsHandleOf c.args.self.now.chunked.now stream) c.loop-handle.handles.items c.pop.new.self.items (Some handle) c.in-Some.ensures.items c.loop-handle.invariant.handles in
     pass-beside stream handle.promise.given.value c.join-worked.result.stream popped.1.1 c.join-worked.ensures.pass
 
 pub loop-handle-init : goal.loop-handle-init
@@ -81,18 +83,20 @@ loop-handle-init g c =
       handles = c.requires.handles;
       numbered = c.requires.numbered;
       some = search rules;
-      count = search rules;
-      of = search rules;
-      origin = search rules;
       room = search rules;
-      pass = c.requires.pass;
-      receives = c.requires.receiver.receives;
-      received = refl;
       above = subst (All (λ s. count ≤ s.number)) (sym none) (All-nil (λ (s : Sent _). count ≤ s.number));
-      answered = (let Is = IsAnsweredBy count (known c.args.pass.now) c.args.worker_faults.now in subst (λ ps. All Is (drop 1 ps)) (sym pushed) (All-nil Is));
-      sent = subst (All (λ s. IsOfOne (all_shares c.push_reserved.new.self.items) s.item)) (sym none)
-          (All-nil (λ (s : Sent _). IsOfOne (all_shares c.push_reserved.new.self.items) s.item));
-      numbers = λ from n above near. ap (has n) from ∙ from-all count n (64 - count) above (omega (arith, above, near));
-      closed = λ was. subst (λ ps. HasClosed (all_shares ps)) (sym pushed) (subst HasClosed (sym (append-nil (holding_of first).share)) was);
-      kept = (λ is. is, λ is. is);
+      joined = record {
+        count = search rules;
+        of = search rules;
+        origin = search rules;
+        pass = c.requires.pass;
+        receives = c.requires.receiver.receives;
+        received = refl;
+        answered = (let Is = IsAnsweredBy count (known c.args.pass.now) c.args.worker_faults.now in subst (λ ps. All Is (drop 1 ps)) (sym pushed) (All-nil Is));
+        sent = subst (All (λ s. IsOfOne (all_shares c.push_reserved.new.self.items) s.item)) (sym none)
+            (All-nil (λ (s : Sent _). IsOfOne (all_shares c.push_reserved.new.self.items) s.item));
+        numbers = λ from n above near. ap (has n) from ∙ from-all count n (64 - count) above (omega (arith, above, near));
+        closed = λ was. subst (λ ps. HasClosed (all_shares ps)) (sym pushed) (subst HasClosed (sym (append-nil (holding_of first).share)) was);
+        kept = (λ is. is, λ is. is);
+      };
     }

@@ -1,0 +1,24 @@
+-- What a worker needs to take its next chunk.
+use Rattle.std.specs.Prelude.{◌≡◌, ◌≤◌, ◌^◌, ℕ, Bool, true, false, length}
+use Rattle.std.specs.List.{list_any}
+use Rattle.plinq_source.specs.declared.source.Source.{Ghosts}
+use Rattle.plinq_lambda.specs.Meaning.{Meaning}
+use Rattle.plinq_ops.specs.ByKey.{is_by_key}
+use Rattle.plinq_ops.specs.Feeding.{is_empty_take}
+use Rattle.plinq_cut.specs.declared.cut_pass.CutPass.{CutPass}
+use Rattle.plinq_cut.specs.OfPlan.{AreStopKeys}
+use Rattle.plinq_cut.specs.Passes.{IsPassOf}
+use Rattle.plinq_partition.specs.declared.partition.Partition.{Partition}
+use Rattle.plinq_partition.specs.Partitions.{IsPartitionOf, holding_of}
+use Rattle.plinq_crew.specs.declared.worker.Crew.{Crew}
+
+-- It has a partition of the source and a pass of the cut that the crew shares. The cut stops where the plan does over this source,
+-- and the plan is one that workers can follow by the items' keys
+pub record MayTakeNext {L S J P T M : Type 0} {source : Ghosts S T} (meaning : L → Meaning T) (stops_at : ℕ → Bool)
+    (crew : Crew L S J P T T M source) (partition : Partition S T source) (pass : CutPass) : Type 0 where
+  pub of : IsPartitionOf crew.chunked.now partition
+  pub cut : IsPassOf crew.cut.now pass
+  pub stop_keys : AreStopKeys meaning crew.plan.now (holding_of partition).origin stops_at
+  pub keyed : is_by_key crew.plan.now.worker.now ≡ true
+  pub some : list_any is_empty_take crew.plan.now.worker.now ≡ false
+  pub few : length (holding_of partition).origin.items ≤ 2 ^ 40
