@@ -1,5 +1,4 @@
-use Rattle.std.proofs.Common.{rules, ◌≡◌, true, false, refl, sym, ◌∙◌, true≢false}
-use Rattle.plinq_crew.specs.inner.Closing.{wants_close}
+use Rattle.std.proofs.Common.{rules, refl, sym, ◌∙◌, true≢false}
 use Rattle.plinq_crew.proofs.Coordinating.{accepts-nothing, accepts-one}
 use Rattle.plinq_crew.proofs.worker.Crew.accept_some.Goals as goal
 
@@ -9,8 +8,7 @@ loop-preserved-then-not-wants_close g c = record {
   finite = tt;
   coordinator = c.poll.ensures.coordinator;
   more = accepts-one c.loop.invariant.more c.poll.ensures.same c.poll.ensures.closes c.in-Came.part _ c.in-Came.ensures.carried c.in-Came.ensures.received
-      c.accept.ensures.ready (λ _. c.accept.ensures.accepts)
-      (λ is. absurd (let open_now : wants_close c.poll.new.closing ≡ false = search rules in true≢false (sym is ∙ open_now)));
+      c.accept.ensures.ready (λ _. c.accept.ensures.accepts) (λ is. absurd (true≢false (sym is ∙ search rules)));
 }
 
 pub loop-preserved-else-not-wants_close : goal.loop-preserved-else-not-wants_close
@@ -19,8 +17,7 @@ loop-preserved-else-not-wants_close g c = record {
   finite = tt;
   coordinator = c.poll.ensures.coordinator;
   more = accepts-one c.loop.invariant.more c.poll.ensures.same c.poll.ensures.closes c.in-Came.part _ c.in-Came.ensures.carried c.in-Came.ensures.received
-      c.loop.invariant.more.ready
-      (λ is. absurd (let over : wants_close c.poll.new.closing ≡ true = search rules in true≢false (sym over ∙ is))) (λ _. refl);
+      c.loop.invariant.more.ready (λ is. absurd (true≢false (sym (search rules) ∙ is))) (λ _. refl);
 }
 
 pub loop-preserved : goal.loop-preserved

@@ -11,10 +11,7 @@ use Rattle.plinq_crew.proofs.worker.Crew.start_wanted.Goals as goal
 
 pub start-requires-clause-equipped : goal.start-requires-clause-equipped
 start-requires-clause-equipped g c κs within =
-    let crew = c.args.self.now in
-    let own = c.loop-worker.coordinator.partition in
-    equipped-beside g.L.Lambda.meaning (g.P.Task.makes crew.task.now) g.J.RunSpec.is_result g.J.RunSpec.stops_at crew.plan.now crew.chunked.now crew.cut.now own c.dynamic.result c.loop-worker.team.cut c.split.result
-    c.loop-worker.invariant.equipped c.dynamic.ensures.of.1 (ap (λ h. h.origin) c.dynamic.ensures.new) c.split.ensures.passes.1
+    equipped-beside c.loop-worker.invariant.equipped c.dynamic.ensures.of.1 (ap (λ h. h.origin) c.dynamic.ensures.new) c.split.ensures.passes.1
 
 pub give_number-requires-clause-first : goal.give_number-requires-clause-first
 give_number-requires-clause-first g c =
@@ -41,8 +38,7 @@ loop-worker-preserved g c =
     let pushed : c.push_reserved.new.self.items ≡ handles ++ handle ∷ [] = c.push_reserved.ensures.items in
     let next : length c.push_reserved.new.self.items ≡ c.loop-worker.worker + 1 = ap length pushed ∙ length-append handles (handle ∷ []) ∙ ap (λ n. n + 1) counted in
     record {
-      equipped = equipped-beside g.L.Lambda.meaning (g.P.Task.makes crew.task.now) g.J.RunSpec.is_result g.J.RunSpec.stops_at crew.plan.now crew.chunked.now crew.cut.now
-          c.loop-worker.coordinator.partition c.dynamic.new.partition c.loop-worker.team.cut c.split.new.pass c.loop-worker.invariant.equipped c.dynamic.ensures.of.0 (ap (λ h. h.origin) c.dynamic.ensures.same) c.split.ensures.passes.0;
+      equipped = equipped-beside c.loop-worker.invariant.equipped c.dynamic.ensures.of.0 (ap (λ h. h.origin) c.dynamic.ensures.same) c.split.ensures.passes.0;
       same = search rules;
       stream = c.give_number.ensures.pass;
       receiver = handed-receiver c.loop-worker.worker (known c.loop-worker.coordinator.stream) (known c.give_number.new.pass) c.loop-worker.invariant.receiver c.give_number.ensures.left;
@@ -62,7 +58,6 @@ loop-worker-preserved g c =
 
 pub returns-in_default-clause-may : goal.returns-in_default-clause-may
 returns-in_default-clause-may g c =
-    let crew = c.args.self.now in
     let less : c.loop-worker.worker < c.loop-worker.coordinator.worker_count.wanted = search rules in
     let counted : length c.loop-worker.team.handles.items ≡ c.loop-worker.worker = c.loop-worker.invariant.counted in
     let started : c.loop-worker.coordinator.worker_count.started ≡ length c.loop-worker.team.handles.items = c.loop-worker.invariant.team.started in
@@ -70,8 +65,7 @@ returns-in_default-clause-may g c =
       pass = c.give_number.ensures.pass;
       receiver = handed-receiver c.loop-worker.worker (known c.loop-worker.coordinator.stream) (known c.give_number.new.pass) c.loop-worker.invariant.receiver c.give_number.ensures.left;
       numbers = λ same. absurd (let is : c.loop-worker.coordinator.worker_count.started ≡ c.loop-worker.coordinator.worker_count.wanted = same in omega (arith, less, counted, started, is));
-      equipped = equipped-beside g.L.Lambda.meaning (g.P.Task.makes crew.task.now) g.J.RunSpec.is_result g.J.RunSpec.stops_at crew.plan.now crew.chunked.now crew.cut.now
-          c.loop-worker.coordinator.partition c.dynamic.new.partition c.loop-worker.team.cut c.split.new.pass c.loop-worker.invariant.equipped c.dynamic.ensures.of.0 (ap (λ h. h.origin) c.dynamic.ensures.same) c.split.ensures.passes.0;
+      equipped = equipped-beside c.loop-worker.invariant.equipped c.dynamic.ensures.of.0 (ap (λ h. h.origin) c.dynamic.ensures.same) c.split.ensures.passes.0;
       team = search rules;
       workers = c.requires.may.workers;
     }
