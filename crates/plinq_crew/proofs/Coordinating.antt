@@ -23,43 +23,38 @@ use Rattle.plinq_crew.proofs.Cuts.{equipped-beside}
 use Rattle.plinq_crew.proofs.Polls.{took-none, took-more}
 use Rattle.plinq_crew.proofs.Shares.{closes-stays}
 
-module _ {S T M : Type 0} {source : Ghosts S T} where
-  pub stays-on : (a b c : Coordinator S M T source) → StaysSame a b → StaysSame b c → StaysSame a c
-  stays-on a b c first second =
-      record { origin = second.origin ∙ first.origin; numbers = second.numbers ∙ first.numbers; worker_count = second.worker_count ∙ first.worker_count }
-
 -- one poll more: the source may have been closed at it
-module _ {S T M X : Type 0} {source : Ghosts S T} {is_ready : X → Type 0} {accepts : X → ChunkResult M → X → Type 0} {IsPart : ChunkResult M → Type 0} {is_over : Bool}
-    {a b c : Coordinator S M T source} {k l m : Closing} {x y : X} (more : AcceptsMore is_ready accepts IsPart a k x b l y) (same : StaysSame b c)
-    (closes : ClosesInTime is_over l b m c) where
+module _ {S T M X : Type 0} {source : Ghosts S T} {is_ready : X → Type 0} {accepts : X → ChunkResult M → X → Type 0}
+    {IsPart : ChunkResult M → Type 0} {is_over : Bool} {a b c : Coordinator S M T source} {k l m : Closing} {x y : X}
+    (more : AcceptsMore is_ready accepts IsPart a k x b l y) (same : StaysSame b c) (closes : ClosesInTime is_over l b m c) where
+  stays : StaysSame a c
+  stays =
+      let first = more.same in
+      record { origin = same.origin ∙ first.origin; numbers = same.numbers ∙ first.numbers; worker_count = same.worker_count ∙ first.worker_count }
+
   -- nothing came
   pub accepts-nothing : known c.stream ≡ known b.stream → AcceptsMore is_ready accepts IsPart a k x c m y
-  accepts-nothing none =
-      let Step = AcceptsEach accepts IsPart in
-      record {
-        same = stays-on a b c more.same same;
-        ready = more.ready;
-        closed = λ had. closes-stays closes (more.closed had);
-        accepted = λ before start h.
-            subst (λ (p : PassKnowledge (ChunkResult M)). HasAccepted Step before start p.received (wants_close m) y) (sym none)
-            (took-none Step before start (known b.stream).received (wants_close l) (wants_close m) y closes.drops (more.accepted before start h));
-      }
+  accepts-nothing none = record {
+    same = stays;
+    ready = more.ready;
+    closed = λ had. closes-stays closes (more.closed had);
+    accepted = λ before start h.
+        subst (λ (p : PassKnowledge (ChunkResult M)). HasAccepted (AcceptsEach accepts IsPart) before start p.received (wants_close m) y) (sym none)
+        (took-none (wants_close l) closes.drops (more.accepted before start h));
+  }
 
   -- this came, and it was accepted unless it is dropped
   pub accepts-one : (part : ChunkResult M) (z : X) → IsPart part → HasCome (known b.stream) (Came part) (known c.stream) → is_ready z
       → (wants_close m ≡ false → accepts y part z) → (wants_close m ≡ true → z ≡ y) → AcceptsMore is_ready accepts IsPart a k x c m z
-  accepts-one part z is come ready step keeps =
-      let Step = AcceptsEach accepts IsPart in
-      record {
-        same = stays-on a b c more.same same;
-        ready = ready;
-        closed = λ had. closes-stays closes (more.closed had);
-        accepted = λ before start h.
-            took-more Step before start (known b.stream).received (known c.stream).received (wants_close m) (wants_close m) y come.0 z
-            (ap (λ (p : PassKnowledge (ChunkResult M)). p.received) come.2) refl
-            (λ open_now. (subst IsPart (sym come.1) is, subst (λ r. accepts y r z) (sym come.1) (step open_now))) keeps
-            (took-none Step before start (known b.stream).received (wants_close l) (wants_close m) y closes.drops (more.accepted before start h));
-      }
+  accepts-one part z is come ready step keeps = record {
+    same = stays;
+    ready = ready;
+    closed = λ had. closes-stays closes (more.closed had);
+    accepted = λ before start h.
+        took-more (took-none (wants_close l) closes.drops (more.accepted before start h)) come.0
+        (ap (λ (p : PassKnowledge (ChunkResult M)). p.received) come.2) refl
+        (λ open_now. (subst IsPart (sym come.1) is, subst (λ r. accepts y r z) (sym come.1) (step open_now))) keeps;
+  }
 
 module _ {L S J P T M X : Type 0} {source : Ghosts S T} (meaning : L → Meaning T) (makes : P → ChunkResult T → ChunkResult M → Type 0)
     (MaySend : ChunkResult M → Type 0) (stops_at : ℕ → Bool) (is_ready : X → Type 0) (accepts : X → ChunkResult M → X → Type 0)

@@ -29,8 +29,9 @@ module _ {L T : Type 0} (meaning : L → Meaning T) (plan : Plan L) (t : Trace T
   pub stop-stop_key : (r : ChunkResult T) (key : ℕ) → IsResult meaning plan t r → r.ending ≢ Dropped → r.stop ≡ Some key → stops_at key ≡ true
   stop-stop_key r key is kept stop = are key ∙ stop-ends meaning plan.worker.now t r key is.offer kept stop
 
-module _ {L S T M E : Type 0} {source : Ghosts S T} {meaning : L → Meaning T} {makes : ChunkResult T → ChunkResult M → Type 0} {MaySend : ChunkResult M → Type 0}
-    {stops_at : ℕ → Bool} {plan : Plan L} {chunked : Chunked S T source} {cut : CutWord E} {own partition : Partition S T source} {mine pass : CutPass} where
+module _ {L S T M E : Type 0} {source : Ghosts S T} {meaning : L → Meaning T} {makes : ChunkResult T → ChunkResult M → Type 0}
+    {MaySend : ChunkResult M → Type 0} {stops_at : ℕ → Bool} {plan : Plan L} {chunked : Chunked S T source} {cut : CutWord E}
+    {own partition : Partition S T source} {mine pass : CutPass} where
   -- what a worker is started with stands beside what another was started with
   pub equipped-beside : IsEquipped meaning makes MaySend stops_at plan chunked cut own mine → IsPartitionOf chunked partition
       → (holding_of partition).origin ≡ (holding_of own).origin → IsPassOf cut pass → IsEquipped meaning makes MaySend stops_at plan chunked cut partition pass

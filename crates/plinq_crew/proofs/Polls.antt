@@ -1,21 +1,22 @@
 -- One poll more.
 use Rattle.std.specs.Prelude.{◌≡◌, List, [], ◌∷◌, ◌++◌, Bool, true, false, All, refl}
 use Rattle.std.specs.List.{FoldsTo}
-use Rattle.std.proofs.Common.{sym, ◌∙◌, ap, subst, append_assoc, append-nil}
+use Rattle.std.proofs.Common.{sym, ◌∙◌, ap, subst, append_assoc, append-nil, true≢false}
 use Rattle.std.proofs.lemmas.Fn.{FoldsTo-push}
 use Rattle.std.proofs.lemmas.List.Elements.{All-nil, All-cons, All-head, All-tail}
 use Rattle.plinq_crew.specs.Polls.{HasAccepted}
 
-module _ {X Y : Type 0} (Step : Y → X → Y → Type 0) (before : List X) (y : Y) where
+module _ {X Y : Type 0} {Step : Y → X → Y → Type 0} {before : List X} {y : Y} where
   -- nothing came
-  pub took-none : (received : List X) (wants_close wants_close' : Bool) (z : Y) → (wants_close ≡ true → wants_close' ≡ true) → HasAccepted Step before y received wants_close z
-      → HasAccepted Step before y received wants_close' z
-  took-none received true wants_close' z stays h = record { taken = h.taken; left = h.left; came = h.came; steps = h.steps; all = λ open-now. absurd (let bad : false ≡ true = sym open-now ∙ stays refl in cc) }
-  took-none received false wants_close' z stays h = record { taken = h.taken; left = h.left; came = h.came; steps = h.steps; all = λ _. h.all refl }
+  pub took-none : (wants_close : Bool) {received : List X} {wants_close' : Bool} {z : Y} → (wants_close ≡ true → wants_close' ≡ true)
+      → HasAccepted Step before y received wants_close z → HasAccepted Step before y received wants_close' z
+  took-none true stays h =
+      record { taken = h.taken; left = h.left; came = h.came; steps = h.steps; all = λ open-now. absurd (true≢false (sym (stays refl) ∙ open-now)) }
+  took-none false stays h = record { taken = h.taken; left = h.left; came = h.came; steps = h.steps; all = λ _. h.all refl }
 
   -- this came: it is taken in by a step, unless the source was closed
-  pub took-one : (received : List X) (wants_close : Bool) (z : Y) (x : X) (z' : Y) → (wants_close ≡ false → Step z x z') → (wants_close ≡ true → z' ≡ z) → HasAccepted Step before y received wants_close z
-      → HasAccepted Step before y (received ++ x ∷ []) wants_close z'
+  took-one : (received : List X) (wants_close : Bool) (z : Y) (x : X) (z' : Y) → (wants_close ≡ false → Step z x z') → (wants_close ≡ true → z' ≡ z)
+      → HasAccepted Step before y received wants_close z → HasAccepted Step before y (received ++ x ∷ []) wants_close z'
   took-one received false z x z' step keeps h =
       record {
         taken = h.taken ++ x ∷ [];
@@ -38,9 +39,10 @@ module _ {X Y : Type 0} (Step : Y → X → Y → Type 0) (before : List X) (y :
       }
 
   -- the same, of what is known of it afterwards
-  pub took-more : (received received' : List X) (wants_close wants_close' : Bool) (z : Y) (x : X) (z' : Y) → received' ≡ received ++ x ∷ [] → wants_close' ≡ wants_close
-      → (wants_close ≡ false → Step z x z') → (wants_close ≡ true → z' ≡ z) → HasAccepted Step before y received wants_close z → HasAccepted Step before y received' wants_close' z'
-  took-more received received' wants_close wants_close' z x z' came same step keeps h =
+  pub took-more : {received received' : List X} {wants_close wants_close' : Bool} {z z' : Y} → HasAccepted Step before y received wants_close z → (x : X)
+      → received' ≡ received ++ x ∷ [] → wants_close' ≡ wants_close → (wants_close ≡ false → Step z x z') → (wants_close ≡ true → z' ≡ z)
+      → HasAccepted Step before y received' wants_close' z'
+  took-more {received} {received'} {wants_close} {wants_close'} {z} {z'} h x came same step keeps =
       subst (λ xs. HasAccepted Step before y xs wants_close' z') (sym came)
       (subst (λ b. HasAccepted Step before y (received ++ x ∷ []) b z') (sym same) (took-one received wants_close z x z' step keeps h))
 

@@ -101,7 +101,8 @@ module _ {S T : Type 0} {source : Ghosts S T} (ps : List (Partition S T source))
 stopped-closed : {T : Type 0} (a b : Holding T) → IsStopped a b → HasClosed b.share
 stopped-closed a b stopped = subst HasClosed (sym stopped.adds.share) (any-last (λ (r : Record). r.asked ≡ Close) a.share stopped.entry stopped.adds.asked_is)
 
-module _ {S T M : Type 0} {source : Ghosts S T} {is_over : Bool} {before after : Closing} {a b : Coordinator S M T source} (closes : ClosesInTime is_over before a after b) where
+module _ {S T M : Type 0} {source : Ghosts S T} {is_over : Bool} {before after : Closing} {a b : Coordinator S M T source}
+    (closes : ClosesInTime is_over before a after b) where
   pub closes-stays : StaysClosed before (holding_of a.partition).share after (holding_of b.partition).share
   closes-stays had now =
       ⊎_elim (λ was. subst (λ (h : Holding T). HasClosed h.share) (sym (closes.unclosed (ap is_closed (closes.once was)))) (had was))

@@ -55,8 +55,8 @@ module _ {S T M : Type 0} {source : Ghosts S T} where
         → HasClosed (holding_of c'.partition).share
 
   -- it can start those workers that are wanted: it has what each is to be given
-  pub record CanStart {L J P : Type 0} (meaning : L → Meaning T) (makes : P → ChunkResult T → ChunkResult M → Type 0) (MaySend : ChunkResult M → Type 0) (stops_at : ℕ → Bool)
-      (crew : Crew L S J P T T M source) (c : Coordinator S M T source) (t : Team S M T source) : Type 0 where
+  pub record CanStart {L J P : Type 0} (meaning : L → Meaning T) (makes : P → ChunkResult T → ChunkResult M → Type 0)
+      (MaySend : ChunkResult M → Type 0) (stops_at : ℕ → Bool) (crew : Crew L S J P T T M source) (c : Coordinator S M T source) (t : Team S M T source) : Type 0 where
     pub pass : IsPassOf crew.stream.now c.stream
     pub receiver : IsReceiver (known c.stream)
     pub numbers : c.worker_count.started ≡ c.worker_count.wanted → HasNumbersFrom (length t.handles.items) (known c.stream)
@@ -65,9 +65,11 @@ module _ {S T M : Type 0} {source : Ghosts S T} where
     pub workers : (1 ≤ crew.workers) × (crew.workers ≤ 64)
 
 -- what was accepted of all that was received, is so of what was received by then
-abbrev pub AcceptsOn : {X M : Type 0} → (X → ChunkResult M → X → Type 0) → (ChunkResult M → Type 0) → List (Sent (ChunkResult M)) → Bool → X → List (Sent (ChunkResult M)) → Bool → X → Type 0
+abbrev pub AcceptsOn : {X M : Type 0} → (X → ChunkResult M → X → Type 0) → (ChunkResult M → Type 0)
+    → List (Sent (ChunkResult M)) → Bool → X → List (Sent (ChunkResult M)) → Bool → X → Type 0
 AcceptsOn accepts IsPart received wants_close x received' wants_close' x' =
-    (before : _) (start : _) → HasAccepted (AcceptsEach accepts IsPart) before start received wants_close x → HasAccepted (AcceptsEach accepts IsPart) before start received' wants_close' x'
+    (before : _) (start : _) → HasAccepted (AcceptsEach accepts IsPart) before start received wants_close x
+    → HasAccepted (AcceptsEach accepts IsPart) before start received' wants_close' x'
 
 module _ {S T M X : Type 0} {source : Ghosts S T} (is_ready : X → Type 0) (accepts : X → ChunkResult M → X → Type 0) (IsPart : ChunkResult M → Type 0) where
   -- the consumer has accepted what came since, as far as it was to, and can accept more; where the source was closed since, the

@@ -25,19 +25,20 @@ loop-handle-preserved g c =
     let a = known c.loop-handle.pass in
     let b = known worked.stream in
     let both = known c.join.new.pass in
-    let joined = c.loop-handle.invariant.joined in
+    let stands = c.loop-handle.invariant in
+    let joined = stands.joined in
     let last : c.loop-handle.handles.items ≡ left ++ handle ∷ [] = c.in-Some.ensures.items in
-    let popped = All-pop (IsHandleOf chunked c.args.self.now.stream.now) c.loop-handle.handles.items left (Some handle) last c.loop-handle.invariant.handles in
-    let numbered = numbered-pop 0 left handle (subst (AreNumbered 0) last c.loop-handle.invariant.numbered) in
+    let popped = All-pop (IsHandleOf chunked c.args.self.now.stream.now) c.loop-handle.handles.items left (Some handle) last stands.handles in
+    let numbered = numbered-pop 0 left handle (subst (AreNumbered 0) last stands.numbered) in
     let number : handle.promise.number ≡ length left = (let at : handle.promise.number ≡ 0 + length left = numbered.1 in omega (arith, at)) in
     let next : length c.loop-handle.handles.items ≡ length left + 1 = ap length last ∙ length-append left (handle ∷ []) in
     let pushed : c.push_reserved-in-Some.new.self.items ≡ before ++ worked.partition ∷ [] = c.push_reserved-in-Some.ensures.items in
-    let of : IsPartitionOf chunked worked.partition = subst (λ x. IsPartitionOf x worked.partition) popped.1.0 c.join-worked.ensures.of in
     let work : HasWorked (length left) (holding_of worked.partition).share worked.fault b =
     subst (λ n. HasWorked n (holding_of worked.partition).share worked.fault b) number c.join-worked.ensures.worked in
     let is = c.join.ensures.both in
     let n = length left in
     let faults = c.note_any.new.self in
+    let noted = c.note_any.ensures in
     let old = c.loop-handle.worker_faults in
     let least = length c.loop-handle.handles.items in
     record {
@@ -45,23 +46,25 @@ loop-handle-preserved g c =
       numbered = numbered.0;
       some = search rules;
       room = search rules;
-      above = above-both a b both is n least next c.loop-handle.invariant.above work.own;
+      above = above-both a b both is n least next stands.above work.own;
       joined = record {
-        count = (let at : length c.push_reserved-in-Some.new.self.items ≡ length before + 1 = ap length pushed ∙ length-append before (worked.partition ∷ []) in omega (arith, at, joined.count, next));
-        of = rw pushed (All-push (IsPartitionOf chunked) before worked.partition joined.of of);
-        origin = ap common_origin pushed ∙ common_origin-push before worked.partition c.loop-handle.invariant.some ∙ joined.origin;
+        count = omega (arith, ap length pushed, length-append before (worked.partition ∷ []), joined.count, next);
+        of = rw pushed (All-push (IsPartitionOf chunked) before worked.partition joined.of
+            (subst (λ x. IsPartitionOf x worked.partition) popped.1.0 c.join-worked.ensures.of));
+        origin = ap common_origin pushed ∙ common_origin-push before worked.partition stands.some ∙ joined.origin;
         pass = c.join.ensures.pass;
         receives = ap (λ k. k.receives) is ∙ joined.receives;
         received = ap (λ k. k.received) is ∙ joined.received;
-        answered = subst (All (IsAnsweredBy n both faults)) (sym (ap (drop 1) pushed ∙ drop-push before worked.partition c.loop-handle.invariant.some))
+        answered = subst (All (IsAnsweredBy n both faults)) (sym (ap (drop 1) pushed ∙ drop-push before worked.partition stands.some))
             (All-push (IsAnsweredBy n both faults) (drop 1 before) worked.partition
-            (All-weaker (IsAnsweredBy least a old) (IsAnsweredBy n both faults) (answered-before n least next a b both is old faults c.note_any.ensures.kept work.own) (drop 1 before) joined.answered)
-            (answered-now n least next a b both is old faults c.note_any.ensures.kept c.loop-handle.invariant.above worked.partition worked.fault c.note_any.ensures.noted work));
+            (All-weaker (IsAnsweredBy least a old) (IsAnsweredBy n both faults) (answered-before n least next a b both is old faults noted.kept work.own)
+            (drop 1 before) joined.answered)
+            (answered-now n least next a b both is old faults noted.kept stands.above worked.partition worked.fault noted.noted work));
         sent = subst (λ ps. All (λ s. IsOfOne (all_shares ps) s.item) both.sent) (sym pushed)
             (sent-push before worked.partition a b both is n worked.fault work joined.sent);
         numbers = λ from. numbers-push before worked.partition a b both is n worked.fault work least next (joined.numbers from);
         closed = λ was. subst (λ ps. HasClosed (all_shares ps)) (sym pushed) (closed-push before worked.partition (joined.closed was));
-        kept = (λ is. c.note_any.ensures.kept.0 (joined.kept.0 is), λ is. c.note_any.ensures.kept.1 (joined.kept.1 is));
+        kept = (λ is. noted.kept.0 (joined.kept.0 is), λ is. noted.kept.1 (joined.kept.1 is));
       };
     }
 
@@ -69,8 +72,8 @@ pub join-requires-clause-other : goal.join-requires-clause-other
 join-requires-clause-other g c =
     let stream = c.args.self.now.stream.now in
     let handle = c.in-Some.handle in
-    let popped =
-    All-pop (IsHandleOf c.args.self.now.chunked.now stream) c.loop-handle.handles.items c.pop.new.self.items (Some handle) c.in-Some.ensures.items c.loop-handle.invariant.handles in
+    let last = c.in-Some.ensures.items in
+    let popped = All-pop (IsHandleOf c.args.self.now.chunked.now stream) c.loop-handle.handles.items _ (Some handle) last c.loop-handle.invariant.handles in
     pass-beside stream handle.promise.given.value c.join-worked.result.stream popped.1.1 c.join-worked.ensures.pass
 
 pub loop-handle-init : goal.loop-handle-init

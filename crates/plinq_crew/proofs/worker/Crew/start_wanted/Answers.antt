@@ -23,7 +23,8 @@ start-requires-clause-new g c κs within =
     let less : c.loop-worker.worker < 64 = search rules in
     record {
       of = c.give_number.ensures.of;
-      knows = first-handed c.loop-worker.worker (known c.loop-worker.coordinator.stream) (known c.give_number.result) less c.loop-worker.invariant.numbers c.give_number.ensures.first;
+      knows = first-handed c.loop-worker.worker (known c.loop-worker.coordinator.stream) (known c.give_number.result) less
+          c.loop-worker.invariant.numbers c.give_number.ensures.first;
       share = search rules;
     }
 
@@ -31,41 +32,46 @@ pub loop-worker-preserved : goal.loop-worker-preserved
 loop-worker-preserved g c =
     let crew = c.args.self.now in
     let handles = c.loop-worker.team.handles.items in
+    let stands = c.loop-worker.invariant in
+    let knew = known c.loop-worker.coordinator.stream in
     let handle = c.in-Some.handle in
     let less : c.loop-worker.worker < 64 = search rules in
-    let counted : length handles ≡ c.loop-worker.worker = c.loop-worker.invariant.counted in
-    let number : handle.promise.number ≡ 0 + length handles = (let at : handle.promise.number ≡ c.loop-worker.worker = c.in-Some.ensures.number in omega (arith, at, counted)) in
+    let counted : length handles ≡ c.loop-worker.worker = stands.counted in
+    let at : handle.promise.number ≡ c.loop-worker.worker = c.in-Some.ensures.number in
+    let number : handle.promise.number ≡ 0 + length handles = omega (arith, at, counted) in
     let pushed : c.push_reserved.new.self.items ≡ handles ++ handle ∷ [] = c.push_reserved.ensures.items in
-    let next : length c.push_reserved.new.self.items ≡ c.loop-worker.worker + 1 = ap length pushed ∙ length-append handles (handle ∷ []) ∙ ap (λ n. n + 1) counted in
+    let next : length c.push_reserved.new.self.items ≡ c.loop-worker.worker + 1 =
+    ap length pushed ∙ length-append handles (handle ∷ []) ∙ ap (λ n. n + 1) counted in
     record {
-      equipped = equipped-beside c.loop-worker.invariant.equipped c.dynamic.ensures.of.0 (ap (λ h. h.origin) c.dynamic.ensures.same) c.split.ensures.passes.0;
+      equipped = equipped-beside stands.equipped c.dynamic.ensures.of.0 (ap (λ h. h.origin) c.dynamic.ensures.same) c.split.ensures.passes.0;
       same = search rules;
       stream = c.give_number.ensures.pass;
-      receiver = handed-receiver c.loop-worker.worker (known c.loop-worker.coordinator.stream) (known c.give_number.new.pass) c.loop-worker.invariant.receiver c.give_number.ensures.left;
-      numbers = rest-handed c.loop-worker.worker (known c.loop-worker.coordinator.stream) (known c.give_number.new.pass) less c.loop-worker.invariant.numbers c.give_number.ensures.left;
-      received = ap (λ k. k.received) c.give_number.ensures.left ∙ c.loop-worker.invariant.received;
+      receiver = handed-receiver c.loop-worker.worker knew (known c.give_number.new.pass) stands.receiver c.give_number.ensures.left;
+      numbers = rest-handed c.loop-worker.worker knew (known c.give_number.new.pass) less stands.numbers c.give_number.ensures.left;
+      received = ap (λ k. k.received) c.give_number.ensures.left ∙ stands.received;
       counted = next;
       team = record {
         started = sym next;
         asked = search rules;
         within = search rules;
         room = search rules;
-        handles = rw pushed (All-push (IsHandleOf crew.chunked.now crew.stream.now) handles handle c.loop-worker.invariant.team.handles c.in-Some.ensures.handle);
-        numbered = subst (AreNumbered 0) (sym pushed) (numbered-push 0 handles handle c.loop-worker.invariant.team.numbered number);
+        handles = rw pushed (All-push (IsHandleOf crew.chunked.now crew.stream.now) handles handle stands.team.handles c.in-Some.ensures.handle);
+        numbered = subst (AreNumbered 0) (sym pushed) (numbered-push 0 handles handle stands.team.numbered number);
       };
-      wanted = c.loop-worker.invariant.wanted;
+      wanted = stands.wanted;
     }
 
 pub returns-in_default-clause-may : goal.returns-in_default-clause-may
 returns-in_default-clause-may g c =
     let less : c.loop-worker.worker < c.loop-worker.coordinator.worker_count.wanted = search rules in
-    let counted : length c.loop-worker.team.handles.items ≡ c.loop-worker.worker = c.loop-worker.invariant.counted in
-    let started : c.loop-worker.coordinator.worker_count.started ≡ length c.loop-worker.team.handles.items = c.loop-worker.invariant.team.started in
+    let stands = c.loop-worker.invariant in
+    let count = c.loop-worker.coordinator.worker_count in
     record {
       pass = c.give_number.ensures.pass;
-      receiver = handed-receiver c.loop-worker.worker (known c.loop-worker.coordinator.stream) (known c.give_number.new.pass) c.loop-worker.invariant.receiver c.give_number.ensures.left;
-      numbers = λ same. absurd (let is : c.loop-worker.coordinator.worker_count.started ≡ c.loop-worker.coordinator.worker_count.wanted = same in omega (arith, less, counted, started, is));
-      equipped = equipped-beside c.loop-worker.invariant.equipped c.dynamic.ensures.of.0 (ap (λ h. h.origin) c.dynamic.ensures.same) c.split.ensures.passes.0;
+      receiver = handed-receiver c.loop-worker.worker (known c.loop-worker.coordinator.stream) (known c.give_number.new.pass) stands.receiver
+          c.give_number.ensures.left;
+      numbers = λ same. absurd (let is : count.started ≡ count.wanted = same in omega (arith, less, stands.counted, stands.team.started, is));
+      equipped = equipped-beside stands.equipped c.dynamic.ensures.of.0 (ap (λ h. h.origin) c.dynamic.ensures.same) c.split.ensures.passes.0;
       team = search rules;
       workers = c.requires.may.workers;
     }
