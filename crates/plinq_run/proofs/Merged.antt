@@ -1,7 +1,7 @@
 -- What was accepted of the parts that workers send is merged; and what is told of it: where no fault is, it is all that was sent.
-use Rattle.std.specs.Prelude.{◌≡◌, List, [], Bool, Option, Some, None, Result, Ok, Err, All, IfOk}
+use Rattle.std.specs.Prelude.{◌≡◌, List, [], Bool, Option, Some, None, Result, Ok, Err, All}
 use Rattle.std.specs.declared.alloc.Global.{Global}
-use Rattle.std.proofs.Common.{refl, sym, ◌∙◌, ap, subst, inl, inr, drop, true, false, Vec}
+use Rattle.std.proofs.Common.{refl, sym, ◌∙◌, ap, subst, inl, inr, drop, Vec, arith}
 use Rattle.std.proofs.lemmas.Fn.{chained_keeps}
 use Rattle.std.proofs.lemmas.List.Elements.{All-nil, All-push, All-weaker}
 use Rattle.std.proofs.lemmas.List.Folds.{list_any-from_Any}
@@ -13,9 +13,7 @@ use Rattle.plinq_keyed.specs.declared.record.Record.{Record}
 use Rattle.plinq_partition.specs.Partitions.{all_shares}
 use Rattle.plinq_partition.specs.declared.partition.Partition.{Partition}
 use Rattle.plinq_stream.specs.declared.sent.Sent.{Sent}
-use Rattle.plinq_stream.specs.declared.stream_pass.StreamPass.{StreamPass}
-use Rattle.plinq_stream.specs.Passes.{IsPassOf, known}
-use Rattle.plinq_stream.specs.Streams.{HasReceivedAll}
+use Rattle.plinq_stream.specs.Passes.{known}
 use Rattle.plinq_stream.proofs.Under.{or-none}
 use Rattle.plinq_ops.specs.declared.order.Order.{Order}
 use Rattle.plinq_ops.specs.declared.results.ChunkResult.{ChunkResult}
@@ -36,23 +34,21 @@ use Rattle.plinq_crew.specs.declared.worker.Crew.{Crew}
 use Rattle.plinq_crew.specs.declared.worker.WorkerContext.{WorkerContext}
 use Rattle.plinq_crew.specs.Conducting.{AcceptsEach, Conducts, IsOfCrew, HasReturned}
 use Rattle.plinq_crew.specs.Polls.{HasAccepted}
-use Rattle.plinq_crew.specs.declared.starting.WorkerFaults.{WorkerFaults}
-use Rattle.plinq_crew.specs.Noted.{has_worker_fault}
-use Rattle.plinq_crew.specs.Working.{HasClosed, IsOfOne, IsAnsweredBy, IsWhollyAnsweredBy}
+use Rattle.plinq_crew.specs.Working.{IsOfOne, IsAnsweredBy, IsWhollyAnsweredBy}
 use Rattle.plinq_crew.proofs.Working.{answered-wholly}
-use Rattle.plinq_crew.specs.declared.worker_count.WorkerCount.{WorkerCount}
 use Rattle.plinq_crew.proofs.Polls.{accepted-such}
 use Rattle.plinq_run.specs.declared.planning.Ended.{Ended}
 use Rattle.plinq_run.specs.declared.accepting.Merging.{Merging}
 use Rattle.plinq_run.specs.declared.accepting.MergingInto.{MergingInto}
 use Rattle.plinq_run.specs.declared.run_fault.RunFault.{RunFault}
-use Rattle.plinq_run.specs.inner.Merged.{offer_fault, AcceptsAfter, AreSame, AcceptsInto, Stands, HasMerged, HasBrokenOff, EndsSo, WereAccepted}
+use Rattle.plinq_run.specs.inner.Merged.{offer_fault, AcceptsAfter, AreSame, AcceptsInto, Stands, HasMerged, HasBrokenOff}
+use Rattle.plinq_run.specs.inner.Conducted.{HasAnswered, HasRunCrew}
 use Rattle.plinq_run.specs.Parting.{Breaks}
 use Rattle.plinq_run.specs.inner.Finishing.{Finishes}
 use Rattle.plinq_run.specs.inner.Offered.{IsOffered}
 use Rattle.plinq_run.specs.Runs.{Cause, Other, cause_of}
 use Rattle.plinq_run.specs.inner.Reported.{cause_in_merge}
-use Rattle.plinq_run.specs.Handed.{is_close, has_close}
+use Rattle.plinq_run.specs.Handed.{is_close}
 use Rattle.plinq_run.specs.inner.Faults.{AreSound}
 use Rattle.plinq_run.proofs.Arrived.{apart-push}
 
@@ -163,15 +159,6 @@ module _ {W O T : Type 0} (made : W → O → Trace T → Result (Option Ending)
       (λ e' yes ok all. subst (λ o. made a x (merged o offers) (Ok (Some e)) (taker_of j) y) stands.0
       (subst (λ d. made a x (merged (order_of j) offers) (Ok (Some d)) (taker_of j) y) (ok-same (sym ok ∙ ending)) all))
 
--- parts of which less is said
-module _ {W O T : Type 0} (made : W → O → Trace T → Result (Option Ending) DeliveryFault → W → O → Type 0) (P Q : ChunkResult T → Type 0) (on : (c : ChunkResult T) → P c → Q c) (order : Order) (a : W) (x : O) where
-  pub ends-weaker : {S U : Type 0} {source : SourceGhosts S U} (result : Result (Ended S W U source) RunFault) (y : O) → EndsSo made P order a x result y → EndsSo made Q order a x result y
-  ends-weaker (Ok ended) y h =
-      let shares = all_shares ended.partitions.items in
-      record { offers = h.offers; are = All-weaker (IsOffered P shares) (IsOffered Q shares) (λ c is. (on c is.0, is.1)) h.offers h.are; apart = h.apart; taken = h.taken }
-  ends-weaker (Err fault) y h =
-      record { offers = h.offers; are = All-weaker P Q on h.offers h.are; apart = h.apart; last = h.last; how = h.how; taken = h.taken; breaks = h.breaks }
-
 -- what was lent stays the same
 pub conducts-same : {L S J P U W O T : Type 0} {source : SourceGhosts S U} (made : W → O → Trace T → Result (Option Ending) DeliveryFault → W → O → Type 0) (IsPart : ChunkResult T → Type 0) (crew : Crew L S J P U U T source) (context : WorkerContext S T U source)
     (m m' : MergingInto W T O) (result : Result (Returned S U source) OutOfMemory) → Conducts (AcceptsInto made) IsPart crew context m m' result → AreSame m m'
@@ -183,84 +170,72 @@ conducts-same made IsPart crew context m m' (Err fault) h = record { merging = a
 
 -- ---- what is told
 
-none-noted : (faults : WorkerFaults) (worker_count : WorkerCount) → AreSound faults worker_count → has_worker_fault faults ≡ false
-none-noted faults worker_count sound = or-none faults.memory faults.tickets sound.memory sound.tickets
-
 -- Where it is reported how the answer ended, no worker had a fault and none was missing. So the source was closed, what was accepted is of the
 -- chunks of the records, and all that was sent was received
-module _ {S U W T : Type 0} {source : SourceGhosts S U} {m : Merging W T} {back : Returned S U source} where
-  pub told-closed : (r : Result (Ended S W U source) RunFault) → Finishes m back r
-      → (has_worker_fault back.worker_faults ≡ false → HasClosed (all_shares back.partitions.items))
-      → IfOk r (λ ended. has_close (all_shares ended.partitions.items) ≡ true)
-  told-closed (Ok ended) f closed =
-      let (k, entry, less, at, asked) = closed (none-noted back.worker_faults back.worker_count f.sound) in
-      ap (λ (ps : Vec (Partition S U source) Global). has_close (all_shares ps.items)) f.partitions
-      ∙ list_any-from_Any (λ (r : Record). is_close r.asked) (all_shares back.partitions.items) (k, entry, less, at, ap is_close asked)
-  told-closed (Err told) f closed = tt
+module _ {L S J P U W O T : Type 0} {source : SourceGhosts S U} {m : Merging W T} {back : Returned S U source} {y : O}
+    (made : W → O → Trace T → Result (Option Ending) DeliveryFault → W → O → Type 0) (lawful : IsTaking made) (IsPart : ChunkResult T → Type 0) (crew : Crew L S J P U U T source) (context : WorkerContext S T U source) (a : W) (x : O)
+    (first last : MergingInto W T O) (out : first.out.now ≡ x) (same : (last.merging.now ≡ m) × (last.out.now ≡ y))
+    (new : Stands made IsPart crew.plan.now.order a x None first.merging.now.joiner x []) (sound : first.merging.now.fault ≡ None) where
+  -- what was accepted was merged, and is of the crew's chunks where no worker was missing
+  crew-merged : HasReturned (AcceptsInto made) IsPart crew context first last back → HasMerged made (IsOfCrew back IsPart) crew.plan.now.order a x m y
+  crew-merged h =
+      let P = IsOfCrew back IsPart in
+      let order = crew.plan.now.order in
+      let begun = subst (HasMerged made P order a x first.merging.now) (sym out) (begun-merged made lawful P order a x first.merging.now x sound new) in
+      let such =
+      accepted-such (AcceptsEach (AcceptsInto made) IsPart) (AcceptsEach (AcceptsInto made) P)
+      (λ sent. back.worker_count.started ≡ back.worker_count.wanted → IsOfOne (all_shares back.partitions.items) sent.item)
+      (λ z sent z' of step. ((step.0, of), step.1)) first (known h.pass).received h.wants_close last h.each h.accepted in
+      let all = accepted-all made lawful P order a x [] (known h.pass).received h.wants_close first last such begun in
+      subst (λ n. HasMerged made P order a x n y) same.0 (subst (HasMerged made P order a x last.merging.now) same.1 all)
 
-  module _ {L J P O : Type 0} (made : W → O → Trace T → Result (Option Ending) DeliveryFault → W → O → Type 0) (IsPart : ChunkResult T → Type 0)
-      (order : Order) (a : W) (x : O) {y : O}
-      (crew : Crew L S J P U U T source) (context : WorkerContext S T U source) (first last : MergingInto W T O) (out : first.out.now ≡ x)
-      (same : (last.merging.now ≡ m) × (last.out.now ≡ y))
-      (new : Stands made IsPart order a x None first.merging.now.joiner x []) (sound : first.merging.now.fault ≡ None) where
-    pub told-all : (r : Result (Ended S W U source) RunFault) → Finishes m back r → HasReturned (AcceptsInto made) IsPart crew context first last back
-        → IfOk r (λ ended. (pass : StreamPass (ChunkResult T)) × IsPassOf crew.stream.now pass × HasReceivedAll (known pass) × All
-        (IsWhollyAnsweredBy (known pass)) (drop 1 ended.partitions.items)
-        × WereAccepted made IsPart order a x (known pass).received ended.joined y)
-    told-all (Ok ended) f h = (
-      h.pass,
-      h.of_stream,
-      h.all,
-      subst (λ (ps : Vec (Partition S U source) Global). All (IsWhollyAnsweredBy (known h.pass)) (drop 1 ps.items)) (sym f.partitions)
-          (All-weaker (IsAnsweredBy 0 (known h.pass) back.worker_faults) (IsWhollyAnsweredBy (known h.pass))
-          (answered-wholly (known h.pass) (known h.pass) back.worker_faults refl refl (none-noted back.worker_faults back.worker_count f.sound))
-          (drop 1 back.partitions.items) h.answered),
-      record {
-        first = first;
-        new = new;
-        sound = sound;
-        last = last;
-        still = ap (λ n. n.fault) same.0 ∙ f.none;
-        ending = ap (λ n. ending_of n.joiner) same.0 ∙ f.ending;
-        taker = f.taker ∙ ap (λ n. taker_of n.joiner) (sym same.0);
-        out = (out, same.1);
-        wants_close = h.wants_close;
-        taken = h.accepted;
-      },
-    )
-    told-all (Err told) f h = tt
-
-    -- what was accepted was merged, and is of the crew's chunks where no worker was missing
-    crew-merged : IsTaking made → HasReturned (AcceptsInto made) IsPart crew context first last back → HasMerged made (IsOfCrew back IsPart) order a x m y
-    crew-merged lawful h =
-        let P = IsOfCrew back IsPart in
-        let begun = subst (HasMerged made P order a x first.merging.now) (sym out) (begun-merged made lawful P order a x first.merging.now x sound new) in
-        let such =
-        accepted-such (AcceptsEach (AcceptsInto made) IsPart) (AcceptsEach (AcceptsInto made) P)
-        (λ sent. back.worker_count.started ≡ back.worker_count.wanted → IsOfOne (all_shares back.partitions.items) sent.item)
-        (λ z sent z' of step. ((step.0, of), step.1)) first (known h.pass).received h.wants_close last h.each h.accepted in
-        let all = accepted-all made lawful P order a x [] (known h.pass).received h.wants_close first last such begun in
-        subst (λ n. HasMerged made P order a x n y) same.0 (subst (HasMerged made P order a x last.merging.now) same.1 all)
-
-    -- the answer has ended so, or it was broken off
-    pub told-ends : IsTaking made → (r : Result (Ended S W U source) RunFault) → Finishes m back r
-        → HasReturned (AcceptsInto made) IsPart crew context first last back → EndsSo made IsPart order a x r y
-    told-ends lawful (Ok ended) f h =
-        let all = crew-merged lawful h in
-        let stands = subst (λ fault. Stands made IsPart order a x fault m.joiner y all.offers) f.none all.stands in
-        let of : (c : ChunkResult T) → IsOfCrew back IsPart c → IsOffered IsPart (all_shares ended.partitions.items) c =
-        λ c is. (
-          is.0,
-          subst (λ (ps : Vec (Partition S U source) Global). IsOfOne (all_shares ps.items) c) (sym f.partitions) (is.1 (let sound = f.sound in sound.started)),
-        ) in
-        record {
+  -- the answer has ended so, or it was broken off
+  pub told-run : (r : Result (Ended S W U source) RunFault) → Finishes m back r → HasReturned (AcceptsInto made) IsPart crew context first last back
+      → HasRunCrew made IsPart crew context a x r y
+  told-run (Ok ended) f h =
+      let order = crew.plan.now.order in
+      let all = crew-merged h in
+      let stands = subst (λ fault. Stands made IsPart order a x fault m.joiner y all.offers) f.none all.stands in
+      let complete : AreSound back.worker_faults back.worker_count = f.sound in
+      let none = or-none back.worker_faults.memory back.worker_faults.tickets complete.memory complete.tickets in
+      let (k, entry, less, at, asked) = h.closed none in
+      subst (λ (ps : Vec (Partition S U source) Global). HasAnswered made IsPart crew context a x (record { partitions = ps; joined = ended.joined }) y)
+      (sym f.partitions)
+      (record {
+        shared = record {
+          some = h.some;
+          of = h.of;
+          origin = h.origin;
+          closed = list_any-from_Any (λ (r : Record). is_close r.asked) (all_shares back.partitions.items) (k, entry, less, at, ap is_close asked);
+        };
+        started = (omega (arith, h.started, h.wanted.0, complete.started), omega (arith, h.started, h.wanted.1, complete.started));
+        pass = h.pass;
+        of_stream = h.of_stream;
+        all = h.all;
+        answered = All-weaker (IsAnsweredBy 0 (known h.pass) back.worker_faults) (IsWhollyAnsweredBy (known h.pass))
+            (answered-wholly (known h.pass) (known h.pass) back.worker_faults refl refl none) (drop 1 back.partitions.items) h.answered;
+        accepted = record {
+          first = first;
+          new = new;
+          sound = sound;
+          last = last;
+          still = ap (λ n. n.fault) same.0 ∙ f.none;
+          ending = ap (λ n. ending_of n.joiner) same.0 ∙ f.ending;
+          taker = f.taker ∙ ap (λ n. taker_of n.joiner) (sym same.0);
+          out = (out, same.1);
+          wants_close = h.wants_close;
+          taken = h.accepted;
+        };
+        taken = record {
           offers = all.offers;
-          are = All-weaker (IsOfCrew back IsPart) (IsOffered IsPart (all_shares ended.partitions.items)) of all.offers all.are;
+          are = All-weaker (IsOfCrew back IsPart) (IsOffered IsPart (all_shares back.partitions.items)) (λ c is. (is.0, is.1 complete.started))
+              all.offers all.are;
           apart = all.apart;
           taken = subst (λ b. made a x (merged order all.offers) (Ok (Some ended.joined.ending)) b y) (sym f.taker)
               (ended-by made lawful IsPart order a x m.joiner y ended.joined.ending all.offers stands f.ending);
-        }
-    told-ends lawful (Err fault) f h =
-        let all = crew-merged lawful h in
-        broken-by made lawful IsPart order a x m.fault m y fault f.err all.offers
-        (All-weaker (IsOfCrew back IsPart) IsPart (λ c is. is.0) all.offers all.are) all.apart all.stands
+        };
+      })
+  told-run (Err fault) f h =
+      let all = crew-merged h in
+      broken-by made lawful IsPart crew.plan.now.order a x m.fault m y fault f.err all.offers
+      (All-weaker (IsOfCrew back IsPart) IsPart (λ c is. is.0) all.offers all.are) all.apart all.stands

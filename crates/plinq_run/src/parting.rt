@@ -8,7 +8,7 @@ ghost use Rattle.plinq_run.specs.inner.Conducted.{answer_ending};
 ghost use Rattle.plinq_run.specs.inner.Plans.{MayMerge, MayRun};
 
 use crate::fold_blocks::FoldBlocks;
-use crate::planning::{Conducted, conduct_plan};
+use crate::planning::Conducted;
 use crate::run_fault::RunFault;
 use crate::run_request::RunRequest;
 use crate::tasks::{FoldChunks, Unchanged};
@@ -58,80 +58,64 @@ fn answer_ending<S: Source, W: Drop>(
     }
 }
 
-/// Runs a plan that isn't decided and has no operator after the merge: its workers fold, and the taker is given an accumulator
-/// for each of their chunks.
-fn fold_chunks_into<'x, L, S, G, A, W, O, R>(
-    rt: &R,
-    request: RunRequest<'x, L, S, G>,
-    aggregator: &'x A,
-    taker: W,
-    out: &mut O,
-) -> Result<Ending, RunFault>
+impl<L, S, G> RunRequest<'_, L, S, G>
 where
     L: SharedLambda,
     S: Source<Item = L::Item>,
     G: Gate,
-    A: GrowingAggregator<Item = L::Item>,
-    W: Taker<Item = A::Acc> + TakeInto<O>,
-    R: Threads + Wait + Sync,
-    requires may { MayRun S.given request }
-    requires alone { request.plan.now.after.now ≡ [] }
-    requires takes { W.can_take taker ≡ true }
-    ensures { GivesSome (A.folding aggregator.now) W.made (MayMerge L.meaning request.entry.plan.now (S.whole request.entry.source))
-        taker out.old result out.new }
 {
-    let task = FoldChunks {
-        aggregator,
-        gate: request.gate,
-    };
-    let conducted = conduct_plan::<Brand, L, S, G, FoldChunks<'_, A, G>, W, O, R>(
-        rt, request, &task, taker, out,
-    );
-    answer_ending(conducted)
-}
+    /// Runs the plan, which isn't decided and has no operator after the merge: its workers fold, and the taker is given an
+    /// accumulator for each of their chunks.
+    fn fold_chunks_into<A: GrowingAggregator<Item = L::Item>, W, O, R: Threads + Wait + Sync>(
+        self,
+        rt: &R,
+        aggregator: &A,
+        taker: W,
+        out: &mut O,
+    ) -> Result<Ending, RunFault>
+    where
+        W: Taker<Item = A::Acc> + TakeInto<O>,
+        requires may { MayRun S.given self }
+        requires alone { self.plan.now.after.now ≡ [] }
+        requires takes { W.can_take taker ≡ true }
+        ensures { GivesSome (A.folding aggregator.now) W.made (MayMerge L.meaning self.entry.plan.now (S.whole self.entry.source))
+            taker out.old result out.new }
+    {
+        let task = FoldChunks {
+            aggregator,
+            gate: self.gate,
+        };
+        answer_ending(self.conduct_plan::<Brand, _, _, _, _>(rt, &task, taker, out))
+    }
 
-/// Runs a plan that isn't decided: the caller's thread folds what leaves the operators after the merge, and the taker is given
-/// an accumulator for each block of it.
-fn fold_blocks_into<L, S, G, A, W, O, R>(
-    rt: &R,
-    request: RunRequest<'_, L, S, G>,
-    aggregator: &A,
-    taker: W,
-    out: &mut O,
-) -> Result<Ending, RunFault>
-where
-    L: SharedLambda,
-    S: Source<Item = L::Item>,
-    G: Gate,
-    A: GrowingAggregator<Item = L::Item>,
-    W: Taker<Item = A::Acc> + TakeInto<O>,
-    R: Threads + Wait + Sync,
-    requires may { MayRun S.given request }
-    requires takes { W.can_take taker ≡ true }
-    ensures { GivesSome (A.folding aggregator.now) W.made (MayMerge L.meaning request.entry.plan.now (S.whole request.entry.source))
-        taker out.old result out.new }
-{
-    let Ok(pipeline) = Pipeline::new(request.alloc, request.plan.after) else {
-        return Err(RunFault::Memory);
-    };
-    let blocks = FoldBlocks {
-        alloc: request.alloc,
-        pipeline,
-        aggregator,
-        inner: taker,
-    };
-    let task = Unchanged { gate: request.gate };
-    let conducted = conduct_plan::<
-        Brand,
-        L,
-        S,
-        G,
-        Unchanged<'_, G>,
-        FoldBlocks<'_, '_, L, A, W>,
-        O,
-        R,
-    >(rt, request, &task, blocks, out);
-    answer_ending(conducted)
+    /// Runs the plan, which isn't decided: the caller's thread folds what leaves the operators after the merge, and the taker
+    /// is given an accumulator for each block of it.
+    fn fold_blocks_into<A: GrowingAggregator<Item = L::Item>, W, O, R: Threads + Wait + Sync>(
+        self,
+        rt: &R,
+        aggregator: &A,
+        taker: W,
+        out: &mut O,
+    ) -> Result<Ending, RunFault>
+    where
+        W: Taker<Item = A::Acc> + TakeInto<O>,
+        requires may { MayRun S.given self }
+        requires takes { W.can_take taker ≡ true }
+        ensures { GivesSome (A.folding aggregator.now) W.made (MayMerge L.meaning self.entry.plan.now (S.whole self.entry.source))
+            taker out.old result out.new }
+    {
+        let Ok(pipeline) = Pipeline::new(self.alloc, self.plan.after) else {
+            return Err(RunFault::Memory);
+        };
+        let blocks = FoldBlocks {
+            alloc: self.alloc,
+            pipeline,
+            aggregator,
+            inner: taker,
+        };
+        let task = Unchanged { gate: self.gate };
+        answer_ending(self.conduct_plan::<Brand, _, _, _, _>(rt, &task, blocks, out))
+    }
 }
 
 /// Folds the parts of a query's answer, and gives the accumulators to a taker as their turn comes. It is what a last step of
@@ -183,7 +167,7 @@ where
         gate,
     };
     if plan.after.is_empty() {
-        return fold_chunks_into(rt, request, aggregator, taker, out);
+        return request.fold_chunks_into(rt, aggregator, taker, out);
     }
-    fold_blocks_into(rt, request, aggregator, taker, out)
+    request.fold_blocks_into(rt, aggregator, taker, out)
 }

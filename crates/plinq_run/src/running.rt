@@ -12,7 +12,6 @@ ghost use Rattle.plinq_run.specs.Headline.{answers, HasDelivered};
 ghost use Rattle.plinq_run.specs.inner.Plans.{MayMerge, MayRun};
 ghost use Rattle.plinq_run.specs.Reports.{Reports};
 
-use crate::planning::conduct_plan;
 use crate::report::Report;
 use crate::reporting::report;
 use crate::run_fault::RunFault;
@@ -29,32 +28,31 @@ use std::marker::Brand;
 use std::sync::Wait;
 use std::thread::Threads;
 
-/// Runs a plan that isn't decided, and delivers the batches of its answer.
-fn run_plan<L, S, G, K, R>(
-    rt: &R,
-    request: RunRequest<'_, L, S, G>,
-    option: MergeOption,
-    sink: &mut K,
-) -> Result<Report, RunFault>
+impl<L, S, G> RunRequest<'_, L, S, G>
 where
     L: SharedLambda,
     S: Source<Item = L::Item>,
     G: Gate,
-    K: Sink<Item = L::Item>,
-    R: Threads + Wait + Sync,
-    requires may { MayRun S.given request }
-    ensures legal { IfOk result (λ report. IsLegalHistory (S.whole request.entry.source) report.records.items) }
-    ensures closed { IfOk result (λ report. has_close report.records.items ≡ true) }
-    ensures reports { Reports K.accepts K.refuses option (MayMerge L.meaning request.entry.plan.now) (S.whole request.entry.source) sink.old sink.new result }
 {
-    let Ok(taker) = Deliver::new(request.alloc, request.plan.after, option) else {
-        return Err(RunFault::Memory);
-    };
-    let task = Unchanged { gate: request.gate };
-    let conducted = conduct_plan::<Brand, L, S, G, Unchanged<'_, G>, Deliver<'_, L, L::Item>, K, R>(
-        rt, request, &task, taker, sink,
-    )?;
-    report(conducted)
+    /// Runs the plan, which isn't decided, and delivers the batches of its answer.
+    fn run_plan<K: Sink<Item = L::Item>, R: Threads + Wait + Sync>(
+        self,
+        rt: &R,
+        option: MergeOption,
+        sink: &mut K,
+    ) -> Result<Report, RunFault>
+        requires may { MayRun S.given self }
+        ensures legal { IfOk result (λ report. IsLegalHistory (S.whole self.entry.source) report.records.items) }
+        ensures closed { IfOk result (λ report. has_close report.records.items ≡ true) }
+        ensures reports { Reports K.accepts K.refuses option (MayMerge L.meaning self.entry.plan.now) (S.whole self.entry.source) sink.old sink.new result }
+    {
+        let Ok(taker) = Deliver::new(self.alloc, self.plan.after, option) else {
+            return Err(RunFault::Memory);
+        };
+        let task = Unchanged { gate: self.gate };
+        let conducted = self.conduct_plan::<Brand, _, _, _, _>(rt, &task, taker, sink)?;
+        report(conducted)
+    }
 }
 
 /// Runs a query over a source: as many workers as its degree take chunks that grow by `growth`, and the sink gets the batches
@@ -112,5 +110,5 @@ where
         growth,
         gate,
     };
-    run_plan(rt, request, query.merge_option(), sink)
+    request.run_plan(rt, query.merge_option(), sink)
 }

@@ -118,11 +118,11 @@ module _ {T A U W O : Type 0} (f : Folding T A U) (lawful : IsFolding f) (made :
   passes-all (Err fault) now now' t out e a x b y fed last is = given-fed (Err fault) now now' t out e a x b y fed is
 
 -- nothing was given on, for want of memory
-pub passes-none : {L F T A U W O : Type 0} (meaning : L → Meaning T) (folding : F → Folding T A U) → ((a : F) → IsFolding (folding a))
-    → (made : W → O → Trace A → Result (Option Ending) DeliveryFault → W → O → Type 0) → IsTaking made → (d : FoldBlocks L F W) (x : O) (t : Trace T)
-    → WasGiven (folding d.aggregator.now) made (seq (stages meaning d.pipeline) t) d.inner x (Err Memory) x
-passes-none meaning folding lawful made taking d x t =
-    given-none (folding d.aggregator.now) (lawful d.aggregator.now) made taking (seq (stages meaning d.pipeline) t) d.inner x
+pub made-none : {L F T A U W O : Type 0} (meaning : L → Meaning T) (folding : F → Folding T A U) → ((a : F) → IsFolding (folding a))
+    → (made : W → O → Trace A → Result (Option Ending) DeliveryFault → W → O → Type 0) → IsTaking made → (d d' : FoldBlocks L F W) (x : O) (t : Trace T)
+    → d'.aggregator ≡ d.aggregator → MadeBy meaning folding made d x t (Err Memory) d' x
+made-none meaning folding lawful made taking d d' x t same =
+    record { same = same; passes = given-none (folding d.aggregator.now) (lawful d.aggregator.now) made taking (seq (stages meaning d.pipeline) t) d.inner x }
 
 -- one trace after another
 pub made-lawful : {L F T A U W O : Type 0} (meaning : L → Meaning T) (folding : F → Folding T A U) → ((a : F) → IsFolding (folding a))

@@ -95,10 +95,6 @@ module _ {W O T : Type 0} (made : W → O → Trace T → Result (Option Ending)
       pub taken : made a x (merged order offers) how last y
       pub breaks : Breaks how (cause_of fault)
 
-    abbrev pub EndsSo : {S U : Type 0} {source : SourceGhosts S U} → Result (Ended S W U source) RunFault → O → Type 0
-    EndsSo (Ok ended) y = HasEnded ended y
-    EndsSo (Err fault) y = HasBrokenOff fault y
-
     -- All of these were accepted one after another, first to last, but for some of the last ones, by a joiner to which
     -- nothing was offered before. No offer was answered with a fault, and the joiner has finished so.
     pub record WereAccepted (received : List (Sent (ChunkResult T))) (joined : Joined W) (y : O) : Type 0 where

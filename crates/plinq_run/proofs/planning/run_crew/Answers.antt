@@ -4,11 +4,11 @@ use Rattle.plinq_merge.proofs.Joins.{begun-joined}
 use Rattle.plinq_crew.specs.Conducting.{Conducts}
 use Rattle.plinq_run.specs.inner.Merged.{AcceptsInto, HasBrokenOff}
 use Rattle.plinq_run.specs.declared.run_fault.RunFault.TheVariants.{Memory}
-use Rattle.plinq_run.proofs.Merged.{none-broken, conducts-same, told-all, told-ends, told-closed}
+use Rattle.plinq_run.proofs.Merged.{none-broken, conducts-same, told-run}
 use Rattle.plinq_run.proofs.planning.run_crew.Goals as goal
 
-pub returns-in_default-clause-ends : goal.returns-in_default-clause-ends
-returns-in_default-clause-ends g c =
+pub returns-in_default : goal.returns-in_default
+returns-in_default g c =
     let made = g.W.TakeInto.made in
     let IsPart = g.J.RunSpec.is_result in
     let order = c.args.crew.now.plan.now.order in
@@ -16,7 +16,8 @@ returns-in_default-clause-ends g c =
     let last = c.conduct.new.consumer in
     let same = subst (Conducts (AcceptsInto made) IsPart c.args.crew.now c.args.context _ last) c.in_default.is c.conduct.ensures in
     let lent = conducts-same made IsPart c.args.crew.now c.args.context _ last c.conduct.result c.conduct.ensures in
-    subst (λ z. HasBrokenOff made IsPart order c.args.taker x Memory z) (sym (ap (λ z. z.out.now) same) ∙ search rules) (none-broken made g.met.W.TakeInto.lawful IsPart order c.args.taker x Memory refl)
+    subst (λ z. HasBrokenOff made IsPart order c.args.taker x Memory z) (sym (ap (λ z. z.out.now) same) ∙ search rules)
+    (none-broken made g.met.W.TakeInto.lawful IsPart order c.args.taker x Memory refl)
 
 pub returns : goal.returns
 returns g c =
@@ -31,12 +32,5 @@ returns g c =
     let back = subst (Conducts (AcceptsInto made) IsPart crew c.args.context _ last) c.in-Ok.is c.conduct.ensures in
     let lent = conducts-same made IsPart crew c.args.context _ last c.conduct.result c.conduct.ensures in
     let begun = subst (λ b. HasJoined made b x j x []) c.new.ensures.taker (begun-joined made lawful j x c.new.ensures.still c.new.ensures.nothing) in
-    record {
-      back = search rules;
-      started = search rules;
-      closed = told-closed c.finish.result c.finish.ensures back.closed;
-      all = told-all made IsPart crew.plan.now.order a x crew c.args.context _ last refl (search rules, search rules) (c.new.ensures.order, begun) refl
-          c.finish.result c.finish.ensures back;
-      ends = told-ends made IsPart crew.plan.now.order a x crew c.args.context _ last refl (search rules, search rules) (c.new.ensures.order, begun) refl
-          lawful c.finish.result c.finish.ensures back;
-    }
+    told-run made lawful IsPart crew c.args.context a x _ last refl (search rules, search rules) (c.new.ensures.order, begun) refl
+    c.finish.result c.finish.ensures back

@@ -7,17 +7,17 @@ use Rattle.plinq_run.specs.inner.Conducted.{HasConducted}
 use Rattle.plinq_run.specs.inner.Plans.{MayMerge}
 use Rattle.plinq_run.specs.Reports.{Reports}
 use Rattle.plinq_run.proofs.Runs.{none-ended, whole-reported, reported-closed, begun_line, plain-part, whole-delivered, broken-delivered}
-use Rattle.plinq_run.proofs.running.run_plan.Goals as goal
+use Rattle.plinq_run.proofs.run_request.RunRequest.run_plan.Goals as goal
 
 pub returns-in_default-clause-reports : goal.returns-in_default-clause-reports
-returns-in_default-clause-reports g c = none-ended g.L.Lambda.meaning g.K.Sink.accepts g.K.Sink.refuses c.args.option c.args.request.plan.now (g.S.Source.whole c.args.request.source) c.args.sink.now _ refl
+returns-in_default-clause-reports g c = none-ended g.L.Lambda.meaning g.K.Sink.accepts g.K.Sink.refuses c.args.option c.args.self.plan.now (g.S.Source.whole c.args.self.source) c.args.sink.now _ refl
 
 pub returns-in_err-conducted-clause-reports : goal.returns-in_err-conducted-clause-reports
 returns-in_err-conducted-clause-reports g c =
     let meaning = g.L.Lambda.meaning in
-    let plan = c.args.request.plan.now in
-    let t = g.S.Source.whole c.args.request.source in
-    let few : length t.items ≤ 2 ^ 40 = (g.met.S.Source g.world.𝓛 g.world.𝓜 g.world.𝓡 (λ s a. a, λ a. a, λ a. a, λ a. a)).few c.args.request.source in
+    let plan = c.args.self.plan.now in
+    let t = g.S.Source.whole c.args.self.source in
+    let few : length t.items ≤ 2 ^ 40 = (g.met.S.Source g.world.𝓛 g.world.𝓜 g.world.𝓡 (λ s a. a, λ a. a, λ a. a, λ a. a)).few c.args.self.source in
     let P = IsPart meaning (λ r x. x ≡ r) plan t in
     let d = c.in-Ok.taker in
     let begun : line_of meaning d ≡ begun_line meaning plan c.args.option = c.in-Ok.ensures.begun in
@@ -32,9 +32,9 @@ returns-in_err-conducted-clause-reports g c =
 pub returns : goal.returns
 returns g c =
     let meaning = g.L.Lambda.meaning in
-    let plan = c.args.request.plan.now in
-    let t = g.S.Source.whole c.args.request.source in
-    let few : length t.items ≤ 2 ^ 40 = (g.met.S.Source g.world.𝓛 g.world.𝓜 g.world.𝓡 (λ s a. a, λ a. a, λ a. a, λ a. a)).few c.args.request.source in
+    let plan = c.args.self.plan.now in
+    let t = g.S.Source.whole c.args.self.source in
+    let few : length t.items ≤ 2 ^ 40 = (g.met.S.Source g.world.𝓛 g.world.𝓜 g.world.𝓡 (λ s a. a, λ a. a, λ a. a, λ a. a)).few c.args.self.source in
     let P = IsPart meaning (λ r x. x ≡ r) plan t in
     let d = c.in-Ok.taker in
     let begun : line_of meaning d ≡ begun_line meaning plan c.args.option = c.in-Ok.ensures.begun in
