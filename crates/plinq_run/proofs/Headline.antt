@@ -1,5 +1,4 @@
 -- What an ordered run delivers, by the definitions that proofs use and by those of the headline.
-use Rattle.std.specs.List.{list_any}
 use Rattle.std.specs.Prelude.{◌≡◌, refl, ℕ, pos, negsuc, List, [], ◌∷◌, ◌++◌, ◌+◌, ◌==◌, ◌<◌, nat_le, length, if◌then◌else◌, Bool, true, false, Option, Some, None, Result, Ok, Err}
 use Rattle.std.proofs.Common.{arith, ap, sym, subst, ◌∙◌, append_assoc, append-nil}
 use Rattle.std.proofs.lemmas.Bool.Decides.{nat_tests}
@@ -13,7 +12,6 @@ use Rattle.plinq_ops.specs.declared.op.Op.{Op}
 use Rattle.plinq_ops.specs.declared.op.Op.TheVariants.{Select, Filter, SelectMany, Take, Skip, TakeWhile, SkipWhile, AsUnordered}
 use Rattle.plinq_ops.specs.Answer.{MayAnswer}
 use Rattle.plinq_ops.specs.Batches.{batches, batches_from, full_batches, held_back, last_batch}
-use Rattle.plinq_ops.specs.Feeding.{is_empty_take}
 use Rattle.plinq_ops.specs.Operator.{selected, filtered, selected_many, taken_while, stage_of, stages_of}
 use Rattle.plinq_ops.specs.Query.{merge_in_force}
 use Rattle.plinq_ops.specs.Sequential.{answer_of}
@@ -28,7 +26,6 @@ use Rattle.plinq_run.specs.Headline.{before, or_fault, each, does, answers, in_b
 use Rattle.plinq_run.specs.Reports.{Reports}
 use Rattle.plinq_run.specs.Runs.{HasRun, Runs}
 use Rattle.plinq_run.proofs.Stopping.{reports-runs}
-use Rattle.plinq_run.proofs.Runs.{decided-run}
 
 -- ---- operators
 
@@ -191,10 +188,3 @@ ordered-delivered meaning accepts refuses option ordered ops t s s' r is h =
     runs-delivered accepts option (answers meaning ops t) s s' refuses r
     (reports-runs accepts refuses (merge_in_force option) (MayAnswer meaning true ops) t s s' (answers meaning ops t) r (λ u may. may ∙ answers-same meaning ops t)
     (subst (λ o. Reports accepts refuses (merge_in_force option) (MayAnswer meaning o ops) t s s' r) is h))
-
--- the run of a decided query has delivered that, which is nothing
-pub decided-delivered : {L T K : Type 0} (meaning : L → Meaning T) (accepts : K → List T → K → Type 0) (option : Option MergeOption) (ops : List (Op L)) (t : Trace T) (s : K) → list_any is_empty_take ops ≡ true
-    → ((answers meaning ops t).ending ≡ Some End) × Leads accepts s (handed_over option (answers meaning ops t).items (answers meaning ops t).ending) s
-decided-delivered meaning accepts option ops t s some =
-    ended-delivered accepts option (answers meaning ops t) s s End
-    (subst (λ u. HasRun accepts (merge_in_force option) u s s End) (answers-same meaning ops t) (decided-run meaning accepts (merge_in_force option) ops t s some))

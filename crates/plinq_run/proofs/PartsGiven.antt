@@ -6,7 +6,7 @@ use Rattle.std.proofs.lemmas.List.Elements.{All-weaker}
 use Rattle.plinq_source.specs.declared.ending.Ending.{Ending}
 use Rattle.plinq_source.specs.declared.ending.Ending.TheVariants.{End}
 use Rattle.plinq_source.specs.declared.source.Source.{Ghosts as SourceGhosts}
-use Rattle.plinq_source.specs.Trace.{Trace, followed, ended}
+use Rattle.plinq_source.specs.Trace.{Trace, followed}
 use Rattle.plinq_lambda.specs.Meaning.{Meaning}
 use Rattle.plinq_aggregate.specs.Folding.{Folding, IsFolding, folded}
 use Rattle.plinq_partition.specs.Partitions.{all_shares}
@@ -20,7 +20,6 @@ use Rattle.plinq_ops.specs.Plan.{IsPlanOf}
 use Rattle.plinq_ops.specs.Query.{QueryView}
 use Rattle.plinq_ops.specs.Pipeline.{IsReached, stages}
 use Rattle.plinq_ops.specs.Stage.{Stage, seq, seq_after, some_takes_none}
-use Rattle.plinq_ops.proofs.Answered.{answer-of_none}
 use Rattle.plinq_ops.proofs.ByKey.{stages-begun}
 use Rattle.plinq_ops.proofs.Counts.{some_takes_none-stages_of}
 use Rattle.plinq_ops.proofs.Fed.{undecided-left}
@@ -47,7 +46,7 @@ use Rattle.plinq_run.specs.declared.combiner.Combiner.{Combiner}
 use Rattle.plinq_run.specs.Aggregates.{Aggregates, AggregatesSome}
 use Rattle.plinq_run.specs.inner.Valuing.{value_at, value_of}
 use Rattle.plinq_run.specs.inner.Combining.{MadeBy as CombinedBy}
-use Rattle.plinq_run.proofs.Runs.{merged-may, may-sequential, begun-in, planned-may}
+use Rattle.plinq_run.proofs.Runs.{merged-may, begun-in, AsItIs, plain-part, planned-may}
 use Rattle.plinq_run.proofs.Folds.{merged-folded, folds-apart, unfolded}
 
 breaks-over : (how : Result (Option Ending) DeliveryFault) (cause : Cause) → Breaks how cause → IsOver how
@@ -69,11 +68,6 @@ pub planned-given : {L T A U W O : Type 0} (f : Folding T A U) (made : W → O �
 planned-given f made meaning q plan t a x r y is undecided =
     gives-weaker f made (MayMerge meaning plan t) (MayAnswer meaning q.ordered q.ops t) a x r y
     (λ u. planned-may meaning q plan t u q.ordered refl is undecided)
-
--- a decided query answers nothing
-pub decided-may : {L T : Type 0} (meaning : L → Meaning T) (ordered : Bool) (ops : List (Op L)) (t u : Trace T) → list_any is_empty_take ops ≡ true → u ≡ ended [] End → MayAnswer meaning ordered ops t u
-decided-may meaning ordered ops t u some is =
-    subst (MayAnswer meaning ordered ops t) (answer-of_none (stages_of meaning ops) t (sym (some_takes_none-stages_of meaning ops) ∙ some) ∙ sym is) (may-sequential meaning ordered ops t)
 
 -- a taker that can take gets to fold the blocks of operators that have seen nothing
 pub begun-folds : {L T F W : Type 0} (meaning : L → Meaning T) (can_take : W → Bool) (d : FoldBlocks L F W) (ops : List (Op L)) → IsReached meaning ops 0 d.pipeline → list_any is_empty_take ops ≡ false → can_take d.inner ≡ true
@@ -148,7 +142,7 @@ module _ {L T A U W O : Type 0} (f : Folding T A U) (lawful : IsFolding f) (made
     chunks-given r y h = conducted-given made (IsPart meaning (IsFoldOf f) plan t) a a x chunks-some r y h
 
   -- the caller's thread folds what leaves the operators after the merge
-  module _ {F : Type 0} (folding : F → Folding T A U) (P : ChunkResult T → Type 0) (plain : (r : ChunkResult T) → P r → IsResult meaning plan t r) (first : FoldBlocks L F W)
+  module _ {F : Type 0} (folding : F → Folding T A U) (first : FoldBlocks L F W)
       (same : folding first.aggregator.now ≡ f) (begun : stages meaning first.pipeline ≡ stages_of meaning plan.after.now) (x : O) where
     passes-over : (g : Folding T A U) (how : Result (Option Ending) DeliveryFault) (now now' : List (Stage T)) (a : W) (v : Trace T) (b : W) (y : O)
         → IsOver how → Passes g made now a x v how now' b y
@@ -156,20 +150,20 @@ module _ {L T A U W O : Type 0} (f : Folding T A U) (lawful : IsFolding f) (made
     passes-over g (Ok None) now now' a v b y over is = absurd over
     passes-over g how now now' a v b y over is = is
 
-    blocks-some : (how : Result (Option Ending) DeliveryFault) (rs : List (ChunkResult T)) (last : FoldBlocks L F W) (y : O) → All P rs → AreApart rs
+    blocks-some : (how : Result (Option Ending) DeliveryFault) (rs : List (ChunkResult T)) (last : FoldBlocks L F W) (y : O) → All (AsItIs meaning plan t) rs → AreApart rs
         → IsOver how
         → MadeBy meaning folding made first x (merged plan.order rs) how last y → (u : Trace T) × (MayMerge meaning plan t u) × WasGiven f made u first.inner x how y
     blocks-some how rs last y are apart over is =
         let passes =
         passes-over (folding first.aggregator.now) how (stages meaning first.pipeline) (stages meaning last.pipeline) first.inner (merged plan.order rs)
         last.inner y over is.passes in
-        given-some how first.inner x y rs (All-weaker P (IsResult meaning plan t) plain rs are) apart over
+        given-some how first.inner x y rs (All-weaker (AsItIs meaning plan t) (IsResult meaning plan t) (plain-part meaning plan t) rs are) apart over
         (subst (λ g. WasGiven g made (seq (stages_of meaning plan.after.now) (merged plan.order rs)) first.inner x how y) same
         (subst (λ ss. WasGiven (folding first.aggregator.now) made (seq ss (merged plan.order rs)) first.inner x how y) begun passes))
 
     pub blocks-given : {S : Type 0} {source : SourceGhosts S T} (r : Result (Conducted S (FoldBlocks L F W) T source) RunFault) (y : O)
-        → HasConducted (MadeBy meaning folding made) P plan.order t first x r y → GivesSome f made (MayMerge meaning plan t) first.inner x (answer_ending r) y
-    blocks-given r y h = conducted-given (MadeBy meaning folding made) P first first.inner x blocks-some r y h
+        → HasConducted (MadeBy meaning folding made) (AsItIs meaning plan t) plan.order t first x r y → GivesSome f made (MayMerge meaning plan t) first.inner x (answer_ending r) y
+    blocks-given r y h = conducted-given (MadeBy meaning folding made) (AsItIs meaning plan t) first first.inner x blocks-some r y h
 
 -- ---- the value of parts that were combined
 

@@ -22,7 +22,7 @@ use Rattle.plinq_ops.specs.Batches.{batch_size, batches, batches_from}
 use Rattle.plinq_ops.specs.Fragment.{glue}
 use Rattle.plinq_ops.specs.Operator.{stages_of}
 use Rattle.plinq_ops.specs.Row.{AreOffers}
-use Rattle.plinq_ops.specs.Stage.{seq, seq_after, some_takes_none}
+use Rattle.plinq_ops.specs.Stage.{seq, seq_after}
 use Rattle.plinq_ops.proofs.Stages.{seq-followed}
 use Rattle.plinq_ops.specs.declared.op.Op.{Op}
 use Rattle.plinq_ops.specs.ByKey.{are_keyless, is_by_key}
@@ -55,7 +55,7 @@ use Rattle.plinq_run.specs.inner.Merged.{merge_for, HasEnded, HasBrokenOff}
 use Rattle.plinq_run.specs.Parting.{Breaks}
 use Rattle.plinq_run.specs.inner.Plans.{merged_answer, MayTake, MayMerge}
 use Rattle.plinq_run.specs.inner.Offered.{IsOffered, Covers}
-use Rattle.plinq_run.specs.Reports.{IsBroken, HasReported, Reports}
+use Rattle.plinq_run.specs.Reports.{IsBroken, Reports}
 use Rattle.plinq_run.specs.Runs.{HasRun, Cause, SinkRefused, Other, cause_of, BreaksFor}
 use Rattle.plinq_run.specs.declared.report.Report.{Report}
 use Rattle.plinq_run.specs.Endings.{reported}
@@ -124,145 +124,16 @@ module _ {L T : Type 0} (meaning : L → Meaning T) (plan : Plan L) (option : Me
       let first = batches-first (batch_size option) [] (answer Made offers) begins.0 in
       (first.0, ap (batches_from (batch_size option) []) begins.1 ∙ first.1)
 
--- what is sent as it is
-pub plain-part : {L T : Type 0} (meaning : L → Meaning T) (plan : Plan L) (t : Trace T) (r : ChunkResult T) → IsPart meaning (λ x c. c ≡ x) plan t r
-    → IsResult meaning plan t r
-plain-part meaning plan t r h = subst (IsResult meaning plan t) (sym h.made) h.is
-
 -- what begins to deliver the answer of this plan
 abbrev pub begun_line : {L T : Type 0} → (L → Meaning T) → Plan L → MergeOption → Line T
 begun_line meaning plan option = record { after = stages_of meaning plan.after.now; now = stages_of meaning plan.after.now; held = []; size = batch_size option }
 
-module _ {L T K : Type 0} (meaning : L → Meaning T) (plan : Plan L) (option : MergeOption) (undecided : IsUndecided plan) (t : Trace T) (few : length t.items ≤ 2 ^ 40)
-    (accepts : K → List T → K → Type 0) (refuses : K → List T → ℕ → K → Type 0) where
-  -- an answer was delivered, and what has all that these records hand out has it too
-  pub record IsWhole (records : List Record) (s s' : K) (e : Ending) : Type 0 where
-    pub answer : Trace T
-    pub may : MayMerge meaning plan t answer
-    pub accounts : (first : Trace T) → Covers t records first → MayMerge meaning plan first answer
-    pub has_run : HasRun accepts option answer s s' e
+-- what is sent as it is
+abbrev pub AsItIs : {L T : Type 0} → (L → Meaning T) → Plan L → Trace T → ChunkResult T → Type 0
+AsItIs meaning plan t = IsPart meaning (λ r c. c ≡ r) plan t
 
-  short-of : (s : K) (offers : List (ChunkResult T)) (fault : DeliveryFault) (s' : K) (told : RunFault) (cause : Cause) → All (IsResult meaning plan t) offers → AreApart offers
-      → IsCutOff accepts refuses s (batches_from (batch_size option) [] (seq (stages_of meaning plan.after.now) (merged plan.order offers))) fault s'
-      → ((bs : List (List T)) → IsCutOff accepts refuses s bs fault s' → BreaksFor accepts refuses cause bs s s') → cause_of told ≡ cause
-      → IsBroken accepts refuses option (MayMerge meaning plan) t s s' told
-  short-of s offers fault s' told cause are apart short on is =
-      let made : Merge T = merge_for meaning plan option in
-      let begun = begun-in meaning plan t plan.order refl few undecided offers are apart in
-      let first = begun-shown meaning plan option undecided t offers begun in
-      let shown-so = subst (λ u. IsCutOff accepts refuses s (batches_from (batch_size option) [] u) fault s') (sym (answer-open made offers undecided.undecided)) short in
-      let sent = cut-before accepts refuses s (shown made offers) first.0 fault s' shown-so in
-      let all = batches option (merged_answer meaning plan begun.taken) in
-      record {
-        answer = merged_answer meaning plan begun.taken;
-        may = record { taken = begun.taken; may = begun.may; is = refl };
-        broken = subst (λ c. BreaksFor accepts refuses c all s s') (sym is) (on all (subst (λ bs. IsCutOff accepts refuses s bs fault s') (sym first.1) sent));
-      }
-
-  -- where such parts were merged
-  module _ (P : ChunkResult T → Type 0) (plain : (r : ChunkResult T) → P r → IsResult meaning plan t r) (first : Deliver L T) (begun : line_of meaning first ≡ begun_line meaning plan option) where
-    pub whole-delivered : {S U : Type 0} {source : SourceGhosts S U} (s s' : K) (ended : Ended S (Deliver L T) U source) → HasEnded (MadeBy accepts refuses meaning) P plan.order first s ended s'
-        → IsWhole (all_shares ended.partitions.items) s s' ended.joined.ending
-    whole-delivered s s' ended h =
-        let made : Merge T = merge_for meaning plan option in
-        let records = all_shares ended.partitions.items in
-        let taken = h.taken in
-        let gives =
-        subst (λ l. Gives accepts refuses l s (merged plan.order h.offers) (Ok (Some ended.joined.ending)) (line_of meaning ended.joined.taker) s') begun
-        taken.gives in
-        let open_now : answer made h.offers ≡ seq made.after (merged plan.order h.offers) = answer-open made h.offers undecided.undecided in
-        let ends : (answer made h.offers).ending ≡ Some ended.joined.ending = ap (λ u. u.ending) open_now ∙ gives.0 in
-        record {
-          answer = answer made h.offers;
-          may = ended-answer meaning plan option undecided t h.offers ended.joined.ending few
-              (All-weaker (IsOffered P records) (IsResult meaning plan t) (λ r x. plain r x.0) h.offers h.are) h.apart ends;
-          accounts = λ first covers. ended-answer meaning plan option undecided first h.offers ended.joined.ending (omega (arith, few, covers.within))
-              (All-weaker (IsOffered P records) (IsResult meaning plan first)
-              (λ r x. result-covered meaning plan t first records r few covers (plain r x.0, x.1)) h.offers h.are) h.apart ends;
-          has_run = record { delivered = subst (λ u. Leads accepts s (batches option u) s') (sym open_now) gives.1; ending = ends };
-        }
-
-    -- or broken off
-    broken-by : (how : Result (Option Ending) DeliveryFault) (s s' : K) (told : RunFault) (offers : List (ChunkResult T)) (l' : Line T)
-        → All (IsResult meaning plan t) offers → AreApart offers
-        → Gives accepts refuses (begun_line meaning plan option) s (merged plan.order offers) how l' s' → Breaks how (cause_of told) → IsBroken accepts refuses option (MayMerge meaning plan) t s s' told
-    broken-by (Ok None) s s' told offers l' are apart gives breaks = absurd breaks
-    broken-by (Ok (Some e)) s s' told offers l' are apart gives breaks =
-        let all : List (List T) = batches_from (batch_size option) [] (seq (stages_of meaning plan.after.now) (merged plan.order offers)) in
-        short-of s offers NoMemory s' told Other are apart (all, [], sym (append-nil all), gives.1) (λ bs x. x) breaks
-    broken-by (Err NoMemory) s s' told offers l' are apart gives breaks = short-of s offers NoMemory s' told Other are apart gives (λ bs x. x) breaks
-    broken-by (Err (Refusal code)) s s' told offers l' are apart gives breaks =
-        short-of s offers (Refusal code) s' told (SinkRefused code) are apart gives (λ bs x. x) breaks
-
-    pub broken-delivered : (s s' : K) (fault : RunFault) → HasBrokenOff (MadeBy accepts refuses meaning) P plan.order first s fault s' → IsBroken accepts refuses option (MayMerge meaning plan) t s s' fault
-    broken-delivered s s' fault h =
-        broken-by h.how s s' fault h.offers (line_of meaning h.last) (All-weaker P (IsResult meaning plan t) plain h.offers h.are) h.apart
-        (subst (λ l. Gives accepts refuses l s (merged plan.order h.offers) h.how (line_of meaning h.last) s') begun (let taken = h.taken in taken.gives)) h.breaks
-
--- ---- what is reported
-
--- the order of the source always may be
-may-same : {T : Type 0} (order : Order) (t : Trace T) → MayTake order t t
-may-same ByKey t = refl
-may-same ByArrival t = IsRearranged-refl t
-
--- there always is an answer
-pub merged-may : {L T : Type 0} (meaning : L → Meaning T) (plan : Plan L) (t : Trace T) → MayMerge meaning plan t (merged_answer meaning plan t)
-merged-may meaning plan t = record { taken = t; may = may-same plan.order t; is = refl }
-
--- before the first offer the first of an answer's batches, none, were delivered
-pub none-ended : {L T K : Type 0} (meaning : L → Meaning T) (accepts : K → List T → K → Type 0) (refuses : K → List T → ℕ → K → Type 0) (option : MergeOption) (plan : Plan L) (t : Trace T) (s : K) (fault : RunFault)
-    → cause_of fault ≡ Other → IsBroken accepts refuses option (MayMerge meaning plan) t s s fault
-none-ended meaning accepts refuses option plan t s fault told =
-    record {
-      answer = merged_answer meaning plan t;
-      may = merged-may meaning plan t;
-      broken = subst (λ x. BreaksFor accepts refuses x (batches option (merged_answer meaning plan t)) s s) (sym told)
-          ([], batches option (merged_answer meaning plan t), refl, refl);
-    }
-
-module _ {L T K : Type 0} (meaning : L → Meaning T) (plan : Plan L) (option : MergeOption) (undecided : IsUndecided plan) (t : Trace T) (few : length t.items ≤ 2 ^ 40)
-    (accepts : K → List T → K → Type 0) (refuses : K → List T → ℕ → K → Type 0) where
-  -- the report of a run is of the same answer, which its records account for
-  pub whole-reported : (records : List Record) (s s' : K) (e : Ending) (b : Result Report RunFault) → IsWhole meaning plan option undecided t few accepts refuses records s s' e
-      → IsReportOf (Ok e) (reported b) → IfOk b (λ r. IsLegalHistory t r.records.items) → IfOk b (λ r. r.records.items ≡ in_ticket_order records)
-      → Reports accepts refuses option (MayMerge meaning plan) t s s' b
-  whole-reported records s s' e (Ok r) h is legal all =
-      record {
-        answer = h.answer;
-        may = h.may;
-        accounts = subst (λ hs. MayMerge meaning plan (handed_trace t hs) h.answer) (sym all)
-            (h.accounts (handed_trace t (in_ticket_order records)) (covers-handed t records (subst (IsLegalHistory t) all legal)));
-        has_run = subst (λ x. HasRun accepts option h.answer s s' x) (sym is) h.has_run;
-      }
-  whole-reported records s s' e (Err f) h is legal all =
-      record {
-        answer = h.answer;
-        may = h.may;
-        broken = subst (λ x. BreaksFor accepts refuses x (batches option h.answer) s s') (sym is) (batches option h.answer, [], sym (append-nil (batches option h.answer)), h.has_run.delivered);
-      }
-
--- and closed where they are
-pub reported-closed : (records : List Record) (b : Result Report RunFault) → IfOk b (λ r. r.records.items ≡ in_ticket_order records) → has_close records ≡ true
-    → IfOk b (λ r. has_close r.records.items ≡ true)
-reported-closed records (Ok r) all is = ap has_close all ∙ closed-in_order records is
-reported-closed records (Err f) all is = tt
-
--- the run of a decided plan: nothing, and the end
-pub decided-run : {L T K : Type 0} (meaning : L → Meaning T) (accepts : K → List T → K → Type 0) (option : MergeOption) (ops : List (Op L)) (t : Trace T) (s : K)
-    → list_any is_empty_take ops ≡ true → HasRun accepts option (answer_of meaning ops t) s s End
-decided-run meaning accepts option ops t s some =
-    let is : answer_of meaning ops t ≡ ended [] End = answer-of_none (stages_of meaning ops) t (sym (some_takes_none-stages_of meaning ops) ∙ some) in
-    record {
-      delivered = subst (λ v. Leads accepts s (batches option v) s) (sym is) refl;
-      ending = ap (λ (v : Trace _). v.ending) is;
-    }
-
--- its answer rests on no record
-decided-accounts : {L T : Type 0} (meaning : L → Meaning T) (ops : List (Op L)) (t u : Trace T) → list_any is_empty_take ops ≡ true → answer_of meaning ops t ≡ answer_of meaning ops u
-decided-accounts meaning ops t u some =
-    let none : some_takes_none (stages_of meaning ops) ≡ true = sym (some_takes_none-stages_of meaning ops) ∙ some in
-    answer-of_none (stages_of meaning ops) t none ∙ sym (answer-of_none (stages_of meaning ops) u none)
+pub plain-part : {L T : Type 0} (meaning : L → Meaning T) (plan : Plan L) (t : Trace T) (r : ChunkResult T) → AsItIs meaning plan t r → IsResult meaning plan t r
+plain-part meaning plan t r h = subst (IsResult meaning plan t) (sym h.made) h.is
 
 -- a plan answers what the query does
 planned-answer : {L T : Type 0} (meaning : L → Meaning T) (q : QueryView L) (plan : Plan L) (t : Trace T) → IsPlanOf q plan → plan.decided ≡ false
@@ -282,6 +153,119 @@ planned-may meaning q plan t u false ordered is undecided may =
     let any : IsRearranged t may.taken = subst (λ o. MayTake o t may.taken) (is.order ∙ ap order_of ordered) may.may in
     subst (λ v. Answer meaning false q.ops t v) (sym (may.is ∙ planned-answer meaning q plan may.taken is undecided)) (Answer-rearranged meaning q.ops t may.taken any)
 
+module _ {L T K : Type 0} (meaning : L → Meaning T) (q : QueryView L) (plan : Plan L) (is_plan : IsPlanOf q plan) (option : MergeOption) (undecided : IsUndecided plan) (t : Trace T)
+    (few : length t.items ≤ 2 ^ 40) (accepts : K → List T → K → Type 0) (refuses : K → List T → ℕ → K → Type 0) where
+  abbrev May : Trace T → Trace T → Type 0
+  May = MayAnswer meaning q.ordered q.ops
+
+  may-answer : (x u : Trace T) → MayMerge meaning plan x u → May x u
+  may-answer x u = planned-may meaning q plan x u q.ordered refl is_plan undecided.undecided
+
+  -- an answer was delivered, and what has all that these records hand out has it too
+  record IsWhole (records : List Record) (s s' : K) (e : Ending) : Type 0 where
+    answer : Trace T
+    may : May t answer
+    accounts : (first : Trace T) → Covers t records first → May first answer
+    has_run : HasRun accepts option answer s s' e
+
+  short-of : (s : K) (offers : List (ChunkResult T)) (fault : DeliveryFault) (s' : K) (told : RunFault) (cause : Cause) → All (IsResult meaning plan t) offers → AreApart offers
+      → IsCutOff accepts refuses s (batches_from (batch_size option) [] (seq (stages_of meaning plan.after.now) (merged plan.order offers))) fault s'
+      → ((bs : List (List T)) → IsCutOff accepts refuses s bs fault s' → BreaksFor accepts refuses cause bs s s') → cause_of told ≡ cause
+      → IsBroken accepts refuses option May t s s' told
+  short-of s offers fault s' told cause are apart short on is =
+      let made : Merge T = merge_for meaning plan option in
+      let begun = begun-in meaning plan t plan.order refl few undecided offers are apart in
+      let first = begun-shown meaning plan option undecided t offers begun in
+      let shown-so = subst (λ u. IsCutOff accepts refuses s (batches_from (batch_size option) [] u) fault s') (sym (answer-open made offers undecided.undecided)) short in
+      let sent = cut-before accepts refuses s (shown made offers) first.0 fault s' shown-so in
+      let all = batches option (merged_answer meaning plan begun.taken) in
+      record {
+        answer = merged_answer meaning plan begun.taken;
+        may = may-answer t (merged_answer meaning plan begun.taken) (record { taken = begun.taken; may = begun.may; is = refl });
+        broken = subst (λ c. BreaksFor accepts refuses c all s s') (sym is) (on all (subst (λ bs. IsCutOff accepts refuses s bs fault s') (sym first.1) sent));
+      }
+
+  -- where parts were merged that were sent as they are
+  module _ (first : Deliver L T) (begun : line_of meaning first ≡ begun_line meaning plan option) where
+    whole-delivered : {S U : Type 0} {source : SourceGhosts S U} (s s' : K) (ended : Ended S (Deliver L T) U source)
+        → HasEnded (MadeBy accepts refuses meaning) (AsItIs meaning plan t) plan.order first s ended s' → IsWhole (all_shares ended.partitions.items) s s' ended.joined.ending
+    whole-delivered s s' ended h =
+        let made : Merge T = merge_for meaning plan option in
+        let records = all_shares ended.partitions.items in
+        let taken = h.taken in
+        let gives =
+        subst (λ l. Gives accepts refuses l s (merged plan.order h.offers) (Ok (Some ended.joined.ending)) (line_of meaning ended.joined.taker) s') begun
+        taken.gives in
+        let open_now : answer made h.offers ≡ seq made.after (merged plan.order h.offers) = answer-open made h.offers undecided.undecided in
+        let ends : (answer made h.offers).ending ≡ Some ended.joined.ending = ap (λ u. u.ending) open_now ∙ gives.0 in
+        record {
+          answer = answer made h.offers;
+          may = may-answer t (answer made h.offers) (ended-answer meaning plan option undecided t h.offers ended.joined.ending few
+              (All-weaker (IsOffered (AsItIs meaning plan t) records) (IsResult meaning plan t) (λ r x. plain-part meaning plan t r x.0) h.offers h.are) h.apart ends);
+          accounts = λ first covers. may-answer first (answer made h.offers) (ended-answer meaning plan option undecided first h.offers ended.joined.ending
+              (omega (arith, few, covers.within))
+              (All-weaker (IsOffered (AsItIs meaning plan t) records) (IsResult meaning plan first)
+              (λ r x. result-covered meaning plan t first records r few covers (plain-part meaning plan t r x.0, x.1)) h.offers h.are) h.apart ends);
+          has_run = record { delivered = subst (λ u. Leads accepts s (batches option u) s') (sym open_now) gives.1; ending = ends };
+        }
+
+    -- the report of a run is of the same answer, which its records account for
+    pub whole-reported : {S U : Type 0} {source : SourceGhosts S U} (s s' : K) (ended : Ended S (Deliver L T) U source) (b : Result Report RunFault)
+        → HasEnded (MadeBy accepts refuses meaning) (AsItIs meaning plan t) plan.order first s ended s' → IsReportOf (Ok ended.joined.ending) (reported b)
+        → IfOk b (λ r. IsLegalHistory t r.records.items) → IfOk b (λ r. r.records.items ≡ in_ticket_order (all_shares ended.partitions.items)) → Reports accepts refuses option May t s s' b
+    whole-reported s s' ended (Ok r) h is legal all =
+        let records = all_shares ended.partitions.items in
+        let whole = whole-delivered s s' ended h in
+        record {
+          answer = whole.answer;
+          may = whole.may;
+          accounts = subst (λ hs. May (handed_trace t hs) whole.answer) (sym all)
+              (whole.accounts (handed_trace t (in_ticket_order records)) (covers-handed t records (subst (IsLegalHistory t) all legal)));
+          has_run = subst (λ x. HasRun accepts option whole.answer s s' x) (sym is) whole.has_run;
+        }
+    whole-reported s s' ended (Err f) h is legal all =
+        let whole = whole-delivered s s' ended h in
+        let all = batches option whole.answer in
+        record {
+          answer = whole.answer;
+          may = whole.may;
+          broken = subst (λ x. BreaksFor accepts refuses x all s s') (sym is) (all, [], sym (append-nil all), whole.has_run.delivered);
+        }
+
+    -- or the run was broken off
+    broken-by : (how : Result (Option Ending) DeliveryFault) (s s' : K) (told : RunFault) (offers : List (ChunkResult T)) (l' : Line T)
+        → All (IsResult meaning plan t) offers → AreApart offers
+        → Gives accepts refuses (begun_line meaning plan option) s (merged plan.order offers) how l' s' → Breaks how (cause_of told) → IsBroken accepts refuses option May t s s' told
+    broken-by (Ok None) s s' told offers l' are apart gives breaks = absurd breaks
+    broken-by (Ok (Some e)) s s' told offers l' are apart gives breaks =
+        let all : List (List T) = batches_from (batch_size option) [] (seq (stages_of meaning plan.after.now) (merged plan.order offers)) in
+        short-of s offers NoMemory s' told Other are apart (all, [], sym (append-nil all), gives.1) (λ bs x. x) breaks
+    broken-by (Err NoMemory) s s' told offers l' are apart gives breaks = short-of s offers NoMemory s' told Other are apart gives (λ bs x. x) breaks
+    broken-by (Err (Refusal code)) s s' told offers l' are apart gives breaks =
+        short-of s offers (Refusal code) s' told (SinkRefused code) are apart gives (λ bs x. x) breaks
+
+    pub broken-reported : (s s' : K) (fault : RunFault) → HasBrokenOff (MadeBy accepts refuses meaning) (AsItIs meaning plan t) plan.order first s fault s' → IsBroken accepts refuses option May t s s' fault
+    broken-reported s s' fault h =
+        broken-by h.how s s' fault h.offers (line_of meaning h.last) (All-weaker (AsItIs meaning plan t) (IsResult meaning plan t) (plain-part meaning plan t) h.offers h.are) h.apart
+        (subst (λ l. Gives accepts refuses l s (merged plan.order h.offers) h.how (line_of meaning h.last) s') begun (let taken = h.taken in taken.gives)) h.breaks
+
+-- ---- what is reported
+
+-- the order of the source always may be
+may-same : {T : Type 0} (order : Order) (t : Trace T) → MayTake order t t
+may-same ByKey t = refl
+may-same ByArrival t = IsRearranged-refl t
+
+-- there always is an answer
+pub merged-may : {L T : Type 0} (meaning : L → Meaning T) (plan : Plan L) (t : Trace T) → MayMerge meaning plan t (merged_answer meaning plan t)
+merged-may meaning plan t = record { taken = t; may = may-same plan.order t; is = refl }
+
+-- and closed where they are
+pub reported-closed : (records : List Record) (b : Result Report RunFault) → IfOk b (λ r. r.records.items ≡ in_ticket_order records) → has_close records ≡ true
+    → IfOk b (λ r. has_close r.records.items ≡ true)
+reported-closed records (Ok r) all is = ap has_close all ∙ closed-in_order records is
+reported-closed records (Err f) all is = tt
+
 -- by arrival the workers look at no keys
 planned-keyless : {L : Type 0} (q : QueryView L) (plan : Plan L) → IsPlanOf q plan → plan.order ≡ ByArrival → are_keyless plan.worker.now ≡ true
 planned-keyless {L} q plan is by =
@@ -298,14 +282,7 @@ pub may-sequential : {L T : Type 0} (meaning : L → Meaning T) (ordered : Bool)
 may-sequential meaning true ops t = refl
 may-sequential meaning false ops t = Answer-sequential meaning false ops t
 
--- a decided query may answer what it does, of whatever source
-pub decided-reports : {L T K : Type 0} (meaning : L → Meaning T) (accepts : K → List T → K → Type 0) (refuses : K → List T → ℕ → K → Type 0) (option : MergeOption) (ordered : Bool) (ops : List (Op L)) (t : Trace T) (s : K) (r : Report)
-    → list_any is_empty_take ops ≡ true → r.ending ≡ End → HasReported accepts refuses option (MayAnswer meaning ordered ops) t s s r
-decided-reports meaning accepts refuses option ordered ops t s r some ends =
-    let first = handed_trace t r.records.items in
-    record {
-      answer = answer_of meaning ops t;
-      may = may-sequential meaning ordered ops t;
-      accounts = subst (λ v. MayAnswer meaning ordered ops first v) (decided-accounts meaning ops first t some) (may-sequential meaning ordered ops first);
-      has_run = subst (λ e. HasRun accepts option (answer_of meaning ops t) s s e) (sym ends) (decided-run meaning accepts option ops t s some);
-    }
+-- a decided query answers nothing
+pub decided-may : {L T : Type 0} (meaning : L → Meaning T) (ordered : Bool) (ops : List (Op L)) (t u : Trace T) → list_any is_empty_take ops ≡ true → u ≡ ended [] End → MayAnswer meaning ordered ops t u
+decided-may meaning ordered ops t u some is =
+    subst (MayAnswer meaning ordered ops t) (answer-of_none (stages_of meaning ops) t (sym (some_takes_none-stages_of meaning ops) ∙ some) ∙ sym is) (may-sequential meaning ordered ops t)

@@ -32,12 +32,6 @@ breaks-cut accepts refuses Stopped bs s s' h = absurd h
 breaks-cut accepts refuses Other bs s s' h = (NoMemory, h)
 
 module _ {K T : Type 0} (accepts : K → List T → K → Type 0) (refuses : K → List T → ℕ → K → Type 0) (option : MergeOption) (May : Trace T → Trace T → Type 0) (t : Trace T) (s s' : K) where
-  -- what is answered to more is answered here
-  pub reports-weaker : (May' : Trace T → Trace T → Type 0) (b : Result Report RunFault) → ((x u : Trace T) → May x u → May' x u) → Reports accepts refuses option May t s s' b
-      → Reports accepts refuses option May' t s s' b
-  reports-weaker May' (Ok r) f h = record { answer = h.answer; may = f t h.answer h.may; accounts = f (handed_trace t r.records.items) h.answer h.accounts; has_run = h.has_run }
-  reports-weaker May' (Err fault) f h = record { answer = h.answer; may = f t h.answer h.may; broken = h.broken }
-
   -- where there is one answer, it was delivered
   pub reports-runs : (v : Trace T) (b : Result Report RunFault) → ((u : Trace T) → May t u → u ≡ v) → Reports accepts refuses option May t s s' b → Runs accepts refuses option v s s' (reported b)
   reports-runs v (Ok r) only h = subst (λ u. HasRun accepts option u s s' r.ending) (only h.answer h.may) h.has_run

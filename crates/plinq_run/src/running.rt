@@ -9,7 +9,6 @@ ghost use Rattle.plinq_ops.specs.Query.{merge_in_force};
 ghost use Rattle.plinq_run.specs.Endings.{reported};
 ghost use Rattle.plinq_run.specs.Handed.{has_close};
 ghost use Rattle.plinq_run.specs.Headline.{answers, HasDelivered};
-ghost use Rattle.plinq_run.specs.inner.Plans.{MayMerge, MayRun};
 ghost use Rattle.plinq_run.specs.Reports.{Reports};
 
 use crate::report::Report;
@@ -21,39 +20,12 @@ use plinq_crew::Gate;
 use plinq_enumerator::Growth;
 use plinq_lambda::SharedLambda;
 use plinq_merge::{Deliver, Sink};
-use plinq_ops::{MergeOption, Query};
+use plinq_ops::Query;
 use plinq_source::{Ending, Source};
 use std::alloc::Global;
 use std::marker::Brand;
 use std::sync::Wait;
 use std::thread::Threads;
-
-impl<L, S, G> RunRequest<'_, L, S, G>
-where
-    L: SharedLambda,
-    S: Source<Item = L::Item>,
-    G: Gate,
-{
-    /// Runs the plan, which isn't decided, and delivers the batches of its answer.
-    fn run_plan<K: Sink<Item = L::Item>, R: Threads + Wait + Sync>(
-        self,
-        rt: &R,
-        option: MergeOption,
-        sink: &mut K,
-    ) -> Result<Report, RunFault>
-        requires may { MayRun S.given self }
-        ensures legal { IfOk result (λ report. IsLegalHistory (S.whole self.entry.source) report.records.items) }
-        ensures closed { IfOk result (λ report. has_close report.records.items ≡ true) }
-        ensures reports { Reports K.accepts K.refuses option (MayMerge L.meaning self.entry.plan.now) (S.whole self.entry.source) sink.old sink.new result }
-    {
-        let Ok(taker) = Deliver::new(self.alloc, self.plan.after, option) else {
-            return Err(RunFault::Memory);
-        };
-        let task = Unchanged { gate: self.gate };
-        let conducted = self.conduct_plan::<Brand, _, _, _, _>(rt, &task, taker, sink)?;
-        report(conducted)
-    }
-}
 
 /// Runs a query over a source: as many workers as its degree take chunks that grow by `growth`, and the sink gets the batches
 /// of the answer as they are computed.
@@ -102,6 +74,9 @@ where
             records: Vec::new(alloc),
         });
     }
+    let Ok(taker) = Deliver::new(alloc, plan.after, query.merge_option()) else {
+        return Err(RunFault::Memory);
+    };
     let request = RunRequest {
         alloc,
         plan: &plan,
@@ -110,5 +85,9 @@ where
         growth,
         gate,
     };
-    request.run_plan(rt, query.merge_option(), sink)
+    let task = Unchanged { gate };
+    match request.conduct_plan::<Brand, _, _, _, _>(rt, &task, taker, sink) {
+        Ok(conducted) => report(conducted),
+        Err(fault) => Err(fault),
+    }
 }

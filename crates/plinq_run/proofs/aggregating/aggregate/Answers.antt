@@ -5,7 +5,8 @@ use Rattle.plinq_ops.specs.Answer.{MayAnswer}
 use Rattle.plinq_run.specs.declared.combiner.Combiner.{Combiner}
 use Rattle.plinq_run.specs.Parting.{GivesSome}
 use Rattle.plinq_run.specs.inner.Combining.{MadeBy}
-use Rattle.plinq_run.proofs.PartsGiven.{decided-may, value-given}
+use Rattle.plinq_run.proofs.Runs.{decided-may}
+use Rattle.plinq_run.proofs.PartsGiven.{value-given}
 use Rattle.plinq_run.proofs.aggregating.aggregate.Goals as goal
 
 pub returns-then-split-clause-value : goal.returns-then-split-clause-value

@@ -1,52 +1,99 @@
-use Rattle.std.proofs.Common.{rules, ◌≡◌, true, false, sym, ◌∙◌, subst, refl}
-use Rattle.plinq_source.specs.Trace.{Trace}
-use Rattle.plinq_ops.specs.Answer.{MayAnswer}
+use Rattle.std.proofs.Common.{rules, ◌≡◌, ◌≤◌, ◌^◌, [], true, Ok, Err, IfOk, length, sym, ◌∙◌, subst, refl}
+use Rattle.plinq_source.specs.declared.ending.Ending.TheVariants.{End}
+use Rattle.plinq_source.specs.Trace.{Trace, ended}
+use Rattle.plinq_keyed.specs.History.{IsLegalHistory}
+use Rattle.plinq_partition.specs.Partitions.{all_shares}
+use Rattle.plinq_ops.specs.Batches.{batches}
 use Rattle.plinq_ops.specs.Query.{merge_in_force}
-use Rattle.plinq_run.specs.inner.Plans.{MayMerge}
-use Rattle.plinq_run.specs.Reports.{Reports}
-use Rattle.plinq_run.proofs.Headline.{decided-delivered, ordered-delivered}
-use Rattle.plinq_run.proofs.Runs.{decided-reports, planned-may, planned-undecided}
-use Rattle.plinq_run.proofs.Stopping.{reports-weaker}
+use Rattle.plinq_ops.specs.Sequential.{answer_of}
+use Rattle.plinq_run.specs.declared.run_fault.RunFault.TheVariants.{Memory}
+use Rattle.plinq_run.proofs.Headline.{ordered-delivered}
+use Rattle.plinq_run.proofs.Runs.{reported-closed, whole-reported, broken-reported, decided-may, may-sequential, planned-undecided}
 use Rattle.plinq_run.proofs.running.run.Goals as goal
 
-pub run_plan-requires-clause-may : goal.run_plan-requires-clause-may
-run_plan-requires-clause-may g c lifetimes outlive =
-    let plan = c.split-plan.result in
-    let undecided : plan.decided ≡ false = search rules in
-    record {
-      unasked = search rules;
-      plan = planned-undecided c.args.query.now plan c.split-plan.ensures.plan c.split-plan.ensures.by_key c.split-plan.ensures.undecided undecided;
-      workers = search rules;
-    }
-
+-- a decided query
 pub returns-then-plan-clause-reports : goal.returns-then-plan-clause-reports
 returns-then-plan-clause-reports g c =
     let q = c.args.query.now in
-    let is : c.split-plan.result.decided ≡ true = search rules in
-    decided-reports g.L.Lambda.meaning g.K.Sink.accepts g.K.Sink.refuses (merge_in_force q.merge) q.ordered q.ops (g.S.Source.whole c.args.source) c.args.sink.now _ (sym c.split-plan.ensures.plan.decided ∙ is) refl
-
-pub returns-clause-reports : goal.returns-clause-reports
-returns-clause-reports g c =
-    let q = c.args.query.now in
-    let plan = c.split-plan.result in
-    let t = g.S.Source.whole c.args.source in
-    let s = c.args.sink.now in
-    let s' = c.run_plan.new.sink in
-    let undecided : plan.decided ≡ false = search rules in
-    let option : c.merge_option.result ≡ merge_in_force q.merge = search rules in
-    let May = MayAnswer g.L.Lambda.meaning q.ordered q.ops in
-    let may = λ (x u : Trace _). planned-may g.L.Lambda.meaning q plan x u q.ordered refl c.split-plan.ensures.plan undecided in
-    subst (λ o. Reports g.K.Sink.accepts g.K.Sink.refuses o May t s s' c.run_plan.result) option
-    (reports-weaker g.K.Sink.accepts g.K.Sink.refuses c.merge_option.result (MayMerge g.L.Lambda.meaning plan) t s s' May c.run_plan.result may c.run_plan.ensures.reports)
+    let decided : c.split-plan.result.decided ≡ true = search rules in
+    let may = λ (t : Trace _). decided-may g.L.Lambda.meaning q.ordered q.ops t (ended [] End) (sym c.split-plan.ensures.plan.decided ∙ decided) refl in
+    record { answer = ended [] End; may = may _; accounts = may _; has_run = record { delivered = refl; ending = refl } }
 
 pub returns-then-plan-clause-ordered : goal.returns-then-plan-clause-ordered
 returns-then-plan-clause-ordered g c = λ ordered.
     let q = c.args.query.now in
-    let is : c.split-plan.result.decided ≡ true = search rules in
-    decided-delivered g.L.Lambda.meaning g.K.Sink.accepts q.merge q.ops (g.S.Source.whole c.args.source) c.args.sink.now (sym c.split-plan.ensures.plan.decided ∙ is)
+    ordered-delivered g.L.Lambda.meaning g.K.Sink.accepts g.K.Sink.refuses q.merge q.ordered q.ops (g.S.Source.whole c.args.source) c.args.sink.now c.args.sink.now
+    (Ok (record { ending = End; records = c.new.result })) ordered (returns-then-plan-clause-reports g c)
 
-pub returns-clause-ordered : goal.returns-clause-ordered
-returns-clause-ordered g c = λ ordered.
+-- no memory for what delivers
+pub returns-in_default-clause-reports : goal.returns-in_default-clause-reports
+returns-in_default-clause-reports g c =
     let q = c.args.query.now in
-    ordered-delivered g.L.Lambda.meaning g.K.Sink.accepts g.K.Sink.refuses q.merge q.ordered q.ops (g.S.Source.whole c.args.source) c.args.sink.now c.run_plan.new.sink c.run_plan.result ordered
-    (returns-clause-reports g c)
+    let answer = answer_of g.L.Lambda.meaning q.ops (g.S.Source.whole c.args.source) in
+    record { answer = answer; may = may-sequential g.L.Lambda.meaning q.ordered q.ops _; broken = ([], batches (merge_in_force q.merge) answer, refl, refl) }
+
+pub returns-in_default-clause-ordered : goal.returns-in_default-clause-ordered
+returns-in_default-clause-ordered g c = λ ordered.
+    let q = c.args.query.now in
+    ordered-delivered g.L.Lambda.meaning g.K.Sink.accepts g.K.Sink.refuses q.merge q.ordered q.ops (g.S.Source.whole c.args.source) c.args.sink.now c.args.sink.now
+    (Err Memory) ordered (returns-in_default-clause-reports g c)
+
+pub conduct_plan-requires-clause-may : goal.conduct_plan-requires-clause-may
+conduct_plan-requires-clause-may g c lifetimes outlive =
+    let split = c.split-plan.ensures in
+    record {
+      begins = record {
+        unasked = c.requires;
+        plan = planned-undecided c.args.query.now c.split-plan.result split.plan split.by_key split.undecided (search rules);
+        workers = c.degree.ensures.within;
+      };
+      carries = λ r is. is;
+      carried = λ r is. is;
+      stop_keys = λ key. refl;
+    }
+
+pub conduct_plan-requires-clause-takes : goal.conduct_plan-requires-clause-takes
+conduct_plan-requires-clause-takes g c lifetimes outlive = c.in-Ok.ensures.ready (c.split-plan.ensures.undecided (search rules)).1
+
+-- an answer
+pub returns-in-Ok-conduct_plan-clause-legal : goal.returns-in-Ok-conduct_plan-clause-legal
+returns-in-Ok-conduct_plan-clause-legal g c =
+    subst (λ t. IfOk c.report.result (λ r. IsLegalHistory t r.records.items)) c.in-Ok-conduct_plan.ensures.0.origin c.report.ensures.legal
+
+pub returns-in-Ok-conduct_plan-clause-closed : goal.returns-in-Ok-conduct_plan-clause-closed
+returns-in-Ok-conduct_plan-clause-closed g c = λ undecided.
+    reported-closed (all_shares c.in-Ok-conduct_plan.conducted.ended.partitions.items) c.report.result c.report.ensures.records c.in-Ok-conduct_plan.ensures.0.closed
+
+pub returns-in-Ok-conduct_plan-clause-reports : goal.returns-in-Ok-conduct_plan-clause-reports
+returns-in-Ok-conduct_plan-clause-reports g c =
+    let q = c.args.query.now in
+    let split = c.split-plan.ensures in
+    let t = g.S.Source.whole c.args.source in
+    let few : length t.items ≤ 2 ^ 40 = (g.met.S.Source g.world.𝓛 g.world.𝓜 g.world.𝓡 (λ s a. a, λ a. a, λ a. a, λ a. a)).few c.args.source in
+    let undecided = planned-undecided q c.split-plan.result split.plan split.by_key split.undecided (search rules) in
+    whole-reported g.L.Lambda.meaning q c.split-plan.result split.plan (merge_in_force q.merge) undecided t few g.K.Sink.accepts g.K.Sink.refuses c.in-Ok.taker
+    (rw c.merge_option.ensures at c.in-Ok.ensures.begun) c.args.sink.now c.conduct_plan.new.out c.in-Ok-conduct_plan.conducted.ended c.report.result
+    c.in-Ok-conduct_plan.ensures.1 c.report.ensures.told (returns-in-Ok-conduct_plan-clause-legal g c) c.report.ensures.records
+
+pub returns-in-Ok-conduct_plan-clause-ordered : goal.returns-in-Ok-conduct_plan-clause-ordered
+returns-in-Ok-conduct_plan-clause-ordered g c = λ ordered.
+    let q = c.args.query.now in
+    ordered-delivered g.L.Lambda.meaning g.K.Sink.accepts g.K.Sink.refuses q.merge q.ordered q.ops (g.S.Source.whole c.args.source) c.args.sink.now c.conduct_plan.new.out
+    c.report.result ordered (returns-in-Ok-conduct_plan-clause-reports g c)
+
+-- a fault
+pub returns-in-Err-clause-reports : goal.returns-in-Err-clause-reports
+returns-in-Err-clause-reports g c =
+    let q = c.args.query.now in
+    let split = c.split-plan.ensures in
+    let t = g.S.Source.whole c.args.source in
+    let few : length t.items ≤ 2 ^ 40 = (g.met.S.Source g.world.𝓛 g.world.𝓜 g.world.𝓡 (λ s a. a, λ a. a, λ a. a, λ a. a)).few c.args.source in
+    let undecided = planned-undecided q c.split-plan.result split.plan split.by_key split.undecided (search rules) in
+    broken-reported g.L.Lambda.meaning q c.split-plan.result split.plan (merge_in_force q.merge) undecided t few g.K.Sink.accepts g.K.Sink.refuses c.in-Ok.taker
+    (rw c.merge_option.ensures at c.in-Ok.ensures.begun) c.args.sink.now c.conduct_plan.new.out c.in-Err.fault c.in-Err.ensures
+
+pub returns-in-Err-clause-ordered : goal.returns-in-Err-clause-ordered
+returns-in-Err-clause-ordered g c = λ ordered.
+    let q = c.args.query.now in
+    ordered-delivered g.L.Lambda.meaning g.K.Sink.accepts g.K.Sink.refuses q.merge q.ordered q.ops (g.S.Source.whole c.args.source) c.args.sink.now c.conduct_plan.new.out
+    (Err c.in-Err.fault) ordered (returns-in-Err-clause-reports g c)

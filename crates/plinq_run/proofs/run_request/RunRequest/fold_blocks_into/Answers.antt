@@ -1,9 +1,7 @@
-use Rattle.std.proofs.Common.{◌≡◌, ◌≤◌, ◌^◌, length, refl}
-use Rattle.plinq_crew.specs.Results.{IsPart}
+use Rattle.std.proofs.Common.{◌≤◌, ◌^◌, length, refl}
 use Rattle.plinq_ops.proofs.ByKey.{stages-begun}
 use Rattle.plinq_run.specs.declared.fold_blocks.FoldBlocks.{FoldBlocks}
 use Rattle.plinq_run.specs.declared.run_fault.RunFault.TheVariants.{Memory}
-use Rattle.plinq_run.proofs.Runs.{plain-part}
 use Rattle.plinq_run.proofs.PartsGiven.{none-given, begun-folds, blocks-given}
 use Rattle.plinq_run.proofs.run_request.RunRequest.fold_blocks_into.Goals as goal
 
@@ -31,6 +29,5 @@ returns g c =
     let first : FoldBlocks _ _ _ = record { alloc = c.args.self.alloc; pipeline = c.in-Ok.pipeline; aggregator = c.args.aggregator; inner = c.args.taker } in
     let begun = stages-begun meaning plan.after.now c.in-Ok.pipeline c.in-Ok.ensures in
     rw c.answer_ending.ensures
-    (blocks-given (folding c.args.aggregator.now) lawful g.W.TakeInto.made g.met.W.TakeInto.lawful meaning plan t few c.requires.may.plan folding
-    (IsPart meaning (λ r x. x ≡ r) plan t) (plain-part meaning plan t) first refl begun c.args.out.now c.conduct_plan.result
+    (blocks-given (folding c.args.aggregator.now) lawful g.W.TakeInto.made g.met.W.TakeInto.lawful meaning plan t few c.requires.may.plan folding first refl begun c.args.out.now c.conduct_plan.result
     c.conduct_plan.new.out c.conduct_plan.ensures)

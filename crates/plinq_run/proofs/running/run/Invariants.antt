@@ -2,7 +2,7 @@ use Rattle.std.proofs.Common.{◌≡◌}
 use Rattle.plinq_keyed.specs.Keys.{is_among}
 use Rattle.plinq_ops.specs.Cut.{stop_keys}
 use Rattle.plinq_crew.specs.Results.{IsPart}
-use Rattle.plinq_run.proofs.run_request.RunRequest.run_plan.Given as goal
+use Rattle.plinq_run.proofs.running.run.Given as goal
 
 abbrev pub ghosts-conduct_plan : goal.ghosts-conduct_plan
 ghosts-conduct_plan g a = record {
