@@ -173,7 +173,8 @@ conducts-same made IsPart crew context m m' (Err fault) h = record { merging = a
 -- Where it is reported how the answer ended, no worker had a fault and none was missing. So the source was closed, what was accepted is of the
 -- chunks of the records, and all that was sent was received
 module _ {L S J P U W O T : Type 0} {source : SourceGhosts S U} {m : Merging W T} {back : Returned S U source} {y : O}
-    (made : W → O → Trace T → Result (Option Ending) DeliveryFault → W → O → Type 0) (lawful : IsTaking made) (IsPart : ChunkResult T → Type 0) (crew : Crew L S J P U U T source) (context : WorkerContext S T U source) (a : W) (x : O)
+    (made : W → O → Trace T → Result (Option Ending) DeliveryFault → W → O → Type 0) (lawful : IsTaking made) (IsPart : ChunkResult T → Type 0)
+    (crew : Crew L S J P U U T source) (context : WorkerContext S T U source) (a : W) (x : O)
     (first last : MergingInto W T O) (out : first.out.now ≡ x) (same : (last.merging.now ≡ m) × (last.out.now ≡ y))
     (new : Stands made IsPart crew.plan.now.order a x None first.merging.now.joiner x []) (sound : first.merging.now.fault ≡ None) where
   -- what was accepted was merged, and is of the crew's chunks where no worker was missing

@@ -150,8 +150,8 @@ module _ {L T A U W O : Type 0} (f : Folding T A U) (lawful : IsFolding f) (made
     passes-over g (Ok None) now now' a v b y over is = absurd over
     passes-over g how now now' a v b y over is = is
 
-    blocks-some : (how : Result (Option Ending) DeliveryFault) (rs : List (ChunkResult T)) (last : FoldBlocks L F W) (y : O) → All (AsItIs meaning plan t) rs → AreApart rs
-        → IsOver how
+    blocks-some : (how : Result (Option Ending) DeliveryFault) (rs : List (ChunkResult T)) (last : FoldBlocks L F W) (y : O)
+        → All (AsItIs meaning plan t) rs → AreApart rs → IsOver how
         → MadeBy meaning folding made first x (merged plan.order rs) how last y → (u : Trace T) × (MayMerge meaning plan t u) × WasGiven f made u first.inner x how y
     blocks-some how rs last y are apart over is =
         let passes =
@@ -162,7 +162,8 @@ module _ {L T A U W O : Type 0} (f : Folding T A U) (lawful : IsFolding f) (made
         (subst (λ ss. WasGiven (folding first.aggregator.now) made (seq ss (merged plan.order rs)) first.inner x how y) begun passes))
 
     pub blocks-given : {S : Type 0} {source : SourceGhosts S T} (r : Result (Conducted S (FoldBlocks L F W) T source) RunFault) (y : O)
-        → HasConducted (MadeBy meaning folding made) (AsItIs meaning plan t) plan.order t first x r y → GivesSome f made (MayMerge meaning plan t) first.inner x (answer_ending r) y
+        → HasConducted (MadeBy meaning folding made) (AsItIs meaning plan t) plan.order t first x r y
+        → GivesSome f made (MayMerge meaning plan t) first.inner x (answer_ending r) y
     blocks-given r y h = conducted-given (MadeBy meaning folding made) (AsItIs meaning plan t) first first.inner x blocks-some r y h
 
 -- ---- the value of parts that were combined

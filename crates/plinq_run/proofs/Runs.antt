@@ -132,7 +132,8 @@ begun_line meaning plan option = record { after = stages_of meaning plan.after.n
 abbrev pub AsItIs : {L T : Type 0} → (L → Meaning T) → Plan L → Trace T → ChunkResult T → Type 0
 AsItIs meaning plan t = IsPart meaning (λ r c. c ≡ r) plan t
 
-pub plain-part : {L T : Type 0} (meaning : L → Meaning T) (plan : Plan L) (t : Trace T) (r : ChunkResult T) → AsItIs meaning plan t r → IsResult meaning plan t r
+pub plain-part : {L T : Type 0} (meaning : L → Meaning T) (plan : Plan L) (t : Trace T) (r : ChunkResult T)
+    → AsItIs meaning plan t r → IsResult meaning plan t r
 plain-part meaning plan t r h = subst (IsResult meaning plan t) (sym h.made) h.is
 
 -- a plan answers what the query does
@@ -144,17 +145,18 @@ planned-answer meaning q plan t is undecided =
     ∙ sym (answer_of-split meaning (order_of q.ordered) q.ops t (sym is.decided ∙ undecided))
 
 -- a plan answers what the query may
-pub planned-may : {L T : Type 0} (meaning : L → Meaning T) (q : QueryView L) (plan : Plan L) (t u : Trace T) (ordered : Bool) → q.ordered ≡ ordered → IsPlanOf q plan → plan.decided ≡ false
-    → MayMerge meaning plan t u → MayAnswer meaning ordered q.ops t u
+pub planned-may : {L T : Type 0} (meaning : L → Meaning T) (q : QueryView L) (plan : Plan L) (t u : Trace T) (ordered : Bool)
+    → q.ordered ≡ ordered → IsPlanOf q plan → plan.decided ≡ false → MayMerge meaning plan t u → MayAnswer meaning ordered q.ops t u
 planned-may meaning q plan t u true ordered is undecided may =
     let same : may.taken ≡ t = subst (λ o. MayTake o t may.taken) (is.order ∙ ap order_of ordered) may.may in
     may.is ∙ ap (merged_answer meaning plan) same ∙ planned-answer meaning q plan t is undecided
 planned-may meaning q plan t u false ordered is undecided may =
     let any : IsRearranged t may.taken = subst (λ o. MayTake o t may.taken) (is.order ∙ ap order_of ordered) may.may in
-    subst (λ v. Answer meaning false q.ops t v) (sym (may.is ∙ planned-answer meaning q plan may.taken is undecided)) (Answer-rearranged meaning q.ops t may.taken any)
+    subst (λ v. Answer meaning false q.ops t v) (sym (may.is ∙ planned-answer meaning q plan may.taken is undecided))
+    (Answer-rearranged meaning q.ops t may.taken any)
 
-module _ {L T K : Type 0} (meaning : L → Meaning T) (q : QueryView L) (plan : Plan L) (is_plan : IsPlanOf q plan) (option : MergeOption) (undecided : IsUndecided plan) (t : Trace T)
-    (few : length t.items ≤ 2 ^ 40) (accepts : K → List T → K → Type 0) (refuses : K → List T → ℕ → K → Type 0) where
+module _ {L T K : Type 0} (meaning : L → Meaning T) (q : QueryView L) (plan : Plan L) (is_plan : IsPlanOf q plan) (option : MergeOption)
+    (undecided : IsUndecided plan) (t : Trace T) (few : length t.items ≤ 2 ^ 40) (accepts : K → List T → K → Type 0) (refuses : K → List T → ℕ → K → Type 0) where
   abbrev May : Trace T → Trace T → Type 0
   May = MayAnswer meaning q.ordered q.ops
 
@@ -188,7 +190,8 @@ module _ {L T K : Type 0} (meaning : L → Meaning T) (q : QueryView L) (plan : 
   -- where parts were merged that were sent as they are
   module _ (first : Deliver L T) (begun : line_of meaning first ≡ begun_line meaning plan option) where
     whole-delivered : {S U : Type 0} {source : SourceGhosts S U} (s s' : K) (ended : Ended S (Deliver L T) U source)
-        → HasEnded (MadeBy accepts refuses meaning) (AsItIs meaning plan t) plan.order first s ended s' → IsWhole (all_shares ended.partitions.items) s s' ended.joined.ending
+        → HasEnded (MadeBy accepts refuses meaning) (AsItIs meaning plan t) plan.order first s ended s'
+        → IsWhole (all_shares ended.partitions.items) s s' ended.joined.ending
     whole-delivered s s' ended h =
         let made : Merge T = merge_for meaning plan option in
         let records = all_shares ended.partitions.items in
@@ -201,7 +204,8 @@ module _ {L T K : Type 0} (meaning : L → Meaning T) (q : QueryView L) (plan : 
         record {
           answer = answer made h.offers;
           may = may-answer t (answer made h.offers) (ended-answer meaning plan option undecided t h.offers ended.joined.ending few
-              (All-weaker (IsOffered (AsItIs meaning plan t) records) (IsResult meaning plan t) (λ r x. plain-part meaning plan t r x.0) h.offers h.are) h.apart ends);
+              (All-weaker (IsOffered (AsItIs meaning plan t) records) (IsResult meaning plan t) (λ r x. plain-part meaning plan t r x.0)
+              h.offers h.are) h.apart ends);
           accounts = λ first covers. may-answer first (answer made h.offers) (ended-answer meaning plan option undecided first h.offers ended.joined.ending
               (omega (arith, few, covers.within))
               (All-weaker (IsOffered (AsItIs meaning plan t) records) (IsResult meaning plan first)
@@ -212,7 +216,8 @@ module _ {L T K : Type 0} (meaning : L → Meaning T) (q : QueryView L) (plan : 
     -- the report of a run is of the same answer, which its records account for
     pub whole-reported : {S U : Type 0} {source : SourceGhosts S U} (s s' : K) (ended : Ended S (Deliver L T) U source) (b : Result Report RunFault)
         → HasEnded (MadeBy accepts refuses meaning) (AsItIs meaning plan t) plan.order first s ended s' → IsReportOf (Ok ended.joined.ending) (reported b)
-        → IfOk b (λ r. IsLegalHistory t r.records.items) → IfOk b (λ r. r.records.items ≡ in_ticket_order (all_shares ended.partitions.items)) → Reports accepts refuses option May t s s' b
+        → IfOk b (λ r. IsLegalHistory t r.records.items) → IfOk b (λ r. r.records.items ≡ in_ticket_order (all_shares ended.partitions.items))
+        → Reports accepts refuses option May t s s' b
     whole-reported s s' ended (Ok r) h is legal all =
         let records = all_shares ended.partitions.items in
         let whole = whole-delivered s s' ended h in
@@ -235,7 +240,8 @@ module _ {L T K : Type 0} (meaning : L → Meaning T) (q : QueryView L) (plan : 
     -- or the run was broken off
     broken-by : (how : Result (Option Ending) DeliveryFault) (s s' : K) (told : RunFault) (offers : List (ChunkResult T)) (l' : Line T)
         → All (IsResult meaning plan t) offers → AreApart offers
-        → Gives accepts refuses (begun_line meaning plan option) s (merged plan.order offers) how l' s' → Breaks how (cause_of told) → IsBroken accepts refuses option May t s s' told
+        → Gives accepts refuses (begun_line meaning plan option) s (merged plan.order offers) how l' s' → Breaks how (cause_of told)
+        → IsBroken accepts refuses option May t s s' told
     broken-by (Ok None) s s' told offers l' are apart gives breaks = absurd breaks
     broken-by (Ok (Some e)) s s' told offers l' are apart gives breaks =
         let all : List (List T) = batches_from (batch_size option) [] (seq (stages_of meaning plan.after.now) (merged plan.order offers)) in
@@ -244,9 +250,11 @@ module _ {L T K : Type 0} (meaning : L → Meaning T) (q : QueryView L) (plan : 
     broken-by (Err (Refusal code)) s s' told offers l' are apart gives breaks =
         short-of s offers (Refusal code) s' told (SinkRefused code) are apart gives (λ bs x. x) breaks
 
-    pub broken-reported : (s s' : K) (fault : RunFault) → HasBrokenOff (MadeBy accepts refuses meaning) (AsItIs meaning plan t) plan.order first s fault s' → IsBroken accepts refuses option May t s s' fault
+    pub broken-reported : (s s' : K) (fault : RunFault) → HasBrokenOff (MadeBy accepts refuses meaning) (AsItIs meaning plan t) plan.order first s fault s'
+        → IsBroken accepts refuses option May t s s' fault
     broken-reported s s' fault h =
-        broken-by h.how s s' fault h.offers (line_of meaning h.last) (All-weaker (AsItIs meaning plan t) (IsResult meaning plan t) (plain-part meaning plan t) h.offers h.are) h.apart
+        broken-by h.how s s' fault h.offers (line_of meaning h.last)
+        (All-weaker (AsItIs meaning plan t) (IsResult meaning plan t) (plain-part meaning plan t) h.offers h.are) h.apart
         (subst (λ l. Gives accepts refuses l s (merged plan.order h.offers) h.how (line_of meaning h.last) s') begun (let taken = h.taken in taken.gives)) h.breaks
 
 -- ---- what is reported
@@ -283,6 +291,8 @@ may-sequential meaning true ops t = refl
 may-sequential meaning false ops t = Answer-sequential meaning false ops t
 
 -- a decided query answers nothing
-pub decided-may : {L T : Type 0} (meaning : L → Meaning T) (ordered : Bool) (ops : List (Op L)) (t u : Trace T) → list_any is_empty_take ops ≡ true → u ≡ ended [] End → MayAnswer meaning ordered ops t u
+pub decided-may : {L T : Type 0} (meaning : L → Meaning T) (ordered : Bool) (ops : List (Op L)) (t u : Trace T)
+    → list_any is_empty_take ops ≡ true → u ≡ ended [] End → MayAnswer meaning ordered ops t u
 decided-may meaning ordered ops t u some is =
-    subst (MayAnswer meaning ordered ops t) (answer-of_none (stages_of meaning ops) t (sym (some_takes_none-stages_of meaning ops) ∙ some) ∙ sym is) (may-sequential meaning ordered ops t)
+    subst (MayAnswer meaning ordered ops t) (answer-of_none (stages_of meaning ops) t (sym (some_takes_none-stages_of meaning ops) ∙ some) ∙ sym is)
+    (may-sequential meaning ordered ops t)

@@ -1,6 +1,5 @@
 //! The run of a query that a token may stop.
-ghost use Rattle.std.specs.Prelude.{◌≡◌, [], true, false, IfOk, IfErr, OnOk, Ok};
-ghost use Rattle.plinq_source.specs.declared.ending.Ending.TheVariants.{End};
+ghost use Rattle.std.specs.Prelude.{◌≡◌, true, false, IfOk, IfErr, OnOk, Ok};
 ghost use Rattle.std.specs.List.{list_any};
 ghost use Rattle.plinq_keyed.specs.History.{IsLegalHistory};
 ghost use Rattle.plinq_ops.specs.Answer.{MayAnswer};
@@ -8,6 +7,7 @@ ghost use Rattle.plinq_ops.specs.Feeding.{is_empty_take};
 ghost use Rattle.plinq_ops.specs.Query.{merge_in_force};
 ghost use Rattle.plinq_merge.specs.Lent.{AreSame};
 ghost use Rattle.plinq_run.specs.declared.run_fault.RunFault.TheVariants.{Cancelled};
+ghost use Rattle.plinq_run.specs.Endings.{RunsDecidedWith};
 ghost use Rattle.plinq_run.specs.Handed.{has_close};
 ghost use Rattle.plinq_run.specs.Stopping.{is_stopped, ReportsSome};
 ghost use Rattle.plinq_run.specs.inner.Cancelling.{IsAskedAtLast};
@@ -61,10 +61,7 @@ where
     requires unasked { S.given source ≡ 0 }
     requires without_result { C.has_told token.old ≡ false }
     ensures legal { IfOk result (λ report. IsLegalHistory (S.whole source) report.records.items) }
-    ensures ended { list_any is_empty_take query.now.ops ≡ true → IfOk result (λ report. report.ending ≡ End) }
-    ensures cancelled { list_any is_empty_take query.now.ops ≡ true → IfErr result (λ fault. fault ≡ Cancelled) }
-    ensures untouched { list_any is_empty_take query.now.ops ≡ true → sink.new ≡ sink.old }
-    ensures none { list_any is_empty_take query.now.ops ≡ true → IfOk result (λ report. report.records.items ≡ []) }
+    ensures decided { list_any is_empty_take query.now.ops ≡ true → RunsDecidedWith sink.old sink.new result }
     ensures closed { list_any is_empty_take query.now.ops ≡ false → IfOk result (λ report. has_close report.records.items ≡ true) }
     ensures told { C.has_told token.new ≡ is_stopped result }
     ensures reports { ReportsSome C.asks K.accepts K.refuses (merge_in_force query.now.merge)

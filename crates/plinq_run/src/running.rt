@@ -1,12 +1,11 @@
 //! The run of a query.
-ghost use Rattle.std.specs.Prelude.{◌≡◌, [], true, false, IfOk, Ok};
+ghost use Rattle.std.specs.Prelude.{◌≡◌, true, false, IfOk};
 ghost use Rattle.std.specs.List.{list_any};
-ghost use Rattle.plinq_source.specs.declared.ending.Ending.TheVariants.{End};
 ghost use Rattle.plinq_keyed.specs.History.{IsLegalHistory};
 ghost use Rattle.plinq_ops.specs.Answer.{MayAnswer};
 ghost use Rattle.plinq_ops.specs.Feeding.{is_empty_take};
 ghost use Rattle.plinq_ops.specs.Query.{merge_in_force};
-ghost use Rattle.plinq_run.specs.Endings.{reported};
+ghost use Rattle.plinq_run.specs.Endings.{RunsDecided};
 ghost use Rattle.plinq_run.specs.Handed.{has_close};
 ghost use Rattle.plinq_run.specs.Headline.{answers, HasDelivered};
 ghost use Rattle.plinq_run.specs.Reports.{Reports};
@@ -59,9 +58,7 @@ where
     R: Threads + Wait + Sync,
     requires { S.given source ≡ 0 }
     ensures legal { IfOk result (λ report. IsLegalHistory (S.whole source) report.records.items) }
-    ensures answered { list_any is_empty_take query.now.ops ≡ true → reported result ≡ Ok End }
-    ensures untouched { list_any is_empty_take query.now.ops ≡ true → sink.new ≡ sink.old }
-    ensures none { list_any is_empty_take query.now.ops ≡ true → IfOk result (λ report. report.records.items ≡ []) }
+    ensures decided { list_any is_empty_take query.now.ops ≡ true → RunsDecided sink.old sink.new result }
     ensures closed { list_any is_empty_take query.now.ops ≡ false → IfOk result (λ report. has_close report.records.items ≡ true) }
     ensures ordered { query.now.ordered ≡ true →
         HasDelivered K.accepts K.refuses query.now.merge (answers L.meaning query.now.ops (S.whole source)) sink.old sink.new result }

@@ -13,10 +13,14 @@ returns g c =
     let sink : c.sink-1.given.0 ≡ last.new.with.sink.now = search (rules, lent.same) in
     record {
       legal = ok-told _ run.result last.result last.ensures.told run.ensures.legal;
-      ended = λ decided. ended-told run.result last.result last.ensures.told (run.ensures.answered decided);
-      cancelled = λ decided. cancelled-told run.result last.result last.ensures.cancelled (run.ensures.answered decided);
-      untouched = search (rules, lent.same);
-      none = λ decided. ok-told _ run.result last.result last.ensures.told (run.ensures.none decided);
+      decided = λ decided.
+          let nothing = run.ensures.decided decided in
+          record {
+            ended = ended-told run.result last.result last.ensures.told nothing.answered;
+            cancelled = cancelled-told run.result last.result last.ensures.cancelled nothing.answered;
+            untouched = search (rules, lent.same, nothing.untouched);
+            none = ok-told _ run.result last.result last.ensures.told nothing.none;
+          };
       closed = λ undecided. ok-told _ run.result last.result last.ensures.told (run.ensures.closed undecided);
       told = search (rules, lent.same, lent.told);
       reports = (last.new.with.delivered, rw (token, sink) lent.reports);

@@ -22,8 +22,8 @@ returns-then-plan-clause-reports g c =
 pub returns-then-plan-clause-ordered : goal.returns-then-plan-clause-ordered
 returns-then-plan-clause-ordered g c = λ ordered.
     let q = c.args.query.now in
-    ordered-delivered g.L.Lambda.meaning g.K.Sink.accepts g.K.Sink.refuses q.merge q.ordered q.ops (g.S.Source.whole c.args.source) c.args.sink.now c.args.sink.now
-    (Ok (record { ending = End; records = c.new.result })) ordered (returns-then-plan-clause-reports g c)
+    ordered-delivered g.L.Lambda.meaning g.K.Sink.accepts g.K.Sink.refuses q.merge q.ordered q.ops (g.S.Source.whole c.args.source)
+    c.args.sink.now c.args.sink.now (Ok (record { ending = End; records = c.new.result })) ordered (returns-then-plan-clause-reports g c)
 
 -- no memory for what delivers
 pub returns-in_default-clause-reports : goal.returns-in_default-clause-reports
@@ -35,8 +35,8 @@ returns-in_default-clause-reports g c =
 pub returns-in_default-clause-ordered : goal.returns-in_default-clause-ordered
 returns-in_default-clause-ordered g c = λ ordered.
     let q = c.args.query.now in
-    ordered-delivered g.L.Lambda.meaning g.K.Sink.accepts g.K.Sink.refuses q.merge q.ordered q.ops (g.S.Source.whole c.args.source) c.args.sink.now c.args.sink.now
-    (Err Memory) ordered (returns-in_default-clause-reports g c)
+    ordered-delivered g.L.Lambda.meaning g.K.Sink.accepts g.K.Sink.refuses q.merge q.ordered q.ops (g.S.Source.whole c.args.source)
+    c.args.sink.now c.args.sink.now (Err Memory) ordered (returns-in_default-clause-reports g c)
 
 pub conduct_plan-requires-clause-may : goal.conduct_plan-requires-clause-may
 conduct_plan-requires-clause-may g c lifetimes outlive =
@@ -62,7 +62,8 @@ returns-in-Ok-conduct_plan-clause-legal g c =
 
 pub returns-in-Ok-conduct_plan-clause-closed : goal.returns-in-Ok-conduct_plan-clause-closed
 returns-in-Ok-conduct_plan-clause-closed g c = λ undecided.
-    reported-closed (all_shares c.in-Ok-conduct_plan.conducted.ended.partitions.items) c.report.result c.report.ensures.records c.in-Ok-conduct_plan.ensures.0.closed
+    reported-closed (all_shares c.in-Ok-conduct_plan.conducted.ended.partitions.items) c.report.result c.report.ensures.records
+    c.in-Ok-conduct_plan.ensures.0.closed
 
 pub returns-in-Ok-conduct_plan-clause-reports : goal.returns-in-Ok-conduct_plan-clause-reports
 returns-in-Ok-conduct_plan-clause-reports g c =
@@ -78,8 +79,8 @@ returns-in-Ok-conduct_plan-clause-reports g c =
 pub returns-in-Ok-conduct_plan-clause-ordered : goal.returns-in-Ok-conduct_plan-clause-ordered
 returns-in-Ok-conduct_plan-clause-ordered g c = λ ordered.
     let q = c.args.query.now in
-    ordered-delivered g.L.Lambda.meaning g.K.Sink.accepts g.K.Sink.refuses q.merge q.ordered q.ops (g.S.Source.whole c.args.source) c.args.sink.now c.conduct_plan.new.out
-    c.report.result ordered (returns-in-Ok-conduct_plan-clause-reports g c)
+    ordered-delivered g.L.Lambda.meaning g.K.Sink.accepts g.K.Sink.refuses q.merge q.ordered q.ops (g.S.Source.whole c.args.source)
+    c.args.sink.now c.conduct_plan.new.out c.report.result ordered (returns-in-Ok-conduct_plan-clause-reports g c)
 
 -- a fault
 pub returns-in-Err-clause-reports : goal.returns-in-Err-clause-reports
@@ -95,5 +96,5 @@ returns-in-Err-clause-reports g c =
 pub returns-in-Err-clause-ordered : goal.returns-in-Err-clause-ordered
 returns-in-Err-clause-ordered g c = λ ordered.
     let q = c.args.query.now in
-    ordered-delivered g.L.Lambda.meaning g.K.Sink.accepts g.K.Sink.refuses q.merge q.ordered q.ops (g.S.Source.whole c.args.source) c.args.sink.now c.conduct_plan.new.out
-    (Err c.in-Err.fault) ordered (returns-in-Err-clause-reports g c)
+    ordered-delivered g.L.Lambda.meaning g.K.Sink.accepts g.K.Sink.refuses q.merge q.ordered q.ops (g.S.Source.whole c.args.source)
+    c.args.sink.now c.conduct_plan.new.out (Err c.in-Err.fault) ordered (returns-in-Err-clause-reports g c)

@@ -10,8 +10,8 @@ returns-in_default g c =
     let t = g.S.Source.whole c.args.self.source in
     let few : length t.items ≤ 2 ^ 40 = (g.met.S.Source g.world.𝓛 g.world.𝓜 g.world.𝓡 (λ s a. a, λ a. a, λ a. a, λ a. a)).few c.args.self.source in
     let lawful = (g.met.A.GrowingAggregator g.world.𝓛 g.world.𝓜 g.world.𝓡 (λ s a. a, λ a. a, λ a. a, λ a. a)).lawful c.args.aggregator.now in
-    none-given (g.A.GrowingAggregator.folding c.args.aggregator.now) lawful g.W.TakeInto.made g.met.W.TakeInto.lawful g.L.Lambda.meaning c.args.self.plan.now t few
-    c.requires.may.plan c.args.taker c.args.out.now Memory refl
+    none-given (g.A.GrowingAggregator.folding c.args.aggregator.now) lawful g.W.TakeInto.made g.met.W.TakeInto.lawful
+    g.L.Lambda.meaning c.args.self.plan.now t few c.requires.may.plan c.args.taker c.args.out.now Memory refl
 
 pub conduct_plan-requires-clause-takes : goal.conduct_plan-requires-clause-takes
 conduct_plan-requires-clause-takes g c κs within =
@@ -29,5 +29,5 @@ returns g c =
     let first : FoldBlocks _ _ _ = record { alloc = c.args.self.alloc; pipeline = c.in-Ok.pipeline; aggregator = c.args.aggregator; inner = c.args.taker } in
     let begun = stages-begun meaning plan.after.now c.in-Ok.pipeline c.in-Ok.ensures in
     rw c.answer_ending.ensures
-    (blocks-given (folding c.args.aggregator.now) lawful g.W.TakeInto.made g.met.W.TakeInto.lawful meaning plan t few c.requires.may.plan folding first refl begun c.args.out.now c.conduct_plan.result
-    c.conduct_plan.new.out c.conduct_plan.ensures)
+    (blocks-given (folding c.args.aggregator.now) lawful g.W.TakeInto.made g.met.W.TakeInto.lawful meaning plan t few
+    c.requires.may.plan folding first refl begun c.args.out.now c.conduct_plan.result c.conduct_plan.new.out c.conduct_plan.ensures)
