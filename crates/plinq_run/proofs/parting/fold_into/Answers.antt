@@ -15,13 +15,7 @@ returns-then-plan g c =
     (λ u nothing. decided-may g.L.Lambda.meaning q.ordered q.ops t u (sym c.split-plan.ensures.plan.decided ∙ is) nothing) c.hand_nothing.ensures
 
 pub fold_chunks_into-requires-clause-may : goal.fold_chunks_into-requires-clause-may
-fold_chunks_into-requires-clause-may g c κs within =
-    let split = c.split-plan.ensures in
-    record {
-      unasked = search rules;
-      plan = planned-undecided c.args.query.now c.split-plan.result split.plan split.by_key split.undecided (search rules);
-      workers = search rules;
-    }
+fold_chunks_into-requires-clause-may g c κs within = search (rules, planned-undecided)
 
 pub returns-then-is_empty : goal.returns-then-is_empty
 returns-then-is_empty g c =
@@ -30,13 +24,7 @@ returns-then-is_empty g c =
     c.fold_chunks_into.result c.fold_chunks_into.new.out c.split-plan.ensures.plan (search rules) c.fold_chunks_into.ensures
 
 pub fold_blocks_into-requires-clause-may : goal.fold_blocks_into-requires-clause-may
-fold_blocks_into-requires-clause-may g c κs within =
-    let split = c.split-plan.ensures in
-    record {
-      unasked = search rules;
-      plan = planned-undecided c.args.query.now c.split-plan.result split.plan split.by_key split.undecided (search rules);
-      workers = search rules;
-    }
+fold_blocks_into-requires-clause-may g c κs within = search (rules, planned-undecided)
 
 pub returns : goal.returns
 returns g c =

@@ -39,18 +39,7 @@ returns-in_default-clause-ordered g c = λ ordered.
     c.args.sink.now c.args.sink.now (Err Memory) ordered (returns-in_default-clause-reports g c)
 
 pub conduct_plan-requires-clause-may : goal.conduct_plan-requires-clause-may
-conduct_plan-requires-clause-may g c lifetimes outlive =
-    let split = c.split-plan.ensures in
-    record {
-      begins = record {
-        unasked = c.requires;
-        plan = planned-undecided c.args.query.now c.split-plan.result split.plan split.by_key split.undecided (search rules);
-        workers = c.degree.ensures.within;
-      };
-      carries = λ r is. is;
-      carried = λ r is. is;
-      stop_keys = λ key. refl;
-    }
+conduct_plan-requires-clause-may g c lifetimes outlive = search (rules, planned-undecided)
 
 pub conduct_plan-requires-clause-takes : goal.conduct_plan-requires-clause-takes
 conduct_plan-requires-clause-takes g c lifetimes outlive = c.in-Ok.ensures.ready (c.split-plan.ensures.undecided (search rules)).1
@@ -68,11 +57,10 @@ returns-in-Ok-conduct_plan-clause-closed g c = λ undecided.
 pub returns-in-Ok-conduct_plan-clause-reports : goal.returns-in-Ok-conduct_plan-clause-reports
 returns-in-Ok-conduct_plan-clause-reports g c =
     let q = c.args.query.now in
-    let split = c.split-plan.ensures in
     let t = g.S.Source.whole c.args.source in
     let few : length t.items ≤ 2 ^ 40 = (g.met.S.Source g.world.𝓛 g.world.𝓜 g.world.𝓡 (λ s a. a, λ a. a, λ a. a, λ a. a)).few c.args.source in
-    let undecided = planned-undecided q c.split-plan.result split.plan split.by_key split.undecided (search rules) in
-    whole-reported g.L.Lambda.meaning q c.split-plan.result split.plan (merge_in_force q.merge) undecided t few g.K.Sink.accepts g.K.Sink.refuses c.in-Ok.taker
+    whole-reported g.L.Lambda.meaning q c.split-plan.result c.split-plan.ensures.plan (merge_in_force q.merge)
+    (search (rules, planned-undecided)) t few g.K.Sink.accepts g.K.Sink.refuses c.in-Ok.taker
     (rw c.merge_option.ensures at c.in-Ok.ensures.begun) c.args.sink.now c.conduct_plan.new.out c.in-Ok-conduct_plan.conducted.ended c.report.result
     c.in-Ok-conduct_plan.ensures.1 c.report.ensures.told (returns-in-Ok-conduct_plan-clause-legal g c) c.report.ensures.records
 
@@ -86,11 +74,10 @@ returns-in-Ok-conduct_plan-clause-ordered g c = λ ordered.
 pub returns-in-Err-clause-reports : goal.returns-in-Err-clause-reports
 returns-in-Err-clause-reports g c =
     let q = c.args.query.now in
-    let split = c.split-plan.ensures in
     let t = g.S.Source.whole c.args.source in
     let few : length t.items ≤ 2 ^ 40 = (g.met.S.Source g.world.𝓛 g.world.𝓜 g.world.𝓡 (λ s a. a, λ a. a, λ a. a, λ a. a)).few c.args.source in
-    let undecided = planned-undecided q c.split-plan.result split.plan split.by_key split.undecided (search rules) in
-    broken-reported g.L.Lambda.meaning q c.split-plan.result split.plan (merge_in_force q.merge) undecided t few g.K.Sink.accepts g.K.Sink.refuses c.in-Ok.taker
+    broken-reported g.L.Lambda.meaning q c.split-plan.result c.split-plan.ensures.plan (merge_in_force q.merge)
+    (search (rules, planned-undecided)) t few g.K.Sink.accepts g.K.Sink.refuses c.in-Ok.taker
     (rw c.merge_option.ensures at c.in-Ok.ensures.begun) c.args.sink.now c.conduct_plan.new.out c.in-Err.fault c.in-Err.ensures
 
 pub returns-in-Err-clause-ordered : goal.returns-in-Err-clause-ordered
