@@ -156,7 +156,8 @@ planned-may meaning q plan t u false ordered is undecided may =
     (Answer-rearranged meaning q.ops t may.taken any)
 
 module _ {L T K : Type 0} (meaning : L → Meaning T) (q : QueryView L) (plan : Plan L) (is_plan : IsPlanOf q plan) (option : MergeOption)
-    (undecided : IsUndecided plan) (t : Trace T) (few : length t.items ≤ 2 ^ 40) (accepts : K → List T → K → Type 0) (refuses : K → List T → ℕ → K → Type 0) where
+    (undecided : IsUndecided plan) (t : Trace T) (few : length t.items ≤ 2 ^ 40)
+    (accepts : K → List T → K → Type 0) (refuses : K → List T → ℕ → K → Type 0) where
   abbrev May : Trace T → Trace T → Type 0
   May = MayAnswer meaning q.ordered q.ops
 
