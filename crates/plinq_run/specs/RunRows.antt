@@ -24,13 +24,14 @@ use Rattle.plinq_run.specs.declared.report.Report.{Report}
 use Rattle.plinq_run.specs.declared.run_fault.RunFault.{RunFault}
 use Rattle.plinq_run.specs.declared.run_fault.RunFault.TheVariants.{Memory, Sink, Tickets, Thread, Incomplete, Cancelled}
 use Rattle.plinq_run.specs.Aggregates.{Aggregates}
+use Rattle.plinq_run.specs.Endings.{RunsDecided, RunsDecidedWith}
 use Rattle.plinq_run.specs.Handed.{is_end, handed_trace}
 use Rattle.plinq_run.specs.Headline.{HasDelivered}
 use Rattle.plinq_run.specs.inner.Cancelling.{ReportsLent}
 use Rattle.plinq_run.specs.inner.Offered.{IsOffered, Covers}
 use Rattle.plinq_run.specs.Reports.{HasReported}
 use Rattle.plinq_run.specs.Runs.{Runs}
-use Rattle.plinq_run.specs.Stopping.{RunsWith}
+use Rattle.plinq_run.specs.Stopping.{RunsWith, StopsAfter}
 
 -- a sink that keeps the items of its batches, and refuses one with 9
 abbrev keeps : List ℕ → List ℕ → List ℕ → Type 0
@@ -274,3 +275,41 @@ the_end_is_no_fault tells = tells.1 refl
 
 no_sink_refuses : Aggregates (picking int_max) (ended (pos 3 ∷ []) End) (Err (Run (Sink 9))) → ⊥
 no_sink_refuses tells = absurd (cc)
+
+another_value : Aggregates (picking int_max) (ended (pos 3 ∷ pos 9 ∷ []) End) (Ok (Some (pos 3))) → ⊥
+another_value tells = let same = tells.0 in absurd (cc)
+
+no_token_stops : Aggregates (picking int_max) (ended (pos 3 ∷ []) End) (Err (Run Cancelled)) → ⊥
+no_token_stops tells = absurd (cc)
+
+no_room_for_a_value : Aggregates (picking int_max) (ended (pos 3 ∷ []) End) (Err (Run Memory))
+no_room_for_a_value = refl
+
+-- ---- runs that stop after so many batches
+
+abbrev three_batches : List (List ℕ)
+three_batches = (4 ∷ []) ∷ (2 ∷ []) ∷ (5 ∷ []) ∷ []
+
+stopped_after_two : StopsAfter keeps 2 three_batches [] (4 ∷ 2 ∷ []) (Err Cancelled)
+stopped_after_two = (omega arith, (4 ∷ [], refl, (4 ∷ 2 ∷ [], refl, refl)))
+
+stopped_too_early : StopsAfter keeps 2 three_batches [] (4 ∷ []) (Err Cancelled) → ⊥
+stopped_too_early (enough, (m, one, (n, two, last))) = omega (arith, ap length last, ap length two, ap length one, length-append m (2 ∷ []))
+
+-- ---- runs of decided queries, whose sink counts its batches
+
+decided_and_delivered : (records : Vec Record) → RunsDecided {K = ℕ} 0 1 (Ok (record { ending = End; records = records })) → ⊥
+decided_and_delivered records runs = omega (arith, runs.untouched)
+
+decided_and_refused : RunsDecided {K = ℕ} 0 0 (Err Memory) → ⊥
+decided_and_refused runs = let same = runs.answered in absurd (cc)
+
+decided_and_asked : (records : Vec Record) (asked : Record) → records.items ≡ asked ∷ []
+    → RunsDecided {K = ℕ} 0 0 (Ok (record { ending = End; records = records })) → ⊥
+decided_and_asked records asked one runs = omega (arith, ap length one, ap length runs.none)
+
+decided_and_cancelled : RunsDecidedWith {K = ℕ} 1 1 (Err Cancelled)
+decided_and_cancelled = record { ended = tt; cancelled = refl; untouched = refl; none = tt }
+
+decided_without_memory : RunsDecidedWith {K = ℕ} 0 0 (Err Memory) → ⊥
+decided_without_memory runs = let same = runs.cancelled in absurd (cc)
