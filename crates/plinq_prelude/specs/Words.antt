@@ -14,7 +14,7 @@ pub use Rattle.plinq_ops.specs.Answer.{MayAnswer}
 pub use Rattle.plinq_ops.specs.Batches.{batches}
 pub use Rattle.plinq_ops.specs.Feeding.{is_empty_take}
 pub use Rattle.plinq_merge.specs.Sending.{Leads, TakesBeginning, RefusesNext, TakesEach}
-pub use Rattle.plinq_run.specs.Endings.{reported}
+pub use Rattle.plinq_run.specs.Endings.{reported, RunsDecided, RunsDecidedWith}
 pub use Rattle.plinq_run.specs.Handed.{has_close}
 pub use Rattle.plinq_run.specs.Headline.{answers, HasDelivered}
 pub use Rattle.plinq_run.specs.Reports.{Reports}
