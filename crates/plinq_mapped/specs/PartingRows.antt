@@ -1,4 +1,4 @@
--- Rows of what a run whose workers fold gives its taker: accumulators that stand for an answer's parts.
+-- Rows of what a run that folds its answer's parts gives its taker: accumulators that stand for these.
 use Rattle.std.specs.Prelude.{◌≡◌, refl, ℕ, ◌+◌, List, [], ◌∷◌, ◌++◌, Option, Some, None, Result, Ok, Err}
 use Rattle.std.proofs.Common.{arith}
 use Rattle.std.proofs.lemmas.List.Sums.{fold-append}

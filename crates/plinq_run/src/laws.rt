@@ -43,7 +43,7 @@ pub fn ordered_run_with_is_sequential<L: Lambda, C: Cancel, K: Sink<Item = L::It
 {}
 
 /// A run with a token that stops after so many batches is cancelled where the answer has as many, and then exactly so many were
-/// delivered. It reports an ending where the answer has fewer.
+/// delivered. It reports an ending where the answer has fewer. Of a run that another fault breaks off nothing is said.
 pub fn cancel_after_stops_at_its_number<L: Lambda, K: Sink<Item = L::Item>>()
     ensures { (option : MergeOption) (u : Trace L.Item) (d d' : Delivery CancelAfter K) (result : Result Report RunFault) →
         d.delivered ≡ 0 → most_of d.token ≤ 18446744073709551615 →

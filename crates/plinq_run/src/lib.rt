@@ -11,8 +11,8 @@
 //! - [`aggregate`] reports the value of such an answer's items, or how that answer ended otherwise (`AggregatesSome`).
 //! - [`fold_into`] gives a taker the accumulators of the parts of such an answer as their turn comes (`GivesSome`).
 //! - [`fold_sequentially`] folds the sequential answer as its items come, and keeps none (`HasFinished`).
-//! - Workers send results of chunks of the source as they are, or for an aggregate with nothing after the merge the fold of
-//!   each in its place (`IsPart` of `plinq_crew`).
+//! - Workers send results of chunks of the source as they are, or for a fold with nothing after the merge the fold of each in
+//!   its place (`IsPart` of `plinq_crew`).
 //! - A [`Gate`] is what workers pass on their way.
 #![tactic(auto)]
 

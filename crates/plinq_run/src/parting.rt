@@ -1,4 +1,4 @@
-//! A run whose workers fold, and whose accumulators go to a taker as their turn comes.
+//! A run that folds its answer's parts, and gives the accumulators to a taker as their turn comes.
 ghost use Rattle.std.specs.Prelude.{◌≡◌, [], true};
 ghost use Rattle.plinq_source.specs.Trace.{ended};
 ghost use Rattle.plinq_source.specs.declared.ending.Ending.TheVariants.{End};
@@ -118,8 +118,8 @@ where
     }
 }
 
-/// Folds the parts of a query's answer, and gives the accumulators to a taker as their turn comes. It is what a last step of
-/// one's own stands on, as `run_mapped` of `plinq_mapped`.
+/// Folds the parts of a query's answer, and gives the accumulators to a taker as their turn comes. [`aggregate`](crate::aggregate)
+/// stands on it, and so can a last step of one's own, as `run_mapped` of `plinq_mapped` does.
 ///
 /// Where all operators are the workers' own, each of them folds its chunks' results from the seed; where operators stand after
 /// the merge, the caller's thread folds each block that leaves these. The taker gets the accumulators on the caller's thread, by

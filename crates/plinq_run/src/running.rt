@@ -26,8 +26,8 @@ use std::marker::Brand;
 use std::sync::Wait;
 use std::thread::Threads;
 
-/// Runs a query over a source: as many workers as its degree take chunks that grow by `growth`, and the sink gets the batches
-/// of the answer as they are computed.
+/// Runs a query over a source: at most as many workers as its degree take chunks that grow by `growth`, and the sink gets the
+/// batches of the answer as they are computed.
 ///
 /// The caller's thread merges, and no thread is left when it returns. A decided query asks the source for nothing.
 ///

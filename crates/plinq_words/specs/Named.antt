@@ -2,7 +2,7 @@
 use Rattle.std.specs.Prelude.{◌≡◌, refl, ℕ, List, [], ◌∷◌, Option, Some, None, if◌then◌else◌}
 use Rattle.std.specs.Str.{bytes_eq}
 
--- the first of some that has a name
+-- the first of some that has this name
 abbrev pub first_named : {A : Type 0} → (A → List ℕ) → List A → List ℕ → Option A
 first_named name [] word = None
 first_named name (x ∷ xs) word = if bytes_eq word (name x) then Some x else first_named name xs word

@@ -1,5 +1,5 @@
 -- Combining: accumulators that are combined one after another, in the order in which results are joined.
-use Rattle.std.specs.Prelude.{◌≡◌, Bool, true, ⊤, Option, Result, Ok, Err}
+use Rattle.std.specs.Prelude.{◌≡◌, ⊤, Option, Result, Ok, Err}
 use Rattle.std.specs.List.{fold}
 use Rattle.plinq_source.specs.declared.ending.Ending.{Ending}
 use Rattle.plinq_source.specs.Trace.{Trace}
@@ -7,10 +7,6 @@ use Rattle.plinq_aggregate.specs.Folding.{Folding}
 use Rattle.plinq_merge.specs.declared.delivery_fault.DeliveryFault.{DeliveryFault}
 use Rattle.plinq_merge.specs.declared.delivery_fault.DeliveryFault.TheVariants.{Memory, Sink}
 use Rattle.plinq_run.specs.declared.combiner.Combiner.{Combiner}
-
--- whatever comes can be combined
-abbrev pub takes_all : {F : Type 0} → Combiner F → Bool
-takes_all d = true
 
 -- a trace was combined after an accumulator, and the answer ends as it does; only memory may run out
 abbrev pub Combines : {T A O : Type 0} → Folding T A O → A → Trace A → Result (Option Ending) DeliveryFault → A → Type 0
