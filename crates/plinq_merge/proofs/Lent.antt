@@ -1,6 +1,6 @@
 -- Offers with a token: a token and a sink as one sink, what is delivered in terms of either, and what the token has answered.
 use Rattle.std.specs.Prelude.{◌≡◌, ℕ, List, [], ◌∷◌, Bool, Result, Ok, Err, true, false, ◌||◌, refl}
-use Rattle.std.proofs.Common.{ap, sym, ◌∙◌, subst}
+use Rattle.std.proofs.Common.{ap, sym, ◌∙◌}
 use Rattle.std.proofs.Math.Bool.{or-false, or-true}
 use Rattle.plinq_lambda.specs.Meaning.{Meaning}
 use Rattle.plinq_ops.specs.declared.results.ChunkResult.{ChunkResult}
@@ -19,7 +19,7 @@ use Rattle.plinq_merge.specs.Working.{Work}
 use Rattle.plinq_merge.specs.Offering.{Brings, Offers, OffersWith, IsCancelled}
 use Rattle.plinq_merge.specs.Cancelling.{Delivery, Passes, IsRefused, IsKeptBack}
 use Rattle.plinq_merge.specs.Mergers.{AsksEach, delivery_fault_of, is_cancelled, told_with, SendsSome}
-use Rattle.plinq_merge.specs.Lent.{AreSame, delivery_of, Takes, KeptOrRefused, Refuses}
+use Rattle.plinq_merge.specs.Lent.{AreSame, delivery_of, Takes, Refuses}
 
 pub leads-map : {K M B : Type 0} (f : K → M) (accepts : K → B → K → Type 0) (accepts' : M → B → M → Type 0) → ((s : K) (b : B) (s' : K) → accepts s b s' → accepts' (f s) b (f s'))
     → (s : K) (bs : List B) (s' : K) → Leads accepts s bs s' → Leads accepts' (f s) bs (f s')

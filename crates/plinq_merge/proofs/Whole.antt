@@ -33,7 +33,7 @@ use Rattle.plinq_ops.specs.Batches.{batches_from}
 use Rattle.plinq_ops.proofs.Glue.{glued-append}
 use Rattle.plinq_ops.proofs.Rows.{row-next, glue-whole}
 use Rattle.plinq_ops.proofs.Stages.{seq-followed}
-use Rattle.plinq_reorder.specs.Intervals.{Interval, is_within, has_key, are_apart, IsFree, insert, unbroken, first_gap, IsRow}
+use Rattle.plinq_reorder.specs.Intervals.{Interval, is_within, has_key, are_apart, IsFree, unbroken, first_gap, IsRow}
 use Rattle.plinq_reorder.proofs.Keys.{same_key, same_test, not_within-none}
 use Rattle.plinq_reorder.proofs.Insert.{apart-insert, has_key-insert}
 use Rattle.plinq_reorder.proofs.Gap.{unbroken-row, All-unbroken, gap-missing, gap-most}

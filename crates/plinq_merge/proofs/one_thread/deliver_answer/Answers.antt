@@ -1,4 +1,4 @@
-use Rattle.std.proofs.Common.{rules, ◌≡◌, true, Err, ap, sym, ◌∙◌}
+use Rattle.std.proofs.Common.{rules, ◌≡◌, true, ap, sym, ◌∙◌}
 use Rattle.std.specs.List.{list_any}
 use Rattle.plinq_ops.specs.Stage.{some_takes_none}
 use Rattle.plinq_ops.specs.Operator.{stages_of}
@@ -7,10 +7,9 @@ use Rattle.plinq_ops.specs.Feeding.{is_empty_take}
 use Rattle.plinq_ops.specs.Query.{merge_in_force}
 use Rattle.plinq_ops.proofs.ByKey.{stages-begun}
 use Rattle.plinq_ops.proofs.Counts.{some_takes_none-stages_of}
-use Rattle.plinq_merge.specs.declared.delivery_fault.DeliveryFault.TheVariants.{Memory}
 use Rattle.plinq_merge.specs.Buffer.{size_of}
 use Rattle.plinq_merge.proofs.Delivered.{begun-undecided}
-use Rattle.plinq_merge.proofs.Delivered.{answer-none, answer-stopped}
+use Rattle.plinq_merge.proofs.Delivered.{answer-none}
 use Rattle.plinq_merge.proofs.one_thread.deliver_answer.Goals as goal
 
 pub returns-then-split-clause-delivers : goal.returns-then-split-clause-delivers

@@ -1,8 +1,7 @@
-use Rattle.std.proofs.Common.{rules, ◌≡◌, ◌<◌, ◌-◌, ◌%◌, [], ◌++◌, length, drop, Some, Err, arith, ◌∙◌, ap, sym}
+use Rattle.std.proofs.Common.{rules, ◌≡◌, ◌<◌, ◌-◌, ◌%◌, [], ◌++◌, length, drop, Some, arith, ◌∙◌, ap, sym}
 use Rattle.plinq_ops.specs.Batches.{full_batches}
-use Rattle.plinq_merge.specs.Sending.{Leads, IsCutOff}
+use Rattle.plinq_merge.specs.Sending.{Leads}
 use Rattle.plinq_merge.proofs.Blocks.{held_back-rest, rest-short, filled-all}
-use Rattle.plinq_merge.specs.inner.Sent.{delivers-at_err}
 use Rattle.plinq_merge.proofs.sending.hand_whole.Goals as goal
 
 pub returns-clause-filled : goal.returns-clause-filled

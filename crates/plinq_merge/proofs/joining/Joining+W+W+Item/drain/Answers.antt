@@ -1,9 +1,8 @@
-use Rattle.std.proofs.Common.{rules, ◌≡◌, Ok, None, ◌∙◌, sym, ap, subst}
-use Rattle.plinq_ops.proofs.Fed.{none-from_is_some}
-use Rattle.plinq_reorder.specs.Buffered.{TakesNext, IsAtGap}
+use Rattle.std.proofs.Common.{rules, ◌≡◌, None, ◌∙◌, sym, ap, subst}
+use Rattle.plinq_reorder.specs.Buffered.{IsAtGap}
 use Rattle.plinq_merge.specs.Shown.{ending_at}
 use Rattle.plinq_merge.specs.Joining.{Waits}
-use Rattle.plinq_merge.proofs.Joins.{moved-none, moved-next, moved-waits}
+use Rattle.plinq_merge.proofs.Joins.{moved-waits}
 use Rattle.plinq_merge.proofs.joining.Joining+W+W+Item.drain.Goals as goal
 
 pub returns-then-is_none-clause-waits : goal.returns-then-is_none-clause-waits

@@ -1,8 +1,6 @@
-use Rattle.std.proofs.Common.{rules, ◌≡◌, ◌<◌, [], ◌∷◌, length, Some, Err, arith, refl}
-use Rattle.plinq_ops.specs.Batches.{full_batches}
-use Rattle.plinq_merge.specs.declared.delivery_fault.DeliveryFault.TheVariants.{Sink}
+use Rattle.std.proofs.Common.{rules, ◌<◌, [], ◌∷◌, length, arith, refl}
 use Rattle.plinq_merge.specs.Sending.{Leads}
-use Rattle.plinq_merge.specs.inner.Sent.{up_to-more, up_to-leads, up_to-cut}
+use Rattle.plinq_merge.specs.inner.Sent.{up_to-more, up_to-leads}
 use Rattle.plinq_merge.proofs.Blocks.{full_batches-split, full_batches-short}
 use Rattle.plinq_merge.proofs.sink.Sink.batches_of.Goals as goal
 
