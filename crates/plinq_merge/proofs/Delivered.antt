@@ -24,7 +24,7 @@ use Rattle.plinq_ops.proofs.Open.{open-from_seq}
 use Rattle.plinq_ops.proofs.Runs.{batches_from-open, full_batches-append, held_back-append, batches_from-followed}
 use Rattle.plinq_ops.specs.Sequential.{first_items}
 use Rattle.plinq_ops.proofs.Batched.{full_batches-none, held_back-none}
-use Rattle.plinq_ops.proofs.Answered.{fed-on, fed-over, deciding-over, deciding-wider, deciding-singly, deciding-of_none, answer-of_none, answer-fed}
+use Rattle.plinq_ops.proofs.Answered.{feeds-smaller, fed-on, fed-over, deciding-over, deciding-wider, deciding-singly, deciding-of_none, answer-of_none, answer-fed}
 use Rattle.plinq_merge.specs.declared.deliver.Deliver.{Deliver}
 use Rattle.plinq_merge.specs.declared.delivery_fault.DeliveryFault.{DeliveryFault}
 use Rattle.plinq_merge.specs.declared.delivery_fault.DeliveryFault.TheVariants.{Memory}
@@ -32,7 +32,7 @@ use Rattle.plinq_merge.specs.Buffer.{held_of, size_of, HasRoom}
 use Rattle.plinq_merge.specs.Sending.{Leads, IsCutOff, Delivers, IsFilled}
 use Rattle.plinq_merge.specs.Merging.{GoesOn}
 use Rattle.plinq_merge.specs.Delivering.{Line, KeepsPlan, line_of, is_below, can_deliver, Made}
-use Rattle.plinq_merge.specs.Deliveries.{batches-on}
+use Rattle.plinq_merge.specs.Deliveries.{batches-on, held-on, leads-filled}
 use Rattle.plinq_merge.specs.inner.Handing.{HandsOn}
 use Rattle.plinq_merge.specs.inner.OneThread.{DeliversAnswer}
 use Rattle.plinq_merge.proofs.Blocks.{full_batches-split, full_batches-short}
@@ -147,15 +147,12 @@ module _ {K T : Type 0} (accepts : K → List T → K → Type 0) (refuses : K �
   sent-handed t held held' made left ss' s1 s2 e x hands before =
       let given : List T = hands.given in
       let P : List T → Type 0 = λ xs. IsFed ss t [] xs ss' e in
-      let Q : List (List T) → Type 0 = λ bs. Leads accepts s bs s2 in
       let parts : made ≡ given ++ left = hands.parts ∙ ap (λ xs. given ++ xs) (sym hands.waits) in
-      let batches : full_batches size [] (before.out ++ given) ≡ full_batches size [] before.out ++ full_batches size held given =
-      full_batches-append size [] before.out given ∙ ap (λ h. full_batches size [] before.out ++ full_batches size h given) (sym before.keeps) in
       record {
         out = before.out ++ given;
         fed = subst P (ap (λ xs. before.out ++ xs) parts ∙ sym (append_assoc before.out given left)) before.fed;
-        keeps = hands.filled.held ∙ ap (λ h. held_back size h given) before.keeps ∙ sym (held_back-append size [] before.out given);
-        leads = subst Q (sym batches) (leads-append accepts s (full_batches size [] before.out) (full_batches size held given) s1 s2 before.leads hands.filled.sent);
+        keeps = held-on size [] held held' before.out given before.keeps hands.filled.held;
+        leads = leads-filled accepts size [] held before.out given s s1 s2 before.keeps before.leads hands.filled.sent;
       }
 
   -- what the source gave next decides the answer, and the rest was delivered or cut off
@@ -214,22 +211,18 @@ module _ {K T : Type 0} (accepts : K → List T → K → Type 0) (refuses : K �
       let is = answer-of_none ss t none in
       record { ending = ap (λ u. u.ending) is; delivered = rw is refl; blocks = rw fresh (deciding-of_none most ss t none) }
 
--- ---- what the search is told
+-- ---- what the search is told: of what breaks off and goes on, of one batch of all, batch by batch, before anything was fed, and in the loops
 
--- what breaks off, and what goes on
 pub ruleset delivering = (delivers-at_err, cut-before, delivers-after)
 
--- where one batch takes all
 pub ruleset buffering = (full_batches-none, held_back-none)
 
--- batch by batch
 pub ruleset handing = (up_to-more, up_to-leads, up_to-cut, full_batches-split, full_batches-short)
 
--- before anything was fed
 pub ruleset stopping = (answer-stopped)
 
--- what a loop keeps
 pub ruleset sending_on = (sent-none, sent-on, sent-handed)
 
--- blocks of other lengths
+pub ruleset in_blocks = (sent-none, feeds-smaller)
+
 pub ruleset deciding = (deciding-wider, deciding-singly)

@@ -10,7 +10,6 @@ use Rattle.plinq_source.proofs.Followed.{trace_of, followed-followed, followed-o
 use Rattle.plinq_ops.specs.declared.order.Order.{Order}
 use Rattle.plinq_ops.specs.declared.results.ChunkResult.{ChunkResult}
 use Rattle.plinq_ops.specs.Tails.{end_of_result, told_at}
-use Rattle.plinq_ops.proofs.Fed.{none-from_is_some}
 use Rattle.plinq_reorder.specs.Intervals.{is_within}
 use Rattle.plinq_reorder.specs.Buffered.{Buffered, is_taken, IsFresh, inserted, TakesNext, IsAtGap}
 use Rattle.plinq_merge.specs.declared.delivery_fault.DeliveryFault.{DeliveryFault}
@@ -244,8 +243,5 @@ module _ {W O T : Type 0} (made : W → O → Trace T → Result (Option Ending)
     pub begun-joined : (j : Joiner W T) (x : O) → j.standing ≡ Open → WaitsFor j [] → HasJoined made (taker_of j) x j x []
     begun-joined j x still waits = subst (λ s. HasJoinedAt made (taker_of j) x j.work s x []) (sym still) (waits, lawful.begins (taker_of j) x)
 
--- where nothing was offered yet
-pub ruleset beginning = (begun-waits)
-
--- what a row gives until it comes to a gap
-pub ruleset draining = (moved-none, moved-next, moved-waits, none-from_is_some)
+-- where nothing was offered or taken yet
+pub ruleset beginning = (begun-waits, moved-none)

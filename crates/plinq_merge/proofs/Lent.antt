@@ -78,9 +78,6 @@ module _ {C : Type 0} (asks : C → ℕ → Bool → C → Type 0) (has_told : C
         stops-told last.token last.delivered d'.token asked.1.stops.asked ∙ sym (or-true (has_told d.token))
     asks-told d (Err fault) d' asked = cut-told d asked.0 (delivery_fault_of fault) d' asked.1 ∙ sym (or-false (has_told d.token))
 
-same-as : {C K : Type 0} (w w' : WithCancellation C K) → w' ≡ w → AreSame w w'
-same-as w w' is = record { token = ap (λ x. x.token.ghost_name) is; sink = ap (λ x. x.sink.ghost_name) is }
-
 same-on : {C K : Type 0} (w m w' : WithCancellation C K) → AreSame w m → AreSame m w' → AreSame w w'
 same-on w m w' first second = record { token = second.token ∙ first.token; sink = second.sink ∙ first.sink }
 
@@ -92,7 +89,9 @@ module _ {C K T : Type 0} (asks : C → ℕ → Bool → C → Type 0) (accepts 
     pub still : w'.is_stopped ≡ w.is_stopped
 
   pub leads-on : (w : WithCancellation C K) (bs : List (List T)) (w' : WithCancellation C K) → Leads (Takes asks accepts) w bs w' → GoesOn w bs w'
-  leads-on w [] w' is = record { same = same-as w w' is; leads = ap delivery_of is; still = ap (λ x. x.is_stopped) is }
+  leads-on w [] w' is =
+      let same : AreSame w w' = record { token = ap (λ x. x.token.ghost_name) is; sink = ap (λ x. x.sink.ghost_name) is } in
+      record { same = same; leads = ap delivery_of is; still = ap (λ x. x.is_stopped) is }
   leads-on w (b ∷ bs) w' leads =
       let m = leads.0 in
       let step = leads.1 in

@@ -30,7 +30,7 @@ use Rattle.plinq_merge.specs.Shown.{Merge, merged, answer, shown}
 use Rattle.plinq_merge.specs.Merging.{GoesOn}
 use Rattle.plinq_merge.specs.Joining.{Joins, Waits, AnswersOffer}
 use Rattle.plinq_merge.specs.Delivering.{Line, line_of, Gives, MadeBy, is_below, can_deliver}
-use Rattle.plinq_merge.specs.Deliveries.{batches-on, goes_on-on}
+use Rattle.plinq_merge.specs.Deliveries.{batches-on, held-on, goes_on-on}
 use Rattle.plinq_merge.specs.Working.{Work, merge_of, Rests}
 use Rattle.plinq_merge.specs.Offering.{Brings, Offers}
 use Rattle.plinq_merge.specs.Mergers.{SendsSome}
@@ -114,11 +114,7 @@ module _ {L T : Type 0} (meaning : L → Meaning T) (decided : Bool) (w : Work L
           on = subst (λ t. GoesOn l'.after t (rests.out ++ next.out) None l'.now) (sym all)
               (subst (λ ss. GoesOn ss (followed (merged w.order offers) joins.gained) (rests.out ++ next.out) None l'.now) (sym plan.after) both);
           nothing = nothing;
-          held =
-              next.held
-              ∙ ap (λ h. held_back l.size h next.out) rests.held
-              ∙ sym (held_back-append l.size [] rests.out next.out)
-              ∙ ap (λ n. held_back n [] (rests.out ++ next.out)) (sym plan.size);
+          held = held-on l.size [] l.held l'.held rests.out next.out rests.held next.held ∙ ap (λ n. held_back n [] (rests.out ++ next.out)) (sym plan.size);
         }
 
     -- the answer has ended

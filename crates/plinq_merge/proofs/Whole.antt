@@ -162,9 +162,8 @@ module _ {L T : Type 0} (meaning : L → Meaning T) (worker : List (Op L)) (t : 
   row-gives from [] to is_row all = followed-open_nil (before from) ∙ ap before is_row
   row-gives from (p ∷ ps) to is_row all =
       let here = All-head IsOfSource p ps all in
-      sym (followed-followed (before from) p.1.payload (all_given ps))
-      ∙ ap (λ k. followed (followed (before k) p.1.payload) (all_given ps)) (sym is_row.0)
-      ∙ ap (λ u. followed u (all_given ps)) here.next
+      ap (λ k. followed (before k) (all_given (p ∷ ps))) (sym is_row.0)
+      ∙ sym (followed-followed (before p.0) p.1.payload (all_given ps)) ∙ ap (λ u. followed u (all_given ps)) here.next
       ∙ row-gives p.1.end ps to is_row.1 (All-tail IsOfSource p ps all)
 
   -- so the offers merge to what the items before the first gap give, and the source's ending if this is its place

@@ -32,6 +32,18 @@ pub batches-on : {T : Type 0} (size : Option ℕ) (held xs held' : List T) (all 
 batches-on size held xs held' all rest is keeps =
     ap (batches_from size held) is ∙ batches_from-followed size held xs rest ∙ ap (λ h. full_batches size held xs ++ batches_from size h rest) (sym keeps)
 
+-- what is held back of items, and of others after them
+pub held-on : {T : Type 0} (size : Option ℕ) (held held1 held2 xs ys : List T) → held1 ≡ held_back size held xs → held2 ≡ held_back size held1 ys
+    → held2 ≡ held_back size held (xs ++ ys)
+held-on size held held1 held2 xs ys first second = second ∙ ap (λ h. held_back size h ys) first ∙ sym (held_back-append size held xs ys)
+
+-- their full batches were delivered
+pub leads-filled : {K T : Type 0} (accepts : K → List T → K → Type 0) (size : Option ℕ) (held held1 xs ys : List T) (s s1 s2 : K) → held1 ≡ held_back size held xs
+    → Leads accepts s (full_batches size held xs) s1 → Leads accepts s1 (full_batches size held1 ys) s2 → Leads accepts s (full_batches size held (xs ++ ys)) s2
+leads-filled accepts size held held1 xs ys s s1 s2 keeps first second =
+    subst (λ bs. Leads accepts s bs s2) (sym (full_batches-append size held xs ys ∙ ap (λ h. full_batches size held xs ++ full_batches size h ys) (sym keeps)))
+    (leads-append accepts s (full_batches size held xs) (full_batches size held1 ys) s1 s2 first second)
+
 -- operators go on after one trace, and then after another
 pub goes_on-on : {T : Type 0} (now now1 now2 : List (Stage T)) (t u : Trace T) (xs ys : List T) → GoesOn now t xs None now1 → GoesOn now1 u ys None now2
     → GoesOn now (followed t u) (xs ++ ys) None now2
@@ -61,18 +73,9 @@ module _ {K T : Type 0} (accepts : K → List T → K → Type 0) (refuses : K �
       record {
         out = first.out ++ second.out;
         on = goes_on-on l.now l1.now l2.now (open_trace xs) t first.out second.out first.on second.on;
-        held =
-            second.held
-            ∙ ap (λ n. held_back n l1.held second.out) plan.size
-            ∙ ap (λ h. held_back l.size h second.out) first.held
-            ∙ sym (held_back-append l.size l.held first.out second.out);
-        leads =
-            let P : List (List T) → Type 0 = λ bs. Leads accepts s bs s2 in
-            let same : full_batches l.size l.held (first.out ++ second.out) ≡ full_batches l.size l.held first.out ++ full_batches l1.size l1.held second.out =
-            full_batches-append l.size l.held first.out second.out
-            ∙ ap (λ h. full_batches l.size l.held first.out ++ full_batches l.size h second.out) (sym first.held)
-            ∙ ap (λ n. full_batches l.size l.held first.out ++ full_batches n l1.held second.out) (sym plan.size) in
-            subst P (sym same) (leads-append accepts s (full_batches l.size l.held first.out) (full_batches l1.size l1.held second.out) s1 s2 first.leads second.leads);
+        held = held-on l.size l.held l1.held l2.held first.out second.out first.held (second.held ∙ ap (λ n. held_back n l1.held second.out) plan.size);
+        leads = leads-filled accepts l.size l.held l1.held first.out second.out s s1 s2 first.held first.leads
+            (subst (λ n. Leads accepts s1 (full_batches n l1.held second.out) s2) plan.size second.leads);
       }
   gives-goes_on l s xs l1 s1 t (Ok (Some e)) l2 s2 plan first second =
       let P : List (List T) → Type 0 = λ bs. Leads accepts s bs s2 in (

@@ -21,7 +21,7 @@ const QUIET_BLOCKS: u64 = 16;
 
 /// Sends what a source gives through a pipeline, so many elements at a time, up to those that end the run, and delivers what
 /// comes out.
-#[tactic(auto, using(crate::proofs::Delivered::sending_on))]
+#[tactic(auto, using(crate::proofs::Delivered::in_blocks))]
 pub(crate) fn deliver_blocks<L, S, K>(
     alloc: Global,
     most: u64,

@@ -68,7 +68,7 @@ impl<W: Taker> Joining<W, W::Item> {
     }
 
     /// Gives the taker what waits under the next keys, up to a gap or to the end of the answer.
-    #[tactic(auto, using(crate::proofs::Joins::draining))]
+    #[tactic(auto, using(crate::proofs::Joins::beginning))]
     fn drain<O>(&mut self, out: &mut O) -> Result<Option<Ending>, DeliveryFault>
     where
         W: TakeInto<O>,

@@ -8,8 +8,7 @@ use Rattle.plinq_ops.specs.Query.{merge_in_force}
 use Rattle.plinq_ops.proofs.ByKey.{stages-begun}
 use Rattle.plinq_ops.proofs.Counts.{some_takes_none-stages_of}
 use Rattle.plinq_merge.specs.Buffer.{size_of}
-use Rattle.plinq_merge.proofs.Delivered.{begun-undecided}
-use Rattle.plinq_merge.proofs.Delivered.{answer-none}
+use Rattle.plinq_merge.proofs.Delivered.{begun-undecided, answer-none}
 use Rattle.plinq_merge.proofs.one_thread.deliver_answer.Goals as goal
 
 pub returns-then-split-clause-delivers : goal.returns-then-split-clause-delivers

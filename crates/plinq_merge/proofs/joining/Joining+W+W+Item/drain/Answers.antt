@@ -1,9 +1,20 @@
-use Rattle.std.proofs.Common.{rules, ◌≡◌, None, ◌∙◌, sym, ap, subst}
-use Rattle.plinq_reorder.specs.Buffered.{IsAtGap}
+use Rattle.std.proofs.Common.{rules, ◌≡◌, None, ◌∙◌, sym, ap, subst, Ok}
+use Rattle.plinq_ops.proofs.Fed.{none-from_is_some}
+use Rattle.plinq_reorder.specs.Buffered.{TakesNext, IsAtGap}
 use Rattle.plinq_merge.specs.Shown.{ending_at}
 use Rattle.plinq_merge.specs.Joining.{Waits}
-use Rattle.plinq_merge.proofs.Joins.{moved-waits}
+use Rattle.plinq_merge.proofs.Joins.{moved-next, moved-waits}
 use Rattle.plinq_merge.proofs.joining.Joining+W+W+Item.drain.Goals as goal
+
+pub loop-part-preserved : goal.loop-part-preserved
+loop-part-preserved g c =
+    let none : c.in_ok-ending.ending ≡ None = none-from_is_some _ (search rules) in
+    let takes : TakesNext c.loop-part.self.row.buffer c.in-Some.part c.take_next.new.self = search rules in
+    record {
+      ready = c.in_ok-ending.ensures.ready (ap Ok none);
+      moves = moved-next g.W.TakeInto.made g.met.W.TakeInto.lawful c.args.self.now c.args.out.now c.loop-part.self c.loop-part.out c.take_next.new.self c.in-Some.part
+          _ _ _ c.loop-part.invariant.moves takes (rw none at c.in_ok-ending.ensures.made) (c.in_ok-ending.ensures.last (ap Ok none));
+    }
 
 pub returns-then-is_none-clause-waits : goal.returns-then-is_none-clause-waits
 returns-then-is_none-clause-waits g c = λ is_open offers out h keys.
