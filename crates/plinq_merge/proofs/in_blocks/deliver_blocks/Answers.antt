@@ -1,7 +1,6 @@
 use Rattle.std.proofs.Common.{rules, arith, ◌≡◌, Err, drop, ◌∙◌}
 use Rattle.std.proofs.lemmas.List.{length-take}
 use Rattle.plinq_ops.proofs.Fed.{undecided-left}
-use Rattle.plinq_ops.proofs.Answered.{feeds-smaller}
 use Rattle.plinq_merge.specs.declared.delivery_fault.DeliveryFault.TheVariants.{Memory}
 use Rattle.plinq_merge.proofs.Delivered.{hands-all, sent-on, sent-handed, sent-over, sent-cut, sent-stopped}
 use Rattle.plinq_merge.proofs.in_blocks.deliver_blocks.Goals as goal
