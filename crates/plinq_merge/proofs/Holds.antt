@@ -159,8 +159,7 @@ module _ {T : Type 0} where
   -- that of any other waits among the others
   takes-held : (order : Order) (before : Row T) (r : ChunkResult T) (after : Row T) → 0 < r.count → IsFresh before.buffer r.first (end_of_result r)
       → after.buffer ≡ inserted before.buffer r.first (end_of_result r) (waiting_trace order r)
-      → after.told ≡ option_or before.told (told_at (end_of_result r) r.tail)
-      → TakesIn order before r (at_once order r) after
+      → after.told ≡ option_or before.told (told_at (end_of_result r) r.tail) → TakesIn order before r (at_once order r) after
   takes-held order before r after some fresh same told =
       let q : Trace T = waiting_trace order r in
       let past = after-next before.buffer r.first (end_of_result r) fresh (omega arith) in

@@ -133,9 +133,11 @@ module _ {W O T : Type 0} (made : W → O → Trace T → Result (Option Ending)
   -- ---- a result of new keys was joined
 
   module _ (w : Joining W T) (r : ChunkResult T) (y : O) (fresh : IsFresh w.row.buffer r.first (end_of_result r)) where
-    module _ (hand : Trace T) (row1 : Row T) (takes : TakesIn w.order w.row r hand row1) (result : Result (Option Ending) DeliveryFault) (w' : Joining W T) (y' : O) where
+    module _ (hand : Trace T) (row1 : Row T) (takes : TakesIn w.order w.row r hand row1) (result : Result (Option Ending) DeliveryFault)
+        (w' : Joining W T) (y' : O) where
       joins-taken : made w.taker y (followed hand (rest_of row1)) result w'.taker y'
-          → (result ≡ Ok None → (offers : List (ChunkResult T)) → Waits w.order w.row offers → Waits w'.order w'.row (offers ++ r ∷ [])) → Joins made w r y result w' y'
+          → (result ≡ Ok None → (offers : List (ChunkResult T)) → Waits w.order w.row offers → Waits w'.order w'.row (offers ++ r ∷ []))
+          → Joins made w r y result w' y'
       joins-taken taken waits =
           record {
             gained = followed hand (rest_of row1);
@@ -157,7 +159,8 @@ module _ {W O T : Type 0} (made : W → O → Trace T → Result (Option Ending)
       joins-drained a z keys taken none drained waits =
           joins-taken (taken-after w.taker y hand (rest_of row1) _ a z result w'.taker y' none taken drained refl) (λ is_open offers before.
           waits is_open (offers ++ r ∷ []) (before.out ++ hand.items)
-          (subst (Holds w.order row1 (offers ++ r ∷ [])) (ap (followed (open_trace before.out)) (open-is hand none)) (takes offers (open_trace before.out) before.holds))
+          (subst (Holds w.order row1 (offers ++ r ∷ [])) (ap (followed (open_trace before.out)) (open-is hand none))
+          (takes offers (open_trace before.out) before.holds))
           (λ key. is_offered-append offers r key ∙ ap (λ v. v || is_within r.first (end_of_result r) key) (before.keys key) ∙ sym (keys key)))
 
     -- it couldn't be kept
@@ -206,8 +209,8 @@ module _ {W O T : Type 0} (made : W → O → Trace T → Result (Option Ending)
         more = offers ++ r ∷ []
 
         -- with one offer more the taker has taken what they merge to then
-        grown : (how : Result (Option Ending) DeliveryFault) (order : Order) → order ≡ w.order → HasJoinedAt made a x w Open y offers → Joins made w r y how w' y'
-            → made a x (merged order more) how w'.taker y'
+        grown : (how : Result (Option Ending) DeliveryFault) (order : Order) → order ≡ w.order → HasJoinedAt made a x w Open y offers
+            → Joins made w r y how w' y' → made a x (merged order more) how w'.taker y'
         grown how order is joined joins =
             taken-after made lawful a x (merged w.order offers) joins.gained (merged order more) w.taker y how w'.taker y'
             (ap (λ t. t.ending) (merged-waits w.order w.row offers joined.0)) joined.1 joins.taken (ap (λ o. merged o more) is ∙ joins.grows offers joined.0)

@@ -34,8 +34,7 @@ cut-map f accepts refuses accepts' refuses' takes refused s bs (Refusal code) s'
     (cut.0, cut.1, cut.2, f cut.3, cut.4, leads-map f accepts accepts' takes s cut.0 cut.3 cut.5, refused cut.3 cut.1 code s' cut.6)
 
 brings-map : {T : Type 0} (merge : Merge T) (offers : List (ChunkResult T)) (r : ChunkResult T) (P Q : List (List T) → Type 0)
-    → ((bs : List (List T)) → P bs → Q bs)
-    → Brings merge offers r P → Brings merge offers r Q
+    → ((bs : List (List T)) → P bs → Q bs) → Brings merge offers r P → Brings merge offers r Q
 brings-map merge offers r P Q on brings = record { are_new = brings.are_new; gained = brings.gained; grows = brings.grows; sent = on brings.gained brings.sent }
 
 -- an offer, where what is delivered goes from s to s', and in the other words from t to t'

@@ -146,8 +146,7 @@ module _ {L T : Type 0} (meaning : L → Meaning T) (decided : Bool) (w : Work L
 
       -- what was delivered, whatever the offers
       pub sends-joined : (standing : JoinerState) (result : Result More MergeFault)
-          → AnswersOffer (MadeBy accepts refuses meaning) w standing r s result w' standing' s'
-          → SendsSome accepts refuses s result s'
+          → AnswersOffer (MadeBy accepts refuses meaning) w standing r s result w' standing' s' → SendsSome accepts refuses s result s'
       sends-joined Open (Ok Yes) o = let gives = o.1.taken.gives in (full_batches (size_of w.taker.buffer) (held_of w.taker.buffer) gives.out, gives.leads)
       sends-joined Open (Ok No) o = (due o.2.gained, o.2.taken.gives.1)
       sends-joined Open (Err Memory) o = (due o.1.gained, o.1.taken.gives)

@@ -126,8 +126,7 @@ pub placed-all : {T : Type 0} (order : Order) (ps : List (Interval (Trace T))) (
 placed-all order ps [] apart new free = record { apart = apart; keys = λ key. sym (or-false (has_key ps key)) }
 placed-all order ps (r ∷ rs) apart new free =
     let one = placed-one order ps r apart (λ key within. free key (or_left _ _ within)) in
-    let others = placed-all order (placed order ps r) rs one.0 new.1
-    (λ key there. one.1 key ∙ or_from _ _ (free key (or_right _ _ there))
+    let others = placed-all order (placed order ps r) rs one.0 new.1 (λ key there. one.1 key ∙ or_from _ _ (free key (or_right _ _ there))
     (false_from_ne_true _ (λ within. let bad : true ≡ false = sym there ∙ new.0 key within in cc))) in
     record {
       apart = others.apart;

@@ -38,8 +38,9 @@ pub held-on : {T : Type 0} (size : Option ℕ) (held held1 held2 xs ys : List T)
 held-on size held held1 held2 xs ys first second = second ∙ ap (λ h. held_back size h ys) first ∙ sym (held_back-append size held xs ys)
 
 -- their full batches were delivered
-pub leads-filled : {K T : Type 0} (accepts : K → List T → K → Type 0) (size : Option ℕ) (held held1 xs ys : List T) (s s1 s2 : K) → held1 ≡ held_back size held xs
-    → Leads accepts s (full_batches size held xs) s1 → Leads accepts s1 (full_batches size held1 ys) s2 → Leads accepts s (full_batches size held (xs ++ ys)) s2
+pub leads-filled : {K T : Type 0} (accepts : K → List T → K → Type 0) (size : Option ℕ) (held held1 xs ys : List T) (s s1 s2 : K)
+    → held1 ≡ held_back size held xs → Leads accepts s (full_batches size held xs) s1
+    → Leads accepts s1 (full_batches size held1 ys) s2 → Leads accepts s (full_batches size held (xs ++ ys)) s2
 leads-filled accepts size held held1 xs ys s s1 s2 keeps first second =
     subst (λ bs. Leads accepts s bs s2) (sym (full_batches-append size held xs ys ∙ ap (λ h. full_batches size held xs ++ full_batches size h ys) (sym keeps)))
     (leads-append accepts s (full_batches size held xs) (full_batches size held1 ys) s1 s2 first second)

@@ -12,8 +12,8 @@ loop-part-preserved g c =
     let takes : TakesNext c.loop-part.self.row.buffer c.in-Some.part c.take_next.new.self = search rules in
     record {
       ready = c.in_ok-ending.ensures.ready (ap Ok none);
-      moves = moved-next g.W.TakeInto.made g.met.W.TakeInto.lawful c.args.self.now c.args.out.now c.loop-part.self c.loop-part.out c.take_next.new.self c.in-Some.part
-          _ _ _ c.loop-part.invariant.moves takes (rw none at c.in_ok-ending.ensures.made) (c.in_ok-ending.ensures.last (ap Ok none));
+      moves = moved-next g.W.TakeInto.made g.met.W.TakeInto.lawful c.args.self.now c.args.out.now c.loop-part.self c.loop-part.out c.take_next.new.self
+          c.in-Some.part _ _ _ c.loop-part.invariant.moves takes (rw none at c.in_ok-ending.ensures.made) (c.in_ok-ending.ensures.last (ap Ok none));
     }
 
 pub returns-then-is_none-clause-waits : goal.returns-then-is_none-clause-waits
