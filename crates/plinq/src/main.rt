@@ -6,7 +6,7 @@ use std::io::{BufWriter, ErrorKind};
 use std::process::ExitCode;
 use std::{env, io};
 
-// How many bytes of output are held back until they are written.
+/// How many bytes of output are held back until they are written.
 const HELD_BACK: usize = 65_536;
 
 fn main(rt: HostRuntime) -> ExitCode {
@@ -28,7 +28,7 @@ fn words_of(rt: &HostRuntime) -> io::Result<Vec<String>> {
     Ok(env::args(rt)?.collect(rt.alloc())?)
 }
 
-// Why the words couldn't be had: no memory for them, or they are no text.
+/// Why the words couldn't be had: no memory for them, or they are no text.
 fn refuse(rt: &HostRuntime, error: &io::Error) -> u8 {
     if error.kind() == ErrorKind::OutOfMemory {
         return refuse_for_memory(rt);

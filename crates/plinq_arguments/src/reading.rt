@@ -121,7 +121,7 @@ fn command_line<'a>(alloc: Global) -> Result<clap::Command<'a>, AllocError>
         )?)
 }
 
-// `run`, which alone can be cancelled.
+/// `run`, which alone can be cancelled.
 fn run_command<'a>(
     alloc: Global,
     merge_words: ValueParser<'a>,
@@ -185,7 +185,7 @@ fn chosen(matches: &ArgMatches<'_>) -> Option<Arguments>
     })
 }
 
-// The command of this subcommand.
+/// The command of this subcommand.
 fn command_of(name: &str, _options: &ArgMatches<'_>) -> Option<Command>
     ensures { result ≡ beside (command_names (rows_of (found_of _options.now))) name.now }
 {
@@ -199,14 +199,14 @@ fn command_of(name: &str, _options: &ArgMatches<'_>) -> Option<Command>
     }
 }
 
-// `clap` has refused any number that is no degree.
+/// `clap` has refused any number that is no degree.
 fn workers_of(options: &ArgMatches<'_>) -> Option<Degree>
     ensures { result ≡ workers_of (rows_of (found_of options.now)) }
 {
     Degree::new(options.get_one::<u64>("workers")?)
 }
 
-// Only `run` has the option, and `clap` has refused any other number.
+/// Only `run` has the option, and `clap` has refused any other number.
 fn cancel_of(options: &ArgMatches<'_>) -> Option<u64>
     ensures { result ≡ cancel_of (rows_of (found_of options.now)) }
 {

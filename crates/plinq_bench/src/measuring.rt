@@ -26,7 +26,7 @@ pub(crate) struct Seen {
 }
 
 impl Seen {
-    // The shorter of the times of two runs that came to the same sum, and the more that was pulled.
+    /// The shorter of the times of two runs that came to the same sum, and the more that was pulled.
     fn or_better(self, other: Seen) -> Seen {
         Seen {
             time: self.time.min(other.time),
@@ -97,7 +97,7 @@ fn loop_it<C: Clock>(clock: &C, job: Job) -> Result<Seen, BenchFault> {
     })
 }
 
-// Runs it by threads.
+/// Runs it by threads.
 fn run_it<R: Threads + Wait + Sync + Clock>(
     rt: &R,
     alloc: Global,
@@ -152,7 +152,7 @@ fn delivered<R: Threads + Wait + Sync + Clock>(
     })
 }
 
-// How many elements left the source.
+/// How many elements left the source.
 fn pulled(records: &[Record]) -> u64 {
     match records.last() {
         Some(record) => record.first.saturating_add(record.count),

@@ -9,7 +9,7 @@ use std::sync::Wait;
 use std::thread::{Threads, join, sleep};
 use std::time::{Clock, Duration, Instant};
 
-// How long a run goes on before its flag is set, in milliseconds.
+/// How long a run goes on before its flag is set, in milliseconds.
 const BEFORE: u64 = 200;
 
 /// Has another thread set the flag of a workload's run, and answers how long the run went on then. It is `None` where the
@@ -29,7 +29,7 @@ pub(crate) fn stop_it<R: Threads + Wait + Sync + Clock>(
     Ok(stopped.map(|stopped| stopped.saturating_duration_since(set)))
 }
 
-// Sets the flag after a while, and answers when.
+/// Sets the flag after a while, and answers when.
 fn set_later<C: Clock>(clock: &C, flag: &CancelFlag) -> io::Result<Instant> {
     sleep(clock, Duration::from_millis(BEFORE));
     let set = Instant::now(clock);
@@ -37,7 +37,7 @@ fn set_later<C: Clock>(clock: &C, flag: &CancelFlag) -> io::Result<Instant> {
     set
 }
 
-// Runs a workload, and answers when its flag has stopped it.
+/// Runs a workload, and answers when its flag has stopped it.
 fn run_until<R: Threads + Wait + Sync + Clock>(
     rt: &R,
     alloc: Global,

@@ -1,10 +1,10 @@
 use crate::job::Job;
 use crate::workload::Workload;
 
-// How many items a run that is to be stopped has where no number is given, so many that the flag comes first.
+/// How many items a run that is to be stopped has where no number is given, so many that the flag comes first.
 const MANY: i64 = 1_000_000_000;
 
-// How many rounds there are where none are asked for.
+/// How many rounds there are where none are asked for.
 const ROUNDS: i64 = 4;
 
 /// What is asked for.
@@ -43,7 +43,7 @@ fn measured_by(words: &[String]) -> Option<Task> {
     Some(Task::Measure(job_of(words, None)?, number_at(words, 3, ROUNDS)?))
 }
 
-// Where no number of items is given, there are so many, or the usual ones.
+/// Where no number of items is given, there are so many, or the usual ones.
 fn job_of(words: &[String], most: Option<i64>) -> Option<Job> {
     let workload = Workload::named(words.first()?.as_str())?;
     let workers = words.get(1)?.parse::<u64>().ok()?;
@@ -55,7 +55,7 @@ fn job_of(words: &[String], most: Option<i64>) -> Option<Job> {
     })
 }
 
-// The number at this place, or the usual one where no word is there.
+/// The number at this place, or the usual one where no word is there.
 fn number_at(words: &[String], place: usize, usual: i64) -> Option<i64> {
     match words.get(place) {
         Some(word) => word.parse::<i64>().ok(),

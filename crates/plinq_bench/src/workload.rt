@@ -5,10 +5,10 @@ use plinq_lambda::Formula;
 use plinq_ops::{BuildFault, MergeOption, Op, Query};
 use std::alloc::Global;
 
-// The turns of an element that takes about 0.7 microseconds.
+/// The turns of an element that takes about 0.7 microseconds.
 const TURNS: u64 = 500;
 
-// The most items of a chunk where chunks grow further than by default.
+/// The most items of a chunk where chunks grow further than by default.
 const GROWN: u64 = 2_048;
 
 /// A workload by its name.
@@ -134,7 +134,7 @@ impl Workload {
         }
     }
 
-    // The first of its operators.
+    /// The first of its operators.
     fn step(self, items: i64) -> Op<Work> {
         match self {
             Workload::Cheap | Workload::Grown | Workload::Full => {
@@ -149,7 +149,7 @@ impl Workload {
         }
     }
 
-    // The one after that, where it has two.
+    /// The one after that, where it has two.
     fn last_step(self, items: i64) -> Option<Op<Work>> {
         match self {
             Workload::Cheap | Workload::Grown => Some(Op::Filter(Work::Plain(Formula::Even))),

@@ -40,7 +40,7 @@ fn zeros(alloc: Global, count: usize) -> Result<Vec<u8>, AllocError>
     vec![in alloc; 0; count]
 }
 
-// Reads by way of the piece, as much at once as it holds.
+/// Reads by way of the piece, as much at once as it holds.
 fn read_pieces<R: Read>(
     alloc: Global,
     reader: &mut R,
@@ -67,7 +67,7 @@ fn read_pieces<R: Read>(
     unreachable!()
 }
 
-// One read.
+/// One read.
 fn read_piece<R: Read>(reader: &mut R, piece: &mut [u8]) -> Result<usize, InputFault>
     ensures consumed { IfOk result (λ n. Consumes (R.remaining reader.old) (R.remaining reader.new) (take n piece.new)) }
     ensures ended { IsOkAnd result (λ n. (n ≡ 0) × (0 < length piece.new)) → IsAtEnd (R.remaining reader.new) }

@@ -54,7 +54,7 @@ where
     }
 }
 
-// The answer of the document that is read.
+/// The answer of the document that is read.
 fn answer<R, I, W>(
     rt: &R,
     arguments: Arguments,
@@ -72,9 +72,9 @@ where
     Ok(serve(rt, arguments.command, job, out)?)
 }
 
-// What is answered once the output is flushed.
-//
-// After a failing write nothing more may be written, so the output isn't flushed.
+/// What is answered once the output is flushed.
+///
+/// After a failing write nothing more may be written, so the output isn't flushed.
 fn flush<W: Write>(answered: Result<Ending, Failure>, out: &mut W) -> Result<Ending, Failure>
     ensures answer { Flushes answered result }
     ensures bytes { Keeps (W.contents out.old) (W.contents out.new) }
@@ -89,7 +89,7 @@ fn flush<W: Write>(answered: Result<Ending, Failure>, out: &mut W) -> Result<End
     }
 }
 
-// What is answered where a flush fails: what has failed before it, and else a failing write. A cancelled run hasn't failed.
+/// What is answered where a flush fails: what has failed before it, and else a failing write. A cancelled run hasn't failed.
 fn unflushed(answered: Result<Ending, Failure>) -> Result<Ending, Failure>
     ensures { result ≡ unflushed answered }
 {
@@ -99,7 +99,7 @@ fn unflushed(answered: Result<Ending, Failure>) -> Result<Ending, Failure>
     }
 }
 
-// The status of an answer, and the line of a failure.
+/// The status of an answer, and the line of a failure.
 fn report<E: Write>(answered: &Result<Ending, Failure>, err: &mut E) -> u8
     ensures status { result ≡ status_of answered.now }
     ensures silent { IsSilent (E.contents err.old) (E.contents err.new) result }
@@ -125,7 +125,7 @@ fn report_failure<E: Write>(failure: Failure, err: &mut E) -> u8
     }
 }
 
-// Help goes to `out`, and what `clap` says of a refused command line to `err`.
+/// Help goes to `out`, and what `clap` says of a refused command line to `err`.
 fn show<W: Write, E: Write>(refusal: &clap::Error, out: &mut W, err: &mut E) -> u8
     ensures shown { Shows (kind_of refusal.now) (W.contents out.old) (W.contents out.new) result }
     ensures silent { IsSilent (E.contents err.old) (E.contents err.new) result }

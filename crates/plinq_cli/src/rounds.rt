@@ -39,7 +39,7 @@ pub(crate) fn drive_partitions<S: Source>(
     }
 }
 
-// Has partitions take in turn, until each has had a tail.
+/// Has partitions take in turn, until each has had a tail.
 fn take_turns<S: Source>(
     alloc: Global,
     chunked: &Chunked<S>,
@@ -67,7 +67,7 @@ fn take_turns<S: Source>(
     Ok(done)
 }
 
-// Has a partition take once, and reports the tail of its chunk.
+/// Has a partition take once, and reports the tail of its chunk.
 fn take_once<S: Source>(
     chunked: &Chunked<S>,
     partition: &mut Partition<S>,

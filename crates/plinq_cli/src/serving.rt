@@ -71,7 +71,7 @@ where
     }
 }
 
-// Each batch is written as it is delivered.
+/// Each batch is written as it is delivered.
 fn serve_batches<R, W>(rt: &R, job: Job, writer: &mut W) -> Result<Ending, ServeFault>
 where
     R: AllocGlobal + Threads + Wait + Sync,
@@ -94,7 +94,7 @@ where
     Ok(ending)
 }
 
-// Nothing is written before the value is there.
+/// Nothing is written before the value is there.
 fn serve_value<R, W>(rt: &R, job: Job, kind: Kind, writer: &mut W) -> Result<Ending, ServeFault>
 where
     R: AllocGlobal + Threads + Wait + Sync,
@@ -123,7 +123,7 @@ where
     }
 }
 
-// Runs a query, and writes the lines of its batches as they are delivered. Gives back the writer, which they have gone to.
+/// Runs a query, and writes the lines of its batches as they are delivered. Gives back the writer, which they have gone to.
 fn run_lines<'a, R, W>(
     rt: &R,
     query: &Query<Formula>,
@@ -145,8 +145,8 @@ where
     (tell(written, reported), sink.into_writer())
 }
 
-// Whether the writer took all lines. A flush that fails while nothing comes is a failing write, also where no batch comes
-// after it.
+/// Whether the writer took all lines. A flush that fails while nothing comes is a failing write, also where no batch comes
+/// after it.
 fn written_by<W: Write>(sink: &LineSink<'_, W>) -> Result<(), WriteFault> {
     if sink.has_failed() {
         return Err(WriteFault);
@@ -154,7 +154,7 @@ fn written_by<W: Write>(sink: &LineSink<'_, W>) -> Result<(), WriteFault> {
     Ok(())
 }
 
-// What is reported of a run: a failing write before any other fault, so also where the run was cancelled after it.
+/// What is reported of a run: a failing write before any other fault, so also where the run was cancelled after it.
 fn tell(
     written: Result<(), WriteFault>,
     reported: Result<Report, RunFault>,
@@ -165,7 +165,7 @@ fn tell(
     Ok(reported?.ending)
 }
 
-// Runs a query into a sink, and stops after so many batches, if it is to stop at all.
+/// Runs a query into a sink, and stops after so many batches, if it is to stop at all.
 fn run_until<R, K>(
     rt: &R,
     query: &Query<Formula>,
@@ -196,7 +196,7 @@ where
     )
 }
 
-// Each batch is written as it comes.
+/// Each batch is written as it comes.
 fn serve_items<W: Write>(alloc: Global, job: Job, writer: &mut W) -> Result<Ending, ServeFault>
     requires items { job.aggregate ≡ None }
     ensures written { Serves Command.Seq job (W.contents writer.old) (W.contents writer.new) result }
@@ -212,7 +212,7 @@ fn serve_items<W: Write>(alloc: Global, job: Job, writer: &mut W) -> Result<Endi
     Ok(ending)
 }
 
-// Answers a query on one thread, and writes the lines of its batches as they come. The source keeps nobody waiting.
+/// Answers a query on one thread, and writes the lines of its batches as they come. The source keeps nobody waiting.
 fn answer_into<W: Write>(
     alloc: Global,
     query: &Query<Formula>,
@@ -226,7 +226,7 @@ fn answer_into<W: Write>(
     ended
 }
 
-// The same, and the writer, which the lines have gone to.
+/// The same, and the writer, which the lines have gone to.
 fn answer_lines<'a, W: Write>(
     alloc: Global,
     query: &Query<Formula>,
@@ -243,7 +243,7 @@ fn answer_lines<'a, W: Write>(
     (tell_answer(written, delivered), sink.into_writer())
 }
 
-// What is reported of an answer on one thread: a failing write before that memory ran out.
+/// What is reported of an answer on one thread: a failing write before that memory ran out.
 fn tell_answer(
     written: Result<(), WriteFault>,
     delivered: Result<Ending, DeliveryFault>,
@@ -256,7 +256,7 @@ fn tell_answer(
     }
 }
 
-// The items are folded as they come.
+/// The items are folded as they come.
 fn serve_fold<W: Write>(
     alloc: Global,
     job: Job,
@@ -320,7 +320,7 @@ fn serve_history<W: Write>(alloc: Global, job: Job, writer: &mut W) -> Result<En
     Ok(ending)
 }
 
-// All items of a source, and how it ends: the answer of a query with no operator.
+/// All items of a source, and how it ends: the answer of a query with no operator.
 fn all_of(alloc: Global, source: &mut AnySource) -> Result<(Vec<i64>, Ending), OutOfMemory>
     requires { ⟦<AnySource as Source>⟧.given source.old ≡ 0 }
     ensures { IfOk result (λ r. ended r.0.items r.1 ≡ ⟦<AnySource as Source>⟧.whole source.old) }
@@ -329,7 +329,7 @@ fn all_of(alloc: Global, source: &mut AnySource) -> Result<(Vec<i64>, Ending), O
     sequential(alloc, &query, source)
 }
 
-// A query's degree is at least 1, so only memory can be wanting.
+/// A query's degree is at least 1, so only memory can be wanting.
 fn cut(parts: &RangeParts<i64>, n: u64) -> Result<Vec<Vec<Keyed<i64>>>, ServeFault>
     requires { 1 ≤ n }
     ensures partitions { IfOk result (λ ps. element_lists ps.items ≡ cuts (keyed_from 0 parts.now) n) }

@@ -1,9 +1,9 @@
 use std::sync::atomic::{AtomicBool, AtomicU64, Ordering};
 
-// For each so many results that the caller's thread lacked, as many workers may be at work as there are cores.
+/// For each so many results that the caller's thread lacked, as many workers may be at work as there are cores.
 const LACKS: u64 = 32;
 
-// So many results of the first worker show that the run isn't a short one.
+/// So many results of the first worker show that the run isn't a short one.
 const MANY: u64 = 32;
 
 /// How many workers are wanted at once: one at first, as many as there are cores where there is more to do than one does at

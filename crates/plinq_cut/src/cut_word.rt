@@ -7,7 +7,7 @@ use atomic_table::{Table, TableRule};
 use std::alloc::Global;
 use std::marker::PhantomData;
 
-// Where the number stands in the table.
+/// Where the number stands in the table.
 pub(crate) const WORD: usize = 0;
 
 pub struct Cuts<E> {

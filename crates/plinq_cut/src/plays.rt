@@ -8,7 +8,7 @@ use crate::view::View;
 use atomic_table::{Join, Play, Split};
 use std::marker::PhantomData;
 
-// A load of the word.
+/// A load of the word.
 pub struct See<E> {
     of: PhantomData<E>,
 }
@@ -17,7 +17,7 @@ impl<E: StopKeys> Play<(), View> for See<E> {
     ghost then = { λ s a n b. Sees E.stops_at n n a.0 b.0 × (b.1 ≡ a.1) };
 }
 
-// The word becomes the lesser of itself and a key.
+/// The word becomes the lesser of itself and a key.
 pub struct Lower<E> {
     of: PhantomData<E>,
 }
@@ -26,7 +26,7 @@ impl<E: StopKeys> Play<(), View> for Lower<E> {
     ghost then = { λ s a n b. Sees E.stops_at n (min n s.first) a.0 b.0 × (b.1 ≡ a.1) };
 }
 
-// A pass becomes two.
+/// A pass becomes two.
 pub struct Cut;
 
 impl Split<View> for Cut {
@@ -35,7 +35,7 @@ impl Split<View> for Cut {
     ghost right = { λ a. a };
 }
 
-// Two passes become one.
+/// Two passes become one.
 pub struct Glue;
 
 impl Join<View> for Glue {

@@ -1,4 +1,4 @@
-// What a pass knows. No value of it is made.
+/// What a pass knows. No value of it is made.
 pub enum View {
     // The least number that the pass has seen.
     Passing(u64),

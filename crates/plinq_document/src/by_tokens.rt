@@ -73,7 +73,7 @@ fn read_members(alloc: Global, reader: &mut Reader<'_>, lacked: &mut bool) -> Op
     Some(parts)
 }
 
-// Reads the value of this name.
+/// Reads the value of this name.
 fn read_member(
     alloc: Global,
     reader: &mut Reader<'_>,
@@ -103,7 +103,7 @@ fn read_member(
     Some(())
 }
 
-// Reads a source that is a list, also one that refuses, or a text.
+/// Reads a source that is a list, also one that refuses, or a text.
 fn read_source(alloc: Global, reader: &mut Reader<'_>, lacked: &mut bool) -> Option<PlainSource>
     ensures fresh { IsFresh result }
     ensures read { IfSome result (λ s. (d : Data) × Reads 126 reader.old d reader.new × IsSourceOf s d) }
@@ -118,7 +118,7 @@ fn read_source(alloc: Global, reader: &mut Reader<'_>, lacked: &mut bool) -> Opt
     read_named(alloc, reader, name, lacked)
 }
 
-// Reads what stands after the first name of a source.
+/// Reads what stands after the first name of a source.
 fn read_named(
     alloc: Global,
     reader: &mut Reader<'_>,
@@ -179,7 +179,7 @@ fn read_list(alloc: Global, reader: &mut Reader<'_>, lacked: &mut bool) -> Optio
     }
 }
 
-// Reads what stands after the numbers of a source: nothing, or the code with which it refuses.
+/// Reads what stands after the numbers of a source: nothing, or the code with which it refuses.
 fn read_refusal(reader: &mut Reader<'_>) -> Option<Option<u32>>
     ensures read { IfSome result (λ refusal. EndsList refusal reader.old reader.new) }
     ensures shorter { OnSome result (length reader.new < length reader.old) }
@@ -208,14 +208,14 @@ fn read_code(reader: &mut Reader<'_>, name: &str) -> Option<Option<u32>>
     Some(Some(code))
 }
 
-// The code that a number's text is.
+/// The code that a number's text is.
 fn code_of_text(text: &str) -> Option<u32>
     ensures { IfSome result (λ code. (n : Num) × (number_of text.now ≡ Some n) × (code_of (number n) ≡ Some code)) }
 {
     u32::try_from(whole_number_of(text)?).ok()
 }
 
-// Reads the numbers of a list and the bracket that closes it.
+/// Reads the numbers of a list and the bracket that closes it.
 fn read_numbers(alloc: Global, reader: &mut Reader<'_>, lacked: &mut bool) -> Option<Vec<i64>>
     ensures read { IfSome result (λ ns. ReadsNumbers 124 reader.old ns.items reader.new) }
     ensures shorter { OnSome result (length reader.new < length reader.old) }
@@ -232,7 +232,7 @@ fn read_numbers(alloc: Global, reader: &mut Reader<'_>, lacked: &mut bool) -> Op
     }
 }
 
-// Reads a text, a whole number, or a list of such values.
+/// Reads a text, a whole number, or a list of such values.
 #[cycle(read)]
 fn read_value(
     alloc: Global,
@@ -292,7 +292,7 @@ fn add<T: Drop>(items: &mut Vec<T>, item: T, lacked: &mut bool) -> Option<()>
     }
 }
 
-// The whole number that a number's text is.
+/// The whole number that a number's text is.
 #[inline(always)]
 fn whole_number_of(text: &str) -> Option<i64>
     ensures is { IfSome result (λ n. number_of text.now ≡ Some (of_integer n)) }

@@ -62,7 +62,7 @@ pub(crate) fn concat_of(alloc: Global, first: &Value, second: &Value) -> Result<
     }
 }
 
-// Whether sources of these bounds have few items together.
+/// Whether sources of these bounds have few items together.
 fn are_few(first: Option<u64>, second: Option<u64>) -> bool
     ensures { result ≡ few_together first second }
 {
@@ -72,7 +72,7 @@ fn are_few(first: Option<u64>, second: Option<u64>) -> bool
     }
 }
 
-// The most items of the source that a value describes.
+/// The most items of the source that a value describes.
 fn bound_of(value: &Value) -> Option<u64>
     ensures { result ≡ bound_of (view value.now) }
 {

@@ -61,7 +61,7 @@ pub fn read_document(alloc: Global, bytes: &[u8], settings: Settings) -> Result<
     job_of(alloc, &value, None, settings)
 }
 
-// The value that a JSON text is.
+/// The value that a JSON text is.
 fn json_of(alloc: Global, bytes: &[u8]) -> Result<Value, DocFault>
     ensures { MatchResult result (λ v. json_of bytes.now ≡ Ok (view v)) (IfMeant (json_of bytes.now)) }
 {
@@ -92,7 +92,7 @@ fn job_of_parts(alloc: Global, parts: Parts, settings: Settings) -> Result<Job, 
     job_of(alloc, &Value::Object(parts.others), parts.source, settings)
 }
 
-// The source may have been read apart.
+/// The source may have been read apart.
 fn job_of(
     alloc: Global,
     value: &Value,
@@ -149,7 +149,7 @@ fn check_names(value: &Value) -> Result<(), DocFault>
     Ok(())
 }
 
-// Whether a document may have all these names.
+/// Whether a document may have all these names.
 fn are_top_names(members: &Map<String, Value>) -> bool
     ensures { result ≡ are_top_names (members_view members.now.entries) }
 {
@@ -161,7 +161,7 @@ fn are_top_names(members: &Map<String, Value>) -> bool
     true
 }
 
-// Whether a document may have this name.
+/// Whether a document may have this name.
 fn is_top_name(name: &str) -> bool
     ensures { result ≡ is_top_name name.now }
 {
@@ -185,7 +185,7 @@ fn steps_in(value: &Value) -> Result<&[Value], DocFault>
     Ok(steps)
 }
 
-// A new query on which the settings were called.
+/// A new query on which the settings were called.
 fn new_query(alloc: Global, settings: Settings) -> Query<Formula>
     ensures { result ≡ new_query settings }
 {

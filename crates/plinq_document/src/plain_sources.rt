@@ -96,7 +96,7 @@ fn repeat_source(value_and_count: &[Value]) -> Result<PlainSource, DocFault>
     Ok(PlainSource::Repeat(RepeatSource::new(value, count)?))
 }
 
-// The numbers of a list that may be a source.
+/// The numbers of a list that may be a source.
 fn numbers_of(alloc: Global, list: &Value) -> Result<Vec<i64>, DocFault>
     ensures numbers { MatchResult result
         (λ ns. list_numbers (view list.now) ≡ Ok ns.items)
@@ -110,7 +110,7 @@ fn numbers_of(alloc: Global, list: &Value) -> Result<Vec<i64>, DocFault>
     Ok(numbers)
 }
 
-// The items, where all are whole numbers.
+/// The items, where all are whole numbers.
 fn whole_numbers(alloc: Global, items: &[Value]) -> Result<Vec<i64>, DocFault>
     ensures { MatchResult result
         (λ ns. whole_numbers (items_view items.now) ≡ Some ns.items)
@@ -124,7 +124,7 @@ fn whole_numbers(alloc: Global, items: &[Value]) -> Result<Vec<i64>, DocFault>
     Ok(numbers)
 }
 
-// The code of a refusal.
+/// The code of a refusal.
 fn code_of(value: &Value) -> Option<u32>
     ensures { result ≡ code_of (view value.now) }
 {

@@ -30,7 +30,7 @@ pub(crate) fn source_in(
     )
 }
 
-// The source that a value describes in this version.
+/// The source that a value describes in this version.
 fn source_of(alloc: Global, version: Version, value: &Value) -> Result<AnySource, DocFault>
     ensures whole { MatchResult result
         (λ s. source_of version (view value.now) ≡ Ok (⟦<AnySource as Source>⟧.whole s))

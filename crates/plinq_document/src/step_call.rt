@@ -52,7 +52,7 @@ pub(crate) fn call_of(version: Version, step: &Value) -> Option<StepCall>
     }
 }
 
-// The call of a step with this name and these items after it.
+/// The call of a step with this name and these items after it.
 fn call_named(name: &str, items: &[Value]) -> Option<StepCall>
     ensures { result ≡ call_named (items_view items.now) name.now }
 {
@@ -62,14 +62,14 @@ fn call_named(name: &str, items: &[Value]) -> Option<StepCall>
     }
 }
 
-// The operator of this name with these items after it.
+/// The operator of this name with these items after it.
 fn op_from(name: &str, items: &[Value]) -> Option<Op<Formula>>
     ensures { result ≡ op_from name.now (items_view items.now) }
 {
     Op::named(name, argument_of(items)?)
 }
 
-// What stands after a step's name, if an operator can have it.
+/// What stands after a step's name, if an operator can have it.
 fn argument_of(items: &[Value]) -> Option<Argument>
     ensures { result ≡ argument_of (items_view items.now) }
 {
@@ -82,7 +82,7 @@ fn argument_of(items: &[Value]) -> Option<Argument>
     }
 }
 
-// Whether a version has a step.
+/// Whether a version has a step.
 fn has_step(version: Version, call: StepCall) -> bool
     ensures { result ≡ has_step version call }
 {
@@ -92,7 +92,7 @@ fn has_step(version: Version, call: StepCall) -> bool
     }
 }
 
-// The version with which an operator came.
+/// The version with which an operator came.
 fn since(op: Op<Formula>) -> Version
     ensures { result ≡ since op }
 {
@@ -103,7 +103,7 @@ fn since(op: Op<Formula>) -> Version
     }
 }
 
-// The call of another step, by its name and the items after that.
+/// The call of another step, by its name and the items after that.
 fn other_call_from(name: &str, items: &[Value]) -> Option<StepCall>
     ensures { result ≡ other_call_from name.now (items_view items.now) }
 {

@@ -32,7 +32,7 @@ pub(crate) fn with_steps(
     Ok(query)
 }
 
-// The query with this step called on it.
+/// The query with this step called on it.
 fn with_step(
     version: Version,
     query: Query<Formula>,
@@ -50,7 +50,7 @@ fn with_step(
     }
 }
 
-// The fault of a document whose step at this place is refused.
+/// The fault of a document whose step at this place is refused.
 fn step_refused(at: u64, why: StepFault) -> DocFault
     ensures memory { why ≡ Build BuildMemory → result ≡ Memory }
     ensures other { why ≢ Build BuildMemory → result ≡ Step at why }

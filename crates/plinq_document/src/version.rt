@@ -34,7 +34,7 @@ pub(crate) fn version_in(document: &Value) -> Result<Version, DocFault>
     version_numbered(version.as_i64().ok_or(DocFault::Shape)?)
 }
 
-// The version of this number.
+/// The version of this number.
 fn version_numbered(number: i64) -> Result<Version, DocFault>
     ensures { result ≡ version_numbered number }
 {

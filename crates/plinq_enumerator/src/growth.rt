@@ -76,6 +76,6 @@ impl Growth {
         self.max.min(self.first * 2u64.pow(doublings as u32))
     }
 
-    // The largest size of a chunk, in items.
+    /// The largest size of a chunk, in items.
     const MAX: u64 = 65536;
 }

@@ -6,14 +6,14 @@ ghost use Rattle.plinq_enumerator.specs.inner.Replays.{place_of, is_close};
 use plinq_keyed::{Event, Record, Tail};
 use plinq_source::Ending;
 
-// Where an enumerator stands: how many items it has handed out, and whether it was closed.
+/// Where an enumerator stands: how many items it has handed out, and whether it was closed.
 #[derive(Clone, Copy)]
 pub(crate) struct Replay {
     pub(crate) given: u64,
     pub(crate) closed: bool,
 }
 
-// The answer to a request, without its items: how many there are, and the tail.
+/// The answer to a request, without its items: how many there are, and the tail.
 #[derive(Clone, Copy)]
 struct Answer {
     count: u64,
@@ -26,7 +26,7 @@ impl Replay {
         closed: false,
     };
 
-    // Whether a record states the answer that it would get here, from a source of `len` items with that ending.
+    /// Whether a record states the answer that it would get here, from a source of `len` items with that ending.
     pub(crate) fn answers(self, entry: &Record, len: u64, ending: Ending) -> bool
         requires within { self.given ≤ len }
         requires ends { IsSourceEnding (Some ending) }
@@ -38,7 +38,7 @@ impl Replay {
             && is_same_tail(entry.tail, answer.tail)
     }
 
-    // What a source of `len` items with that ending answers here.
+    /// What a source of `len` items with that ending answers here.
     fn answer(self, asked: Event, len: u64, ending: Ending) -> Answer
         requires within { self.given ≤ len }
         requires ends { IsSourceEnding (Some ending) }
@@ -67,7 +67,7 @@ impl Replay {
         }
     }
 
-    // Where it stands after a request that was answered as the record says.
+    /// Where it stands after a request that was answered as the record says.
     pub(crate) fn after(self, entry: &Record) -> Replay
         requires { self.given + entry.now.count < 2 ^ 64 }
         ensures given { result.given ≡ self.given + entry.now.count }

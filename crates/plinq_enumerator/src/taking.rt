@@ -5,7 +5,7 @@ ghost use Rattle.plinq_keyed.specs.History.{ending_tail};
 use plinq_keyed::Tail;
 use plinq_source::{Ending, Source};
 
-// The tail of a chunk with which its source ended so, or didn't yet.
+/// The tail of a chunk with which its source ended so, or didn't yet.
 fn tail_of(ending: Option<Ending>) -> Option<Tail>
     ensures { result ≡ ending_tail ending }
 {
@@ -17,8 +17,8 @@ fn tail_of(ending: Option<Ending>) -> Option<Tail>
     }
 }
 
-// Takes the next `n` items, or what is left of them, into an empty list with that much room; the source's tail where
-// there are fewer.
+/// Takes the next `n` items, or what is left of them, into an empty list with that much room; the source's tail where
+/// there are fewer.
 pub(crate) fn take_items<S: Source>(
     source: &mut S,
     items: &mut Vec<S::Item>,

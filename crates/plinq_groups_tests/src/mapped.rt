@@ -276,7 +276,7 @@ const OPTIONS: [MergeOption; 3] = [
     MergeOption::FullyBuffered,
 ];
 
-// Nothing is made of none, of the second, of one in the midst, of the last but one.
+/// Nothing is made of none, of the second, of one in the midst, of the last but one.
 const CASES: [(After, i64); 9] = [
     (After::Nothing, NONE),
     (After::Nothing, 77),

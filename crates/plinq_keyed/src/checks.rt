@@ -35,7 +35,7 @@ pub fn check_across<T>(parts: &[Vec<Keyed<T>>]) -> bool
     true
 }
 
-// Whether the keys rise strictly.
+/// Whether the keys rise strictly.
 fn keys_rise<T>(part: &[Keyed<T>]) -> bool
     ensures { result ≡ rises (keys part.now) }
 {
@@ -50,7 +50,7 @@ fn keys_rise<T>(part: &[Keyed<T>]) -> bool
     true
 }
 
-// Whether each key is at least that number.
+/// Whether each key is at least that number.
 fn keys_from<T>(part: &[Keyed<T>], least: u128) -> bool
     ensures { result ≡ all_from least (keys part.now) }
 {
@@ -62,7 +62,7 @@ fn keys_from<T>(part: &[Keyed<T>], least: u128) -> bool
     true
 }
 
-// The least number that is above each key, and not below the one that is given.
+/// The least number that is above each key, and not below the one that is given.
 fn least_above<T>(part: &[Keyed<T>], given: u128) -> u128
     requires { given < 2 ^ 65 }
     ensures least { result ≡ least_after given (keys part.now) }

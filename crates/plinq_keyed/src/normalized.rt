@@ -23,7 +23,7 @@ pub fn check_normalized<T>(parts: &[Vec<Keyed<T>>]) -> bool
     }
 }
 
-// How many elements there are, in 128 bits: nothing bounds what all partitions hold together.
+/// How many elements there are, in 128 bits: nothing bounds what all partitions hold together.
 fn count_elements<T>(parts: &[Vec<Keyed<T>>]) -> u128
     ensures { result ≡ length (concat (key_lists (element_lists parts.now))) }
 {
@@ -34,7 +34,7 @@ fn count_elements<T>(parts: &[Vec<Keyed<T>>]) -> u128
     count
 }
 
-// Whether each key is below that number.
+/// Whether each key is below that number.
 fn all_keys_below<T>(parts: &[Vec<Keyed<T>>], bound: u128) -> bool
     ensures { result ≡ all_below bound (concat (key_lists (element_lists parts.now))) }
 {
@@ -57,7 +57,7 @@ fn keys_below<T>(part: &[Keyed<T>], bound: u128) -> bool
     true
 }
 
-// Whether no key comes twice, where the keys of each partition rise.
+/// Whether no key comes twice, where the keys of each partition rise.
 fn rising_keys_differ<T>(parts: &[Vec<Keyed<T>>]) -> bool
     requires { ordered_in_each (key_lists (element_lists parts.now)) ≡ true }
     ensures { result ≡ distinct (concat (key_lists (element_lists parts.now))) }
@@ -71,7 +71,7 @@ fn rising_keys_differ<T>(parts: &[Vec<Keyed<T>>]) -> bool
     true
 }
 
-// Whether a partition has no key of any of the others.
+/// Whether a partition has no key of any of the others.
 fn are_apart_from_all<T>(part: &[Keyed<T>], others: &[Vec<Keyed<T>>]) -> bool
     requires part { rises (keys part.now) ≡ true }
     requires others { ordered_in_each (key_lists (element_lists others.now)) ≡ true }
@@ -85,7 +85,7 @@ fn are_apart_from_all<T>(part: &[Keyed<T>], others: &[Vec<Keyed<T>>]) -> bool
     true
 }
 
-// Whether two partitions have no key in common: both are walked at once, the one with the lower key first.
+/// Whether two partitions have no key in common: both are walked at once, the one with the lower key first.
 fn are_apart<T>(left: &[Keyed<T>], right: &[Keyed<T>]) -> bool
     requires left { rises (keys left.now) ≡ true }
     requires right { rises (keys right.now) ≡ true }
@@ -108,7 +108,7 @@ fn are_apart<T>(left: &[Keyed<T>], right: &[Keyed<T>]) -> bool
     true
 }
 
-// Whether no key comes twice, each being looked for among all that come after it.
+/// Whether no key comes twice, each being looked for among all that come after it.
 fn keys_differ<T>(parts: &[Vec<Keyed<T>>]) -> bool
     ensures { result ≡ distinct (concat (key_lists (element_lists parts.now))) }
 {
@@ -121,7 +121,7 @@ fn keys_differ<T>(parts: &[Vec<Keyed<T>>]) -> bool
     true
 }
 
-// Whether the keys of a partition differ from one another, and from all keys of later ones.
+/// Whether the keys of a partition differ from one another, and from all keys of later ones.
 fn are_found_once<T>(part: &[Keyed<T>], later: &[Vec<Keyed<T>>]) -> bool
     ensures { result ≡ (distinct (keys part.now) && apart (keys part.now) (concat (key_lists (element_lists later.now)))) }
 {

@@ -11,7 +11,7 @@ use crate::lambda::Lambda;
 use crate::sums::{NEAR, add_each, are_near};
 use std::alloc::{AllocError, Global};
 
-// The most items that an expansion gives.
+/// The most items that an expansion gives.
 const MOST_ITEMS: i64 = 65_536;
 
 /// A lambda over `i64` that a document can name.
@@ -80,7 +80,7 @@ impl Lambda for Formula {
         test_one(*self, x)
     }
 
-    // A loop for each kind, so that none asks for it at each item.
+    /// A loop for each kind, so that none asks for it at each item.
     fn map_block(&self, block: &mut [i64]) -> (usize, Option<u32>) {
         match *self {
             Formula::Add(c) => map_sums(c, block),
@@ -122,7 +122,7 @@ impl Lambda for Formula {
     }
 }
 
-// One number added to each of a block. Where all are near to zero, no sum is looked at by itself.
+/// One number added to each of a block. Where all are near to zero, no sum is looked at by itself.
 fn map_sums(c: i64, block: &mut [i64]) -> (usize, Option<u32>)
     ensures within { result.0 ≤ length block.new }
     ensures mapped { record { items = take result.0 block.new; fault = result.1 } ≡ mapped_block (formula_meaning (Add c)).map block.old }
@@ -134,8 +134,8 @@ fn map_sums(c: i64, block: &mut [i64]) -> (usize, Option<u32>)
     FormulaKind(Formula::Add(c)).map_block(block)
 }
 
-// What an element is mapped to. It is inlined, as `test_one` is: they run for each item, and the call would cost more than
-// the work.
+/// What an element is mapped to. It is inlined, as `test_one` is: they run for each item, and the call would cost more than
+/// the work.
 #[inline(always)]
 pub(crate) fn map_one(f: Formula, x: i64) -> Result<i64, u32>
     ensures { result ≡ (formula_meaning f).map x }
@@ -153,7 +153,7 @@ pub(crate) fn map_one(f: Formula, x: i64) -> Result<i64, u32>
     }
 }
 
-// Whether an element passes.
+/// Whether an element passes.
 #[inline(always)]
 pub(crate) fn test_one(f: Formula, x: i64) -> Result<bool, u32>
     ensures { result ≡ (formula_meaning f).test x }
@@ -167,7 +167,7 @@ pub(crate) fn test_one(f: Formula, x: i64) -> Result<bool, u32>
     }
 }
 
-// The items that stand in the place of an element.
+/// The items that stand in the place of an element.
 pub(crate) fn expand_one(alloc: Global, f: Formula, x: i64) -> Result<Vec<i64>, ExpandFault>
     ensures items { IfOk result (λ ys. (formula_meaning f).expand x ≡ Ok ys.items) }
     ensures fault { IfErr result (IsFaultOf ((formula_meaning f).expand x)) }
@@ -188,7 +188,7 @@ pub(crate) fn expand_one(alloc: Global, f: Formula, x: i64) -> Result<Vec<i64>, 
     }
 }
 
-// x by y, cut toward zero.
+/// x by y, cut toward zero.
 fn quotient(x: i64, y: i64) -> Result<i64, u32>
     ensures { result ≡ quotient x y }
 {
@@ -198,7 +198,7 @@ fn quotient(x: i64, y: i64) -> Result<i64, u32>
     x.checked_div(y).ok_or(Formula::OVERFLOW)
 }
 
-// What that division leaves over. It always is an `i64`, also where the quotient isn't one.
+/// What that division leaves over. It always is an `i64`, also where the quotient isn't one.
 fn remainder(x: i64, y: i64) -> Result<i64, u32>
     ensures { result ≡ remainder x y }
 {
@@ -208,7 +208,7 @@ fn remainder(x: i64, y: i64) -> Result<i64, u32>
     Ok(x.wrapping_rem(y))
 }
 
-// How many items a count asks for.
+/// How many items a count asks for.
 fn expansion_length(count: i64) -> Result<usize, u32>
     ensures { result ≡ expansion_length count }
 {
@@ -219,7 +219,7 @@ fn expansion_length(count: i64) -> Result<usize, u32>
     }
 }
 
-// 1, 2, .. up to n, in a block of just that size.
+/// 1, 2, .. up to n, in a block of just that size.
 fn numbers_up_to(alloc: Global, n: usize) -> Result<Vec<i64>, AllocError>
     requires { n ≤ most_items }
     ensures { IfOk result (λ ys. ys.items ≡ numbers_up_to n) }

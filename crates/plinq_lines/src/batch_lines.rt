@@ -13,15 +13,15 @@ use crate::placing::{
 use crate::write_fault::WriteFault;
 use std::io::Write;
 
-// How many numbers are placed at once: as many as stand in a batch of the default merge option.
+/// How many numbers are placed at once: as many as stand in a batch of the default merge option.
 const MOST_PLACED: usize = 16;
 
-// A decimal has at most 20 bytes, a space or a line feed with it makes 21.
+/// A decimal has at most 20 bytes, a space or a line feed with it makes 21.
 const NUMBER_ROOM: usize = 21;
 
 const NUMBERS_ROOM: usize = 336;
 
-// How many numbers are placed at once where batches follow one another.
+/// How many numbers are placed at once where batches follow one another.
 const MOST_NUMBERS: usize = 128;
 
 /// The room that so many take, of which each may end a line.
@@ -99,7 +99,7 @@ fn write_long_batch<W: Write>(writer: &mut W, batch: &[i64]) -> Result<(), Write
     write_further_numbers(writer, further)
 }
 
-// Writes the numbers after the first of a line, and its line feed.
+/// Writes the numbers after the first of a line, and its line feed.
 fn write_further_numbers<W: Write>(writer: &mut W, further: &[i64]) -> Result<(), WriteFault>
     ensures { Writes (W.contents writer.old) (W.contents writer.new) result (line (flat_map further_number further.now)) }
 {

@@ -5,10 +5,10 @@ use crate::write_fault::WriteFault;
 use std::io;
 use std::io::{ErrorKind, Write};
 
-// Writes all the bytes, each once. Where the writer fails, what it took is a beginning of them.
-//
-// std's `write_all` says nothing of the bytes after an `Err`, and so this is a loop of its own. A call that was
-// interrupted is made again.
+/// Writes all the bytes, each once. Where the writer fails, what it took is a beginning of them.
+///
+/// std's `write_all` says nothing of the bytes after an `Err`, and so this is a loop of its own. A call that was
+/// interrupted is made again.
 pub(crate) fn write_bytes<W: Write>(writer: &mut W, bytes: &[u8]) -> Result<(), WriteFault>
     ensures { Writes (W.contents writer.old) (W.contents writer.new) result bytes.now }
 {
@@ -27,7 +27,7 @@ pub(crate) fn write_bytes<W: Write>(writer: &mut W, bytes: &[u8]) -> Result<(), 
     Err(WriteFault)
 }
 
-// Apart, since the test brings a table of error kinds that each turn would set up.
+/// Apart, since the test brings a table of error kinds that each turn would set up.
 #[cold]
 #[inline(never)]
 fn is_interrupted(error: &io::Error) -> bool {

@@ -34,7 +34,7 @@ pub fn write_history<W: Write>(
     write_ending(writer, ending)
 }
 
-// Writes records, a line each.
+/// Writes records, a line each.
 fn write_records<W: Write>(writer: &mut W, records: &[Record]) -> Result<(), WriteFault>
     ensures { Writes (W.contents writer.old) (W.contents writer.new) result (record_lines records.now) }
 {

@@ -27,7 +27,7 @@ pub(crate) fn write_part<W: Write>(
     write_further_ops(writer, further)
 }
 
-// Writes the operators after the first of a line, and its line feed.
+/// Writes the operators after the first of a line, and its line feed.
 fn write_further_ops<W: Write>(writer: &mut W, further: &[Op<Formula>]) -> Result<(), WriteFault>
     ensures { Writes (W.contents writer.old) (W.contents writer.new) result (line (flat_map further_op further.now)) }
 {
@@ -39,7 +39,7 @@ fn write_further_ops<W: Write>(writer: &mut W, further: &[Op<Formula>]) -> Resul
     write_pieces(writer, &[Piece::Text("\n")])
 }
 
-// Writes an operator, and before it this text.
+/// Writes an operator, and before it this text.
 fn write_op<W: Write>(writer: &mut W, before: &str, op: &Op<Formula>) -> Result<(), WriteFault>
     ensures { Writes (W.contents writer.old) (W.contents writer.new) result (before.now ++ op_words op.now) }
 {

@@ -61,7 +61,7 @@ fn truth(value: bool) -> &'static str
     if value { " true" } else { " false" }
 }
 
-// Writes partitions, a line each.
+/// Writes partitions, a line each.
 fn write_partitions<W: Write>(
     writer: &mut W,
     partitions: &[Vec<Keyed<i64>>],
@@ -89,7 +89,7 @@ fn write_partition<W: Write>(
     write_elements(writer, elements)
 }
 
-// Writes the elements of a line, and its line feed.
+/// Writes the elements of a line, and its line feed.
 fn write_elements<W: Write>(writer: &mut W, elements: &[Keyed<i64>]) -> Result<(), WriteFault>
     ensures { Writes (W.contents writer.old) (W.contents writer.new) result (line (flat_map element_words elements.now)) }
 {

@@ -9,7 +9,7 @@ use crate::write_fault::WriteFault;
 use itoa::Buffer;
 use std::io::Write;
 
-// Writes pieces one after another. A line that is made of them needs no proof of its own.
+/// Writes pieces one after another. A line that is made of them needs no proof of its own.
 pub(crate) fn write_pieces<W: Write>(writer: &mut W, pieces: &[Piece]) -> Result<(), WriteFault>
     ensures { Writes (W.contents writer.old) (W.contents writer.new) result (flat_map piece_words pieces.now) }
 {

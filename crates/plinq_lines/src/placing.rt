@@ -8,7 +8,7 @@ ghost use Rattle.plinq_lines.specs.Text.{further_number, single_line, batch_line
 
 use itoa::write_digits;
 
-// Places a number's decimal in front of `end`, and returns where it begins.
+/// Places a number's decimal in front of `end`, and returns where it begins.
 #[inline]
 pub(crate) fn place_number(x: i64, text: &mut [u8], end: usize) -> usize
     requires room { 20 ≤ end }
@@ -38,7 +38,7 @@ fn place_further_number(x: i64, text: &mut [u8], end: usize) -> usize
     start - 1
 }
 
-// Places numbers, each after a space.
+/// Places numbers, each after a space.
 #[inline]
 pub(crate) fn place_further_numbers(numbers: &[i64], text: &mut [u8], end: usize) -> usize
     requires room { 21 * length numbers.now ≤ end }
@@ -56,7 +56,7 @@ pub(crate) fn place_further_numbers(numbers: &[i64], text: &mut [u8], end: usize
     at
 }
 
-// Places numbers, each as a line of its own.
+/// Places numbers, each as a line of its own.
 #[inline]
 pub(crate) fn place_single_lines(numbers: &[i64], text: &mut [u8], end: usize) -> usize
     requires room { 21 * length numbers.now ≤ end }
@@ -74,7 +74,7 @@ pub(crate) fn place_single_lines(numbers: &[i64], text: &mut [u8], end: usize) -
     at
 }
 
-// Places a number as a line of its own.
+/// Places a number as a line of its own.
 #[inline]
 fn place_single_line(x: i64, text: &mut [u8], end: usize) -> usize
     requires room { 21 ≤ end }
@@ -87,7 +87,7 @@ fn place_single_line(x: i64, text: &mut [u8], end: usize) -> usize
     place_number(x, text, end - 1)
 }
 
-// Places the lines of whole batches of one size.
+/// Places the lines of whole batches of one size.
 #[inline]
 pub(crate) fn place_lines(size: usize, numbers: &[i64], text: &mut [u8], end: usize) -> usize
     requires some { 0 < size }
@@ -108,7 +108,7 @@ pub(crate) fn place_lines(size: usize, numbers: &[i64], text: &mut [u8], end: us
     at
 }
 
-// Places the line of a batch.
+/// Places the line of a batch.
 #[inline]
 pub(crate) fn place_line(batch: &[i64], text: &mut [u8], end: usize) -> usize
     requires room { 21 * length batch.now + 1 ≤ end }

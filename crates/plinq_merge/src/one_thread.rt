@@ -97,14 +97,14 @@ where
     deliver_answer(alloc, query, BLOCK, source, sink)
 }
 
-// Whether an operator is a SelectMany.
+/// Whether an operator is a SelectMany.
 fn is_select_many<L>(op: &Op<L>) -> bool
     ensures { result ≡ is_select_many op.now }
 {
     matches!(op, Op::SelectMany(_))
 }
 
-// Whether there is a SelectMany.
+/// Whether there is a SelectMany.
 fn expands<L>(ops: &[Op<L>]) -> bool
     ensures { result ≡ list_any is_select_many ops.now }
 {

@@ -36,7 +36,7 @@ impl Aggregator for CountOfSmall {
     ghost lawful = { λ _. counting-lawful };
 }
 
-// The folds of two parts, one item by item and one as a block, combined.
+/// The folds of two parts, one item by item and one as a block, combined.
 fn in_two_parts<A: Aggregator>(aggregator: &A, first: &[A::Item], second: &[A::Item]) -> A::Out {
     let mut acc = aggregator.seed();
     for item in first {

@@ -40,7 +40,7 @@ fn count_and_last(alloc: Global, op: Op<Formula>) -> Option<(usize, i64)> {
     }
 }
 
-// Long lists and answers take no other path than short ones.
+/// Long lists and answers take no other path than short ones.
 #[test]
 fn answers_of_many_items(rt: HostRuntime) {
     for (op, count, last) in [
@@ -67,7 +67,7 @@ fn is_right_if_any(alloc: Global) -> bool {
     }
 }
 
-// Also where an allocation fails: run it with each allocation refused in turn.
+/// Also where an allocation fails: run it with each allocation refused in turn.
 #[test]
 fn answers_or_says_that_memory_ran_out(rt: HostRuntime) {
     assert!(rt; is_right_if_any(rt.alloc()));

@@ -30,7 +30,7 @@ fn two_partitions_take_in_turn(rt: HostRuntime) {
     assert!(rt; take_in_turn(&rt, rt.alloc()));
 }
 
-// What is reported where the second of two partitions, which each took once, isn't given back. The two records come with it.
+/// What is reported where the second of two partitions, which each took once, isn't given back. The two records come with it.
 fn told_without_the_second<R: Wait>(rt: &R, alloc: Global) -> Option<TakeFault> {
     let (chunked, mut first) = range_of(alloc, 0, 4, Growth::DEFAULT)?;
     let mut second = chunked.dynamic(&mut first);
@@ -61,7 +61,7 @@ fn the_second_of_two_is_dropped(rt: HostRuntime) {
     assert!(rt; matches!(told, Some(TakeFault::Incomplete { have: 1, all: 2 })));
 }
 
-// Lends a list to a partition's next chunk.
+/// Lends a list to a partition's next chunk.
 fn lend(chunked: &Chunked<RangeSource>, partition: &mut Partition<RangeSource>, list: Vec<i64>)
     requires { IsPartitionOf chunked.now partition.old }
     ensures { IsPartitionOf chunked.now partition.new }
@@ -69,7 +69,7 @@ fn lend(chunked: &Chunked<RangeSource>, partition: &mut Partition<RangeSource>, 
     partition.reuse(list);
 }
 
-// Whether a call that was lent a list of so many sevens gives what it is to give.
+/// Whether a call that was lent a list of so many sevens gives what it is to give.
 fn gives_with<R: Wait>(
     rt: &R,
     alloc: Global,
@@ -88,7 +88,7 @@ fn gives_with<R: Wait>(
     gives(rt, chunked, partition, call)
 }
 
-// Whether a chunk of one item takes the room of a list of three, and the next one takes its.
+/// Whether a chunk of one item takes the room of a list of three, and the next one takes its.
 fn takes_the_room<R: Wait>(
     rt: &R,
     alloc: Global,
@@ -155,7 +155,7 @@ fn a_list_that_is_too_small_grows(rt: HostRuntime) {
     assert!(rt; grows(&rt, rt.alloc()));
 }
 
-// A list of truths that refuses after them, and its first partition.
+/// A list of truths that refuses after them, and its first partition.
 fn truths(alloc: Global) -> Option<(Chunked<ListSource<bool>>, Partition<ListSource<bool>>)>
     ensures { IfSome result (λ made. IsPartitionOf made.0 made.1) }
 {
@@ -171,7 +171,7 @@ fn truths(alloc: Global) -> Option<(Chunked<ListSource<bool>>, Partition<ListSou
     }
 }
 
-// Whether they are handed out.
+/// Whether they are handed out.
 fn are_handed_out<R: Wait>(rt: &R, alloc: Global) -> bool {
     let Some((chunked, mut partition)) = truths(alloc) else {
         return false;
@@ -182,7 +182,7 @@ fn are_handed_out<R: Wait>(rt: &R, alloc: Global) -> bool {
     matches!((one, two), (Ok(true), Ok(true)))
 }
 
-// Another item type, and a source that refuses.
+/// Another item type, and a source that refuses.
 #[test]
 fn a_list_of_truths_is_handed_out(rt: HostRuntime) {
     assert!(rt; are_handed_out(&rt, rt.alloc()));

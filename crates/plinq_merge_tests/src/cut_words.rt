@@ -10,14 +10,14 @@ use plinq_ops::Query;
 use plinq_source::RepeatSource;
 use std::alloc::Global;
 
-// The keys of nine zeros at which a query ends that takes while they are below 0.
+/// The keys of nine zeros at which a query ends that takes while they are below 0.
 struct KeysOfZeros;
 
 impl StopKeys for KeysOfZeros {
     ghost stops_at = { is_among (stop_keys ⟦<Formula as Lambda>⟧.meaning (TakeWhile (Below (pos 0)) ∷ []) 0 (replicate 9 (pos 0))) };
 }
 
-// A query that keeps the order, and takes while an element is below 0.
+/// A query that keeps the order, and takes while an element is below 0.
 fn taking_below_0(alloc: Global) -> Option<Query<Formula>>
     ensures { IfSome result (λ query. query.ordered ≡ true × query.ops ≡ TakeWhile (Below (pos 0)) ∷ []) }
 {
@@ -30,7 +30,7 @@ fn taking_below_0(alloc: Global) -> Option<Query<Formula>>
     }
 }
 
-// What two passes read, one after another, as the cut is lowered.
+/// What two passes read, one after another, as the cut is lowered.
 fn read_in_turn(alloc: Global) -> Option<[u64; 5]> {
     let query = taking_below_0(alloc)?;
     let zeros = RepeatSource::new(0, 9).ok()?;
@@ -53,7 +53,7 @@ fn the_least_key_is_read_by_each_pass(rt: HostRuntime) {
     assert!(rt; read_in_turn(rt.alloc()) == Some([u64::MAX, 5, 5, 3, 0]));
 }
 
-// Whether of two cuts at most one is refused, and one that is made has no key.
+/// Whether of two cuts at most one is refused, and one that is made has no key.
 fn is_made_at_last(alloc: Global) -> bool {
     let Some(query) = taking_below_0(alloc) else {
         return true;
@@ -75,7 +75,7 @@ fn is_made_at_last(alloc: Global) -> bool {
     refused <= 1
 }
 
-// Run with each allocation failing in turn.
+/// Run with each allocation failing in turn.
 #[test]
 fn a_cut_that_is_refused_is_made_the_next_time(rt: HostRuntime) {
     assert!(rt; is_made_at_last(rt.alloc()));

@@ -7,14 +7,14 @@ use plinq_keyed::{Guarded, Record};
 use plinq_source::ListSource;
 use std::alloc::Global;
 
-// Whether a ticket is above all recorded ones.
+/// Whether a ticket is above all recorded ones.
 fn is_new_ticket(records: &[Record], ticket: u64) -> bool
     ensures { result ≡ tickets_below ticket records.now }
 {
     records.iter().all(|record| record.ticket < ticket)
 }
 
-// So many zeros, where there is room for them.
+/// So many zeros, where there is room for them.
 fn zeros(alloc: Global, count: usize) -> Option<Enumerator<ListSource<u64>>> {
     match vec![in alloc; 0; count] {
         Ok(list) => {
@@ -27,12 +27,12 @@ fn zeros(alloc: Global, count: usize) -> Option<Enumerator<ListSource<u64>>> {
     }
 }
 
-// How many records there are, read through the bound.
+/// How many records there are, read through the bound.
 fn count_records<V: Guarded>(value: &V) -> usize {
     value.records().len()
 }
 
-// Asks for so many items. Answers how many came, or that it was refused.
+/// Asks for so many items. Answers how many came, or that it was refused.
 fn ask(zeros: &mut Enumerator<ListSource<u64>>, ticket: u64, n: u64) -> Option<usize> {
     if !is_new_ticket(zeros.records(), ticket) || n == 0 || n > 65_536 {
         return None;
@@ -43,12 +43,12 @@ fn ask(zeros: &mut Enumerator<ListSource<u64>>, ticket: u64, n: u64) -> Option<u
     }
 }
 
-// Closes it. Answers whether that was refused.
+/// Closes it. Answers whether that was refused.
 fn is_close_refused(zeros: &mut Enumerator<ListSource<u64>>, ticket: u64) -> bool {
     !is_new_ticket(zeros.records(), ticket) || zeros.close(ticket).is_err()
 }
 
-// Their numbers are words of the program.
+/// Their numbers are words of the program.
 #[test]
 fn growths_have_names(rt: HostRuntime) {
     assert!(rt; Growth::new(1, 3, 512) == Ok(Growth::DEFAULT));
@@ -66,7 +66,7 @@ fn growth_faults_in_words(rt: HostRuntime) {
     }
 }
 
-// Asks for one item under each of so many tickets. Answers how many were refused.
+/// Asks for one item under each of so many tickets. Answers how many were refused.
 fn refusals(zeros: &mut Enumerator<ListSource<u64>>, tickets: u64) -> usize {
     let mut refused = 0usize;
     for ticket in 0..tickets {
@@ -77,7 +77,7 @@ fn refusals(zeros: &mut Enumerator<ListSource<u64>>, tickets: u64) -> usize {
     refused
 }
 
-// A history of many records and a chunk of many items take no other path than short ones.
+/// A history of many records and a chunk of many items take no other path than short ones.
 #[test]
 fn many_are_handed_out_after_many_records(rt: HostRuntime) {
     let Some(mut many) = zeros(rt.alloc(), 10_000) else {
@@ -87,7 +87,7 @@ fn many_are_handed_out_after_many_records(rt: HostRuntime) {
     assert!(rt; count_records(&many) == 102);
 }
 
-// Of three asks, a close and an ask after it one is refused at most, which adds no record. Run with each allocation failing in turn.
+/// Of three asks, a close and an ask after it one is refused at most, which adds no record. Run with each allocation failing in turn.
 #[test]
 fn a_refused_growth_changes_nothing(rt: HostRuntime) {
     let Some(mut three) = zeros(rt.alloc(), 3) else {

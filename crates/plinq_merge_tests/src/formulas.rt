@@ -2,7 +2,7 @@ use crate::expecting::says;
 use plinq_lambda::{ExpandFault, Formula, Lambda};
 use std::alloc::Global;
 
-// How many items come of one, or that they are refused.
+/// How many items come of one, or that they are refused.
 fn count(alloc: Global, formula: Formula, x: i64) -> Option<usize> {
     match formula.expand(alloc, x) {
         Ok(items) => Some(items.len()),
@@ -16,7 +16,7 @@ fn expands_to_at_most_65536_items(rt: HostRuntime) {
     assert!(rt; count(rt.alloc(), Formula::UpTo, 65_536) == Some(65_536));
 }
 
-// What is made of one item, through the bound.
+/// What is made of one item, through the bound.
 fn through<L: Lambda<Item = i64>>(alloc: Global, lambda: L, x: i64) -> bool {
     let is_expanded = match lambda.expand(alloc, x) {
         Ok(items) => items.len() == 1,
@@ -30,7 +30,7 @@ fn answers_through_the_bound(rt: HostRuntime) {
     assert!(rt; through(rt.alloc(), Formula::Even, 5));
 }
 
-// Each is asked twice, and of all of them one is refused at most. Run with each allocation refused in turn.
+/// Each is asked twice, and of all of them one is refused at most. Run with each allocation refused in turn.
 #[test]
 fn expands_or_says_that_memory_ran_out(rt: HostRuntime) {
     let mut refused = 0usize;

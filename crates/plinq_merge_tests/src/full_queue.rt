@@ -17,7 +17,7 @@ impl Admits<u64> for AnyNumber {
     ghost admits = { λ _. ⊤ };
 }
 
-// So many items have room, and so many are sent: too few for those that wait to be woken because many were received.
+/// So many items have room, and so many are sent: too few for those that wait to be woken because many were received.
 const ROOM: usize = 4;
 
 const SENT: u64 = 11;

@@ -5,7 +5,7 @@ use plinq_keyed::{
 use std::alloc::{AllocError, Global};
 use std::test::Fail;
 
-// Partitions with these keys.
+/// Partitions with these keys.
 fn parts_of(alloc: Global, lists: &[&[u64]]) -> Result<Vec<Vec<Keyed<u8>>>, AllocError> {
     let mut parts = Vec::new(alloc);
     for list in lists {

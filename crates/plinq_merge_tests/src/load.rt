@@ -13,8 +13,8 @@ use std::test::Fail;
 use std::thread;
 use std::thread::Threads;
 
-// What the threads do: all take until there is a tail but every fourth, which stops half way. Where one is to stop the
-// source, that is the first, half way too.
+/// What the threads do: all take until there is a tail but every fourth, which stops half way. Where one is to stop the
+/// source, that is the first, half way too.
 #[derive(Clone, Copy)]
 struct Row {
     items: u64,
@@ -25,7 +25,7 @@ struct Row {
 }
 
 impl Row {
-    // How many chunks the thread at that place takes at most.
+    /// How many chunks the thread at that place takes at most.
     fn turns(&self, place: usize) -> u64 {
         if place % 4 == 1 || (place == 0 && self.stops) {
             self.half
@@ -35,10 +35,10 @@ impl Row {
     }
 }
 
-// What each thread took.
+/// What each thread took.
 type Lists = Mutex<Vec<Vec<Keyed<i64>>>>;
 
-// Takes until there is a tail, at most so often, and keeps the elements.
+/// Takes until there is a tail, at most so often, and keeps the elements.
 fn take_all<R: Wait>(
     rt: &R,
     alloc: Global,
@@ -62,7 +62,7 @@ fn take_all<R: Wait>(
     Ok(taken)
 }
 
-// Keeps some values under the keys from that one on, where there is room.
+/// Keeps some values under the keys from that one on, where there is room.
 fn keep(taken: &mut Vec<Keyed<i64>>, first: u64, values: &[i64]) -> bool {
     let mut key = first;
     for value in values {
@@ -74,7 +74,7 @@ fn keep(taken: &mut Vec<Keyed<i64>>, first: u64, values: &[i64]) -> bool {
     true
 }
 
-// What the thread at that place does; what it took goes to the lists.
+/// What the thread at that place does; what it took goes to the lists.
 fn work<R: Wait>(
     rt: &R,
     alloc: Global,
@@ -96,7 +96,7 @@ fn work<R: Wait>(
     }
 }
 
-// Each partition takes in a thread of its own.
+/// Each partition takes in a thread of its own.
 fn work_all<R: Threads + Wait + Sync>(
     rt: &R,
     alloc: Global,
@@ -120,7 +120,7 @@ fn work_all<R: Threads + Wait + Sync>(
     );
 }
 
-// How many items these records say were handed out.
+/// How many items these records say were handed out.
 fn count_of(records: &[Record]) -> u64 {
     let mut count: u64 = 0;
     for record in records {
@@ -129,13 +129,13 @@ fn count_of(records: &[Record]) -> u64 {
     count
 }
 
-// Whether each element's value is its own number.
+/// Whether each element's value is its own number.
 fn are_own(list: &[Keyed<i64>]) -> bool {
     list.iter()
         .all(|element| i64::try_from(element.key) == Ok(element.value))
 }
 
-// How many elements lists have.
+/// How many elements lists have.
 fn items_in(lists: &[Vec<Keyed<i64>>]) -> u64 {
     let mut count: u64 = 0;
     for list in lists {
@@ -144,7 +144,7 @@ fn items_in(lists: &[Vec<Keyed<i64>>]) -> u64 {
     count
 }
 
-// Whether lists have the keys from 0 on, each once and in order in each list, each with its own number as value.
+/// Whether lists have the keys from 0 on, each once and in order in each list, each with its own number as value.
 fn are_all(lists: &[Vec<Keyed<i64>>], count: u64) -> bool {
     check_in_each(lists)
         && check_normalized(lists)
@@ -152,7 +152,7 @@ fn are_all(lists: &[Vec<Keyed<i64>>], count: u64) -> bool {
         && items_in(lists) == count
 }
 
-// Whether records replay, and nothing is lost or handed out twice.
+/// Whether records replay, and nothing is lost or handed out twice.
 fn is_right(row: &Row, records: &[Record], lists: &[Vec<Keyed<i64>>]) -> bool {
     let count = count_of(records);
     replays(records, row.items, Ending::End)
@@ -161,7 +161,7 @@ fn is_right(row: &Row, records: &[Record], lists: &[Vec<Keyed<i64>>]) -> bool {
         && (row.stops || count == row.items)
 }
 
-// The partitions of a row.
+/// The partitions of a row.
 fn partitions_of(
     alloc: Global,
     row: Row,
@@ -181,7 +181,7 @@ fn partitions_of(
     }
 }
 
-// Whether the threads of a row take what they should, and all is given back.
+/// Whether the threads of a row take what they should, and all is given back.
 fn all_take<R: Threads + Wait + Sync>(rt: &R, alloc: Global, row: Row) -> bool {
     let Some((chunked, mut partitions)) = partitions_of(alloc, row) else {
         return false;

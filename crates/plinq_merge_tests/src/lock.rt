@@ -15,7 +15,7 @@ use std::thread::Threads;
 mod notes;
 mod when_free;
 
-// How a pass enters where others may be inside.
+/// How a pass enters where others may be inside.
 #[derive(Clone, Copy)]
 enum Way {
     // It draws a ticket, and waits for its turn.
@@ -26,7 +26,7 @@ enum Way {
     AtOnce,
 }
 
-// Tries to enter. Answers why it was refused, if it was.
+/// Tries to enter. Answers why it was refused, if it was.
 fn try_in_vain(lock: &TicketLock<Notes>, pass: Pass<Notes>) -> (Pass<Notes>, Option<LockFault>)
     requires { IsPassOf lock.now pass }
     ensures { IsPassOf lock.now result.0 }
@@ -37,7 +37,7 @@ fn try_in_vain(lock: &TicketLock<Notes>, pass: Pass<Notes>) -> (Pass<Notes>, Opt
     }
 }
 
-// Enters, notes that it was there, and leaves. Answers the ticket.
+/// Enters, notes that it was there, and leaves. Answers the ticket.
 fn visit<R: Wait>(
     rt: &R,
     lock: &TicketLock<Notes>,
@@ -63,7 +63,7 @@ fn visit<R: Wait>(
     }
 }
 
-// Enters a thousand times.
+/// Enters a thousand times.
 fn visit_often<R: Wait>(
     rt: &R,
     lock: &TicketLock<Notes>,
@@ -80,7 +80,7 @@ fn visit_often<R: Wait>(
     pass
 }
 
-// A lock round new notes, and its first pass.
+/// A lock round new notes, and its first pass.
 fn lock_of(alloc: Global) -> Option<(TicketLock<Notes>, Pass<Notes>)>
     ensures { IfSome result (λ made. IsPassOf made.0 made.1) }
 {
@@ -90,7 +90,7 @@ fn lock_of(alloc: Global) -> Option<(TicketLock<Notes>, Pass<Notes>)>
     }
 }
 
-// Whether the pass has all records, so many, under the tickets from that one on.
+/// Whether the pass has all records, so many, under the tickets from that one on.
 fn has_all(lock: TicketLock<Notes>, pass: Pass<Notes>, count: usize, first: u64) -> bool
     requires { IsPassOf lock pass }
 {
@@ -111,7 +111,7 @@ fn are_in_turn(records: &[Record], count: usize, first: u64) -> bool {
     records.len() == count
 }
 
-// Whether one that tries is told that another one is inside.
+/// Whether one that tries is told that another one is inside.
 fn is_busy(told: Option<LockFault>) -> bool {
     matches!(
         told,
@@ -122,7 +122,7 @@ fn is_busy(told: Option<LockFault>) -> bool {
     )
 }
 
-// The first is inside; the second, which tries, is told so, and enters after it in that way.
+/// The first is inside; the second, which tries, is told so, and enters after it in that way.
 fn take_turns<R: Wait>(rt: &R, alloc: Global, way: Way) -> bool {
     let Some((lock, pass)) = lock_of(alloc) else {
         return false;
@@ -146,10 +146,10 @@ fn passes_enter_in_the_order_of_tickets(rt: HostRuntime) {
     }
 }
 
-// The last ticket of each lock.
+/// The last ticket of each lock.
 const LAST: u64 = 4_611_686_018_427_387_903;
 
-// Whether a lock is made and used, at the second attempt where the first is refused.
+/// Whether a lock is made and used, at the second attempt where the first is refused.
 fn is_made<R: Wait>(rt: &R, alloc: Global) -> bool {
     let (lock, pass) = match lock_of(alloc) {
         Some(made) => made,
@@ -162,13 +162,13 @@ fn is_made<R: Wait>(rt: &R, alloc: Global) -> bool {
     lock.finish(pass).is_ok()
 }
 
-// Run with each allocation failing in turn.
+/// Run with each allocation failing in turn.
 #[test]
 fn a_lock_that_is_refused_is_out_of_memory(rt: HostRuntime) {
     assert!(rt; is_made(&rt, rt.alloc()));
 }
 
-// Two threads enter many times, each in its own way.
+/// Two threads enter many times, each in its own way.
 fn share<R: Threads + Wait + Sync>(rt: &R, alloc: Global, ways: (Way, Way)) -> bool {
     let Some((lock, pass)) = lock_of(alloc) else {
         return false;

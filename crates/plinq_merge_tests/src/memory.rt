@@ -9,7 +9,7 @@ use plinq_ops::{MergeOption, Query};
 use plinq_source::{Ending, RangeSource};
 use std::alloc::Global;
 
-// A sink that wants the numbers from 1 on. It takes room for each batch, and refuses one with 1,000 where there is none.
+/// A sink that wants the numbers from 1 on. It takes room for each batch, and refuses one with 1,000 where there is none.
 #[derive(Drop)]
 struct Counted {
     alloc: Global,
@@ -46,7 +46,7 @@ impl Sink for Counted {
     }
 }
 
-// Whether an answer fits what a merger has done before.
+/// Whether an answer fits what a merger has done before.
 fn fits(answer: Result<More, MergeFault>, failed: bool) -> bool {
     match answer {
         Ok(_) | Err(MergeFault::Memory | MergeFault::Sink(1_000)) => !failed,
@@ -54,7 +54,7 @@ fn fits(answer: Result<More, MergeFault>, failed: bool) -> bool {
     }
 }
 
-// Whether a merger that has failed says so at its end, and one that hasn't has all of the answer.
+/// Whether a merger that has failed says so at its end, and one that hasn't has all of the answer.
 fn ends(merger: Merger<'_, Formula>, count: i64, failed: bool) -> bool {
     let is_decided = merger.decided();
     let told = merger.finish();
@@ -65,7 +65,7 @@ fn ends(merger: Merger<'_, Formula>, count: i64, failed: bool) -> bool {
     }
 }
 
-// Whether the batches delivered are the first of the answer's, and after an offer with no room the merger has failed.
+/// Whether the batches delivered are the first of the answer's, and after an offer with no room the merger has failed.
 fn are_merged(alloc: Global, merger: Merger<'_, Formula>) -> bool {
     let offers: [(u64, &[i64], Option<Tail>); 3] = [
         (2, &[3], None),
@@ -89,7 +89,7 @@ fn are_merged(alloc: Global, merger: Merger<'_, Formula>) -> bool {
     is_end && !sink.is_wrong
 }
 
-// Whether a merger does so that is made at the second attempt where the first is refused.
+/// Whether a merger does so that is made at the second attempt where the first is refused.
 fn merges(alloc: Global, option: MergeOption) -> bool {
     let Some(query) = ordered(alloc) else {
         return true;
@@ -100,26 +100,26 @@ fn merges(alloc: Global, option: MergeOption) -> bool {
     }
 }
 
-// Run with each allocation failing in turn.
+/// Run with each allocation failing in turn.
 #[test]
 fn no_room_ends_a_merger_that_is_not_buffered(rt: HostRuntime) {
     assert!(rt; merges(rt.alloc(), MergeOption::NotBuffered));
 }
 
-// Run with each allocation failing in turn.
+/// Run with each allocation failing in turn.
 #[test]
 fn no_room_ends_a_merger_of_batches(rt: HostRuntime) {
     assert!(rt; merges(rt.alloc(), MergeOption::AutoBuffered));
 }
 
-// Run with each allocation failing in turn.
+/// Run with each allocation failing in turn.
 #[test]
 fn no_room_ends_a_merger_that_is_fully_buffered(rt: HostRuntime) {
     assert!(rt; merges(rt.alloc(), MergeOption::FullyBuffered));
 }
 
-// What one thread makes of so many numbers: `Ok` says whether all were delivered in order; in a fault, for lack of room, it says so of the
-// first of them.
+/// What one thread makes of so many numbers: `Ok` says whether all were delivered in order; in a fault, for lack of room, it says so of the
+/// first of them.
 fn delivered(alloc: Global, how: How, query: &Query<Formula>, most: u32) -> Result<bool, bool> {
     let Ok(mut source) = RangeSource::new(1, u64::from(most)) else {
         return Ok(false);
@@ -134,7 +134,7 @@ fn delivered(alloc: Global, how: How, query: &Query<Formula>, most: u32) -> Resu
     }
 }
 
-// Whether all are delivered, at the second attempt where there was no room at the first.
+/// Whether all are delivered, at the second attempt where there was no room at the first.
 fn delivers(alloc: Global, how: How, option: MergeOption, most: u32) -> bool {
     let Ok(query) = Query::new(alloc).with_merge(option) else {
         return true;
@@ -145,8 +145,8 @@ fn delivers(alloc: Global, how: How, option: MergeOption, most: u32) -> bool {
     }
 }
 
-// The batches of one thread are the first of the answer's, and all of them where the call answers its ending; where it doesn't, it
-// does the next time. Run with each allocation failing in turn.
+/// The batches of one thread are the first of the answer's, and all of them where the call answers its ending; where it doesn't, it
+/// does the next time. Run with each allocation failing in turn.
 #[test]
 fn no_room_ends_a_delivery_by_one_thread(rt: HostRuntime) {
     for option in [
@@ -158,7 +158,7 @@ fn no_room_ends_a_delivery_by_one_thread(rt: HostRuntime) {
     }
 }
 
-// The same of two blocks.
+/// The same of two blocks.
 #[test]
 fn no_room_ends_a_delivery_in_blocks(rt: HostRuntime) {
     for option in [

@@ -8,8 +8,8 @@ use plinq_ops::{FragEnd, Op, Pipeline, Query, chunk_result, fragment, sequential
 use plinq_source::{Ending, ListSource, Source, Step};
 use std::alloc::Global;
 
-// A lambda over truth values, whose items have another size: mapped each is turned round, a yes passes, and each is
-// expanded to both; it never faults.
+/// A lambda over truth values, whose items have another size: mapped each is turned round, a yes passes, and each is
+/// expanded to both; it never faults.
 #[derive(Clone, Copy, Debug, PartialEq, Eq, Drop)]
 struct Turning;
 
@@ -55,7 +55,7 @@ fn a_pipeline_takes_in_items_and_blocks(rt: HostRuntime) {
     assert!(rt; takes_in(rt.alloc()) == Some(true));
 }
 
-// An item, and then a refusal, one step after another.
+/// An item, and then a refusal, one step after another.
 fn hears_a_refusal(alloc: Global) -> Option<bool> {
     let ops = [Op::SelectMany(Formula::Repeat(2)), Op::Take(5)];
     let list = Vec::from_slice(alloc, &[7]).ok()?;
@@ -74,7 +74,7 @@ fn hears_a_refusal(alloc: Global) -> Option<bool> {
     Some(is_told && out.as_slice() == [7, 7].as_slice())
 }
 
-// A block with the end after it.
+/// A block with the end after it.
 fn hears_the_end_of_a_block(alloc: Global) -> Option<bool> {
     let ops = [Op::SelectMany(Formula::Repeat(2)), Op::Take(5)];
     let mut block = Vec::from_slice(alloc, &[4, 9]).ok()?;
@@ -87,7 +87,7 @@ fn hears_the_end_of_a_block(alloc: Global) -> Option<bool> {
     Some(after_all == ending && block.as_slice() == [4, 4, 9, 9].as_slice())
 }
 
-// The end alone, where a Take has items left to take.
+/// The end alone, where a Take has items left to take.
 fn hears_the_end(alloc: Global) -> Option<bool> {
     let ops = [Op::Select(Formula::Add(1)), Op::Take(5)];
     let mut out = Vec::new(alloc);
@@ -106,7 +106,7 @@ fn operators_hear_of_the_end(rt: HostRuntime) {
     assert!(rt; hears_the_end(rt.alloc()) == Some(true));
 }
 
-// as_ordered, take_while, select_many, select; with a Take after them that no worker can apply
+/// as_ordered, take_while, select_many, select; with a Take after them that no worker can apply
 fn turned_query(alloc: Global) -> Option<Query<Turning>> {
     let ops = [
         Op::TakeWhile(Turning),

@@ -10,10 +10,10 @@ use plinq_source::RangeSource;
 use std::alloc::Global;
 use std::sync::Wait;
 
-// What stands for a call that isn't answered as it should be.
+/// What stands for a call that isn't answered as it should be.
 const WRONG: u64 = 9;
 
-// Makes a call, and once more where the first is refused for lack of memory. Answers how many were refused.
+/// Makes a call, and once more where the first is refused for lack of memory. Answers how many were refused.
 fn refusals<R: Wait>(
     rt: &R,
     chunked: &Chunked<RangeSource>,
@@ -36,7 +36,7 @@ fn refusals<R: Wait>(
     }
 }
 
-// Two partitions, at the second attempt where the first is refused.
+/// Two partitions, at the second attempt where the first is refused.
 fn two_at_last(
     chunked: &Chunked<RangeSource>,
     partition: Partition<RangeSource>,
@@ -55,7 +55,7 @@ fn two_at_last(
     }
 }
 
-// Three numbers, at the second attempt where the first is refused.
+/// Three numbers, at the second attempt where the first is refused.
 fn three_at_last(alloc: Global) -> Option<(Chunked<RangeSource>, Partition<RangeSource>)>
     ensures { IfSome result (λ made. IsPartitionOf made.0 made.1) }
 {
@@ -65,7 +65,7 @@ fn three_at_last(alloc: Global) -> Option<(Chunked<RangeSource>, Partition<Range
     }
 }
 
-// Whether of calls of two partitions one at most is refused, and uses up a ticket then.
+/// Whether of calls of two partitions one at most is refused, and uses up a ticket then.
 fn change_nothing<R: Wait>(rt: &R, alloc: Global) -> bool {
     let Some((chunked, mut first)) = three_at_last(alloc) else {
         return false;
@@ -82,14 +82,14 @@ fn change_nothing<R: Wait>(rt: &R, alloc: Global) -> bool {
     refused <= 1 && are_all
 }
 
-// Each call is refused once at most, changes nothing then but that a ticket is gone, and answers the next time. Run with
-// each allocation failing in turn.
+/// Each call is refused once at most, changes nothing then but that a ticket is gone, and answers the next time. Run with
+/// each allocation failing in turn.
 #[test]
 fn a_refused_allocation_changes_nothing(rt: HostRuntime) {
     assert!(rt; change_nothing(&rt, rt.alloc()));
 }
 
-// Whether a refused first chunk uses up a ticket, if there is room for all else.
+/// Whether a refused first chunk uses up a ticket, if there is room for all else.
 fn uses_up_a_ticket<R: Wait>(rt: &R, alloc: Global) -> bool {
     let Some((chunked, mut partition)) = range_of(alloc, 5, 2, Growth::DEFAULT) else {
         return true;
@@ -102,13 +102,13 @@ fn uses_up_a_ticket<R: Wait>(rt: &R, alloc: Global) -> bool {
     }
 }
 
-// A first chunk is refused for lack of room for its items, or for its record. Run with each allocation failing in turn.
+/// A first chunk is refused for lack of room for its items, or for its record. Run with each allocation failing in turn.
 #[test]
 fn a_refused_first_chunk_uses_up_a_ticket(rt: HostRuntime) {
     assert!(rt; uses_up_a_ticket(&rt, rt.alloc()));
 }
 
-// Stops a source of which nothing was taken; where that is refused, nothing is closed, and the next call closes it.
+/// Stops a source of which nothing was taken; where that is refused, nothing is closed, and the next call closes it.
 fn stops<R: Wait>(
     rt: &R,
     chunked: &Chunked<RangeSource>,
@@ -127,7 +127,7 @@ fn stops<R: Wait>(
     }
 }
 
-// Whether a stop closes the source, or nothing where it is refused, if there is room for the lock and an empty chunk.
+/// Whether a stop closes the source, or nothing where it is refused, if there is room for the lock and an empty chunk.
 fn closes<R: Wait>(rt: &R, alloc: Global) -> bool {
     let Some((chunked, mut partition)) = range_of(alloc, 5, 2, Growth::DEFAULT) else {
         return true;
@@ -139,13 +139,13 @@ fn closes<R: Wait>(rt: &R, alloc: Global) -> bool {
     }
 }
 
-// A first `stop` is refused, or not. Run with each allocation failing in turn.
+/// A first `stop` is refused, or not. Run with each allocation failing in turn.
 #[test]
 fn a_refused_stop_closes_nothing(rt: HostRuntime) {
     assert!(rt; closes(&rt, rt.alloc()));
 }
 
-// The numbers 1, 2 and 3, under tickets from that one on.
+/// The numbers 1, 2 and 3, under tickets from that one on.
 fn with_first_ticket(
     alloc: Global,
     ticket: u64,
@@ -162,7 +162,7 @@ fn with_first_ticket(
     }
 }
 
-// Whether each call is told that no ticket is left.
+/// Whether each call is told that no ticket is left.
 fn is_spent<R: Wait>(
     rt: &R,
     chunked: &Chunked<RangeSource>,
@@ -178,10 +178,10 @@ fn is_spent<R: Wait>(
     is_spent(tried) && is_spent(taken) && is_spent(stopped)
 }
 
-// The last ticket of each lock.
+/// The last ticket of each lock.
 const LAST: u64 = 4_611_686_018_427_387_903;
 
-// Whether the last two tickets are given to two calls, and then none.
+/// Whether the last two tickets are given to two calls, and then none.
 fn are_the_last<R: Wait>(rt: &R, alloc: Global) -> bool {
     let Some((chunked, mut partition)) = with_first_ticket(alloc, LAST - 1) else {
         return false;
@@ -193,7 +193,7 @@ fn are_the_last<R: Wait>(rt: &R, alloc: Global) -> bool {
     first && second && is_over && are_all == Some(true)
 }
 
-// Whether none is given above the last.
+/// Whether none is given above the last.
 fn is_over<R: Wait>(rt: &R, alloc: Global) -> bool {
     match with_first_ticket(alloc, LAST + 1) {
         Some((chunked, mut partition)) => is_spent(rt, &chunked, &mut partition),
@@ -206,7 +206,7 @@ fn the_last_ticket_is_taken_once(rt: HostRuntime) {
     assert!(rt; are_the_last(&rt, rt.alloc()) && is_over(&rt, rt.alloc()));
 }
 
-// How many attempts to take from a source whose last two tickets are left were refused: that to make it as well.
+/// How many attempts to take from a source whose last two tickets are left were refused: that to make it as well.
 fn refused_at_last<R: Wait>(rt: &R, alloc: Global) -> u64 {
     let (made, before) = match with_first_ticket(alloc, LAST - 1) {
         Some(made) => (Some(made), 0),
@@ -220,7 +220,7 @@ fn refused_at_last<R: Wait>(rt: &R, alloc: Global) -> u64 {
     }
 }
 
-// Of the last two tickets a refused chunk uses up the first. Run with each allocation failing in turn.
+/// Of the last two tickets a refused chunk uses up the first. Run with each allocation failing in turn.
 #[test]
 fn a_refused_start_at_a_ticket_is_memory(rt: HostRuntime) {
     assert!(rt; refused_at_last(&rt, rt.alloc()) <= 1);

@@ -8,7 +8,7 @@ use plinq_ops::{MergeOption, Query};
 use plinq_source::Ending;
 use std::alloc::Global;
 
-// A sink that wants a, b and c in one batch.
+/// A sink that wants a, b and c in one batch.
 #[derive(Drop)]
 struct Letters {
     batches: usize,

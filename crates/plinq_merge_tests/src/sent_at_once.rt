@@ -37,14 +37,14 @@ pub(crate) fn deliver<K: Sink<Item = i64>>(
     }
 }
 
-// Five items of each element, which a Select leaves as it is before that.
+/// Five items of each element, which a Select leaves as it is before that.
 fn later_fives(alloc: Global) -> Built<Formula> {
     Query::new(alloc)
         .with_op(Op::Select(Formula::Add(0)))?
         .with_op(Op::SelectMany(Formula::Repeat(5)))
 }
 
-// What a source of 1, 2, 3 and so on gives next, once the sink has refused this batch.
+/// What a source of 1, 2, 3 and so on gives next, once the sink has refused this batch.
 fn next_after(alloc: Global, how: How, query: &Query<Formula>, refused: u64) -> Option<Step<i64>> {
     let mut source = RangeSource::new(1, 200_000).ok()?;
     let rests = AtomicU64::new(0);
@@ -59,7 +59,7 @@ fn next_after(alloc: Global, how: How, query: &Query<Formula>, refused: u64) -> 
     }
 }
 
-// Whether it gives these numbers next, once the sink has refused these batches.
+/// Whether it gives these numbers next, once the sink has refused these batches.
 fn are_next(alloc: Global, how: How, query: Built<Formula>, rows: &[(u64, i64)]) -> bool {
     let Ok(query) = query else {
         return false;
@@ -73,7 +73,7 @@ fn are_next(alloc: Global, how: How, query: Built<Formula>, rows: &[(u64, i64)])
     true
 }
 
-// The same of a query with one operator.
+/// The same of a query with one operator.
 fn are_next_of(
     alloc: Global,
     how: How,
@@ -84,7 +84,7 @@ fn are_next_of(
     are_next(alloc, how, query_of(alloc, option, op), rows)
 }
 
-// Whether a source is asked for nothing where nothing is taken.
+/// Whether a source is asked for nothing where nothing is taken.
 fn asks_nothing(alloc: Global, how: How) -> bool {
     let Ok(query) = query_of(alloc, MergeOption::NotBuffered, Op::Take(0)) else {
         return false;
@@ -134,8 +134,8 @@ fn sixteen_items_are_sent_at_once(rt: HostRuntime) {
     );
 }
 
-// Five items come of each element: the second batch begins with four of those of the fourth, and the third with three of the
-// seventh's.
+/// Five items come of each element: the second batch begins with four of those of the fourth, and the third with three of the
+/// seventh's.
 #[test]
 fn a_batch_that_was_begun_is_filled_up(rt: HostRuntime) {
     let fives = Op::SelectMany(Formula::Repeat(5));
@@ -151,7 +151,7 @@ fn a_batch_that_was_begun_is_filled_up(rt: HostRuntime) {
     );
 }
 
-// Half of each 512 elements pass.
+/// Half of each 512 elements pass.
 #[test]
 fn each_item_of_a_block_is_a_batch(rt: HostRuntime) {
     let even = Op::Filter(Formula::Even);
@@ -167,7 +167,7 @@ fn each_item_of_a_block_is_a_batch(rt: HostRuntime) {
     );
 }
 
-// Of 495 items the last 15 wait for those of the next block.
+/// Of 495 items the last 15 wait for those of the next block.
 #[test]
 fn a_batch_goes_on_in_the_next_block(rt: HostRuntime) {
     let later = Op::Skip(17);
@@ -225,14 +225,14 @@ fn a_full_answer_is_sent_at_its_end(rt: HostRuntime) {
     );
 }
 
-// Items of which one in 10,000 passes, so that a batch of 16 takes 160,000.
+/// Items of which one in 10,000 passes, so that a batch of 16 takes 160,000.
 fn rare(alloc: Global) -> Built<Formula> {
     Query::new(alloc)
         .with_op(Op::Select(Formula::Mod(10_000)))?
         .with_op(Op::Filter(Formula::Equal(7)))
 }
 
-// How often a sink is told in an answer to 200,000 items.
+/// How often a sink is told in an answer to 200,000 items.
 fn count_rests(alloc: Global, how: How, query: Built<Formula>) -> Option<u64> {
     let query = query.ok()?;
     let mut source = RangeSource::new(1, 200_000).ok()?;
@@ -248,7 +248,7 @@ fn count_rests(alloc: Global, how: How, query: Built<Formula>) -> Option<u64> {
     }
 }
 
-// Whether it is told so often of the numbers below this one, each a batch.
+/// Whether it is told so often of the numbers below this one, each a batch.
 fn are_rests_below(alloc: Global, how: How, below: i64, rests: u64) -> bool {
     let op = Op::Filter(Formula::Below(below));
     count_rests(alloc, how, query_of(alloc, MergeOption::NotBuffered, op)) == Some(rests)

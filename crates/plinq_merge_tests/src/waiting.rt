@@ -13,7 +13,7 @@ use std::sync::atomic::{AtomicBool, Ordering};
 use std::thread;
 use std::thread::Threads;
 
-// What two threads tell one another, and whether one has waited for too long or was answered otherwise than it should be.
+/// What two threads tell one another, and whether one has waited for too long or was answered otherwise than it should be.
 #[derive(Drop)]
 struct Signals {
     is_inside: AtomicBool,
@@ -22,7 +22,7 @@ struct Signals {
 }
 
 impl Signals {
-    // Waits for a signal, but not for ever.
+    /// Waits for a signal, but not for ever.
     fn wait_for(&self, signal: &AtomicBool) {
         let backoff = Backoff::new();
         for _turn in 0..10_000_000 {
@@ -70,7 +70,7 @@ impl<'a> Source for KeepsInside<'a> {
     }
 }
 
-// The first takes, and is kept inside; the second tries meanwhile, and lets it leave.
+/// The first takes, and is kept inside; the second tries meanwhile, and lets it leave.
 fn take_or_try<S: Source<Item = i64>, R: Wait>(
     rt: &R,
     chunked: &Chunked<S>,
@@ -98,7 +98,7 @@ fn take_or_try<S: Source<Item = i64>, R: Wait>(
     signals.may_leave.store(true, Ordering::SeqCst);
 }
 
-// Each in a thread of its own.
+/// Each in a thread of its own.
 fn take_and_try<S: Source<Item = i64>, R: Threads + Wait + Sync>(
     rt: &R,
     chunked: &Chunked<S>,
@@ -120,7 +120,7 @@ fn take_and_try<S: Source<Item = i64>, R: Threads + Wait + Sync>(
     );
 }
 
-// A source that keeps inside the lock who asks it, and two partitions of it.
+/// A source that keeps inside the lock who asks it, and two partitions of it.
 fn made<'a>(
     alloc: Global,
     signals: &'a Signals,
@@ -141,7 +141,7 @@ fn made<'a>(
     }
 }
 
-// Whether the second is told that the first is inside, and takes after it.
+/// Whether the second is told that the first is inside, and takes after it.
 fn takes_after_it<S: Source<Item = i64>, R: Threads + Wait + Sync>(
     rt: &R,
     chunked: &Chunked<S>,
@@ -156,7 +156,7 @@ fn takes_after_it<S: Source<Item = i64>, R: Threads + Wait + Sync>(
     matches!(told, Ok(true)) && !signals.is_wrong.load(Ordering::SeqCst)
 }
 
-// The same of a source that keeps the first inside.
+/// The same of a source that keeps the first inside.
 fn is_told<R: Threads + Wait + Sync>(rt: &R, alloc: Global) -> bool {
     let signals = Signals {
         is_inside: AtomicBool::new(false),

@@ -58,7 +58,7 @@ impl<'a, L: Lambda> Pipeline<'a, L> {
         Pipeline::reached(alloc, ops, key)
     }
 
-    // So many elements have reached the first operator, and none was filtered out.
+    /// So many elements have reached the first operator, and none was filtered out.
     fn reached(alloc: Global, ops: &'a [Op<L>], count: u64) -> Result<Pipeline<'a, L>, OutOfMemory>
         ensures { IfOk result (IsReached L.meaning ops.now count) }
     {
@@ -132,7 +132,7 @@ impl<'a, L: Lambda> Pipeline<'a, L> {
         self.feed_next(alloc, step, out)
     }
 
-    // What a source gave: an item, or its ending.
+    /// What a source gave: an item, or its ending.
     #[inline(always)]
     fn feed_next(
         &mut self,

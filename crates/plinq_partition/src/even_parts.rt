@@ -8,7 +8,7 @@ use crate::part_fault::PartFault;
 use plinq_keyed::Keyed;
 use std::alloc::Global;
 
-// The elements in `n` partitions, one allocation for each and one for all.
+/// The elements in `n` partitions, one allocation for each and one for all.
 pub(crate) fn cut_elements<E: Elements>(
     alloc: Global,
     elements: &E,
@@ -34,7 +34,7 @@ pub(crate) fn cut_elements<E: Elements>(
     Ok(parts)
 }
 
-// The place at which that partition of `n` begins, or with `n` the end.
+/// The place at which that partition of `n` begins, or with `n` the end.
 fn place_of(part: u64, count: u64, n: u64) -> u64
     requires some { 1 ≤ n }
     requires within { part ≤ n }

@@ -106,7 +106,7 @@ impl<S: Source> Partition<S> {
         self.spare = Some(list);
     }
 
-    // The pass, for good.
+    /// The pass, for good.
     pub(crate) fn into_pass(self) -> Pass<Enumerator<S>>
         requires there { IsSome self.pass }
         ensures { self.pass ≡ Some result }
@@ -118,7 +118,7 @@ impl<S: Source> Partition<S> {
         }
     }
 
-    // The pass, for a way through the lock.
+    /// The pass, for a way through the lock.
     pub(crate) fn lend_pass(&mut self) -> Pass<Enumerator<S>>
         requires { IsSome self.old.pass }
         ensures pass { self.old.pass ≡ Some result }
@@ -130,7 +130,7 @@ impl<S: Source> Partition<S> {
         }
     }
 
-    // The pass comes back, and the lock's fault is reported.
+    /// The pass comes back, and the lock's fault is reported.
     fn have_back(&mut self, refusal: (Pass<Enumerator<S>>, LockFault)) -> TakeFault
         ensures pass { self.new.pass ≡ Some refusal.0 }
         ensures requests { self.new.requests ≡ self.old.requests }
@@ -141,7 +141,7 @@ impl<S: Source> Partition<S> {
         TakeFault::from(fault)
     }
 
-    // The list that was kept, or one without room.
+    /// The list that was kept, or one without room.
     fn spare_list(&mut self, alloc: Global) -> Vec<S::Item>
         ensures pass { self.new.pass ≡ self.old.pass }
         ensures requests { self.new.requests ≡ self.old.requests }
@@ -152,7 +152,7 @@ impl<S: Source> Partition<S> {
         }
     }
 
-    // Takes the chunk of the next request while inside, and leaves.
+    /// Takes the chunk of the next request while inside, and leaves.
     fn ask(
         &mut self,
         chunked: &Chunked<S>,
@@ -176,7 +176,7 @@ impl<S: Source> Partition<S> {
         Ok(chunk)
     }
 
-    // Closes the enumerator while inside, and leaves.
+    /// Closes the enumerator while inside, and leaves.
     fn close(&mut self, chunked: &Chunked<S>, held: Held<Enumerator<S>>) -> Result<(), TakeFault>
         requires { IsInside chunked.now self.old.requests held }
         ensures of { IsPartitionOf chunked.now self.new }

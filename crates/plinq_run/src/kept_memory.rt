@@ -1,7 +1,7 @@
 //! What the C library's allocator keeps of what it is given back.
 use std::alloc::Global;
 
-// How many bytes the block has. The allocator then keeps twice as many.
+/// How many bytes the block has. The allocator then keeps twice as many.
 const BLOCK: usize = 2_097_152;
 
 /// Has the C library's allocator keep up to 4 MB at the end of each of its arenas, and not give it back to the system at once.

@@ -18,7 +18,7 @@ use plinq_source::Source;
 use std::sync::Wait;
 use std::thread::Threads;
 
-// How many results the queue has room for.
+/// How many results the queue has room for.
 const ROOM: usize = 256;
 
 /// What is left of a run that has an answer: the partitions, what has taken the answer's items and how it ended.

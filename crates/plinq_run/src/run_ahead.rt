@@ -7,13 +7,13 @@ use plinq_ops::Order;
 use std::mem::{align_of_val, size_of_val};
 use std::thread::{Threads, available_parallelism};
 
-// How many bytes the results take that workers may be ahead of what is merged, for each worker.
+/// How many bytes the results take that workers may be ahead of what is merged, for each worker.
 const BYTES_AHEAD: u64 = 1_048_576;
 
-// What the result of a chunk takes beside its items.
+/// What the result of a chunk takes beside its items.
 const RESULT_BYTES: u64 = 256;
 
-// How many chunks a worker may be ahead however large they are.
+/// How many chunks a worker may be ahead however large they are.
 const LEAST_AHEAD: u64 = 4;
 
 /// How many bytes an item takes: what an `Option` of it takes, but for the mark that this has beside it.

@@ -1,7 +1,7 @@
 use crate::sent::Sent;
 use std::collections::LinkedList;
 
-// What a pass knows. No value of it is made.
+/// What a pass knows. No value of it is made.
 pub struct PassKnowledge<T> {
     // Under which numbers it may send.
     pub numbers: LinkedList<u64>,

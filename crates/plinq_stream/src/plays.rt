@@ -9,14 +9,14 @@ use crate::sent::Sent;
 use crossbeam_queue::protocol::{Join, Lesson, Outcome, Split};
 use std::marker::PhantomData;
 
-// An item was sent.
+/// An item was sent.
 pub struct Sends;
 
 impl<T> Outcome<Sent<T>, PassKnowledge<T>> for Sends {
     ghost then = { λ a s b. b ≡ with_sent a s };
 }
 
-// An item was received.
+/// An item was received.
 pub struct Comes<C> {
     of: PhantomData<C>,
 }
@@ -29,7 +29,7 @@ impl<T, C: Admits<T>> Lesson<Sent<T>, PassKnowledge<T>> for Comes<C> {
     ghost fact = { HasReceived };
 }
 
-// A pass with the first number leaves.
+/// A pass with the first number leaves.
 pub struct HandsOut;
 
 impl<T> Split<PassKnowledge<T>> for HandsOut {
@@ -38,7 +38,7 @@ impl<T> Split<PassKnowledge<T>> for HandsOut {
     ghost right = { with_first };
 }
 
-// A pass is taken in.
+/// A pass is taken in.
 pub struct TakesIn;
 
 impl<T> Join<PassKnowledge<T>> for TakesIn {

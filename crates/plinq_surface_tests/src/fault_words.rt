@@ -6,7 +6,7 @@ use plinq_run::RunFault;
 use std::alloc::Global;
 use std::fmt::Display;
 
-// In one place, since a text is dear to prove.
+/// In one place, since a text is dear to prove.
 fn says<T: Display>(alloc: Global, fault: &T, text: &str) -> bool {
     match format!(in alloc; "{fault}") {
         Ok(words) => words.as_str() == text,
@@ -28,13 +28,13 @@ fn faults_of_lines_input_and_documents(rt: HostRuntime) {
     assert!(rt; says(rt.alloc(), &DocFault::Memory, "out of memory"));
 }
 
-// What becomes of a fault of partitions, and the line that is shown.
+/// What becomes of a fault of partitions, and the line that is shown.
 fn fails_as(alloc: Global, fault: TakeFault, failure: Failure, line: &str) -> bool {
     let told = Failure::from(ServeFault::from(fault));
     told == failure && says(alloc, &told, line)
 }
 
-// One thread meets none of these.
+/// One thread meets none of these.
 #[test]
 fn faults_of_partitions(rt: HostRuntime) {
     for (fault, failure, line) in [
@@ -57,7 +57,7 @@ const BUSY: TakeFault = TakeFault::Busy {
 
 const MISSING: TakeFault = TakeFault::Incomplete { have: 1, all: 2 };
 
-// What a fault of a command says itself, and the line of the failure that it becomes.
+/// What a fault of a command says itself, and the line of the failure that it becomes.
 fn becomes(alloc: Global, fault: ServeFault, text: &str, line: &str) -> bool {
     says(alloc, &fault, text) && says(alloc, &Failure::from(fault), line)
 }

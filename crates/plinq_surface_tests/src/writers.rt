@@ -17,7 +17,7 @@ fn words_of(alloc: Global, words: &[&str]) -> Result<Vec<String>, AllocError> {
     Ok(all)
 }
 
-// Whether a run ends with this status and says this. In one place, since a call of `perform` is dear to prove.
+/// Whether a run ends with this status and says this. In one place, since a call of `perform` is dear to prove.
 fn ends<R: AllocGlobal + Threads + Wait + Sync>(
     rt: &R,
     words: &[&str],
@@ -38,7 +38,7 @@ const NOT: [&str; 4] = ["plinq", "run", "--merge", "not"];
 
 const WRITE_FAILED: &str = "plinq: write failed\n";
 
-// Whether so much is taken with room for some of the bytes, some at once, where each write is interrupted.
+/// Whether so much is taken with room for some of the bytes, some at once, where each write is interrupted.
 fn writes<R: AllocGlobal + Threads + Wait + Sync>(
     rt: &R,
     room: usize,
@@ -68,7 +68,7 @@ fn writes_that_fail(rt: HostRuntime) {
     }
 }
 
-// Whether at most so much is taken by one that takes all, and fails at each flush.
+/// Whether at most so much is taken by one that takes all, and fails at each flush.
 fn flushes<R: AllocGlobal + Threads + Wait + Sync>(
     rt: &R,
     words: &[&str],
@@ -82,7 +82,7 @@ fn flushes<R: AllocGlobal + Threads + Wait + Sync>(
     ends(rt, words, document, &mut out, status, line) && taken.as_bytes().starts_with(out.taken())
 }
 
-// Cancelled at once a run has written nothing, and all that fails is the last flush. A refused document comes before that.
+/// Cancelled at once a run has written nothing, and all that fails is the last flush. A refused document comes before that.
 #[test]
 fn a_flush_that_fails(rt: HostRuntime) {
     assert!(rt; flushes(&rt, &NOT, ADD_ONE, "4\n2\n5\nend\n", 5, WRITE_FAILED));

@@ -16,7 +16,7 @@ use atomic_table::Seat;
 use plinq_keyed::Guarded;
 use std::sync::Wait;
 
-// Tickets are the numbers below this one.
+/// Tickets are the numbers below this one.
 const TICKETS_END: u64 = 1 << 62;
 
 impl<V: Guarded> TicketLock<V> {
@@ -71,7 +71,7 @@ impl<V: Guarded> TicketLock<V> {
         }
     }
 
-    // Enters once others have left, with a waiter that the first try does without.
+    /// Enters once others have left, with a waiter that the first try does without.
     fn enter_later<R: Wait>(&self, rt: &R, pass: Pass<V>) -> Result<Held<V>, (Pass<V>, LockFault)>
         requires { IsPassOf self.now pass }
         ensures ok { IfOk result (λ held. IsHeldOf self.now held × Enters V.origin V.history pass held) }
@@ -123,7 +123,7 @@ impl<V: Guarded> TicketLock<V> {
         }
     }
 
-    // Waits until the ticket is served, and takes the value.
+    /// Waits until the ticket is served, and takes the value.
     fn wait<R: Wait>(
         &self,
         rt: &R,
@@ -152,7 +152,7 @@ impl<V: Guarded> TicketLock<V> {
         unreachable!()
     }
 
-    // Takes the value out of the slot, which is the pass's own.
+    /// Takes the value out of the slot, which is the pass's own.
     #[inline(always)]
     fn take_value(
         &self,

@@ -6,7 +6,7 @@ use crate::view::View;
 use atomic_table::Seat;
 use plinq_keyed::Guarded;
 
-// A pass that is inside, and whose value is out of the slot.
+/// A pass that is inside, and whose value is out of the slot.
 pub struct Stay<V, T> {
     pub(crate) seat: Seat<Option<V>, View<T>>,
     pub(crate) ticket: u64,

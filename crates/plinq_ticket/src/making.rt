@@ -56,7 +56,7 @@ impl<V: Guarded> TicketLock<V> {
     }
 }
 
-// A list of one.
+/// A list of one.
 fn alone<T: Drop>(alloc: Global, x: T) -> Result<Vec<T>, LockFault>
     ensures ok { IfOk result (λ list. list.items ≡ x ∷ []) }
     ensures err { IfErr result (λ fault. fault ≡ Memory) }

@@ -1,4 +1,4 @@
-// Where a pass stands. No value of it is made.
+/// Where a pass stands. No value of it is made.
 pub enum Phase {
     // It has no ticket.
     Idle,

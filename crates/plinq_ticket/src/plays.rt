@@ -5,35 +5,35 @@ use crate::view::View;
 use atomic_table::{Join, Play, Split};
 use plinq_keyed::Guarded;
 
-// A load of `next`.
+/// A load of `next`.
 pub struct SeeNext;
 
 impl<V, T> Play<Option<V>, View<T>> for SeeNext {
     ghost then = { λ s a n b. SeesNext n a b };
 }
 
-// A compare-exchange of `next`, from a ticket to the one after it.
+/// A compare-exchange of `next`, from a ticket to the one after it.
 pub struct Draw;
 
 impl<V, T> Play<Option<V>, View<T>> for Draw {
     ghost then = { λ s a n b. Draws s.first n a b };
 }
 
-// A load of `serving`: where it is the pass's own ticket, the slot is its own.
+/// A load of `serving`: where it is the pass's own ticket, the slot is its own.
 pub struct SeeServing;
 
 impl<V: Guarded> Play<Option<V>, View<V::Item>> for SeeServing {
     ghost then = { λ s a n b. SeesServing V.origin V.history n a b };
 }
 
-// A store of `serving`, with which the pass leaves and the slot is home again.
+/// A store of `serving`, with which the pass leaves and the slot is home again.
 pub struct Leave;
 
 impl<V: Guarded> Play<Option<V>, View<V::Item>> for Leave {
     ghost then = { λ s a n b. Leaves V.history n a b };
 }
 
-// A pass becomes two, of which the second has no share.
+/// A pass becomes two, of which the second has no share.
 pub struct Cut;
 
 impl<T> Split<View<T>> for Cut {
@@ -42,7 +42,7 @@ impl<T> Split<View<T>> for Cut {
     ghost right = { cut };
 }
 
-// Two passes become one, with both shares.
+/// Two passes become one, with both shares.
 pub struct Glue;
 
 impl<T> Join<View<T>> for Glue {

@@ -1,6 +1,6 @@
 use crate::phase::Phase;
 
-// Where a pass stands, and the greatest numbers that it has seen. No value of it is made.
+/// Where a pass stands, and the greatest numbers that it has seen. No value of it is made.
 pub struct Standing {
     pub phase: Phase,
     // How many tickets were drawn.

@@ -10,7 +10,7 @@ use crate::view::View;
 use atomic_table::Seat;
 use plinq_keyed::Guarded;
 
-// Where the words and the slot stand in the table.
+/// Where the words and the slot stand in the table.
 pub(crate) const NEXT: usize = 0;
 
 pub(crate) const SERVING: usize = 1;
@@ -18,7 +18,7 @@ pub(crate) const SERVING: usize = 1;
 pub(crate) const VALUE: usize = 0;
 
 impl<V: Guarded> TicketLock<V> {
-    // How many tickets were drawn.
+    /// How many tickets were drawn.
     pub(crate) fn see_next(&self, seat: &mut Seat<Option<V>, View<V::Item>>) -> u64
         requires { IsLockAt (lock_id self.now) seat.old.table_id }
         ensures seat { seat.new.table_id ≡ seat.old.table_id }
@@ -27,7 +27,7 @@ impl<V: Guarded> TicketLock<V> {
         self.table.shared.load::<SeeNext>(seat, NEXT)
     }
 
-    // Draws that ticket if it is the next one; answers what was the next one.
+    /// Draws that ticket if it is the next one; answers what was the next one.
     pub(crate) fn draw(&self, seat: &mut Seat<Option<V>, View<V::Item>>, ticket: u64) -> u64
         requires lock { IsLockAt (lock_id self.now) seat.old.table_id }
         requires idle { seat.old.me.0.standing.phase ≡ Idle }
@@ -40,7 +40,7 @@ impl<V: Guarded> TicketLock<V> {
             .compare_exchange::<Draw>(seat, NEXT, ticket, ticket + 1)
     }
 
-    // Which ticket is served.
+    /// Which ticket is served.
     pub(crate) fn see_serving(&self, seat: &mut Seat<Option<V>, View<V::Item>>) -> u64
         requires { IsLockAt (lock_id self.now) seat.old.table_id }
         ensures seat { seat.new.table_id ≡ seat.old.table_id }
@@ -49,7 +49,7 @@ impl<V: Guarded> TicketLock<V> {
         self.table.shared.load::<SeeServing>(seat, SERVING)
     }
 
-    // The ticket after this one is served, and the slot is home again.
+    /// The ticket after this one is served, and the slot is home again.
     pub(crate) fn serve_next(&self, seat: &mut Seat<Option<V>, View<V::Item>>, ticket: u64)
         requires lock { IsLockAt (lock_id self.now) seat.old.table_id }
         requires inside { seat.old.me.0.standing.phase ≡ Inside ticket }

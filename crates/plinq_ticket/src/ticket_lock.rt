@@ -5,7 +5,7 @@ use plinq_wait::WaitQueue;
 use std::alloc::Global;
 use std::snapshot::Snapshot;
 
-// What the lock keeps between any two steps.
+/// What the lock keeps between any two steps.
 pub struct Keeps;
 
 impl<V: Guarded> TableRule<Option<V>, View<V::Item>, Snapshot<V>> for Keeps {

@@ -3,7 +3,7 @@ use plinq_keyed::Record;
 use plinq_source::Ending;
 use std::collections::LinkedList;
 
-// What a pass knows. No value of it is made.
+/// What a pass knows. No value of it is made.
 pub struct View<T> {
     pub standing: Standing,
     // The trace that the lock's value hands out.

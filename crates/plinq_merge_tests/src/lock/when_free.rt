@@ -10,7 +10,7 @@ use std::sync::atomic::{AtomicU64, Ordering};
 use std::thread;
 use std::thread::{Threads, yield_now};
 
-// Where the threads of a test stand: 1 once the first is inside, and how many of the others are about to enter.
+/// Where the threads of a test stand: 1 once the first is inside, and how many of the others are about to enter.
 #[derive(Drop)]
 struct Standing {
     inside: AtomicU64,
@@ -26,7 +26,7 @@ impl Standing {
     }
 }
 
-// Waits until a word is at least so much, but not for ever.
+/// Waits until a word is at least so much, but not for ever.
 fn wait_for(word: &AtomicU64, least: u64) {
     for _turn in 0..1_000_000 {
         if word.load(Ordering::SeqCst) >= least {
@@ -36,14 +36,14 @@ fn wait_for(word: &AtomicU64, least: u64) {
     }
 }
 
-// Waits a while, in which other threads that have nothing to do fall asleep.
+/// Waits a while, in which other threads that have nothing to do fall asleep.
 fn linger() {
     for _turn in 0..2_000 {
         yield_now();
     }
 }
 
-// How many tickets were drawn, as reported to a pass, while another one is inside.
+/// How many tickets were drawn, as reported to a pass, while another one is inside.
 fn drawn_now(lock: &TicketLock<Notes>, pass: Pass<Notes>) -> (Pass<Notes>, u64)
     requires { IsPassOf lock.now pass }
     ensures { IsPassOf lock.now result.0 }
@@ -55,7 +55,7 @@ fn drawn_now(lock: &TicketLock<Notes>, pass: Pass<Notes>) -> (Pass<Notes>, u64)
     }
 }
 
-// Waits until so many tickets were drawn, but not for ever, and a while more. Answers how many there are then.
+/// Waits until so many tickets were drawn, but not for ever, and a while more. Answers how many there are then.
 fn watch(lock: &TicketLock<Notes>, pass: Pass<Notes>, least: u64) -> (Pass<Notes>, u64)
     requires { IsPassOf lock.now pass }
     ensures { IsPassOf lock.now result.0 }
@@ -73,7 +73,7 @@ fn watch(lock: &TicketLock<Notes>, pass: Pass<Notes>, least: u64) -> (Pass<Notes
     drawn_now(lock, pass)
 }
 
-// Enters first, and stays until one of the others has drawn a ticket, and a while more. Answers how many were drawn by then.
+/// Enters first, and stays until one of the others has drawn a ticket, and a while more. Answers how many were drawn by then.
 fn stay_until_drawn<R: Wait>(
     rt: &R,
     lock: &TicketLock<Notes>,
@@ -95,7 +95,7 @@ fn stay_until_drawn<R: Wait>(
     }
 }
 
-// Enters first, and stays until so many others are about to enter, and a while more.
+/// Enters first, and stays until so many others are about to enter, and a while more.
 fn stay_until_there<R: Wait>(
     rt: &R,
     lock: &TicketLock<Notes>,
@@ -117,7 +117,7 @@ fn stay_until_there<R: Wait>(
     }
 }
 
-// Visits the lock once the first is inside.
+/// Visits the lock once the first is inside.
 fn come<R: Wait>(
     rt: &R,
     lock: &TicketLock<Notes>,
@@ -133,7 +133,7 @@ fn come<R: Wait>(
     visit(rt, lock, pass, way)
 }
 
-// Two others visit the lock, each in its own way. Answers the tickets.
+/// Two others visit the lock, each in its own way. Answers the tickets.
 fn two_come<R: Threads + Wait + Sync>(
     rt: &R,
     lock: &TicketLock<Notes>,
@@ -155,8 +155,8 @@ fn two_come<R: Threads + Wait + Sync>(
     (lock.join(first, second), [one, two])
 }
 
-// One is inside until another one has drawn a ticket, while two come, of which one waits for the lock to be free. Answers whether
-// their tickets are right.
+/// One is inside until another one has drawn a ticket, while two come, of which one waits for the lock to be free. Answers whether
+/// their tickets are right.
 fn goes_first<R: Threads + Wait + Sync>(
     rt: &R,
     lock: &TicketLock<Notes>,
@@ -194,7 +194,7 @@ fn a_pass_that_has_a_ticket_goes_first(rt: HostRuntime) {
     assert!(rt; are_right && are_all);
 }
 
-// How many of two are the last ticket; too many where another ticket is among them.
+/// How many of two are the last ticket; too many where another ticket is among them.
 fn count_last(tickets: [Option<u64>; 2]) -> usize {
     let mut count = 0usize;
     for ticket in tickets {
@@ -205,7 +205,7 @@ fn count_last(tickets: [Option<u64>; 2]) -> usize {
     count
 }
 
-// Four others wait for the lock to be free. Answers how many have drawn the last ticket.
+/// Four others wait for the lock to be free. Answers how many have drawn the last ticket.
 fn four_come<R: Threads + Wait + Sync>(
     rt: &R,
     lock: &TicketLock<Notes>,
@@ -234,7 +234,7 @@ fn four_come<R: Threads + Wait + Sync>(
     (lock.join(left, right), count)
 }
 
-// One is inside until four others wait. Answers how many of them have drawn the last ticket.
+/// One is inside until four others wait. Answers how many of them have drawn the last ticket.
 fn four_wait<R: Threads + Wait + Sync>(
     rt: &R,
     lock: &TicketLock<Notes>,
@@ -258,7 +258,7 @@ fn four_wait<R: Threads + Wait + Sync>(
     (lock.join(first, others), count)
 }
 
-// One of those that sleep is woken, draws the last ticket, and leaves; that wakes another one, which wakes all.
+/// One of those that sleep is woken, draws the last ticket, and leaves; that wakes another one, which wakes all.
 #[test]
 fn all_that_wait_are_told_that_tickets_are_spent(rt: HostRuntime) {
     let notes = Notes::new(rt.alloc());

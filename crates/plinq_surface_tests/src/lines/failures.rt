@@ -28,7 +28,7 @@ const LONG: [i64; 18] = [
 const LINES: &[u8] =
     b"-12 345\n\n7\n-9223372036854775808 -10 -1 0 1 9 10 99 100 999999 9223372036854775807 12 13 14 15 16 17 18\n6\n78\nrefused 9\n";
 
-// Batches, and then an ending.
+/// Batches, and then an ending.
 fn write_lines(out: &mut Narrow) -> Result<(), WriteFault> {
     write_batch(out, &[-12, 345])?;
     write_batch(out, &[])?;
@@ -39,7 +39,7 @@ fn write_lines(out: &mut Narrow) -> Result<(), WriteFault> {
     write_ending(out, Ending::Refused(9))
 }
 
-// Whether a writer with room for so many bytes took these of the lines, and then failed.
+/// Whether a writer with room for so many bytes took these of the lines, and then failed.
 fn fails_at(alloc: Global, room: usize, at_once: usize) -> bool {
     let mut out = Narrow::new(alloc, room, at_once);
     write_lines(&mut out).is_err() && out.taken().len() == room && LINES.starts_with(out.taken())
@@ -50,7 +50,7 @@ fn is_written(out: Narrow) -> bool {
     write_lines(&mut out).is_ok() && out.taken() == LINES
 }
 
-// It fails at each place of each line.
+/// It fails at each place of each line.
 #[test]
 fn a_writer_that_fails_anywhere(rt: HostRuntime) {
     for at_once in [1, 2, 100] {

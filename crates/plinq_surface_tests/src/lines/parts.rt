@@ -3,7 +3,7 @@ use plinq_lines::write_parts;
 use plinq_source::Ending;
 use std::alloc::{AllocError, Global};
 
-// Three partitions, the second of which is empty.
+/// Three partitions, the second of which is empty.
 fn three(alloc: Global) -> Result<Vec<Vec<Keyed<i64>>>, AllocError> {
     let first = [
         Keyed { key: 0, value: 5 },

@@ -6,7 +6,7 @@ use std::alloc::Global;
 
 const LINES: &[u8] = b"-12 345\n6\n\n78\n";
 
-// What a sink answers to these batches, one after another.
+/// What a sink answers to these batches, one after another.
 fn take_all<K: Sink<Item = i64>>(sink: &mut K) -> Result<(), u32> {
     sink.batch(&[-12, 345])?;
     sink.batch(&[6])?;
@@ -36,7 +36,7 @@ fn fails_at(alloc: Global, room: usize) -> bool {
     has_failed && out.taken().len() == room && LINES.starts_with(out.taken())
 }
 
-// It fails at each place of each line.
+/// It fails at each place of each line.
 #[test]
 fn a_writer_that_fails_anywhere(rt: HostRuntime) {
     for room in 0..LINES.len() {
@@ -44,7 +44,7 @@ fn a_writer_that_fails_anywhere(rt: HostRuntime) {
     }
 }
 
-// It fails in the middle of the first line, and would take the second.
+/// It fails in the middle of the first line, and would take the second.
 fn is_refused_afterwards(alloc: Global) -> bool {
     let mut out = FailsOnce::new(alloc, 2);
     let mut sink = LineSink::new(&mut out);
