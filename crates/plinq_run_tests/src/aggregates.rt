@@ -60,7 +60,12 @@ fn is_last_even<R: Threads + Wait + Sync>(
     let Ok(source) = RangeSource::new(1, count) else {
         return false;
     };
-    let Ok(query) = query_of(alloc, &[Op::Filter(Formula::Even), Op::Skip(0)], option, workers) else {
+    let Ok(query) = query_of(
+        alloc,
+        &[Op::Filter(Formula::Even), Op::Skip(0)],
+        option,
+        workers,
+    ) else {
         return false;
     };
     let last = aggregate(rt, alloc, &query, source, Growth::ONE, &OpenGate, &Last);
