@@ -21,7 +21,7 @@ PROGRAM = """
 #![tactic(auto)]
 
 ghost use Rattle.std.specs.Prelude.{◌≤◌, ◌<◌, ◌^◌, ⊤, length, IfOk};
-ghost use Rattle.plinq_merge.specs.Shown.{end_of_result};
+ghost use Rattle.plinq_ops.specs.Tails.{end_of_result};
 
 use plinq_keyed::Tail;
 use plinq_lambda::Formula;
