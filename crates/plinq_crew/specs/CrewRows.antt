@@ -132,7 +132,7 @@ module _ {S T M : Type 0} {source : Ghosts S T} (c c' : Coordinator S M T source
   wanted_and_forgotten : ClosesInTime false Wanted c Open c' → ⊥
   wanted_and_forgotten closes = let same = closes.drops refl in absurd (cc)
 
-  -- a fault that was noted before
+  -- and a fault that was noted stays noted
   closed_and_unnoted : c.worker_faults.memory ≡ true → c'.worker_faults.memory ≡ false → ClosesInTime true Open c Closed c' → ⊥
   closed_and_unnoted noted none closes = let same = closes.kept.0 noted in absurd (cc)
 
@@ -141,6 +141,17 @@ module _ {S T M : Type 0} {source : Ghosts S T} (c c' : Coordinator S M T source
   unclosed_at_last none empty closes =
       let (k, r, less, at, is) = closes.closed (λ is. absurd (cc)) none in
       omega (arith, less, ap length empty)
+
+  -- at last it is closed once more
+  closed_again_at_last : length (holding_of c'.partition).share ≡ length (holding_of c.partition).share + 1 → ClosesAtLast Closed c c' → ⊥
+  closed_again_at_last one closes = omega (arith, one, ap (λ c. length (holding_of c.partition).share) (closes.once refl))
+
+  -- at last it is closed by a record that isn't the coordinator's own
+  closed_without_a_record_at_last : has_worker_fault c'.worker_faults ≡ false
+      → (holding_of c'.partition).share ≡ (holding_of c.partition).share → ClosesAtLast Open c c' → ⊥
+  closed_without_a_record_at_last none same closes =
+      let stopped = closes.stopped refl none in
+      omega (arith, ap length same, ap length stopped.adds.share, length-append (holding_of c.partition).share (stopped.entry ∷ []))
 
 -- where it is closed or to be closed, what comes is dropped
 closed_drops : wants_close Closed ≡ true
@@ -407,7 +418,7 @@ module _ {L S J P T M : Type 0} {source : Ghosts S T} (crew : Crew L S J P T T M
   joins_into_others : (room : Vec (Partition S T source)) → room.items ≡ first ∷ [] → MayJoin crew first p [] room → ⊥
   joins_into_others room one may = omega (arith, ap length one, ap length may.empty)
 
-  -- one that was started doesn't come back, or its fault is forgotten
+  -- one that was started doesn't come back, or a fault that was noted before is forgotten
   one_is_not_joined : HasJoined crew first p (handle ∷ []) faults 0 p' faults' (first ∷ []) → ⊥
   one_is_not_joined joined = omega (arith, joined.count)
 

@@ -46,11 +46,14 @@ module _ {S T M : Type 0} {source : Ghosts S T} where
     pub drops : wants_close before ≡ true → wants_close after ≡ true
     pub kept : StaysNoted c.worker_faults c'.worker_faults
 
-  -- the source is closed by now, unless some fault stands noted; what was received is the same, and who was started
+  -- The source is closed once at most, by a close of the coordinator's own, and not where a poll has closed it. It is closed by
+  -- now, unless some fault stands noted. What was noted stays noted, and what was received and who was started are the same
   pub record ClosesAtLast (closing : Closing) (c c' : Coordinator S M T source) : Type 0 where
     pub same : StaysSame c c'
     pub stream : c'.stream ≡ c.stream
     pub kept : StaysNoted c.worker_faults c'.worker_faults
+    pub once : is_closed closing ≡ true → c' ≡ c
+    pub stopped : is_closed closing ≡ false → has_worker_fault c'.worker_faults ≡ false → IsStopped (holding_of c.partition) (holding_of c'.partition)
     pub closed : (is_closed closing ≡ true → HasClosed (holding_of c.partition).share) → has_worker_fault c'.worker_faults ≡ false
         → HasClosed (holding_of c'.partition).share
 
@@ -72,15 +75,16 @@ AcceptsOn accepts IsPart received wants_close x received' wants_close' x' =
     → HasAccepted (AcceptsEach accepts IsPart) before start received' wants_close' x'
 
 module _ {S T M X : Type 0} {source : Ghosts S T} (is_ready : X → Type 0) (accepts : X → ChunkResult M → X → Type 0) (IsPart : ChunkResult M → Type 0) where
-  -- the consumer has accepted what came since, as far as it was to, and can accept more; where the source was closed since, the
-  -- coordinator's own record says so
+  -- The consumer has accepted what came since, as far as it was to, and can accept more. Where the source is closed, the
+  -- coordinator's own record says so. Its origin, the numbers that are left and who was started are the same
   pub record AcceptsMore (c : Coordinator S M T source) (before : Closing) (x : X) (c' : Coordinator S M T source) (after : Closing) (x' : X) : Type 0 where
     pub same : StaysSame c c'
     pub ready : is_ready x'
     pub closed : StaysClosed before (holding_of c.partition).share after (holding_of c'.partition).share
     pub accepted : AcceptsOn accepts IsPart (known c.stream).received (wants_close before) x (known c'.stream).received (wants_close after) x'
 
--- all that was sent was received, and accepted where what comes isn't dropped
+-- The pass, which is still one of the stream, has received all that was sent, and it was accepted where what comes isn't dropped.
+-- What was sent and the numbers that are left are the same
 pub record AcceptsRest {M C X : Type 0} (accepts : X → ChunkResult M → X → Type 0) (IsPart : ChunkResult M → Type 0) (stream : Stream (ChunkResult M) C)
     (closing : Closing) (p : StreamPass (ChunkResult M)) (x : X) (p' : StreamPass (ChunkResult M)) (x' : X) : Type 0 where
   pub of : IsPassOf stream p'
