@@ -47,7 +47,8 @@ where
         context: WorkerContext<S, P::Part>,
     ) -> Option<WorkerHandle<S, P::Part>>
         requires new { IsNewcomer self.now.stream.now worker context.partition context.stream }
-        requires equipped { IsEquipped L.meaning (P.makes self.now.task.now) J.is_result J.stops_at self.now.plan.now self.now.chunked.now self.now.cut.now context.partition context.cut }
+        requires equipped { IsEquipped L.meaning (P.makes self.now.task.now) J.is_result J.stops_at self.now.plan.now
+            self.now.chunked.now self.now.cut.now context.partition context.cut }
         ensures handle { IfSome result (IsHandleOf self.now.chunked.now self.now.stream.now) }
         ensures number { IfSome result (λ handle. handle.promise.number ≡ worker) }
     {

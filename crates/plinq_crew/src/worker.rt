@@ -120,12 +120,14 @@ where
         context: WorkerContext<S, P::Part>,
     ) -> Worked<S, P::Part>
         requires new { IsNewcomer self.now.stream.now worker context.partition context.stream }
-        requires equipped { IsEquipped L.meaning (P.makes self.now.task.now) J.is_result J.stops_at self.now.plan.now self.now.chunked.now self.now.cut.now context.partition context.cut }
+        requires equipped { IsEquipped L.meaning (P.makes self.now.task.now) J.is_result J.stops_at self.now.plan.now
+            self.now.chunked.now self.now.cut.now context.partition context.cut }
         ensures of { IsPartitionOf self.now.chunked.now result.partition }
         ensures origin { (holding_of result.partition).origin ≡ (holding_of context.partition).origin }
         ensures stream { IsPassOf self.now.stream.now result.stream }
         ensures worked { HasWorked worker (holding_of result.partition).share result.fault (known result.stream) }
-        ensures results { All (λ s. IsPart L.meaning (P.makes self.now.task.now) self.now.plan.now (holding_of context.partition).origin s.item) (known result.stream).sent }
+        ensures results { All (λ s. IsPart L.meaning (P.makes self.now.task.now) self.now.plan.now (holding_of context.partition).origin s.item)
+            (known result.stream).sent }
     {
         let WorkerContext {
             mut partition,

@@ -211,18 +211,25 @@ module _ {K T : Type 0} (accepts : K → List T → K → Type 0) (refuses : K �
       let is = answer-of_none ss t none in
       record { ending = ap (λ u. u.ending) is; delivered = rw is refl; blocks = rw fresh (deciding-of_none most ss t none) }
 
--- ---- what the search is told: of what breaks off and goes on, of one batch of all, batch by batch, before anything was fed, and in the loops
+-- ---- what the search is told
 
+-- of what breaks off and goes on
 pub ruleset delivering = (delivers-at_err, cut-before, delivers-after)
 
+-- of one batch of all
 pub ruleset buffering = (full_batches-none, held_back-none)
 
+-- batch by batch
 pub ruleset handing = (up_to-more, up_to-leads, up_to-cut, full_batches-split, full_batches-short)
 
+-- before anything was fed
 pub ruleset stopping = (answer-stopped)
 
+-- in the loop of items
 pub ruleset sending_on = (sent-none, sent-on, sent-handed)
 
+-- in the loop of blocks
 pub ruleset in_blocks = (sent-none, feeds-smaller)
 
+-- of how many blocks decide
 pub ruleset deciding = (deciding-wider, deciding-singly)

@@ -25,7 +25,7 @@ batches-first {T} size held a b = by_ending a.items a.ending
     by_ending xs None = (batches_from size (held_back size held xs) b, batches_from-followed size held xs b ∙ ap (λ bs. bs ++ batches_from size (held_back size held xs) b) (sym (batches_from-open size held xs)))
     by_ending xs (Some e) = ([], sym (append-nil (batches_from size held (trace_of xs (Some e)))))
 
--- those of open items and of what comes after them
+-- the batches of open items and of what comes after them
 pub batches-on : {T : Type 0} (size : Option ℕ) (held xs held' : List T) (all rest : Trace T) → all ≡ followed (open_trace xs) rest
     → held' ≡ held_back size held xs
     → batches_from size held all ≡ full_batches size held xs ++ batches_from size held' rest
@@ -37,7 +37,7 @@ pub held-on : {T : Type 0} (size : Option ℕ) (held held1 held2 xs ys : List T)
     → held2 ≡ held_back size held (xs ++ ys)
 held-on size held held1 held2 xs ys first second = second ∙ ap (λ h. held_back size h ys) first ∙ sym (held_back-append size held xs ys)
 
--- their full batches were delivered
+-- the full batches of items and of others after them were delivered
 pub leads-filled : {K T : Type 0} (accepts : K → List T → K → Type 0) (size : Option ℕ) (held held1 xs ys : List T) (s s1 s2 : K)
     → held1 ≡ held_back size held xs → Leads accepts s (full_batches size held xs) s1
     → Leads accepts s1 (full_batches size held1 ys) s2 → Leads accepts s (full_batches size held (xs ++ ys)) s2

@@ -34,7 +34,9 @@ impl<'a, L: Lambda> Merger<'a, L> {
         requires { end_of_result offered ≤ 2 ^ 40 }
         ensures plan { plan_of self.new ≡ plan_of self.old }
         ensures takes { Takes K.accepts K.refuses self.old offered sink.old result self.new sink.new }
-        ensures counts { Takes (Counts K.accepts) (CountsNot K.refuses) self.old offered (record { sink = sink.old; delivered = delivered_of self.old }) result self.new (record { sink = sink.new; delivered = delivered_of self.new }) }
+        ensures counts { Takes (Counts K.accepts) (CountsNot K.refuses) self.old offered
+            (record { sink = sink.old; delivered = delivered_of self.old }) result
+            self.new (record { sink = sink.new; delivered = delivered_of self.new }) }
     {
         let mut token = NeverCancel;
         self.offer_with(offered, &mut token, sink)
@@ -57,9 +59,13 @@ impl<'a, L: Lambda> Merger<'a, L> {
     ) -> Result<More, MergeFault>
         requires { end_of_result offered ≤ 2 ^ 40 }
         ensures plan { plan_of self.new ≡ plan_of self.old }
-        ensures asks { AsksEach C.asks K.accepts K.refuses (record { token = token.old; sink = sink.old; delivered = delivered_of self.old }) result (record { token = token.new; sink = sink.new; delivered = delivered_of self.new }) }
+        ensures asks { AsksEach C.asks K.accepts K.refuses
+            (record { token = token.old; sink = sink.old; delivered = delivered_of self.old }) result
+            (record { token = token.new; sink = sink.new; delivered = delivered_of self.new }) }
         ensures told { C.has_told token.new ≡ (C.has_told token.old || is_cancelled result) }
-        ensures takes { TakesWith C.asks K.accepts K.refuses self.old offered (record { token = token.old; sink = sink.old; delivered = delivered_of self.old }) result self.new (record { token = token.new; sink = sink.new; delivered = delivered_of self.new }) }
+        ensures takes { TakesWith C.asks K.accepts K.refuses self.old offered
+            (record { token = token.old; sink = sink.old; delivered = delivered_of self.old }) result
+            self.new (record { token = token.new; sink = sink.new; delivered = delivered_of self.new }) }
     {
         let mut with = WithCancellation {
             token,

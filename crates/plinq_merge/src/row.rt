@@ -65,7 +65,8 @@ impl<T: Drop> Row<T> {
         requires within { end_of_result offered ≤ 2 ^ 40 }
         requires fresh { IsFresh self.old.buffer offered.first (end_of_result offered) }
         ensures taken { IfOk result (λ hand. TakesIn order self.old offered hand self.new) }
-        ensures keys { OnOk result ((key : ℕ) → is_taken self.new.buffer key ≡ (is_taken self.old.buffer key || is_within offered.first (end_of_result offered) key)) }
+        ensures keys { OnOk result ((key : ℕ) →
+            is_taken self.new.buffer key ≡ (is_taken self.old.buffer key || is_within offered.first (end_of_result offered) key)) }
     {
         let first = offered.first;
         let count = offered.count;

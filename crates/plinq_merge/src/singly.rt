@@ -65,7 +65,8 @@ where
     requires { HasRoom buffer.old }
     ensures room { OnOk result (HasRoom buffer.new) }
     ensures size { size_of buffer.new ≡ size_of buffer.old }
-    ensures handed { HandsOn K.accepts K.refuses (size_of buffer.old) (held_of buffer.old) made.old.items sink.old result (held_of buffer.new) made.new.items sink.new }
+    ensures handed { HandsOn K.accepts K.refuses (size_of buffer.old) (held_of buffer.old) made.old.items sink.old result
+        (held_of buffer.new) made.new.items sink.new }
 {
     if made.len() < *wanted {
         report_quiet(quiet, sink);

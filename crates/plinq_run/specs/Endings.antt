@@ -12,7 +12,7 @@ reported (Ok report) = Ok report.ending
 reported (Err fault) = Err fault
 
 module _ {K : Type 0} (s s' : K) (result : Result Report RunFault) where
-  -- the run of a decided query: it ended well, its sink is as it was, and its source was asked for nothing
+  -- the run of a decided query: it ended well, its sink is as it was, and it has no records
   pub record RunsDecided : Type 0 where
     pub answered : reported result ≡ Ok End
     pub untouched : s' ≡ s

@@ -53,7 +53,8 @@ pub fn cancel_after_stops_at_its_number<L: Lambda, K: Sink<Item = L::Item>>()
 
 /// A run with a token that never stops anything is a run without one.
 pub fn run_with_never_is_run<L: Lambda, K: Sink<Item = L::Item>>()
-    ensures { (option : MergeOption) (ordered : Bool) (ops : List (Op L)) (t : Trace L.Item) (d d' : Delivery NeverCancel K) (result : Result Report RunFault) →
+    ensures { (option : MergeOption) (ordered : Bool) (ops : List (Op L)) (t : Trace L.Item) (d d' : Delivery NeverCancel K)
+        (result : Result Report RunFault) →
         ReportsWith ⟦<NeverCancel as Cancel>⟧.asks K.accepts K.refuses option (MayAnswer L.meaning ordered ops) t d d' result →
         Reports K.accepts K.refuses option (MayAnswer L.meaning ordered ops) t d.sink d'.sink result }
 {}

@@ -62,7 +62,8 @@ where
     ensures closed { list_any is_empty_take query.now.ops ≡ false → IfOk result (λ report. has_close report.records.items ≡ true) }
     ensures ordered { query.now.ordered ≡ true →
         HasDelivered K.accepts K.refuses query.now.merge (answers L.meaning query.now.ops (S.whole source)) sink.old sink.new result }
-    ensures reports { Reports K.accepts K.refuses (merge_in_force query.now.merge) (MayAnswer L.meaning query.now.ordered query.now.ops) (S.whole source) sink.old sink.new result }
+    ensures reports { Reports K.accepts K.refuses (merge_in_force query.now.merge) (MayAnswer L.meaning query.now.ordered query.now.ops)
+        (S.whole source) sink.old sink.new result }
 {
     let plan = query.split();
     if plan.decided {

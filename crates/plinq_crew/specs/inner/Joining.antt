@@ -20,8 +20,8 @@ use Rattle.plinq_crew.specs.Working.{HasClosed, HasNumbersFrom, IsAnsweredBy, Is
 
 module _ {L S J P T M : Type 0} {source : Ghosts S T} (crew : Crew L S J P T T M source) (first : Partition S T source)
     (p : StreamPass (ChunkResult M)) (workers : List (PromisedHandle (Worked S M T source) (WorkerPromise S M T source))) where
-  -- these are the crew's workers with the numbers from 0 on, the pass is the one that receives, and there is room for the first
-  -- partition and theirs
+  -- The first partition is of the crew's source, and the pass is the one that receives and has sent nothing. These are the crew's
+  -- workers with the numbers from 0 on, and an empty list has room for the first partition and theirs
   pub record MayJoin (free : Vec (Partition S T source)) : Type 0 where
     pub of : IsPartitionOf crew.chunked.now first
     pub pass : IsPassOf crew.stream.now p
@@ -31,18 +31,23 @@ module _ {L S J P T M : Type 0} {source : Ghosts S T} (crew : Crew L S J P T T M
     pub empty : free.items ≡ []
     pub room : length workers < vec_capacity free
 
-  -- Those with the numbers from this one on were joined. Their partitions come after the first one and share its source, and the
-  -- pass has taken in theirs: what was sent is of the partitions' records and answers them, but for faults, which were noted
+  -- those with the numbers from this one on were joined
   pub record HasJoined (faults : WorkerFaults) (least : ℕ) (p' : StreamPass (ChunkResult M)) (faults' : WorkerFaults)
       (partitions : List (Partition S T source)) : Type 0 where
+    -- there is one partition more than of them, and all share the first one's source
     pub count : length partitions + least ≡ length workers + 1
     pub of : All (IsPartitionOf crew.chunked.now) partitions
     pub origin : common_origin partitions ≡ (holding_of first).origin
+    -- the receiving pass has received nothing meanwhile
     pub pass : IsPassOf crew.stream.now p'
     pub receives : (known p').receives ≡ true
     pub received : (known p').received ≡ (known p).received
+    -- what was sent is what the partitions' records say, but for faults, which were noted
     pub answered : All (IsAnsweredBy least (known p') faults') (drop 1 partitions)
     pub sent : All (λ s. IsOfOne (all_shares partitions) s.item) (known p').sent
+    -- where it had all numbers beyond the workers', it has all from this one on
     pub numbers : HasNumbersFrom (length workers) (known p) → (n : ℕ) → least ≤ n → n < 64 → has n (known p').numbers ≡ true
+    -- a source that the first had closed is closed
     pub closed : HasClosed (holding_of first).share → HasClosed (all_shares partitions)
+    -- what was noted stays noted
     pub kept : StaysNoted faults faults'

@@ -12,8 +12,8 @@ use Rattle.plinq_partition.specs.declared.partition.Partition.{Partition}
 use Rattle.plinq_partition.specs.Partitions.{IsPartitionOf, holding_of}
 use Rattle.plinq_crew.specs.declared.worker.Crew.{Crew}
 
--- It has a partition of the source and a pass of the cut that the crew shares. The cut stops where the plan does over this source,
--- and the plan is one that workers can follow by the items' keys
+-- It has a partition of the source, which has at most 2^40 items, and a pass of the cut that the crew shares. The cut stops where
+-- the plan does over this source. The plan's part for workers goes by the items' keys and has no Take of at most 0
 pub record MayTakeNext {L S J P T M : Type 0} {source : Ghosts S T} (meaning : L → Meaning T) (stops_at : ℕ → Bool)
     (crew : Crew L S J P T T M source) (partition : Partition S T source) (pass : CutPass) : Type 0 where
   pub of : IsPartitionOf crew.chunked.now partition

@@ -1,4 +1,4 @@
--- What a run may be conducted of, and what it leaves.
+-- When a run may be conducted, and what it leaves.
 use Rattle.std.specs.Prelude.{◌≡◌, ◌≤◌, ◌+◌, ℕ, Bool, List, drop, length, true, Option, Result, Ok, Err, All}
 use Rattle.plinq_source.specs.declared.ending.Ending.{Ending}
 use Rattle.plinq_source.specs.declared.source.Source.{Ghosts}
@@ -71,7 +71,7 @@ module _ {L S J P T M W O : Type 0} {source : Ghosts S T} (made : W → O → Tr
   HasRunCrew (Ok ended) y = HasAnswered ended y
   HasRunCrew (Err fault) y = HasBrokenOff made MaySend crew.plan.now.order a x fault y
 
--- the taker has taken what the parts of a source merge to, which was shared; or there is a fault, for which it may have broken off
+-- a source was shared and closed, and the taker has taken what its parts merge to; or there is a fault, for which it may have broken off
 abbrev pub HasConducted : {S T M W O : Type 0} {source : Ghosts S T} → (W → O → Trace M → Result (Option Ending) DeliveryFault → W → O → Type 0)
     → (ChunkResult M → Type 0) → Order → Trace T → W → O → Result (Conducted S W T source) RunFault → O → Type 0
 HasConducted made MaySend order t a x (Ok c) y = HaveShared t c.chunked c.ended.partitions.items × HasEnded made MaySend order a x c.ended y
