@@ -6,6 +6,7 @@ goal of the edited function refuses, and nothing else.
 """
 import importlib.machinery
 import importlib.util
+import itertools
 import os
 import shutil
 import signal
@@ -155,13 +156,15 @@ class Place:
     def start(self, *words):
         env = os.environ | {"PATH": f"{self.top}/bin:{os.environ['PATH']}", "TOP": self.top, "TMPDIR": f"{self.top}/tmp"}
         how = {"stdin": subprocess.DEVNULL, "stdout": subprocess.PIPE, "stderr": subprocess.STDOUT, "env": env, "cwd": "/"}
-        return subprocess.Popen([f"{self.top}/tools/planted", *words], text=True, **how)
+        return subprocess.Popen([f"{self.top}/tools/planted", *words], text=True, start_new_session=True, **how)
 
     def run(self, *words):
-        """The status, what is said of each edit by its name, the last line, and how many texts each check finds."""
+        """The status, what is said of each edit by its name and of each crate that broke off, the last line, and how many texts each
+        check finds."""
         started = self.start(*words)
         lines = started.communicate(timeout=HANGS)[0].splitlines()
         said = dict(it.split(".edit: ", 1) for it in lines if ".edit: " in it)
+        said |= dict(it.split(": ", 1) for it in lines if ": BROKEN OFF: " in it)
         with open(f"{self.top}/calls") as calls:
             checks = [it.split() for it in calls]
         return started.returncode, said, lines[-1], checks
@@ -178,7 +181,7 @@ def refused(place, tests):
     }
     place.plant(**edits)
     before = [open(f"{place.top}/crates/low/src/{it}.rt").read() for it in ("lib", "other")]
-    status, said, last, checks = place.run("low")
+    status, said, last, checks = place.run("--jobs", "2", "low")
     names = {f"low/planted/{it}" for it in edits}
     tests.check("each edit is refused", (status, set(said), set(said.values()), last) == (0, names, {"refused"}, "5 passed, 0 failed"), said)
     counts = [int(it[-1]) for it in checks]
@@ -252,14 +255,16 @@ def side_by_side(place, tests):
     place.plant(says=SAYS.replace("    11=>", "    12=>kills\n    11=>"), low=("lib", "n + 1", "n + 11"))
     place.add("planted", "high", main=("main", "    1", "    12"))
     status, said, last, checks = place.run("--jobs", "2")
-    tests.check("a crate whose process is killed is one that failed", (status, last) == (1, "1 passed, 1 failed"), (status, said, last))
+    is_so = (status, last) == (1, "1 passed, 1 failed") and said.get("high") == "BROKEN OFF: its process ended with status -9"
+    tests.check("a crate whose process is killed is one that failed, and is named", is_so, (status, said, last))
     # (nobody has removed its room)
     for it in os.listdir(f"{place.top}/tmp"):
         shutil.rmtree(f"{place.top}/tmp/{it}")
 
 
 def interruption(place, tests):
-    for which in (signal.SIGINT, signal.SIGTERM, signal.SIGHUP):
+    # (a terminal's Ctrl-C reaches all of a group, and `kill` one process)
+    for which, kill in itertools.product((signal.SIGINT, signal.SIGTERM, signal.SIGHUP), (os.kill, os.killpg)):
         for crates in (1, 2):
             place.plant(one=("lib", "n + 1", "n + 11"))
             if crates == 2:
@@ -271,12 +276,13 @@ def interruption(place, tests):
                 if len(os.listdir(f"{place.top}/tmp")) == crates:
                     break
                 time.sleep(0.02)
+            were_there = len(os.listdir(f"{place.top}/tmp")) == crates
             time.sleep(0.2)
-            started.send_signal(which)
+            kill(started.pid, which)
             started.communicate(timeout=HANGS)
             os.remove(f"{place.top}/waits")
-            ended = started.returncode != 0 and os.listdir(f"{place.top}/tmp") == []
-            tests.check(f"{which.name} ends it at {crates}, and no room is left", ended, started.returncode)
+            ended = were_there and started.returncode != 0 and os.listdir(f"{place.top}/tmp") == []
+            tests.check(f"{which.name} by {kill.__name__} ends it at {crates}, and no room is left", ended, (were_there, started.returncode))
 
 
 def stand(tests):
