@@ -16,31 +16,31 @@ is_filled : (m n : ℕ) → m ≡ n → (m == n) ≡ true
 is_filled m n same = grind (arith, nat_tests)
 
 -- items that don't fill a batch give none, and are held back after the others
-pub short : {T : Type 0} (n : ℕ) (held xs : List T) → length held + length xs < n
+pub batches-short : {T : Type 0} (n : ℕ) (held xs : List T) → length held + length xs < n
     → (full_batches (Some n) held xs ≡ []) × (held_back (Some n) held xs ≡ held ++ xs)
-short n held [] few = (refl, sym (append-nil held))
-short n held (x ∷ xs) few =
+batches-short n held [] few = (refl, sym (append-nil held))
+batches-short n held (x ∷ xs) few =
     let more : length (held ++ x ∷ []) ≡ length held + 1 = length-append held (x ∷ []) in
-    let later = short n (held ++ x ∷ []) xs (omega arith) in
+    let later = batches-short n (held ++ x ∷ []) xs (omega arith) in
     rw (not_full (length held + 1) n (omega arith)) (later.0, later.1 ∙ append_assoc held (x ∷ []) xs)
 
 pub full_batches-short : {T : Type 0} (n : ℕ) (held xs : List T) → length held + length xs < n → full_batches (Some n) held xs ≡ []
-full_batches-short n held xs few = (short n held xs few).0
+full_batches-short n held xs few = (batches-short n held xs few).0
 
 -- items that fill a batch give it, and nothing is held back
-pub filled : {T : Type 0} (n : ℕ) (held xs : List T) → 0 < length xs → length held + length xs ≡ n
+pub batches-filled : {T : Type 0} (n : ℕ) (held xs : List T) → 0 < length xs → length held + length xs ≡ n
     → (full_batches (Some n) held xs ≡ (held ++ xs) ∷ []) × (held_back (Some n) held xs ≡ [])
-filled n held [] some same = absurd (omega arith)
-filled n held (x ∷ []) some same = rw (is_filled (length held + 1) n (omega arith)) (refl, refl)
-filled n held (x ∷ (y ∷ xs)) some same =
+batches-filled n held [] some same = absurd (omega arith)
+batches-filled n held (x ∷ []) some same = rw (is_filled (length held + 1) n (omega arith)) (refl, refl)
+batches-filled n held (x ∷ (y ∷ xs)) some same =
     let more : length (held ++ x ∷ []) ≡ length held + 1 = length-append held (x ∷ []) in
-    let later = filled n (held ++ x ∷ []) (y ∷ xs) (omega arith) (omega arith) in
+    let later = batches-filled n (held ++ x ∷ []) (y ∷ xs) (omega arith) (omega arith) in
     rw (not_full (length held + 1) n (omega arith)) (later.0 ∙ ap (λ b. b ∷ []) (append_assoc held (x ∷ []) (y ∷ xs)), later.1)
 
 pub full_batches-filled : {T : Type 0} (n : ℕ) (held xs ys : List T) → 0 < length xs → length held + length xs ≡ n
     → full_batches (Some n) held (xs ++ ys) ≡ (held ++ xs) ∷ full_batches (Some n) [] ys
 full_batches-filled n held xs ys some same =
-    let one = filled n held xs some same in
+    let one = batches-filled n held xs some same in
     full_batches-append (Some n) held xs ys ∙ ap (λ bs. bs ++ full_batches (Some n) (held_back (Some n) held xs) ys) one.0
     ∙ ap (λ h. (held ++ xs) ∷ full_batches (Some n) h ys) one.1
 
@@ -67,7 +67,7 @@ taken-full n k held xs room full =
     let parts = sym (take-append-drop k xs) in (
       ap (full_batches (Some n) held) parts ∙ full_batches-filled n held (take k xs) (drop k xs) (omega arith) long,
       ap (held_back (Some n) held) parts ∙ held_back-append (Some n) held (take k xs) (drop k xs)
-          ∙ ap (λ h. held_back (Some n) h (drop k xs)) (filled n held (take k xs) (omega arith) long).1,
+          ∙ ap (λ h. held_back (Some n) h (drop k xs)) (batches-filled n held (take k xs) (omega arith) long).1,
     )
 
 -- ---- items of whole batches
@@ -106,7 +106,7 @@ held_back-rest n xs some =
     let back = drop (length xs - length xs % n) xs in
     ap (held_back (Some n) []) (sym (take-append-drop (length xs - length xs % n) xs)) ∙ held_back-append (Some n) [] front back
     ∙ ap (λ held. held_back (Some n) held back) (held_back-whole n (length xs / n) front some (whole-length n xs))
-    ∙ (short n [] back (omega (arith, rest-short n xs some))).1
+    ∙ (batches-short n [] back (omega (arith, rest-short n xs some))).1
 
 pub full_batches-before : {T : Type 0} (n : ℕ) (xs : List T) → 0 < n → full_batches (Some n) [] xs ≡ full_batches (Some n) [] (take (length xs - length xs % n) xs)
 full_batches-before n xs some =

@@ -36,7 +36,7 @@ use Rattle.plinq_merge.specs.Deliveries.{batches-on, held-on, leads-filled}
 use Rattle.plinq_merge.specs.inner.Handing.{HandsOn}
 use Rattle.plinq_merge.specs.inner.OneThread.{DeliversAnswer}
 use Rattle.plinq_merge.proofs.Blocks.{full_batches-split, full_batches-short}
-use Rattle.plinq_merge.specs.inner.Sent.{leads-append, cut-after, cut-before, up_to-more, up_to-leads, up_to-cut, delivers-at_err, delivers-as, delivers-after}
+use Rattle.plinq_merge.specs.inner.Sent.{cut-after, cut-before, up_to-more, up_to-leads, up_to-cut, delivers-at_err, delivers-as, delivers-after}
 
 -- what a trace gives that was fed, before what comes after it
 pub fed-answer : {T : Type 0} (ss ss' : List (Stage T)) (t : Trace T) (out : List T) (e : Option Ending) → IsFed ss t [] out ss' e → seq ss t ≡ trace_of out e
@@ -211,12 +211,12 @@ module _ {K T : Type 0} (accepts : K → List T → K → Type 0) (refuses : K �
       let is = answer-of_none ss t none in
       record { ending = ap (λ u. u.ending) is; delivered = rw is refl; blocks = rw fresh (deciding-of_none most ss t none) }
 
--- ---- what the search is told
+-- ---- rulesets for the search
 
--- of what breaks off and goes on
+-- what breaks off and goes on
 pub ruleset delivering = (delivers-at_err, cut-before, delivers-after)
 
--- of one batch of all
+-- where one batch has all items
 pub ruleset buffering = (full_batches-none, held_back-none)
 
 -- batch by batch
@@ -231,5 +231,5 @@ pub ruleset sending_on = (sent-none, sent-on, sent-handed)
 -- in the loop of blocks
 pub ruleset in_blocks = (sent-none, feeds-smaller)
 
--- of how many blocks decide
+-- how many blocks decide
 pub ruleset deciding = (deciding-wider, deciding-singly)

@@ -18,7 +18,8 @@ use Rattle.plinq_merge.specs.Shown.{Merge}
 use Rattle.plinq_merge.specs.Working.{Work}
 use Rattle.plinq_merge.specs.Offering.{Brings, Offers, OffersWith, IsCancelled}
 use Rattle.plinq_merge.specs.Cancelling.{Delivery, Passes, IsRefused, IsKeptBack}
-use Rattle.plinq_merge.specs.Mergers.{AsksEach, delivery_fault_of, is_cancelled, told_with, SendsSome}
+use Rattle.plinq_merge.specs.Mergers.{AsksEach, delivery_fault_of, is_cancelled, SendsSome}
+use Rattle.plinq_merge.specs.inner.Stopped.{told_unless_stopped}
 use Rattle.plinq_merge.specs.Lent.{AreSame, delivery_of, Takes, Refuses}
 
 pub leads-map : {K M B : Type 0} (f : K → M) (accepts : K → B → K → Type 0) (accepts' : M → B → M → Type 0) → ((s : K) (b : B) (s' : K) → accepts s b s' → accepts' (f s) b (f s'))
@@ -139,7 +140,7 @@ module _ {C K T : Type 0} (asks : C → ℕ → Bool → C → Type 0) (accepts 
 
     -- the token was asked before each batch
     pub asks-within : (stops : Bool) (r : Result More MergeFault) → w'.is_stopped ≡ stops → Sends w r w'
-        → AsksEach asks accepts refuses (delivery_of w) (told_with stops r) (delivery_of w')
+        → AsksEach asks accepts refuses (delivery_of w) (told_unless_stopped stops r) (delivery_of w')
     asks-within stops (Err Cancelled) after sends = absurd sends
     asks-within true (Ok more) after sends = let on = leads-on w sends.0 w' sends.1 in not-stopped on.still after
     asks-within true (Err fault) after sends = (sends.0, cut-kept w sends.0 (delivery_fault_of fault) w' before after sends.1)
@@ -164,7 +165,7 @@ module _ {C K T : Type 0} (asks : C → ℕ → Bool → C → Type 0) (accepts 
       -- an offer to a token and a sink as one sink is one to both
       pub offers-within : (standing : JoinerState) (stops : Bool) (told : Result More MergeFault) → w'.is_stopped ≡ stops → Sends w told w'
           → OffersTo standing told
-          → OffersWith meaning decided asks accepts refuses x standing r (delivery_of w) (told_with stops told) x' standing' (delivery_of w')
+          → OffersWith meaning decided asks accepts refuses x standing r (delivery_of w) (told_unless_stopped stops told) x' standing' (delivery_of w')
       offers-within standing stops (Err Cancelled) after sends o = absurd sends
       offers-within standing true told after sends o = offers-stopped standing told after sends o
       offers-within standing false told after sends o =

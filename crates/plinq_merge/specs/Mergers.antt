@@ -72,11 +72,6 @@ AsksEach asks accepts refuses d (Ok more) d' = SendsSome (Passes asks accepts) (
 AsksEach {C} {K} {T} asks accepts refuses d (Err Cancelled) d' = (bs : List (List T)) × IsKeptBack asks accepts d bs d'
 AsksEach asks accepts refuses d (Err fault) d' = SendsSome (Passes asks accepts) (IsRefused asks refuses) d (Err fault) d'
 
--- what an offer answers whose delivery the token may have stopped
-abbrev pub told_with : Bool → Result More MergeFault → Result More MergeFault
-told_with true told = Err Cancelled
-told_with false told = told
-
 -- the token has stopped it
 abbrev pub is_cancelled : Result More MergeFault → Bool
 is_cancelled (Ok more) = false

@@ -6,7 +6,7 @@ use Rattle.plinq_merge.specs.declared.delivery_fault.DeliveryFault.{DeliveryFaul
 use Rattle.plinq_merge.specs.declared.delivery_fault.DeliveryFault.TheVariants.{Memory}
 
 -- traces are taken one after another: one goes on after an open one, an ended or broken one is one of whatever comes after
--- it, and an open one may break off for want of memory
+-- it, and an open one may break off where memory runs out
 pub record IsTaking {W O T : Type 0} (made : W → O → Trace T → Result (Option Ending) DeliveryFault → W → O → Type 0) : Type 0 where
   pub begins : (a : W) (x : O) → made a x (open_trace []) (Ok None) a x
   pub goes_on : (a : W) (x : O) (xs : List T) (b : W) (y : O) (t : Trace T) (r : Result (Option Ending) DeliveryFault) (c : W) (z : O)

@@ -2,3 +2,4 @@
 pub mod Sent
 pub mod Handing
 pub mod OneThread
+pub mod Stopped

@@ -1,4 +1,4 @@
-//! Answers that one thread delivers, many elements at a time.
+//! Answers that one thread delivers, so many elements at a time.
 ghost use Rattle.std.specs.Prelude.{◌≡◌, ◌<◌, [], false, OnOk};
 ghost use Rattle.plinq_ops.specs.Pipeline.{stages};
 ghost use Rattle.plinq_ops.specs.Stage.{some_takes_none};
@@ -43,7 +43,7 @@ where
     ensures delivers { DeliversAnswer K.accepts K.refuses (size_of buffer.old) most
         (stages L.meaning pipeline.old) (S.whole source.old) sink.old (S.given source.new) result sink.new }
 {
-    // (for one element at a time that loop is the faster)
+    // (one element at a time is faster by a loop of its own)
     if most == 1 {
         return deliver_all(alloc, pipeline, buffer, source, sink);
     }

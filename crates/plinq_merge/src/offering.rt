@@ -2,7 +2,7 @@
 ghost use Rattle.std.specs.Prelude.{◌≡◌, ◌≤◌, ◌^◌, ◌||◌, false};
 ghost use Rattle.plinq_merge.specs.Cancelling.{Counts, CountsNot};
 ghost use Rattle.plinq_merge.specs.Lent.{AreSame, delivery_of};
-ghost use Rattle.plinq_merge.specs.Mergers.{plan_of, delivered_of, is_cancelled, told_with, AsksEach, Takes, TakesWith};
+ghost use Rattle.plinq_merge.specs.Mergers.{plan_of, delivered_of, is_cancelled, AsksEach, Takes, TakesWith};
 ghost use Rattle.plinq_ops.specs.Tails.{end_of_result};
 
 use crate::cancel::Cancel;
@@ -93,7 +93,7 @@ impl<'a, L: Lambda> Merger<'a, L> {
         ensures takes { TakesWith C.asks K.accepts K.refuses self.old offered (delivery_of with.old) result self.new (delivery_of with.new) }
     {
         let told = self.offer_to(offered, with);
-        told_with(with.is_stopped, told)
+        with.told_unless_stopped(told)
     }
 
     /// How many batches it has delivered, and the greatest number where there were more. Takes no memory.
@@ -102,14 +102,4 @@ impl<'a, L: Lambda> Merger<'a, L> {
     {
         self.delivered
     }
-}
-
-/// What an offer answers whose delivery the token may have stopped.
-fn told_with(is_stopped: bool, told: Result<More, MergeFault>) -> Result<More, MergeFault>
-    ensures { result ≡ told_with is_stopped told }
-{
-    if is_stopped {
-        return Err(MergeFault::Cancelled);
-    }
-    told
 }

@@ -1,8 +1,11 @@
 ghost use Rattle.std.specs.Prelude.{◌≡◌, ◌||◌};
 ghost use Rattle.plinq_merge.specs.Cancelling.{IsAsked};
 ghost use Rattle.plinq_merge.specs.Lent.{AreSame, Refuses, Takes, delivery_of};
+ghost use Rattle.plinq_merge.specs.inner.Stopped.{told_unless_stopped};
 
 use crate::cancel::Cancel;
+use crate::merge_fault::MergeFault;
+use crate::more::More;
 use crate::sink::Sink;
 
 /// A sink of which a token is asked before each batch: where that answers `true`, the batch is refused and the sink isn't
@@ -27,6 +30,19 @@ impl<'a, C: Cancel, K> WithCancellation<'a, C, K> {
         let answer = self.token.cancelled(self.delivered);
         self.is_stopped = self.is_stopped || answer;
         answer
+    }
+
+    /// What an offer to this sink answers: Cancelled where the token has stopped it, and else what it answered without that.
+    pub(crate) fn told_unless_stopped(
+        &self,
+        told: Result<More, MergeFault>,
+    ) -> Result<More, MergeFault>
+        ensures { result ≡ told_unless_stopped self.now.is_stopped told }
+    {
+        if self.is_stopped {
+            return Err(MergeFault::Cancelled);
+        }
+        told
     }
 }
 

@@ -1,6 +1,6 @@
 use Rattle.std.proofs.Common.{rules, ◌≡◌, [], ◌∷◌, ◌++◌, length, Err, arith, take, drop, ◌∙◌, sym, refl, ◌==◌, false}
 use Rattle.plinq_merge.specs.Sending.{Leads, IsCutOff}
-use Rattle.plinq_merge.proofs.Blocks.{taken-full, short, filled-all, short-filled}
+use Rattle.plinq_merge.proofs.Blocks.{taken-full, batches-short, filled-all, short-filled}
 use Rattle.plinq_merge.specs.inner.Sent.{cut-before, delivers-at_err, delivers-after, delivers-as}
 use Rattle.plinq_merge.proofs.sending.deliver_filled.Goals as goal
 
@@ -13,7 +13,7 @@ returns-then-not-is_full-clause-filled g c =
     let is : c.fill_from_slice-taken.new.self.items ≡ held ++ take k xs = search rules in
     let test : (length c.fill_from_slice-taken.new.self.items == n) ≡ false = search rules in
     let few = short-filled n k held xs c.fill_from_slice-taken.new.self.items c.fill_from_slice-taken.ensures.count is c.requires test in
-    let kept = short n held xs few in
+    let kept = batches-short n held xs few in
     let all = filled-all n k held xs c.fill_from_slice-taken.new.self.items c.fill_from_slice-taken.ensures.count (omega arith) is in
     record { held = all ∙ sym kept.1; sent = rw kept.0 refl }
 
