@@ -49,10 +49,11 @@ impl Aggregator for Last {
     ghost lawful = { λ _. picking-lawful (λ a b. b) (λ a b c. refl) };
 }
 
-/// Whether the last even one of so many numbers from 1 on is this number.
-fn is_last_even<R: Threads + Wait + Sync>(
+/// Whether the last number that these operators leave of those from 1 to `count` is `count`.
+fn leaves_the_last<R: Threads + Wait + Sync>(
     rt: &R,
     alloc: Global,
+    ops: &[Op<Formula>],
     option: MergeOption,
     workers: u64,
     count: u64,
@@ -60,12 +61,7 @@ fn is_last_even<R: Threads + Wait + Sync>(
     let Ok(source) = RangeSource::new(1, count) else {
         return false;
     };
-    let Ok(query) = query_of(
-        alloc,
-        &[Op::Filter(Formula::Even), Op::Skip(0)],
-        option,
-        workers,
-    ) else {
+    let Ok(query) = query_of(alloc, ops, option, workers) else {
         return false;
     };
     let last = aggregate(rt, alloc, &query, source, Growth::ONE, &OpenGate, &Last);
@@ -76,8 +72,12 @@ fn is_last_even<R: Threads + Wait + Sync>(
 fn even_numbers_of_a_range_under_each_merge_option(rt: HostRuntime) {
     for option in OPTIONS {
         for workers in WORKERS {
-            assert!(rt; is_last_even(&rt, rt.alloc(), option, workers, 10));
-            assert!(rt; is_last_even(&rt, rt.alloc(), option, workers, 1_000));
+            // (without an operator after the merge the workers fold)
+            let even = [Op::Filter(Formula::Even)];
+            assert!(rt; leaves_the_last(&rt, rt.alloc(), &even, option, workers, 1_000));
+            let skipped = [Op::Filter(Formula::Even), Op::Skip(0)];
+            assert!(rt; leaves_the_last(&rt, rt.alloc(), &skipped, option, workers, 10));
+            assert!(rt; leaves_the_last(&rt, rt.alloc(), &skipped, option, workers, 1_000));
         }
     }
 }
