@@ -121,7 +121,7 @@ fn command_line<'a>(alloc: Global) -> Result<clap::Command<'a>, AllocError>
         )?)
 }
 
-/// `run`, which alone can be cancelled.
+/// The command line of `run`, which alone can be cancelled.
 fn run_command<'a>(
     alloc: Global,
     merge_words: ValueParser<'a>,
@@ -199,14 +199,14 @@ fn command_of(name: &str, _options: &ArgMatches<'_>) -> Option<Command>
     }
 }
 
-/// `clap` has refused any number that is no degree.
+/// The number of workers that is asked for; `clap` has refused any that is no degree.
 fn workers_of(options: &ArgMatches<'_>) -> Option<Degree>
     ensures { result ≡ workers_of (rows_of (found_of options.now)) }
 {
     Degree::new(options.get_one::<u64>("workers")?)
 }
 
-/// Only `run` has the option, and `clap` has refused any other number.
+/// After how many batches a run is cancelled. Only `run` has the option, and `clap` has refused any other number.
 fn cancel_of(options: &ArgMatches<'_>) -> Option<u64>
     ensures { result ≡ cancel_of (rows_of (found_of options.now)) }
 {

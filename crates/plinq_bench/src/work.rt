@@ -51,7 +51,7 @@ impl Lambda for Work {
         Err(ExpandFault::Code(1))
     }
 
-    /// A formula's loops are its own.
+    // (a formula's loops are its own)
     fn map_block(&self, block: &mut [i64]) -> (usize, Option<u32>) {
         match *self {
             Work::Plain(formula) => formula.map_block(block),

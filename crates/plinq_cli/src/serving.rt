@@ -71,7 +71,7 @@ where
     }
 }
 
-/// Each batch is written as it is delivered.
+/// Runs a job's query, and writes each batch as it is delivered.
 fn serve_batches<R, W>(rt: &R, job: Job, writer: &mut W) -> Result<Ending, ServeFault>
 where
     R: AllocGlobal + Threads + Wait + Sync,
@@ -94,7 +94,7 @@ where
     Ok(ending)
 }
 
-/// Nothing is written before the value is there.
+/// Runs a job's aggregate, and writes its value once that is there.
 fn serve_value<R, W>(rt: &R, job: Job, kind: Kind, writer: &mut W) -> Result<Ending, ServeFault>
 where
     R: AllocGlobal + Threads + Wait + Sync,
@@ -196,7 +196,7 @@ where
     )
 }
 
-/// Each batch is written as it comes.
+/// Answers a job's query on one thread, and writes each batch as it comes.
 fn serve_items<W: Write>(alloc: Global, job: Job, writer: &mut W) -> Result<Ending, ServeFault>
     requires items { job.aggregate ≡ None }
     ensures written { Serves Command.Seq job (W.contents writer.old) (W.contents writer.new) result }
@@ -329,7 +329,7 @@ fn all_of(alloc: Global, source: &mut AnySource) -> Result<(Vec<i64>, Ending), O
     sequential(alloc, &query, source)
 }
 
-/// A query's degree is at least 1, so only memory can be wanting.
+/// The numbers in `n` partitions. A degree is at least 1, so the only fault is that memory runs out.
 fn cut(parts: &RangeParts<i64>, n: u64) -> Result<Vec<Vec<Keyed<i64>>>, ServeFault>
     requires { 1 ≤ n }
     ensures partitions { IfOk result (λ ps. element_lists ps.items ≡ cuts (keyed_from 0 parts.now) n) }

@@ -31,7 +31,7 @@ impl<'a, S: Steps> Lambda for At<'a, S> {
         self.steps.test(self.at, x)
     }
 
-    /// The step is looked up once a block.
+    // (the step is looked up once a block)
     fn map_block(&self, block: &mut [S::Item]) -> (usize, Option<u32>) {
         self.steps.map_block(self.at, block)
     }

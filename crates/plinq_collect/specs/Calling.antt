@@ -107,7 +107,7 @@ before_the_code (a ∷ b ∷ cs) rest parts g (m, one, (n, (is, ok), leads)) =
     let bad : ◌≡◌ {A = Result ⊤ ℕ} (Ok tt) (Err 7) = subst (λ x. Ok tt ≡ answer_to x) (sym five) ok in
     absurd cc
 
--- a code is no want of memory
+-- a code isn't reported as out of memory
 code_as_memory : CallsAll keeps four_five_two [] (Err Memory) (4 ∷ 5 ∷ []) → ⊥
 code_as_memory it = let c = it.calls in omega (arith, before_the_code c.0 c.1 c.2 (4 ∷ 5 ∷ []) c.3)
 

@@ -146,7 +146,7 @@ module _ {S T M : Type 0} {source : Ghosts S T} (c c' : Coordinator S M T source
   closed_again_at_last : length (holding_of c'.partition).share ≡ length (holding_of c.partition).share + 1 → ClosesAtLast Closed c c' → ⊥
   closed_again_at_last one closes = omega (arith, one, ap (λ c. length (holding_of c.partition).share) (closes.once refl))
 
-  -- at last it is closed by a record that isn't the coordinator's own
+  -- at last it is said to be closed, and no record of that is there
   closed_without_a_record_at_last : has_worker_fault c'.worker_faults ≡ false
       → (holding_of c'.partition).share ≡ (holding_of c.partition).share → ClosesAtLast Open c c' → ⊥
   closed_without_a_record_at_last none same closes =

@@ -159,7 +159,7 @@ where
         }
     }
 
-    /// Whether more workers are wanted than were by now.
+    /// Whether more workers are wanted now than when some were last started.
     pub(crate) fn wants_more(&self, worker_count: WorkerCount) -> bool {
         worker_count.wanted < self.workers.min(self.progress.wanted())
     }

@@ -5,7 +5,8 @@
 //!   All that they were to send was received: the parts of each worker's records, in their order (`HasReturned`).
 //! - Each part is made of the result of a chunk of the source, under a cut of its own (`IsPart`). A [`Task`] says what a worker
 //!   makes of a result before it sends it, and which gates it passes.
-//! - The source is closed once the consumer wants nothing more, or after a fault (`ClosesInTime`).
+//! - The source is closed once the consumer wants nothing more, or after a fault (`ClosesInTime`,
+//!   and after the last poll `ClosesAtLast`).
 //! - [`Progress`] tells the threads of a run when to wait and when to go on; no answer rests on it.
 #![tactic(auto)]
 

@@ -92,7 +92,7 @@ fn job_of_parts(alloc: Global, parts: Parts, settings: Settings) -> Result<Job, 
     job_of(alloc, &Value::Object(parts.others), parts.source, settings)
 }
 
-/// The source may have been read apart.
+/// The job that a document describes; its source may have been read apart.
 fn job_of(
     alloc: Global,
     value: &Value,

@@ -28,7 +28,7 @@ impl Source for PlainSource {
 
     ghost within = { λ s. (plain_walked s).within };
 
-    /// Inlined, since it runs once an item where a query asks for one at a time.
+    // (inlined, since it runs once an item where a query asks for one at a time)
     #[inline(always)]
     fn next(&mut self) -> Step<i64> {
         match self {

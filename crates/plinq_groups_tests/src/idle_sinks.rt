@@ -1,4 +1,4 @@
-//! What a sink of a mapped run is told while nothing comes.
+//! What is reported to a sink of a mapped run while nothing comes.
 ghost use Rattle.std.specs.Prelude.{⊤};
 
 use crate::mapped::BitsOf;
@@ -38,7 +38,7 @@ impl<'a> Sink for Listens<'a> {
     }
 }
 
-/// A gate that keeps the worker back until the sink was told, or for long.
+/// A gate that holds the worker back until that was reported to the sink, or for a million turns.
 #[derive(Drop)]
 struct KeepsBack<'a> {
     was_told: &'a AtomicBool,
@@ -69,7 +69,7 @@ fn query_of(alloc: Global, skips: bool) -> Built<Formula> {
     Ok(query)
 }
 
-/// Whether the sink was told in a run that ended well.
+/// Whether it was reported to the sink, in a run that ended well.
 fn is_told<R: Threads + Wait + Sync>(rt: &R, alloc: Global, skips: bool) -> bool {
     let (Ok(query), Ok(source)) = (query_of(alloc, skips), RangeSource::new(0, 4)) else {
         return false;

@@ -80,7 +80,7 @@ impl Lambda for Formula {
         test_one(*self, x)
     }
 
-    /// A loop for each kind, so that none asks for it at each item.
+    // (a loop for each kind, so that none asks for it at each item)
     fn map_block(&self, block: &mut [i64]) -> (usize, Option<u32>) {
         match *self {
             Formula::Add(c) => map_sums(c, block),

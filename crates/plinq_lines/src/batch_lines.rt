@@ -16,7 +16,7 @@ use std::io::Write;
 /// How many numbers are placed at once: as many as stand in a batch of the default merge option.
 const MOST_PLACED: usize = 16;
 
-/// A decimal has at most 20 bytes, a space or a line feed with it makes 21.
+/// The room of a number's decimal, of at most 20 bytes, with a space or a line feed.
 const NUMBER_ROOM: usize = 21;
 
 const NUMBERS_ROOM: usize = 336;

@@ -27,7 +27,7 @@ pub(crate) fn write_bytes<W: Write>(writer: &mut W, bytes: &[u8]) -> Result<(), 
     Err(WriteFault)
 }
 
-/// Apart, since the test brings a table of error kinds that each turn would set up.
+/// Whether a call was interrupted. Apart, since the test brings a table of error kinds that each turn would set up.
 #[cold]
 #[inline(never)]
 fn is_interrupted(error: &io::Error) -> bool {

@@ -106,7 +106,7 @@ fn operators_hear_of_the_end(rt: HostRuntime) {
     assert!(rt; hears_the_end(rt.alloc()) == Some(true));
 }
 
-/// as_ordered, take_while, select_many, select; with a Take after them that no worker can apply
+/// An ordered query of take_while, select_many and select, with a Take after them that no worker can apply.
 fn turned_query(alloc: Global) -> Option<Query<Turning>> {
     let ops = [
         Op::TakeWhile(Turning),

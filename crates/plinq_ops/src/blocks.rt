@@ -20,7 +20,7 @@ pub(crate) fn select<L: Lambda>(f: &L, block: &mut Vec<L::Item>) -> Option<Endin
     ending_of(fault)
 }
 
-/// The block is lent as a slice here, so that it is whole again where it is cut.
+/// Maps a block, which is lent as a slice, so that it is whole again where it is cut.
 fn map_items<L: Lambda>(f: &L, block: &mut Vec<L::Item>) -> (usize, Option<u32>)
     ensures within { result.0 ≤ length block.new.items }
     ensures mapped { record { items = take result.0 block.new.items; fault = result.1 }
@@ -39,7 +39,7 @@ pub(crate) fn filter<L: Lambda>(f: &L, block: &mut Vec<L::Item>) -> Option<Endin
     ending_of(fault)
 }
 
-/// The block is lent as a slice, in the same way.
+/// Filters a block, which is lent as a slice in the same way.
 fn filter_items<L: Lambda>(f: &L, block: &mut Vec<L::Item>) -> (usize, Option<u32>)
     ensures within { result.0 ≤ length block.new.items }
     ensures filtered { record { items = take result.0 block.new.items; fault = result.1 }

@@ -6,7 +6,7 @@ use plinq_run::RunFault;
 use std::alloc::Global;
 use std::fmt::Display;
 
-/// In one place, since a text is dear to prove.
+/// Whether a fault's text is this. In one place, since a text costs much to prove.
 fn says<T: Display>(alloc: Global, fault: &T, text: &str) -> bool {
     match format!(in alloc; "{fault}") {
         Ok(words) => words.as_str() == text,
@@ -34,7 +34,7 @@ fn fails_as(alloc: Global, fault: TakeFault, failure: Failure, line: &str) -> bo
     told == failure && says(alloc, &told, line)
 }
 
-/// One thread meets none of these.
+/// Faults of partitions, none of which one thread meets.
 #[test]
 fn faults_of_partitions(rt: HostRuntime) {
     for (fault, failure, line) in [

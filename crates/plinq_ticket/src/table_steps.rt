@@ -10,7 +10,8 @@ use crate::view::View;
 use atomic_table::Seat;
 use plinq_keyed::Guarded;
 
-/// Where the words and the slot stand in the table.
+// where the words and the slot stand in the table
+
 pub(crate) const NEXT: usize = 0;
 
 pub(crate) const SERVING: usize = 1;

@@ -46,8 +46,8 @@ module _ {S T M : Type 0} {source : Ghosts S T} where
     pub drops : wants_close before ≡ true → wants_close after ≡ true
     pub kept : StaysNoted c.worker_faults c'.worker_faults
 
-  -- The source is closed once at most, by a close of the coordinator's own, and not where a poll has closed it. It is closed by
-  -- now, unless some fault stands noted. What was noted stays noted, and what was received and who was started are the same
+  -- Where a poll has closed the source, nothing changes. Else it is closed by one close of the coordinator's own, unless some fault
+  -- stands noted. What was noted stays noted, and the source's origin, what the pass knows and who was started are the same
   pub record ClosesAtLast (closing : Closing) (c c' : Coordinator S M T source) : Type 0 where
     pub same : StaysSame c c'
     pub stream : c'.stream ≡ c.stream
@@ -59,7 +59,8 @@ module _ {S T M : Type 0} {source : Ghosts S T} where
 
   -- it can start those workers that are wanted: it has what each is to be given
   pub record CanStart {L J P : Type 0} (meaning : L → Meaning T) (makes : P → ChunkResult T → ChunkResult M → Type 0)
-      (MaySend : ChunkResult M → Type 0) (stops_at : ℕ → Bool) (crew : Crew L S J P T T M source) (c : Coordinator S M T source) (t : Team S M T source) : Type 0 where
+      (MaySend : ChunkResult M → Type 0) (stops_at : ℕ → Bool) (crew : Crew L S J P T T M source)
+      (c : Coordinator S M T source) (t : Team S M T source) : Type 0 where
     pub pass : IsPassOf crew.stream.now c.stream
     pub receiver : IsReceiver (known c.stream)
     pub numbers : c.worker_count.started ≡ c.worker_count.wanted → HasNumbersFrom (length t.handles.items) (known c.stream)

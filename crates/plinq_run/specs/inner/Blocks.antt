@@ -117,7 +117,7 @@ module _ {T A U W O : Type 0} (f : Folding T A U) (lawful : IsFolding f) (made :
   passes-all (Ok (Some g)) now now' t out e a x b y fed last is = given-fed (Ok (Some g)) now now' t out e a x b y fed is
   passes-all (Err fault) now now' t out e a x b y fed last is = given-fed (Err fault) now now' t out e a x b y fed is
 
--- nothing was given on, for want of memory
+-- nothing was given on, since memory ran out
 pub made-none : {L F T A U W O : Type 0} (meaning : L → Meaning T) (folding : F → Folding T A U) → ((a : F) → IsFolding (folding a))
     → (made : W → O → Trace A → Result (Option Ending) DeliveryFault → W → O → Type 0) → IsTaking made → (d d' : FoldBlocks L F W) (x : O) (t : Trace T)
     → d'.aggregator ≡ d.aggregator → MadeBy meaning folding made d x t (Err Memory) d' x

@@ -36,7 +36,7 @@ pub record MayConduct {L S G T M : Type 0} (given : S → ℕ) (whole : S → Tr
   pub carries : (c : ChunkResult M) → IsPart meaning makes request.plan.now (whole request.source) c → MaySend c
   -- and nothing else may
   pub carried : (c : ChunkResult M) → MaySend c → IsPart meaning makes request.plan.now (whole request.source) c
-  -- and these are the keys that end it
+  -- and these are the keys at which the plan ends over this source
   pub stop_keys : AreStopKeys meaning request.plan.now (whole request.source) stops_at
 
 -- partitions have shared a source, and one has closed it

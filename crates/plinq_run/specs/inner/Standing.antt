@@ -44,7 +44,7 @@ IsOver (Ok (Some e)) = ⊤
 IsOver (Err fault) = ⊤
 
 module _ {T A U W O : Type 0} (f : Folding T A U) (lawful : IsFolding f) (made : W → O → Trace A → Result (Option Ending) DeliveryFault → W → O → Type 0) (taking : IsTaking made) where
-  -- nothing was given, for want of memory
+  -- nothing was given, since memory ran out
   pub given-none : (u : Trace T) (a : W) (x : O) → WasGiven f made u a x (Err Memory) x
   given-none u a x = record { parts = as_one f u; folds = as_one-folded f lawful u; last = a; taken = taking.stops a x [] a x (as_one f u) (taking.begins a x) }
 
@@ -74,7 +74,7 @@ module _ {T A U W O : Type 0} (f : Folding T A U) (lawful : IsFolding f) (made :
         taken = taking.goes_on a x us b y second.parts how second.last z first second.taken;
       }
 
-  -- or for want of memory nothing more was given
+  -- or nothing more was given, since memory ran out
   pub given-stops : (xs : List T) (us : List A) (u : Trace T) (a : W) (x : O) (b : W) (y : O) → StandFor f xs us → made a x (open_trace us) (Ok None) b y
       → WasGiven f made (followed (open_trace xs) u) a x (Err Memory) y
   given-stops xs us u a x b y stand first = given-after (Err Memory) xs us u a x b y y stand first (given-none u b y)
