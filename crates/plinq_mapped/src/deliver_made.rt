@@ -10,9 +10,6 @@ use plinq_ops::MergeOption;
 use plinq_source::Ending;
 use std::alloc::Global;
 
-/// How many items AutoBuffered puts into a batch.
-const AUTO_BUFFERED: usize = 16;
-
 /// Delivers what was made, in batches. The first item of which nothing can be made ends the answer.
 #[derive(Drop)]
 pub(crate) struct DeliverMade<B> {
@@ -28,13 +25,8 @@ impl<B: Drop> DeliverMade<B> {
         ensures size { result.size ≡ batch_size option }
         ensures held { result.held.items ≡ [] }
     {
-        let size = match option {
-            MergeOption::Default | MergeOption::AutoBuffered => Some(AUTO_BUFFERED),
-            MergeOption::NotBuffered => Some(1),
-            MergeOption::FullyBuffered => None,
-        };
         DeliverMade {
-            size,
+            size: option.batch_size(),
             held: Vec::new(alloc),
         }
     }

@@ -16,9 +16,6 @@ pub(crate) enum Buffer<T> {
     All(Vec<T>),
 }
 
-/// How many items AutoBuffered puts into a batch.
-const AUTO_BUFFERED: usize = 16;
-
 /// How many items are given at once to a batch of all.
 const PIECE_ITEMS: usize = 512;
 
@@ -50,10 +47,8 @@ pub(crate) fn buffer_of<T>(alloc: Global, option: MergeOption) -> Result<Buffer<
     ensures size { IfOk result (λ buffer. size_of buffer ≡ batch_size option) }
     ensures room { IfOk result (λ buffer. HasRoom buffer) }
 {
-    let size = match option {
-        MergeOption::Default | MergeOption::AutoBuffered => AUTO_BUFFERED,
-        MergeOption::NotBuffered => 1,
-        MergeOption::FullyBuffered => return Ok(Buffer::All(Vec::new(alloc))),
+    let Some(size) = option.batch_size() else {
+        return Ok(Buffer::All(Vec::new(alloc)));
     };
     Ok(Buffer::Ring(HeapCircularBuffer::with_capacity(alloc, size)?))
 }

@@ -1,7 +1,11 @@
-ghost use Rattle.std.specs.Prelude.{◌≡◌};
+ghost use Rattle.std.specs.Prelude.{◌≡◌, ◌≤◌, IfSome};
+ghost use Rattle.plinq_ops.specs.Batches.{batch_size};
 ghost use Rattle.plinq_ops.specs.MergeWords.{merge_name, merge_named};
 
 use plinq_words::{Named, first_named};
+
+/// How many elements AutoBuffered puts into a batch.
+const AUTO_BUFFERED: usize = 16;
 
 /// How a query's results are handed over, after `ParallelMergeOptions` of .NET.
 #[derive(Clone, Copy, Debug, PartialEq, Eq)]
@@ -48,5 +52,22 @@ impl MergeOption {
             ],
             name,
         )
+    }
+
+    /// How many elements each batch has but the last, which may have fewer; `None` where the whole answer is one batch.
+    ///
+    /// ```text
+    /// MergeOption::AutoBuffered.batch_size()     // Some(16)
+    /// MergeOption::FullyBuffered.batch_size()    // None
+    /// ```
+    pub fn batch_size(self) -> Option<usize>
+        ensures size { result ≡ batch_size self }
+        ensures some { IfSome result (λ size. 1 ≤ size) }
+    {
+        match self {
+            MergeOption::Default | MergeOption::AutoBuffered => Some(AUTO_BUFFERED),
+            MergeOption::NotBuffered => Some(1),
+            MergeOption::FullyBuffered => None,
+        }
     }
 }

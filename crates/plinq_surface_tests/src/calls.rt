@@ -34,6 +34,11 @@ fn merged(number: u64) -> MergeOption {
     }
 }
 
+/// How many elements a batch has by it.
+fn sized(option: MergeOption) -> Option<usize> {
+    option.batch_size()
+}
+
 /// Whether a call answered a query with what it called for, or that without it.
 fn is_right(number: u64, answer: Called) -> bool {
     match answer {
@@ -44,6 +49,7 @@ fn is_right(number: u64, answer: Called) -> bool {
                 && query.ops().len() <= 1
                 && query.degree() == if number == 10 { 3 } else { 4 }
                 && query.merge_option() == merged(number)
+                && sized(query.merge_option()) == if number == 9 { Some(1) } else { Some(16) }
         }
         Err((query, fault)) => query.ops().is_empty() && fault == BuildFault::Memory,
     }
