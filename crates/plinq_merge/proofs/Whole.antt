@@ -36,7 +36,7 @@ use Rattle.plinq_ops.proofs.Stages.{seq-followed}
 use Rattle.plinq_reorder.specs.Intervals.{Interval, is_within, has_key, are_apart, IsFree, unbroken, first_gap, IsRow}
 use Rattle.plinq_reorder.proofs.Keys.{same_key, same_test, not_within-none}
 use Rattle.plinq_reorder.proofs.Insert.{apart-insert, has_key-insert}
-use Rattle.plinq_reorder.proofs.Gap.{unbroken-row, All-unbroken, gap-missing, gap-most}
+use Rattle.plinq_reorder.proofs.Gap.{row-of-unbroken, All-unbroken, gap-missing, gap-most}
 use Rattle.plinq_merge.specs.Whole.{IsTrueTail, AreTrueTails, AreApart, AreWhole, AreFirstOf}
 use Rattle.plinq_merge.specs.Shown.{Merge, waiting_trace, placed, all_placed, all_told, all_given, ending_at, row, merged, answer, shown}
 use Rattle.plinq_merge.specs.Keys.{is_offered}
@@ -172,7 +172,7 @@ module _ {L T : Type 0} (meaning : L → Meaning T) (worker : List (Op L)) (t : 
       let ps : List (Interval (Trace T)) = all_placed ByKey [] offers in
       let last : Trace T = trace_of [] (ending_at (all_told None offers) (first_gap 0 ps)) in
       ap (λ u. followed u (row (all_told None offers) 0 ps)) (arrived-by_key offers)
-      ∙ ap (λ u. followed u last) (row-gives 0 (unbroken 0 ps) (first_gap 0 ps) (unbroken-row 0 ps) (All-unbroken IsOfSource 0 ps (all-of_source offers are)))
+      ∙ ap (λ u. followed u last) (row-gives 0 (unbroken 0 ps) (first_gap 0 ps) (row-of-unbroken 0 ps) (All-unbroken IsOfSource 0 ps (all-of_source offers are)))
 
   -- ---- how the source's fragments begin
 

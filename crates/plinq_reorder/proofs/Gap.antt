@@ -19,9 +19,9 @@ module _ {P : Type 0} where
       ] refl
 
   -- it is a row up to the gap
-  pub unbroken-row : (key : ℕ) (ps : List (Interval P)) → IsRow key (unbroken key ps) (first_gap key ps)
-  unbroken-row key [] = refl
-  unbroken-row key (p ∷ ps) = row-cases (λ us gap. IsRow key us gap) key p ps (λ is. (is, unbroken-row p.1.end ps)) (λ is. refl)
+  pub row-of-unbroken : (key : ℕ) (ps : List (Interval P)) → IsRow key (unbroken key ps) (first_gap key ps)
+  row-of-unbroken key [] = refl
+  row-of-unbroken key (p ∷ ps) = row-cases (λ us gap. IsRow key us gap) key p ps (λ is. (is, row-of-unbroken p.1.end ps)) (λ is. refl)
 
   -- of what is true of each interval
   pub All-unbroken : (Q : Interval P → Type 0) (key : ℕ) (ps : List (Interval P)) → All Q ps → All Q (unbroken key ps)
