@@ -27,7 +27,7 @@ use Rattle.plinq_merge.specs.Shown.{ending_at, waiting_trace, merged}
 use Rattle.plinq_merge.specs.Keys.{AreNew}
 use Rattle.plinq_merge.specs.Merging.{Holds, TakesIn}
 use Rattle.plinq_merge.specs.Taking.{IsTaking}
-use Rattle.plinq_merge.specs.Joining.{rest_of, HasKeys, Waits, HasMoved, Joins, AnswersOffer}
+use Rattle.plinq_merge.specs.Joining.{rest_of, HasKeys, Waits, HasMoved, Joins, JoinsOffer}
 use Rattle.plinq_merge.specs.Offering.{is_decided, finished}
 use Rattle.plinq_merge.specs.Joiners.{taker_of, order_of, WaitsFor, has_decided, ending_of, Takes, HasJoinedAt, HasJoined}
 use Rattle.plinq_merge.specs.Mergers.{delivery_fault_of}
@@ -216,7 +216,7 @@ module _ {W O T : Type 0} (made : W → O → Trace T → Result (Option Ending)
             (ap (λ t. t.ending) (merged-waits w.order w.row offers joined.0)) joined.1 joins.taken (ap (λ o. merged o more) is ∙ joins.grows offers joined.0)
 
         offered-at : (standing : JoinerState) (result : Result More MergeFault) → HasJoinedAt made a x w standing y offers
-            → AnswersOffer made w standing r y result w' standing' y' → (all : List (ChunkResult T)) × AreOneMore offers r all × LeavesAt result all
+            → JoinsOffer made w standing r y result w' standing' y' → (all : List (ChunkResult T)) × AreOneMore offers r all × LeavesAt result all
         offered-at Open (Ok Yes) joined o =
             (more, inr (refl, o.1.are_new offers joined.0), rw o.0 (o.1.waits refl offers joined.0, grown (Ok None) w'.order same joined o.1))
         offered-at Open (Ok No) joined o = (more, inr (refl, o.2.are_new offers joined.0), rw o.1 (grown (Ok (Some o.0)) w'.order same joined o.2))

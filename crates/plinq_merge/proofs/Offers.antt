@@ -28,7 +28,7 @@ use Rattle.plinq_merge.specs.Buffer.{held_of, size_of}
 use Rattle.plinq_merge.specs.Sending.{Leads, Delivers}
 use Rattle.plinq_merge.specs.Shown.{Merge, merged, answer, shown}
 use Rattle.plinq_merge.specs.Merging.{GoesOn}
-use Rattle.plinq_merge.specs.Joining.{Joins, Waits, AnswersOffer}
+use Rattle.plinq_merge.specs.Joining.{Joins, Waits, JoinsOffer}
 use Rattle.plinq_merge.specs.Delivering.{Line, line_of, Gives, MadeBy, is_below, can_deliver}
 use Rattle.plinq_merge.specs.Deliveries.{batches-on, held-on, goes_on-on}
 use Rattle.plinq_merge.specs.Working.{Work, merge_of, Rests}
@@ -128,7 +128,7 @@ module _ {L T : Type 0} (meaning : L → Meaning T) (decided : Bool) (w : Work L
     module _ (standing' : JoinerState) where
       -- what the joiner did is what the merger owes
       pub offers-joined : (standing : JoinerState) (result : Result More MergeFault) → w'.order ≡ w.order → (standing' ≡ Open → GivesNothing)
-          → AnswersOffer (MadeBy accepts refuses meaning) w standing r s result w' standing' s'
+          → JoinsOffer (MadeBy accepts refuses meaning) w standing r s result w' standing' s'
           → Offers meaning decided accepts refuses w standing r s result w' standing' s'
       offers-joined Open (Ok Yes) same nothing o =
           (o.0, λ offers rests. (brings-joined (Ok None) (λ _. nothing o.0) o.1 offers rests, rests-joined same (nothing o.0) o.1 offers rests))
@@ -146,7 +146,7 @@ module _ {L T : Type 0} (meaning : L → Meaning T) (decided : Bool) (w : Work L
 
       -- what was delivered, whatever the offers
       pub sends-joined : (standing : JoinerState) (result : Result More MergeFault)
-          → AnswersOffer (MadeBy accepts refuses meaning) w standing r s result w' standing' s' → SendsSome accepts refuses s result s'
+          → JoinsOffer (MadeBy accepts refuses meaning) w standing r s result w' standing' s' → SendsSome accepts refuses s result s'
       sends-joined Open (Ok Yes) o = let gives = o.1.taken.gives in (full_batches (size_of w.taker.buffer) (held_of w.taker.buffer) gives.out, gives.leads)
       sends-joined Open (Ok No) o = (due o.2.gained, o.2.taken.gives.1)
       sends-joined Open (Err Memory) o = (due o.1.gained, o.1.taken.gives)

@@ -59,20 +59,17 @@ module _ {W O T : Type 0} (made : W → O → Trace T → Result (Option Ending)
     pub grows : (offers : List (ChunkResult T)) → Waits w.order w.row offers → merged w.order (offers ++ r ∷ []) ≡ followed (merged w.order offers) gained
     pub waits : result ≡ Ok None → (offers : List (ChunkResult T)) → Waits w.order w.row offers → Waits w'.order w'.row (offers ++ r ∷ [])
 
-  -- what an offer answers and does, where the answer is open
-  abbrev pub JoinsOffer : Joining W T → ChunkResult T → O → Result More MergeFault → Joining W T → JoinerState → O → Type 0
-  JoinsOffer w r y (Ok Yes) w' standing' y' = (standing' ≡ Open) × Joins w r y (Ok None) w' y'
-  JoinsOffer w r y (Ok No) w' standing' y' = (e : Ending) × (standing' ≡ Decided e) × Joins w r y (Ok (Some e)) w' y'
-  JoinsOffer w r y (Err Memory) w' standing' y' = (standing' ≡ HasFailed) × Joins w r y (Err NoMemory) w' y'
-  JoinsOffer w r y (Err (Sink code)) w' standing' y' = (standing' ≡ HasFailed) × Joins w r y (Err (Refusal code)) w' y'
-  JoinsOffer w r y (Err Twice) w' standing' y' =
+  -- what an offer answers and does: where the answer is open it is joined, or one of its keys was offered before; a decided joiner
+  -- answers No, a failed one Failed, and nothing changes
+  abbrev pub JoinsOffer : Joining W T → JoinerState → ChunkResult T → O → Result More MergeFault → Joining W T → JoinerState → O → Type 0
+  JoinsOffer w Open r y (Ok Yes) w' standing' y' = (standing' ≡ Open) × Joins w r y (Ok None) w' y'
+  JoinsOffer w Open r y (Ok No) w' standing' y' = (e : Ending) × (standing' ≡ Decided e) × Joins w r y (Ok (Some e)) w' y'
+  JoinsOffer w Open r y (Err Memory) w' standing' y' = (standing' ≡ HasFailed) × Joins w r y (Err NoMemory) w' y'
+  JoinsOffer w Open r y (Err (Sink code)) w' standing' y' = (standing' ≡ HasFailed) × Joins w r y (Err (Refusal code)) w' y'
+  JoinsOffer w Open r y (Err Twice) w' standing' y' =
       (w' ≡ w) × (standing' ≡ Open) × (y' ≡ y) × ((offers : List (ChunkResult T)) → Waits w.order w.row offers → IsDuplicate offers r)
-  JoinsOffer w r y (Err Gap) w' standing' y' = ⊥
-  JoinsOffer w r y (Err Failed) w' standing' y' = ⊥
-  JoinsOffer w r y (Err Cancelled) w' standing' y' = ⊥
-
-  -- a decided joiner answers No, a failed one Failed, and nothing changes
-  abbrev pub AnswersOffer : Joining W T → JoinerState → ChunkResult T → O → Result More MergeFault → Joining W T → JoinerState → O → Type 0
-  AnswersOffer w Open r y result w' standing' y' = JoinsOffer w r y result w' standing' y'
-  AnswersOffer w (Decided e) r y result w' standing' y' = (result ≡ Ok No) × (w' ≡ w) × (standing' ≡ Decided e) × (y' ≡ y)
-  AnswersOffer w HasFailed r y result w' standing' y' = (result ≡ Err Failed) × (w' ≡ w) × (standing' ≡ HasFailed) × (y' ≡ y)
+  JoinsOffer w Open r y (Err Gap) w' standing' y' = ⊥
+  JoinsOffer w Open r y (Err Failed) w' standing' y' = ⊥
+  JoinsOffer w Open r y (Err Cancelled) w' standing' y' = ⊥
+  JoinsOffer w (Decided e) r y result w' standing' y' = (result ≡ Ok No) × (w' ≡ w) × (standing' ≡ Decided e) × (y' ≡ y)
+  JoinsOffer w HasFailed r y result w' standing' y' = (result ≡ Err Failed) × (w' ≡ w) × (standing' ≡ HasFailed) × (y' ≡ y)

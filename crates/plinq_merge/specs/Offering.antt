@@ -29,31 +29,27 @@ pub record Brings {T : Type 0} (merge : Merge T) (offers : List (ChunkResult T))
   pub grows : shown merge (offers ++ r ∷ []) ≡ shown merge offers ++ gained
   pub sent : Sent gained
 
--- what an offer answers and does, where the answer is open
-abbrev pub TakesOffer : {L K T : Type 0} → (L → Meaning T) → Bool → (K → List T → K → Type 0) → (K → List T → ℕ → K → Type 0)
-    → Work L T → ChunkResult T → K → Result More MergeFault → Work L T → JoinerState → K → Type 0
-TakesOffer {L} {K} {T} meaning decided accepts refuses w r s (Ok Yes) w' standing' s' =
-    (standing' ≡ Open) × ((offers : List (ChunkResult T)) → Rests meaning decided w offers
-    → Brings (merge_of meaning decided w) offers r (λ gained. Leads accepts s gained s') × Rests meaning decided w' (offers ++ r ∷ []))
-TakesOffer {L} {K} {T} meaning decided accepts refuses w r s (Ok No) w' standing' s' =
-    (e : Ending) × (standing' ≡ Decided e) × ((offers : List (ChunkResult T)) → Rests meaning decided w offers
-    → Brings (merge_of meaning decided w) offers r (λ gained. Leads accepts s gained s') × ((answer (merge_of meaning decided w) (offers ++ r ∷ [])).ending ≡ Some e))
-TakesOffer {L} {K} {T} meaning decided accepts refuses w r s (Err Memory) w' standing' s' =
-    (standing' ≡ HasFailed) × ((offers : List (ChunkResult T)) → Rests meaning decided w offers
-    → Brings (merge_of meaning decided w) offers r (λ gained. IsCutOff accepts refuses s gained NoMemory s'))
-TakesOffer {L} {K} {T} meaning decided accepts refuses w r s (Err (Sink code)) w' standing' s' =
-    (standing' ≡ HasFailed) × ((offers : List (ChunkResult T)) → Rests meaning decided w offers
-    → Brings (merge_of meaning decided w) offers r (λ gained. IsCutOff accepts refuses s gained (Refusal code) s'))
-TakesOffer {L} {K} {T} meaning decided accepts refuses w r s (Err Twice) w' standing' s' =
-    (w' ≡ w) × (standing' ≡ Open) × (s' ≡ s) × ((offers : List (ChunkResult T)) → Rests meaning decided w offers → IsDuplicate offers r)
-TakesOffer meaning decided accepts refuses w r s (Err Gap) w' standing' s' = ⊥
-TakesOffer meaning decided accepts refuses w r s (Err Failed) w' standing' s' = ⊥
-TakesOffer meaning decided accepts refuses w r s (Err Cancelled) w' standing' s' = ⊥
-
--- a decided merger answers No, a failed one Failed, and nothing changes
+-- what an offer answers and does: where the answer is open it is taken in, or one of its keys was offered before; a decided merger
+-- answers No, a failed one Failed, and nothing changes
 abbrev pub Offers : {L K T : Type 0} → (L → Meaning T) → Bool → (K → List T → K → Type 0) → (K → List T → ℕ → K → Type 0)
     → Work L T → JoinerState → ChunkResult T → K → Result More MergeFault → Work L T → JoinerState → K → Type 0
-Offers meaning decided accepts refuses w Open r s result w' standing' s' = TakesOffer meaning decided accepts refuses w r s result w' standing' s'
+Offers {L} {K} {T} meaning decided accepts refuses w Open r s (Ok Yes) w' standing' s' =
+    (standing' ≡ Open) × ((offers : List (ChunkResult T)) → Rests meaning decided w offers
+    → Brings (merge_of meaning decided w) offers r (λ gained. Leads accepts s gained s') × Rests meaning decided w' (offers ++ r ∷ []))
+Offers {L} {K} {T} meaning decided accepts refuses w Open r s (Ok No) w' standing' s' =
+    (e : Ending) × (standing' ≡ Decided e) × ((offers : List (ChunkResult T)) → Rests meaning decided w offers
+    → Brings (merge_of meaning decided w) offers r (λ gained. Leads accepts s gained s') × ((answer (merge_of meaning decided w) (offers ++ r ∷ [])).ending ≡ Some e))
+Offers {L} {K} {T} meaning decided accepts refuses w Open r s (Err Memory) w' standing' s' =
+    (standing' ≡ HasFailed) × ((offers : List (ChunkResult T)) → Rests meaning decided w offers
+    → Brings (merge_of meaning decided w) offers r (λ gained. IsCutOff accepts refuses s gained NoMemory s'))
+Offers {L} {K} {T} meaning decided accepts refuses w Open r s (Err (Sink code)) w' standing' s' =
+    (standing' ≡ HasFailed) × ((offers : List (ChunkResult T)) → Rests meaning decided w offers
+    → Brings (merge_of meaning decided w) offers r (λ gained. IsCutOff accepts refuses s gained (Refusal code) s'))
+Offers {L} {K} {T} meaning decided accepts refuses w Open r s (Err Twice) w' standing' s' =
+    (w' ≡ w) × (standing' ≡ Open) × (s' ≡ s) × ((offers : List (ChunkResult T)) → Rests meaning decided w offers → IsDuplicate offers r)
+Offers meaning decided accepts refuses w Open r s (Err Gap) w' standing' s' = ⊥
+Offers meaning decided accepts refuses w Open r s (Err Failed) w' standing' s' = ⊥
+Offers meaning decided accepts refuses w Open r s (Err Cancelled) w' standing' s' = ⊥
 Offers meaning decided accepts refuses w (Decided e) r s result w' standing' s' = (result ≡ Ok No) × (w' ≡ w) × (standing' ≡ Decided e) × (s' ≡ s)
 Offers meaning decided accepts refuses w HasFailed r s result w' standing' s' = (result ≡ Err Failed) × (w' ≡ w) × (standing' ≡ HasFailed) × (s' ≡ s)
 
