@@ -1,5 +1,5 @@
 //! Mapped runs by threads beside those of a plain loop.
-ghost use Rattle.std.specs.Prelude.{◌≡◌, if◌then◌else◌, Ok, Err, ⊤, IfSome};
+ghost use Rattle.std.specs.Prelude.{◌≡◌, if◌then◌else◌, Ok, Err, IfSome};
 ghost use Rattle.std.specs.Int.{cast_unsigned, w64};
 ghost use Rattle.std.specs.Ordering.{int_eq};
 
@@ -7,10 +7,10 @@ use plinq_enumerator::Growth;
 use plinq_groups::{MakeOf, MapEach, MapFault};
 use plinq_lambda::Formula;
 use plinq_mapped::{run_mapped, to_vec_mapped};
-use plinq_merge::Sink;
 use plinq_ops::{Built, MergeOption, Query};
 use plinq_run::{OpenGate, RunFault};
 use plinq_source::{Ending, ListSource, Source};
+use plinq_testing::Taken;
 use std::alloc::{AllocError, Global};
 use std::process::Abort;
 use std::sync::Wait;
@@ -21,10 +21,7 @@ use std::thread::Threads;
 const NOTHING: u32 = 5;
 
 /// The code with which the sink refuses a batch more than it takes.
-const FULL: u32 = 77;
-
-/// The code with which it refuses one after a batch that wasn't full, or one of too many items.
-const UNEVEN: u32 = 78;
+const FULL: u32 = 9;
 
 /// The bits of each number but one, of which nothing is made.
 #[derive(Clone, Copy)]
@@ -47,46 +44,27 @@ impl MakeOf for BitsOf {
     }
 }
 
-/// What a sink has taken, in batches of this size but the last, and how many it takes.
-#[derive(Drop)]
-pub(crate) struct Taken {
-    pub(crate) made: Vec<u64>,
-    size: usize,
-    batches: usize,
-    most: usize,
+/// How many items these batches have, if each but the last has this size, and that no more.
+pub(crate) fn count_in(batches: &[Vec<u64>], size: usize) -> Option<usize> {
+    let mut count = 0usize;
+    let mut wanted = 0usize;
+    for batch in batches {
+        if count != wanted || batch.len() > size {
+            return None;
+        }
+        count = count.wrapping_add(batch.len());
+        wanted = wanted.wrapping_add(size);
+    }
+    Some(count)
 }
 
-impl Taken {
-    pub(crate) fn new(alloc: Global, size: usize, most: usize) -> Taken {
-        Taken {
-            made: Vec::new(alloc),
-            size,
-            batches: 0,
-            most,
-        }
+/// What they hold, one after another.
+fn joined(alloc: Global, batches: &[Vec<u64>]) -> Option<Vec<u64>> {
+    let mut all = Vec::new(alloc);
+    for batch in batches {
+        all.extend_from_slice(batch).ok()?;
     }
-}
-
-impl Sink for Taken {
-    type Item = u64;
-
-    ghost accepts = { λ _ _ _. ⊤ };
-
-    ghost refuses = { λ _ _ _ _. ⊤ };
-
-    fn batch(&mut self, items: &[u64]) -> Result<(), u32> {
-        if self.batches == self.most {
-            return Err(FULL);
-        }
-        if self.made.len() != self.batches.wrapping_mul(self.size) || items.len() > self.size {
-            return Err(UNEVEN);
-        }
-        self.batches = self.batches.wrapping_add(1);
-        if self.made.extend_from_slice(items).is_err() {
-            return Err(0);
-        }
-        Ok(())
-    }
+    Some(all)
 }
 
 /// The operators after the merge.
@@ -202,7 +180,7 @@ struct Told {
     ended: Result<Ending, RunFault>,
 }
 
-/// What a run delivers to a sink that takes so many batches.
+/// What a run delivers, in batches of the size that is asked for, to a sink that takes so many.
 fn delivered<R: Threads + Wait + Sync>(
     rt: &R,
     alloc: Global,
@@ -216,15 +194,14 @@ fn delivered<R: Threads + Wait + Sync>(
     let bits = MapEach {
         make: BitsOf { but: setting.but },
     };
-    let mut taken = Taken::new(alloc, size_of(setting.option), most);
+    let mut taken = Taken::new(alloc, most);
     let growth = setting.growth;
     let ended = run_mapped(
         rt, alloc, &query, source, growth, &OpenGate, &bits, &mut taken,
     );
-    Some(Told {
-        made: taken.made,
-        ended,
-    })
+    count_in(&taken.batches, size_of(setting.option))?;
+    let made = joined(alloc, &taken.batches)?;
+    Some(Told { made, ended })
 }
 
 /// All that is made.

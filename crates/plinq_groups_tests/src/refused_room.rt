@@ -1,7 +1,7 @@
 //! Groups and mapped runs that are refused an allocation, and the same once more. Each test is run with each allocation
 //! failing in turn.
 use crate::keys::Masked;
-use crate::mapped::{BitsOf, Taken};
+use crate::mapped::{BitsOf, count_in};
 use plinq_enumerator::Growth;
 use plinq_groups::{Collect, GroupBy, MapEach};
 use plinq_lambda::Formula;
@@ -9,6 +9,7 @@ use plinq_mapped::{run_mapped, to_vec_mapped};
 use plinq_ops::{Built, Query};
 use plinq_run::{AggregateFault, OpenGate, RunFault, aggregate};
 use plinq_source::{Ending, RangeSource};
+use plinq_testing::Taken;
 use std::alloc::Global;
 use std::sync::Wait;
 use std::thread::Threads;
@@ -78,13 +79,17 @@ fn delivered<R: Threads + Wait + Sync>(
     let bits = MapEach {
         make: BitsOf { but: 0 },
     };
-    let mut taken = Taken::new(alloc, 16, 1_000);
+    let mut taken = Taken::new(alloc, usize::MAX);
     let growth = Growth::ONE;
-    match run_mapped(
+    let told = run_mapped(
         rt, alloc, query, source, growth, &OpenGate, &bits, &mut taken,
-    ) {
-        Ok(ending) => Ok(ending == Ending::End && taken.made.len() == count),
-        Err(RunFault::Sink(0)) => Err(RunFault::Memory),
+    );
+    let Some(delivered) = count_in(&taken.batches, 16) else {
+        return Ok(false);
+    };
+    match told {
+        Ok(ending) => Ok(ending == Ending::End && delivered == count),
+        Err(RunFault::Sink(1_000)) => Err(RunFault::Memory),
         Err(fault) => Err(fault),
     }
 }

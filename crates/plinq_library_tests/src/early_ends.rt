@@ -6,7 +6,8 @@ use crate::queries::ordered;
 use plinq_collect::{all, any, element_at, first};
 use plinq_lambda::Formula;
 use plinq_ops::Built;
-use plinq_source::{RangeSource, Source, SourceFault, Step};
+use plinq_source::{RangeSource, SourceFault};
+use plinq_testing::Asked;
 use std::alloc::Global;
 use std::sync::Wait;
 use std::sync::atomic::{AtomicU64, Ordering};
@@ -15,45 +16,20 @@ use std::thread::Threads;
 /// How far workers may be ahead of what is merged, with the default growth and six workers at work, and a chunk of each.
 const MOST: u64 = 6 * 65 * 512;
 
-/// A range that counts the items that left it.
-#[derive(Drop)]
-struct Counted<'a> {
-    range: RangeSource,
-    left: &'a AtomicU64,
-}
-
-impl<'a> Source for Counted<'a> {
-    ghost use Rattle.plinq_source.specs.Walked.{range_whole, range_given, range_walked};
-
-    type Item = i64;
-
-    ghost whole = { λ s. range_whole s.range };
-
-    ghost given = { λ s. range_given s.range };
-
-    ghost few = { λ s. (range_walked s.range).few };
-
-    ghost ends = { λ s. (range_walked s.range).ends };
-
-    ghost within = { λ s. (range_walked s.range).within };
-
-    fn next(&mut self) -> Step<i64> {
-        self.left.fetch_add(1, Ordering::SeqCst);
-        self.range.next()
-    }
-}
-
 fn query_above(alloc: Global, workers: u64) -> Built<Formula> {
     ordered(alloc, workers)?.filter(Formula::Above(99))
 }
 
 /// The range of which the first hundred decide what is asked, of which none has left.
-fn from_zero(left: &AtomicU64) -> Result<Counted<'_>, SourceFault>
-    ensures { IfOk result (λ s. range_given s.range ≡ 0) }
+fn from_zero(left: &AtomicU64) -> Result<Asked<'_, RangeSource>, SourceFault>
+    ensures { IfOk result (λ s. range_given s.source ≡ 0) }
 {
     left.store(0, Ordering::SeqCst);
     match RangeSource::new(0, 10_000_000) {
-        Ok(range) => Ok(Counted { range, left }),
+        Ok(source) => Ok(Asked {
+            source,
+            times: left,
+        }),
         Err(fault) => Err(fault),
     }
 }

@@ -1,10 +1,10 @@
 ghost use Rattle.std.specs.Prelude.{◌≡◌};
 ghost use Rattle.plinq_keyed.specs.History.{tickets_below};
 
-use crate::expecting::says;
 use plinq_enumerator::{Enumerator, Growth, GrowthFault};
 use plinq_keyed::{Guarded, Record};
 use plinq_source::ListSource;
+use plinq_testing::says;
 use std::alloc::Global;
 
 /// Whether a ticket is above all recorded ones.

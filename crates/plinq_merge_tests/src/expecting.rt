@@ -7,16 +7,7 @@ use plinq_keyed::{Chunk, Guarded, Record, Tail};
 use plinq_partition::{Chunked, Partition, TakeFault};
 use plinq_source::RangeSource;
 use std::alloc::Global;
-use std::fmt::Display;
 use std::sync::Wait;
-
-/// Whether a fault has this text.
-pub(crate) fn says<T: Display>(alloc: Global, fault: &T, text: &str) -> bool {
-    match format!(in alloc; "{fault}") {
-        Ok(words) => words.as_str() == text,
-        Err(_) => false,
-    }
-}
 
 /// Some numbers, and their first partition, where there is room.
 pub(crate) fn range_of(

@@ -1,6 +1,6 @@
 //! How a merger says why it refuses, and how a delivery does.
-use crate::expecting::says;
 use plinq_merge::{DeliveryFault, MergeFault};
+use plinq_testing::says;
 
 #[test]
 fn faults_of_a_merger_in_words(rt: HostRuntime) {

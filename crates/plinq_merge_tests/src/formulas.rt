@@ -1,5 +1,5 @@
-use crate::expecting::says;
 use plinq_lambda::{ExpandFault, Formula, Lambda};
+use plinq_testing::says;
 use std::alloc::Global;
 
 /// How many items come of one, or that they are refused.

@@ -5,10 +5,11 @@ ghost use Rattle.plinq_stream.specs.Passes.{IsPassOf, known};
 ghost use Rattle.plinq_stream.specs.Streams.{has};
 
 use plinq_stream::{Admits, Stream, StreamPass};
+use plinq_testing::lingers;
 use std::process::Abort;
 use std::sync::Wait;
 use std::thread;
-use std::thread::{Threads, yield_now};
+use std::thread::Threads;
 
 /// Any number goes through.
 struct AnyNumber;
@@ -33,13 +34,6 @@ fn send_all<R: Wait>(rt: &R, stream: &Stream<u64, AnyNumber>, pass: StreamPass<u
     }
 }
 
-/// Waits a while, in which other threads that have nothing to do fall asleep.
-fn linger() {
-    for _turn in 0..10_000 {
-        yield_now();
-    }
-}
-
 /// Receives the numbers from 0 on, and where there is none only waits.
 fn receive_all<R: Wait + Abort>(rt: &R, stream: &Stream<u64, AnyNumber>, pass: StreamPass<u64>)
     requires of { IsPassOf stream.now pass }
@@ -47,7 +41,7 @@ fn receive_all<R: Wait + Abort>(rt: &R, stream: &Stream<u64, AnyNumber>, pass: S
 {
     let mut pass = pass;
     let mut next = 0u64;
-    linger();
+    lingers();
     for _ in rt.forever() {
         if next == SENT {
             return;
@@ -57,7 +51,7 @@ fn receive_all<R: Wait + Abort>(rt: &R, stream: &Stream<u64, AnyNumber>, pass: S
                 assert!(rt; sent.item == next);
                 next = next.wrapping_add(1);
             }
-            None => linger(),
+            None => lingers(),
         }
     }
 }

@@ -1,7 +1,7 @@
 //! Lists in partitions, whose keys are those of the contract: what is asked for are rooms, and words.
-use crate::expecting::says;
 use plinq_keyed::{KeyProperties, Keyed};
 use plinq_partition::{OrderablePartitioner, PairParts, PartFault, RangeParts};
+use plinq_testing::says;
 use std::alloc::Global;
 
 /// The numbers 0, 1 and 2, which are their own keys.

@@ -1,9 +1,9 @@
 ghost use Rattle.std.specs.Prelude.{IfSome};
 ghost use Rattle.plinq_ticket.specs.Passes.{IsPassOf};
 
-use crate::expecting::says;
 use crate::lock::notes::Notes;
 use plinq_keyed::{Guarded, Record};
+use plinq_testing::says;
 use plinq_ticket::{
     LockFault, Pass, TicketLock, free_lock_has_handed_out_a_prefix, one_pass_is_inside,
 };

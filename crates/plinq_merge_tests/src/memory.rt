@@ -1,49 +1,25 @@
-ghost use Rattle.std.specs.Prelude.{⊤};
-
 use crate::offers::{merger_of, ordered, result_of};
 use crate::sent_at_once::{How, deliver};
 use plinq_keyed::Tail;
 use plinq_lambda::Formula;
-use plinq_merge::{DeliveryFault, MergeFault, Merger, More, Sink};
+use plinq_merge::{DeliveryFault, MergeFault, Merger, More};
 use plinq_ops::{MergeOption, Query};
 use plinq_source::{Ending, RangeSource};
+use plinq_testing::Taken;
 use std::alloc::Global;
 
-/// A sink that wants the numbers from 1 on. It takes room for each batch, and refuses one with 1,000 where there is none.
-#[derive(Drop)]
-struct Counted {
-    alloc: Global,
-    count: i64,
-    is_wrong: bool,
-}
-
-impl Counted {
-    fn new(alloc: Global) -> Counted {
-        Counted {
-            alloc,
-            count: 0,
-            is_wrong: false,
+/// How many numbers these batches have, if they are those from 1 on.
+fn counted(batches: &[Vec<i64>]) -> Option<i64> {
+    let mut count = 0i64;
+    for batch in batches {
+        for item in batch.iter() {
+            count = count.wrapping_add(1);
+            if *item != count {
+                return None;
+            }
         }
     }
-}
-
-impl Sink for Counted {
-    type Item = i64;
-
-    ghost accepts = { λ _ _ _. ⊤ };
-
-    ghost refuses = { λ _ _ _ _. ⊤ };
-
-    fn batch(&mut self, items: &[i64]) -> Result<(), u32> {
-        if Vec::from_slice(self.alloc, items).is_err() {
-            return Err(1_000);
-        }
-        for item in items {
-            self.count = self.count.wrapping_add(1);
-            self.is_wrong = self.is_wrong || *item != self.count;
-        }
-        Ok(())
-    }
+    Some(count)
 }
 
 /// Whether an answer fits what a merger has done before.
@@ -54,14 +30,15 @@ fn fits(answer: Result<More, MergeFault>, failed: bool) -> bool {
     }
 }
 
-/// Whether a merger that has failed says so at its end, and one that hasn't has all of the answer.
-fn ends(merger: Merger<'_, Formula>, count: i64, failed: bool) -> bool {
+/// Whether a merger that has failed says so at its end, and one that hasn't has all of the answer. Of that the first numbers were
+/// delivered in any case.
+fn ends(merger: Merger<'_, Formula>, count: Option<i64>, failed: bool) -> bool {
     let is_decided = merger.decided();
     let told = merger.finish();
     if failed {
-        !is_decided && told == Err(MergeFault::Failed)
+        !is_decided && told == Err(MergeFault::Failed) && count.is_some()
     } else {
-        is_decided && told == Ok(Ending::End) && count == 4
+        is_decided && told == Ok(Ending::End) && count == Some(4)
     }
 }
 
@@ -72,12 +49,12 @@ fn are_merged(alloc: Global, merger: Merger<'_, Formula>) -> bool {
         (0, &[1, 2], None),
         (3, &[4], Some(Tail::Ended)),
     ];
-    let mut sink = Counted::new(alloc);
+    let mut sink = Taken::new(alloc, usize::MAX);
     let mut merger = merger;
     let mut failed = false;
     for (first, items, tail) in offers {
         let Some(offered) = result_of(alloc, first, items, tail) else {
-            return !sink.is_wrong;
+            return counted(&sink.batches).is_some();
         };
         let answer = merger.offer(offered, &mut sink);
         if !fits(answer, failed) {
@@ -85,8 +62,7 @@ fn are_merged(alloc: Global, merger: Merger<'_, Formula>) -> bool {
         }
         failed = answer.is_err();
     }
-    let is_end = ends(merger, sink.count, failed);
-    is_end && !sink.is_wrong
+    ends(merger, counted(&sink.batches), failed)
 }
 
 /// Whether a merger does so that is made at the second attempt where the first is refused.
@@ -124,11 +100,14 @@ fn delivered(alloc: Global, how: How, query: &Query<Formula>, most: u32) -> Resu
     let Ok(mut source) = RangeSource::new(1, u64::from(most)) else {
         return Ok(false);
     };
-    let mut sink = Counted::new(alloc);
+    let mut sink = Taken::new(alloc, usize::MAX);
     match deliver(alloc, how, query, &mut source, &mut sink) {
-        Ok(ending) => Ok(ending == Ending::End && sink.count == i64::from(most) && !sink.is_wrong),
+        Ok(ending) => {
+            let is_all = counted(&sink.batches) == Some(i64::from(most));
+            Ok(ending == Ending::End && is_all)
+        }
         Err(DeliveryFault::Memory | DeliveryFault::Sink(1_000)) => {
-            Err(sink.count < i64::from(most) && !sink.is_wrong)
+            Err(matches!(counted(&sink.batches), Some(count) if count < i64::from(most)))
         }
         Err(_) => Ok(false),
     }

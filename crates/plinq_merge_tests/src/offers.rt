@@ -1,13 +1,12 @@
-//! What tests offer, and to whom.
-ghost use Rattle.std.specs.Prelude.{◌≤◌, ◌^◌, ⊤, Ok, Err, true, IfSome};
+//! What tests offer.
+ghost use Rattle.std.specs.Prelude.{◌≤◌, ◌^◌, Ok, Err, true, IfSome};
 ghost use Rattle.plinq_ops.specs.Tails.{end_of_result};
 
 use plinq_keyed::Tail;
 use plinq_lambda::{ExpandFault, Lambda};
-use plinq_merge::{Merger, Sink};
+use plinq_merge::Merger;
 use plinq_ops::{ChunkResult, FragEnd, MergeOption, Query};
 use std::alloc::Global;
-use std::sync::atomic::{AtomicU64, Ordering};
 
 /// A lambda over letters that leaves each as it is, and expands none.
 #[derive(Clone, Copy)]
@@ -30,34 +29,6 @@ impl Lambda for Same {
 
     fn expand(&self, _: Global, _: char) -> Result<Vec<char>, ExpandFault> {
         Err(ExpandFault::Code(1))
-    }
-}
-
-/// A sink that takes so many batches, refuses the next one with 9, and counts how often it is told that nothing comes.
-#[derive(Drop)]
-pub(crate) struct Counts<'a> {
-    pub(crate) taken: u64,
-    pub(crate) most: u64,
-    pub(crate) rests: &'a AtomicU64,
-}
-
-impl<'a> Sink for Counts<'a> {
-    type Item = i64;
-
-    ghost accepts = { λ _ _ _. ⊤ };
-
-    ghost refuses = { λ _ _ _ _. ⊤ };
-
-    fn batch(&mut self, _: &[i64]) -> Result<(), u32> {
-        if self.taken == self.most {
-            return Err(9);
-        }
-        self.taken = self.taken.wrapping_add(1);
-        Ok(())
-    }
-
-    fn idle(&mut self) {
-        self.rests.fetch_add(1, Ordering::SeqCst);
     }
 }
 

@@ -1,13 +1,6 @@
 //! How the builder says why it refuses a call.
 use plinq_ops::BuildFault;
-use std::alloc::Global;
-
-fn says(alloc: Global, fault: BuildFault, text: &str) -> bool {
-    match format!(in alloc; "{fault}") {
-        Ok(words) => words.as_str() == text,
-        Err(_) => false,
-    }
-}
+use plinq_testing::says;
 
 #[test]
 fn faults_in_words(rt: HostRuntime) {
@@ -18,6 +11,6 @@ fn faults_in_words(rt: HostRuntime) {
         (BuildFault::DegreeOutOfRange, "degree out of range"),
         (BuildFault::Memory, "out of memory"),
     ] {
-        assert!(rt; says(rt.alloc(), fault, text), "{text}");
+        assert!(rt; says(rt.alloc(), &fault, text), "{text}");
     }
 }

@@ -2,11 +2,12 @@
 ghost use Rattle.std.specs.Prelude.{◌≡◌, ◌≤◌, ◌^◌, All, length, IfSome};
 ghost use Rattle.plinq_partition.specs.Partitions.{IsPartitionOf};
 
-use crate::expecting::{Call, answer, gives, has_all, have_all, range_of, says};
+use crate::expecting::{Call, answer, gives, has_all, have_all, range_of};
 use plinq_enumerator::Growth;
 use plinq_keyed::Tail;
 use plinq_partition::{Chunked, Partition, TakeFault};
 use plinq_source::RangeSource;
+use plinq_testing::says;
 use std::alloc::Global;
 use std::sync::Wait;
 

@@ -2,13 +2,13 @@
 //! for at once.
 ghost use Rattle.std.specs.Prelude.{◌≡◌};
 
-use crate::offers::Counts;
 use plinq_lambda::Formula;
 use plinq_merge::{DeliveryFault, Sink, deliver_in_blocks, deliver_sequentially};
 use plinq_ops::{Built, MergeOption, Op, Query};
 use plinq_source::{Ending, RangeSource, Source, Step};
+use plinq_testing::{Counted, Seen, Watched};
 use std::alloc::Global;
-use std::sync::atomic::{AtomicU64, Ordering};
+use std::sync::atomic::Ordering;
 
 fn query_of(alloc: Global, option: MergeOption, op: Op<Formula>) -> Built<Formula> {
     Query::new(alloc).with_merge(option)?.with_op(op)
@@ -47,12 +47,7 @@ fn later_fives(alloc: Global) -> Built<Formula> {
 /// What a source of 1, 2, 3 and so on gives next, once the sink has refused this batch.
 fn next_after(alloc: Global, how: How, query: &Query<Formula>, refused: u64) -> Option<Step<i64>> {
     let mut source = RangeSource::new(1, 200_000).ok()?;
-    let rests = AtomicU64::new(0);
-    let mut sink = Counts {
-        taken: 0,
-        most: refused,
-        rests: &rests,
-    };
+    let mut sink = Counted::refusing(refused);
     match deliver(alloc, how, query, &mut source, &mut sink) {
         Err(DeliveryFault::Sink(9)) => Some(source.next()),
         _ => None,
@@ -92,12 +87,7 @@ fn asks_nothing(alloc: Global, how: How) -> bool {
     let Ok(mut source) = RangeSource::new(1, 200_000) else {
         return false;
     };
-    let rests = AtomicU64::new(0);
-    let mut sink = Counts {
-        taken: 0,
-        most: 0,
-        rests: &rests,
-    };
+    let mut sink = Counted::refusing(0);
     match deliver(alloc, how, &query, &mut source, &mut sink) {
         Ok(Ending::End) => matches!(source.next(), Step::Item(1)),
         _ => false,
@@ -236,14 +226,13 @@ fn rare(alloc: Global) -> Built<Formula> {
 fn count_rests(alloc: Global, how: How, query: Built<Formula>) -> Option<u64> {
     let query = query.ok()?;
     let mut source = RangeSource::new(1, 200_000).ok()?;
-    let rests = AtomicU64::new(0);
-    let mut sink = Counts {
-        taken: 0,
-        most: u64::MAX,
-        rests: &rests,
+    let seen = Seen::new();
+    let mut sink = Watched {
+        sink: Counted::numbers_from(1),
+        seen: &seen,
     };
     match deliver(alloc, how, &query, &mut source, &mut sink) {
-        Ok(Ending::End) => Some(rests.load(Ordering::SeqCst)),
+        Ok(Ending::End) => Some(seen.rests.load(Ordering::SeqCst)),
         _ => None,
     }
 }

@@ -1,8 +1,8 @@
-use crate::expecting::says;
 use plinq_source::{
     ConcatSource, Ending, ListSource, OutOfMemory, RangeSource, RepeatSource, Source, SourceFault,
     Step, TextSource,
 };
+use plinq_testing::says;
 use std::alloc::Global;
 
 /// Whether a source gives all that is expected of it, and three times its ending.

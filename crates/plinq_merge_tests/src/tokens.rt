@@ -1,12 +1,13 @@
 //! Tokens, and offers that they stop.
-use crate::offers::{Counts, merger_of, ordered, result_of};
+use crate::offers::{merger_of, ordered, result_of};
 use plinq_lambda::Formula;
 use plinq_merge::{
     Cancel, CancelAfter, CancelFlag, MergeFault, Merger, NeverCancel, Sink, WithCancellation,
 };
 use plinq_ops::MergeOption;
+use plinq_testing::{Counted, Seen, Watched};
 use std::alloc::Global;
-use std::sync::atomic::{AtomicU64, Ordering};
+use std::sync::atomic::Ordering;
 
 /// Whether a token has told before it is asked, answers so, and has told then.
 fn answers<C: Cancel>(token: &mut C, delivered: u64, wanted: (bool, bool, bool)) -> bool {
@@ -46,15 +47,10 @@ fn delivered(alloc: Global) -> Option<(u64, u64)> {
     let query = ordered(alloc)?;
     let mut merger: Merger<'_, Formula> = merger_of(alloc, &query, MergeOption::NotBuffered)?;
     let offered = result_of(alloc, 0, &[4, 2, 5], None)?;
-    let rests = AtomicU64::new(0);
-    let mut sink = Counts {
-        taken: 0,
-        most: u64::MAX,
-        rests: &rests,
-    };
+    let mut sink = Counted::numbers_from(0);
     let mut token = CancelAfter::new(2);
     match merger.offer_with(offered, &mut token, &mut sink) {
-        Err(MergeFault::Cancelled) if token.told() => Some((merger.delivered(), sink.taken)),
+        Err(MergeFault::Cancelled) if token.told() => Some((merger.delivered(), sink.batches)),
         _ => None,
     }
 }
@@ -66,11 +62,10 @@ fn an_offer_stops_between_its_batches(rt: HostRuntime) {
 
 /// How often a sink is told that nothing comes, which a token may stop.
 fn count_rests() -> u64 {
-    let rests = AtomicU64::new(0);
-    let mut sink = Counts {
-        taken: 0,
-        most: u64::MAX,
-        rests: &rests,
+    let seen = Seen::new();
+    let mut sink = Watched {
+        sink: Counted::numbers_from(0),
+        seen: &seen,
     };
     let mut token = CancelAfter::new(0);
     let mut with = WithCancellation {
@@ -80,7 +75,7 @@ fn count_rests() -> u64 {
         is_stopped: false,
     };
     with.idle();
-    rests.load(Ordering::SeqCst)
+    seen.rests.load(Ordering::SeqCst)
 }
 
 #[test]

@@ -3,35 +3,29 @@ ghost use Rattle.std.specs.Prelude.{All, ◌≡◌, IfSome, length};
 ghost use Rattle.plinq_partition.specs.Partitions.{IsPartitionOf};
 
 use crate::expecting::is_chunk;
-use crossbeam_utils::Backoff;
 use plinq_enumerator::Growth;
 use plinq_partition::{Chunked, Partition, TakeFault};
 use plinq_source::{RangeSource, Source, Step};
+use plinq_testing::waits_for;
 use std::alloc::Global;
 use std::sync::Wait;
-use std::sync::atomic::{AtomicBool, Ordering};
+use std::sync::atomic::{AtomicBool, AtomicU64, Ordering};
 use std::thread;
 use std::thread::Threads;
 
 /// What two threads tell one another, and whether one has waited for too long or was answered otherwise than it should be.
 #[derive(Drop)]
 struct Signals {
-    is_inside: AtomicBool,
-    may_leave: AtomicBool,
+    /// 1 once the first is inside, and once it may leave.
+    is_inside: AtomicU64,
+    may_leave: AtomicU64,
     is_wrong: AtomicBool,
 }
 
 impl Signals {
     /// Waits for a signal, but not for ever.
-    fn wait_for(&self, signal: &AtomicBool) {
-        let backoff = Backoff::new();
-        for _turn in 0..10_000_000 {
-            if signal.load(Ordering::SeqCst) {
-                return;
-            }
-            backoff.snooze();
-        }
-        self.is_wrong.store(true, Ordering::SeqCst);
+    fn wait_for(&self, signal: &AtomicU64) {
+        self.expect(waits_for(signal, 1));
     }
 
     fn expect(&self, is_right: bool) {
@@ -64,7 +58,7 @@ impl<'a> Source for KeepsInside<'a> {
     ghost within = { λ s. (range_walked s.range).within };
 
     fn next(&mut self) -> Step<i64> {
-        self.signals.is_inside.store(true, Ordering::SeqCst);
+        self.signals.is_inside.store(1, Ordering::SeqCst);
         self.signals.wait_for(&self.signals.may_leave);
         self.range.next()
     }
@@ -95,7 +89,7 @@ fn take_or_try<S: Source<Item = i64>, R: Wait>(
             drawn: 1
         })
     ));
-    signals.may_leave.store(true, Ordering::SeqCst);
+    signals.may_leave.store(1, Ordering::SeqCst);
 }
 
 /// Each in a thread of its own.
@@ -159,8 +153,8 @@ fn takes_after_it<S: Source<Item = i64>, R: Threads + Wait + Sync>(
 /// The same of a source that keeps the first inside.
 fn is_told<R: Threads + Wait + Sync>(rt: &R, alloc: Global) -> bool {
     let signals = Signals {
-        is_inside: AtomicBool::new(false),
-        may_leave: AtomicBool::new(false),
+        is_inside: AtomicU64::new(0),
+        may_leave: AtomicU64::new(0),
         is_wrong: AtomicBool::new(false),
     };
     let Some((chunked, mut partitions)) = made(alloc, &signals) else {

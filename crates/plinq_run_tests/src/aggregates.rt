@@ -2,13 +2,13 @@ ghost use Rattle.std.specs.Prelude.{refl};
 ghost use Rattle.plinq_aggregate.specs.Numbers.{picking};
 ghost use Rattle.plinq_aggregate.specs.Lawful.{picking-lawful};
 
-use crate::testing::{OPTIONS, WORKERS, query_of};
 use plinq_aggregate::Aggregator;
 use plinq_enumerator::Growth;
 use plinq_lambda::Formula;
 use plinq_ops::{MergeOption, Op};
 use plinq_run::{OpenGate, aggregate};
 use plinq_source::RangeSource;
+use plinq_testing::{OPTIONS, WORKERS, query_of};
 use std::alloc::Global;
 use std::sync::Wait;
 use std::test::*;

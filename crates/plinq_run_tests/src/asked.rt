@@ -2,13 +2,13 @@
 ghost use Rattle.std.specs.Prelude.{◌≡◌, IfSome};
 ghost use Rattle.plinq_source.specs.declared.source.Source.{Ghosts};
 
-use crate::testing::{Taken, query_of};
 use plinq_enumerator::Growth;
 use plinq_lambda::SharedLambda;
 use plinq_merge::CancelAfter;
 use plinq_ops::{MergeOption, Op, Query, sequential};
 use plinq_run::{Gate, Report, RunFault, run, run_with};
 use plinq_source::{Ending, ListSource, OutOfMemory, RangeSource, Source};
+use plinq_testing::{Taken, query_of};
 use std::alloc::Global;
 use std::sync::Wait;
 use std::thread::Threads;

@@ -4,12 +4,12 @@ ghost use Rattle.std.specs.Prelude.{◌≤◌, ◌<◌};
 
 use crate::aggregates::Last;
 use crate::asked::{Answers, Setting, ask_list, list_of};
-use crate::testing::{OPTIONS, query_of};
 use plinq_enumerator::Growth;
 use plinq_lambda::Formula;
 use plinq_ops::Op;
 use plinq_run::{AggregateFault, Gate, Report, RunFault, aggregate};
 use plinq_source::Ending;
+use plinq_testing::{OPTIONS, query_of};
 use std::alloc::Global;
 use std::hint::spin_loop;
 use std::sync::Wait;

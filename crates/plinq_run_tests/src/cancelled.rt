@@ -1,13 +1,13 @@
 //! What a run has delivered that its token stopped.
 ghost use Rattle.std.specs.Prelude.{◌≡◌, false, ⊤};
 
-use crate::testing::{Taken, WORKERS, built, ordered, waits_for};
 use plinq_enumerator::Growth;
 use plinq_lambda::Formula;
 use plinq_merge::{Cancel, CancelAfter, CancelFlag, Sink};
 use plinq_ops::{MergeOption, Query};
 use plinq_run::{OpenGate, RunFault, run_with};
 use plinq_source::{Ending, RangeSource};
+use plinq_testing::{Counted, Held, Seen, Taken, WORKERS, Watched, built, ordered, waits_for};
 use std::alloc::Global;
 use std::sync::Wait;
 use std::sync::atomic::{AtomicU64, Ordering};
@@ -90,13 +90,12 @@ fn is_stopped_at_once<R: Threads + Wait + Sync>(
     told == CANCELLED && sink.batches.is_empty()
 }
 
-/// A sink that counts batches, and sets a flag when it has taken so many.
+/// A sink of the numbers from 1 on that sets a flag when it has taken so many batches.
 #[derive(Drop)]
 struct Sets<'a> {
     flag: &'a CancelFlag,
     at: u64,
-    taken: u64,
-    last: i64,
+    sink: Counted,
 }
 
 impl<'a> Sink for Sets<'a> {
@@ -107,14 +106,11 @@ impl<'a> Sink for Sets<'a> {
     ghost refuses = { λ _ _ _ _. ⊤ };
 
     fn batch(&mut self, items: &[i64]) -> Result<(), u32> {
-        self.taken = self.taken.wrapping_add(1);
-        for item in items {
-            self.last = *item;
-        }
-        if self.taken == self.at {
+        let told = self.sink.batch(items);
+        if self.sink.batches == self.at {
             self.flag.cancel();
         }
-        Ok(())
+        told
     }
 }
 
@@ -129,11 +125,11 @@ fn is_stopped_at_the_third<R: Threads + Wait + Sync>(
     let mut sink = Sets {
         flag: &flag,
         at: 2,
-        taken: 0,
-        last: 0,
+        sink: Counted::numbers_from(1),
     };
     let told = told_of(rt, alloc, query, 17, &mut token, &mut sink);
-    told == CANCELLED && sink.taken == 2 && sink.last == 2
+    let sink = sink.sink;
+    told == CANCELLED && sink.batches == 2 && sink.count == 2 && sink.is_in_order
 }
 
 /// How many numbers a run is asked for that another thread stops.
@@ -142,55 +138,33 @@ const MANY: u64 = 10_000;
 /// At which batch that thread sets the flag.
 const STOPPED_AT: u64 = 1_000;
 
-/// A sink that counts batches, and stays with one of them until the flag was set, or for a long time.
-#[derive(Drop)]
-struct Stays<'a> {
-    taken: &'a AtomicU64,
-    /// Whether the flag was set, 1 for yes.
-    set: &'a AtomicU64,
-}
-
-impl<'a> Sink for Stays<'a> {
-    type Item = i64;
-
-    ghost accepts = { λ _ _ _. ⊤ };
-
-    ghost refuses = { λ _ _ _ _. ⊤ };
-
-    fn batch(&mut self, _: &[i64]) -> Result<(), u32> {
-        let before = self.taken.fetch_add(1, Ordering::SeqCst);
-        if before.wrapping_add(1) == STOPPED_AT {
-            waits_for(self.set, 1);
-        }
-        Ok(())
-    }
-}
-
-/// Has another thread set the flag of a run in the middle, and reports whether that was the last batch.
+/// Has another thread set the flag of a run at batch number [`STOPPED_AT`], with which the sink stays until then. Reports whether
+/// that was the last batch.
 fn is_stopped_by_another<R: Threads + Wait + Sync>(
     rt: &R,
     alloc: Global,
     query: &Query<Formula>,
 ) -> bool {
     let flag = CancelFlag::new();
-    let taken = AtomicU64::new(0);
+    let seen = Seen::new();
     let set = AtomicU64::new(0);
     let running = || {
         let mut token = flag.token();
-        let mut sink = Stays {
-            taken: &taken,
-            set: &set,
+        let numbers = Counted::numbers_from(1);
+        let mut sink = Watched {
+            sink: Held::at(STOPPED_AT - 1, &set, 1, numbers),
+            seen: &seen,
         };
         told_of(rt, alloc, query, MANY, &mut token, &mut sink)
     };
     let stopping = || {
-        let has_come = waits_for(&taken, STOPPED_AT);
+        let has_come = waits_for(&seen.came, STOPPED_AT);
         flag.cancel();
         set.store(1, Ordering::SeqCst);
         has_come
     };
     let (told, has_come) = join(rt, running, stopping);
-    told == CANCELLED && has_come && taken.load(Ordering::SeqCst) == STOPPED_AT
+    told == CANCELLED && has_come && seen.came.load(Ordering::SeqCst) == STOPPED_AT
 }
 
 #[test]

@@ -1,12 +1,13 @@
 //! What workers do after a key that ends the run.
 ghost use Rattle.std.specs.Prelude.{Ok, Err, false};
 
-use crate::testing::{Numbers, Taken, built, ending_of, waits_for};
+use crate::asking::{Numbers, ending_of};
 use plinq_enumerator::Growth;
 use plinq_lambda::{ExpandFault, Lambda};
 use plinq_ops::{BuildFault, Query};
 use plinq_run::Gate;
 use plinq_source::Ending;
+use plinq_testing::{Taken, built, waits_for};
 use std::alloc::Global;
 use std::sync::Wait;
 use std::sync::atomic::{AtomicBool, AtomicU64, Ordering};

@@ -2,53 +2,25 @@
 ghost use Rattle.std.specs.Prelude.{◌≡◌, IfSome};
 ghost use Rattle.plinq_source.specs.Walked.{range_given};
 
-use crate::testing::{Taken, query_of};
 use plinq_aggregate::Count;
 use plinq_enumerator::Growth;
 use plinq_lambda::Formula;
 use plinq_ops::{MergeOption, Op, Query};
 use plinq_run::{OpenGate, aggregate, run};
-use plinq_source::{Ending, RangeSource, Source, Step};
+use plinq_source::{Ending, RangeSource};
+use plinq_testing::{Asked, Taken, query_of};
 use std::alloc::Global;
 use std::sync::Wait;
-use std::sync::atomic::{AtomicBool, Ordering};
+use std::sync::atomic::{AtomicU64, Ordering};
 use std::test::*;
 use std::thread::Threads;
 
-/// A range that reports when it is asked.
-#[derive(Drop)]
-struct Watched<'a> {
-    range: RangeSource,
-    asked: &'a AtomicBool,
-}
-
-impl<'a> Source for Watched<'a> {
-    ghost use Rattle.plinq_source.specs.Walked.{range_whole, range_given, range_walked};
-
-    type Item = i64;
-
-    ghost whole = { λ s. range_whole s.range };
-
-    ghost given = { λ s. range_given s.range };
-
-    ghost few = { λ s. (range_walked s.range).few };
-
-    ghost ends = { λ s. (range_walked s.range).ends };
-
-    ghost within = { λ s. (range_walked s.range).within };
-
-    fn next(&mut self) -> Step<i64> {
-        self.asked.store(true, Ordering::SeqCst);
-        self.range.next()
-    }
-}
-
-/// The numbers 0, 1 and 2, watched.
-fn from_zero(asked: &AtomicBool) -> Option<Watched<'_>>
-    ensures { IfSome result (λ s. range_given s.range ≡ 0) }
+/// The numbers 0, 1 and 2.
+fn from_zero(times: &AtomicU64) -> Option<Asked<'_, RangeSource>>
+    ensures { IfSome result (λ s. range_given s.source ≡ 0) }
 {
-    let range = RangeSource::new(0, 3).ok()?;
-    Some(Watched { range, asked })
+    let source = RangeSource::new(0, 3).ok()?;
+    Some(Asked { source, times })
 }
 
 /// Whether a run asks its source, if it gives its query so many elements.
@@ -58,12 +30,12 @@ fn run_asks<R: Threads + Wait + Sync>(
     query: &Query<Formula>,
     count: usize,
 ) -> Option<bool> {
-    let asked = AtomicBool::new(false);
-    let source = from_zero(&asked)?;
+    let times = AtomicU64::new(0);
+    let source = from_zero(&times)?;
     let mut sink = Taken::new(alloc, usize::MAX);
     match run(rt, alloc, query, source, Growth::ONE, &OpenGate, &mut sink) {
         Ok(report) if report.ending == Ending::End && sink.batches.len() == count => {
-            Some(asked.load(Ordering::SeqCst))
+            Some(times.load(Ordering::SeqCst) > 0)
         }
         _ => None,
     }
@@ -76,12 +48,12 @@ fn aggregate_asks<R: Threads + Wait + Sync>(
     query: &Query<Formula>,
     count: u64,
 ) -> Option<bool> {
-    let asked = AtomicBool::new(false);
-    let source = from_zero(&asked)?;
+    let times = AtomicU64::new(0);
+    let source = from_zero(&times)?;
     if aggregate(rt, alloc, query, source, Growth::ONE, &OpenGate, &Count) != Ok(count) {
         return None;
     }
-    Some(asked.load(Ordering::SeqCst))
+    Some(times.load(Ordering::SeqCst) > 0)
 }
 
 /// Whether both ask, where so many are taken.

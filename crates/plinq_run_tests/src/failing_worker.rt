@@ -1,16 +1,17 @@
 //! A worker that has no room for a result while the others sleep: before the lock, before the full queue, or too far ahead.
-ghost use Rattle.std.specs.Prelude.{◌≡◌, IfSome, ⊤};
+ghost use Rattle.std.specs.Prelude.{◌≡◌, IfSome};
 ghost use Rattle.plinq_source.specs.Walked.{range_given};
 ghost use Rattle.plinq_lambda.specs.Formula.{formula_meaning};
 ghost use Rattle.plinq_lambda.specs.Short.{formula_meaning-short};
 
-use crate::testing::{Taken, built, lingers, waits_for};
 use plinq_enumerator::Growth;
 use plinq_lambda::{ExpandFault, Formula, Lambda};
-use plinq_merge::Sink;
 use plinq_ops::{BuildFault, MergeOption, Query};
-use plinq_run::{Gate, RunFault, run};
+use plinq_run::{RunFault, run};
 use plinq_source::{RangeSource, Source, Step};
+use plinq_testing::{
+    Counts, Held, KeepsBack, Passed, Seen, Taken, Watched, built, lingers, unchanged, waits_for,
+};
 use std::alloc::Global;
 use std::sync::Wait;
 use std::sync::atomic::{AtomicBool, AtomicU64, Ordering};
@@ -40,29 +41,23 @@ struct Late {
 /// How far a run has come.
 #[derive(Drop)]
 struct Standing {
-    /// 1 once all keys may pass the gate.
-    is_open: AtomicU64,
-    /// How often a worker was about to take, and how many chunks were taken.
-    about: AtomicU64,
-    taken: AtomicU64,
+    passed: Passed,
+    seen: Seen,
     /// How many chunks were taken when the worker failed.
     taken_by_then: AtomicU64,
     /// 1 once the worker has failed.
     failed: AtomicU64,
-    is_first_held: bool,
-    /// Whether somebody has waited for too long.
+    /// Whether the worker or the source has waited for too long.
     gave_up: AtomicBool,
 }
 
 impl Standing {
-    fn of(late: Late) -> Standing {
+    fn new() -> Standing {
         Standing {
-            is_open: AtomicU64::new(u64::from(!late.is_held)),
-            about: AtomicU64::new(0),
-            taken: AtomicU64::new(0),
+            passed: Passed::new(),
+            seen: Seen::new(),
             taken_by_then: AtomicU64::new(0),
             failed: AtomicU64::new(0),
-            is_first_held: late.is_first_held,
             gave_up: AtomicBool::new(false),
         }
     }
@@ -73,30 +68,26 @@ impl Standing {
         }
     }
 
-    /// Waits until the worker has failed, and until the threads that wait because of it sleep.
-    fn awaits_failure(&self) {
-        self.awaits(&self.failed, 1);
-        lingers();
-    }
-}
-
-/// A gate that counts, and holds all keys but the first back until they may pass, and that one where it is to be held.
-#[derive(Drop)]
-struct Counts<'a> {
-    standing: &'a Standing,
-}
-
-impl<'a> Gate for Counts<'a> {
-    fn before_take(&self, _: u64) {
-        self.standing.about.fetch_add(1, Ordering::SeqCst);
+    /// A gate that holds all keys but the first back until the sink has a batch, if that is to be held. Where key 0 is to be held,
+    /// it holds that alone until the worker has failed.
+    fn gate(&self, late: Late) -> Counts<'_, KeepsBack<'_>> {
+        let gate = if late.is_first_held {
+            KeepsBack::at(0, &self.failed, 1)
+        } else {
+            KeepsBack::all_but_first(&self.seen.came, u64::from(late.is_held))
+        };
+        Counts {
+            passed: &self.passed,
+            gate,
+        }
     }
 
-    fn after_chunk(&self, _: u64, first: u64) {
-        self.standing.taken.fetch_add(1, Ordering::SeqCst);
-        if first > 0 {
-            self.standing.awaits(&self.standing.is_open, 1);
-        } else if self.standing.is_first_held {
-            self.standing.awaits_failure();
+    /// A sink that is held with its first batch until the worker has failed, where it is to be.
+    fn sink(&self, alloc: Global, late: Late) -> Watched<'_, Held<'_, Taken<i64>>> {
+        let number = if late.is_held { 0 } else { u64::MAX };
+        Watched {
+            sink: Held::at(number, &self.failed, 1, Taken::new(alloc, usize::MAX)),
+            seen: &self.seen,
         }
     }
 }
@@ -129,10 +120,10 @@ impl<'a> Lambda for NoRoomForOne<'a> {
             return Ok(items);
         }
         let standing = self.standing;
-        standing.awaits(&standing.about, self.late.about);
-        standing.awaits(&standing.taken, self.late.taken);
+        standing.awaits(&standing.passed.about, self.late.about);
+        standing.awaits(&standing.passed.taken, self.late.taken);
         lingers();
-        let taken = standing.taken.load(Ordering::SeqCst);
+        let taken = standing.passed.taken.load(Ordering::SeqCst);
         standing.taken_by_then.store(taken, Ordering::SeqCst);
         standing.failed.store(1, Ordering::SeqCst);
         Err(ExpandFault::Memory)
@@ -166,34 +157,11 @@ impl<'a> Source for Slow<'a> {
         let step = self.range.next();
         if let Step::Item(number) = step {
             if number == self.slow {
-                self.standing.awaits_failure();
+                self.standing.awaits(&self.standing.failed, 1);
+                lingers();
             }
         }
         step
-    }
-}
-
-/// A sink that is held with its first batch, where it is to be.
-#[derive(Drop)]
-struct Held<'a> {
-    is_held: bool,
-    taken: Taken,
-    standing: &'a Standing,
-}
-
-impl<'a> Sink for Held<'a> {
-    type Item = i64;
-
-    ghost accepts = { λ _ _ _. ⊤ };
-
-    ghost refuses = { λ _ _ _ _. ⊤ };
-
-    fn batch(&mut self, items: &[i64]) -> Result<(), u32> {
-        if self.is_held {
-            self.standing.is_open.store(1, Ordering::SeqCst);
-            self.standing.awaits_failure();
-        }
-        self.taken.batch(items)
     }
 }
 
@@ -219,14 +187,12 @@ fn expanding(
     late: Late,
     standing: &Standing,
 ) -> Result<Query<NoRoomForOne<'_>>, BuildFault> {
-    let query = Query::new(alloc);
-    let query = if late.is_by_key {
-        built(query.as_ordered())?
-    } else {
-        query
-    };
-    let query = built(query.with_merge(MergeOption::NotBuffered))?;
-    let query = built(query.with_degree(late.workers))?;
+    let query = unchanged(
+        alloc,
+        late.is_by_key,
+        MergeOption::NotBuffered,
+        late.workers,
+    )?;
     built(query.select_many(NoRoomForOne { late, standing }))
 }
 
@@ -252,17 +218,13 @@ fn delivered<R: Threads + Wait + Sync>(
     standing: &Standing,
 ) -> Option<Vec<Vec<i64>>> {
     let source = from_zero(late, standing)?;
-    let gate = Counts { standing };
-    let mut sink = Held {
-        is_held: late.is_held,
-        taken: Taken::new(alloc, usize::MAX),
-        standing,
-    };
+    let gate = standing.gate(late);
+    let mut sink = standing.sink(alloc, late);
     let query = expanding(alloc, late, standing).ok()?;
     match run(rt, alloc, &query, source, Growth::ONE, &gate, &mut sink) {
-        Err(RunFault::Memory) => {
-            let Held { taken, .. } = sink;
-            Some(taken.batches)
+        Err(RunFault::Memory) if !sink.sink.gave_up && !gate.gate.gave_up() => {
+            let Held { sink, .. } = sink.sink;
+            Some(sink.batches)
         }
         _ => None,
     }
@@ -276,7 +238,7 @@ fn ends<R: Threads + Wait + Sync>(
     most_taken: u64,
     most_batches: i64,
 ) -> bool {
-    let standing = Standing::of(late);
+    let standing = Standing::new();
     let Some(batches) = delivered(rt, alloc, late, &standing) else {
         return false;
     };

@@ -1,15 +1,7 @@
 //! How a run says why it gives no report.
 use plinq_run::{AggregateFault, RunFault};
 use plinq_source::Ending;
-use std::alloc::Global;
-use std::fmt::Display;
-
-fn says<T: Display>(alloc: Global, fault: &T, text: &str) -> bool {
-    match format!(in alloc; "{fault}") {
-        Ok(words) => words.as_str() == text,
-        Err(_) => false,
-    }
-}
+use plinq_testing::says;
 
 #[test]
 fn faults_of_a_run_in_words(rt: HostRuntime) {

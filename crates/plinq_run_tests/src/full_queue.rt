@@ -1,101 +1,40 @@
 //! More results than the queue has room for.
-ghost use Rattle.std.specs.Prelude.{⊤};
-
-use crate::testing::{Numbers, ending_of, ordered, waits_for};
+use crate::asking::{Numbers, ending_of};
 use plinq_enumerator::Growth;
 use plinq_lambda::Formula;
-use plinq_merge::Sink;
 use plinq_ops::MergeOption;
-use plinq_run::Gate;
 use plinq_source::Ending;
+use plinq_testing::{Counted, Counts, Held, KeepsBack, Passed, Seen, Watched, ordered};
 use std::alloc::Global;
 use std::sync::Wait;
-use std::sync::atomic::{AtomicU64, Ordering};
 use std::test::*;
 use std::thread::Threads;
 
-/// Where the run stands: 1 once the sink has its first batch, and how many chunks were taken.
-#[derive(Drop)]
-struct Standing {
-    is_held: AtomicU64,
-    taken: AtomicU64,
-}
-
-/// A gate at which all keys but the first wait for the sink's first batch.
-#[derive(Drop)]
-struct Counts<'a> {
-    standing: &'a Standing,
-}
-
-impl<'a> Gate for Counts<'a> {
-    fn before_take(&self, _: u64) {}
-
-    fn after_chunk(&self, _: u64, first: u64) {
-        self.standing.taken.fetch_add(1, Ordering::SeqCst);
-        if first > 0 {
-            waits_for(&self.standing.is_held, 1);
-        }
-    }
-}
-
-/// A sink that is held with its first batch until so many chunks were taken. The numbers from 0 on are to come.
-#[derive(Drop)]
-struct Held<'a> {
-    standing: &'a Standing,
-    chunks: u64,
-    gave_up: bool,
-    next: i64,
-    is_wrong: bool,
-}
-
-impl<'a> Sink for Held<'a> {
-    type Item = i64;
-
-    ghost accepts = { λ _ _ _. ⊤ };
-
-    ghost refuses = { λ _ _ _ _. ⊤ };
-
-    fn batch(&mut self, items: &[i64]) -> Result<(), u32> {
-        self.standing.is_held.store(1, Ordering::SeqCst);
-        if !waits_for(&self.standing.taken, self.chunks) {
-            self.gave_up = true;
-        }
-        for item in items {
-            if *item != self.next {
-                self.is_wrong = true;
-            }
-            self.next = item.wrapping_add(1);
-        }
-        Ok(())
-    }
-}
-
-/// Whether all numbers come, in order, to a sink that is held until the queue is full of the results after its batch, and each
-/// worker has taken one chunk more.
+/// Whether all numbers come, in order, to a sink that is held with its first batch. All keys but the first wait for that batch. It
+/// is let go once the queue is full and each worker has taken one chunk more.
 fn all_come<R: Threads + Wait + Sync>(rt: &R, alloc: Global, workers: u64, growth: Growth) -> bool {
-    let standing = Standing {
-        is_held: AtomicU64::new(0),
-        taken: AtomicU64::new(0),
-    };
+    let (passed, seen) = (Passed::new(), Seen::new());
     let gate = Counts {
-        standing: &standing,
+        passed: &passed,
+        gate: KeepsBack::all_but_first(&seen.came, 1),
     };
-    let mut sink = Held {
-        standing: &standing,
-        chunks: workers.wrapping_add(257),
-        gave_up: false,
-        next: 0,
-        is_wrong: false,
+    let numbers = Counted::numbers_from(0);
+    let mut sink = Watched {
+        sink: Held::at(0, &passed.taken, workers.wrapping_add(257), numbers),
+        seen: &seen,
     };
     let query = ordered::<Formula>(alloc, MergeOption::NotBuffered, workers);
     let numbers = Numbers {
         growth,
         ..Numbers::below(2_000)
     };
-    ending_of(rt, alloc, query, numbers, &gate, &mut sink) == Ok(Ending::End)
-        && !sink.gave_up
-        && !sink.is_wrong
-        && sink.next == 2_000
+    let told = ending_of(rt, alloc, query, numbers, &gate, &mut sink);
+    let held = &sink.sink;
+    told == Ok(Ending::End)
+        && !held.gave_up
+        && !gate.gate.gave_up()
+        && held.sink.is_in_order
+        && held.sink.count == 2_000
 }
 
 #[test]

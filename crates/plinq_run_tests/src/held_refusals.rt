@@ -1,13 +1,12 @@
 //! A sink that refuses a batch while workers are held at one of their stations.
-ghost use Rattle.std.specs.Prelude.{⊤};
 ghost use Rattle.plinq_lambda.specs.Formula.{formula_meaning};
 ghost use Rattle.plinq_lambda.specs.Short.{formula_meaning-short};
 
-use crate::testing::{Numbers, Taken, WORKERS, ending_of, query_of, waits_for};
+use crate::asking::{Numbers, ending_of};
 use plinq_lambda::{ExpandFault, Formula, Lambda};
-use plinq_merge::Sink;
 use plinq_ops::{MergeOption, Op};
 use plinq_run::{Gate, RunFault};
+use plinq_testing::{Seen, Taken, WORKERS, Watched, query_of, waits_for};
 use std::alloc::Global;
 use std::sync::Wait;
 use std::sync::atomic::{AtomicBool, AtomicU64, Ordering};
@@ -29,14 +28,14 @@ struct Holds {
     /// The number of the refused batch, which is that of its element.
     refused: u64,
     about: AtomicU64,
-    has_refused: AtomicU64,
+    seen: Seen,
     gave_up: AtomicBool,
 }
 
 impl Holds {
     fn hold(&self, station: Station, number: u64) {
         let is_held = self.station == station && number > self.refused;
-        if is_held && !waits_for(&self.has_refused, 1) {
+        if is_held && !waits_for(&self.seen.refused, 1) {
             self.gave_up.store(true, Ordering::SeqCst);
         }
     }
@@ -81,29 +80,6 @@ impl<'a> Lambda for Sending<'a> {
     }
 }
 
-/// A sink that says when it has refused.
-#[derive(Drop)]
-struct Refusing<'a> {
-    taken: Taken,
-    holds: &'a Holds,
-}
-
-impl<'a> Sink for Refusing<'a> {
-    type Item = i64;
-
-    ghost accepts = { λ _ _ _. ⊤ };
-
-    ghost refuses = { λ _ _ _ _. ⊤ };
-
-    fn batch(&mut self, items: &[i64]) -> Result<(), u32> {
-        let answer = self.taken.batch(items);
-        if answer.is_err() {
-            self.holds.has_refused.store(1, Ordering::SeqCst);
-        }
-        answer
-    }
-}
-
 /// Whether these batches are the numbers from 0 on, each alone.
 fn are_first(batches: &[Vec<i64>]) -> bool {
     let mut next = 0i64;
@@ -128,7 +104,7 @@ fn ends<R: Threads + Wait + Sync>(
         station,
         refused,
         about: AtomicU64::new(0),
-        has_refused: AtomicU64::new(0),
+        seen: Seen::new(),
         gave_up: AtomicBool::new(false),
     };
     let sending = Sending {
@@ -141,15 +117,15 @@ fn ends<R: Threads + Wait + Sync>(
         MergeOption::NotBuffered,
         workers,
     );
-    let mut sink = Refusing {
-        taken: Taken::new(alloc, refused as usize),
-        holds: &holds,
+    let mut sink = Watched {
+        sink: Taken::new(alloc, refused as usize),
+        seen: &holds.seen,
     };
     let told = ending_of(rt, alloc, query, Numbers::below(100), &holds, &mut sink);
     told == Err(RunFault::Sink(9))
         && !holds.gave_up.load(Ordering::SeqCst)
-        && sink.taken.batches.len() as u64 == refused
-        && are_first(&sink.taken.batches)
+        && sink.sink.batches.len() as u64 == refused
+        && are_first(&sink.sink.batches)
 }
 
 #[test]

@@ -1,12 +1,13 @@
 //! How many items workers send ahead of what is merged, where each element is expanded to many.
 ghost use Rattle.std.specs.Prelude.{⊤};
 
-use crate::testing::{Numbers, built, ending_of, lingers, waits_for};
+use crate::asking::{Numbers, ending_of};
 use plinq_lambda::Formula;
 use plinq_merge::Sink;
 use plinq_ops::{BuildFault, MergeOption, Query};
-use plinq_run::Gate;
+use plinq_run::OpenGate;
 use plinq_source::Ending;
+use plinq_testing::{Counted, Counts, Passed, built, lingers, unchanged, waits_for};
 use std::alloc::Global;
 use std::sync::Wait;
 use std::sync::atomic::{AtomicU64, Ordering};
@@ -16,38 +17,21 @@ use std::thread::Threads;
 /// How many numbers from 0 on there are, and what each is expanded to.
 const NUMBERS: u64 = 200;
 
-const COPIES: i64 = 10_000;
+const COPIES: u64 = 10_000;
 
 const ITEMS: i64 = 2_000_000;
 
 /// The items of the answer added up: 10,000 times 0 to 199.
 const SUM: i64 = 199_000_000;
 
-/// A gate that counts the chunks that were taken.
-#[derive(Drop)]
-struct Counts<'a> {
-    taken: &'a AtomicU64,
-}
-
-impl<'a> Gate for Counts<'a> {
-    fn before_take(&self, _: u64) {}
-
-    fn after_chunk(&self, _: u64, _: u64) {
-        self.taken.fetch_add(1, Ordering::SeqCst);
-    }
-}
-
-/// A sink that is held with its first batch until each worker has taken, and then for as long as chunks are taken. It counts
-/// and adds up what comes.
+/// A sink that is held with its first batch until each worker has taken, and then for as long as chunks are taken.
 #[derive(Drop)]
 struct Held<'a> {
     taken: &'a AtomicU64,
     workers: u64,
     /// How many chunks were taken when the first batch was let go; 0 before.
     taken_by_then: u64,
-    count: i64,
-    sum: i64,
-    is_in_order: bool,
+    sink: Counted,
 }
 
 impl<'a> Held<'a> {
@@ -66,7 +50,8 @@ impl<'a> Held<'a> {
     }
 
     fn has_all(&self, by_key: bool) -> bool {
-        self.count == ITEMS && self.sum == SUM && (self.is_in_order || !by_key)
+        let sink = &self.sink;
+        sink.count == ITEMS && sink.sum == SUM && (sink.is_in_order || !by_key)
     }
 
     /// Each worker takes once, and again where its own result is among the first whose items are 3,971 for each worker at most:
@@ -86,44 +71,31 @@ impl<'a> Sink for Held<'a> {
     ghost refuses = { λ _ _ _ _. ⊤ };
 
     fn batch(&mut self, items: &[i64]) -> Result<(), u32> {
-        if self.count == 0 {
+        if self.sink.batches == 0 {
             self.hold();
         }
-        for item in items {
-            if *item != self.count / COPIES {
-                self.is_in_order = false;
-            }
-            self.count = self.count.wrapping_add(1);
-            self.sum = self.sum.wrapping_add(*item);
-        }
-        Ok(())
+        self.sink.batch(items)
     }
 }
 
 /// A query that expands each number, by key or by arrival.
 fn expanding(alloc: Global, workers: u64, by_key: bool) -> Result<Query<Formula>, BuildFault> {
-    let query = Query::new(alloc);
-    let query = if by_key {
-        built(query.as_ordered())?
-    } else {
-        query
-    };
-    let query = built(query.with_merge(MergeOption::AutoBuffered))?;
-    let query = built(query.with_degree(workers))?;
-    built(query.select_many(Formula::Repeat(COPIES)))
+    let query = unchanged(alloc, by_key, MergeOption::AutoBuffered, workers)?;
+    built(query.select_many(Formula::Repeat(COPIES as i64)))
 }
 
 /// Whether few chunks are taken while the sink is held, and all items come.
 fn are_few<R: Threads + Wait + Sync>(rt: &R, alloc: Global, workers: u64, by_key: bool) -> bool {
-    let taken = AtomicU64::new(0);
-    let gate = Counts { taken: &taken };
+    let passed = Passed::new();
+    let gate = Counts {
+        passed: &passed,
+        gate: OpenGate,
+    };
     let mut sink = Held {
-        taken: &taken,
+        taken: &passed.taken,
         workers,
         taken_by_then: 0,
-        count: 0,
-        sum: 0,
-        is_in_order: true,
+        sink: Counted::copies(COPIES),
     };
     let query = expanding(alloc, workers, by_key);
     let told = ending_of(rt, alloc, query, Numbers::below(NUMBERS), &gate, &mut sink);

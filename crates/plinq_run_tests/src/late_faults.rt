@@ -3,11 +3,11 @@ ghost use Rattle.plinq_lambda.specs.Formula.{formula_meaning};
 ghost use Rattle.plinq_lambda.specs.Short.{formula_meaning-short};
 
 use crate::asked::{Setting, ask_list};
-use crate::testing::KeepsBack;
 use plinq_enumerator::Growth;
 use plinq_lambda::{ExpandFault, Formula, Lambda};
 use plinq_ops::Op;
 use plinq_source::Ending;
+use plinq_testing::KeepsBack;
 use std::alloc::Global;
 use std::sync::Wait;
 use std::sync::atomic::{AtomicU64, Ordering};

@@ -5,13 +5,16 @@
 //! run delivers that was stopped, in which a worker fails, or for which there is no room.
 //!
 //! They stand in a crate of their own, since a crate with tests is proved twice, and in one, since each costs the reading of the
-//! libraries below it. What they share is `testing`, and `asked`, one query that threads and one thread answer.
+//! libraries below it. `plinq_testing` has what they share with other tests, `asking` a run over numbers, `asked` one query that
+//! threads and one thread answer.
 #![tactic(auto)]
 
 #[cfg(test)]
 mod aggregates;
 #[cfg(test)]
 mod asked;
+#[cfg(test)]
+mod asking;
 #[cfg(test)]
 mod by_chance;
 #[cfg(test)]
@@ -50,8 +53,6 @@ mod refused_room;
 mod side_by_side;
 #[cfg(test)]
 mod streams;
-#[cfg(test)]
-mod testing;
 #[cfg(test)]
 mod unordered;
 #[cfg(test)]

@@ -2,13 +2,14 @@
 ghost use Rattle.std.specs.Prelude.{Ok, true, []};
 ghost use Rattle.std.proofs.Common.{arith};
 
-use crate::testing::{Numbers, Taken, WORKERS, built, ending_of, ordered};
+use crate::asking::{Numbers, ending_of};
 use plinq_aggregate::Sum;
 use plinq_enumerator::Growth;
 use plinq_lambda::{ExpandFault, Lambda};
 use plinq_ops::{BuildFault, MergeOption, Query};
 use plinq_run::{AggregateFault, OpenGate, RunFault, aggregate};
 use plinq_source::RangeSource;
+use plinq_testing::{Taken, WORKERS, built, ordered};
 use std::alloc::Global;
 use std::sync::Wait;
 use std::test::*;

@@ -1,12 +1,12 @@
 //! What is reported to a gate.
 use crate::asked::{Setting, ask_range};
-use crate::testing::{WORKERS, built};
 use plinq_aggregate::Sum;
 use plinq_enumerator::Growth;
 use plinq_lambda::Formula;
 use plinq_ops::{BuildFault, MergeOption, Op, Query};
 use plinq_run::{Gate, aggregate};
 use plinq_source::RangeSource;
+use plinq_testing::{WORKERS, built, unchanged};
 use std::alloc::{AllocError, Global};
 use std::sync::Wait;
 use std::sync::atomic::{AtomicBool, AtomicU64, Ordering};
@@ -125,13 +125,7 @@ fn evens(
     is_by_key: bool,
     is_cut: bool,
 ) -> Result<Query<Formula>, BuildFault> {
-    let query = Query::new(alloc);
-    let query = if is_by_key {
-        built(query.as_ordered())?
-    } else {
-        query
-    };
-    let query = built(query.with_degree(workers))?;
+    let query = unchanged(alloc, is_by_key, MergeOption::Default, workers)?;
     let query = built(query.filter(Formula::Even))?;
     if is_cut {
         built(query.take(1_000))

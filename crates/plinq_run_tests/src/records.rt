@@ -1,12 +1,12 @@
 //! What a run reports of the requests to its source.
 use crate::asked::{Answers, Setting, ask_list, ask_range};
-use crate::testing::WORKERS;
 use plinq_enumerator::{Growth, replays};
 use plinq_keyed::{Event, Record};
 use plinq_lambda::Formula;
 use plinq_ops::{MergeOption, Op};
 use plinq_run::OpenGate;
 use plinq_source::Ending;
+use plinq_testing::WORKERS;
 use std::alloc::Global;
 use std::sync::Wait;
 use std::test::*;

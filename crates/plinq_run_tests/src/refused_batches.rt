@@ -1,10 +1,10 @@
 //! A run whose sink refuses a batch.
 use crate::asked::{Setting, ask_range};
-use crate::testing::{OPTIONS, WORKERS};
 use plinq_enumerator::Growth;
 use plinq_lambda::Formula;
 use plinq_ops::Op;
 use plinq_run::OpenGate;
+use plinq_testing::{OPTIONS, WORKERS};
 use std::alloc::Global;
 use std::sync::Wait;
 use std::test::*;

@@ -1,51 +1,15 @@
 //! Runs and aggregates that are refused an allocation, and the same once more. Each test is run with each allocation failing
 //! in turn.
-ghost use Rattle.std.specs.Prelude.{⊤};
-
-use crate::testing::built;
 use plinq_aggregate::Sum;
 use plinq_enumerator::Growth;
 use plinq_lambda::Formula;
-use plinq_merge::Sink;
 use plinq_ops::{BuildFault, MergeOption, Query};
 use plinq_run::{AggregateFault, OpenGate, RunFault, aggregate, run};
 use plinq_source::{Ending, RangeSource};
+use plinq_testing::{Counted, built, unchanged};
 use std::alloc::Global;
 use std::sync::Wait;
 use std::thread::Threads;
-
-/// A sink that wants the numbers from 1 on, by key in their order, and takes no memory.
-#[derive(Drop)]
-struct Counted {
-    is_by_key: bool,
-    /// How many items a batch has at most.
-    most: usize,
-    count: i64,
-    sum: i64,
-    is_wrong: bool,
-}
-
-impl Sink for Counted {
-    type Item = i64;
-
-    ghost accepts = { λ _ _ _. ⊤ };
-
-    ghost refuses = { λ _ _ _ _. ⊤ };
-
-    fn batch(&mut self, items: &[i64]) -> Result<(), u32> {
-        if items.is_empty() || items.len() > self.most {
-            self.is_wrong = true;
-        }
-        for item in items {
-            self.count = self.count.wrapping_add(1);
-            self.sum = self.sum.wrapping_add(*item);
-            if self.is_by_key && *item != self.count {
-                self.is_wrong = true;
-            }
-        }
-        Ok(())
-    }
-}
 
 /// How a query is asked.
 #[derive(Clone, Copy)]
@@ -64,18 +28,17 @@ impl Asked {
             MergeOption::FullyBuffered => 17,
         }
     }
+
+    /// Whether a sink may have taken such batches, by key of the first numbers from 1 on.
+    fn allows(&self, sink: &Counted) -> bool {
+        let is_in_order = sink.is_in_order || !self.is_by_key;
+        is_in_order && 1 <= sink.fewest && sink.most <= self.most() && sink.count <= 17
+    }
 }
 
 /// The numbers from 1 to 17 as they are.
 fn numbers(alloc: Global, asked: Asked) -> Result<Query<Formula>, BuildFault> {
-    let query = Query::new(alloc);
-    let query = if asked.is_by_key {
-        built(query.as_ordered())?
-    } else {
-        query
-    };
-    let query = built(query.with_merge(asked.option))?;
-    let query = built(query.with_degree(asked.workers))?;
+    let query = unchanged(alloc, asked.is_by_key, asked.option, asked.workers)?;
     built(query.select(Formula::Add(0)))
 }
 
@@ -88,15 +51,9 @@ fn is_refused<R: Threads + Wait + Sync>(
     asked: Asked,
 ) -> Option<bool> {
     let source = RangeSource::new(1, 17).ok()?;
-    let mut sink = Counted {
-        is_by_key: asked.is_by_key,
-        most: asked.most(),
-        count: 0,
-        sum: 0,
-        is_wrong: false,
-    };
+    let mut sink = Counted::numbers_from(1);
     let told = run(rt, alloc, query, source, Growth::ONE, &OpenGate, &mut sink);
-    if sink.is_wrong || sink.count > 17 {
+    if !asked.allows(&sink) {
         return None;
     }
     match told {

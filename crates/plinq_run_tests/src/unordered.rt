@@ -1,11 +1,11 @@
 //! What a run that doesn't keep the order reports of the requests to its source, and delivers.
 use crate::asked::list_of;
-use crate::testing::{Taken, WORKERS, built};
 use plinq_enumerator::{Growth, replays};
 use plinq_lambda::Formula;
 use plinq_ops::{BuildFault, MergeOption, Query};
 use plinq_run::{OpenGate, run};
 use plinq_source::Ending;
+use plinq_testing::{Taken, WORKERS, built};
 use std::alloc::Global;
 use std::sync::Wait;
 use std::test::*;

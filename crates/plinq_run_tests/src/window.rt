@@ -1,16 +1,14 @@
 //! How far workers run ahead of what is merged.
 use crate::asked::{Setting, ask_range};
-use crate::testing::ordered;
 use plinq_aggregate::Count;
 use plinq_enumerator::Growth;
 use plinq_lambda::Formula;
 use plinq_ops::{MergeOption, Op};
-use plinq_run::{Gate, aggregate};
+use plinq_run::aggregate;
 use plinq_source::RangeSource;
+use plinq_testing::{Counts, HoldsTheFirst, Passed, ordered};
 use std::alloc::Global;
-use std::hint::spin_loop;
 use std::sync::Wait;
-use std::sync::atomic::{AtomicU64, Ordering};
 use std::test::*;
 use std::thread::Threads;
 
@@ -20,62 +18,37 @@ const AHEAD: u64 = 122_880;
 
 const CHUNK: u64 = 512;
 
-/// A gate that holds key 0 back until a worker has taken a later one than it may, or for a long time. It notes the last key
-/// with which a chunk that was taken by then begins.
-#[derive(Drop)]
-struct HoldsTheFirst {
-    most: u64,
-    last: AtomicU64,
-    last_by_then: AtomicU64,
+/// How many keys so many workers may be ahead, each of which may take a chunk more.
+fn most_ahead(workers: u64) -> u64 {
+    workers.saturating_mul(AHEAD.saturating_add(CHUNK))
 }
 
-impl HoldsTheFirst {
-    /// For so many workers, each of which may take a chunk more.
-    fn of(workers: u64) -> HoldsTheFirst {
-        HoldsTheFirst {
-            most: workers.saturating_mul(AHEAD.saturating_add(CHUNK)),
-            last: AtomicU64::new(0),
-            last_by_then: AtomicU64::new(0),
-        }
-    }
-
-    /// Whether a worker has taken a later key meanwhile, and none has taken one that is too late.
-    fn is_kept(&self) -> bool {
-        let last = self.last_by_then.load(Ordering::SeqCst);
-        1 <= last && last <= self.most
+/// A gate that holds key 0 back until a worker has taken a later one than it may, or for a long time.
+fn holding_back(passed: &Passed, workers: u64) -> Counts<'_, HoldsTheFirst<'_>> {
+    let too_late = most_ahead(workers).saturating_add(1);
+    Counts {
+        passed,
+        gate: HoldsTheFirst::until(&passed.last, too_late, 5_000_000),
     }
 }
 
-impl Gate for HoldsTheFirst {
-    fn before_take(&self, _: u64) {}
-
-    fn after_chunk(&self, _: u64, first: u64) {
-        if first > 0 {
-            self.last.fetch_max(first, Ordering::SeqCst);
-            return;
-        }
-        // (spinning, since where other threads have work a turn that yields takes long)
-        for _turn in 0..5_000_000 {
-            if self.last.load(Ordering::SeqCst) > self.most {
-                break;
-            }
-            spin_loop();
-        }
-        let last = self.last.load(Ordering::SeqCst);
-        self.last_by_then.store(last, Ordering::SeqCst);
-    }
+/// Whether a worker has taken a later key meanwhile, and none has taken one that is too late.
+fn is_kept(gate: &Counts<'_, HoldsTheFirst<'_>>, workers: u64) -> bool {
+    let last = gate.gate.by_then();
+    1 <= last && last <= most_ahead(workers)
 }
 
 /// Whether workers wait while the first number of a range is held back, of which three even ones are taken.
 fn wait<R: Threads + Wait + Sync>(rt: &R, alloc: Global, workers: u64, growth: Growth) -> bool {
-    let gate = HoldsTheFirst::of(workers);
+    let passed = Passed::new();
+    let gate = holding_back(&passed, workers);
     let setting = Setting {
         growth,
         ..Setting::by(workers)
     };
     let ops = [Op::Filter(Formula::Even), Op::Take(3)];
     match ask_range(rt, alloc, 1_099_511_627_776, &ops, setting, &gate) {
-        Some(answers) => answers.are_one() && gate.is_kept(),
+        Some(answers) => answers.are_one() && is_kept(&gate, workers),
         None => false,
     }
 }
@@ -97,7 +70,8 @@ fn wait_with_a_count<R: Threads + Wait + Sync>(
     growth: Growth,
     count: u64,
 ) -> bool {
-    let gate = HoldsTheFirst::of(workers);
+    let passed = Passed::new();
+    let gate = holding_back(&passed, workers);
     let Ok(source) = RangeSource::new(0, count) else {
         return false;
     };
@@ -105,7 +79,7 @@ fn wait_with_a_count<R: Threads + Wait + Sync>(
         return false;
     };
     let told = aggregate(rt, alloc, &query, source, growth, &gate, &Count);
-    told == Ok(count) && gate.is_kept()
+    told == Ok(count) && is_kept(&gate, workers)
 }
 
 #[test]

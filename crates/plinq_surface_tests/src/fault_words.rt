@@ -3,16 +3,8 @@ use plinq_cli::{DocFault, Failure, InputFault, ServeFault};
 use plinq_lines::WriteFault;
 use plinq_partition::TakeFault;
 use plinq_run::RunFault;
+use plinq_testing::says;
 use std::alloc::Global;
-use std::fmt::Display;
-
-/// Whether a fault's text is this. In one place, since a text costs much to prove.
-fn says<T: Display>(alloc: Global, fault: &T, text: &str) -> bool {
-    match format!(in alloc; "{fault}") {
-        Ok(words) => words.as_str() == text,
-        Err(_) => false,
-    }
-}
 
 #[test]
 fn faults_of_lines_input_and_documents(rt: HostRuntime) {

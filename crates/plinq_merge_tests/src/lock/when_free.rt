@@ -4,6 +4,7 @@ ghost use Rattle.plinq_ticket.specs.Passes.{IsPassOf};
 
 use crate::lock::notes::Notes;
 use crate::lock::{LAST, Way, has_all, lock_of, try_in_vain, visit};
+use plinq_testing::{lingers, waits_for};
 use plinq_ticket::{LockFault, Pass, TicketLock};
 use std::sync::Wait;
 use std::sync::atomic::{AtomicU64, Ordering};
@@ -23,23 +24,6 @@ impl Standing {
             inside: AtomicU64::new(0),
             coming: AtomicU64::new(0),
         }
-    }
-}
-
-/// Waits until a word is at least so much, but not for ever.
-fn wait_for(word: &AtomicU64, least: u64) {
-    for _turn in 0..1_000_000 {
-        if word.load(Ordering::SeqCst) >= least {
-            return;
-        }
-        yield_now();
-    }
-}
-
-/// Waits a while, in which other threads that have nothing to do fall asleep.
-fn linger() {
-    for _turn in 0..2_000 {
-        yield_now();
     }
 }
 
@@ -69,7 +53,7 @@ fn watch(lock: &TicketLock<Notes>, pass: Pass<Notes>, least: u64) -> (Pass<Notes
         }
         yield_now();
     }
-    linger();
+    lingers();
     drawn_now(lock, pass)
 }
 
@@ -110,8 +94,8 @@ fn stay_until_there<R: Wait>(
         Err((pass, _)) => pass,
         Ok(held) => {
             standing.inside.store(1, Ordering::SeqCst);
-            wait_for(&standing.coming, others);
-            linger();
+            waits_for(&standing.coming, others);
+            lingers();
             lock.leave(held)
         }
     }
@@ -128,7 +112,7 @@ fn come<R: Wait>(
     requires { IsPassOf lock.now pass }
     ensures { IsPassOf lock.now result.0 }
 {
-    wait_for(&standing.inside, 1);
+    waits_for(&standing.inside, 1);
     standing.coming.fetch_add(1, Ordering::SeqCst);
     visit(rt, lock, pass, way)
 }

@@ -3,18 +3,18 @@ ghost use Rattle.std.specs.Prelude.{⊤};
 use plinq_merge::Sink;
 use std::alloc::Global;
 
-/// A sink that keeps the batches, and refuses number `refused` with 9.
+/// A sink that keeps its batches, and refuses all from one on with 9. Where there is no room for a batch, it refuses that with 1,000.
 #[derive(Drop)]
-pub(crate) struct Taken {
+pub struct Taken<T: Copy> {
     alloc: Global,
     /// The batches that it has taken, in their order.
-    pub(crate) batches: Vec<Vec<i64>>,
+    pub batches: Vec<Vec<T>>,
     refused: usize,
 }
 
-impl Taken {
-    /// It has no batch yet. (`usize::MAX`: it refuses none.)
-    pub(crate) fn new(alloc: Global, refused: usize) -> Taken {
+impl<T: Copy> Taken<T> {
+    /// It has no batch yet, and takes so many. (`usize::MAX`: it refuses none.)
+    pub fn new(alloc: Global, refused: usize) -> Taken<T> {
         Taken {
             alloc,
             batches: Vec::new(alloc),
@@ -23,14 +23,14 @@ impl Taken {
     }
 }
 
-impl Sink for Taken {
-    type Item = i64;
+impl<T: Copy> Sink for Taken<T> {
+    type Item = T;
 
     ghost accepts = { λ _ _ _. ⊤ };
 
     ghost refuses = { λ _ _ _ _. ⊤ };
 
-    fn batch(&mut self, items: &[i64]) -> Result<(), u32> {
+    fn batch(&mut self, items: &[T]) -> Result<(), u32> {
         if self.batches.len() == self.refused {
             return Err(9);
         }

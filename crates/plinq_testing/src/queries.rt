@@ -3,10 +3,10 @@ use plinq_ops::{BuildFault, Built, MergeOption, Op, Query};
 use std::alloc::Global;
 
 /// How many workers a test asks with: one, some, and the most that there can be.
-pub(crate) const WORKERS: [u64; 3] = [1, 2, 64];
+pub const WORKERS: [u64; 3] = [1, 2, 64];
 
 /// All merge options.
-pub(crate) const OPTIONS: [MergeOption; 4] = [
+pub const OPTIONS: [MergeOption; 4] = [
     MergeOption::Default,
     MergeOption::NotBuffered,
     MergeOption::AutoBuffered,
@@ -14,19 +14,34 @@ pub(crate) const OPTIONS: [MergeOption; 4] = [
 ];
 
 /// What a builder call answered, without the query of one that failed.
-pub(crate) fn built<L: Lambda>(answer: Built<L>) -> Result<Query<L>, BuildFault> {
+pub fn built<L: Lambda>(answer: Built<L>) -> Result<Query<L>, BuildFault> {
     answer.map_err(|(_, fault)| fault)
 }
 
-/// A query that keeps the order, without an operator.
-pub(crate) fn ordered<L: Lambda>(
+/// A query without an operator, by key, which keeps the order, or by arrival.
+pub fn unchanged<L: Lambda>(
+    alloc: Global,
+    is_by_key: bool,
+    option: MergeOption,
+    workers: u64,
+) -> Result<Query<L>, BuildFault> {
+    let query = Query::new(alloc);
+    let query = if is_by_key {
+        built(query.as_ordered())?
+    } else {
+        query
+    };
+    let query = built(query.with_merge(option))?;
+    built(query.with_degree(workers))
+}
+
+/// A query without an operator that keeps the order.
+pub fn ordered<L: Lambda>(
     alloc: Global,
     option: MergeOption,
     workers: u64,
 ) -> Result<Query<L>, BuildFault> {
-    let query = built(Query::new(alloc).as_ordered())?;
-    let query = built(query.with_merge(option))?;
-    built(query.with_degree(workers))
+    unchanged(alloc, true, option, workers)
 }
 
 fn with_all<L: Lambda + Copy>(query: Query<L>, ops: &[Op<L>]) -> Result<Query<L>, BuildFault> {
@@ -38,7 +53,7 @@ fn with_all<L: Lambda + Copy>(query: Query<L>, ops: &[Op<L>]) -> Result<Query<L>
 }
 
 /// A query that keeps the order, with these operators.
-pub(crate) fn query_of<L: Lambda + Copy>(
+pub fn query_of<L: Lambda + Copy>(
     alloc: Global,
     ops: &[Op<L>],
     option: MergeOption,

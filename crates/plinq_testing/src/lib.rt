@@ -1,0 +1,35 @@
+//! What the tests of several crates share, so that none writes it anew. No program and no library stands on it.
+//!
+//! - Sinks: one keeps what it takes ([`Taken`]), one counts numbers without any memory ([`Counted`]). Two stand around another one:
+//!   [`Watched`] shows other threads what came to it ([`Seen`]), [`Held`] is held with one of its batches.
+//! - Gates: [`KeepsBack`] and [`HoldsTheFirst`] keep workers back, and [`Counts`] counts those that go on to another gate ([`Passed`]).
+//! - A source: [`Asked`] counts how often another one is asked.
+//! - Queries ([`unchanged`], [`ordered`], [`query_of`]), ways to wait for other threads ([`waits_for`], [`lingers`]), and the text of
+//!   a fault ([`says`]).
+//!
+//! What one test alone needs stands with that test.
+#![tactic(auto)]
+
+mod asked;
+mod counted;
+mod counts;
+mod held;
+mod holds_the_first;
+mod keeps_back;
+mod queries;
+mod taken;
+mod texts;
+mod waiting;
+mod watched;
+
+pub use asked::Asked;
+pub use counted::Counted;
+pub use counts::{Counts, Passed};
+pub use held::Held;
+pub use holds_the_first::HoldsTheFirst;
+pub use keeps_back::KeepsBack;
+pub use queries::{OPTIONS, WORKERS, built, ordered, query_of, unchanged};
+pub use taken::Taken;
+pub use texts::says;
+pub use waiting::{lingers, waits_for};
+pub use watched::{Seen, Watched};
