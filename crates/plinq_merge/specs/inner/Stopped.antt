@@ -1,5 +1,5 @@
 -- What an offer answers that a token may have stopped.
-use Rattle.std.specs.Prelude.{Bool, true, false, Result, Ok, Err}
+use Rattle.std.specs.Prelude.{Bool, true, false, Result, Err}
 use Rattle.plinq_merge.specs.declared.merge_fault.MergeFault.{MergeFault}
 use Rattle.plinq_merge.specs.declared.merge_fault.MergeFault.TheVariants.{Cancelled}
 use Rattle.plinq_merge.specs.declared.more.More.{More}
