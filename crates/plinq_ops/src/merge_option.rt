@@ -54,7 +54,7 @@ impl MergeOption {
         )
     }
 
-    /// How many elements each batch has but the last, which may have fewer; `None` where the whole answer is one batch.
+    /// How many elements fill a batch; `None` where none does, and an answer that ends well is one batch, if it has any element.
     ///
     /// ```text
     /// MergeOption::AutoBuffered.batch_size()     // Some(16)
