@@ -1,8 +1,8 @@
-ghost use Rattle.std.specs.Prelude.{◌≡◌, map, option_and_then, IfOk, MatchResult};
+ghost use Rattle.std.specs.Prelude.{◌≡◌, false, map, option_and_then, IfOk, MatchResult};
 ghost use Rattle.std.specs.String.{string_bytes};
-ghost use Rattle.clap.specs.Words.{app_of, found_of, kind_of, rows_of, subcommand_rows_of};
+ghost use Rattle.clap.specs.Words.{app_of, found_of, kind_of, rows_of, rule_of, subcommand_rows_of};
 ghost use Rattle.plinq_words.specs.Tables.{beside};
-ghost use Rattle.plinq_arguments.specs.Arguments.{AddsItsShape, IsAsked, IsPlinq, Refuses, arguments_in, cancel_of, command_names, merge_of, run_app, subcommand_app, workers_of};
+ghost use Rattle.plinq_arguments.specs.Arguments.{AddsItsShape, IsAsked, IsPlinq, Refuses, arguments_in, bare_app, cancel_of, cancel_rule, command_names, merge_of, merge_rule, run_app, subcommand_app, with_command, workers_of, workers_rule};
 
 use crate::arguments::Arguments;
 use crate::command::Command;
@@ -80,45 +80,71 @@ pub fn read_arguments(alloc: Global, words: &[String]) -> Result<Arguments, clap
     }
 }
 
+/// The program's command line.
 fn command_line<'a>(alloc: Global) -> Result<clap::Command<'a>, AllocError>
     ensures { IfOk result (λ app. IsPlinq (app_of app)) }
 {
     let merge = ValueParser::from(MERGE_WORDS.as_slice());
+    let with_run = bare_command(alloc).subcommand(run_command(alloc, merge)?)?;
+    let with_seq = with_subcommand(
+        alloc,
+        with_run,
+        "seq",
+        "plinq seq [OPTIONS] < DOCUMENT",
+        "Answers the query on one thread, whatever --workers says",
+        merge,
+    )?;
+    let with_plan = with_subcommand(
+        alloc,
+        with_seq,
+        "plan",
+        "plinq plan [OPTIONS] < DOCUMENT",
+        "Shows how the query is shared among workers",
+        merge,
+    )?;
+    let with_parts = with_subcommand(
+        alloc,
+        with_plan,
+        "parts",
+        "plinq parts [OPTIONS] < DOCUMENT",
+        "Shows the source cut into partitions",
+        merge,
+    )?;
+    with_subcommand(
+        alloc,
+        with_parts,
+        "history",
+        "plinq history [OPTIONS] < DOCUMENT",
+        "Shows the requests of partitions that take from the source in turn",
+        merge,
+    )
+}
+
+/// The program's command line before it has a subcommand.
+fn bare_command<'a>(alloc: Global) -> clap::Command<'a>
+    ensures { app_of result ≡ bare_app }
+{
     clap::Command::new(alloc, "plinq")
         .about("Answers the query of a JSON document, which it reads from standard input")
         .override_usage("plinq <COMMAND> [OPTIONS] < DOCUMENT")
         .after_help(AFTER_HELP)
         .disable_help_subcommand(true)
         .subcommand_required(true)
-        .subcommand(run_command(alloc, merge)?)?
-        .subcommand(subcommand(
-            alloc,
-            "seq",
-            "plinq seq [OPTIONS] < DOCUMENT",
-            "Answers the query on one thread, whatever --workers says",
-            merge,
-        )?)?
-        .subcommand(subcommand(
-            alloc,
-            "plan",
-            "plinq plan [OPTIONS] < DOCUMENT",
-            "Shows how the query is shared among workers",
-            merge,
-        )?)?
-        .subcommand(subcommand(
-            alloc,
-            "parts",
-            "plinq parts [OPTIONS] < DOCUMENT",
-            "Shows the source cut into partitions",
-            merge,
-        )?)?
-        .subcommand(subcommand(
-            alloc,
-            "history",
-            "plinq history [OPTIONS] < DOCUMENT",
-            "Shows the requests of partitions that take from the source in turn",
-            merge,
-        )?)
+}
+
+/// Adds a subcommand that has the two options of the settings.
+fn with_subcommand<'a>(
+    alloc: Global,
+    line: clap::Command<'a>,
+    name: &'a str,
+    usage: &'a str,
+    about: &'a str,
+    merge_words: ValueParser<'a>,
+) -> Result<clap::Command<'a>, AllocError>
+    ensures { IfOk result (λ app. app_of app ≡ with_command (app_of line.entry) (subcommand_app merge_words.entry name.entry.now)) }
+{
+    let sub = subcommand(alloc, name, usage, about, merge_words)?;
+    line.subcommand(sub)
 }
 
 /// The command line of `run`, which alone can be cancelled.
@@ -128,11 +154,6 @@ fn run_command<'a>(
 ) -> Result<clap::Command<'a>, AllocError>
     ensures { IfOk result (λ s. AddsItsShape s × (app_of s ≡ run_app merge_words.entry)) }
 {
-    let cancel_after = Arg::new(alloc, "cancel-after")
-        .long("cancel-after")
-        .value_name("N")
-        .help("Cancels the run once N lines of elements were written")
-        .value_parser(ValueParser::unsigned(0, MOST_BATCHES));
     let run = subcommand(
         alloc,
         "run",
@@ -140,9 +161,10 @@ fn run_command<'a>(
         "Answers the query",
         merge_words,
     )?;
-    run.arg(cancel_after)
+    run.arg(cancel_after_option(alloc))
 }
 
+/// A subcommand that has the two options of the settings.
 fn subcommand<'a>(
     alloc: Global,
     name: &'a str,
@@ -153,22 +175,48 @@ fn subcommand<'a>(
     ensures { IfOk result (λ s. AddsItsShape s
         × (app_of s ≡ subcommand_app merge_words.entry name.entry.now)) }
 {
-    let workers = Arg::new(alloc, "workers")
-        .long("workers")
-        .value_name("N")
-        .help("How many workers, from 1 to 64; 4 where none are given; best as many as cores")
-        .value_parser(ValueParser::unsigned(1, 64));
-    let merge = Arg::new(alloc, "merge")
-        .long("merge")
-        .value_name("OPTION")
-        .help("How results are handed over")
-        .value_parser(merge_words);
     clap::Command::new(alloc, name)
         .override_usage(usage)
         .about(about)
         .after_help(AFTER_COMMAND_HELP)
-        .arg(workers)?
-        .arg(merge)
+        .arg(workers_option(alloc))?
+        .arg(merge_option(alloc, merge_words))
+}
+
+/// `--workers`, which a subcommand has for itself.
+fn workers_option<'a>(alloc: Global) -> Arg<'a>
+    ensures rule { rule_of result ≡ workers_rule }
+    ensures own { result.global ≡ false }
+{
+    Arg::new(alloc, "workers")
+        .long("workers")
+        .value_name("N")
+        .help("How many workers, from 1 to 64; 4 where none are given; best as many as cores")
+        .value_parser(ValueParser::unsigned(1, 64))
+}
+
+/// `--merge`, of which the words are these.
+fn merge_option<'a>(alloc: Global, words: ValueParser<'a>) -> Arg<'a>
+    ensures rule { rule_of result ≡ merge_rule words.entry }
+    ensures own { result.global ≡ false }
+{
+    Arg::new(alloc, "merge")
+        .long("merge")
+        .value_name("OPTION")
+        .help("How results are handed over")
+        .value_parser(words)
+}
+
+/// `--cancel-after`, which `run` alone has.
+fn cancel_after_option<'a>(alloc: Global) -> Arg<'a>
+    ensures rule { rule_of result ≡ cancel_rule }
+    ensures own { result.global ≡ false }
+{
+    Arg::new(alloc, "cancel-after")
+        .long("cancel-after")
+        .value_name("N")
+        .help("Cancels the run once N lines of elements were written")
+        .value_parser(ValueParser::unsigned(0, MOST_BATCHES))
 }
 
 fn chosen(matches: &ArgMatches<'_>) -> Option<Arguments>
