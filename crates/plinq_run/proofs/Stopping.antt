@@ -43,19 +43,19 @@ module _ {K T : Type 0} (accepts : K → List T → K → Type 0) (refuses : K �
   reports-accounts F (Ok r) only h = sym (only (handed_trace t r.records.items) h.answer h.accounts) ∙ only t h.answer h.may
   reports-accounts F (Err f) only h = tt
 
--- what is reported of what a run told holds of what it told
-pub ok-told : (P : Report → Type 0) (told r : Result Report RunFault) → IfOk r (λ report. told ≡ Ok report) → IfOk told P → IfOk r P
-ok-told P told (Ok report) is h = subst (λ t. IfOk t P) is h
-ok-told P told (Err fault) is h = tt
+-- what holds of a run's outcome holds of what is reported of it
+pub ok-outcome : (P : Report → Type 0) (outcome r : Result Report RunFault) → IfOk r (λ report. outcome ≡ Ok report) → IfOk outcome P → IfOk r P
+ok-outcome P outcome (Ok report) is h = subst (λ t. IfOk t P) is h
+ok-outcome P outcome (Err fault) is h = tt
 
 -- of one that ended well
-pub ended-told : (told r : Result Report RunFault) → IfOk r (λ report. told ≡ Ok report) → reported told ≡ Ok End → IfOk r (λ report. report.ending ≡ End)
-ended-told told (Ok report) is ends = let same : Ok report.ending ≡ Ok End = ap reported (sym is) ∙ ends in cc
-ended-told told (Err fault) is ends = tt
+pub ended-outcome : (outcome r : Result Report RunFault) → IfOk r (λ report. outcome ≡ Ok report) → reported outcome ≡ Ok End → IfOk r (λ report. report.ending ≡ End)
+ended-outcome outcome (Ok report) is ends = let same : Ok report.ending ≡ Ok End = ap reported (sym is) ∙ ends in cc
+ended-outcome outcome (Err fault) is ends = tt
 
-pub cancelled-told : (told r : Result Report RunFault) → IfErr r (λ fault. OnOk told (fault ≡ Cancelled)) → reported told ≡ Ok End → IfErr r (λ fault. fault ≡ Cancelled)
-cancelled-told (Ok report) r is ends = is
-cancelled-told (Err fault) r is ends = absurd (let bad : Err fault ≡ Ok End = ends in cc)
+pub cancelled-outcome : (outcome r : Result Report RunFault) → IfErr r (λ fault. OnOk outcome (fault ≡ Cancelled)) → reported outcome ≡ Ok End → IfErr r (λ fault. fault ≡ Cancelled)
+cancelled-outcome (Ok report) r is ends = is
+cancelled-outcome (Err fault) r is ends = absurd (let bad : Err fault ≡ Ok End = ends in cc)
 
 -- it never answers that it was cancelled
 pub reports-never : {K T : Type 0} (accepts : K → List T → K → Type 0) (refuses : K → List T → ℕ → K → Type 0) (option : MergeOption) (May : Trace T → Trace T → Type 0) (t : Trace T) (s s' : K) (r : Result Report RunFault)
@@ -191,10 +191,10 @@ module _ {C K T : Type 0} (asks : C → ℕ → Bool → C → Type 0) (accepts 
     asked-same last r h same = let first = reports-same w w' r h in record { token = same.token ∙ first.token; sink = same.sink ∙ first.sink }
 
     -- by what its token has answered by then, how it has ended, and what the token answers at last
-    pub lent-asked : (stopped : Bool) (told r : Result Report RunFault) (last : WithCancellation C K) → w'.is_stopped ≡ stopped → Lends w w' told → AreSame w' last
-        → IsAskedAtLast asks stopped told w' r last → Reported last r
-    lent-asked true told r last is h same (unchanged, cancelled) =
-        rw (unchanged, cancelled) (lent w' (Err Cancelled) (reports-same w w' told h) (reports-stopped w w' told before is h))
+    pub lent-asked : (stopped : Bool) (outcome r : Result Report RunFault) (last : WithCancellation C K) → w'.is_stopped ≡ stopped → Lends w w' outcome → AreSame w' last
+        → IsAskedAtLast asks stopped outcome w' r last → Reported last r
+    lent-asked true outcome r last is h same (unchanged, cancelled) =
+        rw (unchanged, cancelled) (lent w' (Err Cancelled) (reports-same w w' outcome h) (reports-stopped w w' outcome before is h))
     lent-asked false (Err fault) r last is h same (unchanged, broken) =
         rw (unchanged, broken) (lent w' (Err fault) (reports-same w w' (Err fault) h)
         (broken-with (delivery_of w) (delivery_of w') fault (reports-passed w w' (Err fault) before is h)))

@@ -59,8 +59,8 @@ where
     }
     let mut acc = aggregator.seed(alloc);
     let combiner = Combiner { alloc, aggregator };
-    let told = fold_into(
+    let outcome = fold_into(
         rt, alloc, query, source, growth, gate, aggregator, combiner, &mut acc,
     );
-    value_of(aggregator, acc, told)
+    value_of(aggregator, acc, outcome)
 }

@@ -73,25 +73,25 @@ where
         delivered: 0,
         is_stopped: false,
     };
-    let told = run(rt, alloc, query, source, growth, gate, &mut with);
-    ask_at_last(&mut with, told)
+    let outcome = run(rt, alloc, query, source, growth, gate, &mut with);
+    ask_at_last(&mut with, outcome)
 }
 
-/// What is reported of a run that told so: before an ending the token is asked once more.
+/// What is reported of a run with this outcome: before an ending the token is asked once more.
 fn ask_at_last<C: Cancel, K>(
     with: &mut WithCancellation<'_, C, K>,
-    told: Result<Report, RunFault>,
+    outcome: Result<Report, RunFault>,
 ) -> Result<Report, RunFault>
     ensures same { AreSame with.old with.new }
-    ensures told { IfOk result (λ report. told ≡ Ok report) }
-    ensures cancelled { IfErr result (λ fault. OnOk told (fault ≡ Cancelled)) }
+    ensures reports { IfOk result (λ report. outcome ≡ Ok report) }
+    ensures cancelled { IfErr result (λ fault. OnOk outcome (fault ≡ Cancelled)) }
     ensures sink { with.new.sink.now ≡ with.old.sink.now }
-    ensures asked { IsAskedAtLast C.asks with.old.is_stopped told with.old result with.new }
+    ensures asked { IsAskedAtLast C.asks with.old.is_stopped outcome with.old result with.new }
 {
     if with.is_stopped {
         return Err(RunFault::Cancelled);
     }
-    let report = told?;
+    let report = outcome?;
     if with.stops() {
         return Err(RunFault::Cancelled);
     }

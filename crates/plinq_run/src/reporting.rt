@@ -21,7 +21,7 @@ use plinq_source::Source;
 /// The first of the faults that aren't the merging thread's.
 fn worker_fault(worker_faults: WorkerFaults, worker_count: WorkerCount) -> Option<RunFault>
     ensures first { result ≡ first_reported None worker_faults worker_count }
-    ensures told { IfSome result (λ fault. cause_of fault ≡ Other) }
+    ensures cause { IfSome result (λ fault. cause_of fault ≡ Other) }
     ensures sound { result ≡ None → AreSound worker_faults worker_count }
 {
     if worker_faults.memory {
@@ -43,7 +43,7 @@ pub(crate) fn first_fault(
     worker_count: WorkerCount,
 ) -> Option<RunFault>
     ensures first { result ≡ first_reported fault worker_faults worker_count }
-    ensures told { IfSome result (λ told. cause_of told ≡ cause_in_merge fault) }
+    ensures cause { IfSome result (λ first. cause_of first ≡ cause_in_merge fault) }
     ensures none { result ≡ None → fault ≡ None }
     ensures sound { result ≡ None → AreSound worker_faults worker_count }
 {
@@ -84,7 +84,7 @@ pub(crate) fn finish<W: Taker, S: Source>(
 pub(crate) fn report<S: Source, W: Taker>(conducted: Conducted<S, W>) -> Result<Report, RunFault>
     requires some { 1 ≤ length conducted.ended.partitions.items }
     requires of { All (IsPartitionOf conducted.chunked) conducted.ended.partitions.items }
-    ensures told { IsReportOf (Ok conducted.ended.joined.ending) (reported result) }
+    ensures reports { IsReportOf (Ok conducted.ended.joined.ending) (reported result) }
     ensures legal { IfOk result (λ report. IsLegalHistory (common_origin conducted.ended.partitions.items) report.records.items) }
     ensures records { IfOk result (λ report. report.records.items ≡ in_ticket_order (all_shares conducted.ended.partitions.items)) }
 {

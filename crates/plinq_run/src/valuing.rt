@@ -21,15 +21,15 @@ fn value_at<A: GrowingAggregator>(
     }
 }
 
-/// What is reported of an accumulator of a run that told so.
+/// What is reported of an accumulator of a run with this outcome.
 pub(crate) fn value_of<A: GrowingAggregator>(
     aggregator: &A,
     acc: A::Acc,
-    told: Result<Ending, RunFault>,
+    outcome: Result<Ending, RunFault>,
 ) -> Result<A::Out, AggregateFault>
-    ensures { result ≡ value_of (A.folding aggregator.now) acc told }
+    ensures { result ≡ value_of (A.folding aggregator.now) acc outcome }
 {
-    match told {
+    match outcome {
         Ok(ending) => value_at(aggregator, acc, ending),
         Err(fault) => Err(AggregateFault::Run(fault)),
     }

@@ -18,10 +18,10 @@ pub record ReportsLent {C K T : Type 0} (asks : C → ℕ → Bool → C → Typ
   pub told : has_told w'.token.now ≡ (has_told w.token.now || is_stopped result)
   pub reports : ReportsWith asks accepts refuses option May t (delivery_of w) (delivery_of w') result
 
--- what is reported of a run that told so: that its token stopped it, or why it broke off; before its ending the token is asked
+-- what is reported of a run with this outcome: that its token stopped it, or why it broke off; before its ending the token is asked
 -- once more
 abbrev pub IsAskedAtLast : {C K : Type 0} → (C → ℕ → Bool → C → Type 0) → Bool → Result Report RunFault → WithCancellation C K → Result Report RunFault → WithCancellation C K → Type 0
-IsAskedAtLast asks true told w result w' = (w' ≡ w) × (result ≡ Err Cancelled)
+IsAskedAtLast asks true outcome w result w' = (w' ≡ w) × (result ≡ Err Cancelled)
 IsAskedAtLast asks false (Err fault) w result w' = (w' ≡ w) × (result ≡ Err fault)
 IsAskedAtLast asks false (Ok report) w result w' =
     (answer : Bool) × IsAsked asks answer (delivery_of w) (delivery_of w') × (result ≡ (if answer then Err Cancelled else Ok report))

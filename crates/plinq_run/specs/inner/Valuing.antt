@@ -13,7 +13,7 @@ value_at f acc End = Ok (f.tell acc)
 value_at f acc (Refused code) = Err (Ended (Refused code))
 value_at f acc (Fault code) = Err (Ended (Fault code))
 
--- of a run that told so
+-- of a run with this outcome
 abbrev pub value_of : {T A O : Type 0} → Folding T A O → A → Result Ending RunFault → Result O AggregateFault
 value_of f acc (Ok e) = value_at f acc e
 value_of f acc (Err fault) = Err (Run fault)

@@ -26,7 +26,7 @@ returns-clause-value g c =
     let folding = g.A.GrowingAggregator.folding in
     let f = folding c.args.aggregator.now in
     let d : Combiner _ = record { alloc = c.args.alloc; aggregator = c.args.aggregator } in
-    let told = c.fold_into-told.result in
-    let acc = c.fold_into-told.new.out in
-    let given = subst (λ x. GivesSome f (MadeBy folding) May d x told acc) c.seed-acc.ensures c.fold_into-told.ensures in
-    rw c.value_of.ensures (value-given folding d May acc told given)
+    let outcome = c.fold_into-outcome.result in
+    let acc = c.fold_into-outcome.new.out in
+    let given = subst (λ x. GivesSome f (MadeBy folding) May d x outcome acc) c.seed-acc.ensures c.fold_into-outcome.ensures in
+    rw c.value_of.ensures (value-given folding d May acc outcome given)

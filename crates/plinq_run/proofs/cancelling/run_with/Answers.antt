@@ -1,10 +1,10 @@
 use Rattle.std.proofs.Common.{rules, ◌≡◌, refl}
-use Rattle.plinq_run.proofs.Stopping.{ok-told, ended-told, cancelled-told, lent-asked}
+use Rattle.plinq_run.proofs.Stopping.{ok-outcome, ended-outcome, cancelled-outcome, lent-asked}
 use Rattle.plinq_run.proofs.cancelling.run_with.Goals as goal
 
 pub returns : goal.returns
 returns g c =
-    let run = c.run-told in
+    let run = c.run-outcome in
     let last = c.ask_at_last in
     let lent =
     lent-asked g.C.Cancel.asks g.K.Sink.accepts g.K.Sink.refuses _ _ _ g.C.Cancel.has_told g.met.C.Cancel.keeps_told _ run.new.sink refl
@@ -12,16 +12,16 @@ returns g c =
     let token : c.token-1.given.0 ≡ last.new.with.token.now = search (rules, lent.same) in
     let sink : c.sink-1.given.0 ≡ last.new.with.sink.now = search (rules, lent.same) in
     record {
-      legal = ok-told _ run.result last.result last.ensures.told run.ensures.legal;
+      legal = ok-outcome _ run.result last.result last.ensures.reports run.ensures.legal;
       decided = λ decided.
           let nothing = run.ensures.decided decided in
           record {
-            ended = ended-told run.result last.result last.ensures.told nothing.answered;
-            cancelled = cancelled-told run.result last.result last.ensures.cancelled nothing.answered;
+            ended = ended-outcome run.result last.result last.ensures.reports nothing.answered;
+            cancelled = cancelled-outcome run.result last.result last.ensures.cancelled nothing.answered;
             untouched = search (rules, lent.same, nothing.untouched);
-            none = ok-told _ run.result last.result last.ensures.told nothing.none;
+            none = ok-outcome _ run.result last.result last.ensures.reports nothing.none;
           };
-      closed = λ undecided. ok-told _ run.result last.result last.ensures.told (run.ensures.closed undecided);
+      closed = λ undecided. ok-outcome _ run.result last.result last.ensures.reports (run.ensures.closed undecided);
       told = search (rules, lent.same, lent.told);
       reports = (last.new.with.delivered, rw (token, sink) lent.reports);
     }
