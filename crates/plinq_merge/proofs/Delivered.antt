@@ -157,15 +157,15 @@ module _ {K T : Type 0} (accepts : K → List T → K → Type 0) (refuses : K �
 
   -- what the source gave next decides the answer, and the rest was delivered or cut off
   pub sent-over : (most : ℕ) (ss' ss'' : List (Stage T)) (t : Trace T) (n m : ℕ) (held made made' : List T) (s1 s2 : K) (e : Ending) (r : Result Ending DeliveryFault) → m ≤ n + most
-      → HasSent (first_items n t) held made ss' s1 None → FeedsFrom ss' t n m made made' ss'' (Some e) → IfOk r (λ told. told ≡ e)
+      → HasSent (first_items n t) held made ss' s1 None → FeedsFrom ss' t n m made made' ss'' (Some e) → IfOk r (λ x. x ≡ e)
       → Delivers accepts refuses s1 (batches_from size held (ended made' e)) r s2 → DeliversAnswer accepts refuses size most ss t s m r s2
-  sent-over most ss' ss'' t n m held made made' s1 s2 e r block before next told rest =
+  sent-over most ss' ss'' t n m held made made' s1 s2 e r block before next same rest =
       let out : List T = before.out ++ made' in
       let last = feeds-after ss' ss'' t n m held made made' s1 (Some e) before next in
       let fed : IsFed ss t [] out ss'' (Some e) = fed-over ss ss' ss'' t n m [] (before.out ++ made) out e before.fed last in
       let all = batches-on size [] before.out held (seq ss t) (ended made' e) (sym (answer-fed ss ss'' t [] out e refl fed)) before.keeps in
       record {
-        ending = IfOk-weaker r (λ x. x ≡ e) (λ x. (seq ss t).ending ≡ Some x) (λ x same. sym fed.told ∙ ap Some (sym same)) told;
+        ending = IfOk-weaker r (λ x. x ≡ e) (λ x. (seq ss t).ending ≡ Some x) (λ x is. sym fed.told ∙ ap Some (sym is)) same;
         delivered = delivers-as accepts refuses s _ _ r s2 all (delivers-after accepts refuses s _ _ s1 r s2 before.leads rest);
         blocks = on-any _ r (deciding-over most ss ss' ss'' t n m [] (before.out ++ made) out e block before.fed last);
       }

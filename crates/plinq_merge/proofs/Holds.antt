@@ -32,10 +32,10 @@ module _ {T : Type 0} where
   all_placed-append order ps [] r = refl
   all_placed-append order ps (o ∷ os) r = all_placed-append order (placed order ps o) os r
 
-  all_told-append : (told : Option (ℕ × Ending)) (offers : List (ChunkResult T)) (r : ChunkResult T)
-      → all_told told (offers ++ r ∷ []) ≡ option_or (all_told told offers) (told_at (end_of_result r) r.tail)
-  all_told-append told [] r = refl
-  all_told-append told (o ∷ os) r = all_told-append (option_or told (told_at (end_of_result o) o.tail)) os r
+  all_told-append : (source_end : Option (ℕ × Ending)) (offers : List (ChunkResult T)) (r : ChunkResult T)
+      → all_told source_end (offers ++ r ∷ []) ≡ option_or (all_told source_end offers) (told_at (end_of_result r) r.tail)
+  all_told-append source_end [] r = refl
+  all_told-append source_end (o ∷ os) r = all_told-append (option_or source_end (told_at (end_of_result o) o.tail)) os r
 
   arrived-append : (order : Order) (offers : List (ChunkResult T)) (r : ChunkResult T) → arrived order (offers ++ r ∷ []) ≡ followed (arrived order offers) (at_once order r)
   arrived-append order [] r = followed-open_nil (at_once order r)
@@ -80,12 +80,12 @@ module _ {T : Type 0} where
   all_given-append (p ∷ ps) qs = ap (followed p.1.payload) (all_given-append ps qs) ∙ sym (followed-followed p.1.payload (all_given ps) (all_given qs))
 
   -- after a row of intervals the row of keys goes on
-  pub row_of-append : (told : Option (ℕ × Ending)) (from : ℕ) (done : List (Interval (Trace T))) (to : ℕ) (rest : List (Interval (Trace T))) → IsRow from done to
-      → row_of told from (done ++ rest) ≡ followed (all_given done) (row_of told to rest)
-  row_of-append told from done to rest is_row =
+  pub row_of-append : (source_end : Option (ℕ × Ending)) (from : ℕ) (done : List (Interval (Trace T))) (to : ℕ) (rest : List (Interval (Trace T))) → IsRow from done to
+      → row_of source_end from (done ++ rest) ≡ followed (all_given done) (row_of source_end to rest)
+  row_of-append source_end from done to rest is_row =
       let at = row-append from done to rest is_row in
-      let last : Trace T = trace_of [] (ending_at told (first_gap to rest)) in
-      ap (λ k. followed (all_given (unbroken from (done ++ rest))) (trace_of [] (ending_at told k))) at.1
+      let last : Trace T = trace_of [] (ending_at source_end (first_gap to rest)) in
+      ap (λ k. followed (all_given (unbroken from (done ++ rest))) (trace_of [] (ending_at source_end k))) at.1
       ∙ ap (λ qs. followed (all_given qs) last) at.0
       ∙ ap (λ t. followed t last) (all_given-append done (unbroken to rest))
       ∙ followed-followed (all_given done) (all_given (unbroken to rest)) last
@@ -95,9 +95,9 @@ module _ {T : Type 0} where
   -- what the offers merge to
   pub merged-holds : (order : Order) (row : Row T) (offers : List (ChunkResult T)) (gone : Trace T) → Holds order row offers gone → merged order offers ≡ followed gone (rest_of row)
   merged-holds order row offers gone h =
-      ap (λ t. followed (arrived order offers) (row_of t 0 (all_placed order [] offers))) h.told
-      ∙ ap (λ ps. followed (arrived order offers) (row_of row.told 0 ps)) h.placed
-      ∙ ap (followed (arrived order offers)) (row_of-append row.told 0 h.done row.buffer.next row.buffer.held h.is_row)
+      ap (λ t. followed (arrived order offers) (row_of t 0 (all_placed order [] offers))) h.source_end
+      ∙ ap (λ ps. followed (arrived order offers) (row_of row.source_end 0 ps)) h.placed
+      ∙ ap (followed (arrived order offers)) (row_of-append row.source_end 0 h.done row.buffer.next row.buffer.held h.is_row)
       ∙ sym (followed-followed (arrived order offers) (all_given h.done) (rest_of row))
       ∙ ap (λ t. followed t (rest_of row)) h.gave
 
@@ -111,7 +111,7 @@ module _ {T : Type 0} where
         placed = h.placed ∙ ap (λ qs. h.done ++ qs) takes.held ∙ sym (append_assoc h.done (q ∷ []) buffer.held);
         is_row = row-push 0 h.done q h.is_row;
         before = All-push (λ s. s.0 < buffer.next) h.done q (All-weaker (λ s. s.0 < row.buffer.next) (λ s. s.0 < buffer.next) (λ s past. omega (arith, takes.some)) h.done h.before) takes.some;
-        told = h.told;
+        source_end = h.source_end;
         gave =
             ap (followed (arrived order offers)) (all_given-append h.done (q ∷ []) ∙ ap (followed (all_given h.done)) (followed-open_nil p))
             ∙ sym (followed-followed (arrived order offers) (all_given h.done) p)
@@ -135,15 +135,15 @@ module _ {T : Type 0} where
   takes-placed : (order : Order) (before : Row T) (r : ChunkResult T) (after : Row T)
       → ((done : List (Interval (Trace T))) → All (λ s. s.0 < before.buffer.next) done
       → placed order (done ++ before.buffer.held) r ≡ done ++ after.buffer.held)
-      → after.buffer.next ≡ before.buffer.next → after.told ≡ option_or before.told (told_at (end_of_result r) r.tail)
+      → after.buffer.next ≡ before.buffer.next → after.source_end ≡ option_or before.source_end (told_at (end_of_result r) r.tail)
       → TakesIn order before r (at_once order r) after
-  takes-placed order before r after place next told offers gone h =
+  takes-placed order before r after place next noted offers gone h =
       record {
         done = h.done;
         placed = all_placed-append order [] offers r ∙ ap (λ qs. placed order qs r) h.placed ∙ place h.done h.before;
         is_row = subst (IsRow 0 h.done) (sym next) h.is_row;
         before = subst (λ k. All (λ s. s.0 < k) h.done) (sym next) h.before;
-        told = all_told-append None offers r ∙ ap (λ t. option_or t (told_at (end_of_result r) r.tail)) h.told ∙ sym told;
+        source_end = all_told-append None offers r ∙ ap (λ t. option_or t (told_at (end_of_result r) r.tail)) h.source_end ∙ sym noted;
         gave =
             ap (λ t. followed t (all_given h.done)) (arrived-append order offers r)
             ∙ swap order offers (arrived order offers) r h.done before.buffer.held h.placed
@@ -152,15 +152,15 @@ module _ {T : Type 0} where
 
   -- one of no keys has no interval
   pub takes-none : (order : Order) (before : Row T) (r : ChunkResult T) (after : Row T) → r.count ≡ 0 → after.buffer ≡ before.buffer
-      → after.told ≡ option_or before.told (told_at (end_of_result r) r.tail) → TakesIn order before r (at_once order r) after
-  takes-none order before r after none same told =
-      takes-placed order before r after (λ done below. rw none (ap (λ b. done ++ b.held) (sym same))) (ap (λ b. b.next) same) told
+      → after.source_end ≡ option_or before.source_end (told_at (end_of_result r) r.tail) → TakesIn order before r (at_once order r) after
+  takes-none order before r after none same noted =
+      takes-placed order before r after (λ done below. rw none (ap (λ b. done ++ b.held) (sym same))) (ap (λ b. b.next) same) noted
 
   -- that of any other waits among the others
   takes-held : (order : Order) (before : Row T) (r : ChunkResult T) (after : Row T) → 0 < r.count → IsFresh before.buffer r.first (end_of_result r)
       → after.buffer ≡ inserted before.buffer r.first (end_of_result r) (waiting_trace order r)
-      → after.told ≡ option_or before.told (told_at (end_of_result r) r.tail) → TakesIn order before r (at_once order r) after
-  takes-held order before r after some fresh same told =
+      → after.source_end ≡ option_or before.source_end (told_at (end_of_result r) r.tail) → TakesIn order before r (at_once order r) after
+  takes-held order before r after some fresh same noted =
       let q : Trace T = waiting_trace order r in
       let past = after-next before.buffer r.first (end_of_result r) fresh (omega arith) in
       let test : (r.count == 0) ≡ false = grind (arith, nat_tests) in
@@ -168,23 +168,23 @@ module _ {T : Type 0} where
       ap (λ b. cond b (done ++ before.buffer.held) (insert (done ++ before.buffer.held) r.first (end_of_result r) q)) test
       ∙ insert-after done before.buffer.held r.first (end_of_result r) q
       (All-weaker (λ s. s.0 < before.buffer.next) (λ s. s.0 < r.first) (λ s gone. omega (arith, past)) done below)
-      ∙ ap (λ b. done ++ b.held) (sym same)) (ap (λ b. b.next) same) told
+      ∙ ap (λ b. done ++ b.held) (sym same)) (ap (λ b. b.next) same) noted
 
   -- or its turn has come, and the row hands back what it gives
   pub takes-inserted : (order : Order) (before : Row T) (r : ChunkResult T) (turn : Option (Trace T)) (after : Row T) → 0 < r.count
       → IsFresh before.buffer r.first (end_of_result r)
-      → Inserts before.buffer r.first (end_of_result r) (waiting_trace order r) turn after.buffer → after.told ≡ option_or before.told (told_at (end_of_result r) r.tail)
+      → Inserts before.buffer r.first (end_of_result r) (waiting_trace order r) turn after.buffer → after.source_end ≡ option_or before.source_end (told_at (end_of_result r) r.tail)
       → TakesIn order before r (followed (at_once order r) (unwrap_or turn (open_trace []))) after
-  takes-inserted order before r None after some fresh inserts told offers gone h =
+  takes-inserted order before r None after some fresh inserts noted offers gone h =
       subst (Holds order after (offers ++ r ∷ [])) (ap (followed gone) (sym (followed-open_nil (at_once order r))))
-      (takes-held order before r after some fresh inserts told offers gone h)
-  takes-inserted order before r (Some p) after some fresh inserts told offers gone h =
+      (takes-held order before r after some fresh inserts noted offers gone h)
+  takes-inserted order before r (Some p) after some fresh inserts noted offers gone h =
       let q : Trace T = waiting_trace order r in
-      let row : Row T = record { buffer = inserted before.buffer r.first (end_of_result r) q; told = after.told } in
+      let row : Row T = record { buffer = inserted before.buffer r.first (end_of_result r) q; source_end = after.source_end } in
       subst (Holds order after (offers ++ r ∷ []))
       (followed-followed gone (at_once order r) q ∙ ap (λ x. followed gone (followed (at_once order r) x)) (sym inserts.0))
       (holds-next order row q after.buffer (offers ++ r ∷ []) (followed gone (at_once order r)) inserts.1
-      (takes-held order before r row some fresh refl told offers gone h))
+      (takes-held order before r row some fresh refl noted offers gone h))
 
   -- by arrival it hands back nothing but keys
   pub by_arrival-hand : (r : ChunkResult T) (b : Buffered (Trace T)) (turn : Option (Trace T)) (b' : Buffered (Trace T)) → Inserts b r.first (end_of_result r) (open_trace []) turn b'
@@ -193,15 +193,15 @@ module _ {T : Type 0} where
   by_arrival-hand r b (Some p) b' inserts = ap (followed (result_trace r)) inserts.0 ∙ followed-open_nil (result_trace r)
 
   -- at a gap the row gives no more than the source's ending
-  pub rest-gap : (row : Row T) → IsAtGap row.buffer → rest_of row ≡ trace_of [] (ending_at row.told row.buffer.next)
+  pub rest-gap : (row : Row T) → IsAtGap row.buffer → rest_of row ≡ trace_of [] (ending_at row.source_end row.buffer.next)
   rest-gap row gap =
-      ap (λ k. followed (all_given (unbroken row.buffer.next row.buffer.held)) (trace_of [] (ending_at row.told k))) gap.gap
-      ∙ ap (λ qs. followed (all_given qs) (trace_of [] (ending_at row.told row.buffer.next))) gap.nothing
+      ap (λ k. followed (all_given (unbroken row.buffer.next row.buffer.held)) (trace_of [] (ending_at row.source_end k))) gap.gap
+      ∙ ap (λ qs. followed (all_given qs) (trace_of [] (ending_at row.source_end row.buffer.next))) gap.nothing
 
   -- the interval under the next key comes first
   pub rest-next : (row : Row T) (p : Trace T) (buffer : Buffered (Trace T)) → TakesNext row.buffer p buffer → rest_of row ≡ followed p (rest_of (record row { buffer = buffer }))
   rest-next row p buffer takes =
       let q : Interval (Trace T) = (row.buffer.next, record { end = buffer.next; payload = p }) in
-      ap (row_of row.told row.buffer.next) takes.held
-      ∙ row_of-append row.told row.buffer.next (q ∷ []) buffer.next buffer.held (refl, refl)
+      ap (row_of row.source_end row.buffer.next) takes.held
+      ∙ row_of-append row.source_end row.buffer.next (q ∷ []) buffer.next buffer.held (refl, refl)
       ∙ ap (λ t. followed t (rest_of (record row { buffer = buffer }))) (followed-open_nil p)

@@ -27,9 +27,9 @@ use Rattle.plinq_merge.specs.Shown.{ending_at, waiting_trace, merged}
 use Rattle.plinq_merge.specs.Keys.{AreNew}
 use Rattle.plinq_merge.specs.Merging.{Holds, TakesIn}
 use Rattle.plinq_merge.specs.Taking.{IsTaking}
-use Rattle.plinq_merge.specs.Joining.{rest_of, HasKeys, Waits, HasMoved, Joins, JoinsOffer}
+use Rattle.plinq_merge.specs.Joining.{rest_of, HasKeys, Waits, HasMoved, Joins, JoinsOfferAt}
 use Rattle.plinq_merge.specs.Offering.{is_decided, finished}
-use Rattle.plinq_merge.specs.Joiners.{taker_of, order_of, WaitsFor, has_decided, ending_of, Takes, HasJoinedAt, HasJoined}
+use Rattle.plinq_merge.specs.Joiners.{taker_of, order_of, WaitsFor, has_decided, ending_of, JoinsOffer, HasJoinedAt, HasJoined}
 use Rattle.plinq_merge.specs.Mergers.{delivery_fault_of}
 use Rattle.plinq_merge.proofs.Holds.{is_offered-append, merged-holds, holds-next, takes-none, takes-inserted, rest-gap, rest-next}
 
@@ -51,7 +51,7 @@ module _ {T : Type 0} where
   takes-unkept : (order : Order) (row : Row T) (r : ChunkResult T) → IsFresh row.buffer r.first (end_of_result r)
       → (hand : Trace T) × (row1 : Row T) × TakesIn order row r hand row1
   takes-unkept order row r fresh =
-      let kept : Buffered (Trace T) → Row T = λ b. record { buffer = b; told = option_or row.told (told_at (end_of_result r) r.tail) } in
+      let kept : Buffered (Trace T) → Row T = λ b. record { buffer = b; source_end = option_or row.source_end (told_at (end_of_result r) r.tail) } in
       let held : Buffered (Trace T) = inserted row.buffer r.first (end_of_result r) (waiting_trace order r) in
       elim (cases_lt 0 r.count) [
         | inl some ↦ (_, kept held, takes-inserted order row r None (kept held) some fresh refl refl)
@@ -59,14 +59,14 @@ module _ {T : Type 0} where
       ]
 
   -- a row in which nothing is waits for no offers
-  pub begun-waits : (order : Order) (row : Row T) → row.buffer ≡ record { next = 0; held = [] } → row.told ≡ None → Waits order row []
-  begun-waits order row empty told =
+  pub begun-waits : (order : Order) (row : Row T) → row.buffer ≡ record { next = 0; held = [] } → row.source_end ≡ None → Waits order row []
+  begun-waits order row empty untold =
       let none : Buffered (Trace T) = record { next = 0; held = [] } in
-      let row_in : Buffered (Trace T) → Option (ℕ × Ending) → Row T = λ b t. record { buffer = b; told = t } in
-      let holds : Holds order (row_in none None) [] (open_trace []) = record { done = []; placed = refl; is_row = refl; before = All-nil (λ p. p.0 < 0); told = refl; gave = refl } in
+      let row_in : Buffered (Trace T) → Option (ℕ × Ending) → Row T = λ b t. record { buffer = b; source_end = t } in
+      let holds : Holds order (row_in none None) [] (open_trace []) = record { done = []; placed = refl; is_row = refl; before = All-nil (λ p. p.0 < 0); source_end = refl; gave = refl } in
       let begun : Waits order (row_in none None) [] =
       record { out = []; holds = holds; keys = λ key. sym (or_from (nat_lt key 0) false (le-ltb key 0 (omega arith)) refl); missing = refl; nothing = refl } in
-      subst (λ b. Waits order (row_in b row.told) []) (sym empty) (subst (λ t. Waits order (row_in none t) []) (sym told) begun)
+      subst (λ b. Waits order (row_in b row.source_end) []) (sym empty) (subst (λ t. Waits order (row_in none t) []) (sym untold) begun)
 
   open-is : (t : Trace T) → t.ending ≡ None → t ≡ open_trace t.items
   open-is t none = ap (trace_of t.items) none
@@ -120,7 +120,7 @@ module _ {W O T : Type 0} (made : W → O → Trace T → Result (Option Ending)
 
   -- the row came to a gap, and waits for the same offers
   pub moved-waits : (w0 : Joining W T) (y0 : O) (w : Joining W T) (y : O) (offers : List (ChunkResult T)) (out : List T) → HasMoved made w0 y0 w y → IsAtGap w.row.buffer
-      → ending_at w.row.told w.row.buffer.next ≡ None → Holds w0.order w0.row offers (open_trace out) → HasKeys w0.row offers → Waits w.order w.row offers
+      → ending_at w.row.source_end w.row.buffer.next ≡ None → Holds w0.order w0.row offers (open_trace out) → HasKeys w0.row offers → Waits w.order w.row offers
   moved-waits w0 y0 w y offers out moved gap none h keys =
       record {
         out = out ++ moved.items;
@@ -216,7 +216,7 @@ module _ {W O T : Type 0} (made : W → O → Trace T → Result (Option Ending)
             (ap (λ t. t.ending) (merged-waits w.order w.row offers joined.0)) joined.1 joins.taken (ap (λ o. merged o more) is ∙ joins.grows offers joined.0)
 
         offered-at : (standing : JoinerState) (result : Result More MergeFault) → HasJoinedAt made a x w standing y offers
-            → JoinsOffer made w standing r y result w' standing' y' → (all : List (ChunkResult T)) × AreOneMore offers r all × LeavesAt result all
+            → JoinsOfferAt made w standing r y result w' standing' y' → (all : List (ChunkResult T)) × AreOneMore offers r all × LeavesAt result all
         offered-at Open (Ok Yes) joined o =
             (more, inr (refl, o.1.are_new offers joined.0), rw o.0 (o.1.waits refl offers joined.0, grown (Ok None) w'.order same joined o.1))
         offered-at Open (Ok No) joined o = (more, inr (refl, o.2.are_new offers joined.0), rw o.1 (grown (Ok (Some o.0)) w'.order same joined o.2))
@@ -232,12 +232,12 @@ module _ {W O T : Type 0} (made : W → O → Trace T → Result (Option Ending)
 
       -- an offer that was taken in
       pub takes-joined : (j : Joiner W T) (r : ChunkResult T) (y : O) (more : More) (j' : Joiner W T) (y' : O) (offers : List (ChunkResult T)) → order_of j' ≡ order_of j
-          → HasJoined made a x j y offers → Takes made j r y (Ok more) j' y' → (offers' : List (ChunkResult T)) × AreOneMore offers r offers' × HasJoined made a x j' y' offers'
+          → HasJoined made a x j y offers → JoinsOffer made j r y (Ok more) j' y' → (offers' : List (ChunkResult T)) × AreOneMore offers r offers' × HasJoined made a x j' y' offers'
       takes-joined j r y more j' y' offers same joined o = offered-at j.work j'.work j'.standing r y y' offers same j.standing (Ok more) joined o
 
       -- one that was refused
       pub takes-broken : (j : Joiner W T) (r : ChunkResult T) (y : O) (fault : MergeFault) (j' : Joiner W T) (y' : O) (offers : List (ChunkResult T)) → order_of j' ≡ order_of j
-          → HasJoined made a x j y offers → Takes made j r y (Err fault) j' y'
+          → HasJoined made a x j y offers → JoinsOffer made j r y (Err fault) j' y'
           → (offers' : List (ChunkResult T)) × AreOneMore offers r offers' × ((last : W) × made a x (merged (order_of j) offers') (Err (delivery_fault_of fault)) last y')
       takes-broken j r y fault j' y' offers same joined o = offered-at j.work j'.work j'.standing r y y' offers same j.standing (Err fault) joined o
 

@@ -16,10 +16,10 @@ use Rattle.plinq_merge.specs.declared.with_cancellation.WithCancellation.{WithCa
 use Rattle.plinq_merge.specs.Sending.{Leads, IsCutOff}
 use Rattle.plinq_merge.specs.Shown.{Merge}
 use Rattle.plinq_merge.specs.Working.{Work}
-use Rattle.plinq_merge.specs.Offering.{Brings, Offers, OffersWith, IsCancelled}
+use Rattle.plinq_merge.specs.Offering.{Brings, OffersAt, OffersWithAt, IsCancelled}
 use Rattle.plinq_merge.specs.Cancelling.{Delivery, Passes, IsRefused, IsKeptBack}
 use Rattle.plinq_merge.specs.Mergers.{AsksEach, delivery_fault_of, is_cancelled, SendsSome}
-use Rattle.plinq_merge.specs.inner.Stopped.{told_unless_stopped}
+use Rattle.plinq_merge.specs.inner.Stopped.{answer_unless_stopped}
 use Rattle.plinq_merge.specs.Lent.{AreSame, delivery_of, Takes, Refuses}
 
 pub leads-map : {K M B : Type 0} (f : K → M) (accepts : K → B → K → Type 0) (accepts' : M → B → M → Type 0) → ((s : K) (b : B) (s' : K) → accepts s b s' → accepts' (f s) b (f s'))
@@ -44,8 +44,8 @@ module _ {L K M T : Type 0} (meaning : L → Meaning T) (decided : Bool) (accept
     (leads : (bs : List (List T)) → Leads accepts s bs s' → Leads accepts' t bs t')
     (cuts : (bs : List (List T)) (fault : DeliveryFault) → IsCutOff accepts refuses s bs fault s' → IsCutOff accepts' refuses' t bs fault t')
     (same : s' ≡ s → t' ≡ t) (w : Work L T) (r : ChunkResult T) (w' : Work L T) (standing' : JoinerState) where
-  offers-map : (standing : JoinerState) (result : Result More MergeFault) → Offers meaning decided accepts refuses w standing r s result w' standing' s'
-      → Offers meaning decided accepts' refuses' w standing r t result w' standing' t'
+  offers-map : (standing : JoinerState) (result : Result More MergeFault) → OffersAt meaning decided accepts refuses w standing r s result w' standing' s'
+      → OffersAt meaning decided accepts' refuses' w standing r t result w' standing' t'
   offers-map Open (Ok Yes) o = (o.0, λ offers rests. let on = o.1 offers rests in (brings-map _ offers r _ _ leads on.0, on.1))
   offers-map Open (Ok No) o = (o.0, o.1, λ offers rests. let on = o.2 offers rests in (brings-map _ offers r _ _ leads on.0, on.1))
   offers-map Open (Err Memory) o = (o.0, λ offers rests. brings-map _ offers r _ _ (λ bs. cuts bs NoMemory) (o.1 offers rests))
@@ -140,7 +140,7 @@ module _ {C K T : Type 0} (asks : C → ℕ → Bool → C → Type 0) (accepts 
 
     -- the token was asked before each batch
     pub asks-within : (stops : Bool) (r : Result More MergeFault) → w'.is_stopped ≡ stops → Sends w r w'
-        → AsksEach asks accepts refuses (delivery_of w) (told_unless_stopped stops r) (delivery_of w')
+        → AsksEach asks accepts refuses (delivery_of w) (answer_unless_stopped stops r) (delivery_of w')
     asks-within stops (Err Cancelled) after sends = absurd sends
     asks-within true (Ok more) after sends = let on = leads-on w sends.0 w' sends.1 in not-stopped on.still after
     asks-within true (Err fault) after sends = (sends.0, cut-kept w sends.0 (delivery_fault_of fault) w' before after sends.1)
@@ -149,9 +149,9 @@ module _ {C K T : Type 0} (asks : C → ℕ → Bool → C → Type 0) (accepts 
 
     module _ {L : Type 0} (meaning : L → Meaning T) (decided : Bool) (x : Work L T) (r : ChunkResult T) (x' : Work L T) (standing' : JoinerState) where
       abbrev OffersTo : JoinerState → Result More MergeFault → Type 0
-      OffersTo standing told = Offers meaning decided (Takes asks accepts) (Refuses asks refuses) x standing r w told x' standing' w'
+      OffersTo standing answer = OffersAt meaning decided (Takes asks accepts) (Refuses asks refuses) x standing r w answer x' standing' w'
 
-      offers-stopped : (standing : JoinerState) (told : Result More MergeFault) → w'.is_stopped ≡ true → Sends w told w' → OffersTo standing told
+      offers-stopped : (standing : JoinerState) (answer : Result More MergeFault) → w'.is_stopped ≡ true → Sends w answer w' → OffersTo standing answer
           → IsCancelled meaning decided asks accepts x standing r (delivery_of w) standing' (delivery_of w')
       offers-stopped Open (Ok more) after sends o = let on = leads-on w sends.0 w' sends.1 in not-stopped on.still after
       offers-stopped Open (Err Memory) after sends o =
@@ -160,18 +160,18 @@ module _ {C K T : Type 0} (asks : C → ℕ → Bool → C → Type 0) (accepts 
           (refl, o.0, λ offers rests. brings-map _ offers r _ _ (λ bs. cut-kept w bs (Refusal code) w' before after) (o.1 offers rests))
       offers-stopped Open (Err Twice) after sends o = not-stopped (ap (λ y. y.is_stopped) o.2) after
       offers-stopped Open (Err fault) after sends o = absurd o
-      offers-stopped standing told after sends o = not-stopped (ap (λ y. y.is_stopped) o.3) after
+      offers-stopped standing answer after sends o = not-stopped (ap (λ y. y.is_stopped) o.3) after
 
       -- an offer to a token and a sink as one sink is one to both
-      pub offers-within : (standing : JoinerState) (stops : Bool) (told : Result More MergeFault) → w'.is_stopped ≡ stops → Sends w told w'
-          → OffersTo standing told
-          → OffersWith meaning decided asks accepts refuses x standing r (delivery_of w) (told_unless_stopped stops told) x' standing' (delivery_of w')
+      pub offers-within : (standing : JoinerState) (stops : Bool) (answer : Result More MergeFault) → w'.is_stopped ≡ stops → Sends w answer w'
+          → OffersTo standing answer
+          → OffersWithAt meaning decided asks accepts refuses x standing r (delivery_of w) (answer_unless_stopped stops answer) x' standing' (delivery_of w')
       offers-within standing stops (Err Cancelled) after sends o = absurd sends
-      offers-within standing true told after sends o = offers-stopped standing told after sends o
-      offers-within standing false told after sends o =
+      offers-within standing true answer after sends o = offers-stopped standing answer after sends o
+      offers-within standing false answer after sends o =
           offers-map meaning decided (Takes asks accepts) (Refuses asks refuses) (Passes asks accepts) (IsRefused asks refuses) w w' (delivery_of w)
           (delivery_of w') (λ bs leads. let on = leads-on w bs w' leads in on.leads) (λ bs fault cut. cut-on w bs fault w' before after cut) (ap delivery_of)
-          x r x' standing' standing told o
+          x r x' standing' standing answer o
 
 -- where the token never stops, along a function of deliveries
 module _ {C K T L M : Type 0} (asks : C → ℕ → Bool → C → Type 0) (never : (c c' : C) (n : ℕ) → asks c n true c' → ⊥) (accepts : K → List T → K → Type 0)
@@ -180,12 +180,12 @@ module _ {C K T L M : Type 0} (asks : C → ℕ → Bool → C → Type 0) (neve
     (takes : (d : Delivery C K) (b : List T) (d' : Delivery C K) → Passes asks accepts d b d' → accepts' (f d) b (f d'))
     (refused : (d : Delivery C K) (b : List T) (code : ℕ) (d' : Delivery C K) → IsRefused asks refuses d b code d' → refuses' (f d) b code (f d'))
     (w : Work L T) (r : ChunkResult T) (d : Delivery C K) (w' : Work L T) (standing' : JoinerState) (d' : Delivery C K) where
-  pub offers-seen : (standing : JoinerState) (told : Result More MergeFault) → AsksEach asks accepts refuses d told d'
-      → OffersWith meaning decided asks accepts refuses w standing r d told w' standing' d'
-      → Offers meaning decided accepts' refuses' w standing r (f d) told w' standing' (f d')
+  pub offers-seen : (standing : JoinerState) (answer : Result More MergeFault) → AsksEach asks accepts refuses d answer d'
+      → OffersWithAt meaning decided asks accepts refuses w standing r d answer w' standing' d'
+      → OffersAt meaning decided accepts' refuses' w standing r (f d) answer w' standing' (f d')
   offers-seen standing (Err Cancelled) asked o = absurd (never _ _ _ asked.1.stops.asked)
-  offers-seen standing told asked o =
+  offers-seen standing answer asked o =
       offers-map meaning decided (Passes asks accepts) (IsRefused asks refuses) accepts' refuses' d d' (f d) (f d')
       (λ bs. leads-map f (Passes asks accepts) accepts' takes d bs d')
       (λ bs fault. cut-map f (Passes asks accepts) (IsRefused asks refuses) accepts' refuses' takes refused d bs fault d')
-      (ap f) w r w' standing' standing told o
+      (ap f) w r w' standing' standing answer o

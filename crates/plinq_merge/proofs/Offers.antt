@@ -28,11 +28,11 @@ use Rattle.plinq_merge.specs.Buffer.{held_of, size_of}
 use Rattle.plinq_merge.specs.Sending.{Leads, Delivers}
 use Rattle.plinq_merge.specs.Shown.{Merge, merged, answer, shown}
 use Rattle.plinq_merge.specs.Merging.{GoesOn}
-use Rattle.plinq_merge.specs.Joining.{Joins, Waits, JoinsOffer}
+use Rattle.plinq_merge.specs.Joining.{Joins, Waits, JoinsOfferAt}
 use Rattle.plinq_merge.specs.Delivering.{Line, line_of, Gives, MadeBy, is_below, can_deliver}
 use Rattle.plinq_merge.specs.Deliveries.{batches-on, held-on, goes_on-on}
 use Rattle.plinq_merge.specs.Working.{Work, merge_of, Rests}
-use Rattle.plinq_merge.specs.Offering.{Brings, Offers}
+use Rattle.plinq_merge.specs.Offering.{Brings, OffersAt}
 use Rattle.plinq_merge.specs.Mergers.{SendsSome}
 
 pub answer-open : {T : Type 0} (merge : Merge T) (offers : List (ChunkResult T)) → merge.decided ≡ false → answer merge offers ≡ seq merge.after (merged merge.order offers)
@@ -128,8 +128,8 @@ module _ {L T : Type 0} (meaning : L → Meaning T) (decided : Bool) (w : Work L
     module _ (standing' : JoinerState) where
       -- what the joiner did is what the merger owes
       pub offers-joined : (standing : JoinerState) (result : Result More MergeFault) → w'.order ≡ w.order → (standing' ≡ Open → GivesNothing)
-          → JoinsOffer (MadeBy accepts refuses meaning) w standing r s result w' standing' s'
-          → Offers meaning decided accepts refuses w standing r s result w' standing' s'
+          → JoinsOfferAt (MadeBy accepts refuses meaning) w standing r s result w' standing' s'
+          → OffersAt meaning decided accepts refuses w standing r s result w' standing' s'
       offers-joined Open (Ok Yes) same nothing o =
           (o.0, λ offers rests. (brings-joined (Ok None) (λ _. nothing o.0) o.1 offers rests, rests-joined same (nothing o.0) o.1 offers rests))
       offers-joined Open (Ok No) same nothing o =
@@ -146,7 +146,7 @@ module _ {L T : Type 0} (meaning : L → Meaning T) (decided : Bool) (w : Work L
 
       -- what was delivered, whatever the offers
       pub sends-joined : (standing : JoinerState) (result : Result More MergeFault)
-          → JoinsOffer (MadeBy accepts refuses meaning) w standing r s result w' standing' s' → SendsSome accepts refuses s result s'
+          → JoinsOfferAt (MadeBy accepts refuses meaning) w standing r s result w' standing' s' → SendsSome accepts refuses s result s'
       sends-joined Open (Ok Yes) o = let gives = o.1.taken.gives in (full_batches (size_of w.taker.buffer) (held_of w.taker.buffer) gives.out, gives.leads)
       sends-joined Open (Ok No) o = (due o.2.gained, o.2.taken.gives.1)
       sends-joined Open (Err Memory) o = (due o.1.gained, o.1.taken.gives)

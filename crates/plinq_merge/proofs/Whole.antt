@@ -94,8 +94,8 @@ module _ {L T : Type 0} (meaning : L → Meaning T) (worker : List (Op L)) (t : 
 
 -- ---- what the tails say
 
-pub told-true : {T : Type 0} (t : Trace T) (told : Option (ℕ × Ending)) (offers : List (ChunkResult T)) → IfSome told (EndsAt t) → AreTrueTails t offers → IfSome (all_told told offers) (EndsAt t)
-told-true t told [] here tails = here
+pub told-true : {T : Type 0} (t : Trace T) (source_end : Option (ℕ × Ending)) (offers : List (ChunkResult T)) → IfSome source_end (EndsAt t) → AreTrueTails t offers → IfSome (all_told source_end offers) (EndsAt t)
+told-true t source_end [] here tails = here
 told-true t None (r ∷ rs) here tails = told-true t (told_at (end_of_result r) r.tail) rs tails.0 tails.1
 told-true t (Some at) (r ∷ rs) here tails = told-true t (Some at) rs here tails.1
 
@@ -185,8 +185,8 @@ module _ {L T : Type 0} (meaning : L → Meaning T) (worker : List (Op L)) (t : 
       ∙ ap (λ o. followed (glued meaning worker 0 t.items None) (trace_of [] o)) ends
       ∙ ap (λ ys. followed (glued meaning worker 0 ys None) (trace_of [] (Some e))) (sym (ap (λ k. take k t.items) here ∙ take-length t.items))
 
-  glue-told : (told : Option (ℕ × Ending)) (key : ℕ) → IsSome told → IfSome told (EndsAt t) → key ≡ length t.items
-      → glue meaning worker t ≡ followed (before key) (trace_of [] (ending_at told key))
+  glue-told : (source_end : Option (ℕ × Ending)) (key : ℕ) → IsSome source_end → IfSome source_end (EndsAt t) → key ≡ length t.items
+      → glue meaning worker t ≡ followed (before key) (trace_of [] (ending_at source_end key))
   glue-told None key some is here = absurd (let bad : false ≡ true = some in cc)
   glue-told (Some at) key some is here =
       glue-at_end key at.1 here is.1 ∙ ap (λ v. followed (before key) (trace_of [] (cond v (Some at.1) None))) (sym (same_test at.0 key (is.0 ∙ sym here)))
@@ -200,7 +200,7 @@ module _ {L T : Type 0} (meaning : L → Meaning T) (worker : List (Op L)) (t : 
             ∙ ap (λ u. followed u rest) (sym (followed-open_nil (before key))),
       )
 
-  gap-begins : (told : Option (ℕ × Ending)) (key : ℕ) → IfSome told (EndsAt t) → Begins (followed (before key) (trace_of [] (ending_at told key)))
+  gap-begins : (source_end : Option (ℕ × Ending)) (key : ℕ) → IfSome source_end (EndsAt t) → Begins (followed (before key) (trace_of [] (ending_at source_end key)))
   gap-begins None key is = open-begins key
   gap-begins (Some at) key is =
       elim (at.0 == key) as (λ v. v ≡ (at.0 == key) → Begins (followed (before key) (trace_of [] (cond v (Some at.1) None)))) [
@@ -226,7 +226,7 @@ module _ {L T : Type 0} (meaning : L → Meaning T) (worker : List (Op L)) (t : 
         | inl less ↦ absurd (let bad : true ≡ false = sym (stand.keys gap ∙ all.keys gap less) ∙ gap-missing 0 ps stand.apart in cc)
         | inr past ↦ omega arith
       ] in
-      merged-gap offers are ∙ sym (glue-told (all_told None offers) gap all.told (told-true t None offers tt tails) here)
+      merged-gap offers are ∙ sym (glue-told (all_told None offers) gap all.end (told-true t None offers tt tails) here)
 
 -- ---- the answer
 

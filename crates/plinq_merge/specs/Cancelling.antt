@@ -44,7 +44,8 @@ pub record IsAsked {C K : Type 0} (asks : C → ℕ → Bool → C → Type 0) (
   pub sink : d'.sink ≡ d.sink
   pub counts : d'.delivered ≡ d.delivered
 
-module _ {C K T : Type 0} (asks : C → ℕ → Bool → C → Type 0) (accepts : K → List T → K → Type 0) (d : Delivery C K) (bs : List (List T)) (d' : Delivery C K) where
+module _ {C K T : Type 0} (asks : C → ℕ → Bool → C → Type 0) (accepts : K → List T → K → Type 0)
+    (d : Delivery C K) (bs : List (List T)) (d' : Delivery C K) where
   -- a beginning of these batches is delivered, perhaps none, and the next one is kept back
   pub record IsKeptBack : Type 0 where
     pub sent : List (List T)

@@ -21,8 +21,13 @@ pub batches-first : {T : Type 0} (size : Option ℕ) (held : List T) (a b : Trac
     → (more : List (List T)) × (batches_from size held (followed a b) ≡ batches_from size held a ++ more)
 batches-first {T} size held a b = by_ending a.items a.ending
   where
-    by_ending : (xs : List T) (e : Option Ending) → (more : List (List T)) × (batches_from size held (followed (trace_of xs e) b) ≡ batches_from size held (trace_of xs e) ++ more)
-    by_ending xs None = (batches_from size (held_back size held xs) b, batches_from-followed size held xs b ∙ ap (λ bs. bs ++ batches_from size (held_back size held xs) b) (sym (batches_from-open size held xs)))
+    by_ending : (xs : List T) (e : Option Ending)
+        → (more : List (List T)) × (batches_from size held (followed (trace_of xs e) b) ≡ batches_from size held (trace_of xs e) ++ more)
+    by_ending xs None = (
+      batches_from size (held_back size held xs) b,
+      batches_from-followed size held xs b
+          ∙ ap (λ bs. bs ++ batches_from size (held_back size held xs) b) (sym (batches_from-open size held xs)),
+    )
     by_ending xs (Some e) = ([], sym (append-nil (batches_from size held (trace_of xs (Some e)))))
 
 -- the batches of open items and of what comes after them
@@ -62,14 +67,16 @@ module _ {K T : Type 0} (accepts : K → List T → K → Type 0) (refuses : K �
   gives-begins l s = record { out = []; on = record { answers = λ rest. refl }; held = refl; leads = refl }
 
   -- the answer to what follows an open trace that was delivered
-  answer-after : (l : Line T) (s : K) (xs : List T) (l1 : Line T) (s1 : K) (t : Trace T) → KeepsPlan l l1 → (on : DeliversOn accepts refuses l s (open_trace xs) l1 s1)
+  answer-after : (l : Line T) (s : K) (xs : List T) (l1 : Line T) (s1 : K) (t : Trace T) → KeepsPlan l l1
+      → (on : DeliversOn accepts refuses l s (open_trace xs) l1 s1)
       → batches_from l.size l.held (seq l.now (followed (open_trace xs) t)) ≡ full_batches l.size l.held on.out ++ batches_from l1.size l1.held (seq l1.now t)
   answer-after l s xs l1 s1 t plan on =
       batches-on l.size l.held on.out l1.held _ (seq l1.now t) (on.on.answers t) on.held
       ∙ ap (λ n. full_batches l.size l.held on.out ++ batches_from n l1.held (seq l1.now t)) (sym plan.size)
 
   gives-goes_on : (l : Line T) (s : K) (xs : List T) (l1 : Line T) (s1 : K) (t : Trace T) (r : Result (Option Ending) DeliveryFault) (l2 : Line T) (s2 : K)
-      → KeepsPlan l l1 → DeliversOn accepts refuses l s (open_trace xs) l1 s1 → Gives accepts refuses l1 s1 t r l2 s2 → Gives accepts refuses l s (followed (open_trace xs) t) r l2 s2
+      → KeepsPlan l l1 → DeliversOn accepts refuses l s (open_trace xs) l1 s1 → Gives accepts refuses l1 s1 t r l2 s2
+      → Gives accepts refuses l s (followed (open_trace xs) t) r l2 s2
   gives-goes_on l s xs l1 s1 t (Ok None) l2 s2 plan first second =
       record {
         out = first.out ++ second.out;
@@ -92,7 +99,8 @@ module _ {K T : Type 0} (accepts : K → List T → K → Type 0) (refuses : K �
   gives-ends : (l : Line T) (s : K) (t : Trace T) (e : Ending) (l' : Line T) (s' : K) (rest : Trace T)
       → Gives accepts refuses l s t (Ok (Some e)) l' s' → Gives accepts refuses l s (followed t rest) (Ok (Some e)) l' s'
   gives-ends l s t e l' s' rest gives =
-      let same : seq l.now (followed t rest) ≡ seq l.now t = seq-followed l.now t rest ∙ followed-ended (seq l.now t) (seq (seq_after l.now t) rest) e gives.0 in
+      let same : seq l.now (followed t rest) ≡ seq l.now t =
+      seq-followed l.now t rest ∙ followed-ended (seq l.now t) (seq (seq_after l.now t) rest) e gives.0 in
       let P : Trace T → Type 0 = λ u. (u.ending ≡ Some e) × Leads accepts s (batches_from l.size l.held u) s' in
       subst P (sym same) gives
 
@@ -106,7 +114,12 @@ module _ {K T : Type 0} (accepts : K → List T → K → Type 0) (refuses : K �
 
   gives-stops : (l : Line T) (s : K) (xs : List T) (l' : Line T) (s' : K) (rest : Trace T) → KeepsPlan l l'
       → DeliversOn accepts refuses l s (open_trace xs) l' s' → Gives accepts refuses l s (followed (open_trace xs) rest) (Err Memory) l' s'
-  gives-stops l s xs l' s' rest plan on = (full_batches l.size l.held on.out, batches_from l'.size l'.held (seq l'.now rest), answer-after l s xs l' s' rest plan on, on.leads)
+  gives-stops l s xs l' s' rest plan on = (
+    full_batches l.size l.held on.out,
+    batches_from l'.size l'.held (seq l'.now rest),
+    answer-after l s xs l' s' rest plan on,
+    on.leads,
+  )
 
   plan-on : (l m l' : Line T) → KeepsPlan l m → KeepsPlan m l' → KeepsPlan l l'
   plan-on l m l' first second = record { after = second.after ∙ first.after; size = second.size ∙ first.size }

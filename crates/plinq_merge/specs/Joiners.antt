@@ -13,7 +13,7 @@ use Rattle.plinq_merge.specs.declared.joiner.Joiner.{Joiner}
 use Rattle.plinq_merge.specs.declared.joining.Joining.{Joining}
 use Rattle.plinq_merge.specs.Shown.{merged}
 use Rattle.plinq_merge.specs.Offering.{is_decided, finished}
-use Rattle.plinq_merge.specs.Joining.{Waits, JoinsOffer}
+use Rattle.plinq_merge.specs.Joining.{Waits, JoinsOfferAt}
 
 module _ {W T : Type 0} where
   -- what takes the items
@@ -36,8 +36,8 @@ module _ {W T : Type 0} where
 
 module _ {W O T : Type 0} (made : W → O → Trace T → Result (Option Ending) DeliveryFault → W → O → Type 0) where
   -- what an offer answers, and what it does to the joiner and to where its taker puts things
-  abbrev pub Takes : Joiner W T → ChunkResult T → O → Result More MergeFault → Joiner W T → O → Type 0
-  Takes j r y result j' y' = JoinsOffer made j.work j.standing r y result j'.work j'.standing y'
+  abbrev pub JoinsOffer : Joiner W T → ChunkResult T → O → Result More MergeFault → Joiner W T → O → Type 0
+  JoinsOffer j r y result j' y' = JoinsOfferAt made j.work j.standing r y result j'.work j'.standing y'
 
   module _ (a : W) (x : O) where
     abbrev pub HasJoinedAt : Joining W T → JoinerState → O → List (ChunkResult T) → Type 0

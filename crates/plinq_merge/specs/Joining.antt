@@ -22,7 +22,7 @@ use Rattle.plinq_merge.specs.Merging.{Holds}
 
 -- what the row still gives: what waits under the next keys, and the source's ending if this is its place
 abbrev pub rest_of : {T : Type 0} → Row T → Trace T
-rest_of row = row_of row.told row.buffer.next row.buffer.held
+rest_of row = row_of row.source_end row.buffer.next row.buffer.held
 
 -- these keys were offered, and no others
 abbrev pub HasKeys : {T : Type 0} → Row T → List (ChunkResult T) → Type 0
@@ -47,7 +47,8 @@ module _ {W O T : Type 0} (made : W → O → Trace T → Result (Option Ending)
     pub taken : made w.taker y (open_trace items) (Ok None) w'.taker y'
     pub rest : rest_of w.row ≡ followed (open_trace items) (rest_of w'.row)
     pub order : w'.order ≡ w.order
-    pub holds : (offers : List (ChunkResult T)) (gone : Trace T) → Holds w.order w.row offers gone → Holds w'.order w'.row offers (followed gone (open_trace items))
+    pub holds : (offers : List (ChunkResult T)) (gone : Trace T) → Holds w.order w.row offers gone
+        → Holds w'.order w'.row offers (followed gone (open_trace items))
     pub keys : (key : ℕ) → is_taken w'.row.buffer key ≡ is_taken w.row.buffer key
 
   -- a result of new keys was joined: the taker has taken what the offers gain by it, and where more may follow, the row
@@ -61,15 +62,15 @@ module _ {W O T : Type 0} (made : W → O → Trace T → Result (Option Ending)
 
   -- what an offer answers and does: where the answer is open it is joined, or one of its keys was offered before; a decided joiner
   -- answers No, a failed one Failed, and nothing changes
-  abbrev pub JoinsOffer : Joining W T → JoinerState → ChunkResult T → O → Result More MergeFault → Joining W T → JoinerState → O → Type 0
-  JoinsOffer w Open r y (Ok Yes) w' standing' y' = (standing' ≡ Open) × Joins w r y (Ok None) w' y'
-  JoinsOffer w Open r y (Ok No) w' standing' y' = (e : Ending) × (standing' ≡ Decided e) × Joins w r y (Ok (Some e)) w' y'
-  JoinsOffer w Open r y (Err Memory) w' standing' y' = (standing' ≡ HasFailed) × Joins w r y (Err NoMemory) w' y'
-  JoinsOffer w Open r y (Err (Sink code)) w' standing' y' = (standing' ≡ HasFailed) × Joins w r y (Err (Refusal code)) w' y'
-  JoinsOffer w Open r y (Err Twice) w' standing' y' =
+  abbrev pub JoinsOfferAt : Joining W T → JoinerState → ChunkResult T → O → Result More MergeFault → Joining W T → JoinerState → O → Type 0
+  JoinsOfferAt w Open r y (Ok Yes) w' standing' y' = (standing' ≡ Open) × Joins w r y (Ok None) w' y'
+  JoinsOfferAt w Open r y (Ok No) w' standing' y' = (e : Ending) × (standing' ≡ Decided e) × Joins w r y (Ok (Some e)) w' y'
+  JoinsOfferAt w Open r y (Err Memory) w' standing' y' = (standing' ≡ HasFailed) × Joins w r y (Err NoMemory) w' y'
+  JoinsOfferAt w Open r y (Err (Sink code)) w' standing' y' = (standing' ≡ HasFailed) × Joins w r y (Err (Refusal code)) w' y'
+  JoinsOfferAt w Open r y (Err Twice) w' standing' y' =
       (w' ≡ w) × (standing' ≡ Open) × (y' ≡ y) × ((offers : List (ChunkResult T)) → Waits w.order w.row offers → IsDuplicate offers r)
-  JoinsOffer w Open r y (Err Gap) w' standing' y' = ⊥
-  JoinsOffer w Open r y (Err Failed) w' standing' y' = ⊥
-  JoinsOffer w Open r y (Err Cancelled) w' standing' y' = ⊥
-  JoinsOffer w (Decided e) r y result w' standing' y' = (result ≡ Ok No) × (w' ≡ w) × (standing' ≡ Decided e) × (y' ≡ y)
-  JoinsOffer w HasFailed r y result w' standing' y' = (result ≡ Err Failed) × (w' ≡ w) × (standing' ≡ HasFailed) × (y' ≡ y)
+  JoinsOfferAt w Open r y (Err Gap) w' standing' y' = ⊥
+  JoinsOfferAt w Open r y (Err Failed) w' standing' y' = ⊥
+  JoinsOfferAt w Open r y (Err Cancelled) w' standing' y' = ⊥
+  JoinsOfferAt w (Decided e) r y result w' standing' y' = (result ≡ Ok No) × (w' ≡ w) × (standing' ≡ Decided e) × (y' ≡ y)
+  JoinsOfferAt w HasFailed r y result w' standing' y' = (result ≡ Err Failed) × (w' ≡ w) × (standing' ≡ HasFailed) × (y' ≡ y)

@@ -13,7 +13,7 @@ use Rattle.plinq_merge.specs.Cancelling.{Delivery, Passes, IsRefused, IsKeptBack
 use Rattle.plinq_merge.specs.Sending.{Leads, IsCutOff}
 use Rattle.plinq_merge.specs.Shown.{Merge}
 use Rattle.plinq_merge.specs.Working.{merge_of}
-use Rattle.plinq_merge.specs.Offering.{StandsFor, Offers, OffersWith}
+use Rattle.plinq_merge.specs.Offering.{StandsFor, OffersAt, OffersWithAt}
 use Rattle.plinq_merge.specs.Joiners.{has_decided, ending_of}
 
 module _ {L T : Type 0} {lambda : Ghosts L T} where
@@ -26,14 +26,16 @@ module _ {L T : Type 0} {lambda : Ghosts L T} where
   IsFor m offers = StandsFor lambda.meaning m.decided m.joiner.work m.joiner.standing offers
 
   -- what an offer answers, and what it does to the merger and to the sink
-  abbrev pub Takes : {K : Type 0} → (K → List T → K → Type 0) → (K → List T → ℕ → K → Type 0)
+  abbrev pub Offers : {K : Type 0} → (K → List T → K → Type 0) → (K → List T → ℕ → K → Type 0)
       → Merger L T lambda → ChunkResult T → K → Result More MergeFault → Merger L T lambda → K → Type 0
-  Takes accepts refuses m r s result m' s' = Offers lambda.meaning m.decided accepts refuses m.joiner.work m.joiner.standing r s result m'.joiner.work m'.joiner.standing s'
+  Offers accepts refuses m r s result m' s' =
+      OffersAt lambda.meaning m.decided accepts refuses m.joiner.work m.joiner.standing r s result m'.joiner.work m'.joiner.standing s'
 
   -- the same of an offer with a token, and of the number of batches
-  abbrev pub TakesWith : {C K : Type 0} → (C → ℕ → Bool → C → Type 0) → (K → List T → K → Type 0) → (K → List T → ℕ → K → Type 0)
+  abbrev pub OffersWith : {C K : Type 0} → (C → ℕ → Bool → C → Type 0) → (K → List T → K → Type 0) → (K → List T → ℕ → K → Type 0)
       → Merger L T lambda → ChunkResult T → Delivery C K → Result More MergeFault → Merger L T lambda → Delivery C K → Type 0
-  TakesWith asks accepts refuses m r d result m' d' = OffersWith lambda.meaning m.decided asks accepts refuses m.joiner.work m.joiner.standing r d result m'.joiner.work m'.joiner.standing d'
+  OffersWith asks accepts refuses m r d result m' d' =
+      OffersWithAt lambda.meaning m.decided asks accepts refuses m.joiner.work m.joiner.standing r d result m'.joiner.work m'.joiner.standing d'
 
   -- how many batches it has delivered, or the greatest number
   abbrev pub delivered_of : Merger L T lambda → ℕ

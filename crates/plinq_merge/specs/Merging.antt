@@ -16,7 +16,7 @@ pub record Holds {T : Type 0} (order : Order) (row : Row T) (offers : List (Chun
   pub placed : all_placed order [] offers ≡ done ++ row.buffer.held
   pub is_row : IsRow 0 done row.buffer.next
   pub before : All (λ p. p.0 < row.buffer.next) done
-  pub told : all_told None offers ≡ row.told
+  pub source_end : all_told None offers ≡ row.source_end
   pub gave : followed (arrived order offers) (all_given done) ≡ gone
 
 -- the row has taken in one result more, with this trace in hand

@@ -31,27 +31,28 @@ pub record Brings {T : Type 0} (merge : Merge T) (offers : List (ChunkResult T))
 
 -- what an offer answers and does: where the answer is open it is taken in, or one of its keys was offered before; a decided merger
 -- answers No, a failed one Failed, and nothing changes
-abbrev pub Offers : {L K T : Type 0} → (L → Meaning T) → Bool → (K → List T → K → Type 0) → (K → List T → ℕ → K → Type 0)
+abbrev pub OffersAt : {L K T : Type 0} → (L → Meaning T) → Bool → (K → List T → K → Type 0) → (K → List T → ℕ → K → Type 0)
     → Work L T → JoinerState → ChunkResult T → K → Result More MergeFault → Work L T → JoinerState → K → Type 0
-Offers {L} {K} {T} meaning decided accepts refuses w Open r s (Ok Yes) w' standing' s' =
+OffersAt {L} {K} {T} meaning decided accepts refuses w Open r s (Ok Yes) w' standing' s' =
     (standing' ≡ Open) × ((offers : List (ChunkResult T)) → Rests meaning decided w offers
     → Brings (merge_of meaning decided w) offers r (λ gained. Leads accepts s gained s') × Rests meaning decided w' (offers ++ r ∷ []))
-Offers {L} {K} {T} meaning decided accepts refuses w Open r s (Ok No) w' standing' s' =
+OffersAt {L} {K} {T} meaning decided accepts refuses w Open r s (Ok No) w' standing' s' =
     (e : Ending) × (standing' ≡ Decided e) × ((offers : List (ChunkResult T)) → Rests meaning decided w offers
-    → Brings (merge_of meaning decided w) offers r (λ gained. Leads accepts s gained s') × ((answer (merge_of meaning decided w) (offers ++ r ∷ [])).ending ≡ Some e))
-Offers {L} {K} {T} meaning decided accepts refuses w Open r s (Err Memory) w' standing' s' =
+    → Brings (merge_of meaning decided w) offers r (λ gained. Leads accepts s gained s')
+    × ((answer (merge_of meaning decided w) (offers ++ r ∷ [])).ending ≡ Some e))
+OffersAt {L} {K} {T} meaning decided accepts refuses w Open r s (Err Memory) w' standing' s' =
     (standing' ≡ HasFailed) × ((offers : List (ChunkResult T)) → Rests meaning decided w offers
     → Brings (merge_of meaning decided w) offers r (λ gained. IsCutOff accepts refuses s gained NoMemory s'))
-Offers {L} {K} {T} meaning decided accepts refuses w Open r s (Err (Sink code)) w' standing' s' =
+OffersAt {L} {K} {T} meaning decided accepts refuses w Open r s (Err (Sink code)) w' standing' s' =
     (standing' ≡ HasFailed) × ((offers : List (ChunkResult T)) → Rests meaning decided w offers
     → Brings (merge_of meaning decided w) offers r (λ gained. IsCutOff accepts refuses s gained (Refusal code) s'))
-Offers {L} {K} {T} meaning decided accepts refuses w Open r s (Err Twice) w' standing' s' =
+OffersAt {L} {K} {T} meaning decided accepts refuses w Open r s (Err Twice) w' standing' s' =
     (w' ≡ w) × (standing' ≡ Open) × (s' ≡ s) × ((offers : List (ChunkResult T)) → Rests meaning decided w offers → IsDuplicate offers r)
-Offers meaning decided accepts refuses w Open r s (Err Gap) w' standing' s' = ⊥
-Offers meaning decided accepts refuses w Open r s (Err Failed) w' standing' s' = ⊥
-Offers meaning decided accepts refuses w Open r s (Err Cancelled) w' standing' s' = ⊥
-Offers meaning decided accepts refuses w (Decided e) r s result w' standing' s' = (result ≡ Ok No) × (w' ≡ w) × (standing' ≡ Decided e) × (s' ≡ s)
-Offers meaning decided accepts refuses w HasFailed r s result w' standing' s' = (result ≡ Err Failed) × (w' ≡ w) × (standing' ≡ HasFailed) × (s' ≡ s)
+OffersAt meaning decided accepts refuses w Open r s (Err Gap) w' standing' s' = ⊥
+OffersAt meaning decided accepts refuses w Open r s (Err Failed) w' standing' s' = ⊥
+OffersAt meaning decided accepts refuses w Open r s (Err Cancelled) w' standing' s' = ⊥
+OffersAt meaning decided accepts refuses w (Decided e) r s result w' standing' s' = (result ≡ Ok No) × (w' ≡ w) × (standing' ≡ Decided e) × (s' ≡ s)
+OffersAt meaning decided accepts refuses w HasFailed r s result w' standing' s' = (result ≡ Err Failed) × (w' ≡ w) × (standing' ≡ HasFailed) × (s' ≡ s)
 
 -- the token kept a batch back: the merger has failed, and of the batches that the definition gains the first were delivered
 abbrev pub IsCancelled : {L C K T : Type 0} → (L → Meaning T) → Bool → (C → ℕ → Bool → C → Type 0) → (K → List T → K → Type 0)
@@ -61,11 +62,14 @@ IsCancelled {L} {C} {K} {T} meaning decided asks accepts w standing r d standing
     → Brings (merge_of meaning decided w) offers r (λ gained. IsKeptBack asks accepts d gained d'))
 
 -- the same of an offer with a token, which is asked before each batch
-abbrev pub OffersWith : {L C K T : Type 0} → (L → Meaning T) → Bool → (C → ℕ → Bool → C → Type 0) → (K → List T → K → Type 0) → (K → List T → ℕ → K → Type 0)
+abbrev pub OffersWithAt : {L C K T : Type 0} → (L → Meaning T) → Bool → (C → ℕ → Bool → C → Type 0) → (K → List T → K → Type 0) → (K → List T → ℕ → K → Type 0)
     → Work L T → JoinerState → ChunkResult T → Delivery C K → Result More MergeFault → Work L T → JoinerState → Delivery C K → Type 0
-OffersWith meaning decided asks accepts refuses w standing r d (Ok more) w' standing' d' = Offers meaning decided (Passes asks accepts) (IsRefused asks refuses) w standing r d (Ok more) w' standing' d'
-OffersWith meaning decided asks accepts refuses w standing r d (Err Cancelled) w' standing' d' = IsCancelled meaning decided asks accepts w standing r d standing' d'
-OffersWith meaning decided asks accepts refuses w standing r d (Err fault) w' standing' d' = Offers meaning decided (Passes asks accepts) (IsRefused asks refuses) w standing r d (Err fault) w' standing' d'
+OffersWithAt meaning decided asks accepts refuses w standing r d (Ok more) w' standing' d' =
+    OffersAt meaning decided (Passes asks accepts) (IsRefused asks refuses) w standing r d (Ok more) w' standing' d'
+OffersWithAt meaning decided asks accepts refuses w standing r d (Err Cancelled) w' standing' d' =
+    IsCancelled meaning decided asks accepts w standing r d standing' d'
+OffersWithAt meaning decided asks accepts refuses w standing r d (Err fault) w' standing' d' =
+    OffersAt meaning decided (Passes asks accepts) (IsRefused asks refuses) w standing r d (Err fault) w' standing' d'
 
 abbrev pub is_decided : JoinerState → Bool
 is_decided Open = false

@@ -39,8 +39,8 @@ all_placed order ps (r ∷ rs) = all_placed order (placed order ps r) rs
 
 -- the first that was reported
 abbrev pub all_told : {T : Type 0} → Option (ℕ × Ending) → List (ChunkResult T) → Option (ℕ × Ending)
-all_told told [] = told
-all_told told (r ∷ rs) = all_told (option_or told (told_at (end_of_result r) r.tail)) rs
+all_told source_end [] = source_end
+all_told source_end (r ∷ rs) = all_told (option_or source_end (told_at (end_of_result r) r.tail)) rs
 
 -- the source's ending, if this is its place
 abbrev pub ending_at : Option (ℕ × Ending) → ℕ → Option Ending
@@ -53,7 +53,7 @@ all_given ps = all_followed (map (λ p. p.1.payload) ps)
 
 -- the unbroken row of keys from this one on; after it the source's ending, if the first gap is its place
 abbrev pub row : {T : Type 0} → Option (ℕ × Ending) → ℕ → List (Interval (Trace T)) → Trace T
-row told key ps = followed (all_given (unbroken key ps)) (record { items = []; ending = ending_at told (first_gap key ps) })
+row source_end key ps = followed (all_given (unbroken key ps)) (record { items = []; ending = ending_at source_end (first_gap key ps) })
 
 -- what was merged at once, in the order of arrival
 abbrev pub arrived : {T : Type 0} → Order → List (ChunkResult T) → Trace T
@@ -85,8 +85,8 @@ shown merge offers = batches_from merge.size [] (answer merge offers)
 
 -- keys 0 and 1, a gap at 2, and key 3
 abbrev row_with_a_gap : Option (ℕ × Ending) → Trace ℕ
-row_with_a_gap told =
-    row told 0 ((0, record { end = 2; payload = open_trace (4 ∷ 2 ∷ []) }) ∷ (3, record { end = 4; payload = open_trace (9 ∷ []) }) ∷ [])
+row_with_a_gap source_end =
+    row source_end 0 ((0, record { end = 2; payload = open_trace (4 ∷ 2 ∷ []) }) ∷ (3, record { end = 4; payload = open_trace (9 ∷ []) }) ∷ [])
 
 up_to_the_gap : row_with_a_gap None ≡ open_trace (4 ∷ 2 ∷ [])
 up_to_the_gap = refl
@@ -98,7 +98,8 @@ tail_after_a_gap = refl
 tail_in_its_place : row_with_a_gap (Some (2, Refused 3)) ≡ ended (4 ∷ 2 ∷ []) (Refused 3)
 tail_in_its_place = refl
 
-nothing_after_a_fault : row {T = ℕ} (Some (2, End)) 0 ((0, record { end = 1; payload = ended (4 ∷ []) (Fault 1) }) ∷ (1, record { end = 2; payload = open_trace (2 ∷ []) }) ∷ [])
+nothing_after_a_fault : row {T = ℕ} (Some (2, End)) 0
+    ((0, record { end = 1; payload = ended (4 ∷ []) (Fault 1) }) ∷ (1, record { end = 2; payload = open_trace (2 ∷ []) }) ∷ [])
     ≡ ended (4 ∷ []) (Fault 1)
 nothing_after_a_fault = refl
 
@@ -117,10 +118,12 @@ by_arrival_as_they_came : (early late : Vec ℕ) → early.items ≡ 4 ∷ [] �
 by_arrival_as_they_came early late four two = rw (four, two) refl
 
 -- a fault of the later key
-by_key_the_fault_is_last : (early late : Vec ℕ) → early.items ≡ 4 ∷ [] → late.items ≡ 2 ∷ [] → later_first ByKey early late (Faults 1) ≡ ended (4 ∷ 2 ∷ []) (Fault 1)
+by_key_the_fault_is_last : (early late : Vec ℕ) → early.items ≡ 4 ∷ [] → late.items ≡ 2 ∷ []
+    → later_first ByKey early late (Faults 1) ≡ ended (4 ∷ 2 ∷ []) (Fault 1)
 by_key_the_fault_is_last early late four two = rw (four, two) refl
 
-by_arrival_the_fault_is_first : (early late : Vec ℕ) → early.items ≡ 4 ∷ [] → late.items ≡ 2 ∷ [] → later_first ByArrival early late (Faults 1) ≡ ended (2 ∷ []) (Fault 1)
+by_arrival_the_fault_is_first : (early late : Vec ℕ) → early.items ≡ 4 ∷ [] → late.items ≡ 2 ∷ []
+    → later_first ByArrival early late (Faults 1) ≡ ended (2 ∷ []) (Fault 1)
 by_arrival_the_fault_is_first early late four two = rw two refl
 
 -- without key 0 nothing is merged by key, and by arrival the end isn't reached

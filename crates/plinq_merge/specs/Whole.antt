@@ -24,7 +24,7 @@ AreApart (r ∷ rs) = AreNew rs r × AreApart rs
 pub record AreWhole {T : Type 0} (t : Trace T) (offers : List (ChunkResult T)) : Type 0 where
   pub apart : AreApart offers
   pub keys : (key : ℕ) → key < length t.items → is_offered offers key ≡ true
-  pub told : IsSome (all_told None offers)
+  pub end : IsSome (all_told None offers)
 
 -- the first of these batches
 abbrev pub AreFirstOf : {B : Type 0} → List B → List B → Type 0

@@ -3,3 +3,4 @@ pub mod Sent
 pub mod Handing
 pub mod OneThread
 pub mod Stopped
+pub mod Lending

@@ -4,7 +4,7 @@ ghost use Rattle.plinq_ops.specs.declared.results.ChunkResult.{ChunkResult};
 ghost use Rattle.plinq_ops.specs.Tails.{end_of_result};
 ghost use Rattle.plinq_merge.specs.Keys.{is_offered};
 ghost use Rattle.plinq_merge.specs.Joining.{IsReady};
-ghost use Rattle.plinq_merge.specs.Joiners.{taker_of, order_of, WaitsFor, has_decided, ending_of, Takes};
+ghost use Rattle.plinq_merge.specs.Joiners.{taker_of, order_of, WaitsFor, has_decided, ending_of, JoinsOffer};
 
 use crate::delivery_fault::DeliveryFault;
 use crate::joined::Joined;
@@ -74,7 +74,7 @@ impl<W: Taker> Joiner<W, W::Item> {
         requires within { end_of_result offered ≤ 2 ^ 40 }
         ensures ready { IsReady W.can_take self.new }
         ensures order { order_of self.new ≡ order_of self.old }
-        ensures takes { Takes W.made self.old offered out.old result self.new out.new }
+        ensures takes { JoinsOffer W.made self.old offered out.old result self.new out.new }
     {
         match self.standing {
             JoinerState::Failed => return Err(MergeFault::Failed),

@@ -8,7 +8,7 @@ ghost use Rattle.plinq_merge.specs.declared.merge_fault.MergeFault.TheVariants.{
 ghost use Rattle.plinq_merge.specs.Keys.{is_offered};
 ghost use Rattle.plinq_merge.specs.Shown.{answer};
 ghost use Rattle.plinq_merge.specs.Offering.{finish_of};
-ghost use Rattle.plinq_merge.specs.Mergers.{plan_of, delivered_of, IsFor, SendsSome, Takes, tells_decided, tells_ending};
+ghost use Rattle.plinq_merge.specs.Mergers.{plan_of, delivered_of, IsFor, SendsSome, Offers, tells_decided, tells_ending};
 
 use crate::deliver::Deliver;
 use crate::joiner::Joiner;
@@ -69,7 +69,7 @@ impl<'a, L: Lambda> Merger<'a, L> {
         requires { end_of_result offered ≤ 2 ^ 40 }
         ensures plan { plan_of self.new ≡ plan_of self.old }
         ensures delivered { delivered_of self.new ≡ delivered_of self.old }
-        ensures takes { Takes K.accepts K.refuses self.old offered sink.old result self.new sink.new }
+        ensures takes { Offers K.accepts K.refuses self.old offered sink.old result self.new sink.new }
         ensures sends { SendsSome K.accepts K.refuses sink.old result sink.new }
     {
         self.joiner.offer(offered, sink)
@@ -77,7 +77,7 @@ impl<'a, L: Lambda> Merger<'a, L> {
 
     /// Whether the answer is decided; not after a failure. Takes no memory.
     pub fn decided(&self) -> bool
-        ensures told { result ≡ tells_decided self.now }
+        ensures decided { result ≡ tells_decided self.now }
         ensures answer { (offers : List (ChunkResult L.Item)) → IsFor self.now offers →
             result ≡ is_some (answer (plan_of self.now) offers).ending }
     {
@@ -105,7 +105,7 @@ impl<'a, L: Lambda> Merger<'a, L> {
     ///
     /// [`MergeFault::Gap`] where the answer isn't decided, [`MergeFault::Failed`] after a failure.
     pub fn finish(self) -> Result<Ending, MergeFault>
-        ensures told { result ≡ tells_ending self.entry }
+        ensures ending { result ≡ tells_ending self.entry }
         ensures answer { (offers : List (ChunkResult L.Item)) → IsFor self.entry offers →
             result ≡ finish_of (answer (plan_of self.entry) offers).ending }
     {

@@ -1,8 +1,8 @@
 //! What a merger is offered, and what that delivers.
 ghost use Rattle.std.specs.Prelude.{◌≡◌, ◌≤◌, ◌^◌, ◌||◌, false};
 ghost use Rattle.plinq_merge.specs.Cancelling.{Counts, CountsNot};
-ghost use Rattle.plinq_merge.specs.Lent.{AreSame, delivery_of};
-ghost use Rattle.plinq_merge.specs.Mergers.{plan_of, delivered_of, is_cancelled, AsksEach, Takes, TakesWith};
+ghost use Rattle.plinq_merge.specs.Mergers.{plan_of, delivered_of, is_cancelled, AsksEach, Offers, OffersWith};
+ghost use Rattle.plinq_merge.specs.inner.Lending.{OffersLent};
 ghost use Rattle.plinq_ops.specs.Tails.{end_of_result};
 
 use crate::cancel::Cancel;
@@ -33,8 +33,8 @@ impl<'a, L: Lambda> Merger<'a, L> {
     ) -> Result<More, MergeFault>
         requires { end_of_result offered ≤ 2 ^ 40 }
         ensures plan { plan_of self.new ≡ plan_of self.old }
-        ensures takes { Takes K.accepts K.refuses self.old offered sink.old result self.new sink.new }
-        ensures counts { Takes (Counts K.accepts) (CountsNot K.refuses) self.old offered
+        ensures takes { Offers K.accepts K.refuses self.old offered sink.old result self.new sink.new }
+        ensures counts { Offers (Counts K.accepts) (CountsNot K.refuses) self.old offered
             (record { sink = sink.old; delivered = delivered_of self.old }) result
             self.new (record { sink = sink.new; delivered = delivered_of self.new }) }
     {
@@ -63,7 +63,7 @@ impl<'a, L: Lambda> Merger<'a, L> {
             (record { token = token.old; sink = sink.old; delivered = delivered_of self.old }) result
             (record { token = token.new; sink = sink.new; delivered = delivered_of self.new }) }
         ensures told { C.has_told token.new ≡ (C.has_told token.old || is_cancelled result) }
-        ensures takes { TakesWith C.asks K.accepts K.refuses self.old offered
+        ensures takes { OffersWith C.asks K.accepts K.refuses self.old offered
             (record { token = token.old; sink = sink.old; delivered = delivered_of self.old }) result
             self.new (record { token = token.new; sink = sink.new; delivered = delivered_of self.new }) }
     {
@@ -73,9 +73,9 @@ impl<'a, L: Lambda> Merger<'a, L> {
             delivered: self.delivered,
             is_stopped: false,
         };
-        let told = self.offer_within(offered, &mut with);
+        let answer = self.offer_within(offered, &mut with);
         self.delivered = with.delivered;
-        told
+        answer
     }
 
     /// Offers the result of a chunk to a sink with its token.
@@ -86,14 +86,10 @@ impl<'a, L: Lambda> Merger<'a, L> {
     ) -> Result<More, MergeFault>
         requires within { end_of_result offered ≤ 2 ^ 40 }
         requires unstopped { with.old.is_stopped ≡ false }
-        ensures same { AreSame with.old with.new }
-        ensures plan { plan_of self.new ≡ plan_of self.old }
-        ensures asks { AsksEach C.asks K.accepts K.refuses (delivery_of with.old) result (delivery_of with.new) }
-        ensures told { C.has_told with.new.token.now ≡ (C.has_told with.old.token.now || is_cancelled result) }
-        ensures takes { TakesWith C.asks K.accepts K.refuses self.old offered (delivery_of with.old) result self.new (delivery_of with.new) }
+        ensures { OffersLent C.asks C.has_told K.accepts K.refuses self.old offered with.old result self.new with.new }
     {
-        let told = self.offer_to(offered, with);
-        with.told_unless_stopped(told)
+        let answer = self.offer_to(offered, with);
+        with.answer_unless_stopped(answer)
     }
 
     /// How many batches it has delivered, and the greatest number where there were more. Takes no memory.

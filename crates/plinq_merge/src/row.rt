@@ -17,39 +17,39 @@ use std::alloc::Global;
 #[derive(Drop)]
 pub struct Row<T> {
     pub buffer: ReorderBuffer<Pending<T>>,
-    pub told: Option<(u64, Ending)>,
+    pub source_end: Option<(u64, Ending)>,
 }
 
 impl<T: Drop> Row<T> {
     /// The row of which nothing is merged.
     pub fn new(alloc: Global) -> Row<T>
         ensures buffer { result.buffer ≡ record { next = 0; held = [] } }
-        ensures told { result.told ≡ None }
+        ensures source_end { result.source_end ≡ None }
     {
         Row {
             buffer: ReorderBuffer::new(alloc),
-            told: None,
+            source_end: None,
         }
     }
 
     /// Notes where the source ends, if a tail after these keys says so and none has before.
     pub fn note_tail(&mut self, end: u64, tail: Option<Tail>)
         ensures buffer { self.new.buffer ≡ self.old.buffer }
-        ensures told { self.new.told ≡ option_or self.old.told (told_at end tail) }
+        ensures source_end { self.new.source_end ≡ option_or self.old.source_end (told_at end tail) }
     {
-        let told = match tail {
+        let source_end = match tail {
             Some(Tail::Ended) => Some((end, Ending::End)),
             Some(Tail::Refused(code)) => Some((end, Ending::Refused(code))),
             Some(Tail::Closed) | None => None,
         };
-        self.told = self.told.or(told);
+        self.source_end = self.source_end.or(source_end);
     }
 
     /// How the source ends, if all keys before its end are merged.
     pub fn ending(&self) -> Option<Ending>
-        ensures { result ≡ ending_at self.now.told self.now.buffer.next }
+        ensures { result ≡ ending_at self.now.source_end self.now.buffer.next }
     {
-        match self.told {
+        match self.source_end {
             Some((key, ending)) if key == self.buffer.next_key() => Some(ending),
             _ => None,
         }

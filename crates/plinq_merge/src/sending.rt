@@ -1,6 +1,6 @@
-ghost use Rattle.std.specs.Prelude.{◌≡◌, ℕ, List, [], ◌∷◌, ◌<◌, ◌≤◌, length, Some, None, IfOk, OnOk, MatchResult};
+ghost use Rattle.std.specs.Prelude.{◌≡◌, [], ◌∷◌, ◌<◌, length, Some, None, IfOk, OnOk};
 ghost use Rattle.plinq_source.specs.Trace.{ended};
-ghost use Rattle.plinq_ops.specs.Batches.{batches_from, full_batches, held_back, last_batch};
+ghost use Rattle.plinq_ops.specs.Batches.{batches_from, held_back, last_batch};
 ghost use Rattle.plinq_merge.specs.Buffer.{held_of, size_of, HasRoom};
 ghost use Rattle.plinq_merge.specs.Sending.{Delivers, IsFilled};
 
@@ -15,17 +15,6 @@ pub(crate) fn send<K: Sink>(batch: &[K::Item], sink: &mut K) -> Result<(), Deliv
     ensures { Delivers K.accepts K.refuses sink.old (batch.now ∷ []) result sink.new }
 {
     match sink.batch(batch) {
-        Ok(()) => Ok(()),
-        Err(code) => Err(DeliveryFault::Sink(code)),
-    }
-}
-
-/// Hands the full batches that these items make to the sink.
-fn send_full<K: Sink>(size: usize, items: &[K::Item], sink: &mut K) -> Result<(), DeliveryFault>
-    requires { 0 < size }
-    ensures { Delivers K.accepts K.refuses sink.old (full_batches (Some size) [] items.now) result sink.new }
-{
-    match sink.batches_of(size, items) {
         Ok(()) => Ok(()),
         Err(code) => Err(DeliveryFault::Sink(code)),
     }
@@ -116,7 +105,7 @@ pub(crate) fn deliver_rest<K: Sink>(
 where
     K::Item: Copy,
     requires { HasRoom buffer.old }
-    ensures told { IfOk result (λ e. e ≡ ending) }
+    ensures ending { IfOk result (λ e. e ≡ ending) }
     ensures delivered { Delivers K.accepts K.refuses sink.old
         (batches_from (size_of buffer.old) (held_of buffer.old) (ended made.now.items ending)) result sink.new }
 {
@@ -167,7 +156,9 @@ where
     ensures filled { IsFilled K.accepts K.refuses (Some ring.old.capacity) [] items.now sink.old result ring.new.items sink.new }
 {
     let size = ring.capacity();
-    send_full(size, items, sink)?;
+    if let Err(code) = sink.batches_of(size, items) {
+        return Err(DeliveryFault::Sink(code));
+    }
     let (_, rest) = items.split_at(items.len() - items.len() % size);
     ring.fill_from_slice(rest);
     Ok(())

@@ -1,7 +1,7 @@
 ghost use Rattle.std.specs.Prelude.{◌≡◌, ◌||◌};
 ghost use Rattle.plinq_merge.specs.Cancelling.{IsAsked};
 ghost use Rattle.plinq_merge.specs.Lent.{AreSame, Refuses, Takes, delivery_of};
-ghost use Rattle.plinq_merge.specs.inner.Stopped.{told_unless_stopped};
+ghost use Rattle.plinq_merge.specs.inner.Stopped.{answer_unless_stopped};
 
 use crate::cancel::Cancel;
 use crate::merge_fault::MergeFault;
@@ -33,16 +33,16 @@ impl<'a, C: Cancel, K> WithCancellation<'a, C, K> {
     }
 
     /// What an offer to this sink answers: Cancelled where the token has stopped it, and else what it answered without that.
-    pub(crate) fn told_unless_stopped(
+    pub(crate) fn answer_unless_stopped(
         &self,
-        told: Result<More, MergeFault>,
+        answer: Result<More, MergeFault>,
     ) -> Result<More, MergeFault>
-        ensures { result ≡ told_unless_stopped self.now.is_stopped told }
+        ensures { result ≡ answer_unless_stopped self.now.is_stopped answer }
     {
         if self.is_stopped {
             return Err(MergeFault::Cancelled);
         }
-        told
+        answer
     }
 }
 

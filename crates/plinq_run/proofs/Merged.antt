@@ -22,7 +22,7 @@ use Rattle.plinq_merge.specs.declared.delivery_fault.DeliveryFault.TheVariants.{
 use Rattle.plinq_merge.specs.declared.merge_fault.MergeFault.{MergeFault}
 use Rattle.plinq_merge.specs.declared.merge_fault.MergeFault.TheVariants.{Sink, Gap}
 use Rattle.plinq_merge.specs.declared.more.More.{More}
-use Rattle.plinq_merge.specs.Joiners.{taker_of, order_of, ending_of, Takes}
+use Rattle.plinq_merge.specs.Joiners.{taker_of, order_of, ending_of, JoinsOffer}
 use Rattle.plinq_merge.specs.Mergers.{delivery_fault_of}
 use Rattle.plinq_merge.specs.Shown.{merged}
 use Rattle.plinq_merge.specs.Taking.{IsTaking}
@@ -82,7 +82,7 @@ module _ {W O T : Type 0} (made : W → O → Trace T → Result (Option Ending)
       }
 
   -- a part was offered to a joiner that had no fault
-  offered-by : (told : Result More MergeFault) (m : Merging W T) (y : O) (part : ChunkResult T) (m' : Merging W T) (y' : O) → Takes made m.joiner part y told m'.joiner y'
+  offered-by : (told : Result More MergeFault) (m : Merging W T) (y : O) (part : ChunkResult T) (m' : Merging W T) (y' : O) → JoinsOffer made m.joiner part y told m'.joiner y'
       → order_of m'.joiner ≡ order_of m.joiner → m'.fault ≡ offer_fault told → IsPart part
       → (offers : List (ChunkResult T)) → All IsPart offers → AreApart offers → Stands made IsPart order a x None m.joiner y offers
       → HasMerged made IsPart order a x m' y'

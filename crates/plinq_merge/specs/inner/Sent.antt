@@ -57,23 +57,27 @@ pub up_to-leads : {K B : Type 0} (accepts : K → B → K → Type 0) (s : K) (a
 up_to-leads accepts s all rest m s' before leads = rw before.parts (leads-append accepts s before.sent rest m s' before.leads leads)
 
 -- the rest was cut off
-pub up_to-cut : {K B : Type 0} (accepts : K → B → K → Type 0) (refuses : K → B → ℕ → K → Type 0) (s : K) (all rest : List B) (m : K) (fault : DeliveryFault) (s' : K)
+pub up_to-cut : {K B : Type 0} (accepts : K → B → K → Type 0) (refuses : K → B → ℕ → K → Type 0)
+    (s : K) (all rest : List B) (m : K) (fault : DeliveryFault) (s' : K)
     → IsSentUpTo accepts s all rest m → IsCutOff accepts refuses m rest fault s' → IsCutOff accepts refuses s all fault s'
 up_to-cut accepts refuses s all rest m fault s' before cut =
     rw before.parts (cut-after accepts refuses s before.sent rest fault m s' before.leads cut)
 
 -- the fault is answered by a result of any kind
-pub delivers-at_err : {K B A : Type 0} (accepts : K → B → K → Type 0) (refuses : K → B → ℕ → K → Type 0) (s : K) (bs : List B) (r : Result A DeliveryFault) (fault : DeliveryFault) (s' : K)
+pub delivers-at_err : {K B A : Type 0} (accepts : K → B → K → Type 0) (refuses : K → B → ℕ → K → Type 0)
+    (s : K) (bs : List B) (r : Result A DeliveryFault) (fault : DeliveryFault) (s' : K)
     → r ≡ Err fault → IsCutOff accepts refuses s bs fault s' → Delivers accepts refuses s bs r s'
 delivers-at_err accepts refuses s bs r fault s' is cut = rw is cut
 
 -- the batches are these
-pub delivers-as : {K B A : Type 0} (accepts : K → B → K → Type 0) (refuses : K → B → ℕ → K → Type 0) (s : K) (bs cs : List B) (r : Result A DeliveryFault) (s' : K)
+pub delivers-as : {K B A : Type 0} (accepts : K → B → K → Type 0) (refuses : K → B → ℕ → K → Type 0)
+    (s : K) (bs cs : List B) (r : Result A DeliveryFault) (s' : K)
     → bs ≡ cs → Delivers accepts refuses s cs r s' → Delivers accepts refuses s bs r s'
 delivers-as accepts refuses s bs cs r s' same delivers = rw same delivers
 
 -- after batches that were sent
-pub delivers-after : {K B A : Type 0} (accepts : K → B → K → Type 0) (refuses : K → B → ℕ → K → Type 0) (s : K) (bs cs : List B) (m : K) (r : Result A DeliveryFault) (s' : K)
+pub delivers-after : {K B A : Type 0} (accepts : K → B → K → Type 0) (refuses : K → B → ℕ → K → Type 0)
+    (s : K) (bs cs : List B) (m : K) (r : Result A DeliveryFault) (s' : K)
     → Leads accepts s bs m → Delivers accepts refuses m cs r s' → Delivers accepts refuses s (bs ++ cs) r s'
 delivers-after accepts refuses s bs cs m (Ok x) s' first second = leads-append accepts s bs cs m s' first second
 delivers-after accepts refuses s bs cs m (Err fault) s' first second = cut-after accepts refuses s bs cs fault m s' first second

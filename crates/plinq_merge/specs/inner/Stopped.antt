@@ -5,6 +5,6 @@ use Rattle.plinq_merge.specs.declared.merge_fault.MergeFault.TheVariants.{Cancel
 use Rattle.plinq_merge.specs.declared.more.More.{More}
 
 -- Cancelled where the token has stopped it, and else what it answered without that
-abbrev pub told_unless_stopped : Bool → Result More MergeFault → Result More MergeFault
-told_unless_stopped true told = Err Cancelled
-told_unless_stopped false told = told
+abbrev pub answer_unless_stopped : Bool → Result More MergeFault → Result More MergeFault
+answer_unless_stopped true answer = Err Cancelled
+answer_unless_stopped false answer = answer

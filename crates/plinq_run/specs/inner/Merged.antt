@@ -15,7 +15,7 @@ use Rattle.plinq_merge.specs.declared.joined.Joined.{Joined}
 use Rattle.plinq_merge.specs.declared.joiner.Joiner.{Joiner}
 use Rattle.plinq_merge.specs.declared.merge_fault.MergeFault.{MergeFault}
 use Rattle.plinq_merge.specs.declared.more.More.{More}
-use Rattle.plinq_merge.specs.Joiners.{taker_of, order_of, ending_of, Takes, HasJoined}
+use Rattle.plinq_merge.specs.Joiners.{taker_of, order_of, ending_of, JoinsOffer, HasJoined}
 use Rattle.plinq_merge.specs.Mergers.{delivery_fault_of}
 use Rattle.plinq_merge.specs.Shown.{Merge, merged}
 use Rattle.plinq_merge.specs.Whole.{AreApart}
@@ -49,7 +49,7 @@ module _ {W O T : Type 0} (made : W → O → Trace T → Result (Option Ending)
   -- the part was offered to the joiner, and how that was answered is known
   pub record WasOffered (m : Merging W T) (y : O) (part : ChunkResult T) (m' : Merging W T) (y' : O) : Type 0 where
     pub told : Result More MergeFault
-    pub takes : Takes made m.joiner part y told m'.joiner y'
+    pub takes : JoinsOffer made m.joiner part y told m'.joiner y'
     pub order : order_of m'.joiner ≡ order_of m.joiner
     pub kept : m'.fault ≡ offer_fault told
 

@@ -25,7 +25,7 @@ returns-in-Some-clause-delivers g c =
       c.in_ok-ending.ensures.asked,
       length-take c.args.most
           (drop (g.S.Source.given c.loop-block.source) (g.S.Source.whole c.loop-block.source).items),
-    )) before.sent next c.deliver_rest.ensures.told
+    )) before.sent next c.deliver_rest.ensures.ending
     (rw before.size at c.deliver_rest.ensures.delivered)
 
 -- a block that leaves the answer open

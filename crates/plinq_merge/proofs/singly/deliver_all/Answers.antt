@@ -19,7 +19,7 @@ pub returns-in-Some-clause-delivers : goal.returns-in-Some-clause-delivers
 returns-in-Some-clause-delivers g c =
     let before = c.loop-made.invariant in
     let next = rw (c.in-Some.is, before.whole) at c.in_ok-ending.ensures.fed in
-    sent-over g.K.Sink.accepts g.K.Sink.refuses _ _ _ _ _ _ _ _ _ _ _ _ _ _ _ _ c.feed_from.ensures.one before.sent next c.deliver_rest.ensures.told (rw before.size at c.deliver_rest.ensures.delivered)
+    sent-over g.K.Sink.accepts g.K.Sink.refuses _ _ _ _ _ _ _ _ _ _ _ _ _ _ _ _ c.feed_from.ensures.one before.sent next c.deliver_rest.ensures.ending (rw before.size at c.deliver_rest.ensures.delivered)
 
 -- a batch that couldn't be delivered
 pub returns-in_err-deliver_ready-clause-delivers : goal.returns-in_err-deliver_ready-clause-delivers

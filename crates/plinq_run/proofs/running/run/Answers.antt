@@ -62,7 +62,7 @@ returns-in-Ok-conduct_plan-clause-reports g c =
     whole-reported g.L.Lambda.meaning q c.split-plan.result c.split-plan.ensures.plan (merge_in_force q.merge)
     (search (rules, planned-undecided)) t few g.K.Sink.accepts g.K.Sink.refuses c.in-Ok.taker
     (rw c.merge_option.ensures at c.in-Ok.ensures.begun) c.args.sink.now c.conduct_plan.new.out c.in-Ok-conduct_plan.conducted.ended c.report.result
-    c.in-Ok-conduct_plan.ensures.1 c.report.ensures.told (returns-in-Ok-conduct_plan-clause-legal g c) c.report.ensures.records
+    c.in-Ok-conduct_plan.ensures.1 c.report.ensures.reports (returns-in-Ok-conduct_plan-clause-legal g c) c.report.ensures.records
 
 pub returns-in-Ok-conduct_plan-clause-ordered : goal.returns-in-Ok-conduct_plan-clause-ordered
 returns-in-Ok-conduct_plan-clause-ordered g c = λ ordered.

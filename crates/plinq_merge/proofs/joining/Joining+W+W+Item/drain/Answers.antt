@@ -21,6 +21,6 @@ returns-then-is_none-clause-waits g c = λ is_open offers out h keys.
     let w = c.loop-part.self in
     let gap : (c.take_next.new.self ≡ w.row.buffer) × IsAtGap w.row.buffer = search rules in
     let none : c.ending-ending.result ≡ None = search rules in
-    let ending : ending_at w.row.told w.row.buffer.next ≡ None = ap (λ b. ending_at w.row.told b.next) (sym gap.0) ∙ sym c.ending-ending.ensures ∙ none in
-    subst (λ b. Waits w.order (record { buffer = b; told = w.row.told }) offers) (sym gap.0)
+    let ending : ending_at w.row.source_end w.row.buffer.next ≡ None = ap (λ b. ending_at w.row.source_end b.next) (sym gap.0) ∙ sym c.ending-ending.ensures ∙ none in
+    subst (λ b. Waits w.order (record { buffer = b; source_end = w.row.source_end }) offers) (sym gap.0)
     (moved-waits g.W.TakeInto.made g.met.W.TakeInto.lawful c.args.self.now c.args.out.now w c.loop-part.out offers out c.loop-part.invariant.moves gap.1 ending h keys)

@@ -14,7 +14,7 @@ pub returns-then-count-eq0-clause-taken : goal.returns-then-count-eq0-clause-tak
 returns-then-count-eq0-clause-taken g c =
     let by_key : c.args.order ≡ ByKey = search rules in
     rw (by_key, c.new.ensures.items)
-    (takes-none ByKey c.args.self.now c.args.offered c.note_tail.new.self c.if-count-eq0.true c.note_tail.ensures.buffer c.note_tail.ensures.told)
+    (takes-none ByKey c.args.self.now c.args.offered c.note_tail.new.self c.if-count-eq0.true c.note_tail.ensures.buffer c.note_tail.ensures.source_end)
 
 pub returns-in_ok-insert-in-ByKey-clause-taken : goal.returns-in_ok-insert-in-ByKey-clause-taken
 returns-in_ok-insert-in-ByKey-clause-taken g c =
@@ -24,14 +24,14 @@ returns-in_ok-insert-in-ByKey-clause-taken g c =
     let inserts : Inserts c.args.self.now.buffer r.first (end_of_result r) (result_trace r) turn c.insert.new.self = search rules in
     let hand : c.unwrap_or.result ≡ unwrap_or turn (open_trace c.new.result.items) = search rules in
     rw (by_key, hand, c.new.ensures.items)
-    (takes-inserted ByKey c.args.self.now r turn (record { buffer = c.insert.new.self; told = c.note_tail.new.self.told })
-    (omega arith) c.requires.fresh inserts c.note_tail.ensures.told)
+    (takes-inserted ByKey c.args.self.now r turn (record { buffer = c.insert.new.self; source_end = c.note_tail.new.self.source_end })
+    (omega arith) c.requires.fresh inserts c.note_tail.ensures.source_end)
 
 pub returns-then-count-eq0-2-clause-taken : goal.returns-then-count-eq0-2-clause-taken
 returns-then-count-eq0-2-clause-taken g c =
     let by_arrival : c.args.order ≡ ByArrival = search rules in
     rw (by_arrival, c.run_ending.ensures)
-    (takes-none ByArrival c.args.self.now c.args.offered c.note_tail.new.self c.if-count-eq0-2.true c.note_tail.ensures.buffer c.note_tail.ensures.told)
+    (takes-none ByArrival c.args.self.now c.args.offered c.note_tail.new.self c.if-count-eq0-2.true c.note_tail.ensures.buffer c.note_tail.ensures.source_end)
 
 pub returns-in_ok-insert-in-ByArrival-clause-taken : goal.returns-in_ok-insert-in-ByArrival-clause-taken
 returns-in_ok-insert-in-ByArrival-clause-taken g c =
@@ -41,7 +41,7 @@ returns-in_ok-insert-in-ByArrival-clause-taken g c =
     let b' = c.insert-in-ByArrival.new.self in
     let at : Inserts c.args.self.now.buffer r.first (end_of_result r) (open_trace c.new.result.items) turn b' = search rules in
     let inserts : Inserts c.args.self.now.buffer r.first (end_of_result r) (open_trace []) turn b' = rw (← c.new.ensures.items) at in
-    let after : Row g.row.T.Denot = record { buffer = b'; told = c.note_tail.new.self.told } in
+    let after : Row g.row.T.Denot = record { buffer = b'; source_end = c.note_tail.new.self.source_end } in
     rw (by_arrival, c.run_ending.ensures)
     (subst (λ hand. TakesIn ByArrival c.args.self.now r hand after) (by_arrival-hand r c.args.self.now.buffer turn b' inserts)
-    (takes-inserted ByArrival c.args.self.now r turn after (omega arith) c.requires.fresh inserts c.note_tail.ensures.told))
+    (takes-inserted ByArrival c.args.self.now r turn after (omega arith) c.requires.fresh inserts c.note_tail.ensures.source_end))
