@@ -2,7 +2,7 @@
 ghost use Rattle.std.specs.Prelude.{◌≡◌, IfOk};
 ghost use Rattle.plinq_source.specs.Walked.{range_given};
 
-use crate::queries::ordered;
+use crate::numbers::ordered;
 use plinq_collect::{all, any, element_at, first};
 use plinq_lambda::Formula;
 use plinq_ops::Built;

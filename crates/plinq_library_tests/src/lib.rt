@@ -7,12 +7,12 @@
 #[cfg(test)]
 mod against_a_loop;
 #[cfg(test)]
-mod calling;
+mod called_closures;
 #[cfg(test)]
 mod chains;
 #[cfg(test)]
 mod early_ends;
 #[cfg(test)]
-mod queries;
+mod numbers;
 #[cfg(test)]
 mod refused_room;

@@ -10,15 +10,17 @@
 #[cfg(test)]
 mod aggregators;
 #[cfg(test)]
+mod another_inside;
+#[cfg(test)]
 mod answers;
 #[cfg(test)]
-mod asked;
+mod asked_parts;
 #[cfg(test)]
 mod buffers;
 #[cfg(test)]
-mod building;
+mod builder_words;
 #[cfg(test)]
-mod chunked;
+mod building;
 #[cfg(test)]
 mod counted_steps;
 #[cfg(test)]
@@ -42,13 +44,13 @@ mod load;
 #[cfg(test)]
 mod lock;
 #[cfg(test)]
-mod memory;
+mod no_room_to_merge;
 #[cfg(test)]
 mod offers;
 #[cfg(test)]
-mod pipelines;
+mod on_one_thread;
 #[cfg(test)]
-mod queries;
+mod pipelines;
 #[cfg(test)]
 mod refusals;
 #[cfg(test)]
@@ -58,10 +60,8 @@ mod rows;
 #[cfg(test)]
 mod sent_at_once;
 #[cfg(test)]
-mod sources;
-#[cfg(test)]
 mod tested;
 #[cfg(test)]
 mod tokens;
 #[cfg(test)]
-mod waiting;
+mod walked_sources;

@@ -3,7 +3,7 @@
 ghost use Rattle.std.specs.Prelude.{◌≤◌, ◌<◌};
 
 use crate::aggregates::Last;
-use crate::asked::{Answers, Setting, ask_list, list_of};
+use crate::beside_one_thread::{Answers, Setting, ask_list, list_of};
 use plinq_enumerator::Growth;
 use plinq_lambda::Formula;
 use plinq_ops::Op;

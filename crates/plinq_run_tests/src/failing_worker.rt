@@ -8,9 +8,10 @@ use plinq_enumerator::Growth;
 use plinq_lambda::{ExpandFault, Formula, Lambda};
 use plinq_ops::{BuildFault, MergeOption, Query};
 use plinq_run::{RunFault, run};
-use plinq_source::{RangeSource, Source, Step};
+use plinq_source::RangeSource;
 use plinq_testing::{
-    Counts, Held, KeepsBack, Passed, Seen, Taken, Watched, built, lingers, unchanged, waits_for,
+    Counts, Held, Inside, KeepsBack, KeepsInside, Passed, Seen, Taken, Watched, built, lingers,
+    unchanged, waits_for,
 };
 use std::alloc::Global;
 use std::sync::Wait;
@@ -43,12 +44,13 @@ struct Late {
 struct Standing {
     passed: Passed,
     seen: Seen,
+    inside: Inside,
     /// How many chunks were taken when the worker failed.
     taken_by_then: AtomicU64,
     /// 1 once the worker has failed.
     failed: AtomicU64,
-    /// Whether the worker or the source has waited for too long.
-    gave_up: AtomicBool,
+    /// Whether the worker has waited for too long.
+    has_given_up: AtomicBool,
 }
 
 impl Standing {
@@ -56,16 +58,22 @@ impl Standing {
         Standing {
             passed: Passed::new(),
             seen: Seen::new(),
+            inside: Inside::new(),
             taken_by_then: AtomicU64::new(0),
             failed: AtomicU64::new(0),
-            gave_up: AtomicBool::new(false),
+            has_given_up: AtomicBool::new(false),
         }
     }
 
     fn awaits(&self, word: &AtomicU64, least: u64) {
         if !waits_for(word, least) {
-            self.gave_up.store(true, Ordering::SeqCst);
+            self.has_given_up.store(true, Ordering::SeqCst);
         }
+    }
+
+    /// Whether the worker or the source has waited for too long.
+    fn gave_up(&self) -> bool {
+        self.inside.gave_up() || self.has_given_up.load(Ordering::SeqCst)
     }
 
     /// A gate that holds all keys but the first back until the sink has a batch, if that is to be held. Where key 0 is to be held,
@@ -130,41 +138,6 @@ impl<'a> Lambda for NoRoomForOne<'a> {
     }
 }
 
-/// A range that is slow with one number, and keeps whoever asks for it inside the lock.
-#[derive(Drop)]
-struct Slow<'a> {
-    range: RangeSource,
-    slow: i64,
-    standing: &'a Standing,
-}
-
-impl<'a> Source for Slow<'a> {
-    ghost use Rattle.plinq_source.specs.Walked.{range_whole, range_given, range_walked};
-
-    type Item = i64;
-
-    ghost whole = { λ s. range_whole s.range };
-
-    ghost given = { λ s. range_given s.range };
-
-    ghost few = { λ s. (range_walked s.range).few };
-
-    ghost ends = { λ s. (range_walked s.range).ends };
-
-    ghost within = { λ s. (range_walked s.range).within };
-
-    fn next(&mut self) -> Step<i64> {
-        let step = self.range.next();
-        if let Step::Item(number) = step {
-            if number == self.slow {
-                self.standing.awaits(&self.standing.failed, 1);
-                lingers();
-            }
-        }
-        step
-    }
-}
-
 /// Whether these batches are of so many first numbers at most, each alone: by key from 0 on.
 fn are_first(batches: &[Vec<i64>], most: i64, is_by_key: bool) -> bool {
     let mut next = 0i64;
@@ -196,17 +169,18 @@ fn expanding(
     built(query.select_many(NoRoomForOne { late, standing }))
 }
 
-/// The greatest range: far more than may be taken.
-fn from_zero<'a>(late: Late, standing: &'a Standing) -> Option<Slow<'a>>
-    ensures { IfSome result (λ s. range_given s.range ≡ 0) }
+/// The greatest range: far more than may be taken. One number comes only after the worker has failed.
+fn from_zero<'a>(late: Late, standing: &'a Standing) -> Option<KeepsInside<'a, RangeSource>>
+    ensures { IfSome result (λ s. range_given s.source ≡ 0) }
 {
-    let Ok(range) = RangeSource::new(0, 1_099_511_627_776) else {
+    let Ok(source) = RangeSource::new(0, 1_099_511_627_776) else {
         return None;
     };
-    Some(Slow {
-        range,
-        slow: late.slow,
-        standing,
+    Some(KeepsInside {
+        source,
+        late: late.slow,
+        word: &standing.failed,
+        inside: &standing.inside,
     })
 }
 
@@ -242,7 +216,7 @@ fn ends<R: Threads + Wait + Sync>(
     let Some(batches) = delivered(rt, alloc, late, &standing) else {
         return false;
     };
-    !standing.gave_up.load(Ordering::SeqCst)
+    !standing.gave_up()
         && standing.taken_by_then.load(Ordering::SeqCst) <= most_taken
         && are_first(&batches, most_batches, late.is_by_key)
 }

@@ -26,7 +26,7 @@ const SUM: i64 = 199_000_000;
 
 /// A sink that is held with its first batch until each worker has taken, and then for as long as chunks are taken.
 #[derive(Drop)]
-struct Held<'a> {
+struct WaitsForTaking<'a> {
     taken: &'a AtomicU64,
     workers: u64,
     /// How many chunks were taken when the first batch was let go; 0 before.
@@ -34,7 +34,7 @@ struct Held<'a> {
     sink: Counted,
 }
 
-impl<'a> Held<'a> {
+impl<'a> WaitsForTaking<'a> {
     fn hold(&mut self) {
         waits_for(self.taken, self.workers);
         let mut last = 0u64;
@@ -63,7 +63,7 @@ impl<'a> Held<'a> {
     }
 }
 
-impl<'a> Sink for Held<'a> {
+impl<'a> Sink for WaitsForTaking<'a> {
     type Item = i64;
 
     ghost accepts = { λ _ _ _. ⊤ };
@@ -91,7 +91,7 @@ fn are_few<R: Threads + Wait + Sync>(rt: &R, alloc: Global, workers: u64, by_key
         passed: &passed,
         gate: OpenGate,
     };
-    let mut sink = Held {
+    let mut sink = WaitsForTaking {
         taken: &passed.taken,
         workers,
         taken_by_then: 0,

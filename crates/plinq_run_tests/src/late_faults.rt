@@ -2,7 +2,7 @@
 ghost use Rattle.plinq_lambda.specs.Formula.{formula_meaning};
 ghost use Rattle.plinq_lambda.specs.Short.{formula_meaning-short};
 
-use crate::asked::{Setting, ask_list};
+use crate::beside_one_thread::{Setting, ask_list};
 use plinq_enumerator::Growth;
 use plinq_lambda::{ExpandFault, Formula, Lambda};
 use plinq_ops::Op;

@@ -5,24 +5,22 @@
 //! run delivers that was stopped, in which a worker fails, or for which there is no room.
 //!
 //! They stand in a crate of their own, since a crate with tests is proved twice, and in one, since each costs the reading of the
-//! libraries below it. `plinq_testing` has what they share with other tests, `asking` a run over numbers, `asked` one query that
-//! threads and one thread answer.
+//! libraries below it. `plinq_testing` has what they share with other tests, `asking` a run over numbers, `beside_one_thread` one
+//! query that threads and one thread answer.
 #![tactic(auto)]
 
 #[cfg(test)]
 mod aggregates;
 #[cfg(test)]
-mod asked;
-#[cfg(test)]
 mod asking;
+#[cfg(test)]
+mod beside_one_thread;
 #[cfg(test)]
 mod by_chance;
 #[cfg(test)]
 mod cancelled;
 #[cfg(test)]
 mod cut_off;
-#[cfg(test)]
-mod decided;
 #[cfg(test)]
 mod failing_worker;
 #[cfg(test)]
@@ -37,6 +35,8 @@ mod held_refusals;
 mod idle_sinks;
 #[cfg(test)]
 mod items_ahead;
+#[cfg(test)]
+mod keys_ahead;
 #[cfg(test)]
 mod late_faults;
 #[cfg(test)]
@@ -54,6 +54,6 @@ mod side_by_side;
 #[cfg(test)]
 mod streams;
 #[cfg(test)]
-mod unordered;
+mod unasked_sources;
 #[cfg(test)]
-mod window;
+mod unordered;

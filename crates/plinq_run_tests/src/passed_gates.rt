@@ -1,5 +1,5 @@
 //! What is reported to a gate.
-use crate::asked::{Setting, ask_range};
+use crate::beside_one_thread::{Setting, ask_range};
 use plinq_aggregate::Sum;
 use plinq_enumerator::Growth;
 use plinq_lambda::Formula;

@@ -1,5 +1,5 @@
 //! What a run reports of the requests to its source.
-use crate::asked::{Answers, Setting, ask_list, ask_range};
+use crate::beside_one_thread::{Answers, Setting, ask_list, ask_range};
 use plinq_enumerator::{Growth, replays};
 use plinq_keyed::{Event, Record};
 use plinq_lambda::Formula;

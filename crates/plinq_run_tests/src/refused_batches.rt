@@ -1,5 +1,5 @@
 //! A run whose sink refuses a batch.
-use crate::asked::{Setting, ask_range};
+use crate::beside_one_thread::{Setting, ask_range};
 use plinq_enumerator::Growth;
 use plinq_lambda::Formula;
 use plinq_ops::Op;

@@ -1,5 +1,5 @@
 //! That workers go at once.
-use crate::asked::{Setting, ask_range};
+use crate::beside_one_thread::{Setting, ask_range};
 use plinq_lambda::Formula;
 use plinq_testing::{Counts, KeepsBack, Passed};
 use std::alloc::Global;

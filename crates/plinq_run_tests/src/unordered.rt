@@ -1,5 +1,5 @@
 //! What a run that doesn't keep the order reports of the requests to its source, and delivers.
-use crate::asked::list_of;
+use crate::beside_one_thread::list_of;
 use plinq_enumerator::{Growth, replays};
 use plinq_lambda::Formula;
 use plinq_ops::{BuildFault, MergeOption, Query};

@@ -12,6 +12,8 @@
 #![tactic(auto)]
 
 #[cfg(test)]
+mod by_hand;
+#[cfg(test)]
 mod calls;
 #[cfg(test)]
 mod fails_once;
@@ -26,7 +28,7 @@ mod lists;
 #[cfg(test)]
 mod locks;
 #[cfg(test)]
-mod merging;
+mod made_sources;
 #[cfg(test)]
 mod narrow;
 #[cfg(test)]
@@ -37,8 +39,6 @@ mod program;
 mod runs;
 #[cfg(test)]
 mod shapes;
-#[cfg(test)]
-mod sources;
 #[cfg(test)]
 mod traits;
 #[cfg(test)]

@@ -3,7 +3,8 @@
 //! - Sinks: one keeps what it takes ([`Taken`]), one counts numbers without any memory ([`Counted`]). Two stand around another one:
 //!   [`Watched`] shows other threads what came to it ([`Seen`]), [`Held`] is held with one of its batches.
 //! - Gates: [`KeepsBack`] and [`HoldsTheFirst`] keep workers back, and [`Counts`] counts those that go on to another gate ([`Passed`]).
-//! - A source: [`Asked`] counts how often another one is asked.
+//! - Sources around another one: [`Asked`] counts how often that is asked, [`KeepsInside`] keeps inside who asks for one of its
+//!   numbers ([`Inside`]).
 //! - Queries ([`unchanged`], [`ordered`], [`query_of`]), ways to wait for other threads ([`waits_for`], [`lingers`]), and the text of
 //!   a fault ([`says`]).
 //!
@@ -16,6 +17,7 @@ mod counts;
 mod held;
 mod holds_the_first;
 mod keeps_back;
+mod keeps_inside;
 mod queries;
 mod taken;
 mod texts;
@@ -28,6 +30,7 @@ pub use counts::{Counts, Passed};
 pub use held::Held;
 pub use holds_the_first::HoldsTheFirst;
 pub use keeps_back::KeepsBack;
+pub use keeps_inside::{Inside, KeepsInside};
 pub use queries::{OPTIONS, WORKERS, built, ordered, query_of, unchanged};
 pub use taken::Taken;
 pub use texts::says;

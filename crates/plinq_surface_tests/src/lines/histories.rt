@@ -42,7 +42,8 @@ fn is_written(alloc: Global, records: &[Record], ending: Ending, lines: &[u8]) -
 #[test]
 fn each_request_and_each_tail(rt: HostRuntime) {
     let lines =
-        b"ticket 0 ask 512 first 0 count 512\nticket 3 ask 1 first 512 count 0 ended\nticket 12 ask 65536 first 512 count 9 refused 4294967295\nticket 18446744073709551615 close first 521 count 0 closed\nrefused 7\n";
+        b"ticket 0 ask 512 first 0 count 512\nticket 3 ask 1 first 512 count 0 ended\nticket 12 ask 65536 first 512 count 9 \
+          refused 4294967295\nticket 18446744073709551615 close first 521 count 0 closed\nrefused 7\n";
     assert!(rt; is_written(rt.alloc(), &RECORDS, Ending::Refused(7), lines));
 }
 

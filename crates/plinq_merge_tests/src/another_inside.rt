@@ -5,8 +5,8 @@ ghost use Rattle.plinq_partition.specs.Partitions.{IsPartitionOf};
 use crate::expecting::is_chunk;
 use plinq_enumerator::Growth;
 use plinq_partition::{Chunked, Partition, TakeFault};
-use plinq_source::{RangeSource, Source, Step};
-use plinq_testing::waits_for;
+use plinq_source::{RangeSource, Source};
+use plinq_testing::{Inside, KeepsInside, waits_for};
 use std::alloc::Global;
 use std::sync::Wait;
 use std::sync::atomic::{AtomicBool, AtomicU64, Ordering};
@@ -16,16 +16,19 @@ use std::thread::Threads;
 /// What two threads tell one another, and whether one has waited for too long or was answered otherwise than it should be.
 #[derive(Drop)]
 struct Signals {
-    /// 1 once the first is inside, and once it may leave.
-    is_inside: AtomicU64,
+    inside: Inside,
+    /// 1 once the first may leave.
     may_leave: AtomicU64,
     is_wrong: AtomicBool,
 }
 
 impl Signals {
-    /// Waits for a signal, but not for ever.
-    fn wait_for(&self, signal: &AtomicU64) {
-        self.expect(waits_for(signal, 1));
+    fn new() -> Signals {
+        Signals {
+            inside: Inside::new(),
+            may_leave: AtomicU64::new(0),
+            is_wrong: AtomicBool::new(false),
+        }
     }
 
     fn expect(&self, is_right: bool) {
@@ -33,34 +36,10 @@ impl Signals {
             self.is_wrong.store(true, Ordering::SeqCst);
         }
     }
-}
 
-/// A range that keeps inside the lock who asks it, until another one says that it may leave.
-#[derive(Drop)]
-struct KeepsInside<'a> {
-    range: RangeSource,
-    signals: &'a Signals,
-}
-
-impl<'a> Source for KeepsInside<'a> {
-    ghost use Rattle.plinq_source.specs.Walked.{range_whole, range_given, range_walked};
-
-    type Item = i64;
-
-    ghost whole = { λ s. range_whole s.range };
-
-    ghost given = { λ s. range_given s.range };
-
-    ghost few = { λ s. (range_walked s.range).few };
-
-    ghost ends = { λ s. (range_walked s.range).ends };
-
-    ghost within = { λ s. (range_walked s.range).within };
-
-    fn next(&mut self) -> Step<i64> {
-        self.signals.is_inside.store(1, Ordering::SeqCst);
-        self.signals.wait_for(&self.signals.may_leave);
-        self.range.next()
+    /// Whether nothing was wrong.
+    fn are_right(&self) -> bool {
+        !self.inside.gave_up() && !self.is_wrong.load(Ordering::SeqCst)
     }
 }
 
@@ -80,7 +59,7 @@ fn take_or_try<S: Source<Item = i64>, R: Wait>(
         signals.expect(matches!(told, Ok(true)));
         return;
     }
-    signals.wait_for(&signals.is_inside);
+    signals.expect(waits_for(&signals.inside.came, 1));
     let told = partition.try_take(chunked);
     signals.expect(matches!(
         told,
@@ -114,18 +93,26 @@ fn take_and_try<S: Source<Item = i64>, R: Threads + Wait + Sync>(
     );
 }
 
-/// A source that keeps inside the lock who asks it, and two partitions of it.
+/// A range that keeps the first one inside until the second says that it may leave.
+type Keeping<'a> = KeepsInside<'a, RangeSource>;
+
+/// Such a source, and two partitions of it.
 fn made<'a>(
     alloc: Global,
     signals: &'a Signals,
-) -> Option<(Chunked<KeepsInside<'a>>, Vec<Partition<KeepsInside<'a>>>)>
+) -> Option<(Chunked<Keeping<'a>>, Vec<Partition<Keeping<'a>>>)>
     ensures count { IfSome result (λ made. length made.1.items ≡ 2) }
     ensures of { IfSome result (λ made. All (IsPartitionOf made.0) made.1.items) }
 {
     let Ok(range) = RangeSource::new(0, 3) else {
         return None;
     };
-    let source = KeepsInside { range, signals };
+    let source = KeepsInside {
+        source: range,
+        late: 0,
+        word: &signals.may_leave,
+        inside: &signals.inside,
+    };
     let Ok((chunked, first)) = Chunked::new(alloc, source, Growth::ONE) else {
         return None;
     };
@@ -147,16 +134,12 @@ fn takes_after_it<S: Source<Item = i64>, R: Threads + Wait + Sync>(
 {
     take_and_try(rt, chunked, signals, partitions);
     let told = is_chunk(partitions[1].try_take(chunked), 1, &[1], None);
-    matches!(told, Ok(true)) && !signals.is_wrong.load(Ordering::SeqCst)
+    matches!(told, Ok(true)) && signals.are_right()
 }
 
 /// The same of a source that keeps the first inside.
 fn is_told<R: Threads + Wait + Sync>(rt: &R, alloc: Global) -> bool {
-    let signals = Signals {
-        is_inside: AtomicU64::new(0),
-        may_leave: AtomicU64::new(0),
-        is_wrong: AtomicBool::new(false),
-    };
+    let signals = Signals::new();
     let Some((chunked, mut partitions)) = made(alloc, &signals) else {
         return false;
     };

@@ -1,5 +1,5 @@
 //! How far workers run ahead of what is merged.
-use crate::asked::{Setting, ask_range};
+use crate::beside_one_thread::{Setting, ask_range};
 use plinq_aggregate::Count;
 use plinq_enumerator::Growth;
 use plinq_lambda::Formula;
