@@ -8,7 +8,7 @@ use crate::asking::told;
 use crate::chain::Chain;
 use crate::chain_fault::ChainFault;
 use crate::chain_queries::query_of;
-use crate::sequentially::Sequentially;
+use crate::chain_sequentially::Sequentially;
 use crate::steps::Steps;
 use plinq_aggregate::{Aggregator, GrowingAggregator};
 use plinq_collect::sequentially;

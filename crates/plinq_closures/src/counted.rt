@@ -95,5 +95,6 @@ impl<S: Steps> Steps for Counted<S> {
 
     ghost test_gives_one = { λ s one. one_then (λ x r. IsNothing r) (S.tests s.before) nothing_else (S.test_gives_one s.before one) };
 
-    ghost comes_to = { λ s one. comes_to-tested (S.kinds s.before) (S.maps s.before) (S.tests s.before) (S.does s.before) s.kind does_nothing nothing_else (S.comes_to s.before one) };
+    ghost comes_to = { λ s one. comes_to-tested (S.kinds s.before) (S.maps s.before) (S.tests s.before) (S.does s.before)
+        s.kind does_nothing nothing_else (S.comes_to s.before one) };
 }

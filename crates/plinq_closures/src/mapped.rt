@@ -97,5 +97,6 @@ impl<S: Steps, F: Fn(S::Item) -> Result<S::Item, u32>> Steps for Mapped<S, F> {
 
     ghost test_gives_one = { λ s one. one_then (λ x r. IsNothing r) (S.tests s.before) nothing_else (S.test_gives_one s.before one.1) };
 
-    ghost comes_to = { λ s one. comes_to-mapped (S.kinds s.before) (S.maps s.before) (S.tests s.before) (S.does s.before) (F.post s.by) one.0 (S.comes_to s.before one.1) };
+    ghost comes_to = { λ s one. comes_to-mapped (S.kinds s.before) (S.maps s.before) (S.tests s.before) (S.does s.before)
+        (F.post s.by) one.0 (S.comes_to s.before one.1) };
 }

@@ -7,8 +7,8 @@ ghost use Rattle.plinq_closures.specs.Asked.{LacksRoomAlone, Tells};
 ghost use Rattle.plinq_closures.specs.Functions.{tests};
 
 use crate::chain_fault::ChainFault;
+use crate::chain_sequentially::Sequentially;
 use crate::searching::{lent, negated};
-use crate::sequentially::Sequentially;
 use crate::steps::Steps;
 use plinq_source::Source;
 use std::alloc::Global;

@@ -97,5 +97,6 @@ impl<S: Steps, P: Fn(S::Item) -> Result<bool, u32>> Steps for Tested<S, P> {
 
     ghost test_gives_one = { λ s one. one_then (P.post s.by) (S.tests s.before) one.0 (S.test_gives_one s.before one.1) };
 
-    ghost comes_to = { λ s one. comes_to-tested (S.kinds s.before) (S.maps s.before) (S.tests s.before) (S.does s.before) s.kind (P.post s.by) one.0 (S.comes_to s.before one.1) };
+    ghost comes_to = { λ s one. comes_to-tested (S.kinds s.before) (S.maps s.before) (S.tests s.before) (S.does s.before)
+        s.kind (P.post s.by) one.0 (S.comes_to s.before one.1) };
 }

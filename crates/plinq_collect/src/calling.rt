@@ -45,7 +45,8 @@ where
     requires fresh { S.given source ≡ 0 }
     requires is_called { (f : F) (x : L.Item) → F.pre f x }
     requires in_one_way { (f : F) (x : L.Item) (a b : F.pre f x) → a ≡ b }
-    ensures { CallsSome (λ f x r g. F.step f x r g) (merge_in_force query.now.merge) (MayAnswer L.meaning query.now.ordered query.now.ops (S.whole source)) by.old result by.new }
+    ensures { CallsSome (λ f x r g. F.step f x r g) (merge_in_force query.now.merge)
+        (MayAnswer L.meaning query.now.ordered query.now.ops (S.whole source)) by.old result by.new }
 {
     visit_each::<L, S, Visitor<L::Item, F>, R>(rt, alloc, query, source, by)
 }
@@ -87,7 +88,8 @@ where
     R: Threads + Wait + Sync,
     requires fresh { S.given source ≡ 0 }
     ensures same { sink.new.by.ghost_name ≡ sink.old.by.ghost_name }
-    ensures calls { CallsSome V.steps (merge_in_force query.now.merge) (MayAnswer L.meaning query.now.ordered query.now.ops (S.whole source)) sink.old.by.now result sink.new.by.now }
+    ensures calls { CallsSome V.steps (merge_in_force query.now.merge)
+        (MayAnswer L.meaning query.now.ordered query.now.ops (S.whole source)) sink.old.by.now result sink.new.by.now }
 {
     match run_into(rt, alloc, query, source, sink) {
         Ok(report) => Ok(report.ending),

@@ -34,7 +34,8 @@ where
     K: Sink<Item = L::Item>,
     R: Threads + Wait + Sync,
     requires { S.given source ≡ 0 }
-    ensures { Reports K.accepts K.refuses (merge_in_force query.now.merge) (MayAnswer L.meaning query.now.ordered query.now.ops) (S.whole source) sink.old sink.new result }
+    ensures { Reports K.accepts K.refuses (merge_in_force query.now.merge) (MayAnswer L.meaning query.now.ordered query.now.ops)
+        (S.whole source) sink.old sink.new result }
 {
     run(rt, alloc, query, source, Growth::DEFAULT, &OpenGate, sink)
 }

@@ -155,7 +155,8 @@ where
     S: Source<Item = L::Item>,
     R: Threads + Wait + Sync,
     requires { S.given source ≡ 0 }
-    ensures value { TellsSome first_of (λ u. u ≡ answer_of L.meaning ((query.ops ++ Op.Skip (pos place) ∷ []) ++ Op.Take (pos 1) ∷ []) (S.whole source)) result }
+    ensures value { TellsSome first_of (λ u. u
+        ≡ answer_of L.meaning ((query.ops ++ Op.Skip (pos place) ∷ []) ++ Op.Take (pos 1) ∷ []) (S.whole source)) result }
     ensures memory { LacksRoom result }
 {
     let Ok(query) = query.skip(i64::from(place)) else {
@@ -207,7 +208,8 @@ where
     S: Source<Item = L::Item>,
     R: Threads + Wait + Sync,
     requires { S.given source ≡ 0 }
-    ensures value { (test : L) × (IsTestOf L.Item.eq (L.meaning test) item) × TellsSome has_item (λ u. u ≡ answer_of L.meaning ((query.ops ++ Op.Filter test ∷ []) ++ Op.Take (pos 1) ∷ []) (S.whole source)) result }
+    ensures value { (test : L) × (IsTestOf L.Item.eq (L.meaning test) item) × TellsSome has_item (λ u. u
+        ≡ answer_of L.meaning ((query.ops ++ Op.Filter test ∷ []) ++ Op.Take (pos 1) ∷ []) (S.whole source)) result }
     ensures memory { LacksRoom result }
 {
     any(rt, alloc, query, source, L::equal_to(item))

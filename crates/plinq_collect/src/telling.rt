@@ -129,7 +129,8 @@ where
     S: Source<Item = L::Item>,
     R: Threads + Wait + Sync,
     requires { S.given source ≡ 0 }
-    ensures { (test : L) × (IsTestOf L.Item.eq (L.meaning test) item) × TellsSome has_item (MayAnswer L.meaning query.ordered ((query.ops ++ Op.Filter test ∷ []) ++ Op.Take (pos 1) ∷ []) (S.whole source)) result }
+    ensures { (test : L) × (IsTestOf L.Item.eq (L.meaning test) item) × TellsSome has_item (MayAnswer L.meaning query.ordered
+        ((query.ops ++ Op.Filter test ∷ []) ++ Op.Take (pos 1) ∷ []) (S.whole source)) result }
 {
     any(rt, alloc, query, source, L::equal_to(item))
 }

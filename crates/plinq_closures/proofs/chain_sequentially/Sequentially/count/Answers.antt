@@ -5,7 +5,7 @@ use Rattle.plinq_ops.specs.Sequential.{answer_of}
 use Rattle.plinq_collect.specs.Folds.{counted}
 use Rattle.plinq_closures.specs.Asked.{LacksRoomAlone, Tells}
 use Rattle.plinq_closures.proofs.Asked.{lacks-told, tells-answer}
-use Rattle.plinq_closures.proofs.sequentially.Sequentially.count.Goals as goal
+use Rattle.plinq_closures.proofs.chain_sequentially.Sequentially.count.Goals as goal
 
 pub returns-in-Ok-clause-value : goal.returns-in-Ok-clause-value
 returns-in-Ok-clause-value g c ops does =

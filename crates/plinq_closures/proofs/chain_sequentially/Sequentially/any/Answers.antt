@@ -6,7 +6,7 @@ use Rattle.plinq_ops.specs.Sequential.{answer_of}
 use Rattle.plinq_collect.specs.Folds.{has_item}
 use Rattle.plinq_closures.specs.Asked.{LacksRoomAlone, Tells}
 use Rattle.plinq_closures.proofs.Asked.{lacks-there, tells-there}
-use Rattle.plinq_closures.proofs.sequentially.Sequentially.any.Goals as goal
+use Rattle.plinq_closures.proofs.chain_sequentially.Sequentially.any.Goals as goal
 
 pub returns-clause-value : goal.returns-clause-value
 returns-clause-value g c ops does =

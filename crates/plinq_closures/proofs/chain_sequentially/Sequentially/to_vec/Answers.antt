@@ -5,7 +5,7 @@ use Rattle.plinq_source.specs.Trace.{ended}
 use Rattle.plinq_ops.specs.Sequential.{answer_of}
 use Rattle.plinq_closures.specs.Asked.{HasNone, LacksRoomAlone}
 use Rattle.plinq_closures.proofs.Asked.{lacks-run, vec-sequentially}
-use Rattle.plinq_closures.proofs.sequentially.Sequentially.to_vec.Goals as goal
+use Rattle.plinq_closures.proofs.chain_sequentially.Sequentially.to_vec.Goals as goal
 
 pub returns-in-Ok-clause-value : goal.returns-in-Ok-clause-value
 returns-in-Ok-clause-value g c ops does =

@@ -8,7 +8,7 @@ use Rattle.plinq_closures.specs.Asked.{LacksRoomAlone, Tells}
 use Rattle.plinq_closures.specs.Functions.{tests}
 use Rattle.plinq_closures.specs.Steps.{over}
 use Rattle.plinq_closures.proofs.Asked.{lacks-negated, tells-none}
-use Rattle.plinq_closures.proofs.sequentially.Sequentially.all.Goals as goal
+use Rattle.plinq_closures.proofs.chain_sequentially.Sequentially.all.Goals as goal
 
 pub returns-clause-value : goal.returns-clause-value
 returns-clause-value g c ops p does gives =

@@ -2,7 +2,7 @@
 use Rattle.std.proofs.Common.{◌∙◌, subst, sym}
 use Rattle.plinq_closures.specs.Asked.{LacksRoomOrRefused}
 use Rattle.plinq_closures.proofs.Asked.{called-sequentially, lacks-called, no-room}
-use Rattle.plinq_closures.proofs.sequentially.Sequentially.for_each.Goals as goal
+use Rattle.plinq_closures.proofs.chain_sequentially.Sequentially.for_each.Goals as goal
 
 pub returns-in-Ok-clause-calls : goal.returns-in-Ok-clause-calls
 returns-in-Ok-clause-calls g c ops does =

@@ -4,7 +4,7 @@ use Rattle.std.proofs.Common.{subst, sym, ap, ◌∙◌}
 use Rattle.plinq_ops.specs.declared.op.Op.TheVariants.{Filter}
 use Rattle.plinq_closures.specs.Functions.{tests}
 use Rattle.plinq_closures.specs.Steps.{over}
-use Rattle.plinq_closures.proofs.sequentially.Sequentially.any_that.Goals as goal
+use Rattle.plinq_closures.proofs.chain_sequentially.Sequentially.any_that.Goals as goal
 
 pub returns-clause-value : goal.returns-clause-value
 returns-clause-value g c ops p does gives =
