@@ -74,22 +74,25 @@ def prefixes(tests, folder):
 
 
 def version():
-    """The first version that CHANGES.md has."""
+    """The first version that CHANGES.md has, and its day."""
     with open(os.path.join(ROOT, "CHANGES.md"), encoding="utf-8") as file:
-        return re.search(r"^## ([\d.]+), \d{4}-\d\d-\d\d$", file.read(), re.M)[1]
+        return re.search(r"^## ([\d.]+), (\d{4}-\d\d-\d\d)$", file.read(), re.M).groups()
 
 
-def page(tests):
-    with open(os.path.join(ROOT, "share", "plinq.1"), encoding="utf-8") as file:
-        head = file.readline()
-    tests.check("the man page has the version", f' "Vondalj {version()}" ' in head, head)
+def pages(tests):
+    for name in ("plinq.1", "plinq-check.1"):
+        with open(os.path.join(ROOT, "share", name), encoding="utf-8") as file:
+            head = file.readline()
+        number, day = version()
+        tests.check(f"{name} has the version and its day", f' {day} "Vondalj {number}" ' in head, head)
 
 
 def package(tests, folder):
     seen = calls("--deb", folder)
     (made,) = (it for it in os.listdir(folder) if it.endswith(".deb"))
     tests.check("says which package it made", (seen.returncode, seen.stdout) == (0, f"{folder}/{made}\n"), seen)
-    tests.check("its name has the version", re.fullmatch(rf"plinq_{re.escape(version())}(\+\d{{8}}\.\w+)?_amd64\.deb", made), made)
+    number, _ = version()
+    tests.check("its name has the version", re.fullmatch(rf"plinq_{re.escape(number)}(\+\d{{8}}\.\w+)?_amd64\.deb", made), made)
     listed = subprocess.check_output(["dpkg-deb", "--contents", f"{folder}/{made}"], text=True)
     wanted = {f"usr/{it}".replace("site-functions", "vendor-completions") for it in FILES}
     names = {it.split("./", 1)[1] for it in listed.splitlines() if not it.endswith("/")}
@@ -106,7 +109,7 @@ def package(tests, folder):
 def main():
     build()
     tests = Tests()
-    page(tests)
+    pages(tests)
     with tempfile.TemporaryDirectory() as folder:
         prefixes(tests, folder)
     with tempfile.TemporaryDirectory() as folder:
