@@ -1,5 +1,5 @@
 -- What is true of each operator, case by case.
-use Rattle.std.specs.Prelude.{◌≡◌, ℕ, zero, suc, ℤ, pos, negsuc, List, [], ◌∷◌, Bool, true, false, cond, Option, Some, None, Result, Ok, Err, refl}
+use Rattle.std.specs.Prelude.{◌≡◌, ℕ, zero, suc, ℤ, pos, List, [], ◌∷◌, Bool, true, false, cond, Option, Some, None, Result, Ok, Err, refl}
 use Rattle.std.proofs.Common.{arith}
 use Rattle.std.proofs.lemmas.Bool.Decides.{nat_tests}
 use Rattle.plinq_source.specs.declared.ending.Ending.{Ending}
@@ -23,27 +23,14 @@ use Rattle.plinq_ops.specs.Chunk.{IsWorkerEnding}
 
 -- before any item all of an operator is left
 pub stage_left-counted_off : {L T : Type 0} (meaning : L → Meaning T) (op : Op L) → stage_left meaning op (counted_off op) ≡ stage_of meaning op
-stage_left-counted_off meaning (Select f) = refl
-stage_left-counted_off meaning (Filter f) = refl
-stage_left-counted_off meaning (SelectMany f) = refl
 stage_left-counted_off meaning (Take n) = refl
-stage_left-counted_off meaning (Skip n) = refl
-stage_left-counted_off meaning (TakeWhile f) = refl
-stage_left-counted_off meaning (SkipWhile f) = refl
-stage_left-counted_off meaning AsUnordered = refl
+stage_left-counted_off meaning op = refl
 
 -- a Take of none is one that takes none
 pub takes_none-stage_of : {L T : Type 0} (meaning : L → Meaning T) (op : Op L) → is_empty_take op ≡ takes_none (stage_of meaning op)
-takes_none-stage_of meaning (Select f) = refl
-takes_none-stage_of meaning (Filter f) = refl
-takes_none-stage_of meaning (SelectMany f) = refl
 takes_none-stage_of meaning (Take (pos zero)) = refl
 takes_none-stage_of meaning (Take (pos (suc n))) = grind (arith, nat_tests)
-takes_none-stage_of meaning (Take (negsuc n)) = refl
-takes_none-stage_of meaning (Skip n) = refl
-takes_none-stage_of meaning (TakeWhile f) = refl
-takes_none-stage_of meaning (SkipWhile f) = refl
-takes_none-stage_of meaning AsUnordered = refl
+takes_none-stage_of meaning op = refl
 
 -- ---- what a worker can apply never refuses
 
@@ -101,26 +88,15 @@ apply-ending meaning AsUnordered count t ending = ending
 
 -- an operator that looks at no key does the same at each
 pub apply_at-keyless : {L T : Type 0} (meaning : L → Meaning T) (op : Op L) (p q : ℤ) (t : Trace T) → can_apply Nothing op ≡ true → apply_at meaning op p t ≡ apply_at meaning op q t
-apply_at-keyless meaning (Select f) p q t keyless = refl
-apply_at-keyless meaning (Filter f) p q t keyless = refl
-apply_at-keyless meaning (SelectMany f) p q t keyless = refl
 apply_at-keyless meaning (Take n) p q t keyless = absurd (let bad : false ≡ true = keyless in cc)
 apply_at-keyless meaning (Skip n) p q t keyless = absurd (let bad : false ≡ true = keyless in cc)
-apply_at-keyless meaning (TakeWhile f) p q t keyless = refl
-apply_at-keyless meaning (SkipWhile f) p q t keyless = refl
-apply_at-keyless meaning AsUnordered p q t keyless = refl
+apply_at-keyless meaning op p q t keyless = refl
 
 -- ---- words
 
 pub op_named-own : (op : Op Formula) → op_named (op_argument op) (op_name op) ≡ Some op
 op_named-own (Select f) = refl
-op_named-own (Filter f) = refl
-op_named-own (SelectMany f) = refl
-op_named-own (Take n) = refl
-op_named-own (Skip n) = refl
-op_named-own (TakeWhile f) = refl
-op_named-own (SkipWhile f) = refl
-op_named-own AsUnordered = refl
+op_named-own op = refl
 
 ops_of-argument : (argument : Argument) → Each (λ op. argument ≡ op_argument op) (ops_of argument)
 ops_of-argument NoArgument = (refl, tt)
