@@ -13,8 +13,18 @@ use std::sync::Wait;
 use std::sync::atomic::{AtomicU64, Ordering};
 use std::thread::Threads;
 
-/// How far workers may be ahead of what is merged, with the default growth and six workers at work, and a chunk of each.
-const MOST: u64 = 6 * 65 * 512;
+/// How many keys workers may be ahead of what is merged, for each of them, in chunks of 512: 240 such chunks, of which each takes
+/// 512 times 8 bytes and 256 more, fill 1,048,576 bytes.
+const AHEAD: u64 = 122_880;
+
+const CHUNK: u64 = 512;
+
+/// How many items leave at most: those up to the chunk with the one that decides, those that so many workers may be ahead of it,
+/// and a chunk more of each.
+fn most(workers: u64) -> u64 {
+    let each = AHEAD.saturating_add(CHUNK);
+    CHUNK.saturating_add(workers.saturating_mul(each))
+}
 
 fn query_above(alloc: Global, workers: u64) -> Built<Formula> {
     ordered(alloc, workers)?.filter(Formula::Above(99))
@@ -94,8 +104,8 @@ fn is_at_hundred<R: Threads + Wait + Sync>(
     }
 }
 
-fn are_few(left: &AtomicU64) -> bool {
-    left.load(Ordering::SeqCst) <= MOST
+fn are_few(left: &AtomicU64, workers: u64) -> bool {
+    left.load(Ordering::SeqCst) <= most(workers)
 }
 
 /// Whether all is answered, and but few items have left for each answer.
@@ -106,19 +116,21 @@ fn ends_early<R: Threads + Wait + Sync>(
     left: &AtomicU64,
 ) -> bool {
     is_first_above(rt, alloc, workers, left)
-        && are_few(left)
+        && are_few(left, workers)
         && is_any_above(rt, alloc, workers, left)
-        && are_few(left)
+        && are_few(left, workers)
         && are_not_all_below(rt, alloc, workers, left)
-        && are_few(left)
+        && are_few(left, workers)
         && is_at_hundred(rt, alloc, workers, left)
-        && are_few(left)
+        && are_few(left, workers)
 }
 
 #[test]
 fn a_source_is_left_once_the_answer_is_known(rt: HostRuntime) {
     let left = AtomicU64::new(0);
     for workers in [1, 4] {
-        assert!(&rt; ends_early(&rt, rt.alloc(), workers, &left));
+        let is_early = ends_early(&rt, rt.alloc(), workers, &left);
+        let asked_for = left.load(Ordering::SeqCst);
+        assert!(&rt; is_early, "{workers} {asked_for}");
     }
 }
