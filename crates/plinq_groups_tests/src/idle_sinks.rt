@@ -1,5 +1,5 @@
 //! What is reported to a sink of a mapped run while nothing comes.
-use crate::mapped::BitsOf;
+use crate::made_by_workers::BitsOf;
 use plinq_enumerator::Growth;
 use plinq_groups::MapEach;
 use plinq_lambda::Formula;

@@ -12,7 +12,7 @@ mod idle_sinks;
 #[cfg(test)]
 mod keys;
 #[cfg(test)]
-mod mapped;
+mod made_by_workers;
 #[cfg(test)]
 mod others;
 #[cfg(test)]

@@ -1,7 +1,7 @@
 //! Groups and mapped runs that are refused an allocation, and the same once more. Each test is run with each allocation
 //! failing in turn.
 use crate::keys::Masked;
-use crate::mapped::{BitsOf, count_in};
+use crate::made_by_workers::{BitsOf, count_in};
 use plinq_enumerator::Growth;
 use plinq_groups::{Collect, GroupBy, MapEach};
 use plinq_lambda::Formula;

@@ -1,6 +1,6 @@
 ghost use Rattle.std.specs.Prelude.{List, ℕ, ◌∷◌, ◌++◌, Ok, string_bytes};
 
-use crate::order::Order;
+use crate::orders::Order;
 use plinq_groups::{MakeOf, MapFault};
 use std::alloc::Global;
 use std::marker::{Model, PhantomData};

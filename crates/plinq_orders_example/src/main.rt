@@ -7,12 +7,12 @@
 #![tactic(auto)]
 
 mod line;
-mod order;
+mod orders;
 mod paid;
 mod parts;
 
 use crate::line::{Line, Print};
-use crate::order::{Order, orders_of};
+use crate::orders::{Order, orders_of};
 use crate::paid::Paid;
 use crate::parts::{Cents, Customer};
 use anyhow::{Result, bail};

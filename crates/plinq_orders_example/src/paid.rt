@@ -1,6 +1,6 @@
 ghost use Rattle.std.specs.Prelude.{Ok, Err, int_lt, pos};
 
-use crate::order::Order;
+use crate::orders::Order;
 use plinq_lambda::{ExpandFault, Lambda};
 use std::alloc::Global;
 use std::marker::PhantomData;

@@ -1,7 +1,7 @@
 //! What orders are grouped, added up and compared by.
-ghost use Rattle.plinq_orders_example.specs.declared.order.Order.{Order};
+ghost use Rattle.plinq_orders_example.specs.declared.orders.Order.{Order};
 
-use crate::order::Order;
+use crate::orders::Order;
 use plinq_groups::{FieldOf, KeyOf, RankOf};
 use std::marker::PhantomData;
 
