@@ -49,10 +49,10 @@ fn run_until<R: Threads + Wait + Sync + Clock>(
     let mut sink = Summed::new(rt, Instant::now(rt)?);
     let query = job.workload.query(alloc, job.workers, job.items)?;
     let mut token = flag.token();
-    let told = run_with(
+    let outcome = run_with(
         rt, alloc, &query, source, growth, &OpenGate, &mut token, &mut sink,
     );
-    match told {
+    match outcome {
         Err(RunFault::Cancelled) => Ok(Some(Instant::now(rt)?)),
         Err(fault) => Err(BenchFault::Run(fault)),
         Ok(_) => Ok(None),

@@ -1,4 +1,4 @@
--- What is told of a chain's answer.
+-- What a chain answers.
 use Rattle.std.specs.Prelude.{◌≡◌, ◌≢◌, refl, ℕ, List, Some, ⊤, Bool, false, not, Option, is_some, Result, Ok, Err}
 use Rattle.plinq_source.specs.declared.ending.Ending.{Ending}
 use Rattle.plinq_source.specs.declared.ending.Ending.TheVariants.{End}
@@ -51,11 +51,11 @@ LacksRoomOrRefused (Err (Build fault)) = ⊤
 LacksRoomOrRefused (Err (Ended e)) = ⊤
 LacksRoomOrRefused (Err (Run fault)) = NoRoomOrRefused (Err fault)
 
--- what is told of a query, as what is told of its chain
-abbrev pub told_of : {O : Type 0} → Result O AggregateFault → Result O ChainFault
-told_of (Ok out) = Ok out
-told_of (Err (WasEnded e)) = Err (Ended e)
-told_of (Err (WasRun fault)) = Err (Run fault)
+-- the answer of a query, as that of its chain
+abbrev pub chain_answer : {O : Type 0} → Result O AggregateFault → Result O ChainFault
+chain_answer (Ok out) = Ok out
+chain_answer (Err (WasEnded e)) = Err (Ended e)
+chain_answer (Err (WasRun fault)) = Err (Run fault)
 
 -- whether there is an item, where that is what was asked
 abbrev pub is_there : {T : Type 0} → Result (Option T) ChainFault → Result Bool ChainFault
@@ -67,10 +67,10 @@ abbrev pub negated : Result Bool ChainFault → Result Bool ChainFault
 negated (Ok is) = Ok (not is)
 negated (Err fault) = Err fault
 
--- what is told of a run, as what is told of its chain
-abbrev pub run_told : {O : Type 0} → Result O RunFault → Result O ChainFault
-run_told (Ok out) = Ok out
-run_told (Err fault) = Err (Run fault)
+-- what a run comes to, as what its chain does
+abbrev pub chain_outcome : {O : Type 0} → Result O RunFault → Result O ChainFault
+chain_outcome (Ok out) = Ok out
+chain_outcome (Err fault) = Err (Run fault)
 
 module _ {F T : Type 0} (workers : ℕ) (Step : F → T → Result ⊤ ℕ → F → Type 0) (u : Trace T) (f : F) where
   -- a closure was called with the items of this answer's batches, or with the first of them; where the query can't be built, it
@@ -81,8 +81,8 @@ module _ {F T : Type 0} (workers : ℕ) (Step : F → T → Result ⊤ ℕ → F
   WasCalled (Err (Ended e)) g = ⊥
   WasCalled (Err (Run fault)) g = CallsSome Step AutoBuffered (λ v. v ≡ u) f (Err fault) g
 
-  pub record HasCalled (told : Result Ending ChainFault) (g : F) : Type 0 where
-    pub calls : WasCalled told g
+  pub record HasCalled (outcome : Result Ending ChainFault) (g : F) : Type 0 where
+    pub calls : WasCalled outcome g
 
   -- the same of the answer's items
   abbrev pub WasCalledAll : Result Ending ChainFault → F → Type 0
@@ -91,8 +91,8 @@ module _ {F T : Type 0} (workers : ℕ) (Step : F → T → Result ⊤ ℕ → F
   WasCalledAll (Err (Ended e)) g = ⊥
   WasCalledAll (Err (Run fault)) g = CallsAll Step u f (Err fault) g
 
-  pub record HasCalledAll (told : Result Ending ChainFault) (g : F) : Type 0 where
-    pub calls : WasCalledAll told g
+  pub record HasCalledAll (outcome : Result Ending ChainFault) (g : F) : Type 0 where
+    pub calls : WasCalledAll outcome g
 
 -- ---- worked rows: why a run on one thread has no answer
 

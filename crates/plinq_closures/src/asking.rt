@@ -5,7 +5,7 @@ ghost use Rattle.plinq_ops.specs.declared.op.Op.{Op};
 ghost use Rattle.plinq_ops.specs.Sequential.{answer_of};
 ghost use Rattle.plinq_collect.specs.Folds.{first_of, has_item, counted};
 ghost use Rattle.plinq_collect.specs.Telling.{GathersSome};
-ghost use Rattle.plinq_closures.specs.Asked.{HasNone, Tells, told_of, is_there, run_told};
+ghost use Rattle.plinq_closures.specs.Asked.{HasNone, Tells, chain_answer, is_there, chain_outcome};
 
 use crate::chain::Chain;
 use crate::chain_fault::ChainFault;
@@ -45,7 +45,7 @@ impl<S: Steps<Item: Send> + Sync> Chain<S> {
             (HasNone workers) }
     {
         match query_of(alloc, workers, &self.steps) {
-            Ok(query) => run_told(to_vec(rt, alloc, &query, source)),
+            Ok(query) => chain_outcome(to_vec(rt, alloc, &query, source)),
             Err(fault) => Err(ChainFault::Build(fault)),
         }
     }
@@ -75,7 +75,7 @@ impl<S: Steps<Item: Send> + Sync> Chain<S> {
             Tells workers first_of (answer_of (λ f. f) (ops ++ Op.Take (pos 1) ∷ []) (Src.whole source)) result }
     {
         match query_of(alloc, workers, &self.steps) {
-            Ok(query) => told(first(rt, alloc, query, source)),
+            Ok(query) => chain_answer(first(rt, alloc, query, source)),
             Err(fault) => Err(ChainFault::Build(fault)),
         }
     }
@@ -130,17 +130,17 @@ impl<S: Steps<Item: Send> + Sync> Chain<S> {
         ensures { (ops : _) → S.does self.now.steps ops → Tells workers counted (answer_of (λ f. f) ops (Src.whole source)) result }
     {
         match query_of(alloc, workers, &self.steps) {
-            Ok(query) => told(count(rt, alloc, &query, source)),
+            Ok(query) => chain_answer(count(rt, alloc, &query, source)),
             Err(fault) => Err(ChainFault::Build(fault)),
         }
     }
 }
 
-/// What is told of a query, as what is told of its chain.
-pub(crate) fn told<O: Drop>(told: Result<O, AggregateFault>) -> Result<O, ChainFault>
-    ensures { result ≡ told_of told }
+/// The answer of a query, as that of its chain.
+pub(crate) fn chain_answer<O: Drop>(answer: Result<O, AggregateFault>) -> Result<O, ChainFault>
+    ensures { result ≡ chain_answer answer }
 {
-    match told {
+    match answer {
         Ok(out) => Ok(out),
         Err(AggregateFault::Ended(ending)) => Err(ChainFault::Ended(ending)),
         Err(AggregateFault::Run(fault)) => Err(ChainFault::Run(fault)),
@@ -157,11 +157,11 @@ pub(crate) fn there<T: Drop>(first: Result<Option<T>, ChainFault>) -> Result<boo
     }
 }
 
-/// What is told of a run, as what is told of its chain.
-pub(crate) fn run_told<O: Drop>(told: Result<O, RunFault>) -> Result<O, ChainFault>
-    ensures { result ≡ run_told told }
+/// What a run comes to, as what its chain does.
+pub(crate) fn chain_outcome<O: Drop>(outcome: Result<O, RunFault>) -> Result<O, ChainFault>
+    ensures { result ≡ chain_outcome outcome }
 {
-    match told {
+    match outcome {
         Ok(out) => Ok(out),
         Err(fault) => Err(ChainFault::Run(fault)),
     }

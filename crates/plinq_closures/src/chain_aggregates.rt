@@ -4,7 +4,7 @@ ghost use Rattle.plinq_aggregate.specs.Folding.{aggregated};
 ghost use Rattle.plinq_ops.specs.Sequential.{answer_of};
 ghost use Rattle.plinq_closures.specs.Asked.{LacksRoomAlone, Tells};
 
-use crate::asking::told;
+use crate::asking::chain_answer;
 use crate::chain::Chain;
 use crate::chain_fault::ChainFault;
 use crate::chain_queries::query_of;
@@ -47,7 +47,7 @@ impl<S: Steps<Item: Send> + Sync> Chain<S> {
             Tells workers (aggregated (A.folding aggregator.now)) (answer_of (λ f. f) ops (Src.whole source)) result }
     {
         match query_of(alloc, workers, &self.steps) {
-            Ok(query) => told(aggregate(
+            Ok(query) => chain_answer(aggregate(
                 rt,
                 alloc,
                 &query,
@@ -90,7 +90,9 @@ impl<'a, S: Steps<Item: Send> + Sync> Sequentially<'a, S> {
         ensures memory { LacksRoomAlone result }
     {
         match query_of(alloc, workers, self.steps) {
-            Ok(query) => told(sequentially::aggregate(rt, alloc, &query, source, aggregator)),
+            Ok(query) => chain_answer(sequentially::aggregate(
+                rt, alloc, &query, source, aggregator,
+            )),
             Err(fault) => Err(ChainFault::Build(fault)),
         }
     }

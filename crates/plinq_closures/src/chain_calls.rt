@@ -3,7 +3,7 @@ ghost use Rattle.std.specs.Prelude.{◌≡◌};
 ghost use Rattle.plinq_ops.specs.Sequential.{answer_of};
 ghost use Rattle.plinq_closures.specs.Asked.{HasCalled};
 
-use crate::asking::run_told;
+use crate::asking::chain_outcome;
 use crate::chain::Chain;
 use crate::chain_fault::ChainFault;
 use crate::chain_queries::query_of;
@@ -44,7 +44,7 @@ impl<S: Steps<Item: Send> + Sync> Chain<S> {
             HasCalled workers (λ f x r g. F.step f x r g) (answer_of (λ f. f) ops (Src.whole source)) by.old result by.new }
     {
         match query_of(alloc, workers, &self.steps) {
-            Ok(query) => run_told(for_each(rt, alloc, &query, source, by)),
+            Ok(query) => chain_outcome(for_each(rt, alloc, &query, source, by)),
             Err(fault) => Err(ChainFault::Build(fault)),
         }
     }

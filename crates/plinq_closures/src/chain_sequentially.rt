@@ -7,7 +7,7 @@ ghost use Rattle.plinq_collect.specs.Folds.{first_of, has_item, counted};
 ghost use Rattle.plinq_closures.specs.declared.chain_fault.ChainFault.TheVariants.{Run};
 ghost use Rattle.plinq_closures.specs.Asked.{HasNone, HasCalledAll, LacksRoomAlone, LacksRoomOrRefused, Tells};
 
-use crate::asking::{run_told, there, told};
+use crate::asking::{chain_answer, chain_outcome, there};
 use crate::chain::Chain;
 use crate::chain_fault::ChainFault;
 use crate::chain_queries::query_of;
@@ -61,7 +61,7 @@ impl<'a, S: Steps<Item: Send> + Sync> Sequentially<'a, S> {
         ensures memory { LacksRoomAlone result }
     {
         match query_of(alloc, workers, self.steps) {
-            Ok(query) => run_told(to_vec(rt, alloc, &query, source)),
+            Ok(query) => chain_outcome(to_vec(rt, alloc, &query, source)),
             Err(fault) => Err(ChainFault::Build(fault)),
         }
     }
@@ -91,7 +91,7 @@ impl<'a, S: Steps<Item: Send> + Sync> Sequentially<'a, S> {
         ensures memory { LacksRoomAlone result }
     {
         match query_of(alloc, workers, self.steps) {
-            Ok(query) => told(first(rt, alloc, query, source)),
+            Ok(query) => chain_answer(first(rt, alloc, query, source)),
             Err(fault) => Err(ChainFault::Build(fault)),
         }
     }
@@ -122,7 +122,7 @@ impl<'a, S: Steps<Item: Send> + Sync> Sequentially<'a, S> {
         ensures memory { LacksRoomAlone result }
     {
         match query_of(alloc, workers, self.steps) {
-            Ok(query) => told(element_at(rt, alloc, query, source, place)),
+            Ok(query) => chain_answer(element_at(rt, alloc, query, source, place)),
             Err(fault) => Err(ChainFault::Build(fault)),
         }
     }
@@ -179,7 +179,7 @@ impl<'a, S: Steps<Item: Send> + Sync> Sequentially<'a, S> {
         ensures memory { LacksRoomAlone result }
     {
         match query_of(alloc, workers, self.steps) {
-            Ok(query) => told(count(rt, alloc, &query, source)),
+            Ok(query) => chain_answer(count(rt, alloc, &query, source)),
             Err(fault) => Err(ChainFault::Build(fault)),
         }
     }
@@ -214,7 +214,7 @@ impl<'a, S: Steps<Item: Send> + Sync> Sequentially<'a, S> {
         ensures memory { LacksRoomOrRefused result }
     {
         match query_of(alloc, workers, self.steps) {
-            Ok(query) => run_told(for_each(rt, alloc, &query, source, by)),
+            Ok(query) => chain_outcome(for_each(rt, alloc, &query, source, by)),
             Err(fault) => Err(ChainFault::Build(fault)),
         }
     }

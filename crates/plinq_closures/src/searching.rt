@@ -6,7 +6,7 @@ ghost use Rattle.plinq_collect.specs.Folds.{first_of, has_item, has_none};
 ghost use Rattle.plinq_closures.specs.Asked.{Tells, negated};
 ghost use Rattle.plinq_closures.specs.Functions.{tests};
 
-use crate::asking::told;
+use crate::asking::chain_answer;
 use crate::chain::Chain;
 use crate::chain_fault::ChainFault;
 use crate::chain_queries::query_of;
@@ -45,7 +45,7 @@ impl<S: Steps<Item: Send> + Sync> Chain<S> {
             Tells workers first_of (answer_of (λ f. f) ((ops ++ Op.Skip (pos place) ∷ []) ++ Op.Take (pos 1) ∷ []) (Src.whole source)) result }
     {
         match query_of(alloc, workers, &self.steps) {
-            Ok(query) => told(element_at(rt, alloc, query, source, place)),
+            Ok(query) => chain_answer(element_at(rt, alloc, query, source, place)),
             Err(fault) => Err(ChainFault::Build(fault)),
         }
     }
@@ -160,10 +160,10 @@ pub(crate) fn lent<'a, S: Steps>(steps: &'a S) -> Chain<Lent<'a, S>>
 }
 
 /// The other answer, where there is one.
-pub(crate) fn negated(told: Result<bool, ChainFault>) -> Result<bool, ChainFault>
-    ensures { result ≡ negated told }
+pub(crate) fn negated(answer: Result<bool, ChainFault>) -> Result<bool, ChainFault>
+    ensures { result ≡ negated answer }
 {
-    match told {
+    match answer {
         Ok(is) => Ok(!is),
         Err(fault) => Err(fault),
     }

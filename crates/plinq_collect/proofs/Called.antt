@@ -76,16 +76,16 @@ module _ {K F T N : Type 0} (Step : F → T → Result ⊤ ℕ → F → Type 0)
       )
 
 -- of an answer whose items are these
-pub calls-answer : {F T : Type 0} (Step : F → T → Result ⊤ ℕ → F → Type 0) (u : Trace T) (xs : List T) (e : Ending) → ended xs e ≡ u → (f : F) (told : Result Ending RunFault) (g : F)
-    → CallsAll Step (ended xs e) f told g → CallsAll Step u f told g
-calls-answer Step u xs e is f told g h = subst (λ v. CallsAll Step v f told g) is h
+pub calls-answer : {F T : Type 0} (Step : F → T → Result ⊤ ℕ → F → Type 0) (u : Trace T) (xs : List T) (e : Ending) → ended xs e ≡ u → (f : F) (outcome : Result Ending RunFault) (g : F)
+    → CallsAll Step (ended xs e) f outcome g → CallsAll Step u f outcome g
+calls-answer Step u xs e is f outcome g h = subst (λ v. CallsAll Step v f outcome g) is h
 
 -- with none of them, where memory ran out
 pub calls-none : {F T : Type 0} (Step : F → T → Result ⊤ ℕ → F → Type 0) (u : Trace T) (f g : F) (fault : RunFault) → fault ≡ Memory → g ≡ f → CallsAll Step u f (Err fault) g
 calls-none Step u f g fault is same = subst (λ it. CallsAll Step u f (Err it) g) (sym is) (record { calls = ([], u.items, refl, same) })
 
 -- a code is all that may come in the place of an ending
-pub refused-only : (told : Result Ending RunFault) → IfErr told IsCode → NoRoomOrRefused told
+pub refused-only : (outcome : Result Ending RunFault) → IfErr outcome IsCode → NoRoomOrRefused outcome
 refused-only (Ok e) is = tt
 refused-only (Err (Sink code)) is = tt
 refused-only (Err Memory) is = absurd is

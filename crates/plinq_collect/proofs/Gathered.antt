@@ -1,4 +1,4 @@
--- What a run into a list reports, and what is told of an aggregate.
+-- What a run into a list reports, and what an aggregate answers.
 use Rattle.std.specs.Prelude.{◌≡◌, ℕ, List, [], ◌∷◌, ◌++◌, Some, Result, Ok, Err, refl, Bool, not, MatchResult}
 use Rattle.std.proofs.Common.{sym, ◌∙◌, ap, subst, append_assoc, append-nil}
 use Rattle.plinq_source.specs.Trace.{Trace}
@@ -69,15 +69,15 @@ lacks-negated (Err (Ended e)) lacks = tt
 lacks-negated (Err (Run fault)) lacks = lacks
 
 -- a run into a list that was empty is gathered, or was short of something
-pub gathers-told : {K V T : Type 0} (items : K → List T) (refuses : K → List T → ℕ → K → Type 0) (option : MergeOption) (May : Trace T → Trace T → Type 0) (t : Trace T)
-    (s s' : K) (told : Result Report RunFault) (read : V → List T) (list : V) → read list ≡ items s' → items s ≡ []
-    → Reports (Keeps items) refuses option May t s s' told
-    → MatchResult (gathered_of list told) (λ it. GathersSome option (May t) (read it.0) it.1) IsShort
-gathers-told items refuses option May t s s' (Ok report) read list same none h =
+pub gathers-outcome : {K V T : Type 0} (items : K → List T) (refuses : K → List T → ℕ → K → Type 0) (option : MergeOption) (May : Trace T → Trace T → Type 0) (t : Trace T)
+    (s s' : K) (outcome : Result Report RunFault) (read : V → List T) (list : V) → read list ≡ items s' → items s ≡ []
+    → Reports (Keeps items) refuses option May t s s' outcome
+    → MatchResult (gathered_of list outcome) (λ it. GathersSome option (May t) (read it.0) it.1) IsShort
+gathers-outcome items refuses option May t s s' (Ok report) read list same none h =
     subst (λ xs. GathersSome option (May t) xs report.ending) (sym same) (gathers items refuses option May t s s' report none h)
-gathers-told items refuses option May t s s' (Err (Sink code)) read list same none h = refl
-gathers-told items refuses option May t s s' (Err Memory) read list same none h = refl
-gathers-told items refuses option May t s s' (Err Tickets) read list same none h = refl
-gathers-told items refuses option May t s s' (Err Thread) read list same none h = refl
-gathers-told items refuses option May t s s' (Err Incomplete) read list same none h = refl
-gathers-told items refuses option May t s s' (Err Cancelled) read list same none h = absurd h.broken
+gathers-outcome items refuses option May t s s' (Err (Sink code)) read list same none h = refl
+gathers-outcome items refuses option May t s s' (Err Memory) read list same none h = refl
+gathers-outcome items refuses option May t s s' (Err Tickets) read list same none h = refl
+gathers-outcome items refuses option May t s s' (Err Thread) read list same none h = refl
+gathers-outcome items refuses option May t s s' (Err Incomplete) read list same none h = refl
+gathers-outcome items refuses option May t s s' (Err Cancelled) read list same none h = absurd h.broken

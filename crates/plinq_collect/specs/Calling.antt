@@ -43,15 +43,15 @@ module _ {F T : Type 0} (Step : F → T → Result ⊤ ℕ → F → Type 0) whe
   Calls xs ending f (Err fault) g = CallsFirst (cause_of fault) xs f g
 
   -- it was called with the items of the batches of some answer, which are all of its items where it ends well
-  pub record CallsSome (option : MergeOption) (IsAnswer : Trace T → Type 0) (f : F) (told : Result Ending RunFault) (g : F) : Type 0 where
+  pub record CallsSome (option : MergeOption) (IsAnswer : Trace T → Type 0) (f : F) (outcome : Result Ending RunFault) (g : F) : Type 0 where
     pub answer : Trace T
     pub may : IsAnswer answer
-    pub calls : Calls (items_of (batches option answer)) answer.ending f told g
+    pub calls : Calls (items_of (batches option answer)) answer.ending f outcome g
     pub all : answer.ending ≡ Some End → items_of (batches option answer) ≡ answer.items
 
   -- it was called with the items of this answer
-  pub record CallsAll (u : Trace T) (f : F) (told : Result Ending RunFault) (g : F) : Type 0 where
-    pub calls : Calls u.items u.ending f told g
+  pub record CallsAll (u : Trace T) (f : F) (outcome : Result Ending RunFault) (g : F) : Type 0 where
+    pub calls : Calls u.items u.ending f outcome g
 
 -- where it was not called with all items, memory ran out, or it answered a code
 abbrev pub NoRoomOrRefused : Result Ending RunFault → Type 0

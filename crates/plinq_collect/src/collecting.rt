@@ -68,18 +68,18 @@ where
         IsShort }
 {
     let mut sink = Collect(Vec::new(alloc));
-    let told = run_into(rt, alloc, query, source, &mut sink);
-    gathered(sink.0, told)
+    let outcome = run_into(rt, alloc, query, source, &mut sink);
+    gathered(sink.0, outcome)
 }
 
 /// What is answered of a run into this list.
 fn gathered<T: Drop>(
     list: Vec<T>,
-    told: Result<Report, RunFault>,
+    outcome: Result<Report, RunFault>,
 ) -> Result<(Vec<T>, Ending), RunFault>
-    ensures { result ≡ gathered_of list told }
+    ensures { result ≡ gathered_of list outcome }
 {
-    match told {
+    match outcome {
         Ok(report) => Ok((list, report.ending)),
         Err(RunFault::Sink(_)) => Err(RunFault::Memory),
         Err(fault) => Err(fault),

@@ -223,10 +223,10 @@ where
 }
 
 /// The other answer, where there is one.
-pub(crate) fn negated(told: Result<bool, AggregateFault>) -> Result<bool, AggregateFault>
-    ensures { result ≡ negated told }
+pub(crate) fn negated(answer: Result<bool, AggregateFault>) -> Result<bool, AggregateFault>
+    ensures { result ≡ negated answer }
 {
-    match told {
+    match answer {
         Ok(is) => Ok(!is),
         Err(fault) => Err(fault),
     }

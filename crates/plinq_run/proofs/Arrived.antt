@@ -181,32 +181,32 @@ module _ {L T : Type 0} (meaning : L → Meaning T) (plan : Plan L) (t : Trace T
 
 module _ {T : Type 0} (offers : List (ChunkResult T)) where
   -- the row has come to the source's ending
-  record HasCome (told : Option (ℕ × Ending)) (u : Trace T) : Type 0 where
+  record HasCome (source_end : Option (ℕ × Ending)) (u : Trace T) : Type 0 where
     pub place : ℕ × Ending
-    pub told_is : told ≡ Some place
+    pub end_is : source_end ≡ Some place
     pub is : u ≡ trace_of [] (Some place.1)
     pub keys : (k : ℕ) → k < place.0 → is_offered offers k ≡ true
 
   abbrev Comes : Option (ℕ × Ending) → Trace T → Type 0
-  Comes told u = (u ≡ open_trace []) ⊎ HasCome told u
+  Comes source_end u = (u ≡ open_trace []) ⊎ HasCome source_end u
 
-  gap-comes : (told : Option (ℕ × Ending)) (gap : ℕ) → ((k : ℕ) → k < gap → is_offered offers k ≡ true) → Comes told (trace_of [] (ending_at told gap))
+  gap-comes : (source_end : Option (ℕ × Ending)) (gap : ℕ) → ((k : ℕ) → k < gap → is_offered offers k ≡ true) → Comes source_end (trace_of [] (ending_at source_end gap))
   gap-comes None gap keys = inl refl
   gap-comes (Some at) gap keys =
       elim (at.0 == gap) as (λ v. v ≡ (at.0 == gap) → Comes (Some at) (trace_of [] (cond v (Some at.1) None))) [
-        | true ↦ λ test. inr (record { place = at; told_is = refl; is = refl; keys = λ k below. keys k (omega (arith, same_key at.0 gap (sym test), below)) })
+        | true ↦ λ test. inr (record { place = at; end_is = refl; is = refl; keys = λ k below. keys k (omega (arith, same_key at.0 gap (sym test), below)) })
         | false ↦ λ test. inl refl
       ] refl
 
   row-comes : AreApart offers → Comes (all_told None offers) (row (all_told None offers) 0 (all_placed ByArrival [] offers))
   row-comes apart =
-      let told : Option (ℕ × Ending) = all_told None offers in
+      let source_end : Option (ℕ × Ending) = all_told None offers in
       let ps : List (Interval (Trace T)) = all_placed ByArrival [] offers in
       let gap : ℕ = first_gap 0 ps in
       let stand = placed-all ByArrival [] offers refl apart (λ key there. refl) in
       let none : all_given (unbroken 0 ps) ≡ open_trace [] = nothing-given (unbroken 0 ps) (All-unbroken (λ p. p.1.payload ≡ open_trace []) 0 ps (nothing-placed offers)) in
-      let is : trace_of [] (ending_at told gap) ≡ row told 0 ps = ap (λ u. followed u (trace_of [] (ending_at told gap))) (sym none) in
-      subst (Comes told) is (gap-comes told gap (λ k below. sym (stand.keys k) ∙ gap-covered 0 ps k (omega arith) below))
+      let is : trace_of [] (ending_at source_end gap) ≡ row source_end 0 ps = ap (λ u. followed u (trace_of [] (ending_at source_end gap))) (sym none) in
+      subst (Comes source_end) is (gap-comes source_end gap (λ k below. sym (stand.keys k) ∙ gap-covered 0 ps k (omega arith) below))
 
 -- what was merged by arrival is how the fragments of the items in some order begin
 pub arrival-begins : {L T : Type 0} (meaning : L → Meaning T) (plan : Plan L) (t : Trace T) → length t.items ≤ 2 ^ 40 → plan.order ≡ ByArrival → are_keyless plan.worker.now ≡ true
@@ -218,8 +218,8 @@ arrival-begins {L} {T} meaning plan t few by keyless offers are apart =
     let left : List T = without (is_offered offers) 0 t.items in
     let taken : Trace T = record { items = xs ++ left; ending = t.ending } in
     let first : Trace T = arrived ByArrival offers in
-    let told : Option (ℕ × Ending) = all_told None offers in
-    let keys : Trace T = row told 0 (all_placed ByArrival [] offers) in
+    let source_end : Option (ℕ × Ending) = all_told None offers in
+    let keys : Trace T = row source_end 0 (all_placed ByArrival [] offers) in
     let rest : Trace T = glued meaning ws (0 + length xs) left t.ending in
     let any : IsRearranged t taken = record { items = rearranged-taken t.items offers (are-within meaning plan t offers are) apart; ending = refl } in
     let all : glue meaning ws taken ≡ followed first rest =
@@ -229,8 +229,8 @@ arrival-begins {L} {T} meaning plan t few by keyless offers are apart =
           let same : followed first keys ≡ first = ap (followed first) none ∙ followed-open_nil first in
           (taken, any, rest, all ∙ ap (λ u. followed u rest) (sym same))
       | inr come ↦
-          let tells : IfSome told (EndsAt t) = told-true t None offers tt (are-true_tails meaning plan t offers are) in
-          let ends : EndsAt t come.place = subst (λ o. IfSome o (EndsAt t)) come.told_is tells in
+          let tells : IfSome source_end (EndsAt t) = told-true t None offers tt (are-true_tails meaning plan t offers are) in
+          let ends : EndsAt t come.place = subst (λ o. IfSome o (EndsAt t)) come.end_is tells in
           let gone : left ≡ [] = without-all (is_offered offers) 0 t.items (λ j from below. come.keys j (omega (arith, below, ends.0))) in
           let same : rest ≡ keys =
           ap (λ ys. glued meaning ws (0 + length xs) ys t.ending) gone ∙ ap (λ e. trace_of [] e) ends.1 ∙ sym come.is in

@@ -65,12 +65,12 @@ module _ {T A O : Type 0} (f : Folding T A O) where
       (sym one.key) (here (p.0 == key))
   unbroken-alike key ps qs alike = absurd alike
 
-  row-folded : (told : Option (ℕ × Ending)) (key : ℕ) (ps : List (Interval (Trace T))) (qs : List (Interval (Trace A))) → AreRowsAlike ps qs → IsFolded f (row told key ps) (row told key qs)
-  row-folded told key ps qs alike =
+  row-folded : (source_end : Option (ℕ × Ending)) (key : ℕ) (ps : List (Interval (Trace T))) (qs : List (Interval (Trace A))) → AreRowsAlike ps qs → IsFolded f (row source_end key ps) (row source_end key qs)
+  row-folded source_end key ps qs alike =
       let at = unbroken-alike key ps qs alike in
-      let last : Trace T = record { items = []; ending = ending_at told (first_gap key ps) } in
-      followed-folded f (all_given (unbroken key ps)) last (all_given (unbroken key qs)) (record { items = []; ending = ending_at told (first_gap key qs) }) (given-folded (unbroken key ps) (unbroken key qs) at.0)
-      (subst (λ k. IsFolded f last (record { items = []; ending = ending_at told k })) (sym at.1) (folded-ending (ending_at told (first_gap key ps))))
+      let last : Trace T = record { items = []; ending = ending_at source_end (first_gap key ps) } in
+      followed-folded f (all_given (unbroken key ps)) last (all_given (unbroken key qs)) (record { items = []; ending = ending_at source_end (first_gap key qs) }) (given-folded (unbroken key ps) (unbroken key qs) at.0)
+      (subst (λ k. IsFolded f last (record { items = []; ending = ending_at source_end k })) (sym at.1) (folded-ending (ending_at source_end (first_gap key ps))))
 
   insert-alike : (ps : List (Interval (Trace T))) (qs : List (Interval (Trace A))) (first end : ℕ) (p : Trace T) (q : Trace A) → AreRowsAlike ps qs → IsFolded f p q
       → AreRowsAlike (insert ps first end p) (insert qs first end q)
@@ -122,14 +122,14 @@ module _ {T A O : Type 0} (f : Folding T A O) where
       all_placed-alike lawful order (placed order ps r) (placed order qs c) rs cs (placed-alike lawful order ps qs r c alike are.0) are.1
   all_placed-alike lawful order ps qs rs cs alike are = absurd are
 
-  all_told-alike : (told : Option (ℕ × Ending)) (rs : List (ChunkResult T)) (cs : List (ChunkResult A)) → AreFoldsOf f rs cs → all_told told cs ≡ all_told told rs
-  all_told-alike told [] [] are = refl
-  all_told-alike told (r ∷ rs) (c ∷ cs) are =
+  all_told-alike : (source_end : Option (ℕ × Ending)) (rs : List (ChunkResult T)) (cs : List (ChunkResult A)) → AreFoldsOf f rs cs → all_told source_end cs ≡ all_told source_end rs
+  all_told-alike source_end [] [] are = refl
+  all_told-alike source_end (r ∷ rs) (c ∷ cs) are =
       let is = are.0 in
-      ap (λ k. all_told (option_or told (told_at k c.tail)) cs) (after-alike r c is)
-      ∙ ap (λ tail. all_told (option_or told (told_at (end_of_result r) tail)) cs) is.tail
-      ∙ all_told-alike (option_or told (told_at (end_of_result r) r.tail)) rs cs are.1
-  all_told-alike told rs cs are = absurd are
+      ap (λ k. all_told (option_or source_end (told_at k c.tail)) cs) (after-alike r c is)
+      ∙ ap (λ tail. all_told (option_or source_end (told_at (end_of_result r) tail)) cs) is.tail
+      ∙ all_told-alike (option_or source_end (told_at (end_of_result r) r.tail)) rs cs are.1
+  all_told-alike source_end rs cs are = absurd are
 
   arrived-folded : IsFolding f → (order : Order) (rs : List (ChunkResult T)) (cs : List (ChunkResult A)) → AreFoldsOf f rs cs → IsFolded f (arrived order rs) (arrived order cs)
   arrived-folded lawful order [] [] are = folded-nothing
@@ -142,7 +142,7 @@ module _ {T A O : Type 0} (f : Folding T A O) where
   merged-folded lawful order rs cs are =
       followed-folded f (arrived order rs) (row (all_told None rs) 0 (all_placed order [] rs)) (arrived order cs) (row (all_told None cs) 0 (all_placed order [] cs))
       (arrived-folded lawful order rs cs are)
-      (subst (λ told. IsFolded f (row (all_told None rs) 0 (all_placed order [] rs)) (row told 0 (all_placed order [] cs))) (sym (all_told-alike None rs cs are))
+      (subst (λ source_end. IsFolded f (row (all_told None rs) 0 (all_placed order [] rs)) (row source_end 0 (all_placed order [] cs))) (sym (all_told-alike None rs cs are))
       (row-folded (all_told None rs) 0 (all_placed order [] rs) (all_placed order [] cs) (all_placed-alike lawful order [] [] rs cs tt are)))
 
 -- ---- the results that folds are of

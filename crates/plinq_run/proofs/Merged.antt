@@ -1,4 +1,4 @@
--- What was accepted of the parts that workers send is merged; and what is told of it: where no fault is, it is all that was sent.
+-- What was accepted of the parts that workers send is merged; and what is reported of it: where no fault is, it is all that was sent.
 use Rattle.std.specs.Prelude.{◌≡◌, List, [], Bool, Option, Some, None, Result, Ok, Err, All}
 use Rattle.std.specs.declared.alloc.Global.{Global}
 use Rattle.std.proofs.Common.{refl, sym, ◌∙◌, ap, subst, inl, inr, drop, Vec, arith}
@@ -82,8 +82,8 @@ module _ {W O T : Type 0} (made : W → O → Trace T → Result (Option Ending)
       }
 
   -- a part was offered to a joiner that had no fault
-  offered-by : (told : Result More MergeFault) (m : Merging W T) (y : O) (part : ChunkResult T) (m' : Merging W T) (y' : O) → JoinsOffer made m.joiner part y told m'.joiner y'
-      → order_of m'.joiner ≡ order_of m.joiner → m'.fault ≡ offer_fault told → IsPart part
+  offered-by : (answer : Result More MergeFault) (m : Merging W T) (y : O) (part : ChunkResult T) (m' : Merging W T) (y' : O) → JoinsOffer made m.joiner part y answer m'.joiner y'
+      → order_of m'.joiner ≡ order_of m.joiner → m'.fault ≡ offer_fault answer → IsPart part
       → (offers : List (ChunkResult T)) → All IsPart offers → AreApart offers → Stands made IsPart order a x None m.joiner y offers
       → HasMerged made IsPart order a x m' y'
   offered-by (Ok more) m y part m' y' takes same kept is offers are apart stands =
@@ -98,7 +98,7 @@ module _ {W O T : Type 0} (made : W → O → Trace T → Result (Option Ending)
       → (offers : List (ChunkResult T)) → All IsPart offers → AreApart offers → Stands made IsPart order a x fault m.joiner y offers
       → HasMerged made IsPart order a x m' y'
   accepted-by None m y part m' y' same accepts is offers are apart stands =
-      offered-by accepts.told m y part m' y' accepts.takes accepts.order accepts.kept is offers are apart stands
+      offered-by accepts.answer m y part m' y' accepts.takes accepts.order accepts.kept is offers are apart stands
   accepted-by (Some fault) m y part m' y' same accepts is offers are apart stands =
       subst (λ n. HasMerged made IsPart order a x n y') (sym accepts.0)
       (subst (λ z. HasMerged made IsPart order a x m z) (sym accepts.1)
@@ -136,19 +136,19 @@ module _ {W O T : Type 0} (made : W → O → Trace T → Result (Option Ending)
       nothing-merged : (o : Order) → made a x (open_trace []) (Err NoMemory) a x → made a x (merged o []) (Err NoMemory) a x
       nothing-merged o h = h
 
-  broken-by : (fault : Option MergeFault) (m : Merging W T) (y : O) (told : RunFault) → cause_of told ≡ cause_in_merge fault
-      → (offers : List (ChunkResult T)) → All IsPart offers → AreApart offers → Stands made IsPart order a x fault m.joiner y offers → HasBrokenOff made IsPart order a x told y
-  broken-by None m y told is offers are apart stands =
+  broken-by : (fault : Option MergeFault) (m : Merging W T) (y : O) (run_fault : RunFault) → cause_of run_fault ≡ cause_in_merge fault
+      → (offers : List (ChunkResult T)) → All IsPart offers → AreApart offers → Stands made IsPart order a x fault m.joiner y offers → HasBrokenOff made IsPart order a x run_fault y
+  broken-by None m y run_fault is offers are apart stands =
       let last = taker_of m.joiner in
-      let broken : (how : Result (Option Ending) DeliveryFault) → made a x (merged order offers) how last y → Breaks how (cause_of told) → HasBrokenOff made
-      IsPart order a x told y =
+      let broken : (how : Result (Option Ending) DeliveryFault) → made a x (merged order offers) how last y → Breaks how (cause_of run_fault) → HasBrokenOff made
+      IsPart order a x run_fault y =
       λ how taken breaks. record { offers = offers; are = are; apart = apart; last = last; how = how; taken = taken; breaks = breaks } in
       joined-cases made a x m.joiner y offers stands.1
       (λ no gap waits before. broken (Err NoMemory)
       (subst (λ o. made a x (merged o offers) (Err NoMemory) last y) stands.0 (joined-stopped made a x lawful m.joiner y offers waits before)) is)
       (λ e yes ok all. broken (Ok (Some e)) (subst (λ o. made a x (merged o offers) (Ok (Some e)) last y) stands.0 all) is)
-  broken-by (Some fault) m y told is offers are apart stands =
-      record { offers = offers; are = are; apart = apart; last = stands.0; how = Err (delivery_fault_of fault); taken = stands.1; breaks = breaks-by fault (cause_of told) is }
+  broken-by (Some fault) m y run_fault is offers are apart stands =
+      record { offers = offers; are = are; apart = apart; last = stands.0; how = Err (delivery_fault_of fault); taken = stands.1; breaks = breaks-by fault (cause_of run_fault) is }
 
   -- where the joiner has ended the answer, its taker has taken all that was offered
   ended-by : (j : Joiner W T) (y : O) (e : Ending) (offers : List (ChunkResult T)) → Stands made IsPart order a x None j y offers → ending_of j ≡ Ok e
@@ -168,7 +168,7 @@ conducts-same made IsPart crew context m m' (Ok back) h =
     (λ xs z sent z' at step. let so = step.1 in record { merging = so.same.merging ∙ at.merging; out = so.same.out ∙ at.out }) accepted.taken m m' (record { merging = refl; out = refl }) accepted.steps
 conducts-same made IsPart crew context m m' (Err fault) h = record { merging = ap (λ x. x.merging.ghost_name) h; out = ap (λ x. x.out.ghost_name) h }
 
--- ---- what is told
+-- ---- what is reported
 
 -- Where it is reported how the answer ended, no worker had a fault and none was missing. So the source was closed, what was accepted is of the
 -- chunks of the records, and all that was sent was received
@@ -191,9 +191,9 @@ module _ {L S J P U W O T : Type 0} {source : SourceGhosts S U} {m : Merging W T
       subst (λ n. HasMerged made P order a x n y) same.0 (subst (HasMerged made P order a x last.merging.now) same.1 all)
 
   -- the answer has ended so, or it was broken off
-  pub told-run : (r : Result (Ended S W U source) RunFault) → Finishes m back r → HasReturned (AcceptsInto made) IsPart crew context first last back
+  pub reported-run : (r : Result (Ended S W U source) RunFault) → Finishes m back r → HasReturned (AcceptsInto made) IsPart crew context first last back
       → HasRunCrew made IsPart crew context a x r y
-  told-run (Ok ended) f h =
+  reported-run (Ok ended) f h =
       let order = crew.plan.now.order in
       let all = crew-merged h in
       let stands = subst (λ fault. Stands made IsPart order a x fault m.joiner y all.offers) f.none all.stands in
@@ -236,7 +236,7 @@ module _ {L S J P U W O T : Type 0} {source : SourceGhosts S U} {m : Merging W T
               (ended-by made lawful IsPart order a x m.joiner y ended.joined.ending all.offers stands f.ending);
         };
       })
-  told-run (Err fault) f h =
+  reported-run (Err fault) f h =
       let all = crew-merged h in
       broken-by made lawful IsPart crew.plan.now.order a x m.fault m y fault f.err all.offers
       (All-weaker (IsOfCrew back IsPart) IsPart (λ c is. is.0) all.offers all.are) all.apart all.stands

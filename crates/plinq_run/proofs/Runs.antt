@@ -171,11 +171,11 @@ module _ {L T K : Type 0} (meaning : L → Meaning T) (q : QueryView L) (plan : 
     accounts : (first : Trace T) → Covers t records first → May first answer
     has_run : HasRun accepts option answer s s' e
 
-  short-of : (s : K) (offers : List (ChunkResult T)) (fault : DeliveryFault) (s' : K) (told : RunFault) (cause : Cause) → All (IsResult meaning plan t) offers → AreApart offers
+  short-of : (s : K) (offers : List (ChunkResult T)) (fault : DeliveryFault) (s' : K) (run_fault : RunFault) (cause : Cause) → All (IsResult meaning plan t) offers → AreApart offers
       → IsCutOff accepts refuses s (batches_from (batch_size option) [] (seq (stages_of meaning plan.after.now) (merged plan.order offers))) fault s'
-      → ((bs : List (List T)) → IsCutOff accepts refuses s bs fault s' → BreaksFor accepts refuses cause bs s s') → cause_of told ≡ cause
-      → IsBroken accepts refuses option May t s s' told
-  short-of s offers fault s' told cause are apart short on is =
+      → ((bs : List (List T)) → IsCutOff accepts refuses s bs fault s' → BreaksFor accepts refuses cause bs s s') → cause_of run_fault ≡ cause
+      → IsBroken accepts refuses option May t s s' run_fault
+  short-of s offers fault s' run_fault cause are apart short on is =
       let made : Merge T = merge_for meaning plan option in
       let begun = begun-in meaning plan t plan.order refl few undecided offers are apart in
       let first = begun-shown meaning plan option undecided t offers begun in
@@ -239,17 +239,17 @@ module _ {L T K : Type 0} (meaning : L → Meaning T) (q : QueryView L) (plan : 
         }
 
     -- or the run was broken off
-    broken-by : (how : Result (Option Ending) DeliveryFault) (s s' : K) (told : RunFault) (offers : List (ChunkResult T)) (l' : Line T)
+    broken-by : (how : Result (Option Ending) DeliveryFault) (s s' : K) (run_fault : RunFault) (offers : List (ChunkResult T)) (l' : Line T)
         → All (IsResult meaning plan t) offers → AreApart offers
-        → Gives accepts refuses (begun_line meaning plan option) s (merged plan.order offers) how l' s' → Breaks how (cause_of told)
-        → IsBroken accepts refuses option May t s s' told
-    broken-by (Ok None) s s' told offers l' are apart gives breaks = absurd breaks
-    broken-by (Ok (Some e)) s s' told offers l' are apart gives breaks =
+        → Gives accepts refuses (begun_line meaning plan option) s (merged plan.order offers) how l' s' → Breaks how (cause_of run_fault)
+        → IsBroken accepts refuses option May t s s' run_fault
+    broken-by (Ok None) s s' run_fault offers l' are apart gives breaks = absurd breaks
+    broken-by (Ok (Some e)) s s' run_fault offers l' are apart gives breaks =
         let all : List (List T) = batches_from (batch_size option) [] (seq (stages_of meaning plan.after.now) (merged plan.order offers)) in
-        short-of s offers NoMemory s' told Other are apart (all, [], sym (append-nil all), gives.1) (λ bs x. x) breaks
-    broken-by (Err NoMemory) s s' told offers l' are apart gives breaks = short-of s offers NoMemory s' told Other are apart gives (λ bs x. x) breaks
-    broken-by (Err (Refusal code)) s s' told offers l' are apart gives breaks =
-        short-of s offers (Refusal code) s' told (SinkRefused code) are apart gives (λ bs x. x) breaks
+        short-of s offers NoMemory s' run_fault Other are apart (all, [], sym (append-nil all), gives.1) (λ bs x. x) breaks
+    broken-by (Err NoMemory) s s' run_fault offers l' are apart gives breaks = short-of s offers NoMemory s' run_fault Other are apart gives (λ bs x. x) breaks
+    broken-by (Err (Refusal code)) s s' run_fault offers l' are apart gives breaks =
+        short-of s offers (Refusal code) s' run_fault (SinkRefused code) are apart gives (λ bs x. x) breaks
 
     pub broken-reported : (s s' : K) (fault : RunFault) → HasBrokenOff (MadeBy accepts refuses meaning) (AsItIs meaning plan t) plan.order first s fault s'
         → IsBroken accepts refuses option May t s s' fault

@@ -48,10 +48,10 @@ pub record AreSame {W T O : Type 0} (m m' : MergingInto W T O) : Type 0 where
 module _ {W O T : Type 0} (made : W → O → Trace T → Result (Option Ending) DeliveryFault → W → O → Type 0) where
   -- the part was offered to the joiner, and how that was answered is known
   pub record WasOffered (m : Merging W T) (y : O) (part : ChunkResult T) (m' : Merging W T) (y' : O) : Type 0 where
-    pub told : Result More MergeFault
-    pub takes : JoinsOffer made m.joiner part y told m'.joiner y'
+    pub answer : Result More MergeFault
+    pub takes : JoinsOffer made m.joiner part y answer m'.joiner y'
     pub order : order_of m'.joiner ≡ order_of m.joiner
-    pub kept : m'.fault ≡ offer_fault told
+    pub kept : m'.fault ≡ offer_fault answer
 
   abbrev pub AcceptsAfter : Option MergeFault → Merging W T → O → ChunkResult T → Merging W T → O → Type 0
   AcceptsAfter None m y part m' y' = WasOffered m y part m' y'

@@ -4,7 +4,7 @@ use Rattle.plinq_merge.proofs.Joins.{begun-joined}
 use Rattle.plinq_crew.specs.Conducting.{Conducts}
 use Rattle.plinq_run.specs.inner.Merged.{AcceptsInto, HasBrokenOff}
 use Rattle.plinq_run.specs.declared.run_fault.RunFault.TheVariants.{Memory}
-use Rattle.plinq_run.proofs.Merged.{none-broken, conducts-same, told-run}
+use Rattle.plinq_run.proofs.Merged.{none-broken, conducts-same, reported-run}
 use Rattle.plinq_run.proofs.planning.run_crew.Goals as goal
 
 pub returns-in_default : goal.returns-in_default
@@ -32,5 +32,5 @@ returns g c =
     let back = subst (Conducts (AcceptsInto made) IsPart crew c.args.context _ last) c.in-Ok.is c.conduct.ensures in
     let lent = conducts-same made IsPart crew c.args.context _ last c.conduct.result c.conduct.ensures in
     let begun = subst (λ b. HasJoined made b x j x []) c.new.ensures.taker (begun-joined made lawful j x c.new.ensures.still c.new.ensures.nothing) in
-    told-run made lawful IsPart crew c.args.context a x _ last refl (search rules, search rules) (c.new.ensures.order, begun) refl
+    reported-run made lawful IsPart crew c.args.context a x _ last refl (search rules, search rules) (c.new.ensures.order, begun) refl
     c.finish.result c.finish.ensures back

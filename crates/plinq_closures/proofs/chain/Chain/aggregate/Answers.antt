@@ -13,6 +13,6 @@ returns-in-Ok g c ops does =
     let q = c.in-Ok.query in
     let t = g.Src.Source.whole c.args.source in
     let fold = g.A.GrowingAggregator.folding c.args.aggregator.now in
-    subst (λ r. Tells c.args.workers (aggregated fold) (answer_of (λ f. f) ops t) r) (sym c.told.ensures)
+    subst (λ r. Tells c.args.workers (aggregated fold) (answer_of (λ f. f) ops t) r) (sym c.chain_answer.ensures)
     (tells-answer c.args.workers (aggregated fold) _ q.ordered c.in-Ok.ensures.ordered.0 q.ops ops (c.in-Ok.ensures.ops ops does) t c.aggregate.result
     (tells fold (aggregated fold) _ c.aggregate.result (λ xs. refl) c.aggregate.ensures.value))

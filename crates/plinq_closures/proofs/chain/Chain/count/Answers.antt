@@ -11,5 +11,5 @@ returns-in-Ok g c ops does =
     let q = c.in-Ok.query in
     let is = c.in-Ok.ensures in
     let t = g.Src.Source.whole c.args.source in
-    subst (λ r. Tells c.args.workers counted (answer_of (λ f. f) ops t) r) (sym c.told.ensures)
+    subst (λ r. Tells c.args.workers counted (answer_of (λ f. f) ops t) r) (sym c.chain_answer.ensures)
     (tells-answer c.args.workers counted _ q.ordered is.ordered.0 q.ops ops (is.ops ops does) t c.count.result c.count.ensures)

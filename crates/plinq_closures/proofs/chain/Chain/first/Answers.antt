@@ -13,5 +13,5 @@ returns-in-Ok g c ops does =
     let q = c.in-Ok.query in
     let is = c.in-Ok.ensures in
     let t = g.Src.Source.whole c.args.source in
-    subst (λ r. Tells c.args.workers first_of (answer_of (λ f. f) (ops ++ Take (pos 1) ∷ []) t) r) (sym c.told.ensures)
+    subst (λ r. Tells c.args.workers first_of (answer_of (λ f. f) (ops ++ Take (pos 1) ∷ []) t) r) (sym c.chain_answer.ensures)
     (tells-first c.args.workers _ q.ordered is.ordered.0 q.ops ops (is.ops ops does) t c.first.result c.first.ensures)

@@ -10,8 +10,8 @@ use Rattle.plinq_closures.proofs.chain_sequentially.Sequentially.to_vec.Goals as
 pub returns-in-Ok-clause-value : goal.returns-in-Ok-clause-value
 returns-in-Ok-clause-value g c ops does =
     let t = g.Src.Source.whole c.args.source in
-    subst (λ r. MatchResult r (λ it. ended it.0.items it.1 ≡ answer_of (λ f. f) ops t) (HasNone c.args.workers)) (sym c.run_told.ensures)
+    subst (λ r. MatchResult r (λ it. ended it.0.items it.1 ≡ answer_of (λ f. f) ops t) (HasNone c.args.workers)) (sym c.chain_outcome.ensures)
     (vec-sequentially c.args.workers _ c.in-Ok.query.ops ops (c.in-Ok.ensures.ops ops does) t (λ v. v.items) c.to_vec.result c.to_vec.ensures)
 
 pub returns-in-Ok-clause-memory : goal.returns-in-Ok-clause-memory
-returns-in-Ok-clause-memory g c = subst LacksRoomAlone (sym c.run_told.ensures) (lacks-run _ c.to_vec.result c.to_vec.ensures)
+returns-in-Ok-clause-memory g c = subst LacksRoomAlone (sym c.chain_outcome.ensures) (lacks-run _ c.to_vec.result c.to_vec.ensures)
