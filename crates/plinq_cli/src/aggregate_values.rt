@@ -54,7 +54,8 @@ fn by_one<A: Aggregator<Item = i64>>(
     aggregator: &A,
 ) -> Result<(A::Out, Ending), OutOfMemory>
     requires unasked { ⟦<AnySource as Source>⟧.given source.old ≡ 0 }
-    ensures { IfOk result (IsValueOf (aggregated (A.folding aggregator.now)) (answer_of formula_meaning query.now.ops (⟦<AnySource as Source>⟧.whole source.old))) }
+    ensures { IfOk result (IsValueOf (aggregated (A.folding aggregator.now))
+        (answer_of formula_meaning query.now.ops (⟦<AnySource as Source>⟧.whole source.old))) }
 {
     let Combined { acc, ending } = fold_sequentially(alloc, query, source, aggregator)?;
     Ok((aggregator.result(acc), ending))
@@ -92,7 +93,8 @@ where
     R: AllocGlobal + Threads + Wait + Sync,
     A: Aggregator<Item = i64>,
     requires unasked { ⟦<AnySource as Source>⟧.given source ≡ 0 }
-    ensures { AggregatesSome (A.folding aggregator.now) (MayAnswer formula_meaning query.now.ordered query.now.ops (⟦<AnySource as Source>⟧.whole source)) result }
+    ensures { AggregatesSome (A.folding aggregator.now)
+        (MayAnswer formula_meaning query.now.ordered query.now.ops (⟦<AnySource as Source>⟧.whole source)) result }
 {
     aggregate(rt, rt.alloc(), query, source, growth, &OpenGate, aggregator)
 }

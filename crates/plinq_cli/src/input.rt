@@ -28,7 +28,8 @@ pub fn read_input<R: Read>(alloc: Global, reader: &mut R) -> Result<Vec<u8>, Inp
     ensures end { OnOk result (IsAtEnd (R.remaining reader.new)) }
     ensures few { IfOk result (λ v. vec_len v ≤ 2 ^ 24) }
     ensures many { IsErrOf result TooLong → IfSome (R.remaining reader.old) (λ told. 2 ^ 24 < length told) }
-    ensures taken { IsErrOf result TooLong → IfSome (R.remaining reader.old) (λ told. IfSome (R.remaining reader.new) (λ left. length told ≤ (2 ^ 24 + 65536) + length left)) }
+    ensures taken { IsErrOf result TooLong → IfSome (R.remaining reader.old) (λ told. IfSome (R.remaining reader.new)
+        (λ left. length told ≤ (2 ^ 24 + 65536) + length left)) }
 {
     let mut piece = zeros(alloc, PIECE_BYTES)?;
     read_pieces(alloc, reader, piece.as_mut_slice())
@@ -51,7 +52,8 @@ fn read_pieces<R: Read>(
     ensures end { OnOk result (IsAtEnd (R.remaining reader.new)) }
     ensures few { IfOk result (λ v. vec_len v ≤ 2 ^ 24) }
     ensures many { IsErrOf result TooLong → IfSome (R.remaining reader.old) (λ told. 2 ^ 24 < length told) }
-    ensures taken { IsErrOf result TooLong → IfSome (R.remaining reader.old) (λ told. IfSome (R.remaining reader.new) (λ left. length told ≤ (2 ^ 24 + length piece.old) + length left)) }
+    ensures taken { IsErrOf result TooLong → IfSome (R.remaining reader.old) (λ told. IfSome (R.remaining reader.new)
+        (λ left. length told ≤ (2 ^ 24 + length piece.old) + length left)) }
 {
     let mut bytes = Vec::new(alloc);
     for _ in 0..MOST_READS {

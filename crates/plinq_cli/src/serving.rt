@@ -178,7 +178,9 @@ where
     R: AllocGlobal + Threads + Wait + Sync,
     K: Sink<Item = i64>,
     requires unasked { ⟦<AnySource as Source>⟧.given source ≡ 0 }
-    ensures { Leaves K.accepts K.refuses (merge_in_force query.now.merge) (MayAnswer formula_meaning query.now.ordered query.now.ops) (⟦<AnySource as Source>⟧.whole source) cancel_after sink.old sink.new result }
+    ensures { Leaves K.accepts K.refuses (merge_in_force query.now.merge)
+        (MayAnswer formula_meaning query.now.ordered query.now.ops) (⟦<AnySource as Source>⟧.whole source)
+        cancel_after sink.old sink.new result }
 {
     let Some(most) = cancel_after else {
         return run(rt, rt.alloc(), query, source, growth, &OpenGate, sink);

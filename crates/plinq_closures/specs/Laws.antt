@@ -39,28 +39,35 @@ comes_to-then kind kinds m before f was is =
     ∙ (ap (λ ops. ops ++ over (λ _. m 0) kind ∷ []) was ∙ ap (λ g. before ++ over (λ _. g) kind ∷ []) is)
 
 -- three functions that are equal item by item
-pub same_meaning : {T : Type 0} (f g : Meaning T) → ((x : T) → f.map x ≡ g.map x) → ((x : T) → f.test x ≡ g.test x) → ((x : T) → f.expand x ≡ g.expand x) → f ≡ g
+pub same_meaning : {T : Type 0} (f g : Meaning T) → ((x : T) → f.map x ≡ g.map x) → ((x : T) → f.test x ≡ g.test x)
+    → ((x : T) → f.expand x ≡ g.expand x) → f ≡ g
 same_meaning f g map test expand =
     ap (λ h. record { map = h; test = f.test; expand = f.expand }) (fun_ext map)
     ∙ (ap (λ h. record { map = g.map; test = h; expand = f.expand }) (fun_ext test)
     ∙ ap (λ h. record { map = g.map; test = g.test; expand = h }) (fun_ext expand))
 
-module _ {T : Type 0} (kinds : List (Op ⊤)) (Maps : ℕ → T → Result T ℕ → Type 0) (Tests : ℕ → T → Result Bool ℕ → Type 0) (Does : List (Op (Meaning T)) → Type 0) where
+module _ {T : Type 0} (kinds : List (Op ⊤)) (Maps : ℕ → T → Result T ℕ → Type 0) (Tests : ℕ → T → Result Bool ℕ → Type 0)
+    (Does : List (Op (Meaning T)) → Type 0) where
   -- a step that maps
   pub comes_to-mapped : (Here : T → Result T ℕ → Type 0) → ((x : T) (r q : Result T ℕ) → Here x r → Here x q → q ≡ r) → ComesTo kinds Maps Tests Does
-      → ComesTo (Select tt ∷ kinds) (λ at x r. here_or (Here x r) (λ n. Maps n x r) at) (λ at x r. here_or (IsNothing r) (λ n. Tests n x r) at) (DoesThen Does Here (λ f. Select (maps f)))
+      → ComesTo (Select tt ∷ kinds) (λ at x r. here_or (Here x r) (λ n. Maps n x r) at)
+      (λ at x r. here_or (IsNothing r) (λ n. Tests n x r) at) (DoesThen Does Here (λ f. Select (maps f)))
   comes_to-mapped Here one before m is ops does =
       comes_to-then (Select tt) kinds m does.before (maps does.does)
-      (before (λ at. m (suc at)) (record { map = λ at. is.map (suc at); test = λ at. is.test (suc at); expand = λ at. is.expand (suc at) }) does.before does.was)
+      (before (λ at. m (suc at)) (record { map = λ at. is.map (suc at); test = λ at. is.test (suc at); expand = λ at. is.expand (suc at) })
+      does.before does.was)
       (same_meaning (m 0) (maps does.does) (λ x. one x _ _ (does.gives x) (is.map 0 x)) (is.test 0) (is.expand 0))
       ∙ sym does.all
 
   -- a step of any kind that tests
-  pub comes_to-tested : (kind : Op ⊤) (Here : T → Result Bool ℕ → Type 0) → ((x : T) (r q : Result Bool ℕ) → Here x r → Here x q → q ≡ r) → ComesTo kinds Maps Tests Does
-      → ComesTo (kind ∷ kinds) (λ at x r. here_or (IsNothing r) (λ n. Maps n x r) at) (λ at x r. here_or (Here x r) (λ n. Tests n x r) at) (DoesThen Does Here (λ f. over (λ _. tests f) kind))
+  pub comes_to-tested : (kind : Op ⊤) (Here : T → Result Bool ℕ → Type 0) → ((x : T) (r q : Result Bool ℕ) → Here x r → Here x q → q ≡ r)
+      → ComesTo kinds Maps Tests Does
+      → ComesTo (kind ∷ kinds) (λ at x r. here_or (IsNothing r) (λ n. Maps n x r) at)
+      (λ at x r. here_or (Here x r) (λ n. Tests n x r) at) (DoesThen Does Here (λ f. over (λ _. tests f) kind))
   comes_to-tested kind Here one before m is ops does =
       comes_to-then kind kinds m does.before (tests does.does)
-      (before (λ at. m (suc at)) (record { map = λ at. is.map (suc at); test = λ at. is.test (suc at); expand = λ at. is.expand (suc at) }) does.before does.was)
+      (before (λ at. m (suc at)) (record { map = λ at. is.map (suc at); test = λ at. is.test (suc at); expand = λ at. is.expand (suc at) })
+      does.before does.was)
       (same_meaning (m 0) (tests does.does) (is.map 0) (λ x. one x _ _ (does.gives x) (is.test 0 x)) (is.expand 0))
       ∙ sym does.all
 
@@ -73,4 +80,5 @@ pub step_meaning : {T : Type 0} (Maps : ℕ → T → Result T ℕ → Type 0) (
     (one_map : (x : T) → HasOne (Maps at x)) (one_test : (x : T) → HasOne (Tests at x)) (m : ℕ → Meaning T) → Agrees Maps Tests m
     → ◌≡◌ {A = Meaning T} (record { map = λ x. answer_in (one_map x); test = λ x. answer_in (one_test x); expand = λ x. Err 0 }) (m at)
 step_meaning Maps Tests at one_map one_test m is =
-    same_meaning _ (m at) (λ x. sym (given-answer (one_map x) ((m at).map x) (is.map at x))) (λ x. sym (given-answer (one_test x) ((m at).test x) (is.test at x))) (λ x. sym (is.expand at x))
+    same_meaning _ (m at) (λ x. sym (given-answer (one_map x) ((m at).map x) (is.map at x)))
+    (λ x. sym (given-answer (one_test x) ((m at).test x) (is.test at x))) (λ x. sym (is.expand at x))

@@ -53,7 +53,8 @@ pub record Agrees {T : Type 0} (Maps : ℕ → T → Result T ℕ → Type 0) (T
   pub expand : (at : ℕ) (x : T) → (m at).expand x ≡ Err 0
 
 -- the operators before it, and then a step with a function that its closure may give
-pub record DoesThen {T R : Type 0} (Before : List (Op (Meaning T)) → Type 0) (Gives : T → R → Type 0) (step : (T → R) → Op (Meaning T)) (ops : List (Op (Meaning T))) : Type 0 where
+pub record DoesThen {T R : Type 0} (Before : List (Op (Meaning T)) → Type 0) (Gives : T → R → Type 0) (step : (T → R) → Op (Meaning T))
+    (ops : List (Op (Meaning T))) : Type 0 where
   pub before : List (Op (Meaning T))
   pub was : Before before
   pub does : T → R

@@ -24,7 +24,8 @@ AcceptsEach accepts IsPart x sent x' = IsPart sent.item × accepts x sent.item x
 abbrev pub IsOfCrew : {S T M : Type 0} {source : Ghosts S T} → Returned S T source → (ChunkResult M → Type 0) → ChunkResult M → Type 0
 IsOfCrew back IsPart c = IsPart c × (back.worker_count.started ≡ back.worker_count.wanted → IsOfOne (all_shares back.partitions.items) c)
 
-module _ {L S J P T M X : Type 0} {source : Ghosts S T} (accepts : X → ChunkResult M → X → Type 0) (IsPart : ChunkResult M → Type 0) (crew : Crew L S J P T T M source) (context : WorkerContext S M T source) (x x' : X) where
+module _ {L S J P T M X : Type 0} {source : Ghosts S T} (accepts : X → ChunkResult M → X → Type 0)
+    (IsPart : ChunkResult M → Type 0) (crew : Crew L S J P T T M source) (context : WorkerContext S M T source) (x x' : X) where
   -- All workers were joined. Their partitions have shared the source, and a pass of the stream has received all that was sent, as
   -- the partitions' records say, and nothing else where all that were wanted were started. It was accepted one part after another,
   -- but for some of the last ones. Without a worker's fault the source was closed.

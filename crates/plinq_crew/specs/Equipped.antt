@@ -19,7 +19,8 @@ use Rattle.plinq_crew.specs.Results.{IsPart}
 use Rattle.plinq_crew.specs.Working.{receiver_from}
 
 -- a partition of a source and a pass of a cut of a plan over that source; what is made of its results is what may be sent
-pub record IsEquipped {L S T M E : Type 0} {source : Ghosts S T} (meaning : L → Meaning T) (makes : ChunkResult T → ChunkResult M → Type 0) (MaySend : ChunkResult M → Type 0) (stops_at : ℕ → Bool) (plan : Plan L)
+pub record IsEquipped {L S T M E : Type 0} {source : Ghosts S T} (meaning : L → Meaning T)
+    (makes : ChunkResult T → ChunkResult M → Type 0) (MaySend : ChunkResult M → Type 0) (stops_at : ℕ → Bool) (plan : Plan L)
     (chunked : Chunked S T source) (cut : CutWord E) (partition : Partition S T source) (pass : CutPass) : Type 0 where
   pub of : IsPartitionOf chunked partition
   pub few : length (holding_of partition).origin.items ≤ 2 ^ 40
@@ -30,7 +31,8 @@ pub record IsEquipped {L S T M E : Type 0} {source : Ghosts S T} (meaning : L �
   pub stop_keys : AreStopKeys meaning plan (holding_of partition).origin stops_at
 
 -- the caller's thread may start a crew's workers: it is equipped, and its pass of the stream is the first one
-pub record IsReady {L S J P T M : Type 0} {source : Ghosts S T} (meaning : L → Meaning T) (makes : P → ChunkResult T → ChunkResult M → Type 0) (MaySend : ChunkResult M → Type 0) (stops_at : ℕ → Bool)
+pub record IsReady {L S J P T M : Type 0} {source : Ghosts S T} (meaning : L → Meaning T)
+    (makes : P → ChunkResult T → ChunkResult M → Type 0) (MaySend : ChunkResult M → Type 0) (stops_at : ℕ → Bool)
     (crew : Crew L S J P T T M source) (context : WorkerContext S M T source) : Type 0 where
   pub equipped : IsEquipped meaning (makes crew.task.now) MaySend stops_at crew.plan.now crew.chunked.now crew.cut.now context.partition context.cut
   pub stream_of : IsStreamPassOf crew.stream.now context.stream

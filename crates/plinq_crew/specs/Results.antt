@@ -30,14 +30,16 @@ pub record IsOfSameChunk {T M : Type 0} (r : ChunkResult T) (c : ChunkResult M) 
   pub tail : c.tail ≡ r.tail
 
 -- what was made of the result of a chunk under a cut
-pub record IsMadeOf {L T M : Type 0} (meaning : L → Meaning T) (makes : ChunkResult T → ChunkResult M → Type 0) (worker : List (Op L)) (cut : ℕ) (chunk : Chunk T) (c : ChunkResult M) : Type 0 where
+pub record IsMadeOf {L T M : Type 0} (meaning : L → Meaning T) (makes : ChunkResult T → ChunkResult M → Type 0)
+    (worker : List (Op L)) (cut : ℕ) (chunk : Chunk T) (c : ChunkResult M) : Type 0 where
   pub result : ChunkResult T
   pub is : IsChunkResult meaning worker cut chunk result
   pub made : makes result c
   pub same : IsOfSameChunk result c
 
 -- what was made of a result of the source
-pub record IsPart {L T M : Type 0} (meaning : L → Meaning T) (makes : ChunkResult T → ChunkResult M → Type 0) (plan : Plan L) (t : Trace T) (c : ChunkResult M) : Type 0 where
+pub record IsPart {L T M : Type 0} (meaning : L → Meaning T) (makes : ChunkResult T → ChunkResult M → Type 0)
+    (plan : Plan L) (t : Trace T) (c : ChunkResult M) : Type 0 where
   pub result : ChunkResult T
   pub is : IsResult meaning plan t result
   pub made : makes result c

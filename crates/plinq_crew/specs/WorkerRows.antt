@@ -1,5 +1,6 @@
 -- Rows of workers: what one may make of a chunk, send and bring back, and what not.
-use Rattle.std.specs.Prelude.{◌≡◌, refl, ℕ, zero, suc, ◌<◌, pos, List, [], ◌∷◌, ◌++◌, length, get_or, take, drop, true, false, Option, Some, None, is_some, All, IfSome}
+use Rattle.std.specs.Prelude.{◌≡◌, refl, ℕ, zero, suc, ◌<◌, pos, List, [], ◌∷◌, ◌++◌, length, get_or, take, drop, true, false}
+use Rattle.std.specs.Prelude.{Option, Some, None, is_some, All, IfSome}
 use Rattle.std.proofs.Common.{arith, ap, sym, ◌∙◌, subst}
 use Rattle.std.proofs.lemmas.List.{length-append}
 use Rattle.std.proofs.lemmas.List.Elements.{All-head, All-nil}

@@ -105,7 +105,8 @@ module _ {T : Type 0} where
 
 -- a worker is started with a partition that was given nothing, and a pass that may send under its number alone and has sent
 -- nothing
-pub record IsNewcomer {S T M C : Type 0} {source : Ghosts S T} (stream : Stream (ChunkResult M) C) (number : ℕ) (partition : Partition S T source) (pass : StreamPass (ChunkResult M)) : Type 0 where
+pub record IsNewcomer {S T M C : Type 0} {source : Ghosts S T} (stream : Stream (ChunkResult M) C) (number : ℕ)
+    (partition : Partition S T source) (pass : StreamPass (ChunkResult M)) : Type 0 where
   pub of : IsPassOf stream pass
   pub knows : known pass ≡ sender number []
   pub share : (holding_of partition).share ≡ []

@@ -27,7 +27,13 @@ impl Model for Job {
 
     ghost Value = { JobView };
 
-    ghost view = { λ job. record { query = job.query; source = ⟦<AnySource as Source>⟧.whole job.source; growth = job.growth; aggregate = job.aggregate; cancel_after = job.cancel_after } };
+    ghost view = { λ job. record {
+      query = job.query;
+      source = ⟦<AnySource as Source>⟧.whole job.source;
+      growth = job.growth;
+      aggregate = job.aggregate;
+      cancel_after = job.cancel_after;
+    } };
 
     ghost invariant = { λ job. ⟦<AnySource as Source>⟧.given job.source ≡ 0 };
 }

@@ -1,7 +1,8 @@
 ghost use Rattle.std.specs.Prelude.{◌≡◌, ◌≤◌, ◌^◌, MatchResult, IfOk, Some, None, vec_len};
 ghost use Rattle.serde_json.specs.View.{view, items_view};
 ghost use Rattle.plinq_document.specs.Results.{IfMeant, or_shape};
-ghost use Rattle.plinq_document.specs.Sources.{whole_numbers, code_of, list_numbers, text_source, range_trace, repeat_trace, of_number_and_count, plain_source_named, plain_source_of};
+ghost use Rattle.plinq_document.specs.Sources.{whole_numbers, code_of, list_numbers, text_source, range_trace, repeat_trace};
+ghost use Rattle.plinq_document.specs.Sources.{of_number_and_count, plain_source_named, plain_source_of};
 
 use crate::doc_fault::DocFault;
 use crate::plain_source::PlainSource;

@@ -9,7 +9,8 @@ ghost use Rattle.plinq_groups.specs.Topped.{topping, ranked};
 /// groups are those of the items that have other keys. Of no items there are none.
 pub fn first_group_is_of_the_first_item<K: Eq, T, A, O>()
     ensures first { (key : T → K) (f : Folding T A O) (x : T) (xs : List T) →
-        folded (grouping K.eq key f) (x ∷ xs) ≡ (key x, folded f (x ∷ of_key K.eq key (key x) xs)) ∷ folded (grouping K.eq key f) (of_others K.eq key (key x) xs) }
+        folded (grouping K.eq key f) (x ∷ xs)
+        ≡ (key x, folded f (x ∷ of_key K.eq key (key x) xs)) ∷ folded (grouping K.eq key f) (of_others K.eq key (key x) xs) }
     ensures none { (key : T → K) (f : Folding T A O) → folded (grouping K.eq key f) [] ≡ [] }
 {}
 

@@ -49,8 +49,10 @@ where
     K: Sink<Item = M::Made>,
     R: Threads + Wait + Sync,
     requires { S.given source ≡ 0 }
-    ensures ordered { query.now.ordered ≡ true → Runs K.accepts K.refuses (merge_in_force query.now.merge) (made_of (M.makes mapping.now.make) (answer_of L.meaning query.now.ops (S.whole source))) sink.old sink.new result }
-    ensures runs { RunsMadeOf K.accepts K.refuses (merge_in_force query.now.merge) (M.makes mapping.now.make) (MayAnswer L.meaning query.now.ordered query.now.ops (S.whole source)) sink.old sink.new result }
+    ensures ordered { query.now.ordered ≡ true → Runs K.accepts K.refuses (merge_in_force query.now.merge)
+        (made_of (M.makes mapping.now.make) (answer_of L.meaning query.now.ops (S.whole source))) sink.old sink.new result }
+    ensures runs { RunsMadeOf K.accepts K.refuses (merge_in_force query.now.merge) (M.makes mapping.now.make)
+        (MayAnswer L.meaning query.now.ordered query.now.ops (S.whole source)) sink.old sink.new result }
 {
     let taker = DeliverMade::new(alloc, query.merge_option());
     fold_into(rt, alloc, query, source, growth, gate, mapping, taker, sink)

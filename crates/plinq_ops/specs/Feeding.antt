@@ -37,7 +37,8 @@ pub record IsGiven {T : Type 0} (t : Trace T) (n : ℕ) (piece : Trace T) (m : �
   pub all : IsSome piece.ending → m ≡ length t.items
 
 -- what the source gave next was fed
-pub record FeedsFrom {T : Type 0} (ss : List (Stage T)) (t : Trace T) (n m : ℕ) (before after : List T) (ss' : List (Stage T)) (ending : Option Ending) : Type 0 where
+pub record FeedsFrom {T : Type 0} (ss : List (Stage T)) (t : Trace T) (n m : ℕ) (before after : List T)
+    (ss' : List (Stage T)) (ending : Option Ending) : Type 0 where
   pub piece : Trace T
   pub given : IsGiven t n piece m
   pub fed : IsFed ss piece before after ss' ending
@@ -65,5 +66,6 @@ one_more : followed (first_items {T = ℕ} 1 (ended (5 ∷ 6 ∷ 7 ∷ []) End))
 one_more = refl
 
 -- after all three comes the refusal, and nothing is left to see
-a_refusal : followed (first_items {T = ℕ} 3 (ended (5 ∷ 6 ∷ 7 ∷ []) (Refused 2))) (trace_of_step (StepRefused 2)) ≡ seen 3 (ended (5 ∷ 6 ∷ 7 ∷ []) (Refused 2)) (Some (Refused 2))
+a_refusal : followed (first_items {T = ℕ} 3 (ended (5 ∷ 6 ∷ 7 ∷ []) (Refused 2))) (trace_of_step (StepRefused 2))
+    ≡ seen 3 (ended (5 ∷ 6 ∷ 7 ∷ []) (Refused 2)) (Some (Refused 2))
 a_refusal = refl

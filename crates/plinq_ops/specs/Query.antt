@@ -1,5 +1,6 @@
 -- A query: its operators in order, and its settings.
-use Rattle.std.specs.Prelude.{◌≡◌, refl, ℕ, pos, List, [], ◌∷◌, ◌++◌, Bool, true, false, Option, Some, None, ◌&&◌, not, is_some, nat_lt, if◌then◌else◌, Result, Ok, Err, MatchResult}
+use Rattle.std.specs.Prelude.{◌≡◌, refl, ℕ, pos, List, [], ◌∷◌, ◌++◌, Bool, true, false}
+use Rattle.std.specs.Prelude.{Option, Some, None, ◌&&◌, not, is_some, nat_lt, if◌then◌else◌, Result, Ok, Err, MatchResult}
 use Rattle.plinq_ops.specs.declared.op.Op.{Op}
 use Rattle.plinq_ops.specs.declared.op.Op.TheVariants.{Take}
 use Rattle.plinq_ops.specs.declared.merge_option.MergeOption.{MergeOption}

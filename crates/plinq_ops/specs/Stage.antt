@@ -1,5 +1,6 @@
 -- Operators on whole traces.
-use Rattle.std.specs.Prelude.{◌≡◌, refl, ℕ, zero, suc, Bool, true, false, ◌||◌, ◌-◌, List, [], ◌∷◌, length, take, drop, nat_le, nat_lt, if◌then◌else◌, Option, Result, Ok}
+use Rattle.std.specs.Prelude.{◌≡◌, refl, ℕ, zero, suc, Bool, true, false, ◌||◌, ◌-◌, List, [], ◌∷◌}
+use Rattle.std.specs.Prelude.{length, take, drop, nat_le, nat_lt, if◌then◌else◌, Option, Result, Ok}
 use Rattle.plinq_source.specs.declared.ending.Ending.{Ending}
 use Rattle.plinq_source.specs.declared.ending.Ending.TheVariants.{End, Refused}
 use Rattle.plinq_source.specs.Trace.{Trace, open_trace, ended, followed}

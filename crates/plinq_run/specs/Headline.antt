@@ -1,5 +1,6 @@
 -- What an ordered run delivers, in as few words as it takes: the answer of one thread, in batches, or the first of them.
-use Rattle.std.specs.Prelude.{◌≡◌, refl, ℕ, zero, suc, pos, negsuc, Bool, true, List, [], ◌∷◌, ◌++◌, ◌+◌, ◌==◌, nat_le, length, take, drop, if◌then◌else◌, Option, Some, None, Result, Ok, Err}
+use Rattle.std.specs.Prelude.{◌≡◌, refl, ℕ, zero, suc, pos, negsuc, Bool, true, List, [], ◌∷◌, ◌++◌, ◌+◌, ◌==◌, nat_le, length}
+use Rattle.std.specs.Prelude.{take, drop, if◌then◌else◌, Option, Some, None, Result, Ok, Err}
 use Rattle.std.specs.List.{range_with_len}
 use Rattle.plinq_source.specs.declared.ending.Ending.{Ending}
 use Rattle.plinq_source.specs.declared.ending.Ending.TheVariants.{End, Refused, Fault}
@@ -65,7 +66,8 @@ handed_over option xs e = in_batches 16 [] xs
 
 -- What a run of the answer u reports, and which batches its sink, s before and s' after, has taken then: all; those before the next,
 -- which it refused; or any first ones. `run` has no cancellation token, so it is never Cancelled
-abbrev pub HasDelivered : {K T : Type 0} → (K → List T → K → Type 0) → (K → List T → ℕ → K → Type 0) → Option MergeOption → Trace T → K → K → Result Report RunFault → Type 0
+abbrev pub HasDelivered : {K T : Type 0} → (K → List T → K → Type 0) → (K → List T → ℕ → K → Type 0) → Option MergeOption
+    → Trace T → K → K → Result Report RunFault → Type 0
 HasDelivered accepts refuses option u s s' (Ok report) = (u.ending ≡ Some report.ending) × Leads accepts s (handed_over option u.items u.ending) s'
 HasDelivered {K} {T} accepts refuses option u s s' (Err (Sink code)) =
     (sent : List (List T)) × (next : List T) × (rest : List (List T)) × (m : K)
@@ -75,7 +77,8 @@ HasDelivered {K} {T} accepts refuses option u s s' (Err fault) =
     (sent : List (List T)) × (rest : List (List T)) × (handed_over option u.items u.ending ≡ sent ++ rest) × Leads accepts s sent s'
 
 -- of 5, 1, 2 and 2 those below 3, of these two, and each less one
-filtered_taken_mapped : answers {L = ℕ} (λ _. example) (Filter 0 ∷ Take (pos 2) ∷ Select 0 ∷ []) (ended (5 ∷ 1 ∷ 2 ∷ 2 ∷ []) (Refused 7)) ≡ ended (0 ∷ 1 ∷ []) End
+filtered_taken_mapped : answers {L = ℕ} (λ _. example) (Filter 0 ∷ Take (pos 2) ∷ Select 0 ∷ []) (ended (5 ∷ 1 ∷ 2 ∷ 2 ∷ []) (Refused 7))
+    ≡ ended (0 ∷ 1 ∷ []) End
 filtered_taken_mapped = refl
 
 -- a mapping faults at 0, after which nothing comes

@@ -37,4 +37,5 @@ module _ {T A U W O : Type 0} (f : Folding T A U) (made : W → O → Trace A �
   -- those of one of these answers, which the taker ended so; or it broke off, for the reason that the fault gives
   abbrev pub GivesSome : (Trace T → Type 0) → W → O → Result Ending RunFault → O → Type 0
   GivesSome IsAnswer a x (Ok e) y = (u : Trace T) × (IsAnswer u) × WasGiven u a x (Ok (Some e)) y
-  GivesSome IsAnswer a x (Err fault) y = (u : Trace T) × (IsAnswer u) × (how : Result (Option Ending) DeliveryFault) × (WasGiven u a x how y) × Breaks how (cause_of fault)
+  GivesSome IsAnswer a x (Err fault) y =
+      (u : Trace T) × (IsAnswer u) × (how : Result (Option Ending) DeliveryFault) × (WasGiven u a x how y) × Breaks how (cause_of fault)

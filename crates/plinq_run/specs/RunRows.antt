@@ -1,5 +1,6 @@
 -- Rows of runs: which deliveries and reports a run may give, and which not.
-use Rattle.std.specs.Prelude.{◌≡◌, ◌||◌, refl, ℕ, ◌+◌, ◌≤◌, nat_lt, pos, List, [], ◌∷◌, ◌++◌, length, get_or, Bool, true, false, Option, Some, None, Result, Ok, Err}
+use Rattle.std.specs.Prelude.{◌≡◌, ◌||◌, refl, ℕ, ◌+◌, ◌≤◌, nat_lt, pos, List, [], ◌∷◌, ◌++◌, length, get_or, Bool, true, false}
+use Rattle.std.specs.Prelude.{Option, Some, None, Result, Ok, Err}
 use Rattle.std.specs.Int.{int_max}
 use Rattle.std.specs.Global.{Vec}
 use Rattle.std.proofs.Common.{arith, ap, sym, subst, ◌∙◌}

@@ -17,7 +17,8 @@ is_stopped (Ok x) = false
 is_stopped (Err Cancelled) = true
 is_stopped (Err fault) = false
 
-module _ {C K T : Type 0} (asks : C → ℕ → Bool → C → Type 0) (accepts : K → List T → K → Type 0) (refuses : K → List T → ℕ → K → Type 0) (option : MergeOption) where
+module _ {C K T : Type 0} (asks : C → ℕ → Bool → C → Type 0) (accepts : K → List T → K → Type 0)
+    (refuses : K → List T → ℕ → K → Type 0) (option : MergeOption) where
   module _ (May : Trace T → Trace T → Type 0) (t : Trace T) (d d' : Delivery C K) where
     -- an answer was delivered, and then the token let its ending be reported
     pub record HasReportedWith (report : Report) : Type 0 where
@@ -40,7 +41,9 @@ module _ {C K T : Type 0} (asks : C → ℕ → Bool → C → Type 0) (accepts 
   -- the same of a token and a sink before and after, whatever the number of batches
   abbrev pub ReportsSome : (Trace T → Trace T → Type 0) → Trace T → C → K → ℕ → Result Report RunFault → C → K → Type 0
   ReportsSome May t token sink delivered result token' sink' =
-      (delivered' : ℕ) × ReportsWith May t (record { token = token; sink = sink; delivered = delivered }) (record { token = token'; sink = sink'; delivered = delivered' }) result
+      (delivered' : ℕ) × ReportsWith May t
+      (record { token = token; sink = sink; delivered = delivered })
+      (record { token = token'; sink = sink'; delivered = delivered' }) result
 
   -- a run with a token delivered this answer, or a beginning of its batches
   abbrev pub RunsWith : Trace T → Delivery C K → Delivery C K → Result Report RunFault → Type 0

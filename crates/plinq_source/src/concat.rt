@@ -55,11 +55,17 @@ impl<T: Copy + Send, A: Source<Item = T>, B: Source<Item = T>> Source for Concat
 
     ghost given = { concat_given };
 
-    ghost few = { λ s. (concat_walked s (λ a. record { few = A.few a; ends = A.ends a; within = A.within a }) (λ b. record { few = B.few b; ends = B.ends b; within = B.within b })).few };
+    ghost few = { λ s. (concat_walked s
+        (λ a. record { few = A.few a; ends = A.ends a; within = A.within a })
+        (λ b. record { few = B.few b; ends = B.ends b; within = B.within b })).few };
 
-    ghost ends = { λ s. (concat_walked s (λ a. record { few = A.few a; ends = A.ends a; within = A.within a }) (λ b. record { few = B.few b; ends = B.ends b; within = B.within b })).ends };
+    ghost ends = { λ s. (concat_walked s
+        (λ a. record { few = A.few a; ends = A.ends a; within = A.within a })
+        (λ b. record { few = B.few b; ends = B.ends b; within = B.within b })).ends };
 
-    ghost within = { λ s. (concat_walked s (λ a. record { few = A.few a; ends = A.ends a; within = A.within a }) (λ b. record { few = B.few b; ends = B.ends b; within = B.within b })).within };
+    ghost within = { λ s. (concat_walked s
+        (λ a. record { few = A.few a; ends = A.ends a; within = A.within a })
+        (λ b. record { few = B.few b; ends = B.ends b; within = B.within b })).within };
 
     fn next(&mut self) -> Step<T> {
         if self.first_ended {

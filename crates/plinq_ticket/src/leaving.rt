@@ -1,5 +1,6 @@
 ghost use Rattle.std.specs.Prelude.{◌≡◌, ◌+◌, ◌++◌};
-ghost use Rattle.plinq_ticket.specs.Passes.{IsPassOf, IsHeldOf, pass_origin, pass_share, pass_drawn, pass_served, held_value, held_ticket, held_origin, held_found, held_share, held_drawn};
+ghost use Rattle.plinq_ticket.specs.Passes.{IsPassOf, IsHeldOf, pass_origin, pass_share, pass_drawn, pass_served};
+ghost use Rattle.plinq_ticket.specs.Passes.{held_value, held_ticket, held_origin, held_found, held_share, held_drawn};
 ghost use Rattle.plinq_ticket.specs.Shares.{AddsAtMostOne, added};
 
 use crate::held::{Entry, Held, Stay};

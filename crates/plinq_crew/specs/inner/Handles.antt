@@ -11,7 +11,8 @@ use Rattle.plinq_crew.specs.declared.worker.Worked.{Worked}
 
 module _ {S T M : Type 0} {source : Ghosts S T} where
   -- the worker brings back a partition of that source, and a pass of that stream
-  abbrev pub IsHandleOf : {C : Type 0} → Chunked S T source → Stream (ChunkResult M) C → PromisedHandle (Worked S M T source) (WorkerPromise S M T source) → Type 0
+  abbrev pub IsHandleOf : {C : Type 0} → Chunked S T source → Stream (ChunkResult M) C
+      → PromisedHandle (Worked S M T source) (WorkerPromise S M T source) → Type 0
   IsHandleOf chunked stream handle = (handle.promise.chunked.value ≡ chunked) × IsPassOf stream handle.promise.given.value
 
   -- workers have the numbers from this one on

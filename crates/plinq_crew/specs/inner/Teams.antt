@@ -10,7 +10,8 @@ use Rattle.plinq_crew.specs.inner.Handles.{IsHandleOf, AreNumbered}
 
 -- they were counted, are no more than were wanted, have the numbers from 0 on, and bring back what belongs to that source and that
 -- stream; no more than so many are wanted, for whom there is room
-pub record IsTeam {S T M C : Type 0} {source : Ghosts S T} (chunked : Chunked S T source) (stream : Stream (ChunkResult M) C) (workers : ℕ) (count : WorkerCount) (team : Team S M T source) : Type 0 where
+pub record IsTeam {S T M C : Type 0} {source : Ghosts S T} (chunked : Chunked S T source) (stream : Stream (ChunkResult M) C)
+    (workers : ℕ) (count : WorkerCount) (team : Team S M T source) : Type 0 where
   pub started : count.started ≡ length team.handles.items
   pub asked : count.started ≤ count.wanted
   pub within : count.wanted ≤ workers

@@ -38,7 +38,8 @@ module _ {T A U W O : Type 0} (f : Folding T A U) (made : W → O → Trace A �
   Passes now a x t (Err fault) now' b y = WasGiven f made (seq now t) a x (Err fault) y
 
 -- by the same aggregator
-pub record Made {L F T A U W O : Type 0} (meaning : L → Meaning T) (folding : F → Folding T A U) (made : W → O → Trace A → Result (Option Ending) DeliveryFault → W → O → Type 0)
+pub record Made {L F T A U W O : Type 0} (meaning : L → Meaning T) (folding : F → Folding T A U)
+    (made : W → O → Trace A → Result (Option Ending) DeliveryFault → W → O → Type 0)
     (d : FoldBlocks L F W) (x : O) (t : Trace T) (how : Result (Option Ending) DeliveryFault) (d' : FoldBlocks L F W) (y : O) : Type 0 where
   pub same : d'.aggregator ≡ d.aggregator
   pub passes : Passes (folding d.aggregator.now) made (stages meaning d.pipeline) d.inner x t how (stages meaning d'.pipeline) d'.inner y
@@ -47,18 +48,24 @@ abbrev pub MadeBy : {L F T A U W O : Type 0} → (L → Meaning T) → (F → Fo
     → FoldBlocks L F W → O → Trace T → Result (Option Ending) DeliveryFault → FoldBlocks L F W → O → Type 0
 MadeBy meaning folding made d x t how d' y = Made meaning folding made d x t how d' y
 
-module _ {T A U W O : Type 0} (f : Folding T A U) (lawful : IsFolding f) (made : W → O → Trace A → Result (Option Ending) DeliveryFault → W → O → Type 0) (taking : IsTaking made) where
+module _ {T A U W O : Type 0} (f : Folding T A U) (lawful : IsFolding f)
+    (made : W → O → Trace A → Result (Option Ending) DeliveryFault → W → O → Type 0) (taking : IsTaking made) where
   passes-begins : (now : List (Stage T)) (a : W) (x : O) → FoldsOn f made now a x (open_trace []) now a x
   passes-begins now a x = record { out = []; on = record { answers = λ rest. refl }; parts = []; stand = stand-none f; taken = taking.begins a x }
 
   -- what was given before an answer's rest
-  given-on : (how : Result (Option Ending) DeliveryFault) (now : List (Stage T)) (a : W) (x : O) (xs : List T) (now1 : List (Stage T)) (b : W) (y : O) (t : Trace T) (z : O)
-      → FoldsOn f made now a x (open_trace xs) now1 b y → WasGiven f made (seq now1 t) b y how z → WasGiven f made (seq now (followed (open_trace xs) t)) a x how z
+  given-on : (how : Result (Option Ending) DeliveryFault) (now : List (Stage T)) (a : W) (x : O) (xs : List T)
+      (now1 : List (Stage T)) (b : W) (y : O) (t : Trace T) (z : O)
+      → FoldsOn f made now a x (open_trace xs) now1 b y → WasGiven f made (seq now1 t) b y how z
+      → WasGiven f made (seq now (followed (open_trace xs) t)) a x how z
   given-on how now a x xs now1 b y t z first second =
-      subst (λ u. WasGiven f made u a x how z) (sym (first.on.answers t)) (given-after f lawful made taking how first.out first.parts (seq now1 t) a x b y z first.stand first.taken second)
+      subst (λ u. WasGiven f made u a x how z) (sym (first.on.answers t))
+      (given-after f lawful made taking how first.out first.parts (seq now1 t) a x b y z first.stand first.taken second)
 
-  passes-goes_on : (now : List (Stage T)) (a : W) (x : O) (xs : List T) (now1 : List (Stage T)) (b : W) (y : O) (t : Trace T) (how : Result (Option Ending) DeliveryFault) (now2 : List (Stage T)) (c : W) (z : O)
-      → FoldsOn f made now a x (open_trace xs) now1 b y → Passes f made now1 b y t how now2 c z → Passes f made now a x (followed (open_trace xs) t) how now2 c z
+  passes-goes_on : (now : List (Stage T)) (a : W) (x : O) (xs : List T) (now1 : List (Stage T)) (b : W) (y : O) (t : Trace T)
+      (how : Result (Option Ending) DeliveryFault) (now2 : List (Stage T)) (c : W) (z : O)
+      → FoldsOn f made now a x (open_trace xs) now1 b y → Passes f made now1 b y t how now2 c z
+      → Passes f made now a x (followed (open_trace xs) t) how now2 c z
   passes-goes_on now a x xs now1 b y t (Ok None) now2 c z first second =
       record {
         out = first.out ++ second.out;
@@ -80,24 +87,31 @@ module _ {T A U W O : Type 0} (f : Folding T A U) (lawful : IsFolding f) (made :
   passes-past : (how : Result (Option Ending) DeliveryFault) (now : List (Stage T)) (a : W) (x : O) (t rest : Trace T) (y : O) → IsOver how
       → WasGiven f made (seq now t) a x how y → WasGiven f made (seq now (followed t rest)) a x how y
   passes-past how now a x t rest y over given =
-      subst (λ u. WasGiven f made u a x how y) (sym (seq-followed now t rest)) (given-past f lawful made taking how (seq now t) a x y (seq (seq_after now t) rest) over given)
+      subst (λ u. WasGiven f made u a x how y) (sym (seq-followed now t rest))
+      (given-past f lawful made taking how (seq now t) a x y (seq (seq_after now t) rest) over given)
 
-  passes-stops : (now : List (Stage T)) (a : W) (x : O) (xs : List T) (now' : List (Stage T)) (b : W) (y : O) (rest : Trace T) → FoldsOn f made now a x (open_trace xs) now' b y
+  passes-stops : (now : List (Stage T)) (a : W) (x : O) (xs : List T) (now' : List (Stage T)) (b : W) (y : O) (rest : Trace T)
+      → FoldsOn f made now a x (open_trace xs) now' b y
       → WasGiven f made (seq now (followed (open_trace xs) rest)) a x (Err Memory) y
   passes-stops now a x xs now' b y rest on =
-      subst (λ u. WasGiven f made u a x (Err Memory) y) (sym (on.on.answers rest)) (given-stops f lawful made taking on.out on.parts (seq now' rest) a x b y on.stand on.taken)
+      subst (λ u. WasGiven f made u a x (Err Memory) y) (sym (on.on.answers rest))
+      (given-stops f lawful made taking on.out on.parts (seq now' rest) a x b y on.stand on.taken)
 
   fed-answer : (now now' : List (Stage T)) (t : Trace T) (out : List T) (e : Option Ending) → IsFed now t [] out now' e → seq now t ≡ trace_of out e
-  fed-answer now now' t out e fed = let items = fed.items in let told = fed.told in ap (λ xs. trace_of xs (seq now t).ending) (sym items) ∙ ap (trace_of out) (sym told)
+  fed-answer now now' t out e fed =
+      let items = fed.items in let told = fed.told in
+      ap (λ xs. trace_of xs (seq now t).ending) (sym items) ∙ ap (trace_of out) (sym told)
 
-  given-fed : (how : Result (Option Ending) DeliveryFault) (now now' : List (Stage T)) (t : Trace T) (out : List T) (e : Option Ending) (a : W) (x : O) (b : W) (y : O) → IsFed now t [] out now' e
+  given-fed : (how : Result (Option Ending) DeliveryFault) (now now' : List (Stage T)) (t : Trace T) (out : List T) (e : Option Ending)
+      (a : W) (x : O) (b : W) (y : O) → IsFed now t [] out now' e
       → made a x (trace_of (folded f out ∷ []) e) how b y → WasGiven f made (seq now t) a x how y
   given-fed how now now' t out e a x b y fed is =
       subst (λ u. WasGiven f made u a x how y) (sym (fed-answer now now' t out e fed))
       (record { parts = trace_of (folded f out ∷ []) e; folds = as_one-folded f lawful (trace_of out e); last = b; taken = is })
 
   -- what came out of items that were fed was taken as one accumulator
-  pub passes-all : (how : Result (Option Ending) DeliveryFault) (now now' : List (Stage T)) (t : Trace T) (out : List T) (e : Option Ending) (a : W) (x : O) (b : W) (y : O) → IsFed now t [] out now' e → (how ≡ Ok None → e ≡ None)
+  pub passes-all : (how : Result (Option Ending) DeliveryFault) (now now' : List (Stage T)) (t : Trace T) (out : List T)
+      (e : Option Ending) (a : W) (x : O) (b : W) (y : O) → IsFed now t [] out now' e → (how ≡ Ok None → e ≡ None)
       → made a x (trace_of (folded f out ∷ []) e) how b y → Passes f made now a x t how now' b y
   passes-all (Ok None) now now' t out e a x b y fed last is =
       let none : e ≡ None = last refl in
@@ -129,17 +143,36 @@ pub made-lawful : {L F T A U W O : Type 0} (meaning : L → Meaning T) (folding 
     → (made : W → O → Trace A → Result (Option Ending) DeliveryFault → W → O → Type 0) → IsTaking made → IsTaking (MadeBy meaning folding made)
 made-lawful meaning folding lawful made taking =
     record {
-      begins = λ d x. record { same = refl; passes = passes-begins (folding d.aggregator.now) (lawful d.aggregator.now) made taking (stages meaning d.pipeline) d.inner x };
+      begins = λ d x.
+          record {
+            same = refl;
+            passes = passes-begins (folding d.aggregator.now) (lawful d.aggregator.now) made taking (stages meaning d.pipeline) d.inner x;
+          };
       goes_on = λ d x xs d1 y t how d2 z first second.
           record {
             same = second.same ∙ first.same;
-            passes = passes-goes_on (folding d.aggregator.now) (lawful d.aggregator.now) made taking (stages meaning d.pipeline) d.inner x xs (stages meaning d1.pipeline) d1.inner y t how (stages meaning d2.pipeline) d2.inner z
-                first.passes (subst (λ g. Passes (folding g.now) made (stages meaning d1.pipeline) d1.inner y t how (stages meaning d2.pipeline) d2.inner z) first.same second.passes);
+            passes = passes-goes_on (folding d.aggregator.now) (lawful d.aggregator.now) made taking (stages meaning d.pipeline) d.inner x
+                xs (stages meaning d1.pipeline) d1.inner y t how (stages meaning d2.pipeline) d2.inner z
+                first.passes
+                (subst (λ g. Passes (folding g.now) made (stages meaning d1.pipeline) d1.inner y t how (stages meaning d2.pipeline) d2.inner z)
+                first.same second.passes);
           };
       ends = λ d x t e d' y rest is.
-          record { same = is.same; passes = passes-past (folding d.aggregator.now) (lawful d.aggregator.now) made taking (Ok (Some e)) (stages meaning d.pipeline) d.inner x t rest y tt is.passes };
+          record {
+            same = is.same;
+            passes = passes-past (folding d.aggregator.now) (lawful d.aggregator.now) made taking (Ok (Some e))
+                (stages meaning d.pipeline) d.inner x t rest y tt is.passes;
+          };
       breaks = λ d x t fault d' y rest is.
-          record { same = is.same; passes = passes-past (folding d.aggregator.now) (lawful d.aggregator.now) made taking (Err fault) (stages meaning d.pipeline) d.inner x t rest y tt is.passes };
+          record {
+            same = is.same;
+            passes = passes-past (folding d.aggregator.now) (lawful d.aggregator.now) made taking (Err fault)
+                (stages meaning d.pipeline) d.inner x t rest y tt is.passes;
+          };
       stops = λ d x xs d' y rest is.
-          record { same = is.same; passes = passes-stops (folding d.aggregator.now) (lawful d.aggregator.now) made taking (stages meaning d.pipeline) d.inner x xs (stages meaning d'.pipeline) d'.inner y rest is.passes };
+          record {
+            same = is.same;
+            passes = passes-stops (folding d.aggregator.now) (lawful d.aggregator.now) made taking (stages meaning d.pipeline) d.inner x
+                xs (stages meaning d'.pipeline) d'.inner y rest is.passes;
+          };
     }

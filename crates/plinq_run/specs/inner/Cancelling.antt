@@ -20,7 +20,8 @@ pub record ReportsLent {C K T : Type 0} (asks : C → ℕ → Bool → C → Typ
 
 -- what is reported of a run with this outcome: that its token stopped it, or why it broke off; before its ending the token is asked
 -- once more
-abbrev pub IsAskedAtLast : {C K : Type 0} → (C → ℕ → Bool → C → Type 0) → Bool → Result Report RunFault → WithCancellation C K → Result Report RunFault → WithCancellation C K → Type 0
+abbrev pub IsAskedAtLast : {C K : Type 0} → (C → ℕ → Bool → C → Type 0) → Bool → Result Report RunFault
+    → WithCancellation C K → Result Report RunFault → WithCancellation C K → Type 0
 IsAskedAtLast asks true outcome w result w' = (w' ≡ w) × (result ≡ Err Cancelled)
 IsAskedAtLast asks false (Err fault) w result w' = (w' ≡ w) × (result ≡ Err fault)
 IsAskedAtLast asks false (Ok report) w result w' =

@@ -13,7 +13,8 @@ use Rattle.plinq_run.specs.inner.Faults.{first_reported, AreSound}
 use Rattle.plinq_run.specs.inner.Reported.{cause_in_merge}
 
 -- the answer's ending and what has taken its items, where there was no fault, or the first of all faults
-pub record Finishes {S U W T : Type 0} {source : SourceGhosts S U} (merging : Merging W T) (back : Returned S U source) (result : Result (Ended S W U source) RunFault) : Type 0 where
+pub record Finishes {S U W T : Type 0} {source : SourceGhosts S U} (merging : Merging W T) (back : Returned S U source)
+    (result : Result (Ended S W U source) RunFault) : Type 0 where
   pub none : OnOk result (merging.fault ≡ None)
   pub first : OnOk result (first_reported merging.fault back.worker_faults back.worker_count ≡ None)
   pub sound : OnOk result (AreSound back.worker_faults back.worker_count)

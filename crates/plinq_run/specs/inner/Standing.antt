@@ -22,7 +22,8 @@ module _ {T A O : Type 0} (f : Folding T A O) where
       ∙ second (before ++ xs)
       ∙ ap (folded f) (append_assoc before xs ys)
 
-  continued-folded : (xs : List T) (us : List A) (e : Option Ending) (t : Trace T) (u : Trace A) → StandFor f xs us → IsFolded f t u → IsFolded f (continued xs e t) (continued us e u)
+  continued-folded : (xs : List T) (us : List A) (e : Option Ending) (t : Trace T) (u : Trace A) → StandFor f xs us → IsFolded f t u
+      → IsFolded f (continued xs e t) (continued us e u)
   continued-folded xs us None t u first second = record { items = stand-append xs t.items us u.items first second.items; ending = second.ending }
   continued-folded xs us (Some e) t u first second = record { items = first; ending = refl }
 
@@ -43,18 +44,21 @@ IsOver (Ok None) = ⊥
 IsOver (Ok (Some e)) = ⊤
 IsOver (Err fault) = ⊤
 
-module _ {T A U W O : Type 0} (f : Folding T A U) (lawful : IsFolding f) (made : W → O → Trace A → Result (Option Ending) DeliveryFault → W → O → Type 0) (taking : IsTaking made) where
+module _ {T A U W O : Type 0} (f : Folding T A U) (lawful : IsFolding f)
+    (made : W → O → Trace A → Result (Option Ending) DeliveryFault → W → O → Type 0) (taking : IsTaking made) where
   -- nothing was given, since memory ran out
   pub given-none : (u : Trace T) (a : W) (x : O) → WasGiven f made u a x (Err Memory) x
   given-none u a x = record { parts = as_one f u; folds = as_one-folded f lawful u; last = a; taken = taking.stops a x [] a x (as_one f u) (taking.begins a x) }
 
   -- what ended or broke off did so of whatever comes after it
-  past : (how : Result (Option Ending) DeliveryFault) (a : W) (x : O) (v : Trace A) (b : W) (y : O) (rest : Trace A) → IsOver how → made a x v how b y → made a x (followed v rest) how b y
+  past : (how : Result (Option Ending) DeliveryFault) (a : W) (x : O) (v : Trace A) (b : W) (y : O) (rest : Trace A) → IsOver how
+      → made a x v how b y → made a x (followed v rest) how b y
   past (Ok None) a x v b y rest over is = absurd over
   past (Ok (Some e)) a x v b y rest over is = taking.ends a x v e b y rest is
   past (Err fault) a x v b y rest over is = taking.breaks a x v fault b y rest is
 
-  pub given-past : (how : Result (Option Ending) DeliveryFault) (u : Trace T) (a : W) (x : O) (y : O) (rest : Trace T) → IsOver how → WasGiven f made u a x how y → WasGiven f made (followed u rest) a x how y
+  pub given-past : (how : Result (Option Ending) DeliveryFault) (u : Trace T) (a : W) (x : O) (y : O) (rest : Trace T) → IsOver how
+      → WasGiven f made u a x how y → WasGiven f made (followed u rest) a x how y
   given-past how u a x y rest over given =
       record {
         parts = followed given.parts (as_one f rest);
@@ -64,7 +68,8 @@ module _ {T A U W O : Type 0} (f : Folding T A U) (lawful : IsFolding f) (made :
       }
 
   -- what follows accumulators that were taken
-  pub given-after : (how : Result (Option Ending) DeliveryFault) (xs : List T) (us : List A) (u : Trace T) (a : W) (x : O) (b : W) (y z : O) → StandFor f xs us → made a x (open_trace us) (Ok None) b y
+  pub given-after : (how : Result (Option Ending) DeliveryFault) (xs : List T) (us : List A) (u : Trace T) (a : W) (x : O) (b : W) (y z : O)
+      → StandFor f xs us → made a x (open_trace us) (Ok None) b y
       → WasGiven f made u b y how z → WasGiven f made (followed (open_trace xs) u) a x how z
   given-after how xs us u a x b y z stand first second =
       record {
