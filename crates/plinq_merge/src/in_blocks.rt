@@ -3,7 +3,7 @@ ghost use Rattle.std.specs.Prelude.{◌≡◌, ◌<◌, [], false, OnOk};
 ghost use Rattle.plinq_ops.specs.Pipeline.{stages};
 ghost use Rattle.plinq_ops.specs.Stage.{some_takes_none};
 ghost use Rattle.plinq_merge.specs.Buffer.{held_of, size_of, HasRoom};
-ghost use Rattle.plinq_merge.specs.Sending.{IsFilled};
+ghost use Rattle.plinq_merge.specs.inner.Handing.{Fills};
 ghost use Rattle.plinq_merge.specs.inner.OneThread.{DeliversAnswer};
 
 use crate::buffer::Buffer;
@@ -67,10 +67,8 @@ fn deliver_block<K: Sink>(
 where
     K::Item: Copy,
     requires { HasRoom buffer.old }
-    ensures room { OnOk result (HasRoom buffer.new) }
-    ensures size { size_of buffer.new ≡ size_of buffer.old }
     ensures empty { OnOk result (block.new.items ≡ []) }
-    ensures filled { IsFilled K.accepts K.refuses (size_of buffer.old) (held_of buffer.old) block.old.items sink.old result (held_of buffer.new) sink.new }
+    ensures fills { Fills K.accepts K.refuses buffer.old block.old.items sink.old result buffer.new sink.new }
 {
     let fills = block.len() >= buffer.missing();
     deliver_full(buffer, block.as_slice(), sink)?;

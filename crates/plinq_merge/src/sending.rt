@@ -1,8 +1,10 @@
-ghost use Rattle.std.specs.Prelude.{◌≡◌, [], ◌∷◌, ◌<◌, length, Some, None, IfOk, OnOk};
+ghost use Rattle.std.specs.Prelude.{◌≡◌, [], ◌∷◌, ◌<◌, None, IfOk, OnOk};
 ghost use Rattle.plinq_source.specs.Trace.{ended};
 ghost use Rattle.plinq_ops.specs.Batches.{batches_from, held_back, last_batch};
 ghost use Rattle.plinq_merge.specs.Buffer.{held_of, size_of, HasRoom};
-ghost use Rattle.plinq_merge.specs.Sending.{Delivers, IsFilled};
+ghost use Rattle.plinq_merge.specs.Sending.{Delivers};
+ghost use Rattle.plinq_merge.specs.declared.buffer.Buffer.TheVariants.{Ring};
+ghost use Rattle.plinq_merge.specs.inner.Handing.{Fills};
 
 use crate::buffer::Buffer;
 use crate::delivery_fault::DeliveryFault;
@@ -60,12 +62,23 @@ pub(crate) fn deliver_full<K: Sink>(
 where
     K::Item: Copy,
     requires { HasRoom buffer.old }
-    ensures room { OnOk result (HasRoom buffer.new) }
-    ensures size { size_of buffer.new ≡ size_of buffer.old }
-    ensures filled { IsFilled K.accepts K.refuses (size_of buffer.old) (held_of buffer.old) items.now sink.old result (held_of buffer.new) sink.new }
+    ensures { Fills K.accepts K.refuses buffer.old items.now sink.old result buffer.new sink.new }
 {
     match buffer {
-        Buffer::Ring(ring) => deliver_filled(ring, items, sink),
+        Buffer::Ring(ring) => {
+            if ring.is_empty() {
+                return hand_whole(ring, items, sink);
+            }
+            let taken = ring.fill_from_slice(items);
+            if !ring.is_full() {
+                return Ok(());
+            }
+            let sent = send(ring.make_contiguous(), sink);
+            ring.clear();
+            sent?;
+            let (_, rest) = items.split_at(taken);
+            hand_whole(ring, rest, sink)
+        }
         Buffer::All(held) => {
             held.extend_from_slice(items)?;
             Ok(())
@@ -113,33 +126,6 @@ where
     Ok(ending)
 }
 
-/// Fills up the batch that was begun, and goes on with the items after it.
-fn deliver_filled<K: Sink>(
-    ring: &mut HeapCircularBuffer<K::Item>,
-    items: &[K::Item],
-    sink: &mut K,
-) -> Result<(), DeliveryFault>
-where
-    K::Item: Copy,
-    requires { length ring.old.items < ring.old.capacity }
-    ensures room { OnOk result (length ring.new.items < ring.new.capacity) }
-    ensures size { ring.new.capacity ≡ ring.old.capacity }
-    ensures filled { IsFilled K.accepts K.refuses (Some ring.old.capacity) ring.old.items items.now sink.old result ring.new.items sink.new }
-{
-    if ring.is_empty() {
-        return hand_whole(ring, items, sink);
-    }
-    let taken = ring.fill_from_slice(items);
-    if !ring.is_full() {
-        return Ok(());
-    }
-    let sent = send(ring.make_contiguous(), sink);
-    ring.clear();
-    sent?;
-    let (_, rest) = items.split_at(taken);
-    hand_whole(ring, rest, sink)
-}
-
 /// Hands out full batches as parts of the items themselves, and holds back what is left of them.
 #[tactic(auto, using(crate::proofs::Delivered::delivering))]
 fn hand_whole<K: Sink>(
@@ -151,9 +137,7 @@ where
     K::Item: Copy,
     requires empty { ring.old.items ≡ [] }
     requires size { 0 < ring.old.capacity }
-    ensures room { OnOk result (length ring.new.items < ring.new.capacity) }
-    ensures size { ring.new.capacity ≡ ring.old.capacity }
-    ensures filled { IsFilled K.accepts K.refuses (Some ring.old.capacity) [] items.now sink.old result ring.new.items sink.new }
+    ensures { Fills K.accepts K.refuses (Ring ring.old) items.now sink.old result (Ring ring.new) sink.new }
 {
     let size = ring.capacity();
     if let Err(code) = sink.batches_of(size, items) {

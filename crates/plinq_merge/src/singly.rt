@@ -3,8 +3,7 @@ ghost use Rattle.std.specs.Prelude.{◌≡◌, [], false, OnOk};
 ghost use Rattle.plinq_ops.specs.Pipeline.{stages};
 ghost use Rattle.plinq_ops.specs.Stage.{some_takes_none};
 ghost use Rattle.plinq_merge.specs.Buffer.{held_of, size_of, HasRoom};
-ghost use Rattle.plinq_merge.specs.Sending.{IsFilled};
-ghost use Rattle.plinq_merge.specs.inner.Handing.{HandsOn};
+ghost use Rattle.plinq_merge.specs.inner.Handing.{Fills, HandsOn};
 ghost use Rattle.plinq_merge.specs.inner.OneThread.{DeliversAnswer};
 
 use crate::buffer::Buffer;
@@ -89,9 +88,7 @@ fn deliver_made<K: Sink>(
 where
     K::Item: Copy,
     requires { HasRoom buffer.old }
-    ensures room { OnOk result (HasRoom buffer.new) }
-    ensures size { size_of buffer.new ≡ size_of buffer.old }
-    ensures filled { IsFilled K.accepts K.refuses (size_of buffer.old) (held_of buffer.old) made.now sink.old result (held_of buffer.new) sink.new }
+    ensures { Fills K.accepts K.refuses buffer.old made.now sink.old result buffer.new sink.new }
 {
     if buffer.is_filled_by(made.len()) {
         return send(made, sink);

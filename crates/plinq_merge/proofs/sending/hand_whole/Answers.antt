@@ -4,8 +4,8 @@ use Rattle.plinq_merge.specs.Sending.{Leads}
 use Rattle.plinq_merge.proofs.Blocks.{held_back-rest, rest-short, filled-all}
 use Rattle.plinq_merge.proofs.sending.hand_whole.Goals as goal
 
-pub returns-clause-filled : goal.returns-clause-filled
-returns-clause-filled g c =
+pub returns : goal.returns
+returns g c =
     let n = c.args.ring.now.capacity in
     let xs = c.args.items.now in
     let rest = c.split_at.result.1.now in
@@ -15,4 +15,6 @@ returns-clause-filled g c =
     let empty = c.requires.empty in
     let is : c.fill_from_slice.new.self.items ≡ [] ++ rest = filled-all n c.fill_from_slice.result [] rest c.fill_from_slice.new.self.items (rw empty at c.fill_from_slice.ensures.count) (omega arith) (rw empty at (ap (λ b. b.items) c.fill_from_slice.ensures.items)) in
     let sent : Leads g.K.Sink.accepts c.args.sink.now (full_batches (Some n) [] xs) c.batches_of.new.self = search rules in
-    record { held = is ∙ back ∙ sym (held_back-rest n xs c.requires.size); sent = sent }
+    let capacity : c.fill_from_slice.new.self.capacity ≡ n = search rules in
+    let kept = is ∙ back ∙ sym (held_back-rest n xs c.requires.size) in
+    rw empty (record { size = ap Some capacity; room = omega (arith, short, capacity, ap length is); filled = record { held = kept; sent = sent } })
