@@ -20,5 +20,5 @@ returns g c =
       takes = rw c.answer_unless_stopped.ensures (offers-within g.C.Cancel.asks g.K.Sink.accepts g.K.Sink.refuses w w' c.requires.unstopped
           g.L.Lambda.meaning m.decided m.joiner.work c.args.offered m'.joiner.work m'.joiner.standing m.joiner.standing w'.is_stopped answer refl did.sends did.takes);
       told = asks-told g.C.Cancel.asks g.C.Cancel.has_told g.met.C.Cancel.keeps_told g.K.Sink.accepts g.K.Sink.refuses (delivery_of w) _ (delivery_of w') asked;
-      asked = asked;
+      asks = asked;
     }
