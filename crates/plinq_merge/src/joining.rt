@@ -7,7 +7,6 @@ ghost use Rattle.plinq_merge.specs.Merging.{Holds};
 ghost use Rattle.plinq_merge.specs.Joining.{rest_of, HasKeys, Waits, Joins};
 
 use crate::delivery_fault::DeliveryFault;
-use crate::pending::Pending;
 use crate::row::Row;
 use crate::taker::{TakeInto, Taker};
 use plinq_ops::{ChunkResult, Order};
@@ -60,7 +59,8 @@ impl<W: Taker> Joining<W, W::Item> {
         ensures joins { Joins W.made self.old offered out.old result self.new out.new }
     {
         let hand = self.row.accept(self.alloc, self.order, offered)?;
-        let ending = give(&mut self.taker, &mut self.items, hand, out)?;
+        self.items = self.items.saturating_add(hand.items.len() as u64);
+        let ending = self.taker.take(hand.items, hand.ending, out)?;
         if ending.is_some() {
             return Ok(ending);
         }
@@ -80,7 +80,8 @@ impl<W: Taker> Joining<W, W::Item> {
             Holds self.old.order self.old.row offers (open_trace out) → HasKeys self.old.row offers → Waits self.new.order self.new.row offers }
     {
         while let Some(part) = self.row.buffer.take_next() {
-            let ending = give(&mut self.taker, &mut self.items, part, out)?;
+            self.items = self.items.saturating_add(part.items.len() as u64);
+            let ending = self.taker.take(part.items, part.ending, out)?;
             if ending.is_some() {
                 return Ok(ending);
             }
@@ -91,22 +92,4 @@ impl<W: Taker> Joining<W, W::Item> {
         }
         self.taker.take(Vec::new(self.alloc), ending, out)
     }
-}
-
-/// Gives a taker items whose turn has come, and counts them.
-fn give<W, O>(
-    taker: &mut W,
-    items: &mut u64,
-    hand: Pending<W::Item>,
-    out: &mut O,
-) -> Result<Option<Ending>, DeliveryFault>
-where
-    W: TakeInto<O>,
-    requires { W.can_take taker.old ≡ true }
-    ensures ready { result ≡ Ok None → W.can_take taker.new ≡ true }
-    ensures last { result ≡ Ok None → hand.ending ≡ None }
-    ensures made { W.made taker.old out.old hand result taker.new out.new }
-{
-    *items = items.saturating_add(hand.items.len() as u64);
-    taker.take(hand.items, hand.ending, out)
 }

@@ -13,7 +13,8 @@ loop-part-preserved g c =
     record {
       ready = c.in_ok-ending.ensures.ready (ap Ok none);
       moves = moved-next g.W.TakeInto.made g.met.W.TakeInto.lawful c.args.self.now c.args.out.now c.loop-part.self c.loop-part.out c.take_next.new.self
-          c.in-Some.part _ _ _ c.loop-part.invariant.moves takes (rw none at c.in_ok-ending.ensures.made) (c.in_ok-ending.ensures.last (ap Ok none));
+          c.in-Some.part _ _ _ c.loop-part.invariant.moves takes (rw (none, c.part.view_is) at c.in_ok-ending.ensures.made)
+          (ap (λ t. t.ending) (sym c.part.view_is) ∙ c.in_ok-ending.ensures.last (ap Ok none));
     }
 
 pub returns-then-is_none-clause-waits : goal.returns-then-is_none-clause-waits
