@@ -197,11 +197,3 @@ module _ {T : Type 0} where
   rest-gap row gap =
       ap (λ k. followed (all_given (unbroken row.buffer.next row.buffer.held)) (trace_of [] (ending_at row.source_end k))) gap.gap
       ∙ ap (λ qs. followed (all_given qs) (trace_of [] (ending_at row.source_end row.buffer.next))) gap.nothing
-
-  -- the interval under the next key comes first
-  pub rest-next : (row : Row T) (p : Trace T) (buffer : Buffered (Trace T)) → TakesNext row.buffer p buffer → rest_of row ≡ followed p (rest_of (record row { buffer = buffer }))
-  rest-next row p buffer takes =
-      let q : Interval (Trace T) = (row.buffer.next, record { end = buffer.next; payload = p }) in
-      ap (row_of row.source_end row.buffer.next) takes.held
-      ∙ row_of-append row.source_end row.buffer.next (q ∷ []) buffer.next buffer.held (refl, refl)
-      ∙ ap (λ t. followed t (rest_of (record row { buffer = buffer }))) (followed-open_nil p)

@@ -27,25 +27,17 @@ use Rattle.plinq_merge.specs.Shown.{ending_at, waiting_trace, merged}
 use Rattle.plinq_merge.specs.Keys.{AreNew}
 use Rattle.plinq_merge.specs.Merging.{Holds, TakesIn}
 use Rattle.plinq_merge.specs.Taking.{IsTaking}
-use Rattle.plinq_merge.specs.Joining.{rest_of, HasKeys, Waits, HasMoved, Joins, JoinsOfferAt}
+use Rattle.plinq_merge.specs.Joining.{rest_of, Waits, HasMoved, Joins, JoinsOfferAt}
 use Rattle.plinq_merge.specs.Offering.{is_decided, finished}
 use Rattle.plinq_merge.specs.Joiners.{taker_of, order_of, WaitsFor, has_decided, ending_of, JoinsOffer, HasJoinedAt, HasJoined}
 use Rattle.plinq_merge.specs.Mergers.{delivery_fault_of}
-use Rattle.plinq_merge.proofs.Holds.{is_offered-append, merged-holds, holds-next, takes-none, takes-inserted, rest-gap, rest-next}
+use Rattle.plinq_merge.proofs.Holds.{is_offered-append, merged-holds, holds-next, takes-none, takes-inserted, rest-gap}
 
 module _ {T : Type 0} where
   -- where the next key is missing, all that the offers merge to was taken
   pub merged-waits : (order : Order) (row : Row T) (offers : List (ChunkResult T)) → (waits : Waits order row offers) → merged order offers ≡ open_trace waits.out
   merged-waits order row offers waits =
       merged-holds order row offers (open_trace waits.out) waits.holds ∙ ap (followed (open_trace waits.out)) waits.nothing ∙ followed-open_nil (open_trace waits.out)
-
-  -- the offers gain what is in hand, and what the row gives after it
-  grows-taken : (order : Order) (row row1 : Row T) (hand : Trace T) (offers : List (ChunkResult T)) (r : ChunkResult T) → TakesIn order row r hand row1
-      → Waits order row offers → merged order (offers ++ r ∷ []) ≡ followed (merged order offers) (followed hand (rest_of row1))
-  grows-taken order row row1 hand offers r takes waits =
-      merged-holds order row1 (offers ++ r ∷ []) (followed (open_trace waits.out) hand) (takes offers (open_trace waits.out) waits.holds)
-      ∙ followed-followed (open_trace waits.out) hand (rest_of row1)
-      ∙ ap (λ t. followed t (followed hand (rest_of row1))) (sym (merged-waits order row offers waits))
 
   -- a row that has taken in a result which couldn't be kept
   takes-unkept : (order : Order) (row : Row T) (r : ChunkResult T) → IsFresh row.buffer r.first (end_of_result r)
@@ -85,91 +77,94 @@ module _ {W O T : Type 0} (made : W → O → Trace T → Result (Option Ending)
   taken-over a x t rest all (Ok (Some e)) b y over taken is = subst (λ s. made a x s (Ok (Some e)) b y) (sym is) (lawful.ends a x t e b y rest taken)
   taken-over a x t rest all (Err fault) b y over taken is = subst (λ s. made a x s (Err fault) b y) (sym is) (lawful.breaks a x t fault b y rest taken)
 
-  -- nothing was taken yet
-  pub moved-none : (w : Joining W T) (y : O) → HasMoved made w y w y
-  moved-none w y =
+  -- a result was taken in, and nothing of what it brings was taken yet
+  pub moved-begun : (w : Joining W T) (r : ChunkResult T) (y : O) (hand : Trace T) (row1 : Row T) → TakesIn w.order w.row r hand row1
+      → HasMoved made w r y hand (record w { row = row1 }) y
+  moved-begun w r y hand row1 takes =
       record {
         items = [];
         taken = lawful.begins w.taker y;
-        rest = refl;
         order = refl;
-        holds = λ offers gone h. subst (Holds w.order w.row offers) (sym (followed-open_nil gone)) h;
-        keys = λ key. refl;
+        holds = λ offers gone h.
+            subst (λ t. Holds w.order row1 (offers ++ r ∷ []) (followed t hand)) (sym (followed-open_nil gone)) (takes offers gone h);
       }
 
-  -- the interval under the next key was taken, and is open
-  pub moved-next : (w0 : Joining W T) (y0 : O) (w : Joining W T) (y : O) (buffer : Buffered (Trace T)) (p : Trace T) (a : W) (n : ℕ) (z : O) → HasMoved made w0 y0 w y
-      → TakesNext w.row.buffer p buffer → made w.taker y p (Ok None) a z → p.ending ≡ None → HasMoved made w0 y0 (record w { row = record w.row { buffer = buffer }; taker = a; items = n }) z
-  moved-next w0 y0 w y buffer p a n z moved takes taken none =
+  -- what was in hand was taken and is open, and the interval under the next key comes
+  pub moved-next : (w0 : Joining W T) (r : ChunkResult T) (y0 : O) (p : Trace T) (w : Joining W T) (y : O) (buffer : Buffered (Trace T)) (q : Trace T) (a : W) (n : ℕ) (z : O)
+      → HasMoved made w0 r y0 p w y → TakesNext w.row.buffer q buffer → made w.taker y p (Ok None) a z → p.ending ≡ None
+      → HasMoved made w0 r y0 q (record w { row = record w.row { buffer = buffer }; taker = a; items = n }) z
+  moved-next w0 r y0 p w y buffer q a n z moved takes taken none =
       let row : Row T = record w.row { buffer = buffer } in
       let all : open_trace (moved.items ++ p.items) ≡ followed (open_trace moved.items) p = ap (trace_of (moved.items ++ p.items)) (sym none) in
       record {
         items = moved.items ++ p.items;
         taken = taken-after w0.taker y0 (open_trace moved.items) p (open_trace (moved.items ++ p.items)) w.taker y (Ok None) a z refl moved.taken taken all;
-        rest =
-            moved.rest
-            ∙ ap (followed (open_trace moved.items)) (rest-next w.row p buffer takes)
-            ∙ sym (followed-followed (open_trace moved.items) p (rest_of row))
-            ∙ ap (λ t. followed t (rest_of row)) (sym all);
         order = moved.order;
         holds = λ offers gone h.
-            subst (Holds w.order row offers) (followed-followed gone (open_trace moved.items) p ∙ ap (followed gone) (sym all))
-            (holds-next w.order w.row p buffer offers (followed gone (open_trace moved.items)) takes (moved.holds offers gone h));
-        keys = λ key. takes.keys key ∙ moved.keys key;
-      }
-
-  -- the row came to a gap, and waits for the same offers
-  pub moved-waits : (w0 : Joining W T) (y0 : O) (w : Joining W T) (y : O) (offers : List (ChunkResult T)) (out : List T) → HasMoved made w0 y0 w y → IsAtGap w.row.buffer
-      → ending_at w.row.source_end w.row.buffer.next ≡ None → Holds w0.order w0.row offers (open_trace out) → HasKeys w0.row offers → Waits w.order w.row offers
-  moved-waits w0 y0 w y offers out moved gap none h keys =
-      record {
-        out = out ++ moved.items;
-        holds = moved.holds offers (open_trace out) h;
-        keys = λ key. keys key ∙ sym (moved.keys key);
-        missing = gap.missing;
-        nothing = rest-gap w.row gap ∙ ap (trace_of []) none;
+            subst (λ t. Holds w0.order row (offers ++ r ∷ []) (followed t q)) (followed-followed gone (open_trace moved.items) p ∙ ap (followed gone) (sym all))
+            (holds-next w0.order w.row q buffer (offers ++ r ∷ []) (followed (followed gone (open_trace moved.items)) p) takes (moved.holds offers gone h));
       }
 
   -- ---- a result of new keys was joined
 
   module _ (w : Joining W T) (r : ChunkResult T) (y : O) (fresh : IsFresh w.row.buffer r.first (end_of_result r)) where
-    module _ (hand : Trace T) (row1 : Row T) (takes : TakesIn w.order w.row r hand row1) (result : Result (Option Ending) DeliveryFault)
+    module _ (hand : Trace T) (w1 : Joining W T) (y1 : O) (moved : HasMoved made w r y hand w1 y1) (result : Result (Option Ending) DeliveryFault)
         (w' : Joining W T) (y' : O) where
-      joins-taken : made w.taker y (followed hand (rest_of row1)) result w'.taker y'
+      joins-moved : made w1.taker y1 (followed hand (rest_of w1.row)) result w'.taker y'
           → (result ≡ Ok None → (offers : List (ChunkResult T)) → Waits w.order w.row offers → Waits w'.order w'.row (offers ++ r ∷ []))
           → Joins made w r y result w' y'
-      joins-taken taken waits =
+      joins-moved taken waits =
+          let left : Trace T = followed hand (rest_of w1.row) in
           record {
-            gained = followed hand (rest_of row1);
-            taken = taken;
+            gained = followed (open_trace moved.items) left;
+            taken = lawful.goes_on w.taker y moved.items w1.taker y1 left result w'.taker y' moved.taken taken;
             are_new = λ offers before key within. before.keys key ∙ fresh key within;
-            grows = λ offers before. grows-taken w.order w.row row1 hand offers r takes before;
+            grows = λ offers before.
+                merged-holds w.order w1.row (offers ++ r ∷ []) _ (moved.holds offers (open_trace before.out) before.holds)
+                ∙ followed-followed (followed (open_trace before.out) (open_trace moved.items)) hand (rest_of w1.row)
+                ∙ followed-followed (open_trace before.out) (open_trace moved.items) left
+                ∙ ap (λ t. followed t (followed (open_trace moved.items) left)) (sym (merged-waits w.order w.row offers before));
             waits = waits;
           }
 
       -- what was in hand ended the answer, or broke it off
-      pub joins-over : made w.taker y hand result w'.taker y' → (result ≡ Ok None → ⊥) → Joins made w r y result w' y'
-      joins-over taken over = joins-taken (taken-over w.taker y hand (rest_of row1) _ result w'.taker y' over taken refl) (λ none. absurd (over none))
+      pub joins-over : made w1.taker y1 hand result w'.taker y' → (result ≡ Ok None → ⊥) → Joins made w r y result w' y'
+      joins-over taken over = joins-moved (taken-over w1.taker y1 hand (rest_of w1.row) _ result w'.taker y' over taken refl) (λ none. absurd (over none))
 
-      -- it is open, and was taken with what the row gave after it
-      pub joins-drained : (a : W) (z : O) → ((key : ℕ) → is_taken row1.buffer key ≡ is_taken w.row.buffer key || is_within r.first (end_of_result r) key)
-          → made w.taker y hand (Ok None) a z → hand.ending ≡ None → made a z (rest_of row1) result w'.taker y'
-          → (result ≡ Ok None → (offers : List (ChunkResult T)) (out : List T) → Holds w.order row1 offers (open_trace out) → HasKeys row1 offers
-          → Waits w'.order w'.row offers) → Joins made w r y result w' y'
-      joins-drained a z keys taken none drained waits =
-          joins-taken (taken-after w.taker y hand (rest_of row1) _ a z result w'.taker y' none taken drained refl) (λ is_open offers before.
-          waits is_open (offers ++ r ∷ []) (before.out ++ hand.items)
-          (subst (Holds w.order row1 (offers ++ r ∷ [])) (ap (followed (open_trace before.out)) (open-is hand none))
-          (takes offers (open_trace before.out) before.holds))
-          (λ key. is_offered-append offers r key ∙ ap (λ v. v || is_within r.first (end_of_result r) key) (before.keys key) ∙ sym (keys key)))
+      module _ (a : W) (z : O) (taken : made w1.taker y1 hand (Ok None) a z) (none : hand.ending ≡ None) (gap : IsAtGap w1.row.buffer) where
+        -- at a gap the source's ending came after it
+        pub joins-ended : made a z (trace_of [] (ending_at w1.row.source_end w1.row.buffer.next)) result w'.taker y' → (result ≡ Ok None → ⊥)
+            → Joins made w r y result w' y'
+        joins-ended last over =
+            joins-moved (taken-after w1.taker y1 hand (rest_of w1.row) _ a z result w'.taker y' none taken
+            (subst (λ t. made a z t result w'.taker y') (sym (rest-gap w1.row gap)) last) refl) (λ is. absurd (over is))
+
+    -- or more may follow, and the row waits for it
+    pub joins-waits : (hand : Trace T) (w1 : Joining W T) (y1 : O) (moved : HasMoved made w r y hand w1 y1) (a : W) (n : ℕ) (z : O)
+        → made w1.taker y1 hand (Ok None) a z → hand.ending ≡ None → IsAtGap w1.row.buffer → ending_at w1.row.source_end w1.row.buffer.next ≡ None
+        → ((key : ℕ) → is_taken w1.row.buffer key ≡ is_taken w.row.buffer key || is_within r.first (end_of_result r) key)
+        → Joins made w r y (Ok None) (record w1 { taker = a; items = n }) z
+    joins-waits hand w1 y1 moved a n z taken none gap still keys =
+        let nothing : rest_of w1.row ≡ open_trace [] = rest-gap w1.row gap ∙ ap (trace_of []) still in
+        let all : followed hand (rest_of w1.row) ≡ hand = ap (followed hand) nothing ∙ followed-open_nil hand in
+        joins-moved hand w1 y1 moved (Ok None) (record w1 { taker = a; items = n }) z (subst (λ t. made w1.taker y1 t (Ok None) a z) (sym all) taken) (λ is_open offers before.
+        subst (λ o. Waits o w1.row (offers ++ r ∷ [])) (sym moved.order) (record {
+          out = (before.out ++ moved.items) ++ hand.items;
+          holds = subst (Holds w.order w1.row (offers ++ r ∷ [])) (ap (followed (open_trace (before.out ++ moved.items))) (open-is hand none))
+              (moved.holds offers (open_trace before.out) before.holds);
+          keys = λ key. is_offered-append offers r key ∙ ap (λ v. v || is_within r.first (end_of_result r) key) (before.keys key) ∙ sym (keys key);
+          missing = gap.missing;
+          nothing = nothing;
+        }))
 
     -- it couldn't be kept
     pub joins-unkept : (w' : Joining W T) → w'.taker ≡ w.taker → Joins made w r y (Err NoMemory) w' y
     joins-unkept w' same =
         let kept = takes-unkept w.order w.row r fresh in
-        let stopped = lawful.stops w.taker y [] w.taker y (followed kept.0 (rest_of kept.1)) (lawful.begins w.taker y) in
-        joins-taken kept.0 kept.1 kept.2 (Err NoMemory) w' y
-        (subst (λ b. made w.taker y (followed kept.0 (rest_of kept.1)) (Err NoMemory) b y) (sym same) stopped) (λ bad. absurd (cc))
+        let left : Trace T = followed kept.0 (rest_of kept.1) in
+        let stopped = lawful.stops w.taker y [] w.taker y left (lawful.begins w.taker y) in
+        joins-moved kept.0 (record w { row = kept.1 }) y (moved-begun w r y kept.0 kept.1 kept.2) (Err NoMemory) w' y
+        (subst (λ b. made w.taker y left (Err NoMemory) b y) (sym same) stopped) (λ bad. absurd (cc))
 
 -- the offers so far, or these and one more, of which no key was offered before
 abbrev pub AreOneMore : {T : Type 0} → List (ChunkResult T) → ChunkResult T → List (ChunkResult T) → Type 0
@@ -247,4 +242,4 @@ module _ {W O T : Type 0} (made : W → O → Trace T → Result (Option Ending)
     begun-joined j x still waits = subst (λ s. HasJoinedAt made (taker_of j) x j.work s x []) (sym still) (waits, lawful.begins (taker_of j) x)
 
 -- where nothing was offered or taken yet
-pub ruleset beginning = (begun-waits, moved-none)
+pub ruleset beginning = (begun-waits)

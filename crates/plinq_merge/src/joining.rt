@@ -1,10 +1,7 @@
-ghost use Rattle.std.specs.Prelude.{◌≡◌, ◌≤◌, ◌^◌, List, [], true, Ok, None};
-ghost use Rattle.plinq_ops.specs.declared.results.ChunkResult.{ChunkResult};
+ghost use Rattle.std.specs.Prelude.{◌≡◌, ◌≤◌, ◌^◌, [], true, Ok, None};
 ghost use Rattle.plinq_ops.specs.Tails.{end_of_result};
-ghost use Rattle.plinq_source.specs.Trace.{open_trace};
 ghost use Rattle.plinq_reorder.specs.Buffered.{IsFresh};
-ghost use Rattle.plinq_merge.specs.Merging.{Holds};
-ghost use Rattle.plinq_merge.specs.Joining.{rest_of, HasKeys, Waits, Joins};
+ghost use Rattle.plinq_merge.specs.Joining.{Waits, Joins};
 
 use crate::delivery_fault::DeliveryFault;
 use crate::row::Row;
@@ -41,7 +38,8 @@ impl<W: Taker> Joining<W, W::Item> {
         }
     }
 
-    /// Joins a result of keys that weren't offered before, and gives the taker the items whose turn it brings.
+    /// Joins a result of keys that weren't offered before, and gives the taker the items whose turn it brings: up to a gap in
+    /// the row or to the end of the answer.
     ///
     /// Answers how the answer ends, or `None` where it is still open.
     pub(crate) fn join<O>(
@@ -58,38 +56,21 @@ impl<W: Taker> Joining<W, W::Item> {
         ensures order { self.new.order ≡ self.old.order }
         ensures joins { Joins W.made self.old offered out.old result self.new out.new }
     {
-        let hand = self.row.accept(self.alloc, self.order, offered)?;
-        self.items = self.items.saturating_add(hand.items.len() as u64);
-        let ending = self.taker.take(hand.items, hand.ending, out)?;
-        if ending.is_some() {
-            return Ok(ending);
-        }
-        self.drain(out)
-    }
-
-    /// Gives the taker what waits under the next keys, up to a gap or to the end of the answer.
-    #[tactic(auto, using(crate::proofs::Joins::beginning))]
-    fn drain<O>(&mut self, out: &mut O) -> Result<Option<Ending>, DeliveryFault>
-    where
-        W: TakeInto<O>,
-        requires ready { W.can_take self.old.taker ≡ true }
-        ensures ready { result ≡ Ok None → W.can_take self.new.taker ≡ true }
-        ensures order { self.new.order ≡ self.old.order }
-        ensures takes { W.made self.old.taker out.old (rest_of self.old.row) result self.new.taker out.new }
-        ensures waits { result ≡ Ok None → (offers : List (ChunkResult W.Item)) (out : List W.Item) →
-            Holds self.old.order self.old.row offers (open_trace out) → HasKeys self.old.row offers → Waits self.new.order self.new.row offers }
-    {
-        while let Some(part) = self.row.buffer.take_next() {
+        let mut part = self.row.accept(self.alloc, self.order, offered)?;
+        loop {
             self.items = self.items.saturating_add(part.items.len() as u64);
             let ending = self.taker.take(part.items, part.ending, out)?;
             if ending.is_some() {
                 return Ok(ending);
             }
+            let Some(next) = self.row.buffer.take_next() else {
+                let ending = self.row.ending();
+                if ending.is_none() {
+                    return Ok(None);
+                }
+                return self.taker.take(Vec::new(self.alloc), ending, out);
+            };
+            part = next;
         }
-        let ending = self.row.ending();
-        if ending.is_none() {
-            return Ok(None);
-        }
-        self.taker.take(Vec::new(self.alloc), ending, out)
     }
 }
