@@ -24,15 +24,11 @@ use Rattle.plinq_merge.specs.Merging.{Holds}
 abbrev pub rest_of : {T : Type 0} → Row T → Trace T
 rest_of row = row_of row.source_end row.buffer.next row.buffer.held
 
--- these keys were offered, and no others
-abbrev pub HasKeys : {T : Type 0} → Row T → List (ChunkResult T) → Type 0
-HasKeys row offers = (key : ℕ) → is_offered offers key ≡ is_taken row.buffer key
-
--- the row stands for these offers, and the next key is missing: `out` is all that they merge to
+-- the row stands for these offers, has their keys and no others, and the next key is missing: `out` is all that they merge to
 pub record Waits {T : Type 0} (order : Order) (row : Row T) (offers : List (ChunkResult T)) : Type 0 where
   pub out : List T
   pub holds : Holds order row offers (open_trace out)
-  pub keys : HasKeys row offers
+  pub keys : (key : ℕ) → is_offered offers key ≡ is_taken row.buffer key
   pub missing : is_taken row.buffer row.buffer.next ≡ false
   pub nothing : rest_of row ≡ open_trace []
 
