@@ -1,18 +1,13 @@
 -- One operator's part in feeding an item, by what it gives for the item.
-use Rattle.std.specs.Prelude.{◌≡◌, List, [], ◌∷◌, ◌++◌, true, false, Option, Some, None, is_some, Result, Ok, Err, IfOk, refl}
+use Rattle.std.specs.Prelude.{◌≡◌, List, [], ◌∷◌, ◌++◌, true, false, Option, Some, None, is_some, refl}
 use Rattle.std.proofs.Common.{sym, ◌∙◌, ap, append-nil, append_assoc}
 use Rattle.plinq_source.specs.declared.ending.Ending.{Ending}
 use Rattle.plinq_source.specs.Trace.{Trace, open_trace, continued, followed}
-use Rattle.plinq_source.proofs.Followed.{trace_of, followed-ended, followed-open_nil}
-use Rattle.plinq_ops.specs.Stage.{Stage, pieces, apply, seq, stage_after, seq_after, some_takes_none}
+use Rattle.plinq_source.proofs.Followed.{trace_of, followed-ended}
+use Rattle.plinq_ops.specs.Stage.{Stage, apply, seq, stage_after, seq_after, some_takes_none}
 use Rattle.plinq_ops.specs.Feeding.{IsFed}
 use Rattle.plinq_ops.proofs.Stages.{seq-followed}
 use Rattle.plinq_ops.proofs.Open.{seq-nothing, seq_after-nothing, seq_after-followed, some-where_open, seq_after-open}
-
--- two clauses of a last call
-pub IfOk-both : {X Y : Type 0} (r : Result X Y) (P Q R : X → Type 0) → ((x : X) → P x → Q x → R x) → IfOk r P → IfOk r Q → IfOk r R
-IfOk-both (Ok x) P Q R both p q = both x p q
-IfOk-both (Err e) P Q R both p q = tt
 
 -- the operators but the first see this trace in the place of the items and their ending
 pub fed-through : {T : Type 0} (s s' : Stage T) (xs : List T) (told : Option Ending) (t : Trace T) (ss ss' : List (Stage T)) (before after : List T) (e : Option Ending)
@@ -57,11 +52,6 @@ pub undecided-left : {T : Type 0} (ss ss' : List (Stage T)) (a : Trace T) (befor
 undecided-left ss ss' a before after fed =
     ap some_takes_none (fed.left refl) ∙ some-where_open (seq_after ss a) (seq_after-open ss a (sym fed.told))
 
--- what came out stands after other items
-pub fed-appended : {T : Type 0} (ss ss' : List (Stage T)) (t : Trace T) (before out : List T) (e : Option Ending) → IsFed ss t [] out ss' e
-    → IsFed ss t before (before ++ out) ss' e
-fed-appended ss ss' t before out e fed = record { items = ap (λ xs. before ++ xs) fed.items; told = fed.told; left = fed.left }
-
 -- a run that has ended stays as it is, whatever comes after
 pub fed-ended_before : {T : Type 0} (ss ss' ss'' : List (Stage T)) (a b : Trace T) (before after : List T) (e : Option Ending) → is_some e ≡ true
     → IsFed ss a before after ss' e → IsFed ss (followed a b) before after ss'' e
@@ -77,9 +67,3 @@ fed-ended_before {T} ss ss' ss'' a b before after (Some e) ends fed =
 pub none-from_is_some : {A : Type 0} (o : Option A) → is_some o ≡ false → o ≡ None
 none-from_is_some None none = refl
 none-from_is_some (Some x) none = absurd (let bad : true ≡ false = none in cc)
-
--- the piece that the first gives for one item goes on through the others
-pub fed-expansion : {T : Type 0} (piece : T → Trace T) (ss ss' : List (Stage T)) (x : T) (t : Trace T) (before after : List T) (e : Option Ending)
-    → piece x ≡ t → IsFed ss t before after ss' e → IsFed (pieces piece ∷ ss) (open_trace (x ∷ [])) before after (pieces piece ∷ ss') e
-fed-expansion piece ss ss' x t before after e is fed =
-    fed-through (pieces piece) (pieces piece) (x ∷ []) None t ss ss' before after e (followed-open_nil (piece x) ∙ is) refl fed

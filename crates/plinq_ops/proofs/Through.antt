@@ -4,7 +4,7 @@ use Rattle.std.proofs.Common.{sym, ◌∙◌, ap, arith, append_assoc, add-one}
 use Rattle.std.proofs.Math.ListN.{get_or, set}
 use Rattle.std.proofs.lemmas.List.{drop_more, take_more, set_split, take_more_set, drop-set-lt, drop_all, take-append-drop, length-take-le, take_at, drop_at}
 use Rattle.plinq_source.specs.declared.ending.Ending.{Ending}
-use Rattle.plinq_source.specs.Trace.{Trace, open_trace}
+use Rattle.plinq_source.specs.Trace.{Trace, open_trace, followed}
 use Rattle.plinq_source.proofs.Followed.{trace_of}
 use Rattle.plinq_lambda.specs.Meaning.{Meaning}
 use Rattle.plinq_ops.specs.declared.stage_state.StageState.{StageState}
@@ -12,7 +12,8 @@ use Rattle.plinq_ops.specs.Stage.{Stage, apply, stage_after, takes_none, some_ta
 use Rattle.plinq_ops.specs.Feeding.{IsFed}
 use Rattle.plinq_ops.specs.Operator.{state_stage}
 use Rattle.plinq_ops.specs.Pipeline.{stages_now}
-use Rattle.plinq_ops.proofs.Fed.{fed-through, fed-none}
+use Rattle.plinq_ops.specs.inner.FeedingFrom.{FeedsStages}
+use Rattle.plinq_ops.proofs.Fed.{fed-through, fed-none, fed-followed}
 
 -- an item x that has become y on its way through the first i operators, which are as in `now`: whatever the rest makes of y,
 -- all make of x
@@ -107,14 +108,13 @@ whole xs ys i x front = sym (take-append-drop (i + 1) ys) ∙ ap (λ zs. zs ++ d
 pub through-expansion : {L T : Type 0} {meaning : L → Meaning T} {ops : List (StageState L)} {x : T} {before out : List T} {i : ℕ} {op : StageState L} {now : List (StageState L)} {y : T}
     (s : Stage T) (now' : List (StageState L)) (after : List T) (e : Option Ending) (d : StageState L)
     → i < length now → op ≡ get_or now i d → state_stage meaning op ≡ s → IsThrough meaning ops x before out i now y
-    → take (i + 1) now' ≡ take (i + 1) now
-    → IsFed (s ∷ stages_now meaning (drop (i + 1) now)) (open_trace (y ∷ [])) out after (s ∷ stages_now meaning (drop (i + 1) now')) e
+    → FeedsStages meaning (s ∷ []) (i + 1) now now' (open_trace (y ∷ [])) out after e
     → IsFed (stages_now meaning ops) (open_trace (x ∷ [])) before after (stages_now meaning now') e
-through-expansion {L} {T} {meaning} {ops} {x} {before} {out} {i} {op} {now} {y} s now' after e d within is expands through same fed =
+through-expansion {L} {T} {meaning} {ops} {x} {before} {out} {i} {op} {now} {y} s now' after e d within is expands through feeds =
     let here : drop i now ≡ op ∷ drop (i + 1) now = drop_more now i d within ∙ ap (λ o. o ∷ drop (i + 1) now) (sym is) in
-    let front : take (i + 1) now' ≡ take i now ++ op ∷ [] = same ∙ take_more now i d within ∙ ap (λ o. take i now ++ o ∷ []) (sym is) in
+    let front : take (i + 1) now' ≡ take i now ++ op ∷ [] = feeds.others ∙ take_more now i d within ∙ ap (λ o. take i now ++ o ∷ []) (sym is) in
     rw (whole now now' i op front)
-    (through.goes_on (op ∷ drop (i + 1) now') after e (rw (here, expands) fed))
+    (through.goes_on (op ∷ drop (i + 1) now') after e (rw (here, expands) feeds.fed))
 
 -- the operators once one is as it is now
 set-parts : {L : Type 0} (now : List (StageState L)) (i : ℕ) (op : StageState L) → i < length now → set now i op ≡ take i now ++ op ∷ drop (i + 1) now
@@ -133,12 +133,11 @@ through-nothing {L} {T} {meaning} {ops} {x} {before} {out} {i} {op} {now} op' he
 pub through-rest : {L T : Type 0} {meaning : L → Meaning T} {ops : List (StageState L)} {x : T} {before out : List T} {i : ℕ} {op : StageState L} {now : List (StageState L)} {y : T}
     (t : Trace T) (op' : StageState L) (now' : List (StageState L)) (after : List T) (e : Option Ending) → IsAt meaning ops x before out i op now y
     → t ≡ apply (state_stage meaning op) (open_trace (y ∷ [])) → state_stage meaning op' ≡ stage_after (state_stage meaning op) (y ∷ [])
-    → take (i + 1) now' ≡ take (i + 1) (set now i op')
-    → IsFed (stages_now meaning (drop (i + 1) (set now i op'))) t out after (stages_now meaning (drop (i + 1) now')) e
+    → FeedsStages meaning [] (i + 1) (set now i op') now' t out after e
     → IsFed (stages_now meaning ops) (open_trace (x ∷ [])) before after (stages_now meaning now') e
-through-rest {L} {T} {meaning} {ops} {x} {before} {out} {i} {op} {now} t op' now' after e here gives stage_after same fed =
+through-rest {L} {T} {meaning} {ops} {x} {before} {out} {i} {op} {now} t op' now' after e here gives stage_after feeds =
     let others : drop (i + 1) (set now i op') ≡ drop (i + 1) now = drop-set-lt (i + 1) now i op' (omega arith) in
-    rw (whole now now' i op' (same ∙ take_more_set now i op' here.within)) (here.passed t op' (drop (i + 1) now') after e gives stage_after (rw others at fed))
+    rw (whole now now' i op' (feeds.others ∙ take_more_set now i op' here.within)) (here.passed t op' (drop (i + 1) now') after e gives stage_after (rw others at feeds.fed))
 
 -- and they take what it gives
 pub undecided-rest : {L T : Type 0} {meaning : L → Meaning T} {ops : List (StageState L)} {x : T} {before out : List T} {i : ℕ} {op : StageState L} {now : List (StageState L)} {y : T}
@@ -154,18 +153,38 @@ drop-one : {A : Type 0} (xs ys : List A) (i : ℕ) (x : A) → i < length xs →
 drop-one xs ys i x within same =
     ap (drop i) (whole xs ys i x (same ∙ take_more_set xs i x within)) ∙ drop_at (take i xs) (x ∷ drop (i + 1) ys) i (length-take-le i xs (omega (arith, within)))
 
-pub take-one : {A : Type 0} (xs ys : List A) (i : ℕ) (x : A) → i < length xs → take (i + 1) ys ≡ take (i + 1) (set xs i x) → take i ys ≡ take i xs
+take-one : {A : Type 0} (xs ys : List A) (i : ℕ) (x : A) → i < length xs → take (i + 1) ys ≡ take (i + 1) (set xs i x) → take i ys ≡ take i xs
 take-one xs ys i x within same =
     ap (take i) (whole xs ys i x (same ∙ take_more_set xs i x within)) ∙ take_at (take i xs) (x ∷ drop (i + 1) ys) i (length-take-le i xs (omega (arith, within)))
 
 -- what an operator makes of the items goes on through those after it
-pub through-first : {L T : Type 0} (meaning : L → Meaning T) (op op' : StageState L) (ops ops' : List (StageState L)) (i : ℕ) (xs : List T) (told : Option Ending) (t : Trace T) (before after : List T) (e : Option Ending) (d : StageState L)
-    → i < length ops → op ≡ get_or ops i d → take (i + 1) ops' ≡ take (i + 1) (set ops i op')
+pub through-first : {L T : Type 0} {meaning : L → Meaning T} {ops ops' : List (StageState L)} {i : ℕ} {t : Trace T} {before after : List T} {e : Option Ending}
+    (op op' : StageState L) (xs : List T) (told : Option Ending) (d : StageState L) → i < length ops → op ≡ get_or ops i d
     → t ≡ apply (state_stage meaning op) (trace_of xs told) → state_stage meaning op' ≡ stage_after (state_stage meaning op) xs
-    → IsFed (stages_now meaning (drop (i + 1) (set ops i op'))) t before after (stages_now meaning (drop (i + 1) ops')) e
-    → IsFed (stages_now meaning (drop i ops)) (trace_of xs told) before after (stages_now meaning (drop i ops')) e
-through-first {L} {T} meaning op op' ops ops' i xs told t before after e d within is same gives stage_after fed =
+    → FeedsStages meaning [] (i + 1) (set ops i op') ops' t before after e → FeedsStages meaning [] i ops ops' (trace_of xs told) before after e
+through-first {L} {T} {meaning} {ops} {ops'} {i} {t} {before} {after} {e} op op' xs told d within is gives stage_after feeds =
     let here : drop i ops ≡ op ∷ drop (i + 1) ops = drop_more ops i d within ∙ ap (λ o. o ∷ drop (i + 1) ops) (sym is) in
-    let others : drop (i + 1) (set ops i op') ≡ drop (i + 1) ops = drop-set-lt (i + 1) ops i op' (omega arith) in
-    rw (here, drop-one ops ops' i op' within same)
-    (fed-through (state_stage meaning op) (state_stage meaning op') xs told t (stages_now meaning (drop (i + 1) ops)) (stages_now meaning (drop (i + 1) ops')) before after e (sym gives) (sym stage_after) (rw others at fed))
+    let rest : drop (i + 1) (set ops i op') ≡ drop (i + 1) ops = drop-set-lt (i + 1) ops i op' (omega arith) in
+    record {
+      others = take-one ops ops' i op' within feeds.others;
+      fed = rw (here, drop-one ops ops' i op' within feeds.others)
+          (fed-through (state_stage meaning op) (state_stage meaning op') xs told t (stages_now meaning (drop (i + 1) ops)) (stages_now meaning (drop (i + 1) ops')) before after e (sym gives) (sym stage_after) (rw rest at feeds.fed));
+    }
+
+module _ {L T : Type 0} {meaning : L → Meaning T} {i : ℕ} {ops ops' : List (StageState L)} {before after : List T} {e : Option Ending} where
+  -- what came out stands after other items
+  pub feeds-appended : {t : Trace T} → FeedsStages meaning [] i ops ops' t [] after e → FeedsStages meaning [] i ops ops' t before (before ++ after) e
+  feeds-appended feeds =
+      let fed = feeds.fed in
+      record { others = feeds.others; fed = record { items = ap (λ xs. before ++ xs) fed.items; told = fed.told; left = fed.left } }
+
+  -- a stage that stays as it is gives the operators this in the place of the items and their ending
+  pub feeds-through : {t : Trace T} (s : Stage T) (xs : List T) (told : Option Ending) → apply s (trace_of xs told) ≡ t → stage_after s xs ≡ s
+      → FeedsStages meaning [] i ops ops' t before after e → FeedsStages meaning (s ∷ []) i ops ops' (trace_of xs told) before after e
+  feeds-through s xs told gives stays feeds = record { others = feeds.others; fed = fed-through s s xs told _ _ _ before after e gives stays feeds.fed }
+
+  -- what is fed after a trace that left the run open
+  pub feeds-followed : {first : List (Stage T)} {now : List (StageState L)} {between : List T} {a b : Trace T} → FeedsStages meaning first i ops now a before between None
+      → FeedsStages meaning first i now ops' b between after e → FeedsStages meaning first i ops ops' (followed a b) before after e
+  feeds-followed {first} {now} {between} {a} {b} one next =
+      record { others = next.others ∙ one.others; fed = fed-followed _ _ _ a b before between after e one.fed next.fed }

@@ -1,4 +1,4 @@
-ghost use Rattle.std.specs.Prelude.{◌≡◌, ◌≤◌, false, IfOk, OnOk, ◌∷◌, ◌++◌, [], length, take, drop};
+ghost use Rattle.std.specs.Prelude.{◌≡◌, ◌≤◌, false, IfOk, OnOk, ◌∷◌, ◌++◌, [], length, drop};
 ghost use Rattle.plinq_source.specs.declared.ending.Ending.TheVariants.{End};
 ghost use Rattle.plinq_source.specs.Trace.{open_trace, ended};
 ghost use Rattle.plinq_ops.specs.declared.op.Op.TheVariants.{SelectMany};
@@ -6,6 +6,7 @@ ghost use Rattle.plinq_ops.specs.Stage.{some_takes_none};
 ghost use Rattle.plinq_ops.specs.Operator.{stage_of};
 ghost use Rattle.plinq_ops.specs.Feeding.{IsFed};
 ghost use Rattle.plinq_ops.specs.Pipeline.{stages_now};
+ghost use Rattle.plinq_ops.specs.inner.FeedingFrom.{FeedsStages};
 
 use crate::passed::Passed;
 use crate::stage_state::{StageState, pass, pass_block};
@@ -59,11 +60,7 @@ fn feed_last<L: Lambda>(
 ) -> Result<Option<Ending>, OutOfMemory>
     requires within { from ≤ length ops.old }
     requires undecided { some_takes_none (stages_now L.meaning (drop from ops.old)) ≡ false }
-    ensures others { IfOk result (λ _. take from ops.new ≡ take from ops.old) }
-    ensures fed { IfOk result (IsFed
-        (stages_now L.meaning (drop from ops.old)) (ended (item ∷ []) End)
-        out.old.items out.new.items
-        (stages_now L.meaning (drop from ops.new))) }
+    ensures { IfOk result (FeedsStages L.meaning [] from ops.old ops.new (ended (item ∷ []) End) out.old.items out.new.items) }
 {
     let mut last = Vec::new(alloc);
     last.push(item)?;
@@ -80,11 +77,7 @@ pub(crate) fn feed_end<L: Lambda>(
 ) -> Result<Option<Ending>, OutOfMemory>
     requires within { from ≤ length ops.old }
     requires undecided { some_takes_none (stages_now L.meaning (drop from ops.old)) ≡ false }
-    ensures others { IfOk result (λ _. take from ops.new ≡ take from ops.old) }
-    ensures fed { IfOk result (IsFed
-        (stages_now L.meaning (drop from ops.old)) (ended [] ending)
-        out.old.items out.new.items
-        (stages_now L.meaning (drop from ops.new))) }
+    ensures { IfOk result (FeedsStages L.meaning [] from ops.old ops.new (ended [] ending) out.old.items out.new.items) }
 {
     feed_rest(alloc, ops, from, Vec::new(alloc), Some(ending), out)
 }
@@ -101,11 +94,7 @@ pub(crate) fn feed_block<L: Lambda>(
 ) -> Result<Option<Ending>, OutOfMemory>
     requires within { from ≤ length ops.old }
     requires undecided { some_takes_none (stages_now L.meaning (drop from ops.old)) ≡ false }
-    ensures others { IfOk result (λ _. take from ops.new ≡ take from ops.old) }
-    ensures fed { IfOk result (IsFed
-        (stages_now L.meaning (drop from ops.old)) (record { items = block.old.items; ending = ending })
-        [] block.new.items
-        (stages_now L.meaning (drop from ops.new))) }
+    ensures { IfOk result (FeedsStages L.meaning [] from ops.old ops.new (record { items = block.old.items; ending = ending }) [] block.new.items) }
 {
     if from == ops.len() {
         return Ok(ending);
@@ -130,11 +119,8 @@ fn feed_expansions<L: Lambda>(
 ) -> Result<Option<Ending>, OutOfMemory>
     requires within { from ≤ length ops.old }
     requires undecided { some_takes_none (stages_now L.meaning (drop from ops.old)) ≡ false }
-    ensures others { IfOk result (λ _. take from ops.new ≡ take from ops.old) }
-    ensures fed { IfOk result (IsFed
-        (stage_of L.meaning (SelectMany f.now) ∷ stages_now L.meaning (drop from ops.old)) (record { items = block.old.items; ending = ending })
-        [] block.new.items
-        (stage_of L.meaning (SelectMany f.now) ∷ stages_now L.meaning (drop from ops.new))) }
+    ensures { IfOk result (FeedsStages L.meaning (stage_of L.meaning (SelectMany f.now) ∷ []) from ops.old ops.new
+        (record { items = block.old.items; ending = ending }) [] block.new.items) }
 {
     let items = std::mem::replace(block, Vec::new(alloc));
     for item in items.iter() {
@@ -161,11 +147,8 @@ fn feed_expansion<L: Lambda>(
 ) -> Result<Option<Ending>, OutOfMemory>
     requires within { from ≤ length ops.old }
     requires undecided { some_takes_none (stages_now L.meaning (drop from ops.old)) ≡ false }
-    ensures others { IfOk result (λ _. take from ops.new ≡ take from ops.old) }
-    ensures fed { IfOk result (IsFed
-        (stage_of L.meaning (SelectMany f.now) ∷ stages_now L.meaning (drop from ops.old)) (open_trace (item ∷ []))
-        out.old.items out.new.items
-        (stage_of L.meaning (SelectMany f.now) ∷ stages_now L.meaning (drop from ops.new))) }
+    ensures { IfOk result (FeedsStages L.meaning (stage_of L.meaning (SelectMany f.now) ∷ []) from ops.old ops.new
+        (open_trace (item ∷ [])) out.old.items out.new.items) }
 {
     match f.expand(alloc, item) {
         Ok(expansion) => feed_rest(alloc, ops, from, expansion, None, out),
@@ -190,11 +173,7 @@ fn feed_rest<L: Lambda>(
 ) -> Result<Option<Ending>, OutOfMemory>
     requires within { from ≤ length ops.old }
     requires undecided { some_takes_none (stages_now L.meaning (drop from ops.old)) ≡ false }
-    ensures others { IfOk result (λ _. take from ops.new ≡ take from ops.old) }
-    ensures fed { IfOk result (IsFed
-        (stages_now L.meaning (drop from ops.old)) (record { items = items.items; ending = ending })
-        out.old.items out.new.items
-        (stages_now L.meaning (drop from ops.new))) }
+    ensures { IfOk result (FeedsStages L.meaning [] from ops.old ops.new (record { items = items.items; ending = ending }) out.old.items out.new.items) }
 {
     let mut block = items;
     let ending = feed_block(alloc, ops, from, &mut block, ending)?;

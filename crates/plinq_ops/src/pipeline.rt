@@ -179,7 +179,8 @@ impl<'a, L: Lambda> Pipeline<'a, L> {
             out.old.items out.new.items
             (stages L.meaning self.new)) }
     {
-        feeding::feed_end(alloc, self.remaining.as_mut_slice(), 0, ending, out)
+        let ended = feeding::feed_end(alloc, self.remaining.as_mut_slice(), 0, ending, out)?;
+        Ok(ended)
     }
 
     /// Feeds a block of items, which the results replace, and the ending that comes after them, if one does. Answers how the
@@ -201,7 +202,8 @@ impl<'a, L: Lambda> Pipeline<'a, L> {
             [] block.new.items
             (stages L.meaning self.new)) }
     {
-        feeding::feed_block(alloc, self.remaining.as_mut_slice(), 0, block, ending)
+        let ended = feeding::feed_block(alloc, self.remaining.as_mut_slice(), 0, block, ending)?;
+        Ok(ended)
     }
 
     /// Asks a source for `most` elements at once and feeds them, and the ending where fewer are left. The results stand in

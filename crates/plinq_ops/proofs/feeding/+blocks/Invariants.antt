@@ -1,9 +1,8 @@
-use Rattle.std.proofs.Common.{◌≡◌, ◌+◌, ◌-◌, ◌*◌, length, take, drop, [], ◌∷◌, None}
+use Rattle.std.proofs.Common.{◌+◌, ◌-◌, ◌*◌, length, take, [], ◌∷◌, None}
 use Rattle.plinq_source.specs.Trace.{open_trace}
 use Rattle.plinq_ops.specs.declared.op.Op.TheVariants.{SelectMany}
 use Rattle.plinq_ops.specs.Operator.{stage_of}
-use Rattle.plinq_ops.specs.Feeding.{IsFed}
-use Rattle.plinq_ops.specs.Pipeline.{stages_now}
+use Rattle.plinq_ops.specs.inner.FeedingFrom.{FeedsStages}
 use Rattle.plinq_ops.proofs.feeding.+blocks.Given as goal
 
 abbrev pub decreases-feed_block : goal.decreases-feed_block
@@ -21,6 +20,5 @@ decreases-feed_expansions g l = 4 * (length l.ops.now - l.from) + 3
 
 abbrev pub invariant-feed_expansions-loop-item : goal.invariant-feed_expansions-loop-item
 invariant-feed_expansions-loop-item g l =
-    IsFed (stage_of g.L.Lambda.meaning (SelectMany l.f) ∷ stages_now g.L.Lambda.meaning (drop l.from l.fn.ops)) (open_trace (take l.item-index l.item-items))
-    [] l.block.items (stage_of g.L.Lambda.meaning (SelectMany l.f) ∷ stages_now g.L.Lambda.meaning (drop l.from l.ops)) None
-    × (take l.from l.ops ≡ take l.from l.fn.ops)
+    FeedsStages g.L.Lambda.meaning (stage_of g.L.Lambda.meaning (SelectMany l.f) ∷ []) l.from l.fn.ops l.ops
+    (open_trace (take l.item-index l.item-items)) [] l.block.items None

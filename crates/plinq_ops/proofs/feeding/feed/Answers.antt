@@ -14,7 +14,7 @@ pub returns-in-Expanding : goal.returns-in-Expanding
 returns-in-Expanding g c =
     through-expansion _ c.feed_expansion.new.ops c.feed_expansion.new.out.items c.in_ok-ended.ended _
     (omega (arith, c.loop-at-test.true, c.loop-at.auto.ops)) (sym c.in-Expanding.is) refl c.loop-at.invariant
-    c.in_ok-ended.ensures.others c.in_ok-ended.ensures.fed
+    c.in_ok-ended.ensures
 
 pub returns-in-Nothing : goal.returns-in-Nothing
 returns-in-Nothing g c =
@@ -35,13 +35,13 @@ pub returns-in-Last : goal.returns-in-Last
 returns-in-Last g c =
     let here = at-op {op = get_or c.loop-at.ops c.loop-at.at c.index-ops-at.result} c.index-ops-at.result (omega (arith, c.loop-at-test.true, c.loop-at.auto.ops)) refl c.loop-at.invariant in
     through-rest _ c.pass.new.op c.feed_last.new.ops _ _ here (rw c.in-Last.is at c.pass.ensures.passed) c.pass.ensures.left
-    c.in_ok-ended-in-Last.ensures.others c.in_ok-ended-in-Last.ensures.fed
+    c.in_ok-ended-in-Last.ensures
 
 pub returns-in-Ends : goal.returns-in-Ends
 returns-in-Ends g c =
     let here = at-op {op = get_or c.loop-at.ops c.loop-at.at c.index-ops-at.result} c.index-ops-at.result (omega (arith, c.loop-at-test.true, c.loop-at.auto.ops)) refl c.loop-at.invariant in
     through-rest _ c.pass.new.op c.feed_end.new.ops _ _ here (rw c.in-Ends.is at c.pass.ensures.passed) c.pass.ensures.left
-    c.in_ok-ended-in-Ends.ensures.others c.in_ok-ended-in-Ends.ensures.fed
+    c.in_ok-ended-in-Ends.ensures
 
 pub loop-at-preserved : goal.loop-at-preserved
 loop-at-preserved g c =
