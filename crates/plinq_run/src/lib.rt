@@ -33,6 +33,7 @@ mod reporting;
 mod run_ahead;
 mod run_fault;
 mod run_request;
+mod run_types;
 mod running;
 mod sequential_fold;
 mod tasks;

@@ -11,6 +11,7 @@ use crate::fold_blocks::FoldBlocks;
 use crate::planning::Conducted;
 use crate::run_fault::RunFault;
 use crate::run_request::RunRequest;
+use crate::run_types::RunTypes;
 use crate::tasks::{FoldChunks, Unchanged};
 use plinq_aggregate::GrowingAggregator;
 use plinq_crew::Gate;
@@ -58,15 +59,10 @@ fn answer_ending<S: Source, W: Drop>(
     }
 }
 
-impl<L, S, G> RunRequest<'_, L, S, G>
-where
-    L: SharedLambda,
-    S: Source<Item = L::Item>,
-    G: Gate,
-{
+impl<Q: RunTypes> RunRequest<'_, Q> {
     /// Runs the plan, which isn't decided and has no operator after the merge: its workers fold, and the taker is given an
     /// accumulator for each of their chunks.
-    fn fold_chunks_into<A: GrowingAggregator<Item = L::Item>, W, O, R: Threads + Wait + Sync>(
+    fn fold_chunks_into<A: GrowingAggregator<Item = Q::Item>, W, O, R: Threads + Wait + Sync>(
         self,
         rt: &R,
         aggregator: &A,
@@ -75,10 +71,10 @@ where
     ) -> Result<Ending, RunFault>
     where
         W: Taker<Item = A::Acc> + TakeInto<O>,
-        requires may { MayRun S.given self }
+        requires may { MayRun Q.Source.given self }
         requires alone { self.plan.now.after.now ≡ [] }
         requires takes { W.can_take taker ≡ true }
-        ensures { GivesSome (A.folding aggregator.now) W.made (MayMerge L.meaning self.entry.plan.now (S.whole self.entry.source))
+        ensures { GivesSome (A.folding aggregator.now) W.made (MayMerge Q.Lambda.meaning self.entry.plan.now (Q.Source.whole self.entry.source))
             taker out.old result out.new }
     {
         let task = FoldChunks {
@@ -90,7 +86,7 @@ where
 
     /// Runs the plan, which isn't decided: the caller's thread folds what leaves the operators after the merge, and the taker
     /// is given an accumulator for each block of it.
-    fn fold_blocks_into<A: GrowingAggregator<Item = L::Item>, W, O, R: Threads + Wait + Sync>(
+    fn fold_blocks_into<A: GrowingAggregator<Item = Q::Item>, W, O, R: Threads + Wait + Sync>(
         self,
         rt: &R,
         aggregator: &A,
@@ -99,9 +95,9 @@ where
     ) -> Result<Ending, RunFault>
     where
         W: Taker<Item = A::Acc> + TakeInto<O>,
-        requires may { MayRun S.given self }
+        requires may { MayRun Q.Source.given self }
         requires takes { W.can_take taker ≡ true }
-        ensures { GivesSome (A.folding aggregator.now) W.made (MayMerge L.meaning self.entry.plan.now (S.whole self.entry.source))
+        ensures { GivesSome (A.folding aggregator.now) W.made (MayMerge Q.Lambda.meaning self.entry.plan.now (Q.Source.whole self.entry.source))
             taker out.old result out.new }
     {
         let Ok(pipeline) = Pipeline::new(self.alloc, self.plan.after) else {
@@ -158,7 +154,7 @@ where
     if plan.decided {
         return hand_nothing(alloc, aggregator, taker, out);
     }
-    let request = RunRequest {
+    let request = RunRequest::<(L, S, G)> {
         alloc,
         plan: &plan,
         workers: query.degree(),

@@ -9,9 +9,9 @@ use crate::reporting::finish;
 use crate::run_ahead::progress_of;
 use crate::run_fault::RunFault;
 use crate::run_request::RunRequest;
-use plinq_crew::{Crew, Gate, ResultStream, RunSpec, RunStopKeys, Task, WorkerContext, conduct};
+use crate::run_types::RunTypes;
+use plinq_crew::{Crew, ResultStream, RunSpec, RunStopKeys, Task, WorkerContext, conduct};
 use plinq_cut::CutWord;
-use plinq_lambda::SharedLambda;
 use plinq_merge::{Joined, Joiner, TakeInto, Taker};
 use plinq_partition::{Chunked, Partition};
 use plinq_source::Source;
@@ -36,18 +36,17 @@ pub(crate) struct Conducted<S: Source, W> {
 }
 
 /// Runs a crew, and gives what it sends to this taker.
-fn run_crew<'x, L: SharedLambda, S, J, P: Task<L::Item>, W, O, R: Threads + Wait + Sync>(
+fn run_crew<'x, Q: RunTypes, J, P: Task<Q::Item>, W, O, R: Threads + Wait + Sync>(
     rt: &'x R,
-    crew: &'x Crew<'x, L, S, J, P>,
-    context: WorkerContext<S, P::Part>,
+    crew: &'x Crew<'x, Q::Lambda, Q::Source, J, P>,
+    context: WorkerContext<Q::Source, P::Part>,
     taker: W,
     out: &mut O,
-) -> Result<Ended<S, W>, RunFault>
+) -> Result<Ended<Q::Source, W>, RunFault>
 where
-    S: Source<Item = L::Item>,
     J: RunSpec<P::Part> + Send + Sync,
-    W: Taker<Item = <P as Task<L::Item>>::Part> + TakeInto<O>,
-    requires ready { IsReady L.meaning P.makes J.is_result J.stops_at crew.now context }
+    W: Taker<Item = <P as Task<Q::Item>>::Part> + TakeInto<O>,
+    requires ready { IsReady Q.Lambda.meaning P.makes J.is_result J.stops_at crew.now context }
     requires takes { W.can_take taker ≡ true }
     ensures { HasRunCrew W.made J.is_result crew.now context taker out.old result out.new }
 {
@@ -65,26 +64,21 @@ where
     finish(merging, back)
 }
 
-impl<'x, L, S, G> RunRequest<'x, L, S, G>
-where
-    L: SharedLambda,
-    S: Source<Item = L::Item>,
-    G: Gate,
-{
+impl<'x, Q: RunTypes> RunRequest<'x, Q> {
     /// Runs the plan, which isn't decided: workers do this task, and what they send goes to this taker.
-    pub(crate) fn conduct_plan<J, P: Task<L::Item>, W, O, R: Threads + Wait + Sync>(
+    pub(crate) fn conduct_plan<J, P: Task<Q::Item>, W, O, R: Threads + Wait + Sync>(
         self,
         rt: &'x R,
         task: &'x P,
         taker: W,
         out: &mut O,
-    ) -> Result<Conducted<S, W>, RunFault>
+    ) -> Result<Conducted<Q::Source, W>, RunFault>
     where
         J: RunSpec<P::Part> + Send + Sync,
-        W: Taker<Item = <P as Task<L::Item>>::Part> + TakeInto<O>,
-        requires may { MayConduct S.given S.whole L.meaning (P.makes task.now) J.is_result J.stops_at self }
+        W: Taker<Item = <P as Task<Q::Item>>::Part> + TakeInto<O>,
+        requires may { MayConduct Q.Source.given Q.Source.whole Q.Lambda.meaning (P.makes task.now) J.is_result J.stops_at self }
         requires takes { W.can_take taker ≡ true }
-        ensures { HasConducted W.made J.is_result self.entry.plan.now.order (S.whole self.entry.source) taker out.old result out.new }
+        ensures { HasConducted W.made J.is_result self.entry.plan.now.order (Q.Source.whole self.entry.source) taker out.old result out.new }
     {
         let RunRequest {
             alloc,
@@ -95,7 +89,7 @@ where
             gate,
         } = self;
         keep_memory(alloc);
-        let progress = progress_of::<L::Item, G, R>(rt, gate, plan.order, workers, growth);
+        let progress = progress_of::<Q::Item, Q::Gate, R>(rt, gate, plan.order, workers, growth);
         let Ok((cut, cut_pass)) = CutWord::<RunStopKeys<P::Part, J>>::new(alloc, plan, &source)
         else {
             return Err(RunFault::Memory);
@@ -121,7 +115,7 @@ where
             stream: pass,
             cut: cut_pass,
         };
-        match run_crew(rt, &crew, context, taker, out) {
+        match run_crew::<Q, _, _, _, _, _>(rt, &crew, context, taker, out) {
             Ok(ended) => Ok(Conducted { chunked, ended }),
             Err(fault) => Err(fault),
         }

@@ -75,7 +75,7 @@ where
     let Ok(taker) = Deliver::new(alloc, plan.after, query.merge_option()) else {
         return Err(RunFault::Memory);
     };
-    let request = RunRequest {
+    let request = RunRequest::<(L, S, G)> {
         alloc,
         plan: &plan,
         workers: query.degree(),

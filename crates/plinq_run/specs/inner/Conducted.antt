@@ -28,8 +28,8 @@ use Rattle.plinq_run.specs.inner.Merged.{HasEnded, HasBrokenOff, WereAccepted}
 use Rattle.plinq_run.specs.inner.Plans.{MayRun}
 
 -- a run may be conducted by such a task
-pub record MayConduct {L S G T M : Type 0} (given : S → ℕ) (whole : S → Trace T) (meaning : L → Meaning T) (makes : ChunkResult T → ChunkResult M → Type 0)
-    (MaySend : ChunkResult M → Type 0) (stops_at : ℕ → Bool) (request : RunRequest L S G) : Type 0 where
+pub record MayConduct {Q T L S G M : Type 0} (given : S → ℕ) (whole : S → Trace T) (meaning : L → Meaning T) (makes : ChunkResult T → ChunkResult M → Type 0)
+    (MaySend : ChunkResult M → Type 0) (stops_at : ℕ → Bool) (request : RunRequest Q T L S G) : Type 0 where
   -- it may begin
   pub begins : MayRun given request
   -- what the task makes of the source's results may be sent

@@ -28,7 +28,7 @@ pub record MayMerge {L T : Type 0} (meaning : L → Meaning T) (plan : Plan L) (
   pub is : u ≡ merged_answer meaning plan taken
 
 -- a run may begin: its plan needs workers, of whom there are not too many, and its source was asked for nothing
-pub record MayRun {L S G : Type 0} (given : S → ℕ) (request : RunRequest L S G) : Type 0 where
+pub record MayRun {Q T L S G : Type 0} (given : S → ℕ) (request : RunRequest Q T L S G) : Type 0 where
   pub unasked : given request.source ≡ 0
   pub plan : IsUndecided request.plan.now
   pub workers : (1 ≤ request.workers) × (request.workers ≤ 64)

@@ -8,16 +8,16 @@ use Rattle.plinq_run.proofs.run_request.RunRequest.conduct_plan.Goals as goal
 
 pub run_crew-requires-clause-ready : goal.run_crew-requires-clause-ready
 run_crew-requires-clause-ready g c lifetimes outlive =
-    let meaning = g.L.Lambda.meaning in
+    let meaning = g.Q.Lambda.Lambda.meaning in
     let plan = c.args.self.plan.now in
     let makes = g.P.Task.makes c.args.task.now in
     let may = c.requires.may in
-    let origin : (holding_of c.in-Ok-new.partition).origin ≡ g.S.Source.whole c.args.self.source = search rules in
+    let origin : (holding_of c.in-Ok-new.partition).origin ≡ g.Q.Source.Source.whole c.args.self.source = search rules in
     record {
       equipped = record {
         of = c.in-Ok-new.ensures.of;
         few = subst (λ t. length t.items ≤ 2 ^ 40) (sym origin)
-            ((g.met.S.Source g.world.𝓛 g.world.𝓜 g.world.𝓡 (λ s a. a, λ a. a, λ a. a, λ a. a)).few c.args.self.source);
+            ((g.met.Q.Source.Source g.world.𝓛 g.world.𝓜 g.world.𝓡 (λ s a. a, λ a. a, λ a. a, λ a. a)).few c.args.self.source);
         undecided = may.begins.plan;
         parts = λ r is. may.carries r (subst (λ t. IsPart meaning makes plan t r) origin is);
         sent = λ r is. subst (λ t. IsPart meaning makes plan t r) (sym origin) (may.carried r is);
@@ -40,6 +40,6 @@ returns-in_default-new-2 g c = none-broken g.W.TakeInto.made g.met.W.TakeInto.la
 
 pub returns-in-Ok-run_crew : goal.returns-in-Ok-run_crew
 returns-in-Ok-run_crew g c =
-    let origin : (holding_of c.in-Ok-new.partition).origin ≡ g.S.Source.whole c.args.self.source = search rules in
+    let origin : (holding_of c.in-Ok-new.partition).origin ≡ g.Q.Source.Source.whole c.args.self.source = search rules in
     let made = c.in-Ok-run_crew.ensures in
     (subst (λ t. HaveShared t c.in-Ok-new.chunked c.in-Ok-run_crew.ended.partitions.items) origin made.shared, made.taken)

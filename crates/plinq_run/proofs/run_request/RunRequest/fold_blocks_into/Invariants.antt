@@ -6,6 +6,6 @@ use Rattle.plinq_run.proofs.run_request.RunRequest.fold_blocks_into.Given as goa
 
 abbrev pub ghosts-conduct_plan : goal.ghosts-conduct_plan
 ghosts-conduct_plan g a = record {
-  is_result = IsPart g.L.Lambda.meaning (λ r c. c ≡ r) a.self.plan.now (g.S.Source.whole a.self.source);
-  stops_at = is_among (stop_keys g.L.Lambda.meaning a.self.plan.now.worker.now 0 (g.S.Source.whole a.self.source).items);
+  is_result = IsPart g.Q.Lambda.Lambda.meaning (λ r c. c ≡ r) a.self.plan.now (g.Q.Source.Source.whole a.self.source);
+  stops_at = is_among (stop_keys g.Q.Lambda.Lambda.meaning a.self.plan.now.worker.now 0 (g.Q.Source.Source.whole a.self.source).items);
 }
