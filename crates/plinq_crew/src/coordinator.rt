@@ -1,12 +1,16 @@
-//! The caller's thread among its workers: it receives what they send, and closes the source in time.
-ghost use Rattle.std.specs.Prelude.{◌≡◌, false};
+//! The caller's thread among its workers: it passes what they send to a consumer, and closes the source in time.
+ghost use Rattle.std.specs.Prelude.{◌≡◌, ◌≤◌, ◌^◌, true, false};
+ghost use Rattle.plinq_ops.specs.declared.results.ChunkResult.{ChunkResult};
+ghost use Rattle.plinq_ops.specs.Tails.{end_of_result};
 ghost use Rattle.plinq_partition.specs.Partitions.{IsPartitionOf, holding_of};
 ghost use Rattle.plinq_crew.specs.Noted.{has_worker_fault};
 ghost use Rattle.plinq_crew.specs.Polls.{IfCame, HasCome};
-ghost use Rattle.plinq_stream.specs.Passes.{known};
-ghost use Rattle.plinq_crew.specs.inner.Coordinating.{IsCoordinator, StaysSame, ClosesInTime, ClosesAtLast};
+ghost use Rattle.plinq_stream.specs.Passes.{IsPassOf, known};
+ghost use Rattle.plinq_crew.specs.inner.Closing.{is_closed};
+ghost use Rattle.plinq_crew.specs.inner.Coordinating.{IsCoordinator, StaysSame, ClosesInTime, ClosesAtLast, AcceptsMore, AcceptsRest};
 
 use crate::closing::Closing;
+use crate::consumer::Consumer;
 use crate::poll::Poll;
 use crate::result_stream::{ResultPass, RunSpec};
 use crate::starting::WorkerFaults;
@@ -60,6 +64,16 @@ impl<S: Source, M: Drop> Coordinator<S, M> {
             }
             None => self.patience.spin(),
         }
+    }
+}
+
+/// Tells the consumer that nothing comes for now, where the thread is about to sleep. A moment's lack is not worth what it does
+/// then: a buffer that is flushed after each result writes too little at a time.
+fn tell_before_sleep<M, X: Consumer<M>>(consumer: &mut X, sleeps: bool)
+    ensures { consumer.new ≡ consumer.old }
+{
+    if sleeps {
+        consumer.idle();
     }
 }
 
@@ -124,7 +138,7 @@ where
 
     /// The next result that a worker has sent. Where none comes for a while, the thread is to sleep until something is
     /// reported, so that it takes no processor from a worker.
-    pub(crate) fn poll<R: Wait>(
+    fn poll<R: Wait>(
         &self,
         rt: &R,
         coordinator: &mut Coordinator<S, P::Part>,
@@ -160,7 +174,75 @@ where
     }
 
     /// Whether more workers are wanted now than when some were last started.
-    pub(crate) fn wants_more(&self, worker_count: WorkerCount) -> bool {
+    fn wants_more(&self, worker_count: WorkerCount) -> bool {
         worker_count.wanted < self.workers.min(self.progress.wanted())
+    }
+
+    /// Accepts what the workers send, until all have ended and nothing seems to be left in the queue, or more workers are wanted:
+    /// says whether they are. Where they aren't, the source is closed if the consumer is over, unless a worker's fault stands
+    /// noted.
+    pub(crate) fn accept_some<X: Consumer<P::Part>, R: Wait>(
+        &self,
+        rt: &R,
+        coordinator: &mut Coordinator<S, P::Part>,
+        closing: &mut Closing,
+        consumer: &mut X,
+    ) -> bool
+        requires coordinator { IsCoordinator self.now.chunked.now self.now.stream.now coordinator.old }
+        requires within { (c : ChunkResult P.Part) → J.is_result c → end_of_result c ≤ 2 ^ 40 }
+        requires ready { X.is_ready consumer.old }
+        ensures coordinator { IsCoordinator self.now.chunked.now self.now.stream.now coordinator.new }
+        ensures over { result ≡ false → X.wants_no_more consumer.new ≡ true → is_closed closing.new ≡ false
+            → has_worker_fault coordinator.new.worker_faults ≡ true }
+        ensures more { AcceptsMore X.is_ready X.accepts J.is_result coordinator.old closing.old consumer.old coordinator.new closing.new consumer.new }
+    {
+        for _ in rt.forever() {
+            let is_over = consumer.is_over();
+            match self.poll(rt, coordinator, is_over, closing) {
+                Poll::Came(part) => {
+                    if !closing.wants_close() {
+                        consumer.accept(part);
+                        self.progress
+                            .window
+                            .move_to(consumer.next_key(), consumer.merged_items());
+                    }
+                }
+                Poll::Nothing(sleep) => {
+                    tell_before_sleep::<P::Part, X>(consumer, sleep.is_some());
+                    if !closing.wants_close() && self.wants_more(coordinator.worker_count) {
+                        return true;
+                    }
+                    coordinator.wait(rt, sleep);
+                }
+                Poll::Over => return false,
+            }
+        }
+        unreachable!()
+    }
+
+    /// Accepts what is left once all workers were joined, until the queue is empty.
+    pub(crate) fn accept_rest<X: Consumer<P::Part>, R: Wait>(
+        &self,
+        rt: &R,
+        pass: &mut ResultPass<P::Part>,
+        closing: Closing,
+        consumer: &mut X,
+    )
+        requires stream { IsPassOf self.now.stream.now pass.old }
+        requires receives { (known pass.old).receives ≡ true }
+        requires within { (c : ChunkResult P.Part) → J.is_result c → end_of_result c ≤ 2 ^ 40 }
+        requires ready { X.is_ready consumer.old }
+        ensures { AcceptsRest X.accepts J.is_result self.now.stream.now closing pass.old consumer.old pass.new consumer.new }
+    {
+        for _ in rt.forever() {
+            match self.stream.receive(rt, pass) {
+                Some(sent) => {
+                    if !closing.wants_close() {
+                        consumer.accept(sent.item);
+                    }
+                }
+                None => return,
+            }
+        }
     }
 }

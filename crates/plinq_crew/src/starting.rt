@@ -1,7 +1,8 @@
-//! Starting the workers of a run, and having them back.
+//! Starting the workers of a run, passing on what they send, and having them back.
 ghost use Rattle.std.specs.Prelude.{◌≡◌, ◌≤◌, true, false, not, ◌||◌, IfSome};
 ghost use Rattle.plinq_partition.specs.Partitions.{holding_of};
-ghost use Rattle.plinq_crew.specs.Equipped.{IsEquipped};
+ghost use Rattle.plinq_crew.specs.Conducting.{Conducts};
+ghost use Rattle.plinq_crew.specs.Equipped.{IsEquipped, IsReady};
 ghost use Rattle.plinq_crew.specs.Noted.{lacks_room, has_worker_fault, has_noted, StaysNoted};
 ghost use Rattle.plinq_crew.specs.inner.Handles.{IsHandleOf};
 ghost use Rattle.plinq_crew.specs.inner.Joining.{MayJoin, HasJoined};
@@ -10,6 +11,9 @@ ghost use Rattle.plinq_stream.specs.Passes.{known};
 ghost use Rattle.plinq_crew.specs.inner.Coordinating.{CanStart};
 ghost use Rattle.plinq_crew.specs.inner.Scoped.{MayWork, WorkReturns};
 
+use crate::closing::Closing;
+use crate::conducting::Returned;
+use crate::consumer::Consumer;
 use crate::coordinator::Coordinator;
 use crate::handle::{WorkerHandle, WorkerPromise};
 use crate::result_stream::{ResultPass, RunSpec};
@@ -19,7 +23,7 @@ use crate::worker_count::WorkerCount;
 use plinq_cut::CutPass;
 use plinq_lambda::SharedLambda;
 use plinq_partition::{Partition, TakeFault};
-use plinq_source::Source;
+use plinq_source::{OutOfMemory, Source};
 use std::snapshot::Snapshot;
 use std::sync::Wait;
 use std::thread::{Scope, Threads};
@@ -75,7 +79,7 @@ where
 
     /// Starts as many workers as are wanted by now, at least one, each with a new partition beside the caller's thread's own and a
     /// number of its own, or as many as there are threads to be had. Where one was missing before, none is started.
-    pub(crate) fn start_wanted<Env, R: Threads + Wait + Sync>(
+    fn start_wanted<Env, R: Threads + Wait + Sync>(
         &'s self,
         scope: &Scope<'s, Env>,
         rt: &'s R,
@@ -109,7 +113,7 @@ where
     }
 
     /// Joins the workers. Their partitions come after the one that is given, and their passes are taken in.
-    pub(crate) fn join_all<R: Threads>(
+    fn join_all<R: Threads>(
         &self,
         rt: &R,
         first: Partition<S>,
@@ -131,6 +135,63 @@ where
             partitions.push_reserved(worked.partition);
         }
         partitions
+    }
+
+    /// Starts the workers, passes what they send to the consumer, and joins them.
+    pub(crate) fn conduct_within<Env, X: Consumer<P::Part>, R: Threads + Wait + Sync>(
+        &'s self,
+        scope: &Scope<'s, Env>,
+        rt: &'s R,
+        context: WorkerContext<S, P::Part>,
+        consumer: &mut X,
+    ) -> Result<Returned<S>, OutOfMemory>
+        requires ready { IsReady L.meaning P.makes J.is_result J.stops_at self.now context }
+        requires consumer { X.is_ready consumer.old }
+        ensures { Conducts X.accepts J.is_result self.now context consumer.old consumer.new result }
+    {
+        let Ok(handles) = Vec::with_capacity(self.alloc, self.workers as usize) else {
+            return Err(OutOfMemory);
+        };
+        let Ok(room) = Vec::with_capacity(self.alloc, self.workers as usize + 1) else {
+            return Err(OutOfMemory);
+        };
+        let WorkerContext {
+            partition,
+            stream,
+            cut,
+        } = context;
+        let mut coordinator = Coordinator::new(partition, stream);
+        let mut team = Team { handles, cut };
+        let mut closing = Closing::Open;
+        for _ in rt.forever() {
+            self.start_wanted(scope, rt, &mut coordinator, &mut team);
+            if !self.accept_some(rt, &mut coordinator, &mut closing, consumer) {
+                break;
+            }
+        }
+        self.close_at_last(rt, &mut coordinator, closing);
+        let Team { handles, .. } = team;
+        let Coordinator {
+            partition,
+            mut stream,
+            worker_count,
+            mut worker_faults,
+            ..
+        } = coordinator;
+        let partitions = self.join_all(
+            rt,
+            partition,
+            &mut stream,
+            handles,
+            room,
+            &mut worker_faults,
+        );
+        self.accept_rest(rt, &mut stream, closing, consumer);
+        Ok(Returned {
+            partitions,
+            worker_faults,
+            worker_count,
+        })
     }
 }
 
