@@ -1,6 +1,6 @@
 -- What is reported of a run; and of one into a sink with its token, in terms of the token and the sink.
-use Rattle.std.specs.Prelude.{◌≡◌, ℕ, List, [], ◌∷◌, Bool, true, false, ◌||◌, Result, Ok, Err, IfOk, IfErr, OnOk, refl}
-use Rattle.std.proofs.Common.{sym, ap, ◌∙◌, subst, append-nil}
+use Rattle.std.specs.Prelude.{◌≡◌, ℕ, List, [], ◌∷◌, Bool, true, false, ◌||◌, ◌⊎◌, Result, Ok, Err, IfOk, refl}
+use Rattle.std.proofs.Common.{sym, ◌∙◌, subst, append-nil, inl, inr}
 use Rattle.std.proofs.Math.Bool.{or-false, or-true}
 use Rattle.plinq_source.specs.Trace.{Trace}
 use Rattle.plinq_source.specs.declared.ending.Ending.TheVariants.{End}
@@ -17,7 +17,7 @@ use Rattle.plinq_merge.proofs.Lent.{leads-map, cut-map, lets-told, stops-told, l
 use Rattle.plinq_run.specs.declared.report.Report.{Report}
 use Rattle.plinq_run.specs.declared.run_fault.RunFault.{RunFault}
 use Rattle.plinq_run.specs.declared.run_fault.RunFault.TheVariants.{Sink, Cancelled}
-use Rattle.plinq_run.specs.Endings.{reported}
+use Rattle.plinq_run.specs.Endings.{reported, RunsDecided, RunsDecidedWith}
 use Rattle.plinq_run.specs.Reports.{Reports}
 use Rattle.plinq_run.specs.Runs.{HasRun, HasBroken, Cause, SinkRefused, Stopped, Other, cause_of, BreaksFor, Runs}
 use Rattle.plinq_run.specs.Stopping.{is_stopped, ReportsWith, RunsWith}
@@ -43,19 +43,25 @@ module _ {K T : Type 0} (accepts : K → List T → K → Type 0) (refuses : K �
   reports-accounts F (Ok r) only h = sym (only (handed_trace t r.records.items) h.answer h.accounts) ∙ only t h.answer h.may
   reports-accounts F (Err f) only h = tt
 
+-- at last the run's outcome is reported, or that it was cancelled
+pub asked-outcome : {C K : Type 0} (asks : C → ℕ → Bool → C → Type 0) (w w' : WithCancellation C K) (stopped : Bool) (outcome r : Result Report RunFault) → IsAskedAtLast asks stopped outcome w r w'
+    → (r ≡ outcome) ⊎ (r ≡ Err Cancelled)
+asked-outcome asks w w' true outcome r last = inr last.1
+asked-outcome asks w w' false (Err fault) r last = inl last.1
+asked-outcome asks w w' false (Ok report) r (true, asked, is) = inr is
+asked-outcome asks w w' false (Ok report) r (false, asked, is) = inl is
+
 -- what holds of a run's outcome holds of what is reported of it
-pub ok-outcome : (P : Report → Type 0) (outcome r : Result Report RunFault) → IfOk r (λ report. outcome ≡ Ok report) → IfOk outcome P → IfOk r P
-ok-outcome P outcome (Ok report) is h = subst (λ t. IfOk t P) is h
-ok-outcome P outcome (Err fault) is h = tt
+pub ok-outcome : (P : Report → Type 0) (outcome r : Result Report RunFault) → (r ≡ outcome) ⊎ (r ≡ Err Cancelled) → IfOk outcome P → IfOk r P
+ok-outcome P outcome r (inl is) h = rw is h
+ok-outcome P outcome r (inr is) h = rw is tt
 
--- of one that ended well
-pub ended-outcome : (outcome r : Result Report RunFault) → IfOk r (λ report. outcome ≡ Ok report) → reported outcome ≡ Ok End → IfOk r (λ report. report.ending ≡ End)
-ended-outcome outcome (Ok report) is ends = let same : Ok report.ending ≡ Ok End = ap reported (sym is) ∙ ends in cc
-ended-outcome outcome (Err fault) is ends = tt
-
-pub cancelled-outcome : (outcome r : Result Report RunFault) → IfErr r (λ fault. OnOk outcome (fault ≡ Cancelled)) → reported outcome ≡ Ok End → IfErr r (λ fault. fault ≡ Cancelled)
-cancelled-outcome (Ok report) r is ends = is
-cancelled-outcome (Err fault) r is ends = absurd (let bad : Err fault ≡ Ok End = ends in cc)
+-- of a decided query
+pub decided-outcome : {W K : Type 0} {w w' : W} {s s' : K} (outcome r : Result Report RunFault) → (r ≡ outcome) ⊎ (r ≡ Err Cancelled) → RunsDecided w w' outcome → s' ≡ s → RunsDecidedWith s s' r
+decided-outcome (Ok report) r (inl is) h untouched =
+    rw is (record { ended = (let same : Ok report.ending ≡ Ok End = h.answered in cc); cancelled = tt; untouched = untouched; none = h.none })
+decided-outcome (Err fault) r (inl is) h untouched = absurd (let bad : Err fault ≡ Ok End = h.answered in cc)
+decided-outcome outcome r (inr is) h untouched = rw is (record { ended = tt; cancelled = refl; untouched = untouched; none = tt })
 
 -- it never answers that it was cancelled
 pub reports-never : {K T : Type 0} (accepts : K → List T → K → Type 0) (refuses : K → List T → ℕ → K → Type 0) (option : MergeOption) (May : Trace T → Trace T → Type 0) (t : Trace T) (s s' : K) (r : Result Report RunFault)

@@ -1,12 +1,11 @@
 //! The run of a query that a token may stop.
-ghost use Rattle.std.specs.Prelude.{◌≡◌, true, false, IfOk, IfErr, OnOk, Ok};
+ghost use Rattle.std.specs.Prelude.{◌≡◌, true, false, IfOk};
 ghost use Rattle.std.specs.List.{list_any};
 ghost use Rattle.plinq_keyed.specs.History.{IsLegalHistory};
 ghost use Rattle.plinq_ops.specs.Answer.{MayAnswer};
 ghost use Rattle.plinq_ops.specs.Feeding.{is_empty_take};
 ghost use Rattle.plinq_ops.specs.Query.{merge_in_force};
 ghost use Rattle.plinq_merge.specs.Lent.{AreSame};
-ghost use Rattle.plinq_run.specs.declared.run_fault.RunFault.TheVariants.{Cancelled};
 ghost use Rattle.plinq_run.specs.Endings.{RunsDecidedWith};
 ghost use Rattle.plinq_run.specs.Handed.{has_close};
 ghost use Rattle.plinq_run.specs.Stopping.{is_stopped, ReportsSome};
@@ -83,8 +82,6 @@ fn ask_at_last<C: Cancel, K>(
     outcome: Result<Report, RunFault>,
 ) -> Result<Report, RunFault>
     ensures same { AreSame with.old with.new }
-    ensures reports { IfOk result (λ report. outcome ≡ Ok report) }
-    ensures cancelled { IfErr result (λ fault. OnOk outcome (fault ≡ Cancelled)) }
     ensures sink { with.new.sink.now ≡ with.old.sink.now }
     ensures asked { IsAskedAtLast C.asks with.old.is_stopped outcome with.old result with.new }
 {

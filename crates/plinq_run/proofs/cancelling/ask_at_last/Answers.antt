@@ -1,13 +1,5 @@
-use Rattle.std.proofs.Common.{rules, ◌≡◌, true, false, Result, Ok, Err, OnOk, refl}
+use Rattle.std.proofs.Common.{rules, ◌≡◌, true, false, Ok, Err, refl}
 use Rattle.plinq_run.proofs.cancelling.ask_at_last.Goals as goal
-
--- what holds whatever the outcome
-on-any : {A E : Type 0} (P : Type 0) (r : Result A E) → P → OnOk r P
-on-any P (Ok x) p = p
-on-any P (Err e) p = tt
-
-pub returns-then-with-clause-cancelled : goal.returns-then-with-clause-cancelled
-returns-then-with-clause-cancelled g c = on-any _ c.args.outcome refl
 
 pub returns-in_err-report-clause-asked : goal.returns-in_err-report-clause-asked
 returns-in_err-report-clause-asked g c =
