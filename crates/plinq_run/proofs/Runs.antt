@@ -1,5 +1,5 @@
 -- How a run ends: what was merged is how an answer begins, and all of it where the answer has ended; and what is reported then.
-use Rattle.std.specs.Prelude.{◌≡◌, ℕ, ◌≤◌, ◌^◌, List, [], ◌∷◌, length, Option, Some, None, Result, Ok, Err, All, refl, Bool, true, false, IfOk}
+use Rattle.std.specs.Prelude.{◌≡◌, ℕ, ◌≤◌, ◌^◌, List, [], ◌∷◌, length, Option, Some, None, Result, Ok, Err, All, refl, Bool, true, false, IfOk, IfErr}
 use Rattle.std.specs.List.{list_any}
 use Rattle.std.proofs.Common.{sym, ◌∙◌, ap, subst, append-nil, arith}
 use Rattle.std.proofs.lemmas.List.Elements.{All-head, All-tail, All-weaker}
@@ -10,8 +10,8 @@ use Rattle.plinq_source.specs.declared.source.Source.{Ghosts as SourceGhosts}
 use Rattle.plinq_source.specs.declared.ending.Ending.TheVariants.{End}
 use Rattle.plinq_lambda.specs.Meaning.{Meaning}
 use Rattle.plinq_keyed.specs.declared.record.Record.{Record}
-use Rattle.plinq_keyed.specs.History.{IsLegalHistory}
 use Rattle.plinq_ticket.specs.Shares.{in_ticket_order}
+use Rattle.plinq_partition.specs.GivenBack.{common_origin}
 use Rattle.plinq_partition.specs.Partitions.{all_shares}
 use Rattle.plinq_ops.specs.declared.merge_option.MergeOption.{MergeOption}
 use Rattle.plinq_ops.specs.declared.order.Order.{Order}
@@ -58,11 +58,10 @@ use Rattle.plinq_run.specs.inner.Offered.{IsOffered, Covers}
 use Rattle.plinq_run.specs.Reports.{IsBroken, Reports}
 use Rattle.plinq_run.specs.Runs.{HasRun, Cause, SinkRefused, Other, cause_of, BreaksFor}
 use Rattle.plinq_run.specs.declared.report.Report.{Report}
-use Rattle.plinq_run.specs.Endings.{reported}
-use Rattle.plinq_run.specs.Handed.{handed_trace, has_close}
+use Rattle.plinq_run.specs.Handed.{handed_trace}
 use Rattle.plinq_run.specs.inner.Reported.{IsReportOf}
 use Rattle.plinq_run.proofs.Arrived.{are-true_tails, arrival-begins}
-use Rattle.plinq_run.proofs.Handed.{result-covered, closed-in_order, covers-handed}
+use Rattle.plinq_run.proofs.Handed.{result-covered, covers-handed}
 
 module _ {L T : Type 0} (meaning : L → Meaning T) (plan : Plan L) (t : Trace T) where
   are-offers : (rs : List (ChunkResult T)) → All (IsResult meaning plan t) rs → AreOffers meaning plan.worker.now t rs
@@ -215,27 +214,27 @@ module _ {L T K : Type 0} (meaning : L → Meaning T) (q : QueryView L) (plan : 
         }
 
     -- the report of a run is of the same answer, which its records account for
-    pub whole-reported : {S U : Type 0} {source : SourceGhosts S U} (s s' : K) (ended : Ended S (Deliver L T) U source) (b : Result Report RunFault)
-        → HasEnded (MadeBy accepts refuses meaning) (AsItIs meaning plan t) plan.order first s ended s' → IsReportOf (Ok ended.joined.ending) (reported b)
-        → IfOk b (λ r. IsLegalHistory t r.records.items) → IfOk b (λ r. r.records.items ≡ in_ticket_order (all_shares ended.partitions.items))
+    pub whole-reported : {S : Type 0} {source : SourceGhosts S T} (s s' : K) (ended : Ended S (Deliver L T) T source) (b : Result Report RunFault)
+        → HasEnded (MadeBy accepts refuses meaning) (AsItIs meaning plan t) plan.order first s ended s' → common_origin ended.partitions.items ≡ t
+        → IfOk b (IsReportOf ended.joined.ending ended.partitions.items) → IfErr b (λ fault. cause_of fault ≡ Other)
         → Reports accepts refuses option May t s s' b
-    whole-reported s s' ended (Ok r) h is legal all =
+    whole-reported s s' ended (Ok r) h origin is cause =
         let records = all_shares ended.partitions.items in
         let whole = whole-delivered s s' ended h in
         record {
           answer = whole.answer;
           may = whole.may;
-          accounts = subst (λ hs. May (handed_trace t hs) whole.answer) (sym all)
-              (whole.accounts (handed_trace t (in_ticket_order records)) (covers-handed t records (subst (IsLegalHistory t) all legal)));
-          has_run = subst (λ x. HasRun accepts option whole.answer s s' x) (sym is) whole.has_run;
+          accounts = subst (λ hs. May (handed_trace t hs) whole.answer) (sym is.records)
+              (whole.accounts (handed_trace t (in_ticket_order records)) (covers-handed t records (rw (← is.records, ← origin) is.legal)));
+          has_run = subst (λ x. HasRun accepts option whole.answer s s' x) (sym is.ending) whole.has_run;
         }
-    whole-reported s s' ended (Err f) h is legal all =
+    whole-reported s s' ended (Err f) h origin is cause =
         let whole = whole-delivered s s' ended h in
         let all = batches option whole.answer in
         record {
           answer = whole.answer;
           may = whole.may;
-          broken = subst (λ x. BreaksFor accepts refuses x all s s') (sym is) (all, [], sym (append-nil all), whole.has_run.delivered);
+          broken = subst (λ x. BreaksFor accepts refuses x all s s') (sym cause) (all, [], sym (append-nil all), whole.has_run.delivered);
         }
 
     -- or the run was broken off
@@ -268,12 +267,6 @@ may-same ByArrival t = IsRearranged-refl t
 -- there always is an answer
 pub merged-may : {L T : Type 0} (meaning : L → Meaning T) (plan : Plan L) (t : Trace T) → MayMerge meaning plan t (merged_answer meaning plan t)
 merged-may meaning plan t = record { taken = t; may = may-same plan.order t; is = refl }
-
--- and closed where they are
-pub reported-closed : (records : List Record) (b : Result Report RunFault) → IfOk b (λ r. r.records.items ≡ in_ticket_order records) → has_close records ≡ true
-    → IfOk b (λ r. has_close r.records.items ≡ true)
-reported-closed records (Ok r) all is = ap has_close all ∙ closed-in_order records is
-reported-closed records (Err f) all is = tt
 
 -- by arrival the workers look at no keys
 planned-keyless : {L : Type 0} (q : QueryView L) (plan : Plan L) → IsPlanOf q plan → plan.order ≡ ByArrival → are_keyless plan.worker.now ≡ true

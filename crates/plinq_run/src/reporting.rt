@@ -1,12 +1,8 @@
 //! What is reported when all workers have been joined.
-ghost use Rattle.std.specs.Prelude.{◌≡◌, ◌≤◌, length, None, All, IfOk, IfSome, Ok};
-ghost use Rattle.plinq_keyed.specs.History.{IsLegalHistory};
-ghost use Rattle.plinq_partition.specs.Partitions.{IsPartitionOf, all_shares};
-ghost use Rattle.plinq_partition.specs.GivenBack.{common_origin};
-ghost use Rattle.plinq_ticket.specs.Shares.{in_ticket_order};
+ghost use Rattle.std.specs.Prelude.{◌≡◌, ◌≤◌, length, None, All, IfOk, IfErr, IfSome};
+ghost use Rattle.plinq_partition.specs.Partitions.{IsPartitionOf};
 ghost use Rattle.plinq_run.specs.Runs.{Other, cause_of};
 ghost use Rattle.plinq_run.specs.inner.Reported.{cause_in_merge, IsReportOf};
-ghost use Rattle.plinq_run.specs.Endings.{reported};
 ghost use Rattle.plinq_run.specs.inner.Faults.{first_reported, AreSound};
 ghost use Rattle.plinq_run.specs.inner.Finishing.{Finishes};
 
@@ -84,9 +80,8 @@ pub(crate) fn finish<W: Taker, S: Source>(
 pub(crate) fn report<S: Source, W: Taker>(conducted: Conducted<S, W>) -> Result<Report, RunFault>
     requires some { 1 ≤ length conducted.ended.partitions.items }
     requires of { All (IsPartitionOf conducted.chunked) conducted.ended.partitions.items }
-    ensures reports { IsReportOf (Ok conducted.ended.joined.ending) (reported result) }
-    ensures legal { IfOk result (λ report. IsLegalHistory (common_origin conducted.ended.partitions.items) report.records.items) }
-    ensures records { IfOk result (λ report. report.records.items ≡ in_ticket_order (all_shares conducted.ended.partitions.items)) }
+    ensures reports { IfOk result (IsReportOf conducted.ended.joined.ending conducted.ended.partitions.items) }
+    ensures cause { IfErr result (λ fault. cause_of fault ≡ Other) }
 {
     let Conducted { chunked, ended } = conducted;
     let Ended { partitions, joined } = ended;

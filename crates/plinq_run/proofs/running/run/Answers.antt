@@ -1,4 +1,5 @@
-use Rattle.std.proofs.Common.{rules, ◌≡◌, ◌≤◌, ◌^◌, [], true, Ok, Err, IfOk, length, sym, ◌∙◌, subst, refl}
+use Rattle.std.proofs.Common.{rules, ◌≡◌, ◌≤◌, ◌^◌, [], true, Ok, Err, length, sym, ap, ◌∙◌, subst, refl}
+use Rattle.std.proofs.lemmas.Result.{IfOk-weaker}
 use Rattle.plinq_source.specs.declared.ending.Ending.TheVariants.{End}
 use Rattle.plinq_source.specs.Trace.{Trace, ended}
 use Rattle.plinq_keyed.specs.History.{IsLegalHistory}
@@ -7,8 +8,10 @@ use Rattle.plinq_ops.specs.Batches.{batches}
 use Rattle.plinq_ops.specs.Query.{merge_in_force}
 use Rattle.plinq_ops.specs.Sequential.{answer_of}
 use Rattle.plinq_run.specs.declared.run_fault.RunFault.TheVariants.{Memory}
+use Rattle.plinq_run.specs.Handed.{has_close}
+use Rattle.plinq_run.proofs.Handed.{closed-in_order}
 use Rattle.plinq_run.proofs.Headline.{ordered-delivered}
-use Rattle.plinq_run.proofs.Runs.{reported-closed, whole-reported, broken-reported, decided-may, may-sequential, planned-undecided}
+use Rattle.plinq_run.proofs.Runs.{whole-reported, broken-reported, decided-may, may-sequential, planned-undecided}
 use Rattle.plinq_run.proofs.running.run.Goals as goal
 
 -- a decided query
@@ -47,12 +50,12 @@ conduct_plan-requires-clause-takes g c lifetimes outlive = c.in-Ok.ensures.ready
 -- an answer
 pub returns-in-Ok-conduct_plan-clause-legal : goal.returns-in-Ok-conduct_plan-clause-legal
 returns-in-Ok-conduct_plan-clause-legal g c =
-    subst (λ t. IfOk c.report.result (λ r. IsLegalHistory t r.records.items)) c.in-Ok-conduct_plan.ensures.0.origin c.report.ensures.legal
+    IfOk-weaker c.report.result _ _ (λ r is. subst (λ t. IsLegalHistory t r.records.items) c.in-Ok-conduct_plan.ensures.0.origin is.legal) c.report.ensures.reports
 
 pub returns-in-Ok-conduct_plan-clause-closed : goal.returns-in-Ok-conduct_plan-clause-closed
 returns-in-Ok-conduct_plan-clause-closed g c = λ undecided.
-    reported-closed (all_shares c.in-Ok-conduct_plan.conducted.ended.partitions.items) c.report.result c.report.ensures.records
-    c.in-Ok-conduct_plan.ensures.0.closed
+    let closed = closed-in_order (all_shares c.in-Ok-conduct_plan.conducted.ended.partitions.items) c.in-Ok-conduct_plan.ensures.0.closed in
+    IfOk-weaker c.report.result _ _ (λ r is. ap has_close is.records ∙ closed) c.report.ensures.reports
 
 pub returns-in-Ok-conduct_plan-clause-reports : goal.returns-in-Ok-conduct_plan-clause-reports
 returns-in-Ok-conduct_plan-clause-reports g c =
@@ -62,7 +65,7 @@ returns-in-Ok-conduct_plan-clause-reports g c =
     whole-reported g.L.Lambda.meaning q c.split-plan.result c.split-plan.ensures.plan (merge_in_force q.merge)
     (search (rules, planned-undecided)) t few g.K.Sink.accepts g.K.Sink.refuses c.in-Ok.taker
     (rw c.merge_option.ensures at c.in-Ok.ensures.begun) c.args.sink.now c.conduct_plan.new.out c.in-Ok-conduct_plan.conducted.ended c.report.result
-    c.in-Ok-conduct_plan.ensures.1 c.report.ensures.reports (returns-in-Ok-conduct_plan-clause-legal g c) c.report.ensures.records
+    c.in-Ok-conduct_plan.ensures.1 c.in-Ok-conduct_plan.ensures.0.origin c.report.ensures.reports c.report.ensures.cause
 
 pub returns-in-Ok-conduct_plan-clause-ordered : goal.returns-in-Ok-conduct_plan-clause-ordered
 returns-in-Ok-conduct_plan-clause-ordered g c = λ ordered.
