@@ -3,11 +3,13 @@ use Rattle.std.proofs.Common.{◌≡◌, ◌≢◌, ℕ, ◌+◌, ◌≤◌, ◌
 use Rattle.std.proofs.lemmas.List.{append-nil}
 use Rattle.std.proofs.lemmas.List.Elements.{All-nil, All-push, All-append, All-weaker}
 use Rattle.std.specs.List.{AllZip}
+use Rattle.plinq_source.specs.Trace.{Trace}
 use Rattle.plinq_keyed.specs.declared.chunk.Chunk.{Chunk}
 use Rattle.plinq_keyed.specs.declared.record.Record.{Record}
 use Rattle.plinq_lambda.specs.Meaning.{Meaning}
 use Rattle.plinq_enumerator.specs.Growing.{GrowthRule}
 use Rattle.plinq_ops.specs.declared.op.Op.{Op}
+use Rattle.plinq_ops.specs.declared.plan.Plan.{Plan}
 use Rattle.plinq_ops.specs.declared.results.ChunkResult.{ChunkResult}
 use Rattle.plinq_ops.specs.Chunk.{IsChunkResult}
 use Rattle.plinq_partition.specs.declared.take_fault.TakeFault.{TakeFault}
@@ -20,7 +22,8 @@ use Rattle.plinq_stream.proofs.Numbers.{first-of, rest-of}
 use Rattle.plinq_stream.proofs.Under.{has-append, or-first, or-second, under-append, under-own, under-none}
 use Rattle.plinq_crew.specs.Working.{Answers, IsOpen, Follows, HasTakenChunk, HasLeft, sender, IsAtWork, HasWorked, IsAnsweredBy, IsWhollyAnsweredBy, HasNumbersFrom, IsReceiver}
 use Rattle.plinq_crew.specs.Noted.{has_worker_fault, lacks_room, has_noted, StaysNoted}
-use Rattle.plinq_crew.specs.Results.{IsOfSameChunk}
+use Rattle.plinq_crew.specs.Results.{IsOfSameChunk, IsPart}
+use Rattle.plinq_crew.specs.inner.Taking.{IsNextPart}
 use Rattle.plinq_crew.specs.declared.starting.WorkerFaults.{WorkerFaults}
 use Rattle.plinq_source.specs.declared.source.Source.{Ghosts}
 use Rattle.plinq_partition.specs.declared.partition.Partition.{Partition}
@@ -108,10 +111,13 @@ module _ {T : Type 0} (number : ℕ) where
     follows = record { answered = share; rest = left.more; share_is = left.share_is; are = h.are; stops = h.opens };
   }
 
--- what holds of each item that a worker has sent holds of one more
-pub each-sent : {X : Type 0} (P : X → Type 0) (number : ℕ) (x : X) (a b : PassKnowledge X) → b ≡ with_sent a (record { number = number; item = x }) → All (λ s. P s.item) a.sent → P x → All (λ s. P s.item) b.sent
-each-sent {X} P number x a b is all one =
-    subst (All (λ s. P s.item)) (sym (ap (λ (k : PassKnowledge X). k.sent) is)) (All-push (λ (s : Sent X). P s.item) a.sent (record { number = number; item = x }) all one)
+-- what a worker has sent was made of results of the source, and so was its next part
+pub each-part : {L T M : Type 0} {meaning : L → Meaning T} {makes : ChunkResult T → ChunkResult M → Type 0} {plan : Plan L} {t : Trace T} {before after : Holding T} {part : ChunkResult M} {b : PassKnowledge (ChunkResult M)}
+    (number : ℕ) (a : PassKnowledge (ChunkResult M)) → IsNextPart meaning makes plan before after part → before.origin ≡ t → b ≡ with_sent a (record { number = number; item = part })
+    → All (λ s. IsPart meaning makes plan t s.item) a.sent → All (λ s. IsPart meaning makes plan t s.item) b.sent
+each-part {L} {T} {M} {meaning} {makes} {plan} {t} {before} {after} {part} number a next origin is all =
+    let P : Sent (ChunkResult M) → Type 0 = λ s. IsPart meaning makes plan t s.item in
+    subst (All P) (sym (ap (λ (k : PassKnowledge (ChunkResult M)). k.sent) is)) (All-push P a.sent (record { number = number; item = part }) all (rw (← origin) next.is))
 
 -- ---- numbers are handed out one after another
 

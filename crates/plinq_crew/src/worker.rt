@@ -4,9 +4,9 @@ ghost use Rattle.plinq_cut.specs.Passes.{IsPassOf as IsCutPassOf};
 ghost use Rattle.plinq_ops.specs.declared.results.ChunkResult.{ChunkResult};
 ghost use Rattle.plinq_partition.specs.Partitions.{IsPartitionOf, holding_of};
 ghost use Rattle.plinq_crew.specs.Equipped.{IsEquipped};
-ghost use Rattle.plinq_crew.specs.inner.Taking.{MayTakeNext};
+ghost use Rattle.plinq_crew.specs.inner.Taking.{MayTakeNext, IsNextPart};
 ghost use Rattle.plinq_crew.specs.Results.{IsPart};
-ghost use Rattle.plinq_crew.specs.Working.{IsNewcomer, HasWorked, HasTakenChunk, HasLeft};
+ghost use Rattle.plinq_crew.specs.Working.{IsNewcomer, HasWorked, HasLeft};
 ghost use Rattle.plinq_stream.specs.Passes.{IsPassOf, known};
 
 use crate::progress::Progress;
@@ -97,8 +97,7 @@ where
         ensures of { IsPartitionOf self.now.chunked.now partition.new }
         ensures origin { (holding_of partition.new).origin ≡ (holding_of partition.old).origin }
         ensures cut { IsCutPassOf self.now.cut.now pass.new }
-        ensures result { IfOk result (IsPart L.meaning (P.makes self.now.task.now) self.now.plan.now (holding_of partition.old).origin) }
-        ensures taken { IfOk result (HasTakenChunk (holding_of partition.old).share (holding_of partition.new).share) }
+        ensures next { IfOk result (IsNextPart L.meaning (P.makes self.now.task.now) self.now.plan.now (holding_of partition.old) (holding_of partition.new)) }
         ensures left { IfErr result (λ fault. HasLeft (holding_of partition.old).share (holding_of partition.new).share) }
     {
         self.task.before_take(worker);

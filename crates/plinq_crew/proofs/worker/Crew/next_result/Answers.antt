@@ -17,24 +17,23 @@ cut_off-requires-clause-stop_key g c key kept stop =
     let made = result-from_taken meaning plan _ _ _ cut c.in_ok-chunk.chunk of.result is c.cut_now-cut.ensures.uncut c.in_ok-chunk.ensures.taken of.is in
     stop-stop_key meaning plan t g.J.RunSpec.stops_at c.requires.stop_keys of.result key made (λ dropped. kept (of.same.ending ∙ dropped)) (sym of.same.stop ∙ stop)
 
-pub returns-clause-result : goal.returns-clause-result
-returns-clause-result g c =
+pub returns-clause-next : goal.returns-clause-next
+returns-clause-next g c =
     let meaning = g.L.Lambda.meaning in
     let plan = c.args.self.now.plan.now in
-    let cut = c.cut_now-cut.result in
+    let before = holding_of c.args.partition.now in
     let of = c.in_ok-part.ensures in
-    let is = cut-read meaning plan (holding_of c.args.partition.now).origin g.J.RunSpec.stops_at c.requires.stop_keys cut c.cut_now-cut.ensures.cut in
+    let is = cut-read meaning plan before.origin g.J.RunSpec.stops_at c.requires.stop_keys _ c.cut_now-cut.ensures.cut in
+    let taken = taken-part _ _ of.result c.in_ok-part.part (taken-result meaning _ _ _ _ _ c.in_ok-chunk.chunk of.result c.in_ok-chunk.ensures.taken of.is) of.same in
     record {
-      result = of.result;
-      is = result-from_taken meaning plan _ _ _ cut c.in_ok-chunk.chunk of.result is c.cut_now-cut.ensures.uncut c.in_ok-chunk.ensures.taken of.is;
-      made = of.made;
-      same = of.same;
+      is = record {
+        result = of.result;
+        is = result-from_taken meaning plan _ _ _ _ c.in_ok-chunk.chunk of.result is c.cut_now-cut.ensures.uncut c.in_ok-chunk.ensures.taken of.is;
+        made = of.made;
+        same = of.same;
+      };
+      taken = subst (λ h. HasTakenChunk before.share h.share c.in_ok-part.part) (sym c.reuse.ensures.same) taken;
     }
-
-pub returns-clause-taken : goal.returns-clause-taken
-returns-clause-taken g c =
-    let of = c.in_ok-part.ensures in
-    subst (λ h. HasTakenChunk (holding_of c.args.partition.now).share h.share c.in_ok-part.part) (sym c.reuse.ensures.same) (taken-part _ _ of.result c.in_ok-part.part (taken-result g.L.Lambda.meaning _ _ _ _ _ c.in_ok-chunk.chunk of.result c.in_ok-chunk.ensures.taken of.is) of.same)
 
 pub returns-clause-of : goal.returns-clause-of
 returns-clause-of g c = c.reuse.ensures.of c.args.self.now.chunked.now c.take.ensures.of
