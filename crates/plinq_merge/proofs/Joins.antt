@@ -27,7 +27,8 @@ use Rattle.plinq_merge.specs.Shown.{ending_at, waiting_trace, merged}
 use Rattle.plinq_merge.specs.Keys.{AreNew}
 use Rattle.plinq_merge.specs.Merging.{Holds, TakesIn}
 use Rattle.plinq_merge.specs.Taking.{IsTaking}
-use Rattle.plinq_merge.specs.Joining.{rest_of, Waits, HasMoved, Joins, JoinsOfferAt}
+use Rattle.plinq_merge.specs.Joining.{rest_of, Waits, Joins, JoinsOfferAt}
+use Rattle.plinq_merge.specs.inner.Moving.{HasMoved}
 use Rattle.plinq_merge.specs.Offering.{is_decided, finished}
 use Rattle.plinq_merge.specs.Joiners.{taker_of, order_of, WaitsFor, has_decided, ending_of, JoinsOffer, HasJoinedAt, HasJoined}
 use Rattle.plinq_merge.specs.Mergers.{delivery_fault_of}

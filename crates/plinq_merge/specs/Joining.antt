@@ -37,15 +37,6 @@ abbrev pub IsReady : {W T : Type 0} → (W → Bool) → Joiner W T → Type 0
 IsReady can_take j = j.standing ≡ Open → can_take j.work.taker ≡ true
 
 module _ {W O T : Type 0} (made : W → O → Trace T → Result (Option Ending) DeliveryFault → W → O → Type 0) where
-  -- a result of new keys was joined, and the taker has taken the first items that the offers gain by it: `hand` comes next, and
-  -- after it what the row gives
-  pub record HasMoved (w : Joining W T) (r : ChunkResult T) (y : O) (hand : Trace T) (w' : Joining W T) (y' : O) : Type 0 where
-    pub items : List T
-    pub taken : made w.taker y (open_trace items) (Ok None) w'.taker y'
-    pub order : w'.order ≡ w.order
-    pub holds : (offers : List (ChunkResult T)) (gone : Trace T) → Holds w.order w.row offers gone
-        → Holds w.order w'.row (offers ++ r ∷ []) (followed (followed gone (open_trace items)) hand)
-
   -- a result of new keys was joined: the taker has taken what the offers gain by it, and where more may follow, the row
   -- waits for it
   pub record Joins (w : Joining W T) (r : ChunkResult T) (y : O) (result : Result (Option Ending) DeliveryFault) (w' : Joining W T) (y' : O) : Type 0 where

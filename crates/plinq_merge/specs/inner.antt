@@ -4,3 +4,4 @@ pub mod Handing
 pub mod OneThread
 pub mod Stopped
 pub mod Lending
+pub mod Moving

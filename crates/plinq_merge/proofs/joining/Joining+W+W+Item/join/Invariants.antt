@@ -2,7 +2,7 @@ use Rattle.std.proofs.Common.{ℕ, ◌≡◌, ◌||◌, true, length}
 use Rattle.plinq_ops.specs.Tails.{end_of_result}
 use Rattle.plinq_reorder.specs.Intervals.{is_within}
 use Rattle.plinq_reorder.specs.Buffered.{is_taken}
-use Rattle.plinq_merge.specs.Joining.{HasMoved}
+use Rattle.plinq_merge.specs.inner.Moving.{HasMoved}
 use Rattle.plinq_merge.proofs.joining.Joining+W+W+Item.join.Given as goal
 
 abbrev pub invariant-loop-ending : goal.invariant-loop-ending
