@@ -1,5 +1,5 @@
 //! Queries that are picked by chance, over slices, against a plain loop over a `Vec`.
-use crate::numbers::ordered;
+use crate::ordered_queries::ordered;
 use plinq_collect::{all, any, contains, count, element_at, first, sequentially, to_vec};
 use plinq_lambda::Formula;
 use plinq_ops::{Built, Query};

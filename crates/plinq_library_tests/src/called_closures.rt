@@ -1,5 +1,5 @@
 //! What a closure is called with, by threads and on one.
-use crate::numbers::ordered;
+use crate::ordered_queries::ordered;
 use plinq_collect::{for_each, sequentially};
 use plinq_run::RunFault;
 use plinq_source::{Ending, RangeSource};

@@ -2,28 +2,21 @@
 ghost use Rattle.std.specs.Prelude.{◌≡◌, IfOk};
 ghost use Rattle.plinq_source.specs.Walked.{range_given};
 
-use crate::numbers::ordered;
+use crate::ordered_queries::ordered;
 use plinq_collect::{all, any, element_at, first};
 use plinq_lambda::Formula;
 use plinq_ops::Built;
 use plinq_source::{RangeSource, SourceFault};
-use plinq_testing::Asked;
+use plinq_testing::{Asked, CHUNK, most_ahead};
 use std::alloc::Global;
 use std::sync::Wait;
 use std::sync::atomic::{AtomicU64, Ordering};
 use std::thread::Threads;
 
-/// How many keys workers may be ahead of what is merged, for each of them, in chunks of 512: 240 such chunks, of which each takes
-/// 512 times 8 bytes and 256 more, fill 1,048,576 bytes.
-const AHEAD: u64 = 122_880;
-
-const CHUNK: u64 = 512;
-
-/// How many items leave at most: those up to the chunk with the one that decides, those that so many workers may be ahead of it,
-/// and a chunk more of each.
+/// How many items leave at most: those up to the chunk with the one that decides, and those that so many workers may be ahead of
+/// it.
 fn most(workers: u64) -> u64 {
-    let each = AHEAD.saturating_add(CHUNK);
-    CHUNK.saturating_add(workers.saturating_mul(each))
+    CHUNK.saturating_add(most_ahead(workers))
 }
 
 fn query_above(alloc: Global, workers: u64) -> Built<Formula> {

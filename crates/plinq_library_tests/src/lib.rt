@@ -13,6 +13,6 @@ mod chains;
 #[cfg(test)]
 mod early_ends;
 #[cfg(test)]
-mod numbers;
+mod ordered_queries;
 #[cfg(test)]
 mod refused_room;

@@ -6,22 +6,11 @@ use plinq_lambda::Formula;
 use plinq_ops::{MergeOption, Op};
 use plinq_run::aggregate;
 use plinq_source::RangeSource;
-use plinq_testing::{Counts, HoldsTheFirst, Passed, ordered};
+use plinq_testing::{CHUNK, Counts, HoldsTheFirst, Passed, most_ahead, ordered};
 use std::alloc::Global;
 use std::sync::Wait;
 use std::test::*;
 use std::thread::Threads;
-
-/// How many keys workers may be ahead of what is merged, for each of them, in chunks of 512: 240 such chunks, of which each takes
-/// 512 times 8 bytes and 256 more, fill 1,048,576 bytes.
-const AHEAD: u64 = 122_880;
-
-const CHUNK: u64 = 512;
-
-/// How many keys so many workers may be ahead, each of which may take a chunk more.
-fn most_ahead(workers: u64) -> u64 {
-    workers.saturating_mul(AHEAD.saturating_add(CHUNK))
-}
 
 /// A gate that holds key 0 back until a worker has taken a later one than it may, or for a long time.
 fn holding_back(passed: &Passed, workers: u64) -> Counts<'_, HoldsTheFirst<'_>> {

@@ -5,8 +5,8 @@
 //! - Gates: [`KeepsBack`] and [`HoldsTheFirst`] keep workers back, and [`Counts`] counts those that go on to another gate ([`Passed`]).
 //! - Sources around another one: [`Asked`] counts how often that is asked, [`KeepsInside`] keeps inside who asks for one of its
 //!   numbers ([`Inside`]).
-//! - Queries ([`unchanged`], [`ordered`], [`query_of`]), ways to wait for other threads ([`waits_for`], [`lingers`]), and the text of
-//!   a fault ([`says`]).
+//! - Queries ([`unchanged`], [`ordered`], [`query_of`]), ways to wait for other threads ([`waits_for`], [`lingers`]), how far
+//!   workers may run ahead ([`most_ahead`]), and the text of a fault ([`says`]).
 //!
 //! What one test alone needs stands with that test.
 #![tactic(auto)]
@@ -23,6 +23,7 @@ mod taken;
 mod texts;
 mod waiting;
 mod watched;
+mod windows;
 
 pub use asked::Asked;
 pub use counted::Counted;
@@ -36,3 +37,4 @@ pub use taken::Taken;
 pub use texts::says;
 pub use waiting::{lingers, waits_for};
 pub use watched::{Seen, Watched};
+pub use windows::{CHUNK, most_ahead};
