@@ -2,7 +2,8 @@ ghost use Rattle.std.specs.Prelude.{◌≡◌, false, map, option_and_then, IfOk
 ghost use Rattle.std.specs.String.{string_bytes};
 ghost use Rattle.clap.specs.Words.{app_of, found_of, kind_of, rows_of, rule_of, subcommand_rows_of};
 ghost use Rattle.plinq_words.specs.Tables.{beside};
-ghost use Rattle.plinq_arguments.specs.Arguments.{AddsItsShape, IsAsked, IsPlinq, Refuses, arguments_in, bare_app, cancel_of, cancel_rule, command_names, merge_of, merge_rule, run_app, subcommand_app, with_command, workers_of, workers_rule};
+ghost use Rattle.plinq_arguments.specs.Arguments.{AddsItsShape, IsAsked, IsPlinq, Refuses, arguments_in, bare_app, cancel_of, cancel_rule};
+ghost use Rattle.plinq_arguments.specs.Arguments.{command_names, merge_of, merge_rule, run_app, subcommand_app, with_command, workers_of, workers_rule};
 
 use crate::arguments::Arguments;
 use crate::command::Command;
@@ -183,7 +184,7 @@ fn subcommand<'a>(
         .arg(merge_option(alloc, merge_words))
 }
 
-/// `--workers`, which a subcommand has for itself.
+/// `--workers`, which the command has of its own and hands on to none.
 fn workers_option<'a>(alloc: Global) -> Arg<'a>
     ensures rule { rule_of result ≡ workers_rule }
     ensures own { result.global ≡ false }
@@ -195,7 +196,7 @@ fn workers_option<'a>(alloc: Global) -> Arg<'a>
         .value_parser(ValueParser::unsigned(1, 64))
 }
 
-/// `--merge`, of which the words are these.
+/// `--merge`, which takes one of these words.
 fn merge_option<'a>(alloc: Global, words: ValueParser<'a>) -> Arg<'a>
     ensures rule { rule_of result ≡ merge_rule words.entry }
     ensures own { result.global ≡ false }

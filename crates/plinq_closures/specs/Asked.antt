@@ -30,7 +30,7 @@ HasNone workers (Build fault) = CantBuild workers fault
 HasNone workers (Ended e) = ⊥
 HasNone workers (Run fault) = IsShort fault
 
--- this is told of the items of this answer, which ended well; or how it ended, which isn't well; or why there is none
+-- this is made of the items of this answer, which ended well; or how it ended, which isn't well; or why there is none
 abbrev pub Tells : {T O : Type 0} → ℕ → (List T → O) → Trace T → Result O ChainFault → Type 0
 Tells workers tell u (Ok out) = (out ≡ tell u.items) × (u.ending ≡ Some End)
 Tells workers tell u (Err (Ended e)) = (u.ending ≡ Some e) × (e ≢ End)

@@ -1,4 +1,4 @@
--- What is told of a query's answer: its items with the ending, or what a function makes of them.
+-- What is asked of a query's answer: its items with the ending, or what a function makes of them.
 use Rattle.std.specs.Prelude.{◌≡◌, ◌≢◌, ⊤, List, [], ◌∷◌, ◌++◌, Some, Bool, not, Result, Ok, Err}
 use Rattle.plinq_source.specs.declared.ending.Ending.{Ending}
 use Rattle.plinq_source.specs.declared.ending.Ending.TheVariants.{End}
@@ -33,7 +33,7 @@ pub record GathersSome {T : Type 0} (option : MergeOption) (IsAnswer : Trace T �
 abbrev pub IsShort : RunFault → Type 0
 IsShort fault = cause_of fault ≡ Other
 
--- this is told of the items of some answer, which ended well; or how some answer ended, which isn't well; or why there is none
+-- this is made of the items of some answer, which ended well; or how some answer ended, which isn't well; or why there is none
 abbrev pub TellsSome : {T O : Type 0} → (List T → O) → (Trace T → Type 0) → Result O AggregateFault → Type 0
 TellsSome {T} tell IsAnswer (Ok out) = (u : Trace T) × (IsAnswer u) × (out ≡ tell u.items) × (u.ending ≡ Some End)
 TellsSome {T} tell IsAnswer (Err (Ended e)) = (u : Trace T) × (IsAnswer u) × (u.ending ≡ Some e) × (e ≢ End)

@@ -1,4 +1,4 @@
-//! What is told of a query's answer.
+//! What is asked of a query's answer.
 ghost use Rattle.std.specs.Prelude.{◌≡◌, pos, [], ◌∷◌, ◌++◌};
 ghost use Rattle.plinq_ops.specs.declared.op.Op.{Op};
 ghost use Rattle.plinq_ops.specs.Answer.{MayAnswer};

@@ -1,4 +1,4 @@
-//! What the caller's thread does among its workers: it starts them, passes what they send to a consumer, and joins them.
+//! The run of a crew in a scope of threads, and what comes back of it.
 ghost use Rattle.std.specs.Prelude.{◌≡◌};
 ghost use Rattle.plinq_crew.specs.Equipped.{IsReady};
 ghost use Rattle.plinq_crew.specs.Conducting.{Conducts};

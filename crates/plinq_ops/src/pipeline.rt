@@ -179,6 +179,7 @@ impl<'a, L: Lambda> Pipeline<'a, L> {
             out.old.items out.new.items
             (stages L.meaning self.new)) }
     {
+        // (by `?` the contract of the call is at hand for both ways out)
         let ended = feeding::feed_end(alloc, self.remaining.as_mut_slice(), 0, ending, out)?;
         Ok(ended)
     }
@@ -202,6 +203,7 @@ impl<'a, L: Lambda> Pipeline<'a, L> {
             [] block.new.items
             (stages L.meaning self.new)) }
     {
+        // (as above)
         let ended = feeding::feed_block(alloc, self.remaining.as_mut_slice(), 0, block, ending)?;
         Ok(ended)
     }

@@ -13,6 +13,7 @@ pub(crate) trait RunTypes {
     type Gate: Gate;
 }
 
+/// Those of a lambda, a source and a gate.
 impl<L: SharedLambda, S: Source<Item = L::Item>, G: Gate> RunTypes for (L, S, G) {
     type Item = L::Item;
 
