@@ -10,14 +10,14 @@ pub record Folding (T A O : Type 0) : Type 0 where
   pub tell : A → O
 
 -- the accumulator of these items: from the seed through all of them, first to last
-abbrev pub folded : {T A O : Type 0} → Folding T A O → List T → A
-folded f xs = fold f.update f.seed xs
+abbrev pub fold_of : {T A O : Type 0} → Folding T A O → List T → A
+fold_of f xs = fold f.update f.seed xs
 
 -- what is told of these items: the aggregate on one thread
-abbrev pub aggregated : {T A O : Type 0} → Folding T A O → List T → O
-aggregated f xs = f.tell (folded f xs)
+abbrev pub aggregate_value : {T A O : Type 0} → Folding T A O → List T → O
+aggregate_value f xs = f.tell (fold_of f xs)
 
 -- accumulators of parts, combined in order, are the accumulator of the whole, and the seed adds nothing to one
 pub record IsFolding {T A O : Type 0} (f : Folding T A O) : Type 0 where
-  pub joins : (xs ys : List T) → f.combine (folded f xs) (folded f ys) ≡ folded f (xs ++ ys)
-  pub neutral : (xs : List T) → f.combine f.seed (folded f xs) ≡ folded f xs
+  pub joins : (xs ys : List T) → f.combine (fold_of f xs) (fold_of f ys) ≡ fold_of f (xs ++ ys)
+  pub neutral : (xs : List T) → f.combine f.seed (fold_of f xs) ≡ fold_of f xs

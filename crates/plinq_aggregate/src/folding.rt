@@ -1,5 +1,5 @@
 ghost use Rattle.std.specs.Prelude.{◌≡◌};
-ghost use Rattle.plinq_aggregate.specs.Folding.{aggregated};
+ghost use Rattle.plinq_aggregate.specs.Folding.{aggregate_value};
 
 use crate::aggregator::Aggregator;
 
@@ -10,7 +10,7 @@ use crate::aggregator::Aggregator;
 /// fold_sequential(&Min, &[])          // None
 /// ```
 pub fn fold_sequential<A: Aggregator>(aggregator: &A, items: &[A::Item]) -> A::Out
-    ensures { result ≡ aggregated (A.folding aggregator.now) items.now }
+    ensures { result ≡ aggregate_value (A.folding aggregator.now) items.now }
 {
     aggregator.result(aggregator.update_block(aggregator.seed(), items))
 }

@@ -4,7 +4,7 @@ use Rattle.std.specs.List.{fold}
 use Rattle.std.specs.Int.{w64, cast_unsigned}
 use Rattle.std.proofs.Common.{sym, ◌∙◌, ap, arith, add-zero}
 use Rattle.std.proofs.Math.Nat.{add-mod-mod, mod-add-mod}
-use Rattle.plinq_aggregate.specs.Folding.{Folding, folded, IsFolding}
+use Rattle.plinq_aggregate.specs.Folding.{Folding, fold_of, IsFolding}
 
 abbrev pub totalling : Folding ℤ ℕ ℕ
 totalling = record { seed = 0; update = λ sum x. (sum + cast_unsigned w64 x) % 2 ^ 64; combine = λ a b. (a + b) % 2 ^ 64; tell = λ sum. sum }
@@ -25,17 +25,17 @@ total-from n (x ∷ xs) =
     ∙ total-from (n + cast_unsigned w64 x) xs
     ∙ ap (λ m. m % 2 ^ 64) (omega arith)
 
-folded-total : (xs : List ℤ) → folded totalling xs ≡ total xs % 2 ^ 64
-folded-total xs = total-from 0 xs ∙ ap (λ m. m % 2 ^ 64) (omega arith)
+fold_of-total : (xs : List ℤ) → fold_of totalling xs ≡ total xs % 2 ^ 64
+fold_of-total xs = total-from 0 xs ∙ ap (λ m. m % 2 ^ 64) (omega arith)
 
-totals-join : (xs ys : List ℤ) → (folded totalling xs + folded totalling ys) % 2 ^ 64 ≡ folded totalling (xs ++ ys)
+totals-join : (xs ys : List ℤ) → (fold_of totalling xs + fold_of totalling ys) % 2 ^ 64 ≡ fold_of totalling (xs ++ ys)
 totals-join xs ys =
-    ap (λ m. (m + folded totalling ys) % 2 ^ 64) (folded-total xs)
-    ∙ ap (λ m. (total xs % 2 ^ 64 + m) % 2 ^ 64) (folded-total ys)
+    ap (λ m. (m + fold_of totalling ys) % 2 ^ 64) (fold_of-total xs)
+    ∙ ap (λ m. (total xs % 2 ^ 64 + m) % 2 ^ 64) (fold_of-total ys)
     ∙ mod-add-mod (total xs) (2 ^ 64) (total ys % 2 ^ 64)
     ∙ add-mod-mod (total xs) (total ys) (2 ^ 64)
     ∙ ap (λ m. m % 2 ^ 64) (sym (total-append xs ys))
-    ∙ sym (folded-total (xs ++ ys))
+    ∙ sym (fold_of-total (xs ++ ys))
 
 pub totalling-lawful : IsFolding totalling
 totalling-lawful = record { joins = totals-join; neutral = λ xs. totals-join [] xs }

@@ -21,16 +21,16 @@ turns (Late n) x = if not (n / 4 == 0) && (cast_unsigned w64 x % (n / 4) == n / 
 abbrev pub kept : ℕ → ℤ → Result ℤ ℕ
 kept n x = if int_eq (spin x n) (pos 12345) then Err 1 else Ok x
 
-abbrev pub mapped : Work → ℤ → Result ℤ ℕ
-mapped (Plain f) x = (formula_meaning f).map x
-mapped (Spin cost) x = Ok (spin x (turns cost x))
-mapped (Keep n) x = kept n x
+abbrev pub work_element : Work → ℤ → Result ℤ ℕ
+work_element (Plain f) x = (formula_meaning f).map x
+work_element (Spin cost) x = Ok (spin x (turns cost x))
+work_element (Keep n) x = kept n x
 
-abbrev pub tested : Work → ℤ → Result Bool ℕ
-tested (Plain f) x = (formula_meaning f).test x
-tested (Spin cost) x = Ok true
-tested (Keep n) x = Ok true
+abbrev pub work_answer : Work → ℤ → Result Bool ℕ
+work_answer (Plain f) x = (formula_meaning f).test x
+work_answer (Spin cost) x = Ok true
+work_answer (Keep n) x = Ok true
 
 -- no workload expands
 abbrev pub work_meaning : Work → Meaning ℤ
-work_meaning work = record { map = mapped work; test = tested work; expand = λ x. Err 1 }
+work_meaning work = record { map = work_element work; test = work_answer work; expand = λ x. Err 1 }

@@ -1,5 +1,5 @@
 ghost use Rattle.std.specs.Prelude.{◌≡◌};
-ghost use Rattle.plinq_bench.specs.Works.{turns, kept, mapped, tested, work_meaning};
+ghost use Rattle.plinq_bench.specs.Works.{turns, kept, work_element, work_answer, work_meaning};
 
 use crate::item_work::ItemWork;
 use crate::spinning::spin;
@@ -76,7 +76,7 @@ impl Lambda for Work {
 
 #[inline(always)]
 pub(crate) fn map_one(work: Work, x: i64) -> Result<i64, u32>
-    ensures { result ≡ mapped work x }
+    ensures { result ≡ work_element work x }
 {
     match work {
         Work::Plain(formula) => formula.map(x),
@@ -87,7 +87,7 @@ pub(crate) fn map_one(work: Work, x: i64) -> Result<i64, u32>
 
 #[inline(always)]
 pub(crate) fn test_one(work: Work, x: i64) -> Result<bool, u32>
-    ensures { result ≡ tested work x }
+    ensures { result ≡ work_answer work x }
 {
     match work {
         Work::Plain(formula) => formula.test(x),

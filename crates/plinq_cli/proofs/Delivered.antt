@@ -20,7 +20,7 @@ use Rattle.plinq_ops.specs.Query.{QueryView, merge_in_force}
 use Rattle.plinq_run.specs.declared.report.Report.{Report}
 use Rattle.plinq_run.specs.declared.run_fault.RunFault.{RunFault}
 use Rattle.plinq_run.specs.declared.run_fault.RunFault.TheVariants.{Memory as RunMemory, Sink, Tickets, Thread, Incomplete, Cancelled}
-use Rattle.plinq_run.specs.Endings.{reported}
+use Rattle.plinq_run.specs.Endings.{reported_ending}
 use Rattle.plinq_run.specs.Runs.{Runs, SinkRefused, cause_of}
 use Rattle.plinq_document.specs.Jobs.{JobView}
 use Rattle.plinq_lines.specs.declared.write_fault.WriteFault.{WriteFault}
@@ -53,7 +53,7 @@ pub record HasSome (ordered : Bool) (ops : List (Op Formula)) (option : MergeOpt
   pub runs : RunsOrStops option most answer s s' r
 
 some-answer : (ordered : Bool) (ops : List (Op Formula)) (option : MergeOption) (most : Option ℕ) (t : Trace ℤ) (s s' : Lines) (r : Result Report RunFault)
-    → Leaves TakesLine RefusesLine option (MayAnswer formula_meaning ordered ops) t most s s' r → HasSome ordered ops option most t s s' (reported r)
+    → Leaves TakesLine RefusesLine option (MayAnswer formula_meaning ordered ops) t most s s' r → HasSome ordered ops option most t s s' (reported_ending r)
 some-answer ordered ops option most t s s' (Ok report) (h, fewer) = record { answer = h.answer; may = h.may; runs = (h.has_run, fewer) }
 some-answer ordered ops option most t s s' (Err Cancelled) h = record { answer = h.answer; may = h.may; runs = (h.sent, h.rest, h.first, h.number, h.leads) }
 some-answer ordered ops option most t s s' (Err (Sink code)) h = record { answer = h.answer; may = h.may; runs = h.broken }
@@ -121,7 +121,7 @@ module _ (q : QueryView Formula) (t : Trace ℤ) (most : Option ℕ) (a b : Byte
   abbrev Told : Result Ending ServeFault → Type 0
   Told r = Delivers q t a b most r × (s'.writer ≡ s.writer)
 
-  tells : (written : Result ⊤ WriteFault) (r : Result Report RunFault) → HasSome q.ordered q.ops (merge_in_force q.merge) most t s s' (reported r) → Told (told_of written r)
+  tells : (written : Result ⊤ WriteFault) (r : Result Report RunFault) → HasSome q.ordered q.ops (merge_in_force q.merge) most t s s' (reported_ending r) → Told (told_of written r)
   tells (Ok all) (Ok report) h = ran-delivered q t most a b s s' start keeps report.ending h
   tells (Ok all) (Err fault) h = broken q t most a b s s' start keeps fault h
   tells (Err failed) (Ok report) h =

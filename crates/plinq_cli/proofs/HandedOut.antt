@@ -15,13 +15,13 @@ use Rattle.plinq_partition.specs.declared.chunked.Chunked.{Chunked}
 use Rattle.plinq_partition.specs.declared.partition.Partition.{Partition}
 use Rattle.plinq_partition.specs.Partitions.{Holding, IsPartitionOf, AreNew, AreMadeFrom, growth_of, holding_of, new_beside, all_shares}
 use Rattle.plinq_partition.specs.GivenBack.{common_origin}
-use Rattle.plinq_cli.specs.Rounds.{AreShares, EachUntilTail, IsOpen, IsDone, left_of, reached}
+use Rattle.plinq_cli.specs.Rounds.{AreShares, EachUntilTail, IsOpen, IsDone, left_of, end_of_requests}
 
 module _ {S T : Type 0} {source : Ghosts S T} where
   new-open : (chunked : Chunked S T source) (a : Holding T) (q : Partition S T source) → IsSourceEnding a.origin.ending → IsPartitionOf chunked q → holding_of q ≡ new_beside a → IsOpen chunked a.origin q
   new-open chunked a q ends of same =
       let none : (holding_of q).share ≡ [] = ap (λ (h : Holding T). h.share) same in
-      let start : reached 0 ((holding_of q).share) ≡ 0 = ap (reached 0) none in
+      let start : end_of_requests 0 ((holding_of q).share) ≡ 0 = ap (end_of_requests 0) none in
       record {
         ends = ends;
         of = of;

@@ -18,7 +18,7 @@ use Rattle.plinq_partition.specs.declared.partition.Partition.{Partition}
 use Rattle.plinq_partition.specs.Partitions.{IsPartitionOf, IsTaken, growth_of, holding_of}
 use Rattle.plinq_partition.specs.Shares.{keys_rise_from}
 use Rattle.plinq_partition.proofs.KeysRise.{keys_rise-of_partition}
-use Rattle.plinq_cli.specs.Rounds.{AsksOn, AsksUntilTail, IsOpen, IsDone, left_of, reached}
+use Rattle.plinq_cli.specs.Rounds.{AsksOn, AsksUntilTail, IsOpen, IsDone, left_of, end_of_requests}
 
 -- ---- requests
 
@@ -37,13 +37,13 @@ AsksUntilTail-last g i (x ∷ rs) r on asked tail =
 
 -- ---- places
 
-reached-last : (at : ℕ) (rs : List Record) (r : Record) → reached at (rs ++ r ∷ []) ≡ r.first + r.count
-reached-last at [] r = refl
-reached-last at (x ∷ rs) r = reached-last (x.first + x.count) rs r
+end_of_requests-last : (at : ℕ) (rs : List Record) (r : Record) → end_of_requests at (rs ++ r ∷ []) ≡ r.first + r.count
+end_of_requests-last at [] r = refl
+end_of_requests-last at (x ∷ rs) r = end_of_requests-last (x.first + x.count) rs r
 
-reached-below : (at : ℕ) (rs : List Record) (r : Record) → keys_rise_from at (rs ++ r ∷ []) ≡ true → reached at rs ≤ r.first
-reached-below at [] r rising = leb-true at r.first (and_parts (leb at r.first) _ rising).0
-reached-below at (x ∷ rs) r rising = reached-below (x.first + x.count) rs r (and_parts (leb at x.first) _ rising).1
+end_of_requests-below : (at : ℕ) (rs : List Record) (r : Record) → keys_rise_from at (rs ++ r ∷ []) ≡ true → end_of_requests at rs ≤ r.first
+end_of_requests-below at [] r rising = leb-true at r.first (and_parts (leb at r.first) _ rising).0
+end_of_requests-below at (x ∷ rs) r rising = end_of_requests-below (x.first + x.count) rs r (and_parts (leb at x.first) _ rising).1
 
 ending_tail-some : {G : Type 0} (e : Option Ending) → IsSourceEnding e → ending_tail e ≡ None → G
 ending_tail-some None ends none = absurd ends
@@ -75,8 +75,8 @@ module _ {S T : Type 0} {source : Ghosts S T} (chunked : Chunked S T source) (p 
   ends_within : taken.entry.first + taken.entry.count ≤ length (holding_of p).origin.items
   ends_within = let first = taken.of.first in let count = taken.counted in let within = taken.within in omega arith
 
-  reached_now : reached 0 (holding_of q).share ≡ taken.entry.first + taken.entry.count
-  reached_now = ap (reached 0) taken.adds.share ∙ reached-last 0 (holding_of p).share taken.entry
+  reached_now : end_of_requests 0 (holding_of q).share ≡ taken.entry.first + taken.entry.count
+  reached_now = ap (end_of_requests 0) taken.adds.share ∙ end_of_requests-last 0 (holding_of p).share taken.entry
 
   pub done-taken : IsSome chunk.tail → IsDone chunked (holding_of p).origin q
   done-taken tail = record {
@@ -96,7 +96,7 @@ module _ {S T : Type 0} {source : Ghosts S T} (chunked : Chunked S T source) (p 
       let count : entry.count ≡ length answer.items = ap (λ (r : Record). r.count) taken.adds.replied ∙ ap (λ e. length (reply t taken.adds.place e).items) asked in
       let some : 1 ≤ length answer.items = reply-some t taken.adds.place n taken.some unfinished.ends open_answer in
       let rising : keys_rise_from 0 ((holding_of p).share ++ entry ∷ []) ≡ true = ap (keys_rise_from 0) (sym taken.adds.share) ∙ keys_rise-of_partition chunked q of in
-      let below = reached-below 0 (holding_of p).share entry rising in
+      let below = end_of_requests-below 0 (holding_of p).share entry rising in
       let now = reached_now in
       let within = ends_within in
       let same : length (holding_of q).origin.items ≡ length t.items = ap (λ (u : Trace T). length u.items) taken.adds.origin in (

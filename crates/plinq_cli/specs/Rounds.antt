@@ -2,7 +2,7 @@
 use Rattle.std.specs.Prelude.{◌≡◌, ℕ, ◌+◌, ◌-◌, ◌≤◌, List, [], ◌∷◌, length, Option, Some, None, IsSome, ⊤, refl}
 use Rattle.std.specs.List.{flat_map}
 use Rattle.plinq_source.specs.declared.source.Source.{Ghosts}
-use Rattle.plinq_source.specs.Trace.{Trace, IsSourceEnding, ended}
+use Rattle.plinq_source.specs.Trace.{Trace, IsSourceEnding, ended_trace}
 use Rattle.plinq_source.specs.declared.ending.Ending.{Ending}
 use Rattle.plinq_source.specs.declared.ending.Ending.TheVariants.{End, Refused}
 use Rattle.plinq_keyed.specs.declared.event.Event.TheVariants.{Ask}
@@ -57,9 +57,9 @@ told_ending [] = None
 told_ending (r ∷ rs) = tail_ending r.tail (told_ending rs)
 
 -- where the last of some requests ended, the first of which began at a place
-abbrev pub reached : ℕ → List Record → ℕ
-reached at [] = at
-reached at (r ∷ rs) = reached (r.first + r.count) rs
+abbrev pub end_of_requests : ℕ → List Record → ℕ
+end_of_requests at [] = at
+end_of_requests at (r ∷ rs) = end_of_requests (r.first + r.count) rs
 
 module _ {S T : Type 0} {source : Ghosts S T} where
   -- a partition that has had no tail yet
@@ -69,7 +69,7 @@ module _ {S T : Type 0} {source : Ghosts S T} where
     pub origin : (holding_of p).origin ≡ t
     pub asks : AsksOn (growth_of chunked) 0 (holding_of p).share
     pub requests : (holding_of p).requests ≡ length (holding_of p).share
-    pub within : reached 0 (holding_of p).share ≤ length t.items
+    pub within : end_of_requests 0 (holding_of p).share ≤ length t.items
 
   -- one that has had a tail, and took no more
   pub record IsDone (chunked : Chunked S T source) (t : Trace T) (p : Partition S T source) : Type 0 where
@@ -79,7 +79,7 @@ module _ {S T : Type 0} {source : Ghosts S T} where
 
   -- how many items are left after those that the partition was given last
   abbrev pub left_of : Partition S T source → ℕ
-  left_of p = length (holding_of p).origin.items - reached 0 (holding_of p).share
+  left_of p = length (holding_of p).origin.items - end_of_requests 0 (holding_of p).share
 
 -- ---- worked rows
 
@@ -99,7 +99,7 @@ two_partitions = for_one 0 0 1 None ∷ for_one 1 1 1 None ∷ for_one 2 2 0 (So
 abbrev by_threes : GrowthRule
 by_threes = record { first = 1; repeat = 3; max = 512 }
 
-pub row_of_two : IsHistory {T = ℕ} 2 by_threes (ended (10 ∷ 20 ∷ []) End) two_partitions
+pub row_of_two : IsHistory {T = ℕ} 2 by_threes (ended_trace (10 ∷ 20 ∷ []) End) two_partitions
 row_of_two = record {
   left = record {
     shares = (for_one 0 0 1 None ∷ for_one 2 2 0 (Some Ended) ∷ []) ∷ (for_one 1 1 1 None ∷ for_one 3 2 0 (Some Ended) ∷ []) ∷ [];

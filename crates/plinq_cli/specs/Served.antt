@@ -6,7 +6,7 @@ use Rattle.std.specs.List.{flat_map}
 use Rattle.std.specs.Io.KnownBytes.{Appends, Keeps}
 use Rattle.plinq_source.specs.declared.ending.Ending.{Ending}
 use Rattle.plinq_source.specs.declared.ending.Ending.TheVariants.{End}
-use Rattle.plinq_source.specs.Trace.{Trace, ended}
+use Rattle.plinq_source.specs.Trace.{Trace, ended_trace}
 use Rattle.plinq_lambda.specs.Formula.{formula_meaning}
 use Rattle.plinq_lambda.specs.declared.formula.Formula.{Formula}
 use Rattle.plinq_lambda.specs.declared.formula.Formula.TheVariants.{Add}
@@ -48,7 +48,7 @@ batch_lines merge u = flat_map batch_line (batches (merge_in_force merge) u)
 abbrev pub IsAnswer : Command → JobView → Trace ℤ → Type 0
 IsAnswer Run job u = MayAnswer formula_meaning job.query.ordered job.query.ops job.source u
 IsAnswer Seq job u = u ≡ sequential_answer job
-IsAnswer Plan job u = u ≡ ended [] End
+IsAnswer Plan job u = u ≡ ended_trace [] End
 IsAnswer Parts job u = u ≡ job.source
 IsAnswer History job u = u ≡ job.source
 
@@ -140,13 +140,13 @@ LeavesWholeLines job old new (Err (Take fault)) = ⊤
 abbrev pub add_one : JobView
 add_one = record {
   query = record { ops = Select (Add (pos 1)) ∷ []; ordered = true; merge = Some NotBuffered; degree = None };
-  source = ended (pos 3 ∷ pos 1 ∷ pos 4 ∷ []) End;
+  source = ended_trace (pos 3 ∷ pos 1 ∷ pos 4 ∷ []) End;
   growth = record { first = 1; repeat = 3; max = 512 };
   aggregate = None;
   cancel_after = None;
 }
 
-pub add_one_is_answered : sequential_answer add_one ≡ ended (pos 4 ∷ pos 2 ∷ pos 5 ∷ []) End
+pub add_one_is_answered : sequential_answer add_one ≡ ended_trace (pos 4 ∷ pos 2 ∷ pos 5 ∷ []) End
 add_one_is_answered = refl
 
 pub add_one_is_printed : IsText Run add_one (sequential_answer add_one) (codes "4\n2\n5\nend\n")
@@ -158,9 +158,9 @@ pub sum_is_not_cancelled : (most : Option ℕ) (old new : Option (List ℕ)) →
 sum_is_not_cancelled most old new h = let bad : Stopped ≡ Other = h.0 in cc
 
 -- without `as_ordered` two numbers may change places
-pub two_exchanged : MayAnswer formula_meaning false [] (ended (pos 1 ∷ pos 2 ∷ []) End) (ended (pos 2 ∷ pos 1 ∷ []) End)
+pub two_exchanged : MayAnswer formula_meaning false [] (ended_trace (pos 1 ∷ pos 2 ∷ []) End) (ended_trace (pos 2 ∷ pos 1 ∷ []) End)
 two_exchanged = record {
-  between = ended (pos 2 ∷ pos 1 ∷ []) End;
+  between = ended_trace (pos 2 ∷ pos 1 ∷ []) End;
   given = record { items = record { moves = (0, 1) ∷ []; below = (omega arith, omega arith, tt); is = refl }; ending = refl };
   goes_on = refl;
 }

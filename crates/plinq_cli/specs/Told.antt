@@ -2,10 +2,10 @@
 use Rattle.std.specs.Prelude.{◌≡◌, ◌≢◌, ℕ, ℤ, pos, negsuc, List, [], ◌∷◌, Option, Some, None, Result, Ok, Err, codes, refl}
 use Rattle.std.specs.Int.{int_wrap, int_min, int_max}
 use Rattle.std.specs.Fmt.{digits}
-use Rattle.plinq_source.specs.Trace.{Trace, ended}
+use Rattle.plinq_source.specs.Trace.{Trace, ended_trace}
 use Rattle.plinq_source.specs.declared.ending.Ending.{Ending}
 use Rattle.plinq_source.specs.declared.ending.Ending.TheVariants.{End, Refused}
-use Rattle.plinq_aggregate.specs.Folding.{aggregated}
+use Rattle.plinq_aggregate.specs.Folding.{aggregate_value}
 use Rattle.plinq_aggregate.specs.Numbers.{summing, counting, picking}
 use Rattle.plinq_run.specs.declared.aggregate_fault.AggregateFault.{AggregateFault}
 use Rattle.plinq_run.specs.declared.aggregate_fault.AggregateFault.TheVariants.{Ended, Run}
@@ -19,10 +19,10 @@ use Rattle.plinq_lines.specs.AggregateText.{aggregate_text}
 
 -- the value of an aggregate of these items, if they have one
 abbrev pub kind_value : Kind → List ℤ → Option ℤ
-kind_value Sum xs = Some (aggregated summing xs)
-kind_value Count xs = Some (pos (aggregated counting xs))
-kind_value Min xs = aggregated (picking int_min) xs
-kind_value Max xs = aggregated (picking int_max) xs
+kind_value Sum xs = Some (aggregate_value summing xs)
+kind_value Count xs = Some (pos (aggregate_value counting xs))
+kind_value Min xs = aggregate_value (picking int_min) xs
+kind_value Max xs = aggregate_value (picking int_max) xs
 
 -- the lines of an answer: its batches, or where an aggregate is asked for its value, and then its ending
 abbrev pub told_text : Option Kind → MergeOption → Trace ℤ → List ℕ
@@ -41,21 +41,21 @@ TellsValue value Is (Err (Run fault)) = cause_of fault ≡ Other
 
 -- ---- worked rows
 
-pub least_twice : told_text (Some Sum) NotBuffered (ended (negsuc 9223372036854775807 ∷ negsuc 9223372036854775807 ∷ []) End) ≡ codes "-18446744073709551616\nend\n"
+pub least_twice : told_text (Some Sum) NotBuffered (ended_trace (negsuc 9223372036854775807 ∷ negsuc 9223372036854775807 ∷ []) End) ≡ codes "-18446744073709551616\nend\n"
 unfolding digits int_wrap
 least_twice = refl
 
-pub five_are_counted : told_text (Some Count) NotBuffered (ended (pos 2 ∷ pos 4 ∷ pos 6 ∷ pos 8 ∷ pos 10 ∷ []) End) ≡ codes "5\nend\n"
+pub five_are_counted : told_text (Some Count) NotBuffered (ended_trace (pos 2 ∷ pos 4 ∷ pos 6 ∷ pos 8 ∷ pos 10 ∷ []) End) ≡ codes "5\nend\n"
 unfolding digits
 five_are_counted = refl
 
-pub none_has_no_least : told_text (Some Min) NotBuffered (ended [] End) ≡ codes "none\nend\n"
+pub none_has_no_least : told_text (Some Min) NotBuffered (ended_trace [] End) ≡ codes "none\nend\n"
 none_has_no_least = refl
 
-pub greatest_of_three : told_text (Some Max) NotBuffered (ended (pos 3 ∷ pos 9 ∷ pos 4 ∷ []) End) ≡ codes "9\nend\n"
+pub greatest_of_three : told_text (Some Max) NotBuffered (ended_trace (pos 3 ∷ pos 9 ∷ pos 4 ∷ []) End) ≡ codes "9\nend\n"
 unfolding digits
 greatest_of_three = refl
 
-pub no_sum_before_a_refusal : told_text (Some Sum) NotBuffered (ended (pos 1 ∷ pos 2 ∷ []) (Refused 7)) ≡ codes "refused 7\n"
+pub no_sum_before_a_refusal : told_text (Some Sum) NotBuffered (ended_trace (pos 1 ∷ pos 2 ∷ []) (Refused 7)) ≡ codes "refused 7\n"
 unfolding digits
 no_sum_before_a_refusal = refl

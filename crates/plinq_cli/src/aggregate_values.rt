@@ -1,5 +1,5 @@
 ghost use Rattle.std.specs.Prelude.{◌≡◌, IfOk};
-ghost use Rattle.plinq_aggregate.specs.Folding.{aggregated};
+ghost use Rattle.plinq_aggregate.specs.Folding.{aggregate_value};
 ghost use Rattle.plinq_lambda.specs.Formula.{formula_meaning};
 ghost use Rattle.plinq_ops.specs.Answer.{MayAnswer};
 ghost use Rattle.plinq_ops.specs.Sequential.{answer_of};
@@ -54,7 +54,7 @@ fn by_one<A: Aggregator<Item = i64>>(
     aggregator: &A,
 ) -> Result<(A::Out, Ending), OutOfMemory>
     requires unasked { ⟦<AnySource as Source>⟧.given source.old ≡ 0 }
-    ensures { IfOk result (IsValueOf (aggregated (A.folding aggregator.now))
+    ensures { IfOk result (IsValueOf (aggregate_value (A.folding aggregator.now))
         (answer_of formula_meaning query.now.ops (⟦<AnySource as Source>⟧.whole source.old))) }
 {
     let Combined { acc, ending } = fold_sequentially(alloc, query, source, aggregator)?;

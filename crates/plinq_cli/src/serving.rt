@@ -1,7 +1,7 @@
 ghost use Rattle.std.specs.Prelude.{◌≡◌, ◌≤◌, Some, None, IfOk, IfErr};
 ghost use Rattle.plinq_keyed.specs.Keys.{keyed_from, element_lists};
 ghost use Rattle.plinq_partition.specs.Cuts.{cuts};
-ghost use Rattle.plinq_source.specs.Trace.{ended};
+ghost use Rattle.plinq_source.specs.Trace.{ended_trace};
 ghost use Rattle.plinq_cli.specs.ServeFaults.{MayFail, told_of, told_of_one};
 ghost use Rattle.plinq_cli.specs.Served.{Delivers, LeavesWholeLines, Serves};
 ghost use Rattle.plinq_cli.specs.inner.Answering.{HasWrittenAnswer};
@@ -325,7 +325,7 @@ fn serve_history<W: Write>(alloc: Global, job: Job, writer: &mut W) -> Result<En
 /// All items of a source, and how it ends: the answer of a query with no operator.
 fn all_of(alloc: Global, source: &mut AnySource) -> Result<(Vec<i64>, Ending), OutOfMemory>
     requires { ⟦<AnySource as Source>⟧.given source.old ≡ 0 }
-    ensures { IfOk result (λ r. ended r.0.items r.1 ≡ ⟦<AnySource as Source>⟧.whole source.old) }
+    ensures { IfOk result (λ r. ended_trace r.0.items r.1 ≡ ⟦<AnySource as Source>⟧.whole source.old) }
 {
     let query: Query<Formula> = Query::new(alloc);
     sequential(alloc, &query, source)

@@ -3,7 +3,7 @@ use Rattle.std.specs.Prelude.{◌≡◌, ⊤, ℕ, ℤ, List, [], ◌∷◌, ◌
 use Rattle.std.proofs.Common.{refl, ap, ◌∙◌, sym, subst}
 use Rattle.std.proofs.lemmas.List.{map-append}
 use Rattle.plinq_source.specs.declared.ending.Ending.{Ending}
-use Rattle.plinq_source.specs.Trace.{Trace, ended}
+use Rattle.plinq_source.specs.Trace.{Trace, ended_trace}
 use Rattle.plinq_lambda.specs.Meaning.{Meaning}
 use Rattle.plinq_ops.specs.declared.merge_option.MergeOption.{MergeOption}
 use Rattle.plinq_ops.specs.declared.merge_option.MergeOption.TheVariants.{AutoBuffered}
@@ -111,8 +111,8 @@ called-answer {workers = workers} Step f ordered is merge none ops does same t b
 
 -- on one thread
 pub vec-sequentially : {L T V : Type 0} (workers : ℕ) (f : L → Meaning T) (ops : List (Op L)) (does : List (Op (Meaning T))) → map (over f) ops ≡ does → (t : Trace T) (items : V → List T) (r : Result (V × Ending) RunFault)
-    → MatchResult r (λ it. ended (items it.0) it.1 ≡ answer_of f ops t) (λ fault. fault ≡ Memory)
-    → MatchResult (chain_outcome r) (λ it. ended (items it.0) it.1 ≡ answer_of (λ m. m) does t) (HasNone workers)
+    → MatchResult r (λ it. ended_trace (items it.0) it.1 ≡ answer_of f ops t) (λ fault. fault ≡ Memory)
+    → MatchResult (chain_outcome r) (λ it. ended_trace (items it.0) it.1 ≡ answer_of (λ m. m) does t) (HasNone workers)
 vec-sequentially workers f ops does same t items (Ok it) h = h ∙ only-answer f true refl ops does same t (answer_of f ops t) refl
 vec-sequentially workers f ops does same t items (Err fault) short = ap cause_of short
 

@@ -7,7 +7,7 @@ use Rattle.plinq_ops.specs.declared.op.Op.{Op}
 use Rattle.plinq_ops.specs.declared.op.Op.TheVariants.{Select}
 use Rattle.plinq_closures.specs.inner.Only.{HasOne, answer_in, given-answer}
 use Rattle.plinq_closures.specs.Functions.{maps, tests}
-use Rattle.plinq_closures.specs.Steps.{over, kind_at, down, here_or, GivesSome, GivesOne, IsNothing, Agrees, DoesThen, ComesTo}
+use Rattle.plinq_closures.specs.Steps.{over, kind_at, steps_below, here_or, GivesSome, GivesOne, IsNothing, Agrees, DoesThen, ComesTo}
 
 -- a step that doesn't do this answers its fault
 pub nothing_given : {T R : Type 0} (x : T) → (r : Result R ℕ) × IsNothing r
@@ -26,16 +26,16 @@ module _ {T R : Type 0} (Here : T → R → Type 0) (Before : ℕ → T → R �
   one_then here before (suc n) x r q a b = before n x r q a b
 
 -- the operators of one step more
-down-then : {M : Type 0} (kind : Op ⊤) (kinds : List (Op ⊤)) (m : ℕ → M) (n : ℕ)
-    → down (kind ∷ kinds) m (suc n) ≡ down kinds (λ at. m (suc at)) n ++ over (λ _. m 0) kind ∷ []
-down-then kind kinds m zero = refl
-down-then kind kinds m (suc n) = ap (λ ops. over (λ _. m (suc n)) (kind_at kinds n) ∷ ops) (down-then kind kinds m n)
+steps_below-then : {M : Type 0} (kind : Op ⊤) (kinds : List (Op ⊤)) (m : ℕ → M) (n : ℕ)
+    → steps_below (kind ∷ kinds) m (suc n) ≡ steps_below kinds (λ at. m (suc at)) n ++ over (λ _. m 0) kind ∷ []
+steps_below-then kind kinds m zero = refl
+steps_below-then kind kinds m (suc n) = ap (λ ops. over (λ _. m (suc n)) (kind_at kinds n) ∷ ops) (steps_below-then kind kinds m n)
 
 -- so where the last step does this, the chain does what it did before and then this
 comes_to-then : {T : Type 0} (kind : Op ⊤) (kinds : List (Op ⊤)) (m : ℕ → Meaning T) (before : List (Op (Meaning T))) (f : Meaning T)
-    → down kinds (λ at. m (suc at)) (length kinds) ≡ before → m 0 ≡ f → down (kind ∷ kinds) m (length (kind ∷ kinds)) ≡ before ++ over (λ _. f) kind ∷ []
+    → steps_below kinds (λ at. m (suc at)) (length kinds) ≡ before → m 0 ≡ f → steps_below (kind ∷ kinds) m (length (kind ∷ kinds)) ≡ before ++ over (λ _. f) kind ∷ []
 comes_to-then kind kinds m before f was is =
-    down-then kind kinds m (length kinds)
+    steps_below-then kind kinds m (length kinds)
     ∙ (ap (λ ops. ops ++ over (λ _. m 0) kind ∷ []) was ∙ ap (λ g. before ++ over (λ _. g) kind ∷ []) is)
 
 -- three functions that are equal item by item
@@ -72,7 +72,7 @@ module _ {T : Type 0} (kinds : List (Op ⊤)) (Maps : ℕ → T → Result T ℕ
       ∙ sym does.all
 
 -- no step does nothing
-pub no_steps : {T : Type 0} (m : ℕ → Meaning T) (ops : List (Op (Meaning T))) → ops ≡ [] → down [] m 0 ≡ ops
+pub no_steps : {T : Type 0} (m : ℕ → Meaning T) (ops : List (Op (Meaning T))) → ops ≡ [] → steps_below [] m 0 ≡ ops
 no_steps m ops none = sym none
 
 -- a step whose closure has one answer to each item does what each function does that it may give

@@ -22,9 +22,9 @@ kind_at (kind ∷ kinds) zero = kind
 kind_at (kind ∷ kinds) (suc n) = kind_at kinds n
 
 -- the operators of the steps below this number, the first of them first
-abbrev pub down : {M : Type 0} → List (Op ⊤) → (ℕ → M) → ℕ → List (Op M)
-down kinds m zero = []
-down kinds m (suc n) = over (λ _. m n) (kind_at kinds n) ∷ down kinds m n
+abbrev pub steps_below : {M : Type 0} → List (Op ⊤) → (ℕ → M) → ℕ → List (Op M)
+steps_below kinds m zero = []
+steps_below kinds m (suc n) = over (λ _. m n) (kind_at kinds n) ∷ steps_below kinds m n
 
 -- one thing at the last step, another at those before it
 abbrev pub here_or : Type 0 → (ℕ → Type 0) → ℕ → Type 0
@@ -64,4 +64,4 @@ pub record DoesThen {T R : Type 0} (Before : List (Op (Meaning T)) → Type 0) (
 -- what steps do are these operators, where each step does what its closure may give
 abbrev pub ComesTo : {T : Type 0} → List (Op ⊤) → (ℕ → T → Result T ℕ → Type 0) → (ℕ → T → Result Bool ℕ → Type 0) → (List (Op (Meaning T)) → Type 0) → Type 0
 ComesTo {T} kinds Maps Tests Does =
-    (m : ℕ → Meaning T) → Agrees Maps Tests m → (ops : List (Op (Meaning T))) → Does ops → down kinds m (length kinds) ≡ ops
+    (m : ℕ → Meaning T) → Agrees Maps Tests m → (ops : List (Op (Meaning T))) → Does ops → steps_below kinds m (length kinds) ≡ ops

@@ -3,7 +3,7 @@ ghost use Rattle.std.specs.Prelude.{◌≡◌, pos, [], ◌∷◌, ◌++◌, Mat
 ghost use Rattle.plinq_ops.specs.declared.merge_option.MergeOption.TheVariants.{AutoBuffered};
 ghost use Rattle.plinq_ops.specs.declared.op.Op.{Op};
 ghost use Rattle.plinq_ops.specs.Sequential.{answer_of};
-ghost use Rattle.plinq_collect.specs.Folds.{first_of, has_item, counted};
+ghost use Rattle.plinq_collect.specs.Folds.{first_of, has_item, wrapped_count};
 ghost use Rattle.plinq_collect.specs.Telling.{GathersSome};
 ghost use Rattle.plinq_closures.specs.Asked.{HasNone, Tells, chain_answer, is_there, chain_outcome};
 
@@ -127,7 +127,7 @@ impl<S: Steps<Item: Send> + Sync> Chain<S> {
         requires in_one_way { S.in_one_way self.now.steps }
         requires gives { S.gives self.now.steps }
         requires gives_one { S.gives_one self.now.steps }
-        ensures { (ops : _) → S.does self.now.steps ops → Tells workers counted (answer_of (λ f. f) ops (Src.whole source)) result }
+        ensures { (ops : _) → S.does self.now.steps ops → Tells workers wrapped_count (answer_of (λ f. f) ops (Src.whole source)) result }
     {
         match query_of(alloc, workers, &self.steps) {
             Ok(query) => chain_answer(count(rt, alloc, &query, source)),

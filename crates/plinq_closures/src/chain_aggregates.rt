@@ -1,6 +1,6 @@
 //! What an aggregator makes of a chain's answer.
 ghost use Rattle.std.specs.Prelude.{◌≡◌};
-ghost use Rattle.plinq_aggregate.specs.Folding.{aggregated};
+ghost use Rattle.plinq_aggregate.specs.Folding.{aggregate_value};
 ghost use Rattle.plinq_ops.specs.Sequential.{answer_of};
 ghost use Rattle.plinq_closures.specs.Asked.{LacksRoomAlone, Tells};
 
@@ -44,7 +44,7 @@ impl<S: Steps<Item: Send> + Sync> Chain<S> {
         requires gives { S.gives self.now.steps }
         requires gives_one { S.gives_one self.now.steps }
         ensures { (ops : _) → S.does self.now.steps ops →
-            Tells workers (aggregated (A.folding aggregator.now)) (answer_of (λ f. f) ops (Src.whole source)) result }
+            Tells workers (aggregate_value (A.folding aggregator.now)) (answer_of (λ f. f) ops (Src.whole source)) result }
     {
         match query_of(alloc, workers, &self.steps) {
             Ok(query) => chain_answer(aggregate(
@@ -86,7 +86,7 @@ impl<'a, S: Steps<Item: Send> + Sync> Sequentially<'a, S> {
         requires gives { S.gives self.now.steps.now }
         requires gives_one { S.gives_one self.now.steps.now }
         ensures value { (ops : _) → S.does self.now.steps.now ops →
-            Tells workers (aggregated (A.folding aggregator.now)) (answer_of (λ f. f) ops (Src.whole source)) result }
+            Tells workers (aggregate_value (A.folding aggregator.now)) (answer_of (λ f. f) ops (Src.whole source)) result }
         ensures memory { LacksRoomAlone result }
     {
         match query_of(alloc, workers, self.steps) {

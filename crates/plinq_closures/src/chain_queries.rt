@@ -5,7 +5,7 @@ ghost use Rattle.plinq_ops.specs.declared.op.Op.{Op};
 ghost use Rattle.plinq_ops.specs.declared.build_fault.BuildFault.{BuildFault};
 ghost use Rattle.plinq_closures.specs.Asked.{CantBuild};
 ghost use Rattle.plinq_closures.specs.inner.Only.{MayCall, HasOne};
-ghost use Rattle.plinq_closures.specs.Steps.{over, down, Agrees};
+ghost use Rattle.plinq_closures.specs.Steps.{over, steps_below, Agrees};
 
 use crate::at::At;
 use crate::steps::Steps;
@@ -60,7 +60,7 @@ fn with_steps<'a, S: Steps>(
     ensures settings { IfOk result (λ q. (q.ordered ≡ query.entry.ordered) × (q.merge ≡ query.entry.merge)) }
     ensures ops { (m : ℕ → Meaning S.Item) → Agrees (S.maps steps.now) (S.tests steps.now) m →
         IfOk result (λ q. map (over ⟦<At<'a, S> as Lambda>⟧.meaning) q.ops
-        ≡ map (over ⟦<At<'a, S> as Lambda>⟧.meaning) query.entry.ops ++ down (S.kinds steps.now) m count) }
+        ≡ map (over ⟦<At<'a, S> as Lambda>⟧.meaning) query.entry.ops ++ steps_below (S.kinds steps.now) m count) }
 {
     if count == 0 {
         return Ok(query);

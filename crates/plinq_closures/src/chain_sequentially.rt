@@ -1,9 +1,9 @@
 ghost use Rattle.std.specs.Prelude.{◌≡◌, pos, [], ◌∷◌, ◌++◌, Err, MatchResult};
-ghost use Rattle.plinq_source.specs.Trace.{ended};
+ghost use Rattle.plinq_source.specs.Trace.{ended_trace};
 ghost use Rattle.plinq_ops.specs.declared.op.Op.{Op};
 ghost use Rattle.plinq_ops.specs.Sequential.{answer_of};
 ghost use Rattle.plinq_run.specs.declared.run_fault.RunFault.TheVariants.{Memory};
-ghost use Rattle.plinq_collect.specs.Folds.{first_of, has_item, counted};
+ghost use Rattle.plinq_collect.specs.Folds.{first_of, has_item, wrapped_count};
 ghost use Rattle.plinq_closures.specs.declared.chain_fault.ChainFault.TheVariants.{Run};
 ghost use Rattle.plinq_closures.specs.Asked.{HasNone, HasCalledAll, LacksRoomAlone, LacksRoomOrRefused, Tells};
 
@@ -56,7 +56,7 @@ impl<'a, S: Steps<Item: Send> + Sync> Sequentially<'a, S> {
         requires gives { S.gives self.now.steps.now }
         requires gives_one { S.gives_one self.now.steps.now }
         ensures value { (ops : _) → S.does self.now.steps.now ops → MatchResult result
-            (λ it. ended it.0.items it.1 ≡ answer_of (λ f. f) ops (Src.whole source))
+            (λ it. ended_trace it.0.items it.1 ≡ answer_of (λ f. f) ops (Src.whole source))
             (HasNone workers) }
         ensures memory { LacksRoomAlone result }
     {
@@ -175,7 +175,7 @@ impl<'a, S: Steps<Item: Send> + Sync> Sequentially<'a, S> {
         requires gives { S.gives self.now.steps.now }
         requires gives_one { S.gives_one self.now.steps.now }
         ensures value { (ops : _) → S.does self.now.steps.now ops →
-            Tells workers counted (answer_of (λ f. f) ops (Src.whole source)) result }
+            Tells workers wrapped_count (answer_of (λ f. f) ops (Src.whole source)) result }
         ensures memory { LacksRoomAlone result }
     {
         match query_of(alloc, workers, self.steps) {

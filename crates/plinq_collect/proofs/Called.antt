@@ -2,7 +2,7 @@
 use Rattle.std.specs.Prelude.{◌≡◌, ⊤, ℕ, List, [], ◌∷◌, ◌++◌, Result, Ok, Err, IfErr, refl}
 use Rattle.std.proofs.Common.{ap, ◌∙◌, sym, subst}
 use Rattle.plinq_source.specs.declared.ending.Ending.{Ending}
-use Rattle.plinq_source.specs.Trace.{Trace, ended}
+use Rattle.plinq_source.specs.Trace.{Trace, ended_trace}
 use Rattle.plinq_merge.specs.declared.delivery_fault.DeliveryFault.{DeliveryFault}
 use Rattle.plinq_merge.specs.declared.delivery_fault.DeliveryFault.TheVariants.{Memory as NoMore, Sink as Refusal}
 use Rattle.plinq_merge.specs.Sending.{Leads, IsCutOff}
@@ -76,8 +76,8 @@ module _ {K F T N : Type 0} (Step : F → T → Result ⊤ ℕ → F → Type 0)
       )
 
 -- of an answer whose items are these
-pub calls-answer : {F T : Type 0} (Step : F → T → Result ⊤ ℕ → F → Type 0) (u : Trace T) (xs : List T) (e : Ending) → ended xs e ≡ u → (f : F) (outcome : Result Ending RunFault) (g : F)
-    → CallsAll Step (ended xs e) f outcome g → CallsAll Step u f outcome g
+pub calls-answer : {F T : Type 0} (Step : F → T → Result ⊤ ℕ → F → Type 0) (u : Trace T) (xs : List T) (e : Ending) → ended_trace xs e ≡ u → (f : F) (outcome : Result Ending RunFault) (g : F)
+    → CallsAll Step (ended_trace xs e) f outcome g → CallsAll Step u f outcome g
 calls-answer Step u xs e is f outcome g h = subst (λ v. CallsAll Step v f outcome g) is h
 
 -- with none of them, where memory ran out

@@ -2,7 +2,7 @@
 use Rattle.std.specs.Prelude.{◌≡◌, ℕ, List, [], ◌∷◌, ◌++◌, Some, Result, Ok, Err, refl, Bool, not, MatchResult}
 use Rattle.std.proofs.Common.{sym, ◌∙◌, ap, subst, append_assoc, append-nil}
 use Rattle.plinq_source.specs.Trace.{Trace}
-use Rattle.plinq_aggregate.specs.Folding.{Folding, aggregated}
+use Rattle.plinq_aggregate.specs.Folding.{Folding, aggregate_value}
 use Rattle.plinq_merge.specs.Sending.{Leads}
 use Rattle.plinq_ops.specs.declared.merge_option.MergeOption.{MergeOption}
 use Rattle.plinq_ops.specs.Batches.{batches}
@@ -43,14 +43,14 @@ module _ {K T : Type 0} (items : K → List T) where
 
 -- an aggregate is what its folding comes to
 pub tells : {T A O : Type 0} (f : Folding T A O) (tell : List T → O) (IsAnswer : Trace T → Type 0) (r : Result O AggregateFault)
-    → ((xs : List T) → aggregated f xs ≡ tell xs) → AggregatesSome f IsAnswer r → TellsSome tell IsAnswer r
+    → ((xs : List T) → aggregate_value f xs ≡ tell xs) → AggregatesSome f IsAnswer r → TellsSome tell IsAnswer r
 tells f tell IsAnswer (Ok out) is (u, may, so) = (u, may, so.0 ∙ is u.items, so.1)
 tells f tell IsAnswer (Err (Ended e)) is (u, may, so) = (u, may, so.0, so.1)
 tells f tell IsAnswer (Err (Run fault)) is (u, may, so) = so
 
 -- and so is that of one answer
 pub tells-one : {T A O : Type 0} (f : Folding T A O) (tell : List T → O) (u : Trace T) (r : Result O AggregateFault)
-    → ((xs : List T) → aggregated f xs ≡ tell xs) → Aggregates f u r → TellsSome tell (λ v. v ≡ u) r
+    → ((xs : List T) → aggregate_value f xs ≡ tell xs) → Aggregates f u r → TellsSome tell (λ v. v ≡ u) r
 tells-one f tell u r is so = tells f tell (λ v. v ≡ u) r is (u, refl, so)
 
 pub not-item : {T : Type 0} (xs : List T) → not (has_item xs) ≡ has_none xs

@@ -4,7 +4,7 @@ use Rattle.std.proofs.Common.{arith, ap, sym, subst, ◌∙◌, length-append}
 use mathlib.Core.Equiv.{IsContr, IsContr-prop}
 use Rattle.plinq_source.specs.declared.ending.Ending.{Ending}
 use Rattle.plinq_source.specs.declared.ending.Ending.TheVariants.{End}
-use Rattle.plinq_source.specs.Trace.{Trace, ended}
+use Rattle.plinq_source.specs.Trace.{Trace, ended_trace}
 use Rattle.plinq_merge.specs.Sending.{Leads, TakesBeginning, RefusesNext}
 use Rattle.plinq_ops.specs.declared.merge_option.MergeOption.{MergeOption}
 use Rattle.plinq_ops.specs.declared.merge_option.MergeOption.TheVariants.{NotBuffered}
@@ -81,10 +81,10 @@ abbrev keeps : List ℕ → ℕ → Result ⊤ ℕ → List ℕ → Type 0
 keeps f x r g = (g ≡ f ++ x ∷ []) × (r ≡ answer_to x)
 
 abbrev four_two : Trace ℕ
-four_two = ended (4 ∷ 2 ∷ []) End
+four_two = ended_trace (4 ∷ 2 ∷ []) End
 
 abbrev four_five_two : Trace ℕ
-four_five_two = ended (4 ∷ 5 ∷ 2 ∷ []) End
+four_five_two = ended_trace (4 ∷ 5 ∷ 2 ∷ []) End
 
 with_all : CallsAll keeps four_two [] (Ok End) (4 ∷ 2 ∷ [])
 with_all = record { calls = ((4 ∷ [], (refl, refl), (4 ∷ 2 ∷ [], (refl, refl), refl)), refl) }

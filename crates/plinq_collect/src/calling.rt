@@ -1,6 +1,6 @@
 //! A closure that is called with the items of a query's answer.
 ghost use Rattle.std.specs.Prelude.{◌≡◌, IfErr};
-ghost use Rattle.plinq_source.specs.Trace.{ended};
+ghost use Rattle.plinq_source.specs.Trace.{ended_trace};
 ghost use Rattle.plinq_ops.specs.Answer.{MayAnswer};
 ghost use Rattle.plinq_ops.specs.Query.{merge_in_force};
 ghost use Rattle.plinq_collect.specs.Calling.{CallsSome, CallsAll, IsCode};
@@ -105,7 +105,7 @@ pub(crate) fn visit_all<V: Visits>(
 ) -> Result<Ending, RunFault>
     requires is_called { V.is_called }
     requires in_one_way { (a b : V.is_called) → a ≡ b }
-    ensures calls { CallsAll V.steps (ended items.now ending) by.old result by.new }
+    ensures calls { CallsAll V.steps (ended_trace items.now ending) by.old result by.new }
     ensures code { IfErr result IsCode }
 {
     let mut sink = CallEach::<V> { by };
@@ -119,7 +119,7 @@ fn call_all<V: Visits>(
     ending: Ending,
 ) -> Result<Ending, RunFault>
     ensures same { sink.new.by.ghost_name ≡ sink.old.by.ghost_name }
-    ensures calls { CallsAll V.steps (ended items.now ending) sink.old.by.now result sink.new.by.now }
+    ensures calls { CallsAll V.steps (ended_trace items.now ending) sink.old.by.now result sink.new.by.now }
     ensures code { IfErr result IsCode }
 {
     match sink.batch(items) {

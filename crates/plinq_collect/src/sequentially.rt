@@ -1,13 +1,13 @@
 //! The same calls on one thread, with the same arguments: each answers what the sequential query does.
 ghost use Rattle.std.specs.Prelude.{◌≡◌, pos, [], ◌∷◌, ◌++◌, Err, MatchResult};
-ghost use Rattle.plinq_source.specs.Trace.{ended};
+ghost use Rattle.plinq_source.specs.Trace.{ended_trace};
 ghost use Rattle.plinq_ops.specs.declared.op.Op.{Op};
 ghost use Rattle.plinq_ops.specs.Sequential.{answer_of};
 ghost use Rattle.plinq_run.specs.Aggregates.{Aggregates};
 ghost use Rattle.plinq_run.specs.declared.run_fault.RunFault.TheVariants.{Memory};
 ghost use Rattle.plinq_collect.specs.Calling.{CallsAll, NoRoomOrRefused};
 ghost use Rattle.plinq_collect.specs.Equal.{IsTestOf};
-ghost use Rattle.plinq_collect.specs.Folds.{first_of, has_item, has_none, counted};
+ghost use Rattle.plinq_collect.specs.Folds.{first_of, has_item, has_none, wrapped_count};
 ghost use Rattle.plinq_collect.specs.Telling.{LacksRoom, TellsSome};
 
 use crate::calling::visit_all;
@@ -44,7 +44,7 @@ where
     R: Threads + Wait + Sync,
     requires { S.given source ≡ 0 }
     ensures { MatchResult result
-        (λ it. ended it.0.items it.1 ≡ answer_of L.meaning query.now.ops (S.whole source))
+        (λ it. ended_trace it.0.items it.1 ≡ answer_of L.meaning query.now.ops (S.whole source))
         (λ fault. fault ≡ Memory) }
 {
     let mut source = source;
@@ -257,7 +257,7 @@ where
     S: Source<Item = L::Item>,
     R: Threads + Wait + Sync,
     requires { S.given source ≡ 0 }
-    ensures value { TellsSome counted (λ u. u ≡ answer_of L.meaning query.now.ops (S.whole source)) result }
+    ensures value { TellsSome wrapped_count (λ u. u ≡ answer_of L.meaning query.now.ops (S.whole source)) result }
     ensures memory { LacksRoom result }
 {
     aggregate(rt, alloc, query, source, &ItemCount::<L>(PhantomData))

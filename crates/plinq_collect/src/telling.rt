@@ -3,7 +3,7 @@ ghost use Rattle.std.specs.Prelude.{◌≡◌, pos, [], ◌∷◌, ◌++◌};
 ghost use Rattle.plinq_ops.specs.declared.op.Op.{Op};
 ghost use Rattle.plinq_ops.specs.Answer.{MayAnswer};
 ghost use Rattle.plinq_collect.specs.Equal.{IsTestOf};
-ghost use Rattle.plinq_collect.specs.Folds.{first_of, has_item, has_none, counted};
+ghost use Rattle.plinq_collect.specs.Folds.{first_of, has_item, has_none, wrapped_count};
 ghost use Rattle.plinq_collect.specs.Telling.{TellsSome, negated};
 
 use crate::equal_to::EqualTo;
@@ -179,7 +179,7 @@ where
     S: Source<Item = L::Item>,
     R: Threads + Wait + Sync,
     requires { S.given source ≡ 0 }
-    ensures { TellsSome counted (MayAnswer L.meaning query.now.ordered query.now.ops (S.whole source)) result }
+    ensures { TellsSome wrapped_count (MayAnswer L.meaning query.now.ordered query.now.ops (S.whole source)) result }
 {
     let counted = ItemCount::<L>(PhantomData);
     aggregate(

@@ -6,7 +6,7 @@ use Rattle.plinq_ops.specs.declared.results.ChunkResult.{ChunkResult}
 use Rattle.plinq_partition.specs.declared.partition.Partition.{Partition}
 use Rattle.plinq_partition.specs.Partitions.{holding_of}
 use Rattle.plinq_stream.specs.declared.pass_knowledge.PassKnowledge.{PassKnowledge}
-use Rattle.plinq_stream.specs.Passes.{known}
+use Rattle.plinq_stream.specs.Passes.{knowledge_of}
 use Rattle.plinq_crew.specs.declared.closing.Closing.{Closing}
 use Rattle.plinq_crew.specs.declared.coordinator.Coordinator.{Coordinator}
 use Rattle.plinq_crew.specs.declared.poll.Poll.TheVariants.{Came}
@@ -33,7 +33,7 @@ module _ {S T M X : Type 0} {source : Ghosts S T} {is_ready : X → Type 0} {acc
       record { origin = same.origin ∙ first.origin; numbers = same.numbers ∙ first.numbers; worker_count = same.worker_count ∙ first.worker_count }
 
   -- nothing came
-  pub accepts-nothing : known c.stream ≡ known b.stream → AcceptsMore is_ready accepts IsPart a k x c m y
+  pub accepts-nothing : knowledge_of c.stream ≡ knowledge_of b.stream → AcceptsMore is_ready accepts IsPart a k x c m y
   accepts-nothing none = record {
     same = stays;
     ready = more.ready;
@@ -44,7 +44,7 @@ module _ {S T M X : Type 0} {source : Ghosts S T} {is_ready : X → Type 0} {acc
   }
 
   -- this came, and it was accepted unless it is dropped
-  pub accepts-one : (part : ChunkResult M) (z : X) → IsPart part → HasCome (known b.stream) (Came part) (known c.stream) → is_ready z
+  pub accepts-one : (part : ChunkResult M) (z : X) → IsPart part → HasCome (knowledge_of b.stream) (Came part) (knowledge_of c.stream) → is_ready z
       → (wants_close m ≡ false → accepts y part z) → (wants_close m ≡ true → z ≡ y) → AcceptsMore is_ready accepts IsPart a k x c m z
   accepts-one part z is come ready step keeps = record {
     same = stays;
@@ -65,7 +65,7 @@ module _ {L S J P T M X : Type 0} {source : Ghosts S T} (meaning : L → Meaning
     pub origin : (holding_of c.partition).origin ≡ (holding_of begun).origin
     pub closed : is_closed closing ≡ true → HasClosed (holding_of c.partition).share
     pub ready : is_ready y
-    pub accepted : HasAccepted (AcceptsEach accepts MaySend) [] x (known c.stream).received (wants_close closing) y
+    pub accepted : HasAccepted (AcceptsEach accepts MaySend) [] x (knowledge_of c.stream).received (wants_close closing) y
 
 module _ {L S J P T M X : Type 0} {source : Ghosts S T} {meaning : L → Meaning T} {makes : P → ChunkResult T → ChunkResult M → Type 0}
     {MaySend : ChunkResult M → Type 0} {stops_at : ℕ → Bool} {is_ready : X → Type 0} {accepts : X → ChunkResult M → X → Type 0}
@@ -73,7 +73,7 @@ module _ {L S J P T M X : Type 0} {source : Ghosts S T} {meaning : L → Meaning
     {a b c : Coordinator S M T source} {s t : Team S M T source} {k l : Closing} {y z : X} where
   -- it still stands once those that are wanted were started, and more was accepted
   pub stays-under_way : IsUnderWay meaning makes MaySend stops_at is_ready accepts crew begun x a s k y → CanStart meaning makes MaySend stops_at crew b t
-      → holding_of b.partition ≡ holding_of a.partition → (known b.stream).received ≡ (known a.stream).received
+      → holding_of b.partition ≡ holding_of a.partition → (knowledge_of b.stream).received ≡ (knowledge_of a.stream).received
       → IsCoordinator crew.chunked.now crew.stream.now c → AcceptsMore is_ready accepts MaySend b k y c l z
       → IsUnderWay meaning makes MaySend stops_at is_ready accepts crew begun x c t l z
   stays-under_way stands may held received is more =

@@ -13,7 +13,7 @@ use Rattle.plinq_keyed.specs.declared.event.Event.{Event}
 use Rattle.plinq_keyed.specs.declared.event.Event.TheVariants.{Ask, Close}
 use Rattle.plinq_keyed.specs.declared.record.Record.{Record}
 use Rattle.plinq_keyed.specs.declared.tail.Tail.{Tail}
-use Rattle.plinq_keyed.specs.History.{Place, reply, recorded, ending_tail}
+use Rattle.plinq_keyed.specs.History.{Place, reply, request_record, ending_tail}
 use Rattle.plinq_enumerator.specs.Growing.{GrowthRule}
 use Rattle.plinq_partition.specs.Partitions.{Holding, IsTaken}
 use Rattle.plinq_ops.specs.declared.order.Order.TheVariants.{ByArrival}
@@ -53,9 +53,9 @@ told-reply : {T : Type 0} (t : Trace T) (p : Place) (asked : Event) → let r = 
 told-reply t p (Ask n) within = told-asked t p.given n p.closed within
 told-reply t p Close within = tt
 
-told-recorded : {T : Type 0} (t : Trace T) (p : Place) (entry : Record) → entry ≡ recorded entry.ticket entry.asked (reply t p entry.asked)
+told-request_record : {T : Type 0} (t : Trace T) (p : Place) (entry : Record) → entry ≡ request_record entry.ticket entry.asked (reply t p entry.asked)
     → entry.first + entry.count ≤ length t.items → IsToldAt t (entry.first + entry.count) entry.tail
-told-recorded t p entry is within =
+told-request_record t p entry is within =
     let r = reply t p entry.asked in
     let first : entry.first ≡ r.first = ap (λ (x : Record). x.first) is in
     let count : entry.count ≡ length r.items = ap (λ (x : Record). x.count) is in
@@ -70,7 +70,7 @@ result-from_taken meaning plan growth a b cut chunk r is uncut taken made =
     let entry = taken.entry in
     let first : chunk.first ≡ entry.first = taken.of.first in
     let counted : length chunk.items.items ≡ entry.count = taken.counted in
-    let told = told-recorded t taken.adds.place entry taken.adds.replied (rw (sym first, sym counted) taken.within) in
+    let told = told-request_record t taken.adds.place entry taken.adds.replied (rw (sym first, sym counted) taken.within) in
     let is_first : r.first ≡ entry.first = made.first ∙ first in
     let is_count : r.count ≡ entry.count = made.count ∙ counted in
     let is_tail : r.tail ≡ entry.tail = made.tail ∙ taken.of.tail in

@@ -6,7 +6,7 @@ use Rattle.plinq_partition.specs.GivenBack.{common_origin}
 use Rattle.plinq_partition.specs.Partitions.{IsPartitionOf, all_shares, holding_of}
 use Rattle.plinq_stream.specs.declared.sent.Sent.{Sent}
 use Rattle.plinq_stream.specs.declared.stream_pass.StreamPass.{StreamPass}
-use Rattle.plinq_stream.specs.Passes.{IsPassOf, known}
+use Rattle.plinq_stream.specs.Passes.{IsPassOf, knowledge_of}
 use Rattle.plinq_stream.specs.Streams.{HasReceivedAll}
 use Rattle.plinq_crew.specs.declared.worker.Crew.{Crew}
 use Rattle.plinq_crew.specs.declared.worker.WorkerContext.{WorkerContext}
@@ -37,12 +37,12 @@ module _ {L S J P T M X : Type 0} {source : Ghosts S T} (accepts : X → ChunkRe
     pub wanted : (1 ≤ back.worker_count.wanted) × (back.worker_count.wanted ≤ crew.workers)
     pub pass : StreamPass (ChunkResult M)
     pub of_stream : IsPassOf crew.stream.now pass
-    pub all : HasReceivedAll (known pass)
-    pub answered : All (IsAnsweredBy 0 (known pass) back.worker_faults) (drop 1 back.partitions.items)
-    pub each : All (λ s. back.worker_count.started ≡ back.worker_count.wanted → IsOfOne (all_shares back.partitions.items) s.item) (known pass).received
+    pub all : HasReceivedAll (knowledge_of pass)
+    pub answered : All (IsAnsweredBy 0 (knowledge_of pass) back.worker_faults) (drop 1 back.partitions.items)
+    pub each : All (λ s. back.worker_count.started ≡ back.worker_count.wanted → IsOfOne (all_shares back.partitions.items) s.item) (knowledge_of pass).received
     pub closed : has_worker_fault back.worker_faults ≡ false → HasClosed (all_shares back.partitions.items)
     pub wants_close : Bool
-    pub accepted : HasAccepted (AcceptsEach accepts IsPart) [] x (known pass).received wants_close x'
+    pub accepted : HasAccepted (AcceptsEach accepts IsPart) [] x (knowledge_of pass).received wants_close x'
 
   -- or there was no room, and nothing was accepted
   abbrev pub Conducts : Result (Returned S T source) OutOfMemory → Type 0

@@ -27,7 +27,7 @@ use Rattle.plinq_stream.specs.declared.sent.Sent.{Sent}
 use Rattle.plinq_stream.specs.declared.stream.Stream.{Stream}
 use Rattle.plinq_stream.specs.declared.stream_pass.StreamPass.{StreamPass}
 use Rattle.plinq_stream.specs.Knowing.{with_received}
-use Rattle.plinq_stream.specs.Passes.{IsPassOf, known}
+use Rattle.plinq_stream.specs.Passes.{IsPassOf, knowledge_of}
 use Rattle.plinq_stream.specs.Streams.{HasReceivedAll, has, under}
 use Rattle.plinq_crew.specs.declared.closing.Closing.TheVariants.{Open, Wanted, Closed}
 use Rattle.plinq_crew.specs.declared.coordinator.Coordinator.{Coordinator}
@@ -307,7 +307,7 @@ module _ {L S J P T M : Type 0} {source : Ghosts S T} (meaning : L → Meaning T
   ready_in_another_stream never ready = never ready.stream_of
 
   -- a number was handed out already
-  ready_with_a_worker : known context.stream ≡ receiver_from 1 → MayBegin → ⊥
+  ready_with_a_worker : knowledge_of context.stream ≡ receiver_from 1 → MayBegin → ⊥
   ready_with_a_worker knows ready =
       let bad : 1 ≡ 0 = ap (λ a. get_or a.numbers 0 9) (sym knows ∙ ready.knows) in
       omega (arith, bad)
@@ -397,7 +397,7 @@ module _ {S T M C X : Type 0} {source : Ghosts S T} (is_ready : X → Type 0) (a
       omega (arith, less, ap length empty)
 
   -- at last something that was sent wasn't received
-  rest_is_left : (p p' : StreamPass (ChunkResult M)) → (HasReceivedAll (known p') → ⊥)
+  rest_is_left : (p p' : StreamPass (ChunkResult M)) → (HasReceivedAll (knowledge_of p') → ⊥)
       → AcceptsRest accepts IsPart stream Open p x p' x' → ⊥
   rest_is_left p p' never rest = never rest.all
 
@@ -474,8 +474,8 @@ module _ {L S J P T M X : Type 0} {source : Ghosts S T} (accepts : X → ChunkRe
   received_from_another never returned = never returned.pass returned.of_stream
 
   -- a part was sent and not received
-  one_is_lost : (c : ChunkResult M) → (returned : Returns) → has 0 (known returned.pass).numbers ≡ true
-      → under 0 (known returned.pass).sent ≡ c ∷ [] → under 0 (known returned.pass).received ≡ [] → ⊥
+  one_is_lost : (c : ChunkResult M) → (returned : Returns) → has 0 (knowledge_of returned.pass).numbers ≡ true
+      → under 0 (knowledge_of returned.pass).sent ≡ c ∷ [] → under 0 (knowledge_of returned.pass).received ≡ [] → ⊥
   one_is_lost c returned own one none = omega (arith, ap length one, ap length none, ap length (returned.all.own 0 own))
 
   -- a worker's records weren't answered
@@ -483,19 +483,19 @@ module _ {L S J P T M X : Type 0} {source : Ghosts S T} (accepts : X → ChunkRe
   IsAnswered a p = IsAnsweredBy 0 a back.worker_faults p
 
   one_is_unanswered : (p q : Partition S T source) → back.partitions.items ≡ p ∷ q ∷ [] → (returned : Returns)
-      → (IsAnswered (known returned.pass) q → ⊥) → ⊥
+      → (IsAnswered (knowledge_of returned.pass) q → ⊥) → ⊥
   one_is_unanswered p q two returned never =
       never
-      (All-head (IsAnswered (known returned.pass)) q []
-      (subst (λ ps. All (IsAnswered (known returned.pass)) (drop 1 ps)) two returned.answered))
+      (All-head (IsAnswered (knowledge_of returned.pass)) q []
+      (subst (λ ps. All (IsAnswered (knowledge_of returned.pass)) (drop 1 ps)) two returned.answered))
 
   -- a part was received under a number that no worker has
-  one_from_nobody : (c : ChunkResult M) → (returned : Returns) → under 64 (known returned.pass).received ≡ c ∷ [] → ⊥
+  one_from_nobody : (c : ChunkResult M) → (returned : Returns) → under 64 (knowledge_of returned.pass).received ≡ c ∷ [] → ⊥
   one_from_nobody c returned one = omega (arith, ap length one, ap length (returned.all.none 64 (omega arith)))
 
   -- or is of no worker's record
   one_of_no_record : (s : Sent (ChunkResult M)) → (returned : Returns) → back.worker_count.started ≡ back.worker_count.wanted
-      → (known returned.pass).received ≡ s ∷ [] → (IsOfOne (all_shares back.partitions.items) s.item → ⊥) → ⊥
+      → (knowledge_of returned.pass).received ≡ s ∷ [] → (IsOfOne (all_shares back.partitions.items) s.item → ⊥) → ⊥
   one_of_no_record s returned started one never =
       let IsOfSome : Sent (ChunkResult M) → Type 0 =
       λ x. back.worker_count.started ≡ back.worker_count.wanted → IsOfOne (all_shares back.partitions.items) x.item in
@@ -515,7 +515,7 @@ module _ {L S J P T M X : Type 0} {source : Ghosts S T} (accepts : X → ChunkRe
   nobody_has_closed none never returned = never (returned.closed none)
 
   -- a consumer is another, though nothing came
-  changed_by_nothing : (returned : Returns) → (known returned.pass).received ≡ [] → (x' ≡ x → ⊥) → ⊥
+  changed_by_nothing : (returned : Returns) → (knowledge_of returned.pass).received ≡ [] → (x' ≡ x → ⊥) → ⊥
   changed_by_nothing returned none never =
       let came : [] ≡ returned.accepted.taken ++ returned.accepted.left = sym none ∙ returned.accepted.came in
       never (same returned.accepted.taken returned.accepted.left came returned.accepted.steps)

@@ -11,7 +11,7 @@ use Rattle.plinq_partition.specs.declared.chunked.Chunked.{Chunked}
 use Rattle.plinq_partition.specs.declared.partition.Partition.{Partition}
 use Rattle.plinq_partition.specs.Partitions.{IsPartitionOf, holding_of}
 use Rattle.plinq_cut.specs.OfPlan.{AreStopKeys}
-use Rattle.plinq_stream.specs.Passes.{IsPassOf as IsStreamPassOf, known}
+use Rattle.plinq_stream.specs.Passes.{IsPassOf as IsStreamPassOf, knowledge_of}
 use Rattle.plinq_crew.specs.Plans.{IsUndecided}
 use Rattle.plinq_crew.specs.declared.worker.Crew.{Crew}
 use Rattle.plinq_crew.specs.declared.worker.WorkerContext.{WorkerContext}
@@ -36,5 +36,5 @@ pub record IsReady {L S J P T M : Type 0} {source : Ghosts S T} (meaning : L →
     (crew : Crew L S J P T T M source) (context : WorkerContext S M T source) : Type 0 where
   pub equipped : IsEquipped meaning (makes crew.task.now) MaySend stops_at crew.plan.now crew.chunked.now crew.cut.now context.partition context.cut
   pub stream_of : IsStreamPassOf crew.stream.now context.stream
-  pub knows : known context.stream ≡ receiver_from 0
+  pub knows : knowledge_of context.stream ≡ receiver_from 0
   pub workers : (1 ≤ crew.workers) × (crew.workers ≤ 64)

@@ -33,7 +33,7 @@ use Rattle.plinq_stream.specs.declared.pass_knowledge.PassKnowledge.{PassKnowled
 use Rattle.plinq_stream.specs.declared.sent.Sent.{Sent}
 use Rattle.plinq_stream.specs.declared.stream.Stream.{Stream}
 use Rattle.plinq_stream.specs.declared.stream_pass.StreamPass.{StreamPass}
-use Rattle.plinq_stream.specs.Passes.{IsPassOf, IsBeside, known}
+use Rattle.plinq_stream.specs.Passes.{IsPassOf, IsBeside, knowledge_of}
 use Rattle.plinq_stream.specs.Streams.{has}
 use Rattle.plinq_crew.specs.declared.starting.WorkerFaults.{WorkerFaults}
 use Rattle.plinq_crew.specs.declared.worker.Worked.{Worked}
@@ -358,13 +358,13 @@ module _ {S T M C : Type 0} {source : Ghosts S T} (stream : Stream (ChunkResult 
   abbrev IsThird : Type 0
   IsThird = IsNewcomer stream 3 partition pass
 
-  starts_with_nothing : IsPassOf stream pass → known pass ≡ sender 3 [] → (holding_of partition).share ≡ [] → IsThird
+  starts_with_nothing : IsPassOf stream pass → knowledge_of pass ≡ sender 3 [] → (holding_of partition).share ≡ [] → IsThird
   starts_with_nothing of knows share = record { of = of; knows = knows; share = share }
 
   starts_in_another_stream : (IsPassOf stream pass → ⊥) → IsThird → ⊥
   starts_in_another_stream never new = never new.of
 
-  starts_under_another_number : known pass ≡ sender 4 [] → IsThird → ⊥
+  starts_under_another_number : knowledge_of pass ≡ sender 4 [] → IsThird → ⊥
   starts_under_another_number knows new =
       let bad : 4 ≡ 3 = ap (λ a. get_or a.numbers 0 9) (sym knows ∙ new.knows) in
       omega (arith, bad)
@@ -380,7 +380,7 @@ module _ {S T M : Type 0} {source : Ghosts S T} (chunked : Chunked S T source) (
   brings_another_pass : (IsBeside given back.stream → ⊥) → IsBack chunked given 3 back → ⊥
   brings_another_pass never is = never is.pass
 
-  brings_the_receivers_pass : known back.stream ≡ receiver_from 3 → IsBack chunked given 3 back → ⊥
+  brings_the_receivers_pass : knowledge_of back.stream ≡ receiver_from 3 → IsBack chunked given 3 back → ⊥
   brings_the_receivers_pass knows is = let bad : true ≡ false = ap (λ a. a.receives) (sym knows ∙ is.worked.knows) in absurd (cc)
 
 -- the pass of nobody

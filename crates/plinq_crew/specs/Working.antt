@@ -14,7 +14,7 @@ use Rattle.plinq_stream.specs.declared.sent.Sent.{Sent}
 use Rattle.plinq_stream.specs.declared.stream.Stream.{Stream}
 use Rattle.plinq_stream.specs.declared.stream_pass.StreamPass.{StreamPass}
 use Rattle.plinq_stream.specs.Knowing.{numbers_from}
-use Rattle.plinq_stream.specs.Passes.{IsPassOf, IsBeside, known}
+use Rattle.plinq_stream.specs.Passes.{IsPassOf, IsBeside, knowledge_of}
 use Rattle.plinq_stream.specs.Streams.{has, under}
 use Rattle.plinq_crew.specs.declared.starting.WorkerFaults.{WorkerFaults}
 use Rattle.plinq_crew.specs.Noted.{has_noted}
@@ -108,7 +108,7 @@ module _ {T : Type 0} where
 pub record IsNewcomer {S T M C : Type 0} {source : Ghosts S T} (stream : Stream (ChunkResult M) C) (number : ℕ)
     (partition : Partition S T source) (pass : StreamPass (ChunkResult M)) : Type 0 where
   pub of : IsPassOf stream pass
-  pub knows : known pass ≡ sender number []
+  pub knows : knowledge_of pass ≡ sender number []
   pub share : (holding_of partition).share ≡ []
 
 module _ {S T M : Type 0} {source : Ghosts S T} where
@@ -116,7 +116,7 @@ module _ {S T M : Type 0} {source : Ghosts S T} where
   pub record IsBack (chunked : Chunked S T source) (given : StreamPass (ChunkResult M)) (number : ℕ) (back : Worked S M T source) : Type 0 where
     pub of : IsPartitionOf chunked back.partition
     pub pass : IsBeside given back.stream
-    pub worked : HasWorked number (holding_of back.partition).share back.fault (known back.stream)
+    pub worked : HasWorked number (holding_of back.partition).share back.fault (knowledge_of back.stream)
 
   -- what was sent under one of the pass's numbers, which is at least that, are the results of the first records of this
   -- partition, and of all of them unless there was a fault, which was noted

@@ -5,7 +5,7 @@ ghost use Rattle.plinq_ops.specs.Tails.{end_of_result};
 ghost use Rattle.plinq_partition.specs.Partitions.{IsPartitionOf, holding_of};
 ghost use Rattle.plinq_crew.specs.Noted.{has_worker_fault};
 ghost use Rattle.plinq_crew.specs.Polls.{IfCame, HasCome};
-ghost use Rattle.plinq_stream.specs.Passes.{IsPassOf, known};
+ghost use Rattle.plinq_stream.specs.Passes.{IsPassOf, knowledge_of};
 ghost use Rattle.plinq_crew.specs.inner.Closing.{is_closed};
 ghost use Rattle.plinq_crew.specs.inner.Coordinating.{IsCoordinator, StaysSame, ClosesInTime, ClosesAtLast, AcceptsMore, AcceptsRest};
 
@@ -149,7 +149,7 @@ where
         ensures coordinator { IsCoordinator self.now.chunked.now self.now.stream.now coordinator.new }
         ensures same { StaysSame coordinator.old coordinator.new }
         ensures carried { IfCame result J.is_result }
-        ensures received { HasCome (known coordinator.old.stream) result (known coordinator.new.stream) }
+        ensures received { HasCome (knowledge_of coordinator.old.stream) result (knowledge_of coordinator.new.stream) }
         ensures closes { ClosesInTime is_over closing.old coordinator.old closing.new coordinator.new }
     {
         let sleep = if coordinator.patience.is_over() {
@@ -229,7 +229,7 @@ where
         consumer: &mut X,
     )
         requires stream { IsPassOf self.now.stream.now pass.old }
-        requires receives { (known pass.old).receives ≡ true }
+        requires receives { (knowledge_of pass.old).receives ≡ true }
         requires within { (c : ChunkResult P.Part) → J.is_result c → end_of_result c ≤ 2 ^ 40 }
         requires ready { X.is_ready consumer.old }
         ensures { AcceptsRest X.accepts J.is_result self.now.stream.now closing pass.old consumer.old pass.new consumer.new }

@@ -7,7 +7,7 @@ ghost use Rattle.plinq_crew.specs.Noted.{lacks_room, has_worker_fault, has_noted
 ghost use Rattle.plinq_crew.specs.inner.Handles.{IsHandleOf};
 ghost use Rattle.plinq_crew.specs.inner.Joining.{MayJoin, HasJoined};
 ghost use Rattle.plinq_crew.specs.Working.{IsNewcomer};
-ghost use Rattle.plinq_stream.specs.Passes.{known};
+ghost use Rattle.plinq_stream.specs.Passes.{knowledge_of};
 ghost use Rattle.plinq_crew.specs.inner.Coordinating.{CanStart};
 ghost use Rattle.plinq_crew.specs.inner.Scoped.{MayWork, WorkReturns};
 
@@ -89,7 +89,7 @@ where
         requires may { CanStart L.meaning P.makes J.is_result J.stops_at self.now coordinator.old team.old }
         ensures may { CanStart L.meaning P.makes J.is_result J.stops_at self.now coordinator.new team.new }
         ensures same { holding_of coordinator.new.partition ≡ holding_of coordinator.old.partition }
-        ensures received { (known coordinator.new.stream).received ≡ (known coordinator.old.stream).received }
+        ensures received { (knowledge_of coordinator.new.stream).received ≡ (knowledge_of coordinator.old.stream).received }
         ensures wanted { 1 ≤ coordinator.new.worker_count.wanted }
     {
         let WorkerCount { wanted, started } = coordinator.worker_count;

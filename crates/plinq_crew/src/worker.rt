@@ -7,7 +7,7 @@ ghost use Rattle.plinq_crew.specs.Equipped.{IsEquipped};
 ghost use Rattle.plinq_crew.specs.inner.Taking.{MayTakeNext, IsNextPart};
 ghost use Rattle.plinq_crew.specs.Results.{IsPart};
 ghost use Rattle.plinq_crew.specs.Working.{IsNewcomer, HasWorked, HasLeft};
-ghost use Rattle.plinq_stream.specs.Passes.{IsPassOf, known};
+ghost use Rattle.plinq_stream.specs.Passes.{IsPassOf, knowledge_of};
 
 use crate::progress::Progress;
 use crate::result_stream::{ResultPass, ResultStream, RunSpec, RunStopKeys};
@@ -124,9 +124,9 @@ where
         ensures of { IsPartitionOf self.now.chunked.now result.partition }
         ensures origin { (holding_of result.partition).origin ≡ (holding_of context.partition).origin }
         ensures stream { IsPassOf self.now.stream.now result.stream }
-        ensures worked { HasWorked worker (holding_of result.partition).share result.fault (known result.stream) }
+        ensures worked { HasWorked worker (holding_of result.partition).share result.fault (knowledge_of result.stream) }
         ensures results { All (λ s. IsPart L.meaning (P.makes self.now.task.now) self.now.plan.now (holding_of context.partition).origin s.item)
-            (known result.stream).sent }
+            (knowledge_of result.stream).sent }
     {
         let WorkerContext {
             mut partition,

@@ -8,7 +8,7 @@ use Rattle.std.proofs.lemmas.Slice.Eq.{bytes_eq-Decides}
 use Rattle.serde_json.specs.Data.{Data, Items, string, array, object, Members, no_members, member, put}
 use Rattle.serde_json.specs.Find.{as_array, get_member}
 use Rattle.serde_json.proofs.Views.{get_member-put, get_member-put_other}
-use Rattle.plinq_source.specs.Trace.{Trace, ended, list_ending}
+use Rattle.plinq_source.specs.Trace.{Trace, ended_trace, list_ending}
 use Rattle.plinq_document.specs.Results.{◌>>=◌, ◌>>◌, or_shape}
 use Rattle.plinq_document.specs.Jobs.{JobView}
 use Rattle.plinq_document.specs.Values.{whole_number}
@@ -120,7 +120,7 @@ pub list-refusing : (version : Version) (d e : Data) (code : ℕ) → code_of e 
 list-refusing One d e code is = ap (λ o. or_shape o >>= λ n. list_source (Some n) d) is
 list-refusing Two d e code is = ap (λ o. or_shape o >>= λ n. list_source (Some n) d) is
 
-pub list_source-numbers : (refusal : Option ℕ) (ds : Items) (ns : List ℤ) → whole_numbers ds ≡ Some ns → length ns ≤ 2 ^ 40 → list_source refusal (array ds) ≡ Ok (ended ns (list_ending refusal))
+pub list_source-numbers : (refusal : Option ℕ) (ds : Items) (ns : List ℤ) → whole_numbers ds ≡ Some ns → length ns ≤ 2 ^ 40 → list_source refusal (array ds) ≡ Ok (ended_trace ns (list_ending refusal))
 list_source-numbers refusal ds ns is few = rw (is, le-leb _ _ few) refl
 
 -- a text is the same source in every version

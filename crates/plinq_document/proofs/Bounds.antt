@@ -4,7 +4,7 @@ use Rattle.std.specs.Prelude.{if◌then◌else◌, option_and_then, ◌&&◌, co
 use Rattle.std.specs.Str.{bytes_eq}
 use Rattle.serde_json.specs.Data.{Data, Items, no_items, item, Members, no_members, member}
 use Rattle.serde_json.specs.Find.{as_str, as_array, as_object}
-use Rattle.plinq_source.specs.Trace.{Trace, ended, list_ending}
+use Rattle.plinq_source.specs.Trace.{Trace, ended_trace, list_ending}
 use Rattle.plinq_document.specs.Values.{whole_number, only_count, items_len}
 use Rattle.plinq_document.specs.Results.{◌>>=◌, or_shape}
 use Rattle.plinq_document.specs.Sources.{source_name, whole_numbers, few_numbers, list_source, text_source, range_trace, repeat_trace, of_number_and_count, plain_source_named, code_of, plain_source_from, plain_source_of, count_after, bound_named, bound_from, bound_of}
@@ -17,7 +17,7 @@ use Rattle.plinq_document.proofs.TwoSources.{few-plain}
 some-list : (refusal : Option ℕ) (d : Data) (t : Trace ℤ) → list_source refusal d ≡ Ok t → is_some (option_map items_len (as_array d)) ≡ true
 some-list refusal d t is = by (as_array d) is
   where
-    by : (o : Option Items) → (or_shape (option_and_then whole_numbers o) >>= few_numbers >>= λ xs. Ok (ended xs (list_ending refusal))) ≡ Ok t → is_some (option_map items_len o) ≡ true
+    by : (o : Option Items) → (or_shape (option_and_then whole_numbers o) >>= few_numbers >>= λ xs. Ok (ended_trace xs (list_ending refusal))) ≡ Ok t → is_some (option_map items_len o) ≡ true
     by None is = absurd (cc)
     by (Some ds) is = refl
 

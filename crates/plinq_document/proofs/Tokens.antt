@@ -10,7 +10,7 @@ use Rattle.serde_json.specs.Find.{as_i64}
 use Rattle.serde_json.specs.Read.{number_of, of_json, of_items, of_members, converted}
 use Rattle.serde_json.specs.View.{view, items_view}
 use Rattle.serde_json.specs.declared.value.Value.{Value}
-use Rattle.plinq_source.specs.Trace.{ended, list_ending}
+use Rattle.plinq_source.specs.Trace.{ended_trace, list_ending}
 use Rattle.plinq_document.specs.Sources.{whole_numbers, list_source, source_of}
 use Rattle.plinq_document.specs.declared.version.Version.{Version}
 use Rattle.plinq_document.proofs.Apart.{list-alone, list-refusing, list_source-numbers}
@@ -202,7 +202,7 @@ list-members-after (Some code) ts left r ds read shorter over =
 
 -- a list's numbers, and how it ends, as the members of a source
 pub list-members : (refusal : Option ℕ) (ts left r : List Token) (ds : Items) (ns : List ℤ) → Reads 125 ts (array ds) left → length left < length ts → EndsList refusal left r → whole_numbers ds ≡ Some ns → length ns ≤ 2 ^ 40
-    → (ms : Members) × ReadsMembers 125 (Token.key (codes "list") ∷ ts) ms r × ((version : Version) → source_of version (object ms) ≡ Ok (ended ns (list_ending refusal)))
+    → (ms : Members) × ReadsMembers 125 (Token.key (codes "list") ∷ ts) ms r × ((version : Version) → source_of version (object ms) ≡ Ok (ended_trace ns (list_ending refusal)))
 list-members refusal ts left r ds ns read shorter over is few =
     let found = list-members-after refusal ts left r ds read shorter over in
     (found.0, found.1, λ version. found.2 version ∙ list_source-numbers refusal ds ns is few)

@@ -10,13 +10,13 @@ use Rattle.plinq_document.specs.Results.{◌>>=◌}
 use Rattle.plinq_document.specs.declared.version.Version.{Version}
 use Rattle.plinq_document.specs.Values.{whole_number}
 use Rattle.plinq_document.specs.Sources.{whole_numbers}
-use Rattle.plinq_document.specs.Steps.{with_step_of, with_steps_of, placed}
+use Rattle.plinq_document.specs.Steps.{with_step_of, with_steps_of, step_result}
 
 -- the step at this place is called, and then those after it
-pub with_steps_of-turn : (version : Version) (at : ℕ) (q : QueryView Formula) (vs : List Value) (v : Value) → at < length vs → v ≡ get_or vs at v → with_steps_of version at q (items_view (drop at vs)) ≡ (placed at (with_step_of version q (view v)) >>= λ new. with_steps_of version (at + 1) new (items_view (drop (at + 1) vs)))
+pub with_steps_of-turn : (version : Version) (at : ℕ) (q : QueryView Formula) (vs : List Value) (v : Value) → at < length vs → v ≡ get_or vs at v → with_steps_of version at q (items_view (drop at vs)) ≡ (step_result at (with_step_of version q (view v)) >>= λ new. with_steps_of version (at + 1) new (items_view (drop (at + 1) vs)))
 with_steps_of-turn version at q vs v within is =
     at_drop_more (λ ws. with_steps_of version at q (items_view ws)) vs at v within
-    ∙ ap (λ w. placed at (with_step_of version q (view w)) >>= λ new. with_steps_of version (at + 1) new (items_view (drop (at + 1) vs))) (sym is)
+    ∙ ap (λ w. step_result at (with_step_of version q (view w)) >>= λ new. with_steps_of version (at + 1) new (items_view (drop (at + 1) vs))) (sym is)
 
 -- what stands before the numbers that are left, moved past one number
 before-one : (ns : List ℤ) (n : ℤ) (left : Option (List ℤ)) → option_map (λ rest. ns ++ rest) (option_map (λ rest. n ∷ rest) left) ≡ option_map (λ rest. (ns ++ n ∷ []) ++ rest) left

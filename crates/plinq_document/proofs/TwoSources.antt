@@ -6,7 +6,7 @@ use Rattle.std.specs.Prelude.{if◌then◌else◌, option_and_then, nat_le, ◌&
 use Rattle.std.specs.Str.{bytes_eq}
 use Rattle.serde_json.specs.Data.{Data, Items, no_items, item, Members, no_members, member}
 use Rattle.serde_json.specs.Find.{as_str, as_array, as_object}
-use Rattle.plinq_source.specs.Trace.{Trace, ended, list_ending}
+use Rattle.plinq_source.specs.Trace.{Trace, ended_trace, list_ending}
 use Rattle.plinq_source.specs.Text.{text_trace}
 use Rattle.plinq_source.specs.inner.Values.{few-values}
 use Rattle.plinq_source.specs.Range.{range_items, is_range}
@@ -34,15 +34,15 @@ length-whole_numbers (item d ds) ns is = by (whole_number d) (whole_numbers ds) 
 few-list : (refusal : Option ℕ) (d : Data) (t : Trace ℤ) (m : ℕ) → list_source refusal d ≡ Ok t → option_map items_len (as_array d) ≡ Some m → length t.items ≤ m
 few-list refusal d t m is at = by (as_array d) is at
   where
-    made : (b : Bool) (ns : List ℤ) → ((if b then Ok ns else Err Source) >>= λ xs. Ok (ended xs (list_ending refusal))) ≡ Ok t → length t.items ≡ length ns
-    made true ns is = let e : t ≡ ended ns (list_ending refusal) = cc in ap (λ s. length s.items) e
+    made : (b : Bool) (ns : List ℤ) → ((if b then Ok ns else Err Source) >>= λ xs. Ok (ended_trace xs (list_ending refusal))) ≡ Ok t → length t.items ≡ length ns
+    made true ns is = let e : t ≡ ended_trace ns (list_ending refusal) = cc in ap (λ s. length s.items) e
     made false ns is = absurd (cc)
 
-    of : (o : Option (List ℤ)) (k : ℕ) → ((ns : List ℤ) → o ≡ Some ns → length ns ≡ k) → (or_shape o >>= few_numbers >>= λ xs. Ok (ended xs (list_ending refusal))) ≡ Ok t → length t.items ≡ k
+    of : (o : Option (List ℤ)) (k : ℕ) → ((ns : List ℤ) → o ≡ Some ns → length ns ≡ k) → (or_shape o >>= few_numbers >>= λ xs. Ok (ended_trace xs (list_ending refusal))) ≡ Ok t → length t.items ≡ k
     of None k h is = absurd (cc)
     of (Some ns) k h is = made (nat_le (length ns) (2 ^ 40)) ns is ∙ h ns refl
 
-    by : (o : Option Items) → (or_shape (option_and_then whole_numbers o) >>= few_numbers >>= λ xs. Ok (ended xs (list_ending refusal))) ≡ Ok t → option_map items_len o ≡ Some m → length t.items ≤ m
+    by : (o : Option Items) → (or_shape (option_and_then whole_numbers o) >>= few_numbers >>= λ xs. Ok (ended_trace xs (list_ending refusal))) ≡ Ok t → option_map items_len o ≡ Some m → length t.items ≤ m
     by None is at = absurd (cc)
     by (Some ds) is at = let e : items_len ds ≡ m = cc in omega (arith, e, of (whole_numbers ds) (items_len ds) (length-whole_numbers ds) is)
 
@@ -60,15 +60,15 @@ few-text d t m is at = by (as_str d) is at
 few-range : (start : ℤ) (count : ℕ) (t : Trace ℤ) → range_trace start count ≡ Ok t → length t.items ≤ count
 few-range start count t is = by (is_range start count) is
   where
-    by : (b : Bool) → (if b then Ok (ended (range_items start count) End) else Err Source) ≡ Ok t → length t.items ≤ count
-    by true is = let e : t ≡ ended (range_items start count) End = cc in omega (arith, ap (λ s. length s.items) e, length-range_items start count)
+    by : (b : Bool) → (if b then Ok (ended_trace (range_items start count) End) else Err Source) ≡ Ok t → length t.items ≤ count
+    by true is = let e : t ≡ ended_trace (range_items start count) End = cc in omega (arith, ap (λ s. length s.items) e, length-range_items start count)
     by false is = absurd (cc)
 
 few-repeat : (value : ℤ) (count : ℕ) (t : Trace ℤ) → repeat_trace value count ≡ Ok t → length t.items ≤ count
 few-repeat value count t is = by (is_repeat count) is
   where
-    by : (b : Bool) → (if b then Ok (ended (replicate count value) End) else Err Source) ≡ Ok t → length t.items ≤ count
-    by true is = let e : t ≡ ended (replicate count value) End = cc in omega (arith, ap (λ s. length s.items) e, length-replicate count value)
+    by : (b : Bool) → (if b then Ok (ended_trace (replicate count value) End) else Err Source) ≡ Ok t → length t.items ≤ count
+    by true is = let e : t ≡ ended_trace (replicate count value) End = cc in omega (arith, ap (λ s. length s.items) e, length-replicate count value)
     by false is = absurd (cc)
 
 few-counted : (f : ℤ → ℕ → Result (Trace ℤ) DocFault) → ((n : ℤ) (count : ℕ) (t : Trace ℤ) → f n count ≡ Ok t → length t.items ≤ count)

@@ -2,7 +2,7 @@
 use Rattle.std.specs.Prelude.{◌≡◌, ℕ, ℤ, pos, negsuc, Bool, List, [], ◌∷◌, Option, Some, None, Ok, Err, true, false, map, codes, refl}
 use Rattle.serde_json.specs.Data.{Data, null, unsigned, negative, number, string, array, object, no_members, member}
 use Rattle.serde_json.specs.View.{items_of}
-use Rattle.plinq_source.specs.Trace.{Trace, ended}
+use Rattle.plinq_source.specs.Trace.{Trace, ended_trace}
 use Rattle.plinq_source.specs.declared.ending.Ending.TheVariants.{End, Refused}
 use Rattle.plinq_lambda.specs.declared.formula.Formula.TheVariants.{Add, Below, Even}
 use Rattle.plinq_ops.specs.declared.op.Op.TheVariants.{Select, Filter, SelectMany, Take, Skip, TakeWhile, SkipWhile, AsUnordered}
@@ -54,7 +54,7 @@ select_add_one = row (word (codes "select") ∷ word (codes "add") ∷ whole 1 �
 
 -- {"version":1,"source":{"list":[3,1,4]},"query":[["as_ordered"],["select","add",1]]}
 pub meaning-example : document_meaning plain (document (as_ordered ∷ select_add_one ∷ []) (list_of (whole 3 ∷ whole 1 ∷ whole 4 ∷ [])) (whole 1))
-    ≡ Ok (record { query = record { ops = Select (Add (pos 1)) ∷ []; ordered = true; merge = None; degree = None }; source = ended (pos 3 ∷ pos 1 ∷ pos 4 ∷ []) End; growth = record { first = 1; repeat = 3; max = 512 }; aggregate = None; cancel_after = None })
+    ≡ Ok (record { query = record { ops = Select (Add (pos 1)) ∷ []; ordered = true; merge = None; degree = None }; source = ended_trace (pos 3 ∷ pos 1 ∷ pos 4 ∷ []) End; growth = record { first = 1; repeat = 3; max = 512 }; aggregate = None; cancel_after = None })
 meaning-example = refl
 
 -- {}
@@ -120,7 +120,7 @@ aggregating kind = object (member (codes "aggregate") kind (member (codes "query
 
 -- what that asks for
 abbrev with_aggregate : Option Kind → JobView
-with_aggregate kind = record { query = record { ops = []; ordered = false; merge = None; degree = None }; source = ended [] End; growth = record { first = 1; repeat = 3; max = 512 }; aggregate = kind; cancel_after = None }
+with_aggregate kind = record { query = record { ops = []; ordered = false; merge = None; degree = None }; source = ended_trace [] End; growth = record { first = 1; repeat = 3; max = 512 }; aggregate = kind; cancel_after = None }
 
 pub meaning-sum : document_meaning plain (aggregating (word (codes "sum"))) ≡ Ok (with_aggregate (Some Sum))
 meaning-sum = refl
@@ -164,15 +164,15 @@ abbrev all_of : Trace ℤ → JobView
 all_of t = record { query = record { ops = []; ordered = false; merge = None; degree = None }; source = t; growth = record { first = 1; repeat = 3; max = 512 }; aggregate = None; cancel_after = None }
 
 -- {"concat":[{"list":[1,2]},{"range":[5,2]}]}
-pub meaning-concat : document_meaning plain (document [] (concat_of_both (list_of (whole 1 ∷ whole 2 ∷ [])) (range_of (whole 5) (whole 2))) (whole 2)) ≡ Ok (all_of (ended (pos 1 ∷ pos 2 ∷ pos 5 ∷ pos 6 ∷ []) End))
+pub meaning-concat : document_meaning plain (document [] (concat_of_both (list_of (whole 1 ∷ whole 2 ∷ [])) (range_of (whole 5) (whole 2))) (whole 2)) ≡ Ok (all_of (ended_trace (pos 1 ∷ pos 2 ∷ pos 5 ∷ pos 6 ∷ []) End))
 meaning-concat = refl
 
 -- {"concat":[{"list":[1],"refuse":7},{"list":[2]}]}
-pub meaning-concat_refused : document_meaning plain (document [] (concat_of_both (object (member (codes "list") (row (whole 1 ∷ [])) (member (codes "refuse") (whole 7) no_members))) (list_of (whole 2 ∷ []))) (whole 2)) ≡ Ok (all_of (ended (pos 1 ∷ []) (Refused 7)))
+pub meaning-concat_refused : document_meaning plain (document [] (concat_of_both (object (member (codes "list") (row (whole 1 ∷ [])) (member (codes "refuse") (whole 7) no_members))) (list_of (whole 2 ∷ []))) (whole 2)) ≡ Ok (all_of (ended_trace (pos 1 ∷ []) (Refused 7)))
 meaning-concat_refused = refl
 
 -- {"concat":[{"list":[]},{"text":"x"}]}
-pub meaning-concat_refused_at_once : document_meaning plain (document [] (concat_of_both (list_of []) (text_of (codes "x"))) (whole 2)) ≡ Ok (all_of (ended [] (Refused 1)))
+pub meaning-concat_refused_at_once : document_meaning plain (document [] (concat_of_both (list_of []) (text_of (codes "x"))) (whole 2)) ≡ Ok (all_of (ended_trace [] (Refused 1)))
 meaning-concat_refused_at_once = refl
 
 -- version 1 has no concatenation, and none has one inside another
@@ -219,7 +219,7 @@ skip_while ds = row (word (codes "skip_while") ∷ ds)
 
 -- [["as_ordered"],["skip_while","below",5]]
 pub meaning-skip_while : document_meaning plain (document (as_ordered ∷ skip_while (word (codes "below") ∷ whole 5 ∷ []) ∷ []) (list_of []) (whole 2))
-    ≡ Ok (record { query = record { ops = SkipWhile (Below (pos 5)) ∷ []; ordered = true; merge = None; degree = None }; source = ended [] End; growth = record { first = 1; repeat = 3; max = 512 }; aggregate = None; cancel_after = None })
+    ≡ Ok (record { query = record { ops = SkipWhile (Below (pos 5)) ∷ []; ordered = true; merge = None; degree = None }; source = ended_trace [] End; growth = record { first = 1; repeat = 3; max = 512 }; aggregate = None; cancel_after = None })
 meaning-skip_while = refl
 
 -- version 1 doesn't know [["skip_while","even"]]

@@ -3,7 +3,7 @@ use Rattle.std.specs.Prelude.{ℕ, ◌+◌, ◌^◌, ℤ, Bool, false, ◌&&◌,
 use Rattle.std.specs.Str.{bytes_eq}
 use Rattle.serde_json.specs.Data.{Data, Items, no_items, item, Members, no_members, member}
 use Rattle.serde_json.specs.Find.{as_str, as_array, as_object, get}
-use Rattle.plinq_source.specs.Trace.{Trace, ended, list_ending}
+use Rattle.plinq_source.specs.Trace.{Trace, ended_trace, list_ending}
 use Rattle.plinq_source.specs.Text.{text_trace}
 use Rattle.plinq_source.specs.Range.{range_items, is_range}
 use Rattle.plinq_source.specs.Repeat.{is_repeat}
@@ -44,7 +44,7 @@ list_numbers d = or_shape (option_and_then whole_numbers (as_array d)) >>= few_n
 abbrev pub list_source : Option ℕ → Data → Result (Trace ℤ) DocFault
 list_source refusal d = do
   ns ← list_numbers d
-  Ok (ended ns (list_ending refusal))
+  Ok (ended_trace ns (list_ending refusal))
 
 -- the numbers of a text
 abbrev pub text_source : List ℕ → Result (Trace ℤ) DocFault
@@ -52,11 +52,11 @@ text_source text = if nat_le (length text) (2 ^ 40) then Ok (text_trace text) el
 
 -- the whole numbers from a start on, so many
 abbrev pub range_trace : ℤ → ℕ → Result (Trace ℤ) DocFault
-range_trace start count = if is_range start count then Ok (ended (range_items start count) End) else Err Source
+range_trace start count = if is_range start count then Ok (ended_trace (range_items start count) End) else Err Source
 
 -- one whole number, so many times
 abbrev pub repeat_trace : ℤ → ℕ → Result (Trace ℤ) DocFault
-repeat_trace value count = if is_repeat count then Ok (ended (replicate count value) End) else Err Source
+repeat_trace value count = if is_repeat count then Ok (ended_trace (replicate count value) End) else Err Source
 
 -- what is made of an item that is a whole number and one after it that is a count
 abbrev pub of_number_and_count : (ℤ → ℕ → Result (Trace ℤ) DocFault) → Items → Result (Trace ℤ) DocFault

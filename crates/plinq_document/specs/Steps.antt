@@ -99,11 +99,11 @@ abbrev pub call_of : Version → Data → Option StepCall
 call_of version d = option_and_then (call_from version) (as_array d)
 
 -- what a builder call answers: an operator is added after the others
-abbrev pub called : QueryView Formula → StepCall → Built Formula
-called q call.AsOrdered = with_order q
-called q (call.Operator op) = Ok (record q { ops = q.ops ++ op ∷ [] })
-called q (call.WithMerge option) = with_option q option
-called q (call.WithDegree n) = with_degree_of q n
+abbrev pub call_result : QueryView Formula → StepCall → Built Formula
+call_result q call.AsOrdered = with_order q
+call_result q (call.Operator op) = Ok (record q { ops = q.ops ++ op ∷ [] })
+call_result q (call.WithMerge option) = with_option q option
+call_result q (call.WithDegree n) = with_degree_of q n
 
 -- the query, or why it refused the call
 abbrev pub without_query : Built Formula → Result (QueryView Formula) StepFault
@@ -113,18 +113,18 @@ without_query (Err refused) = Err (Build refused.1)
 -- the query with a step that may be unknown
 abbrev pub with_known : QueryView Formula → Option StepCall → Result (QueryView Formula) StepFault
 with_known q None = Err Unknown
-with_known q (Some made) = without_query (called q made)
+with_known q (Some made) = without_query (call_result q made)
 
 -- the query with a step, or why there is none
 abbrev pub with_step_of : Version → QueryView Formula → Data → Result (QueryView Formula) StepFault
 with_step_of version q d = with_known q (call_of version d)
 
 -- the query, or the place of the step that is refused
-abbrev pub placed : ℕ → Result (QueryView Formula) StepFault → Result (QueryView Formula) DocFault
-placed at (Ok q) = Ok q
-placed at (Err why) = Err (Step at why)
+abbrev pub step_result : ℕ → Result (QueryView Formula) StepFault → Result (QueryView Formula) DocFault
+step_result at (Ok q) = Ok q
+step_result at (Err why) = Err (Step at why)
 
 -- the query with all the steps, of which the first has that place, or the first step that is refused
 abbrev pub with_steps_of : Version → ℕ → QueryView Formula → Items → Result (QueryView Formula) DocFault
 with_steps_of version at q no_items = Ok q
-with_steps_of version at q (item d ds) = placed at (with_step_of version q d) >>= λ new. with_steps_of version (at + 1) new ds
+with_steps_of version at q (item d ds) = step_result at (with_step_of version q d) >>= λ new. with_steps_of version (at + 1) new ds

@@ -1,7 +1,7 @@
 ghost use Rattle.std.specs.Prelude.{◌≡◌, ◌≢◌, MatchResult};
 ghost use Rattle.serde_json.specs.View.{view, items_view};
 ghost use Rattle.plinq_ops.specs.declared.build_fault.BuildFault.TheVariants.{Memory};
-ghost use Rattle.plinq_document.specs.Steps.{argument_of, op_from, other_call_from, call_alone, call_named, since, has_step, call_of, called};
+ghost use Rattle.plinq_document.specs.Steps.{argument_of, op_from, other_call_from, call_alone, call_named, since, has_step, call_of, call_result};
 
 use crate::formulas::formula_of;
 use crate::other_step::{OtherStep, other_step_named};
@@ -27,8 +27,8 @@ pub enum StepCall {
 impl StepCall {
     /// The query with this call, or the query unchanged and why it refuses.
     pub(crate) fn on(self, query: Query<Formula>) -> Built<Formula>
-        ensures { MatchResult result (λ new. called query self ≡ Ok new)
-            (λ refused. refused.1 ≢ Memory → called query self ≡ Err refused) }
+        ensures { MatchResult result (λ new. call_result query self ≡ Ok new)
+            (λ refused. refused.1 ≢ Memory → call_result query self ≡ Err refused) }
     {
         match self {
             StepCall::AsOrdered => query.as_ordered(),

@@ -6,7 +6,7 @@ use Rattle.plinq_keyed.specs.declared.tail.Tail.TheVariants.{Closed}
 use Rattle.plinq_keyed.specs.declared.event.Event.{Event}
 use Rattle.plinq_keyed.specs.declared.event.Event.TheVariants.{Ask, Close}
 use Rattle.plinq_keyed.specs.declared.record.Record.{Record}
-use Rattle.plinq_keyed.specs.History.{Place, start, reply, no_items, next_items, next_place, place_after, recorded, is_legal_history, next_record, tickets_below, ending_tail}
+use Rattle.plinq_keyed.specs.History.{Place, start, reply, no_items, next_items, next_place, place_after, request_record, is_legal_history, next_record, tickets_below, ending_tail}
 use Rattle.plinq_keyed.proofs.Legal.{place_after-append, IsLegalHistory-append}
 
 abbrev pub record_of : ℕ → Event → ℕ → ℕ → Option Tail → Record
@@ -39,7 +39,7 @@ open_reply t p n shut = ap (λ c. cond c (no_items p.given) (next_items t p.give
 pub next_record-closed : {T : Type 0} (t : Trace T) (h : List Record) (k n g : ℕ) → (place_after t start h).given ≡ g → (place_after t start h).closed ≡ true → record_of k (Ask n) g 0 (Some Closed) ≡ next_record t h k (Ask n)
 next_record-closed t h k n g at shut =
     ap (λ f. record_of k (Ask n) f 0 (Some Closed)) (sym at)
-    ∙ ap (recorded k (Ask n)) (sym (closed_reply t (place_after t start h) n shut))
+    ∙ ap (request_record k (Ask n)) (sym (closed_reply t (place_after t start h) n shut))
 
 -- the record of an Ask at place g, where nothing is closed
 pub next_record-open : {T : Type 0} (t : Trace T) (h : List Record) (k n g m : ℕ) (tail : Option Tail) → (place_after t start h).given ≡ g → (place_after t start h).closed ≡ false →
@@ -47,8 +47,8 @@ pub next_record-open : {T : Type 0} (t : Trace T) (h : List Record) (k n g m : �
 next_record-open t h k n g m tail at shut counted tailed =
     ap (λ c. record_of k (Ask n) g c tail) counted
     ∙ ap (λ o. record_of k (Ask n) g (length (items_from t g n)) o) tailed
-    ∙ ap (λ f. recorded k (Ask n) (next_items t f n)) (sym at)
-    ∙ ap (recorded k (Ask n)) (sym (open_reply t (place_after t start h) n shut))
+    ∙ ap (λ f. request_record k (Ask n) (next_items t f n)) (sym at)
+    ∙ ap (request_record k (Ask n)) (sym (open_reply t (place_after t start h) n shut))
 
 pub next_place-closed : {T : Type 0} (t : Trace T) (p : Place) (n : ℕ) → p.closed ≡ true → next_place t p (Ask n) ≡ p
 next_place-closed t p n shut =

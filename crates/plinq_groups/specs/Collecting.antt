@@ -2,7 +2,7 @@
 use Rattle.std.specs.Prelude.{◌≡◌, List, [], ◌∷◌, ◌++◌}
 use Rattle.std.specs.List.{fold}
 use Rattle.std.proofs.Common.{sym, ◌∙◌, append_assoc, append-nil}
-use Rattle.plinq_aggregate.specs.Folding.{Folding, folded, IsFolding}
+use Rattle.plinq_aggregate.specs.Folding.{Folding, fold_of, IsFolding}
 use Rattle.plinq_groups.specs.inner.Acting.{acting-lawful}
 
 -- items one after another
@@ -17,5 +17,5 @@ collects-from ys [] = sym (append-nil ys)
 collects-from ys (x ∷ xs) = collects-from (ys ++ x ∷ []) xs ∙ append_assoc ys (x ∷ []) xs
 
 -- what was collected are the items
-pub folded-collecting : {T : Type 0} (xs : List T) → folded collecting xs ≡ xs
-folded-collecting xs = collects-from [] xs
+pub fold_of-collecting : {T : Type 0} (xs : List T) → fold_of collecting xs ≡ xs
+fold_of-collecting xs = collects-from [] xs

@@ -5,72 +5,72 @@ use Rattle.std.specs.Cmp.{IsEquivalence}
 use Rattle.std.proofs.Common.{sym, ◌∙◌, ap}
 use Rattle.std.proofs.lemmas.List.{map-append}
 use Rattle.std.proofs.lemmas.List.Sums.{fold-append}
-use Rattle.plinq_aggregate.specs.Folding.{Folding, folded, IsFolding}
-use Rattle.plinq_groups.specs.Groups.{placed, with_item, with_group, grouping}
-use Rattle.plinq_groups.specs.inner.Joined.{joined, joined-here, joined-later, joins-apart}
+use Rattle.plinq_aggregate.specs.Folding.{Folding, fold_of, IsFolding}
+use Rattle.plinq_groups.specs.Groups.{placed_groups, with_item, with_group, grouping}
+use Rattle.plinq_groups.specs.inner.Joined.{joined_groups, joined_groups-here, joined_groups-later, joins-apart}
 
 -- a group of one item
 abbrev pub single : {K T : Type 0} → (T → K) → T → K × List T
 single key x = (key x, x ∷ [])
 
 -- items into the groups of their keys, each a list
-abbrev pub collected : {K T : Type 0} → (K → K → Bool) → (T → K) → List T → List (K × List T)
-collected eq key xs = fold (joined eq) [] (map (single key) xs)
+abbrev pub collected_groups : {K T : Type 0} → (K → K → Bool) → (T → K) → List T → List (K × List T)
+collected_groups eq key xs = fold (joined_groups eq) [] (map (single key) xs)
 
 -- groups of lists, each list folded
 abbrev pub each_folded : {K T A O : Type 0} → Folding T A O → List (K × List T) → List (K × A)
-each_folded f gs = map (λ g. (g.0, folded f g.1)) gs
+each_folded f gs = map (λ g. (g.0, fold_of f g.1)) gs
 
 module _ {K T A O : Type 0} (eq : K → K → Bool) (key : T → K) (f : Folding T A O) where
-  placed-here : (k : K) (new : A) (change : A → A) (g : K × A) (gs : List (K × A)) → eq k g.0 ≡ true → placed eq k new change (g ∷ gs) ≡ (g.0, change g.1) ∷ gs
-  placed-here k new change g gs is = ap (λ b. cond b ((g.0, change g.1) ∷ gs) (g ∷ placed eq k new change gs)) is
+  placed_groups-here : (k : K) (new : A) (change : A → A) (g : K × A) (gs : List (K × A)) → eq k g.0 ≡ true → placed_groups eq k new change (g ∷ gs) ≡ (g.0, change g.1) ∷ gs
+  placed_groups-here k new change g gs is = ap (λ b. cond b ((g.0, change g.1) ∷ gs) (g ∷ placed_groups eq k new change gs)) is
 
-  placed-later : (k : K) (new : A) (change : A → A) (g : K × A) (gs : List (K × A)) → eq k g.0 ≡ false → placed eq k new change (g ∷ gs) ≡ g ∷ placed eq k new change gs
-  placed-later k new change g gs is = ap (λ b. cond b ((g.0, change g.1) ∷ gs) (g ∷ placed eq k new change gs)) is
+  placed_groups-later : (k : K) (new : A) (change : A → A) (g : K × A) (gs : List (K × A)) → eq k g.0 ≡ false → placed_groups eq k new change (g ∷ gs) ≡ g ∷ placed_groups eq k new change gs
+  placed_groups-later k new change g gs is = ap (λ b. cond b ((g.0, change g.1) ∷ gs) (g ∷ placed_groups eq k new change gs)) is
 
   -- a group that is changed as its list is joined
-  folds-placed-at : (h : K × List T) (change : A → A) → ((xs : List T) → folded f (xs ++ h.1) ≡ change (folded f xs)) → (g : K × List T) (gs : List (K × List T))
-      → each_folded f (joined eq gs h) ≡ placed eq h.0 (folded f h.1) change (each_folded f gs)
-      → (b : Bool) → eq h.0 g.0 ≡ b → each_folded f (joined eq (g ∷ gs) h) ≡ placed eq h.0 (folded f h.1) change (each_folded f (g ∷ gs))
-  folds-placed-at h change same g gs rest true is =
-      ap (each_folded f) (joined-here eq g h gs is)
+  folds-placed_groups-at : (h : K × List T) (change : A → A) → ((xs : List T) → fold_of f (xs ++ h.1) ≡ change (fold_of f xs)) → (g : K × List T) (gs : List (K × List T))
+      → each_folded f (joined_groups eq gs h) ≡ placed_groups eq h.0 (fold_of f h.1) change (each_folded f gs)
+      → (b : Bool) → eq h.0 g.0 ≡ b → each_folded f (joined_groups eq (g ∷ gs) h) ≡ placed_groups eq h.0 (fold_of f h.1) change (each_folded f (g ∷ gs))
+  folds-placed_groups-at h change same g gs rest true is =
+      ap (each_folded f) (joined_groups-here eq g h gs is)
       ∙ ap (λ a. (g.0, a) ∷ each_folded f gs) (same g.1)
-      ∙ sym (placed-here h.0 (folded f h.1) change (g.0, folded f g.1) (each_folded f gs) is)
-  folds-placed-at h change same g gs rest false is =
-      ap (each_folded f) (joined-later eq g h gs is)
-      ∙ ap (λ x. (g.0, folded f g.1) ∷ x) rest
-      ∙ sym (placed-later h.0 (folded f h.1) change (g.0, folded f g.1) (each_folded f gs) is)
+      ∙ sym (placed_groups-here h.0 (fold_of f h.1) change (g.0, fold_of f g.1) (each_folded f gs) is)
+  folds-placed_groups-at h change same g gs rest false is =
+      ap (each_folded f) (joined_groups-later eq g h gs is)
+      ∙ ap (λ x. (g.0, fold_of f g.1) ∷ x) rest
+      ∙ sym (placed_groups-later h.0 (fold_of f h.1) change (g.0, fold_of f g.1) (each_folded f gs) is)
 
-  folds-placed : (h : K × List T) (change : A → A) → ((xs : List T) → folded f (xs ++ h.1) ≡ change (folded f xs)) → (gs : List (K × List T))
-      → each_folded f (joined eq gs h) ≡ placed eq h.0 (folded f h.1) change (each_folded f gs)
-  folds-placed h change same [] = refl
-  folds-placed h change same (g ∷ gs) = folds-placed-at h change same g gs (folds-placed h change same gs) (eq h.0 g.0) refl
+  folds-placed_groups : (h : K × List T) (change : A → A) → ((xs : List T) → fold_of f (xs ++ h.1) ≡ change (fold_of f xs)) → (gs : List (K × List T))
+      → each_folded f (joined_groups eq gs h) ≡ placed_groups eq h.0 (fold_of f h.1) change (each_folded f gs)
+  folds-placed_groups h change same [] = refl
+  folds-placed_groups h change same (g ∷ gs) = folds-placed_groups-at h change same g gs (folds-placed_groups h change same gs) (eq h.0 g.0) refl
 
-  folds-items : (gs : List (K × List T)) (xs : List T) → fold (with_item eq key f) (each_folded f gs) xs ≡ each_folded f (fold (joined eq) gs (map (single key) xs))
+  folds-items : (gs : List (K × List T)) (xs : List T) → fold (with_item eq key f) (each_folded f gs) xs ≡ each_folded f (fold (joined_groups eq) gs (map (single key) xs))
   folds-items gs [] = refl
   folds-items gs (x ∷ xs) =
-      ap (λ a. fold (with_item eq key f) a xs) (sym (folds-placed (single key x) (λ a. f.update a x) (λ ys. fold-append f.update f.seed ys (x ∷ [])) gs))
-      ∙ folds-items (joined eq gs (single key x)) xs
+      ap (λ a. fold (with_item eq key f) a xs) (sym (folds-placed_groups (single key x) (λ a. f.update a x) (λ ys. fold-append f.update f.seed ys (x ∷ [])) gs))
+      ∙ folds-items (joined_groups eq gs (single key x)) xs
 
   -- the groups' accumulators are those of the items in them
-  pub grouped-folded : (xs : List T) → folded (grouping eq key f) xs ≡ each_folded f (collected eq key xs)
-  grouped-folded xs = folds-items [] xs
+  pub grouped-fold_of : (xs : List T) → fold_of (grouping eq key f) xs ≡ each_folded f (collected_groups eq key xs)
+  grouped-fold_of xs = folds-items [] xs
 
-  folds-groups : IsFolding f → (gs hs : List (K × List T)) → fold (with_group eq key f) (each_folded f gs) (each_folded f hs) ≡ each_folded f (fold (joined eq) gs hs)
+  folds-groups : IsFolding f → (gs hs : List (K × List T)) → fold (with_group eq key f) (each_folded f gs) (each_folded f hs) ≡ each_folded f (fold (joined_groups eq) gs hs)
   folds-groups lawful gs [] = refl
   folds-groups lawful gs (h ∷ hs) =
-      ap (λ a. fold (with_group eq key f) a (each_folded f hs)) (sym (folds-placed h (λ a. f.combine a (folded f h.1)) (λ ys. sym (lawful.joins ys h.1)) gs))
-      ∙ folds-groups lawful (joined eq gs h) hs
+      ap (λ a. fold (with_group eq key f) a (each_folded f hs)) (sym (folds-placed_groups h (λ a. f.combine a (fold_of f h.1)) (λ ys. sym (lawful.joins ys h.1)) gs))
+      ∙ folds-groups lawful (joined_groups eq gs h) hs
 
-  joins : IsEquivalence eq → IsFolding f → (xs ys : List T) → fold (with_group eq key f) (folded (grouping eq key f) xs) (folded (grouping eq key f) ys) ≡ folded (grouping eq key f) (xs ++ ys)
+  joins : IsEquivalence eq → IsFolding f → (xs ys : List T) → fold (with_group eq key f) (fold_of (grouping eq key f) xs) (fold_of (grouping eq key f) ys) ≡ fold_of (grouping eq key f) (xs ++ ys)
   joins equal lawful xs ys =
-      ap (λ a. fold (with_group eq key f) a (folded (grouping eq key f) ys)) (grouped-folded xs)
-      ∙ ap (λ a. fold (with_group eq key f) (each_folded f (collected eq key xs)) a) (grouped-folded ys)
-      ∙ folds-groups lawful (collected eq key xs) (collected eq key ys)
-      ∙ ap (each_folded f) (joins-apart eq equal (collected eq key xs) (map (single key) ys)
-      ∙ sym (fold-append (joined eq) [] (map (single key) xs) (map (single key) ys))
-      ∙ ap (λ zs. fold (joined eq) [] zs) (sym (map-append (single key) xs ys)))
-      ∙ sym (grouped-folded (xs ++ ys))
+      ap (λ a. fold (with_group eq key f) a (fold_of (grouping eq key f) ys)) (grouped-fold_of xs)
+      ∙ ap (λ a. fold (with_group eq key f) (each_folded f (collected_groups eq key xs)) a) (grouped-fold_of ys)
+      ∙ folds-groups lawful (collected_groups eq key xs) (collected_groups eq key ys)
+      ∙ ap (each_folded f) (joins-apart eq equal (collected_groups eq key xs) (map (single key) ys)
+      ∙ sym (fold-append (joined_groups eq) [] (map (single key) xs) (map (single key) ys))
+      ∙ ap (λ zs. fold (joined_groups eq) [] zs) (sym (map-append (single key) xs ys)))
+      ∙ sym (grouped-fold_of (xs ++ ys))
 
   pub grouping-lawful : IsEquivalence eq → IsFolding f → IsFolding (grouping eq key f)
   grouping-lawful equal lawful = record { joins = joins equal lawful; neutral = λ xs. joins equal lawful [] xs }

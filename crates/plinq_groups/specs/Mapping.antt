@@ -2,7 +2,7 @@
 use Rattle.std.specs.Prelude.{◌≡◌, refl, ℕ, ⊤, List, [], ◌∷◌, ◌++◌, map, Option, Some, None, Result, Ok, Err}
 use Rattle.std.specs.List.{fold}
 use Rattle.std.proofs.Common.{sym, ◌∙◌, ap, append_assoc, append-nil}
-use Rattle.plinq_aggregate.specs.Folding.{Folding, folded, IsFolding}
+use Rattle.plinq_aggregate.specs.Folding.{Folding, fold_of, IsFolding}
 use Rattle.plinq_groups.specs.declared.map_fault.MapFault.{MapFault}
 use Rattle.plinq_groups.specs.declared.map_fault.MapFault.TheVariants.{Memory, Code}
 use Rattle.plinq_groups.specs.inner.Acting.{acting-lawful}
@@ -48,28 +48,28 @@ module _ {T B : Type 0} (maps : T → Result B ℕ) where
   before_made (Ok y) rest = (y ∷ rest.0, rest.1)
   before_made (Err code) rest = ([], Some code)
 
-  abbrev pub mapped : List T → List B × Option ℕ
-  mapped [] = ([], None)
-  mapped (x ∷ xs) = before_made (maps x) (mapped xs)
+  abbrev pub mapped_items : List T → List B × Option ℕ
+  mapped_items [] = ([], None)
+  mapped_items (x ∷ xs) = before_made (maps x) (mapped_items xs)
 
   stopped : (ys : List B) (code : ℕ) (xs : List T) → fold mapping.update (ys, Some code) xs ≡ (ys, Some code)
   stopped ys code [] = refl
   stopped ys code (x ∷ xs) = stopped ys code xs
 
-  mapped-at : (ys : List B) (x : T) (xs : List T) → ((zs : List B) → fold mapping.update (zs, None) xs ≡ (zs ++ (mapped xs).0, (mapped xs).1))
-      → (r : Result B ℕ) → fold mapping.update (with_made ys None r) xs ≡ (ys ++ (before_made r (mapped xs)).0, (before_made r (mapped xs)).1)
-  mapped-at ys x xs rest (Ok y) = rest (ys ++ y ∷ []) ∙ ap (λ l. (l, (mapped xs).1)) (append_assoc ys (y ∷ []) (mapped xs).0)
-  mapped-at ys x xs rest (Err code) = stopped ys code xs ∙ ap (λ l. (l, Some code)) (sym (append-nil ys))
+  mapped_items-at : (ys : List B) (x : T) (xs : List T) → ((zs : List B) → fold mapping.update (zs, None) xs ≡ (zs ++ (mapped_items xs).0, (mapped_items xs).1))
+      → (r : Result B ℕ) → fold mapping.update (with_made ys None r) xs ≡ (ys ++ (before_made r (mapped_items xs)).0, (before_made r (mapped_items xs)).1)
+  mapped_items-at ys x xs rest (Ok y) = rest (ys ++ y ∷ []) ∙ ap (λ l. (l, (mapped_items xs).1)) (append_assoc ys (y ∷ []) (mapped_items xs).0)
+  mapped_items-at ys x xs rest (Err code) = stopped ys code xs ∙ ap (λ l. (l, Some code)) (sym (append-nil ys))
 
-  mapped-from : (xs : List T) (ys : List B) → fold mapping.update (ys, None) xs ≡ (ys ++ (mapped xs).0, (mapped xs).1)
-  mapped-from [] ys = ap (λ l. (l, None)) (sym (append-nil ys))
-  mapped-from (x ∷ xs) ys = mapped-at ys x xs (mapped-from xs) (maps x)
+  mapped_items-from : (xs : List T) (ys : List B) → fold mapping.update (ys, None) xs ≡ (ys ++ (mapped_items xs).0, (mapped_items xs).1)
+  mapped_items-from [] ys = ap (λ l. (l, None)) (sym (append-nil ys))
+  mapped_items-from (x ∷ xs) ys = mapped_items-at ys x xs (mapped_items-from xs) (maps x)
 
   -- what the fold comes to
-  pub folded-mapping : (xs : List T) → folded mapping xs ≡ mapped xs
-  folded-mapping xs = mapped-from xs []
+  pub fold_of-mapping : (xs : List T) → fold_of mapping xs ≡ mapped_items xs
+  fold_of-mapping xs = mapped_items-from xs []
 
 -- where something can be made of each item, it is made of all
-pub mapped-all : {T B : Type 0} (h : T → B) (xs : List T) → mapped (λ x. Ok (h x)) xs ≡ (map h xs, None)
-mapped-all h [] = refl
-mapped-all h (x ∷ xs) = ap (λ r. (h x ∷ r.0, r.1)) (mapped-all h xs)
+pub mapped_items-all : {T B : Type 0} (h : T → B) (xs : List T) → mapped_items (λ x. Ok (h x)) xs ≡ (map h xs, None)
+mapped_items-all h [] = refl
+mapped_items-all h (x ∷ xs) = ap (λ r. (h x ∷ r.0, r.1)) (mapped_items-all h xs)

@@ -7,7 +7,7 @@ use Rattle.std.specs.declared.cmp.Ordering.{Ordering}
 use Rattle.std.specs.declared.cmp.Ordering.TheVariants.{Less}
 use Rattle.std.proofs.Common.{sym, ◌∙◌, ap, subst, arith, true≢false}
 use Rattle.std.proofs.lemmas.List.Sums.{fold-append}
-use Rattle.plinq_aggregate.specs.Folding.{Folding, folded, IsFolding}
+use Rattle.plinq_aggregate.specs.Folding.{Folding, fold_of, IsFolding}
 use Rattle.plinq_groups.specs.Ranked.{less-between, less-is}
 
 module _ {T K : Type 0} (rank : T → K) (cmp : K → K → Ordering) where
@@ -21,8 +21,8 @@ module _ {T K : Type 0} (rank : T → K) (cmp : K → K → Ordering) where
   with_ranked (y ∷ ys) x = cond (is_lesser y x) (x ∷ y ∷ ys) (y ∷ with_ranked ys x)
 
   -- .NET's OrderByDescending
-  abbrev pub ranked : List T → List T
-  ranked xs = fold with_ranked [] xs
+  abbrev pub ranked_items : List T → List T
+  ranked_items xs = fold with_ranked [] xs
 
   -- the first of them with one item more
   abbrev pub with_top : ℕ → List T → T → List T
@@ -63,8 +63,8 @@ module _ {T K : Type 0} (rank : T → K) (cmp : K → K → Ordering) where
   take-nil (suc n) = refl
 
   -- the first of all that are ranked
-  pub folded-top : (n : ℕ) (xs : List T) → folded (topping n) xs ≡ take n (ranked xs)
-  folded-top n xs = ap (λ l. fold (with_top n) l xs) (sym (take-nil n)) ∙ cut-all n [] xs
+  pub fold_of-top : (n : ℕ) (xs : List T) → fold_of (topping n) xs ≡ take n (ranked_items xs)
+  fold_of-top n xs = ap (λ l. fold (with_top n) l xs) (sym (take-nil n)) ∙ cut-all n [] xs
 
   -- ---- those that were ranked apart
 
@@ -245,14 +245,14 @@ module _ {T K : Type 0} (rank : T → K) (cmp : K → K → Ordering) where
         let next : n ≡ suc k + m = omega (arith, is) in
         kept n m (suc k) zs (with_ranked ys z) next are.1 (more-all k ys z zs are.0 leads.1)
 
-    joins : (n : ℕ) (xs ys : List T) → fold (with_top n) (folded (topping n) xs) (folded (topping n) ys) ≡ folded (topping n) (xs ++ ys)
+    joins : (n : ℕ) (xs ys : List T) → fold (with_top n) (fold_of (topping n) xs) (fold_of (topping n) ys) ≡ fold_of (topping n) (xs ++ ys)
     joins n xs ys =
-        ap (λ l. fold (with_top n) l (folded (topping n) ys)) (folded-top n xs)
-        ∙ ap (fold (with_top n) (take n (ranked xs))) (folded-top n ys)
-        ∙ cut-all n (ranked xs) (take n (ranked ys))
-        ∙ kept n n 0 (ranked ys) (ranked xs) (omega arith) (ranked-all ys [] tt) (none-leads (ranked xs) (ranked ys))
-        ∙ ap (take n) (all-through ys [] (ranked xs) tt ∙ sym (fold-append with_ranked [] xs ys))
-        ∙ sym (folded-top n (xs ++ ys))
+        ap (λ l. fold (with_top n) l (fold_of (topping n) ys)) (fold_of-top n xs)
+        ∙ ap (fold (with_top n) (take n (ranked_items xs))) (fold_of-top n ys)
+        ∙ cut-all n (ranked_items xs) (take n (ranked_items ys))
+        ∙ kept n n 0 (ranked_items ys) (ranked_items xs) (omega arith) (ranked-all ys [] tt) (none-leads (ranked_items xs) (ranked_items ys))
+        ∙ ap (take n) (all-through ys [] (ranked_items xs) tt ∙ sym (fold-append with_ranked [] xs ys))
+        ∙ sym (fold_of-top n (xs ++ ys))
 
     pub topping-lawful : (n : ℕ) → IsFolding (topping n)
     topping-lawful n = record { joins = joins n; neutral = λ xs. joins n [] xs }

@@ -11,7 +11,7 @@ use Rattle.plinq_keyed.specs.declared.event.Event.{Event}
 use Rattle.plinq_keyed.specs.declared.event.Event.TheVariants.{Ask, Close}
 use Rattle.plinq_keyed.specs.declared.record.Record.{Record}
 use Rattle.plinq_keyed.specs.Keys.{keyed_from, rises_from, rises}
-use Rattle.plinq_keyed.specs.History.{Place, start, Reply, reply, no_items, next_items, next_place, place_after, recorded, same_way, same_tail, tells, is_run, is_legal_history, IsLegalHistory, next_record, with_next, tickets_below, handed_out, IsPrefix, some_source, ending_tail, record_items}
+use Rattle.plinq_keyed.specs.History.{Place, start, Reply, reply, no_items, next_items, next_place, place_after, request_record, same_way, same_tail, tells, is_run, is_legal_history, IsLegalHistory, next_record, with_next, tickets_below, handed_out, IsPrefix, some_source, ending_tail, record_items}
 
 pub place_after-append : {T : Type 0} (t : Trace T) (p : Place) (h : List Record) (r : Record) → place_after t p (h ++ r ∷ []) ≡ next_place t (place_after t p h) r.asked
 place_after-append t p [] r = refl
@@ -46,8 +46,8 @@ same_tail-true None (Some b) e = cc
 same_tail-true (Some a) None e = cc
 same_tail-true (Some a) (Some b) e = ap Some (same_way-true a b e)
 
-tells-recorded : {T : Type 0} (k : ℕ) (e : Event) (a : Reply T) → tells (recorded k e a) a ≡ true
-tells-recorded k e a =
+tells-request_record : {T : Type 0} (k : ℕ) (e : Event) (a : Reply T) → tells (request_record k e a) a ≡ true
+tells-request_record k e a =
     and_from _ _ (and_from _ _ (eq-eqb a.first a.first refl) (eq-eqb (length a.items) (length a.items) refl)) (same_tail-refl a.tail)
 
 -- after numbers that rise, and are below it, a number rises too
@@ -65,7 +65,7 @@ IsLegalHistory-append t h k e legal below =
     let r = next_record t h k e in
     let parts = and_parts (is_run t start h) _ legal in
     and_from _ _
-    (is_run-append t start h r ∙ and_from _ _ parts.0 (tells-recorded k e (reply t (place_after t start h) e)))
+    (is_run-append t start h r ∙ and_from _ _ parts.0 (tells-request_record k e (reply t (place_after t start h) e)))
     (ap rises (map-append (λ r. r.ticket) h (r ∷ [])) ∙ rises_from-append 0 h k (omega arith) parts.1 below)
 
 pub tickets_below-append : (k : ℕ) (h : List Record) (r : Record) → tickets_below k (h ++ r ∷ []) ≡ (tickets_below k h && ltb r.ticket k)

@@ -2,7 +2,7 @@
 use Rattle.std.specs.Prelude.{◌≡◌, ℕ, ◌+◌, ◌-◌, ◌≤◌, ◌==◌, List, [], ◌∷◌, ◌++◌, length, take, map, replicate, Option, Some, None, Bool, true, false, ◌&&◌, nat_lt, if◌then◌else◌, get_or, refl}
 use Rattle.std.proofs.Common.{arith, ap}
 use Rattle.std.specs.List.{list_all}
-use Rattle.plinq_source.specs.Trace.{Trace, ended, items_from}
+use Rattle.plinq_source.specs.Trace.{Trace, ended_trace, items_from}
 use Rattle.plinq_source.specs.declared.ending.Ending.{Ending}
 use Rattle.plinq_source.specs.declared.ending.Ending.TheVariants.{End, Refused, Fault}
 use Rattle.plinq_keyed.specs.Keys.{rises, keys, keyed_from}
@@ -67,8 +67,8 @@ place_after t p [] = p
 place_after t p (r ∷ rs) = place_after t (next_place t p r.asked) rs
 
 -- the record of a request and its answer
-abbrev pub recorded : {T : Type 0} → ℕ → Event → Reply T → Record
-recorded ticket e a = record {
+abbrev pub request_record : {T : Type 0} → ℕ → Event → Reply T → Record
+request_record ticket e a = record {
   ticket = ticket;
   asked = e;
   first = a.first;
@@ -109,7 +109,7 @@ IsLegalHistory t h = is_legal_history t h ≡ true
 
 -- what is recorded next, when after this history a request comes under that ticket
 abbrev pub next_record : {T : Type 0} → Trace T → List Record → ℕ → Event → Record
-next_record t h ticket e = recorded ticket e (reply t (place_after t start h) e)
+next_record t h ticket e = request_record ticket e (reply t (place_after t start h) e)
 
 -- a history with the record of one more request after it
 abbrev pub with_next : {T : Type 0} → Trace T → List Record → ℕ → Event → List Record
@@ -156,7 +156,7 @@ example closed_at =
     ∷ []
 
 abbrev one_item : Trace ℕ
-one_item = ended (5 ∷ []) End
+one_item = ended_trace (5 ∷ []) End
 
 example_is_legal : is_legal_history one_item (example 1) ≡ true
 example_is_legal = refl
@@ -189,10 +189,10 @@ falling_tickets = refl
 abbrev refused_with : ℕ → List Record
 refused_with code = record { ticket = 0; asked = Ask 2; first = 0; count = 1; tail = Some (TailRefused code) } ∷ []
 
-refused_with_its_code : is_legal_history {T = ℕ} (ended (5 ∷ []) (Refused 7)) (refused_with 7) ≡ true
+refused_with_its_code : is_legal_history {T = ℕ} (ended_trace (5 ∷ []) (Refused 7)) (refused_with 7) ≡ true
 refused_with_its_code = refl
 
-refused_with_another : is_legal_history {T = ℕ} (ended (5 ∷ []) (Refused 7)) (refused_with 8) ≡ false
+refused_with_another : is_legal_history {T = ℕ} (ended_trace (5 ∷ []) (Refused 7)) (refused_with 8) ≡ false
 refused_with_another = refl
 
 -- one record of a source of one item that was asked for so many, which states that count and that tail
@@ -229,5 +229,5 @@ twice_is_no_prefix handed = omega (arith, ap length handed.prefix)
 abbrev under_key_1 : List Record
 under_key_1 = record { ticket = 0; asked = Ask 1; first = 1; count = 1; tail = None } ∷ []
 
-another_key_is_no_prefix : IsPrefix {T = ℕ} (ended (5 ∷ 6 ∷ []) End) under_key_1 → ⊥
+another_key_is_no_prefix : IsPrefix {T = ℕ} (ended_trace (5 ∷ 6 ∷ []) End) under_key_1 → ⊥
 another_key_is_no_prefix handed = absurd (omega (arith, ap (λ ks. get_or ks 0 0) (ap keys handed.prefix)))

@@ -52,9 +52,9 @@ expansion_length (pos n) = if nat_le n most_items then Ok n else Err too_many
 expansion_length (negsuc n) = Ok 0
 
 -- the list of that many items
-abbrev pub counted : (ℕ → List ℤ) → Result ℕ ℕ → Result (List ℤ) ℕ
-counted items (Ok n) = Ok (items n)
-counted items (Err code) = Err code
+abbrev pub counted_items : (ℕ → List ℤ) → Result ℕ ℕ → Result (List ℤ) ℕ
+counted_items items (Ok n) = Ok (items n)
+counted_items items (Err code) = Err code
 
 -- what is made of an element, by the formula's kind: arithmetic makes a number, a test an answer, an expansion a list
 pub data Outcome : Type 0 where
@@ -72,14 +72,14 @@ outcome (Below c) x = Answer (int_lt x c)
 outcome (Above c) x = Answer (int_lt c x)
 outcome (Equal c) x = Answer (int_eq x c)
 outcome Even x = Answer (is_even x)
-outcome (Repeat c) x = Items (counted (λ n. replicate n x) (expansion_length c))
-outcome UpTo x = Items (counted numbers_up_to (expansion_length x))
+outcome (Repeat c) x = Items (counted_items (λ n. replicate n x) (expansion_length c))
+outcome UpTo x = Items (counted_items numbers_up_to (expansion_length x))
 
 -- as the element of a Select: a test is 1 or 0, and an expansion leaves x as it is
-abbrev pub mapped : ℤ → Outcome → Result ℤ ℕ
-mapped x (Number r) = r
-mapped x (Answer b) = Ok (if b then pos 1 else pos 0)
-mapped x (Items r) = Ok x
+abbrev pub mapped_element : ℤ → Outcome → Result ℤ ℕ
+mapped_element x (Number r) = r
+mapped_element x (Answer b) = Ok (if b then pos 1 else pos 0)
+mapped_element x (Items r) = Ok x
 
 -- a number passes exactly if it isn't 0
 abbrev pub is_not_zero : Result ℤ ℕ → Result Bool ℕ
@@ -87,26 +87,26 @@ is_not_zero (Ok y) = Ok (not (int_eq y (pos 0)))
 is_not_zero (Err code) = Err code
 
 -- as the answer of a Where: what is no test passes as its mapped element does
-abbrev pub tested : ℤ → Outcome → Result Bool ℕ
-tested x (Answer b) = Ok b
-tested x o = is_not_zero (mapped x o)
+abbrev pub test_answer : ℤ → Outcome → Result Bool ℕ
+test_answer x (Answer b) = Ok b
+test_answer x o = is_not_zero (mapped_element x o)
 
 -- a number alone
-abbrev pub alone : Result ℤ ℕ → Result (List ℤ) ℕ
-alone (Ok y) = Ok (y ∷ [])
-alone (Err code) = Err code
+abbrev pub single_item : Result ℤ ℕ → Result (List ℤ) ℕ
+single_item (Ok y) = Ok (y ∷ [])
+single_item (Err code) = Err code
 
 -- as the items of a SelectMany: what is no expansion is its mapped element alone
-abbrev pub expanded : ℤ → Outcome → Result (List ℤ) ℕ
-expanded x (Items r) = r
-expanded x o = alone (mapped x o)
+abbrev pub expanded_items : ℤ → Outcome → Result (List ℤ) ℕ
+expanded_items x (Items r) = r
+expanded_items x o = single_item (mapped_element x o)
 
 -- the three functions that a formula stands for
 abbrev pub formula_meaning : Formula → Meaning ℤ
 formula_meaning f = record {
-  map = λ x. mapped x (outcome f x);
-  test = λ x. tested x (outcome f x);
-  expand = λ x. expanded x (outcome f x);
+  map = λ x. mapped_element x (outcome f x);
+  test = λ x. test_answer x (outcome f x);
+  expand = λ x. expanded_items x (outcome f x);
 }
 
 -- ---- worked rows: a number -n is written neg_ℤ (pos n)

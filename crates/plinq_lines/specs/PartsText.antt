@@ -3,7 +3,7 @@ use Rattle.std.specs.Prelude.{◌≡◌, ℕ, ◌+◌, ℤ, pos, List, [], ◌�
 use Rattle.std.specs.List.{flat_map}
 use Rattle.std.specs.Fmt.{signed_decimal, digits}
 use Rattle.plinq_source.specs.declared.ending.Ending.TheVariants.{End}
-use Rattle.plinq_source.specs.Trace.{Trace, ended}
+use Rattle.plinq_source.specs.Trace.{Trace, ended_trace}
 use Rattle.plinq_keyed.specs.declared.keyed.Keyed.{Keyed}
 use Rattle.plinq_keyed.specs.declared.properties.KeyProperties.{KeyProperties}
 use Rattle.plinq_keyed.specs.Keys.{keyed_from}
@@ -41,12 +41,12 @@ parts_text n u = properties_line all_true ++ (part_lines 0 (cuts (keyed_from 0 u
 
 -- ---- worked rows
 
-pub five_in_two : parts_text 2 (ended (pos 5 ∷ pos 6 ∷ pos 7 ∷ pos 8 ∷ pos 9 ∷ []) End)
+pub five_in_two : parts_text 2 (ended_trace (pos 5 ∷ pos 6 ∷ pos 7 ∷ pos 8 ∷ pos 9 ∷ []) End)
     ≡ codes "properties true true true\n0: 0=5 1=6\n1: 2=7 3=8 4=9\nend\n"
 unfolding digits
 five_in_two = refl
 
-pub none_in_two : parts_text 2 (ended [] End) ≡ codes "properties true true true\n0:\n1:\nend\n"
+pub none_in_two : parts_text 2 (ended_trace [] End) ≡ codes "properties true true true\n0:\n1:\nend\n"
 unfolding digits
 none_in_two = refl
 

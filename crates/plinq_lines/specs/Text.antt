@@ -4,7 +4,7 @@ use Rattle.std.specs.List.{flat_map}
 use Rattle.std.specs.Fmt.{signed_decimal, digits}
 use Rattle.plinq_source.specs.declared.ending.Ending.{Ending}
 use Rattle.plinq_source.specs.declared.ending.Ending.TheVariants.{End, Refused, Fault}
-use Rattle.plinq_source.specs.Trace.{Trace, ended}
+use Rattle.plinq_source.specs.Trace.{Trace, ended_trace}
 use Rattle.plinq_lambda.specs.Formula.{overflow, divide_by_zero, too_many}
 use Rattle.plinq_ops.specs.declared.merge_option.MergeOption.{MergeOption}
 use Rattle.plinq_ops.specs.declared.merge_option.MergeOption.TheVariants.{NotBuffered}
@@ -53,7 +53,7 @@ answer_text option u = flat_map batch_line (batches option u) ++ ending_line u.e
 
 -- ---- worked rows
 
-pub one_item_a_line : answer_text NotBuffered (ended (pos 4 ∷ pos 2 ∷ pos 5 ∷ []) End) ≡ codes "4\n2\n5\nend\n"
+pub one_item_a_line : answer_text NotBuffered (ended_trace (pos 4 ∷ pos 2 ∷ pos 5 ∷ []) End) ≡ codes "4\n2\n5\nend\n"
 unfolding digits
 one_item_a_line = refl
 

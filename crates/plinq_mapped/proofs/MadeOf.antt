@@ -3,10 +3,10 @@ use Rattle.std.specs.Prelude.{◌≡◌, ℕ, List, [], ◌∷◌, ◌++◌, Boo
 use Rattle.std.specs.List.{fold}
 use Rattle.std.proofs.Common.{sym, ◌∙◌, ap, subst, append-nil}
 use Rattle.plinq_source.specs.declared.ending.Ending.{Ending}
-use Rattle.plinq_source.specs.Trace.{Trace, open_trace, followed}
-use Rattle.plinq_source.proofs.Followed.{trace_of, followed-followed}
+use Rattle.plinq_source.specs.Trace.{Trace, open_trace, followed_by}
+use Rattle.plinq_source.proofs.Followed.{trace_of, followed_by-followed_by}
 use Rattle.plinq_lambda.specs.Meaning.{Meaning}
-use Rattle.plinq_groups.specs.Mapping.{mapping, mapped, both_made, folded-mapping}
+use Rattle.plinq_groups.specs.Mapping.{mapping, mapped_items, both_made, fold_of-mapping}
 use Rattle.plinq_ops.specs.declared.merge_option.MergeOption.{MergeOption}
 use Rattle.plinq_ops.specs.declared.op.Op.{Op}
 use Rattle.plinq_ops.specs.Answer.{MayAnswer}
@@ -24,36 +24,36 @@ use Rattle.plinq_mapped.specs.declared.keep_made.Kept.{Kept}
 use Rattle.plinq_mapped.specs.inner.Keeping.{Keeps, KeepsBy}
 use Rattle.plinq_mapped.specs.Mapped.{trace_at, made_of, RunsMadeOf, IsMadeOf, IsMadeOfSome}
 
-one-joined : {B : Type 0} (ys zs : List B) (o : Option ℕ) → followed (open_trace ys) (trace_at zs o None) ≡ trace_at (ys ++ zs) o None
+one-joined : {B : Type 0} (ys zs : List B) (o : Option ℕ) → followed_by (open_trace ys) (trace_at zs o None) ≡ trace_at (ys ++ zs) o None
 one-joined ys zs None = refl
 one-joined ys zs (Some code) = refl
 
 -- what was made, and then what was made of others
-two-joined : {B : Type 0} (ys : List B) (o : Option ℕ) (p : List B × Option ℕ) → followed (trace_at ys o None) (trace_at p.0 p.1 None) ≡ trace_at (both_made ys o p).0 (both_made ys o p).1 None
+two-joined : {B : Type 0} (ys : List B) (o : Option ℕ) (p : List B × Option ℕ) → followed_by (trace_at ys o None) (trace_at p.0 p.1 None) ≡ trace_at (both_made ys o p).0 (both_made ys o p).1 None
 two-joined ys None p = one-joined ys p.0 p.1
 two-joined ys (Some code) p = refl
 
-last-joined : {B : Type 0} (ys : List B) (o : Option ℕ) (e : Option Ending) → followed (trace_at ys o None) (trace_of [] e) ≡ trace_at ys o e
+last-joined : {B : Type 0} (ys : List B) (o : Option ℕ) (e : Option Ending) → followed_by (trace_at ys o None) (trace_of [] e) ≡ trace_at ys o e
 last-joined ys None e = ap (λ zs. trace_of zs e) (append-nil ys)
 last-joined ys (Some code) e = refl
 
 module _ {T B : Type 0} (makes : T → Result B ℕ) where
   -- parts one after another are what they come to, combined
   joined-from : (ys : List B) (o : Option ℕ) (ps : List (List B × Option ℕ)) (e : Option Ending)
-      → followed (trace_at ys o None) (parts_joined ps e) ≡ trace_at (fold (mapping makes).combine (ys, o) ps).0 (fold (mapping makes).combine (ys, o) ps).1 e
+      → followed_by (trace_at ys o None) (parts_joined ps e) ≡ trace_at (fold (mapping makes).combine (ys, o) ps).0 (fold (mapping makes).combine (ys, o) ps).1 e
   joined-from ys o [] e = last-joined ys o e
   joined-from ys o (p ∷ ps) e =
-      sym (followed-followed (trace_at ys o None) (trace_at p.0 p.1 None) (parts_joined ps e))
-      ∙ ap (λ t. followed t (parts_joined ps e)) (two-joined ys o p)
+      sym (followed_by-followed_by (trace_at ys o None) (trace_at p.0 p.1 None) (parts_joined ps e))
+      ∙ ap (λ t. followed_by t (parts_joined ps e)) (two-joined ys o p)
       ∙ joined-from (both_made ys o p).0 (both_made ys o p).1 ps e
 
   -- parts that stand for an answer hold what is made of it
   folded-made : (u : Trace T) (parts : Trace (List B × Option ℕ)) → IsFolded (mapping makes) u parts → parts_joined parts.items parts.ending ≡ made_of makes u
   folded-made u parts folds =
-      let all : fold (mapping makes).combine ([], None) parts.items ≡ mapped makes u.items = folds.items [] ∙ folded-mapping makes u.items in
+      let all : fold (mapping makes).combine ([], None) parts.items ≡ mapped_items makes u.items = folds.items [] ∙ fold_of-mapping makes u.items in
       joined-from [] None parts.items parts.ending
       ∙ ap (λ p. trace_at p.0 p.1 parts.ending) all
-      ∙ ap (trace_at (mapped makes u.items).0 (mapped makes u.items).1) folds.ending
+      ∙ ap (trace_at (mapped_items makes u.items).0 (mapped_items makes u.items).1) folds.ending
 
   module _ {K : Type 0} (accepts : K → List B → K → Type 0) (refuses : K → List B → ℕ → K → Type 0) (option : MergeOption) where
     gives-broken : (how : Result (Option Ending) DeliveryFault) (v : Trace B) (s : K) (held' : List B) (s' : K) (cause : Cause) → Gives accepts refuses (batch_size option) [] s v how held' s' → Breaks how cause

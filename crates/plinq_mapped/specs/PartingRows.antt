@@ -4,7 +4,7 @@ use Rattle.std.proofs.Common.{arith}
 use Rattle.std.proofs.lemmas.List.Sums.{fold-append}
 use Rattle.plinq_source.specs.declared.ending.Ending.{Ending}
 use Rattle.plinq_source.specs.declared.ending.Ending.TheVariants.{End, Fault}
-use Rattle.plinq_source.specs.Trace.{Trace, ended}
+use Rattle.plinq_source.specs.Trace.{Trace, ended_trace}
 use Rattle.plinq_aggregate.specs.Folding.{Folding}
 use Rattle.plinq_merge.specs.declared.delivery_fault.DeliveryFault.{DeliveryFault}
 use Rattle.plinq_merge.specs.declared.delivery_fault.DeliveryFault.TheVariants.{Memory, Sink}
@@ -26,10 +26,10 @@ abbrev keeps : ℕ → List ℕ → Trace ℕ → Result (Option Ending) Deliver
 keeps a x t how b y = (y ≡ x ++ t.items) × (how ≡ Ok t.ending)
 
 abbrev four_two_five : Trace ℕ
-four_two_five = ended (4 ∷ 2 ∷ 5 ∷ []) End
+four_two_five = ended_trace (4 ∷ 2 ∷ 5 ∷ []) End
 
 was_given_two : WasGiven adding keeps four_two_five 0 [] (Ok (Some End)) (6 ∷ 5 ∷ [])
-was_given_two = record { parts = ended (6 ∷ 5 ∷ []) End; folds = record { items = two_parts_stand_for_all; ending = refl }; last = 0; taken = (refl, refl) }
+was_given_two = record { parts = ended_trace (6 ∷ 5 ∷ []) End; folds = record { items = two_parts_stand_for_all; ending = refl }; last = 0; taken = (refl, refl) }
 
 was_given_another_ending : WasGiven adding keeps four_two_five 0 [] (Ok (Some (Fault 7))) (6 ∷ 5 ∷ []) → ⊥
 was_given_another_ending given =

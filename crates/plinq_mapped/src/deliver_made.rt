@@ -1,5 +1,5 @@
 ghost use Rattle.std.specs.Prelude.{◌≡◌, [], ◌∷◌, true, Ok, None, length};
-ghost use Rattle.plinq_source.specs.Trace.{open_trace, ended};
+ghost use Rattle.plinq_source.specs.Trace.{open_trace, ended_trace};
 ghost use Rattle.plinq_ops.specs.Batches.{batch_size, is_full};
 ghost use Rattle.plinq_merge.specs.Sending.{Delivers};
 ghost use Rattle.plinq_mapped.specs.inner.Making.{Gives, DeliversOr, MadeBy, made-lawful};
@@ -73,7 +73,7 @@ impl<B: Drop> DeliverMade<B> {
     ) -> Result<Option<Ending>, DeliveryFault>
         ensures size { self.new.size ≡ self.old.size }
         ensures over { result ≡ Ok None → ⊥ }
-        ensures gives { Gives K.accepts K.refuses self.old.size self.old.held.items out.old (ended [] ending) result self.new.held.items out.new }
+        ensures gives { Gives K.accepts K.refuses self.old.size self.old.held.items out.old (ended_trace [] ending) result self.new.held.items out.new }
     {
         if self.held.is_empty() || self.size.is_none() && ending != Ending::End {
             return Ok(Some(ending));

@@ -6,8 +6,8 @@ use Rattle.std.proofs.lemmas.Bool.{lt-ltb}
 use Rattle.std.proofs.lemmas.List.{take-append-drop}
 use Rattle.std.proofs.lemmas.Result.{IfOk-weaker}
 use Rattle.plinq_source.specs.declared.ending.Ending.{Ending}
-use Rattle.plinq_source.specs.Trace.{Trace, open_trace, followed, ended}
-use Rattle.plinq_source.proofs.Followed.{trace_of, followed-followed}
+use Rattle.plinq_source.specs.Trace.{Trace, open_trace, followed_by, ended_trace}
+use Rattle.plinq_source.proofs.Followed.{trace_of, followed_by-followed_by}
 use Rattle.plinq_source.specs.declared.ending.Ending.TheVariants.{End}
 use Rattle.plinq_lambda.specs.Meaning.{Meaning}
 use Rattle.plinq_ops.specs.declared.op.Op.{Op}
@@ -16,12 +16,12 @@ use Rattle.plinq_ops.specs.Operator.{stages_of}
 use Rattle.plinq_ops.specs.Feeding.{IsFed, is_empty_take, FeedsFrom}
 use Rattle.plinq_ops.specs.Batches.{held_back, batches_from, full_batches}
 use Rattle.plinq_ops.specs.Pipeline.{IsReached, PipelineView, stages}
-use Rattle.plinq_ops.proofs.Stages.{seq-followed}
+use Rattle.plinq_ops.proofs.Stages.{seq-followed_by}
 use Rattle.plinq_ops.proofs.ByKey.{stages-begun}
 use Rattle.plinq_ops.proofs.Counts.{some_takes_none-stages_of}
 use Rattle.plinq_ops.proofs.Fed.{undecided-left, fed-none}
 use Rattle.plinq_ops.proofs.Open.{open-from_seq}
-use Rattle.plinq_ops.proofs.Runs.{batches_from-open, batches_from-followed}
+use Rattle.plinq_ops.proofs.Runs.{batches_from-open, batches_from-followed_by}
 use Rattle.plinq_ops.specs.Sequential.{first_items}
 use Rattle.plinq_ops.proofs.Batched.{full_batches-none, held_back-none}
 use Rattle.plinq_ops.proofs.Answered.{feeds-smaller, fed-on, fed-over, deciding-over, deciding-wider, deciding-singly, deciding-of_none, answer-of_none, answer-fed}
@@ -51,9 +51,9 @@ fed-goes_on : {T : Type 0} (ss ss' : List (Stage T)) (t : Trace T) (out : List T
 fed-goes_on ss ss' t out fed =
     record {
       answers = λ rest.
-          seq-followed ss t rest
-          ∙ ap (λ u. followed u (seq (seq_after ss t) rest)) (fed-answer ss ss' t out None fed)
-          ∙ ap (λ left. followed (open_trace out) (seq left rest)) (sym (fed.left refl));
+          seq-followed_by ss t rest
+          ∙ ap (λ u. followed_by u (seq (seq_after ss t) rest)) (fed-answer ss ss' t out None fed)
+          ∙ ap (λ left. followed_by (open_trace out) (seq left rest)) (sym (fed.left refl));
     }
 
 below-room : {T : Type 0} (size : Option ℕ) (held : List T) → IfSome size (λ n. length held < n) → is_below size held ≡ true
@@ -158,12 +158,12 @@ module _ {K T : Type 0} (accepts : K → List T → K → Type 0) (refuses : K �
   -- what the source gave next decides the answer, and the rest was delivered or cut off
   pub sent-over : (most : ℕ) (ss' ss'' : List (Stage T)) (t : Trace T) (n m : ℕ) (held made made' : List T) (s1 s2 : K) (e : Ending) (r : Result Ending DeliveryFault) → m ≤ n + most
       → HasSent (first_items n t) held made ss' s1 None → FeedsFrom ss' t n m made made' ss'' (Some e) → IfOk r (λ x. x ≡ e)
-      → Delivers accepts refuses s1 (batches_from size held (ended made' e)) r s2 → DeliversAnswer accepts refuses size most ss t s m r s2
+      → Delivers accepts refuses s1 (batches_from size held (ended_trace made' e)) r s2 → DeliversAnswer accepts refuses size most ss t s m r s2
   sent-over most ss' ss'' t n m held made made' s1 s2 e r block before next same rest =
       let out : List T = before.out ++ made' in
       let last = feeds-after ss' ss'' t n m held made made' s1 (Some e) before next in
       let fed : IsFed ss t [] out ss'' (Some e) = fed-over ss ss' ss'' t n m [] (before.out ++ made) out e before.fed last in
-      let all = batches-on size [] before.out held (seq ss t) (ended made' e) (sym (answer-fed ss ss'' t [] out e refl fed)) before.keeps in
+      let all = batches-on size [] before.out held (seq ss t) (ended_trace made' e) (sym (answer-fed ss ss'' t [] out e refl fed)) before.keeps in
       record {
         ending = IfOk-weaker r (λ x. x ≡ e) (λ x. (seq ss t).ending ≡ Some x) (λ x is. sym fed.told ∙ ap Some (sym is)) same;
         delivered = delivers-as accepts refuses s _ _ r s2 all (delivers-after accepts refuses s _ _ s1 r s2 before.leads rest);
@@ -178,16 +178,16 @@ module _ {K T : Type 0} (accepts : K → List T → K → Type 0) (refuses : K �
       let left : List T = hands.left in
       let others : Trace T = trace_of (drop n t.items) t.ending in
       let more : Trace T = seq ss' others in
-      let rest : Trace T = followed (open_trace left) more in
+      let rest : Trace T = followed_by (open_trace left) more in
       let on = fed-goes_on ss ss' (first_items n t) (before.out ++ made) before.fed in
-      let answer : seq ss t ≡ followed (open_trace before.out) (followed (open_trace given) rest) =
+      let answer : seq ss t ≡ followed_by (open_trace before.out) (followed_by (open_trace given) rest) =
       ap (λ xs. seq ss (trace_of xs t.ending)) (sym (take-append-drop n t.items))
       ∙ on.answers others
-      ∙ ap (λ xs. followed (open_trace (before.out ++ xs)) more) hands.parts
-      ∙ followed-followed (open_trace before.out) (open_trace (given ++ left)) more
-      ∙ ap (followed (open_trace before.out)) (followed-followed (open_trace given) (open_trace left) more) in
-      let all = batches-on size [] before.out held (seq ss t) (followed (open_trace given) rest) answer before.keeps
-      ∙ ap (λ bs. full_batches size [] before.out ++ bs) (batches_from-followed size held given rest) in
+      ∙ ap (λ xs. followed_by (open_trace (before.out ++ xs)) more) hands.parts
+      ∙ followed_by-followed_by (open_trace before.out) (open_trace (given ++ left)) more
+      ∙ ap (followed_by (open_trace before.out)) (followed_by-followed_by (open_trace given) (open_trace left) more) in
+      let all = batches-on size [] before.out held (seq ss t) (followed_by (open_trace given) rest) answer before.keeps
+      ∙ ap (λ bs. full_batches size [] before.out ++ bs) (batches_from-followed_by size held given rest) in
       let part = subst (λ bs. IsCutOff accepts refuses s bs fault s2) (sym all)
       (cut-after accepts refuses s (full_batches size [] before.out) _ fault s1 s2 before.leads
       (cut-before accepts refuses s1 (full_batches size held given) _ fault s2 hands.filled.sent)) in

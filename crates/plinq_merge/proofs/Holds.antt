@@ -7,19 +7,19 @@ use Rattle.std.proofs.lemmas.List.Elements.{All-nil, All-head, All-tail, All-pus
 use Rattle.std.proofs.Math.Bool.{or_assoc, or-false}
 use Rattle.std.proofs.Math.Seq.{take-append_seam}
 use Rattle.plinq_source.specs.declared.ending.Ending.{Ending}
-use Rattle.plinq_source.specs.Trace.{Trace, open_trace, followed}
-use Rattle.plinq_source.proofs.Followed.{trace_of, followed-followed, followed-open_nil}
+use Rattle.plinq_source.specs.Trace.{Trace, open_trace, followed_by}
+use Rattle.plinq_source.proofs.Followed.{trace_of, followed_by-followed_by, followed_by-open_nil}
 use Rattle.plinq_ops.specs.declared.order.Order.{Order}
 use Rattle.plinq_ops.specs.declared.order.Order.TheVariants.{ByKey, ByArrival}
 use Rattle.plinq_ops.specs.declared.results.ChunkResult.{ChunkResult}
 use Rattle.plinq_ops.specs.Chunk.{result_trace}
 use Rattle.plinq_ops.specs.Tails.{end_of_result, told_at}
-use Rattle.plinq_reorder.specs.Intervals.{Interval, is_within, insert, unbroken, first_gap, IsRow}
-use Rattle.plinq_reorder.specs.Buffered.{Buffered, IsFresh, inserted, TakesNext, IsAtGap, Inserts}
+use Rattle.plinq_reorder.specs.Intervals.{Interval, is_within, insert, unbroken_row, first_gap, IsRow}
+use Rattle.plinq_reorder.specs.Buffered.{Buffered, IsFresh, with_interval, TakesNext, IsAtGap, Inserts}
 use Rattle.plinq_reorder.proofs.Insert.{All-insert, insert-after, after-next}
 use Rattle.plinq_reorder.proofs.Gap.{row-append, row-push}
 use Rattle.plinq_merge.specs.declared.row.Row.{Row}
-use Rattle.plinq_merge.specs.Shown.{at_once, waiting_trace, placed, all_placed, all_told, all_given, ending_at, row as row_of, arrived, merged}
+use Rattle.plinq_merge.specs.Shown.{at_once, waiting_trace, placed_intervals, all_placed, all_told, all_given, ending_at, row as row_of, arrived_trace, merged_trace}
 use Rattle.plinq_merge.specs.Keys.{is_offered}
 use Rattle.plinq_merge.specs.Merging.{Holds, TakesIn}
 use Rattle.plinq_merge.specs.Joining.{rest_of}
@@ -28,18 +28,18 @@ module _ {T : Type 0} where
   -- ---- one offer more
 
   all_placed-append : (order : Order) (ps : List (Interval (Trace T))) (offers : List (ChunkResult T)) (r : ChunkResult T)
-      → all_placed order ps (offers ++ r ∷ []) ≡ placed order (all_placed order ps offers) r
+      → all_placed order ps (offers ++ r ∷ []) ≡ placed_intervals order (all_placed order ps offers) r
   all_placed-append order ps [] r = refl
-  all_placed-append order ps (o ∷ os) r = all_placed-append order (placed order ps o) os r
+  all_placed-append order ps (o ∷ os) r = all_placed-append order (placed_intervals order ps o) os r
 
   all_told-append : (source_end : Option (ℕ × Ending)) (offers : List (ChunkResult T)) (r : ChunkResult T)
       → all_told source_end (offers ++ r ∷ []) ≡ option_or (all_told source_end offers) (told_at (end_of_result r) r.tail)
   all_told-append source_end [] r = refl
   all_told-append source_end (o ∷ os) r = all_told-append (option_or source_end (told_at (end_of_result o) o.tail)) os r
 
-  arrived-append : (order : Order) (offers : List (ChunkResult T)) (r : ChunkResult T) → arrived order (offers ++ r ∷ []) ≡ followed (arrived order offers) (at_once order r)
-  arrived-append order [] r = followed-open_nil (at_once order r)
-  arrived-append order (o ∷ os) r = ap (followed (at_once order o)) (arrived-append order os r) ∙ sym (followed-followed (at_once order o) (arrived order os) (at_once order r))
+  arrived_trace-append : (order : Order) (offers : List (ChunkResult T)) (r : ChunkResult T) → arrived_trace order (offers ++ r ∷ []) ≡ followed_by (arrived_trace order offers) (at_once order r)
+  arrived_trace-append order [] r = followed_by-open_nil (at_once order r)
+  arrived_trace-append order (o ∷ os) r = ap (followed_by (at_once order o)) (arrived_trace-append order os r) ∙ sym (followed_by-followed_by (at_once order o) (arrived_trace order os) (at_once order r))
 
   pub is_offered-append : (offers : List (ChunkResult T)) (r : ChunkResult T) (key : ℕ) → is_offered (offers ++ r ∷ []) key ≡ is_offered offers key || is_within r.first (end_of_result r) key
   is_offered-append [] r key = or-false (is_within r.first (end_of_result r) key)
@@ -48,9 +48,9 @@ module _ {T : Type 0} where
       ∙ sym (or_assoc (is_within o.first (end_of_result o) key) (is_offered os key) (is_within r.first (end_of_result r) key))
 
   -- by key nothing is merged at once
-  pub arrived-by_key : (offers : List (ChunkResult T)) → arrived ByKey offers ≡ open_trace []
-  arrived-by_key [] = refl
-  arrived-by_key (o ∷ os) = arrived-by_key os
+  pub arrived_trace-by_key : (offers : List (ChunkResult T)) → arrived_trace ByKey offers ≡ open_trace []
+  arrived_trace-by_key [] = refl
+  arrived_trace-by_key (o ∷ os) = arrived_trace-by_key os
 
   -- ---- the intervals of all offers
 
@@ -60,7 +60,7 @@ module _ {T : Type 0} where
   All-placed Q order ps [] all are = all
   All-placed Q order ps (r ∷ rs) all are =
       let R : ChunkResult T → Type 0 = λ o. Q (o.first, record { end = end_of_result o; payload = waiting_trace order o }) in
-      All-placed Q order (placed order ps r) rs
+      All-placed Q order (placed_intervals order ps r) rs
       (elim (r.count == 0) as (λ v. All Q (cond v ps (insert ps r.first (end_of_result r) (waiting_trace order r)))) [
         | true ↦ all
         | false ↦ All-insert Q ps r.first (end_of_result r) (waiting_trace order r) all (All-head R r rs are)
@@ -73,37 +73,37 @@ module _ {T : Type 0} where
   pub nothing-given : (ps : List (Interval (Trace T))) → All (λ p. p.1.payload ≡ open_trace []) ps → all_given ps ≡ open_trace []
   nothing-given [] none = refl
   nothing-given (p ∷ ps) none =
-      ap (λ t. followed t (all_given ps)) (All-head (λ q. q.1.payload ≡ open_trace []) p ps none) ∙ nothing-given ps (All-tail (λ q. q.1.payload ≡ open_trace []) p ps none)
+      ap (λ t. followed_by t (all_given ps)) (All-head (λ q. q.1.payload ≡ open_trace []) p ps none) ∙ nothing-given ps (All-tail (λ q. q.1.payload ≡ open_trace []) p ps none)
 
-  all_given-append : (ps qs : List (Interval (Trace T))) → all_given (ps ++ qs) ≡ followed (all_given ps) (all_given qs)
+  all_given-append : (ps qs : List (Interval (Trace T))) → all_given (ps ++ qs) ≡ followed_by (all_given ps) (all_given qs)
   all_given-append [] qs = refl
-  all_given-append (p ∷ ps) qs = ap (followed p.1.payload) (all_given-append ps qs) ∙ sym (followed-followed p.1.payload (all_given ps) (all_given qs))
+  all_given-append (p ∷ ps) qs = ap (followed_by p.1.payload) (all_given-append ps qs) ∙ sym (followed_by-followed_by p.1.payload (all_given ps) (all_given qs))
 
   -- after a row of intervals the row of keys goes on
   pub row_of-append : (source_end : Option (ℕ × Ending)) (from : ℕ) (done : List (Interval (Trace T))) (to : ℕ) (rest : List (Interval (Trace T))) → IsRow from done to
-      → row_of source_end from (done ++ rest) ≡ followed (all_given done) (row_of source_end to rest)
+      → row_of source_end from (done ++ rest) ≡ followed_by (all_given done) (row_of source_end to rest)
   row_of-append source_end from done to rest is_row =
       let at = row-append from done to rest is_row in
       let last : Trace T = trace_of [] (ending_at source_end (first_gap to rest)) in
-      ap (λ k. followed (all_given (unbroken from (done ++ rest))) (trace_of [] (ending_at source_end k))) at.1
-      ∙ ap (λ qs. followed (all_given qs) last) at.0
-      ∙ ap (λ t. followed t last) (all_given-append done (unbroken to rest))
-      ∙ followed-followed (all_given done) (all_given (unbroken to rest)) last
+      ap (λ k. followed_by (all_given (unbroken_row from (done ++ rest))) (trace_of [] (ending_at source_end k))) at.1
+      ∙ ap (λ qs. followed_by (all_given qs) last) at.0
+      ∙ ap (λ t. followed_by t last) (all_given-append done (unbroken_row to rest))
+      ∙ followed_by-followed_by (all_given done) (all_given (unbroken_row to rest)) last
 
   -- ---- what is held
 
   -- what the offers merge to
-  pub merged-holds : (order : Order) (row : Row T) (offers : List (ChunkResult T)) (gone : Trace T) → Holds order row offers gone → merged order offers ≡ followed gone (rest_of row)
-  merged-holds order row offers gone h =
-      ap (λ t. followed (arrived order offers) (row_of t 0 (all_placed order [] offers))) h.source_end
-      ∙ ap (λ ps. followed (arrived order offers) (row_of row.source_end 0 ps)) h.placed
-      ∙ ap (followed (arrived order offers)) (row_of-append row.source_end 0 h.done row.buffer.next row.buffer.held h.is_row)
-      ∙ sym (followed-followed (arrived order offers) (all_given h.done) (rest_of row))
-      ∙ ap (λ t. followed t (rest_of row)) h.gave
+  pub merged_trace-holds : (order : Order) (row : Row T) (offers : List (ChunkResult T)) (gone : Trace T) → Holds order row offers gone → merged_trace order offers ≡ followed_by gone (rest_of row)
+  merged_trace-holds order row offers gone h =
+      ap (λ t. followed_by (arrived_trace order offers) (row_of t 0 (all_placed order [] offers))) h.source_end
+      ∙ ap (λ ps. followed_by (arrived_trace order offers) (row_of row.source_end 0 ps)) h.placed
+      ∙ ap (followed_by (arrived_trace order offers)) (row_of-append row.source_end 0 h.done row.buffer.next row.buffer.held h.is_row)
+      ∙ sym (followed_by-followed_by (arrived_trace order offers) (all_given h.done) (rest_of row))
+      ∙ ap (λ t. followed_by t (rest_of row)) h.gave
 
   -- the interval under the next key has gone
   pub holds-next : (order : Order) (row : Row T) (p : Trace T) (buffer : Buffered (Trace T)) (offers : List (ChunkResult T)) (gone : Trace T) → TakesNext row.buffer p buffer
-      → Holds order row offers gone → Holds order (record row { buffer = buffer }) offers (followed gone p)
+      → Holds order row offers gone → Holds order (record row { buffer = buffer }) offers (followed_by gone p)
   holds-next order row p buffer offers gone takes h =
       let q : Interval (Trace T) = (row.buffer.next, record { end = buffer.next; payload = p }) in
       record {
@@ -113,58 +113,58 @@ module _ {T : Type 0} where
         before = All-push (λ s. s.0 < buffer.next) h.done q (All-weaker (λ s. s.0 < row.buffer.next) (λ s. s.0 < buffer.next) (λ s past. omega (arith, takes.some)) h.done h.before) takes.some;
         source_end = h.source_end;
         gave =
-            ap (followed (arrived order offers)) (all_given-append h.done (q ∷ []) ∙ ap (followed (all_given h.done)) (followed-open_nil p))
-            ∙ sym (followed-followed (arrived order offers) (all_given h.done) p)
-            ∙ ap (λ t. followed t p) h.gave;
+            ap (followed_by (arrived_trace order offers)) (all_given-append h.done (q ∷ []) ∙ ap (followed_by (all_given h.done)) (followed_by-open_nil p))
+            ∙ sym (followed_by-followed_by (arrived_trace order offers) (all_given h.done) p)
+            ∙ ap (λ t. followed_by t p) h.gave;
       }
 
   -- what is merged at once and what waits may change places, since one of them is nothing
   swap : (order : Order) (offers : List (ChunkResult T)) (first : Trace T) (r : ChunkResult T) (done rest : List (Interval (Trace T))) → all_placed order [] offers ≡ done ++ rest
-      → followed (followed first (at_once order r)) (all_given done) ≡ followed (followed first (all_given done)) (at_once order r)
-  swap ByKey offers first r done rest is = ap (λ t. followed t (all_given done)) (followed-open_nil first) ∙ sym (followed-open_nil (followed first (all_given done)))
+      → followed_by (followed_by first (at_once order r)) (all_given done) ≡ followed_by (followed_by first (all_given done)) (at_once order r)
+  swap ByKey offers first r done rest is = ap (λ t. followed_by t (all_given done)) (followed_by-open_nil first) ∙ sym (followed_by-open_nil (followed_by first (all_given done)))
   swap ByArrival offers first r done rest is =
       let empty : Interval (Trace T) → Type 0 = λ p. p.1.payload ≡ open_trace [] in
       let none : all_given done ≡ open_trace [] = nothing-given done
       (rw take-append_seam at (All-take empty (length done) (done ++ rest) (subst (All empty) is (nothing-placed offers)))) in
-      ap (followed (followed first (at_once ByArrival r))) none
-      ∙ followed-open_nil (followed first (at_once ByArrival r))
-      ∙ ap (λ t. followed t (at_once ByArrival r)) (sym (followed-open_nil first) ∙ ap (followed first) (sym none))
+      ap (followed_by (followed_by first (at_once ByArrival r))) none
+      ∙ followed_by-open_nil (followed_by first (at_once ByArrival r))
+      ∙ ap (λ t. followed_by t (at_once ByArrival r)) (sym (followed_by-open_nil first) ∙ ap (followed_by first) (sym none))
 
   -- ---- a result that came into the row
 
-  takes-placed : (order : Order) (before : Row T) (r : ChunkResult T) (after : Row T)
+  takes-placed_intervals : (order : Order) (before : Row T) (r : ChunkResult T) (after : Row T)
       → ((done : List (Interval (Trace T))) → All (λ s. s.0 < before.buffer.next) done
-      → placed order (done ++ before.buffer.held) r ≡ done ++ after.buffer.held)
+      → placed_intervals order (done ++ before.buffer.held) r ≡ done ++ after.buffer.held)
       → after.buffer.next ≡ before.buffer.next → after.source_end ≡ option_or before.source_end (told_at (end_of_result r) r.tail)
       → TakesIn order before r (at_once order r) after
-  takes-placed order before r after place next noted offers gone h =
+  takes-placed_intervals order before r after place next noted offers gone h =
       record {
         done = h.done;
-        placed = all_placed-append order [] offers r ∙ ap (λ qs. placed order qs r) h.placed ∙ place h.done h.before;
+        placed = all_placed-append order [] offers r ∙ ap (λ qs. placed_intervals order qs r) h.placed ∙ place h.done h.before;
         is_row = subst (IsRow 0 h.done) (sym next) h.is_row;
         before = subst (λ k. All (λ s. s.0 < k) h.done) (sym next) h.before;
         source_end = all_told-append None offers r ∙ ap (λ t. option_or t (told_at (end_of_result r) r.tail)) h.source_end ∙ sym noted;
         gave =
-            ap (λ t. followed t (all_given h.done)) (arrived-append order offers r)
-            ∙ swap order offers (arrived order offers) r h.done before.buffer.held h.placed
-            ∙ ap (λ t. followed t (at_once order r)) h.gave;
+            ap (λ t. followed_by t (all_given h.done)) (arrived_trace-append order offers r)
+            ∙ swap order offers (arrived_trace order offers) r h.done before.buffer.held h.placed
+            ∙ ap (λ t. followed_by t (at_once order r)) h.gave;
       }
 
   -- one of no keys has no interval
   pub takes-none : (order : Order) (before : Row T) (r : ChunkResult T) (after : Row T) → r.count ≡ 0 → after.buffer ≡ before.buffer
       → after.source_end ≡ option_or before.source_end (told_at (end_of_result r) r.tail) → TakesIn order before r (at_once order r) after
   takes-none order before r after none same noted =
-      takes-placed order before r after (λ done below. rw none (ap (λ b. done ++ b.held) (sym same))) (ap (λ b. b.next) same) noted
+      takes-placed_intervals order before r after (λ done below. rw none (ap (λ b. done ++ b.held) (sym same))) (ap (λ b. b.next) same) noted
 
   -- that of any other waits among the others
   takes-held : (order : Order) (before : Row T) (r : ChunkResult T) (after : Row T) → 0 < r.count → IsFresh before.buffer r.first (end_of_result r)
-      → after.buffer ≡ inserted before.buffer r.first (end_of_result r) (waiting_trace order r)
+      → after.buffer ≡ with_interval before.buffer r.first (end_of_result r) (waiting_trace order r)
       → after.source_end ≡ option_or before.source_end (told_at (end_of_result r) r.tail) → TakesIn order before r (at_once order r) after
   takes-held order before r after some fresh same noted =
       let q : Trace T = waiting_trace order r in
       let past = after-next before.buffer r.first (end_of_result r) fresh (omega arith) in
       let test : (r.count == 0) ≡ false = grind (arith, nat_tests) in
-      takes-placed order before r after (λ done below.
+      takes-placed_intervals order before r after (λ done below.
       ap (λ b. cond b (done ++ before.buffer.held) (insert (done ++ before.buffer.held) r.first (end_of_result r) q)) test
       ∙ insert-after done before.buffer.held r.first (end_of_result r) q
       (All-weaker (λ s. s.0 < before.buffer.next) (λ s. s.0 < r.first) (λ s gone. omega (arith, past)) done below)
@@ -174,26 +174,26 @@ module _ {T : Type 0} where
   pub takes-inserted : (order : Order) (before : Row T) (r : ChunkResult T) (turn : Option (Trace T)) (after : Row T) → 0 < r.count
       → IsFresh before.buffer r.first (end_of_result r)
       → Inserts before.buffer r.first (end_of_result r) (waiting_trace order r) turn after.buffer → after.source_end ≡ option_or before.source_end (told_at (end_of_result r) r.tail)
-      → TakesIn order before r (followed (at_once order r) (unwrap_or turn (open_trace []))) after
+      → TakesIn order before r (followed_by (at_once order r) (unwrap_or turn (open_trace []))) after
   takes-inserted order before r None after some fresh inserts noted offers gone h =
-      subst (Holds order after (offers ++ r ∷ [])) (ap (followed gone) (sym (followed-open_nil (at_once order r))))
+      subst (Holds order after (offers ++ r ∷ [])) (ap (followed_by gone) (sym (followed_by-open_nil (at_once order r))))
       (takes-held order before r after some fresh inserts noted offers gone h)
   takes-inserted order before r (Some p) after some fresh inserts noted offers gone h =
       let q : Trace T = waiting_trace order r in
-      let row : Row T = record { buffer = inserted before.buffer r.first (end_of_result r) q; source_end = after.source_end } in
+      let row : Row T = record { buffer = with_interval before.buffer r.first (end_of_result r) q; source_end = after.source_end } in
       subst (Holds order after (offers ++ r ∷ []))
-      (followed-followed gone (at_once order r) q ∙ ap (λ x. followed gone (followed (at_once order r) x)) (sym inserts.0))
-      (holds-next order row q after.buffer (offers ++ r ∷ []) (followed gone (at_once order r)) inserts.1
+      (followed_by-followed_by gone (at_once order r) q ∙ ap (λ x. followed_by gone (followed_by (at_once order r) x)) (sym inserts.0))
+      (holds-next order row q after.buffer (offers ++ r ∷ []) (followed_by gone (at_once order r)) inserts.1
       (takes-held order before r row some fresh refl noted offers gone h))
 
   -- by arrival it hands back nothing but keys
   pub by_arrival-hand : (r : ChunkResult T) (b : Buffered (Trace T)) (turn : Option (Trace T)) (b' : Buffered (Trace T)) → Inserts b r.first (end_of_result r) (open_trace []) turn b'
-      → followed (result_trace r) (unwrap_or turn (open_trace [])) ≡ result_trace r
-  by_arrival-hand r b None b' inserts = followed-open_nil (result_trace r)
-  by_arrival-hand r b (Some p) b' inserts = ap (followed (result_trace r)) inserts.0 ∙ followed-open_nil (result_trace r)
+      → followed_by (result_trace r) (unwrap_or turn (open_trace [])) ≡ result_trace r
+  by_arrival-hand r b None b' inserts = followed_by-open_nil (result_trace r)
+  by_arrival-hand r b (Some p) b' inserts = ap (followed_by (result_trace r)) inserts.0 ∙ followed_by-open_nil (result_trace r)
 
   -- at a gap the row gives no more than the source's ending
   pub rest-gap : (row : Row T) → IsAtGap row.buffer → rest_of row ≡ trace_of [] (ending_at row.source_end row.buffer.next)
   rest-gap row gap =
-      ap (λ k. followed (all_given (unbroken row.buffer.next row.buffer.held)) (trace_of [] (ending_at row.source_end k))) gap.gap
-      ∙ ap (λ qs. followed (all_given qs) (trace_of [] (ending_at row.source_end row.buffer.next))) gap.nothing
+      ap (λ k. followed_by (all_given (unbroken_row row.buffer.next row.buffer.held)) (trace_of [] (ending_at row.source_end k))) gap.gap
+      ∙ ap (λ qs. followed_by (all_given qs) (trace_of [] (ending_at row.source_end row.buffer.next))) gap.nothing

@@ -5,13 +5,13 @@ use Rattle.std.proofs.Common.{sym, ◌∙◌, ap, subst, inl, inr, arith}
 use Rattle.std.proofs.lemmas.Bool.{or_from, le-ltb, cases_lt}
 use Rattle.std.proofs.lemmas.List.Elements.{All-nil}
 use Rattle.plinq_source.specs.declared.ending.Ending.{Ending}
-use Rattle.plinq_source.specs.Trace.{Trace, open_trace, followed}
-use Rattle.plinq_source.proofs.Followed.{trace_of, followed-followed, followed-open_nil}
+use Rattle.plinq_source.specs.Trace.{Trace, open_trace, followed_by}
+use Rattle.plinq_source.proofs.Followed.{trace_of, followed_by-followed_by, followed_by-open_nil}
 use Rattle.plinq_ops.specs.declared.order.Order.{Order}
 use Rattle.plinq_ops.specs.declared.results.ChunkResult.{ChunkResult}
 use Rattle.plinq_ops.specs.Tails.{end_of_result, told_at}
 use Rattle.plinq_reorder.specs.Intervals.{is_within}
-use Rattle.plinq_reorder.specs.Buffered.{Buffered, is_taken, IsFresh, inserted, TakesNext, IsAtGap}
+use Rattle.plinq_reorder.specs.Buffered.{Buffered, is_taken, IsFresh, with_interval, TakesNext, IsAtGap}
 use Rattle.plinq_merge.specs.declared.delivery_fault.DeliveryFault.{DeliveryFault}
 use Rattle.plinq_merge.specs.declared.delivery_fault.DeliveryFault.TheVariants.{Memory as NoMemory, Sink as Refusal}
 use Rattle.plinq_merge.specs.declared.row.Row.{Row}
@@ -23,29 +23,29 @@ use Rattle.plinq_merge.specs.declared.more.More.TheVariants.{Yes, No}
 use Rattle.plinq_merge.specs.declared.joiner_state.JoinerState.{JoinerState}
 use Rattle.plinq_merge.specs.declared.joiner_state.JoinerState.TheVariants.{Open, Decided, Failed as HasFailed}
 use Rattle.plinq_merge.specs.declared.joiner.Joiner.{Joiner}
-use Rattle.plinq_merge.specs.Shown.{ending_at, waiting_trace, merged}
+use Rattle.plinq_merge.specs.Shown.{ending_at, waiting_trace, merged_trace}
 use Rattle.plinq_merge.specs.Keys.{AreNew}
 use Rattle.plinq_merge.specs.Merging.{Holds, TakesIn}
 use Rattle.plinq_merge.specs.Taking.{IsTaking}
 use Rattle.plinq_merge.specs.Joining.{rest_of, Waits, Joins, JoinsOfferAt}
 use Rattle.plinq_merge.specs.inner.Moving.{HasMoved}
-use Rattle.plinq_merge.specs.Offering.{is_decided, finished}
+use Rattle.plinq_merge.specs.Offering.{is_decided, finish_result}
 use Rattle.plinq_merge.specs.Joiners.{taker_of, order_of, WaitsFor, has_decided, ending_of, JoinsOffer, HasJoinedAt, HasJoined}
 use Rattle.plinq_merge.specs.Mergers.{delivery_fault_of}
-use Rattle.plinq_merge.proofs.Holds.{is_offered-append, merged-holds, holds-next, takes-none, takes-inserted, rest-gap}
+use Rattle.plinq_merge.proofs.Holds.{is_offered-append, merged_trace-holds, holds-next, takes-none, takes-inserted, rest-gap}
 
 module _ {T : Type 0} where
   -- where the next key is missing, all that the offers merge to was taken
-  pub merged-waits : (order : Order) (row : Row T) (offers : List (ChunkResult T)) → (waits : Waits order row offers) → merged order offers ≡ open_trace waits.out
-  merged-waits order row offers waits =
-      merged-holds order row offers (open_trace waits.out) waits.holds ∙ ap (followed (open_trace waits.out)) waits.nothing ∙ followed-open_nil (open_trace waits.out)
+  pub merged_trace-waits : (order : Order) (row : Row T) (offers : List (ChunkResult T)) → (waits : Waits order row offers) → merged_trace order offers ≡ open_trace waits.out
+  merged_trace-waits order row offers waits =
+      merged_trace-holds order row offers (open_trace waits.out) waits.holds ∙ ap (followed_by (open_trace waits.out)) waits.nothing ∙ followed_by-open_nil (open_trace waits.out)
 
   -- a row that has taken in a result which couldn't be kept
   takes-unkept : (order : Order) (row : Row T) (r : ChunkResult T) → IsFresh row.buffer r.first (end_of_result r)
       → (hand : Trace T) × (row1 : Row T) × TakesIn order row r hand row1
   takes-unkept order row r fresh =
       let kept : Buffered (Trace T) → Row T = λ b. record { buffer = b; source_end = option_or row.source_end (told_at (end_of_result r) r.tail) } in
-      let held : Buffered (Trace T) = inserted row.buffer r.first (end_of_result r) (waiting_trace order r) in
+      let held : Buffered (Trace T) = with_interval row.buffer r.first (end_of_result r) (waiting_trace order r) in
       elim (cases_lt 0 r.count) [
         | inl some ↦ (_, kept held, takes-inserted order row r None (kept held) some fresh refl refl)
         | inr few ↦ (_, kept row.buffer, takes-none order row r (kept row.buffer) (omega arith) refl refl)
@@ -67,13 +67,13 @@ module _ {T : Type 0} where
 module _ {W O T : Type 0} (made : W → O → Trace T → Result (Option Ending) DeliveryFault → W → O → Type 0) (lawful : IsTaking made) where
   -- after an open trace that was taken
   pub taken-after : (a : W) (x : O) (t u all : Trace T) (b : W) (y : O) (r : Result (Option Ending) DeliveryFault) (c : W) (z : O) → t.ending ≡ None → made a x t (Ok None) b y → made b y u r c z
-      → all ≡ followed t u → made a x all r c z
+      → all ≡ followed_by t u → made a x all r c z
   taken-after a x t u all b y r c z none first second is =
       let before : made a x (open_trace t.items) (Ok None) b y = subst (λ s. made a x s (Ok None) b y) (open-is t none) first in
-      subst (λ s. made a x s r c z) (ap (λ s. followed s u) (sym (open-is t none)) ∙ sym is) (lawful.goes_on a x t.items b y u r c z before second)
+      subst (λ s. made a x s r c z) (ap (λ s. followed_by s u) (sym (open-is t none)) ∙ sym is) (lawful.goes_on a x t.items b y u r c z before second)
 
   -- an answer that has ended, or broke off, is that of whatever comes after
-  pub taken-over : (a : W) (x : O) (t rest all : Trace T) (r : Result (Option Ending) DeliveryFault) (b : W) (y : O) → (r ≡ Ok None → ⊥) → made a x t r b y → all ≡ followed t rest → made a x all r b y
+  pub taken-over : (a : W) (x : O) (t rest all : Trace T) (r : Result (Option Ending) DeliveryFault) (b : W) (y : O) → (r ≡ Ok None → ⊥) → made a x t r b y → all ≡ followed_by t rest → made a x all r b y
   taken-over a x t rest all (Ok None) b y over taken is = absurd (over refl)
   taken-over a x t rest all (Ok (Some e)) b y over taken is = subst (λ s. made a x s (Ok (Some e)) b y) (sym is) (lawful.ends a x t e b y rest taken)
   taken-over a x t rest all (Err fault) b y over taken is = subst (λ s. made a x s (Err fault) b y) (sym is) (lawful.breaks a x t fault b y rest taken)
@@ -87,7 +87,7 @@ module _ {W O T : Type 0} (made : W → O → Trace T → Result (Option Ending)
         taken = lawful.begins w.taker y;
         order = refl;
         holds = λ offers gone h.
-            subst (λ t. Holds w.order row1 (offers ++ r ∷ []) (followed t hand)) (sym (followed-open_nil gone)) (takes offers gone h);
+            subst (λ t. Holds w.order row1 (offers ++ r ∷ []) (followed_by t hand)) (sym (followed_by-open_nil gone)) (takes offers gone h);
       }
 
   -- what was in hand was taken and is open, and the interval under the next key comes
@@ -96,14 +96,14 @@ module _ {W O T : Type 0} (made : W → O → Trace T → Result (Option Ending)
       → HasMoved made w0 r y0 q (record w { row = record w.row { buffer = buffer }; taker = a; items = n }) z
   moved-next w0 r y0 p w y buffer q a n z moved takes taken none =
       let row : Row T = record w.row { buffer = buffer } in
-      let all : open_trace (moved.items ++ p.items) ≡ followed (open_trace moved.items) p = ap (trace_of (moved.items ++ p.items)) (sym none) in
+      let all : open_trace (moved.items ++ p.items) ≡ followed_by (open_trace moved.items) p = ap (trace_of (moved.items ++ p.items)) (sym none) in
       record {
         items = moved.items ++ p.items;
         taken = taken-after w0.taker y0 (open_trace moved.items) p (open_trace (moved.items ++ p.items)) w.taker y (Ok None) a z refl moved.taken taken all;
         order = moved.order;
         holds = λ offers gone h.
-            subst (λ t. Holds w0.order row (offers ++ r ∷ []) (followed t q)) (followed-followed gone (open_trace moved.items) p ∙ ap (followed gone) (sym all))
-            (holds-next w0.order w.row q buffer (offers ++ r ∷ []) (followed (followed gone (open_trace moved.items)) p) takes (moved.holds offers gone h));
+            subst (λ t. Holds w0.order row (offers ++ r ∷ []) (followed_by t q)) (followed_by-followed_by gone (open_trace moved.items) p ∙ ap (followed_by gone) (sym all))
+            (holds-next w0.order w.row q buffer (offers ++ r ∷ []) (followed_by (followed_by gone (open_trace moved.items)) p) takes (moved.holds offers gone h));
       }
 
   -- ---- a result of new keys was joined
@@ -111,20 +111,20 @@ module _ {W O T : Type 0} (made : W → O → Trace T → Result (Option Ending)
   module _ (w : Joining W T) (r : ChunkResult T) (y : O) (fresh : IsFresh w.row.buffer r.first (end_of_result r)) where
     module _ (hand : Trace T) (w1 : Joining W T) (y1 : O) (moved : HasMoved made w r y hand w1 y1) (result : Result (Option Ending) DeliveryFault)
         (w' : Joining W T) (y' : O) where
-      joins-moved : made w1.taker y1 (followed hand (rest_of w1.row)) result w'.taker y'
+      joins-moved : made w1.taker y1 (followed_by hand (rest_of w1.row)) result w'.taker y'
           → (result ≡ Ok None → (offers : List (ChunkResult T)) → Waits w.order w.row offers → Waits w'.order w'.row (offers ++ r ∷ []))
           → Joins made w r y result w' y'
       joins-moved taken waits =
-          let left : Trace T = followed hand (rest_of w1.row) in
+          let left : Trace T = followed_by hand (rest_of w1.row) in
           record {
-            gained = followed (open_trace moved.items) left;
+            gained = followed_by (open_trace moved.items) left;
             taken = lawful.goes_on w.taker y moved.items w1.taker y1 left result w'.taker y' moved.taken taken;
             are_new = λ offers before key within. before.keys key ∙ fresh key within;
             grows = λ offers before.
-                merged-holds w.order w1.row (offers ++ r ∷ []) _ (moved.holds offers (open_trace before.out) before.holds)
-                ∙ followed-followed (followed (open_trace before.out) (open_trace moved.items)) hand (rest_of w1.row)
-                ∙ followed-followed (open_trace before.out) (open_trace moved.items) left
-                ∙ ap (λ t. followed t (followed (open_trace moved.items) left)) (sym (merged-waits w.order w.row offers before));
+                merged_trace-holds w.order w1.row (offers ++ r ∷ []) _ (moved.holds offers (open_trace before.out) before.holds)
+                ∙ followed_by-followed_by (followed_by (open_trace before.out) (open_trace moved.items)) hand (rest_of w1.row)
+                ∙ followed_by-followed_by (open_trace before.out) (open_trace moved.items) left
+                ∙ ap (λ t. followed_by t (followed_by (open_trace moved.items) left)) (sym (merged_trace-waits w.order w.row offers before));
             waits = waits;
           }
 
@@ -147,11 +147,11 @@ module _ {W O T : Type 0} (made : W → O → Trace T → Result (Option Ending)
         → Joins made w r y (Ok None) (record w1 { taker = a; items = n }) z
     joins-waits hand w1 y1 moved a n z taken none gap still keys =
         let nothing : rest_of w1.row ≡ open_trace [] = rest-gap w1.row gap ∙ ap (trace_of []) still in
-        let all : followed hand (rest_of w1.row) ≡ hand = ap (followed hand) nothing ∙ followed-open_nil hand in
+        let all : followed_by hand (rest_of w1.row) ≡ hand = ap (followed_by hand) nothing ∙ followed_by-open_nil hand in
         joins-moved hand w1 y1 moved (Ok None) (record w1 { taker = a; items = n }) z (subst (λ t. made w1.taker y1 t (Ok None) a z) (sym all) taken) (λ is_open offers before.
         subst (λ o. Waits o w1.row (offers ++ r ∷ [])) (sym moved.order) (record {
           out = (before.out ++ moved.items) ++ hand.items;
-          holds = subst (Holds w.order w1.row (offers ++ r ∷ [])) (ap (followed (open_trace (before.out ++ moved.items))) (open-is hand none))
+          holds = subst (Holds w.order w1.row (offers ++ r ∷ [])) (ap (followed_by (open_trace (before.out ++ moved.items))) (open-is hand none))
               (moved.holds offers (open_trace before.out) before.holds);
           keys = λ key. is_offered-append offers r key ∙ ap (λ v. v || is_within r.first (end_of_result r) key) (before.keys key) ∙ sym (keys key);
           missing = gap.missing;
@@ -162,7 +162,7 @@ module _ {W O T : Type 0} (made : W → O → Trace T → Result (Option Ending)
     pub joins-unkept : (w' : Joining W T) → w'.taker ≡ w.taker → Joins made w r y (Err NoMemory) w' y
     joins-unkept w' same =
         let kept = takes-unkept w.order w.row r fresh in
-        let left : Trace T = followed kept.0 (rest_of kept.1) in
+        let left : Trace T = followed_by kept.0 (rest_of kept.1) in
         let stopped = lawful.stops w.taker y [] w.taker y left (lawful.begins w.taker y) in
         joins-moved kept.0 (record w { row = kept.1 }) y (moved-begun w r y kept.0 kept.1 kept.2) (Err NoMemory) w' y
         (subst (λ b. made w.taker y left (Err NoMemory) b y) (sym same) stopped) (λ bad. absurd (cc))
@@ -174,42 +174,42 @@ AreOneMore offers r offers' = (offers' ≡ offers) ⊎ ((offers' ≡ offers ++ r
 module _ {W O T : Type 0} (made : W → O → Trace T → Result (Option Ending) DeliveryFault → W → O → Type 0) where
   module _ (a : W) (x : O) where
     cases-at : {P : Type 0} (w : Joining W T) (standing : JoinerState) (y : O) (offers : List (ChunkResult T)) → HasJoinedAt made a x w standing y offers
-        → (is_decided standing ≡ false → finished standing ≡ Err Gap → Waits w.order w.row offers → made a x (merged w.order offers) (Ok None) w.taker y → P)
-        → ((e : Ending) → is_decided standing ≡ true → finished standing ≡ Ok e → made a x (merged w.order offers) (Ok (Some e)) w.taker y → P) → P
+        → (is_decided standing ≡ false → finish_result standing ≡ Err Gap → Waits w.order w.row offers → made a x (merged_trace w.order offers) (Ok None) w.taker y → P)
+        → ((e : Ending) → is_decided standing ≡ true → finish_result standing ≡ Ok e → made a x (merged_trace w.order offers) (Ok (Some e)) w.taker y → P) → P
     cases-at w Open y offers joined still ended = still refl refl joined.0 joined.1
     cases-at w (Decided e) y offers joined still ended = ended e refl refl joined
     cases-at w HasFailed y offers joined still ended = absurd joined
 
     -- its answer is open, or has ended
     pub joined-cases : {P : Type 0} (j : Joiner W T) (y : O) (offers : List (ChunkResult T)) → HasJoined made a x j y offers
-        → (has_decided j ≡ false → ending_of j ≡ Err Gap → WaitsFor j offers → made a x (merged (order_of j) offers) (Ok None) (taker_of j) y → P)
-        → ((e : Ending) → has_decided j ≡ true → ending_of j ≡ Ok e → made a x (merged (order_of j) offers) (Ok (Some e)) (taker_of j) y → P) → P
+        → (has_decided j ≡ false → ending_of j ≡ Err Gap → WaitsFor j offers → made a x (merged_trace (order_of j) offers) (Ok None) (taker_of j) y → P)
+        → ((e : Ending) → has_decided j ≡ true → ending_of j ≡ Ok e → made a x (merged_trace (order_of j) offers) (Ok (Some e)) (taker_of j) y → P) → P
     joined-cases j y offers joined still ended = cases-at j.work j.standing y offers joined still ended
 
     module _ (lawful : IsTaking made) where
       -- what waits for more may have broken off there for lack of memory
-      pub joined-stopped : (j : Joiner W T) (y : O) (offers : List (ChunkResult T)) → WaitsFor j offers → made a x (merged (order_of j) offers) (Ok None) (taker_of j) y
-          → made a x (merged (order_of j) offers) (Err NoMemory) (taker_of j) y
+      pub joined-stopped : (j : Joiner W T) (y : O) (offers : List (ChunkResult T)) → WaitsFor j offers → made a x (merged_trace (order_of j) offers) (Ok None) (taker_of j) y
+          → made a x (merged_trace (order_of j) offers) (Err NoMemory) (taker_of j) y
       joined-stopped j y offers waits before =
-          let is = merged-waits (order_of j) j.work.row offers waits in
-          subst (λ t. made a x t (Err NoMemory) (taker_of j) y) (followed-open_nil (open_trace waits.out) ∙ sym is)
+          let is = merged_trace-waits (order_of j) j.work.row offers waits in
+          subst (λ t. made a x t (Err NoMemory) (taker_of j) y) (followed_by-open_nil (open_trace waits.out) ∙ sym is)
           (lawful.stops a x waits.out (taker_of j) y (open_trace []) (subst (λ t. made a x t (Ok None) (taker_of j) y) is before))
 
       module _ (w w' : Joining W T) (standing' : JoinerState) (r : ChunkResult T) (y y' : O) (offers : List (ChunkResult T)) (same : w'.order ≡ w.order) where
         -- where an offer is taken in, the answer is open or has ended; where it is refused, the taker broke off what is merged then
         abbrev LeavesAt : Result More MergeFault → List (ChunkResult T) → Type 0
         LeavesAt (Ok more) all = HasJoinedAt made a x w' standing' y' all
-        LeavesAt (Err fault) all = (last : W) × made a x (merged w.order all) (Err (delivery_fault_of fault)) last y'
+        LeavesAt (Err fault) all = (last : W) × made a x (merged_trace w.order all) (Err (delivery_fault_of fault)) last y'
 
         abbrev more : List (ChunkResult T)
         more = offers ++ r ∷ []
 
         -- with one offer more the taker has taken what they merge to then
         grown : (how : Result (Option Ending) DeliveryFault) (order : Order) → order ≡ w.order → HasJoinedAt made a x w Open y offers
-            → Joins made w r y how w' y' → made a x (merged order more) how w'.taker y'
+            → Joins made w r y how w' y' → made a x (merged_trace order more) how w'.taker y'
         grown how order is joined joins =
-            taken-after made lawful a x (merged w.order offers) joins.gained (merged order more) w.taker y how w'.taker y'
-            (ap (λ t. t.ending) (merged-waits w.order w.row offers joined.0)) joined.1 joins.taken (ap (λ o. merged o more) is ∙ joins.grows offers joined.0)
+            taken-after made lawful a x (merged_trace w.order offers) joins.gained (merged_trace order more) w.taker y how w'.taker y'
+            (ap (λ t. t.ending) (merged_trace-waits w.order w.row offers joined.0)) joined.1 joins.taken (ap (λ o. merged_trace o more) is ∙ joins.grows offers joined.0)
 
         offered-at : (standing : JoinerState) (result : Result More MergeFault) → HasJoinedAt made a x w standing y offers
             → JoinsOfferAt made w standing r y result w' standing' y' → (all : List (ChunkResult T)) × AreOneMore offers r all × LeavesAt result all
@@ -234,7 +234,7 @@ module _ {W O T : Type 0} (made : W → O → Trace T → Result (Option Ending)
       -- one that was refused
       pub takes-broken : (j : Joiner W T) (r : ChunkResult T) (y : O) (fault : MergeFault) (j' : Joiner W T) (y' : O) (offers : List (ChunkResult T)) → order_of j' ≡ order_of j
           → HasJoined made a x j y offers → JoinsOffer made j r y (Err fault) j' y'
-          → (offers' : List (ChunkResult T)) × AreOneMore offers r offers' × ((last : W) × made a x (merged (order_of j) offers') (Err (delivery_fault_of fault)) last y')
+          → (offers' : List (ChunkResult T)) × AreOneMore offers r offers' × ((last : W) × made a x (merged_trace (order_of j) offers') (Err (delivery_fault_of fault)) last y')
       takes-broken j r y fault j' y' offers same joined o = offered-at j.work j'.work j'.standing r y y' offers same j.standing (Err fault) joined o
 
   module _ (lawful : IsTaking made) where

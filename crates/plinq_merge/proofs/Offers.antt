@@ -4,8 +4,8 @@ use Rattle.std.proofs.Common.{sym, ◌∙◌, ap, subst}
 use Rattle.std.proofs.lemmas.Bool.{and_parts, not-true}
 use Rattle.plinq_source.specs.declared.ending.Ending.{Ending}
 use Rattle.plinq_source.specs.declared.ending.Ending.TheVariants.{End}
-use Rattle.plinq_source.specs.Trace.{Trace, open_trace, ended, followed}
-use Rattle.plinq_source.proofs.Followed.{followed-open_nil}
+use Rattle.plinq_source.specs.Trace.{Trace, open_trace, ended_trace, followed_by}
+use Rattle.plinq_source.proofs.Followed.{followed_by-open_nil}
 use Rattle.plinq_lambda.specs.Meaning.{Meaning}
 use Rattle.plinq_ops.specs.declared.results.ChunkResult.{ChunkResult}
 use Rattle.plinq_ops.specs.Stage.{Stage, seq, some_takes_none}
@@ -26,7 +26,7 @@ use Rattle.plinq_merge.specs.declared.joiner_state.JoinerState.{JoinerState}
 use Rattle.plinq_merge.specs.declared.joiner_state.JoinerState.TheVariants.{Open, Decided, Failed as HasFailed}
 use Rattle.plinq_merge.specs.Buffer.{held_of, size_of}
 use Rattle.plinq_merge.specs.Sending.{Leads, Delivers}
-use Rattle.plinq_merge.specs.Shown.{Merge, merged, answer, shown}
+use Rattle.plinq_merge.specs.Shown.{Merge, merged_trace, answer, shown_batches}
 use Rattle.plinq_merge.specs.Merging.{GoesOn}
 use Rattle.plinq_merge.specs.Joining.{Joins, Waits, JoinsOfferAt}
 use Rattle.plinq_merge.specs.Delivering.{Line, line_of, Gives, MadeBy, is_below, can_deliver}
@@ -35,13 +35,13 @@ use Rattle.plinq_merge.specs.Working.{Work, merge_of, Rests}
 use Rattle.plinq_merge.specs.Offering.{Brings, OffersAt}
 use Rattle.plinq_merge.specs.Mergers.{SendsSome}
 
-pub answer-open : {T : Type 0} (merge : Merge T) (offers : List (ChunkResult T)) → merge.decided ≡ false → answer merge offers ≡ seq merge.after (merged merge.order offers)
-answer-open merge offers undecided = ap (λ b. cond b (ended [] End) (seq merge.after (merged merge.order offers))) undecided
+pub answer-open : {T : Type 0} (merge : Merge T) (offers : List (ChunkResult T)) → merge.decided ≡ false → answer merge offers ≡ seq merge.after (merged_trace merge.order offers)
+answer-open merge offers undecided = ap (λ b. cond b (ended_trace [] End) (seq merge.after (merged_trace merge.order offers))) undecided
 
 -- what operators give that go on after a trace, and give nothing of nothing
 answer-on : {T : Type 0} (ss : List (Stage T)) (t : Trace T) (out : List T) (ss' : List (Stage T)) → GoesOn ss t out None ss' → seq ss' (open_trace []) ≡ open_trace [] → seq ss t ≡ open_trace out
 answer-on ss t out ss' on nothing =
-    ap (seq ss) (sym (followed-open_nil t)) ∙ on.answers (open_trace []) ∙ ap (followed (open_trace out)) nothing ∙ followed-open_nil (open_trace out)
+    ap (seq ss) (sym (followed_by-open_nil t)) ∙ on.answers (open_trace []) ∙ ap (followed_by (open_trace out)) nothing ∙ followed_by-open_nil (open_trace out)
 
 module _ {K T : Type 0} (accepts : K → List T → K → Type 0) (refuses : K → List T → ℕ → K → Type 0) where
   -- what was delivered of a trace are the batches of what it gives
@@ -56,23 +56,23 @@ module _ {K T : Type 0} (accepts : K → List T → K → Type 0) (refuses : K �
 
 module _ {L T : Type 0} (meaning : L → Meaning T) (decided : Bool) (w : Work L T) (r : ChunkResult T) where
   module _ (offers : List (ChunkResult T)) (rests : Rests meaning decided w offers) (gained : Trace T)
-      (grows : merged w.order (offers ++ r ∷ []) ≡ followed (merged w.order offers) gained) where
+      (grows : merged_trace w.order (offers ++ r ∷ []) ≡ followed_by (merged_trace w.order offers) gained) where
     -- the answer to one offer more, by what the offers merge to then
-    answer-gained : answer (merge_of meaning decided w) (offers ++ r ∷ []) ≡ followed (open_trace rests.out) (seq (stages meaning w.taker.pipeline) gained)
+    answer-gained : answer (merge_of meaning decided w) (offers ++ r ∷ []) ≡ followed_by (open_trace rests.out) (seq (stages meaning w.taker.pipeline) gained)
     answer-gained =
         answer-open (merge_of meaning decided w) (offers ++ r ∷ []) rests.undecided ∙ ap (seq (stages_of meaning w.taker.pipeline.ops)) grows
         ∙ rests.on.answers gained
 
     -- the batches that it gains
-    shown-gained : shown (merge_of meaning decided w) (offers ++ r ∷ [])
-        ≡ shown (merge_of meaning decided w) offers ++ batches_from (size_of w.taker.buffer) (held_of w.taker.buffer)
+    shown_batches-gained : shown_batches (merge_of meaning decided w) (offers ++ r ∷ [])
+        ≡ shown_batches (merge_of meaning decided w) offers ++ batches_from (size_of w.taker.buffer) (held_of w.taker.buffer)
         (seq (stages meaning w.taker.pipeline) gained)
-    shown-gained =
+    shown_batches-gained =
         let size : Option ℕ = size_of w.taker.buffer in
         let more : Trace T = seq (stages meaning w.taker.pipeline) gained in
         let before : answer (merge_of meaning decided w) offers ≡ open_trace rests.out =
         answer-open (merge_of meaning decided w) offers rests.undecided
-        ∙ answer-on (stages_of meaning w.taker.pipeline.ops) (merged w.order offers) rests.out (stages meaning w.taker.pipeline) rests.on rests.nothing in
+        ∙ answer-on (stages_of meaning w.taker.pipeline.ops) (merged_trace w.order offers) rests.out (stages meaning w.taker.pipeline) rests.on rests.nothing in
         batches-on size [] rests.out (held_of w.taker.buffer) _ more answer-gained rests.held
         ∙ ap (λ bs. bs ++ batches_from size (held_of w.taker.buffer) more) (sym (ap (batches_from size []) before ∙ batches_from-open size [] rests.out))
 
@@ -91,7 +91,7 @@ module _ {L T : Type 0} (meaning : L → Meaning T) (decided : Bool) (w : Work L
         record {
           are_new = joins.are_new offers rests.waits;
           gained = batches_from l.size l.held (seq l.now joins.gained);
-          grows = shown-gained offers rests joins.gained (joins.grows offers rests.waits);
+          grows = shown_batches-gained offers rests joins.gained (joins.grows offers rests.waits);
           sent = delivers-gives accepts refuses l s joins.gained result (line_of meaning w'.taker) s' nothing joins.taken.gives;
         }
 
@@ -104,15 +104,15 @@ module _ {L T : Type 0} (meaning : L → Meaning T) (decided : Bool) (w : Work L
         let made = joins.taken in
         let plan = made.plan in
         let next = made.gives in
-        let both : GoesOn l.after (followed (merged w.order offers) joins.gained) (rests.out ++ next.out) None l'.now =
-        goes_on-on l.after l.now l'.now (merged w.order offers) joins.gained rests.out next.out rests.on next.on in
-        let all = ap (λ o. merged o (offers ++ r ∷ [])) same ∙ joins.grows offers rests.waits in
+        let both : GoesOn l.after (followed_by (merged_trace w.order offers) joins.gained) (rests.out ++ next.out) None l'.now =
+        goes_on-on l.after l.now l'.now (merged_trace w.order offers) joins.gained rests.out next.out rests.on next.on in
+        let all = ap (λ o. merged_trace o (offers ++ r ∷ [])) same ∙ joins.grows offers rests.waits in
         record {
           undecided = rests.undecided;
           waits = joins.waits refl offers rests.waits;
           out = rests.out ++ next.out;
           on = subst (λ t. GoesOn l'.after t (rests.out ++ next.out) None l'.now) (sym all)
-              (subst (λ ss. GoesOn ss (followed (merged w.order offers) joins.gained) (rests.out ++ next.out) None l'.now) (sym plan.after) both);
+              (subst (λ ss. GoesOn ss (followed_by (merged_trace w.order offers) joins.gained) (rests.out ++ next.out) None l'.now) (sym plan.after) both);
           nothing = nothing;
           held = held-on l.size [] l.held l'.held rests.out next.out rests.held next.held ∙ ap (λ n. held_back n [] (rests.out ++ next.out)) (sym plan.size);
         }

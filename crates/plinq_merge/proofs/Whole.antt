@@ -11,8 +11,8 @@ use Rattle.std.proofs.Math.Bool.{or_assoc, or-false}
 use Rattle.std.proofs.Math.Seq.{take-length}
 use Rattle.plinq_source.specs.declared.ending.Ending.{Ending}
 use Rattle.plinq_source.specs.declared.ending.Ending.TheVariants.{Fault}
-use Rattle.plinq_source.specs.Trace.{Trace, open_trace, followed}
-use Rattle.plinq_source.proofs.Followed.{trace_of, followed-ended, followed-open_nil, followed-followed}
+use Rattle.plinq_source.specs.Trace.{Trace, open_trace, followed_by}
+use Rattle.plinq_source.proofs.Followed.{trace_of, followed_by-ended, followed_by-open_nil, followed_by-followed_by}
 use Rattle.plinq_lambda.specs.Meaning.{Meaning}
 use Rattle.plinq_keyed.specs.declared.event.Event.{Event}
 use Rattle.plinq_keyed.specs.declared.event.Event.TheVariants.{Ask, Close}
@@ -28,21 +28,21 @@ use Rattle.plinq_ops.specs.declared.order.Order.{Order}
 use Rattle.plinq_ops.specs.declared.order.Order.TheVariants.{ByKey}
 use Rattle.plinq_ops.specs.Stage.{seq, seq_after}
 use Rattle.plinq_ops.specs.Chunk.{result_trace}
-use Rattle.plinq_ops.specs.Fragment.{glued, glue}
+use Rattle.plinq_ops.specs.Fragment.{glued_trace, glue}
 use Rattle.plinq_ops.specs.Batches.{batches_from}
-use Rattle.plinq_ops.proofs.Glue.{glued-append}
+use Rattle.plinq_ops.proofs.Glue.{glued_trace-append}
 use Rattle.plinq_ops.proofs.Rows.{row-next, glue-whole}
-use Rattle.plinq_ops.proofs.Stages.{seq-followed}
-use Rattle.plinq_reorder.specs.Intervals.{Interval, is_within, has_key, are_apart, IsFree, unbroken, first_gap, IsRow}
+use Rattle.plinq_ops.proofs.Stages.{seq-followed_by}
+use Rattle.plinq_reorder.specs.Intervals.{Interval, is_within, has_key, are_apart, IsFree, unbroken_row, first_gap, IsRow}
 use Rattle.plinq_reorder.proofs.Keys.{same_key, same_test, not_within-none}
 use Rattle.plinq_reorder.proofs.Insert.{apart-insert, has_key-insert}
-use Rattle.plinq_reorder.proofs.Gap.{row-of-unbroken, All-unbroken, gap-missing, gap-most}
+use Rattle.plinq_reorder.proofs.Gap.{row-of-unbroken_row, All-unbroken_row, gap-missing, gap-most}
 use Rattle.plinq_merge.specs.Whole.{IsTrueTail, AreTrueTails, AreApart, AreWhole, AreFirstOf}
-use Rattle.plinq_merge.specs.Shown.{Merge, waiting_trace, placed, all_placed, all_told, all_given, ending_at, row, merged, answer, shown}
+use Rattle.plinq_merge.specs.Shown.{Merge, waiting_trace, placed_intervals, all_placed, all_told, all_given, ending_at, row, merged_trace, answer, shown_batches}
 use Rattle.plinq_merge.specs.Keys.{is_offered}
 use Rattle.plinq_merge.specs.Deliveries.{batches-first}
 use Rattle.plinq_merge.proofs.Offers.{answer-open}
-use Rattle.plinq_merge.proofs.Holds.{All-placed, arrived-by_key}
+use Rattle.plinq_merge.proofs.Holds.{All-placed, arrived_trace-by_key}
 
 ending-told : {T : Type 0} (t : Trace T) (at : ℕ) (last : Bool) (e : Option Ending) → t.ending ≡ e → (last ≡ true → at ≡ length t.items)
     → IfSome (told_at at (cond last (ending_tail e) None)) (EndsAt t)
@@ -106,9 +106,9 @@ pub record ArePlaced {T : Type 0} (before : List (Interval (Trace T))) (offers :
   pub apart : are_apart 0 after ≡ true
   pub keys : (key : ℕ) → has_key after key ≡ has_key before key || is_offered offers key
 
-placed-one : {T : Type 0} (order : Order) (ps : List (Interval (Trace T))) (r : ChunkResult T) → are_apart 0 ps ≡ true → IsFree ps r.first (end_of_result r)
-    → (are_apart 0 (placed order ps r) ≡ true) × ((key : ℕ) → has_key (placed order ps r) key ≡ has_key ps key || is_within r.first (end_of_result r) key)
-placed-one order ps r apart free =
+placed_intervals-one : {T : Type 0} (order : Order) (ps : List (Interval (Trace T))) (r : ChunkResult T) → are_apart 0 ps ≡ true → IsFree ps r.first (end_of_result r)
+    → (are_apart 0 (placed_intervals order ps r) ≡ true) × ((key : ℕ) → has_key (placed_intervals order ps r) key ≡ has_key ps key || is_within r.first (end_of_result r) key)
+placed_intervals-one order ps r apart free =
     elim (cases_lt 0 r.count) [
       | inl some ↦
           let test : (r.count == 0) ≡ false = grind (arith, nat_tests) in
@@ -125,8 +125,8 @@ pub placed-all : {T : Type 0} (order : Order) (ps : List (Interval (Trace T))) (
     → ((key : ℕ) → is_offered offers key ≡ true → has_key ps key ≡ false) → ArePlaced ps offers (all_placed order ps offers)
 placed-all order ps [] apart new free = record { apart = apart; keys = λ key. sym (or-false (has_key ps key)) }
 placed-all order ps (r ∷ rs) apart new free =
-    let one = placed-one order ps r apart (λ key within. free key (or_left _ _ within)) in
-    let others = placed-all order (placed order ps r) rs one.0 new.1 (λ key there. one.1 key ∙ or_from _ _ (free key (or_right _ _ there))
+    let one = placed_intervals-one order ps r apart (λ key within. free key (or_left _ _ within)) in
+    let others = placed-all order (placed_intervals order ps r) rs one.0 new.1 (λ key there. one.1 key ∙ or_from _ _ (free key (or_right _ _ there))
     (false_from_ne_true _ (λ within. let bad : true ≡ false = sym there ∙ new.0 key within in cc))) in
     record {
       apart = others.apart;
@@ -139,11 +139,11 @@ placed-all order ps (r ∷ rs) apart new free =
 module _ {L T : Type 0} (meaning : L → Meaning T) (worker : List (Op L)) (t : Trace T) (few : length t.items ≤ 2 ^ 40) where
   -- what the fragments of the items before a key give
   abbrev before : ℕ → Trace T
-  before key = glued meaning worker 0 (take key t.items) None
+  before key = glued_trace meaning worker 0 (take key t.items) None
 
   -- it gives what comes after the items before it, and ends among them
   record IsOfSource (p : Interval (Trace T)) : Type 0 where
-    pub next : followed (before p.0) p.1.payload ≡ before p.1.end
+    pub next : followed_by (before p.0) p.1.payload ≡ before p.1.end
     pub within : p.1.end ≤ length t.items
 
   are-of_source : (offers : List (ChunkResult T)) → AreOffers meaning worker t offers → All (λ r. IsOfSource (r.first, record { end = end_of_result r; payload = result_trace r })) offers
@@ -157,65 +157,65 @@ module _ {L T : Type 0} (meaning : L → Meaning T) (worker : List (Op L)) (t : 
   all-of_source offers are = All-placed IsOfSource ByKey [] offers (All-nil IsOfSource) (are-of_source offers are)
 
   -- a row of them gives what the items up to its end give
-  row-gives : (from : ℕ) (ps : List (Interval (Trace T))) (to : ℕ) → IsRow from ps to → All IsOfSource ps → followed (before from) (all_given ps) ≡ before to
-  row-gives from [] to is_row all = followed-open_nil (before from) ∙ ap before is_row
+  row-gives : (from : ℕ) (ps : List (Interval (Trace T))) (to : ℕ) → IsRow from ps to → All IsOfSource ps → followed_by (before from) (all_given ps) ≡ before to
+  row-gives from [] to is_row all = followed_by-open_nil (before from) ∙ ap before is_row
   row-gives from (p ∷ ps) to is_row all =
       let here = All-head IsOfSource p ps all in
-      ap (λ k. followed (before k) (all_given (p ∷ ps))) (sym is_row.0)
-      ∙ sym (followed-followed (before p.0) p.1.payload (all_given ps)) ∙ ap (λ u. followed u (all_given ps)) here.next
+      ap (λ k. followed_by (before k) (all_given (p ∷ ps))) (sym is_row.0)
+      ∙ sym (followed_by-followed_by (before p.0) p.1.payload (all_given ps)) ∙ ap (λ u. followed_by u (all_given ps)) here.next
       ∙ row-gives p.1.end ps to is_row.1 (All-tail IsOfSource p ps all)
 
   -- so the offers merge to what the items before the first gap give, and the source's ending if this is its place
-  merged-gap : (offers : List (ChunkResult T)) → AreOffers meaning worker t offers
-      → merged ByKey offers ≡ followed (before (first_gap 0 (all_placed ByKey [] offers))) (trace_of [] (ending_at (all_told None offers) (first_gap 0 (all_placed ByKey [] offers))))
-  merged-gap offers are =
+  merged_trace-gap : (offers : List (ChunkResult T)) → AreOffers meaning worker t offers
+      → merged_trace ByKey offers ≡ followed_by (before (first_gap 0 (all_placed ByKey [] offers))) (trace_of [] (ending_at (all_told None offers) (first_gap 0 (all_placed ByKey [] offers))))
+  merged_trace-gap offers are =
       let ps : List (Interval (Trace T)) = all_placed ByKey [] offers in
       let last : Trace T = trace_of [] (ending_at (all_told None offers) (first_gap 0 ps)) in
-      ap (λ u. followed u (row (all_told None offers) 0 ps)) (arrived-by_key offers)
-      ∙ ap (λ u. followed u last) (row-gives 0 (unbroken 0 ps) (first_gap 0 ps) (row-of-unbroken 0 ps) (All-unbroken IsOfSource 0 ps (all-of_source offers are)))
+      ap (λ u. followed_by u (row (all_told None offers) 0 ps)) (arrived_trace-by_key offers)
+      ∙ ap (λ u. followed_by u last) (row-gives 0 (unbroken_row 0 ps) (first_gap 0 ps) (row-of-unbroken_row 0 ps) (All-unbroken_row IsOfSource 0 ps (all-of_source offers are)))
 
   -- ---- how the source's fragments begin
 
   abbrev pub Begins : Trace T → Type 0
-  Begins first = (rest : Trace T) × (glue meaning worker t ≡ followed first rest)
+  Begins first = (rest : Trace T) × (glue meaning worker t ≡ followed_by first rest)
 
-  glue-at_end : (key : ℕ) (e : Ending) → key ≡ length t.items → t.ending ≡ Some e → glue meaning worker t ≡ followed (before key) (trace_of [] (Some e))
+  glue-at_end : (key : ℕ) (e : Ending) → key ≡ length t.items → t.ending ≡ Some e → glue meaning worker t ≡ followed_by (before key) (trace_of [] (Some e))
   glue-at_end key e here ends =
       glue-whole meaning worker t
-      ∙ ap (λ o. followed (glued meaning worker 0 t.items None) (trace_of [] o)) ends
-      ∙ ap (λ ys. followed (glued meaning worker 0 ys None) (trace_of [] (Some e))) (sym (ap (λ k. take k t.items) here ∙ take-length t.items))
+      ∙ ap (λ o. followed_by (glued_trace meaning worker 0 t.items None) (trace_of [] o)) ends
+      ∙ ap (λ ys. followed_by (glued_trace meaning worker 0 ys None) (trace_of [] (Some e))) (sym (ap (λ k. take k t.items) here ∙ take-length t.items))
 
   glue-told : (source_end : Option (ℕ × Ending)) (key : ℕ) → IsSome source_end → IfSome source_end (EndsAt t) → key ≡ length t.items
-      → glue meaning worker t ≡ followed (before key) (trace_of [] (ending_at source_end key))
+      → glue meaning worker t ≡ followed_by (before key) (trace_of [] (ending_at source_end key))
   glue-told None key some is here = absurd (let bad : false ≡ true = some in cc)
   glue-told (Some at) key some is here =
-      glue-at_end key at.1 here is.1 ∙ ap (λ v. followed (before key) (trace_of [] (cond v (Some at.1) None))) (sym (same_test at.0 key (is.0 ∙ sym here)))
+      glue-at_end key at.1 here is.1 ∙ ap (λ v. followed_by (before key) (trace_of [] (cond v (Some at.1) None))) (sym (same_test at.0 key (is.0 ∙ sym here)))
 
-  open-begins : (key : ℕ) → Begins (followed (before key) (open_trace []))
+  open-begins : (key : ℕ) → Begins (followed_by (before key) (open_trace []))
   open-begins key =
-      let rest : Trace T = glued meaning worker (0 + length (take key t.items)) (drop key t.items) t.ending in (
+      let rest : Trace T = glued_trace meaning worker (0 + length (take key t.items)) (drop key t.items) t.ending in (
         rest,
-        ap (λ ys. glued meaning worker 0 ys t.ending) (sym (take-append-drop key t.items))
-            ∙ glued-append meaning worker 0 (take key t.items) (drop key t.items) t.ending
-            ∙ ap (λ u. followed u rest) (sym (followed-open_nil (before key))),
+        ap (λ ys. glued_trace meaning worker 0 ys t.ending) (sym (take-append-drop key t.items))
+            ∙ glued_trace-append meaning worker 0 (take key t.items) (drop key t.items) t.ending
+            ∙ ap (λ u. followed_by u rest) (sym (followed_by-open_nil (before key))),
       )
 
-  gap-begins : (source_end : Option (ℕ × Ending)) (key : ℕ) → IfSome source_end (EndsAt t) → Begins (followed (before key) (trace_of [] (ending_at source_end key)))
+  gap-begins : (source_end : Option (ℕ × Ending)) (key : ℕ) → IfSome source_end (EndsAt t) → Begins (followed_by (before key) (trace_of [] (ending_at source_end key)))
   gap-begins None key is = open-begins key
   gap-begins (Some at) key is =
-      elim (at.0 == key) as (λ v. v ≡ (at.0 == key) → Begins (followed (before key) (trace_of [] (cond v (Some at.1) None)))) [
+      elim (at.0 == key) as (λ v. v ≡ (at.0 == key) → Begins (followed_by (before key) (trace_of [] (cond v (Some at.1) None)))) [
         | true ↦ λ test.
-            (open_trace [], glue-at_end key at.1 (sym (same_key at.0 key (sym test)) ∙ is.0) is.1 ∙ sym (followed-open_nil (followed (before key) (trace_of [] (Some at.1)))))
+            (open_trace [], glue-at_end key at.1 (sym (same_key at.0 key (sym test)) ∙ is.0) is.1 ∙ sym (followed_by-open_nil (followed_by (before key) (trace_of [] (Some at.1)))))
         | false ↦ λ test. open-begins key
       ] refl
 
-  pub merged-begins : (offers : List (ChunkResult T)) → AreOffers meaning worker t offers → AreTrueTails t offers → Begins (merged ByKey offers)
-  merged-begins offers are tails =
-      subst Begins (sym (merged-gap offers are)) (gap-begins (all_told None offers) (first_gap 0 (all_placed ByKey [] offers)) (told-true t None offers tt tails))
+  pub merged_trace-begins : (offers : List (ChunkResult T)) → AreOffers meaning worker t offers → AreTrueTails t offers → Begins (merged_trace ByKey offers)
+  merged_trace-begins offers are tails =
+      subst Begins (sym (merged_trace-gap offers are)) (gap-begins (all_told None offers) (first_gap 0 (all_placed ByKey [] offers)) (told-true t None offers tt tails))
 
-  merged-whole : (offers : List (ChunkResult T)) → AreOffers meaning worker t offers → AreTrueTails t offers → AreWhole t offers
-      → merged ByKey offers ≡ glue meaning worker t
-  merged-whole offers are tails all =
+  merged_trace-whole : (offers : List (ChunkResult T)) → AreOffers meaning worker t offers → AreTrueTails t offers → AreWhole t offers
+      → merged_trace ByKey offers ≡ glue meaning worker t
+  merged_trace-whole offers are tails all =
       let ps : List (Interval (Trace T)) = all_placed ByKey [] offers in
       let gap : ℕ = first_gap 0 ps in
       let stand = placed-all ByKey [] offers refl all.apart (λ key there. refl) in
@@ -226,35 +226,35 @@ module _ {L T : Type 0} (meaning : L → Meaning T) (worker : List (Op L)) (t : 
         | inl less ↦ absurd (let bad : true ≡ false = sym (stand.keys gap ∙ all.keys gap less) ∙ gap-missing 0 ps stand.apart in cc)
         | inr past ↦ omega arith
       ] in
-      merged-gap offers are ∙ sym (glue-told (all_told None offers) gap all.end (told-true t None offers tt tails) here)
+      merged_trace-gap offers are ∙ sym (glue-told (all_told None offers) gap all.end (told-true t None offers tt tails) here)
 
 -- ---- the answer
 
 module _ {L T : Type 0} (meaning : L → Meaning T) (worker : List (Op L)) (t : Trace T) (merge : Merge T) (offers : List (ChunkResult T))
     (few : length t.items ≤ 2 ^ 40) (by_key : merge.order ≡ ByKey) (undecided : merge.decided ≡ false) (are : AreOffers meaning worker t offers)
     (tails : AreTrueTails t offers) where
-  by_key-answer : answer merge offers ≡ seq merge.after (merged ByKey offers)
-  by_key-answer = answer-open merge offers undecided ∙ ap (λ o. seq merge.after (merged o offers)) by_key
+  by_key-answer : answer merge offers ≡ seq merge.after (merged_trace ByKey offers)
+  by_key-answer = answer-open merge offers undecided ∙ ap (λ o. seq merge.after (merged_trace o offers)) by_key
 
   -- the sequential answer begins with the answer to the offers
-  answer-begins : (rest : Trace T) × (seq merge.after (glue meaning worker t) ≡ followed (answer merge offers) rest)
+  answer-begins : (rest : Trace T) × (seq merge.after (glue meaning worker t) ≡ followed_by (answer merge offers) rest)
   answer-begins =
-      let begins = merged-begins meaning worker t few offers are tails in
-      let rest : Trace T = seq (seq_after merge.after (merged ByKey offers)) begins.0 in
-      (rest, ap (seq merge.after) begins.1 ∙ seq-followed merge.after (merged ByKey offers) begins.0 ∙ ap (λ u. followed u rest) (sym by_key-answer))
+      let begins = merged_trace-begins meaning worker t few offers are tails in
+      let rest : Trace T = seq (seq_after merge.after (merged_trace ByKey offers)) begins.0 in
+      (rest, ap (seq merge.after) begins.1 ∙ seq-followed_by merge.after (merged_trace ByKey offers) begins.0 ∙ ap (λ u. followed_by u rest) (sym by_key-answer))
 
-  pub shown-first : AreFirstOf (shown merge offers) (batches_from merge.size [] (seq merge.after (glue meaning worker t)))
-  shown-first =
+  pub shown_batches-first : AreFirstOf (shown_batches merge offers) (batches_from merge.size [] (seq merge.after (glue meaning worker t)))
+  shown_batches-first =
       let first = batches-first merge.size [] (answer merge offers) answer-begins.0 in
       (first.0, ap (batches_from merge.size []) answer-begins.1 ∙ first.1)
 
   -- an answer that has ended is the sequential one
   pub decided-whole : (e : Ending) → (answer merge offers).ending ≡ Some e → answer merge offers ≡ seq merge.after (glue meaning worker t)
-  decided-whole e ends = sym (answer-begins.1 ∙ followed-ended (answer merge offers) answer-begins.0 e ends)
+  decided-whole e ends = sym (answer-begins.1 ∙ followed_by-ended (answer merge offers) answer-begins.0 e ends)
 
   -- and so is that to all of the source
   pub answer-whole : AreWhole t offers → answer merge offers ≡ seq merge.after (glue meaning worker t)
-  answer-whole all = by_key-answer ∙ ap (seq merge.after) (merged-whole meaning worker t few offers are tails all)
+  answer-whole all = by_key-answer ∙ ap (seq merge.after) (merged_trace-whole meaning worker t few offers are tails all)
 
 -- what the laws state
-pub ruleset of_source = (shown-first, decided-whole, answer-whole)
+pub ruleset of_source = (shown_batches-first, decided-whole, answer-whole)

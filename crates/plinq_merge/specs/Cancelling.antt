@@ -4,8 +4,8 @@ use Rattle.std.proofs.Common.{sym}
 use Rattle.plinq_merge.specs.Sending.{Leads}
 
 -- one batch more, or the greatest number
-abbrev pub counted : ℕ → ℕ
-counted n = min (n + 1) 18446744073709551615
+abbrev pub next_count : ℕ → ℕ
+next_count n = min (n + 1) 18446744073709551615
 
 -- a sink, and how many batches it has taken
 pub record Tally (K : Type 0) : Type 0 where
@@ -14,7 +14,7 @@ pub record Tally (K : Type 0) : Type 0 where
 
 -- each batch that it takes counts, and one that it refuses doesn't
 abbrev pub Counts : {K T : Type 0} → (K → List T → K → Type 0) → Tally K → List T → Tally K → Type 0
-Counts accepts x b x' = (accepts x.sink b x'.sink) × (x'.delivered ≡ counted x.delivered)
+Counts accepts x b x' = (accepts x.sink b x'.sink) × (x'.delivered ≡ next_count x.delivered)
 
 abbrev pub CountsNot : {K T : Type 0} → (K → List T → ℕ → K → Type 0) → Tally K → List T → ℕ → Tally K → Type 0
 CountsNot refuses x b code x' = (refuses x.sink b code x'.sink) × (x'.delivered ≡ x.delivered)
@@ -30,7 +30,7 @@ module _ {C K T : Type 0} (asks : C → ℕ → Bool → C → Type 0) where
   pub record Passes (accepts : K → List T → K → Type 0) (d : Delivery C K) (b : List T) (d' : Delivery C K) : Type 0 where
     pub asked : asks d.token d.delivered false d'.token
     pub taken : accepts d.sink b d'.sink
-    pub counts : d'.delivered ≡ counted d.delivered
+    pub counts : d'.delivered ≡ next_count d.delivered
 
   -- the token lets it pass, and the sink refuses it
   pub record IsRefused (refuses : K → List T → ℕ → K → Type 0) (d : Delivery C K) (b : List T) (code : ℕ) (d' : Delivery C K) : Type 0 where
@@ -123,5 +123,5 @@ kept_before_the_first kept =
     let early = stops_at_two kept.last (so_far true [] 0) kept.stops in
     absurd (cc)
 
-at_the_greatest_number : counted 18446744073709551615 ≡ 18446744073709551615
+at_the_greatest_number : next_count 18446744073709551615 ≡ 18446744073709551615
 at_the_greatest_number = refl

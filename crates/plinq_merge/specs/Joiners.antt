@@ -11,8 +11,8 @@ use Rattle.plinq_merge.specs.declared.joiner_state.JoinerState.{JoinerState}
 use Rattle.plinq_merge.specs.declared.joiner_state.JoinerState.TheVariants.{Open, Decided, Failed}
 use Rattle.plinq_merge.specs.declared.joiner.Joiner.{Joiner}
 use Rattle.plinq_merge.specs.declared.joining.Joining.{Joining}
-use Rattle.plinq_merge.specs.Shown.{merged}
-use Rattle.plinq_merge.specs.Offering.{is_decided, finished}
+use Rattle.plinq_merge.specs.Shown.{merged_trace}
+use Rattle.plinq_merge.specs.Offering.{is_decided, finish_result}
 use Rattle.plinq_merge.specs.Joining.{Waits, JoinsOfferAt}
 
 module _ {W T : Type 0} where
@@ -32,7 +32,7 @@ module _ {W T : Type 0} where
   has_decided j = is_decided j.standing
 
   abbrev pub ending_of : Joiner W T → Result Ending MergeFault
-  ending_of j = finished j.standing
+  ending_of j = finish_result j.standing
 
 module _ {W O T : Type 0} (made : W → O → Trace T → Result (Option Ending) DeliveryFault → W → O → Type 0) where
   -- what an offer answers, and what it does to the joiner and to where its taker puts things
@@ -41,8 +41,8 @@ module _ {W O T : Type 0} (made : W → O → Trace T → Result (Option Ending)
 
   module _ (a : W) (x : O) where
     abbrev pub HasJoinedAt : Joining W T → JoinerState → O → List (ChunkResult T) → Type 0
-    HasJoinedAt w Open y offers = Waits w.order w.row offers × made a x (merged w.order offers) (Ok None) w.taker y
-    HasJoinedAt w (Decided e) y offers = made a x (merged w.order offers) (Ok (Some e)) w.taker y
+    HasJoinedAt w Open y offers = Waits w.order w.row offers × made a x (merged_trace w.order offers) (Ok None) w.taker y
+    HasJoinedAt w (Decided e) y offers = made a x (merged_trace w.order offers) (Ok (Some e)) w.taker y
     HasJoinedAt w Failed y offers = ⊥
 
     -- from this taker on it has taken what these offers merge to, and the answer is open or has ended; a failed one stands for

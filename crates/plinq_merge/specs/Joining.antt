@@ -1,7 +1,7 @@
 -- Joining: which offers a row of keys stands for, and what one more brings to its taker.
 use Rattle.std.specs.Prelude.{◌≡◌, ℕ, List, [], ◌∷◌, ◌++◌, Bool, true, false, Option, Some, None, Result, Ok, Err}
 use Rattle.plinq_source.specs.declared.ending.Ending.{Ending}
-use Rattle.plinq_source.specs.Trace.{Trace, open_trace, followed}
+use Rattle.plinq_source.specs.Trace.{Trace, open_trace, followed_by}
 use Rattle.plinq_ops.specs.declared.order.Order.{Order}
 use Rattle.plinq_ops.specs.declared.results.ChunkResult.{ChunkResult}
 use Rattle.plinq_merge.specs.declared.delivery_fault.DeliveryFault.{DeliveryFault}
@@ -15,7 +15,7 @@ use Rattle.plinq_merge.specs.declared.joiner_state.JoinerState.TheVariants.{Open
 use Rattle.plinq_merge.specs.declared.row.Row.{Row}
 use Rattle.plinq_merge.specs.declared.joiner.Joiner.{Joiner}
 use Rattle.plinq_merge.specs.declared.joining.Joining.{Joining}
-use Rattle.plinq_merge.specs.Shown.{row as row_of, merged}
+use Rattle.plinq_merge.specs.Shown.{row as row_of, merged_trace}
 use Rattle.plinq_reorder.specs.Buffered.{is_taken}
 use Rattle.plinq_merge.specs.Keys.{is_offered, AreNew, IsDuplicate}
 use Rattle.plinq_merge.specs.Merging.{Holds}
@@ -43,7 +43,7 @@ module _ {W O T : Type 0} (made : W → O → Trace T → Result (Option Ending)
     pub gained : Trace T
     pub taken : made w.taker y gained result w'.taker y'
     pub are_new : (offers : List (ChunkResult T)) → Waits w.order w.row offers → AreNew offers r
-    pub grows : (offers : List (ChunkResult T)) → Waits w.order w.row offers → merged w.order (offers ++ r ∷ []) ≡ followed (merged w.order offers) gained
+    pub grows : (offers : List (ChunkResult T)) → Waits w.order w.row offers → merged_trace w.order (offers ++ r ∷ []) ≡ followed_by (merged_trace w.order offers) gained
     pub waits : result ≡ Ok None → (offers : List (ChunkResult T)) → Waits w.order w.row offers → Waits w'.order w'.row (offers ++ r ∷ [])
 
   -- what an offer answers and does: where the answer is open it is joined, or one of its keys was offered before; a decided joiner

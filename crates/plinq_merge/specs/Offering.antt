@@ -12,7 +12,7 @@ use Rattle.plinq_merge.specs.declared.joiner_state.JoinerState.TheVariants.{Open
 use Rattle.plinq_merge.specs.declared.delivery_fault.DeliveryFault.TheVariants.{Memory as NoMemory, Sink as Refusal}
 use Rattle.plinq_merge.specs.Cancelling.{Delivery, Passes, IsRefused, IsKeptBack}
 use Rattle.plinq_merge.specs.Sending.{Leads, IsCutOff}
-use Rattle.plinq_merge.specs.Shown.{Merge, answer, shown}
+use Rattle.plinq_merge.specs.Shown.{Merge, answer, shown_batches}
 use Rattle.plinq_merge.specs.Keys.{AreNew, IsDuplicate}
 use Rattle.plinq_merge.specs.Working.{Work, merge_of, Rests}
 
@@ -26,7 +26,7 @@ StandsFor meaning decided w HasFailed offers = ⊥
 pub record Brings {T : Type 0} (merge : Merge T) (offers : List (ChunkResult T)) (r : ChunkResult T) (Sent : List (List T) → Type 0) : Type 0 where
   pub are_new : AreNew offers r
   pub gained : List (List T)
-  pub grows : shown merge (offers ++ r ∷ []) ≡ shown merge offers ++ gained
+  pub grows : shown_batches merge (offers ++ r ∷ []) ≡ shown_batches merge offers ++ gained
   pub sent : Sent gained
 
 -- what an offer answers and does: where the answer is open it is taken in, or one of its keys was offered before; a decided merger
@@ -77,10 +77,10 @@ is_decided (Decided e) = true
 is_decided HasFailed = false
 
 -- how a merger finishes: with the answer's ending, or with Gap where it is open
-abbrev pub finished : JoinerState → Result Ending MergeFault
-finished Open = Err Gap
-finished (Decided e) = Ok e
-finished HasFailed = Err Failed
+abbrev pub finish_result : JoinerState → Result Ending MergeFault
+finish_result Open = Err Gap
+finish_result (Decided e) = Ok e
+finish_result HasFailed = Err Failed
 
 abbrev pub finish_of : Option Ending → Result Ending MergeFault
 finish_of None = Err Gap

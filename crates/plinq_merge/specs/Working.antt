@@ -10,7 +10,7 @@ use Rattle.plinq_ops.specs.Pipeline.{stages}
 use Rattle.plinq_merge.specs.declared.deliver.Deliver.{Deliver}
 use Rattle.plinq_merge.specs.declared.joining.Joining.{Joining}
 use Rattle.plinq_merge.specs.Buffer.{held_of, size_of}
-use Rattle.plinq_merge.specs.Shown.{Merge, merged}
+use Rattle.plinq_merge.specs.Shown.{Merge, merged_trace}
 use Rattle.plinq_merge.specs.Merging.{GoesOn}
 use Rattle.plinq_merge.specs.Joining.{Waits}
 
@@ -28,6 +28,6 @@ module _ {L T : Type 0} (meaning : L → Meaning T) (decided : Bool) where
     pub undecided : decided ≡ false
     pub waits : Waits w.order w.row offers
     pub out : List T
-    pub on : GoesOn (stages_of meaning w.taker.pipeline.ops) (merged w.order offers) out None (stages meaning w.taker.pipeline)
+    pub on : GoesOn (stages_of meaning w.taker.pipeline.ops) (merged_trace w.order offers) out None (stages meaning w.taker.pipeline)
     pub nothing : seq (stages meaning w.taker.pipeline) (open_trace []) ≡ open_trace []
     pub held : held_of w.taker.buffer ≡ held_back (size_of w.taker.buffer) [] out

@@ -18,7 +18,7 @@ ghost use Rattle.plinq_ops.specs.Fragment.{glue};
 ghost use Rattle.plinq_ops.specs.Batches.{batches_from};
 ghost use Rattle.plinq_ops.specs.Cut.{most_items};
 ghost use Rattle.plinq_ops.specs.Row.{IsResultOf, AreOffers};
-ghost use Rattle.plinq_merge.specs.Shown.{Merge, answer, shown};
+ghost use Rattle.plinq_merge.specs.Shown.{Merge, answer, shown_batches};
 ghost use Rattle.plinq_merge.specs.Whole.{IsTrueTail, AreTrueTails, AreWhole, AreFirstOf};
 
 /// Whatever was offered, the batches that it shows are the first of the sequential answer's.
@@ -26,7 +26,7 @@ pub fn shown_is_a_prefix<L, T>()
     ensures { (meaning : L → Meaning T) (worker : List (Op L)) (t : Trace T) (merge : Merge T) (offers : List (ChunkResult T)) →
         length t.items ≤ most_items → merge.order ≡ ByKey → merge.decided ≡ false →
         AreOffers meaning worker t offers → AreTrueTails t offers →
-        AreFirstOf (shown merge offers) (batches_from merge.size [] (seq merge.after (glue meaning worker t))) }
+        AreFirstOf (shown_batches merge offers) (batches_from merge.size [] (seq merge.after (glue meaning worker t))) }
 {}
 
 /// An answer that has ended is the sequential answer, also where results are missing.

@@ -1,5 +1,5 @@
 ghost use Rattle.std.specs.Prelude.{◌≡◌, [], ◌∷◌, ◌<◌, None, IfOk, OnOk};
-ghost use Rattle.plinq_source.specs.Trace.{ended};
+ghost use Rattle.plinq_source.specs.Trace.{ended_trace};
 ghost use Rattle.plinq_ops.specs.Batches.{batches_from, held_back, last_batch};
 ghost use Rattle.plinq_merge.specs.Buffer.{held_of, size_of, HasRoom};
 ghost use Rattle.plinq_merge.specs.Sending.{Delivers};
@@ -120,7 +120,7 @@ where
     requires { HasRoom buffer.old }
     ensures ending { IfOk result (λ e. e ≡ ending) }
     ensures delivered { Delivers K.accepts K.refuses sink.old
-        (batches_from (size_of buffer.old) (held_of buffer.old) (ended made.now.items ending)) result sink.new }
+        (batches_from (size_of buffer.old) (held_of buffer.old) (ended_trace made.now.items ending)) result sink.new }
 {
     deliver_piece(buffer, made.as_slice(), Some(ending), sink)?;
     Ok(ending)

@@ -1,7 +1,7 @@
 //! A sender that sleeps before a full queue.
 ghost use Rattle.std.specs.Prelude.{◌≡◌, true, ⊤};
 ghost use Rattle.std.specs.Thread.{IsSync};
-ghost use Rattle.plinq_stream.specs.Passes.{IsPassOf, known};
+ghost use Rattle.plinq_stream.specs.Passes.{IsPassOf, knowledge_of};
 ghost use Rattle.plinq_stream.specs.Streams.{has};
 
 use plinq_stream::{Admits, Stream, StreamPass};
@@ -26,7 +26,7 @@ const SENT: u64 = 11;
 /// Sends the numbers from 0 on.
 fn send_all<R: Wait>(rt: &R, stream: &Stream<u64, AnyNumber>, pass: StreamPass<u64>)
     requires of { IsPassOf stream.now pass }
-    requires own { has 0 (known pass).numbers ≡ true }
+    requires own { has 0 (knowledge_of pass).numbers ≡ true }
 {
     let mut pass = pass;
     for item in 0..SENT {
@@ -37,7 +37,7 @@ fn send_all<R: Wait>(rt: &R, stream: &Stream<u64, AnyNumber>, pass: StreamPass<u
 /// Receives the numbers from 0 on, and where there is none only waits.
 fn receive_all<R: Wait + Abort>(rt: &R, stream: &Stream<u64, AnyNumber>, pass: StreamPass<u64>)
     requires of { IsPassOf stream.now pass }
-    requires receives { (known pass).receives ≡ true }
+    requires receives { (knowledge_of pass).receives ≡ true }
 {
     let mut pass = pass;
     let mut next = 0u64;
@@ -63,9 +63,9 @@ fn send_through<R: Threads + Wait + Sync + Abort>(
     theirs: StreamPass<u64>,
 )
     requires mine { IsPassOf stream.now mine }
-    requires receives { (known mine).receives ≡ true }
+    requires receives { (knowledge_of mine).receives ≡ true }
     requires theirs { IsPassOf stream.now theirs }
-    requires own { has 0 (known theirs).numbers ≡ true }
+    requires own { has 0 (knowledge_of theirs).numbers ≡ true }
 {
     thread::join(
         rt,

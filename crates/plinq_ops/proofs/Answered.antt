@@ -8,15 +8,15 @@ use Rattle.plinq_source.specs.declared.ending.Ending.{Ending}
 use Rattle.plinq_source.specs.declared.ending.Ending.TheVariants.{End, Refused}
 use Rattle.plinq_source.specs.declared.step.Step.{Step}
 use Rattle.plinq_source.specs.declared.step.Step.TheVariants.{Item, End as StepEnd, Refused as StepRefused}
-use Rattle.plinq_source.specs.Trace.{Trace, open_trace, ended, followed, step_at, given_after, items_from, ending_within, IsSourceEnding}
-use Rattle.plinq_source.proofs.Followed.{trace_of, followed-ended}
+use Rattle.plinq_source.specs.Trace.{Trace, open_trace, ended_trace, followed_by, step_at, given_after, items_from, ending_within, IsSourceEnding}
+use Rattle.plinq_source.proofs.Followed.{trace_of, followed_by-ended}
 use Rattle.plinq_source.proofs.Steps.{IsNextItem, IsAtEnding, next_item, at_end, at_refusal}
 use Rattle.plinq_ops.specs.Stage.{Stage, seq, some_takes_none}
-use Rattle.plinq_ops.specs.Feeding.{IsFed, FeedsFrom, IsGiven, trace_of_step, seen}
+use Rattle.plinq_ops.specs.Feeding.{IsFed, FeedsFrom, IsGiven, trace_of_step, seen_trace}
 use Rattle.plinq_ops.specs.Sequential.{first_items, IsLeastDeciding, IsDecidingInBlocks}
-use Rattle.plinq_ops.proofs.Stages.{seq-followed}
+use Rattle.plinq_ops.proofs.Stages.{seq-followed_by}
 use Rattle.plinq_ops.proofs.Open.{seq-open_before, seq-takes_none, open-from_seq}
-use Rattle.plinq_ops.proofs.Fed.{fed-followed, fed-ended_before}
+use Rattle.plinq_ops.proofs.Fed.{fed-followed_by, fed-ended_before}
 
 given-item : {T : Type 0} (t : Trace T) (n : ℕ) (x : T) → IsNextItem t n x → IsGiven t n (open_trace (x ∷ [])) (n + 1)
 given-item t n x next =
@@ -29,16 +29,16 @@ given-item t n x next =
 
 -- all items were given, and then the ending
 all-given : {T : Type 0} (t : Trace T) (n : ℕ) (xs : List T) (m : ℕ) (e : Ending) → take n t.items ++ xs ≡ t.items → m ≡ length t.items → t.ending ≡ Some e
-    → IsGiven t n (ended xs e) m
+    → IsGiven t n (ended_trace xs e) m
 all-given t n xs m e parts all ends =
     record {
-      joined = ap (λ ys. ended ys e) parts ∙ ap (trace_of t.items) (sym ends);
+      joined = ap (λ ys. ended_trace ys e) parts ∙ ap (trace_of t.items) (sym ends);
       within = omega (arith, all);
       grows = λ bad. absurd (cc);
       all = λ some. all;
     }
 
-given-ending : {T : Type 0} (t : Trace T) (n : ℕ) (e : Ending) → IsAtEnding t n e → IsGiven t n (ended [] e) n
+given-ending : {T : Type 0} (t : Trace T) (n : ℕ) (e : Ending) → IsAtEnding t n e → IsGiven t n (ended_trace [] e) n
 given-ending t n e at_ending =
     all-given t n [] n e (append-nil (take n t.items) ∙ rw at_ending.all (take-length t.items)) at_ending.all at_ending.ends
 
@@ -97,9 +97,9 @@ given-fill t n most m xs o some ends within items ending moved = rw (moved, item
 
 -- what comes after the first items is fed as well
 fed-given : {T : Type 0} (ss ss' ss'' : List (Stage T)) (t p : Trace T) (n m : ℕ) (before between after : List T) (e : Option Ending) → IsGiven t n p m
-    → IsFed ss (first_items n t) before between ss' None → IsFed ss' p between after ss'' e → IsFed ss (seen m t p.ending) before after ss'' e
+    → IsFed ss (first_items n t) before between ss' None → IsFed ss' p between after ss'' e → IsFed ss (seen_trace m t p.ending) before after ss'' e
 fed-given ss ss' ss'' t p n m before between after e given first second =
-    rw given.joined at (fed-followed ss ss' ss'' (first_items n t) p before between after e first second)
+    rw given.joined at (fed-followed_by ss ss' ss'' (first_items n t) p before between after e first second)
 
 -- it leaves the answer open
 pub fed-on : {T : Type 0} (ss ss' ss'' : List (Stage T)) (t : Trace T) (n m : ℕ) (before between after : List T)
@@ -109,14 +109,14 @@ fed-on ss ss' ss'' t n m before between after first next =
     rw is_open at (fed-given ss ss' ss'' t next.piece n m before between after None next.given first next.fed)
 
 -- the first items and the rest
-first_items-followed : {T : Type 0} (t : Trace T) (n : ℕ) → followed (first_items n t) (trace_of (drop n t.items) t.ending) ≡ t
-first_items-followed t n = ap (λ xs. trace_of xs t.ending) (take-append-drop n t.items)
+first_items-followed_by : {T : Type 0} (t : Trace T) (n : ℕ) → followed_by (first_items n t) (trace_of (drop n t.items) t.ending) ≡ t
+first_items-followed_by t n = ap (λ xs. trace_of xs t.ending) (take-append-drop n t.items)
 
 -- where the first items decide the answer, it is the answer to all
 pub fed-decided : {T : Type 0} (ss ss' ss'' : List (Stage T)) (t : Trace T) (n : ℕ) (before after : List T) (e : Ending)
     → IsFed ss (first_items n t) before after ss' (Some e) → IsFed ss t before after ss'' (Some e)
 fed-decided ss ss' ss'' t n before after e fed =
-    let whole = first_items-followed t n in
+    let whole = first_items-followed_by t n in
     rw whole at (fed-ended_before ss ss' ss'' (first_items n t) (trace_of (drop n t.items) t.ending) before after (Some e) refl fed)
 
 -- fewer are left then
@@ -124,28 +124,28 @@ pub feeds-smaller : {T : Type 0} (ss ss' : List (Stage T)) (t : Trace T) (n m : 
     → length t.items - m < length t.items - n
 feeds-smaller ss ss' t n m before after next = omega (arith, next.given.grows (open-from_seq ss next.piece (sym next.fed.told)), next.given.within)
 
-decided-seen : {T : Type 0} (ss ss'' : List (Stage T)) (t : Trace T) (m : ℕ) (before after : List T) (o : Option Ending) (e : Ending)
-    → IsFed ss (seen m t o) before after ss'' (Some e) → IsFed ss t before after ss'' (Some e)
-decided-seen ss ss'' t m before after None e fed = fed-decided ss ss'' ss'' t m before after e fed
-decided-seen ss ss'' t m before after (Some f) e fed = fed
+decided-seen_trace : {T : Type 0} (ss ss'' : List (Stage T)) (t : Trace T) (m : ℕ) (before after : List T) (o : Option Ending) (e : Ending)
+    → IsFed ss (seen_trace m t o) before after ss'' (Some e) → IsFed ss t before after ss'' (Some e)
+decided-seen_trace ss ss'' t m before after None e fed = fed-decided ss ss'' ss'' t m before after e fed
+decided-seen_trace ss ss'' t m before after (Some f) e fed = fed
 
 -- it decides the answer
 pub fed-over : {T : Type 0} (ss ss' ss'' : List (Stage T)) (t : Trace T) (n m : ℕ) (before between after : List T) (e : Ending)
     → IsFed ss (first_items n t) before between ss' None → FeedsFrom ss' t n m between after ss'' (Some e) → IsFed ss t before after ss'' (Some e)
 fed-over ss ss' ss'' t n m before between after e first next =
-    decided-seen ss ss'' t m before after next.piece.ending e (fed-given ss ss' ss'' t next.piece n m before between after (Some e) next.given first next.fed)
+    decided-seen_trace ss ss'' t m before after next.piece.ending e (fed-given ss ss' ss'' t next.piece n m before between after (Some e) next.given first next.fed)
 
 -- where so many items leave the answer open, fewer do
 open-up_to : {T : Type 0} (ss : List (Stage T)) (t : Trace T) (n j : ℕ) → (seq ss (first_items n t)).ending ≡ None → j ≤ n
     → (seq ss (first_items j t)).ending ≡ None
 open-up_to ss t n j is_open fewer =
-    let parts : followed (first_items j t) (open_trace (drop j (take n t.items))) ≡ first_items n t =
+    let parts : followed_by (first_items j t) (open_trace (drop j (take n t.items))) ≡ first_items n t =
     ap (λ xs. open_trace (xs ++ drop j (take n t.items))) (sym (take-take j n t.items fewer)) ∙ ap open_trace (take-append-drop j (take n t.items)) in
     seq-open_before ss (first_items j t) (open_trace (drop j (take n t.items))) (ap (λ u. (seq ss u).ending) parts ∙ is_open)
 
 decided-where_open : {T : Type 0} (ss ss'' : List (Stage T)) (t : Trace T) (m : ℕ) (before after : List T) (o : Option Ending) (e : Ending)
     → (IsSome o → m ≡ length t.items)
-    → IsFed ss (seen m t o) before after ss'' (Some e) → m < length t.items → IsSome (seq ss (first_items m t)).ending
+    → IsFed ss (seen_trace m t o) before after ss'' (Some e) → m < length t.items → IsSome (seq ss (first_items m t)).ending
 decided-where_open ss ss'' t m before after None e all fed fewer = rw (← fed.told) refl
 decided-where_open ss ss'' t m before after (Some f) e all fed fewer = absurd (omega (arith, fewer, all refl))
 
@@ -174,9 +174,9 @@ pub least-over : {T : Type 0} (ss ss' ss'' : List (Stage T)) (t : Trace T) (n m 
 least-over ss ss' ss'' t n m before between after e one first next = deciding-singly ss t m (deciding-over 1 ss ss' ss'' t n m before between after e one first next)
 
 -- a Take of none decides the answer with no item
-pub answer-of_none : {T : Type 0} (ss : List (Stage T)) (t : Trace T) → some_takes_none ss ≡ true → seq ss t ≡ ended [] End
+pub answer-of_none : {T : Type 0} (ss : List (Stage T)) (t : Trace T) → some_takes_none ss ≡ true → seq ss t ≡ ended_trace [] End
 answer-of_none ss t none =
-    seq-followed ss (open_trace []) t ∙ followed-ended (seq ss (open_trace [])) _ End (ap (λ u. u.ending) (seq-takes_none ss none)) ∙ seq-takes_none ss none
+    seq-followed_by ss (open_trace []) t ∙ followed_by-ended (seq ss (open_trace [])) _ End (ap (λ u. u.ending) (seq-takes_none ss none)) ∙ seq-takes_none ss none
 
 pub deciding-of_none : {T : Type 0} (size : ℕ) (ss : List (Stage T)) (t : Trace T) → some_takes_none ss ≡ true → IsDecidingInBlocks size ss t 0
 deciding-of_none size ss t none =
@@ -191,7 +191,7 @@ least-of_none ss t none = deciding-singly ss t 0 (deciding-of_none 1 ss t none)
 
 -- the answer to all that was fed, begun with nothing
 pub answer-fed : {T : Type 0} (ss ss' : List (Stage T)) (t : Trace T) (before after : List T) (e : Ending) → before ≡ []
-    → IsFed ss t before after ss' (Some e) → ended after e ≡ seq ss t
+    → IsFed ss t before after ss' (Some e) → ended_trace after e ≡ seq ss t
 answer-fed ss ss' t before after e none fed =
     let items : after ≡ (seq ss t).items = fed.items ∙ ap (λ xs. xs ++ (seq ss t).items) none in
-    ap (λ xs. ended xs e) items ∙ ap (trace_of (seq ss t).items) fed.told
+    ap (λ xs. ended_trace xs e) items ∙ ap (trace_of (seq ss t).items) fed.told

@@ -10,19 +10,19 @@ use Rattle.std.proofs.Math.Seq.{drop-nil}
 use borrow.Author.Differences.{up, down}
 use Rattle.plinq_source.specs.declared.ending.Ending.{Ending}
 use Rattle.plinq_source.specs.declared.ending.Ending.TheVariants.{End, Fault}
-use Rattle.plinq_source.specs.Trace.{Trace, open_trace, ended}
-use Rattle.plinq_source.proofs.Followed.{trace_of, followed-open_nil}
+use Rattle.plinq_source.specs.Trace.{Trace, open_trace, ended_trace}
+use Rattle.plinq_source.proofs.Followed.{trace_of, followed_by-open_nil}
 use Rattle.plinq_lambda.specs.Meaning.{Meaning}
 use Rattle.plinq_ops.specs.declared.op.Op.{Op}
 use Rattle.plinq_ops.specs.declared.op.Op.TheVariants.{Select, Take, Skip, TakeWhile}
 use Rattle.plinq_ops.specs.declared.known.Known.TheVariants.{Key, Position}
-use Rattle.plinq_ops.specs.Stage.{Stage, taking, skipping, joined, taken, skipped, apply, seq, stage_after, seq_after}
-use Rattle.plinq_ops.specs.Operator.{item_count, selected, taken_while, stage_of, stages_of, counted_off, stage_left, keeps_count}
+use Rattle.plinq_ops.specs.Stage.{Stage, taking, skipping, joined_pieces, taken_trace, skipped_trace, apply, seq, stage_after, seq_after}
+use Rattle.plinq_ops.specs.Operator.{item_count, selected_piece, taken_while, stage_of, stages_of, counted_off, stage_left, keeps_count}
 use Rattle.plinq_ops.specs.Feeding.{is_empty_take}
 use Rattle.plinq_ops.specs.Fragment.{ended_here, taken_at, skipped_at, apply_at, position_after, fragment_at, fragment_of}
 use Rattle.plinq_ops.specs.Pipeline.{PipelineView, IsReached, stages}
 use Rattle.plinq_ops.specs.ByKey.{can_apply, known_after, is_by_key_from, is_by_key, left_at, passed_on, stages_at}
-use Rattle.plinq_ops.proofs.Stages.{taken-short, taken-enough}
+use Rattle.plinq_ops.proofs.Stages.{taken_trace-short, taken_trace-enough}
 use Rattle.plinq_ops.proofs.Open.{open-from_seq}
 use Rattle.plinq_ops.proofs.Operators.{stage_left-counted_off}
 
@@ -30,9 +30,9 @@ use Rattle.plinq_ops.proofs.Operators.{stage_left-counted_off}
 -- and an ending, or the one item, open or the last
 data IsAt (T : Type 0) : ℤ → Trace T → Type 0 where
   not_reached : {k : ℕ} (e : Option Ending) → IsAt T (negsuc k) (trace_of [] e)
-  no_item : {k : ℕ} (e : Ending) → IsAt T (pos k) (ended [] e)
+  no_item : {k : ℕ} (e : Ending) → IsAt T (pos k) (ended_trace [] e)
   one_item : {k : ℕ} (x : T) → IsAt T (pos k) (open_trace (x ∷ []))
-  last_item : {k : ℕ} (x : T) → IsAt T (pos k) (ended (x ∷ []) End)
+  last_item : {k : ℕ} (x : T) → IsAt T (pos k) (ended_trace (x ∷ []) End)
 
 -- no position holds more than one item
 length-at : {T : Type 0} {p : ℤ} {t : Trace T} → IsAt T p t → length t.items ≤ 1
@@ -50,43 +50,43 @@ at-below T (pos k) e below = absurd (omega (arith, ints, below))
 at-below T (negsuc k) e below = not_reached e
 
 -- what ends here is what a Take of one leaves
-at-ended_here : {T : Type 0} {k : ℕ} {t : Trace T} → IsAt T (pos k) t → (ended_here t ≡ taken 1 t) × IsAt T (pos k) (ended_here t)
+at-ended_here : {T : Type 0} {k : ℕ} {t : Trace T} → IsAt T (pos k) t → (ended_here t ≡ taken_trace 1 t) × IsAt T (pos k) (ended_here t)
 at-ended_here (no_item e) = (refl, no_item e)
 at-ended_here (one_item x) = (refl, last_item x)
 at-ended_here (last_item x) = (refl, last_item x)
 
-at-joined : {T : Type 0} (piece : T → Trace T) {p : ℤ} {t : Trace T} → ((k : ℕ) (x : T) → IsAt T (pos k) (piece x)) → IsAt T p t → IsAt T p (joined piece t.items t.ending)
-at-joined piece each (not_reached e) = not_reached e
-at-joined piece each (no_item e) = no_item e
-at-joined {T} piece each (one_item {k = k} x) = subst (IsAt T (pos k)) (sym (followed-open_nil (piece x))) (each k x)
-at-joined piece each (last_item {k = k} x) = (at-ended_here (each k x)).1
+at-joined_pieces : {T : Type 0} (piece : T → Trace T) {p : ℤ} {t : Trace T} → ((k : ℕ) (x : T) → IsAt T (pos k) (piece x)) → IsAt T p t → IsAt T p (joined_pieces piece t.items t.ending)
+at-joined_pieces piece each (not_reached e) = not_reached e
+at-joined_pieces piece each (no_item e) = no_item e
+at-joined_pieces {T} piece each (one_item {k = k} x) = subst (IsAt T (pos k)) (sym (followed_by-open_nil (piece x))) (each k x)
+at-joined_pieces piece each (last_item {k = k} x) = (at-ended_here (each k x)).1
 
-at-selected : {T : Type 0} (k : ℕ) (r : Result T ℕ) → IsAt T (pos k) (selected r)
-at-selected k (Ok y) = one_item y
-at-selected k (Err code) = no_item (Fault code)
+at-selected_piece : {T : Type 0} (k : ℕ) (r : Result T ℕ) → IsAt T (pos k) (selected_piece r)
+at-selected_piece k (Ok y) = one_item y
+at-selected_piece k (Err code) = no_item (Fault code)
 
 at-taken_while : {T : Type 0} (k : ℕ) (r : Result Bool ℕ) (x : T) → IsAt T (pos k) (taken_while r x)
 at-taken_while k (Ok true) x = one_item x
 at-taken_while k (Ok false) x = no_item End
 at-taken_while k (Err code) x = no_item (Fault code)
 
-at-taken : {T : Type 0} (c k : ℕ) (t : Trace T) → 0 < c → IsAt T (pos k) t → (taken_at (pos c) (pos k) t ≡ taken (c - k) t) × IsAt T (pos k) (taken_at (pos c) (pos k) t)
-at-taken {T} c k t some at =
+at-taken_trace : {T : Type 0} (c k : ℕ) (t : Trace T) → 0 < c → IsAt T (pos k) t → (taken_at (pos c) (pos k) t ≡ taken_trace (c - k) t) × IsAt T (pos k) (taken_at (pos c) (pos k) t)
+at-taken_trace {T} c k t some at =
     let here = at-ended_here at in
     let less : pos c -ℤ pos 1 ≡ pos (c - 1) = omega (arith, ints, some) in
     elim (leb_tells c k) [
       | inl w ↦
-          let is : taken_at (pos c) (pos k) t ≡ ended [] End = rw (le-ltb k c w.1) refl in
+          let is : taken_at (pos c) (pos k) t ≡ ended_trace [] End = rw (le-ltb k c w.1) refl in
           let none : c - k ≡ 0 = omega (arith, w.1) in
-          (is ∙ sym (ap (λ n. taken n t) none ∙ taken-enough 0 t (omega arith)), rw is (no_item End))
+          (is ∙ sym (ap (λ n. taken_trace n t) none ∙ taken_trace-enough 0 t (omega arith)), rw is (no_item End))
       | inr w ↦ elim (leb_tells (c - 1) k) [
         | inl v ↦
             let is : taken_at (pos c) (pos k) t ≡ ended_here t = rw (lt-ltb k c w.1, less, le-ltb k (c - 1) v.1) refl in
             let one : c - k ≡ 1 = omega (arith, w.1, v.1) in
-            (is ∙ here.0 ∙ ap (λ n. taken n t) (sym one), rw is here.1)
+            (is ∙ here.0 ∙ ap (λ n. taken_trace n t) (sym one), rw is here.1)
         | inr v ↦
             let is : taken_at (pos c) (pos k) t ≡ t = rw (lt-ltb k c w.1, less, lt-ltb k (c - 1) v.1) refl in
-            (is ∙ sym (taken-short (c - k) t (omega (arith, v.1, length-at at))), rw is at)
+            (is ∙ sym (taken_trace-short (c - k) t (omega (arith, v.1, length-at at))), rw is at)
       ]
     ]
 
@@ -98,14 +98,14 @@ record IsPassedAt {L T : Type 0} (meaning : L → Meaning T) (op : Op L) (p : �
 
 passed-take : {L T : Type 0} (meaning : L → Meaning T) (n p : ℤ) (t : Trace T) → 0 < item_count n → IsAt T p t → IsPassedAt meaning (Take n) p t
 passed-take meaning n (pos k) t some at =
-    let taken = at-taken (item_count n) k t some at in
+    let taken = at-taken_trace (item_count n) k t some at in
     record { same = taken.0; at = λ keeps. taken.1 }
 passed-take {L} {T} meaning n (negsuc k) t some (not_reached e) =
     let c : ℕ = item_count n in
     let less : pos c -ℤ pos 1 ≡ pos (c - 1) = omega (arith, ints, some) in
     let short : 0 < c - 0 = omega (arith, some) in
     let is : taken_at (pos c) (negsuc k) (trace_of [] e) ≡ trace_of [] e = rw less refl in
-    record { same = is ∙ sym (taken-short (c - 0) (trace_of [] e) short); at = λ keeps. rw is (not_reached e) }
+    record { same = is ∙ sym (taken_trace-short (c - 0) (trace_of [] e) short); at = λ keeps. rw is (not_reached e) }
 
 passed-skip : {L T : Type 0} (meaning : L → Meaning T) (n p : ℤ) (t : Trace T) → IsAt T p t → IsPassedAt meaning (Skip n) p t
 passed-skip {L} {T} meaning n (pos k) t at =
@@ -115,7 +115,7 @@ passed-skip {L} {T} meaning n (pos k) t at =
           let is : skipped_at (pos c) (pos k) t ≡ t = rw (le-ltb k c w.1) refl in
           let none : c - k ≡ 0 = omega (arith, w.1) in
           let moved : pos k -ℤ pos c ≡ pos (k - c) = omega (arith, ints, w.1) in
-          record { same = is ∙ ap (λ i. skipped i t) (sym none); at = λ keeps. rw (is, moved) (at-moved (k - c) at) }
+          record { same = is ∙ ap (λ i. skipped_trace i t) (sym none); at = λ keeps. rw (is, moved) (at-moved (k - c) at) }
       | inr w ↦
           let is : skipped_at (pos c) (pos k) t ≡ trace_of [] t.ending = rw (lt-ltb k c w.1) refl in
           let all : drop (c - k) t.items ≡ [] = drop_all (c - k) t.items (omega (arith, w.1, length-at at)) in
@@ -126,10 +126,10 @@ passed-skip {L} {T} meaning n (negsuc k) t (not_reached e) =
     record { same = ap (λ ys. trace_of ys e) (sym (drop-nil (c - 0))); at = λ keeps. at-below T (negsuc k -ℤ pos c) e (omega (arith, ints)) }
 
 passed-at : {L T : Type 0} (meaning : L → Meaning T) (op : Op L) (p : ℤ) (t : Trace T) → can_apply Position op ≡ true → is_empty_take op ≡ false → IsAt T p t → IsPassedAt meaning op p t
-passed-at meaning (Select f) p t keyed some at = record { same = refl; at = λ keeps. at-joined _ (λ k x. at-selected k ((meaning f).map x)) at }
+passed-at meaning (Select f) p t keyed some at = record { same = refl; at = λ keeps. at-joined_pieces _ (λ k x. at-selected_piece k ((meaning f).map x)) at }
 passed-at meaning (Take n) p t keyed some at = passed-take meaning n p t (grind (arith, nat_tests)) at
 passed-at meaning (Skip n) p t keyed some at = passed-skip meaning n p t at
-passed-at meaning (TakeWhile f) p t keyed some at = record { same = refl; at = λ keeps. at-joined _ (λ k x. at-taken_while k ((meaning f).test x) x) at }
+passed-at meaning (TakeWhile f) p t keyed some at = record { same = refl; at = λ keeps. at-joined_pieces _ (λ k x. at-taken_while k ((meaning f).test x) x) at }
 passed-at meaning op p t keyed some at = record { same = refl; at = λ keeps. absurd (cc) }
 
 -- ---- what is left of the operators after what stands at a position is what is left of them at the next

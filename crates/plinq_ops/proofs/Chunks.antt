@@ -7,7 +7,7 @@ use Rattle.std.proofs.lemmas.Bool.Decides.{nat_tests}
 use Rattle.std.proofs.lemmas.List.{take-append-drop, length-take-le}
 use Rattle.plinq_source.specs.declared.ending.Ending.{Ending}
 use Rattle.plinq_source.specs.declared.ending.Ending.TheVariants.{End}
-use Rattle.plinq_source.specs.Trace.{Trace, open_trace, ended, followed}
+use Rattle.plinq_source.specs.Trace.{Trace, open_trace, ended_trace, followed_by}
 use Rattle.plinq_lambda.specs.Meaning.{Meaning}
 use Rattle.plinq_ops.specs.declared.op.Op.{Op}
 use Rattle.plinq_ops.specs.declared.frag_end.FragEnd.{FragEnd}
@@ -17,12 +17,12 @@ use Rattle.plinq_ops.specs.Stage.{Stage, seq, seq_after, some_takes_none}
 use Rattle.plinq_ops.specs.Feeding.{is_empty_take, IsFed}
 use Rattle.plinq_ops.specs.ByKey.{is_by_key, left_at}
 use Rattle.plinq_ops.specs.Pipeline.{PipelineView, IsReached, stages}
-use Rattle.plinq_ops.specs.Fragment.{fragment_of, glued}
+use Rattle.plinq_ops.specs.Fragment.{fragment_of, glued_trace}
 use Rattle.plinq_ops.specs.Chunk.{IsWorkerEnding, IsToldBy, IsFragment, IsStop, ChunkAnswer, no_more, dropped_at, before_answer, chunk_answer, stop_over, AfterItems}
-use Rattle.plinq_ops.proofs.Open.{open-from_continued, open_after, items-continued}
+use Rattle.plinq_ops.proofs.Open.{open-from_continued, open_after, items-continued_by}
 use Rattle.plinq_ops.proofs.Answered.{answer-of_none}
 use Rattle.plinq_ops.proofs.ByKey.{fragment_of-keyed, left_at-next, stages-reached}
-use Rattle.plinq_ops.proofs.Glue.{glued-keyed}
+use Rattle.plinq_ops.proofs.Glue.{glued_trace-keyed}
 use Rattle.plinq_ops.proofs.Worker.{seq-ending}
 
 -- an item that was fed to a worker part at its key gives its fragment, and leaves what is left at the next key
@@ -49,7 +49,7 @@ fed-fragment {L} {T} meaning worker key x before after ss ss' ending is keyed so
 
 -- where a Take has none left at a key, the run ends there
 fragment_of-over : {L T : Type 0} (meaning : L → Meaning T) (worker : List (Op L)) (key : ℕ) (x : T) → is_by_key worker ≡ true → list_any is_empty_take worker ≡ false
-    → some_takes_none (left_at meaning worker (pos key)) ≡ true → fragment_of meaning worker key x ≡ ended [] End
+    → some_takes_none (left_at meaning worker (pos key)) ≡ true → fragment_of meaning worker key x ≡ ended_trace [] End
 fragment_of-over meaning worker key x keyed some over =
     fragment_of-keyed meaning worker key x keyed some ∙ answer-of_none (left_at meaning worker (pos key)) (open_trace (x ∷ [])) over
 
@@ -83,8 +83,8 @@ stop-over meaning worker cut key [] keyed some over = (refl, (refl, refl, refl))
 stop-over {L} {T} meaning worker cut key (x ∷ xs) keyed some over =
     let rest : ChunkAnswer T = chunk_answer meaning worker cut (key + 1) xs in
     let f : Trace T = fragment_of meaning worker key x in
-    let ends : f ≡ ended [] End = fragment_of-over meaning worker key x keyed some over in
-    let ended_so : (t : Trace T) → t ≡ ended [] End → ((before_answer key t.items t.ending rest).trace.items ≡ []) × IsStop (before_answer key t.items t.ending rest) (Some (record { key = key; ending = EndsHere })) =
+    let ends : f ≡ ended_trace [] End = fragment_of-over meaning worker key x keyed some over in
+    let ended_so : (t : Trace T) → t ≡ ended_trace [] End → ((before_answer key t.items t.ending rest).trace.items ≡ []) × IsStop (before_answer key t.items t.ending rest) (Some (record { key = key; ending = EndsHere })) =
     λ t is. rw is (refl, (refl, refl)) in
     let filled : (length (x ∷ xs) == 0) ≡ false = grind (arith, nat_tests) in
     rw filled
@@ -102,13 +102,13 @@ after-rest_dropped meaning worker cut key (x ∷ xs) before out all some above p
 
 -- the items that the cut reaches leave the run open: the rest stands after what they give
 pub after-open : {L T : Type 0} (meaning : L → Meaning T) (worker : List (Op L)) (cut key next : ℕ) (xs ys : List T) → next ≡ key + length xs → (0 < length xs → next ≤ cut + 1)
-    → (glued meaning worker key xs None).ending ≡ None → AfterItems [] (glued meaning worker key xs None).items (chunk_answer meaning worker cut next ys) (chunk_answer meaning worker cut key (xs ++ ys))
+    → (glued_trace meaning worker key xs None).ending ≡ None → AfterItems [] (glued_trace meaning worker key xs None).items (chunk_answer meaning worker cut next ys) (chunk_answer meaning worker cut key (xs ++ ys))
 after-open meaning worker cut key next [] ys is within is_open =
     let same : next ≡ key = is ∙ (let e : key + 0 ≡ key = omega arith in e) in
     rw same (record { items = refl; ending = refl; dropped = refl; stop = refl })
 after-open {L} {T} meaning worker cut key next (x ∷ xs) ys is within is_open =
     let f : Trace T = fragment_of meaning worker key x in
-    let g : Trace T = glued meaning worker (key + 1) xs None in
+    let g : Trace T = glued_trace meaning worker (key + 1) xs None in
     let a : ChunkAnswer T = chunk_answer meaning worker cut (key + 1) (xs ++ ys) in
     let rest : ChunkAnswer T = chunk_answer meaning worker cut next ys in
     let reaches : next ≤ cut + 1 = within (omega arith) in
@@ -116,7 +116,7 @@ after-open {L} {T} meaning worker cut key next (x ∷ xs) ys is within is_open =
     let others : AfterItems [] g.items rest a = after-open meaning worker cut (key + 1) next xs ys (omega (arith, is)) (λ some. reaches) (open_after f.items f.ending g first_open is_open) in
     let here : chunk_answer meaning worker cut key (x ∷ (xs ++ ys)) ≡ before_answer key f.items None a =
     chunk_answer-cons meaning worker cut key x (xs ++ ys) (omega (arith, is, reaches)) ∙ ap (λ e. before_answer key f.items e a) first_open in
-    let out : (followed f g).items ≡ f.items ++ g.items = items-continued f.items f.ending g first_open in
+    let out : (followed_by f g).items ≡ f.items ++ g.items = items-continued_by f.items f.ending g first_open in
     record {
       items = ap (λ b. b.trace.items) here ∙ ap (λ zs. f.items ++ zs) others.items ∙ sym (append_assoc f.items g.items rest.trace.items) ∙ ap (λ zs. zs ++ rest.trace.items) (sym out);
       ending = ap (λ b. b.trace.ending) here ∙ others.ending;
@@ -133,9 +133,9 @@ after-block {L} {T} meaning worker cut key n items block filled out p ss' keyed 
     let ss : List (Stage T) = stages meaning p in
     let xs : List T = take n items in
     let begins : ss ≡ left_at meaning worker (pos key) = stages-reached meaning worker key p reached in
-    let same : glued meaning worker key xs None ≡ seq ss (open_trace filled) =
-    glued-keyed meaning worker key xs None keyed some (ap some_takes_none (sym begins) ∙ undecided) ∙ ap (λ stages. seq stages (open_trace xs)) (sym begins) ∙ ap (λ zs. seq ss (open_trace zs)) (sym (copied ∙ front)) in
-    let gives : (glued meaning worker key xs None).items ≡ out = ap (λ t. t.items) same ∙ sym fed.items in
+    let same : glued_trace meaning worker key xs None ≡ seq ss (open_trace filled) =
+    glued_trace-keyed meaning worker key xs None keyed some (ap some_takes_none (sym begins) ∙ undecided) ∙ ap (λ stages. seq stages (open_trace xs)) (sym begins) ∙ ap (λ zs. seq ss (open_trace zs)) (sym (copied ∙ front)) in
+    let gives : (glued_trace meaning worker key xs None).items ≡ out = ap (λ t. t.items) same ∙ sym fed.items in
     let long : length xs ≡ n = length-take-le n items most in
     let past = after-open meaning worker cut key (key + n) xs (drop n items) (omega (arith, long)) (λ some. within (omega (arith, long))) (ap (λ t. t.ending) same ∙ sym fed.told) in
     rw (gives, take-append-drop) at past

@@ -12,7 +12,7 @@ use Rattle.plinq_ops.specs.declared.op.Op.{Op}
 use Rattle.plinq_ops.specs.declared.frag_end.FragEnd.{FragEnd}
 use Rattle.plinq_ops.specs.declared.frag_end.FragEnd.TheVariants.{More, End as EndsHere, Fault as Faults, Dropped}
 use Rattle.plinq_ops.specs.declared.results.ChunkResult.{ChunkResult}
-use Rattle.plinq_ops.specs.Fragment.{fragment_of, glued}
+use Rattle.plinq_ops.specs.Fragment.{fragment_of, glued_trace}
 use Rattle.plinq_ops.specs.Chunk.{ChunkAnswer, IsToldBy, run_ending, result_trace, dropped_at, before_answer, chunk_answer, IsChunkResult}
 use Rattle.plinq_ops.specs.Cut.{stop_keys, no_cut, is_cut, most_items}
 use Rattle.plinq_ops.proofs.Open.{open-from_continued, open_after}
@@ -44,16 +44,16 @@ stop_keys-append meaning worker key (x ∷ xs) ys =
     ]
 
 -- open fragments end no run
-stop_keys-none : {L T : Type 0} (meaning : L → Meaning T) (worker : List (Op L)) (key : ℕ) (xs : List T) → (glued meaning worker key xs None).ending ≡ None → stop_keys meaning worker key xs ≡ []
+stop_keys-none : {L T : Type 0} (meaning : L → Meaning T) (worker : List (Op L)) (key : ℕ) (xs : List T) → (glued_trace meaning worker key xs None).ending ≡ None → stop_keys meaning worker key xs ≡ []
 stop_keys-none meaning worker key [] is_open = refl
 stop_keys-none {L} {T} meaning worker key (x ∷ xs) is_open =
     let f : Trace T = fragment_of meaning worker key x in
-    let rest : Trace T = glued meaning worker (key + 1) xs None in
+    let rest : Trace T = glued_trace meaning worker (key + 1) xs None in
     let first : f.ending ≡ None = open-from_continued f.items f.ending rest is_open in
     rw first (stop_keys-none meaning worker (key + 1) xs (open_after f.items f.ending rest first is_open))
 
 -- after open fragments the keys that end the run are those of the items that follow
-pub stop_keys-after : {L T : Type 0} (meaning : L → Meaning T) (worker : List (Op L)) (key : ℕ) (xs ys : List T) → (glued meaning worker key xs None).ending ≡ None
+pub stop_keys-after : {L T : Type 0} (meaning : L → Meaning T) (worker : List (Op L)) (key : ℕ) (xs ys : List T) → (glued_trace meaning worker key xs None).ending ≡ None
     → stop_keys meaning worker key (xs ++ ys) ≡ stop_keys meaning worker (key + length xs) ys
 stop_keys-after meaning worker key xs ys is_open =
     stop_keys-append meaning worker key xs ys ∙ ap (λ ks. ks ++ stop_keys meaning worker (key + length xs) ys) (stop_keys-none meaning worker key xs is_open)
@@ -97,7 +97,7 @@ undropped-uncut {L} {T} meaning worker cut key (x ∷ xs) above =
 
 -- a cut of a source, at a chunk that the run reaches
 pub chunk_answer-reached : {L T : Type 0} (meaning : L → Meaning T) (worker : List (Op L)) (items before xs ys : List T) (cut cut' first : ℕ) → is_cut meaning worker items cut ≡ true
-    → items ≡ before ++ (xs ++ ys) → first ≡ length before → (glued meaning worker 0 before None).ending ≡ None → first + length xs ≤ most_items → first + length xs ≤ cut' + 1
+    → items ≡ before ++ (xs ++ ys) → first ≡ length before → (glued_trace meaning worker 0 before None).ending ≡ None → first + length xs ≤ most_items → first + length xs ≤ cut' + 1
     → chunk_answer meaning worker cut first xs ≡ chunk_answer meaning worker cut' first xs
 chunk_answer-reached meaning worker items before xs ys cut cut' first legal parts place is_open few above =
     elim (or_cases (cut == no_cut) (is_among (stop_keys meaning worker 0 items) cut) legal) [

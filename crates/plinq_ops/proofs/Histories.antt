@@ -12,7 +12,7 @@ use Rattle.plinq_keyed.specs.History.{Place, start, reply, next_place, place_aft
 use Rattle.plinq_keyed.proofs.Legal.{Told-from_tells, reply-first, next_place-given, length-reply}
 use Rattle.plinq_ops.specs.declared.op.Op.{Op}
 use Rattle.plinq_ops.specs.declared.results.ChunkResult.{ChunkResult}
-use Rattle.plinq_ops.specs.Fragment.{glued}
+use Rattle.plinq_ops.specs.Fragment.{glued_trace}
 use Rattle.plinq_ops.specs.Cut.{most_items}
 use Rattle.plinq_ops.specs.Row.{IsOffer, AreOffers, IsRow, row_trace, IsResultOf, AreResultsOf}
 use Rattle.plinq_ops.proofs.Rows.{row-holds}
@@ -62,7 +62,7 @@ offers-of_run {L} {T} meaning worker t p (asked ∷ h) (r ∷ rs) within run ans
 
 -- the results of the records of a legal history give the glued fragments of what it handed out
 pub row-of_history : {L T : Type 0} (meaning : L → Meaning T) (worker : List (Op L)) (t : Trace T) (h : List Record) (rs : List (ChunkResult T)) → length t.items ≤ most_items → IsLegalHistory t h
-    → AreResultsOf meaning worker t h rs → row_trace rs ≡ glued meaning worker 0 (take (given_by t h) t.items) None
+    → AreResultsOf meaning worker t h rs → row_trace rs ≡ glued_trace meaning worker 0 (take (given_by t h) t.items) None
 row-of_history meaning worker t h rs few legal answers =
     let run = and_parts (is_run t start h) _ legal in
     let row = offers-of_run meaning worker t start h rs (omega arith) run.0 answers in

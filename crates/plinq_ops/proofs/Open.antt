@@ -4,10 +4,10 @@ use Rattle.std.specs.Option.{option_or}
 use Rattle.std.proofs.Common.{sym, ◌∙◌, ap, inl, inr, append-nil}
 use Rattle.plinq_source.specs.declared.ending.Ending.{Ending}
 use Rattle.plinq_source.specs.declared.ending.Ending.TheVariants.{End}
-use Rattle.plinq_source.specs.Trace.{Trace, open_trace, ended, continued, followed}
-use Rattle.plinq_source.proofs.Followed.{trace_of, followed-ended, followed-open_nil}
+use Rattle.plinq_source.specs.Trace.{Trace, open_trace, ended_trace, continued_by, followed_by}
+use Rattle.plinq_source.proofs.Followed.{trace_of, followed_by-ended, followed_by-open_nil}
 use Rattle.plinq_ops.specs.Stage.{Stage, apply, seq, stage_after, seq_after, takes_none, some_takes_none}
-use Rattle.plinq_ops.proofs.Stages.{is_some-apply, apply-followed, after-after, after-nothing, apply-nothing, apply-takes_none, apply-ended_nil, seq-followed}
+use Rattle.plinq_ops.proofs.Stages.{is_some-apply, apply-followed_by, after-after, after-nothing, apply-nothing, apply-takes_none, apply-ended_nil, seq-followed_by}
 
 pub is_some-seq : {T : Type 0} (ss : List (Stage T)) (t : Trace T) → is_some t.ending ≡ true → is_some (seq ss t).ending ≡ true
 is_some-seq [] t ends = ends
@@ -30,38 +30,38 @@ open-from_seq ss t is_open =
       | inr ends ↦ not_none (seq ss t).ending (is_some-seq ss t (ap is_some ends.1)) is_open
     ]
 
-pub open-from_continued : {T : Type 0} (xs : List T) (e : Option Ending) (b : Trace T) → (continued xs e b).ending ≡ None → e ≡ None
+pub open-from_continued : {T : Type 0} (xs : List T) (e : Option Ending) (b : Trace T) → (continued_by xs e b).ending ≡ None → e ≡ None
 open-from_continued xs None b is_open = refl
 open-from_continued xs (Some e) b is_open = is_open
 
-pub open_after : {T : Type 0} (xs : List T) (e : Option Ending) (b : Trace T) → e ≡ None → (continued xs e b).ending ≡ None → b.ending ≡ None
+pub open_after : {T : Type 0} (xs : List T) (e : Option Ending) (b : Trace T) → e ≡ None → (continued_by xs e b).ending ≡ None → b.ending ≡ None
 open_after xs None b first both = both
 open_after xs (Some e) b first both = absurd (cc)
 
 -- where more items leave the answer open, fewer do
-pub seq-open_before : {T : Type 0} (ss : List (Stage T)) (a b : Trace T) → (seq ss (followed a b)).ending ≡ None → (seq ss a).ending ≡ None
+pub seq-open_before : {T : Type 0} (ss : List (Stage T)) (a b : Trace T) → (seq ss (followed_by a b)).ending ≡ None → (seq ss a).ending ≡ None
 seq-open_before {T} ss a b is_open =
     let t : Trace T = seq (seq_after ss a) b in
-    open-from_continued (seq ss a).items (seq ss a).ending t (sym (ap (λ u. u.ending) (seq-followed ss a b)) ∙ is_open)
+    open-from_continued (seq ss a).items (seq ss a).ending t (sym (ap (λ u. u.ending) (seq-followed_by ss a b)) ∙ is_open)
 
-pub items-continued : {T : Type 0} (xs : List T) (e : Option Ending) (b : Trace T) → e ≡ None → (continued xs e b).items ≡ xs ++ b.items
-items-continued xs None b is_open = refl
-items-continued xs (Some e) b is_open = absurd (cc)
+pub items-continued_by : {T : Type 0} (xs : List T) (e : Option Ending) (b : Trace T) → e ≡ None → (continued_by xs e b).items ≡ xs ++ b.items
+items-continued_by xs None b is_open = refl
+items-continued_by xs (Some e) b is_open = absurd (cc)
 
 -- what is left after two traces is what is left of what was left after the first
-pub seq_after-followed : {T : Type 0} (ss : List (Stage T)) (a b : Trace T) → (seq ss a).ending ≡ None
-    → seq_after ss (followed a b) ≡ seq_after (seq_after ss a) b
-seq_after-followed [] a b is_open = refl
-seq_after-followed (s ∷ ss) a b is_open =
+pub seq_after-followed_by : {T : Type 0} (ss : List (Stage T)) (a b : Trace T) → (seq ss a).ending ≡ None
+    → seq_after ss (followed_by a b) ≡ seq_after (seq_after ss a) b
+seq_after-followed_by [] a b is_open = refl
+seq_after-followed_by (s ∷ ss) a b is_open =
     let first_open : a.ending ≡ None = open-from_seq (s ∷ ss) a is_open in
-    let first : stage_after s (followed a b).items ≡ stage_after (stage_after s a.items) b.items =
-    ap (stage_after s) (items-continued a.items a.ending b first_open) ∙ sym (after-after s a.items b.items) in
-    let others : seq_after ss (apply s (followed a b)) ≡ seq_after (seq_after ss (apply s a)) (apply (stage_after s a.items) b) =
-    ap (seq_after ss) (apply-followed s a b) ∙ seq_after-followed ss (apply s a) (apply (stage_after s a.items) b) is_open in
+    let first : stage_after s (followed_by a b).items ≡ stage_after (stage_after s a.items) b.items =
+    ap (stage_after s) (items-continued_by a.items a.ending b first_open) ∙ sym (after-after s a.items b.items) in
+    let others : seq_after ss (apply s (followed_by a b)) ≡ seq_after (seq_after ss (apply s a)) (apply (stage_after s a.items) b) =
+    ap (seq_after ss) (apply-followed_by s a b) ∙ seq_after-followed_by ss (apply s a) (apply (stage_after s a.items) b) is_open in
     cc
 
 -- nothing but the end stays that
-pub seq-ended_nil : {T : Type 0} (ss : List (Stage T)) → seq ss (ended [] End) ≡ ended [] End
+pub seq-ended_nil : {T : Type 0} (ss : List (Stage T)) → seq ss (ended_trace [] End) ≡ ended_trace [] End
 seq-ended_nil [] = refl
 seq-ended_nil (s ∷ ss) = ap (seq ss) (apply-ended_nil s) ∙ seq-ended_nil ss
 
@@ -75,10 +75,10 @@ seq-nothing (s ∷ ss) e some =
     ] refl some
 
 -- a Take of none decides the answer before any item
-pub seq-takes_none : {T : Type 0} (ss : List (Stage T)) → some_takes_none ss ≡ true → seq ss (open_trace []) ≡ ended [] End
+pub seq-takes_none : {T : Type 0} (ss : List (Stage T)) → some_takes_none ss ≡ true → seq ss (open_trace []) ≡ ended_trace [] End
 seq-takes_none [] none = absurd (cc)
 seq-takes_none (s ∷ ss) none =
-    elim (takes_none s) as (λ v. takes_none s ≡ v → v || some_takes_none ss ≡ true → seq ss (apply s (open_trace [])) ≡ ended [] End) [
+    elim (takes_none s) as (λ v. takes_none s ≡ v → v || some_takes_none ss ≡ true → seq ss (apply s (open_trace [])) ≡ ended_trace [] End) [
       | true ↦ λ is none. ap (seq ss) (apply-takes_none s is) ∙ seq-ended_nil ss
       | false ↦ λ is none. ap (seq ss) (apply-nothing s None is) ∙ seq-takes_none ss none
     ] refl none
@@ -108,35 +108,35 @@ some-where_open ss is_open =
 pub seq_after-open : {T : Type 0} (ss : List (Stage T)) (a : Trace T) → (seq ss a).ending ≡ None → (seq (seq_after ss a) (open_trace [])).ending ≡ None
 seq_after-open {T} ss a is_open =
     let left : List (Stage T) = seq_after ss a in
-    let again : followed (seq ss a) (seq left (open_trace [])) ≡ seq ss a =
-    sym (seq-followed ss a (open_trace [])) ∙ ap (seq ss) (followed-open_nil a) in
+    let again : followed_by (seq ss a) (seq left (open_trace [])) ≡ seq ss a =
+    sym (seq-followed_by ss a (open_trace [])) ∙ ap (seq ss) (followed_by-open_nil a) in
     open_after (seq ss a).items (seq ss a).ending (seq left (open_trace [])) is_open (ap (λ t. t.ending) again ∙ is_open)
 
 -- where the answer is open so far, it ends as the trace does
 pub seq-ending_of_open : {T : Type 0} (ss : List (Stage T)) (a : Trace T) (xs : List T) (e : Ending) → seq ss a ≡ open_trace xs
-    → seq ss (followed a (ended [] e)) ≡ ended xs e
+    → seq ss (followed_by a (ended_trace [] e)) ≡ ended_trace xs e
 seq-ending_of_open {T} ss a xs e is =
     let left : List (Stage T) = seq_after ss a in
     let left_open : (seq left (open_trace [])).ending ≡ None = seq_after-open ss a (ap (λ t. t.ending) is) in
-    seq-followed ss a (ended [] e)
-    ∙ ap (λ t. followed t (seq left (ended [] e))) is
-    ∙ ap (followed (open_trace xs)) (seq-nothing left (Some e) (some-where_open left left_open))
-    ∙ ap (λ ys. ended ys e) (append-nil xs)
+    seq-followed_by ss a (ended_trace [] e)
+    ∙ ap (λ t. followed_by t (seq left (ended_trace [] e))) is
+    ∙ ap (followed_by (open_trace xs)) (seq-nothing left (Some e) (some-where_open left left_open))
+    ∙ ap (λ ys. ended_trace ys e) (append-nil xs)
 
 or_none : {A : Type 0} (o : Option A) → option_or o None ≡ o
 or_none None = refl
 or_none (Some x) = refl
 
 apply-told_some : {T : Type 0} (s : Stage T) (xs : List T) (f : Ending) (e : Option Ending) → (apply s (open_trace xs)).ending ≡ e
-    → apply s (ended (xs ++ []) f) ≡ trace_of (apply s (open_trace xs)).items (option_or e (Some f))
+    → apply s (ended_trace (xs ++ []) f) ≡ trace_of (apply s (open_trace xs)).items (option_or e (Some f))
 apply-told_some s xs f None is = seq-ending_of_open (s ∷ []) (open_trace xs) (apply s (open_trace xs)).items f (ap (trace_of (apply s (open_trace xs)).items) is)
 apply-told_some s xs f (Some g) is =
-    apply-followed s (open_trace xs) (ended [] f)
-    ∙ followed-ended (apply s (open_trace xs)) (apply (stage_after s xs) (ended [] f)) g is
+    apply-followed_by s (open_trace xs) (ended_trace [] f)
+    ∙ followed_by-ended (apply s (open_trace xs)) (apply (stage_after s xs) (ended_trace [] f)) g is
     ∙ ap (trace_of (apply s (open_trace xs)).items) is
 
 -- an operator that waits for no end: it passes the items, and where it hasn't ended the run, the ending
 pub apply-told : {T : Type 0} (s : Stage T) (xs : List T) (told : Option Ending)
     → apply s (trace_of xs told) ≡ trace_of (apply s (open_trace xs)).items (option_or (apply s (open_trace xs)).ending told)
 apply-told s xs None = ap (trace_of (apply s (open_trace xs)).items) (sym (or_none (apply s (open_trace xs)).ending))
-apply-told s xs (Some f) = ap (λ zs. apply s (ended zs f)) (sym (append-nil xs)) ∙ apply-told_some s xs f (apply s (open_trace xs)).ending refl
+apply-told s xs (Some f) = ap (λ zs. apply s (ended_trace zs f)) (sym (append-nil xs)) ∙ apply-told_some s xs f (apply s (open_trace xs)).ending refl

@@ -4,7 +4,7 @@ use Rattle.std.proofs.Common.{arith}
 use Rattle.std.proofs.lemmas.Bool.Decides.{nat_tests}
 use Rattle.plinq_source.specs.declared.ending.Ending.{Ending}
 use Rattle.plinq_source.specs.declared.ending.Ending.TheVariants.{End}
-use Rattle.plinq_source.specs.Trace.{Trace, ended, continued}
+use Rattle.plinq_source.specs.Trace.{Trace, ended_trace, continued_by}
 use Rattle.plinq_lambda.specs.Meaning.{Meaning}
 use Rattle.plinq_lambda.specs.declared.formula.Formula.{Formula}
 use Rattle.plinq_words.proofs.FoundByName.{Each, first_named-has}
@@ -14,8 +14,8 @@ use Rattle.plinq_ops.specs.declared.op.Op.{Op}
 use Rattle.plinq_ops.specs.declared.op.Op.TheVariants.{Select, Filter, SelectMany, Take, Skip, TakeWhile, SkipWhile, AsUnordered}
 use Rattle.plinq_ops.specs.declared.known.Known.TheVariants.{Nothing}
 use Rattle.plinq_ops.specs.SkipWhile.{skipped_from, skipped_while}
-use Rattle.plinq_ops.specs.Stage.{joined, apply, takes_none}
-use Rattle.plinq_ops.specs.Operator.{selected, filtered, selected_many, taken_while, stage_of, counted_off, stage_left, op_name, op_argument, ops_of, op_named}
+use Rattle.plinq_ops.specs.Stage.{joined_pieces, apply, takes_none}
+use Rattle.plinq_ops.specs.Operator.{selected_piece, filtered_piece, selected_many, taken_while, stage_of, counted_off, stage_left, op_name, op_argument, ops_of, op_named}
 use Rattle.plinq_ops.specs.Feeding.{is_empty_take}
 use Rattle.plinq_ops.specs.ByKey.{can_apply}
 use Rattle.plinq_ops.specs.Fragment.{apply_at}
@@ -34,24 +34,24 @@ takes_none-stage_of meaning op = refl
 
 -- ---- what a worker can apply never refuses
 
-continued-ending : {T : Type 0} (xs : List T) (e : Option Ending) (t : Trace T) → IsWorkerEnding e → IsWorkerEnding t.ending → IsWorkerEnding (continued xs e t).ending
-continued-ending xs None t first second = second
-continued-ending xs (Some e) t first second = first
+continued_by-ending : {T : Type 0} (xs : List T) (e : Option Ending) (t : Trace T) → IsWorkerEnding e → IsWorkerEnding t.ending → IsWorkerEnding (continued_by xs e t).ending
+continued_by-ending xs None t first second = second
+continued_by-ending xs (Some e) t first second = first
 
-joined-ending : {T : Type 0} (piece : T → Trace T) (xs : List T) (e : Option Ending) → ((x : T) → IsWorkerEnding (piece x).ending) → IsWorkerEnding e
-    → IsWorkerEnding (joined piece xs e).ending
-joined-ending piece [] e each last = last
-joined-ending piece (x ∷ xs) e each last =
-    continued-ending (piece x).items (piece x).ending (joined piece xs e) (each x) (joined-ending piece xs e each last)
+joined_pieces-ending : {T : Type 0} (piece : T → Trace T) (xs : List T) (e : Option Ending) → ((x : T) → IsWorkerEnding (piece x).ending) → IsWorkerEnding e
+    → IsWorkerEnding (joined_pieces piece xs e).ending
+joined_pieces-ending piece [] e each last = last
+joined_pieces-ending piece (x ∷ xs) e each last =
+    continued_by-ending (piece x).items (piece x).ending (joined_pieces piece xs e) (each x) (joined_pieces-ending piece xs e each last)
 
-selected-ending : {T : Type 0} (r : Result T ℕ) → IsWorkerEnding (selected r).ending
-selected-ending (Ok y) = tt
-selected-ending (Err code) = tt
+selected_piece-ending : {T : Type 0} (r : Result T ℕ) → IsWorkerEnding (selected_piece r).ending
+selected_piece-ending (Ok y) = tt
+selected_piece-ending (Err code) = tt
 
-filtered-ending : {T : Type 0} (r : Result Bool ℕ) (x : T) → IsWorkerEnding (filtered r x).ending
-filtered-ending (Ok true) x = tt
-filtered-ending (Ok false) x = tt
-filtered-ending (Err code) x = tt
+filtered_piece-ending : {T : Type 0} (r : Result Bool ℕ) (x : T) → IsWorkerEnding (filtered_piece r x).ending
+filtered_piece-ending (Ok true) x = tt
+filtered_piece-ending (Ok false) x = tt
+filtered_piece-ending (Err code) x = tt
 
 selected_many-ending : {T : Type 0} (r : Result (List T) ℕ) → IsWorkerEnding (selected_many r).ending
 selected_many-ending (Ok ys) = tt
@@ -62,7 +62,7 @@ taken_while-ending (Ok true) x = tt
 taken_while-ending (Ok false) x = tt
 taken_while-ending (Err code) x = tt
 
-taken-ending : {T : Type 0} (b : Bool) (xs : List T) (t : Trace T) → IsWorkerEnding t.ending → IsWorkerEnding (cond b (ended xs End) t).ending
+taken-ending : {T : Type 0} (b : Bool) (xs : List T) (t : Trace T) → IsWorkerEnding t.ending → IsWorkerEnding (cond b (ended_trace xs End) t).ending
 taken-ending true xs t ending = tt
 taken-ending false xs t ending = ending
 
@@ -77,12 +77,12 @@ skipped_while-ending test [] e ending = ending
 skipped_while-ending test (x ∷ xs) e ending = skipped_from-ending (test x) (x ∷ xs) e (skipped_while test xs e) ending (skipped_while-ending test xs e ending)
 
 pub apply-ending : {L T : Type 0} (meaning : L → Meaning T) (op : Op L) (count : ℕ) (t : Trace T) → IsWorkerEnding t.ending → IsWorkerEnding (apply (stage_left meaning op count) t).ending
-apply-ending meaning (Select f) count t ending = joined-ending _ t.items t.ending (λ x. selected-ending ((meaning f).map x)) ending
-apply-ending meaning (Filter f) count t ending = joined-ending _ t.items t.ending (λ x. filtered-ending ((meaning f).test x) x) ending
-apply-ending meaning (SelectMany f) count t ending = joined-ending _ t.items t.ending (λ x. selected_many-ending ((meaning f).expand x)) ending
+apply-ending meaning (Select f) count t ending = joined_pieces-ending _ t.items t.ending (λ x. selected_piece-ending ((meaning f).map x)) ending
+apply-ending meaning (Filter f) count t ending = joined_pieces-ending _ t.items t.ending (λ x. filtered_piece-ending ((meaning f).test x) x) ending
+apply-ending meaning (SelectMany f) count t ending = joined_pieces-ending _ t.items t.ending (λ x. selected_many-ending ((meaning f).expand x)) ending
 apply-ending meaning (Take n) count t ending = taken-ending _ _ t ending
 apply-ending meaning (Skip n) count t ending = ending
-apply-ending meaning (TakeWhile f) count t ending = joined-ending _ t.items t.ending (λ x. taken_while-ending ((meaning f).test x) x) ending
+apply-ending meaning (TakeWhile f) count t ending = joined_pieces-ending _ t.items t.ending (λ x. taken_while-ending ((meaning f).test x) x) ending
 apply-ending meaning (SkipWhile f) count t ending = skipped_while-ending (meaning f).test t.items t.ending ending
 apply-ending meaning AsUnordered count t ending = ending
 

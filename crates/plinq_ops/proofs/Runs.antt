@@ -2,7 +2,7 @@
 use Rattle.std.specs.Prelude.{◌≡◌, ℕ, ◌+◌, ◌<◌, ◌≤◌, ◌==◌, Bool, List, [], ◌∷◌, ◌++◌, length, true, false, cond, Option, Some, None, IfSome, refl}
 use Rattle.std.proofs.Common.{◌∙◌, ap, sym, arith, append-nil, append_assoc, length-append}
 use Rattle.std.proofs.lemmas.Bool.Decides.{nat_tests}
-use Rattle.plinq_source.specs.Trace.{Trace, open_trace, followed}
+use Rattle.plinq_source.specs.Trace.{Trace, open_trace, followed_by}
 use Rattle.plinq_ops.specs.declared.merge_option.MergeOption.{MergeOption}
 use Rattle.plinq_ops.specs.declared.merge_option.MergeOption.TheVariants.{Default, NotBuffered, AutoBuffered, FullyBuffered}
 use Rattle.plinq_ops.specs.Batches.{batch_size, is_full, full_batches, held_back, last_batch, batches_from}
@@ -30,9 +30,9 @@ held_back-append size held (x ∷ xs) ys =
     ]
 
 -- the batches of a trace after open items
-pub batches_from-followed : {T : Type 0} (size : Option ℕ) (held xs : List T) (t : Trace T)
-    → batches_from size held (followed (open_trace xs) t) ≡ full_batches size held xs ++ batches_from size (held_back size held xs) t
-batches_from-followed size held xs t =
+pub batches_from-followed_by : {T : Type 0} (size : Option ℕ) (held xs : List T) (t : Trace T)
+    → batches_from size held (followed_by (open_trace xs) t) ≡ full_batches size held xs ++ batches_from size (held_back size held xs) t
+batches_from-followed_by size held xs t =
     let full = full_batches-append size held xs t.items in
     let kept = held_back-append size held xs t.items in
     ap (λ bs. bs ++ last_batch size (held_back size held (xs ++ t.items)) t.ending) full
@@ -50,9 +50,9 @@ batches_from-open size held xs =
 
 -- the batches of a trace that grows begin with those so far; the rest's, begun with what is held back, come after them
 pub batches_from-grown : {T : Type 0} (size : Option ℕ) (held xs : List T) (t : Trace T)
-    → batches_from size held (followed (open_trace xs) t) ≡ batches_from size held (open_trace xs) ++ batches_from size (held_back size held xs) t
+    → batches_from size held (followed_by (open_trace xs) t) ≡ batches_from size held (open_trace xs) ++ batches_from size (held_back size held xs) t
 batches_from-grown size held xs t =
-    batches_from-followed size held xs t
+    batches_from-followed_by size held xs t
     ∙ ap (λ bs. bs ++ batches_from size (held_back size held xs) t) (sym (batches_from-open size held xs))
 
 -- where the batch is full it is gone, and else there is still room in it

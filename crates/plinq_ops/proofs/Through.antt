@@ -4,7 +4,7 @@ use Rattle.std.proofs.Common.{sym, ◌∙◌, ap, arith, append_assoc, add-one}
 use Rattle.std.proofs.Math.ListN.{get_or, set}
 use Rattle.std.proofs.lemmas.List.{drop_more, take_more, set_split, take_more_set, drop-set-lt, drop_all, take-append-drop, length-take-le, take_at, drop_at}
 use Rattle.plinq_source.specs.declared.ending.Ending.{Ending}
-use Rattle.plinq_source.specs.Trace.{Trace, open_trace, followed}
+use Rattle.plinq_source.specs.Trace.{Trace, open_trace, followed_by}
 use Rattle.plinq_source.proofs.Followed.{trace_of}
 use Rattle.plinq_lambda.specs.Meaning.{Meaning}
 use Rattle.plinq_ops.specs.declared.stage_state.StageState.{StageState}
@@ -13,7 +13,7 @@ use Rattle.plinq_ops.specs.Feeding.{IsFed}
 use Rattle.plinq_ops.specs.Operator.{state_stage}
 use Rattle.plinq_ops.specs.Pipeline.{stages_now}
 use Rattle.plinq_ops.specs.inner.FeedingFrom.{FeedsStages}
-use Rattle.plinq_ops.proofs.Fed.{fed-through, fed-none, fed-followed}
+use Rattle.plinq_ops.proofs.Fed.{fed-through, fed-none, fed-followed_by}
 
 -- an item x that has become y on its way through the first i operators, which are as in `now`: whatever the rest makes of y,
 -- all make of x
@@ -184,7 +184,7 @@ module _ {L T : Type 0} {meaning : L → Meaning T} {i : ℕ} {ops ops' : List (
   feeds-through s xs told gives stays feeds = record { others = feeds.others; fed = fed-through s s xs told _ _ _ before after e gives stays feeds.fed }
 
   -- what is fed after a trace that left the run open
-  pub feeds-followed : {first : List (Stage T)} {now : List (StageState L)} {between : List T} {a b : Trace T} → FeedsStages meaning first i ops now a before between None
-      → FeedsStages meaning first i now ops' b between after e → FeedsStages meaning first i ops ops' (followed a b) before after e
-  feeds-followed {first} {now} {between} {a} {b} one next =
-      record { others = next.others ∙ one.others; fed = fed-followed _ _ _ a b before between after e one.fed next.fed }
+  pub feeds-followed_by : {first : List (Stage T)} {now : List (StageState L)} {between : List T} {a b : Trace T} → FeedsStages meaning first i ops now a before between None
+      → FeedsStages meaning first i now ops' b between after e → FeedsStages meaning first i ops ops' (followed_by a b) before after e
+  feeds-followed_by {first} {now} {between} {a} {b} one next =
+      record { others = next.others ∙ one.others; fed = fed-followed_by _ _ _ a b before between after e one.fed next.fed }

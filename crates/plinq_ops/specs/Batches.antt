@@ -3,7 +3,7 @@ use Rattle.std.specs.Prelude.{◌≡◌, refl, ℕ, Bool, false, ◌+◌, List, 
 use Rattle.plinq_source.specs.declared.ending.Ending.{Ending}
 use Rattle.plinq_source.specs.declared.ending.Ending.TheVariants.{End, Refused, Fault}
 use Rattle.std.specs.List.{range_with_len}
-use Rattle.plinq_source.specs.Trace.{Trace, open_trace, ended}
+use Rattle.plinq_source.specs.Trace.{Trace, open_trace, ended_trace}
 use Rattle.plinq_ops.specs.declared.merge_option.MergeOption.{MergeOption}
 use Rattle.plinq_ops.specs.declared.merge_option.MergeOption.TheVariants.{Default, NotBuffered, AutoBuffered, FullyBuffered}
 
@@ -50,39 +50,39 @@ abbrev pub batches : {T : Type 0} → MergeOption → Trace T → List (List T)
 batches option t = batches_from (batch_size option) [] t
 
 -- seventeen items in buffers of sixteen
-seventeen : length (batches AutoBuffered (ended (range_with_len 1 17) End)) ≡ 2
+seventeen : length (batches AutoBuffered (ended_trace (range_with_len 1 17) End)) ≡ 2
 seventeen = refl
 
-last_of_seventeen : batches AutoBuffered (ended (range_with_len 1 17) End) ≡ range_with_len 1 16 ∷ (17 ∷ []) ∷ []
+last_of_seventeen : batches AutoBuffered (ended_trace (range_with_len 1 17) End) ≡ range_with_len 1 16 ∷ (17 ∷ []) ∷ []
 last_of_seventeen = refl
 
 -- the default is the same
-seventeen_by_default : batches Default (ended (range_with_len 1 17) End) ≡ range_with_len 1 16 ∷ (17 ∷ []) ∷ []
+seventeen_by_default : batches Default (ended_trace (range_with_len 1 17) End) ≡ range_with_len 1 16 ∷ (17 ∷ []) ∷ []
 seventeen_by_default = refl
 
 -- a trace that is still open gives its full batches alone
 seventeen_open : batches AutoBuffered (open_trace (range_with_len 1 17)) ≡ range_with_len 1 16 ∷ []
 seventeen_open = refl
 
-one_by_one : batches {T = ℕ} NotBuffered (ended (4 ∷ 2 ∷ []) (Refused 7)) ≡ (4 ∷ []) ∷ (2 ∷ []) ∷ []
+one_by_one : batches {T = ℕ} NotBuffered (ended_trace (4 ∷ 2 ∷ []) (Refused 7)) ≡ (4 ∷ []) ∷ (2 ∷ []) ∷ []
 one_by_one = refl
 
 -- what was held back goes out at a fault as well
-held_back_at_fault : batches {T = ℕ} AutoBuffered (ended (4 ∷ 2 ∷ []) (Fault 1)) ≡ (4 ∷ 2 ∷ []) ∷ []
+held_back_at_fault : batches {T = ℕ} AutoBuffered (ended_trace (4 ∷ 2 ∷ []) (Fault 1)) ≡ (4 ∷ 2 ∷ []) ∷ []
 held_back_at_fault = refl
 
-held_back_at_refusal : batches {T = ℕ} AutoBuffered (ended (4 ∷ 2 ∷ []) (Refused 7)) ≡ (4 ∷ 2 ∷ []) ∷ []
+held_back_at_refusal : batches {T = ℕ} AutoBuffered (ended_trace (4 ∷ 2 ∷ []) (Refused 7)) ≡ (4 ∷ 2 ∷ []) ∷ []
 held_back_at_refusal = refl
 
 -- a fully buffered answer that doesn't end well gives nothing
-refused_full : batches {T = ℕ} FullyBuffered (ended (4 ∷ 2 ∷ []) (Refused 7)) ≡ []
+refused_full : batches {T = ℕ} FullyBuffered (ended_trace (4 ∷ 2 ∷ []) (Refused 7)) ≡ []
 refused_full = refl
 
-fault_full : batches {T = ℕ} FullyBuffered (ended (4 ∷ 2 ∷ []) (Fault 1)) ≡ []
+fault_full : batches {T = ℕ} FullyBuffered (ended_trace (4 ∷ 2 ∷ []) (Fault 1)) ≡ []
 fault_full = refl
 
-ended_full : batches {T = ℕ} FullyBuffered (ended (4 ∷ 2 ∷ []) End) ≡ (4 ∷ 2 ∷ []) ∷ []
+ended_full : batches {T = ℕ} FullyBuffered (ended_trace (4 ∷ 2 ∷ []) End) ≡ (4 ∷ 2 ∷ []) ∷ []
 ended_full = refl
 
-nothing_full : batches {T = ℕ} FullyBuffered (ended [] End) ≡ []
+nothing_full : batches {T = ℕ} FullyBuffered (ended_trace [] End) ≡ []
 nothing_full = refl

@@ -3,7 +3,7 @@ use Rattle.std.specs.Prelude.{◌≡◌, refl, ℕ, pos, ◌+◌, List, [], ◌�
 use Rattle.std.specs.Prelude.{◌==◌, nat_lt, if◌then◌else◌, MatchBool, Option, Some, None, ⊤}
 use Rattle.plinq_source.specs.declared.ending.Ending.{Ending}
 use Rattle.plinq_source.specs.declared.ending.Ending.TheVariants.{End, Refused, Fault}
-use Rattle.plinq_source.specs.Trace.{Trace, open_trace, ended}
+use Rattle.plinq_source.specs.Trace.{Trace, open_trace, ended_trace}
 use Rattle.plinq_lambda.specs.Meaning.{Meaning}
 use Rattle.plinq_keyed.specs.declared.chunk.Chunk.{Chunk}
 use Rattle.plinq_ops.specs.declared.op.Op.{Op}
@@ -69,7 +69,7 @@ chunk_answer meaning worker cut key (x ∷ xs) =
 
 -- a fault at key 8 is the stop of the keys 7, 8, 9, unless the cut comes before it
 stopped_by_a_fault : chunk_answer {L = ℕ} (λ _. example) (Select 0 ∷ []) 8 7 (5 ∷ 0 ∷ 2 ∷ [])
-    ≡ record { trace = ended (4 ∷ []) (Fault 1); dropped = false; stop = Some 8 }
+    ≡ record { trace = ended_trace (4 ∷ []) (Fault 1); dropped = false; stop = Some 8 }
 stopped_by_a_fault = refl
 
 stopped_by_the_cut : chunk_answer {L = ℕ} (λ _. example) (Select 0 ∷ []) 7 7 (5 ∷ 0 ∷ 2 ∷ [])
@@ -78,7 +78,7 @@ stopped_by_the_cut = refl
 
 -- the element of key 2 is after the last that is taken, and stops a chunk that begins with it
 stopped_after_a_take : chunk_answer {L = ℕ} (λ _. example) (Take (pos 2) ∷ []) 9 2 (7 ∷ 8 ∷ [])
-    ≡ record { trace = ended [] End; dropped = false; stop = Some 2 }
+    ≡ record { trace = ended_trace [] End; dropped = false; stop = Some 2 }
 stopped_after_a_take = refl
 
 -- a result reports the answer of a chunk: its items, its ending and its stop, beside the chunk's first key, number of

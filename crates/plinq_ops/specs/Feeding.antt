@@ -4,7 +4,7 @@ use Rattle.plinq_source.specs.declared.ending.Ending.{Ending}
 use Rattle.plinq_source.specs.declared.ending.Ending.TheVariants.{End, Refused}
 use Rattle.plinq_source.specs.declared.step.Step.{Step}
 use Rattle.plinq_source.specs.declared.step.Step.TheVariants.{Item, End as StepEnd, Refused as StepRefused}
-use Rattle.plinq_source.specs.Trace.{Trace, open_trace, ended, followed}
+use Rattle.plinq_source.specs.Trace.{Trace, open_trace, ended_trace, followed_by}
 use Rattle.plinq_ops.specs.declared.op.Op.{Op}
 use Rattle.plinq_ops.specs.declared.op.Op.TheVariants.{Take, Skip}
 use Rattle.plinq_ops.specs.Stage.{Stage, seq, seq_after}
@@ -14,8 +14,8 @@ use Rattle.plinq_ops.specs.Sequential.{first_items}
 -- what a source gave that was asked for its next element
 abbrev pub trace_of_step : {T : Type 0} → Step T → Trace T
 trace_of_step (Item x) = open_trace (x ∷ [])
-trace_of_step StepEnd = ended [] End
-trace_of_step (StepRefused code) = ended [] (Refused code)
+trace_of_step StepEnd = ended_trace [] End
+trace_of_step (StepRefused code) = ended_trace [] (Refused code)
 
 -- the answer to a trace that was fed stands after what was out before, its ending was reported, and where there is none
 -- the operators that are left go on
@@ -25,13 +25,13 @@ pub record IsFed {T : Type 0} (ss : List (Stage T)) (t : Trace T) (before after 
   pub left : ending ≡ None → ss' ≡ seq_after ss t
 
 -- the first n items of a trace, or, where its ending was given as well, all of it
-abbrev pub seen : {T : Type 0} → ℕ → Trace T → Option Ending → Trace T
-seen n t None = first_items n t
-seen n t (Some e) = t
+abbrev pub seen_trace : {T : Type 0} → ℕ → Trace T → Option Ending → Trace T
+seen_trace n t None = first_items n t
+seen_trace n t (Some e) = t
 
 -- a source that had given its first n items gave this piece next: the items up to place m, and its ending, if it gave that
 pub record IsGiven {T : Type 0} (t : Trace T) (n : ℕ) (piece : Trace T) (m : ℕ) : Type 0 where
-  pub joined : followed (first_items n t) piece ≡ seen m t piece.ending
+  pub joined : followed_by (first_items n t) piece ≡ seen_trace m t piece.ending
   pub within : m ≤ length t.items
   pub grows : piece.ending ≡ None → n < m
   pub all : IsSome piece.ending → m ≡ length t.items
@@ -62,10 +62,10 @@ empty_skip : is_empty_take {L = ℕ} (Skip (pos 0)) ≡ false
 empty_skip = refl
 
 -- of three items the second comes after the first
-one_more : followed (first_items {T = ℕ} 1 (ended (5 ∷ 6 ∷ 7 ∷ []) End)) (trace_of_step (Item 6)) ≡ seen 2 (ended (5 ∷ 6 ∷ 7 ∷ []) End) None
+one_more : followed_by (first_items {T = ℕ} 1 (ended_trace (5 ∷ 6 ∷ 7 ∷ []) End)) (trace_of_step (Item 6)) ≡ seen_trace 2 (ended_trace (5 ∷ 6 ∷ 7 ∷ []) End) None
 one_more = refl
 
 -- after all three comes the refusal, and nothing is left to see
-a_refusal : followed (first_items {T = ℕ} 3 (ended (5 ∷ 6 ∷ 7 ∷ []) (Refused 2))) (trace_of_step (StepRefused 2))
-    ≡ seen 3 (ended (5 ∷ 6 ∷ 7 ∷ []) (Refused 2)) (Some (Refused 2))
+a_refusal : followed_by (first_items {T = ℕ} 3 (ended_trace (5 ∷ 6 ∷ 7 ∷ []) (Refused 2))) (trace_of_step (StepRefused 2))
+    ≡ seen_trace 3 (ended_trace (5 ∷ 6 ∷ 7 ∷ []) (Refused 2)) (Some (Refused 2))
 a_refusal = refl

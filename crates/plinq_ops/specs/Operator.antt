@@ -2,7 +2,7 @@
 use Rattle.std.specs.Prelude.{◌≡◌, refl, zero, suc, nat_lt, replicate, ℕ, ℤ, pos, negsuc, List, [], ◌∷◌, Bool, true, false}
 use Rattle.std.specs.Prelude.{Option, Some, None, Result, Ok, Err, map, codes}
 use Rattle.plinq_source.specs.declared.ending.Ending.TheVariants.{End, Refused, Fault}
-use Rattle.plinq_source.specs.Trace.{Trace, open_trace, ended}
+use Rattle.plinq_source.specs.Trace.{Trace, open_trace, ended_trace}
 use Rattle.plinq_lambda.specs.Meaning.{Meaning}
 use Rattle.plinq_lambda.specs.declared.formula.Formula.{Formula}
 use Rattle.plinq_words.specs.Named.{first_named}
@@ -17,26 +17,26 @@ use Rattle.plinq_ops.specs.declared.stage_state.StageState.TheVariants.{Mapping,
 use Rattle.plinq_ops.specs.Stage.{Stage, pieces, taking, skipping, skipping_while, unchanged, apply}
 
 -- Select: the mapped item; a fault ends the answer
-abbrev pub selected : {T : Type 0} → Result T ℕ → Trace T
-selected (Ok y) = open_trace (y ∷ [])
-selected (Err code) = ended [] (Fault code)
+abbrev pub selected_piece : {T : Type 0} → Result T ℕ → Trace T
+selected_piece (Ok y) = open_trace (y ∷ [])
+selected_piece (Err code) = ended_trace [] (Fault code)
 
 -- Where: the item if it passes; a fault ends the answer
-abbrev pub filtered : {T : Type 0} → Result Bool ℕ → T → Trace T
-filtered (Ok true) x = open_trace (x ∷ [])
-filtered (Ok false) x = open_trace []
-filtered (Err code) x = ended [] (Fault code)
+abbrev pub filtered_piece : {T : Type 0} → Result Bool ℕ → T → Trace T
+filtered_piece (Ok true) x = open_trace (x ∷ [])
+filtered_piece (Ok false) x = open_trace []
+filtered_piece (Err code) x = ended_trace [] (Fault code)
 
 -- SelectMany: the expansion; one that faults adds nothing and ends the answer
 abbrev pub selected_many : {T : Type 0} → Result (List T) ℕ → Trace T
 selected_many (Ok ys) = open_trace ys
-selected_many (Err code) = ended [] (Fault code)
+selected_many (Err code) = ended_trace [] (Fault code)
 
 -- TakeWhile: the item if it passes; one that fails ends the answer, and so does a fault
 abbrev pub taken_while : {T : Type 0} → Result Bool ℕ → T → Trace T
 taken_while (Ok true) x = open_trace (x ∷ [])
-taken_while (Ok false) x = ended [] End
-taken_while (Err code) x = ended [] (Fault code)
+taken_while (Ok false) x = ended_trace [] End
+taken_while (Err code) x = ended_trace [] (Fault code)
 
 -- how many items a Take or a Skip speaks of: a negative number is none
 abbrev pub item_count : ℤ → ℕ
@@ -45,8 +45,8 @@ item_count (negsuc n) = 0
 
 -- what an operator does, given what its lambda means
 abbrev pub stage_of : {L T : Type 0} → (L → Meaning T) → Op L → Stage T
-stage_of meaning (Select f) = pieces (λ x. selected ((meaning f).map x))
-stage_of meaning (Filter f) = pieces (λ x. filtered ((meaning f).test x) x)
+stage_of meaning (Select f) = pieces (λ x. selected_piece ((meaning f).map x))
+stage_of meaning (Filter f) = pieces (λ x. filtered_piece ((meaning f).test x) x)
 stage_of meaning (SelectMany f) = pieces (λ x. selected_many ((meaning f).expand x))
 stage_of meaning (Take n) = taking (item_count n)
 stage_of meaning (Skip n) = skipping (item_count n)
@@ -160,35 +160,35 @@ abbrev faulting_stage : Op ℕ → Stage ℕ
 faulting_stage op = stage_of (λ _. faulting_at_zero) op
 
 -- a mapping that faults ends the answer there
-select_faults : apply (example_stage (Select 0)) (ended (5 ∷ 0 ∷ 2 ∷ []) End) ≡ ended (4 ∷ []) (Fault 1)
+select_faults : apply (example_stage (Select 0)) (ended_trace (5 ∷ 0 ∷ 2 ∷ []) End) ≡ ended_trace (4 ∷ []) (Fault 1)
 select_faults = refl
 
-filter_keeps : apply (example_stage (Filter 0)) (ended (5 ∷ 0 ∷ 2 ∷ []) (Refused 7)) ≡ ended (0 ∷ 2 ∷ []) (Refused 7)
+filter_keeps : apply (example_stage (Filter 0)) (ended_trace (5 ∷ 0 ∷ 2 ∷ []) (Refused 7)) ≡ ended_trace (0 ∷ 2 ∷ []) (Refused 7)
 filter_keeps = refl
 
 -- a test that faults ends the answer, and its item isn't kept
-filter_faults : apply (faulting_stage (Filter 0)) (ended (5 ∷ 2 ∷ 0 ∷ 1 ∷ []) End) ≡ ended (2 ∷ []) (Fault 1)
+filter_faults : apply (faulting_stage (Filter 0)) (ended_trace (5 ∷ 2 ∷ 0 ∷ 1 ∷ []) End) ≡ ended_trace (2 ∷ []) (Fault 1)
 filter_faults = refl
 
-select_many_joins : apply (example_stage (SelectMany 0)) (ended (2 ∷ 0 ∷ 1 ∷ []) End) ≡ ended (2 ∷ 2 ∷ 1 ∷ []) End
+select_many_joins : apply (example_stage (SelectMany 0)) (ended_trace (2 ∷ 0 ∷ 1 ∷ []) End) ≡ ended_trace (2 ∷ 2 ∷ 1 ∷ []) End
 select_many_joins = refl
 
 -- an expansion that faults adds nothing
-select_many_faults : apply (faulting_stage (SelectMany 0)) (ended (2 ∷ 0 ∷ 1 ∷ []) (Refused 7)) ≡ ended (2 ∷ 2 ∷ []) (Fault 1)
+select_many_faults : apply (faulting_stage (SelectMany 0)) (ended_trace (2 ∷ 0 ∷ 1 ∷ []) (Refused 7)) ≡ ended_trace (2 ∷ 2 ∷ []) (Fault 1)
 select_many_faults = refl
 
 -- TakeWhile keeps nothing after the first that fails
-take_while_stops : apply (example_stage (TakeWhile 0)) (ended (1 ∷ 2 ∷ 9 ∷ 1 ∷ []) (Refused 7)) ≡ ended (1 ∷ 2 ∷ []) End
+take_while_stops : apply (example_stage (TakeWhile 0)) (ended_trace (1 ∷ 2 ∷ 9 ∷ 1 ∷ []) (Refused 7)) ≡ ended_trace (1 ∷ 2 ∷ []) End
 take_while_stops = refl
 
-take_while_faults : apply (faulting_stage (TakeWhile 0)) (ended (1 ∷ 0 ∷ 2 ∷ []) End) ≡ ended (1 ∷ []) (Fault 1)
+take_while_faults : apply (faulting_stage (TakeWhile 0)) (ended_trace (1 ∷ 0 ∷ 2 ∷ []) End) ≡ ended_trace (1 ∷ []) (Fault 1)
 take_while_faults = refl
 
 -- SkipWhile tests nothing after the first that fails
-skip_while_starts : apply (example_stage (SkipWhile 0)) (ended (1 ∷ 2 ∷ 9 ∷ 1 ∷ []) (Refused 7)) ≡ ended (9 ∷ 1 ∷ []) (Refused 7)
+skip_while_starts : apply (example_stage (SkipWhile 0)) (ended_trace (1 ∷ 2 ∷ 9 ∷ 1 ∷ []) (Refused 7)) ≡ ended_trace (9 ∷ 1 ∷ []) (Refused 7)
 skip_while_starts = refl
 
-skip_while_faults : apply (faulting_stage (SkipWhile 0)) (ended (1 ∷ 0 ∷ 9 ∷ []) End) ≡ ended [] (Fault 1)
+skip_while_faults : apply (faulting_stage (SkipWhile 0)) (ended_trace (1 ∷ 0 ∷ 9 ∷ []) End) ≡ ended_trace [] (Fault 1)
 skip_while_faults = refl
 
 negative_take : example_stage (Take (negsuc 0)) ≡ taking 0

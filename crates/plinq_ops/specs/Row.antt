@@ -1,7 +1,7 @@
 -- Rows of results: what workers gave for chunks that stand one after another, each with a cut of its own.
 use Rattle.std.specs.Prelude.{◌≡◌, ℕ, ◌+◌, ◌≤◌, List, [], ◌∷◌, length, map, take, drop, true, ⊤, refl}
 use Rattle.plinq_source.specs.declared.ending.Ending.TheVariants.{End, Fault}
-use Rattle.plinq_source.specs.Trace.{Trace, open_trace, ended, followed}
+use Rattle.plinq_source.specs.Trace.{Trace, open_trace, ended_trace, followed_by}
 use Rattle.plinq_lambda.specs.Meaning.{Meaning}
 use Rattle.plinq_keyed.specs.declared.chunk.Chunk.{Chunk}
 use Rattle.plinq_keyed.specs.declared.record.Record.{Record}
@@ -32,9 +32,9 @@ IsRow from (r ∷ rs) to = (r.first ≡ from) × IsRow (from + r.count) rs to
 -- traces one after another, up to and with the first that has an ending
 abbrev pub all_followed : {T : Type 0} → List (Trace T) → Trace T
 all_followed [] = open_trace []
-all_followed (t ∷ ts) = followed t (all_followed ts)
+all_followed (t ∷ ts) = followed_by t (all_followed ts)
 
-nothing_after_a_fault : all_followed {T = ℕ} (open_trace (4 ∷ []) ∷ ended (5 ∷ []) (Fault 1) ∷ ended (6 ∷ []) End ∷ []) ≡ ended (4 ∷ 5 ∷ []) (Fault 1)
+nothing_after_a_fault : all_followed {T = ℕ} (open_trace (4 ∷ []) ∷ ended_trace (5 ∷ []) (Fault 1) ∷ ended_trace (6 ∷ []) End ∷ []) ≡ ended_trace (4 ∷ 5 ∷ []) (Fault 1)
 nothing_after_a_fault = refl
 
 -- what results give one after another

@@ -3,7 +3,7 @@ use Rattle.std.specs.Prelude.{◌≡◌, refl, ℕ, zero, suc, Bool, true, false
 use Rattle.std.specs.Prelude.{length, take, drop, nat_le, nat_lt, if◌then◌else◌, Option, Result, Ok}
 use Rattle.plinq_source.specs.declared.ending.Ending.{Ending}
 use Rattle.plinq_source.specs.declared.ending.Ending.TheVariants.{End, Refused}
-use Rattle.plinq_source.specs.Trace.{Trace, open_trace, ended, followed}
+use Rattle.plinq_source.specs.Trace.{Trace, open_trace, ended_trace, followed_by}
 use Rattle.plinq_ops.specs.SkipWhile.{skipped_while, all_pass}
 
 -- what an operator does: each item gives a piece of the answer, or so many items are taken or skipped, or
@@ -16,23 +16,23 @@ pub data Stage (T : Type 0) : Type 0 where
   unchanged : Stage T
 
 -- the pieces of the items, one followed by another, and then this ending
-abbrev pub joined : {T : Type 0} → (T → Trace T) → List T → Option Ending → Trace T
-joined piece [] e = record { items = []; ending = e }
-joined piece (x ∷ xs) e = followed (piece x) (joined piece xs e)
+abbrev pub joined_pieces : {T : Type 0} → (T → Trace T) → List T → Option Ending → Trace T
+joined_pieces piece [] e = record { items = []; ending = e }
+joined_pieces piece (x ∷ xs) e = followed_by (piece x) (joined_pieces piece xs e)
 
 -- Take: where there are at least n items the first n and End, else all as it is
-abbrev pub taken : {T : Type 0} → ℕ → Trace T → Trace T
-taken n t = if nat_le n (length t.items) then ended (take n t.items) End else t
+abbrev pub taken_trace : {T : Type 0} → ℕ → Trace T → Trace T
+taken_trace n t = if nat_le n (length t.items) then ended_trace (take n t.items) End else t
 
 -- Skip: the items without the first n, the same ending
-abbrev pub skipped : {T : Type 0} → ℕ → Trace T → Trace T
-skipped n t = record { items = drop n t.items; ending = t.ending }
+abbrev pub skipped_trace : {T : Type 0} → ℕ → Trace T → Trace T
+skipped_trace n t = record { items = drop n t.items; ending = t.ending }
 
 -- one operator on a trace
 abbrev pub apply : {T : Type 0} → Stage T → Trace T → Trace T
-apply (pieces piece) t = joined piece t.items t.ending
-apply (taking n) t = taken n t
-apply (skipping n) t = skipped n t
+apply (pieces piece) t = joined_pieces piece t.items t.ending
+apply (taking n) t = taken_trace n t
+apply (skipping n) t = skipped_trace n t
 apply (skipping_while test) t = skipped_while test t.items t.ending
 apply unchanged t = t
 
@@ -68,21 +68,21 @@ some_takes_none [] = false
 some_takes_none (s ∷ ss) = takes_none s || some_takes_none ss
 
 -- two of two items taken: End, whatever comes after them
-take_two_of_two : taken {T = ℕ} 2 (ended (1 ∷ 2 ∷ []) (Refused 7)) ≡ ended (1 ∷ 2 ∷ []) End
+take_two_of_two : taken_trace {T = ℕ} 2 (ended_trace (1 ∷ 2 ∷ []) (Refused 7)) ≡ ended_trace (1 ∷ 2 ∷ []) End
 take_two_of_two = refl
 
-take_three_of_two : taken {T = ℕ} 3 (ended (1 ∷ 2 ∷ []) (Refused 7)) ≡ ended (1 ∷ 2 ∷ []) (Refused 7)
+take_three_of_two : taken_trace {T = ℕ} 3 (ended_trace (1 ∷ 2 ∷ []) (Refused 7)) ≡ ended_trace (1 ∷ 2 ∷ []) (Refused 7)
 take_three_of_two = refl
 
-take_none : taken {T = ℕ} 0 (ended [] (Refused 7)) ≡ ended [] End
+take_none : taken_trace {T = ℕ} 0 (ended_trace [] (Refused 7)) ≡ ended_trace [] End
 take_none = refl
 
 -- more skipped than there are: the ending stays
-skip_five_of_two : skipped {T = ℕ} 5 (ended (1 ∷ 2 ∷ []) (Refused 7)) ≡ ended [] (Refused 7)
+skip_five_of_two : skipped_trace {T = ℕ} 5 (ended_trace (1 ∷ 2 ∷ []) (Refused 7)) ≡ ended_trace [] (Refused 7)
 skip_five_of_two = refl
 
 -- one of three skipped, and no more
-skip_one_of_three : skipped {T = ℕ} 1 (ended (1 ∷ 2 ∷ 3 ∷ []) (Refused 7)) ≡ ended (2 ∷ 3 ∷ []) (Refused 7)
+skip_one_of_three : skipped_trace {T = ℕ} 1 (ended_trace (1 ∷ 2 ∷ 3 ∷ []) (Refused 7)) ≡ ended_trace (2 ∷ 3 ∷ []) (Refused 7)
 skip_one_of_three = refl
 
 -- of an open trace one more can be taken after two of three

@@ -1,5 +1,5 @@
 ghost use Rattle.std.specs.Prelude.{◌≡◌, false, OnOk, IfOk};
-ghost use Rattle.plinq_source.specs.Trace.{ended};
+ghost use Rattle.plinq_source.specs.Trace.{ended_trace};
 ghost use Rattle.plinq_ops.specs.Stage.{some_takes_none};
 ghost use Rattle.plinq_ops.specs.Operator.{stages_of};
 ghost use Rattle.plinq_ops.specs.Pipeline.{stages};
@@ -37,7 +37,7 @@ pub fn sequential<L: Lambda, S: Source<Item = L::Item>>(
     requires { S.given source.old ≡ 0 }
 
     ensures same { S.whole source.new ≡ S.whole source.old }
-    ensures answer { IfOk result (λ r. ended r.0.items r.1 ≡ answer_of L.meaning query.now.ops (S.whole source.old)) }
+    ensures answer { IfOk result (λ r. ended_trace r.0.items r.1 ≡ answer_of L.meaning query.now.ops (S.whole source.old)) }
     ensures least { OnOk result (IsLeastDeciding
         (stages_of L.meaning query.now.ops) (S.whole source.old) (S.given source.new)) }
 {

@@ -1,6 +1,6 @@
 ghost use Rattle.std.specs.Prelude.{◌≡◌, ◌≤◌, false, IfOk, OnOk, ◌∷◌, ◌++◌, [], length, drop};
 ghost use Rattle.plinq_source.specs.declared.ending.Ending.TheVariants.{End};
-ghost use Rattle.plinq_source.specs.Trace.{open_trace, ended};
+ghost use Rattle.plinq_source.specs.Trace.{open_trace, ended_trace};
 ghost use Rattle.plinq_ops.specs.declared.op.Op.TheVariants.{SelectMany};
 ghost use Rattle.plinq_ops.specs.Stage.{some_takes_none};
 ghost use Rattle.plinq_ops.specs.Operator.{stage_of};
@@ -60,7 +60,7 @@ fn feed_last<L: Lambda>(
 ) -> Result<Option<Ending>, OutOfMemory>
     requires within { from ≤ length ops.old }
     requires undecided { some_takes_none (stages_now L.meaning (drop from ops.old)) ≡ false }
-    ensures { IfOk result (FeedsStages L.meaning [] from ops.old ops.new (ended (item ∷ []) End) out.old.items out.new.items) }
+    ensures { IfOk result (FeedsStages L.meaning [] from ops.old ops.new (ended_trace (item ∷ []) End) out.old.items out.new.items) }
 {
     let mut last = Vec::new(alloc);
     last.push(item)?;
@@ -77,7 +77,7 @@ pub(crate) fn feed_end<L: Lambda>(
 ) -> Result<Option<Ending>, OutOfMemory>
     requires within { from ≤ length ops.old }
     requires undecided { some_takes_none (stages_now L.meaning (drop from ops.old)) ≡ false }
-    ensures { IfOk result (FeedsStages L.meaning [] from ops.old ops.new (ended [] ending) out.old.items out.new.items) }
+    ensures { IfOk result (FeedsStages L.meaning [] from ops.old ops.new (ended_trace [] ending) out.old.items out.new.items) }
 {
     feed_rest(alloc, ops, from, Vec::new(alloc), Some(ending), out)
 }

@@ -4,7 +4,7 @@
 ghost use Rattle.std.specs.Prelude.{◌≡◌, ℕ, Bool, ◌+◌, ◌<◌, ◌≤◌, List, [], ◌++◌, length, take, true, false, Option, Some, None, IfSome, ◌≢◌};
 ghost use Rattle.std.specs.List.{list_any, list_all, Contains};
 ghost use Rattle.plinq_source.specs.declared.ending.Ending.{Ending};
-ghost use Rattle.plinq_source.specs.Trace.{Trace, open_trace, followed};
+ghost use Rattle.plinq_source.specs.Trace.{Trace, open_trace, followed_by};
 ghost use Rattle.plinq_lambda.specs.Meaning.{Meaning};
 ghost use Rattle.plinq_lambda.specs.declared.formula.Formula.{Formula};
 ghost use Rattle.plinq_keyed.specs.declared.chunk.Chunk.{Chunk};
@@ -25,7 +25,7 @@ ghost use Rattle.plinq_ops.specs.Sequential.{answer_of};
 ghost use Rattle.plinq_ops.specs.Batches.{batch_size, batches, batches_from, held_back};
 ghost use Rattle.plinq_ops.specs.Answer.{Answer, keeps_order};
 ghost use Rattle.plinq_ops.specs.Plan.{worker_part, after_part};
-ghost use Rattle.plinq_ops.specs.Fragment.{glue, glued};
+ghost use Rattle.plinq_ops.specs.Fragment.{glue, glued_trace};
 ghost use Rattle.plinq_ops.specs.Chunk.{chunk_answer, IsChunkResult, result_trace};
 ghost use Rattle.plinq_ops.specs.Cut.{stop_keys, most_items};
 ghost use Rattle.plinq_ops.specs.Row.{IsOffer, AreOffers, IsRow, row_trace, IsResultOf, AreResultsOf};
@@ -34,7 +34,7 @@ ghost use Rattle.plinq_ops.specs.Row.{IsOffer, AreOffers, IsRow, row_trace, IsRe
 /// what is left of them makes of the second.
 pub fn answer_goes_on<T>()
     ensures { (ss : List (Stage T)) (a b : Trace T) →
-        seq ss (followed a b) ≡ followed (seq ss a) (seq (seq_after ss a) b) }
+        seq ss (followed_by a b) ≡ followed_by (seq ss a) (seq (seq_after ss a) b) }
 {}
 
 /// The split law: operators answer what their after part answers to the glued fragments of their worker part, by key
@@ -48,29 +48,29 @@ pub fn split_gives_the_answer<L, T>()
 /// An answer that the first items decide is the answer to all.
 pub fn decided_answer_stays<L, T>()
     ensures { (meaning : L → Meaning T) (worker : List (Op L)) (after : List (Stage T)) (t : Trace T) (k : ℕ) (e : Ending) →
-        (seq after (glued meaning worker 0 (take k t.items) None)).ending ≡ Some e →
-        seq after (glue meaning worker t) ≡ seq after (glued meaning worker 0 (take k t.items) None) }
+        (seq after (glued_trace meaning worker 0 (take k t.items) None)).ending ≡ Some e →
+        seq after (glue meaning worker t) ≡ seq after (glued_trace meaning worker 0 (take k t.items) None) }
 {}
 
 /// Chunks one after another glue to the whole.
 pub fn chunks_glue<L, T>()
     ensures { (meaning : L → Meaning T) (worker : List (Op L)) (key : ℕ) (xs ys : List T) (e : Option Ending) →
-        glued meaning worker key (xs ++ ys) e
-        ≡ followed (glued meaning worker key xs None) (glued meaning worker (key + length xs) ys e) }
+        glued_trace meaning worker key (xs ++ ys) e
+        ≡ followed_by (glued_trace meaning worker key xs None) (glued_trace meaning worker (key + length xs) ys e) }
 {}
 
 /// The source's ending stands after the glued fragments of its items.
 pub fn ending_follows<L, T>()
     ensures { (meaning : L → Meaning T) (worker : List (Op L)) (t : Trace T) →
         glue meaning worker t
-        ≡ followed (glued meaning worker 0 t.items None) (record { items = []; ending = t.ending }) }
+        ≡ followed_by (glued_trace meaning worker 0 t.items None) (record { items = []; ending = t.ending }) }
 {}
 
 /// A chunk whose keys the cut doesn't reach gives its glued fragments.
 pub fn chunk_gives_its_fragments<L, T>()
     ensures { (meaning : L → Meaning T) (worker : List (Op L)) (cut key : ℕ) (xs : List T) →
         key + length xs ≤ cut + 1 →
-        (chunk_answer meaning worker cut key xs).trace ≡ glued meaning worker key xs None }
+        (chunk_answer meaning worker cut key xs).trace ≡ glued_trace meaning worker key xs None }
 {}
 
 /// A result that isn't dropped gives its chunk's answer.
@@ -92,30 +92,30 @@ pub fn stop_ends_the_run<L, T>()
 pub fn nothing_reached_is_dropped<L, T>()
     ensures { (meaning : L → Meaning T) (worker : List (Op L)) (t : Trace T) (r : ChunkResult T) →
         length t.items ≤ most_items → (offer : IsOffer meaning worker t r) →
-        (glued meaning worker 0 (take r.first t.items) None).ending ≡ None →
-        (result_trace r ≡ glued meaning worker r.first offer.chunk.items.items None) × (r.ending ≢ Dropped) }
+        (glued_trace meaning worker 0 (take r.first t.items) None).ending ≡ None →
+        (result_trace r ≡ glued_trace meaning worker r.first offer.chunk.items.items None) × (r.ending ≢ Dropped) }
 {}
 
 /// One result more: after the glued fragments of the items before it, a result gives those up to its last.
 pub fn row_goes_on<L, T>()
     ensures { (meaning : L → Meaning T) (worker : List (Op L)) (t : Trace T) (r : ChunkResult T) →
         length t.items ≤ most_items → IsOffer meaning worker t r →
-        followed (glued meaning worker 0 (take r.first t.items) None) (result_trace r)
-        ≡ glued meaning worker 0 (take (r.first + r.count) t.items) None }
+        followed_by (glued_trace meaning worker 0 (take r.first t.items) None) (result_trace r)
+        ≡ glued_trace meaning worker 0 (take (r.first + r.count) t.items) None }
 {}
 
 /// A row of results from key 0, each with a cut of its own, joins to the glued fragments of the items.
 pub fn row_glues<L, T>()
     ensures { (meaning : L → Meaning T) (worker : List (Op L)) (t : Trace T) (rs : List (ChunkResult T)) (to : ℕ) →
         length t.items ≤ most_items → AreOffers meaning worker t rs → IsRow 0 rs to →
-        row_trace rs ≡ glued meaning worker 0 (take to t.items) None }
+        row_trace rs ≡ glued_trace meaning worker 0 (take to t.items) None }
 {}
 
 /// The results of a legal history's chunks join to the glued fragments of the items that it handed out.
 pub fn history_glues<L, T>()
     ensures { (meaning : L → Meaning T) (worker : List (Op L)) (t : Trace T) (h : List Record) (rs : List (ChunkResult T)) →
         length t.items ≤ most_items → IsLegalHistory t h → AreResultsOf meaning worker t h rs →
-        row_trace rs ≡ glued meaning worker 0 (take (given_by t h) t.items) None }
+        row_trace rs ≡ glued_trace meaning worker 0 (take (given_by t h) t.items) None }
 {}
 
 /// The result of the chunk of one record of a legal history is that of a chunk of the source.
@@ -127,7 +127,7 @@ pub fn results_are_offers<L, T>()
 /// The batches of a trace that grows are those so far, and then those of the rest begun with what is held back.
 pub fn batches_go_on<T>()
     ensures { (option : MergeOption) (xs : List T) (t : Trace T) →
-        batches option (followed (open_trace xs) t)
+        batches option (followed_by (open_trace xs) t)
         ≡ batches option (open_trace xs) ++ batches_from (batch_size option) (held_back (batch_size option) [] xs) t }
 {}
 

@@ -1,5 +1,5 @@
 ghost use Rattle.std.specs.Prelude.{◌≡◌, ◌<◌, ◌≤◌, ◌+◌, [], ◌∷◌, true, false, length, IfOk, OnOk};
-ghost use Rattle.plinq_source.specs.Trace.{open_trace, ended, items_from};
+ghost use Rattle.plinq_source.specs.Trace.{open_trace, ended_trace, items_from};
 ghost use Rattle.plinq_ops.specs.Stage.{takes_none, some_takes_none};
 ghost use Rattle.plinq_ops.specs.ByKey.{is_by_key};
 ghost use Rattle.plinq_ops.specs.Feeding.{IsFed, FeedsFrom, trace_of_step};
@@ -175,7 +175,7 @@ impl<'a, L: Lambda> Pipeline<'a, L> {
         requires undecided { some_takes_none (stages L.meaning self.old) ≡ false }
         ensures same { self.new.ops ≡ self.old.ops }
         ensures fed { IfOk result (IsFed
-            (stages L.meaning self.old) (ended [] ending)
+            (stages L.meaning self.old) (ended_trace [] ending)
             out.old.items out.new.items
             (stages L.meaning self.new)) }
     {

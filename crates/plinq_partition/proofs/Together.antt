@@ -5,11 +5,11 @@ use Rattle.plinq_source.specs.Trace.{Trace, items_from}
 use Rattle.plinq_keyed.specs.declared.chunk.Chunk.{Chunk}
 use Rattle.plinq_keyed.specs.declared.event.Event.TheVariants.{Close}
 use Rattle.plinq_keyed.specs.declared.record.Record.{Record}
-use Rattle.plinq_keyed.specs.History.{reply, recorded, handed_out, record_items, IsChunkOf}
+use Rattle.plinq_keyed.specs.History.{reply, request_record, handed_out, record_items, IsChunkOf}
 use Rattle.plinq_keyed.specs.Keys.{keyed_from}
 use Rattle.plinq_keyed.proofs.Legal.{IsPrefix-from_legal}
 use Rattle.plinq_enumerator.specs.Growing.{GrowthRule}
-use Rattle.plinq_ticket.specs.Shares.{placed, in_ticket_order}
+use Rattle.plinq_ticket.specs.Shares.{placed_records, in_ticket_order}
 use Rattle.plinq_ticket.specs.Weights.{total}
 use Rattle.plinq_partition.specs.Partitions.{Holding}
 use Rattle.plinq_partition.specs.Together.{Does, HasDone, records_of, IsOf, elements_of, all_elements, all_acts, TakesAreOneHistory}
@@ -28,13 +28,13 @@ pub record IsPlaced {B : Type 0} (R : Record → B → Type 0) (rs : List Record
   pub each_once : (weight : B → ℕ) → total weight there ≡ total weight ys
 
 module _ {B : Type 0} (R : Record → B → Type 0) where
-  placed-with : (r : Record) (y : B) (rs : List Record) (ys : List B) → R r y → AllZip R rs ys → IsPlaced R (placed r rs) (y ∷ ys)
-  placed-with r y [] [] one all = record { there = y ∷ []; are = (one, tt); each_once = λ w. refl }
-  placed-with r y [] (z ∷ zs) one all = absurd all
-  placed-with r y (x ∷ xs) [] one all = absurd all
-  placed-with r y (x ∷ xs) (z ∷ zs) one all = by (leb r.ticket x.ticket) (placed-with r y xs zs one all.1)
+  placed_records-with : (r : Record) (y : B) (rs : List Record) (ys : List B) → R r y → AllZip R rs ys → IsPlaced R (placed_records r rs) (y ∷ ys)
+  placed_records-with r y [] [] one all = record { there = y ∷ []; are = (one, tt); each_once = λ w. refl }
+  placed_records-with r y [] (z ∷ zs) one all = absurd all
+  placed_records-with r y (x ∷ xs) [] one all = absurd all
+  placed_records-with r y (x ∷ xs) (z ∷ zs) one all = by (leb r.ticket x.ticket) (placed_records-with r y xs zs one all.1)
     where
-      by : (b : Bool) → IsPlaced R (placed r xs) (y ∷ zs) → IsPlaced R (cond b (r ∷ x ∷ xs) (x ∷ placed r xs)) (y ∷ z ∷ zs)
+      by : (b : Bool) → IsPlaced R (placed_records r xs) (y ∷ zs) → IsPlaced R (cond b (r ∷ x ∷ xs) (x ∷ placed_records r xs)) (y ∷ z ∷ zs)
       by true rest = record { there = y ∷ z ∷ zs; are = (one, all); each_once = λ w. refl }
       by false rest = record { there = z ∷ rest.there; are = (all.0, rest.are); each_once = λ w. let same = rest.each_once w in omega arith }
 
@@ -44,7 +44,7 @@ module _ {B : Type 0} (R : Record → B → Type 0) where
   ordered-with (r ∷ rs) [] all = absurd all
   ordered-with (r ∷ rs) (y ∷ ys) all =
       let rest = ordered-with rs ys all.1 in
-      let here = placed-with r y (in_ticket_order rs) rest.there all.0 rest.are in
+      let here = placed_records-with r y (in_ticket_order rs) rest.there all.0 rest.are in
       record { there = here.there; are = here.are; each_once = λ w. let first = here.each_once w in let second = rest.each_once w in omega arith }
 
 module _ {T : Type 0} (growth : GrowthRule) (t : Trace T) where
@@ -65,8 +65,8 @@ module _ {T : Type 0} (growth : GrowthRule) (t : Trace T) where
       }
   grown a b None here stopped =
       let adds = stopped.adds in
-      let closed : stopped.entry ≡ recorded stopped.entry.ticket Close (reply a.origin adds.place Close) =
-      adds.replied ∙ ap (λ e. recorded stopped.entry.ticket e (reply a.origin adds.place e)) adds.asked_is in
+      let closed : stopped.entry ≡ request_record stopped.entry.ticket Close (reply a.origin adds.place Close) =
+      adds.replied ∙ ap (λ e. request_record stopped.entry.ticket e (reply a.origin adds.place e)) adds.asked_is in
       record {
         entry = stopped.entry;
         origin = adds.origin ∙ here;

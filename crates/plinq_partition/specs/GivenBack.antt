@@ -14,9 +14,9 @@ use Rattle.plinq_partition.specs.Faults.{take_fault_of}
 use Rattle.plinq_partition.specs.Partitions.{holding_of, all_shares}
 
 -- the lock's answer, as it is reported
-abbrev pub told : {V : Type 0} → Result V (Option V × LockFault) → Result V (Option V × TakeFault)
-told (Ok value) = Ok value
-told (Err refused) = Err (refused.0, take_fault_of refused.1)
+abbrev pub reported_answer : {V : Type 0} → Result V (Option V × LockFault) → Result V (Option V × TakeFault)
+reported_answer (Ok value) = Ok value
+reported_answer (Err refused) = Err (refused.0, take_fault_of refused.1)
 
 module _ {S T : Type 0} {source : Ghosts S T} where
   -- what the source of the first partition hands out, or that where there is none
@@ -35,4 +35,4 @@ module _ {S T : Type 0} {source : Ghosts S T} where
     pub share : pass_share pass ≡ all_shares ps
     pub finished : Result (Enumerator S T source) (Option (Enumerator S T source) × LockFault)
     pub is_finished : IsFinished (λ e. source.whole (held_source e)) held_records pass finished
-    pub result_is : result ≡ told finished
+    pub result_is : result ≡ reported_answer finished

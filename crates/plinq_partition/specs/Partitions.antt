@@ -3,14 +3,14 @@ use Rattle.std.specs.Prelude.{◌≡◌, ℕ, ◌+◌, ◌≤◌, ◌<◌, ◌^�
 use Rattle.std.proofs.Common.{arith, ap, sym, ◌∙◌}
 use Rattle.plinq_source.specs.declared.ending.Ending.TheVariants.{End}
 use Rattle.plinq_source.specs.declared.source.Source.{Ghosts}
-use Rattle.plinq_source.specs.Trace.{Trace, ended}
+use Rattle.plinq_source.specs.Trace.{Trace, ended_trace}
 use Rattle.plinq_keyed.specs.declared.chunk.Chunk.{Chunk}
 use Rattle.plinq_keyed.specs.declared.event.Event.{Event}
 use Rattle.plinq_keyed.specs.declared.event.Event.TheVariants.{Ask, Close}
 use Rattle.plinq_keyed.specs.declared.record.Record.{Record}
 use Rattle.plinq_keyed.specs.declared.keyed.Keyed.{Keyed}
 use Rattle.plinq_keyed.specs.declared.properties.KeyProperties.{KeyProperties}
-use Rattle.plinq_keyed.specs.History.{Place, reply, recorded, record_items, handed_out, IsChunkOf, IsLegalHistory}
+use Rattle.plinq_keyed.specs.History.{Place, reply, request_record, record_items, handed_out, IsChunkOf, IsLegalHistory}
 use Rattle.plinq_keyed.specs.Keys.{Keeps}
 use Rattle.plinq_enumerator.specs.Growing.{GrowthRule, size_at}
 use Rattle.plinq_ticket.specs.Shares.{in_ticket_order}
@@ -32,7 +32,7 @@ pub record Adds {T : Type 0} (a b : Holding T) (asked : Event) (entry : Record) 
   pub share : b.share ≡ a.share ++ entry ∷ []
   pub asked_is : entry.asked ≡ asked
   pub place : Place
-  pub replied : entry ≡ recorded entry.ticket entry.asked (reply a.origin place entry.asked)
+  pub replied : entry ≡ request_record entry.ticket entry.asked (reply a.origin place entry.asked)
 
 -- A chunk was taken: it is that of one record more, which asked for as many items as the growth says. So the records of a
 -- partition that has only taken ask for chunks number 0, 1, 2 and so on of the growth. Where its caller takes no more
@@ -123,7 +123,7 @@ IsNotBusy Away = ⊥
 -- ---- a partition of the items 7, 8 and 9 that has taken the first of them
 
 abbrev three_items : Trace ℕ
-three_items = ended (7 ∷ 8 ∷ 9 ∷ []) End
+three_items = ended_trace (7 ∷ 8 ∷ 9 ∷ []) End
 
 abbrev first_record : Record
 first_record = record { ticket = 4; asked = Ask 1; first = 0; count = 1; tail = None }

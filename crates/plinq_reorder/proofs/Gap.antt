@@ -4,30 +4,30 @@ use Rattle.std.proofs.Common.{sym, ◌∙◌, ap, inl, inr, arith}
 use Rattle.std.proofs.lemmas.Bool.{or_left, or_right, or_from, le-ltb, cases_lt}
 use Rattle.std.proofs.lemmas.Bool.Decides.{nat_tests}
 use Rattle.std.proofs.lemmas.List.Elements.{All-nil, All-cons, All-head, All-tail}
-use Rattle.plinq_reorder.specs.Intervals.{Interval, has_key, are_apart, begins_with, unbroken, first_gap, IsRow}
+use Rattle.plinq_reorder.specs.Intervals.{Interval, has_key, are_apart, begins_with, unbroken_row, first_gap, IsRow}
 use Rattle.plinq_reorder.specs.Buffered.{Buffered, IsAtGap}
 use Rattle.plinq_reorder.proofs.Keys.{same_key, same_test, within-from, not_within-before, not_within-after, apart-start, apart-some, apart-rest, none-before}
 
 module _ {P : Type 0} where
   -- by the first interval: the row goes on with it, or is at a gap
-  row-cases : (Q : List (Interval P) → ℕ → Type 0) (key : ℕ) (p : Interval P) (ps : List (Interval P)) → (p.0 ≡ key → Q (p ∷ unbroken p.1.end ps) (first_gap p.1.end ps))
-      → ((p.0 == key) ≡ false → Q [] key) → Q (unbroken key (p ∷ ps)) (first_gap key (p ∷ ps))
+  row-cases : (Q : List (Interval P) → ℕ → Type 0) (key : ℕ) (p : Interval P) (ps : List (Interval P)) → (p.0 ≡ key → Q (p ∷ unbroken_row p.1.end ps) (first_gap p.1.end ps))
+      → ((p.0 == key) ≡ false → Q [] key) → Q (unbroken_row key (p ∷ ps)) (first_gap key (p ∷ ps))
   row-cases Q key p ps here gap =
-      elim (p.0 == key) as (λ v. v ≡ (p.0 == key) → Q (cond v (p ∷ unbroken p.1.end ps) []) (cond v (first_gap p.1.end ps) key)) [
+      elim (p.0 == key) as (λ v. v ≡ (p.0 == key) → Q (cond v (p ∷ unbroken_row p.1.end ps) []) (cond v (first_gap p.1.end ps) key)) [
         | true ↦ λ is. here (same_key p.0 key (sym is))
         | false ↦ λ is. gap (sym is)
       ] refl
 
   -- it is a row up to the gap
-  pub row-of-unbroken : (key : ℕ) (ps : List (Interval P)) → IsRow key (unbroken key ps) (first_gap key ps)
-  row-of-unbroken key [] = refl
-  row-of-unbroken key (p ∷ ps) = row-cases (λ us gap. IsRow key us gap) key p ps (λ is. (is, row-of-unbroken p.1.end ps)) (λ is. refl)
+  pub row-of-unbroken_row : (key : ℕ) (ps : List (Interval P)) → IsRow key (unbroken_row key ps) (first_gap key ps)
+  row-of-unbroken_row key [] = refl
+  row-of-unbroken_row key (p ∷ ps) = row-cases (λ us gap. IsRow key us gap) key p ps (λ is. (is, row-of-unbroken_row p.1.end ps)) (λ is. refl)
 
   -- of what is true of each interval
-  pub All-unbroken : (Q : Interval P → Type 0) (key : ℕ) (ps : List (Interval P)) → All Q ps → All Q (unbroken key ps)
-  All-unbroken Q key [] all = all
-  All-unbroken Q key (p ∷ ps) all =
-      row-cases (λ us gap. All Q us) key p ps (λ is. All-cons Q p (unbroken p.1.end ps) (All-head Q p ps all) (All-unbroken Q p.1.end ps (All-tail Q p ps all))) (λ is. All-nil Q)
+  pub All-unbroken_row : (Q : Interval P → Type 0) (key : ℕ) (ps : List (Interval P)) → All Q ps → All Q (unbroken_row key ps)
+  All-unbroken_row Q key [] all = all
+  All-unbroken_row Q key (p ∷ ps) all =
+      row-cases (λ us gap. All Q us) key p ps (λ is. All-cons Q p (unbroken_row p.1.end ps) (All-head Q p ps all) (All-unbroken_row Q p.1.end ps (All-tail Q p ps all))) (λ is. All-nil Q)
 
   -- each key before the gap is in an interval
   pub gap-covered : (key : ℕ) (ps : List (Interval P)) (k : ℕ) → key ≤ k → k < first_gap key ps → has_key ps k ≡ true
@@ -66,12 +66,12 @@ module _ {P : Type 0} where
 
   -- after a row, it is that row and what follows without a gap
   pub row-append : (from : ℕ) (done : List (Interval P)) (to : ℕ) (rest : List (Interval P)) → IsRow from done to
-      → (unbroken from (done ++ rest) ≡ done ++ unbroken to rest) × (first_gap from (done ++ rest) ≡ first_gap to rest)
-  row-append from [] to rest row = (ap (λ k. unbroken k rest) row, ap (λ k. first_gap k rest) row)
+      → (unbroken_row from (done ++ rest) ≡ done ++ unbroken_row to rest) × (first_gap from (done ++ rest) ≡ first_gap to rest)
+  row-append from [] to rest row = (ap (λ k. unbroken_row k rest) row, ap (λ k. first_gap k rest) row)
   row-append from (p ∷ done) to rest row =
       let later = row-append p.1.end done to rest row.1 in
       let here = same_test p.0 from row.0 in (
-        ap (λ v. cond v (p ∷ unbroken p.1.end (done ++ rest)) []) here ∙ ap (λ qs. p ∷ qs) later.0,
+        ap (λ v. cond v (p ∷ unbroken_row p.1.end (done ++ rest)) []) here ∙ ap (λ qs. p ∷ qs) later.0,
         ap (λ v. cond v (first_gap p.1.end (done ++ rest)) from) here ∙ later.1,
       )
 
@@ -90,6 +90,6 @@ module _ {P : Type 0} where
         gap = at.1;
       }
     where
-      none-there : (key : ℕ) (ps : List (Interval P)) → begins_with key ps ≡ false → (unbroken key ps ≡ []) × (first_gap key ps ≡ key)
+      none-there : (key : ℕ) (ps : List (Interval P)) → begins_with key ps ≡ false → (unbroken_row key ps ≡ []) × (first_gap key ps ≡ key)
       none-there key [] gap = (refl, refl)
-      none-there key (p ∷ ps) gap = (ap (λ v. cond v (p ∷ unbroken p.1.end ps) []) gap, ap (λ v. cond v (first_gap p.1.end ps) key) gap)
+      none-there key (p ∷ ps) gap = (ap (λ v. cond v (p ∷ unbroken_row p.1.end ps) []) gap, ap (λ v. cond v (first_gap p.1.end ps) key) gap)

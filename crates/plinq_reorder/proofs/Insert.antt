@@ -8,7 +8,7 @@ use Rattle.std.proofs.lemmas.Bool.Decides.{nat_tests}
 use Rattle.std.proofs.lemmas.List.Elements.{All-cons, All-head, All-tail}
 use Rattle.std.proofs.Math.Bool.{or_assoc, or_comm, or-false}
 use Rattle.plinq_reorder.specs.Intervals.{Interval, is_within, has_key, are_apart, IsFree, insert}
-use Rattle.plinq_reorder.specs.Buffered.{Buffered, is_taken, IsFresh, inserted, TakesNext}
+use Rattle.plinq_reorder.specs.Buffered.{Buffered, is_taken, IsFresh, with_interval, TakesNext}
 use Rattle.plinq_reorder.specs.declared.span.Span.{Span}
 use Rattle.plinq_reorder.proofs.Keys.{within-from, apart-start, apart-some, apart-rest, apart-cons}
 
@@ -119,9 +119,9 @@ module _ {P : Type 0} where
   pub apart-inserted : (b : Buffered P) (first end : ℕ) (x : P) → are_apart b.next b.held ≡ true → first < end → IsFresh b first end → are_apart b.next (insert b.held first end x) ≡ true
   apart-inserted b first end x apart some fresh = apart-insert b.next first end x b.held apart (after-next b first end fresh some) some (free-from_fresh b first end fresh)
 
-  pub taken-inserted : (b : Buffered P) (first end : ℕ) (x : P) (key : ℕ) → are_apart b.next b.held ≡ true → first < end → IsFresh b first end
-      → is_taken (inserted b first end x) key ≡ is_taken b key || is_within first end key
-  taken-inserted b first end x key apart some fresh =
+  pub taken-with_interval : (b : Buffered P) (first end : ℕ) (x : P) (key : ℕ) → are_apart b.next b.held ≡ true → first < end → IsFresh b first end
+      → is_taken (with_interval b first end x) key ≡ is_taken b key || is_within first end key
+  taken-with_interval b first end x key apart some fresh =
       ap (λ v. nat_lt key b.next || v) (has_key-insert b.next first end x b.held key apart some (free-from_fresh b first end fresh))
       ∙ sym (or_assoc (nat_lt key b.next) (has_key b.held key) (is_within first end key))
 
@@ -146,8 +146,8 @@ module _ {P : Type 0} where
 
   -- an interval came whose turn it was
   pub inserts-next : (b : Buffered P) (first end : ℕ) (x : P) → are_apart b.next b.held ≡ true → first ≡ b.next → first < end → IsFresh b first end
-      → TakesNext (inserted b first end x) x (record b { next = end }) × (are_apart end b.held ≡ true)
+      → TakesNext (with_interval b first end x) x (record b { next = end }) × (are_apart end b.held ≡ true)
   inserts-next b first end x apart turn some fresh =
       let free : IsFree b.held b.next end = subst (λ k. IsFree b.held k end) turn (free-from_fresh b first end fresh) in
-      takes-next (inserted b first end x) x (record b { next = end }) (apart-inserted b first end x apart some fresh)
+      takes-next (with_interval b first end x) x (record b { next = end }) (apart-inserted b first end x apart some fresh)
       (ap (λ k. insert b.held k end x) turn ∙ insert-next b.next end x b.held apart (omega arith) free)

@@ -36,9 +36,9 @@ begins_with key [] = false
 begins_with key (p ∷ ps) = p.0 == key
 
 -- those that follow one another from this key on, up to the first gap
-abbrev pub unbroken : {P : Type 0} → ℕ → List (Interval P) → List (Interval P)
-unbroken key [] = []
-unbroken key (p ∷ ps) = if p.0 == key then p ∷ unbroken p.1.end ps else []
+abbrev pub unbroken_row : {P : Type 0} → ℕ → List (Interval P) → List (Interval P)
+unbroken_row key [] = []
+unbroken_row key (p ∷ ps) = if p.0 == key then p ∷ unbroken_row p.1.end ps else []
 
 -- the first gap: the key after them
 abbrev pub first_gap : {P : Type 0} → ℕ → List (Interval P) → ℕ
@@ -59,13 +59,13 @@ interval first end payload = (first, record { end = end; payload = payload })
 abbrev with_a_gap : List (Interval ℕ)
 with_a_gap = interval 0 2 7 ∷ interval 3 4 9 ∷ []
 
-up_to_the_gap : unbroken 0 with_a_gap ≡ interval 0 2 7 ∷ []
+up_to_the_gap : unbroken_row 0 with_a_gap ≡ interval 0 2 7 ∷ []
 up_to_the_gap = refl
 
 at_the_gap : first_gap 0 with_a_gap ≡ 2
 at_the_gap = refl
 
-nothing_from_a_key_that_is_missing : unbroken 2 with_a_gap ≡ []
+nothing_from_a_key_that_is_missing : unbroken_row 2 with_a_gap ≡ []
 nothing_from_a_key_that_is_missing = refl
 
 the_gap_is_filled : first_gap 0 (insert with_a_gap 2 3 8) ≡ 4

@@ -1,6 +1,6 @@
 //! What the crates above rest on, of any intervals.
 ghost use Rattle.std.specs.Prelude.{◌≡◌, ◌<◌, ◌≤◌, ◌||◌, ◌++◌, ℕ, List, Bool, true, false, All};
-ghost use Rattle.plinq_reorder.specs.Intervals.{Interval, is_within, has_key, are_apart, IsFree, insert, unbroken, first_gap, IsRow};
+ghost use Rattle.plinq_reorder.specs.Intervals.{Interval, is_within, has_key, are_apart, IsFree, insert, unbroken_row, first_gap, IsRow};
 
 /// What is true of each interval, and of one more, is true of all with that one.
 pub fn each_stays_true<P>()
@@ -29,5 +29,5 @@ pub fn the_first_gap_is_missing<P>()
 /// After a row of intervals, the unbroken row is that row and what follows it without a gap.
 pub fn a_row_goes_on<P>()
     ensures { (from : ℕ) (done : List (Interval P)) (to : ℕ) (rest : List (Interval P)) → IsRow from done to →
-        (unbroken from (done ++ rest) ≡ done ++ unbroken to rest) × (first_gap from (done ++ rest) ≡ first_gap to rest) }
+        (unbroken_row from (done ++ rest) ≡ done ++ unbroken_row to rest) × (first_gap from (done ++ rest) ≡ first_gap to rest) }
 {}

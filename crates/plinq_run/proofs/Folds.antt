@@ -10,7 +10,7 @@ use Rattle.std.proofs.lemmas.List.Elements.{All-cons, All-head, All-tail, All-ni
 use Rattle.plinq_source.specs.declared.ending.Ending.{Ending}
 use Rattle.plinq_source.specs.Trace.{Trace, open_trace}
 use Rattle.plinq_lambda.specs.Meaning.{Meaning}
-use Rattle.plinq_aggregate.specs.Folding.{Folding, folded, IsFolding}
+use Rattle.plinq_aggregate.specs.Folding.{Folding, fold_of, IsFolding}
 use Rattle.plinq_ops.specs.declared.order.Order.{Order}
 use Rattle.plinq_ops.specs.declared.order.Order.TheVariants.{ByKey, ByArrival}
 use Rattle.plinq_ops.specs.declared.plan.Plan.{Plan}
@@ -18,14 +18,14 @@ use Rattle.plinq_ops.specs.declared.results.ChunkResult.{ChunkResult}
 use Rattle.plinq_ops.specs.Chunk.{result_trace, run_ending}
 use Rattle.plinq_ops.specs.Tails.{end_of_result, told_at}
 use Rattle.plinq_reorder.specs.declared.span.Span.{Span}
-use Rattle.plinq_reorder.specs.Intervals.{Interval, insert, unbroken, first_gap, is_within}
+use Rattle.plinq_reorder.specs.Intervals.{Interval, insert, unbroken_row, first_gap, is_within}
 use Rattle.plinq_merge.specs.Keys.{is_offered}
 use Rattle.plinq_merge.specs.Whole.{AreApart}
-use Rattle.plinq_merge.specs.Shown.{at_once, waiting_trace, placed, all_placed, all_told, all_given, ending_at, row, arrived, merged}
+use Rattle.plinq_merge.specs.Shown.{at_once, waiting_trace, placed_intervals, all_placed, all_told, all_given, ending_at, row, arrived_trace, merged_trace}
 use Rattle.plinq_crew.specs.Results.{IsResult, IsPart}
 use Rattle.plinq_run.specs.Parting.{IsFolded}
 use Rattle.plinq_run.specs.inner.Folds.{IsFoldOf, AreFoldsOf}
-use Rattle.plinq_run.specs.inner.Standing.{stand-none, followed-folded}
+use Rattle.plinq_run.specs.inner.Standing.{stand-none, followed_by-folded}
 
 module _ {T A O : Type 0} (f : Folding T A O) where
   folded-nothing : IsFolded f (open_trace []) (open_trace [])
@@ -50,26 +50,26 @@ module _ {T A O : Type 0} (f : Folding T A O) where
   given-folded [] [] alike = folded-nothing
   given-folded (p ∷ ps) (q ∷ qs) alike =
       let one = alike.0 in
-      followed-folded f p.1.payload (all_given ps) q.1.payload (all_given qs) one.trace (given-folded ps qs alike.1)
+      followed_by-folded f p.1.payload (all_given ps) q.1.payload (all_given qs) one.trace (given-folded ps qs alike.1)
   given-folded ps qs alike = absurd alike
 
-  unbroken-alike : (key : ℕ) (ps : List (Interval (Trace T))) (qs : List (Interval (Trace A))) → AreRowsAlike ps qs
-      → AreRowsAlike (unbroken key ps) (unbroken key qs) × (first_gap key qs ≡ first_gap key ps)
-  unbroken-alike key [] [] alike = (tt, refl)
-  unbroken-alike key (p ∷ ps) (q ∷ qs) alike =
+  unbroken_row-alike : (key : ℕ) (ps : List (Interval (Trace T))) (qs : List (Interval (Trace A))) → AreRowsAlike ps qs
+      → AreRowsAlike (unbroken_row key ps) (unbroken_row key qs) × (first_gap key qs ≡ first_gap key ps)
+  unbroken_row-alike key [] [] alike = (tt, refl)
+  unbroken_row-alike key (p ∷ ps) (q ∷ qs) alike =
       let one = alike.0 in
-      let later = subst (λ k. AreRowsAlike (unbroken p.1.end ps) (unbroken k qs) × (first_gap k qs ≡ first_gap p.1.end ps)) (sym one.end) (unbroken-alike p.1.end ps qs alike.1) in
-      let here : (b : Bool) → AreRowsAlike (cond b (p ∷ unbroken p.1.end ps) []) (cond b (q ∷ unbroken q.1.end qs) []) × (cond b (first_gap q.1.end qs) key ≡ cond b (first_gap p.1.end ps) key) =
+      let later = subst (λ k. AreRowsAlike (unbroken_row p.1.end ps) (unbroken_row k qs) × (first_gap k qs ≡ first_gap p.1.end ps)) (sym one.end) (unbroken_row-alike p.1.end ps qs alike.1) in
+      let here : (b : Bool) → AreRowsAlike (cond b (p ∷ unbroken_row p.1.end ps) []) (cond b (q ∷ unbroken_row q.1.end qs) []) × (cond b (first_gap q.1.end qs) key ≡ cond b (first_gap p.1.end ps) key) =
       elim [ true ↦ ((one, later.0), later.1) | false ↦ (tt, refl) ] in
-      subst (λ k. AreRowsAlike (unbroken key (p ∷ ps)) (cond (k == key) (q ∷ unbroken q.1.end qs) []) × (cond (k == key) (first_gap q.1.end qs) key ≡ first_gap key (p ∷ ps)))
+      subst (λ k. AreRowsAlike (unbroken_row key (p ∷ ps)) (cond (k == key) (q ∷ unbroken_row q.1.end qs) []) × (cond (k == key) (first_gap q.1.end qs) key ≡ first_gap key (p ∷ ps)))
       (sym one.key) (here (p.0 == key))
-  unbroken-alike key ps qs alike = absurd alike
+  unbroken_row-alike key ps qs alike = absurd alike
 
   row-folded : (source_end : Option (ℕ × Ending)) (key : ℕ) (ps : List (Interval (Trace T))) (qs : List (Interval (Trace A))) → AreRowsAlike ps qs → IsFolded f (row source_end key ps) (row source_end key qs)
   row-folded source_end key ps qs alike =
-      let at = unbroken-alike key ps qs alike in
+      let at = unbroken_row-alike key ps qs alike in
       let last : Trace T = record { items = []; ending = ending_at source_end (first_gap key ps) } in
-      followed-folded f (all_given (unbroken key ps)) last (all_given (unbroken key qs)) (record { items = []; ending = ending_at source_end (first_gap key qs) }) (given-folded (unbroken key ps) (unbroken key qs) at.0)
+      followed_by-folded f (all_given (unbroken_row key ps)) last (all_given (unbroken_row key qs)) (record { items = []; ending = ending_at source_end (first_gap key qs) }) (given-folded (unbroken_row key ps) (unbroken_row key qs) at.0)
       (subst (λ k. IsFolded f last (record { items = []; ending = ending_at source_end k })) (sym at.1) (folded-ending (ending_at source_end (first_gap key ps))))
 
   insert-alike : (ps : List (Interval (Trace T))) (qs : List (Interval (Trace A))) (first end : ℕ) (p : Trace T) (q : Trace A) → AreRowsAlike ps qs → IsFolded f p q
@@ -91,7 +91,7 @@ module _ {T A O : Type 0} (f : Folding T A O) where
   result-folded : IsFolding f → (r : ChunkResult T) (c : ChunkResult A) → IsFoldOf f r c → IsFolded f (result_trace r) (result_trace c)
   result-folded lawful r c is =
       record {
-        items = λ before. ap (fold f.combine (folded f before)) is.items ∙ lawful.joins before r.items.items;
+        items = λ before. ap (fold f.combine (fold_of f before)) is.items ∙ lawful.joins before r.items.items;
         ending = ap run_ending is.ending;
       }
 
@@ -106,20 +106,20 @@ module _ {T A O : Type 0} (f : Folding T A O) where
   once-folded lawful ByKey r c is = folded-nothing
   once-folded lawful ByArrival r c is = result-folded lawful r c is
 
-  placed-alike : IsFolding f → (order : Order) (ps : List (Interval (Trace T))) (qs : List (Interval (Trace A))) (r : ChunkResult T) (c : ChunkResult A) → AreRowsAlike ps qs → IsFoldOf f r c
-      → AreRowsAlike (placed order ps r) (placed order qs c)
-  placed-alike lawful order ps qs r c alike is =
+  placed_intervals-alike : IsFolding f → (order : Order) (ps : List (Interval (Trace T))) (qs : List (Interval (Trace A))) (r : ChunkResult T) (c : ChunkResult A) → AreRowsAlike ps qs → IsFoldOf f r c
+      → AreRowsAlike (placed_intervals order ps r) (placed_intervals order qs c)
+  placed_intervals-alike lawful order ps qs r c alike is =
       let inserted = insert-alike ps qs r.first (end_of_result r) (waiting_trace order r) (waiting_trace order c) alike (waiting-folded lawful order r c is) in
       let here : (b : Bool) → AreRowsAlike (cond b ps (insert ps r.first (end_of_result r) (waiting_trace order r))) (cond b qs (insert qs r.first (end_of_result r) (waiting_trace order c))) =
       elim [ true ↦ alike | false ↦ inserted ] in
-      subst (λ n. AreRowsAlike (placed order ps r) (cond (n == 0) qs (insert qs c.first (c.first + n) (waiting_trace order c)))) (sym is.count)
-      (subst (λ k. AreRowsAlike (placed order ps r) (cond (r.count == 0) qs (insert qs k (k + r.count) (waiting_trace order c)))) (sym is.first) (here (r.count == 0)))
+      subst (λ n. AreRowsAlike (placed_intervals order ps r) (cond (n == 0) qs (insert qs c.first (c.first + n) (waiting_trace order c)))) (sym is.count)
+      (subst (λ k. AreRowsAlike (placed_intervals order ps r) (cond (r.count == 0) qs (insert qs k (k + r.count) (waiting_trace order c)))) (sym is.first) (here (r.count == 0)))
 
   all_placed-alike : IsFolding f → (order : Order) (ps : List (Interval (Trace T))) (qs : List (Interval (Trace A))) (rs : List (ChunkResult T)) (cs : List (ChunkResult A)) → AreRowsAlike ps qs → AreFoldsOf f rs cs
       → AreRowsAlike (all_placed order ps rs) (all_placed order qs cs)
   all_placed-alike lawful order ps qs [] [] alike are = alike
   all_placed-alike lawful order ps qs (r ∷ rs) (c ∷ cs) alike are =
-      all_placed-alike lawful order (placed order ps r) (placed order qs c) rs cs (placed-alike lawful order ps qs r c alike are.0) are.1
+      all_placed-alike lawful order (placed_intervals order ps r) (placed_intervals order qs c) rs cs (placed_intervals-alike lawful order ps qs r c alike are.0) are.1
   all_placed-alike lawful order ps qs rs cs alike are = absurd are
 
   all_told-alike : (source_end : Option (ℕ × Ending)) (rs : List (ChunkResult T)) (cs : List (ChunkResult A)) → AreFoldsOf f rs cs → all_told source_end cs ≡ all_told source_end rs
@@ -131,17 +131,17 @@ module _ {T A O : Type 0} (f : Folding T A O) where
       ∙ all_told-alike (option_or source_end (told_at (end_of_result r) r.tail)) rs cs are.1
   all_told-alike source_end rs cs are = absurd are
 
-  arrived-folded : IsFolding f → (order : Order) (rs : List (ChunkResult T)) (cs : List (ChunkResult A)) → AreFoldsOf f rs cs → IsFolded f (arrived order rs) (arrived order cs)
-  arrived-folded lawful order [] [] are = folded-nothing
-  arrived-folded lawful order (r ∷ rs) (c ∷ cs) are =
-      followed-folded f (at_once order r) (arrived order rs) (at_once order c) (arrived order cs) (once-folded lawful order r c are.0) (arrived-folded lawful order rs cs are.1)
-  arrived-folded lawful order rs cs are = absurd are
+  arrived_trace-folded : IsFolding f → (order : Order) (rs : List (ChunkResult T)) (cs : List (ChunkResult A)) → AreFoldsOf f rs cs → IsFolded f (arrived_trace order rs) (arrived_trace order cs)
+  arrived_trace-folded lawful order [] [] are = folded-nothing
+  arrived_trace-folded lawful order (r ∷ rs) (c ∷ cs) are =
+      followed_by-folded f (at_once order r) (arrived_trace order rs) (at_once order c) (arrived_trace order cs) (once-folded lawful order r c are.0) (arrived_trace-folded lawful order rs cs are.1)
+  arrived_trace-folded lawful order rs cs are = absurd are
 
   -- what folded results merge to stands for what the results do
-  pub merged-folded : IsFolding f → (order : Order) (rs : List (ChunkResult T)) (cs : List (ChunkResult A)) → AreFoldsOf f rs cs → IsFolded f (merged order rs) (merged order cs)
-  merged-folded lawful order rs cs are =
-      followed-folded f (arrived order rs) (row (all_told None rs) 0 (all_placed order [] rs)) (arrived order cs) (row (all_told None cs) 0 (all_placed order [] cs))
-      (arrived-folded lawful order rs cs are)
+  pub merged_trace-folded : IsFolding f → (order : Order) (rs : List (ChunkResult T)) (cs : List (ChunkResult A)) → AreFoldsOf f rs cs → IsFolded f (merged_trace order rs) (merged_trace order cs)
+  merged_trace-folded lawful order rs cs are =
+      followed_by-folded f (arrived_trace order rs) (row (all_told None rs) 0 (all_placed order [] rs)) (arrived_trace order cs) (row (all_told None cs) 0 (all_placed order [] cs))
+      (arrived_trace-folded lawful order rs cs are)
       (subst (λ source_end. IsFolded f (row (all_told None rs) 0 (all_placed order [] rs)) (row source_end 0 (all_placed order [] cs))) (sym (all_told-alike None rs cs are))
       (row-folded (all_told None rs) 0 (all_placed order [] rs) (all_placed order [] cs) (all_placed-alike lawful order [] [] rs cs tt are)))
 

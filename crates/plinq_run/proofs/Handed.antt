@@ -17,7 +17,7 @@ use Rattle.plinq_keyed.proofs.Legal.{Told-from_tells, reply-first, next_place-gi
 use Rattle.plinq_keyed.specs.declared.chunk.Chunk.{Chunk}
 use Rattle.plinq_keyed.specs.declared.tail.Tail.{Tail}
 use Rattle.plinq_keyed.specs.declared.tail.Tail.TheVariants.{Closed}
-use Rattle.plinq_ticket.specs.Shares.{placed, in_ticket_order}
+use Rattle.plinq_ticket.specs.Shares.{placed_records, in_ticket_order}
 use Rattle.plinq_ops.specs.declared.frag_end.FragEnd.TheVariants.{Dropped}
 use Rattle.plinq_ops.specs.declared.op.Op.{Op}
 use Rattle.plinq_ops.specs.declared.plan.Plan.{Plan}
@@ -57,21 +57,21 @@ handed-items : {T : Type 0} (t : Trace T) (h : List Record) → IsLegalHistory t
 handed-items t h legal = ap (map (λ (x : Keyed _). x.value)) (IsPrefix-from_legal t h legal).prefix ∙ values-keyed_from 0 (take (given_by t h) t.items)
 
 -- records in the order of their tickets are the same
-placed-permutes : (r : Record) (rs : List Record) → IsPermutation (r ∷ rs) (placed r rs)
-placed-permutes r [] = IsPermutation-refl (r ∷ [])
-placed-permutes r (x ∷ rs) =
-    elim (nat_le r.ticket x.ticket) as (λ b. IsPermutation (r ∷ x ∷ rs) (if b then r ∷ x ∷ rs else x ∷ placed r rs)) [
+placed_records-permutes : (r : Record) (rs : List Record) → IsPermutation (r ∷ rs) (placed_records r rs)
+placed_records-permutes r [] = IsPermutation-refl (r ∷ [])
+placed_records-permutes r (x ∷ rs) =
+    elim (nat_le r.ticket x.ticket) as (λ b. IsPermutation (r ∷ x ∷ rs) (if b then r ∷ x ∷ rs else x ∷ placed_records r rs)) [
       | true ↦ IsPermutation-refl (r ∷ x ∷ rs)
       | false ↦
-          IsPermutation-trans (r ∷ x ∷ rs) (x ∷ r ∷ rs) (x ∷ placed r rs) (IsPermutation-middle (r ∷ []) x rs)
-          (IsPermutation-cons x (r ∷ rs) (placed r rs) (placed-permutes r rs))
+          IsPermutation-trans (r ∷ x ∷ rs) (x ∷ r ∷ rs) (x ∷ placed_records r rs) (IsPermutation-middle (r ∷ []) x rs)
+          (IsPermutation-cons x (r ∷ rs) (placed_records r rs) (placed_records-permutes r rs))
     ]
 
 in_order-permutes : (rs : List Record) → IsPermutation rs (in_ticket_order rs)
 in_order-permutes [] = IsPermutation-refl []
 in_order-permutes (r ∷ rs) =
     IsPermutation-trans (r ∷ rs) (r ∷ in_ticket_order rs) (in_ticket_order (r ∷ rs)) (IsPermutation-cons r rs (in_ticket_order rs) (in_order-permutes rs))
-    (placed-permutes r (in_ticket_order rs))
+    (placed_records-permutes r (in_ticket_order rs))
 
 -- where one is a request to close, so it is in their order
 pub closed-in_order : (rs : List Record) → has_close rs ≡ true → has_close (in_ticket_order rs) ≡ true

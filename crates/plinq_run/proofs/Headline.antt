@@ -4,7 +4,7 @@ use Rattle.std.proofs.Common.{arith, ap, sym, subst, ◌∙◌, append_assoc, ap
 use Rattle.std.proofs.lemmas.Bool.Decides.{nat_tests}
 use Rattle.plinq_source.specs.declared.ending.Ending.{Ending}
 use Rattle.plinq_source.specs.declared.ending.Ending.TheVariants.{End}
-use Rattle.plinq_source.specs.Trace.{Trace, ended, followed}
+use Rattle.plinq_source.specs.Trace.{Trace, ended_trace, followed_by}
 use Rattle.plinq_lambda.specs.Meaning.{Meaning}
 use Rattle.plinq_ops.specs.declared.merge_option.MergeOption.{MergeOption}
 use Rattle.plinq_ops.specs.declared.merge_option.MergeOption.TheVariants.{NotBuffered, FullyBuffered}
@@ -12,16 +12,16 @@ use Rattle.plinq_ops.specs.declared.op.Op.{Op}
 use Rattle.plinq_ops.specs.declared.op.Op.TheVariants.{Select, Filter, SelectMany, Take, Skip, TakeWhile, SkipWhile, AsUnordered}
 use Rattle.plinq_ops.specs.Answer.{MayAnswer}
 use Rattle.plinq_ops.specs.Batches.{batches, batches_from, full_batches, held_back, last_batch}
-use Rattle.plinq_ops.specs.Operator.{selected, filtered, selected_many, taken_while, stage_of, stages_of}
+use Rattle.plinq_ops.specs.Operator.{selected_piece, filtered_piece, selected_many, taken_while, stage_of, stages_of}
 use Rattle.plinq_ops.specs.Query.{merge_in_force}
 use Rattle.plinq_ops.specs.Sequential.{answer_of}
 use Rattle.plinq_ops.specs.SkipWhile.{skipped_from, skipped_while}
-use Rattle.plinq_ops.specs.Stage.{joined, taken, apply, seq}
+use Rattle.plinq_ops.specs.Stage.{joined_pieces, taken_trace, apply, seq}
 use Rattle.plinq_merge.specs.Sending.{Leads, TakesBeginning}
 use Rattle.plinq_run.specs.declared.report.Report.{Report}
 use Rattle.plinq_run.specs.declared.run_fault.RunFault.{RunFault}
 use Rattle.plinq_run.specs.declared.run_fault.RunFault.TheVariants.{Sink, Cancelled}
-use Rattle.plinq_run.specs.Endings.{reported}
+use Rattle.plinq_run.specs.Endings.{reported_ending}
 use Rattle.plinq_run.specs.Headline.{before, or_fault, each, does, answers, in_batches, handed_over, HasDelivered}
 use Rattle.plinq_run.specs.Reports.{Reports}
 use Rattle.plinq_run.specs.Runs.{HasRun, Runs}
@@ -30,19 +30,19 @@ use Rattle.plinq_run.proofs.Stopping.{reports-runs}
 -- ---- operators
 
 module _ {T : Type 0} where
-  selects : (r : Result T ℕ) (rest : Trace T) → followed (selected r) rest ≡ or_fault r (λ y. before (y ∷ []) rest)
+  selects : (r : Result T ℕ) (rest : Trace T) → followed_by (selected_piece r) rest ≡ or_fault r (λ y. before (y ∷ []) rest)
   selects (Ok y) rest = refl
   selects (Err code) rest = refl
 
-  filters : (r : Result Bool ℕ) (x : T) (rest : Trace T) → followed (filtered r x) rest ≡ or_fault r (λ passes. if passes then before (x ∷ []) rest else rest)
+  filters : (r : Result Bool ℕ) (x : T) (rest : Trace T) → followed_by (filtered_piece r x) rest ≡ or_fault r (λ passes. if passes then before (x ∷ []) rest else rest)
   filters (Ok true) x rest = refl
   filters answer x rest = refl
 
-  expands : (r : Result (List T) ℕ) (rest : Trace T) → followed (selected_many r) rest ≡ or_fault r (λ ys. before ys rest)
+  expands : (r : Result (List T) ℕ) (rest : Trace T) → followed_by (selected_many r) rest ≡ or_fault r (λ ys. before ys rest)
   expands (Ok ys) rest = refl
   expands (Err code) rest = refl
 
-  takes_while : (r : Result Bool ℕ) (x : T) (rest : Trace T) → followed (taken_while r x) rest ≡ or_fault r (λ passes. if passes then before (x ∷ []) rest else ended [] End)
+  takes_while : (r : Result Bool ℕ) (x : T) (rest : Trace T) → followed_by (taken_while r x) rest ≡ or_fault r (λ passes. if passes then before (x ∷ []) rest else ended_trace [] End)
   takes_while (Ok true) x rest = refl
   takes_while answer x rest = refl
 
@@ -52,34 +52,34 @@ module _ {T : Type 0} where
   skips_while answer xs e rest = refl
 
   -- where each piece, followed by what comes of the later items, is what an item gives
-  joined-each : {A : Type 0} (asks : T → Result A ℕ) (gives : T → A → Trace T → Trace T → Trace T) (piece : T → Trace T)
-      → ((x : T) (here rest : Trace T) → followed (piece x) rest ≡ or_fault (asks x) (λ answer. gives x answer here rest))
-      → (xs : List T) (e : Option Ending) → joined piece xs e ≡ each asks gives xs e
-  joined-each asks gives piece same [] e = refl
-  joined-each asks gives piece same (x ∷ xs) e =
-      ap (λ u. followed (piece x) u) (joined-each asks gives piece same xs e) ∙ same x (record { items = x ∷ xs; ending = e }) (each asks gives xs e)
+  joined_pieces-each : {A : Type 0} (asks : T → Result A ℕ) (gives : T → A → Trace T → Trace T → Trace T) (piece : T → Trace T)
+      → ((x : T) (here rest : Trace T) → followed_by (piece x) rest ≡ or_fault (asks x) (λ answer. gives x answer here rest))
+      → (xs : List T) (e : Option Ending) → joined_pieces piece xs e ≡ each asks gives xs e
+  joined_pieces-each asks gives piece same [] e = refl
+  joined_pieces-each asks gives piece same (x ∷ xs) e =
+      ap (λ u. followed_by (piece x) u) (joined_pieces-each asks gives piece same xs e) ∙ same x (record { items = x ∷ xs; ending = e }) (each asks gives xs e)
 
   skipped-each : (test : T → Result Bool ℕ) (xs : List T) (e : Option Ending) → skipped_while test xs e ≡ each test (λ x passes here rest. if passes then rest else here) xs e
   skipped-each test [] e = refl
   skipped-each test (x ∷ xs) e =
       ap (λ u. skipped_from (test x) (x ∷ xs) e u) (skipped-each test xs e) ∙ skips_while (test x) (x ∷ xs) e (each test (λ x passes here rest. if passes then rest else here) xs e)
 
-  with_none : (t : Trace T) (has_all : Bool) → nat_le 0 (length t.items) ≡ has_all → (if has_all then ended [] End else t) ≡ ended [] End
+  with_none : (t : Trace T) (has_all : Bool) → nat_le 0 (length t.items) ≡ has_all → (if has_all then ended_trace [] End else t) ≡ ended_trace [] End
   with_none t true is = refl
   with_none t false is = let less : length t.items < 0 = grind (arith, nat_tests) in absurd (omega (arith, less))
 
-  none-taken : (t : Trace T) → taken 0 t ≡ ended [] End
-  none-taken t = with_none t (nat_le 0 (length t.items)) refl
+  none-taken_trace : (t : Trace T) → taken_trace 0 t ≡ ended_trace [] End
+  none-taken_trace t = with_none t (nat_le 0 (length t.items)) refl
 
   module _ {L : Type 0} (meaning : L → Meaning T) where
     applied : (op : Op L) (t : Trace T) → apply (stage_of meaning op) t ≡ does meaning op t
-    applied (Select f) t = joined-each (meaning f).map _ (λ x. selected ((meaning f).map x)) (λ x here rest. selects ((meaning f).map x) rest) t.items t.ending
-    applied (Filter f) t = joined-each (meaning f).test _ (λ x. filtered ((meaning f).test x) x) (λ x here rest. filters ((meaning f).test x) x rest) t.items t.ending
-    applied (SelectMany f) t = joined-each (meaning f).expand _ (λ x. selected_many ((meaning f).expand x)) (λ x here rest. expands ((meaning f).expand x) rest) t.items t.ending
-    applied (TakeWhile f) t = joined-each (meaning f).test _ (λ x. taken_while ((meaning f).test x) x) (λ x here rest. takes_while ((meaning f).test x) x rest) t.items t.ending
+    applied (Select f) t = joined_pieces-each (meaning f).map _ (λ x. selected_piece ((meaning f).map x)) (λ x here rest. selects ((meaning f).map x) rest) t.items t.ending
+    applied (Filter f) t = joined_pieces-each (meaning f).test _ (λ x. filtered_piece ((meaning f).test x) x) (λ x here rest. filters ((meaning f).test x) x rest) t.items t.ending
+    applied (SelectMany f) t = joined_pieces-each (meaning f).expand _ (λ x. selected_many ((meaning f).expand x)) (λ x here rest. expands ((meaning f).expand x) rest) t.items t.ending
+    applied (TakeWhile f) t = joined_pieces-each (meaning f).test _ (λ x. taken_while ((meaning f).test x) x) (λ x here rest. takes_while ((meaning f).test x) x rest) t.items t.ending
     applied (SkipWhile f) t = skipped-each (meaning f).test t.items t.ending
     applied (Take (pos n)) t = refl
-    applied (Take (negsuc n)) t = none-taken t
+    applied (Take (negsuc n)) t = none-taken_trace t
     applied (Skip (pos n)) t = refl
     applied (Skip (negsuc n)) t = refl
     applied AsUnordered t = refl
@@ -172,7 +172,7 @@ module _ {T : Type 0} where
         let b = begins option u in
         (first, rest ++ b.more, b.parts ∙ ap (λ zs. zs ++ b.more) parts ∙ append_assoc first rest b.more, leads)
 
-    runs-delivered : (refuses : K → List T → ℕ → K → Type 0) (r : Result Report RunFault) → Runs accepts refuses (merge_in_force option) u s s' (reported r)
+    runs-delivered : (refuses : K → List T → ℕ → K → Type 0) (r : Result Report RunFault) → Runs accepts refuses (merge_in_force option) u s s' (reported_ending r)
         → HasDelivered accepts refuses option u s s' r
     runs-delivered refuses (Ok report) h = ended-delivered report.ending h
     runs-delivered refuses (Err (Sink code)) (first, next, rest, between, parts, leads, refused) =

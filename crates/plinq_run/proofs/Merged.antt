@@ -13,7 +13,7 @@ use Rattle.plinq_keyed.specs.declared.record.Record.{Record}
 use Rattle.plinq_partition.specs.Partitions.{all_shares}
 use Rattle.plinq_partition.specs.declared.partition.Partition.{Partition}
 use Rattle.plinq_stream.specs.declared.sent.Sent.{Sent}
-use Rattle.plinq_stream.specs.Passes.{known}
+use Rattle.plinq_stream.specs.Passes.{knowledge_of}
 use Rattle.plinq_stream.proofs.Under.{or-none}
 use Rattle.plinq_ops.specs.declared.order.Order.{Order}
 use Rattle.plinq_ops.specs.declared.results.ChunkResult.{ChunkResult}
@@ -24,7 +24,7 @@ use Rattle.plinq_merge.specs.declared.merge_fault.MergeFault.TheVariants.{Sink, 
 use Rattle.plinq_merge.specs.declared.more.More.{More}
 use Rattle.plinq_merge.specs.Joiners.{taker_of, order_of, ending_of, JoinsOffer}
 use Rattle.plinq_merge.specs.Mergers.{delivery_fault_of}
-use Rattle.plinq_merge.specs.Shown.{merged}
+use Rattle.plinq_merge.specs.Shown.{merged_trace}
 use Rattle.plinq_merge.specs.Taking.{IsTaking}
 use Rattle.plinq_merge.specs.Whole.{AreApart}
 use Rattle.plinq_merge.proofs.Joins.{AreOneMore, joined-cases, takes-joined, takes-broken, joined-stopped}
@@ -91,7 +91,7 @@ module _ {W O T : Type 0} (made : W → O → Trace T → Result (Option Ending)
       more-merged None m' y' part offers on.0 kept is are apart on.1 (same ∙ stands.0, on.2)
   offered-by (Err fault) m y part m' y' takes same kept is offers are apart stands =
       let on = takes-broken made a x lawful m.joiner part y fault m'.joiner y' offers same stands.1 takes in
-      let broke = subst (λ o. made a x (merged o on.0) (Err (delivery_fault_of fault)) on.2.0 y') stands.0 on.2.1 in
+      let broke = subst (λ o. made a x (merged_trace o on.0) (Err (delivery_fault_of fault)) on.2.0 y') stands.0 on.2.1 in
       more-merged (Some fault) m' y' part offers on.0 kept is are apart on.1 (on.2.0, broke)
 
   accepted-by : (fault : Option MergeFault) (m : Merging W T) (y : O) (part : ChunkResult T) (m' : Merging W T) (y' : O) → m.fault ≡ fault → AcceptsAfter made fault m y part m' y' → IsPart part
@@ -129,35 +129,35 @@ module _ {W O T : Type 0} (made : W → O → Trace T → Result (Option Ending)
         apart = tt;
         last = a;
         how = Err NoMemory;
-        taken = nothing-merged order (lawful.stops a x [] a x (open_trace []) (lawful.begins a x));
+        taken = nothing-merged_trace order (lawful.stops a x [] a x (open_trace []) (lawful.begins a x));
         breaks = is;
       }
     where
-      nothing-merged : (o : Order) → made a x (open_trace []) (Err NoMemory) a x → made a x (merged o []) (Err NoMemory) a x
-      nothing-merged o h = h
+      nothing-merged_trace : (o : Order) → made a x (open_trace []) (Err NoMemory) a x → made a x (merged_trace o []) (Err NoMemory) a x
+      nothing-merged_trace o h = h
 
   broken-by : (fault : Option MergeFault) (m : Merging W T) (y : O) (run_fault : RunFault) → cause_of run_fault ≡ cause_in_merge fault
       → (offers : List (ChunkResult T)) → All IsPart offers → AreApart offers → Stands made IsPart order a x fault m.joiner y offers → HasBrokenOff made IsPart order a x run_fault y
   broken-by None m y run_fault is offers are apart stands =
       let last = taker_of m.joiner in
-      let broken : (how : Result (Option Ending) DeliveryFault) → made a x (merged order offers) how last y → Breaks how (cause_of run_fault) → HasBrokenOff made
+      let broken : (how : Result (Option Ending) DeliveryFault) → made a x (merged_trace order offers) how last y → Breaks how (cause_of run_fault) → HasBrokenOff made
       IsPart order a x run_fault y =
       λ how taken breaks. record { offers = offers; are = are; apart = apart; last = last; how = how; taken = taken; breaks = breaks } in
       joined-cases made a x m.joiner y offers stands.1
       (λ no gap waits before. broken (Err NoMemory)
-      (subst (λ o. made a x (merged o offers) (Err NoMemory) last y) stands.0 (joined-stopped made a x lawful m.joiner y offers waits before)) is)
-      (λ e yes ok all. broken (Ok (Some e)) (subst (λ o. made a x (merged o offers) (Ok (Some e)) last y) stands.0 all) is)
+      (subst (λ o. made a x (merged_trace o offers) (Err NoMemory) last y) stands.0 (joined-stopped made a x lawful m.joiner y offers waits before)) is)
+      (λ e yes ok all. broken (Ok (Some e)) (subst (λ o. made a x (merged_trace o offers) (Ok (Some e)) last y) stands.0 all) is)
   broken-by (Some fault) m y run_fault is offers are apart stands =
       record { offers = offers; are = are; apart = apart; last = stands.0; how = Err (delivery_fault_of fault); taken = stands.1; breaks = breaks-by fault (cause_of run_fault) is }
 
   -- where the joiner has ended the answer, its taker has taken all that was offered
   ended-by : (j : Joiner W T) (y : O) (e : Ending) (offers : List (ChunkResult T)) → Stands made IsPart order a x None j y offers → ending_of j ≡ Ok e
-      → made a x (merged order offers) (Ok (Some e)) (taker_of j) y
+      → made a x (merged_trace order offers) (Ok (Some e)) (taker_of j) y
   ended-by j y e offers stands ending =
       joined-cases made a x j y offers stands.1
       (λ no gap waits before. absurd (gap-not_ok e (sym ending ∙ gap)))
-      (λ e' yes ok all. subst (λ o. made a x (merged o offers) (Ok (Some e)) (taker_of j) y) stands.0
-      (subst (λ d. made a x (merged (order_of j) offers) (Ok (Some d)) (taker_of j) y) (ok-same (sym ok ∙ ending)) all))
+      (λ e' yes ok all. subst (λ o. made a x (merged_trace o offers) (Ok (Some e)) (taker_of j) y) stands.0
+      (subst (λ d. made a x (merged_trace (order_of j) offers) (Ok (Some d)) (taker_of j) y) (ok-same (sym ok ∙ ending)) all))
 
 -- what was lent stays the same
 pub conducts-same : {L S J P U W O T : Type 0} {source : SourceGhosts S U} (made : W → O → Trace T → Result (Option Ending) DeliveryFault → W → O → Type 0) (IsPart : ChunkResult T → Type 0) (crew : Crew L S J P U U T source) (context : WorkerContext S T U source)
@@ -186,8 +186,8 @@ module _ {L S J P U W O T : Type 0} {source : SourceGhosts S U} {m : Merging W T
       let such =
       accepted-such (AcceptsEach (AcceptsInto made) IsPart) (AcceptsEach (AcceptsInto made) P)
       (λ sent. back.worker_count.started ≡ back.worker_count.wanted → IsOfOne (all_shares back.partitions.items) sent.item)
-      (λ z sent z' of step. ((step.0, of), step.1)) first (known h.pass).received h.wants_close last h.each h.accepted in
-      let all = accepted-all made lawful P order a x [] (known h.pass).received h.wants_close first last such begun in
+      (λ z sent z' of step. ((step.0, of), step.1)) first (knowledge_of h.pass).received h.wants_close last h.each h.accepted in
+      let all = accepted-all made lawful P order a x [] (knowledge_of h.pass).received h.wants_close first last such begun in
       subst (λ n. HasMerged made P order a x n y) same.0 (subst (HasMerged made P order a x last.merging.now) same.1 all)
 
   -- the answer has ended so, or it was broken off
@@ -213,8 +213,8 @@ module _ {L S J P U W O T : Type 0} {source : SourceGhosts S U} {m : Merging W T
         pass = h.pass;
         of_stream = h.of_stream;
         all = h.all;
-        answered = All-weaker (IsAnsweredBy 0 (known h.pass) back.worker_faults) (IsWhollyAnsweredBy (known h.pass))
-            (answered-wholly (known h.pass) (known h.pass) back.worker_faults refl refl none) (drop 1 back.partitions.items) h.answered;
+        answered = All-weaker (IsAnsweredBy 0 (knowledge_of h.pass) back.worker_faults) (IsWhollyAnsweredBy (knowledge_of h.pass))
+            (answered-wholly (knowledge_of h.pass) (knowledge_of h.pass) back.worker_faults refl refl none) (drop 1 back.partitions.items) h.answered;
         accepted = record {
           first = first;
           new = new;
@@ -232,7 +232,7 @@ module _ {L S J P U W O T : Type 0} {source : SourceGhosts S U} {m : Merging W T
           are = All-weaker (IsOfCrew back IsPart) (IsOffered IsPart (all_shares back.partitions.items)) (λ c is. (is.0, is.1 complete.started))
               all.offers all.are;
           apart = all.apart;
-          taken = subst (λ b. made a x (merged order all.offers) (Ok (Some ended.joined.ending)) b y) (sym f.taker)
+          taken = subst (λ b. made a x (merged_trace order all.offers) (Ok (Some ended.joined.ending)) b y) (sym f.taker)
               (ended-by made lawful IsPart order a x m.joiner y ended.joined.ending all.offers stands f.ending);
         };
       })

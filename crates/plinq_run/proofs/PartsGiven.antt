@@ -6,9 +6,9 @@ use Rattle.std.proofs.lemmas.List.Elements.{All-weaker}
 use Rattle.plinq_source.specs.declared.ending.Ending.{Ending}
 use Rattle.plinq_source.specs.declared.ending.Ending.TheVariants.{End}
 use Rattle.plinq_source.specs.declared.source.Source.{Ghosts as SourceGhosts}
-use Rattle.plinq_source.specs.Trace.{Trace, followed}
+use Rattle.plinq_source.specs.Trace.{Trace, followed_by}
 use Rattle.plinq_lambda.specs.Meaning.{Meaning}
-use Rattle.plinq_aggregate.specs.Folding.{Folding, IsFolding, folded}
+use Rattle.plinq_aggregate.specs.Folding.{Folding, IsFolding, fold_of}
 use Rattle.plinq_partition.specs.Partitions.{all_shares}
 use Rattle.plinq_ops.specs.declared.op.Op.{Op}
 use Rattle.plinq_ops.specs.declared.plan.Plan.{Plan}
@@ -23,10 +23,10 @@ use Rattle.plinq_ops.specs.Stage.{Stage, seq, seq_after, some_takes_none}
 use Rattle.plinq_ops.proofs.ByKey.{stages-begun}
 use Rattle.plinq_ops.proofs.Counts.{some_takes_none-stages_of}
 use Rattle.plinq_ops.proofs.Fed.{undecided-left}
-use Rattle.plinq_ops.proofs.Stages.{seq-followed}
+use Rattle.plinq_ops.proofs.Stages.{seq-followed_by}
 use Rattle.plinq_merge.specs.declared.delivery_fault.DeliveryFault.{DeliveryFault}
 use Rattle.plinq_merge.specs.declared.delivery_fault.DeliveryFault.TheVariants.{Memory, Sink}
-use Rattle.plinq_merge.specs.Shown.{merged}
+use Rattle.plinq_merge.specs.Shown.{merged_trace}
 use Rattle.plinq_merge.specs.Taking.{IsTaking}
 use Rattle.plinq_merge.specs.Whole.{AreApart}
 use Rattle.plinq_crew.specs.Plans.{IsUndecided}
@@ -47,7 +47,7 @@ use Rattle.plinq_run.specs.Aggregates.{Aggregates, AggregatesSome}
 use Rattle.plinq_run.specs.inner.Valuing.{value_at, value_of}
 use Rattle.plinq_run.specs.inner.Combining.{MadeBy as CombinedBy}
 use Rattle.plinq_run.proofs.Runs.{merged-may, begun-in, AsItIs, plain-part, planned-may}
-use Rattle.plinq_run.proofs.Folds.{merged-folded, folds-apart, unfolded}
+use Rattle.plinq_run.proofs.Folds.{merged_trace-folded, folds-apart, unfolded}
 
 breaks-over : (how : Result (Option Ending) DeliveryFault) (cause : Cause) → Breaks how cause → IsOver how
 breaks-over (Ok None) cause breaks = breaks
@@ -91,14 +91,14 @@ module _ {L T A U W O : Type 0} (f : Folding T A U) (lawful : IsFolding f) (made
 
   -- what was given of the answer to the results is how an answer of the source begins
   given-some : (how : Result (Option Ending) DeliveryFault) (a : W) (x y : O) (results : List (ChunkResult T)) → All (IsResult meaning plan t) results → AreApart results → IsOver how
-      → WasGiven f made (seq (stages_of meaning plan.after.now) (merged plan.order results)) a x how y → (u : Trace T) × (MayMerge meaning plan t u) × WasGiven f made u a x how y
+      → WasGiven f made (seq (stages_of meaning plan.after.now) (merged_trace plan.order results)) a x how y → (u : Trace T) × (MayMerge meaning plan t u) × WasGiven f made u a x how y
   given-some how a x y results are apart over given =
       let begun = begun-in meaning plan t plan.order refl few undecided results are apart in
       let ss : List (Stage T) = stages_of meaning plan.after.now in
-      let first : Trace T = merged plan.order results in
+      let first : Trace T = merged_trace plan.order results in
       let rest : Trace T = seq (seq_after ss first) begun.rest in
       let u : Trace T = merged_answer meaning plan begun.taken in
-      let same : u ≡ followed (seq ss first) rest = ap (seq ss) begun.is ∙ seq-followed ss first begun.rest in (
+      let same : u ≡ followed_by (seq ss first) rest = ap (seq ss) begun.is ∙ seq-followed_by ss first begun.rest in (
         u,
         record { taken = begun.taken; may = begun.may; is = refl },
         subst (λ v. WasGiven f made v a x how y) (sym same) (given-past f lawful made taking how (seq ss first) a x y rest over given),
@@ -108,7 +108,7 @@ module _ {L T A U W O : Type 0} (f : Folding T A U) (lawful : IsFolding f) (made
   module _ {V M : Type 0} (taken : V → O → Trace M → Result (Option Ending) DeliveryFault → V → O → Type 0) (P : ChunkResult M → Type 0) (first : V) (a : W)
       (x : O)
       (some : (how : Result (Option Ending) DeliveryFault) (offers : List (ChunkResult M)) (last : V) (y : O) → All P offers → AreApart offers → IsOver how
-      → taken first x (merged plan.order offers) how last y → (u : Trace T) × (MayMerge meaning plan t u) × WasGiven f made u a x how y) where
+      → taken first x (merged_trace plan.order offers) how last y → (u : Trace T) × (MayMerge meaning plan t u) × WasGiven f made u a x how y) where
     conducted-given : {S : Type 0} {source : SourceGhosts S T} (r : Result (Conducted S V T source) RunFault) (y : O)
         → HasConducted taken P plan.order t first x r y
         → GivesSome f made (MayMerge meaning plan t) a x (answer_ending r) y
@@ -125,13 +125,13 @@ module _ {L T A U W O : Type 0} (f : Folding T A U) (lawful : IsFolding f) (made
   module _ (alone : plan.after.now ≡ []) (a : W) (x : O) where
     chunks-some : (how : Result (Option Ending) DeliveryFault) (cs : List (ChunkResult A)) (b : W) (y : O) → All (IsPart meaning (IsFoldOf f) plan t) cs
         → AreApart cs → IsOver how
-        → made a x (merged plan.order cs) how b y → (u : Trace T) × (MayMerge meaning plan t u) × WasGiven f made u a x how y
+        → made a x (merged_trace plan.order cs) how b y → (u : Trace T) × (MayMerge meaning plan t u) × WasGiven f made u a x how y
     chunks-some how cs b y are apart over is =
         let un = unfolded f meaning plan t cs are in
         given-some how a x y un.results un.are (folds-apart f un.results cs un.folds apart) over
         (record {
-          parts = merged plan.order cs;
-          folds = subst (λ ops. IsFolded f (seq (stages_of meaning ops) (merged plan.order un.results)) (merged plan.order cs)) (sym alone) (merged-folded f lawful plan.order un.results cs un.folds);
+          parts = merged_trace plan.order cs;
+          folds = subst (λ ops. IsFolded f (seq (stages_of meaning ops) (merged_trace plan.order un.results)) (merged_trace plan.order cs)) (sym alone) (merged_trace-folded f lawful plan.order un.results cs un.folds);
           last = b;
           taken = is;
         })
@@ -152,14 +152,14 @@ module _ {L T A U W O : Type 0} (f : Folding T A U) (lawful : IsFolding f) (made
 
     blocks-some : (how : Result (Option Ending) DeliveryFault) (rs : List (ChunkResult T)) (last : FoldBlocks L F W) (y : O)
         → All (AsItIs meaning plan t) rs → AreApart rs → IsOver how
-        → MadeBy meaning folding made first x (merged plan.order rs) how last y → (u : Trace T) × (MayMerge meaning plan t u) × WasGiven f made u first.inner x how y
+        → MadeBy meaning folding made first x (merged_trace plan.order rs) how last y → (u : Trace T) × (MayMerge meaning plan t u) × WasGiven f made u first.inner x how y
     blocks-some how rs last y are apart over is =
         let passes =
-        passes-over (folding first.aggregator.now) how (stages meaning first.pipeline) (stages meaning last.pipeline) first.inner (merged plan.order rs)
+        passes-over (folding first.aggregator.now) how (stages meaning first.pipeline) (stages meaning last.pipeline) first.inner (merged_trace plan.order rs)
         last.inner y over is.passes in
         given-some how first.inner x y rs (All-weaker (AsItIs meaning plan t) (IsResult meaning plan t) (plain-part meaning plan t) rs are) apart over
-        (subst (λ g. WasGiven g made (seq (stages_of meaning plan.after.now) (merged plan.order rs)) first.inner x how y) same
-        (subst (λ ss. WasGiven (folding first.aggregator.now) made (seq ss (merged plan.order rs)) first.inner x how y) begun passes))
+        (subst (λ g. WasGiven g made (seq (stages_of meaning plan.after.now) (merged_trace plan.order rs)) first.inner x how y) same
+        (subst (λ ss. WasGiven (folding first.aggregator.now) made (seq ss (merged_trace plan.order rs)) first.inner x how y) begun passes))
 
     pub blocks-given : {S : Type 0} {source : SourceGhosts S T} (r : Result (Conducted S (FoldBlocks L F W) T source) RunFault) (y : O)
         → HasConducted (MadeBy meaning folding made) (AsItIs meaning plan t) plan.order t first x r y
@@ -168,7 +168,7 @@ module _ {L T A U W O : Type 0} (f : Folding T A U) (lawful : IsFolding f) (made
 
 -- ---- the value of parts that were combined
 
-value-ended : {T A O : Type 0} (f : Folding T A O) (u : Trace T) (acc : A) (e : Ending) → u.ending ≡ Some e → acc ≡ folded f u.items
+value-ended : {T A O : Type 0} (f : Folding T A O) (u : Trace T) (acc : A) (e : Ending) → u.ending ≡ Some e → acc ≡ fold_of f u.items
     → Aggregates f u (value_at f acc e)
 value-ended f u acc End ends is = (ap f.tell is, ends)
 value-ended f u acc e ends is = (ends, λ well. cc)

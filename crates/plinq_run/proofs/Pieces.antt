@@ -7,7 +7,7 @@ use Rattle.std.proofs.lemmas.List.Sums.{fold-append}
 use Rattle.plinq_source.specs.declared.ending.Ending.{Ending}
 use Rattle.plinq_source.specs.Trace.{Trace, open_trace}
 use Rattle.plinq_lambda.specs.Meaning.{Meaning}
-use Rattle.plinq_aggregate.specs.Folding.{Folding, folded}
+use Rattle.plinq_aggregate.specs.Folding.{Folding, fold_of}
 use Rattle.plinq_keyed.specs.declared.chunk.Chunk.{Chunk}
 use Rattle.plinq_ops.specs.declared.op.Op.{Op}
 use Rattle.plinq_ops.specs.declared.frag_end.FragEnd.{FragEnd}
@@ -70,14 +70,14 @@ module _ {L T : Type 0} (meaning : L → Meaning T) (worker : List (Op L)) (cut 
     pub record HasFoldedTo (all : ChunkAnswer T) (first : ℕ) (rest : List T) (acc : A) (count : ℕ) : Type 0 where
       pub out : List T
       pub after : AfterItems [] out (chunk_answer meaning worker cut first rest) all
-      pub same : acc ≡ folded f out
+      pub same : acc ≡ fold_of f out
       pub counted : length out ≡ count
 
     pub folded-nothing : (first : ℕ) (rest : List T) → HasFoldedTo (chunk_answer meaning worker cut first rest) first rest f.seed 0
     folded-nothing first rest = record { out = []; after = record { items = refl; ending = refl; dropped = refl; stop = refl }; same = refl; counted = refl }
 
-    more-folded : (acc : A) (out more : List T) → acc ≡ folded f out → fold f.update acc more ≡ folded f (out ++ more)
-    more-folded acc out more same = ap (λ a. fold f.update a more) same ∙ sym (fold-append f.update f.seed out more)
+    more-fold_of : (acc : A) (out more : List T) → acc ≡ fold_of f out → fold f.update acc more ≡ fold_of f (out ++ more)
+    more-fold_of acc out more same = ap (λ a. fold f.update a more) same ∙ sym (fold-append f.update f.seed out more)
 
     -- a piece that leaves the run open
     pub folded-piece : (all : ChunkAnswer T) (first : ℕ) (rest block others : List T) (acc acc' : A) (count : ℕ) (chunk : Chunk T) (r : ChunkResult T)
@@ -99,13 +99,13 @@ module _ {L T : Type 0} (meaning : L → Meaning T) (worker : List (Op L)) (cut 
             dropped = before.after.dropped ∙ ap (λ (u : ChunkAnswer T). u.dropped) whole;
             stop = before.after.stop ∙ ap (λ (u : ChunkAnswer T). u.stop) whole;
           };
-          same = next ∙ more-folded acc before.out r.items.items before.same;
+          same = next ∙ more-fold_of acc before.out r.items.items before.same;
           counted = length-append before.out r.items.items ∙ ap (λ n. n + length r.items.items) before.counted;
         }
 
     -- the fold of a chunk's result whose items are these
     of_chunk : (chunk : Chunk T) (out : List T) (acc : A) (how : FragEnd) (at : Option ℕ) (c : ChunkResult A) → IsFoldOfChunk chunk acc how at c
-        → length out < 2 ^ 63 → acc ≡ folded f out
+        → length out < 2 ^ 63 → acc ≡ fold_of f out
         → out ≡ (chunk_answer meaning worker cut chunk.first chunk.items.items).trace.items
         → at ≡ (chunk_answer meaning worker cut chunk.first chunk.items.items).stop
         → MatchBool (chunk_answer meaning worker cut chunk.first chunk.items.items).dropped (how ≡ Dropped)
@@ -155,7 +155,7 @@ module _ {L T : Type 0} (meaning : L → Meaning T) (worker : List (Op L)) (cut 
         let ending : all.trace.ending ≡ a.trace.ending = before.after.ending ∙ ap (λ (u : ChunkAnswer T). u.trace.ending) whole in
         let long : length (before.out ++ r.items.items) ≡ count + length r.items.items = length-append before.out r.items.items ∙ ap (λ n. n + length r.items.items) before.counted in
         of_chunk chunk (before.out ++ r.items.items) acc' r.ending r.stop c told (omega (arith, long, few))
-        (next ∙ more-folded acc before.out r.items.items before.same) items stop
+        (next ∙ more-fold_of acc before.out r.items.items before.same) items stop
         (rw (dropped, ending) made_ending)
 
 -- ---- on one thread
@@ -165,7 +165,7 @@ module _ {T A O : Type 0} (f : Folding T A O) (ss : List (Stage T)) where
   pub record HasFolded (t : Trace T) (acc : A) (piece : List T) (ss' : List (Stage T)) (ending : Option Ending) : Type 0 where
     pub out : List T
     pub fed : IsFed ss t [] out ss' ending
-    pub same : fold f.update acc piece ≡ folded f out
+    pub same : fold f.update acc piece ≡ fold_of f out
 
   pub folded-none : some_takes_none ss ≡ false → HasFolded (open_trace []) f.seed [] ss None
   folded-none undecided = record { out = []; fed = fed-none ss [] undecided; same = refl }
@@ -176,7 +176,7 @@ module _ {T A O : Type 0} (f : Folding T A O) (ss : List (Stage T)) where
   feeds-after ss' ss'' t n m acc piece piece' e before next = record { piece = next.piece; given = next.given; fed = record { items = refl; told = next.fed.told; left = next.fed.left } }
 
   same-after : (ss' ss'' : List (Stage T)) (t : Trace T) (n m : ℕ) (acc : A) (piece piece' : List T) (e : Option Ending) (before : HasFolded (first_items n t) acc piece ss' None)
-      (next : FeedsFrom ss' t n m piece piece' ss'' e) → fold f.update acc piece' ≡ folded f (before.out ++ (seq ss' next.piece).items)
+      (next : FeedsFrom ss' t n m piece piece' ss'' e) → fold f.update acc piece' ≡ fold_of f (before.out ++ (seq ss' next.piece).items)
   same-after ss' ss'' t n m acc piece piece' e before next =
       let more : List T = (seq ss' next.piece).items in
       ap (fold f.update acc) next.fed.items ∙ fold-append f.update acc piece more ∙ ap (λ a. fold f.update a more) before.same
@@ -206,6 +206,6 @@ module _ {T A O : Type 0} (f : Folding T A O) (ss : List (Stage T)) where
       let last = feeds-after ss' ss'' t n m acc piece piece' (Some e) before next in
       let all : IsFed ss t [] out ss'' (Some e) = fed-over ss ss' ss'' t n m [] before.out out e before.fed last in
       record {
-        folded = record { ending = sym all.told; acc = is ∙ same-after ss' ss'' t n m acc piece piece' (Some e) before next ∙ ap (folded f) all.items };
+        folded = record { ending = sym all.told; acc = is ∙ same-after ss' ss'' t n m acc piece piece' (Some e) before next ∙ ap (fold_of f) all.items };
         least = least-over ss ss' ss'' t n m [] before.out out e one before.fed last;
       }

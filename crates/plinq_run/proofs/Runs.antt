@@ -4,8 +4,8 @@ use Rattle.std.specs.List.{list_any}
 use Rattle.std.proofs.Common.{sym, ◌∙◌, ap, subst, append-nil, arith}
 use Rattle.std.proofs.lemmas.List.Elements.{All-head, All-tail, All-weaker}
 use Rattle.plinq_source.specs.declared.ending.Ending.{Ending}
-use Rattle.plinq_source.specs.Trace.{Trace, followed, ended}
-use Rattle.plinq_source.proofs.Followed.{followed-ended}
+use Rattle.plinq_source.specs.Trace.{Trace, followed_by, ended_trace}
+use Rattle.plinq_source.proofs.Followed.{followed_by-ended}
 use Rattle.plinq_source.specs.declared.source.Source.{Ghosts as SourceGhosts}
 use Rattle.plinq_source.specs.declared.ending.Ending.TheVariants.{End}
 use Rattle.plinq_lambda.specs.Meaning.{Meaning}
@@ -23,7 +23,7 @@ use Rattle.plinq_ops.specs.Fragment.{glue}
 use Rattle.plinq_ops.specs.Operator.{stages_of}
 use Rattle.plinq_ops.specs.Row.{AreOffers}
 use Rattle.plinq_ops.specs.Stage.{seq, seq_after}
-use Rattle.plinq_ops.proofs.Stages.{seq-followed}
+use Rattle.plinq_ops.proofs.Stages.{seq-followed_by}
 use Rattle.plinq_ops.specs.declared.op.Op.{Op}
 use Rattle.plinq_ops.specs.ByKey.{are_keyless, is_by_key}
 use Rattle.plinq_ops.specs.Feeding.{is_empty_take}
@@ -42,11 +42,11 @@ use Rattle.plinq_merge.specs.declared.delivery_fault.DeliveryFault.TheVariants.{
 use Rattle.plinq_merge.specs.declared.deliver.Deliver.{Deliver}
 use Rattle.plinq_merge.specs.Delivering.{Line, line_of, Gives, MadeBy}
 use Rattle.plinq_merge.specs.Sending.{Leads, IsCutOff}
-use Rattle.plinq_merge.specs.Shown.{Merge, merged, answer, shown}
+use Rattle.plinq_merge.specs.Shown.{Merge, merged_trace, answer, shown_batches}
 use Rattle.plinq_merge.specs.Whole.{AreApart, AreFirstOf}
 use Rattle.plinq_merge.proofs.Offers.{answer-open}
 use Rattle.plinq_merge.specs.inner.Sent.{cut-before}
-use Rattle.plinq_merge.proofs.Whole.{merged-begins}
+use Rattle.plinq_merge.proofs.Whole.{merged_trace-begins}
 use Rattle.plinq_crew.specs.Plans.{IsUndecided}
 use Rattle.plinq_crew.specs.Results.{IsResult, IsPart}
 use Rattle.plinq_run.specs.declared.run_fault.RunFault.{RunFault}
@@ -73,16 +73,16 @@ module _ {L T : Type 0} (meaning : L → Meaning T) (plan : Plan L) (t : Trace T
     pub taken : Trace T
     pub may : MayTake plan.order t taken
     pub rest : Trace T
-    pub is : glue meaning plan.worker.now taken ≡ followed (merged plan.order offers) rest
+    pub is : glue meaning plan.worker.now taken ≡ followed_by (merged_trace plan.order offers) rest
 
   pub begun-in : (order : Order) → plan.order ≡ order → length t.items ≤ 2 ^ 40 → IsUndecided plan → (offers : List (ChunkResult T)) → All (IsResult meaning plan t) offers → AreApart offers → HasBegun offers
   begun-in ByKey by few undecided offers are apart =
-      let begins = merged-begins meaning plan.worker.now t few offers (are-offers offers are) (are-true_tails meaning plan t offers are) in
+      let begins = merged_trace-begins meaning plan.worker.now t few offers (are-offers offers are) (are-true_tails meaning plan t offers are) in
       record {
         taken = t;
         may = subst (λ o. MayTake o t t) (sym by) refl;
         rest = begins.0;
-        is = begins.1 ∙ ap (λ o. followed (merged o offers) begins.0) (sym by);
+        is = begins.1 ∙ ap (λ o. followed_by (merged_trace o offers) begins.0) (sym by);
       }
   begun-in ByArrival by few undecided offers are apart =
       let begins = arrival-begins meaning plan t few by (undecided.keyless by) offers are apart in
@@ -90,7 +90,7 @@ module _ {L T : Type 0} (meaning : L → Meaning T) (plan : Plan L) (t : Trace T
         taken = begins.0;
         may = subst (λ o. MayTake o t begins.0) (sym by) begins.1;
         rest = begins.2;
-        is = begins.3 ∙ ap (λ o. followed (merged o offers) begins.2) (sym by);
+        is = begins.3 ∙ ap (λ o. followed_by (merged_trace o offers) begins.2) (sym by);
       }
 
 module _ {L T : Type 0} (meaning : L → Meaning T) (plan : Plan L) (option : MergeOption) (undecided : IsUndecided plan) where
@@ -98,14 +98,14 @@ module _ {L T : Type 0} (meaning : L → Meaning T) (plan : Plan L) (option : Me
   Made = merge_for meaning plan option
 
   -- so the answer to these items begins with that to the offers
-  begun-answer : (t : Trace T) (offers : List (ChunkResult T)) → (begun : HasBegun meaning plan t offers) → (rest : Trace T) × (merged_answer meaning plan begun.taken ≡ followed (answer Made offers) rest)
+  begun-answer : (t : Trace T) (offers : List (ChunkResult T)) → (begun : HasBegun meaning plan t offers) → (rest : Trace T) × (merged_answer meaning plan begun.taken ≡ followed_by (answer Made offers) rest)
   begun-answer t offers begun =
-      let first : Trace T = merged plan.order offers in
+      let first : Trace T = merged_trace plan.order offers in
       let rest : Trace T = seq (seq_after Made.after first) begun.rest in (
         rest,
         ap (seq Made.after) begun.is
-            ∙ seq-followed Made.after first begun.rest
-            ∙ ap (λ u. followed u rest) (sym (answer-open Made offers undecided.undecided)),
+            ∙ seq-followed_by Made.after first begun.rest
+            ∙ ap (λ u. followed_by u rest) (sym (answer-open Made offers undecided.undecided)),
       )
 
   -- an answer that has ended is one of the source
@@ -114,11 +114,11 @@ module _ {L T : Type 0} (meaning : L → Meaning T) (plan : Plan L) (option : Me
   ended-answer t offers e few are apart ends =
       let begun = begun-in meaning plan t plan.order refl few undecided offers are apart in
       let begins = begun-answer t offers begun in
-      record { taken = begun.taken; may = begun.may; is = sym (begins.1 ∙ followed-ended (answer Made offers) begins.0 e ends) }
+      record { taken = begun.taken; may = begun.may; is = sym (begins.1 ∙ followed_by-ended (answer Made offers) begins.0 e ends) }
 
   -- what was shown are the first batches of one
-  begun-shown : (t : Trace T) (offers : List (ChunkResult T)) → (begun : HasBegun meaning plan t offers) → AreFirstOf (shown Made offers) (batches option (merged_answer meaning plan begun.taken))
-  begun-shown t offers begun =
+  begun-shown_batches : (t : Trace T) (offers : List (ChunkResult T)) → (begun : HasBegun meaning plan t offers) → AreFirstOf (shown_batches Made offers) (batches option (merged_answer meaning plan begun.taken))
+  begun-shown_batches t offers begun =
       let begins = begun-answer t offers begun in
       let first = batches-first (batch_size option) [] (answer Made offers) begins.0 in
       (first.0, ap (batches_from (batch_size option) []) begins.1 ∙ first.1)
@@ -171,15 +171,15 @@ module _ {L T K : Type 0} (meaning : L → Meaning T) (q : QueryView L) (plan : 
     has_run : HasRun accepts option answer s s' e
 
   short-of : (s : K) (offers : List (ChunkResult T)) (fault : DeliveryFault) (s' : K) (run_fault : RunFault) (cause : Cause) → All (IsResult meaning plan t) offers → AreApart offers
-      → IsCutOff accepts refuses s (batches_from (batch_size option) [] (seq (stages_of meaning plan.after.now) (merged plan.order offers))) fault s'
+      → IsCutOff accepts refuses s (batches_from (batch_size option) [] (seq (stages_of meaning plan.after.now) (merged_trace plan.order offers))) fault s'
       → ((bs : List (List T)) → IsCutOff accepts refuses s bs fault s' → BreaksFor accepts refuses cause bs s s') → cause_of run_fault ≡ cause
       → IsBroken accepts refuses option May t s s' run_fault
   short-of s offers fault s' run_fault cause are apart short on is =
       let made : Merge T = merge_for meaning plan option in
       let begun = begun-in meaning plan t plan.order refl few undecided offers are apart in
-      let first = begun-shown meaning plan option undecided t offers begun in
+      let first = begun-shown_batches meaning plan option undecided t offers begun in
       let shown-so = subst (λ u. IsCutOff accepts refuses s (batches_from (batch_size option) [] u) fault s') (sym (answer-open made offers undecided.undecided)) short in
-      let sent = cut-before accepts refuses s (shown made offers) first.0 fault s' shown-so in
+      let sent = cut-before accepts refuses s (shown_batches made offers) first.0 fault s' shown-so in
       let all = batches option (merged_answer meaning plan begun.taken) in
       record {
         answer = merged_answer meaning plan begun.taken;
@@ -197,9 +197,9 @@ module _ {L T K : Type 0} (meaning : L → Meaning T) (q : QueryView L) (plan : 
         let records = all_shares ended.partitions.items in
         let taken = h.taken in
         let gives =
-        subst (λ l. Gives accepts refuses l s (merged plan.order h.offers) (Ok (Some ended.joined.ending)) (line_of meaning ended.joined.taker) s') begun
+        subst (λ l. Gives accepts refuses l s (merged_trace plan.order h.offers) (Ok (Some ended.joined.ending)) (line_of meaning ended.joined.taker) s') begun
         taken.gives in
-        let open_now : answer made h.offers ≡ seq made.after (merged plan.order h.offers) = answer-open made h.offers undecided.undecided in
+        let open_now : answer made h.offers ≡ seq made.after (merged_trace plan.order h.offers) = answer-open made h.offers undecided.undecided in
         let ends : (answer made h.offers).ending ≡ Some ended.joined.ending = ap (λ u. u.ending) open_now ∙ gives.0 in
         record {
           answer = answer made h.offers;
@@ -240,11 +240,11 @@ module _ {L T K : Type 0} (meaning : L → Meaning T) (q : QueryView L) (plan : 
     -- or the run was broken off
     broken-by : (how : Result (Option Ending) DeliveryFault) (s s' : K) (run_fault : RunFault) (offers : List (ChunkResult T)) (l' : Line T)
         → All (IsResult meaning plan t) offers → AreApart offers
-        → Gives accepts refuses (begun_line meaning plan option) s (merged plan.order offers) how l' s' → Breaks how (cause_of run_fault)
+        → Gives accepts refuses (begun_line meaning plan option) s (merged_trace plan.order offers) how l' s' → Breaks how (cause_of run_fault)
         → IsBroken accepts refuses option May t s s' run_fault
     broken-by (Ok None) s s' run_fault offers l' are apart gives breaks = absurd breaks
     broken-by (Ok (Some e)) s s' run_fault offers l' are apart gives breaks =
-        let all : List (List T) = batches_from (batch_size option) [] (seq (stages_of meaning plan.after.now) (merged plan.order offers)) in
+        let all : List (List T) = batches_from (batch_size option) [] (seq (stages_of meaning plan.after.now) (merged_trace plan.order offers)) in
         short-of s offers NoMemory s' run_fault Other are apart (all, [], sym (append-nil all), gives.1) (λ bs x. x) breaks
     broken-by (Err NoMemory) s s' run_fault offers l' are apart gives breaks = short-of s offers NoMemory s' run_fault Other are apart gives (λ bs x. x) breaks
     broken-by (Err (Refusal code)) s s' run_fault offers l' are apart gives breaks =
@@ -255,7 +255,7 @@ module _ {L T K : Type 0} (meaning : L → Meaning T) (q : QueryView L) (plan : 
     broken-reported s s' fault h =
         broken-by h.how s s' fault h.offers (line_of meaning h.last)
         (All-weaker (AsItIs meaning plan t) (IsResult meaning plan t) (plain-part meaning plan t) h.offers h.are) h.apart
-        (subst (λ l. Gives accepts refuses l s (merged plan.order h.offers) h.how (line_of meaning h.last) s') begun (let taken = h.taken in taken.gives)) h.breaks
+        (subst (λ l. Gives accepts refuses l s (merged_trace plan.order h.offers) h.how (line_of meaning h.last) s') begun (let taken = h.taken in taken.gives)) h.breaks
 
 -- ---- what is reported
 
@@ -286,7 +286,7 @@ may-sequential meaning false ops t = Answer-sequential meaning false ops t
 
 -- a decided query answers nothing
 pub decided-may : {L T : Type 0} (meaning : L → Meaning T) (ordered : Bool) (ops : List (Op L)) (t u : Trace T)
-    → list_any is_empty_take ops ≡ true → u ≡ ended [] End → MayAnswer meaning ordered ops t u
+    → list_any is_empty_take ops ≡ true → u ≡ ended_trace [] End → MayAnswer meaning ordered ops t u
 decided-may meaning ordered ops t u some is =
     subst (MayAnswer meaning ordered ops t) (answer-of_none (stages_of meaning ops) t (sym (some_takes_none-stages_of meaning ops) ∙ some) ∙ sym is)
     (may-sequential meaning ordered ops t)

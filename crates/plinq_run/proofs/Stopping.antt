@@ -17,7 +17,7 @@ use Rattle.plinq_merge.proofs.Lent.{leads-map, cut-map, lets-told, stops-told, l
 use Rattle.plinq_run.specs.declared.report.Report.{Report}
 use Rattle.plinq_run.specs.declared.run_fault.RunFault.{RunFault}
 use Rattle.plinq_run.specs.declared.run_fault.RunFault.TheVariants.{Sink, Cancelled}
-use Rattle.plinq_run.specs.Endings.{reported, RunsDecided, RunsDecidedWith}
+use Rattle.plinq_run.specs.Endings.{reported_ending, RunsDecided, RunsDecidedWith}
 use Rattle.plinq_run.specs.Reports.{Reports}
 use Rattle.plinq_run.specs.Runs.{HasRun, HasBroken, Cause, SinkRefused, Stopped, Other, cause_of, BreaksFor, Runs}
 use Rattle.plinq_run.specs.Stopping.{is_stopped, ReportsWith, RunsWith}
@@ -33,7 +33,7 @@ breaks-cut accepts refuses Other bs s s' h = (NoMemory, h)
 
 module _ {K T : Type 0} (accepts : K → List T → K → Type 0) (refuses : K → List T → ℕ → K → Type 0) (option : MergeOption) (May : Trace T → Trace T → Type 0) (t : Trace T) (s s' : K) where
   -- where there is one answer, it was delivered
-  pub reports-runs : (v : Trace T) (b : Result Report RunFault) → ((u : Trace T) → May t u → u ≡ v) → Reports accepts refuses option May t s s' b → Runs accepts refuses option v s s' (reported b)
+  pub reports-runs : (v : Trace T) (b : Result Report RunFault) → ((u : Trace T) → May t u → u ≡ v) → Reports accepts refuses option May t s s' b → Runs accepts refuses option v s s' (reported_ending b)
   reports-runs v (Ok r) only h = subst (λ u. HasRun accepts option u s s' r.ending) (only h.answer h.may) h.has_run
   reports-runs v (Err f) only h = subst (λ u. HasBroken accepts refuses option u s s' f) (only h.answer h.may) h.broken
 

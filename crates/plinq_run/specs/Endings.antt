@@ -7,14 +7,14 @@ use Rattle.plinq_run.specs.declared.run_fault.RunFault.{RunFault}
 use Rattle.plinq_run.specs.declared.run_fault.RunFault.TheVariants.{Cancelled}
 
 -- how a run ended, without its records
-abbrev pub reported : Result Report RunFault → Result Ending RunFault
-reported (Ok report) = Ok report.ending
-reported (Err fault) = Err fault
+abbrev pub reported_ending : Result Report RunFault → Result Ending RunFault
+reported_ending (Ok report) = Ok report.ending
+reported_ending (Err fault) = Err fault
 
 module _ {K : Type 0} (s s' : K) (result : Result Report RunFault) where
   -- the run of a decided query: it ended well, its sink is as it was, and it has no records
   pub record RunsDecided : Type 0 where
-    pub answered : reported result ≡ Ok End
+    pub answered : reported_ending result ≡ Ok End
     pub untouched : s' ≡ s
     pub none : IfOk result (λ report. report.records.items ≡ [])
 

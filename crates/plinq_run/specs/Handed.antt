@@ -2,7 +2,7 @@
 use Rattle.std.specs.Prelude.{◌≡◌, refl, ℕ, List, [], ◌∷◌, map, Bool, true, false, if◌then◌else◌, Option, Some, None}
 use Rattle.std.specs.List.{list_any}
 use Rattle.plinq_source.specs.declared.ending.Ending.TheVariants.{End, Refused as RefusedWith}
-use Rattle.plinq_source.specs.Trace.{Trace, ended, open_trace}
+use Rattle.plinq_source.specs.Trace.{Trace, ended_trace, open_trace}
 use Rattle.plinq_keyed.specs.declared.event.Event.{Event}
 use Rattle.plinq_keyed.specs.declared.event.Event.TheVariants.{Ask, Close}
 use Rattle.plinq_keyed.specs.declared.record.Record.{Record}
@@ -42,19 +42,19 @@ two_requests count tail =
     ∷ []
 
 -- that there is no third item isn't known from the first two
-first_of_three : handed_trace {T = ℕ} (ended (3 ∷ 1 ∷ 4 ∷ []) End) (two_requests 1 None) ≡ open_trace (3 ∷ 1 ∷ [])
+first_of_three : handed_trace {T = ℕ} (ended_trace (3 ∷ 1 ∷ 4 ∷ []) End) (two_requests 1 None) ≡ open_trace (3 ∷ 1 ∷ [])
 first_of_three = refl
 
-told_by_the_tail : handed_trace {T = ℕ} (ended (3 ∷ []) End) (two_requests 0 (Some Ended)) ≡ ended (3 ∷ []) End
+told_by_the_tail : handed_trace {T = ℕ} (ended_trace (3 ∷ []) End) (two_requests 0 (Some Ended)) ≡ ended_trace (3 ∷ []) End
 told_by_the_tail = refl
 
-closed_tells_nothing : handed_trace {T = ℕ} (ended (3 ∷ []) End) (two_requests 0 (Some Closed)) ≡ open_trace (3 ∷ [])
+closed_tells_nothing : handed_trace {T = ℕ} (ended_trace (3 ∷ []) End) (two_requests 0 (Some Closed)) ≡ open_trace (3 ∷ [])
 closed_tells_nothing = refl
 
-told_by_a_refusal : handed_trace {T = ℕ} (ended (3 ∷ []) (RefusedWith 7)) (two_requests 0 (Some (Refused 7))) ≡ ended (3 ∷ []) (RefusedWith 7)
+told_by_a_refusal : handed_trace {T = ℕ} (ended_trace (3 ∷ []) (RefusedWith 7)) (two_requests 0 (Some (Refused 7))) ≡ ended_trace (3 ∷ []) (RefusedWith 7)
 told_by_a_refusal = refl
 
-nothing_was_asked : handed_trace {T = ℕ} (ended [] End) [] ≡ open_trace []
+nothing_was_asked : handed_trace {T = ℕ} (ended_trace [] End) [] ≡ open_trace []
 nothing_was_asked = refl
 
 -- an answer that the source is closed isn't the request that closed it

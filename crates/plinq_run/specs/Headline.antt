@@ -4,7 +4,7 @@ use Rattle.std.specs.Prelude.{take, drop, if◌then◌else◌, Option, Some, Non
 use Rattle.std.specs.List.{range_with_len}
 use Rattle.plinq_source.specs.declared.ending.Ending.{Ending}
 use Rattle.plinq_source.specs.declared.ending.Ending.TheVariants.{End, Refused, Fault}
-use Rattle.plinq_source.specs.Trace.{Trace, ended}
+use Rattle.plinq_source.specs.Trace.{Trace, ended_trace}
 use Rattle.plinq_lambda.specs.Meaning.{Meaning}
 use Rattle.plinq_ops.specs.declared.merge_option.MergeOption.{MergeOption}
 use Rattle.plinq_ops.specs.declared.merge_option.MergeOption.TheVariants.{Default, NotBuffered, FullyBuffered}
@@ -23,7 +23,7 @@ before xs t = record { items = xs ++ t.items; ending = t.ending }
 -- what is made of a lambda's answer; a fault is the ending, and no item comes of it
 abbrev pub or_fault : {A T : Type 0} → Result A ℕ → (A → Trace T) → Trace T
 or_fault (Ok answer) gives = gives answer
-or_fault (Err code) gives = ended [] (Fault code)
+or_fault (Err code) gives = ended_trace [] (Fault code)
 
 -- What becomes of items and an ending. `gives` says it of an item: from the item, the lambda's answer, the trace from that item on,
 -- unchanged, and the rest: what becomes of the items after it. So what Filter makes from x on is x before the rest, or the rest
@@ -37,10 +37,10 @@ abbrev pub does : {L T : Type 0} → (L → Meaning T) → Op L → Trace T → 
 does meaning (Select f) t = each (meaning f).map (λ x y unchanged rest. before (y ∷ []) rest) t.items t.ending
 does meaning (Filter f) t = each (meaning f).test (λ x passes unchanged rest. if passes then before (x ∷ []) rest else rest) t.items t.ending
 does meaning (SelectMany f) t = each (meaning f).expand (λ x ys unchanged rest. before ys rest) t.items t.ending
-does meaning (TakeWhile f) t = each (meaning f).test (λ x passes unchanged rest. if passes then before (x ∷ []) rest else ended [] End) t.items t.ending
+does meaning (TakeWhile f) t = each (meaning f).test (λ x passes unchanged rest. if passes then before (x ∷ []) rest else ended_trace [] End) t.items t.ending
 does meaning (SkipWhile f) t = each (meaning f).test (λ x passes unchanged rest. if passes then rest else unchanged) t.items t.ending
-does meaning (Take (pos n)) t = if nat_le n (length t.items) then ended (take n t.items) End else t
-does meaning (Take (negsuc n)) t = ended [] End
+does meaning (Take (pos n)) t = if nat_le n (length t.items) then ended_trace (take n t.items) End else t
+does meaning (Take (negsuc n)) t = ended_trace [] End
 does meaning (Skip (pos n)) t = record { items = drop n t.items; ending = t.ending }
 does meaning (Skip (negsuc n)) t = t
 does meaning AsUnordered t = t
@@ -77,15 +77,15 @@ HasDelivered {K} {T} accepts refuses option u s s' (Err fault) =
     (sent : List (List T)) × (rest : List (List T)) × (handed_over option u.items u.ending ≡ sent ++ rest) × Leads accepts s sent s'
 
 -- of 5, 1, 2 and 2 those below 3, of these two, and each less one
-filtered_taken_mapped : answers {L = ℕ} (λ _. example) (Filter 0 ∷ Take (pos 2) ∷ Select 0 ∷ []) (ended (5 ∷ 1 ∷ 2 ∷ 2 ∷ []) (Refused 7))
-    ≡ ended (0 ∷ 1 ∷ []) End
+filtered_taken_mapped : answers {L = ℕ} (λ _. example) (Filter 0 ∷ Take (pos 2) ∷ Select 0 ∷ []) (ended_trace (5 ∷ 1 ∷ 2 ∷ 2 ∷ []) (Refused 7))
+    ≡ ended_trace (0 ∷ 1 ∷ []) End
 filtered_taken_mapped = refl
 
 -- a mapping faults at 0, after which nothing comes
-expanded_to_a_fault : answers {L = ℕ} (λ _. example) (Select 0 ∷ SelectMany 0 ∷ []) (ended (3 ∷ 0 ∷ 4 ∷ []) End) ≡ ended (2 ∷ 2 ∷ []) (Fault 1)
+expanded_to_a_fault : answers {L = ℕ} (λ _. example) (Select 0 ∷ SelectMany 0 ∷ []) (ended_trace (3 ∷ 0 ∷ 4 ∷ []) End) ≡ ended_trace (2 ∷ 2 ∷ []) (Fault 1)
 expanded_to_a_fault = refl
 
-while_below_3 : answers {L = ℕ} (λ _. example) (SkipWhile 0 ∷ TakeWhile 0 ∷ []) (ended (1 ∷ 5 ∷ 2 ∷ []) (Refused 7)) ≡ ended [] End
+while_below_3 : answers {L = ℕ} (λ _. example) (SkipWhile 0 ∷ TakeWhile 0 ∷ []) (ended_trace (1 ∷ 5 ∷ 2 ∷ []) (Refused 7)) ≡ ended_trace [] End
 while_below_3 = refl
 
 abbrev passes_above_0 : ℕ → Result Bool ℕ
@@ -93,28 +93,28 @@ passes_above_0 zero = Err 1
 passes_above_0 (suc n) = Ok true
 
 -- a test that faults ends the answer
-skipped_to_a_fault : answers {L = ℕ} (λ _. record example { test = passes_above_0 }) (SkipWhile 0 ∷ []) (ended (1 ∷ 0 ∷ 5 ∷ []) End) ≡ ended [] (Fault 1)
+skipped_to_a_fault : answers {L = ℕ} (λ _. record example { test = passes_above_0 }) (SkipWhile 0 ∷ []) (ended_trace (1 ∷ 0 ∷ 5 ∷ []) End) ≡ ended_trace [] (Fault 1)
 skipped_to_a_fault = refl
 
-filtered_to_a_fault : answers {L = ℕ} (λ _. record example { test = passes_above_0 }) (Filter 0 ∷ []) (ended (1 ∷ 0 ∷ 5 ∷ []) End) ≡ ended (1 ∷ []) (Fault 1)
+filtered_to_a_fault : answers {L = ℕ} (λ _. record example { test = passes_above_0 }) (Filter 0 ∷ []) (ended_trace (1 ∷ 0 ∷ 5 ∷ []) End) ≡ ended_trace (1 ∷ []) (Fault 1)
 filtered_to_a_fault = refl
 
-taken_to_a_fault : answers {L = ℕ} (λ _. record example { test = passes_above_0 }) (TakeWhile 0 ∷ []) (ended (1 ∷ 0 ∷ 5 ∷ []) End) ≡ ended (1 ∷ []) (Fault 1)
+taken_to_a_fault : answers {L = ℕ} (λ _. record example { test = passes_above_0 }) (TakeWhile 0 ∷ []) (ended_trace (1 ∷ 0 ∷ 5 ∷ []) End) ≡ ended_trace (1 ∷ []) (Fault 1)
 taken_to_a_fault = refl
 
 -- what passes after one that didn't stays
-skipped_up_to_5 : answers {L = ℕ} (λ _. example) (SkipWhile 0 ∷ []) (ended (1 ∷ 5 ∷ 2 ∷ []) (Refused 7)) ≡ ended (5 ∷ 2 ∷ []) (Refused 7)
+skipped_up_to_5 : answers {L = ℕ} (λ _. example) (SkipWhile 0 ∷ []) (ended_trace (1 ∷ 5 ∷ 2 ∷ []) (Refused 7)) ≡ ended_trace (5 ∷ 2 ∷ []) (Refused 7)
 skipped_up_to_5 = refl
 
 -- where all pass, or there are too few, the ending stays
-all_taken : answers {L = ℕ} (λ _. example) (TakeWhile 0 ∷ Take (pos 3) ∷ []) (ended (1 ∷ 2 ∷ []) (Refused 7)) ≡ ended (1 ∷ 2 ∷ []) (Refused 7)
+all_taken : answers {L = ℕ} (λ _. example) (TakeWhile 0 ∷ Take (pos 3) ∷ []) (ended_trace (1 ∷ 2 ∷ []) (Refused 7)) ≡ ended_trace (1 ∷ 2 ∷ []) (Refused 7)
 all_taken = refl
 
 -- a negative number of items is none
-none_skipped : answers {L = ℕ} (λ _. example) (Skip (pos 2) ∷ Skip (negsuc 4) ∷ []) (ended (1 ∷ 2 ∷ 3 ∷ []) (Refused 7)) ≡ ended (3 ∷ []) (Refused 7)
+none_skipped : answers {L = ℕ} (λ _. example) (Skip (pos 2) ∷ Skip (negsuc 4) ∷ []) (ended_trace (1 ∷ 2 ∷ 3 ∷ []) (Refused 7)) ≡ ended_trace (3 ∷ []) (Refused 7)
 none_skipped = refl
 
-none_taken : answers {L = ℕ} (λ _. example) (Take (negsuc 4) ∷ []) (ended (1 ∷ 2 ∷ 3 ∷ []) (Refused 7)) ≡ ended [] End
+none_taken : answers {L = ℕ} (λ _. example) (Take (negsuc 4) ∷ []) (ended_trace (1 ∷ 2 ∷ 3 ∷ []) (Refused 7)) ≡ ended_trace [] End
 none_taken = refl
 
 seventeen : handed_over None (range_with_len 1 17) (Some (Refused 7)) ≡ range_with_len 1 16 ∷ (17 ∷ []) ∷ []

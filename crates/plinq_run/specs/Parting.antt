@@ -3,7 +3,7 @@ use Rattle.std.specs.Prelude.{◌≡◌, List, ◌++◌, Option, Some, None, Res
 use Rattle.std.specs.List.{fold}
 use Rattle.plinq_source.specs.declared.ending.Ending.{Ending}
 use Rattle.plinq_source.specs.Trace.{Trace}
-use Rattle.plinq_aggregate.specs.Folding.{Folding, folded}
+use Rattle.plinq_aggregate.specs.Folding.{Folding, fold_of}
 use Rattle.plinq_merge.specs.declared.delivery_fault.DeliveryFault.{DeliveryFault}
 use Rattle.plinq_merge.specs.declared.delivery_fault.DeliveryFault.TheVariants.{Memory, Sink}
 use Rattle.plinq_run.specs.declared.run_fault.RunFault.{RunFault}
@@ -19,7 +19,7 @@ Breaks (Err (Sink code)) cause = cause ≡ SinkRefused code
 module _ {T A U : Type 0} (f : Folding T A U) where
   -- accumulators stand for items: combined after those of any others, they are that of all
   abbrev pub StandFor : List T → List A → Type 0
-  StandFor xs accs = (before : List T) → fold f.combine (folded f before) accs ≡ folded f (before ++ xs)
+  StandFor xs accs = (before : List T) → fold f.combine (fold_of f before) accs ≡ fold_of f (before ++ xs)
 
   -- a trace of accumulators stands for one of items, and ends so
   pub record IsFolded (t : Trace T) (u : Trace A) : Type 0 where

@@ -8,7 +8,7 @@ use Rattle.std.proofs.lemmas.List.{length-append}
 use Rattle.std.proofs.lemmas.List.Elements.{All-nil, All-cons}
 use Rattle.plinq_aggregate.specs.Numbers.{picking}
 use Rattle.plinq_source.specs.declared.ending.Ending.TheVariants.{End, Refused, Fault}
-use Rattle.plinq_source.specs.Trace.{Trace, ended, open_trace}
+use Rattle.plinq_source.specs.Trace.{Trace, ended_trace, open_trace}
 use Rattle.plinq_keyed.specs.declared.event.Event.TheVariants.{Ask, Close}
 use Rattle.plinq_keyed.specs.declared.record.Record.{Record}
 use Rattle.plinq_keyed.specs.declared.tail.Tail.{Tail}
@@ -44,7 +44,7 @@ refuses_with_9 s b code s' = (code ≡ 9) × (s' ≡ s)
 -- ---- runs of a query that keeps the order, whose answer is this one
 
 abbrev four_two_five : Trace ℕ
-four_two_five = ended (4 ∷ 2 ∷ 5 ∷ []) End
+four_two_five = ended_trace (4 ∷ 2 ∷ 5 ∷ []) End
 
 all_batches_in_order : Runs keeps refuses_with_9 NotBuffered four_two_five [] (4 ∷ 2 ∷ 5 ∷ []) (Ok End)
 all_batches_in_order = record { delivered = (4 ∷ [], refl, (4 ∷ 2 ∷ [], refl, (4 ∷ 2 ∷ 5 ∷ [], refl, refl))); ending = refl }
@@ -184,7 +184,7 @@ one_after_the_stop run = passed run.sent run.rest run.parts run.last run.leads r
 -- ---- reports of a query that doesn't keep the order, and has no operator
 
 abbrev one_two : Trace ℕ
-one_two = ended (1 ∷ 2 ∷ []) End
+one_two = ended_trace (1 ∷ 2 ∷ []) End
 
 -- two items were handed out, one by one, then the end; then the source was closed
 abbrev all_handed_out : List Record
@@ -204,15 +204,15 @@ MayReport records s' = HasReported keeps refuses_with_9 NotBuffered IsAnswer one
 -- the later item came first
 the_other_way_round : (records : Vec Record) → records.items ≡ all_handed_out → MayReport records (2 ∷ 1 ∷ [])
 the_other_way_round records are = record {
-  answer = ended (2 ∷ 1 ∷ []) End;
+  answer = ended_trace (2 ∷ 1 ∷ []) End;
   may = turned;
   accounts = rw are turned;
   has_run = record { delivered = (2 ∷ [], refl, (2 ∷ 1 ∷ [], refl, refl)); ending = refl };
 }
   where
-    turned : IsAnswer one_two (ended (2 ∷ 1 ∷ []) End)
+    turned : IsAnswer one_two (ended_trace (2 ∷ 1 ∷ []) End)
     turned = record {
-      between = ended (2 ∷ 1 ∷ []) End;
+      between = ended_trace (2 ∷ 1 ∷ []) End;
       given = record { items = record { moves = (0, 1) ∷ []; below = (omega arith, omega arith, tt); is = refl }; ending = refl };
       goes_on = refl;
     }
@@ -239,7 +239,7 @@ abbrev first_two : Option Tail → List Record
 first_two tail = record { ticket = 0; asked = Ask 2; first = 0; count = 2; tail = tail } ∷ []
 
 -- three items, of which the first two have all that it hands out
-first_two_cover : Covers {T = ℕ} (ended (3 ∷ 1 ∷ 4 ∷ []) End) (first_two None) (open_trace (3 ∷ 1 ∷ []))
+first_two_cover : Covers {T = ℕ} (ended_trace (3 ∷ 1 ∷ 4 ∷ []) End) (first_two None) (open_trace (3 ∷ 1 ∷ []))
 first_two_cover = record {
   items = refl;
   within = omega arith;
@@ -249,11 +249,11 @@ first_two_cover = record {
 }
 
 -- where the end was reported, they don't
-end_isnt_covered : Covers {T = ℕ} (ended (3 ∷ 1 ∷ []) End) (first_two (Some Ended)) (open_trace (3 ∷ 1 ∷ [])) → ⊥
+end_isnt_covered : Covers {T = ℕ} (ended_trace (3 ∷ 1 ∷ []) End) (first_two (Some Ended)) (open_trace (3 ∷ 1 ∷ [])) → ⊥
 end_isnt_covered covers = let same = covers.told 0 (record { ticket = 0; asked = Close; first = 0; count = 0; tail = None }) (omega arith) refl in absurd (cc)
 
 -- nor does the first
-second_isnt_covered : Covers {T = ℕ} (ended (3 ∷ 1 ∷ 4 ∷ []) End) (first_two None) (open_trace (3 ∷ [])) → ⊥
+second_isnt_covered : Covers {T = ℕ} (ended_trace (3 ∷ 1 ∷ 4 ∷ []) End) (first_two None) (open_trace (3 ∷ [])) → ⊥
 second_isnt_covered covers = absurd (omega (arith, covers.ends 0 (record { ticket = 0; asked = Close; first = 0; count = 0; tail = None }) (omega arith)))
 
 -- a result that is of no record wasn't offered
@@ -262,28 +262,28 @@ offered_of_nothing r (is, (k, entry, less, at, answers)) = absurd (omega (arith,
 
 -- ---- aggregates
 
-value_of_an_answer : Aggregates (picking int_max) (ended (pos 3 ∷ pos 9 ∷ pos 4 ∷ []) End) (Ok (Some (pos 9)))
+value_of_an_answer : Aggregates (picking int_max) (ended_trace (pos 3 ∷ pos 9 ∷ pos 4 ∷ []) End) (Ok (Some (pos 9)))
 value_of_an_answer = (refl, refl)
 
-no_value_of_a_refusal : Aggregates (picking int_max) (ended (pos 3 ∷ []) (Refused 7)) (Ok (Some (pos 3))) → ⊥
+no_value_of_a_refusal : Aggregates (picking int_max) (ended_trace (pos 3 ∷ []) (Refused 7)) (Ok (Some (pos 3))) → ⊥
 no_value_of_a_refusal tells = let same = tells.1 in absurd (cc)
 
-told_how_it_ended : Aggregates (picking int_max) (ended (pos 3 ∷ []) (Refused 7)) (Err (EndedSo (Refused 7)))
+told_how_it_ended : Aggregates (picking int_max) (ended_trace (pos 3 ∷ []) (Refused 7)) (Err (EndedSo (Refused 7)))
 told_how_it_ended = (refl, λ same. absurd (cc))
 
-the_end_is_no_fault : Aggregates (picking int_max) (ended (pos 3 ∷ []) End) (Err (EndedSo End)) → ⊥
+the_end_is_no_fault : Aggregates (picking int_max) (ended_trace (pos 3 ∷ []) End) (Err (EndedSo End)) → ⊥
 the_end_is_no_fault tells = tells.1 refl
 
-no_sink_refuses : Aggregates (picking int_max) (ended (pos 3 ∷ []) End) (Err (Run (Sink 9))) → ⊥
+no_sink_refuses : Aggregates (picking int_max) (ended_trace (pos 3 ∷ []) End) (Err (Run (Sink 9))) → ⊥
 no_sink_refuses tells = absurd (cc)
 
-another_value : Aggregates (picking int_max) (ended (pos 3 ∷ pos 9 ∷ []) End) (Ok (Some (pos 3))) → ⊥
+another_value : Aggregates (picking int_max) (ended_trace (pos 3 ∷ pos 9 ∷ []) End) (Ok (Some (pos 3))) → ⊥
 another_value tells = let same = tells.0 in absurd (cc)
 
-no_token_stops : Aggregates (picking int_max) (ended (pos 3 ∷ []) End) (Err (Run Cancelled)) → ⊥
+no_token_stops : Aggregates (picking int_max) (ended_trace (pos 3 ∷ []) End) (Err (Run Cancelled)) → ⊥
 no_token_stops tells = absurd (cc)
 
-no_room_for_a_value : Aggregates (picking int_max) (ended (pos 3 ∷ []) End) (Err (Run Memory))
+no_room_for_a_value : Aggregates (picking int_max) (ended_trace (pos 3 ∷ []) End) (Err (Run Memory))
 no_room_for_a_value = refl
 
 -- ---- runs that stop after so many batches

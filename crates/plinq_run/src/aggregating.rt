@@ -1,7 +1,7 @@
 //! The aggregate of a query.
 ghost use Rattle.std.specs.Prelude.{◌≡◌, [], true, Ok};
 ghost use Rattle.std.specs.List.{list_any};
-ghost use Rattle.plinq_aggregate.specs.Folding.{aggregated};
+ghost use Rattle.plinq_aggregate.specs.Folding.{aggregate_value};
 ghost use Rattle.plinq_ops.specs.Answer.{MayAnswer};
 ghost use Rattle.plinq_ops.specs.Feeding.{is_empty_take};
 ghost use Rattle.plinq_run.specs.Aggregates.{AggregatesSome};
@@ -51,7 +51,7 @@ where
     A: GrowingAggregator<Item = L::Item>,
     R: Threads + Wait + Sync,
     requires { S.given source ≡ 0 }
-    ensures decided { list_any is_empty_take query.now.ops ≡ true → result ≡ Ok (aggregated (A.folding aggregator.now) []) }
+    ensures decided { list_any is_empty_take query.now.ops ≡ true → result ≡ Ok (aggregate_value (A.folding aggregator.now) []) }
     ensures value { AggregatesSome (A.folding aggregator.now) (MayAnswer L.meaning query.now.ordered query.now.ops (S.whole source)) result }
 {
     if query.split().decided {

@@ -17,7 +17,7 @@ ghost use Rattle.plinq_run.specs.declared.aggregate_fault.AggregateFault.{Aggreg
 ghost use Rattle.plinq_run.specs.declared.report.Report.{Report};
 ghost use Rattle.plinq_run.specs.declared.run_fault.RunFault.{RunFault};
 ghost use Rattle.plinq_run.specs.Aggregates.{Aggregates, AggregatesSome};
-ghost use Rattle.plinq_run.specs.Endings.{reported};
+ghost use Rattle.plinq_run.specs.Endings.{reported_ending};
 ghost use Rattle.plinq_run.specs.Handed.{handed_trace};
 ghost use Rattle.plinq_run.specs.Reports.{Reports};
 ghost use Rattle.plinq_run.specs.Runs.{Runs};
@@ -31,7 +31,7 @@ use plinq_merge::{Cancel, CancelAfter, NeverCancel, Sink};
 pub fn ordered_run_is_sequential<L: Lambda, K: Sink<Item = L::Item>>()
     ensures { (option : MergeOption) (ops : List (Op L)) (t : Trace L.Item) (s s' : K) (result : Result Report RunFault) →
         Reports K.accepts K.refuses option (MayAnswer L.meaning true ops) t s s' result →
-        Runs K.accepts K.refuses option (answer_of L.meaning ops t) s s' (reported result) }
+        Runs K.accepts K.refuses option (answer_of L.meaning ops t) s s' (reported_ending result) }
 {}
 
 /// The same of a run with a token. Where that stopped the run, the sink has taken the first batches of the sequential answer,

@@ -1,6 +1,6 @@
 //! A run that folds its answer's parts, and gives the accumulators to a taker as their turn comes.
 ghost use Rattle.std.specs.Prelude.{◌≡◌, [], true};
-ghost use Rattle.plinq_source.specs.Trace.{ended};
+ghost use Rattle.plinq_source.specs.Trace.{ended_trace};
 ghost use Rattle.plinq_source.specs.declared.ending.Ending.TheVariants.{End};
 ghost use Rattle.plinq_ops.specs.Answer.{MayAnswer};
 ghost use Rattle.plinq_run.specs.Parting.{GivesSome};
@@ -36,7 +36,7 @@ where
     A: GrowingAggregator,
     W: Taker<Item = A::Acc> + TakeInto<O>,
     requires takes { W.can_take taker ≡ true }
-    ensures { GivesSome (A.folding _aggregator.now) W.made (λ u. u ≡ ended [] End) taker out.old result out.new }
+    ensures { GivesSome (A.folding _aggregator.now) W.made (λ u. u ≡ ended_trace [] End) taker out.old result out.new }
 {
     let mut taker = taker;
     match taker.take(Vec::new(alloc), Some(Ending::End), out) {

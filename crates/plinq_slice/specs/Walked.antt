@@ -3,7 +3,7 @@ use Rattle.std.specs.Prelude.{ℕ, map}
 use Rattle.std.specs.List.{range_with_len}
 use Rattle.std.proofs.Common.{arith}
 use Rattle.std.proofs.lemmas.List.FromFn.{length-map-range_with_len}
-use Rattle.plinq_source.specs.Trace.{Trace, ended}
+use Rattle.plinq_source.specs.Trace.{Trace, ended_trace}
 use Rattle.plinq_source.specs.Walked.{IsSource}
 use Rattle.plinq_source.specs.declared.ending.Ending.TheVariants.{End}
 use Rattle.plinq_slice.specs.declared.slice.SliceSource.{SliceSource}
@@ -11,7 +11,7 @@ use Rattle.plinq_slice.specs.declared.index.IndexSource.{IndexSource}
 
 -- a slice: its items, and the end
 abbrev pub slice_whole : {T : Type 0} → SliceSource T → Trace T
-slice_whole s = ended s.items.now End
+slice_whole s = ended_trace s.items.now End
 
 abbrev pub slice_given : {T : Type 0} → SliceSource T → ℕ
 slice_given s = s.next
@@ -21,7 +21,7 @@ slice_walked s = record { few = s.few; ends = tt; within = s.within }
 
 -- the items of the keys below a count, and the end
 abbrev pub index_whole : {F T : Type 0} → (F → ℕ → T) → IndexSource F → Trace T
-index_whole items s = ended (map (items s.by) (range_with_len 0 s.count)) End
+index_whole items s = ended_trace (map (items s.by) (range_with_len 0 s.count)) End
 
 abbrev pub index_given : {F : Type 0} → IndexSource F → ℕ
 index_given s = s.next

@@ -1,6 +1,6 @@
 ghost use Rattle.std.specs.Prelude.{◌≡◌, ◌≤◌, ◌^◌, map, nat_le, is_ok, IfOk, IfErr};
 ghost use Rattle.std.specs.List.{range_with_len};
-ghost use Rattle.plinq_source.specs.Trace.{ended};
+ghost use Rattle.plinq_source.specs.Trace.{ended_trace};
 ghost use Rattle.plinq_source.specs.declared.ending.Ending.TheVariants.{End};
 ghost use Rattle.plinq_source.specs.declared.source_fault.SourceFault.TheVariants.{TooLarge};
 
@@ -30,7 +30,7 @@ impl<F: ItemAt> IndexSource<F> {
     pub fn new(by: F, count: u64) -> Result<IndexSource<F>, SourceFault>
         ensures made { is_ok result ≡ nat_le count (2 ^ 40) }
         ensures refused { IfErr result (λ e. e ≡ TooLarge) }
-        ensures whole { IfOk result (λ s. ⟦<IndexSource<F> as Source>⟧.whole s ≡ ended (map (F.items by) (range_with_len 0 count)) End) }
+        ensures whole { IfOk result (λ s. ⟦<IndexSource<F> as Source>⟧.whole s ≡ ended_trace (map (F.items by) (range_with_len 0 count)) End) }
         ensures fresh { IfOk result (λ s. ⟦<IndexSource<F> as Source>⟧.given s ≡ 0) }
     {
         if count > 1 << 40 {

@@ -1,6 +1,6 @@
 //! Sources of lists that may have any length.
 ghost use Rattle.std.specs.Prelude.{◌≡◌, ◌^◌, vec_len, nat_le, is_ok, IfOk, IfErr};
-ghost use Rattle.plinq_source.specs.Trace.{ended};
+ghost use Rattle.plinq_source.specs.Trace.{ended_trace};
 ghost use Rattle.plinq_source.specs.declared.ending.Ending.TheVariants.{End};
 ghost use Rattle.plinq_source.specs.declared.source_fault.SourceFault.TheVariants.{TooLarge};
 
@@ -18,7 +18,7 @@ pub fn list_source<T: Copy + Send>(
 ) -> Result<ListSource<T>, SourceFault>
     ensures made { is_ok result ≡ nat_le (vec_len items) (2 ^ 40) }
     ensures refused { IfErr result (λ e. e ≡ TooLarge) }
-    ensures whole { IfOk result (λ s. ⟦<ListSource<T> as Source>⟧.whole s ≡ ended items.items End) }
+    ensures whole { IfOk result (λ s. ⟦<ListSource<T> as Source>⟧.whole s ≡ ended_trace items.items End) }
     ensures fresh { IfOk result (λ s. ⟦<ListSource<T> as Source>⟧.given s ≡ 0) }
 {
     if items.len() > 1 << 40 {

@@ -1,5 +1,5 @@
 ghost use Rattle.std.specs.Prelude.{◌≡◌, ◌≤◌, ◌^◌, length, nat_le, is_ok, IfOk, IfErr};
-ghost use Rattle.plinq_source.specs.Trace.{ended};
+ghost use Rattle.plinq_source.specs.Trace.{ended_trace};
 ghost use Rattle.plinq_source.specs.declared.ending.Ending.TheVariants.{End};
 ghost use Rattle.plinq_source.specs.declared.source_fault.SourceFault.TheVariants.{TooLarge};
 
@@ -27,7 +27,7 @@ impl<'a, T: Copy + Send + Sync> SliceSource<'a, T> {
     pub fn new(items: &'a [T]) -> Result<SliceSource<'a, T>, SourceFault>
         ensures made { is_ok result ≡ nat_le (length items.now) (2 ^ 40) }
         ensures refused { IfErr result (λ e. e ≡ TooLarge) }
-        ensures whole { IfOk result (λ s. ⟦<SliceSource<'a, T> as Source>⟧.whole s ≡ ended items.now End) }
+        ensures whole { IfOk result (λ s. ⟦<SliceSource<'a, T> as Source>⟧.whole s ≡ ended_trace items.now End) }
         ensures fresh { IfOk result (λ s. ⟦<SliceSource<'a, T> as Source>⟧.given s ≡ 0) }
     {
         if items.len() > 1 << 40 {

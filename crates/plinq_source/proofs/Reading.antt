@@ -1,7 +1,7 @@
 -- What one call of `next` does to a text: a value, or a refusal.
 use Rattle.std.proofs.Common.{◌≡◌, ℕ, suc, ◌+◌, ◌-◌, ◌≤◌, ◌==◌, ℤ, true, false, List, [], ◌∷◌, length, drop, Some, Ok, Err, refl, sym, ap, ◌∙◌, arith}
 use Rattle.std.proofs.lemmas.List.{drop-drop, length-drop}
-use Rattle.plinq_source.specs.Trace.{ended, step_at, step_of, given_after}
+use Rattle.plinq_source.specs.Trace.{ended_trace, step_at, step_of, given_after}
 use Rattle.plinq_source.specs.Text.{is_some_bytes, tokens, token_ahead, token_value, values, value_before, refusal, refusal_before}
 use Rattle.plinq_source.specs.declared.ending.Ending.{Ending}
 use Rattle.plinq_source.specs.declared.step.Step.TheVariants.{Item}
@@ -76,19 +76,19 @@ left_more all left rest z h e =
     let place : length all - length rest ≡ (length all - length left) + 1 = omega arith in
     ap (λ n. drop n all) place ∙ sym (drop-drop 1 (length all - length left) all) ∙ ap (drop 1) (h ∙ e)
 
-pub given_more : (all left rest : List ℤ) (z : ℤ) (e : Ending) → drop (length all - length left) all ≡ left → left ≡ z ∷ rest → length all - length rest ≡ given_after (ended all e) (length all - length left)
+pub given_more : (all left rest : List ℤ) (z : ℤ) (e : Ending) → drop (length all - length left) all ≡ left → left ≡ z ∷ rest → length all - length rest ≡ given_after (ended_trace all e) (length all - length left)
 given_more all left rest z e h is =
     let long : length left ≡ suc (length rest) = ap length is in
     let within : length left ≤ length all = left-within all left h in
     omega arith
 
 -- the answer where a value is left, and where nothing is
-pub step_at-left : (all left rest : List ℤ) (z : ℤ) (e : Ending) → drop (length all - length left) all ≡ left → left ≡ z ∷ rest → step_at (ended all e) (length all - length left) ≡ Item z
+pub step_at-left : (all left rest : List ℤ) (z : ℤ) (e : Ending) → drop (length all - length left) all ≡ left → left ≡ z ∷ rest → step_at (ended_trace all e) (length all - length left) ≡ Item z
 step_at-left all left rest z e h is = ap (λ zs. step_of zs (Some e)) (h ∙ is)
 
-pub step_at-none : (all left : List ℤ) (e : Ending) → drop (length all - length left) all ≡ left → left ≡ [] → step_at (ended all e) (length all - length left) ≡ step_of [] (Some e)
+pub step_at-none : (all left : List ℤ) (e : Ending) → drop (length all - length left) all ≡ left → left ≡ [] → step_at (ended_trace all e) (length all - length left) ≡ step_of [] (Some e)
 step_at-none all left e h is = ap (λ zs. step_of zs (Some e)) (h ∙ is)
 
 -- where nothing is left all was handed out
-pub given-none : (all left : List ℤ) (e : Ending) → left ≡ [] → length all - length left ≡ given_after (ended all e) (length all - length left)
+pub given-none : (all left : List ℤ) (e : Ending) → left ≡ [] → length all - length left ≡ given_after (ended_trace all e) (length all - length left)
 given-none all left e is = let long : length left ≡ 0 = ap length is in omega arith

@@ -1,7 +1,7 @@
 -- Concatenations: one source, and where it ends another one.
 use Rattle.std.specs.Prelude.{◌≡◌, ◌≤◌, ◌+◌, ℕ, ℤ, pos, Bool, true, false, List, [], ◌∷◌, ◌++◌, length, Option, Some, None, refl}
 use Rattle.std.proofs.Common.{arith, ap, ◌∙◌, length-append}
-use Rattle.plinq_source.specs.Trace.{Trace, ended, open_trace, IsSourceEnding}
+use Rattle.plinq_source.specs.Trace.{Trace, ended_trace, open_trace, IsSourceEnding}
 use Rattle.plinq_source.specs.declared.ending.Ending.{Ending}
 use Rattle.plinq_source.specs.declared.ending.Ending.TheVariants.{End, Refused, Fault}
 
@@ -9,25 +9,25 @@ use Rattle.plinq_source.specs.declared.ending.Ending.TheVariants.{End, Refused, 
 abbrev pub concat_from : {T : Type 0} → List T → Option Ending → Trace T → Trace T
 concat_from xs None next = open_trace xs
 concat_from xs (Some End) next = record { items = xs ++ next.items; ending = next.ending }
-concat_from xs (Some (Refused c)) next = ended xs (Refused c)
-concat_from xs (Some (Fault c)) next = ended xs (Fault c)
+concat_from xs (Some (Refused c)) next = ended_trace xs (Refused c)
+concat_from xs (Some (Fault c)) next = ended_trace xs (Fault c)
 
 -- the first trace, and where its ending is End the second after it; after a refusal nothing comes
 abbrev pub concat : {T : Type 0} → Trace T → Trace T → Trace T
 concat first second = concat_from first.items first.ending second
 
-pub concat-row : concat (ended (pos 1 ∷ pos 2 ∷ []) End) (ended (pos 5 ∷ pos 6 ∷ []) End) ≡ ended (pos 1 ∷ pos 2 ∷ pos 5 ∷ pos 6 ∷ []) End
+pub concat-row : concat (ended_trace (pos 1 ∷ pos 2 ∷ []) End) (ended_trace (pos 5 ∷ pos 6 ∷ []) End) ≡ ended_trace (pos 1 ∷ pos 2 ∷ pos 5 ∷ pos 6 ∷ []) End
 concat-row = refl
 
 -- both end as the second does
-pub concat-refused_second : concat (ended [] End) (ended (pos 5 ∷ []) (Refused 1)) ≡ ended (pos 5 ∷ []) (Refused 1)
+pub concat-refused_second : concat (ended_trace [] End) (ended_trace (pos 5 ∷ []) (Refused 1)) ≡ ended_trace (pos 5 ∷ []) (Refused 1)
 concat-refused_second = refl
 
-pub concat-refused_at_once : concat {T = ℤ} (ended [] End) (ended [] (Refused 1)) ≡ ended [] (Refused 1)
+pub concat-refused_at_once : concat {T = ℤ} (ended_trace [] End) (ended_trace [] (Refused 1)) ≡ ended_trace [] (Refused 1)
 concat-refused_at_once = refl
 
 -- the second is lost where the first refuses
-pub concat-refused_first : concat (ended (pos 1 ∷ []) (Refused 7)) (ended (pos 2 ∷ []) End) ≡ ended (pos 1 ∷ []) (Refused 7)
+pub concat-refused_first : concat (ended_trace (pos 1 ∷ []) (Refused 7)) (ended_trace (pos 2 ∷ []) End) ≡ ended_trace (pos 1 ∷ []) (Refused 7)
 concat-refused_first = refl
 
 -- it has no more items than both have

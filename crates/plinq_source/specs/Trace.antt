@@ -15,17 +15,17 @@ abbrev pub open_trace : {T : Type 0} → List T → Trace T
 open_trace xs = record { items = xs; ending = None }
 
 -- the items, and then that ending
-abbrev pub ended : {T : Type 0} → List T → Ending → Trace T
-ended xs e = record { items = xs; ending = Some e }
+abbrev pub ended_trace : {T : Type 0} → List T → Ending → Trace T
+ended_trace xs e = record { items = xs; ending = Some e }
 
 -- the items, and where there is no ending yet all of what comes after
-abbrev pub continued : {T : Type 0} → List T → Option Ending → Trace T → Trace T
-continued xs None after = record { items = xs ++ after.items; ending = after.ending }
-continued xs (Some e) after = ended xs e
+abbrev pub continued_by : {T : Type 0} → List T → Option Ending → Trace T → Trace T
+continued_by xs None after = record { items = xs ++ after.items; ending = after.ending }
+continued_by xs (Some e) after = ended_trace xs e
 
 -- the first trace, and where it is open the second after it
-abbrev pub followed : {T : Type 0} → Trace T → Trace T → Trace T
-followed before after = continued before.items before.ending after
+abbrev pub followed_by : {T : Type 0} → Trace T → Trace T → Trace T
+followed_by before after = continued_by before.items before.ending after
 
 -- a source ends or refuses; it has no faults and doesn't stay open
 abbrev pub IsSourceEnding : Option Ending → Type 0

@@ -3,7 +3,7 @@ use Rattle.std.specs.Prelude.{ℕ, ◌+◌, ◌≤◌, ◌^◌, ◌+ℤ◌, ℤ,
 use Rattle.std.proofs.Common.{arith}
 use Rattle.std.proofs.Math.ListN.{length-replicate}
 use Rattle.std.proofs.lemmas.List.FromFn.{length-map-range_with_len}
-use Rattle.plinq_source.specs.Trace.{Trace, ended, list_ending, list_ending-ends, IsSourceEnding}
+use Rattle.plinq_source.specs.Trace.{Trace, ended_trace, list_ending, list_ending-ends, IsSourceEnding}
 use Rattle.plinq_source.specs.Text.{tokens, refusal, text_trace, given_at}
 use Rattle.plinq_source.specs.Range.{range_items}
 use Rattle.plinq_source.specs.Concat.{concat, length-concat, concat-ends, concat-within}
@@ -24,7 +24,7 @@ pub record IsSource {T : Type 0} (whole : Trace T) (given : ℕ) : Type 0 where
 
 -- a list: its items, and the end or its refusal
 abbrev pub list_whole : {T : Type 0} → ListSource T → Trace T
-list_whole s = ended s.items.items (list_ending s.refusal)
+list_whole s = ended_trace s.items.items (list_ending s.refusal)
 
 abbrev pub list_given : {T : Type 0} → ListSource T → ℕ
 list_given s = s.next
@@ -52,7 +52,7 @@ text_walked s = record {
 
 -- a range: its numbers, and the end
 abbrev pub range_whole : RangeSource → Trace ℤ
-range_whole s = ended (range_items s.start s.count) End
+range_whole s = ended_trace (range_items s.start s.count) End
 
 abbrev pub range_given : RangeSource → ℕ
 range_given s = s.next
@@ -68,7 +68,7 @@ range_walked s =
 
 -- a repeat: its value as often as it says, and the end
 abbrev pub repeat_whole : RepeatSource → Trace ℤ
-repeat_whole s = ended (replicate s.count s.value) End
+repeat_whole s = ended_trace (replicate s.count s.value) End
 
 abbrev pub repeat_given : RepeatSource → ℕ
 repeat_given s = s.next

@@ -1,5 +1,5 @@
 ghost use Rattle.std.specs.Prelude.{◌≡◌, ◌≤◌, ◌^◌, vec_len, length, Some, None};
-ghost use Rattle.plinq_source.specs.Trace.{ended, list_ending};
+ghost use Rattle.plinq_source.specs.Trace.{ended_trace, list_ending};
 
 use crate::ending::Ending;
 use crate::source::Source;
@@ -33,7 +33,7 @@ impl<T: Copy + Send> ListSource<T> {
     /// `_alloc` goes unused, since the list has an allocator of its own. Takes no memory.
     pub fn new(_alloc: Global, items: Vec<T>) -> ListSource<T>
         requires { vec_len items ≤ 2 ^ 40 }
-        ensures whole { ⟦<ListSource<T> as Source>⟧.whole result ≡ ended items.items (list_ending None) }
+        ensures whole { ⟦<ListSource<T> as Source>⟧.whole result ≡ ended_trace items.items (list_ending None) }
         ensures fresh { ⟦<ListSource<T> as Source>⟧.given result ≡ 0 }
     {
         ListSource {
@@ -46,7 +46,7 @@ impl<T: Copy + Send> ListSource<T> {
     /// The items of the list, then [`Step::Refused`] with this code. `_alloc` is as for `new`.
     pub fn refusing(_alloc: Global, items: Vec<T>, code: u32) -> ListSource<T>
         requires { vec_len items ≤ 2 ^ 40 }
-        ensures whole { ⟦<ListSource<T> as Source>⟧.whole result ≡ ended items.items (list_ending (Some code)) }
+        ensures whole { ⟦<ListSource<T> as Source>⟧.whole result ≡ ended_trace items.items (list_ending (Some code)) }
         ensures fresh { ⟦<ListSource<T> as Source>⟧.given result ≡ 0 }
     {
         ListSource {

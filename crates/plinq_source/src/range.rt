@@ -1,5 +1,5 @@
 ghost use Rattle.std.specs.Prelude.{◌≡◌, ◌≤◌, ◌<◌, ◌^◌, ◌+ℤ◌, ◌≤ℤ◌, pos, IfOk, IfErr, is_ok};
-ghost use Rattle.plinq_source.specs.Trace.{ended};
+ghost use Rattle.plinq_source.specs.Trace.{ended_trace};
 ghost use Rattle.plinq_source.specs.Range.{range_items, is_range};
 ghost use Rattle.plinq_source.specs.declared.ending.Ending.TheVariants.{End};
 
@@ -35,7 +35,7 @@ impl RangeSource {
     pub fn new(start: i64, count: u64) -> Result<RangeSource, SourceFault>
         ensures made { is_ok result ≡ is_range start count }
         ensures refused { IfErr result (λ e. e ≡ SourceFault.TooLarge) }
-        ensures whole { IfOk result (λ s. ⟦<RangeSource as Source>⟧.whole s ≡ ended (range_items start count) End) }
+        ensures whole { IfOk result (λ s. ⟦<RangeSource as Source>⟧.whole s ≡ ended_trace (range_items start count) End) }
         ensures fresh { IfOk result (λ s. ⟦<RangeSource as Source>⟧.given s ≡ 0) }
     {
         if count > MOST_ITEMS {

@@ -1,5 +1,5 @@
 ghost use Rattle.std.specs.Prelude.{◌≡◌, ◌≤◌, ◌^◌, IfOk, IfErr, is_ok, replicate};
-ghost use Rattle.plinq_source.specs.Trace.{ended};
+ghost use Rattle.plinq_source.specs.Trace.{ended_trace};
 ghost use Rattle.plinq_source.specs.Repeat.{is_repeat};
 ghost use Rattle.plinq_source.specs.declared.ending.Ending.TheVariants.{End};
 
@@ -33,7 +33,7 @@ impl RepeatSource {
     pub fn new(value: i64, count: u64) -> Result<RepeatSource, SourceFault>
         ensures made { is_ok result ≡ is_repeat count }
         ensures refused { IfErr result (λ e. e ≡ SourceFault.TooLarge) }
-        ensures whole { IfOk result (λ s. ⟦<RepeatSource as Source>⟧.whole s ≡ ended (replicate count value) End) }
+        ensures whole { IfOk result (λ s. ⟦<RepeatSource as Source>⟧.whole s ≡ ended_trace (replicate count value) End) }
         ensures fresh { IfOk result (λ s. ⟦<RepeatSource as Source>⟧.given s ≡ 0) }
     {
         if count > MOST_ITEMS {

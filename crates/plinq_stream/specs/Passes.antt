@@ -6,8 +6,8 @@ use Rattle.plinq_stream.specs.declared.stream.Stream.{Stream}
 use Rattle.plinq_stream.specs.declared.stream_pass.StreamPass.{StreamPass}
 
 -- what the pass knows
-abbrev pub known : {T : Type 0} → StreamPass T → PassKnowledge T
-known p = view p.pass
+abbrev pub knowledge_of : {T : Type 0} → StreamPass T → PassKnowledge T
+knowledge_of p = view p.pass
 
 -- a pass of this stream
 abbrev pub IsPassOf : {T C : Type 0} → Stream T C → StreamPass T → Type 0

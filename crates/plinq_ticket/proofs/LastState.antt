@@ -14,7 +14,7 @@ use Rattle.plinq_ticket.specs.Weights.{total}
 use Rattle.plinq_ticket.specs.TwoWords.{OfTwoWords}
 use Rattle.plinq_ticket.specs.Shares.{in_ticket_order, Contains}
 use Rattle.plinq_ticket.specs.Lawful.{standing_of, origin_in, history_of, inside_of, Knows, Stands, Lawful}
-use Rattle.plinq_ticket.specs.inner.Steps.{cut}
+use Rattle.plinq_ticket.specs.inner.Steps.{cut_view}
 use Rattle.plinq_ticket.proofs.Weights.{total-set, total-at, total-ones}
 use Rattle.plinq_ticket.proofs.Turns.{inside-open}
 use Rattle.plinq_ticket.proofs.Ordered.{in_ticket_order-same}
@@ -51,10 +51,10 @@ module _ {T : Type 0} where
   pub history_of-whole : (t : Trace T) (views : List (View T)) (i : ℕ) (v : View T) → IsLegalHistory t (history_of views) → get_elem? views i ≡ some v → length v.share ≡ length (history_of views) → history_of views ≡ in_ticket_order v.share
   history_of-whole t views i v legal at all =
       sym (in_ticket_order-same v.share (history_of views) 0 (rises-legal t (history_of views) legal) (λ f.
-      let others = set views i (cut v) in
-      let moved = total-set (λ u. total f u.share) views i v (cut v) at in
+      let others = set views i (cut_view v) in
+      let moved = total-set (λ u. total f u.share) views i v (cut_view v) at in
       let whole = total-history_of f views in
-      let counted = total-set (λ u. total (λ _. 1) u.share) views i v (cut v) at in
+      let counted = total-set (λ u. total (λ _. 1) u.share) views i v (cut_view v) at in
       let count = total-history_of (λ _. 1) views in
       let own = total-ones v.share in
       let every = total-ones (history_of views) in

@@ -17,21 +17,21 @@ use Rattle.plinq_ticket.specs.declared.phase.Phase.TheVariants.{Idle, Waiting, I
 use Rattle.plinq_ticket.specs.declared.standing.Standing.{Standing}
 use Rattle.plinq_ticket.specs.declared.view.View.{View}
 use Rattle.plinq_ticket.specs.Weights.{total}
-use Rattle.plinq_ticket.specs.Turns.{tickets_end, is_inside, InTurn, seeing_drawn, drawing, called, seeing_served, leaving}
+use Rattle.plinq_ticket.specs.Turns.{tickets_end, is_inside, InTurn, seeing_drawn, drawing, called_phase, seeing_served, leaving}
 use Rattle.plinq_ticket.specs.TwoWords.{OfTwoWords}
-use Rattle.plinq_ticket.specs.Shares.{AddsAtMostOne, added}
+use Rattle.plinq_ticket.specs.Shares.{AddsAtMostOne, added_records}
 use Rattle.plinq_ticket.specs.Lawful.{standing_of, origin_in, history_of, inside_of, Knows, Stands, Lawful, first_view}
-use Rattle.plinq_ticket.specs.inner.Steps.{standing_so, cut, together_with, spent, inside_with, left_with, slot_records, SeesNext, Draws, Goes, SeesServing, Returns, Leaves}
+use Rattle.plinq_ticket.specs.inner.Steps.{standing_so, cut_view, together_with, spent_view, inside_with, left_with, slot_records, SeesNext, Draws, Goes, SeesServing, Returns, Leaves}
 use Rattle.plinq_ticket.proofs.Weights.{total-set, total-at, total-append}
 use Rattle.plinq_ticket.proofs.Turns.{step-see_next, step-draw, step-see_serving, step-leave, step-join, in_turn-made, in_turn-new, inside-none, inside-served, not_inside-beside}
-use Rattle.plinq_ticket.proofs.Ordered.{added-append}
+use Rattle.plinq_ticket.proofs.Ordered.{added_records-append}
 use Rattle.plinq_ticket.proofs.Allowed.{allows-next, allows-serving}
 use Rattle.plinq_ticket.proofs.Histories.{rises-legal, tickets_below-more, tickets_below-next, history_of-set, history_of-add, history_of-more, history_of-join, history_of-weights, total-history_of}
 
 -- what is there, with what was added, is all of it
-added-whole : (old new : List Record) (k : ℕ) → AddsAtMostOne k old new → new ≡ old ++ added old new
-added-whole old new k (inl e) = let none : added old new ≡ [] = ap (added old) (e ∙ sym (append-nil old)) ∙ added-append old [] in e ∙ sym (append-nil old) ∙ ap (λ x. old ++ x) (sym none)
-added-whole old new k (inr one) = let rest : added old new ≡ one.0 ∷ [] = ap (added old) one.1 ∙ added-append old (one.0 ∷ []) in one.1 ∙ ap (λ x. old ++ x) (sym rest)
+added_records-whole : (old new : List Record) (k : ℕ) → AddsAtMostOne k old new → new ≡ old ++ added_records old new
+added_records-whole old new k (inl e) = let none : added_records old new ≡ [] = ap (added_records old) (e ∙ sym (append-nil old)) ∙ added_records-append old [] in e ∙ sym (append-nil old) ∙ ap (λ x. old ++ x) (sym none)
+added_records-whole old new k (inr one) = let rest : added_records old new ≡ one.0 ∷ [] = ap (added_records old) one.1 ∙ added_records-append old (one.0 ∷ []) in one.1 ∙ ap (λ x. old ++ x) (sym rest)
 
 -- what was added has the ticket k, so all are below the next one
 below-added : (k : ℕ) (old new : List Record) → tickets_below k old ≡ true → AddsAtMostOne k old new → tickets_below (k + 1) new ≡ true
@@ -119,13 +119,13 @@ module _ {T : Type 0} (t : Trace T) where
 
       -- it is another's turn, or this pass has no ticket
       goes_on : (next serving : ℕ) (homes : List (maybe.Option (Option V))) (views : List (View T)) → Lawful origin history t next serving homes views → get_elem? views id ≡ some me.0
-          → (p : Phase) → me.0.standing.phase ≡ p → called serving p ≡ p → Goes origin history serving me (standing_so (seeing_served serving me.0.standing) me.0, me.1) p → Owes next serving homes views
+          → (p : Phase) → me.0.standing.phase ≡ p → called_phase serving p ≡ p → Goes origin history serving me (standing_so (seeing_served serving me.0.standing) me.0, me.1) p → Owes next serving homes views
       unfolding Owes
       goes_on next serving homes views kept at p is stays goes =
           let v = me.0 in
           let w : View T = standing_so (seeing_served serving v.standing) v in
           let done = step-see_serving standing_of next serving views id v w kept.turns at refl in
-          let still : w.standing.phase ≡ v.standing.phase = ap (called serving) is ∙ stays ∙ sym is in
+          let still : w.standing.phase ≡ v.standing.phase = ap (called_phase serving) is ∙ stays ∙ sym is in
           let knew : Knows t (history_of views) w v.standing.phase = knows-standing (history_of views) w.standing v v.standing.phase (kept.knows id v at) in
           let P : Phase → Type 0 = Knows t (history_of views) w in
           let G : Phase → Type 0 = Goes origin history serving me (w, me.1) in (
@@ -145,7 +145,7 @@ module _ {T : Type 0} (t : Trace T) where
           let h = history_of views in
           let w : View T = inside_with h (seeing_served serving v.standing) v in
           let done = step-see_serving standing_of next serving views id v w kept.turns at refl in
-          let inside : w.standing.phase ≡ Inside serving = ap (called serving) waits ∙ ap (λ (b : Bool). let p : Phase = cond b (Inside serving) (Waiting serving) in p) (eq-eqb serving serving refl) in
+          let inside : w.standing.phase ≡ Inside serving = ap (called_phase serving) waits ∙ ap (λ (b : Bool). let p : Phase = cond b (Inside serving) (Waiting serving) in p) (eq-eqb serving serving refl) in
           let P : Phase → Type 0 = Knows t h v in
           let is : origin_in v ≡ t = subst P waits (kept.knows id v at) in
           let same : history_of (set views id w) ≡ h = history_of-set views id v w (rises-legal t h kept.legal) at refl in
@@ -214,14 +214,14 @@ module _ {T : Type 0} (t : Trace T) where
           let v = me.0 in
           let h = history_of views in
           let value = returned.value in
-          let new = added v.found (history value) in
-          let w : View T = left_with (added v.found (slot_records history me.1)) (leaving (k + 1) v.standing) v in
+          let new = added_records v.found (history value) in
+          let w : View T = left_with (added_records v.found (slot_records history me.1)) (leaving (k + 1) v.standing) v in
           let done = step-leave standing_of k next serving views id v w kept.turns at inside refl in
           let served : serving ≡ k = inside-served standing_of next serving k views id v kept.turns at inside in
           let P : Phase → Type 0 = Knows t h v in
           let knew : (origin_in v ≡ t) × (v.found ≡ h) = subst P inside (kept.knows id v at) in
-          let share : w.share ≡ v.share ++ new = ap (λ c. v.share ++ added v.found (slot_records history c)) returned.slot in
-          let whole : history value ≡ h ++ new = added-whole v.found (history value) k returned.adds ∙ ap (λ x. x ++ new) knew.1 in
+          let share : w.share ≡ v.share ++ new = ap (λ c. v.share ++ added_records v.found (slot_records history c)) returned.slot in
+          let whole : history value ≡ h ++ new = added_records-whole v.found (history value) k returned.adds ∙ ap (λ x. x ++ new) knew.1 in
           let legal : IsLegalHistory t (history value) = (let Q : Trace T → Type 0 = λ o. IsLegalHistory o (history value) in subst Q (returned.origin_is ∙ knew.0) returned.legal) in
           let same : history_of (set views id w) ≡ history value = history_of-more views id v w new (history value) (rises-legal t (history value) legal) at share whole in
           let found_below : tickets_below k v.found ≡ true = ap (λ x. tickets_below k x) knew.1 ∙ ap (λ n. tickets_below n h) (sym served) ∙ kept.below in
@@ -256,11 +256,11 @@ module _ {T : Type 0} (t : Trace T) where
           ))
 
     -- one pass becomes two
-    pub splits : (id : ℕ) (v : View T) → v.standing.phase ≡ Idle → Splits (OfTwoWords (Lawful origin history t)) id v v (cut v)
+    pub splits : (id : ℕ) (v : View T) → v.standing.phase ≡ Idle → Splits (OfTwoWords (Lawful origin history t)) id v v (cut_view v)
     splits id v idle s kept at =
         let views = s.views in
         let law = kept.fact in
-        let w = cut v in
+        let w = cut_view v in
         let fits = law.turns.each_fits id v at in
         let same : history_of (views ++ w ∷ []) ≡ history_of views = history_of-add views w (rises-legal t (history_of views) law.legal) refl in
         let more = total-append (λ u. is_inside u.standing.phase) views (w ∷ []) in
@@ -288,15 +288,15 @@ module _ {T : Type 0} (t : Trace T) where
         }
 
     -- two passes become one
-    pub joins : (id : ℕ) (v : View T) (other : ℕ) (w : View T) → v.standing.phase ≡ Idle → w.standing.phase ≡ Idle → Joins (OfTwoWords (Lawful origin history t)) id v other w (together_with v w) spent
+    pub joins : (id : ℕ) (v : View T) (other : ℕ) (w : View T) → v.standing.phase ≡ Idle → w.standing.phase ≡ Idle → Joins (OfTwoWords (Lawful origin history t)) id v other w (together_with v w) spent_view
     joins id v other w idle idle' s kept at apart at' =
         let views = s.views in
         let law = kept.fact in
         let both = together_with v w in
-        let views' = set (set views id both) other spent in
-        let same : history_of views' ≡ history_of views = history_of-join views id other v w both spent (rises-legal t (history_of views) law.legal) at at' refl refl in
+        let views' = set (set views id both) other spent_view in
+        let same : history_of views' ≡ history_of views = history_of-join views id other v w both spent_view (rises-legal t (history_of views) law.legal) at at' refl refl in
         let once = total-set (λ u. is_inside u.standing.phase) views id v both at in
-        let twice = total-set (λ u. is_inside u.standing.phase) (set views id both) other w spent at' in
+        let twice = total-set (λ u. is_inside u.standing.phase) (set views id both) other w spent_view at' in
         let outside : is_inside v.standing.phase ≡ 0 = ap is_inside idle in
         let outside' : is_inside w.standing.phase ≡ 0 = ap is_inside idle' in
         let count : inside_of views' ≡ inside_of views = omega arith in
@@ -308,7 +308,7 @@ module _ {T : Type 0} (t : Trace T) where
           serving = kept.serving;
           words = kept.words;
           fact = record {
-            turns = step-join standing_of kept.next kept.serving views id other v w both spent law.turns at apart at' idle idle' refl refl;
+            turns = step-join standing_of kept.next kept.serving views id other v w both spent_view law.turns at apart at' idle idle' refl refl;
             legal = subst (IsLegalHistory t) (sym same) law.legal;
             below = ap (tickets_below kept.serving) same ∙ law.below;
             stands = subst P (λ k. (sym same k, sym count k)) law.stands;
@@ -318,7 +318,7 @@ module _ {T : Type 0} (t : Trace T) where
                 (λ y. let Q : View T → Type 0 = λ z. Knows t (history_of views') z z.standing.phase in subst Q y.1 is)
                 (λ y. let Q : List Record → Type 0 = λ z. Knows t z u u.standing.phase in subst Q (sym same) (law.knows j u y.1))
                 (at_set views id j both u x.1))
-                (at_set (set views id both) other j spent u a);
+                (at_set (set views id both) other j spent_view u a);
           };
         }
 

@@ -9,35 +9,35 @@ use Rattle.plinq_keyed.specs.declared.event.Event.TheVariants.{Ask, Close}
 use Rattle.plinq_keyed.specs.declared.record.Record.{Record}
 use Rattle.plinq_keyed.specs.Keys.{rises_from}
 use Rattle.plinq_ticket.specs.Weights.{total}
-use Rattle.plinq_ticket.specs.Shares.{placed, in_ticket_order, added}
+use Rattle.plinq_ticket.specs.Shares.{placed_records, in_ticket_order, added_records}
 
-pub added-append : (old new : List Record) → added old (old ++ new) ≡ new
-added-append [] new = refl
-added-append (r ∷ old) new = added-append old new
+pub added_records-append : (old new : List Record) → added_records old (old ++ new) ≡ new
+added_records-append [] new = refl
+added_records-append (r ∷ old) new = added_records-append old new
 
-total-placed : (f : Record → ℕ) (r : Record) (xs : List Record) → total f (placed r xs) ≡ f r + total f xs
-total-placed f r [] = refl
-total-placed f r (x ∷ xs) = by (leb r.ticket x.ticket) (total-placed f r xs)
+total-placed_records : (f : Record → ℕ) (r : Record) (xs : List Record) → total f (placed_records r xs) ≡ f r + total f xs
+total-placed_records f r [] = refl
+total-placed_records f r (x ∷ xs) = by (leb r.ticket x.ticket) (total-placed_records f r xs)
   where
-    by : (b : Bool) → total f (placed r xs) ≡ f r + total f xs → total f (cond b (r ∷ x ∷ xs) (x ∷ placed r xs)) ≡ f r + (f x + total f xs)
+    by : (b : Bool) → total f (placed_records r xs) ≡ f r + total f xs → total f (cond b (r ∷ x ∷ xs) (x ∷ placed_records r xs)) ≡ f r + (f x + total f xs)
     by true rest = refl
     by false rest = omega arith
 
 pub total-in_ticket_order : (f : Record → ℕ) (xs : List Record) → total f (in_ticket_order xs) ≡ total f xs
 total-in_ticket_order f [] = refl
-total-in_ticket_order f (x ∷ xs) = let here = total-placed f x (in_ticket_order xs) in let rest = total-in_ticket_order f xs in omega arith
+total-in_ticket_order f (x ∷ xs) = let here = total-placed_records f x (in_ticket_order xs) in let rest = total-in_ticket_order f xs in omega arith
 
 -- whether each ticket is at least that, and at least the one before it
 climbs : ℕ → List Record → Bool
 climbs least [] = true
 climbs least (x ∷ xs) = leb least x.ticket && climbs x.ticket xs
 
-climbs-placed : (least : ℕ) (r : Record) (xs : List Record) → least ≤ r.ticket → climbs least xs ≡ true → climbs least (placed r xs) ≡ true
+climbs-placed_records : (least : ℕ) (r : Record) (xs : List Record) → least ≤ r.ticket → climbs least xs ≡ true → climbs least (placed_records r xs) ≡ true
 unfolding climbs
-climbs-placed least r [] h c = and_from _ _ (le-leb least r.ticket h) refl
-climbs-placed least r (x ∷ xs) h c = by (leb r.ticket x.ticket) refl (λ below. climbs-placed x.ticket r xs below (and_parts (leb least x.ticket) _ c).1)
+climbs-placed_records least r [] h c = and_from _ _ (le-leb least r.ticket h) refl
+climbs-placed_records least r (x ∷ xs) h c = by (leb r.ticket x.ticket) refl (λ below. climbs-placed_records x.ticket r xs below (and_parts (leb least x.ticket) _ c).1)
   where
-    by : (b : Bool) → leb r.ticket x.ticket ≡ b → (x.ticket ≤ r.ticket → climbs x.ticket (placed r xs) ≡ true) → climbs least (cond b (r ∷ x ∷ xs) (x ∷ placed r xs)) ≡ true
+    by : (b : Bool) → leb r.ticket x.ticket ≡ b → (x.ticket ≤ r.ticket → climbs x.ticket (placed_records r xs) ≡ true) → climbs least (cond b (r ∷ x ∷ xs) (x ∷ placed_records r xs)) ≡ true
     by true e rest = let p = and_parts (leb least x.ticket) _ c in and_from _ _ (le-leb least r.ticket h) (and_from _ _ e p.1)
     by false e rest =
         let p = and_parts (leb least x.ticket) _ c in
@@ -47,7 +47,7 @@ climbs-placed least r (x ∷ xs) h c = by (leb r.ticket x.ticket) refl (λ below
 climbs-in_ticket_order : (xs : List Record) → climbs 0 (in_ticket_order xs) ≡ true
 unfolding climbs
 climbs-in_ticket_order [] = refl
-climbs-in_ticket_order (x ∷ xs) = climbs-placed 0 x (in_ticket_order xs) (omega arith) (climbs-in_ticket_order xs)
+climbs-in_ticket_order (x ∷ xs) = climbs-placed_records 0 x (in_ticket_order xs) (omega arith) (climbs-in_ticket_order xs)
 
 -- a weight that counts only records below a ticket
 under : ℕ → (Record → ℕ) → Record → ℕ

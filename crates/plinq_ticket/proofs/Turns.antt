@@ -10,7 +10,7 @@ use Rattle.plinq_ticket.specs.declared.phase.Phase.{Phase}
 use Rattle.plinq_ticket.specs.declared.phase.Phase.TheVariants.{Idle, Waiting, Inside, Joined}
 use Rattle.plinq_ticket.specs.declared.standing.Standing.{Standing}
 use Rattle.plinq_ticket.specs.Weights.{total}
-use Rattle.plinq_ticket.specs.Turns.{tickets_end, has_ticket, is_inside, is_open, Fits, InTurn, newcomer, joined, seeing_drawn, drawing, called, seeing_served, leaving, together, NotPassed, SawNext, SawDrawn, SawServing, SawLeft}
+use Rattle.plinq_ticket.specs.Turns.{tickets_end, has_ticket, is_inside, is_open, Fits, InTurn, newcomer, joined_standing, seeing_drawn, drawing, called_phase, seeing_served, leaving, together, NotPassed, SawNext, SawDrawn, SawServing, SawLeft}
 use Rattle.plinq_ticket.proofs.Weights.{total-append, total-set, total-at, total-two, total-most, total-less}
 
 -- one more ticket is open
@@ -34,21 +34,21 @@ own_ticket k = grind (arith, nat_tests)
 inside_first : (serving t : ℕ) → is_inside (Inside t) ≤ has_ticket serving (Inside t) → serving ≡ t
 inside_first serving t h = grind (arith, nat_tests)
 
-has_ticket-called : (n k : ℕ) (p : Phase) → has_ticket k (called n p) ≡ has_ticket k p
-has_ticket-called n k Idle = refl
-has_ticket-called n k (Waiting t) = elim (t == n) as (λ b. has_ticket k (cond b (Inside t) (Waiting t)) ≡ has_ticket k (Waiting t)) [ true ↦ refl | false ↦ refl ]
-has_ticket-called n k (Inside t) = refl
-has_ticket-called n k Joined = refl
+has_ticket-called_phase : (n k : ℕ) (p : Phase) → has_ticket k (called_phase n p) ≡ has_ticket k p
+has_ticket-called_phase n k Idle = refl
+has_ticket-called_phase n k (Waiting t) = elim (t == n) as (λ b. has_ticket k (cond b (Inside t) (Waiting t)) ≡ has_ticket k (Waiting t)) [ true ↦ refl | false ↦ refl ]
+has_ticket-called_phase n k (Inside t) = refl
+has_ticket-called_phase n k Joined = refl
 
-called-first : (n : ℕ) (p : Phase) → is_inside p ≤ has_ticket n p → is_inside (called n p) ≤ has_ticket n (called n p)
-called-first n Idle h = h
-called-first n (Waiting t) h = by (t == n) refl
+called_phase-first : (n : ℕ) (p : Phase) → is_inside p ≤ has_ticket n p → is_inside (called_phase n p) ≤ has_ticket n (called_phase n p)
+called_phase-first n Idle h = h
+called_phase-first n (Waiting t) h = by (t == n) refl
   where
     by : (b : Bool) → (t == n) ≡ b → is_inside (cond b (Inside t) (Waiting t)) ≤ has_ticket n (cond b (Inside t) (Waiting t))
     by true e = let one : has_ticket n (Inside t) ≡ 1 = ap (λ (c : Bool). let k : ℕ = cond c 1 0 in k) e in omega (arith, one)
     by false e = omega arith
-called-first n (Inside t) h = h
-called-first n Joined h = h
+called_phase-first n (Inside t) h = h
+called_phase-first n Joined h = h
 
 module _ {V : Type 0} (standing : V → Standing) where
   ticket_at : ℕ → V → ℕ
@@ -203,8 +203,8 @@ module _ {V : Type 0} (standing : V → Standing) where
       → standing w ≡ seeing_served serving (standing v) → InTurn standing next serving (set views i w) × SawServing serving (standing v) (standing w)
   step-see_serving next serving views i v w turns at e =
       let f = turns.each_fits i v at in (
-        in_turn-same next serving views i v w turns at (λ k. ap (λ a. has_ticket k a.phase) e ∙ has_ticket-called serving k (standing v).phase)
-            (same_fits next serving w _ e (record { drawn = f.drawn; served = omega arith; first = called-first serving (standing v).phase f.first })),
+        in_turn-same next serving views i v w turns at (λ k. ap (λ a. has_ticket k a.phase) e ∙ has_ticket-called_phase serving k (standing v).phase)
+            (same_fits next serving w _ e (record { drawn = f.drawn; served = omega arith; first = called_phase-first serving (standing v).phase f.first })),
         record {
           risen = f.served;
           within = let o = turns.order in let h = turns.within in omega arith;
@@ -232,7 +232,7 @@ module _ {V : Type 0} (standing : V → Standing) where
       )
 
   pub step-join : (next serving : ℕ) (views : List V) (i j : ℕ) (v w both spent : V) → InTurn standing next serving views → get_elem? views i ≡ some v → j ≢ i → get_elem? (set views i both) j ≡ some w
-      → (standing v).phase ≡ Idle → (standing w).phase ≡ Idle → standing both ≡ together (standing v) (standing w) → standing spent ≡ joined
+      → (standing v).phase ≡ Idle → (standing w).phase ≡ Idle → standing both ≡ together (standing v) (standing w) → standing spent ≡ joined_standing
       → InTurn standing next serving (set (set views i both) j spent)
   step-join next serving views i j v w both spent turns at other at' idle idle' e e' =
       let f = turns.each_fits i v at in

@@ -6,22 +6,22 @@ use Rattle.plinq_keyed.specs.declared.tail.Tail.TheVariants.{Closed}
 use Rattle.plinq_ticket.specs.Weights.{total}
 
 -- records in the order of their tickets, and one more at its place
-abbrev pub placed : Record → List Record → List Record
-placed r [] = r ∷ []
-placed r (x ∷ xs) = if nat_le r.ticket x.ticket then r ∷ x ∷ xs else x ∷ placed r xs
+abbrev pub placed_records : Record → List Record → List Record
+placed_records r [] = r ∷ []
+placed_records r (x ∷ xs) = if nat_le r.ticket x.ticket then r ∷ x ∷ xs else x ∷ placed_records r xs
 
 -- records in the order of their tickets
 abbrev pub in_ticket_order : List Record → List Record
 in_ticket_order [] = []
-in_ticket_order (r ∷ rs) = placed r (in_ticket_order rs)
+in_ticket_order (r ∷ rs) = placed_records r (in_ticket_order rs)
 
 -- Each record of a share stands in a history, as often: however records are weighed, the share weighs no more
 abbrev pub Contains : List Record → List Record → Type 0
 Contains history share = (weight : Record → ℕ) → total weight share ≤ total weight history
 
 -- the records that came after a history
-abbrev pub added : List Record → List Record → List Record
-added old new = drop (length old) new
+abbrev pub added_records : List Record → List Record → List Record
+added_records old new = drop (length old) new
 
 -- at most one record came after a history, and it has that ticket
 abbrev pub AddsAtMostOne : ℕ → List Record → List Record → Type 0
@@ -34,5 +34,5 @@ closed_under ticket = record { ticket = ticket; asked = Close; first = 0; count 
 row_of_shares : in_ticket_order (closed_under 2 ∷ closed_under 0 ∷ closed_under 1 ∷ []) ≡ closed_under 0 ∷ closed_under 1 ∷ closed_under 2 ∷ []
 row_of_shares = refl
 
-row_added : added (closed_under 0 ∷ []) (closed_under 0 ∷ closed_under 1 ∷ []) ≡ closed_under 1 ∷ []
+row_added : added_records (closed_under 0 ∷ []) (closed_under 0 ∷ closed_under 1 ∷ []) ≡ closed_under 1 ∷ []
 row_added = refl

@@ -47,8 +47,8 @@ abbrev pub newcomer : Standing
 newcomer = record { phase = Idle; drawn = 0; served = 0 }
 
 -- a pass that another one has taken in
-abbrev pub joined : Standing
-joined = record { phase = Joined; drawn = 0; served = 0 }
+abbrev pub joined_standing : Standing
+joined_standing = record { phase = Joined; drawn = 0; served = 0 }
 
 -- a pass that has seen so many drawn
 abbrev pub seeing_drawn : ℕ → Standing → Standing
@@ -59,15 +59,15 @@ abbrev pub drawing : ℕ → Standing → Standing
 drawing t a = record { phase = Waiting t; drawn = t + 1; served = a.served }
 
 -- its turn has come where its ticket is served
-abbrev pub called : ℕ → Phase → Phase
-called n Idle = Idle
-called n (Waiting t) = if t == n then Inside t else Waiting t
-called n (Inside t) = Inside t
-called n Joined = Joined
+abbrev pub called_phase : ℕ → Phase → Phase
+called_phase n Idle = Idle
+called_phase n (Waiting t) = if t == n then Inside t else Waiting t
+called_phase n (Inside t) = Inside t
+called_phase n Joined = Joined
 
 -- a pass that has seen so many served
 abbrev pub seeing_served : ℕ → Standing → Standing
-seeing_served n a = record { phase = called n a.phase; drawn = a.drawn; served = n }
+seeing_served n a = record { phase = called_phase n a.phase; drawn = a.drawn; served = n }
 
 -- a pass that has left, after which that ticket is served
 abbrev pub leaving : ℕ → Standing → Standing
@@ -119,8 +119,8 @@ row_left : is_open 3 5 2 ≡ 0
 row_left = refl
 
 -- a pass that waits comes inside at its own ticket alone
-row_called : called 4 (Waiting 4) ≡ Inside 4
+row_called : called_phase 4 (Waiting 4) ≡ Inside 4
 row_called = refl
 
-row_passed_over : called 3 (Waiting 4) ≡ Waiting 4
+row_passed_over : called_phase 3 (Waiting 4) ≡ Waiting 4
 row_passed_over = refl

@@ -1,7 +1,7 @@
 ghost use Rattle.std.specs.Prelude.{◌≡◌, ◌+◌, ◌++◌};
 ghost use Rattle.plinq_ticket.specs.Passes.{IsPassOf, IsHeldOf, pass_origin, pass_share, pass_drawn, pass_served};
 ghost use Rattle.plinq_ticket.specs.Passes.{held_value, held_ticket, held_origin, held_found, held_share, held_drawn};
-ghost use Rattle.plinq_ticket.specs.Shares.{AddsAtMostOne, added};
+ghost use Rattle.plinq_ticket.specs.Shares.{AddsAtMostOne, added_records};
 
 use crate::held::{Entry, Held, Stay};
 use crate::pass::{Pass, Token};
@@ -18,7 +18,7 @@ impl<V: Guarded> TicketLock<V> {
         requires adds { AddsAtMostOne (held_ticket held) (held_found held) (V.history (held_value held)) }
         ensures lock { IsPassOf self.now result }
         ensures origin { pass_origin result ≡ held_origin held }
-        ensures share { pass_share result ≡ held_share held ++ added (held_found held) (V.history (held_value held)) }
+        ensures share { pass_share result ≡ held_share held ++ added_records (held_found held) (V.history (held_value held)) }
         ensures drawn { pass_drawn result ≡ held_drawn held }
         ensures served { pass_served result ≡ held_ticket held + 1 }
     {

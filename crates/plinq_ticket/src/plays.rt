@@ -1,5 +1,5 @@
 //! What each step reports to the pass that makes it. These types are for the proofs alone.
-ghost use Rattle.plinq_ticket.specs.inner.Steps.{SeesNext, Draws, SeesServing, Leaves, cut, together_with, spent};
+ghost use Rattle.plinq_ticket.specs.inner.Steps.{SeesNext, Draws, SeesServing, Leaves, cut_view, together_with, spent_view};
 
 use crate::view::View;
 use atomic_table::{Join, Play, Split};
@@ -39,7 +39,7 @@ pub struct Cut;
 impl<T> Split<View<T>> for Cut {
     ghost left = { λ v. v };
 
-    ghost right = { cut };
+    ghost right = { cut_view };
 }
 
 /// Two passes become one, with both shares.
@@ -48,5 +48,5 @@ pub struct Glue;
 impl<T> Join<View<T>> for Glue {
     ghost both = { together_with };
 
-    ghost spent = { spent };
+    ghost spent = { spent_view };
 }

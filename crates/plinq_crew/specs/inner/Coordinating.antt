@@ -8,7 +8,7 @@ use Rattle.plinq_partition.specs.Partitions.{IsPartitionOf, IsStopped, holding_o
 use Rattle.plinq_stream.specs.declared.sent.Sent.{Sent}
 use Rattle.plinq_stream.specs.declared.stream.Stream.{Stream}
 use Rattle.plinq_stream.specs.declared.stream_pass.StreamPass.{StreamPass}
-use Rattle.plinq_stream.specs.Passes.{IsPassOf, known}
+use Rattle.plinq_stream.specs.Passes.{IsPassOf, knowledge_of}
 use Rattle.plinq_stream.specs.Streams.{HasReceivedAll}
 use Rattle.plinq_crew.specs.declared.closing.Closing.{Closing}
 use Rattle.plinq_crew.specs.declared.coordinator.Coordinator.{Coordinator}
@@ -27,12 +27,12 @@ module _ {S T M : Type 0} {source : Ghosts S T} where
   pub record IsCoordinator {C : Type 0} (chunked : Chunked S T source) (stream : Stream (ChunkResult M) C) (c : Coordinator S M T source) : Type 0 where
     pub of : IsPartitionOf chunked c.partition
     pub pass : IsPassOf stream c.stream
-    pub receiver : IsReceiver (known c.stream)
+    pub receiver : IsReceiver (knowledge_of c.stream)
 
   -- while it accepts, the source that is shared stays the same, and the numbers that are left, and who was started
   pub record StaysSame (c c' : Coordinator S M T source) : Type 0 where
     pub origin : (holding_of c'.partition).origin ≡ (holding_of c.partition).origin
-    pub numbers : (known c'.stream).numbers ≡ (known c.stream).numbers
+    pub numbers : (knowledge_of c'.stream).numbers ≡ (knowledge_of c.stream).numbers
     pub worker_count : c'.worker_count ≡ c.worker_count
 
   -- The source is closed once at most, by a close of the coordinator's own, and not where that was done before. Where all is over
@@ -62,8 +62,8 @@ module _ {S T M : Type 0} {source : Ghosts S T} where
       (MaySend : ChunkResult M → Type 0) (stops_at : ℕ → Bool) (crew : Crew L S J P T T M source)
       (c : Coordinator S M T source) (t : Team S M T source) : Type 0 where
     pub pass : IsPassOf crew.stream.now c.stream
-    pub receiver : IsReceiver (known c.stream)
-    pub numbers : c.worker_count.started ≡ c.worker_count.wanted → HasNumbersFrom (length t.handles.items) (known c.stream)
+    pub receiver : IsReceiver (knowledge_of c.stream)
+    pub numbers : c.worker_count.started ≡ c.worker_count.wanted → HasNumbersFrom (length t.handles.items) (knowledge_of c.stream)
     pub equipped : IsEquipped meaning (makes crew.task.now) MaySend stops_at crew.plan.now crew.chunked.now crew.cut.now c.partition t.cut
     pub team : IsTeam crew.chunked.now crew.stream.now crew.workers c.worker_count t
     pub workers : (1 ≤ crew.workers) × (crew.workers ≤ 64)
@@ -82,14 +82,14 @@ module _ {S T M X : Type 0} {source : Ghosts S T} (is_ready : X → Type 0) (acc
     pub same : StaysSame c c'
     pub ready : is_ready x'
     pub closed : StaysClosed before (holding_of c.partition).share after (holding_of c'.partition).share
-    pub accepted : AcceptsOn accepts IsPart (known c.stream).received (wants_close before) x (known c'.stream).received (wants_close after) x'
+    pub accepted : AcceptsOn accepts IsPart (knowledge_of c.stream).received (wants_close before) x (knowledge_of c'.stream).received (wants_close after) x'
 
 -- The pass, which is still one of the stream, has received all that was sent, and it was accepted where what comes isn't dropped.
 -- What was sent and the numbers that are left are the same
 pub record AcceptsRest {M C X : Type 0} (accepts : X → ChunkResult M → X → Type 0) (IsPart : ChunkResult M → Type 0) (stream : Stream (ChunkResult M) C)
     (closing : Closing) (p : StreamPass (ChunkResult M)) (x : X) (p' : StreamPass (ChunkResult M)) (x' : X) : Type 0 where
   pub of : IsPassOf stream p'
-  pub all : HasReceivedAll (known p')
-  pub sent : (known p').sent ≡ (known p).sent
-  pub numbers : (known p').numbers ≡ (known p).numbers
-  pub accepted : AcceptsOn accepts IsPart (known p).received (wants_close closing) x (known p').received (wants_close closing) x'
+  pub all : HasReceivedAll (knowledge_of p')
+  pub sent : (knowledge_of p').sent ≡ (knowledge_of p).sent
+  pub numbers : (knowledge_of p').numbers ≡ (knowledge_of p).numbers
+  pub accepted : AcceptsOn accepts IsPart (knowledge_of p).received (wants_close closing) x (knowledge_of p').received (wants_close closing) x'

@@ -8,7 +8,7 @@ use Rattle.plinq_partition.specs.declared.partition.Partition.{Partition}
 use Rattle.plinq_partition.specs.GivenBack.{common_origin}
 use Rattle.plinq_partition.specs.Partitions.{IsPartitionOf, all_shares, holding_of}
 use Rattle.plinq_stream.specs.declared.stream_pass.StreamPass.{StreamPass}
-use Rattle.plinq_stream.specs.Passes.{IsPassOf, known}
+use Rattle.plinq_stream.specs.Passes.{IsPassOf, knowledge_of}
 use Rattle.plinq_stream.specs.Streams.{has}
 use Rattle.plinq_crew.specs.declared.handle.WorkerPromise.{WorkerPromise}
 use Rattle.plinq_crew.specs.declared.starting.WorkerFaults.{WorkerFaults}
@@ -25,7 +25,7 @@ module _ {L S J P T M : Type 0} {source : Ghosts S T} (crew : Crew L S J P T T M
   pub record MayJoin (free : Vec (Partition S T source)) : Type 0 where
     pub of : IsPartitionOf crew.chunked.now first
     pub pass : IsPassOf crew.stream.now p
-    pub receiver : IsReceiver (known p)
+    pub receiver : IsReceiver (knowledge_of p)
     pub handles : All (IsHandleOf crew.chunked.now crew.stream.now) workers
     pub numbered : AreNumbered 0 workers
     pub empty : free.items ≡ []
@@ -40,13 +40,13 @@ module _ {L S J P T M : Type 0} {source : Ghosts S T} (crew : Crew L S J P T T M
     pub origin : common_origin partitions ≡ (holding_of first).origin
     -- the receiving pass has received nothing meanwhile
     pub pass : IsPassOf crew.stream.now p'
-    pub receives : (known p').receives ≡ true
-    pub received : (known p').received ≡ (known p).received
+    pub receives : (knowledge_of p').receives ≡ true
+    pub received : (knowledge_of p').received ≡ (knowledge_of p).received
     -- what was sent is what the partitions' records say, but for faults, which were noted
-    pub answered : All (IsAnsweredBy least (known p') faults') (drop 1 partitions)
-    pub sent : All (λ s. IsOfOne (all_shares partitions) s.item) (known p').sent
+    pub answered : All (IsAnsweredBy least (knowledge_of p') faults') (drop 1 partitions)
+    pub sent : All (λ s. IsOfOne (all_shares partitions) s.item) (knowledge_of p').sent
     -- where it had all numbers beyond the workers', it has all from this one on
-    pub numbers : HasNumbersFrom (length workers) (known p) → (n : ℕ) → least ≤ n → n < 64 → has n (known p').numbers ≡ true
+    pub numbers : HasNumbersFrom (length workers) (knowledge_of p) → (n : ℕ) → least ≤ n → n < 64 → has n (knowledge_of p').numbers ≡ true
     -- a source that the first had closed is closed
     pub closed : HasClosed (holding_of first).share → HasClosed (all_shares partitions)
     -- what was noted stays noted

@@ -3,7 +3,7 @@ use Rattle.std.specs.Prelude.{◌≡◌, refl, List, [], ◌∷◌}
 use Rattle.std.specs.List.{fold}
 use Rattle.std.proofs.Common.{sym, ◌∙◌, ap}
 use Rattle.std.proofs.lemmas.List.Sums.{fold-append}
-use Rattle.plinq_aggregate.specs.Folding.{Folding, folded, IsFolding}
+use Rattle.plinq_aggregate.specs.Folding.{Folding, fold_of, IsFolding}
 
 module _ {T A O : Type 0} (f : Folding T A O) where
   -- an item that the second has taken in may as well be taken in by both
@@ -21,6 +21,6 @@ module _ {T A O : Type 0} (f : Folding T A O) where
   pub acting-lawful : TakesAfter → EndsInSeed → IsFolding f
   acting-lawful takes ends =
       record {
-        joins = λ xs ys. through takes (folded f xs) f.seed ys ∙ ap (λ a. fold f.update a ys) (ends (folded f xs)) ∙ sym (fold-append f.update f.seed xs ys);
+        joins = λ xs ys. through takes (fold_of f xs) f.seed ys ∙ ap (λ a. fold f.update a ys) (ends (fold_of f xs)) ∙ sym (fold-append f.update f.seed xs ys);
         neutral = λ xs. through takes f.seed f.seed xs ∙ ap (λ a. fold f.update a xs) (ends f.seed);
       }

@@ -3,8 +3,8 @@ use Rattle.std.specs.Prelude.{◌≡◌, ⊤, ℕ, List, [], ◌∷◌, ◌++◌
 use Rattle.std.proofs.Common.{arith, sym, ◌∙◌, ap, subst, append-nil, append_assoc}
 use Rattle.plinq_source.specs.declared.ending.Ending.{Ending}
 use Rattle.plinq_source.specs.declared.ending.Ending.TheVariants.{End, Fault}
-use Rattle.plinq_source.specs.Trace.{Trace, open_trace, ended, followed}
-use Rattle.plinq_source.proofs.Followed.{trace_of, followed-ended}
+use Rattle.plinq_source.specs.Trace.{Trace, open_trace, ended_trace, followed_by}
+use Rattle.plinq_source.proofs.Followed.{trace_of, followed_by-ended}
 use Rattle.plinq_merge.specs.declared.delivery_fault.DeliveryFault.{DeliveryFault}
 use Rattle.plinq_merge.specs.declared.delivery_fault.DeliveryFault.TheVariants.{Memory, Sink}
 use Rattle.plinq_merge.specs.Taking.{IsTaking}
@@ -23,15 +23,15 @@ module _ {B : Type 0} where
   KeepsBy d x t r d' x' = Keeps x.items.items (parts_joined t.items t.ending) r x'.items.items
 
   -- one after another
-  pub keeps-after : (xs : List B) (u : Trace B) (ys : List B) (v : Trace B) (r : Result (Option Ending) DeliveryFault) (zs : List B) → Keeps xs u (Ok None) ys → Keeps ys v r zs → Keeps xs (followed u v) r zs
+  pub keeps-after : (xs : List B) (u : Trace B) (ys : List B) (v : Trace B) (r : Result (Option Ending) DeliveryFault) (zs : List B) → Keeps xs u (Ok None) ys → Keeps ys v r zs → Keeps xs (followed_by u v) r zs
   keeps-after xs u ys v (Ok e) zs first second =
       let is : open_trace u.items ≡ u = ap (trace_of u.items) (sym first.0) in
-      subst (λ w. Keeps xs (followed w v) (Ok e) zs) is (second.0, second.1 ∙ ap (λ l. l ++ v.items) first.1 ∙ append_assoc xs u.items v.items)
+      subst (λ w. Keeps xs (followed_by w v) (Ok e) zs) is (second.0, second.1 ∙ ap (λ l. l ++ v.items) first.1 ∙ append_assoc xs u.items v.items)
   keeps-after xs u ys v (Err Memory) zs first second = tt
   keeps-after xs u ys v (Err (Sink code)) zs first second = second
 
-  keeps-ends : (xs : List B) (u : Trace B) (e : Ending) (ys : List B) (rest : Trace B) → Keeps xs u (Ok (Some e)) ys → Keeps xs (followed u rest) (Ok (Some e)) ys
-  keeps-ends xs u e ys rest is = subst (λ w. Keeps xs w (Ok (Some e)) ys) (sym (followed-ended u rest e is.0)) is
+  keeps-ends : (xs : List B) (u : Trace B) (e : Ending) (ys : List B) (rest : Trace B) → Keeps xs u (Ok (Some e)) ys → Keeps xs (followed_by u rest) (Ok (Some e)) ys
+  keeps-ends xs u e ys rest is = subst (λ w. Keeps xs w (Ok (Some e)) ys) (sym (followed_by-ended u rest e is.0)) is
 
   keeps-breaks : (xs : List B) (u v : Trace B) (fault : DeliveryFault) (ys : List B) → Keeps xs u (Err fault) ys → Keeps xs v (Err fault) ys
   keeps-breaks xs u v Memory ys is = tt
@@ -47,16 +47,16 @@ module _ {B : Type 0} where
         ends = λ d x t e d' x' rest is.
             parts-past (λ u. Keeps x.items.items u (Ok (Some e)) x'.items.items) t.items t.ending rest (λ v. keeps-ends x.items.items (parts_joined t.items t.ending) e x'.items.items v is) is;
         breaks = λ d x t fault d' x' rest is.
-            keeps-breaks x.items.items (parts_joined t.items t.ending) (parts_joined (followed t rest).items (followed t rest).ending) fault x'.items.items is;
+            keeps-breaks x.items.items (parts_joined t.items t.ending) (parts_joined (followed_by t rest).items (followed_by t rest).ending) fault x'.items.items is;
         stops = λ d x ps d' x' rest is. tt;
       }
 
 -- ---- worked rows
 
-kept_up_to_a_fault : Keeps {B = ℕ} (1 ∷ []) (ended (2 ∷ []) (Fault 7)) (Ok (Some (Fault 7))) (1 ∷ 2 ∷ [])
+kept_up_to_a_fault : Keeps {B = ℕ} (1 ∷ []) (ended_trace (2 ∷ []) (Fault 7)) (Ok (Some (Fault 7))) (1 ∷ 2 ∷ [])
 kept_up_to_a_fault = (refl, refl)
 
-kept_as_if_well : Keeps {B = ℕ} (1 ∷ []) (ended (2 ∷ []) (Fault 7)) (Ok (Some End)) (1 ∷ 2 ∷ []) → ⊥
+kept_as_if_well : Keeps {B = ℕ} (1 ∷ []) (ended_trace (2 ∷ []) (Fault 7)) (Ok (Some End)) (1 ∷ 2 ∷ []) → ⊥
 kept_as_if_well kept = let same = kept.0 in absurd (cc)
 
 one_is_forgotten : Keeps {B = ℕ} (1 ∷ []) (open_trace (2 ∷ [])) (Ok None) (1 ∷ []) → ⊥

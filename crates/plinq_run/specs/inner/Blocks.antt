@@ -2,14 +2,14 @@
 use Rattle.std.specs.Prelude.{◌≡◌, List, [], ◌∷◌, ◌++◌, Bool, not, ◌&&◌, Option, Some, None, Result, Ok, Err, refl}
 use Rattle.std.proofs.Common.{sym, ◌∙◌, ap, subst}
 use Rattle.plinq_source.specs.declared.ending.Ending.{Ending}
-use Rattle.plinq_source.specs.Trace.{Trace, open_trace, followed}
-use Rattle.plinq_source.proofs.Followed.{trace_of, followed-followed}
+use Rattle.plinq_source.specs.Trace.{Trace, open_trace, followed_by}
+use Rattle.plinq_source.proofs.Followed.{trace_of, followed_by-followed_by}
 use Rattle.plinq_lambda.specs.Meaning.{Meaning}
-use Rattle.plinq_aggregate.specs.Folding.{Folding, folded, IsFolding}
+use Rattle.plinq_aggregate.specs.Folding.{Folding, fold_of, IsFolding}
 use Rattle.plinq_ops.specs.Stage.{Stage, seq, seq_after, some_takes_none}
 use Rattle.plinq_ops.specs.Feeding.{IsFed}
 use Rattle.plinq_ops.specs.Pipeline.{stages}
-use Rattle.plinq_ops.proofs.Stages.{seq-followed}
+use Rattle.plinq_ops.proofs.Stages.{seq-followed_by}
 use Rattle.plinq_merge.specs.declared.delivery_fault.DeliveryFault.{DeliveryFault}
 use Rattle.plinq_merge.specs.declared.delivery_fault.DeliveryFault.TheVariants.{Memory}
 use Rattle.plinq_merge.specs.Merging.{GoesOn}
@@ -57,7 +57,7 @@ module _ {T A U W O : Type 0} (f : Folding T A U) (lawful : IsFolding f)
   given-on : (how : Result (Option Ending) DeliveryFault) (now : List (Stage T)) (a : W) (x : O) (xs : List T)
       (now1 : List (Stage T)) (b : W) (y : O) (t : Trace T) (z : O)
       → FoldsOn f made now a x (open_trace xs) now1 b y → WasGiven f made (seq now1 t) b y how z
-      → WasGiven f made (seq now (followed (open_trace xs) t)) a x how z
+      → WasGiven f made (seq now (followed_by (open_trace xs) t)) a x how z
   given-on how now a x xs now1 b y t z first second =
       subst (λ u. WasGiven f made u a x how z) (sym (first.on.answers t))
       (given-after f lawful made taking how first.out first.parts (seq now1 t) a x b y z first.stand first.taken second)
@@ -65,16 +65,16 @@ module _ {T A U W O : Type 0} (f : Folding T A U) (lawful : IsFolding f)
   passes-goes_on : (now : List (Stage T)) (a : W) (x : O) (xs : List T) (now1 : List (Stage T)) (b : W) (y : O) (t : Trace T)
       (how : Result (Option Ending) DeliveryFault) (now2 : List (Stage T)) (c : W) (z : O)
       → FoldsOn f made now a x (open_trace xs) now1 b y → Passes f made now1 b y t how now2 c z
-      → Passes f made now a x (followed (open_trace xs) t) how now2 c z
+      → Passes f made now a x (followed_by (open_trace xs) t) how now2 c z
   passes-goes_on now a x xs now1 b y t (Ok None) now2 c z first second =
       record {
         out = first.out ++ second.out;
         on = record {
           answers = λ rest.
-              ap (seq now) (followed-followed (open_trace xs) t rest)
-              ∙ first.on.answers (followed t rest)
-              ∙ ap (followed (open_trace first.out)) (second.on.answers rest)
-              ∙ sym (followed-followed (open_trace first.out) (open_trace second.out) (seq now2 rest));
+              ap (seq now) (followed_by-followed_by (open_trace xs) t rest)
+              ∙ first.on.answers (followed_by t rest)
+              ∙ ap (followed_by (open_trace first.out)) (second.on.answers rest)
+              ∙ sym (followed_by-followed_by (open_trace first.out) (open_trace second.out) (seq now2 rest));
         };
         parts = first.parts ++ second.parts;
         stand = stand-append f first.out second.out first.parts second.parts first.stand second.stand;
@@ -85,14 +85,14 @@ module _ {T A U W O : Type 0} (f : Folding T A U) (lawful : IsFolding f)
 
   -- what is over is so of whatever comes after it
   passes-past : (how : Result (Option Ending) DeliveryFault) (now : List (Stage T)) (a : W) (x : O) (t rest : Trace T) (y : O) → IsOver how
-      → WasGiven f made (seq now t) a x how y → WasGiven f made (seq now (followed t rest)) a x how y
+      → WasGiven f made (seq now t) a x how y → WasGiven f made (seq now (followed_by t rest)) a x how y
   passes-past how now a x t rest y over given =
-      subst (λ u. WasGiven f made u a x how y) (sym (seq-followed now t rest))
+      subst (λ u. WasGiven f made u a x how y) (sym (seq-followed_by now t rest))
       (given-past f lawful made taking how (seq now t) a x y (seq (seq_after now t) rest) over given)
 
   passes-stops : (now : List (Stage T)) (a : W) (x : O) (xs : List T) (now' : List (Stage T)) (b : W) (y : O) (rest : Trace T)
       → FoldsOn f made now a x (open_trace xs) now' b y
-      → WasGiven f made (seq now (followed (open_trace xs) rest)) a x (Err Memory) y
+      → WasGiven f made (seq now (followed_by (open_trace xs) rest)) a x (Err Memory) y
   passes-stops now a x xs now' b y rest on =
       subst (λ u. WasGiven f made u a x (Err Memory) y) (sym (on.on.answers rest))
       (given-stops f lawful made taking on.out on.parts (seq now' rest) a x b y on.stand on.taken)
@@ -104,15 +104,15 @@ module _ {T A U W O : Type 0} (f : Folding T A U) (lawful : IsFolding f)
 
   given-fed : (how : Result (Option Ending) DeliveryFault) (now now' : List (Stage T)) (t : Trace T) (out : List T) (e : Option Ending)
       (a : W) (x : O) (b : W) (y : O) → IsFed now t [] out now' e
-      → made a x (trace_of (folded f out ∷ []) e) how b y → WasGiven f made (seq now t) a x how y
+      → made a x (trace_of (fold_of f out ∷ []) e) how b y → WasGiven f made (seq now t) a x how y
   given-fed how now now' t out e a x b y fed is =
       subst (λ u. WasGiven f made u a x how y) (sym (fed-answer now now' t out e fed))
-      (record { parts = trace_of (folded f out ∷ []) e; folds = as_one-folded f lawful (trace_of out e); last = b; taken = is })
+      (record { parts = trace_of (fold_of f out ∷ []) e; folds = as_one-folded f lawful (trace_of out e); last = b; taken = is })
 
   -- what came out of items that were fed was taken as one accumulator
   pub passes-all : (how : Result (Option Ending) DeliveryFault) (now now' : List (Stage T)) (t : Trace T) (out : List T)
       (e : Option Ending) (a : W) (x : O) (b : W) (y : O) → IsFed now t [] out now' e → (how ≡ Ok None → e ≡ None)
-      → made a x (trace_of (folded f out ∷ []) e) how b y → Passes f made now a x t how now' b y
+      → made a x (trace_of (fold_of f out ∷ []) e) how b y → Passes f made now a x t how now' b y
   passes-all (Ok None) now now' t out e a x b y fed last is =
       let none : e ≡ None = last refl in
       let open_fed : IsFed now t [] out now' None = subst (IsFed now t [] out now') none fed in
@@ -120,13 +120,13 @@ module _ {T A U W O : Type 0} (f : Folding T A U) (lawful : IsFolding f)
         out = out;
         on = record {
           answers = λ rest.
-              seq-followed now t rest
-              ∙ ap (λ u. followed u (seq (seq_after now t) rest)) (fed-answer now now' t out None open_fed)
-              ∙ ap (λ left. followed (open_trace out) (seq left rest)) (sym (open_fed.left refl));
+              seq-followed_by now t rest
+              ∙ ap (λ u. followed_by u (seq (seq_after now t) rest)) (fed-answer now now' t out None open_fed)
+              ∙ ap (λ left. followed_by (open_trace out) (seq left rest)) (sym (open_fed.left refl));
         };
-        parts = folded f out ∷ [];
+        parts = fold_of f out ∷ [];
         stand = λ before. lawful.joins before out;
-        taken = subst (λ o. made a x (trace_of (folded f out ∷ []) o) (Ok None) b y) none is;
+        taken = subst (λ o. made a x (trace_of (fold_of f out ∷ []) o) (Ok None) b y) none is;
       }
   passes-all (Ok (Some g)) now now' t out e a x b y fed last is = given-fed (Ok (Some g)) now now' t out e a x b y fed is
   passes-all (Err fault) now now' t out e a x b y fed last is = given-fed (Err fault) now now' t out e a x b y fed is

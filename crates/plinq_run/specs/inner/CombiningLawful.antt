@@ -4,8 +4,8 @@ use Rattle.std.specs.List.{fold}
 use Rattle.std.proofs.Common.{sym, ◌∙◌, ap, subst}
 use Rattle.std.proofs.lemmas.List.Sums.{fold-append}
 use Rattle.plinq_source.specs.declared.ending.Ending.{Ending}
-use Rattle.plinq_source.specs.Trace.{Trace, open_trace, followed}
-use Rattle.plinq_source.proofs.Followed.{followed-ended}
+use Rattle.plinq_source.specs.Trace.{Trace, open_trace, followed_by}
+use Rattle.plinq_source.proofs.Followed.{followed_by-ended}
 use Rattle.plinq_aggregate.specs.Folding.{Folding}
 use Rattle.plinq_merge.specs.declared.delivery_fault.DeliveryFault.{DeliveryFault}
 use Rattle.plinq_merge.specs.declared.delivery_fault.DeliveryFault.TheVariants.{Memory, Sink}
@@ -14,14 +14,14 @@ use Rattle.plinq_run.specs.inner.Combining.{Combines, MadeBy}
 
 module _ {T A O : Type 0} (f : Folding T A O) where
   combines-on : (acc : A) (xs : List A) (acc1 : A) (t : Trace A) (r : Result (Option Ending) DeliveryFault) (acc2 : A)
-      → Combines f acc (open_trace xs) (Ok None) acc1 → Combines f acc1 t r acc2 → Combines f acc (followed (open_trace xs) t) r acc2
+      → Combines f acc (open_trace xs) (Ok None) acc1 → Combines f acc1 t r acc2 → Combines f acc (followed_by (open_trace xs) t) r acc2
   combines-on acc xs acc1 t (Ok e) acc2 first second =
       (second.0, second.1 ∙ ap (λ a. fold f.combine a t.items) first.1 ∙ sym (fold-append f.combine acc xs t.items))
   combines-on acc xs acc1 t (Err Memory) acc2 first second = tt
   combines-on acc xs acc1 t (Err (Sink code)) acc2 first second = second
 
   combines-broken : (acc : A) (t : Trace A) (fault : DeliveryFault) (acc1 : A) (rest : Trace A) → Combines f acc t (Err fault) acc1
-      → Combines f acc (followed t rest) (Err fault) acc1
+      → Combines f acc (followed_by t rest) (Err fault) acc1
   combines-broken acc t Memory acc1 rest broken = tt
   combines-broken acc t (Sink code) acc1 rest broken = broken
 
@@ -35,7 +35,7 @@ made-lawful folding =
             combines = combines-on (folding d.aggregator.now) x xs x1 t r x2 first.combines
                 (subst (λ a. Combines (folding a.now) x1 t r x2) first.same second.combines);
           };
-      ends = λ d x t e d' x' rest made. subst (λ u. MadeBy folding d x u (Ok (Some e)) d' x') (sym (followed-ended t rest e made.combines.0)) made;
+      ends = λ d x t e d' x' rest made. subst (λ u. MadeBy folding d x u (Ok (Some e)) d' x') (sym (followed_by-ended t rest e made.combines.0)) made;
       breaks = λ d x t fault d' x' rest made. record
           { same = made.same; combines = combines-broken (folding d.aggregator.now) x t fault x' rest made.combines };
       stops = λ d x xs d' x' rest made. record { same = made.same; combines = tt };

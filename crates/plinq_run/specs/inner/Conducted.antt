@@ -13,7 +13,7 @@ use Rattle.plinq_partition.specs.declared.partition.Partition.{Partition}
 use Rattle.plinq_partition.specs.GivenBack.{common_origin}
 use Rattle.plinq_partition.specs.Partitions.{IsPartitionOf, all_shares, holding_of}
 use Rattle.plinq_stream.specs.declared.stream_pass.StreamPass.{StreamPass}
-use Rattle.plinq_stream.specs.Passes.{IsPassOf, known}
+use Rattle.plinq_stream.specs.Passes.{IsPassOf, knowledge_of}
 use Rattle.plinq_stream.specs.Streams.{HasReceivedAll}
 use Rattle.plinq_crew.specs.declared.worker.Crew.{Crew}
 use Rattle.plinq_crew.specs.declared.worker.WorkerContext.{WorkerContext}
@@ -58,11 +58,11 @@ module _ {L S J P T M W O : Type 0} {source : Ghosts S T} (made : W → O → Tr
     -- all that workers sent was received
     pub pass : StreamPass (ChunkResult M)
     pub of_stream : IsPassOf crew.stream.now pass
-    pub all : HasReceivedAll (known pass)
+    pub all : HasReceivedAll (knowledge_of pass)
     -- it is what their records say
-    pub answered : All (IsWhollyAnsweredBy (known pass)) (drop 1 ended.partitions.items)
+    pub answered : All (IsWhollyAnsweredBy (knowledge_of pass)) (drop 1 ended.partitions.items)
     -- it was accepted
-    pub accepted : WereAccepted made MaySend crew.plan.now.order a x (known pass).received ended.joined y
+    pub accepted : WereAccepted made MaySend crew.plan.now.order a x (knowledge_of pass).received ended.joined y
     -- and the taker has taken what it merges to
     pub taken : HasEnded made MaySend crew.plan.now.order a x ended y
 

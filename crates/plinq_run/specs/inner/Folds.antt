@@ -1,7 +1,7 @@
 -- Folds of results: accumulators in the place of items.
 use Rattle.std.specs.Prelude.{◌≡◌, refl, ℕ, pos, List, [], ◌∷◌, length, Option, ⊤}
 use Rattle.std.specs.List.{fold}
-use Rattle.plinq_aggregate.specs.Folding.{Folding, folded}
+use Rattle.plinq_aggregate.specs.Folding.{Folding, fold_of}
 use Rattle.plinq_aggregate.specs.Numbers.{counting}
 use Rattle.plinq_keyed.specs.declared.chunk.Chunk.{Chunk}
 use Rattle.plinq_ops.specs.declared.frag_end.FragEnd.{FragEnd}
@@ -21,7 +21,7 @@ module _ {T A O : Type 0} (f : Folding T A O) where
   pub record IsFoldOf (r : ChunkResult T) (c : ChunkResult A) : Type 0 where
     pub first : c.first ≡ r.first
     pub count : c.count ≡ r.count
-    pub items : c.items.items ≡ folded f r.items.items ∷ []
+    pub items : c.items.items ≡ fold_of f r.items.items ∷ []
     pub ending : c.ending ≡ r.ending
     pub stop : c.stop ≡ r.stop
     pub tail : c.tail ≡ r.tail
@@ -35,7 +35,7 @@ module _ {T A O : Type 0} (f : Folding T A O) where
 -- ---- worked rows
 
 -- two parts of three items
-three_are_counted : fold counting.combine counting.seed (folded counting (pos 7 ∷ pos 8 ∷ []) ∷ folded counting (pos 9 ∷ []) ∷ []) ≡ 3
+three_are_counted : fold counting.combine counting.seed (fold_of counting (pos 7 ∷ pos 8 ∷ []) ∷ fold_of counting (pos 9 ∷ []) ∷ []) ≡ 3
 three_are_counted = refl
 
 of_no_parts_the_seed : fold counting.combine counting.seed [] ≡ 0

@@ -17,7 +17,7 @@ use Rattle.plinq_merge.specs.declared.merge_fault.MergeFault.{MergeFault}
 use Rattle.plinq_merge.specs.declared.more.More.{More}
 use Rattle.plinq_merge.specs.Joiners.{taker_of, order_of, ending_of, JoinsOffer, HasJoined}
 use Rattle.plinq_merge.specs.Mergers.{delivery_fault_of}
-use Rattle.plinq_merge.specs.Shown.{Merge, merged}
+use Rattle.plinq_merge.specs.Shown.{Merge, merged_trace}
 use Rattle.plinq_merge.specs.Whole.{AreApart}
 use Rattle.plinq_partition.specs.Partitions.{all_shares}
 use Rattle.plinq_stream.specs.declared.sent.Sent.{Sent}
@@ -69,7 +69,7 @@ module _ {W O T : Type 0} (made : W → O → Trace T → Result (Option Ending)
   module _ (IsPart : ChunkResult T → Type 0) (order : Order) (a : W) (x : O) where
     abbrev pub Stands : Option MergeFault → Joiner W T → O → List (ChunkResult T) → Type 0
     Stands None j y offers = (order_of j ≡ order) × HasJoined made a x j y offers
-    Stands (Some fault) j y offers = (last : W) × made a x (merged order offers) (Err (delivery_fault_of fault)) last y
+    Stands (Some fault) j y offers = (last : W) × made a x (merged_trace order offers) (Err (delivery_fault_of fault)) last y
 
     -- such parts were offered, of which no key is in two: they are joined, or the taker broke off what they merge to
     pub record HasMerged (m : Merging W T) (y : O) : Type 0 where
@@ -83,7 +83,7 @@ module _ {W O T : Type 0} (made : W → O → Trace T → Result (Option Ending)
       pub offers : List (ChunkResult T)
       pub are : All (IsOffered IsPart (all_shares ended.partitions.items)) offers
       pub apart : AreApart offers
-      pub taken : made a x (merged order offers) (Ok (Some ended.joined.ending)) ended.joined.taker y
+      pub taken : made a x (merged_trace order offers) (Ok (Some ended.joined.ending)) ended.joined.taker y
 
     -- there is a fault, for which the taker may have broken it off
     pub record HasBrokenOff (fault : RunFault) (y : O) : Type 0 where
@@ -92,7 +92,7 @@ module _ {W O T : Type 0} (made : W → O → Trace T → Result (Option Ending)
       pub apart : AreApart offers
       pub last : W
       pub how : Result (Option Ending) DeliveryFault
-      pub taken : made a x (merged order offers) how last y
+      pub taken : made a x (merged_trace order offers) how last y
       pub breaks : Breaks how (cause_of fault)
 
     -- All of these were accepted one after another, first to last, but for some of the last ones, by a joiner to which

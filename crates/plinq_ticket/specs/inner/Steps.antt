@@ -8,8 +8,8 @@ use Rattle.plinq_ticket.specs.declared.phase.Phase.{Phase}
 use Rattle.plinq_ticket.specs.declared.phase.Phase.TheVariants.{Idle, Waiting, Inside, Joined}
 use Rattle.plinq_ticket.specs.declared.standing.Standing.{Standing}
 use Rattle.plinq_ticket.specs.declared.view.View.{View}
-use Rattle.plinq_ticket.specs.Turns.{SawNext, SawDrawn, SawServing, joined, leaving, together}
-use Rattle.plinq_ticket.specs.Shares.{Contains, AddsAtMostOne, added, closed_under}
+use Rattle.plinq_ticket.specs.Turns.{SawNext, SawDrawn, SawServing, joined_standing, leaving, together}
+use Rattle.plinq_ticket.specs.Shares.{Contains, AddsAtMostOne, added_records, closed_under}
 use Rattle.plinq_ticket.specs.Lawful.{origin_in, first_view}
 
 module _ {V : Type 0} where
@@ -29,16 +29,16 @@ module _ {T : Type 0} where
   standing_so a v = record { standing = a; items = v.items; ending = v.ending; found = v.found; share = v.share }
 
   -- a new pass: it has seen as much, and has no share
-  abbrev pub cut : View T → View T
-  cut v = record { standing = v.standing; items = v.items; ending = v.ending; found = []; share = [] }
+  abbrev pub cut_view : View T → View T
+  cut_view v = record { standing = v.standing; items = v.items; ending = v.ending; found = []; share = [] }
 
   -- two passes as one
   abbrev pub together_with : View T → View T → View T
   together_with v w = record { standing = together v.standing w.standing; items = v.items; ending = v.ending; found = []; share = v.share ++ w.share }
 
   -- a pass that another one has taken in
-  abbrev pub spent : View T
-  spent = record { standing = joined; items = []; ending = None; found = []; share = [] }
+  abbrev pub spent_view : View T
+  spent_view = record { standing = joined_standing; items = []; ending = None; found = []; share = [] }
 
   -- a pass that has come inside, where it found that history
   abbrev pub inside_with : List Record → Standing → View T → View T
@@ -93,7 +93,7 @@ module _ {T : Type 0} where
 
     -- a pass that leaves takes the records that it added into its share
     pub record Leaves (history : V → List Record) (n : ℕ) (a b : Me (Option V) (View T)) : Type 0 where
-      pub view : b.0 ≡ left_with (added a.0.found (slot_records history a.1)) (leaving n a.0.standing) a.0
+      pub view : b.0 ≡ left_with (added_records a.0.found (slot_records history a.1)) (leaving n a.0.standing) a.0
       pub slot : b.1 ≡ rest a.1
 
 -- a pass with those records
@@ -101,14 +101,14 @@ abbrev with_records : List Record → View ℕ
 with_records h = first_view (open_trace []) h
 
 -- a new pass has no records, and the two together have those of the one that was cut
-row_cut : (cut (with_records (closed_under 0 ∷ []))).share ≡ []
+row_cut : (cut_view (with_records (closed_under 0 ∷ []))).share ≡ []
 row_cut = refl
 
-row_together : together_with (with_records (closed_under 0 ∷ [])) (cut (with_records (closed_under 0 ∷ []))) ≡ with_records (closed_under 0 ∷ [])
+row_together : together_with (with_records (closed_under 0 ∷ [])) (cut_view (with_records (closed_under 0 ∷ []))) ≡ with_records (closed_under 0 ∷ [])
 row_together = refl
 
 -- what the value has more than was found becomes the pass's own
-row_left : left_with (added (closed_under 0 ∷ []) (closed_under 0 ∷ closed_under 2 ∷ [])) (leaving 3 (with_records []).standing) (with_records (closed_under 1 ∷ []))
+row_left : left_with (added_records (closed_under 0 ∷ []) (closed_under 0 ∷ closed_under 2 ∷ [])) (leaving 3 (with_records []).standing) (with_records (closed_under 1 ∷ []))
     ≡ standing_so (leaving 3 (with_records []).standing) (with_records (closed_under 1 ∷ closed_under 2 ∷ []))
 row_left = refl
 

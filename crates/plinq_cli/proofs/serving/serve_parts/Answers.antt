@@ -1,7 +1,7 @@
 -- nothing is written before the partitions are there, and then their lines
 use Rattle.std.proofs.Common.{◌≡◌, ℕ, ℤ, List, ◌++◌, refl, ap, sym, ◌∙◌, rules}
 use Rattle.plinq_source.specs.declared.ending.Ending.{Ending}
-use Rattle.plinq_source.specs.Trace.{Trace, ended}
+use Rattle.plinq_source.specs.Trace.{Trace, ended_trace}
 use Rattle.plinq_keyed.specs.declared.keyed.Keyed.{Keyed}
 use Rattle.plinq_keyed.specs.declared.properties.KeyProperties.{KeyProperties}
 use Rattle.plinq_keyed.specs.Keys.{keyed_from, element_lists}
@@ -16,7 +16,7 @@ use Rattle.plinq_cli.proofs.Answered.{serves-begun, serves-unwritten}
 use Rattle.plinq_cli.proofs.serving.serve_parts.Goals as goal
 
 written : (p : KeyProperties) (parts : List (List (Keyed ℤ))) (e : Ending) (items : List ℤ) (n m : ℕ) (t u : Trace ℤ)
-    → p ≡ all_true → parts ≡ cuts (keyed_from 0 items) n → n ≡ m → ended items e ≡ t → t ≡ u
+    → p ≡ all_true → parts ≡ cuts (keyed_from 0 items) n → n ≡ m → ended_trace items e ≡ t → t ≡ u
     → properties_line p ++ (part_lines 0 parts ++ line (ending_words e)) ≡ parts_text m u
 written p parts e items n m t u properties cut same all whole =
     ap (λ q. properties_line q ++ (part_lines 0 parts ++ line (ending_words e))) properties

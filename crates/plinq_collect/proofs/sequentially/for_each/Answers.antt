@@ -2,7 +2,7 @@
 use Rattle.std.specs.Prelude.{◌≡◌, IfErr}
 use Rattle.std.proofs.Common.{ap, ◌∙◌, refl, subst}
 use Rattle.std.specs.Coded.{Π_prop}
-use Rattle.plinq_source.specs.Trace.{ended}
+use Rattle.plinq_source.specs.Trace.{ended_trace}
 use Rattle.plinq_ops.specs.Sequential.{answer_of}
 use Rattle.plinq_collect.specs.Calling.{IsCode}
 use Rattle.plinq_collect.proofs.Called.{calls-answer, calls-none, refused-only}
@@ -15,7 +15,7 @@ pub returns-in-Ok-clause-calls : goal.returns-in-Ok-clause-calls
 returns-in-Ok-clause-calls g c =
     let u = answer_of g.L.Lambda.meaning c.args.query.now.ops (g.S.Source.whole c.args.source) in
     let xs = c.as_slice.result.now in
-    let is : ended xs c.in-Ok.ending ≡ u = ap (λ ys. ended ys c.in-Ok.ending) c.as_slice.ensures.value ∙ c.in-Ok.ensures in
+    let is : ended_trace xs c.in-Ok.ending ≡ u = ap (λ ys. ended_trace ys c.in-Ok.ending) c.as_slice.ensures.value ∙ c.in-Ok.ensures in
     calls-answer _ u xs c.in-Ok.ending is _ c.visit_all.result _ c.visit_all.ensures.calls
 
 pub returns-in-Ok-clause-uncalled : goal.returns-in-Ok-clause-uncalled

@@ -1,7 +1,7 @@
 -- Whether there is an item is what the aggregate says.
 use Rattle.std.proofs.Common.{subst}
 use Rattle.plinq_ops.specs.Answer.{MayAnswer}
-use Rattle.plinq_collect.specs.Folds.{has_item, being_there, folded-there}
+use Rattle.plinq_collect.specs.Folds.{has_item, being_there, fold_of-there}
 use Rattle.plinq_collect.specs.Telling.{TellsSome}
 use Rattle.plinq_collect.proofs.Gathered.{tells}
 use Rattle.plinq_collect.proofs.telling.is_there.Goals as goal
@@ -9,4 +9,4 @@ use Rattle.plinq_collect.proofs.telling.is_there.Goals as goal
 pub returns : goal.returns
 returns g c =
     subst (λ q. TellsSome has_item (MayAnswer g.L.Lambda.meaning q.ordered q.ops (g.S.Source.whole c.args.source)) c.aggregate.result) c.in-Ok.ensures
-    (tells being_there has_item (MayAnswer g.L.Lambda.meaning c.in-Ok.query.ordered c.in-Ok.query.ops (g.S.Source.whole c.args.source)) c.aggregate.result folded-there c.aggregate.ensures.value)
+    (tells being_there has_item (MayAnswer g.L.Lambda.meaning c.in-Ok.query.ordered c.in-Ok.query.ops (g.S.Source.whole c.args.source)) c.aggregate.result fold_of-there c.aggregate.ensures.value)

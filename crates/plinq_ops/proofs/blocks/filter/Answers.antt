@@ -1,6 +1,6 @@
 use Rattle.std.proofs.Common.{rules, ◌≡◌, ◌∙◌, take, ap}
 use Rattle.plinq_source.proofs.Followed.{trace_of}
-use Rattle.plinq_ops.proofs.Joined.{trace_of_block, joined-filtered}
+use Rattle.plinq_ops.proofs.Joined.{trace_of_block, joined_pieces-filtered}
 use Rattle.plinq_ops.proofs.blocks.filter.Goals as goal
 
 pub returns : goal.returns
@@ -9,4 +9,4 @@ returns g c =
     ap (λ xs. trace_of xs c.ending_of.result) cut
     ∙ ap (trace_of (take c.filter_items-len.result.0 c.filter_items-len.new.block.items)) c.ending_of.ensures
     ∙ ap trace_of_block c.filter_items-len.ensures.filtered
-    ∙ joined-filtered g.L.Lambda.meaning c.args.f.now c.args.block.now.items
+    ∙ joined_pieces-filtered g.L.Lambda.meaning c.args.f.now c.args.block.now.items

@@ -1,14 +1,14 @@
 use Rattle.std.proofs.Common.{◌≡◌, ◌∙◌, ◌<◌, ◌≤◌, take, length, ap, sym, arith}
 use Rattle.std.proofs.lemmas.List.{length-take-le}
 use Rattle.plinq_source.specs.declared.ending.Ending.TheVariants.{End, Fault}
-use Rattle.plinq_source.specs.Trace.{ended, open_trace}
+use Rattle.plinq_source.specs.Trace.{ended_trace, open_trace}
 use Rattle.plinq_ops.proofs.TakingWhile.{taken-passing}
 use Rattle.plinq_ops.proofs.blocks.take_while.Goals as goal
 
 pub returns-in-Some : goal.returns-in-Some
 returns-in-Some g c =
     let taken = taken-passing _ c.args.block.now.items _ _ (rw c.as_slice.ensures.value at c.count_passing-len.ensures.passing) in
-    ap (λ xs. ended xs (Fault c.in-Some.code)) c.truncate.ensures.items ∙ sym (taken.faulted c.in-Some.code c.in-Some.is)
+    ap (λ xs. ended_trace xs (Fault c.in-Some.code)) c.truncate.ensures.items ∙ sym (taken.faulted c.in-Some.code c.in-Some.is)
 
 pub returns-in-None : goal.returns-in-None
 returns-in-None g c =
@@ -22,4 +22,4 @@ returns-in-None-2 g c =
     let taken = taken-passing _ c.args.block.now.items _ _ (rw c.as_slice.ensures.value at c.count_passing-len.ensures.passing) in
     let within : c.count_passing-len.result.0 ≤ length c.args.block.now.items = rw c.as_slice.ensures.value at c.count_passing-len.ensures.within in
     let fewer : length (take c.count_passing-len.result.0 c.args.block.now.items) < length c.args.block.now.items = omega (arith, length-take-le _ _ within, within, c.if-all_pass.false, c.len.ensures) in
-    ap (λ xs. ended xs End) c.truncate.ensures.items ∙ sym (taken.stopped c.in-None.is fewer)
+    ap (λ xs. ended_trace xs End) c.truncate.ensures.items ∙ sym (taken.stopped c.in-None.is fewer)

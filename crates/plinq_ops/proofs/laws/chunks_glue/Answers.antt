@@ -1,5 +1,5 @@
-use Rattle.plinq_ops.proofs.Glue.{glued-append}
+use Rattle.plinq_ops.proofs.Glue.{glued_trace-append}
 use Rattle.plinq_ops.proofs.laws.chunks_glue.Goals as goal
 
 pub returns : goal.returns
-returns g c = λ meaning worker key xs ys e. glued-append meaning worker key xs ys e
+returns g c = λ meaning worker key xs ys e. glued_trace-append meaning worker key xs ys e

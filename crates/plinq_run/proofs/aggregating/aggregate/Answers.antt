@@ -1,6 +1,6 @@
 use Rattle.std.proofs.Common.{rules, ◌≡◌, [], true, refl, sym, ◌∙◌, subst}
 use Rattle.plinq_source.specs.declared.ending.Ending.TheVariants.{End}
-use Rattle.plinq_source.specs.Trace.{ended}
+use Rattle.plinq_source.specs.Trace.{ended_trace}
 use Rattle.plinq_ops.specs.Answer.{MayAnswer}
 use Rattle.plinq_run.specs.declared.combiner.Combiner.{Combiner}
 use Rattle.plinq_run.specs.Parting.{GivesSome}
@@ -13,8 +13,8 @@ pub returns-then-split-clause-value : goal.returns-then-split-clause-value
 returns-then-split-clause-value g c =
     let q = c.args.query.now in
     let is : c.split.result.decided ≡ true = search rules in (
-      ended [] End,
-      decided-may g.L.Lambda.meaning q.ordered q.ops (g.S.Source.whole c.args.source) (ended [] End) (sym c.split.ensures.plan.decided ∙ is)
+      ended_trace [] End,
+      decided-may g.L.Lambda.meaning q.ordered q.ops (g.S.Source.whole c.args.source) (ended_trace [] End) (sym c.split.ensures.plan.decided ∙ is)
           refl,
       (search rules, refl),
     )

@@ -1,7 +1,7 @@
 use Rattle.std.proofs.Common.{rules, ◌≡◌, ◌≤◌, ◌^◌, [], true, Ok, Err, length, sym, ap, ◌∙◌, subst, refl}
 use Rattle.std.proofs.lemmas.Result.{IfOk-weaker}
 use Rattle.plinq_source.specs.declared.ending.Ending.TheVariants.{End}
-use Rattle.plinq_source.specs.Trace.{Trace, ended}
+use Rattle.plinq_source.specs.Trace.{Trace, ended_trace}
 use Rattle.plinq_keyed.specs.History.{IsLegalHistory}
 use Rattle.plinq_partition.specs.Partitions.{all_shares}
 use Rattle.plinq_ops.specs.Batches.{batches}
@@ -19,8 +19,8 @@ pub returns-then-plan-clause-reports : goal.returns-then-plan-clause-reports
 returns-then-plan-clause-reports g c =
     let q = c.args.query.now in
     let decided : c.split-plan.result.decided ≡ true = search rules in
-    let may = λ (t : Trace _). decided-may g.L.Lambda.meaning q.ordered q.ops t (ended [] End) (sym c.split-plan.ensures.plan.decided ∙ decided) refl in
-    record { answer = ended [] End; may = may _; accounts = may _; has_run = record { delivered = refl; ending = refl } }
+    let may = λ (t : Trace _). decided-may g.L.Lambda.meaning q.ordered q.ops t (ended_trace [] End) (sym c.split-plan.ensures.plan.decided ∙ decided) refl in
+    record { answer = ended_trace [] End; may = may _; accounts = may _; has_run = record { delivered = refl; ending = refl } }
 
 pub returns-then-plan-clause-ordered : goal.returns-then-plan-clause-ordered
 returns-then-plan-clause-ordered g c = λ ordered.

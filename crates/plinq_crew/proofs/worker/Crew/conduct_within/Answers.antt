@@ -1,6 +1,6 @@
 use Rattle.std.proofs.Common.{rules, ◌≡◌, ◌≤◌, [], All, true≢false, length, refl, sym, ap, ◌∙◌, subst, arith}
 use Rattle.plinq_partition.specs.Partitions.{all_shares, holding_of}
-use Rattle.plinq_stream.specs.Passes.{known}
+use Rattle.plinq_stream.specs.Passes.{knowledge_of}
 use Rattle.plinq_stream.specs.Streams.{has}
 use Rattle.plinq_stream.proofs.Under.{each-received}
 use Rattle.plinq_crew.specs.inner.Closing.{wants_close}
@@ -17,7 +17,7 @@ use Rattle.plinq_crew.proofs.worker.Crew.conduct_within.Goals.{in-None, in-Some+
 pub loop-init : goal.loop-init
 loop-init g c =
     let none : 0 ≡ length c.in-Ok.handles.items = search rules in
-    let all = ap (λ p. (known p).numbers) c.new-coordinator.ensures.stream ∙ ap (λ k. k.numbers) c.requires.ready.knows in
+    let all = ap (λ p. (knowledge_of p).numbers) c.new-coordinator.ensures.stream ∙ ap (λ k. k.numbers) c.requires.ready.knows in
     record {
       can = search rules;
       finite = search rules;
@@ -25,7 +25,7 @@ loop-init g c =
         may = record {
           pass = search rules;
           receiver = search rules;
-          numbers = λ _. subst (λ n. HasNumbersFrom n (known c.new-coordinator.result.stream)) none all;
+          numbers = λ _. subst (λ n. HasNumbersFrom n (knowledge_of c.new-coordinator.result.stream)) none all;
           equipped = search rules;
           team = search rules;
           workers = c.requires.ready.workers;
@@ -36,7 +36,7 @@ loop-init g c =
         accepted = record {
           taken = [];
           left = [];
-          came = ap (λ p. (known p).received) c.new-coordinator.ensures.stream ∙ ap (λ k. k.received) c.requires.ready.knows;
+          came = ap (λ p. (knowledge_of p).received) c.new-coordinator.ensures.stream ∙ ap (λ k. k.received) c.requires.ready.knows;
           steps = refl;
           all = λ _. refl;
         };
@@ -86,16 +86,16 @@ returns g c =
       pass = c.accept_rest.new.pass;
       of_stream = rest.of;
       all = rest.all;
-      answered = answered-same (known c.join_all-partitions.new.pass) (known c.accept_rest.new.pass) c.join_all-partitions.new.worker_faults _
+      answered = answered-same (knowledge_of c.join_all-partitions.new.pass) (knowledge_of c.accept_rest.new.pass) c.join_all-partitions.new.worker_faults _
           rest.sent rest.numbers joined.answered;
       each = λ k d less started.
           let handed = last.same.numbers ∙ stood.may.numbers (subst (λ (n : WorkerCount). n.started ≡ n.wanted) last.same.worker_count started) in
-          each-received (IsOfOne (all_shares partitions.items)) (known c.accept_rest.new.pass) rest.all
+          each-received (IsOfOne (all_shares partitions.items)) (knowledge_of c.accept_rest.new.pass) rest.all
           (λ n near. ap (has n) rest.numbers ∙ joined.numbers handed n (omega arith) near)
           (subst (All (λ s. IsOfOne (all_shares partitions.items) s.item)) (sym rest.sent) joined.sent) k d less;
       closed = λ none. joined.closed (last.closed stood.closed (none-before _ _ joined.kept none));
       wants_close = wants_close end.closing;
       accepted = rest.accepted [] x
           (subst (λ xs. HasAccepted Step [] x xs (wants_close end.closing) end.consumer)
-          (sym (joined.received ∙ ap (λ p. (known p).received) last.stream)) stood.accepted);
+          (sym (joined.received ∙ ap (λ p. (knowledge_of p).received) last.stream)) stood.accepted);
     }

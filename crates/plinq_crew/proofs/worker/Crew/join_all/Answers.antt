@@ -4,7 +4,7 @@ use Rattle.std.proofs.lemmas.List.Elements.{All-nil, All-pop, All-push, All-weak
 use Rattle.plinq_partition.specs.Partitions.{IsPartitionOf, all_shares, holding_of}
 use Rattle.plinq_partition.specs.GivenBack.{common_origin}
 use Rattle.plinq_stream.specs.declared.sent.Sent.{Sent}
-use Rattle.plinq_stream.specs.Passes.{known}
+use Rattle.plinq_stream.specs.Passes.{knowledge_of}
 use Rattle.plinq_stream.specs.Streams.{has}
 use Rattle.plinq_stream.proofs.Beside.{pass-beside}
 use Rattle.plinq_stream.proofs.Numbers.{from-all}
@@ -22,9 +22,9 @@ loop-handle-preserved g c =
     let left = c.pop.new.self.items in
     let handle = c.in-Some.handle in
     let worked = c.join-worked.result in
-    let a = known c.loop-handle.pass in
-    let b = known worked.stream in
-    let both = known c.join.new.pass in
+    let a = knowledge_of c.loop-handle.pass in
+    let b = knowledge_of worked.stream in
+    let both = knowledge_of c.join.new.pass in
     let stands = c.loop-handle.invariant in
     let joined = stands.joined in
     let last : c.loop-handle.handles.items ≡ left ++ handle ∷ [] = c.in-Some.ensures.items in
@@ -95,7 +95,7 @@ loop-handle-init g c =
         pass = c.requires.pass;
         receives = c.requires.receiver.receives;
         received = refl;
-        answered = (let Is = IsAnsweredBy count (known c.args.pass.now) c.args.worker_faults.now in subst (λ ps. All Is (drop 1 ps)) (sym pushed) (All-nil Is));
+        answered = (let Is = IsAnsweredBy count (knowledge_of c.args.pass.now) c.args.worker_faults.now in subst (λ ps. All Is (drop 1 ps)) (sym pushed) (All-nil Is));
         sent = subst (All (λ s. IsOfOne (all_shares c.push_reserved.new.self.items) s.item)) (sym none)
             (All-nil (λ (s : Sent _). IsOfOne (all_shares c.push_reserved.new.self.items) s.item));
         numbers = λ from n above near. ap (has n) from ∙ from-all count n (64 - count) above (omega (arith, above, near));

@@ -1,5 +1,5 @@
 use Rattle.std.proofs.Common.{◌≤◌, ◌+◌, All, length, vec_len, vec_capacity}
-use Rattle.plinq_stream.specs.Passes.{known}
+use Rattle.plinq_stream.specs.Passes.{knowledge_of}
 use Rattle.plinq_crew.specs.inner.Handles.{IsHandleOf, AreNumbered}
 use Rattle.plinq_crew.specs.inner.Joining.{HasJoined}
 use Rattle.plinq_crew.proofs.worker.Crew.join_all.Given as goal
@@ -10,7 +10,7 @@ invariant-loop-handle g l = record {
   numbered : AreNumbered 0 l.handles.items;
   some : 1 ≤ length l.partitions.items;
   room : length l.handles.items + length l.partitions.items ≤ vec_capacity l.partitions;
-  above : All (λ s. length l.handles.items ≤ s.number) (known l.pass).sent;
+  above : All (λ s. length l.handles.items ≤ s.number) (knowledge_of l.pass).sent;
   joined : HasJoined l.self l.fn.first l.fn.pass l.fn.handles.items l.fn.worker_faults (length l.handles.items) l.pass l.worker_faults l.partitions.items;
 }
 

@@ -1,7 +1,7 @@
 use Rattle.std.proofs.Common.{rules, ◌≡◌, ◌<◌, ◌+◌, ◌++◌, ◌∷◌, [], length, sym, ap, ◌∙◌, subst, arith}
 use Rattle.std.proofs.lemmas.List.{length-append}
 use Rattle.std.proofs.lemmas.List.Elements.{All-push}
-use Rattle.plinq_stream.specs.Passes.{known}
+use Rattle.plinq_stream.specs.Passes.{knowledge_of}
 use Rattle.plinq_stream.proofs.Numbers.{may-give_number}
 use Rattle.plinq_crew.specs.inner.Handles.{IsHandleOf, AreNumbered}
 use Rattle.plinq_crew.proofs.Cuts.{equipped-beside}
@@ -16,14 +16,14 @@ start-requires-clause-equipped g c κs within =
 pub give_number-requires-clause-first : goal.give_number-requires-clause-first
 give_number-requires-clause-first g c =
     let less : c.loop-worker.worker < 64 = search rules in
-    may-give_number (known c.loop-worker.coordinator.stream) c.loop-worker.worker 64 less c.loop-worker.invariant.numbers c.loop-worker.invariant.receiver.sent
+    may-give_number (knowledge_of c.loop-worker.coordinator.stream) c.loop-worker.worker 64 less c.loop-worker.invariant.numbers c.loop-worker.invariant.receiver.sent
 
 pub start-requires-clause-new : goal.start-requires-clause-new
 start-requires-clause-new g c κs within =
     let less : c.loop-worker.worker < 64 = search rules in
     record {
       of = c.give_number.ensures.of;
-      knows = first-handed c.loop-worker.worker (known c.loop-worker.coordinator.stream) (known c.give_number.result) less
+      knows = first-handed c.loop-worker.worker (knowledge_of c.loop-worker.coordinator.stream) (knowledge_of c.give_number.result) less
           c.loop-worker.invariant.numbers c.give_number.ensures.first;
       share = search rules;
     }
@@ -33,7 +33,7 @@ loop-worker-preserved g c =
     let crew = c.args.self.now in
     let handles = c.loop-worker.team.handles.items in
     let stands = c.loop-worker.invariant in
-    let knew = known c.loop-worker.coordinator.stream in
+    let knew = knowledge_of c.loop-worker.coordinator.stream in
     let handle = c.in-Some.handle in
     let less : c.loop-worker.worker < 64 = search rules in
     let counted : length handles ≡ c.loop-worker.worker = stands.counted in
@@ -46,8 +46,8 @@ loop-worker-preserved g c =
       equipped = equipped-beside stands.equipped c.dynamic.ensures.of.0 (ap (λ h. h.origin) c.dynamic.ensures.same) c.split.ensures.passes.0;
       same = search rules;
       stream = c.give_number.ensures.pass;
-      receiver = handed-receiver c.loop-worker.worker knew (known c.give_number.new.pass) stands.receiver c.give_number.ensures.left;
-      numbers = rest-handed c.loop-worker.worker knew (known c.give_number.new.pass) less stands.numbers c.give_number.ensures.left;
+      receiver = handed-receiver c.loop-worker.worker knew (knowledge_of c.give_number.new.pass) stands.receiver c.give_number.ensures.left;
+      numbers = rest-handed c.loop-worker.worker knew (knowledge_of c.give_number.new.pass) less stands.numbers c.give_number.ensures.left;
       received = ap (λ k. k.received) c.give_number.ensures.left ∙ stands.received;
       counted = next;
       team = record {
@@ -68,7 +68,7 @@ returns-in_default-clause-may g c =
     let count = c.loop-worker.coordinator.worker_count in
     record {
       pass = c.give_number.ensures.pass;
-      receiver = handed-receiver c.loop-worker.worker (known c.loop-worker.coordinator.stream) (known c.give_number.new.pass) stands.receiver
+      receiver = handed-receiver c.loop-worker.worker (knowledge_of c.loop-worker.coordinator.stream) (knowledge_of c.give_number.new.pass) stands.receiver
           c.give_number.ensures.left;
       numbers = λ same. absurd (let is : count.started ≡ count.wanted = same in omega (arith, less, stands.counted, stands.team.started, is));
       equipped = equipped-beside stands.equipped c.dynamic.ensures.of.0 (ap (λ h. h.origin) c.dynamic.ensures.same) c.split.ensures.passes.0;

@@ -2,7 +2,7 @@ use Rattle.std.proofs.Common.{rules, ◌≡◌, ◌∙◌, ap, sym, Some, Err, [
 use Rattle.std.proofs.lemmas.List.Elements.{All-pop}
 use Rattle.plinq_ticket.specs.Passes.{IsPassOf}
 use Rattle.plinq_partition.specs.Partitions.{IsPartitionOf}
-use Rattle.plinq_partition.specs.GivenBack.{told}
+use Rattle.plinq_partition.specs.GivenBack.{reported_answer}
 use Rattle.plinq_ticket.specs.Shares.{in_ticket_order}
 use Rattle.plinq_partition.proofs.Lists.{at-some, gathered-last, gathered-next, gathered-all}
 use Rattle.plinq_partition.proofs.chunked.Chunked.give_back.Goals as goal
@@ -46,7 +46,7 @@ returns-in-Ok-clause-back g c =
       share = all.0;
       finished = c.finish.result;
       is_finished = c.finish.ensures;
-      result_is = sym (ap told c.in-Ok.is);
+      result_is = sym (ap reported_answer c.in-Ok.is);
     }
 
 pub returns-in-Ok-clause-whole : goal.returns-in-Ok-clause-whole
@@ -66,5 +66,5 @@ returns-clause-back g c =
       share = all.0;
       finished = c.finish.result;
       is_finished = c.finish.ensures;
-      result_is = ap (λ f. Err (c.in-Err.enumerator, f)) c.from.ensures ∙ sym (ap told c.in-Err.is);
+      result_is = ap (λ f. Err (c.in-Err.enumerator, f)) c.from.ensures ∙ sym (ap reported_answer c.in-Err.is);
     }

@@ -1,7 +1,7 @@
 use Rattle.std.proofs.Common.{◌+◌, ◌≤◌, length, ap, arith, subst}
 use Rattle.plinq_source.specs.Trace.{Trace}
 use Rattle.plinq_keyed.specs.declared.event.Event.TheVariants.{Ask}
-use Rattle.plinq_keyed.specs.History.{start, place_after, reply, recorded, next_record, IsChunkOf}
+use Rattle.plinq_keyed.specs.History.{start, place_after, reply, request_record, next_record, IsChunkOf}
 use Rattle.plinq_enumerator.specs.Held.{held_source, held_records}
 use Rattle.plinq_partition.proofs.Shares.{chunk-within}
 use Rattle.plinq_partition.proofs.Taken.{recorded-inside}
@@ -38,7 +38,7 @@ returns-clause-taken g c =
         share = left.share;
         asked_is = ap Ask c.size-n.ensures.size;
         place = place;
-        replied = ap (λ u. recorded ticket e (reply u place e)) left.origin;
+        replied = ap (λ u. request_record ticket e (reply u place e)) left.origin;
       };
       some = let same = c.size-n.ensures.size in let least = c.size-n.ensures.least in omega arith;
       of = rw (← left.origin) of;

@@ -1,6 +1,6 @@
 use Rattle.std.proofs.Common.{rules, ◌≡◌, [], ◌∷◌, Err, None, refl}
 use Rattle.plinq_source.proofs.Followed.{trace_of}
-use Rattle.plinq_aggregate.specs.Folding.{folded}
+use Rattle.plinq_aggregate.specs.Folding.{fold_of}
 use Rattle.plinq_ops.specs.Pipeline.{stages}
 use Rattle.plinq_merge.specs.declared.delivery_fault.DeliveryFault.TheVariants.{Memory}
 use Rattle.plinq_run.specs.inner.Blocks.{passes-all, made-none}
@@ -45,7 +45,7 @@ returns-clause-made g c =
     let f = g.A.GrowingAggregator.folding d.aggregator.now in
     let lawful = g.met.A.GrowingAggregator.lawful d.aggregator.now in
     let out = c.feed_block.new.block.items in
-    let parts : c.push_reserved.new.self.items ≡ folded f out ∷ [] = search rules in
+    let parts : c.push_reserved.new.self.items ≡ fold_of f out ∷ [] = search rules in
     record {
       same = refl;
       passes = passes-all f lawful g.W.TakeInto.made g.met.W.TakeInto.lawful c.take.result (stages m d.pipeline) (stages m c.feed_block.new.self) (trace_of c.args.items.items c.args.ending) out c.in_ok-ending.ending d.inner c.args.out.now c.take.new.self c.take.new.out

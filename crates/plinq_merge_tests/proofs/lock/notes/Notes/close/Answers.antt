@@ -1,5 +1,5 @@
 use Rattle.std.proofs.Common.{◌≡◌, ℕ, [], ◌∷◌, ◌++◌, Some, ap, sym, ◌∙◌}
-use Rattle.plinq_source.specs.Trace.{Trace, ended}
+use Rattle.plinq_source.specs.Trace.{Trace, ended_trace}
 use Rattle.plinq_source.specs.declared.ending.Ending.TheVariants.{End}
 use Rattle.plinq_keyed.specs.declared.event.Event.TheVariants.{Close}
 use Rattle.plinq_keyed.specs.declared.tail.Tail.TheVariants.{Closed}
@@ -9,7 +9,7 @@ use Rattle.plinq_merge_tests.proofs.lock.notes.Notes.close.Goals as goal
 
 pub invariant_of-self-2 : goal.invariant_of-self-2
 invariant_of-self-2 c =
-    let t : Trace ℕ = ended [] End in
+    let t : Trace ℕ = ended_trace [] End in
     let old = c.args.self.now in
     let h = old.records.items in
     let k = c.args.ticket in
