@@ -53,8 +53,8 @@ NAMED = {
     "plinq_groups::first_group_is_of_the_first_item": "abbrev pub grouping",
     "plinq_wait::WaitQueue::wake": "pub fn wake(&self)",
 }
-PLANS = "ghost use Rattle.plinq_run.specs.inner.Plans.{MayTake};\npub fn taken()\n    ensures { MayTake }\n{}\n"
-IS_REACHED = "plinq_run/specs/inner/Plans.antt: a public contract reaches it"
+PLANS = "ghost use Rattle.plinq_run.specs.inner.PlanAnswers.{MayTake};\npub fn taken()\n    ensures { MayTake }\n{}\n"
+IS_REACHED = "plinq_run/specs/inner/PlanAnswers.antt: a public contract reaches it"
 # A file, what stands there once, what stands there in a copy, what the tool then says of it, and with which status.
 APART = {
     "a public clause that names an inner word": ("crates/plinq_run/src/laws.rt", "//! What a run", f"{PLANS}//! What a run", IS_REACHED, 0),
@@ -68,7 +68,7 @@ APART = {
     "a definition that names an inner word": (
         HEADLINE,
         "Sending.{Leads}",
-        "Sending.{TakesBeginning}\nuse Rattle.plinq_run.specs.inner.Plans.{MayTake as Leads}",
+        "Sending.{TakesBeginning}\nuse Rattle.plinq_run.specs.inner.PlanAnswers.{MayTake as Leads}",
         IS_REACHED,
         0,
     ),

@@ -1,9 +1,9 @@
 pub mod Known
-pub mod Answered
-mod Delivered
+pub mod Flushed
+mod RunLines
 mod OnOneThread
 mod HandedOut
-mod Histories
+mod JobHistories
 mod ToldEnding
-mod Turns
+mod PartitionTurns
 mod Stopped

@@ -18,7 +18,7 @@ use Rattle.plinq_ops.specs.Sequential.{answer_of}
 use Rattle.plinq_document.specs.Jobs.{JobView}
 use Rattle.plinq_lines.specs.declared.write_fault.WriteFault.{WriteFault}
 use Rattle.plinq_lines.specs.LineSink.{Lines, TakesLine, RefusesLine}
-use Rattle.plinq_lines.specs.Text.{line, ending_words, ending_line, answer_text}
+use Rattle.plinq_lines.specs.AnswerText.{line, ending_words, ending_line, answer_text}
 use Rattle.plinq_lines.specs.Written.{AppendsBeginning}
 use Rattle.plinq_lines.proofs.LinesTaken.{taken-lines, short-lines}
 use Rattle.plinq_lines.proofs.WrittenBytes.{Bytes, appends-as, begins-all, begins-after, begins-append, begins-as}
@@ -27,8 +27,8 @@ use Rattle.plinq_cli.specs.declared.serve_fault.ServeFault.{ServeFault}
 use Rattle.plinq_cli.specs.ServeFaults.{told_of_one}
 use Rattle.plinq_cli.specs.Served.{batch_lines, sequential_answer, HasWritten, IsText, Serves}
 use Rattle.plinq_cli.specs.Told.{told_text}
-use Rattle.plinq_cli.specs.inner.Answering.{HasWrittenAnswer}
-use Rattle.plinq_cli.proofs.Answered.{serves-begun}
+use Rattle.plinq_cli.specs.inner.WrittenAnswer.{HasWrittenAnswer}
+use Rattle.plinq_cli.proofs.Flushed.{serves-begun}
 
 -- ---- what the sink took is written, and the writer comes back as it is
 

@@ -18,7 +18,7 @@ use Rattle.plinq_run.specs.declared.run_fault.RunFault.TheVariants.{Memory, Sink
 use Rattle.plinq_run.specs.Reports.{Reports}
 use Rattle.plinq_run.specs.Stopping.{ReportsSome}
 use Rattle.plinq_run.proofs.After.{sinks, stopped-number, stops-after}
-use Rattle.plinq_cli.specs.inner.Stopped.{Leaves}
+use Rattle.plinq_cli.specs.inner.StoppedRun.{Leaves}
 
 module _ {K T : Type 0} (accepts : K → List T → K → Type 0) (refuses : K → List T → ℕ → K → Type 0) (option : MergeOption) (May : Trace T → Trace T → Type 0) (t : Trace T) (s s' : K) where
   pub leaves-run : (r : Result Report RunFault) → Reports accepts refuses option May t s s' r → Leaves accepts refuses option May t None s s' r

@@ -26,7 +26,7 @@ use Rattle.plinq_document.specs.declared.kind.Kind.TheVariants.{Sum}
 use Rattle.plinq_document.specs.Jobs.{JobView}
 use Rattle.plinq_arguments.specs.declared.command.Command.{Command}
 use Rattle.plinq_arguments.specs.declared.command.Command.TheVariants.{Run, Seq, Plan, Parts, History}
-use Rattle.plinq_lines.specs.Text.{batch_line, answer_text}
+use Rattle.plinq_lines.specs.AnswerText.{batch_line, answer_text}
 use Rattle.plinq_lines.specs.PlanText.{plan_text}
 use Rattle.plinq_lines.specs.PartsText.{parts_text}
 use Rattle.plinq_lines.specs.HistoryText.{history_text}

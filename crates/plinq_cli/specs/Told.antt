@@ -14,7 +14,7 @@ use Rattle.plinq_ops.specs.declared.merge_option.MergeOption.{MergeOption}
 use Rattle.plinq_ops.specs.declared.merge_option.MergeOption.TheVariants.{NotBuffered}
 use Rattle.plinq_document.specs.declared.kind.Kind.{Kind}
 use Rattle.plinq_document.specs.declared.kind.Kind.TheVariants.{Sum, Count, Min, Max}
-use Rattle.plinq_lines.specs.Text.{answer_text}
+use Rattle.plinq_lines.specs.AnswerText.{answer_text}
 use Rattle.plinq_lines.specs.AggregateText.{aggregate_text}
 
 -- the value of an aggregate of these items, if they have one

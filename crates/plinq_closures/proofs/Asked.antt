@@ -19,7 +19,7 @@ use Rattle.plinq_run.specs.declared.run_fault.RunFault.TheVariants.{Memory}
 use Rattle.plinq_run.specs.Runs.{cause_of}
 use Rattle.plinq_collect.proofs.Gathered.{not-item}
 use Rattle.plinq_collect.specs.Calling.{CallsSome, CallsAll, NoRoomOrRefused}
-use Rattle.plinq_collect.specs.Folds.{first_of, has_item, has_none}
+use Rattle.plinq_collect.specs.ItemFoldings.{first_of, has_item, has_none}
 use Rattle.plinq_collect.specs.Telling.{GathersSome, IsShort, LacksRoom, TellsSome}
 use Rattle.plinq_closures.specs.declared.chain_fault.ChainFault.{ChainFault}
 use Rattle.plinq_closures.specs.declared.chain_fault.ChainFault.TheVariants.{Build, Ended as IsEnded, Run as IsRun}

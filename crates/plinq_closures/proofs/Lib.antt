@@ -1,5 +1,5 @@
 mod Asked
 mod Over
 mod Put
-mod SoFar
+mod ClosureBlocks
 mod Within

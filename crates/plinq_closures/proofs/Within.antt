@@ -2,7 +2,7 @@
 use Rattle.std.specs.Prelude.{◌≡◌, refl, ℕ, suc, ◌==◌, true, false, List, [], ◌∷◌, length, Some, Err}
 use Rattle.std.proofs.Common.{subst, sym, ap}
 use Rattle.plinq_lambda.specs.Block.{BlockResult, mapped_from, mapped_block, filtered_from, filtered_block, passing_from, passing_block}
-use Rattle.plinq_closures.specs.Blocks.{GivesBlock}
+use Rattle.plinq_closures.specs.BlockSteps.{GivesBlock}
 use Rattle.plinq_closures.specs.Steps.{here_or, does_nothing}
 
 module _ {T R : Type 0} (turn : (T → R) → List T → BlockResult T) (Here : T → R → Type 0) (Before : ℕ → T → R → Type 0)

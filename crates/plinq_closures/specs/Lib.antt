@@ -1,5 +1,5 @@
 pub mod Asked
-pub mod Blocks
+pub mod BlockSteps
 pub mod Functions
 pub mod Laws
 pub mod Steps

@@ -3,7 +3,7 @@ ghost use Rattle.std.specs.Prelude.{◌≡◌, pos, [], ◌∷◌, ◌++◌, Mat
 ghost use Rattle.plinq_ops.specs.declared.merge_option.MergeOption.TheVariants.{AutoBuffered};
 ghost use Rattle.plinq_ops.specs.declared.op.Op.{Op};
 ghost use Rattle.plinq_ops.specs.Sequential.{answer_of};
-ghost use Rattle.plinq_collect.specs.Folds.{first_of, has_item, wrapped_count};
+ghost use Rattle.plinq_collect.specs.ItemFoldings.{first_of, has_item, wrapped_count};
 ghost use Rattle.plinq_collect.specs.Telling.{GathersSome};
 ghost use Rattle.plinq_closures.specs.Asked.{HasNone, Tells, chain_answer, is_there, chain_outcome};
 

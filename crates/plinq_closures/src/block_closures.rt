@@ -1,7 +1,7 @@
 //! A block at one step: at its closure, or at a step that doesn't do what is asked.
 ghost use Rattle.std.specs.Prelude.{◌≤◌, length, take};
 ghost use Rattle.plinq_lambda.specs.Block.{mapped_block, filtered_block, passing_block};
-ghost use Rattle.plinq_closures.specs.Blocks.{GivesBlock};
+ghost use Rattle.plinq_closures.specs.BlockSteps.{GivesBlock};
 ghost use Rattle.plinq_closures.specs.Steps.{does_nothing};
 
 /// Maps the items of a block in their places by a closure, up to the first that faults.

@@ -3,7 +3,7 @@ ghost use Rattle.plinq_source.specs.Trace.{ended_trace};
 ghost use Rattle.plinq_ops.specs.declared.op.Op.{Op};
 ghost use Rattle.plinq_ops.specs.Sequential.{answer_of};
 ghost use Rattle.plinq_run.specs.declared.run_fault.RunFault.TheVariants.{Memory};
-ghost use Rattle.plinq_collect.specs.Folds.{first_of, has_item, wrapped_count};
+ghost use Rattle.plinq_collect.specs.ItemFoldings.{first_of, has_item, wrapped_count};
 ghost use Rattle.plinq_closures.specs.declared.chain_fault.ChainFault.TheVariants.{Run};
 ghost use Rattle.plinq_closures.specs.Asked.{HasNone, HasCalledAll, LacksRoomAlone, LacksRoomOrRefused, Tells};
 

@@ -2,7 +2,7 @@
 ghost use Rattle.std.specs.Prelude.{◌≡◌, ℕ, pos, [], ◌∷◌, ◌++◌, Bool, Result, Ok};
 ghost use Rattle.plinq_ops.specs.declared.op.Op.{Op};
 ghost use Rattle.plinq_ops.specs.Sequential.{answer_of};
-ghost use Rattle.plinq_collect.specs.Folds.{has_item, has_none};
+ghost use Rattle.plinq_collect.specs.ItemFoldings.{has_item, has_none};
 ghost use Rattle.plinq_closures.specs.Asked.{LacksRoomAlone, Tells};
 ghost use Rattle.plinq_closures.specs.Functions.{tests};
 

@@ -2,7 +2,7 @@ ghost use Rattle.std.specs.Prelude.{◌≡◌, ◌≤◌, ℕ, List, length, tak
 ghost use Rattle.plinq_lambda.specs.Block.{mapped_block, filtered_block, passing_block};
 ghost use Rattle.plinq_lambda.specs.Meaning.{Meaning};
 ghost use Rattle.plinq_ops.specs.declared.op.Op.{Op};
-ghost use Rattle.plinq_closures.specs.Blocks.{GivesBlock};
+ghost use Rattle.plinq_closures.specs.BlockSteps.{GivesBlock};
 ghost use Rattle.plinq_closures.specs.Steps.{kind_at, GivesSome, GivesOne, ComesTo};
 
 use plinq_ops::Op;

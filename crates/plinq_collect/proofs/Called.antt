@@ -14,7 +14,7 @@ use Rattle.plinq_run.specs.declared.run_fault.RunFault.{RunFault}
 use Rattle.plinq_run.specs.declared.run_fault.RunFault.TheVariants.{Memory, Sink, Tickets, Thread, Incomplete, Cancelled}
 use Rattle.plinq_run.specs.Reports.{HasReported, IsBroken}
 use Rattle.plinq_run.specs.Runs.{Cause, SinkRefused, Stopped, Other, BreaksFor, cause_of}
-use Rattle.plinq_collect.proofs.Joined.{items_of-append, items_of-batches}
+use Rattle.plinq_collect.proofs.JoinedBatches.{items_of-append, items_of-batches}
 use Rattle.plinq_collect.specs.Calling.{Takes, Refuses, CallsFirst, CallsSome, CallsAll, IsCode, NoRoomOrRefused}
 use Rattle.plinq_collect.specs.Telling.{items_of}
 

@@ -13,8 +13,8 @@ use Rattle.plinq_run.specs.declared.run_fault.RunFault.{RunFault}
 use Rattle.plinq_run.specs.declared.run_fault.RunFault.TheVariants.{Memory, Sink, Tickets, Thread, Incomplete, Cancelled}
 use Rattle.plinq_run.specs.Reports.{HasReported, Reports}
 use Rattle.plinq_run.specs.Aggregates.{Aggregates, AggregatesSome}
-use Rattle.plinq_collect.proofs.Joined.{items_of-batches}
-use Rattle.plinq_collect.specs.Folds.{has_item, has_none}
+use Rattle.plinq_collect.proofs.JoinedBatches.{items_of-batches}
+use Rattle.plinq_collect.specs.ItemFoldings.{has_item, has_none}
 use Rattle.plinq_collect.specs.Telling.{items_of, GathersSome, IsShort, TellsSome, LacksRoom, negated, gathered_of}
 
 module _ {K T : Type 0} (items : K → List T) where

@@ -1,3 +1,3 @@
 mod Called
-mod Joined
+mod JoinedBatches
 pub mod Gathered

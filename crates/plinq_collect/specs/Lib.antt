@@ -1,4 +1,4 @@
 pub mod Calling
 pub mod Equal
-pub mod Folds
+pub mod ItemFoldings
 pub mod Telling

@@ -1,4 +1,4 @@
-ghost use Rattle.plinq_collect.specs.Folds.{picking_first, picking_first-lawful};
+ghost use Rattle.plinq_collect.specs.ItemFoldings.{picking_first, picking_first-lawful};
 
 use plinq_aggregate::Aggregator;
 use plinq_lambda::SharedLambda;

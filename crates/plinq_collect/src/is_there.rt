@@ -1,4 +1,4 @@
-ghost use Rattle.plinq_collect.specs.Folds.{being_there, being_there-lawful};
+ghost use Rattle.plinq_collect.specs.ItemFoldings.{being_there, being_there-lawful};
 
 use plinq_aggregate::Aggregator;
 use plinq_lambda::SharedLambda;

@@ -1,4 +1,4 @@
-ghost use Rattle.plinq_collect.specs.Folds.{counting_items, counting_items-lawful};
+ghost use Rattle.plinq_collect.specs.ItemFoldings.{counting_items, counting_items-lawful};
 
 use plinq_aggregate::Aggregator;
 use plinq_lambda::SharedLambda;

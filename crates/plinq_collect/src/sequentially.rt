@@ -7,7 +7,7 @@ ghost use Rattle.plinq_run.specs.Aggregates.{Aggregates};
 ghost use Rattle.plinq_run.specs.declared.run_fault.RunFault.TheVariants.{Memory};
 ghost use Rattle.plinq_collect.specs.Calling.{CallsAll, NoRoomOrRefused};
 ghost use Rattle.plinq_collect.specs.Equal.{IsTestOf};
-ghost use Rattle.plinq_collect.specs.Folds.{first_of, has_item, has_none, wrapped_count};
+ghost use Rattle.plinq_collect.specs.ItemFoldings.{first_of, has_item, has_none, wrapped_count};
 ghost use Rattle.plinq_collect.specs.Telling.{LacksRoom, TellsSome};
 
 use crate::calling::visit_all;

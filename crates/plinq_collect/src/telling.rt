@@ -3,7 +3,7 @@ ghost use Rattle.std.specs.Prelude.{◌≡◌, pos, [], ◌∷◌, ◌++◌};
 ghost use Rattle.plinq_ops.specs.declared.op.Op.{Op};
 ghost use Rattle.plinq_ops.specs.Answer.{MayAnswer};
 ghost use Rattle.plinq_collect.specs.Equal.{IsTestOf};
-ghost use Rattle.plinq_collect.specs.Folds.{first_of, has_item, has_none, wrapped_count};
+ghost use Rattle.plinq_collect.specs.ItemFoldings.{first_of, has_item, has_none, wrapped_count};
 ghost use Rattle.plinq_collect.specs.Telling.{TellsSome, negated};
 
 use crate::equal_to::EqualTo;

@@ -21,7 +21,7 @@ use Rattle.plinq_crew.specs.Polls.{HasAccepted, HasCome}
 use Rattle.plinq_crew.specs.Working.{HasClosed}
 use Rattle.plinq_crew.proofs.Cuts.{equipped-beside}
 use Rattle.plinq_crew.proofs.Polls.{took-none, took-more}
-use Rattle.plinq_crew.proofs.Shares.{closes-stays}
+use Rattle.plinq_crew.proofs.SentShares.{closes-stays}
 
 -- one poll more: the source may have been closed at it
 module _ {S T M X : Type 0} {source : Ghosts S T} {is_ready : X → Type 0} {accepts : X → ChunkResult M → X → Type 0}

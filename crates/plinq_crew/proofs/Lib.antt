@@ -1,7 +1,7 @@
 mod Coordinating
 mod Cuts
 mod Handles
-mod Shares
-mod Taken
+mod SentShares
+mod TakenResults
 pub mod Polls
 pub mod Working

@@ -1,2 +1,2 @@
 mod Allowed
-mod Steps
+mod CutSteps

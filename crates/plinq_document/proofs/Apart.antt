@@ -11,7 +11,7 @@ use Rattle.serde_json.proofs.Views.{get_member-put, get_member-put_other}
 use Rattle.plinq_source.specs.Trace.{Trace, ended_trace, list_ending}
 use Rattle.plinq_document.specs.Results.{◌>>=◌, ◌>>◌, or_shape}
 use Rattle.plinq_document.specs.Jobs.{JobView}
-use Rattle.plinq_document.specs.Values.{whole_number}
+use Rattle.plinq_document.specs.JsonValues.{whole_number}
 use Rattle.plinq_document.specs.Versions.{version_in, version_numbered}
 use Rattle.plinq_document.specs.Growths.{counts_or_default, growth_counts, growth_of}
 use Rattle.plinq_document.specs.Aggregates.{aggregate_or_none, aggregate_in}

@@ -5,7 +5,7 @@ use Rattle.std.specs.Str.{bytes_eq}
 use Rattle.serde_json.specs.Data.{Data, Items, no_items, item, Members, no_members, member}
 use Rattle.serde_json.specs.Find.{as_str, as_array, as_object}
 use Rattle.plinq_source.specs.Trace.{Trace, ended_trace, list_ending}
-use Rattle.plinq_document.specs.Values.{whole_number, only_count, items_len}
+use Rattle.plinq_document.specs.JsonValues.{whole_number, only_count, items_len}
 use Rattle.plinq_document.specs.Results.{◌>>=◌, or_shape}
 use Rattle.plinq_document.specs.Sources.{source_name, whole_numbers, few_numbers, list_source, text_source, range_trace, repeat_trace, of_number_and_count, plain_source_named, code_of, plain_source_from, plain_source_of, count_after, bound_named, bound_from, bound_of}
 use Rattle.plinq_document.specs.declared.source_name.SourceName.{SourceName}

@@ -1,6 +1,6 @@
 pub mod Turns
-pub mod Reading
-pub mod Tokens
+pub mod DocumentText
+pub mod TokenTurns
 pub mod Apart
 pub mod TwoSources
 pub mod Bounds

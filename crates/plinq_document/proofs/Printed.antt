@@ -12,7 +12,7 @@ use Rattle.plinq_ops.specs.declared.op.Op.{Op}
 use Rattle.plinq_ops.specs.MergeWords.{merge_named}
 use Rattle.plinq_ops.specs.Operator.{op_name, op_argument, op_named}
 use Rattle.plinq_ops.proofs.Operators.{op_named-own, op_named-has}
-use Rattle.plinq_document.specs.Values.{only_whole_number, only_count, only_text}
+use Rattle.plinq_document.specs.JsonValues.{only_whole_number, only_count, only_text}
 use Rattle.plinq_document.specs.Formulas.{formula_of, formula_from}
 use Rattle.plinq_document.specs.Steps.{argument_of, op_from, other_step_named, other_call_of, other_call_from, call_alone, call_named, only_of, call_from}
 use Rattle.plinq_document.specs.Printed.{NumberItems, FormulaItems, ArgumentItems, OpItems, op_of_call}

@@ -8,7 +8,7 @@ use Rattle.plinq_lambda.specs.declared.formula.Formula.{Formula}
 use Rattle.plinq_ops.specs.Query.{QueryView}
 use Rattle.plinq_document.specs.Results.{◌>>=◌}
 use Rattle.plinq_document.specs.declared.version.Version.{Version}
-use Rattle.plinq_document.specs.Values.{whole_number}
+use Rattle.plinq_document.specs.JsonValues.{whole_number}
 use Rattle.plinq_document.specs.Sources.{whole_numbers}
 use Rattle.plinq_document.specs.Steps.{with_step_of, with_steps_of, step_result}
 

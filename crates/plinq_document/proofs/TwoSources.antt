@@ -13,7 +13,7 @@ use Rattle.plinq_source.specs.Range.{range_items, is_range}
 use Rattle.plinq_source.specs.Repeat.{is_repeat}
 use Rattle.plinq_source.specs.declared.ending.Ending.TheVariants.{End}
 use Rattle.plinq_source.proofs.Walks.{length-range_items}
-use Rattle.plinq_document.specs.Values.{whole_number, only_count, items_len}
+use Rattle.plinq_document.specs.JsonValues.{whole_number, only_count, items_len}
 use Rattle.plinq_document.specs.Results.{◌>>=◌, or_shape}
 use Rattle.plinq_document.specs.Sources.{source_name, whole_numbers, few_numbers, list_source, text_source, range_trace, repeat_trace, of_number_and_count, plain_source_named, code_of, plain_source_from, plain_source_of, count_after, bound_named, bound_from, bound_of, few_together}
 use Rattle.plinq_document.specs.declared.source_name.SourceName.{SourceName}

@@ -6,7 +6,7 @@ use Rattle.serde_json.specs.Find.{as_array, as_object, get}
 use Rattle.serde_json.specs.Read.{read}
 use Rattle.plinq_lambda.specs.declared.formula.Formula.{Formula}
 use Rattle.plinq_ops.specs.Query.{QueryView}
-use Rattle.plinq_document.specs.Values.{items_len}
+use Rattle.plinq_document.specs.JsonValues.{items_len}
 use Rattle.plinq_document.specs.Results.{◌>>=◌, ◌>>◌, or_shape}
 use Rattle.plinq_document.specs.Jobs.{JobView}
 use Rattle.plinq_document.specs.Versions.{version_in}

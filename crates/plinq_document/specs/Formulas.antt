@@ -2,7 +2,7 @@
 use Rattle.std.specs.Prelude.{ℕ, List, Option, Some, None, option_and_then}
 use Rattle.serde_json.specs.Data.{Items, no_items, item}
 use Rattle.serde_json.specs.Find.{as_str}
-use Rattle.plinq_document.specs.Values.{only_whole_number}
+use Rattle.plinq_document.specs.JsonValues.{only_whole_number}
 use Rattle.plinq_lambda.specs.declared.formula.Formula.{Formula}
 use Rattle.plinq_lambda.specs.FormulaWords.{formula_named}
 

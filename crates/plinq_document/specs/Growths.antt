@@ -4,7 +4,7 @@ use Rattle.serde_json.specs.Data.{Data, Items, no_items, item}
 use Rattle.serde_json.specs.Find.{as_array, get}
 use Rattle.plinq_enumerator.specs.Growing.{GrowthRule, growth_rule}
 use Rattle.plinq_enumerator.specs.declared.growth_fault.GrowthFault.{GrowthFault}
-use Rattle.plinq_document.specs.Values.{count_of, only_count}
+use Rattle.plinq_document.specs.JsonValues.{count_of, only_count}
 use Rattle.plinq_document.specs.Results.{or_shape}
 use Rattle.plinq_document.specs.declared.growth_counts.GrowthCounts.{GrowthCounts}
 use Rattle.plinq_document.specs.declared.doc_fault.DocFault.{DocFault}

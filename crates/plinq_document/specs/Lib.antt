@@ -1,6 +1,6 @@
 pub mod PlainWalked
-pub mod Walked
-pub mod Values
+pub mod WalkedSources
+pub mod JsonValues
 pub mod Formulas
 pub mod Results
 pub mod Versions

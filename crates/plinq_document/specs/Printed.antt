@@ -7,7 +7,7 @@ use Rattle.plinq_ops.specs.declared.argument.Argument.{Argument}
 use Rattle.plinq_ops.specs.declared.argument.Argument.TheVariants.{Nothing, Formula as FormulaArgument, Number}
 use Rattle.plinq_ops.specs.declared.op.Op.{Op}
 use Rattle.plinq_ops.specs.Operator.{op_name, op_argument}
-use Rattle.plinq_document.specs.Values.{only_whole_number}
+use Rattle.plinq_document.specs.JsonValues.{only_whole_number}
 use Rattle.plinq_document.specs.declared.step_call.StepCall.{StepCall}
 use Rattle.plinq_document.specs.declared.step_call.StepCall.TheVariants as call
 

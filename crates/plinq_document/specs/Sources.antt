@@ -10,7 +10,7 @@ use Rattle.plinq_source.specs.Repeat.{is_repeat}
 use Rattle.plinq_source.specs.Concat.{concat}
 use Rattle.plinq_source.specs.declared.ending.Ending.TheVariants.{End}
 use Rattle.plinq_words.specs.Tables.{beside}
-use Rattle.plinq_document.specs.Values.{whole_number, count_of, items_len, only_count}
+use Rattle.plinq_document.specs.JsonValues.{whole_number, count_of, items_len, only_count}
 use Rattle.plinq_document.specs.Results.{◌>>=◌, ◌>>◌, or_shape}
 use Rattle.plinq_document.specs.declared.version.Version.{Version}
 use Rattle.plinq_document.specs.declared.version.Version.TheVariants.{One, Two}

@@ -12,7 +12,7 @@ use Rattle.plinq_ops.specs.MergeWords.{merge_named}
 use Rattle.plinq_ops.specs.Operator.{op_named}
 use Rattle.plinq_ops.specs.Query.{QueryView, Built, with_order, with_option, with_degree_of}
 use Rattle.plinq_words.specs.Tables.{beside}
-use Rattle.plinq_document.specs.Values.{only_whole_number, only_count, only_text}
+use Rattle.plinq_document.specs.JsonValues.{only_whole_number, only_count, only_text}
 use Rattle.plinq_document.specs.Formulas.{formula_of}
 use Rattle.plinq_document.specs.Results.{◌>>=◌}
 use Rattle.plinq_document.specs.Versions.{has}

@@ -3,7 +3,7 @@ use Rattle.std.specs.Prelude.{ℤ, pos, Bool, true, false, if◌then◌else◌, 
 use Rattle.std.specs.Ordering.{int_eq}
 use Rattle.serde_json.specs.Data.{Data}
 use Rattle.serde_json.specs.Find.{get}
-use Rattle.plinq_document.specs.Values.{whole_number}
+use Rattle.plinq_document.specs.JsonValues.{whole_number}
 use Rattle.plinq_document.specs.Results.{◌>>=◌, or_shape}
 use Rattle.plinq_document.specs.declared.version.Version.{Version}
 use Rattle.plinq_document.specs.declared.version.Version.TheVariants.{One, Two}

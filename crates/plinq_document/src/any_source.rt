@@ -11,7 +11,7 @@ pub enum AnySource {
 }
 
 impl Source for AnySource {
-    ghost use Rattle.plinq_document.specs.Walked.{any_whole, any_given, any_walked};
+    ghost use Rattle.plinq_document.specs.WalkedSources.{any_whole, any_given, any_walked};
 
     type Item = i64;
 

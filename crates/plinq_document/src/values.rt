@@ -1,6 +1,6 @@
 ghost use Rattle.std.specs.Prelude.{◌≡◌, option_map};
 ghost use Rattle.serde_json.specs.View.{view, items_view};
-ghost use Rattle.plinq_document.specs.Values.{only_item, only_whole_number, only_count};
+ghost use Rattle.plinq_document.specs.JsonValues.{only_item, only_whole_number, only_count};
 
 use serde_json::Value;
 

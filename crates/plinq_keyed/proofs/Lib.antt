@@ -2,4 +2,4 @@ pub mod Across
 pub mod Distinct
 pub mod Legal
 pub mod Rising
-pub mod Steps
+pub mod LoopSteps

@@ -9,7 +9,7 @@ use Rattle.plinq_merge.specs.declared.merge_fault.MergeFault.TheVariants.{Memory
 use Rattle.plinq_merge.specs.Sending.{Leads}
 use Rattle.plinq_merge.specs.Mergers.{StopsShort}
 use Rattle.plinq_lines.specs.LineSink.{Lines, TakesLine, RefusesLine}
-use Rattle.plinq_lines.specs.Text.{batch_line}
+use Rattle.plinq_lines.specs.AnswerText.{batch_line}
 use Rattle.plinq_lines.specs.Written.{AppendsBeginning}
 use Rattle.plinq_lines.proofs.WrittenBytes.{begins-all, begins-as, begins-append, begins-after}
 

@@ -3,7 +3,7 @@ use Rattle.std.specs.Prelude.{◌≡◌, ℕ, ℤ, pos, negsuc, List, [], ◌++�
 use Rattle.std.specs.Fmt.{signed_decimal, digits}
 use Rattle.plinq_source.specs.declared.ending.Ending.{Ending}
 use Rattle.plinq_source.specs.declared.ending.Ending.TheVariants.{End, Refused, Fault}
-use Rattle.plinq_lines.specs.Text.{line, ending_line}
+use Rattle.plinq_lines.specs.AnswerText.{line, ending_line}
 
 -- a value by its decimal, or the word for none
 abbrev pub value_words : Option ℤ → List ℕ

@@ -9,7 +9,7 @@ use Rattle.plinq_keyed.specs.declared.event.Event.TheVariants.{Ask, Close}
 use Rattle.plinq_keyed.specs.declared.record.Record.{Record}
 use Rattle.plinq_keyed.specs.declared.tail.Tail.{Tail}
 use Rattle.plinq_keyed.specs.declared.tail.Tail.TheVariants.{Ended, Refused as TailRefused, Closed}
-use Rattle.plinq_lines.specs.Text.{line, ending_line}
+use Rattle.plinq_lines.specs.AnswerText.{line, ending_line}
 
 -- a request by its word
 abbrev pub asked_word : Event → List ℕ

@@ -1,4 +1,4 @@
-pub mod Text
+pub mod AnswerText
 pub mod Written
 pub mod inner
 pub mod OpWords

@@ -1,7 +1,7 @@
 -- What a sink that writes lines says of a batch, by the bytes that are known to be written.
 use Rattle.std.specs.Prelude.{◌≡◌, ℕ, ℤ, List, Option, Some, None, ⊤}
 use Rattle.std.specs.Io.KnownBytes.{Appends}
-use Rattle.plinq_lines.specs.Text.{batch_line}
+use Rattle.plinq_lines.specs.AnswerText.{batch_line}
 use Rattle.plinq_lines.specs.Written.{AppendsBeginning}
 
 -- what is known of a writer's bytes, if they were known at the start

@@ -10,7 +10,7 @@ use Rattle.plinq_ops.specs.declared.argument.Argument.TheVariants.{Nothing, Form
 use Rattle.plinq_ops.specs.declared.op.Op.{Op}
 use Rattle.plinq_ops.specs.declared.op.Op.TheVariants.{Select, Filter, SelectMany, Take, Skip, TakeWhile, SkipWhile, AsUnordered}
 use Rattle.plinq_ops.specs.Operator.{op_name, op_argument}
-use Rattle.plinq_lines.specs.Text.{further_number}
+use Rattle.plinq_lines.specs.AnswerText.{further_number}
 
 -- a name, and the number after it if there is one
 abbrev pub name_words : List ℕ → Option ℤ → List ℕ

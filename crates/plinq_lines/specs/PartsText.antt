@@ -8,7 +8,7 @@ use Rattle.plinq_keyed.specs.declared.keyed.Keyed.{Keyed}
 use Rattle.plinq_keyed.specs.declared.properties.KeyProperties.{KeyProperties}
 use Rattle.plinq_keyed.specs.Keys.{keyed_from}
 use Rattle.plinq_partition.specs.Cuts.{cuts}
-use Rattle.plinq_lines.specs.Text.{line, ending_line}
+use Rattle.plinq_lines.specs.AnswerText.{line, ending_line}
 
 -- yes or no, in a word
 abbrev pub truth : Bool → List ℕ

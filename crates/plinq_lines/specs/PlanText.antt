@@ -11,7 +11,7 @@ use Rattle.plinq_ops.specs.declared.order.Order.TheVariants.{ByKey, ByArrival}
 use Rattle.plinq_ops.specs.Query.{QueryView, empty_query, merge_in_force, degree_in_force}
 use Rattle.plinq_ops.specs.MergeWords.{merge_name}
 use Rattle.plinq_ops.specs.Plan.{worker_part, after_part, order_of}
-use Rattle.plinq_lines.specs.Text.{line}
+use Rattle.plinq_lines.specs.AnswerText.{line}
 use Rattle.plinq_lines.specs.OpWords.{part_words}
 
 -- how results are merged, in a word

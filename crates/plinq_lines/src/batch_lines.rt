@@ -1,7 +1,7 @@
 ghost use Rattle.std.specs.Prelude.{◌≡◌, ◌≤◌, ◌<◌, ◌++◌, ◌∷◌, [], Some, length, drop};
 ghost use Rattle.std.specs.List.{flat_map};
 ghost use Rattle.plinq_ops.specs.Batches.{full_batches};
-ghost use Rattle.plinq_lines.specs.Text.{line, further_number, batch_line};
+ghost use Rattle.plinq_lines.specs.AnswerText.{line, further_number, batch_line};
 ghost use Rattle.plinq_lines.specs.Written.{Writes};
 
 use crate::bytes::write_bytes;

@@ -1,5 +1,5 @@
 ghost use Rattle.std.specs.Prelude.{◌≡◌};
-ghost use Rattle.plinq_lines.specs.Text.{line, fault_word, ending_words};
+ghost use Rattle.plinq_lines.specs.AnswerText.{line, fault_word, ending_words};
 ghost use Rattle.plinq_lines.specs.Written.{Writes};
 
 use crate::piece::Piece;

@@ -6,7 +6,7 @@ ghost use Rattle.plinq_merge.specs.declared.merge_fault.MergeFault.{MergeFault};
 ghost use Rattle.plinq_merge.specs.Sending.{Leads};
 ghost use Rattle.plinq_merge.specs.Mergers.{StopsShort};
 ghost use Rattle.plinq_lines.specs.LineSink.{Lines, TakesLine, RefusesLine};
-ghost use Rattle.plinq_lines.specs.Text.{batch_line};
+ghost use Rattle.plinq_lines.specs.AnswerText.{batch_line};
 ghost use Rattle.plinq_lines.specs.Written.{AppendsBeginning};
 
 /// Where a [`LineSink`](crate::LineSink) takes batches one after another, their lines are written.

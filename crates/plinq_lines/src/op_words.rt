@@ -1,7 +1,7 @@
 ghost use Rattle.std.specs.Prelude.{◌≡◌, ◌++◌};
 ghost use Rattle.std.specs.List.{flat_map};
 ghost use Rattle.plinq_lines.specs.OpWords.{formula_words, op_words, further_op, part_words};
-ghost use Rattle.plinq_lines.specs.Text.{line};
+ghost use Rattle.plinq_lines.specs.AnswerText.{line};
 ghost use Rattle.plinq_lines.specs.Written.{Writes};
 
 use crate::piece::Piece;

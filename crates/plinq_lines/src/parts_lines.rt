@@ -1,7 +1,7 @@
 ghost use Rattle.std.specs.Prelude.{◌≡◌, ◌++◌};
 ghost use Rattle.std.specs.List.{flat_map};
 ghost use Rattle.plinq_keyed.specs.Keys.{element_lists};
-ghost use Rattle.plinq_lines.specs.Text.{line, ending_words};
+ghost use Rattle.plinq_lines.specs.AnswerText.{line, ending_words};
 ghost use Rattle.plinq_lines.specs.PartsText.{truth, properties_line, element_words, part_line, part_lines};
 ghost use Rattle.plinq_lines.specs.Written.{Writes};
 

@@ -4,7 +4,7 @@ ghost use Rattle.std.specs.Prelude.{◌≡◌, ◌+◌, ◌*◌, ◌%◌, ◌≤
 ghost use Rattle.std.specs.List.{flat_map};
 ghost use Rattle.std.specs.Fmt.{signed_decimal};
 ghost use Rattle.plinq_ops.specs.Batches.{full_batches};
-ghost use Rattle.plinq_lines.specs.Text.{further_number, single_line, batch_line};
+ghost use Rattle.plinq_lines.specs.AnswerText.{further_number, single_line, batch_line};
 
 use itoa::write_digits;
 

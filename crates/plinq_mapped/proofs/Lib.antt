@@ -1,2 +1,2 @@
 mod MadeOf
-mod Parts
+mod PartLists

@@ -6,7 +6,7 @@ use Rattle.std.proofs.lemmas.Nat.{div-add-mod', mod_below}
 use Rattle.std.proofs.lemmas.Bool.Decides.{nat_tests}
 use Rattle.std.proofs.Math.Seq.{take-length}
 use Rattle.plinq_ops.specs.Batches.{full_batches, held_back}
-use Rattle.plinq_ops.proofs.Runs.{full_batches-append, held_back-append}
+use Rattle.plinq_ops.proofs.GrowingBatches.{full_batches-append, held_back-append}
 use Rattle.plinq_merge.specs.Sending.{singles}
 
 not_full : (m n : ℕ) → m < n → (m == n) ≡ false

@@ -21,7 +21,7 @@ use Rattle.plinq_ops.proofs.ByKey.{stages-begun}
 use Rattle.plinq_ops.proofs.Counts.{some_takes_none-stages_of}
 use Rattle.plinq_ops.proofs.Fed.{undecided-left, fed-none}
 use Rattle.plinq_ops.proofs.Open.{open-from_seq}
-use Rattle.plinq_ops.proofs.Runs.{batches_from-open, batches_from-followed_by}
+use Rattle.plinq_ops.proofs.GrowingBatches.{batches_from-open, batches_from-followed_by}
 use Rattle.plinq_ops.specs.Sequential.{first_items}
 use Rattle.plinq_ops.proofs.Batched.{full_batches-none, held_back-none}
 use Rattle.plinq_ops.proofs.Answered.{feeds-smaller, fed-on, fed-over, deciding-over, deciding-wider, deciding-singly, deciding-of_none, answer-of_none, answer-fed}

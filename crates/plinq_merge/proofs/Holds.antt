@@ -20,7 +20,7 @@ use Rattle.plinq_reorder.proofs.Insert.{All-insert, insert-after, after-next}
 use Rattle.plinq_reorder.proofs.Gap.{row-append, row-push}
 use Rattle.plinq_merge.specs.declared.row.Row.{Row}
 use Rattle.plinq_merge.specs.Shown.{at_once, waiting_trace, placed_intervals, all_placed, all_told, all_given, ending_at, row as row_of, arrived_trace, merged_trace}
-use Rattle.plinq_merge.specs.Keys.{is_offered}
+use Rattle.plinq_merge.specs.OfferedKeys.{is_offered}
 use Rattle.plinq_merge.specs.Merging.{Holds, TakesIn}
 use Rattle.plinq_merge.specs.Joining.{rest_of}
 

@@ -12,7 +12,7 @@ use Rattle.plinq_ops.specs.Stage.{Stage, seq, some_takes_none}
 use Rattle.plinq_ops.specs.Operator.{stages_of}
 use Rattle.plinq_ops.specs.Batches.{full_batches, held_back, batches_from}
 use Rattle.plinq_ops.specs.Pipeline.{stages}
-use Rattle.plinq_ops.proofs.Runs.{batches_from-open}
+use Rattle.plinq_ops.proofs.GrowingBatches.{batches_from-open}
 use Rattle.plinq_ops.specs.declared.op.Op.{Op}
 use Rattle.plinq_ops.proofs.Open.{seq-nothing}
 use Rattle.plinq_merge.specs.declared.delivery_fault.DeliveryFault.{DeliveryFault}

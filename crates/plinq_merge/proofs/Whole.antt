@@ -39,7 +39,7 @@ use Rattle.plinq_reorder.proofs.Insert.{apart-insert, has_key-insert}
 use Rattle.plinq_reorder.proofs.Gap.{row-of-unbroken_row, All-unbroken_row, gap-missing, gap-most}
 use Rattle.plinq_merge.specs.Whole.{IsTrueTail, AreTrueTails, AreApart, AreWhole, AreFirstOf}
 use Rattle.plinq_merge.specs.Shown.{Merge, waiting_trace, placed_intervals, all_placed, all_told, all_given, ending_at, row, merged_trace, answer, shown_batches}
-use Rattle.plinq_merge.specs.Keys.{is_offered}
+use Rattle.plinq_merge.specs.OfferedKeys.{is_offered}
 use Rattle.plinq_merge.specs.Deliveries.{batches-first}
 use Rattle.plinq_merge.proofs.Offers.{answer-open}
 use Rattle.plinq_merge.proofs.Holds.{All-placed, arrived_trace-by_key}

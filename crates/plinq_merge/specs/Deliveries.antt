@@ -7,7 +7,7 @@ use Rattle.plinq_source.proofs.Followed.{trace_of, followed_by-followed_by, foll
 use Rattle.plinq_ops.specs.Stage.{Stage, seq, seq_after}
 use Rattle.plinq_ops.specs.Batches.{full_batches, held_back, batches_from}
 use Rattle.plinq_ops.proofs.Stages.{seq-followed_by}
-use Rattle.plinq_ops.proofs.Runs.{full_batches-append, held_back-append, batches_from-followed_by, batches_from-open}
+use Rattle.plinq_ops.proofs.GrowingBatches.{full_batches-append, held_back-append, batches_from-followed_by, batches_from-open}
 use Rattle.plinq_merge.specs.declared.delivery_fault.DeliveryFault.{DeliveryFault}
 use Rattle.plinq_merge.specs.declared.delivery_fault.DeliveryFault.TheVariants.{Memory}
 use Rattle.plinq_merge.specs.Merging.{GoesOn}

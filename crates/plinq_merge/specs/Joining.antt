@@ -17,7 +17,7 @@ use Rattle.plinq_merge.specs.declared.joiner.Joiner.{Joiner}
 use Rattle.plinq_merge.specs.declared.joining.Joining.{Joining}
 use Rattle.plinq_merge.specs.Shown.{row as row_of, merged_trace}
 use Rattle.plinq_reorder.specs.Buffered.{is_taken}
-use Rattle.plinq_merge.specs.Keys.{is_offered, AreNew, IsDuplicate}
+use Rattle.plinq_merge.specs.OfferedKeys.{is_offered, AreNew, IsDuplicate}
 use Rattle.plinq_merge.specs.Merging.{Holds}
 
 -- what the row still gives: what waits under the next keys, and the source's ending if this is its place

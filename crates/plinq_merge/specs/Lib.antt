@@ -5,7 +5,7 @@ pub mod Cancelling
 pub mod Lent
 pub mod Buffer
 pub mod Shown
-pub mod Keys
+pub mod OfferedKeys
 pub mod Merging
 pub mod Taking
 pub mod Joining

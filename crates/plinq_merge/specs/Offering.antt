@@ -13,7 +13,7 @@ use Rattle.plinq_merge.specs.declared.delivery_fault.DeliveryFault.TheVariants.{
 use Rattle.plinq_merge.specs.Cancelling.{Delivery, Passes, IsRefused, IsKeptBack}
 use Rattle.plinq_merge.specs.Sending.{Leads, IsCutOff}
 use Rattle.plinq_merge.specs.Shown.{Merge, answer, shown_batches}
-use Rattle.plinq_merge.specs.Keys.{AreNew, IsDuplicate}
+use Rattle.plinq_merge.specs.OfferedKeys.{AreNew, IsDuplicate}
 use Rattle.plinq_merge.specs.Working.{Work, merge_of, Rests}
 
 -- the merger stands for these offers: with them the answer is open, or it has this ending; a failed one stands for none

@@ -5,7 +5,7 @@ use Rattle.plinq_source.specs.Trace.{Trace}
 use Rattle.plinq_ops.specs.declared.results.ChunkResult.{ChunkResult}
 use Rattle.plinq_ops.specs.Tails.{end_of_result, told_at, EndsAt}
 use Rattle.plinq_merge.specs.Shown.{all_told}
-use Rattle.plinq_merge.specs.Keys.{is_offered, AreNew}
+use Rattle.plinq_merge.specs.OfferedKeys.{is_offered, AreNew}
 
 -- what a tail says of the source's end is so
 abbrev pub IsTrueTail : {T : Type 0} → Trace T → ChunkResult T → Type 0

@@ -2,7 +2,7 @@ ghost use Rattle.std.specs.Prelude.{◌≡◌, ◌<◌, ◌≤◌, ◌^◌, ℕ,
 ghost use Rattle.plinq_merge.specs.declared.joiner_state.JoinerState.TheVariants.{Open, Decided};
 ghost use Rattle.plinq_ops.specs.declared.results.ChunkResult.{ChunkResult};
 ghost use Rattle.plinq_ops.specs.Tails.{end_of_result};
-ghost use Rattle.plinq_merge.specs.Keys.{is_offered};
+ghost use Rattle.plinq_merge.specs.OfferedKeys.{is_offered};
 ghost use Rattle.plinq_merge.specs.Joining.{IsReady};
 ghost use Rattle.plinq_merge.specs.Joiners.{taker_of, order_of, WaitsFor, has_decided, ending_of, JoinsOffer};
 

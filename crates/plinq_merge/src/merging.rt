@@ -5,7 +5,7 @@ ghost use Rattle.plinq_ops.specs.Operator.{stages_of};
 ghost use Rattle.plinq_ops.specs.Feeding.{is_empty_take};
 ghost use Rattle.plinq_ops.specs.Tails.{end_of_result};
 ghost use Rattle.plinq_merge.specs.declared.merge_fault.MergeFault.TheVariants.{Memory};
-ghost use Rattle.plinq_merge.specs.Keys.{is_offered};
+ghost use Rattle.plinq_merge.specs.OfferedKeys.{is_offered};
 ghost use Rattle.plinq_merge.specs.Shown.{answer};
 ghost use Rattle.plinq_merge.specs.Offering.{finish_of};
 ghost use Rattle.plinq_merge.specs.Mergers.{plan_of, delivered_of, IsFor, SendsSome, Offers, tells_decided, tells_ending};

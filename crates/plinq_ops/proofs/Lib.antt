@@ -13,11 +13,11 @@ pub mod Parts
 pub mod Worker
 pub mod Glue
 pub mod Chunks
-pub mod Runs
+pub mod GrowingBatches
 pub mod Batched
 pub mod ByKey
 pub mod Keyless
 pub mod Cut
 pub mod Rows
-pub mod Histories
+pub mod ResultRows
 pub mod MergeWords

@@ -6,7 +6,7 @@ use Rattle.plinq_ticket.specs.declared.ticket_lock.TicketLock.{TicketLock}
 use Rattle.plinq_partition.specs.declared.chunked.Chunked.{Chunked}
 use Rattle.plinq_partition.specs.declared.partition.Partition.{Partition}
 use Rattle.plinq_partition.specs.Partitions.{IsPartitionOf, holding_of}
-use Rattle.plinq_partition.specs.Shares.{keys_rise_from, IsAt, share_at}
+use Rattle.plinq_partition.specs.PartitionRecords.{keys_rise_from, IsAt, share_at}
 
 keys_rise-at : {V T : Type 0} (lock : TicketLock V T) (n : ℕ) (o : Option (Token V T)) → IsAt lock n o → keys_rise_from 0 (share_at o) ≡ true
 keys_rise-at lock n None at = absurd at

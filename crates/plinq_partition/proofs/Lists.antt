@@ -9,7 +9,7 @@ use Rattle.plinq_enumerator.specs.declared.enumerator.Enumerator.{Enumerator}
 use Rattle.plinq_ticket.specs.declared.pass.Token.{Token}
 use Rattle.plinq_ticket.specs.declared.ticket_lock.TicketLock.{TicketLock}
 use Rattle.plinq_ticket.specs.Passes.{pass_origin, pass_share}
-use Rattle.plinq_partition.specs.Shares.{share_at, origin_at, IsAt, IsPassAt}
+use Rattle.plinq_partition.specs.PartitionRecords.{share_at, origin_at, IsAt, IsPassAt}
 use Rattle.plinq_partition.specs.Partitions.{Holding, holding_of, new_beside, AreNew, AreMadeFrom, all_shares}
 use Rattle.plinq_partition.specs.GivenBack.{first_origin, common_origin}
 

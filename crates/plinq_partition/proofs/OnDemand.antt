@@ -18,7 +18,7 @@ use Rattle.plinq_ticket.proofs.Weights.{total-append, total-ones}
 use Rattle.plinq_ticket.proofs.Ordered.{total-in_ticket_order}
 use Rattle.plinq_partition.specs.declared.chunked.Chunked.{Chunked}
 use Rattle.plinq_partition.specs.declared.partition.Partition.{Partition}
-use Rattle.plinq_partition.specs.Shares.{IsAt, keys_rise_from, share_at}
+use Rattle.plinq_partition.specs.PartitionRecords.{IsAt, keys_rise_from, share_at}
 use Rattle.plinq_partition.specs.Partitions.{IsPartitionOf, all_shares, lists_of}
 use Rattle.plinq_partition.proofs.Shares.{ordered-share, normalized-history}
 

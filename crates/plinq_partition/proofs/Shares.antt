@@ -16,7 +16,7 @@ use Rattle.plinq_keyed.proofs.Rising.{keys-keyed_from, counts_up-range, keys-han
 use Rattle.plinq_keyed.proofs.Distinct.{rises_from-less}
 use Rattle.plinq_ticket.specs.Weights.{total}
 use Rattle.plinq_ticket.specs.Shares.{Contains}
-use Rattle.plinq_partition.specs.Shares.{keys_rise_from}
+use Rattle.plinq_partition.specs.PartitionRecords.{keys_rise_from}
 
 -- 1 where a record ends above a key, and else 0
 abbrev late : ℕ → Record → ℕ

@@ -13,7 +13,7 @@ use Rattle.plinq_ticket.specs.Shares.{Contains, added_records}
 use Rattle.plinq_ticket.proofs.Ordered.{added_records-append}
 use Rattle.plinq_partition.specs.declared.chunked.Chunked.{Chunked}
 use Rattle.plinq_partition.specs.inner.Inside.{IsInside}
-use Rattle.plinq_partition.specs.Shares.{keys_rise_from}
+use Rattle.plinq_partition.specs.PartitionRecords.{keys_rise_from}
 use Rattle.plinq_partition.proofs.Shares.{rises-next}
 
 -- the share after a request: what came after the history came after the share

@@ -2,6 +2,6 @@ pub mod Cuts
 pub mod Faults
 pub mod GivenBack
 pub mod Partitions
-pub mod Shares
+pub mod PartitionRecords
 pub mod Together
 pub mod inner

@@ -18,7 +18,7 @@ use Rattle.plinq_partition.specs.declared.chunked.Chunked.{Chunked}
 use Rattle.plinq_partition.specs.declared.partition.Partition.{Partition}
 use Rattle.plinq_partition.specs.declared.take_fault.TakeFault.{TakeFault}
 use Rattle.plinq_partition.specs.declared.take_fault.TakeFault.TheVariants.{Memory, Spent, Busy, Incomplete, Away}
-use Rattle.plinq_partition.specs.Shares.{IsAt, origin_at, share_at, drawn_at, served_at}
+use Rattle.plinq_partition.specs.PartitionRecords.{IsAt, origin_at, share_at, drawn_at, served_at}
 
 -- what a partition has: what its source hands out, the records that are its own, and how many chunks it was given
 pub record Holding (T : Type 0) : Type 0 where

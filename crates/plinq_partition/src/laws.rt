@@ -4,7 +4,7 @@ ghost use Rattle.plinq_keyed.specs.declared.record.Record.{Record};
 ghost use Rattle.plinq_keyed.specs.History.{IsLegalHistory, handed_out};
 ghost use Rattle.plinq_keyed.specs.Keys.{keys, ordered_in_each, normalized};
 ghost use Rattle.plinq_partition.specs.Partitions.{KeepsPromise};
-ghost use Rattle.plinq_partition.specs.Shares.{keys_rise_from};
+ghost use Rattle.plinq_partition.specs.PartitionRecords.{keys_rise_from};
 ghost use Rattle.plinq_partition.specs.Together.{TakesAreOneHistory};
 
 use crate::chunked::Chunked;

@@ -2,7 +2,7 @@ ghost use Rattle.std.specs.Prelude.{◌≡◌, ◌+◌, Some, IsSome, IfOk, IfEr
 ghost use Rattle.plinq_partition.specs.Faults.{take_fault_of};
 ghost use Rattle.plinq_partition.specs.inner.Inside.{IsInside, holding_inside};
 ghost use Rattle.plinq_partition.specs.Partitions.{IsPartitionOf, IsTaken, IsStopped, IsRefused, IsNotBusy, StaysOf, growth_of, holding_of};
-ghost use Rattle.plinq_partition.specs.Shares.{drawn_at, served_at};
+ghost use Rattle.plinq_partition.specs.PartitionRecords.{drawn_at, served_at};
 ghost use Rattle.plinq_ticket.specs.Passes.{held_drawn, held_ticket};
 
 use crate::chunked::Chunked;

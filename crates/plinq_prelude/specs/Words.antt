@@ -22,7 +22,7 @@ pub use Rattle.plinq_run.specs.Stopping.{ReportsSome, ReportsWith}
 pub use Rattle.plinq_run.specs.Aggregates.{Aggregates, AggregatesSome}
 pub use Rattle.plinq_collect.specs.Calling.{CallsSome, CallsAll, NoRoomOrRefused}
 pub use Rattle.plinq_collect.specs.Equal.{IsTestOf}
-pub use Rattle.plinq_collect.specs.Folds.{first_of, has_item, has_none, wrapped_count}
+pub use Rattle.plinq_collect.specs.ItemFoldings.{first_of, has_item, has_none, wrapped_count}
 pub use Rattle.plinq_collect.specs.Telling.{items_of, IsGathered, GathersSome, IsShort, TellsSome, LacksRoom}
 pub use Rattle.plinq_closures.specs.Asked.{CantBuild, HasNone, HasCalled, HasCalledAll, Tells, LacksRoomAlone, LacksRoomOrRefused}
 pub use Rattle.plinq_closures.specs.Functions.{maps, tests}

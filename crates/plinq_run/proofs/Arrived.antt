@@ -26,7 +26,7 @@ use Rattle.plinq_ops.specs.Tails.{EndsAt, end_of_result}
 use Rattle.plinq_reorder.specs.Intervals.{Interval, unbroken_row, first_gap, is_within}
 use Rattle.plinq_reorder.proofs.Keys.{same_key, within-from, not_within-before, not_within-after}
 use Rattle.plinq_reorder.proofs.Gap.{All-unbroken_row, gap-covered}
-use Rattle.plinq_merge.specs.Keys.{is_offered, AreNew}
+use Rattle.plinq_merge.specs.OfferedKeys.{is_offered, AreNew}
 use Rattle.plinq_merge.specs.Shown.{all_placed, all_told, all_given, ending_at, row, arrived_trace, merged_trace}
 use Rattle.plinq_merge.specs.Whole.{AreTrueTails, AreApart}
 use Rattle.plinq_merge.proofs.Holds.{nothing-placed, nothing-given, is_offered-append}

@@ -19,7 +19,7 @@ use Rattle.plinq_ops.specs.Chunk.{result_trace, run_ending}
 use Rattle.plinq_ops.specs.Tails.{end_of_result, told_at}
 use Rattle.plinq_reorder.specs.declared.span.Span.{Span}
 use Rattle.plinq_reorder.specs.Intervals.{Interval, insert, unbroken_row, first_gap, is_within}
-use Rattle.plinq_merge.specs.Keys.{is_offered}
+use Rattle.plinq_merge.specs.OfferedKeys.{is_offered}
 use Rattle.plinq_merge.specs.Whole.{AreApart}
 use Rattle.plinq_merge.specs.Shown.{at_once, waiting_trace, placed_intervals, all_placed, all_told, all_given, ending_at, row, arrived_trace, merged_trace}
 use Rattle.plinq_crew.specs.Results.{IsResult, IsPart}

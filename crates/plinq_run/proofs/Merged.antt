@@ -49,7 +49,7 @@ use Rattle.plinq_run.specs.inner.Offered.{IsOffered}
 use Rattle.plinq_run.specs.Runs.{Cause, Other, cause_of}
 use Rattle.plinq_run.specs.inner.Reported.{cause_in_merge}
 use Rattle.plinq_run.specs.Handed.{is_close}
-use Rattle.plinq_run.specs.inner.Faults.{AreSound}
+use Rattle.plinq_run.specs.inner.FirstFault.{AreSound}
 use Rattle.plinq_run.proofs.Arrived.{apart-push}
 
 -- a fault of the merge has the cause for which the taker broke off

@@ -39,7 +39,7 @@ use Rattle.plinq_run.specs.Runs.{Cause, Other, cause_of}
 use Rattle.plinq_run.specs.inner.Blocks.{can_fold, Passes, MadeBy}
 use Rattle.plinq_run.specs.inner.Conducted.{HasConducted, answer_ending}
 use Rattle.plinq_run.specs.inner.Folds.{IsFoldOf}
-use Rattle.plinq_run.specs.inner.Plans.{merged_answer, MayMerge}
+use Rattle.plinq_run.specs.inner.PlanAnswers.{merged_answer, MayMerge}
 use Rattle.plinq_run.specs.inner.Offered.{IsOffered}
 use Rattle.plinq_run.specs.inner.Standing.{IsOver, given-none, given-past}
 use Rattle.plinq_run.specs.declared.combiner.Combiner.{Combiner}

@@ -22,7 +22,7 @@ use Rattle.plinq_ops.proofs.Fed.{fed-none}
 use Rattle.plinq_ops.proofs.Answered.{fed-on, fed-over, least-over}
 use Rattle.plinq_crew.specs.Results.{IsMadeOf}
 use Rattle.plinq_run.specs.inner.Folds.{IsFoldOf, IsFoldOfChunk}
-use Rattle.plinq_run.specs.inner.OneThread.{FoldsAll}
+use Rattle.plinq_run.specs.inner.SequentialFold.{FoldsAll}
 
 -- after an answer that leaves the run open that of the items after it
 abbrev joined_by : {T : Type 0} → Option ℕ → ChunkAnswer T → ChunkAnswer T → ChunkAnswer T

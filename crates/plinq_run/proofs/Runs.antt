@@ -53,7 +53,7 @@ use Rattle.plinq_run.specs.declared.run_fault.RunFault.{RunFault}
 use Rattle.plinq_run.specs.declared.planning.Ended.{Ended}
 use Rattle.plinq_run.specs.inner.Merged.{merge_for, HasEnded, HasBrokenOff}
 use Rattle.plinq_run.specs.Parting.{Breaks}
-use Rattle.plinq_run.specs.inner.Plans.{merged_answer, MayTake, MayMerge}
+use Rattle.plinq_run.specs.inner.PlanAnswers.{merged_answer, MayTake, MayMerge}
 use Rattle.plinq_run.specs.inner.Offered.{IsOffered, Covers}
 use Rattle.plinq_run.specs.Reports.{IsBroken, Reports}
 use Rattle.plinq_run.specs.Runs.{HasRun, Cause, SinkRefused, Other, cause_of, BreaksFor}

@@ -21,7 +21,7 @@ use Rattle.plinq_run.specs.Endings.{reported_ending, RunsDecided, RunsDecidedWit
 use Rattle.plinq_run.specs.Reports.{Reports}
 use Rattle.plinq_run.specs.Runs.{HasRun, HasBroken, Cause, SinkRefused, Stopped, Other, cause_of, BreaksFor, Runs}
 use Rattle.plinq_run.specs.Stopping.{is_stopped, ReportsWith, RunsWith}
-use Rattle.plinq_run.specs.inner.Cancelling.{ReportsLent, IsAskedAtLast}
+use Rattle.plinq_run.specs.inner.TokenReports.{ReportsLent, IsAskedAtLast}
 use Rattle.plinq_run.specs.Handed.{handed_trace}
 
 -- a run that broke off was cut off

@@ -1,6 +1,6 @@
 pub mod Aggregates
 pub mod Endings
-pub mod Finished
+pub mod FinishedFold
 pub mod Handed
 pub mod Headline
 pub mod Parting

@@ -28,7 +28,7 @@ use Rattle.plinq_run.specs.Aggregates.{Aggregates}
 use Rattle.plinq_run.specs.Endings.{RunsDecided, RunsDecidedWith}
 use Rattle.plinq_run.specs.Handed.{is_end, handed_trace}
 use Rattle.plinq_run.specs.Headline.{HasDelivered}
-use Rattle.plinq_run.specs.inner.Cancelling.{ReportsLent}
+use Rattle.plinq_run.specs.inner.TokenReports.{ReportsLent}
 use Rattle.plinq_run.specs.inner.Offered.{IsOffered, Covers}
 use Rattle.plinq_run.specs.Reports.{HasReported}
 use Rattle.plinq_run.specs.Runs.{Runs}

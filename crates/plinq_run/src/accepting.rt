@@ -3,7 +3,7 @@ ghost use Rattle.std.specs.Prelude.{◌≡◌, ◌≤◌, ◌<◌, ◌^◌, ℕ,
 ghost use Rattle.plinq_ops.specs.declared.results.ChunkResult.{ChunkResult};
 ghost use Rattle.plinq_ops.specs.Tails.{end_of_result};
 ghost use Rattle.plinq_merge.specs.Joiners.{WaitsFor, has_decided};
-ghost use Rattle.plinq_merge.specs.Keys.{is_offered};
+ghost use Rattle.plinq_merge.specs.OfferedKeys.{is_offered};
 ghost use Rattle.plinq_merge.specs.Joining.{IsReady};
 ghost use Rattle.plinq_run.specs.inner.Merged.{Accepts, AcceptsInto};
 

@@ -9,7 +9,7 @@ ghost use Rattle.plinq_merge.specs.Lent.{AreSame};
 ghost use Rattle.plinq_run.specs.Endings.{RunsDecidedWith};
 ghost use Rattle.plinq_run.specs.Handed.{has_close};
 ghost use Rattle.plinq_run.specs.Stopping.{is_stopped, ReportsSome};
-ghost use Rattle.plinq_run.specs.inner.Cancelling.{IsAskedAtLast};
+ghost use Rattle.plinq_run.specs.inner.TokenReports.{IsAskedAtLast};
 
 use crate::report::Report;
 use crate::run_fault::RunFault;

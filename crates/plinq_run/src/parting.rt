@@ -5,7 +5,7 @@ ghost use Rattle.plinq_source.specs.declared.ending.Ending.TheVariants.{End};
 ghost use Rattle.plinq_ops.specs.Answer.{MayAnswer};
 ghost use Rattle.plinq_run.specs.Parting.{GivesSome};
 ghost use Rattle.plinq_run.specs.inner.Conducted.{answer_ending};
-ghost use Rattle.plinq_run.specs.inner.Plans.{MayMerge, MayRun};
+ghost use Rattle.plinq_run.specs.inner.PlanAnswers.{MayMerge, MayRun};
 
 use crate::fold_blocks::FoldBlocks;
 use crate::planning::Conducted;

@@ -3,7 +3,7 @@ ghost use Rattle.std.specs.Prelude.{◌≡◌, ◌≤◌, length, None, All, IfO
 ghost use Rattle.plinq_partition.specs.Partitions.{IsPartitionOf};
 ghost use Rattle.plinq_run.specs.Runs.{Other, cause_of};
 ghost use Rattle.plinq_run.specs.inner.Reported.{cause_in_merge, IsReportOf};
-ghost use Rattle.plinq_run.specs.inner.Faults.{first_reported, AreSound};
+ghost use Rattle.plinq_run.specs.inner.FirstFault.{first_reported, AreSound};
 ghost use Rattle.plinq_run.specs.inner.Finishing.{Finishes};
 
 use crate::accepting::Merging;

@@ -5,8 +5,8 @@ ghost use Rattle.plinq_ops.specs.Operator.{stages_of};
 ghost use Rattle.plinq_ops.specs.Pipeline.{stages};
 ghost use Rattle.plinq_ops.specs.Sequential.{answer_of, IsLeastDeciding};
 ghost use Rattle.plinq_ops.specs.Stage.{some_takes_none};
-ghost use Rattle.plinq_run.specs.Finished.{HasFinished};
-ghost use Rattle.plinq_run.specs.inner.OneThread.{FoldsAll};
+ghost use Rattle.plinq_run.specs.FinishedFold.{HasFinished};
+ghost use Rattle.plinq_run.specs.inner.SequentialFold.{FoldsAll};
 
 use crate::combined::Combined;
 use plinq_aggregate::GrowingAggregator;

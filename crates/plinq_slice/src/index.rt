@@ -41,7 +41,7 @@ impl<F: ItemAt> IndexSource<F> {
 }
 
 impl<F: ItemAt> Source for IndexSource<F> {
-    ghost use Rattle.plinq_slice.specs.Walked.{index_whole, index_given, index_walked};
+    ghost use Rattle.plinq_slice.specs.WalkedSlices.{index_whole, index_given, index_walked};
 
     type Item = F::Item;
 

@@ -38,7 +38,7 @@ impl<'a, T: Copy + Send + Sync> SliceSource<'a, T> {
 }
 
 impl<'a, T: Copy + Send + Sync> Source for SliceSource<'a, T> {
-    ghost use Rattle.plinq_slice.specs.Walked.{slice_whole, slice_given, slice_walked};
+    ghost use Rattle.plinq_slice.specs.WalkedSlices.{slice_whole, slice_given, slice_walked};
 
     type Item = T;
 

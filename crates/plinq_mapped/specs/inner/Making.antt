@@ -6,7 +6,7 @@ use Rattle.plinq_source.specs.declared.ending.Ending.TheVariants.{End, Fault}
 use Rattle.plinq_source.specs.Trace.{Trace, open_trace, ended_trace, followed_by}
 use Rattle.plinq_source.proofs.Followed.{trace_of, followed_by-followed_by, followed_by-ended, followed_by-open_nil}
 use Rattle.plinq_ops.specs.Batches.{full_batches, held_back, batches_from}
-use Rattle.plinq_ops.proofs.Runs.{full_batches-append, held_back-append, batches_from-followed_by}
+use Rattle.plinq_ops.proofs.GrowingBatches.{full_batches-append, held_back-append, batches_from-followed_by}
 use Rattle.plinq_merge.specs.declared.delivery_fault.DeliveryFault.{DeliveryFault}
 use Rattle.plinq_merge.specs.declared.delivery_fault.DeliveryFault.TheVariants.{Memory}
 use Rattle.plinq_merge.specs.Deliveries.{batches-first}

@@ -7,7 +7,7 @@ use Rattle.plinq_ticket.specs.declared.held.Entry.{Entry}
 use Rattle.plinq_ticket.specs.Passes.{IsHeldOf, Finds, held_origin, held_share, held_ticket, held_drawn}
 use Rattle.plinq_partition.specs.declared.chunked.Chunked.{Chunked}
 use Rattle.plinq_partition.specs.Partitions.{Holding}
-use Rattle.plinq_partition.specs.Shares.{keys_rise_from}
+use Rattle.plinq_partition.specs.PartitionRecords.{keys_rise_from}
 
 module _ {S T : Type 0} {source : Ghosts S T} where
   -- what the partition has that is inside

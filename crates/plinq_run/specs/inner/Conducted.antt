@@ -25,7 +25,7 @@ use Rattle.plinq_run.specs.declared.run_fault.RunFault.{RunFault}
 use Rattle.plinq_run.specs.declared.run_request.RunRequest.{RunRequest}
 use Rattle.plinq_run.specs.Handed.{has_close}
 use Rattle.plinq_run.specs.inner.Merged.{HasEnded, HasBrokenOff, WereAccepted}
-use Rattle.plinq_run.specs.inner.Plans.{MayRun}
+use Rattle.plinq_run.specs.inner.PlanAnswers.{MayRun}
 
 -- a run may be conducted by such a task
 pub record MayConduct {Q T L S G M : Type 0} (given : S → ℕ) (whole : S → Trace T) (meaning : L → Meaning T) (makes : ChunkResult T → ChunkResult M → Type 0)

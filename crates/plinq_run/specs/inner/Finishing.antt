@@ -9,7 +9,7 @@ use Rattle.plinq_run.specs.declared.planning.Ended.{Ended}
 use Rattle.plinq_run.specs.declared.run_fault.RunFault.{RunFault}
 use Rattle.plinq_run.specs.declared.run_fault.RunFault.TheVariants.{Incomplete}
 use Rattle.plinq_run.specs.Runs.{cause_of}
-use Rattle.plinq_run.specs.inner.Faults.{first_reported, AreSound}
+use Rattle.plinq_run.specs.inner.FirstFault.{first_reported, AreSound}
 use Rattle.plinq_run.specs.inner.Reported.{cause_in_merge}
 
 -- the answer's ending and what has taken its items, where there was no fault, or the first of all faults

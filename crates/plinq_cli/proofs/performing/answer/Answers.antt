@@ -1,7 +1,7 @@
 use Rattle.std.proofs.Common.{Err, ap, sym, ◌∙◌, subst}
 use Rattle.std.proofs.lemmas.Result.{err_from_is_err_and}
 use Rattle.plinq_cli.specs.Performed.{Answers}
-use Rattle.plinq_cli.proofs.Answered.{failed, refused, served, unread}
+use Rattle.plinq_cli.proofs.Flushed.{failed, refused, served, unread}
 use Rattle.plinq_cli.proofs.performing.answer.Goals as goal
 
 pub returns-in_err-bytes : goal.returns-in_err-bytes

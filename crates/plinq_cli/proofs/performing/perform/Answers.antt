@@ -2,7 +2,7 @@
 use Rattle.std.proofs.Common.{map, inl, subst}
 use Rattle.std.specs.String.{string_bytes}
 use Rattle.plinq_arguments.specs.Arguments.{IsAsked}
-use Rattle.plinq_cli.proofs.Answered.{flushed}
+use Rattle.plinq_cli.proofs.Flushed.{flushed}
 use Rattle.plinq_cli.proofs.performing.perform.Goals as goal
 
 pub returns-in-Ok-clause-written : goal.returns-in-Ok-clause-written

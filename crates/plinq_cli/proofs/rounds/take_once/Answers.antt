@@ -1,4 +1,4 @@
-use Rattle.plinq_cli.proofs.Turns.{open-taken, done-taken}
+use Rattle.plinq_cli.proofs.PartitionTurns.{open-taken, done-taken}
 use Rattle.plinq_cli.proofs.rounds.take_once.Goals as goal
 
 pub returns-clause-goes_on : goal.returns-clause-goes_on

@@ -1,6 +1,6 @@
 -- what the sink took is written, and the writer comes back as it is
 use Rattle.std.proofs.Common.{◌∙◌}
-use Rattle.plinq_cli.proofs.Delivered.{told-delivered}
+use Rattle.plinq_cli.proofs.RunLines.{told-delivered}
 use Rattle.plinq_cli.proofs.serving.run_lines.Goals as goal
 
 pub returns-clause-delivers : goal.returns-clause-delivers

@@ -3,8 +3,8 @@ use Rattle.std.proofs.Common.{arith, sym, subst}
 use Rattle.plinq_lambda.specs.Formula.{formula_meaning}
 use Rattle.plinq_ops.specs.Answer.{MayAnswer}
 use Rattle.plinq_ops.specs.Query.{merge_in_force}
-use Rattle.plinq_document.specs.Walked.{any_whole}
-use Rattle.plinq_cli.specs.inner.Stopped.{Leaves}
+use Rattle.plinq_document.specs.WalkedSources.{any_whole}
+use Rattle.plinq_cli.specs.inner.StoppedRun.{Leaves}
 use Rattle.plinq_cli.proofs.Stopped.{leaves-with}
 use Rattle.plinq_cli.proofs.serving.run_until.Goals as goal
 

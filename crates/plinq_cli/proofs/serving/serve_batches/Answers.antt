@@ -4,7 +4,7 @@ use Rattle.std.proofs.lemmas.Result.{err_from_is_err_and}
 use Rattle.plinq_arguments.specs.declared.command.Command.TheVariants.{Run}
 use Rattle.plinq_cli.specs.ServeFaults.{MayFail}
 use Rattle.plinq_cli.specs.Served.{Delivers, LeavesWholeLines}
-use Rattle.plinq_cli.proofs.Delivered.{run-failed, run-failed-so, run-failed-whole, ending-failed, ending-written, ending-in_time}
+use Rattle.plinq_cli.proofs.RunLines.{run-failed, run-failed-so, run-failed-whole, ending-failed, ending-written, ending-in_time}
 use Rattle.plinq_cli.proofs.serving.serve_batches.Goals as goal
 
 pub returns-in_err-ending-clause-written : goal.returns-in_err-ending-clause-written

@@ -1,6 +1,6 @@
 -- nothing is written before the answer is there
 use Rattle.plinq_arguments.specs.declared.command.Command.TheVariants.{Seq}
-use Rattle.plinq_cli.proofs.Answered.{serves-unwritten}
+use Rattle.plinq_cli.proofs.Flushed.{serves-unwritten}
 use Rattle.plinq_cli.proofs.serving.serve_fold.Goals as goal
 
 pub returns-in_err-value-clause-written : goal.returns-in_err-value-clause-written

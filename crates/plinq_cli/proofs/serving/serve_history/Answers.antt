@@ -2,12 +2,12 @@
 use Rattle.std.proofs.Common.{◌≡◌, Some, None, refl, ap, sym, ◌∙◌, subst}
 use Rattle.plinq_source.specs.Trace.{IsSourceEnding}
 use Rattle.plinq_enumerator.specs.Held.{held_source, held_records}
-use Rattle.plinq_document.specs.Walked.{any_whole, any_walked}
+use Rattle.plinq_document.specs.WalkedSources.{any_whole, any_walked}
 use Rattle.plinq_lines.specs.HistoryText.{history_text}
 use Rattle.plinq_lines.proofs.WrittenBytes.{appends-as, begins-as}
 use Rattle.plinq_arguments.specs.declared.command.Command.TheVariants.{History}
-use Rattle.plinq_cli.proofs.Answered.{serves-begun}
-use Rattle.plinq_cli.proofs.Histories.{taken-tell}
+use Rattle.plinq_cli.proofs.Flushed.{serves-begun}
+use Rattle.plinq_cli.proofs.JobHistories.{taken-tell}
 use Rattle.plinq_cli.proofs.serving.serve_history.Goals as goal
 
 pub unreachable-requires : goal.unreachable-requires

@@ -8,11 +8,11 @@ use Rattle.plinq_keyed.specs.Keys.{keyed_from, element_lists}
 use Rattle.plinq_partition.specs.Cuts.{cuts}
 use Rattle.plinq_ops.specs.Query.{degree_in_force}
 use Rattle.plinq_document.specs.Jobs.{JobView}
-use Rattle.plinq_lines.specs.Text.{line, ending_words}
+use Rattle.plinq_lines.specs.AnswerText.{line, ending_words}
 use Rattle.plinq_lines.specs.PartsText.{all_true, properties_line, part_lines, parts_text}
 use Rattle.plinq_lines.proofs.WrittenBytes.{appends-as, begins-as}
 use Rattle.plinq_arguments.specs.declared.command.Command.TheVariants.{Parts}
-use Rattle.plinq_cli.proofs.Answered.{serves-begun, serves-unwritten}
+use Rattle.plinq_cli.proofs.Flushed.{serves-begun, serves-unwritten}
 use Rattle.plinq_cli.proofs.serving.serve_parts.Goals as goal
 
 written : (p : KeyProperties) (parts : List (List (Keyed ℤ))) (e : Ending) (items : List ℤ) (n m : ℕ) (t u : Trace ℤ)

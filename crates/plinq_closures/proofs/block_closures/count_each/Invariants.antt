@@ -1,6 +1,6 @@
 use Rattle.std.proofs.Common.{take, drop}
 use Rattle.plinq_lambda.specs.Block.{passing_block}
-use Rattle.plinq_closures.proofs.SoFar.{IsSoFar}
+use Rattle.plinq_closures.proofs.ClosureBlocks.{IsSoFar}
 use Rattle.plinq_closures.proofs.block_closures.count_each.Given as goal
 
 -- the items before this one pass

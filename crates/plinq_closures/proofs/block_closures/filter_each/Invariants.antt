@@ -1,6 +1,6 @@
 use Rattle.std.proofs.Common.{◌≡◌, ◌≤◌, take, drop, length}
 use Rattle.plinq_lambda.specs.Block.{filtered_block}
-use Rattle.plinq_closures.proofs.SoFar.{IsSoFar}
+use Rattle.plinq_closures.proofs.ClosureBlocks.{IsSoFar}
 use Rattle.plinq_closures.proofs.block_closures.filter_each.Given as goal
 
 -- of the items before this one those that pass stand at the front, the others are as they were

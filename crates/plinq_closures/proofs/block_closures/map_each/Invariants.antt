@@ -1,6 +1,6 @@
 use Rattle.std.proofs.Common.{◌≡◌, take, drop, length}
 use Rattle.plinq_lambda.specs.Block.{mapped_block}
-use Rattle.plinq_closures.proofs.SoFar.{IsSoFar}
+use Rattle.plinq_closures.proofs.ClosureBlocks.{IsSoFar}
 use Rattle.plinq_closures.proofs.block_closures.map_each.Given as goal
 
 -- the items before this one are mapped, the others as they were

@@ -1,6 +1,6 @@
 -- How many items there are is what the aggregate counts.
 use Rattle.plinq_ops.specs.Sequential.{answer_of}
-use Rattle.plinq_collect.specs.Folds.{wrapped_count, counting_items, fold_of-counting_items}
+use Rattle.plinq_collect.specs.ItemFoldings.{wrapped_count, counting_items, fold_of-counting_items}
 use Rattle.plinq_collect.proofs.Gathered.{tells-one}
 use Rattle.plinq_collect.proofs.sequentially.count.Goals as goal
 

@@ -2,7 +2,7 @@
 use Rattle.std.proofs.Common.{subst}
 use Rattle.std.specs.Prelude.{◌≡◌}
 use Rattle.plinq_ops.specs.Sequential.{answer_of}
-use Rattle.plinq_collect.specs.Folds.{first_of, picking_first, fold_of-first}
+use Rattle.plinq_collect.specs.ItemFoldings.{first_of, picking_first, fold_of-first}
 use Rattle.plinq_collect.specs.Telling.{TellsSome}
 use Rattle.plinq_collect.proofs.Gathered.{tells-one}
 use Rattle.plinq_collect.proofs.sequentially.first.Goals as goal

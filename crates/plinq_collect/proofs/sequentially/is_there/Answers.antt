@@ -2,7 +2,7 @@
 use Rattle.std.proofs.Common.{subst}
 use Rattle.std.specs.Prelude.{◌≡◌}
 use Rattle.plinq_ops.specs.Sequential.{answer_of}
-use Rattle.plinq_collect.specs.Folds.{has_item, being_there, fold_of-there}
+use Rattle.plinq_collect.specs.ItemFoldings.{has_item, being_there, fold_of-there}
 use Rattle.plinq_collect.specs.Telling.{TellsSome}
 use Rattle.plinq_collect.proofs.Gathered.{tells-one}
 use Rattle.plinq_collect.proofs.sequentially.is_there.Goals as goal

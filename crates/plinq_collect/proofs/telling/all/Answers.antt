@@ -3,7 +3,7 @@ use Rattle.std.proofs.Common.{subst, sym}
 use Rattle.std.specs.Prelude.{pos, [], ◌∷◌, ◌++◌}
 use Rattle.plinq_ops.specs.declared.op.Op.TheVariants.{Take, SkipWhile}
 use Rattle.plinq_ops.specs.Answer.{MayAnswer}
-use Rattle.plinq_collect.specs.Folds.{has_none}
+use Rattle.plinq_collect.specs.ItemFoldings.{has_none}
 use Rattle.plinq_collect.specs.Telling.{TellsSome, negated}
 use Rattle.plinq_collect.proofs.Gathered.{tells-none}
 use Rattle.plinq_collect.proofs.telling.all.Goals as goal

@@ -1,6 +1,6 @@
 -- How many items there are is what the aggregate counts.
 use Rattle.plinq_ops.specs.Answer.{MayAnswer}
-use Rattle.plinq_collect.specs.Folds.{wrapped_count, counting_items, fold_of-counting_items}
+use Rattle.plinq_collect.specs.ItemFoldings.{wrapped_count, counting_items, fold_of-counting_items}
 use Rattle.plinq_collect.proofs.Gathered.{tells}
 use Rattle.plinq_collect.proofs.telling.count.Goals as goal
 

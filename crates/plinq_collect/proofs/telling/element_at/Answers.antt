@@ -3,7 +3,7 @@ use Rattle.std.proofs.Common.{rules, subst}
 use Rattle.std.specs.Prelude.{◌≡◌, pos, [], ◌∷◌, ◌++◌}
 use Rattle.plinq_ops.specs.declared.op.Op.TheVariants.{Take, Skip}
 use Rattle.plinq_ops.specs.Answer.{MayAnswer}
-use Rattle.plinq_collect.specs.Folds.{first_of}
+use Rattle.plinq_collect.specs.ItemFoldings.{first_of}
 use Rattle.plinq_collect.specs.Telling.{TellsSome}
 use Rattle.plinq_collect.proofs.telling.element_at.Goals as goal
 

@@ -1,7 +1,7 @@
 -- The first of the items is what the aggregate picks.
 use Rattle.std.proofs.Common.{subst}
 use Rattle.plinq_ops.specs.Answer.{MayAnswer}
-use Rattle.plinq_collect.specs.Folds.{first_of, picking_first, fold_of-first}
+use Rattle.plinq_collect.specs.ItemFoldings.{first_of, picking_first, fold_of-first}
 use Rattle.plinq_collect.specs.Telling.{TellsSome}
 use Rattle.plinq_collect.proofs.Gathered.{tells}
 use Rattle.plinq_collect.proofs.telling.first.Goals as goal

@@ -1,7 +1,7 @@
 -- Whether there is an item is what the aggregate says.
 use Rattle.std.proofs.Common.{subst}
 use Rattle.plinq_ops.specs.Answer.{MayAnswer}
-use Rattle.plinq_collect.specs.Folds.{has_item, being_there, fold_of-there}
+use Rattle.plinq_collect.specs.ItemFoldings.{has_item, being_there, fold_of-there}
 use Rattle.plinq_collect.specs.Telling.{TellsSome}
 use Rattle.plinq_collect.proofs.Gathered.{tells}
 use Rattle.plinq_collect.proofs.telling.is_there.Goals as goal

@@ -8,7 +8,7 @@ use Rattle.serde_json.specs.Read.{of_items, converted}
 use Rattle.serde_json.specs.View.{view}
 use Rattle.serde_json.specs.declared.value.Value.{String, the_lemmas}
 use Rattle.serde_json.proofs.Views.{view-Array}
-use Rattle.plinq_document.proofs.Tokens.{items_before, items-turn, items-over, value-string, value-number, value-list}
+use Rattle.plinq_document.proofs.TokenTurns.{items_before, items-turn, items-over, value-string, value-number, value-list}
 use Rattle.plinq_document.proofs.by_tokens.+read.Goals as goal
 
 pub read_items-items-preserved : goal.read_items-items-preserved

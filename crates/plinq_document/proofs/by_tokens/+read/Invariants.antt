@@ -2,7 +2,7 @@
 use Rattle.std.proofs.Common.{◌≡◌, ℕ, ◌+◌, ◌*◌, ◌≤◌, length}
 use Rattle.json.specs.Json.{items, value, parse_map}
 use Rattle.serde_json.specs.Read.{of_items, converted}
-use Rattle.plinq_document.proofs.Tokens.{items_before}
+use Rattle.plinq_document.proofs.TokenTurns.{items_before}
 use Rattle.plinq_document.proofs.by_tokens.+read.Given as goal
 
 abbrev pub decreases-read_value : goal.decreases-read_value

@@ -5,8 +5,8 @@ use Rattle.json.specs.Lex.{tokens}
 use Rattle.json.specs.Json.{parse_map, value}
 use Rattle.serde_json.specs.Data.{object}
 use Rattle.serde_json.specs.Read.{of_json, converted, read}
-use Rattle.plinq_document.proofs.Reading.{json_of-read}
-use Rattle.plinq_document.proofs.Tokens.{value-object, whole-read}
+use Rattle.plinq_document.proofs.DocumentText.{json_of-read}
+use Rattle.plinq_document.proofs.TokenTurns.{value-object, whole-read}
 use Rattle.plinq_document.proofs.by_tokens.parts_of.Goals as goal
 
 pub returns-in-None-clause-read : goal.returns-in-None-clause-read

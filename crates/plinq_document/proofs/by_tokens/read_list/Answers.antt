@@ -1,7 +1,7 @@
 use Rattle.std.proofs.Common.{◌≡◌, ◌^◌, ◌<◌, ◌≤◌, ◌∷◌, length, Some, None, Ok, sym, ap, ◌∙◌, arith, rules}
 use Rattle.json.specs.Token.{Token}
 use Rattle.plinq_document.specs.inner.Apart.{EndsList}
-use Rattle.plinq_document.proofs.Tokens.{list-read, list-members}
+use Rattle.plinq_document.proofs.TokenTurns.{list-read, list-members}
 use Rattle.plinq_document.proofs.by_tokens.read_list.Goals as goal
 
 pub returns-in-None-clause-read : goal.returns-in-None-clause-read

@@ -4,7 +4,7 @@ use Rattle.json.proofs.Grammar.{read_key-shorter}
 use Rattle.serde_json.specs.Data.{no_members, put}
 use Rattle.serde_json.specs.View.{members_view}
 use Rattle.plinq_document.specs.inner.Apart.{AreApart}
-use Rattle.plinq_document.proofs.Tokens.{members-turn, members-over}
+use Rattle.plinq_document.proofs.TokenTurns.{members-turn, members-over}
 use Rattle.plinq_document.proofs.by_tokens.read_members.Goals as goal
 
 pub members-init : goal.members-init

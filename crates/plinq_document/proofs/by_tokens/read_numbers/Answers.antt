@@ -4,7 +4,7 @@ use Rattle.json.specs.Json.{items, value, parse_map}
 use Rattle.json.specs.Reads.{token_of}
 use Rattle.serde_json.specs.Read.{converted}
 use Rattle.plinq_document.specs.inner.Apart.{numbers_in}
-use Rattle.plinq_document.proofs.Tokens.{numbers-turn, numbers-over}
+use Rattle.plinq_document.proofs.TokenTurns.{numbers-turn, numbers-over}
 use Rattle.plinq_document.proofs.by_tokens.read_numbers.Goals as goal
 
 pub numbers-preserved : goal.numbers-preserved

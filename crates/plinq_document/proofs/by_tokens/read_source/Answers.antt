@@ -1,6 +1,6 @@
 use Rattle.std.proofs.Common.{◌≡◌, ◌∷◌, rules}
 use Rattle.json.specs.Token.{Token}
-use Rattle.plinq_document.proofs.Tokens.{made-source}
+use Rattle.plinq_document.proofs.TokenTurns.{made-source}
 use Rattle.plinq_document.proofs.by_tokens.read_source.Goals as goal
 
 pub returns-clause-read : goal.returns-clause-read

@@ -2,7 +2,7 @@ use Rattle.std.proofs.Common.{◌≡◌, ◌∷◌, length, ap, ◌∙◌, suc, 
 use Rattle.std.specs.Prelude.{codes}
 use Rattle.json.specs.Token.{Token}
 use Rattle.serde_json.specs.Data.{string, member, no_members}
-use Rattle.plinq_document.proofs.Tokens.{value-string, member-read}
+use Rattle.plinq_document.proofs.TokenTurns.{value-string, member-read}
 use Rattle.plinq_document.proofs.Apart.{text-alone}
 use Rattle.plinq_document.proofs.by_tokens.read_text.Goals as goal
 

@@ -2,9 +2,9 @@
 use Rattle.std.proofs.Common.{◌≡◌, length, Some, option_map, rules, ap, sym, ◌∙◌}
 use Rattle.serde_json.specs.View.{view, items_view}
 use Rattle.serde_json.specs.Find.{as_array}
-use Rattle.plinq_document.specs.Values.{items_len}
+use Rattle.plinq_document.specs.JsonValues.{items_len}
 use Rattle.plinq_document.specs.Sources.{bound_named}
-use Rattle.plinq_document.proofs.Reading.{items_len-items_view}
+use Rattle.plinq_document.proofs.DocumentText.{items_len-items_view}
 use Rattle.plinq_document.proofs.concats.bound_named.Goals as goal
 
 pub returns-in_ok-as_array-in-List : goal.returns-in_ok-as_array-in-List

@@ -1,5 +1,5 @@
 use Rattle.std.proofs.Common.{Err, ap, sym, ◌∙◌}
-use Rattle.plinq_document.proofs.Reading.{json_of-read, json_of-unread}
+use Rattle.plinq_document.proofs.DocumentText.{json_of-read, json_of-unread}
 use Rattle.plinq_document.proofs.document.json_of.Goals as goal
 
 pub returns-in-Ok : goal.returns-in-Ok

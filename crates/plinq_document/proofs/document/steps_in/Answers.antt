@@ -4,7 +4,7 @@ use Rattle.serde_json.specs.Find.{as_array, get}
 use Rattle.serde_json.specs.View.{view, items_view}
 use Rattle.plinq_document.specs.Results.{◌>>=◌, or_shape}
 use Rattle.plinq_document.specs.Document.{few_steps}
-use Rattle.plinq_document.proofs.Reading.{few_steps-few, few_steps-many}
+use Rattle.plinq_document.proofs.DocumentText.{few_steps-few, few_steps-many}
 use Rattle.plinq_document.proofs.document.steps_in.Goals as goal
 
 pub returns-then-len-gt-MOST_STEPS : goal.returns-then-len-gt-MOST_STEPS

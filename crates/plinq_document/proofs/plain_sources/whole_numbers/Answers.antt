@@ -1,6 +1,6 @@
 use Rattle.std.proofs.Common.{◌≡◌, ◌∷◌, ◌++◌, [], ◌+◌, List, ℤ, drop, option_map, Some, ap, sym, ◌∙◌, rules}
 use Rattle.serde_json.specs.View.{view, items_view}
-use Rattle.plinq_document.specs.Values.{whole_number}
+use Rattle.plinq_document.specs.JsonValues.{whole_number}
 use Rattle.plinq_document.specs.Sources.{whole_numbers}
 use Rattle.plinq_document.proofs.Turns.{whole_numbers-turn}
 use Rattle.plinq_document.proofs.plain_sources.whole_numbers.Goals as goal

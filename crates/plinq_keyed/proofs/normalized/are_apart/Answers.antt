@@ -3,7 +3,7 @@ use Rattle.std.proofs.lemmas.List.{drop_all}
 use Rattle.plinq_keyed.specs.Keys.{keys}
 use Rattle.plinq_keyed.specs.inner.Sweeps.{apart}
 use Rattle.plinq_keyed.proofs.Distinct.{apart-nil}
-use Rattle.plinq_keyed.proofs.Steps.{drop-at, rises-next, apart-left, apart-right}
+use Rattle.plinq_keyed.proofs.LoopSteps.{drop-at, rises-next, apart-left, apart-right}
 use Rattle.plinq_keyed.proofs.normalized.are_apart.Goals as goal
 
 pub loop-at-preserved-then-key-other-2 : goal.loop-at-preserved-then-key-other-2

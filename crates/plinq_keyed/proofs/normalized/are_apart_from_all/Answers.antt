@@ -3,7 +3,7 @@ use Rattle.std.proofs.lemmas.List.{drop_all}
 use Rattle.plinq_keyed.specs.Keys.{keys}
 use Rattle.plinq_keyed.specs.inner.Sweeps.{apart}
 use Rattle.plinq_keyed.proofs.Distinct.{apart-nil}
-use Rattle.plinq_keyed.proofs.Steps.{drop-at, all_keys, apart-next, ordered-next}
+use Rattle.plinq_keyed.proofs.LoopSteps.{drop-at, all_keys, apart-next, ordered-next}
 use Rattle.plinq_keyed.proofs.normalized.are_apart_from_all.Goals as goal
 
 pub returns-then-not-are_apart : goal.returns-then-not-are_apart

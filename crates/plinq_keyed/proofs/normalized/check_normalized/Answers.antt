@@ -2,7 +2,7 @@ use Rattle.std.proofs.Common.{◌≡◌, ◌∙◌, ◌&&◌, true, length, sym,
 use Rattle.plinq_keyed.specs.Keys.{distinct}
 use Rattle.plinq_keyed.specs.inner.Sweeps.{all_below}
 use Rattle.plinq_keyed.proofs.Distinct.{counts_up-from}
-use Rattle.plinq_keyed.proofs.Steps.{all_keys}
+use Rattle.plinq_keyed.proofs.LoopSteps.{all_keys}
 use Rattle.plinq_keyed.proofs.normalized.check_normalized.Goals as goal
 
 pub returns-then-check_in_each : goal.returns-then-check_in_each

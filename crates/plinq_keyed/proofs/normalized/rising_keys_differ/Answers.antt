@@ -1,7 +1,7 @@
 use Rattle.std.proofs.Common.{◌≡◌, ◌+◌, ◌∙◌, ◌&&◌, true, false, drop, sym, ap}
 use Rattle.plinq_keyed.specs.Keys.{keys, distinct}
 use Rattle.plinq_keyed.specs.inner.Sweeps.{apart}
-use Rattle.plinq_keyed.proofs.Steps.{drop-at, all_keys, distinct-next_rising, ordered-next}
+use Rattle.plinq_keyed.proofs.LoopSteps.{drop-at, all_keys, distinct-next_rising, ordered-next}
 use Rattle.plinq_keyed.proofs.normalized.rising_keys_differ.Goals as goal
 
 pub returns-then-not-are_apart_from_all : goal.returns-then-not-are_apart_from_all

@@ -1,7 +1,7 @@
 -- the value's line, and the line of the ending after it
 use Rattle.std.proofs.Common.{codes, refl}
 use Rattle.plinq_lines.specs.AggregateText.{value_line}
-use Rattle.plinq_lines.specs.Text.{line, ending_words}
+use Rattle.plinq_lines.specs.AnswerText.{line, ending_words}
 use Rattle.plinq_lines.proofs.PartWritten.{none-written, piece-failed, piece-written, rest-writes}
 use Rattle.plinq_lines.proofs.aggregate_lines.write_aggregate.Goals as goal
 

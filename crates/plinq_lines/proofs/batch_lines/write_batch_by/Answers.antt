@@ -1,7 +1,7 @@
 -- the line ends where the array does
 use Rattle.std.proofs.Common.{rules, ◌≡◌, [], ◌++◌, length, drop, ap, ◌∙◌, append-nil, length-drop, arith}
 use Rattle.std.proofs.lemmas.List.{nil_from_length}
-use Rattle.plinq_lines.specs.Text.{batch_line}
+use Rattle.plinq_lines.specs.AnswerText.{batch_line}
 use Rattle.plinq_lines.proofs.WrittenBytes.{writes-as}
 use Rattle.plinq_lines.proofs.batch_lines.write_batch_by.Goals as goal
 

@@ -7,7 +7,7 @@ use Rattle.std.proofs.lemmas.List.{take-append-drop}
 use Rattle.std.proofs.lemmas.Nat.{div-add-mod'}
 use Rattle.plinq_ops.specs.Batches.{full_batches}
 use Rattle.plinq_merge.proofs.Blocks.{full_batches-whole}
-use Rattle.plinq_lines.specs.Text.{batch_line}
+use Rattle.plinq_lines.specs.AnswerText.{batch_line}
 use Rattle.plinq_lines.proofs.PartWritten.{piece-failed, piece-written, rest-writes}
 use Rattle.plinq_lines.proofs.batch_lines.write_batches_by.Goals as goal
 

@@ -1,7 +1,7 @@
 use Rattle.std.proofs.Common.{[], Some, length}
 use Rattle.std.specs.List.{flat_map}
 use Rattle.plinq_ops.specs.Batches.{full_batches}
-use Rattle.plinq_lines.specs.Text.{batch_line}
+use Rattle.plinq_lines.specs.AnswerText.{batch_line}
 use Rattle.plinq_lines.proofs.PartWritten.{PartWritten}
 use Rattle.plinq_lines.proofs.batch_lines.write_batches_by.Given as goal
 

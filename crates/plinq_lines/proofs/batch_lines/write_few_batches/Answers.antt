@@ -4,7 +4,7 @@ use Rattle.std.specs.List.{flat_map}
 use Rattle.std.proofs.lemmas.List.{nil_from_length}
 use Rattle.plinq_ops.specs.Batches.{full_batches}
 use Rattle.plinq_merge.proofs.Blocks.{full_batches-before}
-use Rattle.plinq_lines.specs.Text.{single_line, batch_line}
+use Rattle.plinq_lines.specs.AnswerText.{single_line, batch_line}
 use Rattle.plinq_lines.proofs.WrittenBytes.{writes-as}
 use Rattle.plinq_lines.proofs.batch_lines.write_few_batches.Goals as goal
 

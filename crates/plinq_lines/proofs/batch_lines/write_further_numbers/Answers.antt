@@ -4,7 +4,7 @@ use Rattle.std.specs.List.{flat_map}
 use Rattle.std.proofs.lemmas.Bool.{eqb-true}
 use Rattle.std.proofs.lemmas.Grind.{flat_map-append}
 use Rattle.std.proofs.lemmas.List.{take-append-drop}
-use Rattle.plinq_lines.specs.Text.{line, further_number}
+use Rattle.plinq_lines.specs.AnswerText.{line, further_number}
 use Rattle.plinq_lines.proofs.ItemLines.{line-none}
 use Rattle.plinq_lines.proofs.PartWritten.{piece-failed, piece-written, rest-writes}
 use Rattle.plinq_lines.proofs.batch_lines.write_further_numbers.Goals as goal

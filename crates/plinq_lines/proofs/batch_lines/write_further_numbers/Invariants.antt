@@ -1,6 +1,6 @@
 use Rattle.std.proofs.Common.{length}
 use Rattle.std.specs.List.{flat_map}
-use Rattle.plinq_lines.specs.Text.{line, further_number}
+use Rattle.plinq_lines.specs.AnswerText.{line, further_number}
 use Rattle.plinq_lines.proofs.PartWritten.{PartWritten}
 use Rattle.plinq_lines.proofs.batch_lines.write_further_numbers.Given as goal
 

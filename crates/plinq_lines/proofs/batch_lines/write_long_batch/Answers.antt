@@ -6,7 +6,7 @@ use mir.Syntax.{w64}
 use mir.Val.{SFits}
 use Rattle.plinq_lines.specs.declared.piece.Piece.TheVariants.{Number}
 use Rattle.plinq_lines.specs.inner.Pieces.{pieces_words}
-use Rattle.plinq_lines.specs.Text.{line, further_number, batch_line}
+use Rattle.plinq_lines.specs.AnswerText.{line, further_number, batch_line}
 use Rattle.plinq_lines.proofs.PartWritten.{none-written, piece-failed, piece-written, rest-writes}
 use Rattle.plinq_lines.proofs.batch_lines.write_long_batch.Goals as goal
 

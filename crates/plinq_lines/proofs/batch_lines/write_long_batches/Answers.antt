@@ -3,7 +3,7 @@ use Rattle.std.proofs.Common.{rules, ◌≡◌, ℕ, ◌<◌, ◌≤◌, ℤ, Li
 use Rattle.std.specs.List.{flat_map}
 use Rattle.plinq_ops.specs.Batches.{full_batches}
 use Rattle.plinq_merge.proofs.Blocks.{full_batches-first, full_batches-short}
-use Rattle.plinq_lines.specs.Text.{batch_line}
+use Rattle.plinq_lines.specs.AnswerText.{batch_line}
 use Rattle.plinq_lines.proofs.PartWritten.{piece-failed, piece-written, all-written}
 use Rattle.plinq_lines.proofs.batch_lines.write_long_batches.Goals as goal
 

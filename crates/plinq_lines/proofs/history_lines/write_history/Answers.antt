@@ -1,7 +1,7 @@
 -- the records and the ending, one after another
 use Rattle.std.proofs.Common.{refl}
 use Rattle.plinq_lines.specs.HistoryText.{record_lines}
-use Rattle.plinq_lines.specs.Text.{line, ending_words}
+use Rattle.plinq_lines.specs.AnswerText.{line, ending_words}
 use Rattle.plinq_lines.proofs.PartWritten.{none-written, piece-failed, piece-written, rest-writes}
 use Rattle.plinq_lines.proofs.history_lines.write_history.Goals as goal
 

@@ -1,6 +1,6 @@
 use Rattle.std.proofs.Common.{length}
 use Rattle.std.specs.List.{flat_map}
-use Rattle.plinq_lines.specs.Text.{line}
+use Rattle.plinq_lines.specs.AnswerText.{line}
 use Rattle.plinq_lines.specs.OpWords.{further_op}
 use Rattle.plinq_lines.proofs.PartWritten.{PartWritten}
 use Rattle.plinq_lines.proofs.op_words.write_further_ops.Given as goal

@@ -4,7 +4,7 @@ use Rattle.std.specs.List.{flat_map}
 use Rattle.plinq_lambda.specs.declared.formula.Formula.{Formula}
 use Rattle.plinq_ops.specs.declared.op.Op.{Op}
 use Rattle.plinq_lines.specs.OpWords.{op_words, further_op, part_words}
-use Rattle.plinq_lines.specs.Text.{line}
+use Rattle.plinq_lines.specs.AnswerText.{line}
 use Rattle.plinq_lines.proofs.PartWritten.{none-written, piece-failed, piece-written, rest-writes}
 use Rattle.plinq_lines.proofs.op_words.write_part.Goals as goal
 

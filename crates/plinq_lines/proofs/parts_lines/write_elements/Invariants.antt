@@ -1,6 +1,6 @@
 use Rattle.std.proofs.Common.{length}
 use Rattle.std.specs.List.{flat_map}
-use Rattle.plinq_lines.specs.Text.{line}
+use Rattle.plinq_lines.specs.AnswerText.{line}
 use Rattle.plinq_lines.specs.PartsText.{element_words}
 use Rattle.plinq_lines.proofs.PartWritten.{PartWritten}
 use Rattle.plinq_lines.proofs.parts_lines.write_elements.Given as goal

@@ -2,7 +2,7 @@
 use Rattle.std.proofs.Common.{[], ◌∷◌, decimal, refl, sym, append_assoc}
 use Rattle.std.specs.List.{flat_map}
 use Rattle.plinq_lines.specs.PartsText.{element_words}
-use Rattle.plinq_lines.specs.Text.{line}
+use Rattle.plinq_lines.specs.AnswerText.{line}
 use Rattle.plinq_lines.proofs.PartWritten.{none-written, piece-failed, piece-written, rest-writes}
 use Rattle.plinq_lines.proofs.parts_lines.write_partition.Goals as goal
 

@@ -2,7 +2,7 @@
 use Rattle.std.proofs.Common.{◌++◌, refl}
 use Rattle.plinq_keyed.specs.Keys.{element_lists}
 use Rattle.plinq_lines.specs.PartsText.{properties_line, part_lines}
-use Rattle.plinq_lines.specs.Text.{line, ending_words}
+use Rattle.plinq_lines.specs.AnswerText.{line, ending_words}
 use Rattle.plinq_lines.proofs.PartWritten.{none-written, piece-failed, piece-written, rest-writes}
 use Rattle.plinq_lines.proofs.parts_lines.write_parts.Goals as goal
 

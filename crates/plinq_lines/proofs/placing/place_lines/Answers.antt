@@ -7,7 +7,7 @@ use Rattle.std.proofs.lemmas.List.{take-append-drop}
 use Rattle.std.proofs.lemmas.Nat.{div-add-mod'}
 use Rattle.plinq_ops.specs.Batches.{full_batches}
 use Rattle.plinq_merge.proofs.Blocks.{full_batches-whole, full_batches-filled, full_batches-short}
-use Rattle.plinq_lines.specs.Text.{batch_line}
+use Rattle.plinq_lines.specs.AnswerText.{batch_line}
 use Rattle.plinq_lines.proofs.placing.place_lines.Goals as goal
 
 -- how many lines are left in front of the last

@@ -1,7 +1,7 @@
 use Rattle.std.proofs.Common.{◌≡◌, ℕ, ◌*◌, ◌≤◌, ◌++◌, [], Some, length, drop}
 use Rattle.std.specs.List.{flat_map}
 use Rattle.plinq_ops.specs.Batches.{full_batches}
-use Rattle.plinq_lines.specs.Text.{batch_line}
+use Rattle.plinq_lines.specs.AnswerText.{batch_line}
 use Rattle.plinq_lines.proofs.placing.place_lines.Given as goal
 
 -- the lines that are left, in front of those that are placed, are all of them

@@ -1,6 +1,6 @@
 use Rattle.std.proofs.Common.{◌≡◌, ◌*◌, ◌≤◌, ◌++◌, length, drop}
 use Rattle.std.specs.List.{flat_map}
-use Rattle.plinq_lines.specs.Text.{single_line}
+use Rattle.plinq_lines.specs.AnswerText.{single_line}
 use Rattle.plinq_lines.proofs.placing.place_single_lines.Given as goal
 
 -- the numbers that are left, in front of those that are placed, are all of them

@@ -8,7 +8,7 @@ use Rattle.plinq_ops.specs.Query.{QueryView, merge_in_force, degree_in_force}
 use Rattle.plinq_ops.specs.Plan.{worker_part, after_part, order_of}
 use Rattle.plinq_lines.specs.OpWords.{part_words}
 use Rattle.plinq_lines.specs.PlanText.{settings_text, plan_text}
-use Rattle.plinq_lines.specs.Text.{line}
+use Rattle.plinq_lines.specs.AnswerText.{line}
 use Rattle.plinq_lines.proofs.PartWritten.{none-written, piece-failed, piece-written, rest-writes}
 use Rattle.plinq_lines.proofs.plan_lines.write_plan.Goals as goal
 

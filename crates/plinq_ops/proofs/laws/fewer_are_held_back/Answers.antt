@@ -1,4 +1,4 @@
-use Rattle.plinq_ops.proofs.Runs.{held_back-fewer_than_batch}
+use Rattle.plinq_ops.proofs.GrowingBatches.{held_back-fewer_than_batch}
 use Rattle.plinq_ops.proofs.laws.fewer_are_held_back.Goals as goal
 
 pub returns : goal.returns

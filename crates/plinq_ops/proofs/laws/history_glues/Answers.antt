@@ -1,4 +1,4 @@
-use Rattle.plinq_ops.proofs.Histories.{row-of_history}
+use Rattle.plinq_ops.proofs.ResultRows.{row-of_history}
 use Rattle.plinq_ops.proofs.laws.history_glues.Goals as goal
 
 pub returns : goal.returns

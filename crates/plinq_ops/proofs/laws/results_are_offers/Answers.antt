@@ -1,4 +1,4 @@
-use Rattle.plinq_ops.proofs.Histories.{offer-of_record}
+use Rattle.plinq_ops.proofs.ResultRows.{offer-of_record}
 use Rattle.plinq_ops.proofs.laws.results_are_offers.Goals as goal
 
 pub returns : goal.returns

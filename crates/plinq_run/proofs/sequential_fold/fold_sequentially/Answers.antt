@@ -7,7 +7,7 @@ use Rattle.plinq_ops.specs.Feeding.{is_empty_take}
 use Rattle.plinq_ops.proofs.Answered.{answer-of_none, least-of_none}
 use Rattle.plinq_ops.proofs.ByKey.{stages-begun}
 use Rattle.plinq_ops.proofs.Counts.{some_takes_none-stages_of}
-use Rattle.plinq_run.specs.inner.OneThread.{FoldsAll}
+use Rattle.plinq_run.specs.inner.SequentialFold.{FoldsAll}
 use Rattle.plinq_run.proofs.sequential_fold.fold_sequentially.Goals as goal
 
 -- a Take of none decides the answer

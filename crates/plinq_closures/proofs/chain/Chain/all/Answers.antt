@@ -3,7 +3,7 @@ use Rattle.std.specs.Prelude.{◌≡◌, pos, [], ◌∷◌, ◌++◌, ℕ, Bool
 use Rattle.std.proofs.Common.{subst, sym, ap, ◌∙◌}
 use Rattle.plinq_ops.specs.declared.op.Op.TheVariants.{Take, SkipWhile}
 use Rattle.plinq_ops.specs.Sequential.{answer_of}
-use Rattle.plinq_collect.specs.Folds.{has_none}
+use Rattle.plinq_collect.specs.ItemFoldings.{has_none}
 use Rattle.plinq_closures.specs.Asked.{Tells}
 use Rattle.plinq_closures.specs.Functions.{tests}
 use Rattle.plinq_closures.specs.Steps.{over}

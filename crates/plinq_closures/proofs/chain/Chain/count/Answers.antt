@@ -1,7 +1,7 @@
 -- How many items the query of the steps answers is how many they leave.
 use Rattle.std.proofs.Common.{subst, sym}
 use Rattle.plinq_ops.specs.Sequential.{answer_of}
-use Rattle.plinq_collect.specs.Folds.{wrapped_count}
+use Rattle.plinq_collect.specs.ItemFoldings.{wrapped_count}
 use Rattle.plinq_closures.specs.Asked.{Tells}
 use Rattle.plinq_closures.proofs.Asked.{tells-answer}
 use Rattle.plinq_closures.proofs.chain.Chain.count.Goals as goal

@@ -3,7 +3,7 @@ use Rattle.std.specs.Prelude.{pos, [], ◌∷◌, ◌++◌}
 use Rattle.std.proofs.Common.{subst, sym}
 use Rattle.plinq_ops.specs.declared.op.Op.TheVariants.{Take, Skip}
 use Rattle.plinq_ops.specs.Sequential.{answer_of}
-use Rattle.plinq_collect.specs.Folds.{first_of}
+use Rattle.plinq_collect.specs.ItemFoldings.{first_of}
 use Rattle.plinq_closures.specs.Asked.{Tells}
 use Rattle.plinq_closures.proofs.Asked.{tells-placed}
 use Rattle.plinq_closures.proofs.chain.Chain.element_at.Goals as goal

@@ -3,7 +3,7 @@ use Rattle.std.specs.Prelude.{pos, [], ◌∷◌, ◌++◌}
 use Rattle.std.proofs.Common.{subst, sym}
 use Rattle.plinq_ops.specs.declared.op.Op.TheVariants.{Take}
 use Rattle.plinq_ops.specs.Sequential.{answer_of}
-use Rattle.plinq_collect.specs.Folds.{has_item}
+use Rattle.plinq_collect.specs.ItemFoldings.{has_item}
 use Rattle.plinq_closures.specs.Asked.{LacksRoomAlone, Tells}
 use Rattle.plinq_closures.proofs.Asked.{lacks-there, tells-there}
 use Rattle.plinq_closures.proofs.chain_sequentially.Sequentially.any.Goals as goal

@@ -2,7 +2,7 @@
 use Rattle.std.specs.Prelude.{true}
 use Rattle.std.proofs.Common.{subst, sym, refl}
 use Rattle.plinq_ops.specs.Sequential.{answer_of}
-use Rattle.plinq_collect.specs.Folds.{wrapped_count}
+use Rattle.plinq_collect.specs.ItemFoldings.{wrapped_count}
 use Rattle.plinq_closures.specs.Asked.{LacksRoomAlone, Tells}
 use Rattle.plinq_closures.proofs.Asked.{lacks-answer, tells-answer}
 use Rattle.plinq_closures.proofs.chain_sequentially.Sequentially.count.Goals as goal

@@ -3,7 +3,7 @@ use Rattle.std.specs.Prelude.{pos, [], ◌∷◌, ◌++◌, true}
 use Rattle.std.proofs.Common.{subst, sym, refl}
 use Rattle.plinq_ops.specs.declared.op.Op.TheVariants.{Take, Skip}
 use Rattle.plinq_ops.specs.Sequential.{answer_of}
-use Rattle.plinq_collect.specs.Folds.{first_of}
+use Rattle.plinq_collect.specs.ItemFoldings.{first_of}
 use Rattle.plinq_closures.specs.Asked.{LacksRoomAlone, Tells}
 use Rattle.plinq_closures.proofs.Asked.{lacks-answer, tells-placed}
 use Rattle.plinq_closures.proofs.chain_sequentially.Sequentially.element_at.Goals as goal

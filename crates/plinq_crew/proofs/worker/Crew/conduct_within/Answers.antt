@@ -9,7 +9,7 @@ use Rattle.plinq_crew.specs.Conducting.{AcceptsEach}
 use Rattle.plinq_crew.specs.declared.worker_count.WorkerCount.{WorkerCount}
 use Rattle.plinq_crew.specs.Working.{HasNumbersFrom, IsOfOne}
 use Rattle.plinq_crew.proofs.Coordinating.{IsUnderWay, stays-under_way}
-use Rattle.plinq_crew.proofs.Shares.{none-before}
+use Rattle.plinq_crew.proofs.SentShares.{none-before}
 use Rattle.plinq_crew.proofs.Working.{answered-same}
 use Rattle.plinq_crew.proofs.worker.Crew.conduct_within.Goals as goal
 use Rattle.plinq_crew.proofs.worker.Crew.conduct_within.Goals.{in-None, in-Some+then-not-accept_some}

@@ -11,7 +11,7 @@ use Rattle.plinq_stream.proofs.Numbers.{from-all}
 use Rattle.plinq_crew.specs.inner.Handles.{IsHandleOf, AreNumbered}
 use Rattle.plinq_crew.specs.Working.{HasClosed, IsOfOne, IsAnsweredBy, HasWorked}
 use Rattle.plinq_crew.proofs.Handles.{common_origin-push, drop-push, numbered-pop}
-use Rattle.plinq_crew.proofs.Shares.{closed-push, sent-push, numbers-push}
+use Rattle.plinq_crew.proofs.SentShares.{closed-push, sent-push, numbers-push}
 use Rattle.plinq_crew.proofs.Working.{above-both, answered-before, answered-now}
 use Rattle.plinq_crew.proofs.worker.Crew.join_all.Goals as goal
 

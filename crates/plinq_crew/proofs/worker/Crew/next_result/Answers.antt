@@ -2,7 +2,7 @@ use Rattle.std.proofs.Common.{sym, subst, ◌∙◌}
 use Rattle.plinq_partition.specs.Partitions.{holding_of}
 use Rattle.plinq_crew.specs.Working.{HasTakenChunk}
 use Rattle.plinq_crew.proofs.Cuts.{cut-read, stop-stop_key}
-use Rattle.plinq_crew.proofs.Taken.{result-from_taken}
+use Rattle.plinq_crew.proofs.TakenResults.{result-from_taken}
 use Rattle.plinq_crew.proofs.Working.{taken-result, taken-part}
 use Rattle.plinq_crew.proofs.worker.Crew.next_result.Goals as goal
 

@@ -1,5 +1,5 @@
 use Rattle.std.proofs.Common.{arith}
-use Rattle.plinq_cut.proofs.Steps.{joins}
+use Rattle.plinq_cut.proofs.CutSteps.{joins}
 use Rattle.plinq_cut.proofs.cut_word.CutWord.join.Goals as goal
 
 pub join_seat-requires : goal.join_seat-requires

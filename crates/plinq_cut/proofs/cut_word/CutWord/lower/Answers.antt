@@ -1,5 +1,5 @@
 use Rattle.std.proofs.Common.{arith}
-use Rattle.plinq_cut.proofs.Steps.{lowers}
+use Rattle.plinq_cut.proofs.CutSteps.{lowers}
 use Rattle.plinq_cut.proofs.cut_word.CutWord.lower.Goals as goal
 
 pub fetch_min-requires : goal.fetch_min-requires

@@ -1,5 +1,5 @@
 use Rattle.std.proofs.Common.{arith}
-use Rattle.plinq_cut.proofs.Steps.{sees}
+use Rattle.plinq_cut.proofs.CutSteps.{sees}
 use Rattle.plinq_cut.proofs.cut_word.CutWord.read.Goals as goal
 
 pub load-requires : goal.load-requires

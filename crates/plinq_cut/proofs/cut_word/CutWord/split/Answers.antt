@@ -1,5 +1,5 @@
 use Rattle.std.proofs.Common.{arith}
-use Rattle.plinq_cut.proofs.Steps.{splits}
+use Rattle.plinq_cut.proofs.CutSteps.{splits}
 use Rattle.plinq_cut.proofs.cut_word.CutWord.split.Goals as goal
 
 pub split_seat-seat-requires : goal.split_seat-seat-requires

@@ -7,7 +7,7 @@ use Rattle.plinq_source.specs.Trace.{open_trace}
 use Rattle.plinq_ops.specs.Batches.{batches_from}
 use Rattle.plinq_merge.specs.Sending.{IsCutOff}
 use Rattle.plinq_mapped.specs.inner.Making.{DeliversOn, gives-after, gives-breaks}
-use Rattle.plinq_mapped.proofs.Parts.{turn-parts}
+use Rattle.plinq_mapped.proofs.PartLists.{turn-parts}
 use Rattle.plinq_mapped.proofs.deliver_made.DeliverMade.deliver.Goals as goal
 
 pub loop-one-preserved : goal.loop-one-preserved

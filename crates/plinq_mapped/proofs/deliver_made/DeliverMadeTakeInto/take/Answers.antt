@@ -7,7 +7,7 @@ use Rattle.plinq_source.specs.Trace.{open_trace}
 use Rattle.plinq_ops.specs.Batches.{batches_from}
 use Rattle.plinq_merge.specs.Sending.{IsCutOff}
 use Rattle.plinq_mapped.specs.inner.Making.{DeliversOn}
-use Rattle.plinq_mapped.proofs.Parts.{turn-parts, all-end, part-kept, part-cut, part-ends}
+use Rattle.plinq_mapped.proofs.PartLists.{turn-parts, all-end, part-kept, part-cut, part-ends}
 use Rattle.plinq_mapped.proofs.deliver_made.DeliverMadeTakeInto.take.Goals as goal
 
 pub returns-in_err-deliver-clause-made : goal.returns-in_err-deliver-clause-made

@@ -3,7 +3,7 @@ use Rattle.std.specs.Vec.Iter.{into_iter_len, into_iter_items}
 use Rattle.std.proofs.lemmas.List.{map-id}
 use Rattle.std.proofs.lemmas.Iterator.Adapters.{YieldsList-from_vec}
 use Rattle.std.proofs.lemmas.Iterator.Consumers.{YieldsList-so_far, YieldsList-turn, YieldsList-end}
-use Rattle.plinq_mapped.proofs.Parts.{turn-parts, keeps-all, keeps-part, keeps-fault}
+use Rattle.plinq_mapped.proofs.PartLists.{turn-parts, keeps-all, keeps-part, keeps-fault}
 use Rattle.plinq_mapped.proofs.keep_made.KeepMadeTakeIntoKept.take.Goals as goal
 
 pub loop-part-preserved : goal.loop-part-preserved

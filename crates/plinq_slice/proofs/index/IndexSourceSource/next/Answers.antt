@@ -1,7 +1,7 @@
 -- The item of the next key stands at its place, and after the last there is none.
 use Rattle.std.proofs.Common.{arith, sym, ap, ◌∙◌}
 use Rattle.std.proofs.lemmas.List.FromFn.{length-map-range_with_len, get_or-map-range_with_len}
-use Rattle.plinq_slice.specs.Walked.{index_whole}
+use Rattle.plinq_slice.specs.WalkedSlices.{index_whole}
 use Rattle.plinq_source.specs.declared.ending.Ending.TheVariants.{End}
 use Rattle.plinq_source.specs.declared.step.Step.TheVariants.{Item}
 use Rattle.plinq_source.proofs.Walks.{step_at-item, step_at-end}

@@ -1,7 +1,7 @@
 -- A block at a closure, one item after another.
 use Rattle.std.specs.Prelude.{◌≡◌, List, ◌++◌}
 use Rattle.plinq_lambda.specs.Block.{BlockResult}
-use Rattle.plinq_closures.specs.Blocks.{IsAnsweredBy}
+use Rattle.plinq_closures.specs.BlockSteps.{IsAnsweredBy}
 
 -- what comes of the rest, after what is done
 abbrev pub after : {T : Type 0} → List T → BlockResult T → BlockResult T

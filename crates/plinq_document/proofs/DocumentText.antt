@@ -8,7 +8,7 @@ use Rattle.serde_json.specs.Data.{Data}
 use Rattle.serde_json.specs.Read.{read}
 use Rattle.serde_json.specs.View.{items_view}
 use Rattle.serde_json.specs.declared.value.Value.{Value}
-use Rattle.plinq_document.specs.Values.{items_len}
+use Rattle.plinq_document.specs.JsonValues.{items_len}
 use Rattle.plinq_document.specs.Document.{document_of, json_of, few_steps}
 use Rattle.plinq_settings.specs.declared.settings.Settings.{Settings}
 use Rattle.plinq_document.specs.declared.doc_fault.DocFault.TheVariants.{NotJson, Shape, TooLong}

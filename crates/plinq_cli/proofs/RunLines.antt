@@ -25,7 +25,7 @@ use Rattle.plinq_run.specs.Runs.{Runs, SinkRefused, cause_of}
 use Rattle.plinq_document.specs.Jobs.{JobView}
 use Rattle.plinq_lines.specs.declared.write_fault.WriteFault.{WriteFault}
 use Rattle.plinq_lines.specs.LineSink.{Lines, TakesLine, RefusesLine}
-use Rattle.plinq_lines.specs.Text.{line, batch_line, ending_words, ending_line, answer_text}
+use Rattle.plinq_lines.specs.AnswerText.{line, batch_line, ending_words, ending_line, answer_text}
 use Rattle.plinq_lines.specs.Written.{AppendsBeginning}
 use Rattle.plinq_lines.proofs.LinesTaken.{taken-lines, short-lines}
 use Rattle.plinq_lines.proofs.WrittenBytes.{Bytes, appends-as, begins-all, begins-after, begins-append, begins-as}
@@ -34,9 +34,9 @@ use Rattle.plinq_cli.specs.declared.serve_fault.ServeFault.{ServeFault}
 use Rattle.plinq_cli.specs.declared.serve_fault.ServeFault.TheVariants.{Memory, Write, Run as NoRun, Take}
 use Rattle.plinq_cli.specs.ServeFaults.{MayFail, serve_fault_of_run, told_of}
 use Rattle.plinq_cli.specs.Served.{batch_lines, CountsIf, Delivers, EndsInTime, HasDelivered, HasFailed, HasBrokenOff, HasWritten, IsText, LeavesLines, LeavesWholeLines, Serves}
-use Rattle.plinq_cli.specs.inner.Stopped.{Leaves}
+use Rattle.plinq_cli.specs.inner.StoppedRun.{Leaves}
 use Rattle.plinq_cli.specs.Told.{told_text}
-use Rattle.plinq_cli.proofs.Answered.{serves-begun}
+use Rattle.plinq_cli.proofs.Flushed.{serves-begun}
 
 -- ---- which answer it is
 

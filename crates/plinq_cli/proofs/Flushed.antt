@@ -6,7 +6,7 @@ use Rattle.std.proofs.Math.ListN.{length-replicate}
 use Rattle.plinq_source.specs.declared.ending.Ending.{Ending}
 use Rattle.plinq_document.specs.Jobs.{JobView}
 use Rattle.plinq_document.specs.Document.{document_of}
-use Rattle.plinq_document.proofs.Reading.{document_of-long}
+use Rattle.plinq_document.proofs.DocumentText.{document_of-long}
 use Rattle.plinq_document.specs.Results.{IfMeant}
 use Rattle.plinq_document.specs.declared.doc_fault.DocFault.{DocFault}
 use Rattle.plinq_document.specs.declared.doc_fault.DocFault.TheVariants.{TooLong, NotJson, Shape, Version, Source, Step, Memory as DocMemory, Growth}

@@ -16,7 +16,7 @@ use Rattle.plinq_enumerator.specs.Growing.{GrowthRule, size_at}
 use Rattle.plinq_partition.specs.declared.chunked.Chunked.{Chunked}
 use Rattle.plinq_partition.specs.declared.partition.Partition.{Partition}
 use Rattle.plinq_partition.specs.Partitions.{IsPartitionOf, IsTaken, growth_of, holding_of}
-use Rattle.plinq_partition.specs.Shares.{keys_rise_from}
+use Rattle.plinq_partition.specs.PartitionRecords.{keys_rise_from}
 use Rattle.plinq_partition.proofs.KeysRise.{keys_rise-of_partition}
 use Rattle.plinq_cli.specs.Rounds.{AsksOn, AsksUntilTail, IsOpen, IsDone, left_of, end_of_requests}
 
