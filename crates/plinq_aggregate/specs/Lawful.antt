@@ -1,8 +1,10 @@
 -- The four foldings of numbers are lawful, and what they come to.
-use Rattle.std.proofs.Common.{◌≡◌, ℕ, suc, ◌+◌, ◌%◌, ◌^◌, ℤ, pos, ◌+ℤ◌, List, [], ◌∷◌, ◌++◌, length, Option, Some, None, refl, sym, ◌∙◌, ap, arith, add-zero, length-append, ◌≤ℤ◌, ◌⊎◌, inl, inr}
+use Rattle.std.proofs.Common.{◌≡◌, ℕ, suc, ◌+◌, ◌%◌, ◌^◌, ℤ, pos, ◌+ℤ◌, List, [], ◌∷◌, ◌++◌, length, Option, Some, None, refl, sym, ◌∙◌, ap, arith, add-zero}
+use Rattle.std.proofs.Common.{length-append, ◌≤ℤ◌, ◌⊎◌, inl, inr}
 use Rattle.std.specs.List.{fold, Contains}
 use Rattle.std.specs.Int.{int_wrap, w128, int_min, int_max}
-use Rattle.std.proofs.lemmas.Int.{ints, int_wrap-add_left, int_wrap-add_right, fold-int_min_reached, fold-int_min_bounds, fold-int_max_reached, fold-int_max_bounds}
+use Rattle.std.proofs.lemmas.Int.{ints, int_wrap-add_left, int_wrap-add_right, fold-int_min_reached, fold-int_min_bounds, fold-int_max_reached}
+use Rattle.std.proofs.lemmas.Int.{fold-int_max_bounds}
 use Rattle.std.proofs.Math.Nat.{add-mod-mod, mod-add-mod}
 use Rattle.std.proofs.lemmas.List.Elements.{All-cons}
 use Rattle.std.proofs.lemmas.List.Sums.{fold-append}
@@ -74,12 +76,14 @@ counting-lawful = record { joins = counts-join; neutral = λ xs. counts-join [] 
 abbrev pub IsGrouped : {T : Type 0} → (T → T → T) → Type 0
 IsGrouped {T} pick = (a b c : T) → pick a (pick b c) ≡ pick (pick a b) c
 
-picked_item-grouped : {T : Type 0} (pick : T → T → T) → IsGrouped pick → (a b : Option T) (x : T) → picked_item pick a (picked_item pick b (Some x)) ≡ picked_item pick (picked_item pick a b) (Some x)
+picked_item-grouped : {T : Type 0} (pick : T → T → T) → IsGrouped pick → (a b : Option T) (x : T)
+    → picked_item pick a (picked_item pick b (Some x)) ≡ picked_item pick (picked_item pick a b) (Some x)
 picked_item-grouped pick grouped None b x = refl
 picked_item-grouped pick grouped (Some a) None x = refl
 picked_item-grouped pick grouped (Some a) (Some b) x = ap Some (grouped a b x)
 
-picked_item-through : {T : Type 0} (pick : T → T → T) → IsGrouped pick → (a b : Option T) (xs : List T) → picked_item pick a (fold (picking pick).update b xs) ≡ fold (picking pick).update (picked_item pick a b) xs
+picked_item-through : {T : Type 0} (pick : T → T → T) → IsGrouped pick → (a b : Option T) (xs : List T)
+    → picked_item pick a (fold (picking pick).update b xs) ≡ fold (picking pick).update (picked_item pick a b) xs
 picked_item-through pick grouped a b [] = refl
 picked_item-through pick grouped a b (x ∷ xs) =
     picked_item-through pick grouped a (picked_item pick b (Some x)) xs
@@ -89,7 +93,8 @@ picked_item-none : {T : Type 0} (pick : T → T → T) (a : Option T) → picked
 picked_item-none pick None = refl
 picked_item-none pick (Some a) = refl
 
-picks-join : {T : Type 0} (pick : T → T → T) → IsGrouped pick → (xs ys : List T) → picked_item pick (fold_of (picking pick) xs) (fold_of (picking pick) ys) ≡ fold_of (picking pick) (xs ++ ys)
+picks-join : {T : Type 0} (pick : T → T → T) → IsGrouped pick → (xs ys : List T)
+    → picked_item pick (fold_of (picking pick) xs) (fold_of (picking pick) ys) ≡ fold_of (picking pick) (xs ++ ys)
 picks-join pick grouped xs ys =
     picked_item-through pick grouped (fold_of (picking pick) xs) None ys
     ∙ ap (λ n. fold (picking pick).update n ys) (picked_item-none pick (fold_of (picking pick) xs))

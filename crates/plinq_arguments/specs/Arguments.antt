@@ -1,7 +1,8 @@
 -- What a command line asks for, in the words of `clap`.
 use Rattle.std.specs.Prelude.{◌≡◌, ◌⊎◌, ℕ, List, [], ◌∷◌, Option, Some, None, map, codes, option_map, option_and_then, if◌then◌else◌, true}
 use Rattle.std.specs.Str.Parse.{digits_value, without_leading_plus}
-use Rattle.clap.specs.Words.{AddsSubcommand, App, IsAmong, Row, Rule, Text, app_of, fault_of, first_of, new_app, new_rule, one_of, shape_of, subcommand_of, with_rule, with_subcommand}
+use Rattle.clap.specs.Words.{AddsSubcommand, App, IsAmong, Row, Rule, Text, app_of, fault_of, first_of, new_app, new_rule, one_of, shape_of, subcommand_of}
+use Rattle.clap.specs.Words.{with_rule, with_subcommand}
 use Rattle.clap.specs.Kinds.{Kinds}
 use Rattle.clap.specs.Simple.{on_top}
 use Rattle.clap.specs.ValueTests.{is_unsigned_in}
@@ -85,7 +86,8 @@ with_command app sub = with_subcommand app sub.top
 -- the program with its five subcommands
 abbrev pub plinq_app : ValueParser → App
 plinq_app words =
-    with_command (with_command (with_command (with_command (with_command bare_app (run_app words)) (seq_app words)) (plan_app words)) (parts_app words)) (history_app words)
+    with_command (with_command (with_command (with_command (with_command bare_app (run_app words)) (seq_app words)) (plan_app words)) (parts_app words))
+    (history_app words)
 
 -- the commands by the names of the subcommands, with what the matches of these ask for beside the settings: nothing yet
 abbrev pub command_names : List Row → List (Text × Command)
@@ -113,7 +115,11 @@ cancel_of rows = option_and_then cancel_in (one_of (codes "cancel-after") rows)
 
 -- a command with the settings of its subcommand's matches
 abbrev pub arguments_with : List Row → Command → Arguments
-arguments_with rows command = record { command = command; settings = record { workers = workers_of rows; merge = merge_of rows; cancel_after = cancel_of rows } }
+arguments_with rows command = record {
+  command = command;
+  settings =
+      record { workers = workers_of rows; merge = merge_of rows; cancel_after = cancel_of rows };
+}
 
 -- what a subcommand and its matches ask for
 abbrev pub arguments_in : Text × List Row → Option Arguments

@@ -1,5 +1,6 @@
 -- What each command answers, and the text that it prints.
-use Rattle.std.specs.Prelude.{◌≡◌, ◌≢◌, ◌<◌, ◌⊎◌, ⊤, ℕ, ℤ, pos, List, [], ◌∷◌, ◌++◌, length, true, false, Option, Some, None, IfSome, Result, Ok, Err, MatchResult, codes, refl}
+use Rattle.std.specs.Prelude.{◌≡◌, ◌≢◌, ◌<◌, ◌⊎◌, ⊤, ℕ, ℤ, pos, List, [], ◌∷◌, ◌++◌, length, true, false, Option, Some, None, IfSome, Result, Ok, Err}
+use Rattle.std.specs.Prelude.{MatchResult, codes, refl}
 use Rattle.std.proofs.Common.{arith}
 use Rattle.std.specs.Fmt.{digits}
 use Rattle.std.specs.List.{flat_map}
@@ -123,7 +124,8 @@ LeavesLines (Some kind) q t most fault old new = (cause_of fault ≡ Other) × K
 -- the lines of an answer were written, of fewer batches than a run was to be cancelled after; an aggregate isn't cancelled
 abbrev pub EndsInTime : Option Kind → QueryView Formula → Trace ℤ → Option ℕ → Option (List ℕ) → Option (List ℕ) → Type 0
 EndsInTime None q t most old new =
-    (u : Trace ℤ) × MayAnswer formula_meaning q.ordered q.ops t u × IfSome most (λ n. length (batches (merge_in_force q.merge) u) < n) × Appends old new (answer_text (merge_in_force q.merge) u)
+    (u : Trace ℤ) × MayAnswer formula_meaning q.ordered q.ops t u × IfSome most (λ n. length (batches (merge_in_force q.merge) u) < n)
+    × Appends old new (answer_text (merge_in_force q.merge) u)
 EndsInTime (Some kind) q t most old new = ⊤
 
 -- a run that wasn't cancelled ended in time; where it broke off, no line was left half written

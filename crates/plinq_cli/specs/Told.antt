@@ -41,7 +41,8 @@ TellsValue value Is (Err (Run fault)) = cause_of fault ≡ Other
 
 -- ---- worked rows
 
-pub least_twice : told_text (Some Sum) NotBuffered (ended_trace (negsuc 9223372036854775807 ∷ negsuc 9223372036854775807 ∷ []) End) ≡ codes "-18446744073709551616\nend\n"
+pub least_twice : told_text (Some Sum) NotBuffered (ended_trace (negsuc 9223372036854775807 ∷ negsuc 9223372036854775807 ∷ []) End)
+    ≡ codes "-18446744073709551616\nend\n"
 unfolding digits int_wrap
 least_twice = refl
 

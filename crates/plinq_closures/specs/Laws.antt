@@ -33,7 +33,8 @@ steps_below-then kind kinds m (suc n) = ap (λ ops. over (λ _. m (suc n)) (kind
 
 -- so where the last step does this, the chain does what it did before and then this
 comes_to-then : {T : Type 0} (kind : Op ⊤) (kinds : List (Op ⊤)) (m : ℕ → Meaning T) (before : List (Op (Meaning T))) (f : Meaning T)
-    → steps_below kinds (λ at. m (suc at)) (length kinds) ≡ before → m 0 ≡ f → steps_below (kind ∷ kinds) m (length (kind ∷ kinds)) ≡ before ++ over (λ _. f) kind ∷ []
+    → steps_below kinds (λ at. m (suc at)) (length kinds) ≡ before → m 0 ≡ f
+    → steps_below (kind ∷ kinds) m (length (kind ∷ kinds)) ≡ before ++ over (λ _. f) kind ∷ []
 comes_to-then kind kinds m before f was is =
     steps_below-then kind kinds m (length kinds)
     ∙ (ap (λ ops. ops ++ over (λ _. m 0) kind ∷ []) was ∙ ap (λ g. before ++ over (λ _. g) kind ∷ []) is)

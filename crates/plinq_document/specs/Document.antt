@@ -20,7 +20,8 @@ use Rattle.plinq_document.specs.declared.doc_fault.DocFault.TheVariants.{TooLong
 
 -- a name that a document may have
 abbrev pub is_top_name : List ℕ → Bool
-is_top_name name = bytes_eq name (codes "version") || bytes_eq name (codes "source") || bytes_eq name (codes "query") || bytes_eq name (codes "growth") || bytes_eq name (codes "aggregate")
+is_top_name name = bytes_eq name (codes "version") || bytes_eq name (codes "source") || bytes_eq name (codes "query") || bytes_eq name (codes "growth")
+    || bytes_eq name (codes "aggregate")
 
 -- all the names are such
 abbrev pub are_top_names : Members → Bool

@@ -54,7 +54,13 @@ select_add_one = row (word (codes "select") ∷ word (codes "add") ∷ whole 1 �
 
 -- {"version":1,"source":{"list":[3,1,4]},"query":[["as_ordered"],["select","add",1]]}
 pub meaning-example : document_meaning plain (document (as_ordered ∷ select_add_one ∷ []) (list_of (whole 3 ∷ whole 1 ∷ whole 4 ∷ [])) (whole 1))
-    ≡ Ok (record { query = record { ops = Select (Add (pos 1)) ∷ []; ordered = true; merge = None; degree = None }; source = ended_trace (pos 3 ∷ pos 1 ∷ pos 4 ∷ []) End; growth = record { first = 1; repeat = 3; max = 512 }; aggregate = None; cancel_after = None })
+    ≡ Ok (record {
+      query = record { ops = Select (Add (pos 1)) ∷ []; ordered = true; merge = None; degree = None };
+      source = ended_trace (pos 3 ∷ pos 1 ∷ pos 4 ∷ []) End;
+      growth = record { first = 1; repeat = 3; max = 512 };
+      aggregate = None;
+      cancel_after = None;
+    })
 meaning-example = refl
 
 -- {}
@@ -81,15 +87,22 @@ pub meaning-negative : document_meaning plain (document [] (range_of (whole 1) (
 meaning-negative = refl
 
 -- the growth [0,3,512], and [["sort"]]
-pub meaning-growth : document_meaning plain (object (member (codes "growth") (row (whole 0 ∷ whole 3 ∷ whole 512 ∷ [])) (member (codes "query") (row (row (word (codes "sort") ∷ []) ∷ [])) (member (codes "source") (list_of []) (member (codes "version") (whole 1) no_members))))) ≡ Err (Growth Zero)
+pub meaning-growth : document_meaning plain (object (member (codes "growth") (row (whole 0 ∷ whole 3 ∷ whole 512 ∷ []))
+    (member (codes "query") (row (row (word (codes "sort") ∷ []) ∷ []))
+    (member (codes "source") (list_of []) (member (codes "version") (whole 1) no_members))))) ≡ Err (Growth Zero)
 meaning-growth = refl
 
 -- the growth [1,3] has a wrong shape, which is looked at before the size of {"range":[0,1099511627777]}
-pub meaning-two_counts : document_meaning plain (object (member (codes "growth") (row (whole 1 ∷ whole 3 ∷ [])) (member (codes "query") (row []) (member (codes "source") (range_of (whole 0) (whole 1099511627777)) (member (codes "version") (whole 1) no_members))))) ≡ Err Shape
+pub meaning-two_counts : document_meaning plain (object (member (codes "growth") (row (whole 1 ∷ whole 3 ∷ []))
+    (member (codes "query") (row []) (member (codes "source") (range_of (whole 0) (whole 1099511627777)) (member (codes "version") (whole 1) no_members)))))
+    ≡ Err Shape
 meaning-two_counts = refl
 
 -- and the growth [0,3,512] is none, which is looked at after it
-pub meaning-large_before_growth : document_meaning plain (object (member (codes "growth") (row (whole 0 ∷ whole 3 ∷ whole 512 ∷ [])) (member (codes "query") (row []) (member (codes "source") (range_of (whole 0) (whole 1099511627777)) (member (codes "version") (whole 1) no_members))))) ≡ Err Source
+pub meaning-large_before_growth : document_meaning plain (object
+    (member (codes "growth") (row (whole 0 ∷ whole 3 ∷ whole 512 ∷ []))
+    (member (codes "query") (row []) (member (codes "source") (range_of (whole 0) (whole 1099511627777)) (member (codes "version") (whole 1) no_members)))))
+    ≡ Err Source
 meaning-large_before_growth = refl
 
 -- [["sort"]]
@@ -105,22 +118,31 @@ pub meaning-degree : document_meaning plain (stepping (row (word (codes "with_de
 meaning-degree = refl
 
 -- the command line's merge option, and [["with_merge","full"]]
-pub meaning-merge_twice : document_meaning (record { workers = None; merge = Some NotBuffered; cancel_after = None }) (stepping (row (word (codes "with_merge") ∷ word (codes "full") ∷ []) ∷ [])) ≡ Err (Step 0 (Build MergeTwice))
+pub meaning-merge_twice : document_meaning (record { workers = None; merge = Some NotBuffered; cancel_after = None })
+    (stepping (row (word (codes "with_merge") ∷ word (codes "full") ∷ []) ∷ [])) ≡ Err (Step 0 (Build MergeTwice))
 meaning-merge_twice = refl
 
 -- the command line's workers, and [["with_degree",0]]
-pub meaning-degree_twice : document_meaning (record { workers = Some 2; merge = None; cancel_after = None }) (stepping (row (word (codes "with_degree") ∷ whole 0 ∷ []) ∷ [])) ≡ Err (Step 0 (Build DegreeTwice))
+pub meaning-degree_twice : document_meaning (record { workers = Some 2; merge = None; cancel_after = None })
+    (stepping (row (word (codes "with_degree") ∷ whole 0 ∷ []) ∷ [])) ≡ Err (Step 0 (Build DegreeTwice))
 meaning-degree_twice = refl
 
 -- ---- aggregates
 
 -- {"version":1,"source":{"list":[]},"query":[]}, and beside these this aggregate
 abbrev aggregating : Data → Data
-aggregating kind = object (member (codes "aggregate") kind (member (codes "query") (row []) (member (codes "source") (list_of []) (member (codes "version") (whole 1) no_members))))
+aggregating kind = object (member (codes "aggregate") kind (member (codes "query") (row [])
+    (member (codes "source") (list_of []) (member (codes "version") (whole 1) no_members))))
 
 -- what that asks for
 abbrev with_aggregate : Option Kind → JobView
-with_aggregate kind = record { query = record { ops = []; ordered = false; merge = None; degree = None }; source = ended_trace [] End; growth = record { first = 1; repeat = 3; max = 512 }; aggregate = kind; cancel_after = None }
+with_aggregate kind = record {
+  query = record { ops = []; ordered = false; merge = None; degree = None };
+  source = ended_trace [] End;
+  growth = record { first = 1; repeat = 3; max = 512 };
+  aggregate = kind;
+  cancel_after = None;
+}
 
 pub meaning-sum : document_meaning plain (aggregating (word (codes "sum"))) ≡ Ok (with_aggregate (Some Sum))
 meaning-sum = refl
@@ -142,7 +164,9 @@ pub meaning-null_aggregate : document_meaning plain (aggregating null) ≡ Err S
 meaning-null_aggregate = refl
 
 -- a word that isn't known comes before a source that is too large
-pub meaning-average : document_meaning plain (object (member (codes "aggregate") (word (codes "average")) (member (codes "query") (row []) (member (codes "source") (range_of (whole 0) (whole 1099511627777)) (member (codes "version") (whole 1) no_members))))) ≡ Err Shape
+pub meaning-average : document_meaning plain (object (member (codes "aggregate") (word (codes "average"))
+    (member (codes "query") (row []) (member (codes "source") (range_of (whole 0) (whole 1099511627777)) (member (codes "version") (whole 1) no_members)))))
+    ≡ Err Shape
 meaning-average = refl
 
 -- ---- concatenations
@@ -161,18 +185,28 @@ too_large = range_of (whole 0) (whole 1099511627777)
 
 -- what a document with this source and no step asks for
 abbrev all_of : Trace ℤ → JobView
-all_of t = record { query = record { ops = []; ordered = false; merge = None; degree = None }; source = t; growth = record { first = 1; repeat = 3; max = 512 }; aggregate = None; cancel_after = None }
+all_of t = record {
+  query = record { ops = []; ordered = false; merge = None; degree = None };
+  source = t;
+  growth = record { first = 1; repeat = 3; max = 512 };
+  aggregate = None;
+  cancel_after = None;
+}
 
 -- {"concat":[{"list":[1,2]},{"range":[5,2]}]}
-pub meaning-concat : document_meaning plain (document [] (concat_of_both (list_of (whole 1 ∷ whole 2 ∷ [])) (range_of (whole 5) (whole 2))) (whole 2)) ≡ Ok (all_of (ended_trace (pos 1 ∷ pos 2 ∷ pos 5 ∷ pos 6 ∷ []) End))
+pub meaning-concat : document_meaning plain (document [] (concat_of_both (list_of (whole 1 ∷ whole 2 ∷ [])) (range_of (whole 5) (whole 2))) (whole 2))
+    ≡ Ok (all_of (ended_trace (pos 1 ∷ pos 2 ∷ pos 5 ∷ pos 6 ∷ []) End))
 meaning-concat = refl
 
 -- {"concat":[{"list":[1],"refuse":7},{"list":[2]}]}
-pub meaning-concat_refused : document_meaning plain (document [] (concat_of_both (object (member (codes "list") (row (whole 1 ∷ [])) (member (codes "refuse") (whole 7) no_members))) (list_of (whole 2 ∷ []))) (whole 2)) ≡ Ok (all_of (ended_trace (pos 1 ∷ []) (Refused 7)))
+pub meaning-concat_refused : document_meaning plain (document []
+    (concat_of_both (object (member (codes "list") (row (whole 1 ∷ [])) (member (codes "refuse") (whole 7) no_members))) (list_of (whole 2 ∷ []))) (whole 2))
+    ≡ Ok (all_of (ended_trace (pos 1 ∷ []) (Refused 7)))
 meaning-concat_refused = refl
 
 -- {"concat":[{"list":[]},{"text":"x"}]}
-pub meaning-concat_refused_at_once : document_meaning plain (document [] (concat_of_both (list_of []) (text_of (codes "x"))) (whole 2)) ≡ Ok (all_of (ended_trace [] (Refused 1)))
+pub meaning-concat_refused_at_once : document_meaning plain (document [] (concat_of_both (list_of []) (text_of (codes "x"))) (whole 2))
+    ≡ Ok (all_of (ended_trace [] (Refused 1)))
 meaning-concat_refused_at_once = refl
 
 -- version 1 has no concatenation, and none has one inside another
@@ -186,7 +220,8 @@ meaning-concat_inside = refl
 pub meaning-concat_of_one : document_meaning plain (document [] (object (member (codes "concat") (row (list_of [] ∷ [])) no_members)) (whole 2)) ≡ Err Shape
 meaning-concat_of_one = refl
 
-pub meaning-concat_of_three : document_meaning plain (document [] (object (member (codes "concat") (row (list_of [] ∷ list_of [] ∷ list_of [] ∷ [])) no_members)) (whole 2)) ≡ Err Shape
+pub meaning-concat_of_three : document_meaning plain (document []
+    (object (member (codes "concat") (row (list_of [] ∷ list_of [] ∷ list_of [] ∷ [])) no_members)) (whole 2)) ≡ Err Shape
 meaning-concat_of_three = refl
 
 -- each has as many items as a source may have, and so both have too many
@@ -198,7 +233,8 @@ greatest_and_nothing : few_together (bound_of greatest_range) (bound_of (text_of
 greatest_and_nothing = refl
 
 -- a list that refuses counts by its length
-greatest_and_one : few_together (bound_of (object (member (codes "list") (row (whole 1 ∷ [])) (member (codes "refuse") (whole 7) no_members)))) (bound_of greatest_range) ≡ false
+greatest_and_one : few_together (bound_of (object (member (codes "list") (row (whole 1 ∷ [])) (member (codes "refuse") (whole 7) no_members))))
+    (bound_of greatest_range) ≡ false
 greatest_and_one = refl
 
 -- a text counts by its bytes, of which one is too many here
@@ -219,7 +255,13 @@ skip_while ds = row (word (codes "skip_while") ∷ ds)
 
 -- [["as_ordered"],["skip_while","below",5]]
 pub meaning-skip_while : document_meaning plain (document (as_ordered ∷ skip_while (word (codes "below") ∷ whole 5 ∷ []) ∷ []) (list_of []) (whole 2))
-    ≡ Ok (record { query = record { ops = SkipWhile (Below (pos 5)) ∷ []; ordered = true; merge = None; degree = None }; source = ended_trace [] End; growth = record { first = 1; repeat = 3; max = 512 }; aggregate = None; cancel_after = None })
+    ≡ Ok (record {
+      query = record { ops = SkipWhile (Below (pos 5)) ∷ []; ordered = true; merge = None; degree = None };
+      source = ended_trace [] End;
+      growth = record { first = 1; repeat = 3; max = 512 };
+      aggregate = None;
+      cancel_after = None;
+    })
 meaning-skip_while = refl
 
 -- version 1 doesn't know [["skip_while","even"]]
@@ -230,7 +272,8 @@ meaning-skip_while_early = refl
 pub meaning-skip_while_of_none : document_meaning plain (document (skip_while [] ∷ []) (list_of []) (whole 2)) ≡ Err (Step 0 Unknown)
 meaning-skip_while_of_none = refl
 
-pub meaning-skip_while_of_two : document_meaning plain (document (skip_while (word (codes "below") ∷ whole 5 ∷ whole 6 ∷ []) ∷ []) (list_of []) (whole 2)) ≡ Err (Step 0 Unknown)
+pub meaning-skip_while_of_two : document_meaning plain (document (skip_while (word (codes "below") ∷ whole 5 ∷ whole 6 ∷ []) ∷ []) (list_of []) (whole 2))
+    ≡ Err (Step 0 Unknown)
 meaning-skip_while_of_two = refl
 
 -- two sources have few items together where their bounds add up to exactly 2^40: a list that refuses has its length, a

@@ -1,7 +1,8 @@
 -- What a value of each plain source stands for: all that it gives, and how many items of that it has given.
 use Rattle.std.specs.Prelude.{ℕ, ℤ}
 use Rattle.plinq_source.specs.Trace.{Trace}
-use Rattle.plinq_source.specs.Walked.{IsSource, list_whole, list_given, list_walked, text_whole, text_given, text_walked, range_whole, range_given, range_walked, repeat_whole, repeat_given, repeat_walked}
+use Rattle.plinq_source.specs.Walked.{IsSource, list_whole, list_given, list_walked, text_whole, text_given, text_walked, range_whole, range_given}
+use Rattle.plinq_source.specs.Walked.{range_walked, repeat_whole, repeat_given, repeat_walked}
 use Rattle.plinq_document.specs.declared.plain_source.PlainSource.{PlainSource}
 use Rattle.plinq_document.specs.declared.plain_source.PlainSource.TheVariants.{List, Text, Range, Repeat}
 

@@ -16,18 +16,22 @@ module _ {K T : Type 0} (eq : K → K → Bool) (key : T → K) where
   of_others k xs = filter (λ x. not (eq (key x) k)) xs
 
   first-at : (k : K) (ys : List T) (gs : List (K × List T)) (x : T) (xs : List T)
-      → ((zs : List T) (hs : List (K × List T)) → fold (joined_groups eq) ((k, zs) ∷ hs) (map (single key) xs) ≡ (k, zs ++ of_key k xs) ∷ fold (joined_groups eq) hs (map (single key) (of_others k xs)))
+      → ((zs : List T) (hs : List (K × List T)) → fold (joined_groups eq) ((k, zs) ∷ hs) (map (single key) xs)
+      ≡ (k, zs ++ of_key k xs) ∷ fold (joined_groups eq) hs (map (single key) (of_others k xs)))
       → (b : Bool) → eq (key x) k ≡ b
-      → fold (joined_groups eq) ((k, ys) ∷ gs) (map (single key) (x ∷ xs)) ≡ (k, ys ++ of_key k (x ∷ xs)) ∷ fold (joined_groups eq) gs (map (single key) (of_others k (x ∷ xs)))
+      → fold (joined_groups eq) ((k, ys) ∷ gs) (map (single key) (x ∷ xs))
+      ≡ (k, ys ++ of_key k (x ∷ xs)) ∷ fold (joined_groups eq) gs (map (single key) (of_others k (x ∷ xs)))
   first-at k ys gs x xs rest true is =
       ap (λ z. fold (joined_groups eq) z (map (single key) xs)) (joined_groups-here eq (k, ys) (single key x) gs is)
       ∙ rest (ys ++ x ∷ []) gs
       ∙ ap (λ zs. (k, zs) ∷ fold (joined_groups eq) gs (map (single key) (of_others k xs))) (append_assoc ys (x ∷ []) (of_key k xs))
-      ∙ sym (ap (λ b. (k, ys ++ cond b (x ∷ of_key k xs) (of_key k xs)) ∷ fold (joined_groups eq) gs (map (single key) (cond (not b) (x ∷ of_others k xs) (of_others k xs)))) is)
+      ∙ sym (ap (λ b. (k, ys ++ cond b (x ∷ of_key k xs) (of_key k xs))
+      ∷ fold (joined_groups eq) gs (map (single key) (cond (not b) (x ∷ of_others k xs) (of_others k xs)))) is)
   first-at k ys gs x xs rest false is =
       ap (λ z. fold (joined_groups eq) z (map (single key) xs)) (joined_groups-later eq (k, ys) (single key x) gs is)
       ∙ rest ys (joined_groups eq gs (single key x))
-      ∙ sym (ap (λ b. (k, ys ++ cond b (x ∷ of_key k xs) (of_key k xs)) ∷ fold (joined_groups eq) gs (map (single key) (cond (not b) (x ∷ of_others k xs) (of_others k xs)))) is)
+      ∙ sym (ap (λ b. (k, ys ++ cond b (x ∷ of_key k xs) (of_key k xs))
+      ∷ fold (joined_groups eq) gs (map (single key) (cond (not b) (x ∷ of_others k xs) (of_others k xs)))) is)
 
   first-of : (k : K) (xs ys : List T) (gs : List (K × List T))
       → fold (joined_groups eq) ((k, ys) ∷ gs) (map (single key) xs) ≡ (k, ys ++ of_key k xs) ∷ fold (joined_groups eq) gs (map (single key) (of_others k xs))

@@ -22,14 +22,17 @@ abbrev pub each_folded : {K T A O : Type 0} → Folding T A O → List (K × Lis
 each_folded f gs = map (λ g. (g.0, fold_of f g.1)) gs
 
 module _ {K T A O : Type 0} (eq : K → K → Bool) (key : T → K) (f : Folding T A O) where
-  placed_groups-here : (k : K) (new : A) (change : A → A) (g : K × A) (gs : List (K × A)) → eq k g.0 ≡ true → placed_groups eq k new change (g ∷ gs) ≡ (g.0, change g.1) ∷ gs
+  placed_groups-here : (k : K) (new : A) (change : A → A) (g : K × A) (gs : List (K × A)) → eq k g.0 ≡ true
+      → placed_groups eq k new change (g ∷ gs) ≡ (g.0, change g.1) ∷ gs
   placed_groups-here k new change g gs is = ap (λ b. cond b ((g.0, change g.1) ∷ gs) (g ∷ placed_groups eq k new change gs)) is
 
-  placed_groups-later : (k : K) (new : A) (change : A → A) (g : K × A) (gs : List (K × A)) → eq k g.0 ≡ false → placed_groups eq k new change (g ∷ gs) ≡ g ∷ placed_groups eq k new change gs
+  placed_groups-later : (k : K) (new : A) (change : A → A) (g : K × A) (gs : List (K × A)) → eq k g.0 ≡ false
+      → placed_groups eq k new change (g ∷ gs) ≡ g ∷ placed_groups eq k new change gs
   placed_groups-later k new change g gs is = ap (λ b. cond b ((g.0, change g.1) ∷ gs) (g ∷ placed_groups eq k new change gs)) is
 
   -- a group that is changed as its list is joined
-  folds-placed_groups-at : (h : K × List T) (change : A → A) → ((xs : List T) → fold_of f (xs ++ h.1) ≡ change (fold_of f xs)) → (g : K × List T) (gs : List (K × List T))
+  folds-placed_groups-at : (h : K × List T) (change : A → A) → ((xs : List T) → fold_of f (xs ++ h.1) ≡ change (fold_of f xs))
+      → (g : K × List T) (gs : List (K × List T))
       → each_folded f (joined_groups eq gs h) ≡ placed_groups eq h.0 (fold_of f h.1) change (each_folded f gs)
       → (b : Bool) → eq h.0 g.0 ≡ b → each_folded f (joined_groups eq (g ∷ gs) h) ≡ placed_groups eq h.0 (fold_of f h.1) change (each_folded f (g ∷ gs))
   folds-placed_groups-at h change same g gs rest true is =
@@ -46,7 +49,8 @@ module _ {K T A O : Type 0} (eq : K → K → Bool) (key : T → K) (f : Folding
   folds-placed_groups h change same [] = refl
   folds-placed_groups h change same (g ∷ gs) = folds-placed_groups-at h change same g gs (folds-placed_groups h change same gs) (eq h.0 g.0) refl
 
-  folds-items : (gs : List (K × List T)) (xs : List T) → fold (with_item eq key f) (each_folded f gs) xs ≡ each_folded f (fold (joined_groups eq) gs (map (single key) xs))
+  folds-items : (gs : List (K × List T)) (xs : List T) → fold (with_item eq key f) (each_folded f gs) xs
+      ≡ each_folded f (fold (joined_groups eq) gs (map (single key) xs))
   folds-items gs [] = refl
   folds-items gs (x ∷ xs) =
       ap (λ a. fold (with_item eq key f) a xs) (sym (folds-placed_groups (single key x) (λ a. f.update a x) (λ ys. fold-append f.update f.seed ys (x ∷ [])) gs))
@@ -56,13 +60,16 @@ module _ {K T A O : Type 0} (eq : K → K → Bool) (key : T → K) (f : Folding
   pub grouped-fold_of : (xs : List T) → fold_of (grouping eq key f) xs ≡ each_folded f (collected_groups eq key xs)
   grouped-fold_of xs = folds-items [] xs
 
-  folds-groups : IsFolding f → (gs hs : List (K × List T)) → fold (with_group eq key f) (each_folded f gs) (each_folded f hs) ≡ each_folded f (fold (joined_groups eq) gs hs)
+  folds-groups : IsFolding f → (gs hs : List (K × List T)) → fold (with_group eq key f) (each_folded f gs) (each_folded f hs)
+      ≡ each_folded f (fold (joined_groups eq) gs hs)
   folds-groups lawful gs [] = refl
   folds-groups lawful gs (h ∷ hs) =
-      ap (λ a. fold (with_group eq key f) a (each_folded f hs)) (sym (folds-placed_groups h (λ a. f.combine a (fold_of f h.1)) (λ ys. sym (lawful.joins ys h.1)) gs))
+      ap (λ a. fold (with_group eq key f) a (each_folded f hs))
+      (sym (folds-placed_groups h (λ a. f.combine a (fold_of f h.1)) (λ ys. sym (lawful.joins ys h.1)) gs))
       ∙ folds-groups lawful (joined_groups eq gs h) hs
 
-  joins : IsEquivalence eq → IsFolding f → (xs ys : List T) → fold (with_group eq key f) (fold_of (grouping eq key f) xs) (fold_of (grouping eq key f) ys) ≡ fold_of (grouping eq key f) (xs ++ ys)
+  joins : IsEquivalence eq → IsFolding f → (xs ys : List T) → fold (with_group eq key f) (fold_of (grouping eq key f) xs) (fold_of (grouping eq key f) ys)
+      ≡ fold_of (grouping eq key f) (xs ++ ys)
   joins equal lawful xs ys =
       ap (λ a. fold (with_group eq key f) a (fold_of (grouping eq key f) ys)) (grouped-fold_of xs)
       ∙ ap (λ a. fold (with_group eq key f) (each_folded f (collected_groups eq key xs)) a) (grouped-fold_of ys)

@@ -24,5 +24,6 @@ module _ {K T A O : Type 0} (eq : K → K → Bool) (key : T → K) (f : Folding
 -- ---- worked rows
 
 -- numbers are counted by their remainder; the first of them decides which group stands first
-remainders_are_counted : fold_of (grouping nat_eq (λ x. x % 3) (record { seed = 0; update = λ n x. n + 1; combine = λ a b. a + b; tell = λ n. n })) (5 ∷ 3 ∷ 8 ∷ 4 ∷ []) ≡ (2, 2) ∷ (0, 1) ∷ (1, 1) ∷ []
+remainders_are_counted : fold_of (grouping nat_eq (λ x. x % 3) (record { seed = 0; update = λ n x. n + 1; combine = λ a b. a + b; tell = λ n. n }))
+    (5 ∷ 3 ∷ 8 ∷ 4 ∷ []) ≡ (2, 2) ∷ (0, 1) ∷ (1, 1) ∷ []
 remainders_are_counted = refl

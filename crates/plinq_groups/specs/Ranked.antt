@@ -31,12 +31,14 @@ module _ {T K : Type 0} (rank : T → K) (cmp : K → K → Ordering) where
     less-is Equal is = absurd (true≢false (sym is))
     less-is Greater is = absurd (true≢false (sym is))
 
-    lesser-at : (a b c : T) → (p : Bool) → is_lt (cmp (rank c) (rank b)) ≡ p → (q : Bool) → is_lt (cmp (rank b) (rank a)) ≡ q → (r : Bool) → is_lt (cmp (rank c) (rank a)) ≡ r
+    lesser-at : (a b c : T) → (p : Bool) → is_lt (cmp (rank c) (rank b)) ≡ p → (q : Bool) → is_lt (cmp (rank b) (rank a)) ≡ q → (r : Bool)
+        → is_lt (cmp (rank c) (rank a)) ≡ r
         → lesser a (lesser b c) ≡ lesser (lesser a b) c
     lesser-at a b c true p true q true r =
         ap (λ x. lesser a (cond x c b)) p ∙ ap (λ x. cond x c a) r ∙ sym (ap (λ x. lesser (cond x b a) c) q ∙ ap (λ x. cond x c b) p)
     lesser-at a b c true p true q false r =
-        absurd (true≢false (sym (ap is_lt (total.trans (rank c) (rank b) (rank a) (less-is (cmp (rank c) (rank b)) p) (less-is (cmp (rank b) (rank a)) q))) ∙ r))
+        absurd (true≢false (sym (ap is_lt (total.trans (rank c) (rank b) (rank a) (less-is (cmp (rank c) (rank b)) p) (less-is (cmp (rank b) (rank a)) q)))
+        ∙ r))
     lesser-at a b c true p false q r third = ap (λ x. lesser a (cond x c b)) p ∙ sym (ap (λ x. lesser (cond x b a) c) q)
     lesser-at a b c false p true q r third =
         ap (λ x. lesser a (cond x c b)) p ∙ ap (λ x. cond x b a) q ∙ sym (ap (λ x. lesser (cond x b a) c) q ∙ ap (λ x. cond x c b) p)

@@ -133,7 +133,8 @@ module _ {T K : Type 0} (rank : T → K) (cmp : K → K → Ordering) where
 
     -- two of different ranks, in either order
     swap-at : (a : T) (before : List T) (x y : T) → is_lesser y x ≡ true → with_ranked (with_ranked before x) y ≡ with_ranked (with_ranked before y) x
-        → (p : Bool) → is_lesser a x ≡ p → (q : Bool) → is_lesser a y ≡ q → with_ranked (with_ranked (a ∷ before) x) y ≡ with_ranked (with_ranked (a ∷ before) y) x
+        → (p : Bool) → is_lesser a x ≡ p → (q : Bool) → is_lesser a y ≡ q
+        → with_ranked (with_ranked (a ∷ before) x) y ≡ with_ranked (with_ranked (a ∷ before) y) x
     swap-at a before x y less rest true p true q =
         ap (λ l. with_ranked l y) (with-here a before x p)
         ∙ with-later x (a ∷ before) y (apart y x less)
@@ -159,7 +160,8 @@ module _ {T K : Type 0} (rank : T → K) (cmp : K → K → Ordering) where
     passes [] before z below = refl
     passes (w ∷ ws) before z below = ap (λ l. fold with_ranked l ws) (swap before z w below.0) ∙ passes ws (with_ranked before w) z below.1
 
-    through-at : (y : T) (ys before : List T) (z : T) → AreRanked (y ∷ ys) → fold with_ranked (with_ranked before y) (with_ranked ys z) ≡ with_ranked (fold with_ranked (with_ranked before y) ys) z
+    through-at : (y : T) (ys before : List T) (z : T) → AreRanked (y ∷ ys)
+        → fold with_ranked (with_ranked before y) (with_ranked ys z) ≡ with_ranked (fold with_ranked (with_ranked before y) ys) z
         → (p : Bool) → is_lesser y z ≡ p → fold with_ranked before (with_ranked (y ∷ ys) z) ≡ with_ranked (fold with_ranked before (y ∷ ys)) z
     through-at y ys before z are rest true is =
         ap (fold with_ranked before) (with-here y ys z is) ∙ passes (y ∷ ys) before z (is, below-all z y ys is are.0)
@@ -170,7 +172,8 @@ module _ {T K : Type 0} (rank : T → K) (cmp : K → K → Ordering) where
     through [] before z are = refl
     through (y ∷ ys) before z are = through-at y ys before z are (through ys (with_ranked before y) z are.1) (is_lesser y z) refl
 
-    within-with-at : (k y : T) (ys : List T) (x : T) → AreWithin k (y ∷ ys) → is_lesser k x ≡ false → AreWithin k (with_ranked ys x) → (p : Bool) → is_lesser y x ≡ p → AreWithin k (with_ranked (y ∷ ys) x)
+    within-with-at : (k y : T) (ys : List T) (x : T) → AreWithin k (y ∷ ys) → is_lesser k x ≡ false → AreWithin k (with_ranked ys x) → (p : Bool)
+        → is_lesser y x ≡ p → AreWithin k (with_ranked (y ∷ ys) x)
     within-with-at k y ys x within one rest true is = subst (AreWithin k) (sym (with-here y ys x is)) (one, within)
     within-with-at k y ys x within one rest false is = subst (AreWithin k) (sym (with-later y ys x is)) (within.0, rest)
 
@@ -178,7 +181,8 @@ module _ {T K : Type 0} (rank : T → K) (cmp : K → K → Ordering) where
     within-with k [] x within one = (one, tt)
     within-with k (y ∷ ys) x within one = within-with-at k y ys x within one (within-with k ys x within.1 one) (is_lesser y x) refl
 
-    ranked-with-at : (y : T) (ys : List T) (x : T) → AreRanked (y ∷ ys) → AreRanked (with_ranked ys x) → (p : Bool) → is_lesser y x ≡ p → AreRanked (with_ranked (y ∷ ys) x)
+    ranked-with-at : (y : T) (ys : List T) (x : T) → AreRanked (y ∷ ys) → AreRanked (with_ranked ys x) → (p : Bool) → is_lesser y x ≡ p
+        → AreRanked (with_ranked (y ∷ ys) x)
     ranked-with-at y ys x are rest true is =
         subst AreRanked (sym (with-here y ys x is)) (within-all x (y ∷ ys) (is, below-all x y ys is are.0), are)
     ranked-with-at y ys x are rest false is = subst AreRanked (sym (with-later y ys x is)) (within-with y ys x are.0 is, rest)
@@ -194,11 +198,13 @@ module _ {T K : Type 0} (rank : T → K) (cmp : K → K → Ordering) where
     -- items that were ranked first are ranked before one after another
     all-through : (ys zs before : List T) → AreRanked zs → fold with_ranked before (fold with_ranked zs ys) ≡ fold with_ranked (fold with_ranked before zs) ys
     all-through [] zs before are = refl
-    all-through (y ∷ ys) zs before are = all-through ys (with_ranked zs y) before (ranked-with zs y are) ∙ ap (λ l. fold with_ranked l ys) (through zs before y are)
+    all-through (y ∷ ys) zs before are = all-through ys (with_ranked zs y) before (ranked-with zs y are)
+        ∙ ap (λ l. fold with_ranked l ys) (through zs before y are)
 
     -- ---- those after the first n don't come among them
 
-    leads-with-at : (k : ℕ) (w y : T) (ys : List T) (x : T) → Leads k w (y ∷ ys) → is_lesser x w ≡ false → ((j : ℕ) → Leads j w ys → Leads (suc j) w (with_ranked ys x))
+    leads-with-at : (k : ℕ) (w y : T) (ys : List T) (x : T) → Leads k w (y ∷ ys) → is_lesser x w ≡ false
+        → ((j : ℕ) → Leads j w ys → Leads (suc j) w (with_ranked ys x))
         → (p : Bool) → is_lesser y x ≡ p → Leads (suc k) w (with_ranked (y ∷ ys) x)
     leads-with-at k w y ys x leads one rest true is = subst (Leads (suc k) w) (sym (with-here y ys x is)) (one, leads)
     leads-with-at zero w y ys x leads one rest false is = subst (Leads (suc zero) w) (sym (with-later y ys x is)) (back y x w is one, tt)
@@ -236,7 +242,8 @@ module _ {T K : Type 0} (rank : T → K) (cmp : K → K → Ordering) where
     all-left-out n (z ∷ zs) ys are leads =
         sym (left-out n ys z leads.0) ∙ all-left-out n zs (with_ranked ys z) are.1 (fewer-all n (with_ranked ys z) zs (more-all n ys z zs are.0 leads.1))
 
-    kept : (n m k : ℕ) (zs ys : List T) → n ≡ k + m → AreRanked zs → LeadAll k ys zs → take n (fold with_ranked ys (take m zs)) ≡ take n (fold with_ranked ys zs)
+    kept : (n m k : ℕ) (zs ys : List T) → n ≡ k + m → AreRanked zs → LeadAll k ys zs
+        → take n (fold with_ranked ys (take m zs)) ≡ take n (fold with_ranked ys zs)
     kept n zero k zs ys is are leads =
         let same : n ≡ k = omega (arith, is) in
         all-left-out n zs ys are (subst (λ j. LeadAll j ys zs) (sym same) leads)

@@ -1,5 +1,6 @@
 -- What an enumerator answers, and which histories of requests and answers are legal.
-use Rattle.std.specs.Prelude.{◌≡◌, ℕ, ◌+◌, ◌-◌, ◌≤◌, ◌==◌, List, [], ◌∷◌, ◌++◌, length, take, map, replicate, Option, Some, None, Bool, true, false, ◌&&◌, nat_lt, if◌then◌else◌, get_or, refl}
+use Rattle.std.specs.Prelude.{◌≡◌, ℕ, ◌+◌, ◌-◌, ◌≤◌, ◌==◌, List, [], ◌∷◌, ◌++◌, length, take, map, replicate, Option, Some, None, Bool, true, false, ◌&&◌}
+use Rattle.std.specs.Prelude.{nat_lt, if◌then◌else◌, get_or, refl}
 use Rattle.std.proofs.Common.{arith, ap}
 use Rattle.std.specs.List.{list_all}
 use Rattle.plinq_source.specs.Trace.{Trace, ended_trace, items_from}

@@ -28,7 +28,8 @@ settings_text degree option order =
 abbrev pub plan_text : QueryView Formula → List ℕ
 plan_text q =
     settings_text (degree_in_force q.degree) (merge_in_force q.merge) (order_of q.ordered)
-    ++ (line (codes "worker " ++ part_words (worker_part (order_of q.ordered) q.ops)) ++ line (codes "after " ++ part_words (after_part (order_of q.ordered) q.ops)))
+    ++ (line (codes "worker " ++ part_words (worker_part (order_of q.ordered) q.ops))
+    ++ line (codes "after " ++ part_words (after_part (order_of q.ordered) q.ops)))
 
 -- ---- worked rows
 

@@ -21,7 +21,8 @@ abbrev pub made_of : {T B : Type 0} → (T → Result B ℕ) → Trace T → Tra
 made_of makes u = trace_at (mapped_items makes u.items).0 (mapped_items makes u.items).1 u.ending
 
 -- what a mapped run delivers: what is made of one of these answers
-abbrev pub RunsMadeOf : {K T B : Type 0} → (K → List B → K → Type 0) → (K → List B → ℕ → K → Type 0) → MergeOption → (T → Result B ℕ) → (Trace T → Type 0) → K → K → Result Ending RunFault → Type 0
+abbrev pub RunsMadeOf : {K T B : Type 0} → (K → List B → K → Type 0) → (K → List B → ℕ → K → Type 0) → MergeOption → (T → Result B ℕ) → (Trace T → Type 0) → K
+    → K → Result Ending RunFault → Type 0
 RunsMadeOf {K} {T} accepts refuses option makes IsAnswer s s' r = (u : Trace T) × (IsAnswer u) × Runs accepts refuses option (made_of makes u) s s' r
 
 -- a list has all that is made of this answer, which ends so

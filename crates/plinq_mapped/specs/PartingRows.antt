@@ -29,7 +29,12 @@ abbrev four_two_five : Trace ℕ
 four_two_five = ended_trace (4 ∷ 2 ∷ 5 ∷ []) End
 
 was_given_two : WasGiven adding keeps four_two_five 0 [] (Ok (Some End)) (6 ∷ 5 ∷ [])
-was_given_two = record { parts = ended_trace (6 ∷ 5 ∷ []) End; folds = record { items = two_parts_stand_for_all; ending = refl }; last = 0; taken = (refl, refl) }
+was_given_two = record {
+  parts = ended_trace (6 ∷ 5 ∷ []) End;
+  folds = record { items = two_parts_stand_for_all; ending = refl };
+  last = 0;
+  taken = (refl, refl);
+}
 
 was_given_another_ending : WasGiven adding keeps four_two_five 0 [] (Ok (Some (Fault 7))) (6 ∷ 5 ∷ []) → ⊥
 was_given_another_ending given =

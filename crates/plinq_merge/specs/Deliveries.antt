@@ -69,7 +69,8 @@ module _ {K T : Type 0} (accepts : K → List T → K → Type 0) (refuses : K �
   -- the answer to what follows an open trace that was delivered
   answer-after : (l : Line T) (s : K) (xs : List T) (l1 : Line T) (s1 : K) (t : Trace T) → KeepsPlan l l1
       → (on : DeliversOn accepts refuses l s (open_trace xs) l1 s1)
-      → batches_from l.size l.held (seq l.now (followed_by (open_trace xs) t)) ≡ full_batches l.size l.held on.out ++ batches_from l1.size l1.held (seq l1.now t)
+      → batches_from l.size l.held (seq l.now (followed_by (open_trace xs) t))
+      ≡ full_batches l.size l.held on.out ++ batches_from l1.size l1.held (seq l1.now t)
   answer-after l s xs l1 s1 t plan on =
       batches-on l.size l.held on.out l1.held _ (seq l1.now t) (on.on.answers t) on.held
       ∙ ap (λ n. full_batches l.size l.held on.out ++ batches_from n l1.held (seq l1.now t)) (sym plan.size)

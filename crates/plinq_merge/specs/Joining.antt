@@ -43,7 +43,8 @@ module _ {W O T : Type 0} (made : W → O → Trace T → Result (Option Ending)
     pub gained : Trace T
     pub taken : made w.taker y gained result w'.taker y'
     pub are_new : (offers : List (ChunkResult T)) → Waits w.order w.row offers → AreNew offers r
-    pub grows : (offers : List (ChunkResult T)) → Waits w.order w.row offers → merged_trace w.order (offers ++ r ∷ []) ≡ followed_by (merged_trace w.order offers) gained
+    pub grows : (offers : List (ChunkResult T)) → Waits w.order w.row offers
+        → merged_trace w.order (offers ++ r ∷ []) ≡ followed_by (merged_trace w.order offers) gained
     pub waits : result ≡ Ok None → (offers : List (ChunkResult T)) → Waits w.order w.row offers → Waits w'.order w'.row (offers ++ r ∷ [])
 
   -- what an offer answers and does: where the answer is open it is joined, or one of its keys was offered before; a decided joiner

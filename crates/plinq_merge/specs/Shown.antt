@@ -111,10 +111,12 @@ one_element first items ending tail = record { first = first; count = 1; items =
 abbrev later_first : Order → Vec ℕ → Vec ℕ → FragEnd → Trace ℕ
 later_first order early late ending = merged_trace order (one_element 1 late ending (Some Ended) ∷ one_element 0 early More None ∷ [])
 
-by_key_in_the_order_of_keys : (early late : Vec ℕ) → early.items ≡ 4 ∷ [] → late.items ≡ 2 ∷ [] → later_first ByKey early late More ≡ ended_trace (4 ∷ 2 ∷ []) End
+by_key_in_the_order_of_keys : (early late : Vec ℕ) → early.items ≡ 4 ∷ [] → late.items ≡ 2 ∷ []
+    → later_first ByKey early late More ≡ ended_trace (4 ∷ 2 ∷ []) End
 by_key_in_the_order_of_keys early late four two = rw (four, two) refl
 
-by_arrival_as_they_came : (early late : Vec ℕ) → early.items ≡ 4 ∷ [] → late.items ≡ 2 ∷ [] → later_first ByArrival early late More ≡ ended_trace (2 ∷ 4 ∷ []) End
+by_arrival_as_they_came : (early late : Vec ℕ) → early.items ≡ 4 ∷ [] → late.items ≡ 2 ∷ []
+    → later_first ByArrival early late More ≡ ended_trace (2 ∷ 4 ∷ []) End
 by_arrival_as_they_came early late four two = rw (four, two) refl
 
 -- a fault of the later key

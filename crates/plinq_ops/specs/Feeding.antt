@@ -62,7 +62,8 @@ empty_skip : is_empty_take {L = ℕ} (Skip (pos 0)) ≡ false
 empty_skip = refl
 
 -- of three items the second comes after the first
-one_more : followed_by (first_items {T = ℕ} 1 (ended_trace (5 ∷ 6 ∷ 7 ∷ []) End)) (trace_of_step (Item 6)) ≡ seen_trace 2 (ended_trace (5 ∷ 6 ∷ 7 ∷ []) End) None
+one_more : followed_by (first_items {T = ℕ} 1 (ended_trace (5 ∷ 6 ∷ 7 ∷ []) End)) (trace_of_step (Item 6))
+    ≡ seen_trace 2 (ended_trace (5 ∷ 6 ∷ 7 ∷ []) End) None
 one_more = refl
 
 -- after all three comes the refusal, and nothing is left to see

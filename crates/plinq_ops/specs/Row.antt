@@ -34,7 +34,8 @@ abbrev pub all_followed : {T : Type 0} → List (Trace T) → Trace T
 all_followed [] = open_trace []
 all_followed (t ∷ ts) = followed_by t (all_followed ts)
 
-nothing_after_a_fault : all_followed {T = ℕ} (open_trace (4 ∷ []) ∷ ended_trace (5 ∷ []) (Fault 1) ∷ ended_trace (6 ∷ []) End ∷ []) ≡ ended_trace (4 ∷ 5 ∷ []) (Fault 1)
+nothing_after_a_fault : all_followed {T = ℕ} (open_trace (4 ∷ []) ∷ ended_trace (5 ∷ []) (Fault 1) ∷ ended_trace (6 ∷ []) End ∷ [])
+    ≡ ended_trace (4 ∷ 5 ∷ []) (Fault 1)
 nothing_after_a_fault = refl
 
 -- what results give one after another

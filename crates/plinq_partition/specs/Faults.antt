@@ -3,7 +3,8 @@ use Rattle.std.specs.Prelude.{◌≡◌, refl}
 use Rattle.plinq_ticket.specs.declared.lock_fault.LockFault.{LockFault}
 use Rattle.plinq_ticket.specs.declared.lock_fault.LockFault.TheVariants.{Spent, Busy, Incomplete, Memory, Away}
 use Rattle.plinq_partition.specs.declared.take_fault.TakeFault.{TakeFault}
-use Rattle.plinq_partition.specs.declared.take_fault.TakeFault.TheVariants.{Memory as NoMemory, Spent as TicketsSpent, Busy as OthersFirst, Incomplete as RecordsMissing, Away as NotThere}
+use Rattle.plinq_partition.specs.declared.take_fault.TakeFault.TheVariants.{Memory as NoMemory, Spent as TicketsSpent, Busy as OthersFirst}
+use Rattle.plinq_partition.specs.declared.take_fault.TakeFault.TheVariants.{Incomplete as RecordsMissing, Away as NotThere}
 
 abbrev pub take_fault_of : LockFault → TakeFault
 take_fault_of Spent = TicketsSpent

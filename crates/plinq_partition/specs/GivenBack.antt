@@ -29,7 +29,8 @@ module _ {S T : Type 0} {source : Ghosts S T} where
   common_origin ps = first_origin (open_trace []) ps
 
   -- The lock was taken apart with all their records: the enumerator is reported whole exactly where these are all it has
-  pub record IsGivenBack (ps : List (Partition S T source)) (result : Result (Enumerator S T source) (Option (Enumerator S T source) × TakeFault)) : Type 0 where
+  pub record IsGivenBack (ps : List (Partition S T source)) (result : Result (Enumerator S T source)
+      (Option (Enumerator S T source) × TakeFault)) : Type 0 where
     pub pass : Token (Enumerator S T source) T
     pub origin : pass_origin pass ≡ common_origin ps
     pub share : pass_share pass ≡ all_shares ps

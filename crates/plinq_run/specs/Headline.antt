@@ -93,13 +93,16 @@ passes_above_0 zero = Err 1
 passes_above_0 (suc n) = Ok true
 
 -- a test that faults ends the answer
-skipped_to_a_fault : answers {L = ℕ} (λ _. record example { test = passes_above_0 }) (SkipWhile 0 ∷ []) (ended_trace (1 ∷ 0 ∷ 5 ∷ []) End) ≡ ended_trace [] (Fault 1)
+skipped_to_a_fault : answers {L = ℕ} (λ _. record example { test = passes_above_0 }) (SkipWhile 0 ∷ []) (ended_trace (1 ∷ 0 ∷ 5 ∷ []) End)
+    ≡ ended_trace [] (Fault 1)
 skipped_to_a_fault = refl
 
-filtered_to_a_fault : answers {L = ℕ} (λ _. record example { test = passes_above_0 }) (Filter 0 ∷ []) (ended_trace (1 ∷ 0 ∷ 5 ∷ []) End) ≡ ended_trace (1 ∷ []) (Fault 1)
+filtered_to_a_fault : answers {L = ℕ} (λ _. record example { test = passes_above_0 }) (Filter 0 ∷ []) (ended_trace (1 ∷ 0 ∷ 5 ∷ []) End)
+    ≡ ended_trace (1 ∷ []) (Fault 1)
 filtered_to_a_fault = refl
 
-taken_to_a_fault : answers {L = ℕ} (λ _. record example { test = passes_above_0 }) (TakeWhile 0 ∷ []) (ended_trace (1 ∷ 0 ∷ 5 ∷ []) End) ≡ ended_trace (1 ∷ []) (Fault 1)
+taken_to_a_fault : answers {L = ℕ} (λ _. record example { test = passes_above_0 }) (TakeWhile 0 ∷ []) (ended_trace (1 ∷ 0 ∷ 5 ∷ []) End)
+    ≡ ended_trace (1 ∷ []) (Fault 1)
 taken_to_a_fault = refl
 
 -- what passes after one that didn't stays
@@ -111,7 +114,8 @@ all_taken : answers {L = ℕ} (λ _. example) (TakeWhile 0 ∷ Take (pos 3) ∷ 
 all_taken = refl
 
 -- a negative number of items is none
-none_skipped : answers {L = ℕ} (λ _. example) (Skip (pos 2) ∷ Skip (negsuc 4) ∷ []) (ended_trace (1 ∷ 2 ∷ 3 ∷ []) (Refused 7)) ≡ ended_trace (3 ∷ []) (Refused 7)
+none_skipped : answers {L = ℕ} (λ _. example) (Skip (pos 2) ∷ Skip (negsuc 4) ∷ []) (ended_trace (1 ∷ 2 ∷ 3 ∷ []) (Refused 7))
+    ≡ ended_trace (3 ∷ []) (Refused 7)
 none_skipped = refl
 
 none_taken : answers {L = ℕ} (λ _. example) (Take (negsuc 4) ∷ []) (ended_trace (1 ∷ 2 ∷ 3 ∷ []) (Refused 7)) ≡ ended_trace [] End

@@ -38,7 +38,8 @@ length-concat xs (Some (Refused c)) next = omega arith
 length-concat xs (Some (Fault c)) next = omega arith
 
 -- it ends as one of both
-pub concat-ends : {T : Type 0} (xs : List T) (e : Option Ending) (next : Trace T) → IsSourceEnding e → IsSourceEnding next.ending → IsSourceEnding (concat_from xs e next).ending
+pub concat-ends : {T : Type 0} (xs : List T) (e : Option Ending) (next : Trace T) → IsSourceEnding e → IsSourceEnding next.ending
+    → IsSourceEnding (concat_from xs e next).ending
 concat-ends xs None next first second = first
 concat-ends xs (Some End) next first second = second
 concat-ends xs (Some (Refused c)) next first second = first
@@ -52,7 +53,8 @@ within-first xs (Some (Refused c)) next = omega arith
 within-first xs (Some (Fault c)) next = omega arith
 
 -- and where that ends, all items of both
-pub length-concat_end : {T : Type 0} (xs : List T) (e : Option Ending) (next : Trace T) → e ≡ Some End → length (concat_from xs e next).items ≡ length xs + length next.items
+pub length-concat_end : {T : Type 0} (xs : List T) (e : Option Ending) (next : Trace T) → e ≡ Some End
+    → length (concat_from xs e next).items ≡ length xs + length next.items
 length-concat_end xs e next is = ap (λ o. length (concat_from xs o next).items) is ∙ length-append xs next.items
 
 -- where the second gives nothing before the end of the first, both have given no more than the items that there are

@@ -1,5 +1,6 @@
 -- Texts: whole numbers in decimal digits, parted by spaces and line feeds.
-use Rattle.std.specs.Prelude.{◌≡◌, ℕ, ◌+◌, ◌-◌, ◌*◌, ◌^◌, ◌==◌, ◌||◌, ◌&&◌, ℤ, pos, negsuc, neg_ℤ, int_le, int_lt, Bool, true, false, if◌then◌else◌, List, [], ◌∷◌, length, drop, filter, fold, Option, Some, None, Result, Ok, Err, codes, refl}
+use Rattle.std.specs.Prelude.{◌≡◌, ℕ, ◌+◌, ◌-◌, ◌*◌, ◌^◌, ◌==◌, ◌||◌, ◌&&◌, ℤ, pos, negsuc, neg_ℤ, int_le, int_lt, Bool, true, false, if◌then◌else◌, List, []}
+use Rattle.std.specs.Prelude.{◌∷◌, length, drop, filter, fold, Option, Some, None, Result, Ok, Err, codes, refl}
 use Rattle.std.specs.Char.{is_ascii_digit}
 use Rattle.std.specs.List.{slice_split, list_all}
 use Rattle.plinq_source.specs.Trace.{Trace, ended_trace, list_ending}

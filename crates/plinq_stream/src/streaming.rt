@@ -60,7 +60,8 @@ impl<T: Drop, C: Admits<T>> Stream<T, C> {
         requires pass { IsPassOf self.now pass.old }
         requires receives { (knowledge_of pass.old).receives ≡ true }
         ensures pass { IsPassOf self.now pass.new }
-        ensures received { MatchOption result (knowledge_of pass.new ≡ knowledge_of pass.old) (λ s. knowledge_of pass.new ≡ with_received (knowledge_of pass.old) s) }
+        ensures received { MatchOption result (knowledge_of pass.new ≡ knowledge_of pass.old)
+            (λ s. knowledge_of pass.new ≡ with_received (knowledge_of pass.old) s) }
         ensures carried { IfSome result (λ s. C.admits s.item) }
     {
         let received = self.queue.try_pop_as::<Comes<C>>(&mut pass.pass);
@@ -73,7 +74,8 @@ impl<T: Drop, C: Admits<T>> Stream<T, C> {
         requires pass { IsPassOf self.now pass.old }
         requires receives { (knowledge_of pass.old).receives ≡ true }
         ensures pass { IsPassOf self.now pass.new }
-        ensures received { MatchOption result (knowledge_of pass.new ≡ knowledge_of pass.old) (λ s. knowledge_of pass.new ≡ with_received (knowledge_of pass.old) s) }
+        ensures received { MatchOption result (knowledge_of pass.new ≡ knowledge_of pass.old)
+            (λ s. knowledge_of pass.new ≡ with_received (knowledge_of pass.old) s) }
         ensures carried { IfSome result (λ s. C.admits s.item) }
         ensures all { IfNone result (HasReceivedAll (knowledge_of pass.new)) }
     {

@@ -64,7 +64,8 @@ module _ {T : Type 0} where
       pub stands : Stands t (history_of views) homes (inside_of views)
       pub knows : (i : ℕ) (v : View T) → get_elem? views i ≡ some v → Knows t (history_of views) v v.standing.phase
 
-    -- While the value is home it hands out the lock's trace, and its history is the records of all passes, in the order of their tickets: one legal history, which has handed out a prefix of that trace
+    -- While the value is home it hands out the lock's trace, and its history is the records of all passes, in the order of
+    -- their tickets: one legal history, which has handed out a prefix of that trace
     pub record IsFree (t : Trace T) (value : V) (views : List (View T)) : Type 0 where
       pub origin_is : origin value ≡ t
       pub whole : history value ≡ history_of views
@@ -79,7 +80,8 @@ module _ {T : Type 0} where
     -- of two passes that are inside one is the other, and the value is out
     abbrev pub AloneInside : Type 0
     AloneInside = (t : Trace T) (next serving : ℕ) (homes : List (maybe.Option (Option V))) (views : List (View T)) (i j k n : ℕ) (v w : View T)
-        → Lawful t next serving homes views → get_elem? views i ≡ some v → get_elem? views j ≡ some w → v.standing.phase ≡ Inside k → w.standing.phase ≡ Inside n
+        → Lawful t next serving homes views → get_elem? views i ≡ some v → get_elem? views j ≡ some w → v.standing.phase ≡ Inside k
+        → w.standing.phase ≡ Inside n
         → (j ≡ i) × (homes ≡ none ∷ [])
 
 -- the first pass of a lock whose value came with those records
@@ -91,7 +93,8 @@ abbrev standing_at : Phase → View ℕ
 standing_at phase = record { standing = record { phase = phase; drawn = 6; served = 4 }; items = []; ending = None; found = []; share = [] }
 
 -- the pass that was second by place was first by ticket
-row_history : history_of (with_records (closed_under 1 ∷ closed_under 3 ∷ []) ∷ with_records (closed_under 0 ∷ []) ∷ []) ≡ closed_under 0 ∷ closed_under 1 ∷ closed_under 3 ∷ []
+row_history : history_of (with_records (closed_under 1 ∷ closed_under 3 ∷ []) ∷ with_records (closed_under 0 ∷ []) ∷ [])
+    ≡ closed_under 0 ∷ closed_under 1 ∷ closed_under 3 ∷ []
 row_history = refl
 
 -- of those that wait, are inside, and have nothing to do there, one is inside
@@ -119,7 +122,8 @@ row_foreign_record : IsFreeWith (closed_under 0 ∷ closed_under 1 ∷ []) (with
 row_foreign_record free = omega (arith, ap length free.whole)
 
 -- between no two steps are two passes inside, under one ticket or under two
-row_two_inside : (k n : ℕ) → (homes : List (maybe.Option (Option (List Record)))) → Lawful {T = ℕ} (λ _. open_trace []) (λ h. h) (open_trace []) 6 4 homes (standing_at (Inside k) ∷ standing_at (Inside n) ∷ []) → ⊥
+row_two_inside : (k n : ℕ) → (homes : List (maybe.Option (Option (List Record))))
+    → Lawful {T = ℕ} (λ _. open_trace []) (λ h. h) (open_trace []) 6 4 homes (standing_at (Inside k) ∷ standing_at (Inside n) ∷ []) → ⊥
 row_two_inside k n homes lawful = two (lawful.stands)
   where
     two : Stands {T = ℕ} (λ _. open_trace []) (λ h. h) (open_trace []) [] homes 2 → ⊥
@@ -127,7 +131,8 @@ row_two_inside k n homes lawful = two (lawful.stands)
     two (inr away) = let one_inside : 2 ≡ 1 = away.1 in omega (arith, one_inside)
 
 -- nor is the value home while a pass is inside
-row_home_while_inside : (value : List Record) → Lawful {T = ℕ} (λ _. open_trace []) (λ h. h) (open_trace []) 5 4 (some (Some value) ∷ []) (standing_at (Inside 4) ∷ []) → ⊥
+row_home_while_inside : (value : List Record) → Lawful {T = ℕ} (λ _. open_trace []) (λ h. h) (open_trace []) 5 4 (some (Some value) ∷ [])
+    (standing_at (Inside 4) ∷ []) → ⊥
 row_home_while_inside value lawful = home_too lawful.stands
   where
     home_too : Stands {T = ℕ} (λ _. open_trace []) (λ h. h) (open_trace []) [] (some (Some value) ∷ []) 1 → ⊥

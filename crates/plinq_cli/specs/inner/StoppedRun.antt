@@ -9,7 +9,8 @@ use Rattle.plinq_run.specs.declared.run_fault.RunFault.{RunFault}
 use Rattle.plinq_run.specs.declared.run_fault.RunFault.TheVariants.{Cancelled}
 use Rattle.plinq_run.specs.Reports.{HasReported, IsBroken}
 
-module _ {K T : Type 0} (accepts : K → List T → K → Type 0) (refuses : K → List T → ℕ → K → Type 0) (option : MergeOption) (May : Trace T → Trace T → Type 0) (t : Trace T) (most : Option ℕ) (s s' : K) where
+module _ {K T : Type 0} (accepts : K → List T → K → Type 0) (refuses : K → List T → ℕ → K → Type 0) (option : MergeOption) (May : Trace T → Trace T → Type 0)
+    (t : Trace T) (most : Option ℕ) (s s' : K) where
   -- the sink has taken the first batches of an answer, as many as were asked for
   pub record HasFirst : Type 0 where
     pub answer : Trace T

@@ -45,7 +45,8 @@ ReadsMembers depth ts ms rest = converted (λ js. of_members js no_members) (mem
 abbrev pub EndsList : Option ℕ → List Token → List Token → Type 0
 EndsList None ts rest = ts ≡ Token.end_object ∷ rest
 EndsList (Some code) ts rest =
-    (s : List ℕ) × (n : Num) × (ts ≡ Token.key (codes "refuse") ∷ Token.number s ∷ Token.end_object ∷ rest) × (number_of s ≡ Some n) × (code_of (number n) ≡ Some code)
+    (s : List ℕ) × (n : Num) × (ts ≡ Token.key (codes "refuse") ∷ Token.number s ∷ Token.end_object ∷ rest) × (number_of s ≡ Some n)
+    × (code_of (number n) ≡ Some code)
 
 -- a source is what every version reads of this data
 abbrev pub IsSourceOf : PlainSource → Data → Type 0

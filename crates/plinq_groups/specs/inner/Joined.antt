@@ -33,7 +33,8 @@ module _ {K T : Type 0} (eq : K → K → Bool) where
 
   module _ (lawful : IsEquivalence eq) where
     -- two groups of one key, one after the other or as one
-    twice-at : (g : K × List T) (gs : List (K × List T)) (h z : K × List T) → eq z.0 h.0 ≡ true → joined_groups gs (h.0, h.1 ++ z.1) ≡ joined_groups (joined_groups gs h) z
+    twice-at : (g : K × List T) (gs : List (K × List T)) (h z : K × List T) → eq z.0 h.0 ≡ true
+        → joined_groups gs (h.0, h.1 ++ z.1) ≡ joined_groups (joined_groups gs h) z
         → (b : Bool) → eq h.0 g.0 ≡ b → joined_groups (g ∷ gs) (h.0, h.1 ++ z.1) ≡ joined_groups (joined_groups (g ∷ gs) h) z
     twice-at g gs h z same rest true is =
         joined_groups-here g (h.0, h.1 ++ z.1) gs is
@@ -49,7 +50,8 @@ module _ {K T : Type 0} (eq : K → K → Bool) where
     twice (g ∷ gs) h z same = twice-at g gs h z same (twice gs h z same) (eq h.0 g.0) refl
 
     -- a group of a key that is there, and one of another key, in either order
-    swap-at : (g : K × List T) (gs : List (K × List T)) (z h : K × List T) → eq z.0 h.0 ≡ false → has (g ∷ gs) z.0 ≡ true → (has gs z.0 ≡ true → joined_groups (joined_groups gs z) h ≡ joined_groups (joined_groups gs h) z)
+    swap-at : (g : K × List T) (gs : List (K × List T)) (z h : K × List T) → eq z.0 h.0 ≡ false → has (g ∷ gs) z.0 ≡ true
+        → (has gs z.0 ≡ true → joined_groups (joined_groups gs z) h ≡ joined_groups (joined_groups gs h) z)
         → (b : Bool) → eq z.0 g.0 ≡ b → (c : Bool) → eq h.0 g.0 ≡ c → joined_groups (joined_groups (g ∷ gs) z) h ≡ joined_groups (joined_groups (g ∷ gs) h) z
     swap-at g gs z h apart there rest true is true too =
         absurd (true≢false (sym (lawful.congr z.0 g.0 h.0 is ∙ lawful.symm g.0 h.0 ∙ too) ∙ apart))
@@ -67,12 +69,14 @@ module _ {K T : Type 0} (eq : K → K → Bool) where
         ∙ ap (λ x. g ∷ x) (rest (sym (ap (λ b. b || has gs z.0) is) ∙ there))
         ∙ sym (ap (λ x. joined_groups x z) (joined_groups-later g h gs too) ∙ joined_groups-later g z (joined_groups gs h) is)
 
-    swap : (gs : List (K × List T)) (z h : K × List T) → eq z.0 h.0 ≡ false → has gs z.0 ≡ true → joined_groups (joined_groups gs z) h ≡ joined_groups (joined_groups gs h) z
+    swap : (gs : List (K × List T)) (z h : K × List T) → eq z.0 h.0 ≡ false → has gs z.0 ≡ true
+        → joined_groups (joined_groups gs z) h ≡ joined_groups (joined_groups gs h) z
     swap [] z h apart there = absurd (true≢false (sym there))
     swap (g ∷ gs) z h apart there = swap-at g gs z h apart there (swap gs z h apart) (eq z.0 g.0) refl (eq h.0 g.0) refl
 
     -- a key that is there stays
-    stays-at : (g : K × List T) (gs : List (K × List T)) (h : K × List T) (k : K) → has (g ∷ gs) k ≡ true → (has gs k ≡ true → has (joined_groups gs h) k ≡ true)
+    stays-at : (g : K × List T) (gs : List (K × List T)) (h : K × List T) (k : K) → has (g ∷ gs) k ≡ true
+        → (has gs k ≡ true → has (joined_groups gs h) k ≡ true)
         → (b : Bool) → eq h.0 g.0 ≡ b → (c : Bool) → eq k g.0 ≡ c → has (joined_groups (g ∷ gs) h) k ≡ true
     stays-at g gs h k there rest true is c first = ap (λ x. has x k) (joined_groups-here g h gs is) ∙ there
     stays-at g gs h k there rest false is true first = ap (λ x. has x k) (joined_groups-later g h gs is) ∙ ap (λ b. b || has (joined_groups gs h) k) first
@@ -95,16 +99,19 @@ module _ {K T : Type 0} (eq : K → K → Bool) where
     comes (g ∷ gs) h k same = comes-at g gs h k same (comes gs h k same) (eq h.0 g.0) refl
 
     -- groups of other keys may come before or after
-    passes : (hs gs : List (K × List T)) (z : K × List T) → Lacks hs z.0 → has gs z.0 ≡ true → fold joined_groups (joined_groups gs z) hs ≡ joined_groups (fold joined_groups gs hs) z
+    passes : (hs gs : List (K × List T)) (z : K × List T) → Lacks hs z.0 → has gs z.0 ≡ true
+        → fold joined_groups (joined_groups gs z) hs ≡ joined_groups (fold joined_groups gs hs) z
     passes [] gs z apart there = refl
-    passes (h ∷ hs) gs z apart there = ap (λ x. fold joined_groups x hs) (swap gs z h apart.0 there) ∙ passes hs (joined_groups gs h) z apart.1 (stays gs h z.0 there)
+    passes (h ∷ hs) gs z apart there = ap (λ x. fold joined_groups x hs) (swap gs z h apart.0 there)
+        ∙ passes hs (joined_groups gs h) z apart.1 (stays gs h z.0 there)
 
     lacks-same : (hs : List (K × List T)) (k z : K) → eq z k ≡ true → Lacks hs k → Lacks hs z
     lacks-same [] k z same lacks = tt
     lacks-same (h ∷ hs) k z same lacks = (lawful.congr z k h.0 same ∙ lacks.0, lacks-same hs k z same lacks.1)
 
     -- the groups of what follows, and one group more
-    through-at : (h : K × List T) (hs gs : List (K × List T)) (z : K × List T) → AreDistinct (h ∷ hs) → fold joined_groups (joined_groups gs h) (joined_groups hs z) ≡ joined_groups (fold joined_groups (joined_groups gs h) hs) z
+    through-at : (h : K × List T) (hs gs : List (K × List T)) (z : K × List T) → AreDistinct (h ∷ hs)
+        → fold joined_groups (joined_groups gs h) (joined_groups hs z) ≡ joined_groups (fold joined_groups (joined_groups gs h) hs) z
         → (b : Bool) → eq z.0 h.0 ≡ b → fold joined_groups gs (joined_groups (h ∷ hs) z) ≡ joined_groups (fold joined_groups gs (h ∷ hs)) z
     through-at h hs gs z distinct rest true is =
         ap (λ x. fold joined_groups gs x) (joined_groups-here h z hs is)
@@ -112,11 +119,13 @@ module _ {K T : Type 0} (eq : K → K → Bool) where
         ∙ passes hs (joined_groups gs h) z (lacks-same hs h.0 z.0 is distinct.0) (comes gs h z.0 is)
     through-at h hs gs z distinct rest false is = ap (λ x. fold joined_groups gs x) (joined_groups-later h z hs is) ∙ rest
 
-    through : (hs gs : List (K × List T)) (z : K × List T) → AreDistinct hs → fold joined_groups gs (joined_groups hs z) ≡ joined_groups (fold joined_groups gs hs) z
+    through : (hs gs : List (K × List T)) (z : K × List T) → AreDistinct hs
+        → fold joined_groups gs (joined_groups hs z) ≡ joined_groups (fold joined_groups gs hs) z
     through [] gs z distinct = refl
     through (h ∷ hs) gs z distinct = through-at h hs gs z distinct (through hs (joined_groups gs h) z distinct.1) (eq z.0 h.0) refl
 
-    lacks-joined_groups-at : (h : K × List T) (hs : List (K × List T)) (z : K × List T) (k : K) → eq k z.0 ≡ false → Lacks (h ∷ hs) k → Lacks (joined_groups hs z) k
+    lacks-joined_groups-at : (h : K × List T) (hs : List (K × List T)) (z : K × List T) (k : K) → eq k z.0 ≡ false → Lacks (h ∷ hs) k
+        → Lacks (joined_groups hs z) k
         → (b : Bool) → eq z.0 h.0 ≡ b → Lacks (joined_groups (h ∷ hs) z) k
     lacks-joined_groups-at h hs z k apart lacks rest true is = subst (λ x. Lacks x k) (sym (joined_groups-here h z hs is)) (lacks.0, lacks.1)
     lacks-joined_groups-at h hs z k apart lacks rest false is = subst (λ x. Lacks x k) (sym (joined_groups-later h z hs is)) (lacks.0, rest)
@@ -135,7 +144,8 @@ module _ {K T : Type 0} (eq : K → K → Bool) where
     distinct-joined_groups [] z distinct = (tt, tt)
     distinct-joined_groups (h ∷ hs) z distinct = distinct-joined_groups-at h hs z distinct (distinct-joined_groups hs z distinct.1) (eq z.0 h.0) refl
 
-    all-through : (zs hs gs : List (K × List T)) → AreDistinct hs → fold joined_groups gs (fold joined_groups hs zs) ≡ fold joined_groups (fold joined_groups gs hs) zs
+    all-through : (zs hs gs : List (K × List T)) → AreDistinct hs
+        → fold joined_groups gs (fold joined_groups hs zs) ≡ fold joined_groups (fold joined_groups gs hs) zs
     all-through [] hs gs distinct = refl
     all-through (z ∷ zs) hs gs distinct =
         all-through zs (joined_groups hs z) gs (distinct-joined_groups hs z distinct) ∙ ap (λ x. fold joined_groups x zs) (through hs gs z distinct)

@@ -23,14 +23,16 @@ module _ {B : Type 0} where
   KeepsBy d x t r d' x' = Keeps x.items.items (parts_joined t.items t.ending) r x'.items.items
 
   -- one after another
-  pub keeps-after : (xs : List B) (u : Trace B) (ys : List B) (v : Trace B) (r : Result (Option Ending) DeliveryFault) (zs : List B) → Keeps xs u (Ok None) ys → Keeps ys v r zs → Keeps xs (followed_by u v) r zs
+  pub keeps-after : (xs : List B) (u : Trace B) (ys : List B) (v : Trace B) (r : Result (Option Ending) DeliveryFault) (zs : List B) → Keeps xs u (Ok None) ys
+      → Keeps ys v r zs → Keeps xs (followed_by u v) r zs
   keeps-after xs u ys v (Ok e) zs first second =
       let is : open_trace u.items ≡ u = ap (trace_of u.items) (sym first.0) in
       subst (λ w. Keeps xs (followed_by w v) (Ok e) zs) is (second.0, second.1 ∙ ap (λ l. l ++ v.items) first.1 ∙ append_assoc xs u.items v.items)
   keeps-after xs u ys v (Err Memory) zs first second = tt
   keeps-after xs u ys v (Err (Sink code)) zs first second = second
 
-  keeps-ends : (xs : List B) (u : Trace B) (e : Ending) (ys : List B) (rest : Trace B) → Keeps xs u (Ok (Some e)) ys → Keeps xs (followed_by u rest) (Ok (Some e)) ys
+  keeps-ends : (xs : List B) (u : Trace B) (e : Ending) (ys : List B) (rest : Trace B) → Keeps xs u (Ok (Some e)) ys
+      → Keeps xs (followed_by u rest) (Ok (Some e)) ys
   keeps-ends xs u e ys rest is = subst (λ w. Keeps xs w (Ok (Some e)) ys) (sym (followed_by-ended u rest e is.0)) is
 
   keeps-breaks : (xs : List B) (u v : Trace B) (fault : DeliveryFault) (ys : List B) → Keeps xs u (Err fault) ys → Keeps xs v (Err fault) ys
@@ -45,9 +47,11 @@ module _ {B : Type 0} where
             subst (λ u. Keeps x.items.items u r x2.items.items) (sym (parts-append ps t.items t.ending))
             (keeps-after x.items.items (parts_joined ps None) x1.items.items (parts_joined t.items t.ending) r x2.items.items first second);
         ends = λ d x t e d' x' rest is.
-            parts-past (λ u. Keeps x.items.items u (Ok (Some e)) x'.items.items) t.items t.ending rest (λ v. keeps-ends x.items.items (parts_joined t.items t.ending) e x'.items.items v is) is;
+            parts-past (λ u. Keeps x.items.items u (Ok (Some e)) x'.items.items) t.items t.ending rest
+            (λ v. keeps-ends x.items.items (parts_joined t.items t.ending) e x'.items.items v is) is;
         breaks = λ d x t fault d' x' rest is.
-            keeps-breaks x.items.items (parts_joined t.items t.ending) (parts_joined (followed_by t rest).items (followed_by t rest).ending) fault x'.items.items is;
+            keeps-breaks x.items.items (parts_joined t.items t.ending)
+            (parts_joined (followed_by t rest).items (followed_by t rest).ending) fault x'.items.items is;
         stops = λ d x ps d' x' rest is. tt;
       }
 

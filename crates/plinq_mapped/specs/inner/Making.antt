@@ -54,34 +54,42 @@ module _ {K B : Type 0} (accepts : K → List B → K → Type 0) (refuses : K �
       record {
         still = second.still;
         kept = second.kept ∙ ap (λ h. held_back size h v.items) first.kept ∙ sym (held_back-append size held xs v.items);
-        leads = subst (λ bs. Leads accepts s bs s2) (sym same) (leads-append accepts s (full_batches size held xs) (full_batches size held1 v.items) s1 s2 first.leads second.leads);
+        leads = subst (λ bs. Leads accepts s bs s2) (sym same)
+            (leads-append accepts s (full_batches size held xs) (full_batches size held1 v.items) s1 s2 first.leads second.leads);
       }
   gives-after_items held s xs held1 s1 v (Ok (Some e)) held2 s2 first second = (
     second.0,
-    subst (λ bs. Leads accepts s bs s2) (sym (batches-after held xs held1 v first.kept)) (leads-append accepts s (full_batches size held xs) (batches_from size held1 v) s1 s2 first.leads second.1),
+    subst (λ bs. Leads accepts s bs s2) (sym (batches-after held xs held1 v first.kept))
+        (leads-append accepts s (full_batches size held xs) (batches_from size held1 v) s1 s2 first.leads second.1),
   )
   gives-after_items held s xs held1 s1 v (Err fault) held2 s2 first second =
-      subst (λ bs. IsCutOff accepts refuses s bs fault s2) (sym (batches-after held xs held1 v first.kept)) (cut-after accepts refuses s (full_batches size held xs) (batches_from size held1 v) fault s1 s2 first.leads second)
+      subst (λ bs. IsCutOff accepts refuses s bs fault s2) (sym (batches-after held xs held1 v first.kept))
+      (cut-after accepts refuses s (full_batches size held xs) (batches_from size held1 v) fault s1 s2 first.leads second)
 
   -- one after another
-  pub gives-after : (held : List B) (s : K) (u : Trace B) (held1 : List B) (s1 : K) (v : Trace B) (r : Result (Option Ending) DeliveryFault) (held2 : List B) (s2 : K)
+  pub gives-after : (held : List B) (s : K) (u : Trace B) (held1 : List B) (s1 : K) (v : Trace B) (r : Result (Option Ending) DeliveryFault) (held2 : List B)
+      (s2 : K)
       → DeliversOn held s u held1 s1 → Gives held1 s1 v r held2 s2 → Gives held s (followed_by u v) r held2 s2
   gives-after held s u held1 s1 v r held2 s2 first second =
       let is : open_trace u.items ≡ u = ap (trace_of u.items) (sym first.still) in
-      subst (λ w. Gives held s (followed_by w v) r held2 s2) is (gives-after_items held s u.items held1 s1 v r held2 s2 (subst (λ w. DeliversOn held s w held1 s1) (sym is) first) second)
+      subst (λ w. Gives held s (followed_by w v) r held2 s2) is
+      (gives-after_items held s u.items held1 s1 v r held2 s2 (subst (λ w. DeliversOn held s w held1 s1) (sym is) first) second)
 
   -- what ended or was cut off is so with whatever follows
-  pub gives-ends : (held : List B) (s : K) (u : Trace B) (e : Ending) (held' : List B) (s' : K) (rest : Trace B) → Gives held s u (Ok (Some e)) held' s' → Gives held s (followed_by u rest) (Ok (Some e)) held' s'
+  pub gives-ends : (held : List B) (s : K) (u : Trace B) (e : Ending) (held' : List B) (s' : K) (rest : Trace B) → Gives held s u (Ok (Some e)) held' s'
+      → Gives held s (followed_by u rest) (Ok (Some e)) held' s'
   gives-ends held s u e held' s' rest gives = subst (λ w. Gives held s w (Ok (Some e)) held' s') (sym (followed_by-ended u rest e gives.0)) gives
 
-  pub gives-breaks : (held : List B) (s : K) (u : Trace B) (fault : DeliveryFault) (s' : K) (rest : Trace B) → IsCutOff accepts refuses s (batches_from size held u) fault s'
+  pub gives-breaks : (held : List B) (s : K) (u : Trace B) (fault : DeliveryFault) (s' : K) (rest : Trace B)
+      → IsCutOff accepts refuses s (batches_from size held u) fault s'
       → IsCutOff accepts refuses s (batches_from size held (followed_by u rest)) fault s'
   gives-breaks held s u fault s' rest gives =
       let more = batches-first size held u rest in
       subst (λ bs. IsCutOff accepts refuses s bs fault s') (sym more.1) (cut-before accepts refuses s (batches_from size held u) more.0 fault s' gives)
 
   -- without memory no more is delivered
-  pub gives-stops : (held : List B) (s : K) (u : Trace B) (held' : List B) (s' : K) (rest : Trace B) → DeliversOn held s u held' s' → Gives held s (followed_by u rest) (Err Memory) held' s'
+  pub gives-stops : (held : List B) (s : K) (u : Trace B) (held' : List B) (s' : K) (rest : Trace B) → DeliversOn held s u held' s'
+      → Gives held s (followed_by u rest) (Err Memory) held' s'
   gives-stops held s u held' s' rest first =
       gives-after held s u held' s' rest (Err Memory) held' s' first ([], batches_from size held' rest, refl, refl)
 
@@ -89,23 +97,28 @@ module _ {B : Type 0} where
   pub parts-append : (ps qs : List (List B × Option ℕ)) (e : Option Ending) → parts_joined (ps ++ qs) e ≡ followed_by (parts_joined ps None) (parts_joined qs e)
   parts-append [] qs e = refl
   parts-append (p ∷ ps) qs e =
-      ap (followed_by (trace_at p.0 p.1 None)) (parts-append ps qs e) ∙ sym (followed_by-followed_by (trace_at p.0 p.1 None) (parts_joined ps None) (parts_joined qs e))
+      ap (followed_by (trace_at p.0 p.1 None)) (parts-append ps qs e)
+      ∙ sym (followed_by-followed_by (trace_at p.0 p.1 None) (parts_joined ps None) (parts_joined qs e))
 
   -- what is so with whatever follows is so of parts with others after them
-  pub parts-past : (P : Trace B → Type 0) (ps : List (List B × Option ℕ)) (e : Option Ending) (rest : Trace (List B × Option ℕ)) → ((v : Trace B) → P (followed_by (parts_joined ps e) v)) → P (parts_joined ps e)
+  pub parts-past : (P : Trace B → Type 0) (ps : List (List B × Option ℕ)) (e : Option Ending) (rest : Trace (List B × Option ℕ))
+      → ((v : Trace B) → P (followed_by (parts_joined ps e) v)) → P (parts_joined ps e)
       → P (parts_joined (followed_by (trace_of ps e) rest).items (followed_by (trace_of ps e) rest).ending)
   parts-past P ps None rest on is = subst P (sym (parts-append ps rest.items rest.ending)) (on (parts_joined rest.items rest.ending))
   parts-past P ps (Some e) rest on is = is
 
-  pub parts-one : (ps : List (List B × Option ℕ)) (p : List B × Option ℕ) → parts_joined (ps ++ p ∷ []) None ≡ followed_by (parts_joined ps None) (trace_at p.0 p.1 None)
+  pub parts-one : (ps : List (List B × Option ℕ)) (p : List B × Option ℕ)
+      → parts_joined (ps ++ p ∷ []) None ≡ followed_by (parts_joined ps None) (trace_at p.0 p.1 None)
   parts-one ps p = parts-append ps (p ∷ []) None ∙ ap (followed_by (parts_joined ps None)) (followed_by-open_nil (trace_at p.0 p.1 None))
 
 -- the same batches, of what is made of the parts
-pub record Made {K B : Type 0} (accepts : K → List B → K → Type 0) (refuses : K → List B → ℕ → K → Type 0) (d : DeliverMade B) (s : K) (t : Trace (List B × Option ℕ)) (r : Result (Option Ending) DeliveryFault) (d' : DeliverMade B) (s' : K) : Type 0 where
+pub record Made {K B : Type 0} (accepts : K → List B → K → Type 0) (refuses : K → List B → ℕ → K → Type 0) (d : DeliverMade B) (s : K)
+    (t : Trace (List B × Option ℕ)) (r : Result (Option Ending) DeliveryFault) (d' : DeliverMade B) (s' : K) : Type 0 where
   pub size : d'.size ≡ d.size
   pub gives : Gives accepts refuses d.size d.held.items s (parts_joined t.items t.ending) r d'.held.items s'
 
-abbrev pub MadeBy : {K B : Type 0} → (K → List B → K → Type 0) → (K → List B → ℕ → K → Type 0) → DeliverMade B → K → Trace (List B × Option ℕ) → Result (Option Ending) DeliveryFault → DeliverMade B → K → Type 0
+abbrev pub MadeBy : {K B : Type 0} → (K → List B → K → Type 0) → (K → List B → ℕ → K → Type 0) → DeliverMade B → K → Trace (List B × Option ℕ)
+    → Result (Option Ending) DeliveryFault → DeliverMade B → K → Type 0
 MadeBy accepts refuses d s t r d' s' = Made accepts refuses d s t r d' s'
 
 -- what is delivered of parts one after another is what is delivered of all
@@ -117,7 +130,8 @@ made-lawful {K} {B} accepts refuses =
           record {
             size = second.size ∙ first.size;
             gives = subst (λ u. Gives accepts refuses d.size d.held.items s u r d2.held.items s2) (sym (parts-append xs t.items t.ending))
-                (gives-after accepts refuses d.size d.held.items s (parts_joined xs None) d1.held.items s1 (parts_joined t.items t.ending) r d2.held.items s2 first.gives
+                (gives-after accepts refuses d.size d.held.items s (parts_joined xs None) d1.held.items s1
+                (parts_joined t.items t.ending) r d2.held.items s2 first.gives
                 (subst (λ n. Gives accepts refuses n d1.held.items s1 (parts_joined t.items t.ending) r d2.held.items s2) first.size second.gives));
           };
       ends = λ d s t e d' s' rest is.

@@ -29,7 +29,8 @@ module _ {T A O : Type 0} (f : Folding T A O) where
 
   pub followed_by-folded : (t t' : Trace T) (u u' : Trace A) → IsFolded f t u → IsFolded f t' u' → IsFolded f (followed_by t t') (followed_by u u')
   followed_by-folded t t' u u' first second =
-      subst (λ e. IsFolded f (followed_by t t') (continued_by u.items e u')) (sym first.ending) (continued_by-folded t.items u.items t.ending t' u' first.items second)
+      subst (λ e. IsFolded f (followed_by t t') (continued_by u.items e u')) (sym first.ending)
+      (continued_by-folded t.items u.items t.ending t' u' first.items second)
 
   -- one accumulator stands for all of a trace
   abbrev pub as_one : Trace T → Trace A

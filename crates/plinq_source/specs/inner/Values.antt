@@ -25,7 +25,8 @@ length-tokens : (text : List ℕ) → length (tokens text) ≤ length text
 length-tokens [] = omega arith
 length-tokens (b ∷ bs) = within (is_separator b) b bs (length-tokens bs)
   where
-    within : (s : Bool) (b : ℕ) (bs : List ℕ) → length (tokens bs) ≤ length bs → length (filter is_some_bytes (cond s ([] ∷ slice_split is_separator bs) (onto_first b (slice_split is_separator bs)))) ≤ suc (length bs)
+    within : (s : Bool) (b : ℕ) (bs : List ℕ) → length (tokens bs) ≤ length bs
+        → length (filter is_some_bytes (cond s ([] ∷ slice_split is_separator bs) (onto_first b (slice_split is_separator bs)))) ≤ suc (length bs)
     within true b bs h = omega arith
     within false b bs h = omega (arith, onto-counts b (slice_split is_separator bs))
 

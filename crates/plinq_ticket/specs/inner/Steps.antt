@@ -108,7 +108,8 @@ row_together : together_with (with_records (closed_under 0 ∷ [])) (cut_view (w
 row_together = refl
 
 -- what the value has more than was found becomes the pass's own
-row_left : left_with (added_records (closed_under 0 ∷ []) (closed_under 0 ∷ closed_under 2 ∷ [])) (leaving 3 (with_records []).standing) (with_records (closed_under 1 ∷ []))
+row_left : left_with (added_records (closed_under 0 ∷ []) (closed_under 0 ∷ closed_under 2 ∷ [])) (leaving 3 (with_records []).standing)
+    (with_records (closed_under 1 ∷ []))
     ≡ standing_so (leaving 3 (with_records []).standing) (with_records (closed_under 1 ∷ closed_under 2 ∷ []))
 row_left = refl
 
