@@ -1,13 +1,12 @@
 -- Batches by blocks: items that fill a batch, and items that don't.
-use Rattle.std.specs.Prelude.{◌≡◌, ℕ, zero, suc, ◌+◌, ◌-◌, ◌*◌, ◌/◌, ◌%◌, ◌<◌, ◌≤◌, ◌==◌, min, take, drop, List, [], ◌∷◌, ◌++◌, length, true, false, Some, refl}
-use Rattle.std.proofs.Common.{sym, ◌∙◌, ap, arith, append-nil, append_assoc, length-append, length-drop, length-take-le}
-use Rattle.std.proofs.lemmas.List.{nil_from_length, take-append-drop}
-use Rattle.std.proofs.lemmas.Nat.{div-add-mod', mod_below}
-use Rattle.std.proofs.lemmas.Bool.Decides.{nat_tests}
-use Rattle.std.proofs.Math.Seq.{take-length}
-use Rattle.plinq_ops.specs.Batches.{full_batches, held_back}
+use Rattle.plinq_merge.proofs.MergerWords.{◌≡◌, ℕ, ◌+◌, ◌-◌, ◌<◌, ◌≤◌, ◌==◌, take, drop, List, [], ◌∷◌, ◌++◌, length, true, false, Some, refl, sym, ◌∙◌, ap}
+use Rattle.plinq_merge.proofs.MergerWords.{arith, append-nil, append_assoc, length-drop, length-take-le, take-append-drop, nat_tests, take-length, full_batches}
+use Rattle.plinq_merge.proofs.MergerWords.{held_back}
+use Rattle.std.specs.Prelude.{zero, suc, ◌*◌, ◌/◌, ◌%◌, min}
 use Rattle.plinq_ops.proofs.GrowingBatches.{full_batches-append, held_back-append}
 use Rattle.plinq_merge.specs.Sending.{singles}
+use Rattle.std.proofs.lemmas.Nat.{div-add-mod', mod_below}
+use Rattle.std.proofs.{Common.length-append, lemmas.List.nil_from_length}
 
 not_full : (m n : ℕ) → m < n → (m == n) ≡ false
 not_full m n below = grind (arith, nat_tests)

@@ -1,42 +1,25 @@
 -- What was delivered of items that were fed to operators.
-use Rattle.std.specs.Prelude.{◌≡◌, Bool, ℕ, ◌<◌, List, [], length, true, false, not, ◌&&◌, Option, Some, None, IfSome, Ok, refl, ◌+◌, ◌≤◌, ◌++◌, drop, Result, Err, OnOk, IfOk}
-use Rattle.std.specs.List.{list_any}
-use Rattle.std.proofs.Common.{sym, ◌∙◌, ap, subst, append_assoc, append-nil}
+use Rattle.plinq_merge.proofs.MergerWords.{◌≡◌, Bool, ℕ, ◌<◌, List, [], length, true, false, not, Option, Some, None, IfSome, Ok, refl, ◌+◌, ◌≤◌, ◌++◌, drop}
+use Rattle.plinq_merge.proofs.MergerWords.{Result, Err, list_any, sym, ◌∙◌, ap, subst, append_assoc, append-nil, take-append-drop, Ending, Trace, open_trace}
+use Rattle.plinq_merge.proofs.MergerWords.{followed_by, ended_trace, trace_of, followed_by-followed_by, End, Meaning, Op, Stage, seq, seq_after}
+use Rattle.plinq_merge.proofs.MergerWords.{some_takes_none, stages_of, is_empty_take, held_back, batches_from, full_batches, stages, seq-followed_by}
+use Rattle.plinq_merge.proofs.MergerWords.{stages-begun, some_takes_none-stages_of, batches_from-open, Deliver, DeliveryFault, NoMemory, held_of, size_of}
+use Rattle.plinq_merge.proofs.MergerWords.{Leads, IsCutOff, Delivers, GoesOn, Line, line_of, is_below, can_deliver, batches-on, held-on}
+use Rattle.std.specs.Prelude.{◌&&◌, OnOk, IfOk}
 use Rattle.std.proofs.lemmas.Bool.{lt-ltb}
-use Rattle.std.proofs.lemmas.List.{take-append-drop}
 use Rattle.std.proofs.lemmas.Result.{IfOk-weaker}
-use Rattle.plinq_source.specs.declared.ending.Ending.{Ending}
-use Rattle.plinq_source.specs.Trace.{Trace, open_trace, followed_by, ended_trace}
-use Rattle.plinq_source.proofs.Followed.{trace_of, followed_by-followed_by}
-use Rattle.plinq_source.specs.declared.ending.Ending.TheVariants.{End}
-use Rattle.plinq_lambda.specs.Meaning.{Meaning}
-use Rattle.plinq_ops.specs.declared.op.Op.{Op}
-use Rattle.plinq_ops.specs.Stage.{Stage, seq, seq_after, some_takes_none}
-use Rattle.plinq_ops.specs.Operator.{stages_of}
-use Rattle.plinq_ops.specs.Feeding.{IsFed, is_empty_take, FeedsFrom}
-use Rattle.plinq_ops.specs.Batches.{held_back, batches_from, full_batches}
-use Rattle.plinq_ops.specs.Pipeline.{IsReached, PipelineView, stages}
-use Rattle.plinq_ops.proofs.Stages.{seq-followed_by}
-use Rattle.plinq_ops.proofs.ByKey.{stages-begun}
-use Rattle.plinq_ops.proofs.Counts.{some_takes_none-stages_of}
 use Rattle.plinq_ops.proofs.Fed.{undecided-left, fed-none}
-use Rattle.plinq_ops.proofs.Open.{open-from_seq}
-use Rattle.plinq_ops.proofs.GrowingBatches.{batches_from-open, batches_from-followed_by}
 use Rattle.plinq_ops.specs.Sequential.{first_items}
+use Rattle.plinq_ops.specs.{Feeding.IsFed, Feeding.FeedsFrom, Pipeline.IsReached, Pipeline.PipelineView}
 use Rattle.plinq_ops.proofs.Batched.{full_batches-none, held_back-none}
-use Rattle.plinq_ops.proofs.Answered.{feeds-smaller, fed-on, fed-over, deciding-over, deciding-wider, deciding-singly, deciding-of_none, answer-of_none, answer-fed}
-use Rattle.plinq_merge.specs.declared.deliver.Deliver.{Deliver}
-use Rattle.plinq_merge.specs.declared.delivery_fault.DeliveryFault.{DeliveryFault}
-use Rattle.plinq_merge.specs.declared.delivery_fault.DeliveryFault.TheVariants.{Memory}
-use Rattle.plinq_merge.specs.Buffer.{held_of, size_of, HasRoom}
-use Rattle.plinq_merge.specs.Sending.{Leads, IsCutOff, Delivers, IsFilled}
-use Rattle.plinq_merge.specs.Merging.{GoesOn}
-use Rattle.plinq_merge.specs.Delivering.{Line, KeepsPlan, line_of, is_below, can_deliver, Made}
-use Rattle.plinq_merge.specs.Deliveries.{batches-on, held-on, leads-filled}
+use Rattle.plinq_ops.proofs.Answered.{feeds-smaller, fed-on, fed-over, deciding-over, deciding-wider, deciding-singly, deciding-of_none, answer-of_none}
+use Rattle.plinq_ops.proofs.Answered.{answer-fed}
+use Rattle.plinq_ops.proofs.{Open.open-from_seq, GrowingBatches.batches_from-followed_by}
 use Rattle.plinq_merge.specs.inner.Handing.{HandsOn}
 use Rattle.plinq_merge.specs.inner.OneThread.{DeliversAnswer}
 use Rattle.plinq_merge.proofs.Blocks.{full_batches-split, full_batches-short}
 use Rattle.plinq_merge.specs.inner.Sent.{cut-after, cut-before, up_to-more, up_to-leads, up_to-cut, delivers-at_err, delivers-as, delivers-after}
+use Rattle.plinq_merge.specs.{Buffer.HasRoom, Deliveries.leads-filled, Delivering.KeepsPlan, Delivering.Made, Sending.IsFilled}
 
 -- what a trace gives that was fed, before what comes after it
 pub fed-answer : {T : Type 0} (ss ss' : List (Stage T)) (t : Trace T) (out : List T) (e : Option Ending) → IsFed ss t [] out ss' e → seq ss t ≡ trace_of out e
@@ -194,15 +177,16 @@ module _ {K T : Type 0} (accepts : K → List T → K → Type 0) (refuses : K �
       rw is (record { ending = tt; delivered = part; blocks = tt })
 
   -- memory ran out before an item came through
-  pub sent-stopped : (most : ℕ) (ss' : List (Stage T)) (t : Trace T) (n m : ℕ) (held made : List T) (s' : K) (r : Result Ending DeliveryFault) → r ≡ Err Memory
-      → HasSent (first_items n t) held made ss' s' None → DeliversAnswer accepts refuses size most ss t s m r s'
+  pub sent-stopped : (most : ℕ) (ss' : List (Stage T)) (t : Trace T) (n m : ℕ) (held made : List T) (s' : K) (r : Result Ending DeliveryFault)
+      → r ≡ Err NoMemory → HasSent (first_items n t) held made ss' s' None → DeliversAnswer accepts refuses size most ss t s m r s'
   sent-stopped most ss' t n m held made s' r is before =
-      let none : HandsOn {A = Ending} accepts refuses size held made s' (Err Memory) held made s' =
+      let none : HandsOn {A = Ending} accepts refuses size held made s' (Err NoMemory) held made s' =
       record { given = []; left = made; parts = refl; waits = tt; filled = record { held = tt; sent = ([], [], refl, refl) } } in
-      sent-cut most ss' t n m held held made made s' s' Memory r is none before
+      sent-cut most ss' t n m held held made made s' s' NoMemory r is none before
 
   -- or before anything was fed
-  pub answer-stopped : (most : ℕ) (t : Trace T) (m : ℕ) (r : Result Ending DeliveryFault) → r ≡ Err Memory → DeliversAnswer accepts refuses size most ss t s m r s
+  pub answer-stopped : (most : ℕ) (t : Trace T) (m : ℕ) (r : Result Ending DeliveryFault) → r ≡ Err NoMemory
+      → DeliversAnswer accepts refuses size most ss t s m r s
   answer-stopped most t m r is = rw is (record { ending = tt; delivered = ([], batches_from size [] (seq ss t), refl, refl); blocks = tt })
 
   -- a Take of none decides the answer

@@ -1,28 +1,14 @@
 -- What a row of keys stands for: with one offer more, and once the interval under its next key has gone.
-use Rattle.std.specs.Prelude.{◌≡◌, ℕ, ◌<◌, ◌==◌, List, [], ◌∷◌, ◌++◌, length, true, false, ◌||◌, cond, Option, Some, None, All, refl}
-use Rattle.std.specs.Option.{option_or, unwrap_or}
-use Rattle.std.proofs.Common.{sym, ◌∙◌, ap, subst, arith, append_assoc}
-use Rattle.std.proofs.lemmas.Bool.Decides.{nat_tests}
-use Rattle.std.proofs.lemmas.List.Elements.{All-nil, All-head, All-tail, All-push, All-weaker, All-take}
-use Rattle.std.proofs.Math.Bool.{or_assoc, or-false}
-use Rattle.std.proofs.Math.Seq.{take-append_seam}
-use Rattle.plinq_source.specs.declared.ending.Ending.{Ending}
-use Rattle.plinq_source.specs.Trace.{Trace, open_trace, followed_by}
-use Rattle.plinq_source.proofs.Followed.{trace_of, followed_by-followed_by, followed_by-open_nil}
-use Rattle.plinq_ops.specs.declared.order.Order.{Order}
-use Rattle.plinq_ops.specs.declared.order.Order.TheVariants.{ByKey, ByArrival}
-use Rattle.plinq_ops.specs.declared.results.ChunkResult.{ChunkResult}
-use Rattle.plinq_ops.specs.Chunk.{result_trace}
-use Rattle.plinq_ops.specs.Tails.{end_of_result, told_at}
-use Rattle.plinq_reorder.specs.Intervals.{Interval, is_within, insert, unbroken_row, first_gap, IsRow}
-use Rattle.plinq_reorder.specs.Buffered.{Buffered, IsFresh, with_interval, TakesNext, IsAtGap, Inserts}
-use Rattle.plinq_reorder.proofs.Insert.{All-insert, insert-after, after-next}
-use Rattle.plinq_reorder.proofs.Gap.{row-append, row-push}
-use Rattle.plinq_merge.specs.declared.row.Row.{Row}
-use Rattle.plinq_merge.specs.Shown.{at_once, waiting_trace, placed_intervals, all_placed, all_told, all_given, ending_at, row as row_of, arrived_trace, merged_trace}
-use Rattle.plinq_merge.specs.OfferedKeys.{is_offered}
-use Rattle.plinq_merge.specs.Merging.{Holds, TakesIn}
-use Rattle.plinq_merge.specs.Joining.{rest_of}
+use Rattle.plinq_merge.proofs.MergerWords.{◌≡◌, ℕ, ◌<◌, ◌==◌, List, [], ◌∷◌, ◌++◌, length, true, false, ◌||◌, cond, Option, Some, None, All, refl, option_or}
+use Rattle.plinq_merge.proofs.MergerWords.{unwrap_or, sym, ◌∙◌, ap, subst, arith, append_assoc, nat_tests, All-nil, All-head, All-tail, All-weaker, or_assoc}
+use Rattle.plinq_merge.proofs.MergerWords.{or-false, Ending, Trace, open_trace, followed_by, trace_of, followed_by-followed_by, followed_by-open_nil, Order}
+use Rattle.plinq_merge.proofs.MergerWords.{ByKey, ByArrival, ChunkResult, result_trace, end_of_result, told_at, Interval, is_within, unbroken_row, first_gap}
+use Rattle.plinq_merge.proofs.MergerWords.{IsRow, Buffered, IsFresh, with_interval, TakesNext, IsAtGap, Inserts, Row, waiting_trace, placed_intervals}
+use Rattle.plinq_merge.proofs.MergerWords.{all_placed, all_told, all_given, ending_at, row_of, merged_trace, is_offered, Holds, TakesIn, rest_of}
+use Rattle.std.proofs.{Math.Seq.take-append_seam, lemmas.List.Elements.All-push, lemmas.List.Elements.All-take}
+use Rattle.plinq_reorder.proofs.{Gap.row-append, Gap.row-push, Insert.All-insert, Insert.insert-after, Insert.after-next}
+use Rattle.plinq_reorder.specs.Intervals.{insert}
+use Rattle.plinq_merge.specs.Shown.{at_once, arrived_trace}
 
 module _ {T : Type 0} where
   -- ---- one offer more

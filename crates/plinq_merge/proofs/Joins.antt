@@ -1,37 +1,19 @@
 -- What the taker has taken, and which offers a row or a joiner stands for, with one offer more.
-use Rattle.std.specs.Prelude.{◌≡◌, ℕ, ◌<◌, List, [], ◌∷◌, ◌++◌, true, false, ◌||◌, nat_lt, ◌⊎◌, Option, Some, None, Result, Ok, Err, refl}
-use Rattle.std.specs.Option.{option_or}
-use Rattle.std.proofs.Common.{sym, ◌∙◌, ap, subst, inl, inr, arith}
-use Rattle.std.proofs.lemmas.Bool.{or_from, le-ltb, cases_lt}
-use Rattle.std.proofs.lemmas.List.Elements.{All-nil}
-use Rattle.plinq_source.specs.declared.ending.Ending.{Ending}
-use Rattle.plinq_source.specs.Trace.{Trace, open_trace, followed_by}
-use Rattle.plinq_source.proofs.Followed.{trace_of, followed_by-followed_by, followed_by-open_nil}
-use Rattle.plinq_ops.specs.declared.order.Order.{Order}
-use Rattle.plinq_ops.specs.declared.results.ChunkResult.{ChunkResult}
-use Rattle.plinq_ops.specs.Tails.{end_of_result, told_at}
-use Rattle.plinq_reorder.specs.Intervals.{is_within}
-use Rattle.plinq_reorder.specs.Buffered.{Buffered, is_taken, IsFresh, with_interval, TakesNext, IsAtGap}
-use Rattle.plinq_merge.specs.declared.delivery_fault.DeliveryFault.{DeliveryFault}
-use Rattle.plinq_merge.specs.declared.delivery_fault.DeliveryFault.TheVariants.{Memory as NoMemory, Sink as Refusal}
-use Rattle.plinq_merge.specs.declared.row.Row.{Row}
+use Rattle.plinq_merge.proofs.MergerWords.{◌≡◌, ℕ, ◌<◌, List, [], ◌∷◌, ◌++◌, true, false, ◌||◌, nat_lt, Option, Some, None, Result, Ok, Err, refl, option_or}
+use Rattle.plinq_merge.proofs.MergerWords.{sym, ◌∙◌, ap, subst, inl, inr, arith, or_from, cases_lt, All-nil, Ending, Trace, open_trace, followed_by, trace_of}
+use Rattle.plinq_merge.proofs.MergerWords.{followed_by-followed_by, followed_by-open_nil, Order, ChunkResult, end_of_result, told_at, is_within, Buffered}
+use Rattle.plinq_merge.proofs.MergerWords.{IsFresh, with_interval, TakesNext, IsAtGap, DeliveryFault, NoMemory, Refusal, Row, MergeFault, Memory, Sink, Twice}
+use Rattle.plinq_merge.proofs.MergerWords.{More, Yes, No, JoinerState, Open, Decided, HasFailed, ending_at, waiting_trace, merged_trace, Holds, TakesIn}
+use Rattle.plinq_merge.proofs.MergerWords.{rest_of, Waits, Joins, JoinsOfferAt, delivery_fault_of}
+use Rattle.std.specs.Prelude.{◌⊎◌}
+use Rattle.std.proofs.lemmas.Bool.{le-ltb}
+use Rattle.plinq_reorder.specs.Buffered.{is_taken}
 use Rattle.plinq_merge.specs.declared.joining.Joining.{Joining}
-use Rattle.plinq_merge.specs.declared.merge_fault.MergeFault.{MergeFault}
-use Rattle.plinq_merge.specs.declared.merge_fault.MergeFault.TheVariants.{Memory, Sink, Twice, Gap}
-use Rattle.plinq_merge.specs.declared.more.More.{More}
-use Rattle.plinq_merge.specs.declared.more.More.TheVariants.{Yes, No}
-use Rattle.plinq_merge.specs.declared.joiner_state.JoinerState.{JoinerState}
-use Rattle.plinq_merge.specs.declared.joiner_state.JoinerState.TheVariants.{Open, Decided, Failed as HasFailed}
 use Rattle.plinq_merge.specs.declared.joiner.Joiner.{Joiner}
-use Rattle.plinq_merge.specs.Shown.{ending_at, waiting_trace, merged_trace}
-use Rattle.plinq_merge.specs.OfferedKeys.{AreNew}
-use Rattle.plinq_merge.specs.Merging.{Holds, TakesIn}
 use Rattle.plinq_merge.specs.Taking.{IsTaking}
-use Rattle.plinq_merge.specs.Joining.{rest_of, Waits, Joins, JoinsOfferAt}
 use Rattle.plinq_merge.specs.inner.Moving.{HasMoved}
-use Rattle.plinq_merge.specs.Offering.{is_decided, finish_result}
 use Rattle.plinq_merge.specs.Joiners.{taker_of, order_of, WaitsFor, has_decided, ending_of, JoinsOffer, HasJoinedAt, HasJoined}
-use Rattle.plinq_merge.specs.Mergers.{delivery_fault_of}
+use Rattle.plinq_merge.specs.{declared.merge_fault.MergeFault.TheVariants.Gap, OfferedKeys.AreNew, Offering.is_decided, Offering.finish_result}
 use Rattle.plinq_merge.proofs.Holds.{is_offered-append, merged_trace-holds, holds-next, takes-none, takes-inserted, rest-gap}
 
 module _ {T : Type 0} where

@@ -1,26 +1,14 @@
 -- Offers with a token: a token and a sink as one sink, what is delivered in terms of either, and what the token has answered.
-use Rattle.std.specs.Prelude.{◌≡◌, ℕ, List, [], ◌∷◌, Bool, Result, Ok, Err, true, false, ◌||◌, refl}
-use Rattle.std.proofs.Common.{ap, sym, ◌∙◌}
-use Rattle.std.proofs.Math.Bool.{or-false, or-true}
-use Rattle.plinq_lambda.specs.Meaning.{Meaning}
-use Rattle.plinq_ops.specs.declared.results.ChunkResult.{ChunkResult}
-use Rattle.plinq_merge.specs.declared.merge_fault.MergeFault.{MergeFault}
-use Rattle.plinq_merge.specs.declared.merge_fault.MergeFault.TheVariants.{Memory, Sink, Twice, Cancelled}
-use Rattle.plinq_merge.specs.declared.more.More.{More}
-use Rattle.plinq_merge.specs.declared.more.More.TheVariants.{Yes, No}
-use Rattle.plinq_merge.specs.declared.joiner_state.JoinerState.{JoinerState}
-use Rattle.plinq_merge.specs.declared.joiner_state.JoinerState.TheVariants.{Open}
-use Rattle.plinq_merge.specs.declared.delivery_fault.DeliveryFault.{DeliveryFault}
-use Rattle.plinq_merge.specs.declared.delivery_fault.DeliveryFault.TheVariants.{Memory as NoMemory, Sink as Refusal}
+use Rattle.plinq_merge.proofs.MergerWords.{◌≡◌, ℕ, List, [], ◌∷◌, Bool, Result, Ok, Err, true, false, ◌||◌, refl, ap, sym, ◌∙◌, or-false, Meaning, ChunkResult}
+use Rattle.plinq_merge.proofs.MergerWords.{MergeFault, Memory, Sink, Twice, More, Yes, No, JoinerState, Open, DeliveryFault, NoMemory, Refusal, Leads, IsCutOff}
+use Rattle.plinq_merge.proofs.MergerWords.{Merge, Work, Brings, OffersAt, delivery_fault_of, SendsSome}
+use Rattle.std.proofs.Math.Bool.{or-true}
 use Rattle.plinq_merge.specs.declared.with_cancellation.WithCancellation.{WithCancellation}
-use Rattle.plinq_merge.specs.Sending.{Leads, IsCutOff}
-use Rattle.plinq_merge.specs.Shown.{Merge}
-use Rattle.plinq_merge.specs.Working.{Work}
-use Rattle.plinq_merge.specs.Offering.{Brings, OffersAt, OffersWithAt, IsCancelled}
 use Rattle.plinq_merge.specs.Cancelling.{Delivery, Passes, IsRefused, IsKeptBack}
-use Rattle.plinq_merge.specs.Mergers.{AsksEach, delivery_fault_of, is_cancelled, SendsSome}
 use Rattle.plinq_merge.specs.inner.Stopped.{answer_unless_stopped}
 use Rattle.plinq_merge.specs.Lent.{AreSame, delivery_of, Takes, Refuses}
+use Rattle.plinq_merge.specs.{declared.merge_fault.MergeFault.TheVariants.Cancelled, Mergers.AsksEach, Mergers.is_cancelled, Offering.OffersWithAt}
+use Rattle.plinq_merge.specs.{Offering.IsCancelled}
 
 pub leads-map : {K M B : Type 0} (f : K → M) (accepts : K → B → K → Type 0) (accepts' : M → B → M → Type 0) → ((s : K) (b : B) (s' : K) → accepts s b s' → accepts' (f s) b (f s'))
     → (s : K) (bs : List B) (s' : K) → Leads accepts s bs s' → Leads accepts' (f s) bs (f s')

@@ -1,3 +1,4 @@
+pub mod MergerWords
 pub mod Blocks
 pub mod Holds
 pub mod Joins

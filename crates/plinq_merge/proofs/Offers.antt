@@ -1,39 +1,14 @@
 -- What an offer to a merger brings: what the answer gains by it, and what the merger answers.
-use Rattle.std.specs.Prelude.{◌≡◌, ℕ, List, [], ◌∷◌, ◌++◌, Bool, true, false, cond, Option, Some, None, Result, Ok, Err, refl, not}
-use Rattle.std.proofs.Common.{sym, ◌∙◌, ap, subst}
-use Rattle.std.proofs.lemmas.Bool.{and_parts, not-true}
-use Rattle.plinq_source.specs.declared.ending.Ending.{Ending}
-use Rattle.plinq_source.specs.declared.ending.Ending.TheVariants.{End}
-use Rattle.plinq_source.specs.Trace.{Trace, open_trace, ended_trace, followed_by}
-use Rattle.plinq_source.proofs.Followed.{followed_by-open_nil}
-use Rattle.plinq_lambda.specs.Meaning.{Meaning}
-use Rattle.plinq_ops.specs.declared.results.ChunkResult.{ChunkResult}
-use Rattle.plinq_ops.specs.Stage.{Stage, seq, some_takes_none}
-use Rattle.plinq_ops.specs.Operator.{stages_of}
-use Rattle.plinq_ops.specs.Batches.{full_batches, held_back, batches_from}
-use Rattle.plinq_ops.specs.Pipeline.{stages}
-use Rattle.plinq_ops.proofs.GrowingBatches.{batches_from-open}
-use Rattle.plinq_ops.specs.declared.op.Op.{Op}
+use Rattle.plinq_merge.proofs.MergerWords.{◌≡◌, ℕ, List, [], ◌∷◌, ◌++◌, Bool, true, false, cond, Option, Some, None, Result, Ok, Err, refl, not, sym, ◌∙◌, ap}
+use Rattle.plinq_merge.proofs.MergerWords.{subst, and_parts, Ending, End, Trace, open_trace, ended_trace, followed_by, followed_by-open_nil, Meaning}
+use Rattle.plinq_merge.proofs.MergerWords.{ChunkResult, Stage, seq, some_takes_none, stages_of, full_batches, held_back, batches_from, stages}
+use Rattle.plinq_merge.proofs.MergerWords.{batches_from-open, Op, DeliveryFault, Deliver, More, Yes, No, MergeFault, Memory, Sink, Twice, NoMemory, Refusal}
+use Rattle.plinq_merge.proofs.MergerWords.{JoinerState, Open, Decided, HasFailed, held_of, size_of, Leads, Delivers, Merge, merged_trace, answer, shown_batches}
+use Rattle.plinq_merge.proofs.MergerWords.{GoesOn, Joins, Waits, JoinsOfferAt, Line, line_of, is_below, can_deliver, batches-on, held-on, Work, Brings}
+use Rattle.plinq_merge.proofs.MergerWords.{OffersAt, SendsSome}
+use Rattle.std.proofs.lemmas.Bool.{not-true}
 use Rattle.plinq_ops.proofs.Open.{seq-nothing}
-use Rattle.plinq_merge.specs.declared.delivery_fault.DeliveryFault.{DeliveryFault}
-use Rattle.plinq_merge.specs.declared.deliver.Deliver.{Deliver}
-use Rattle.plinq_merge.specs.declared.more.More.{More}
-use Rattle.plinq_merge.specs.declared.more.More.TheVariants.{Yes, No}
-use Rattle.plinq_merge.specs.declared.merge_fault.MergeFault.{MergeFault}
-use Rattle.plinq_merge.specs.declared.merge_fault.MergeFault.TheVariants.{Memory, Sink, Twice}
-use Rattle.plinq_merge.specs.declared.delivery_fault.DeliveryFault.TheVariants.{Memory as NoMemory, Sink as Refusal}
-use Rattle.plinq_merge.specs.declared.joiner_state.JoinerState.{JoinerState}
-use Rattle.plinq_merge.specs.declared.joiner_state.JoinerState.TheVariants.{Open, Decided, Failed as HasFailed}
-use Rattle.plinq_merge.specs.Buffer.{held_of, size_of}
-use Rattle.plinq_merge.specs.Sending.{Leads, Delivers}
-use Rattle.plinq_merge.specs.Shown.{Merge, merged_trace, answer, shown_batches}
-use Rattle.plinq_merge.specs.Merging.{GoesOn}
-use Rattle.plinq_merge.specs.Joining.{Joins, Waits, JoinsOfferAt}
-use Rattle.plinq_merge.specs.Delivering.{Line, line_of, Gives, MadeBy, is_below, can_deliver}
-use Rattle.plinq_merge.specs.Deliveries.{batches-on, held-on, goes_on-on}
-use Rattle.plinq_merge.specs.Working.{Work, merge_of, Rests}
-use Rattle.plinq_merge.specs.Offering.{Brings, OffersAt}
-use Rattle.plinq_merge.specs.Mergers.{SendsSome}
+use Rattle.plinq_merge.specs.{Deliveries.goes_on-on, Delivering.Gives, Delivering.MadeBy, Working.merge_of, Working.Rests}
 
 pub answer-open : {T : Type 0} (merge : Merge T) (offers : List (ChunkResult T)) → merge.decided ≡ false → answer merge offers ≡ seq merge.after (merged_trace merge.order offers)
 answer-open merge offers undecided = ap (λ b. cond b (ended_trace [] End) (seq merge.after (merged_trace merge.order offers))) undecided

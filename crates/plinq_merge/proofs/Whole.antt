@@ -1,46 +1,34 @@
 -- Offers of one source: what the tails of its chunks say, how their answer begins the sequential one, and that it is that where all was offered.
-use Rattle.std.specs.Prelude.{◌≡◌, ℕ, ◌+◌, ◌-◌, ◌<◌, ◌≤◌, List, [], ◌∷◌, length, drop, true, false, cond, nat_lt, Option, Some, None, refl, ◌^◌, ◌==◌, take, ◌||◌, All, Bool}
+use Rattle.plinq_merge.proofs.MergerWords.{◌≡◌, ℕ, ◌+◌, ◌-◌, ◌<◌, ◌≤◌, List, [], ◌∷◌, length, drop, true, false, cond, nat_lt, Option, Some, None, refl, ◌==◌}
+use Rattle.plinq_merge.proofs.MergerWords.{take, ◌||◌, All, Bool, IfSome, sym, ◌∙◌, ap, subst, inl, inr, arith, length-drop, and_parts, or_from, cases_lt}
+use Rattle.plinq_merge.proofs.MergerWords.{length-take-le, take-append-drop, All-nil, All-head, All-tail, All-weaker, nat_tests, or_assoc, or-false}
+use Rattle.plinq_merge.proofs.MergerWords.{take-length, Ending, Trace, open_trace, followed_by, trace_of, followed_by-open_nil, followed_by-followed_by}
+use Rattle.plinq_merge.proofs.MergerWords.{Meaning, Op, ChunkResult, end_of_result, told_at, Order, ByKey, seq, seq_after, result_trace, batches_from}
+use Rattle.plinq_merge.proofs.MergerWords.{seq-followed_by, Interval, is_within, unbroken_row, first_gap, IsRow, Merge, waiting_trace, placed_intervals}
+use Rattle.plinq_merge.proofs.MergerWords.{all_placed, all_told, all_given, ending_at, row_of, merged_trace, answer, shown_batches, is_offered}
 use Rattle.std.specs.List.{Contains}
-use Rattle.std.specs.Option.{IfSome, IsSome}
-use Rattle.std.proofs.Common.{sym, ◌∙◌, ap, subst, inl, inr, arith, length-drop}
-use Rattle.std.proofs.lemmas.Bool.{and_parts, ltb-true, or_left, or_right, or_from, cases_lt, false_from_ne_true}
-use Rattle.std.proofs.lemmas.List.{length-take, length-take-le, take-append-drop}
-use Rattle.std.proofs.lemmas.List.Elements.{All-nil, All-cons, All-head, All-tail, All-weaker, All-contains}
-use Rattle.std.proofs.lemmas.Bool.Decides.{nat_tests}
-use Rattle.std.proofs.Math.Bool.{or_assoc, or-false}
-use Rattle.std.proofs.Math.Seq.{take-length}
-use Rattle.plinq_source.specs.declared.ending.Ending.{Ending}
-use Rattle.plinq_source.specs.declared.ending.Ending.TheVariants.{Fault}
-use Rattle.plinq_source.specs.Trace.{Trace, open_trace, followed_by}
-use Rattle.plinq_source.proofs.Followed.{trace_of, followed_by-ended, followed_by-open_nil, followed_by-followed_by}
-use Rattle.plinq_lambda.specs.Meaning.{Meaning}
+use Rattle.std.specs.Option.{IsSome}
+use Rattle.std.specs.Prelude.{◌^◌}
+use Rattle.std.proofs.{lemmas.Bool.ltb-true, lemmas.Bool.or_left, lemmas.Bool.or_right, lemmas.Bool.false_from_ne_true, lemmas.List.length-take}
+use Rattle.std.proofs.{lemmas.List.Elements.All-cons, lemmas.List.Elements.All-contains}
+use Rattle.plinq_source.proofs.Followed.{followed_by-ended}
+use Rattle.plinq_source.specs.declared.ending.Ending.{TheVariants.Fault}
+use Rattle.plinq_ops.specs.Tails.{EndsAt}
+use Rattle.plinq_reorder.specs.Intervals.{has_key, are_apart, IsFree}
+use Rattle.plinq_merge.specs.Deliveries.{batches-first}
 use Rattle.plinq_keyed.specs.declared.event.Event.{Event}
 use Rattle.plinq_keyed.specs.declared.event.Event.TheVariants.{Ask, Close}
 use Rattle.plinq_keyed.specs.declared.record.Record.{Record}
 use Rattle.plinq_keyed.specs.declared.tail.Tail.{Tail}
 use Rattle.plinq_keyed.specs.History.{Place, start, ending_tail, no_items, next_items, reply, next_place, tells, is_run, IsLegalHistory}
 use Rattle.plinq_keyed.proofs.Legal.{Told-from_tells, reply-first, next_place-given, length-reply}
-use Rattle.plinq_ops.specs.declared.op.Op.{Op}
-use Rattle.plinq_ops.specs.declared.results.ChunkResult.{ChunkResult}
 use Rattle.plinq_ops.specs.Row.{IsResultOf, AreOffers}
-use Rattle.plinq_ops.specs.Tails.{end_of_result, told_at, EndsAt}
-use Rattle.plinq_ops.specs.declared.order.Order.{Order}
-use Rattle.plinq_ops.specs.declared.order.Order.TheVariants.{ByKey}
-use Rattle.plinq_ops.specs.Stage.{seq, seq_after}
-use Rattle.plinq_ops.specs.Chunk.{result_trace}
 use Rattle.plinq_ops.specs.Fragment.{glued_trace, glue}
-use Rattle.plinq_ops.specs.Batches.{batches_from}
 use Rattle.plinq_ops.proofs.Glue.{glued_trace-append}
 use Rattle.plinq_ops.proofs.Rows.{row-next, glue-whole}
-use Rattle.plinq_ops.proofs.Stages.{seq-followed_by}
-use Rattle.plinq_reorder.specs.Intervals.{Interval, is_within, has_key, are_apart, IsFree, unbroken_row, first_gap, IsRow}
 use Rattle.plinq_reorder.proofs.Keys.{same_key, same_test, not_within-none}
-use Rattle.plinq_reorder.proofs.Insert.{apart-insert, has_key-insert}
-use Rattle.plinq_reorder.proofs.Gap.{row-of-unbroken_row, All-unbroken_row, gap-missing, gap-most}
+use Rattle.plinq_reorder.proofs.{Gap.row-of-unbroken_row, Gap.All-unbroken_row, Gap.gap-missing, Gap.gap-most, Insert.apart-insert, Insert.has_key-insert}
 use Rattle.plinq_merge.specs.Whole.{IsTrueTail, AreTrueTails, AreApart, AreWhole, AreFirstOf}
-use Rattle.plinq_merge.specs.Shown.{Merge, waiting_trace, placed_intervals, all_placed, all_told, all_given, ending_at, row, merged_trace, answer, shown_batches}
-use Rattle.plinq_merge.specs.OfferedKeys.{is_offered}
-use Rattle.plinq_merge.specs.Deliveries.{batches-first}
 use Rattle.plinq_merge.proofs.Offers.{answer-open}
 use Rattle.plinq_merge.proofs.Holds.{All-placed, arrived_trace-by_key}
 
@@ -171,7 +159,7 @@ module _ {L T : Type 0} (meaning : L → Meaning T) (worker : List (Op L)) (t : 
   merged_trace-gap offers are =
       let ps : List (Interval (Trace T)) = all_placed ByKey [] offers in
       let last : Trace T = trace_of [] (ending_at (all_told None offers) (first_gap 0 ps)) in
-      ap (λ u. followed_by u (row (all_told None offers) 0 ps)) (arrived_trace-by_key offers)
+      ap (λ u. followed_by u (row_of (all_told None offers) 0 ps)) (arrived_trace-by_key offers)
       ∙ ap (λ u. followed_by u last) (row-gives 0 (unbroken_row 0 ps) (first_gap 0 ps) (row-of-unbroken_row 0 ps) (All-unbroken_row IsOfSource 0 ps (all-of_source offers are)))
 
   -- ---- how the source's fragments begin

@@ -1,13 +1,7 @@
-use Rattle.std.proofs.Common.{rules, ◌≡◌, true, ap, sym, ◌∙◌}
-use Rattle.std.specs.List.{list_any}
-use Rattle.plinq_ops.specs.Stage.{some_takes_none}
-use Rattle.plinq_ops.specs.Operator.{stages_of}
+use Rattle.plinq_merge.proofs.MergerWords.{rules, ◌≡◌, true, ap, sym, ◌∙◌, list_any, some_takes_none, stages_of, is_empty_take, stages-begun}
+use Rattle.plinq_merge.proofs.MergerWords.{some_takes_none-stages_of, size_of}
 use Rattle.plinq_ops.specs.Batches.{batch_size}
-use Rattle.plinq_ops.specs.Feeding.{is_empty_take}
 use Rattle.plinq_ops.specs.Query.{merge_in_force}
-use Rattle.plinq_ops.proofs.ByKey.{stages-begun}
-use Rattle.plinq_ops.proofs.Counts.{some_takes_none-stages_of}
-use Rattle.plinq_merge.specs.Buffer.{size_of}
 use Rattle.plinq_merge.proofs.Delivered.{begun-undecided, answer-none}
 use Rattle.plinq_merge.proofs.one_thread.deliver_answer.Goals as goal
 

@@ -1,12 +1,5 @@
-use Rattle.std.proofs.Common.{rules, ◌≡◌, [], arith, subst}
-use Rattle.std.specs.Option.{unwrap_or}
-use Rattle.plinq_source.specs.Trace.{open_trace}
-use Rattle.plinq_ops.specs.declared.order.Order.TheVariants.{ByKey, ByArrival}
-use Rattle.plinq_ops.specs.Chunk.{result_trace}
-use Rattle.plinq_ops.specs.Tails.{end_of_result}
-use Rattle.plinq_reorder.specs.Buffered.{Inserts}
-use Rattle.plinq_merge.specs.declared.row.Row.{Row}
-use Rattle.plinq_merge.specs.Merging.{TakesIn}
+use Rattle.plinq_merge.proofs.MergerWords.{rules, ◌≡◌, [], arith, subst, unwrap_or, open_trace, ByKey, ByArrival, result_trace, end_of_result, Inserts, Row}
+use Rattle.plinq_merge.proofs.MergerWords.{TakesIn}
 use Rattle.plinq_merge.proofs.Holds.{takes-none, takes-inserted, by_arrival-hand}
 use Rattle.plinq_merge.proofs.row.Row.accept.Goals as goal
 
