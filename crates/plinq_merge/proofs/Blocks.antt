@@ -1,18 +1,12 @@
 -- Batches by blocks: items that fill a batch, and items that don't.
 use Rattle.plinq_merge.proofs.MergerWords.{◌≡◌, ℕ, ◌+◌, ◌-◌, ◌<◌, ◌≤◌, ◌==◌, take, drop, List, [], ◌∷◌, ◌++◌, length, true, false, Some, refl, sym, ◌∙◌, ap}
 use Rattle.plinq_merge.proofs.MergerWords.{arith, append-nil, append_assoc, length-drop, length-take-le, take-append-drop, nat_tests, take-length, full_batches}
-use Rattle.plinq_merge.proofs.MergerWords.{held_back}
+use Rattle.plinq_merge.proofs.MergerWords.{held_back, full_batches-append}
 use Rattle.std.specs.Prelude.{zero, suc, ◌*◌, ◌/◌, ◌%◌, min}
-use Rattle.plinq_ops.proofs.GrowingBatches.{full_batches-append, held_back-append}
+use Rattle.plinq_ops.proofs.GrowingBatches.{held_back-append}
 use Rattle.plinq_merge.specs.Sending.{singles}
 use Rattle.std.proofs.lemmas.Nat.{div-add-mod', mod_below}
 use Rattle.std.proofs.{Common.length-append, lemmas.List.nil_from_length}
-
-not_full : (m n : ℕ) → m < n → (m == n) ≡ false
-not_full m n below = grind (arith, nat_tests)
-
-is_filled : (m n : ℕ) → m ≡ n → (m == n) ≡ true
-is_filled m n same = grind (arith, nat_tests)
 
 -- items that don't fill a batch give none, and are held back after the others
 pub batches-short : {T : Type 0} (n : ℕ) (held xs : List T) → length held + length xs < n
@@ -20,8 +14,9 @@ pub batches-short : {T : Type 0} (n : ℕ) (held xs : List T) → length held + 
 batches-short n held [] few = (refl, sym (append-nil held))
 batches-short n held (x ∷ xs) few =
     let more : length (held ++ x ∷ []) ≡ length held + 1 = length-append held (x ∷ []) in
+    let below : (length held + 1 == n) ≡ false = grind (arith, nat_tests) in
     let later = batches-short n (held ++ x ∷ []) xs (omega arith) in
-    rw (not_full (length held + 1) n (omega arith)) (later.0, later.1 ∙ append_assoc held (x ∷ []) xs)
+    rw below (later.0, later.1 ∙ append_assoc held (x ∷ []) xs)
 
 pub full_batches-short : {T : Type 0} (n : ℕ) (held xs : List T) → length held + length xs < n → full_batches (Some n) held xs ≡ []
 full_batches-short n held xs few = (batches-short n held xs few).0
@@ -30,11 +25,12 @@ full_batches-short n held xs few = (batches-short n held xs few).0
 pub batches-filled : {T : Type 0} (n : ℕ) (held xs : List T) → 0 < length xs → length held + length xs ≡ n
     → (full_batches (Some n) held xs ≡ (held ++ xs) ∷ []) × (held_back (Some n) held xs ≡ [])
 batches-filled n held [] some same = absurd (omega arith)
-batches-filled n held (x ∷ []) some same = rw (is_filled (length held + 1) n (omega arith)) (refl, refl)
+batches-filled n held (x ∷ []) some same = let full : (length held + 1 == n) ≡ true = grind (arith, nat_tests) in rw full (refl, refl)
 batches-filled n held (x ∷ (y ∷ xs)) some same =
     let more : length (held ++ x ∷ []) ≡ length held + 1 = length-append held (x ∷ []) in
+    let below : (length held + 1 == n) ≡ false = grind (arith, nat_tests) in
     let later = batches-filled n (held ++ x ∷ []) (y ∷ xs) (omega arith) (omega arith) in
-    rw (not_full (length held + 1) n (omega arith)) (later.0 ∙ ap (λ b. b ∷ []) (append_assoc held (x ∷ []) (y ∷ xs)), later.1)
+    rw below (later.0 ∙ ap (λ b. b ∷ []) (append_assoc held (x ∷ []) (y ∷ xs)), later.1)
 
 pub full_batches-filled : {T : Type 0} (n : ℕ) (held xs ys : List T) → 0 < length xs → length held + length xs ≡ n
     → full_batches (Some n) held (xs ++ ys) ≡ (held ++ xs) ∷ full_batches (Some n) [] ys

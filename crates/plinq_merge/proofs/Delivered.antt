@@ -2,22 +2,20 @@
 use Rattle.plinq_merge.proofs.MergerWords.{◌≡◌, Bool, ℕ, ◌<◌, List, [], length, true, false, not, Option, Some, None, IfSome, Ok, refl, ◌+◌, ◌≤◌, ◌++◌, drop}
 use Rattle.plinq_merge.proofs.MergerWords.{Result, Err, list_any, sym, ◌∙◌, ap, subst, append_assoc, append-nil, take-append-drop, Ending, Trace, open_trace}
 use Rattle.plinq_merge.proofs.MergerWords.{followed_by, ended_trace, trace_of, followed_by-followed_by, End, Meaning, Op, Stage, seq, seq_after}
-use Rattle.plinq_merge.proofs.MergerWords.{some_takes_none, stages_of, is_empty_take, held_back, batches_from, full_batches, stages, seq-followed_by}
-use Rattle.plinq_merge.proofs.MergerWords.{stages-begun, some_takes_none-stages_of, batches_from-open, Deliver, DeliveryFault, NoMemory, held_of, size_of}
-use Rattle.plinq_merge.proofs.MergerWords.{Leads, IsCutOff, Delivers, GoesOn, Line, line_of, is_below, can_deliver, batches-on, held-on}
+use Rattle.plinq_merge.proofs.MergerWords.{some_takes_none, is_empty_take, held_back, batches_from, full_batches, stages, seq-followed_by, stages-begun}
+use Rattle.plinq_merge.proofs.MergerWords.{some_takes_none-stages_of, batches_from-open, Deliver, DeliveryFault, NoMemory, held_of, size_of, Leads, Delivers}
+use Rattle.plinq_merge.proofs.MergerWords.{GoesOn, Line, is_below, can_deliver, batches-on, held-on, full_batches-append}
 use Rattle.std.specs.Prelude.{◌&&◌, OnOk, IfOk}
 use Rattle.std.proofs.lemmas.Bool.{lt-ltb}
+use Rattle.plinq_ops.proofs.{Fed.undecided-left, Fed.fed-none, Batched.full_batches-none, Batched.held_back-none}
+use Rattle.plinq_merge.specs.inner.{Handing.HandsOn, OneThread.DeliversAnswer}
 use Rattle.std.proofs.lemmas.Result.{IfOk-weaker}
-use Rattle.plinq_ops.proofs.Fed.{undecided-left, fed-none}
 use Rattle.plinq_ops.specs.Sequential.{first_items}
 use Rattle.plinq_ops.specs.{Feeding.IsFed, Feeding.FeedsFrom, Pipeline.IsReached, Pipeline.PipelineView}
-use Rattle.plinq_ops.proofs.Batched.{full_batches-none, held_back-none}
 use Rattle.plinq_ops.proofs.Answered.{feeds-smaller, fed-on, fed-over, deciding-over, deciding-wider, deciding-singly, deciding-of_none, answer-of_none}
 use Rattle.plinq_ops.proofs.Answered.{answer-fed}
-use Rattle.plinq_ops.proofs.{Open.open-from_seq, GrowingBatches.batches_from-followed_by}
-use Rattle.plinq_merge.specs.inner.Handing.{HandsOn}
-use Rattle.plinq_merge.specs.inner.OneThread.{DeliversAnswer}
-use Rattle.plinq_merge.proofs.Blocks.{full_batches-split, full_batches-short}
+use Rattle.plinq_ops.proofs.{Open.open-from_seq}
+use Rattle.plinq_merge.proofs.Blocks.{full_batches-split, full_batches-short, full_batches-one}
 use Rattle.plinq_merge.specs.inner.Sent.{cut-after, cut-before, up_to-more, up_to-leads, up_to-cut, delivers-at_err, delivers-as, delivers-after}
 use Rattle.plinq_merge.specs.{Buffer.HasRoom, Deliveries.leads-filled, Delivering.KeepsPlan, Delivering.Made, Sending.IsFilled}
 
@@ -44,7 +42,8 @@ below-room None held room = refl
 below-room (Some n) held room = lt-ltb (length held) n room
 
 -- where no operator takes none, more may come
-can-undecided : {L T : Type 0} (meaning : L → Meaning T) (d : Deliver L T) → some_takes_none (stages meaning d.pipeline) ≡ false → HasRoom d.buffer → can_deliver meaning d ≡ true
+pub can-undecided : {L T : Type 0} (meaning : L → Meaning T) (d : Deliver L T) → some_takes_none (stages meaning d.pipeline) ≡ false → HasRoom d.buffer
+    → can_deliver meaning d ≡ true
 can-undecided meaning d undecided room = ap (λ b. not b && is_below (size_of d.buffer) (held_of d.buffer)) undecided ∙ below-room (size_of d.buffer) (held_of d.buffer) room
 
 -- so it may where the answer is open after items that were fed
@@ -53,19 +52,10 @@ pub can-deliver : {L T : Type 0} (meaning : L → Meaning T) (d : Deliver L T) (
 can-deliver meaning d ss t out fed room = can-undecided meaning d (undecided-left ss (stages meaning d.pipeline) t [] out fed) room
 
 -- a delivery that has taken nothing
-pub begun-line : {L T : Type 0} (meaning : L → Meaning T) (d : Deliver L T) (ops : List (Op L)) (size : Option ℕ) → IsReached meaning ops 0 d.pipeline
-    → held_of d.buffer ≡ [] → size_of d.buffer ≡ size
-    → line_of meaning d ≡ record { after = stages_of meaning ops; now = stages_of meaning ops; held = []; size = size }
-begun-line meaning d ops size reached empty same = rw (reached.same, stages-begun meaning ops d.pipeline reached, empty, same) refl
-
 pub begun-undecided : {L T : Type 0} (meaning : L → Meaning T) (p : PipelineView L) (ops ops' : List (Op L)) (decided : Bool) → decided ≡ list_any is_empty_take ops → decided ≡ false → ops' ≡ ops → IsReached meaning ops' 0 p
     → some_takes_none (stages meaning p) ≡ false
 begun-undecided meaning p ops ops' decided is undecided same reached =
     ap some_takes_none (stages-begun meaning ops' p reached) ∙ sym (some_takes_none-stages_of meaning ops') ∙ ap (list_any is_empty_take) same ∙ sym is ∙ undecided
-
-pub begun-can : {L T : Type 0} (meaning : L → Meaning T) (d : Deliver L T) (ops : List (Op L)) → IsReached meaning ops 0 d.pipeline → HasRoom d.buffer → list_any is_empty_take ops ≡ false → can_deliver meaning d ≡ true
-begun-can meaning d ops reached room some =
-    can-undecided meaning d (begun-undecided meaning d.pipeline ops ops false (sym some) refl refl reached) room
 
 module _ {K T : Type 0} (accepts : K → List T → K → Type 0) (refuses : K → List T → ℕ → K → Type 0) where
   -- all batches were delivered
@@ -157,24 +147,19 @@ module _ {K T : Type 0} (accepts : K → List T → K → Type 0) (refuses : K �
   pub sent-cut : {A : Type 0} (most : ℕ) (ss' : List (Stage T)) (t : Trace T) (n m : ℕ) (held held' made made' : List T) (s1 s2 : K) (fault : DeliveryFault) (r : Result Ending DeliveryFault) → r ≡ Err fault
       → HandsOn {A = A} accepts refuses size held made s1 (Err fault) held' made' s2 → HasSent (first_items n t) held made ss' s1 None → DeliversAnswer accepts refuses size most ss t s m r s2
   sent-cut most ss' t n m held held' made made' s1 s2 fault r is hands before =
-      let given : List T = hands.given in
-      let left : List T = hands.left in
+      let out : List T = before.out ++ hands.given in
       let others : Trace T = trace_of (drop n t.items) t.ending in
       let more : Trace T = seq ss' others in
-      let rest : Trace T = followed_by (open_trace left) more in
       let on = fed-goes_on ss ss' (first_items n t) (before.out ++ made) before.fed in
-      let answer : seq ss t ≡ followed_by (open_trace before.out) (followed_by (open_trace given) rest) =
-      ap (λ xs. seq ss (trace_of xs t.ending)) (sym (take-append-drop n t.items))
-      ∙ on.answers others
-      ∙ ap (λ xs. followed_by (open_trace (before.out ++ xs)) more) hands.parts
-      ∙ followed_by-followed_by (open_trace before.out) (open_trace (given ++ left)) more
-      ∙ ap (followed_by (open_trace before.out)) (followed_by-followed_by (open_trace given) (open_trace left) more) in
-      let all = batches-on size [] before.out held (seq ss t) (followed_by (open_trace given) rest) answer before.keeps
-      ∙ ap (λ bs. full_batches size [] before.out ++ bs) (batches_from-followed_by size held given rest) in
-      let part = subst (λ bs. IsCutOff accepts refuses s bs fault s2) (sym all)
-      (cut-after accepts refuses s (full_batches size [] before.out) _ fault s1 s2 before.leads
-      (cut-before accepts refuses s1 (full_batches size held given) _ fault s2 hands.filled.sent)) in
-      rw is (record { ending = tt; delivered = part; blocks = tt })
+      let parts : before.out ++ made ≡ out ++ hands.left =
+      ap (λ xs. before.out ++ xs) hands.parts ∙ sym (append_assoc before.out hands.given hands.left) in
+      let answer : seq ss t ≡ followed_by (open_trace out) (followed_by (open_trace hands.left) more) =
+      ap (λ xs. seq ss (trace_of xs t.ending)) (sym (take-append-drop n t.items)) ∙ on.answers others
+      ∙ ap (λ xs. followed_by (open_trace xs) more) parts ∙ followed_by-followed_by (open_trace out) (open_trace hands.left) more in
+      let all = batches-on size [] out (held_back size [] out) (seq ss t) _ answer refl in
+      let given = full_batches-append size [] before.out hands.given in
+      let cut = cut-after accepts refuses s (full_batches size [] before.out) _ fault s1 s2 before.leads (rw before.keeps at hands.filled.sent) in
+      rw is (record { ending = tt; delivered = rw (all, given) (cut-before accepts refuses s _ _ fault s2 cut); blocks = tt })
 
   -- memory ran out before an item came through
   pub sent-stopped : (most : ℕ) (ss' : List (Stage T)) (t : Trace T) (n m : ℕ) (held made : List T) (s' : K) (r : Result Ending DeliveryFault)
@@ -204,7 +189,7 @@ pub ruleset delivering = (delivers-at_err, cut-before, delivers-after)
 pub ruleset buffering = (full_batches-none, held_back-none)
 
 -- batch by batch
-pub ruleset handing = (up_to-more, up_to-leads, up_to-cut, full_batches-split, full_batches-short)
+pub ruleset handing = (up_to-more, up_to-leads, up_to-cut, full_batches-split, full_batches-short, full_batches-one)
 
 -- before anything was fed
 pub ruleset stopping = (answer-stopped)

@@ -3,11 +3,11 @@ use Rattle.plinq_merge.proofs.MergerWords.{◌≡◌, ℕ, ◌<◌, ◌==◌, Li
 use Rattle.plinq_merge.proofs.MergerWords.{unwrap_or, sym, ◌∙◌, ap, subst, arith, append_assoc, nat_tests, All-nil, All-head, All-tail, All-weaker, or_assoc}
 use Rattle.plinq_merge.proofs.MergerWords.{or-false, Ending, Trace, open_trace, followed_by, trace_of, followed_by-followed_by, followed_by-open_nil, Order}
 use Rattle.plinq_merge.proofs.MergerWords.{ByKey, ByArrival, ChunkResult, result_trace, end_of_result, told_at, Interval, is_within, unbroken_row, first_gap}
-use Rattle.plinq_merge.proofs.MergerWords.{IsRow, Buffered, IsFresh, with_interval, TakesNext, IsAtGap, Inserts, Row, waiting_trace, placed_intervals}
-use Rattle.plinq_merge.proofs.MergerWords.{all_placed, all_told, all_given, ending_at, row_of, merged_trace, is_offered, Holds, TakesIn, rest_of}
+use Rattle.plinq_merge.proofs.MergerWords.{IsRow, Buffered, IsFresh, TakesNext, IsAtGap, Inserts, Row, waiting_trace, placed_intervals, all_placed, all_told}
+use Rattle.plinq_merge.proofs.MergerWords.{all_given, ending_at, row_of, merged_trace, is_offered, Holds, TakesIn, rest_of, cases_lt, inl, inr}
 use Rattle.std.proofs.{Math.Seq.take-append_seam, lemmas.List.Elements.All-push, lemmas.List.Elements.All-take}
 use Rattle.plinq_reorder.proofs.{Gap.row-append, Gap.row-push, Insert.All-insert, Insert.insert-after, Insert.after-next}
-use Rattle.plinq_reorder.specs.Intervals.{insert}
+use Rattle.plinq_reorder.specs.{Buffered.with_interval, Intervals.insert}
 use Rattle.plinq_merge.specs.Shown.{at_once, arrived_trace}
 
 module _ {T : Type 0} where
@@ -118,15 +118,30 @@ module _ {T : Type 0} where
 
   -- ---- a result that came into the row
 
-  takes-placed_intervals : (order : Order) (before : Row T) (r : ChunkResult T) (after : Row T)
-      → ((done : List (Interval (Trace T))) → All (λ s. s.0 < before.buffer.next) done
-      → placed_intervals order (done ++ before.buffer.held) r ≡ done ++ after.buffer.held)
-      → after.buffer.next ≡ before.buffer.next → after.source_end ≡ option_or before.source_end (told_at (end_of_result r) r.tail)
-      → TakesIn order before r (at_once order r) after
-  takes-placed_intervals order before r after place next noted offers gone h =
+  -- the interval of a fresh result stands after what has gone
+  placed_intervals-after : (order : Order) (r : ChunkResult T) (done : List (Interval (Trace T))) (b : Buffered (Trace T)) → IsFresh b r.first (end_of_result r)
+      → All (λ s. s.0 < b.next) done → placed_intervals order (done ++ b.held) r ≡ done ++ placed_intervals order b.held r
+  placed_intervals-after order r done b fresh gone =
+      elim (cases_lt 0 r.count) [
+        | inl some ↦
+            let past = after-next b r.first (end_of_result r) fresh (omega arith) in
+            let test : (r.count == 0) ≡ false = grind (arith, nat_tests) in
+            rw test (insert-after done b.held r.first (end_of_result r) (waiting_trace order r)
+            (All-weaker (λ s. s.0 < b.next) (λ s. s.0 < r.first) (λ s before. omega (arith, past)) done gone))
+        | inr few ↦ let none : r.count ≡ 0 = omega arith in rw none refl
+      ]
+
+  -- its interval waits among the others
+  pub takes-placed_intervals : (order : Order) (before : Row T) (r : ChunkResult T) (after : Row T) → IsFresh before.buffer r.first (end_of_result r)
+      → after.buffer ≡ record before.buffer { held = placed_intervals order before.buffer.held r }
+      → after.source_end ≡ option_or before.source_end (told_at (end_of_result r) r.tail) → TakesIn order before r (at_once order r) after
+  takes-placed_intervals order before r after fresh is noted offers gone h =
+      let next : after.buffer.next ≡ before.buffer.next = ap (λ b. b.next) is in
       record {
         done = h.done;
-        placed = all_placed-append order [] offers r ∙ ap (λ qs. placed_intervals order qs r) h.placed ∙ place h.done h.before;
+        placed =
+            all_placed-append order [] offers r ∙ ap (λ qs. placed_intervals order qs r) h.placed ∙ placed_intervals-after order r h.done before.buffer fresh h.before
+            ∙ ap (λ b. h.done ++ b.held) (sym is);
         is_row = subst (IsRow 0 h.done) (sym next) h.is_row;
         before = subst (λ k. All (λ s. s.0 < k) h.done) (sym next) h.before;
         source_end = all_told-append None offers r ∙ ap (λ t. option_or t (told_at (end_of_result r) r.tail)) h.source_end ∙ sym noted;
@@ -136,41 +151,24 @@ module _ {T : Type 0} where
             ∙ ap (λ t. followed_by t (at_once order r)) h.gave;
       }
 
-  -- one of no keys has no interval
-  pub takes-none : (order : Order) (before : Row T) (r : ChunkResult T) (after : Row T) → r.count ≡ 0 → after.buffer ≡ before.buffer
-      → after.source_end ≡ option_or before.source_end (told_at (end_of_result r) r.tail) → TakesIn order before r (at_once order r) after
-  takes-none order before r after none same noted =
-      takes-placed_intervals order before r after (λ done below. rw none (ap (λ b. done ++ b.held) (sym same))) (ap (λ b. b.next) same) noted
-
-  -- that of any other waits among the others
-  takes-held : (order : Order) (before : Row T) (r : ChunkResult T) (after : Row T) → 0 < r.count → IsFresh before.buffer r.first (end_of_result r)
-      → after.buffer ≡ with_interval before.buffer r.first (end_of_result r) (waiting_trace order r)
-      → after.source_end ≡ option_or before.source_end (told_at (end_of_result r) r.tail) → TakesIn order before r (at_once order r) after
-  takes-held order before r after some fresh same noted =
-      let q : Trace T = waiting_trace order r in
-      let past = after-next before.buffer r.first (end_of_result r) fresh (omega arith) in
-      let test : (r.count == 0) ≡ false = grind (arith, nat_tests) in
-      takes-placed_intervals order before r after (λ done below.
-      ap (λ b. cond b (done ++ before.buffer.held) (insert (done ++ before.buffer.held) r.first (end_of_result r) q)) test
-      ∙ insert-after done before.buffer.held r.first (end_of_result r) q
-      (All-weaker (λ s. s.0 < before.buffer.next) (λ s. s.0 < r.first) (λ s gone. omega (arith, past)) done below)
-      ∙ ap (λ b. done ++ b.held) (sym same)) (ap (λ b. b.next) same) noted
-
   -- or its turn has come, and the row hands back what it gives
   pub takes-inserted : (order : Order) (before : Row T) (r : ChunkResult T) (turn : Option (Trace T)) (after : Row T) → 0 < r.count
       → IsFresh before.buffer r.first (end_of_result r)
-      → Inserts before.buffer r.first (end_of_result r) (waiting_trace order r) turn after.buffer → after.source_end ≡ option_or before.source_end (told_at (end_of_result r) r.tail)
+      → Inserts before.buffer r.first (end_of_result r) (waiting_trace order r) turn after.buffer
+      → after.source_end ≡ option_or before.source_end (told_at (end_of_result r) r.tail)
       → TakesIn order before r (followed_by (at_once order r) (unwrap_or turn (open_trace []))) after
   takes-inserted order before r None after some fresh inserts noted offers gone h =
+      let test : (r.count == 0) ≡ false = grind (arith, nat_tests) in
       subst (Holds order after (offers ++ r ∷ [])) (ap (followed_by gone) (sym (followed_by-open_nil (at_once order r))))
-      (takes-held order before r after some fresh inserts noted offers gone h)
+      (takes-placed_intervals order before r after fresh (rw test inserts) noted offers gone h)
   takes-inserted order before r (Some p) after some fresh inserts noted offers gone h =
+      let test : (r.count == 0) ≡ false = grind (arith, nat_tests) in
       let q : Trace T = waiting_trace order r in
       let row : Row T = record { buffer = with_interval before.buffer r.first (end_of_result r) q; source_end = after.source_end } in
       subst (Holds order after (offers ++ r ∷ []))
       (followed_by-followed_by gone (at_once order r) q ∙ ap (λ x. followed_by gone (followed_by (at_once order r) x)) (sym inserts.0))
       (holds-next order row q after.buffer (offers ++ r ∷ []) (followed_by gone (at_once order r)) inserts.1
-      (takes-held order before r row some fresh refl noted offers gone h))
+      (takes-placed_intervals order before r row fresh (rw test refl) noted offers gone h))
 
   -- by arrival it hands back nothing but keys
   pub by_arrival-hand : (r : ChunkResult T) (b : Buffered (Trace T)) (turn : Option (Trace T)) (b' : Buffered (Trace T)) → Inserts b r.first (end_of_result r) (open_trace []) turn b'

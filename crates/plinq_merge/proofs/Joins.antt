@@ -1,20 +1,18 @@
 -- What the taker has taken, and which offers a row or a joiner stands for, with one offer more.
 use Rattle.plinq_merge.proofs.MergerWords.{◌≡◌, ℕ, ◌<◌, List, [], ◌∷◌, ◌++◌, true, false, ◌||◌, nat_lt, Option, Some, None, Result, Ok, Err, refl, option_or}
-use Rattle.plinq_merge.proofs.MergerWords.{sym, ◌∙◌, ap, subst, inl, inr, arith, or_from, cases_lt, All-nil, Ending, Trace, open_trace, followed_by, trace_of}
+use Rattle.plinq_merge.proofs.MergerWords.{sym, ◌∙◌, ap, subst, inl, inr, arith, or_from, All-nil, Ending, Trace, open_trace, followed_by, trace_of}
 use Rattle.plinq_merge.proofs.MergerWords.{followed_by-followed_by, followed_by-open_nil, Order, ChunkResult, end_of_result, told_at, is_within, Buffered}
-use Rattle.plinq_merge.proofs.MergerWords.{IsFresh, with_interval, TakesNext, IsAtGap, DeliveryFault, NoMemory, Refusal, Row, MergeFault, Memory, Sink, Twice}
-use Rattle.plinq_merge.proofs.MergerWords.{More, Yes, No, JoinerState, Open, Decided, HasFailed, ending_at, waiting_trace, merged_trace, Holds, TakesIn}
-use Rattle.plinq_merge.proofs.MergerWords.{rest_of, Waits, Joins, JoinsOfferAt, delivery_fault_of}
+use Rattle.plinq_merge.proofs.MergerWords.{IsFresh, TakesNext, IsAtGap, DeliveryFault, NoMemory, Refusal, Row, MergeFault, Memory, Sink, Twice, More, Yes, No}
+use Rattle.plinq_merge.proofs.MergerWords.{JoinerState, Open, Decided, HasFailed, ending_at, merged_trace, Holds, TakesIn, rest_of, Waits, Joins, JoinsOfferAt}
+use Rattle.plinq_merge.proofs.MergerWords.{delivery_fault_of, placed_intervals}
 use Rattle.std.specs.Prelude.{◌⊎◌}
 use Rattle.std.proofs.lemmas.Bool.{le-ltb}
 use Rattle.plinq_reorder.specs.Buffered.{is_taken}
-use Rattle.plinq_merge.specs.declared.joining.Joining.{Joining}
-use Rattle.plinq_merge.specs.declared.joiner.Joiner.{Joiner}
-use Rattle.plinq_merge.specs.Taking.{IsTaking}
-use Rattle.plinq_merge.specs.inner.Moving.{HasMoved}
+use Rattle.plinq_merge.specs.declared.{joining.Joining.Joining, joiner.Joiner.Joiner}
+use Rattle.plinq_merge.specs.{Taking.IsTaking, inner.Moving.HasMoved}
 use Rattle.plinq_merge.specs.Joiners.{taker_of, order_of, WaitsFor, has_decided, ending_of, JoinsOffer, HasJoinedAt, HasJoined}
 use Rattle.plinq_merge.specs.{declared.merge_fault.MergeFault.TheVariants.Gap, OfferedKeys.AreNew, Offering.is_decided, Offering.finish_result}
-use Rattle.plinq_merge.proofs.Holds.{is_offered-append, merged_trace-holds, holds-next, takes-none, takes-inserted, rest-gap}
+use Rattle.plinq_merge.proofs.Holds.{is_offered-append, merged_trace-holds, holds-next, takes-placed_intervals, rest-gap}
 
 module _ {T : Type 0} where
   -- where the next key is missing, all that the offers merge to was taken
@@ -26,22 +24,27 @@ module _ {T : Type 0} where
   takes-unkept : (order : Order) (row : Row T) (r : ChunkResult T) → IsFresh row.buffer r.first (end_of_result r)
       → (hand : Trace T) × (row1 : Row T) × TakesIn order row r hand row1
   takes-unkept order row r fresh =
-      let kept : Buffered (Trace T) → Row T = λ b. record { buffer = b; source_end = option_or row.source_end (told_at (end_of_result r) r.tail) } in
-      let held : Buffered (Trace T) = with_interval row.buffer r.first (end_of_result r) (waiting_trace order r) in
-      elim (cases_lt 0 r.count) [
-        | inl some ↦ (_, kept held, takes-inserted order row r None (kept held) some fresh refl refl)
-        | inr few ↦ (_, kept row.buffer, takes-none order row r (kept row.buffer) (omega arith) refl refl)
-      ]
+      let held : Buffered (Trace T) = record row.buffer { held = placed_intervals order row.buffer.held r } in
+      let kept : Row T = record { buffer = held; source_end = option_or row.source_end (told_at (end_of_result r) r.tail) } in
+      (_, kept, takes-placed_intervals order row r kept fresh refl refl)
 
   -- a row in which nothing is waits for no offers
   pub begun-waits : (order : Order) (row : Row T) → row.buffer ≡ record { next = 0; held = [] } → row.source_end ≡ None → Waits order row []
   begun-waits order row empty untold =
-      let none : Buffered (Trace T) = record { next = 0; held = [] } in
-      let row_in : Buffered (Trace T) → Option (ℕ × Ending) → Row T = λ b t. record { buffer = b; source_end = t } in
-      let holds : Holds order (row_in none None) [] (open_trace []) = record { done = []; placed = refl; is_row = refl; before = All-nil (λ p. p.0 < 0); source_end = refl; gave = refl } in
-      let begun : Waits order (row_in none None) [] =
-      record { out = []; holds = holds; keys = λ key. sym (or_from (nat_lt key 0) false (le-ltb key 0 (omega arith)) refl); missing = refl; nothing = refl } in
-      subst (λ b. Waits order (row_in b row.source_end) []) (sym empty) (subst (λ t. Waits order (row_in none t) []) (sym untold) begun)
+      record {
+        out = [];
+        holds = record {
+          done = [];
+          placed = rw empty refl;
+          is_row = rw empty refl;
+          before = All-nil (λ p. p.0 < row.buffer.next);
+          source_end = sym untold;
+          gave = refl;
+        };
+        keys = λ key. rw empty (sym (or_from (nat_lt key 0) false (le-ltb key 0 (omega arith)) refl));
+        missing = rw empty refl;
+        nothing = rw (empty, untold) refl;
+      }
 
   open-is : (t : Trace T) → t.ending ≡ None → t ≡ open_trace t.items
   open-is t none = ap (trace_of t.items) none
@@ -114,13 +117,13 @@ module _ {W O T : Type 0} (made : W → O → Trace T → Result (Option Ending)
       pub joins-over : made w1.taker y1 hand result w'.taker y' → (result ≡ Ok None → ⊥) → Joins made w r y result w' y'
       joins-over taken over = joins-moved (taken-over w1.taker y1 hand (rest_of w1.row) _ result w'.taker y' over taken refl) (λ none. absurd (over none))
 
-      module _ (a : W) (z : O) (taken : made w1.taker y1 hand (Ok None) a z) (none : hand.ending ≡ None) (gap : IsAtGap w1.row.buffer) where
-        -- at a gap the source's ending came after it
-        pub joins-ended : made a z (trace_of [] (ending_at w1.row.source_end w1.row.buffer.next)) result w'.taker y' → (result ≡ Ok None → ⊥)
-            → Joins made w r y result w' y'
-        joins-ended last over =
-            joins-moved (taken-after w1.taker y1 hand (rest_of w1.row) _ a z result w'.taker y' none taken
-            (subst (λ t. made a z t result w'.taker y') (sym (rest-gap w1.row gap)) last) refl) (λ is. absurd (over is))
+      -- at a gap the source's ending came after it
+      pub joins-ended : (a : W) (z : O) → made w1.taker y1 hand (Ok None) a z → hand.ending ≡ None → IsAtGap w1.row.buffer
+          → made a z (trace_of [] (ending_at w1.row.source_end w1.row.buffer.next)) result w'.taker y' → (result ≡ Ok None → ⊥)
+          → Joins made w r y result w' y'
+      joins-ended a z taken none gap last over =
+          joins-moved (taken-after w1.taker y1 hand (rest_of w1.row) _ a z result w'.taker y' none taken (rw (rest-gap w1.row gap) last) refl)
+          (λ is. absurd (over is))
 
     -- or more may follow, and the row waits for it
     pub joins-waits : (hand : Trace T) (w1 : Joining W T) (y1 : O) (moved : HasMoved made w r y hand w1 y1) (a : W) (n : ℕ) (z : O)

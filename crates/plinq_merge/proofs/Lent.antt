@@ -1,14 +1,14 @@
 -- Offers with a token: a token and a sink as one sink, what is delivered in terms of either, and what the token has answered.
 use Rattle.plinq_merge.proofs.MergerWords.{◌≡◌, ℕ, List, [], ◌∷◌, Bool, Result, Ok, Err, true, false, ◌||◌, refl, ap, sym, ◌∙◌, or-false, Meaning, ChunkResult}
-use Rattle.plinq_merge.proofs.MergerWords.{MergeFault, Memory, Sink, Twice, More, Yes, No, JoinerState, Open, DeliveryFault, NoMemory, Refusal, Leads, IsCutOff}
-use Rattle.plinq_merge.proofs.MergerWords.{Merge, Work, Brings, OffersAt, delivery_fault_of, SendsSome}
+use Rattle.plinq_merge.proofs.MergerWords.{MergeFault, Memory, Sink, Twice, More, Yes, No, JoinerState, Open, DeliveryFault, NoMemory, Refusal, Leads, Merge}
+use Rattle.plinq_merge.proofs.MergerWords.{Work, Brings, OffersAt, delivery_fault_of, SendsSome}
 use Rattle.std.proofs.Math.Bool.{or-true}
 use Rattle.plinq_merge.specs.declared.with_cancellation.WithCancellation.{WithCancellation}
 use Rattle.plinq_merge.specs.Cancelling.{Delivery, Passes, IsRefused, IsKeptBack}
 use Rattle.plinq_merge.specs.inner.Stopped.{answer_unless_stopped}
 use Rattle.plinq_merge.specs.Lent.{AreSame, delivery_of, Takes, Refuses}
 use Rattle.plinq_merge.specs.{declared.merge_fault.MergeFault.TheVariants.Cancelled, Mergers.AsksEach, Mergers.is_cancelled, Offering.OffersWithAt}
-use Rattle.plinq_merge.specs.{Offering.IsCancelled}
+use Rattle.plinq_merge.specs.{Offering.IsCancelled, Sending.IsCutOff}
 
 pub leads-map : {K M B : Type 0} (f : K → M) (accepts : K → B → K → Type 0) (accepts' : M → B → M → Type 0) → ((s : K) (b : B) (s' : K) → accepts s b s' → accepts' (f s) b (f s'))
     → (s : K) (bs : List B) (s' : K) → Leads accepts s bs s' → Leads accepts' (f s) bs (f s')
@@ -84,11 +84,7 @@ module _ {C K T : Type 0} (asks : C → ℕ → Bool → C → Type 0) (accepts 
       let m = leads.0 in
       let step = leads.1 in
       let on = leads-on m bs w' leads.2 in
-      record {
-        same = same-on w m w' step.same on.same;
-        leads = (delivery_of m, step.passes, on.leads);
-        still = on.still ∙ step.goes_on;
-      }
+      record { same = same-on w m w' step.same on.same; leads = (delivery_of m, step.passes, on.leads); still = on.still ∙ step.goes_on }
 
   pub cut-same : (w : WithCancellation C K) (bs : List (List T)) (fault : DeliveryFault) (w' : WithCancellation C K) → IsCutOff (Takes asks accepts) (Refuses asks refuses) w bs fault w' → AreSame w w'
   cut-same w bs NoMemory w' cut = let on = leads-on w cut.0 w' cut.3 in on.same

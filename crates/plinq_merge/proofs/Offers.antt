@@ -4,11 +4,11 @@ use Rattle.plinq_merge.proofs.MergerWords.{subst, and_parts, Ending, End, Trace,
 use Rattle.plinq_merge.proofs.MergerWords.{ChunkResult, Stage, seq, some_takes_none, stages_of, full_batches, held_back, batches_from, stages}
 use Rattle.plinq_merge.proofs.MergerWords.{batches_from-open, Op, DeliveryFault, Deliver, More, Yes, No, MergeFault, Memory, Sink, Twice, NoMemory, Refusal}
 use Rattle.plinq_merge.proofs.MergerWords.{JoinerState, Open, Decided, HasFailed, held_of, size_of, Leads, Delivers, Merge, merged_trace, answer, shown_batches}
-use Rattle.plinq_merge.proofs.MergerWords.{GoesOn, Joins, Waits, JoinsOfferAt, Line, line_of, is_below, can_deliver, batches-on, held-on, Work, Brings}
-use Rattle.plinq_merge.proofs.MergerWords.{OffersAt, SendsSome}
+use Rattle.plinq_merge.proofs.MergerWords.{GoesOn, Joins, Waits, JoinsOfferAt, Line, is_below, can_deliver, batches-on, held-on, Work, Brings, OffersAt}
+use Rattle.plinq_merge.proofs.MergerWords.{SendsSome}
 use Rattle.std.proofs.lemmas.Bool.{not-true}
-use Rattle.plinq_ops.proofs.Open.{seq-nothing}
-use Rattle.plinq_merge.specs.{Deliveries.goes_on-on, Delivering.Gives, Delivering.MadeBy, Working.merge_of, Working.Rests}
+use Rattle.plinq_ops.proofs.{Open.seq-nothing}
+use Rattle.plinq_merge.specs.{Deliveries.goes_on-on, Delivering.line_of, Delivering.Gives, Delivering.MadeBy, Working.merge_of, Working.Rests}
 
 pub answer-open : {T : Type 0} (merge : Merge T) (offers : List (ChunkResult T)) → merge.decided ≡ false → answer merge offers ≡ seq merge.after (merged_trace merge.order offers)
 answer-open merge offers undecided = ap (λ b. cond b (ended_trace [] End) (seq merge.after (merged_trace merge.order offers))) undecided
@@ -76,9 +76,8 @@ module _ {L T : Type 0} (meaning : L → Meaning T) (decided : Bool) (w : Work L
     rests-joined same nothing joins offers rests =
         let l : Line T = line_of meaning w.taker in
         let l' : Line T = line_of meaning w'.taker in
-        let made = joins.taken in
-        let plan = made.plan in
-        let next = made.gives in
+        let plan = joins.taken.plan in
+        let next = joins.taken.gives in
         let both : GoesOn l.after (followed_by (merged_trace w.order offers) joins.gained) (rests.out ++ next.out) None l'.now =
         goes_on-on l.after l.now l'.now (merged_trace w.order offers) joins.gained rests.out next.out rests.on next.on in
         let all = ap (λ o. merged_trace o (offers ++ r ∷ [])) same ∙ joins.grows offers rests.waits in
@@ -96,9 +95,7 @@ module _ {L T : Type 0} (meaning : L → Meaning T) (decided : Bool) (w : Work L
     ends-joined : (e : Ending) → JoinsTo (Ok (Some e)) → (offers : List (ChunkResult T)) → Rests meaning decided w offers
         → (answer (merge_of meaning decided w) (offers ++ r ∷ [])).ending ≡ Some e
     ends-joined e joins offers rests =
-        let made = joins.taken in
-        let gives = made.gives in
-        ap (λ t. t.ending) (answer-gained offers rests joins.gained (joins.grows offers rests.waits)) ∙ gives.0
+        ap (λ t. t.ending) (answer-gained offers rests joins.gained (joins.grows offers rests.waits)) ∙ joins.taken.gives.0
 
     module _ (standing' : JoinerState) where
       -- what the joiner did is what the merger owes

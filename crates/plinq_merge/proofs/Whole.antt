@@ -16,21 +16,16 @@ use Rattle.plinq_source.specs.declared.ending.Ending.{TheVariants.Fault}
 use Rattle.plinq_ops.specs.Tails.{EndsAt}
 use Rattle.plinq_reorder.specs.Intervals.{has_key, are_apart, IsFree}
 use Rattle.plinq_merge.specs.Deliveries.{batches-first}
-use Rattle.plinq_keyed.specs.declared.event.Event.{Event}
-use Rattle.plinq_keyed.specs.declared.event.Event.TheVariants.{Ask, Close}
-use Rattle.plinq_keyed.specs.declared.record.Record.{Record}
-use Rattle.plinq_keyed.specs.declared.tail.Tail.{Tail}
+use Rattle.plinq_keyed.specs.declared.event.Event.{Event, TheVariants.Ask, TheVariants.Close}
+use Rattle.plinq_keyed.specs.declared.{record.Record.Record, tail.Tail.Tail}
+use Rattle.plinq_ops.specs.{Row.IsResultOf, Row.AreOffers, Fragment.glued_trace, Fragment.glue}
+use Rattle.plinq_ops.proofs.{Glue.glued_trace-append, Rows.row-next, Rows.glue-whole}
+use Rattle.plinq_merge.proofs.{Offers.answer-open, Holds.All-placed, Holds.arrived_trace-by_key}
 use Rattle.plinq_keyed.specs.History.{Place, start, ending_tail, no_items, next_items, reply, next_place, tells, is_run, IsLegalHistory}
 use Rattle.plinq_keyed.proofs.Legal.{Told-from_tells, reply-first, next_place-given, length-reply}
-use Rattle.plinq_ops.specs.Row.{IsResultOf, AreOffers}
-use Rattle.plinq_ops.specs.Fragment.{glued_trace, glue}
-use Rattle.plinq_ops.proofs.Glue.{glued_trace-append}
-use Rattle.plinq_ops.proofs.Rows.{row-next, glue-whole}
 use Rattle.plinq_reorder.proofs.Keys.{same_key, same_test, not_within-none}
 use Rattle.plinq_reorder.proofs.{Gap.row-of-unbroken_row, Gap.All-unbroken_row, Gap.gap-missing, Gap.gap-most, Insert.apart-insert, Insert.has_key-insert}
 use Rattle.plinq_merge.specs.Whole.{IsTrueTail, AreTrueTails, AreApart, AreWhole, AreFirstOf}
-use Rattle.plinq_merge.proofs.Offers.{answer-open}
-use Rattle.plinq_merge.proofs.Holds.{All-placed, arrived_trace-by_key}
 
 ending-told : {T : Type 0} (t : Trace T) (at : ℕ) (last : Bool) (e : Option Ending) → t.ending ≡ e → (last ≡ true → at ≡ length t.items)
     → IfSome (told_at at (cond last (ending_tail e) None)) (EndsAt t)

@@ -57,6 +57,7 @@ pub trait Sink {
     /// # Errors
     ///
     /// As [`Sink::batches_of`].
+    #[tactic(auto, using(crate::proofs::Delivered::handing))]
     fn batches_of_one(&mut self, items: &[Self::Item]) -> Result<(), u32>
         ensures { TakesEach accepts refuses self.old (singles items.now) result self.new }
     {

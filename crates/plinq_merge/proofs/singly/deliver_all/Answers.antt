@@ -1,6 +1,5 @@
 use Rattle.std.proofs.Common.{rules, ◌≡◌, Err}
-use Rattle.plinq_ops.proofs.Fed.{undecided-left}
-use Rattle.plinq_ops.proofs.Answered.{feeds-smaller}
+use Rattle.plinq_ops.proofs.{Fed.undecided-left, Answered.feeds-smaller}
 use Rattle.plinq_merge.specs.declared.delivery_fault.DeliveryFault.TheVariants.{Memory}
 use Rattle.plinq_merge.proofs.Delivered.{sent-on, sent-over, sent-cut, sent-stopped}
 use Rattle.plinq_merge.proofs.singly.deliver_all.Goals as goal

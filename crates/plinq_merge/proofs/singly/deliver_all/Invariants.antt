@@ -1,6 +1,5 @@
 use Rattle.std.proofs.Common.{◌≡◌, length, ◌-◌, None}
-use Rattle.plinq_ops.specs.Pipeline.{stages}
-use Rattle.plinq_ops.specs.Sequential.{first_items}
+use Rattle.plinq_ops.specs.{Pipeline.stages, Sequential.first_items}
 use Rattle.plinq_merge.specs.Buffer.{held_of, size_of, HasRoom}
 use Rattle.plinq_merge.proofs.Delivered.{HasSent}
 use Rattle.plinq_merge.proofs.singly.deliver_all.Given as goal

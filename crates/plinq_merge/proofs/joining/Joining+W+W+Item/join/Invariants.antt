@@ -1,7 +1,6 @@
 use Rattle.std.proofs.Common.{ℕ, ◌≡◌, ◌||◌, true, length}
 use Rattle.plinq_ops.specs.Tails.{end_of_result}
-use Rattle.plinq_reorder.specs.Intervals.{is_within}
-use Rattle.plinq_reorder.specs.Buffered.{is_taken}
+use Rattle.plinq_reorder.specs.{Intervals.is_within, Buffered.is_taken}
 use Rattle.plinq_merge.specs.inner.Moving.{HasMoved}
 use Rattle.plinq_merge.proofs.joining.Joining+W+W+Item.join.Given as goal
 

@@ -1,8 +1,6 @@
 use Rattle.std.proofs.Common.{rules, ◌≡◌, [], true, false, refl, sym, subst}
-use Rattle.plinq_ops.specs.Batches.{batch_size}
-use Rattle.plinq_ops.specs.Operator.{stages_of}
-use Rattle.plinq_merge.specs.Delivering.{line_of, can_deliver}
-use Rattle.plinq_merge.specs.Offering.{StandsFor}
+use Rattle.plinq_ops.specs.{Batches.batch_size, Operator.stages_of}
+use Rattle.plinq_merge.specs.{Delivering.line_of, Delivering.can_deliver, Offering.StandsFor}
 use Rattle.plinq_merge.proofs.Offers.{begun-rests}
 use Rattle.plinq_merge.proofs.merger.Merger.new.Goals as goal
 

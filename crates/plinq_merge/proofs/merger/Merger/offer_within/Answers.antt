@@ -1,6 +1,5 @@
 use Rattle.std.proofs.Common.{refl}
-use Rattle.plinq_merge.specs.Lent.{delivery_of}
-use Rattle.plinq_merge.specs.Mergers.{AsksEach}
+use Rattle.plinq_merge.specs.{Lent.delivery_of, Mergers.AsksEach}
 use Rattle.plinq_merge.proofs.Lent.{sends-same, asks-within, asks-told, offers-within}
 use Rattle.plinq_merge.proofs.merger.Merger.offer_within.Goals as goal
 

@@ -1,13 +1,14 @@
 use Rattle.plinq_merge.proofs.MergerWords.{rules, ◌≡◌, [], arith, subst, unwrap_or, open_trace, ByKey, ByArrival, result_trace, end_of_result, Inserts, Row}
 use Rattle.plinq_merge.proofs.MergerWords.{TakesIn}
-use Rattle.plinq_merge.proofs.Holds.{takes-none, takes-inserted, by_arrival-hand}
+use Rattle.plinq_merge.proofs.Holds.{takes-placed_intervals, takes-inserted, by_arrival-hand}
 use Rattle.plinq_merge.proofs.row.Row.accept.Goals as goal
 
 pub returns-then-count-eq0-clause-taken : goal.returns-then-count-eq0-clause-taken
 returns-then-count-eq0-clause-taken g c =
     let by_key : c.args.order ≡ ByKey = search rules in
     rw (by_key, c.new.ensures.items)
-    (takes-none ByKey c.args.self.now c.args.offered c.note_tail.new.self c.if-count-eq0.true c.note_tail.ensures.buffer c.note_tail.ensures.source_end)
+    (takes-placed_intervals ByKey c.args.self.now c.args.offered c.note_tail.new.self c.requires.fresh (rw c.if-count-eq0.true c.note_tail.ensures.buffer)
+    c.note_tail.ensures.source_end)
 
 pub returns-in_ok-insert-in-ByKey-clause-taken : goal.returns-in_ok-insert-in-ByKey-clause-taken
 returns-in_ok-insert-in-ByKey-clause-taken g c =
@@ -24,7 +25,8 @@ pub returns-then-count-eq0-2-clause-taken : goal.returns-then-count-eq0-2-clause
 returns-then-count-eq0-2-clause-taken g c =
     let by_arrival : c.args.order ≡ ByArrival = search rules in
     rw (by_arrival, c.run_ending.ensures)
-    (takes-none ByArrival c.args.self.now c.args.offered c.note_tail.new.self c.if-count-eq0-2.true c.note_tail.ensures.buffer c.note_tail.ensures.source_end)
+    (takes-placed_intervals ByArrival c.args.self.now c.args.offered c.note_tail.new.self c.requires.fresh (rw c.if-count-eq0-2.true c.note_tail.ensures.buffer)
+    c.note_tail.ensures.source_end)
 
 pub returns-in_ok-insert-in-ByArrival-clause-taken : goal.returns-in_ok-insert-in-ByArrival-clause-taken
 returns-in_ok-insert-in-ByArrival-clause-taken g c =
