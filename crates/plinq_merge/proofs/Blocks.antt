@@ -35,16 +35,13 @@ batches-filled n held (x ∷ (y ∷ xs)) some same =
 pub full_batches-filled : {T : Type 0} (n : ℕ) (held xs ys : List T) → 0 < length xs → length held + length xs ≡ n
     → full_batches (Some n) held (xs ++ ys) ≡ (held ++ xs) ∷ full_batches (Some n) [] ys
 full_batches-filled n held xs ys some same =
-    let one = batches-filled n held xs some same in
-    full_batches-append (Some n) held xs ys ∙ ap (λ bs. bs ++ full_batches (Some n) (held_back (Some n) held xs) ys) one.0
-    ∙ ap (λ h. (held ++ xs) ∷ full_batches (Some n) h ys) one.1
+    let one = batches-filled n held xs some same in rw (full_batches-append (Some n) held xs ys, one.0, one.1) refl
 
 -- all of the items fit
 pub filled-all : {T : Type 0} (n k : ℕ) (held xs ys : List T) → k ≡ min (length xs) (n - length held) → length held + length xs ≤ n
     → ys ≡ held ++ take k xs → ys ≡ held ++ xs
 filled-all n k held xs ys count fits is =
-    let all : k ≡ length xs = omega arith in
-    is ∙ ap (λ j. held ++ take j xs) all ∙ ap (λ zs. held ++ zs) (take-length xs)
+    let all : k ≡ length xs = omega arith in rw (is, all, take-length xs) refl
 
 -- where the batch isn't full, all of the items fit
 pub short-filled : {T : Type 0} (n k : ℕ) (held xs ys : List T) → k ≡ min (length xs) (n - length held) → ys ≡ held ++ take k xs → length held < n
@@ -84,8 +81,7 @@ held_back-whole n (suc k) xs some is =
 pub full_batches-whole : {T : Type 0} (n k : ℕ) (xs front back : List T) → 0 < n → front ++ back ≡ xs → length front ≡ k * n
     → full_batches (Some n) [] xs ≡ full_batches (Some n) [] front ++ full_batches (Some n) [] back
 full_batches-whole n k xs front back some parts is =
-    ap (full_batches (Some n) []) (sym parts) ∙ full_batches-append (Some n) [] front back
-    ∙ ap (λ held. full_batches (Some n) [] front ++ full_batches (Some n) held back) (held_back-whole n k front some is)
+    rw (← parts, full_batches-append (Some n) [] front back, held_back-whole n k front some is) refl
 
 -- ---- the items after the last full batch
 

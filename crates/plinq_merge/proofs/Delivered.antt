@@ -1,8 +1,8 @@
 -- What was delivered of items that were fed to operators.
 use Rattle.plinq_merge.proofs.MergerWords.{◌≡◌, Bool, ℕ, ◌<◌, List, [], length, true, false, not, Option, Some, None, IfSome, Ok, refl, ◌+◌, ◌≤◌, ◌++◌, drop}
-use Rattle.plinq_merge.proofs.MergerWords.{Result, Err, list_any, sym, ◌∙◌, ap, subst, append_assoc, append-nil, take-append-drop, Ending, Trace, open_trace}
-use Rattle.plinq_merge.proofs.MergerWords.{followed_by, ended_trace, trace_of, followed_by-followed_by, End, Meaning, Op, Stage, seq, seq_after}
-use Rattle.plinq_merge.proofs.MergerWords.{some_takes_none, is_empty_take, held_back, batches_from, full_batches, stages, seq-followed_by, stages-begun}
+use Rattle.plinq_merge.proofs.MergerWords.{Result, Err, list_any, sym, ◌∙◌, ap, append_assoc, append-nil, take-append-drop, Ending, Trace, open_trace}
+use Rattle.plinq_merge.proofs.MergerWords.{followed_by, ended_trace, trace_of, followed_by-followed_by, End, Meaning, Op, Stage, seq, some_takes_none}
+use Rattle.plinq_merge.proofs.MergerWords.{is_empty_take, held_back, batches_from, full_batches, stages, seq-followed_by, stages-begun}
 use Rattle.plinq_merge.proofs.MergerWords.{some_takes_none-stages_of, batches_from-open, Deliver, DeliveryFault, NoMemory, held_of, size_of, Leads, Delivers}
 use Rattle.plinq_merge.proofs.MergerWords.{GoesOn, Line, is_below, can_deliver, batches-on, held-on, full_batches-append}
 use Rattle.std.specs.Prelude.{◌&&◌, OnOk, IfOk}
@@ -30,12 +30,7 @@ fed-open ss ss' t out fed = open-from_seq ss t (sym fed.told)
 -- the operators go on after a trace that was fed
 fed-goes_on : {T : Type 0} (ss ss' : List (Stage T)) (t : Trace T) (out : List T) → IsFed ss t [] out ss' None → GoesOn ss t out None ss'
 fed-goes_on ss ss' t out fed =
-    record {
-      answers = λ rest.
-          seq-followed_by ss t rest
-          ∙ ap (λ u. followed_by u (seq (seq_after ss t) rest)) (fed-answer ss ss' t out None fed)
-          ∙ ap (λ left. followed_by (open_trace out) (seq left rest)) (sym (fed.left refl));
-    }
+    record { answers = λ rest. rw (seq-followed_by ss t rest, fed-answer ss ss' t out None fed, fed.left refl) refl }
 
 below-room : {T : Type 0} (size : Option ℕ) (held : List T) → IfSome size (λ n. length held < n) → is_below size held ≡ true
 below-room None held room = refl
@@ -62,15 +57,10 @@ module _ {K T : Type 0} (accepts : K → List T → K → Type 0) (refuses : K �
   pub made-fed : (l l' : Line T) (t : Trace T) (out : List T) (e : Option Ending) (s s' : K) → IsFed l.now t [] out l'.now e → KeepsPlan l l' → (e ≡ None → l'.held ≡ held_back l.size l.held out)
       → Leads accepts s (batches_from l.size l.held (trace_of out e)) s' → Made accepts refuses l s t (Ok e) l' s'
   made-fed l l' t out None s s' fed plan held leads =
-      let P : List (List T) → Type 0 = λ bs. Leads accepts s bs s' in
-      record {
-        plan = plan;
-        gives = record { out = out; on = fed-goes_on l.now l'.now t out fed; held = held refl; leads = subst P (batches_from-open l.size l.held out) leads };
-      }
+      let given = rw (batches_from-open l.size l.held out) at leads in
+      record { plan = plan; gives = record { out = out; on = fed-goes_on l.now l'.now t out fed; held = held refl; leads = given } }
   made-fed l l' t out (Some e) s s' fed plan held leads =
-      let answer = fed-answer l.now l'.now t out (Some e) fed in
-      let P : Trace T → Type 0 = λ u. Leads accepts s (batches_from l.size l.held u) s' in
-      record { plan = plan; gives = (ap (λ u. u.ending) answer, subst P (sym answer) leads) }
+      record { plan = plan; gives = rw (fed-answer l.now l'.now t out (Some e) fed) (refl, leads) }
 
 -- what holds whatever the result is
 pub on-any : {A E : Type 0} (P : Type 0) (r : Result A E) → P → OnOk r P
@@ -107,23 +97,18 @@ module _ {K T : Type 0} (accepts : K → List T → K → Type 0) (refuses : K �
   pub sent-on : (ss' ss'' : List (Stage T)) (t : Trace T) (n m : ℕ) (held made made' : List T) (s' : K)
       → HasSent (first_items n t) held made ss' s' None → FeedsFrom ss' t n m made made' ss'' None → HasSent (first_items m t) held made' ss'' s' None
   sent-on ss' ss'' t n m held made made' s' before next =
-      record {
-        out = before.out;
-        fed = fed-on ss ss' ss'' t n m [] (before.out ++ made) (before.out ++ made') before.fed (feeds-after ss' ss'' t n m held made made' s' None before next);
-        keeps = before.keeps;
-        leads = before.leads;
-      }
+      let last = feeds-after ss' ss'' t n m held made made' s' None before next in
+      record { out = before.out; fed = fed-on ss ss' ss'' t n m [] _ _ before.fed last; keeps = before.keeps; leads = before.leads }
 
   -- the first of the items that waited were handed on
   pub sent-handed : {A : Type 0} (t : Trace T) (held held' made left : List T) (ss' : List (Stage T)) (s1 s2 : K) (e : Option Ending) (x : A)
       → HandsOn accepts refuses size held made s1 (Ok x) held' left s2 → HasSent t held made ss' s1 e → HasSent t held' left ss' s2 e
   sent-handed t held held' made left ss' s1 s2 e x hands before =
       let given : List T = hands.given in
-      let P : List T → Type 0 = λ xs. IsFed ss t [] xs ss' e in
       let parts : made ≡ given ++ left = hands.parts ∙ ap (λ xs. given ++ xs) (sym hands.waits) in
       record {
         out = before.out ++ given;
-        fed = subst P (ap (λ xs. before.out ++ xs) parts ∙ sym (append_assoc before.out given left)) before.fed;
+        fed = rw (append_assoc before.out given left, ← parts) before.fed;
         keeps = held-on size [] held held' before.out given before.keeps hands.filled.held;
         leads = leads-filled accepts size [] held before.out given s s1 s2 before.keeps before.leads hands.filled.sent;
       }
@@ -151,8 +136,7 @@ module _ {K T : Type 0} (accepts : K → List T → K → Type 0) (refuses : K �
       let others : Trace T = trace_of (drop n t.items) t.ending in
       let more : Trace T = seq ss' others in
       let on = fed-goes_on ss ss' (first_items n t) (before.out ++ made) before.fed in
-      let parts : before.out ++ made ≡ out ++ hands.left =
-      ap (λ xs. before.out ++ xs) hands.parts ∙ sym (append_assoc before.out hands.given hands.left) in
+      let parts : before.out ++ made ≡ out ++ hands.left = rw (hands.parts, append_assoc before.out hands.given hands.left) refl in
       let answer : seq ss t ≡ followed_by (open_trace out) (followed_by (open_trace hands.left) more) =
       ap (λ xs. seq ss (trace_of xs t.ending)) (sym (take-append-drop n t.items)) ∙ on.answers others
       ∙ ap (λ xs. followed_by (open_trace xs) more) parts ∙ followed_by-followed_by (open_trace out) (open_trace hands.left) more in

@@ -4,11 +4,11 @@ use Rattle.plinq_merge.proofs.MergerWords.{unwrap_or, sym, ◌∙◌, ap, subst,
 use Rattle.plinq_merge.proofs.MergerWords.{or-false, Ending, Trace, open_trace, followed_by, trace_of, followed_by-followed_by, followed_by-open_nil, Order}
 use Rattle.plinq_merge.proofs.MergerWords.{ByKey, ByArrival, ChunkResult, result_trace, end_of_result, told_at, Interval, is_within, unbroken_row, first_gap}
 use Rattle.plinq_merge.proofs.MergerWords.{IsRow, Buffered, IsFresh, TakesNext, IsAtGap, Inserts, Row, waiting_trace, placed_intervals, all_placed, all_told}
-use Rattle.plinq_merge.proofs.MergerWords.{all_given, ending_at, row_of, merged_trace, is_offered, Holds, TakesIn, rest_of, cases_lt, inl, inr}
+use Rattle.plinq_merge.proofs.MergerWords.{all_given, ending_at, merged_trace, is_offered, TakesIn, rest_of, cases_lt, inl, inr}
 use Rattle.std.proofs.{Math.Seq.take-append_seam, lemmas.List.Elements.All-push, lemmas.List.Elements.All-take}
 use Rattle.plinq_reorder.proofs.{Gap.row-append, Gap.row-push, Insert.All-insert, Insert.insert-after, Insert.after-next}
 use Rattle.plinq_reorder.specs.{Buffered.with_interval, Intervals.insert}
-use Rattle.plinq_merge.specs.Shown.{at_once, arrived_trace}
+use Rattle.plinq_merge.specs.{Merging.Holds, Shown.at_once, Shown.row as row_of, Shown.arrived_trace}
 
 module _ {T : Type 0} where
   -- ---- one offer more
@@ -29,9 +29,7 @@ module _ {T : Type 0} where
 
   pub is_offered-append : (offers : List (ChunkResult T)) (r : ChunkResult T) (key : ℕ) → is_offered (offers ++ r ∷ []) key ≡ is_offered offers key || is_within r.first (end_of_result r) key
   is_offered-append [] r key = or-false (is_within r.first (end_of_result r) key)
-  is_offered-append (o ∷ os) r key =
-      ap (λ b. is_within o.first (end_of_result o) key || b) (is_offered-append os r key)
-      ∙ sym (or_assoc (is_within o.first (end_of_result o) key) (is_offered os key) (is_within r.first (end_of_result r) key))
+  is_offered-append (o ∷ os) r key = rw (is_offered-append os r key, or_assoc) refl
 
   -- by key nothing is merged at once
   pub arrived_trace-by_key : (offers : List (ChunkResult T)) → arrived_trace ByKey offers ≡ open_trace []
@@ -70,22 +68,16 @@ module _ {T : Type 0} where
       → row_of source_end from (done ++ rest) ≡ followed_by (all_given done) (row_of source_end to rest)
   row_of-append source_end from done to rest is_row =
       let at = row-append from done to rest is_row in
-      let last : Trace T = trace_of [] (ending_at source_end (first_gap to rest)) in
-      ap (λ k. followed_by (all_given (unbroken_row from (done ++ rest))) (trace_of [] (ending_at source_end k))) at.1
-      ∙ ap (λ qs. followed_by (all_given qs) last) at.0
-      ∙ ap (λ t. followed_by t last) (all_given-append done (unbroken_row to rest))
-      ∙ followed_by-followed_by (all_given done) (all_given (unbroken_row to rest)) last
+      rw (at.1, at.0, all_given-append done (unbroken_row to rest))
+      (followed_by-followed_by (all_given done) (all_given (unbroken_row to rest)) (trace_of [] (ending_at source_end (first_gap to rest))))
 
   -- ---- what is held
 
   -- what the offers merge to
   pub merged_trace-holds : (order : Order) (row : Row T) (offers : List (ChunkResult T)) (gone : Trace T) → Holds order row offers gone → merged_trace order offers ≡ followed_by gone (rest_of row)
   merged_trace-holds order row offers gone h =
-      ap (λ t. followed_by (arrived_trace order offers) (row_of t 0 (all_placed order [] offers))) h.source_end
-      ∙ ap (λ ps. followed_by (arrived_trace order offers) (row_of row.source_end 0 ps)) h.placed
-      ∙ ap (followed_by (arrived_trace order offers)) (row_of-append row.source_end 0 h.done row.buffer.next row.buffer.held h.is_row)
-      ∙ sym (followed_by-followed_by (arrived_trace order offers) (all_given h.done) (rest_of row))
-      ∙ ap (λ t. followed_by t (rest_of row)) h.gave
+      let parts = row_of-append row.source_end 0 h.done row.buffer.next row.buffer.held h.is_row in
+      rw (h.source_end, h.placed, parts, ← followed_by-followed_by (arrived_trace order offers) (all_given h.done) (rest_of row), h.gave) refl
 
   -- the interval under the next key has gone
   pub holds-next : (order : Order) (row : Row T) (p : Trace T) (buffer : Buffered (Trace T)) (offers : List (ChunkResult T)) (gone : Trace T) → TakesNext row.buffer p buffer
@@ -98,23 +90,18 @@ module _ {T : Type 0} where
         is_row = row-push 0 h.done q h.is_row;
         before = All-push (λ s. s.0 < buffer.next) h.done q (All-weaker (λ s. s.0 < row.buffer.next) (λ s. s.0 < buffer.next) (λ s past. omega (arith, takes.some)) h.done h.before) takes.some;
         source_end = h.source_end;
-        gave =
-            ap (followed_by (arrived_trace order offers)) (all_given-append h.done (q ∷ []) ∙ ap (followed_by (all_given h.done)) (followed_by-open_nil p))
-            ∙ sym (followed_by-followed_by (arrived_trace order offers) (all_given h.done) p)
-            ∙ ap (λ t. followed_by t p) h.gave;
+        gave = rw (all_given-append h.done (q ∷ []), followed_by-open_nil p, ← followed_by-followed_by (arrived_trace order offers) (all_given h.done) p, h.gave) refl;
       }
 
   -- what is merged at once and what waits may change places, since one of them is nothing
   swap : (order : Order) (offers : List (ChunkResult T)) (first : Trace T) (r : ChunkResult T) (done rest : List (Interval (Trace T))) → all_placed order [] offers ≡ done ++ rest
       → followed_by (followed_by first (at_once order r)) (all_given done) ≡ followed_by (followed_by first (all_given done)) (at_once order r)
-  swap ByKey offers first r done rest is = ap (λ t. followed_by t (all_given done)) (followed_by-open_nil first) ∙ sym (followed_by-open_nil (followed_by first (all_given done)))
+  swap ByKey offers first r done rest is = rw (followed_by-open_nil first, followed_by-open_nil (followed_by first (all_given done))) refl
   swap ByArrival offers first r done rest is =
       let empty : Interval (Trace T) → Type 0 = λ p. p.1.payload ≡ open_trace [] in
       let none : all_given done ≡ open_trace [] = nothing-given done
       (rw take-append_seam at (All-take empty (length done) (done ++ rest) (subst (All empty) is (nothing-placed offers)))) in
-      ap (followed_by (followed_by first (at_once ByArrival r))) none
-      ∙ followed_by-open_nil (followed_by first (at_once ByArrival r))
-      ∙ ap (λ t. followed_by t (at_once ByArrival r)) (sym (followed_by-open_nil first) ∙ ap (followed_by first) (sym none))
+      rw (none, followed_by-open_nil (followed_by first (result_trace r)), followed_by-open_nil first) refl
 
   -- ---- a result that came into the row
 
@@ -139,16 +126,11 @@ module _ {T : Type 0} where
       let next : after.buffer.next ≡ before.buffer.next = ap (λ b. b.next) is in
       record {
         done = h.done;
-        placed =
-            all_placed-append order [] offers r ∙ ap (λ qs. placed_intervals order qs r) h.placed ∙ placed_intervals-after order r h.done before.buffer fresh h.before
-            ∙ ap (λ b. h.done ++ b.held) (sym is);
-        is_row = subst (IsRow 0 h.done) (sym next) h.is_row;
-        before = subst (λ k. All (λ s. s.0 < k) h.done) (sym next) h.before;
+        placed = rw (all_placed-append order [] offers r, h.placed, is) (placed_intervals-after order r h.done before.buffer fresh h.before);
+        is_row = rw next h.is_row;
+        before = rw next h.before;
         source_end = all_told-append None offers r ∙ ap (λ t. option_or t (told_at (end_of_result r) r.tail)) h.source_end ∙ sym noted;
-        gave =
-            ap (λ t. followed_by t (all_given h.done)) (arrived_trace-append order offers r)
-            ∙ swap order offers (arrived_trace order offers) r h.done before.buffer.held h.placed
-            ∙ ap (λ t. followed_by t (at_once order r)) h.gave;
+        gave = rw (arrived_trace-append order offers r, swap order offers (arrived_trace order offers) r h.done before.buffer.held h.placed, h.gave) refl;
       }
 
   -- or its turn has come, and the row hands back what it gives
@@ -159,14 +141,12 @@ module _ {T : Type 0} where
       → TakesIn order before r (followed_by (at_once order r) (unwrap_or turn (open_trace []))) after
   takes-inserted order before r None after some fresh inserts noted offers gone h =
       let test : (r.count == 0) ≡ false = grind (arith, nat_tests) in
-      subst (Holds order after (offers ++ r ∷ [])) (ap (followed_by gone) (sym (followed_by-open_nil (at_once order r))))
-      (takes-placed_intervals order before r after fresh (rw test inserts) noted offers gone h)
+      rw (followed_by-open_nil (at_once order r)) (takes-placed_intervals order before r after fresh (rw test inserts) noted offers gone h)
   takes-inserted order before r (Some p) after some fresh inserts noted offers gone h =
       let test : (r.count == 0) ≡ false = grind (arith, nat_tests) in
       let q : Trace T = waiting_trace order r in
       let row : Row T = record { buffer = with_interval before.buffer r.first (end_of_result r) q; source_end = after.source_end } in
-      subst (Holds order after (offers ++ r ∷ []))
-      (followed_by-followed_by gone (at_once order r) q ∙ ap (λ x. followed_by gone (followed_by (at_once order r) x)) (sym inserts.0))
+      rw (inserts.0, ← followed_by-followed_by gone (at_once order r) q)
       (holds-next order row q after.buffer (offers ++ r ∷ []) (followed_by gone (at_once order r)) inserts.1
       (takes-placed_intervals order before r row fresh (rw test refl) noted offers gone h))
 
@@ -178,6 +158,4 @@ module _ {T : Type 0} where
 
   -- at a gap the row gives no more than the source's ending
   pub rest-gap : (row : Row T) → IsAtGap row.buffer → rest_of row ≡ trace_of [] (ending_at row.source_end row.buffer.next)
-  rest-gap row gap =
-      ap (λ k. followed_by (all_given (unbroken_row row.buffer.next row.buffer.held)) (trace_of [] (ending_at row.source_end k))) gap.gap
-      ∙ ap (λ qs. followed_by (all_given qs) (trace_of [] (ending_at row.source_end row.buffer.next))) gap.nothing
+  rest-gap row gap = rw (gap.gap, gap.nothing) refl

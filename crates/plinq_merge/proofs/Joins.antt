@@ -3,8 +3,8 @@ use Rattle.plinq_merge.proofs.MergerWords.{◌≡◌, ℕ, ◌<◌, List, [], �
 use Rattle.plinq_merge.proofs.MergerWords.{sym, ◌∙◌, ap, subst, inl, inr, arith, or_from, All-nil, Ending, Trace, open_trace, followed_by, trace_of}
 use Rattle.plinq_merge.proofs.MergerWords.{followed_by-followed_by, followed_by-open_nil, Order, ChunkResult, end_of_result, told_at, is_within, Buffered}
 use Rattle.plinq_merge.proofs.MergerWords.{IsFresh, TakesNext, IsAtGap, DeliveryFault, NoMemory, Refusal, Row, MergeFault, Memory, Sink, Twice, More, Yes, No}
-use Rattle.plinq_merge.proofs.MergerWords.{JoinerState, Open, Decided, HasFailed, ending_at, merged_trace, Holds, TakesIn, rest_of, Waits, Joins, JoinsOfferAt}
-use Rattle.plinq_merge.proofs.MergerWords.{delivery_fault_of, placed_intervals}
+use Rattle.plinq_merge.proofs.MergerWords.{JoinerState, Open, Decided, HasFailed, ending_at, merged_trace, TakesIn, rest_of, Waits, Joins, JoinsOfferAt}
+use Rattle.plinq_merge.proofs.MergerWords.{delivery_fault_of, placed_intervals, Interval}
 use Rattle.std.specs.Prelude.{◌⊎◌}
 use Rattle.std.proofs.lemmas.Bool.{le-ltb}
 use Rattle.plinq_reorder.specs.Buffered.{is_taken}
@@ -18,7 +18,7 @@ module _ {T : Type 0} where
   -- where the next key is missing, all that the offers merge to was taken
   pub merged_trace-waits : (order : Order) (row : Row T) (offers : List (ChunkResult T)) → (waits : Waits order row offers) → merged_trace order offers ≡ open_trace waits.out
   merged_trace-waits order row offers waits =
-      merged_trace-holds order row offers (open_trace waits.out) waits.holds ∙ ap (followed_by (open_trace waits.out)) waits.nothing ∙ followed_by-open_nil (open_trace waits.out)
+      rw (merged_trace-holds order row offers (open_trace waits.out) waits.holds, waits.nothing) (followed_by-open_nil (open_trace waits.out))
 
   -- a row that has taken in a result which couldn't be kept
   takes-unkept : (order : Order) (row : Row T) (r : ChunkResult T) → IsFresh row.buffer r.first (end_of_result r)
@@ -31,16 +31,10 @@ module _ {T : Type 0} where
   -- a row in which nothing is waits for no offers
   pub begun-waits : (order : Order) (row : Row T) → row.buffer ≡ record { next = 0; held = [] } → row.source_end ≡ None → Waits order row []
   begun-waits order row empty untold =
+      let none = All-nil (λ (p : Interval (Trace T)). p.0 < row.buffer.next) in
       record {
         out = [];
-        holds = record {
-          done = [];
-          placed = rw empty refl;
-          is_row = rw empty refl;
-          before = All-nil (λ p. p.0 < row.buffer.next);
-          source_end = sym untold;
-          gave = refl;
-        };
+        holds = record { done = []; placed = rw empty refl; is_row = rw empty refl; before = none; source_end = sym untold; gave = refl };
         keys = λ key. rw empty (sym (or_from (nat_lt key 0) false (le-ltb key 0 (omega arith)) refl));
         missing = rw empty refl;
         nothing = rw (empty, untold) refl;
@@ -54,26 +48,19 @@ module _ {W O T : Type 0} (made : W → O → Trace T → Result (Option Ending)
   pub taken-after : (a : W) (x : O) (t u all : Trace T) (b : W) (y : O) (r : Result (Option Ending) DeliveryFault) (c : W) (z : O) → t.ending ≡ None → made a x t (Ok None) b y → made b y u r c z
       → all ≡ followed_by t u → made a x all r c z
   taken-after a x t u all b y r c z none first second is =
-      let before : made a x (open_trace t.items) (Ok None) b y = subst (λ s. made a x s (Ok None) b y) (open-is t none) first in
-      subst (λ s. made a x s r c z) (ap (λ s. followed_by s u) (sym (open-is t none)) ∙ sym is) (lawful.goes_on a x t.items b y u r c z before second)
+      rw (is, open-is t none) (lawful.goes_on a x t.items b y u r c z (rw (open-is t none) at first) second)
 
   -- an answer that has ended, or broke off, is that of whatever comes after
   pub taken-over : (a : W) (x : O) (t rest all : Trace T) (r : Result (Option Ending) DeliveryFault) (b : W) (y : O) → (r ≡ Ok None → ⊥) → made a x t r b y → all ≡ followed_by t rest → made a x all r b y
   taken-over a x t rest all (Ok None) b y over taken is = absurd (over refl)
-  taken-over a x t rest all (Ok (Some e)) b y over taken is = subst (λ s. made a x s (Ok (Some e)) b y) (sym is) (lawful.ends a x t e b y rest taken)
-  taken-over a x t rest all (Err fault) b y over taken is = subst (λ s. made a x s (Err fault) b y) (sym is) (lawful.breaks a x t fault b y rest taken)
+  taken-over a x t rest all (Ok (Some e)) b y over taken is = rw is (lawful.ends a x t e b y rest taken)
+  taken-over a x t rest all (Err fault) b y over taken is = rw is (lawful.breaks a x t fault b y rest taken)
 
   -- a result was taken in, and nothing of what it brings was taken yet
   pub moved-begun : (w : Joining W T) (r : ChunkResult T) (y : O) (hand : Trace T) (row1 : Row T) → TakesIn w.order w.row r hand row1
       → HasMoved made w r y hand (record w { row = row1 }) y
   moved-begun w r y hand row1 takes =
-      record {
-        items = [];
-        taken = lawful.begins w.taker y;
-        order = refl;
-        holds = λ offers gone h.
-            subst (λ t. Holds w.order row1 (offers ++ r ∷ []) (followed_by t hand)) (sym (followed_by-open_nil gone)) (takes offers gone h);
-      }
+      record { items = []; taken = lawful.begins w.taker y; order = refl; holds = λ offers gone h. rw (followed_by-open_nil gone) (takes offers gone h) }
 
   -- what was in hand was taken and is open, and the interval under the next key comes
   pub moved-next : (w0 : Joining W T) (r : ChunkResult T) (y0 : O) (p : Trace T) (w : Joining W T) (y : O) (buffer : Buffered (Trace T)) (q : Trace T) (a : W) (n : ℕ) (z : O)
@@ -87,7 +74,7 @@ module _ {W O T : Type 0} (made : W → O → Trace T → Result (Option Ending)
         taken = taken-after w0.taker y0 (open_trace moved.items) p (open_trace (moved.items ++ p.items)) w.taker y (Ok None) a z refl moved.taken taken all;
         order = moved.order;
         holds = λ offers gone h.
-            subst (λ t. Holds w0.order row (offers ++ r ∷ []) (followed_by t q)) (followed_by-followed_by gone (open_trace moved.items) p ∙ ap (followed_by gone) (sym all))
+            rw (all, ← followed_by-followed_by gone (open_trace moved.items) p)
             (holds-next w0.order w.row q buffer (offers ++ r ∷ []) (followed_by (followed_by gone (open_trace moved.items)) p) takes (moved.holds offers gone h));
       }
 
@@ -105,11 +92,10 @@ module _ {W O T : Type 0} (made : W → O → Trace T → Result (Option Ending)
             gained = followed_by (open_trace moved.items) left;
             taken = lawful.goes_on w.taker y moved.items w1.taker y1 left result w'.taker y' moved.taken taken;
             are_new = λ offers before key within. before.keys key ∙ fresh key within;
-            grows = λ offers before.
-                merged_trace-holds w.order w1.row (offers ++ r ∷ []) _ (moved.holds offers (open_trace before.out) before.holds)
+            grows = λ offers before. rw (merged_trace-waits w.order w.row offers before)
+                (merged_trace-holds w.order w1.row (offers ++ r ∷ []) _ (moved.holds offers (open_trace before.out) before.holds)
                 ∙ followed_by-followed_by (followed_by (open_trace before.out) (open_trace moved.items)) hand (rest_of w1.row)
-                ∙ followed_by-followed_by (open_trace before.out) (open_trace moved.items) left
-                ∙ ap (λ t. followed_by t (followed_by (open_trace moved.items) left)) (sym (merged_trace-waits w.order w.row offers before));
+                ∙ followed_by-followed_by (open_trace before.out) (open_trace moved.items) left);
             waits = waits;
           }
 
@@ -132,12 +118,10 @@ module _ {W O T : Type 0} (made : W → O → Trace T → Result (Option Ending)
         → Joins made w r y (Ok None) (record w1 { taker = a; items = n }) z
     joins-waits hand w1 y1 moved a n z taken none gap still keys =
         let nothing : rest_of w1.row ≡ open_trace [] = rest-gap w1.row gap ∙ ap (trace_of []) still in
-        let all : followed_by hand (rest_of w1.row) ≡ hand = ap (followed_by hand) nothing ∙ followed_by-open_nil hand in
-        joins-moved hand w1 y1 moved (Ok None) (record w1 { taker = a; items = n }) z (subst (λ t. made w1.taker y1 t (Ok None) a z) (sym all) taken) (λ is_open offers before.
-        subst (λ o. Waits o w1.row (offers ++ r ∷ [])) (sym moved.order) (record {
+        joins-moved hand w1 y1 moved (Ok None) (record w1 { taker = a; items = n }) z (rw (nothing, followed_by-open_nil hand) taken) (λ is_open offers before.
+        rw moved.order (record {
           out = (before.out ++ moved.items) ++ hand.items;
-          holds = subst (Holds w.order w1.row (offers ++ r ∷ [])) (ap (followed_by (open_trace (before.out ++ moved.items))) (open-is hand none))
-              (moved.holds offers (open_trace before.out) before.holds);
+          holds = rw (open-is hand none) at (moved.holds offers (open_trace before.out) before.holds);
           keys = λ key. is_offered-append offers r key ∙ ap (λ v. v || is_within r.first (end_of_result r) key) (before.keys key) ∙ sym (keys key);
           missing = gap.missing;
           nothing = nothing;
@@ -150,7 +134,7 @@ module _ {W O T : Type 0} (made : W → O → Trace T → Result (Option Ending)
         let left : Trace T = followed_by kept.0 (rest_of kept.1) in
         let stopped = lawful.stops w.taker y [] w.taker y left (lawful.begins w.taker y) in
         joins-moved kept.0 (record w { row = kept.1 }) y (moved-begun w r y kept.0 kept.1 kept.2) (Err NoMemory) w' y
-        (subst (λ b. made w.taker y left (Err NoMemory) b y) (sym same) stopped) (λ bad. absurd (cc))
+        (rw same stopped) (λ bad. absurd (cc))
 
 -- the offers so far, or these and one more, of which no key was offered before
 abbrev pub AreOneMore : {T : Type 0} → List (ChunkResult T) → ChunkResult T → List (ChunkResult T) → Type 0
@@ -225,7 +209,7 @@ module _ {W O T : Type 0} (made : W → O → Trace T → Result (Option Ending)
   module _ (lawful : IsTaking made) where
     -- nothing was offered to a new joiner
     pub begun-joined : (j : Joiner W T) (x : O) → j.standing ≡ Open → WaitsFor j [] → HasJoined made (taker_of j) x j x []
-    begun-joined j x still waits = subst (λ s. HasJoinedAt made (taker_of j) x j.work s x []) (sym still) (waits, lawful.begins (taker_of j) x)
+    begun-joined j x still waits = rw still (waits, lawful.begins (taker_of j) x)
 
 -- where nothing was offered or taken yet
 pub ruleset beginning = (begun-waits)

@@ -17,7 +17,7 @@ pub use Rattle.plinq_ops.specs.Batches.{full_batches, held_back, batches_from}
 pub use Rattle.plinq_ops.specs.Feeding.{is_empty_take}
 pub use Rattle.plinq_ops.specs.{Chunk.result_trace, Operator.stages_of}
 pub use Rattle.plinq_ops.specs.Pipeline.{stages}
-pub use Rattle.plinq_ops.specs.Stage.{Stage, seq, seq_after, some_takes_none}
+pub use Rattle.plinq_ops.specs.Stage.{Stage, seq, some_takes_none}
 pub use Rattle.plinq_ops.specs.Tails.{end_of_result, told_at}
 pub use Rattle.plinq_ops.specs.declared.order.Order.{Order, TheVariants.ByKey, TheVariants.ByArrival}
 pub use Rattle.plinq_ops.specs.declared.{op.Op.Op, results.ChunkResult.ChunkResult}
@@ -35,9 +35,8 @@ pub use Rattle.plinq_merge.specs.Deliveries.{batches-on, held-on}
 pub use Rattle.plinq_merge.specs.Delivering.{Line, is_below, can_deliver}
 pub use Rattle.plinq_merge.specs.Joining.{rest_of, Waits, Joins, JoinsOfferAt}
 pub use Rattle.plinq_merge.specs.Mergers.{delivery_fault_of, SendsSome}
-pub use Rattle.plinq_merge.specs.Merging.{Holds, TakesIn, GoesOn}
+pub use Rattle.plinq_merge.specs.Merging.{TakesIn, GoesOn}
 pub use Rattle.plinq_merge.specs.Offering.{Brings, OffersAt}
 pub use Rattle.plinq_merge.specs.Sending.{Leads, Delivers}
-pub use Rattle.plinq_merge.specs.Shown.{waiting_trace, placed_intervals, all_placed, all_told, all_given, ending_at, row as row_of, merged_trace, Merge, answer}
-pub use Rattle.plinq_merge.specs.Shown.{shown_batches}
+pub use Rattle.plinq_merge.specs.Shown.{waiting_trace, placed_intervals, all_placed, all_told, all_given, ending_at, merged_trace, Merge, answer, shown_batches}
 pub use Rattle.plinq_merge.specs.Working.{Work}

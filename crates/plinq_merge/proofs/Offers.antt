@@ -1,11 +1,10 @@
 -- What an offer to a merger brings: what the answer gains by it, and what the merger answers.
 use Rattle.plinq_merge.proofs.MergerWords.{◌≡◌, ℕ, List, [], ◌∷◌, ◌++◌, Bool, true, false, cond, Option, Some, None, Result, Ok, Err, refl, not, sym, ◌∙◌, ap}
-use Rattle.plinq_merge.proofs.MergerWords.{subst, and_parts, Ending, End, Trace, open_trace, ended_trace, followed_by, followed_by-open_nil, Meaning}
-use Rattle.plinq_merge.proofs.MergerWords.{ChunkResult, Stage, seq, some_takes_none, stages_of, full_batches, held_back, batches_from, stages}
-use Rattle.plinq_merge.proofs.MergerWords.{batches_from-open, Op, DeliveryFault, Deliver, More, Yes, No, MergeFault, Memory, Sink, Twice, NoMemory, Refusal}
-use Rattle.plinq_merge.proofs.MergerWords.{JoinerState, Open, Decided, HasFailed, held_of, size_of, Leads, Delivers, Merge, merged_trace, answer, shown_batches}
-use Rattle.plinq_merge.proofs.MergerWords.{GoesOn, Joins, Waits, JoinsOfferAt, Line, is_below, can_deliver, batches-on, held-on, Work, Brings, OffersAt}
-use Rattle.plinq_merge.proofs.MergerWords.{SendsSome}
+use Rattle.plinq_merge.proofs.MergerWords.{and_parts, Ending, End, Trace, open_trace, ended_trace, followed_by, followed_by-open_nil, Meaning, ChunkResult}
+use Rattle.plinq_merge.proofs.MergerWords.{Stage, seq, some_takes_none, stages_of, full_batches, held_back, batches_from, stages, batches_from-open, Op}
+use Rattle.plinq_merge.proofs.MergerWords.{DeliveryFault, Deliver, More, Yes, No, MergeFault, Memory, Sink, Twice, NoMemory, Refusal, JoinerState, Open}
+use Rattle.plinq_merge.proofs.MergerWords.{Decided, HasFailed, held_of, size_of, Delivers, Merge, merged_trace, answer, shown_batches, GoesOn, Joins, Waits}
+use Rattle.plinq_merge.proofs.MergerWords.{JoinsOfferAt, Line, is_below, can_deliver, batches-on, held-on, Work, Brings, OffersAt, SendsSome}
 use Rattle.std.proofs.lemmas.Bool.{not-true}
 use Rattle.plinq_ops.proofs.{Open.seq-nothing}
 use Rattle.plinq_merge.specs.{Deliveries.goes_on-on, Delivering.line_of, Delivering.Gives, Delivering.MadeBy, Working.merge_of, Working.Rests}
@@ -23,9 +22,7 @@ module _ {K T : Type 0} (accepts : K → List T → K → Type 0) (refuses : K �
   delivers-gives : (l : Line T) (s : K) (t : Trace T) (r : Result (Option Ending) DeliveryFault) (l' : Line T) (s' : K) → (r ≡ Ok None → seq l'.now (open_trace []) ≡ open_trace [])
       → Gives accepts refuses l s t r l' s' → Delivers accepts refuses s (batches_from l.size l.held (seq l.now t)) r s'
   delivers-gives l s t (Ok None) l' s' nothing on =
-      let all : batches_from l.size l.held (seq l.now t) ≡ full_batches l.size l.held on.out =
-      ap (batches_from l.size l.held) (answer-on l.now t on.out l'.now on.on (nothing refl)) ∙ batches_from-open l.size l.held on.out in
-      subst (λ bs. Leads accepts s bs s') (sym all) on.leads
+      rw (answer-on l.now t on.out l'.now on.on (nothing refl), batches_from-open l.size l.held on.out) on.leads
   delivers-gives l s t (Ok (Some e)) l' s' nothing gives = gives.1
   delivers-gives l s t (Err fault) l' s' nothing gives = gives
 
@@ -34,9 +31,7 @@ module _ {L T : Type 0} (meaning : L → Meaning T) (decided : Bool) (w : Work L
       (grows : merged_trace w.order (offers ++ r ∷ []) ≡ followed_by (merged_trace w.order offers) gained) where
     -- the answer to one offer more, by what the offers merge to then
     answer-gained : answer (merge_of meaning decided w) (offers ++ r ∷ []) ≡ followed_by (open_trace rests.out) (seq (stages meaning w.taker.pipeline) gained)
-    answer-gained =
-        answer-open (merge_of meaning decided w) (offers ++ r ∷ []) rests.undecided ∙ ap (seq (stages_of meaning w.taker.pipeline.ops)) grows
-        ∙ rests.on.answers gained
+    answer-gained = rw (answer-open (merge_of meaning decided w) (offers ++ r ∷ []) rests.undecided, grows) (rests.on.answers gained)
 
     -- the batches that it gains
     shown_batches-gained : shown_batches (merge_of meaning decided w) (offers ++ r ∷ [])
@@ -45,11 +40,9 @@ module _ {L T : Type 0} (meaning : L → Meaning T) (decided : Bool) (w : Work L
     shown_batches-gained =
         let size : Option ℕ = size_of w.taker.buffer in
         let more : Trace T = seq (stages meaning w.taker.pipeline) gained in
-        let before : answer (merge_of meaning decided w) offers ≡ open_trace rests.out =
-        answer-open (merge_of meaning decided w) offers rests.undecided
-        ∙ answer-on (stages_of meaning w.taker.pipeline.ops) (merged_trace w.order offers) rests.out (stages meaning w.taker.pipeline) rests.on rests.nothing in
-        batches-on size [] rests.out (held_of w.taker.buffer) _ more answer-gained rests.held
-        ∙ ap (λ bs. bs ++ batches_from size (held_of w.taker.buffer) more) (sym (ap (batches_from size []) before ∙ batches_from-open size [] rests.out))
+        let before = answer-on _ _ rests.out _ rests.on rests.nothing in
+        rw (answer-open (merge_of meaning decided w) offers rests.undecided, before, batches_from-open size [] rests.out)
+        (batches-on size [] rests.out (held_of w.taker.buffer) _ more answer-gained rests.held)
 
   module _ {K : Type 0} (accepts : K → List T → K → Type 0) (refuses : K → List T → ℕ → K → Type 0) (s : K) (w' : Work L T) (s' : K) where
     abbrev JoinsTo : Result (Option Ending) DeliveryFault → Type 0
@@ -80,13 +73,11 @@ module _ {L T : Type 0} (meaning : L → Meaning T) (decided : Bool) (w : Work L
         let next = joins.taken.gives in
         let both : GoesOn l.after (followed_by (merged_trace w.order offers) joins.gained) (rests.out ++ next.out) None l'.now =
         goes_on-on l.after l.now l'.now (merged_trace w.order offers) joins.gained rests.out next.out rests.on next.on in
-        let all = ap (λ o. merged_trace o (offers ++ r ∷ [])) same ∙ joins.grows offers rests.waits in
         record {
           undecided = rests.undecided;
           waits = joins.waits refl offers rests.waits;
           out = rests.out ++ next.out;
-          on = subst (λ t. GoesOn l'.after t (rests.out ++ next.out) None l'.now) (sym all)
-              (subst (λ ss. GoesOn ss (followed_by (merged_trace w.order offers) joins.gained) (rests.out ++ next.out) None l'.now) (sym plan.after) both);
+          on = rw (plan.after, same, joins.grows offers rests.waits) both;
           nothing = nothing;
           held = held-on l.size [] l.held l'.held rests.out next.out rests.held next.held ∙ ap (λ n. held_back n [] (rests.out ++ next.out)) (sym plan.size);
         }

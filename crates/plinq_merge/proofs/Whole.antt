@@ -1,11 +1,11 @@
 -- Offers of one source: what the tails of its chunks say, how their answer begins the sequential one, and that it is that where all was offered.
 use Rattle.plinq_merge.proofs.MergerWords.{◌≡◌, ℕ, ◌+◌, ◌-◌, ◌<◌, ◌≤◌, List, [], ◌∷◌, length, drop, true, false, cond, nat_lt, Option, Some, None, refl, ◌==◌}
-use Rattle.plinq_merge.proofs.MergerWords.{take, ◌||◌, All, Bool, IfSome, sym, ◌∙◌, ap, subst, inl, inr, arith, length-drop, and_parts, or_from, cases_lt}
+use Rattle.plinq_merge.proofs.MergerWords.{take, ◌||◌, All, Bool, IfSome, sym, ◌∙◌, ap, inl, inr, arith, length-drop, and_parts, or_from, cases_lt}
 use Rattle.plinq_merge.proofs.MergerWords.{length-take-le, take-append-drop, All-nil, All-head, All-tail, All-weaker, nat_tests, or_assoc, or-false}
 use Rattle.plinq_merge.proofs.MergerWords.{take-length, Ending, Trace, open_trace, followed_by, trace_of, followed_by-open_nil, followed_by-followed_by}
-use Rattle.plinq_merge.proofs.MergerWords.{Meaning, Op, ChunkResult, end_of_result, told_at, Order, ByKey, seq, seq_after, result_trace, batches_from}
-use Rattle.plinq_merge.proofs.MergerWords.{seq-followed_by, Interval, is_within, unbroken_row, first_gap, IsRow, Merge, waiting_trace, placed_intervals}
-use Rattle.plinq_merge.proofs.MergerWords.{all_placed, all_told, all_given, ending_at, row_of, merged_trace, answer, shown_batches, is_offered}
+use Rattle.plinq_merge.proofs.MergerWords.{Meaning, Op, ChunkResult, end_of_result, told_at, Order, ByKey, seq, result_trace, batches_from, seq-followed_by}
+use Rattle.plinq_merge.proofs.MergerWords.{Interval, is_within, unbroken_row, first_gap, IsRow, Merge, waiting_trace, placed_intervals, all_placed, all_told}
+use Rattle.plinq_merge.proofs.MergerWords.{all_given, ending_at, merged_trace, answer, shown_batches, is_offered}
 use Rattle.std.specs.List.{Contains}
 use Rattle.std.specs.Option.{IsSome}
 use Rattle.std.specs.Prelude.{◌^◌}
@@ -13,12 +13,11 @@ use Rattle.std.proofs.{lemmas.Bool.ltb-true, lemmas.Bool.or_left, lemmas.Bool.or
 use Rattle.std.proofs.{lemmas.List.Elements.All-cons, lemmas.List.Elements.All-contains}
 use Rattle.plinq_source.proofs.Followed.{followed_by-ended}
 use Rattle.plinq_source.specs.declared.ending.Ending.{TheVariants.Fault}
-use Rattle.plinq_ops.specs.Tails.{EndsAt}
 use Rattle.plinq_reorder.specs.Intervals.{has_key, are_apart, IsFree}
 use Rattle.plinq_merge.specs.Deliveries.{batches-first}
 use Rattle.plinq_keyed.specs.declared.event.Event.{Event, TheVariants.Ask, TheVariants.Close}
-use Rattle.plinq_keyed.specs.declared.{record.Record.Record, tail.Tail.Tail}
-use Rattle.plinq_ops.specs.{Row.IsResultOf, Row.AreOffers, Fragment.glued_trace, Fragment.glue}
+use Rattle.plinq_keyed.specs.declared.record.Record.{Record}
+use Rattle.plinq_ops.specs.{Row.IsResultOf, Row.AreOffers, Fragment.glued_trace, Fragment.glue, Stage.seq_after, Tails.EndsAt}
 use Rattle.plinq_ops.proofs.{Glue.glued_trace-append, Rows.row-next, Rows.glue-whole}
 use Rattle.plinq_merge.proofs.{Offers.answer-open, Holds.All-placed, Holds.arrived_trace-by_key}
 use Rattle.plinq_keyed.specs.History.{Place, start, ending_tail, no_items, next_items, reply, next_place, tells, is_run, IsLegalHistory}
@@ -61,16 +60,14 @@ module _ {L T : Type 0} (meaning : L → Meaning T) (worker : List (Op L)) (t : 
       (omega (arith, length-drop asked.first t.items, first, told.count, few, within)) in
       let at : end_of_result r ≡ p.given + length (reply t p asked.asked).items =
       omega (arith, answer.made.first, answer.of.first, first, answer.made.count, count, told.count) in
-      let P : Option Tail → Type 0 = λ o. IfSome (told_at (end_of_result r) o) (EndsAt t) in
-      subst P (sym (answer.made.tail ∙ answer.of.tail ∙ told.tail)) (reply-told t p asked.asked (end_of_result r) within at)
+      rw (answer.made.tail, answer.of.tail, told.tail) (reply-told t p asked.asked (end_of_result r) within at)
 
   all-told : (p : Place) (h : List Record) → p.given ≤ length t.items → is_run t p h ≡ true → All IsToldTrue h
   all-told p [] within run = All-nil IsToldTrue
   all-told p (asked ∷ h) within run =
       let parts = and_parts (tells asked (reply t p asked.asked)) _ run in
-      let moved = next_place-given t p asked.asked in
-      let few = length-reply t p asked.asked in
-      All-cons IsToldTrue asked h (answer-told p asked within parts.0) (all-told (next_place t p asked.asked) h (omega (arith, moved, few, within)) parts.1)
+      All-cons IsToldTrue asked h (answer-told p asked within parts.0)
+      (all-told (next_place t p asked.asked) h (omega (arith, next_place-given t p asked.asked, length-reply t p asked.asked, within)) parts.1)
 
   pub told-of_record : (h : List Record) (asked : Record) → IsLegalHistory t h → Contains h asked → IsToldTrue asked
   told-of_record h asked legal there = All-contains IsToldTrue h asked (all-told start h (omega arith) (and_parts (is_run t start h) _ legal).0) there
@@ -111,11 +108,7 @@ placed-all order ps (r ∷ rs) apart new free =
     let one = placed_intervals-one order ps r apart (λ key within. free key (or_left _ _ within)) in
     let others = placed-all order (placed_intervals order ps r) rs one.0 new.1 (λ key there. one.1 key ∙ or_from _ _ (free key (or_right _ _ there))
     (false_from_ne_true _ (λ within. let bad : true ≡ false = sym there ∙ new.0 key within in cc))) in
-    record {
-      apart = others.apart;
-      keys = λ key. others.keys key ∙ ap (λ b. b || is_offered rs key) (one.1 key)
-          ∙ or_assoc (has_key ps key) (is_within r.first (end_of_result r) key) (is_offered rs key);
-    }
+    record { apart = others.apart; keys = λ key. rw (others.keys key, one.1 key, or_assoc) refl }
 
 -- ---- intervals of the source's results
 
@@ -144,18 +137,16 @@ module _ {L T : Type 0} (meaning : L → Meaning T) (worker : List (Op L)) (t : 
   row-gives from [] to is_row all = followed_by-open_nil (before from) ∙ ap before is_row
   row-gives from (p ∷ ps) to is_row all =
       let here = All-head IsOfSource p ps all in
-      ap (λ k. followed_by (before k) (all_given (p ∷ ps))) (sym is_row.0)
-      ∙ sym (followed_by-followed_by (before p.0) p.1.payload (all_given ps)) ∙ ap (λ u. followed_by u (all_given ps)) here.next
-      ∙ row-gives p.1.end ps to is_row.1 (All-tail IsOfSource p ps all)
+      rw (← is_row.0, ← followed_by-followed_by (before p.0) p.1.payload (all_given ps), here.next)
+      (row-gives p.1.end ps to is_row.1 (All-tail IsOfSource p ps all))
 
   -- so the offers merge to what the items before the first gap give, and the source's ending if this is its place
   merged_trace-gap : (offers : List (ChunkResult T)) → AreOffers meaning worker t offers
       → merged_trace ByKey offers ≡ followed_by (before (first_gap 0 (all_placed ByKey [] offers))) (trace_of [] (ending_at (all_told None offers) (first_gap 0 (all_placed ByKey [] offers))))
   merged_trace-gap offers are =
       let ps : List (Interval (Trace T)) = all_placed ByKey [] offers in
-      let last : Trace T = trace_of [] (ending_at (all_told None offers) (first_gap 0 ps)) in
-      ap (λ u. followed_by u (row_of (all_told None offers) 0 ps)) (arrived_trace-by_key offers)
-      ∙ ap (λ u. followed_by u last) (row-gives 0 (unbroken_row 0 ps) (first_gap 0 ps) (row-of-unbroken_row 0 ps) (All-unbroken_row IsOfSource 0 ps (all-of_source offers are)))
+      let gives = row-gives 0 (unbroken_row 0 ps) (first_gap 0 ps) (row-of-unbroken_row 0 ps) (All-unbroken_row IsOfSource 0 ps (all-of_source offers are)) in
+      rw (arrived_trace-by_key offers, ← gives) refl
 
   -- ---- how the source's fragments begin
 
@@ -163,24 +154,19 @@ module _ {L T : Type 0} (meaning : L → Meaning T) (worker : List (Op L)) (t : 
   Begins first = (rest : Trace T) × (glue meaning worker t ≡ followed_by first rest)
 
   glue-at_end : (key : ℕ) (e : Ending) → key ≡ length t.items → t.ending ≡ Some e → glue meaning worker t ≡ followed_by (before key) (trace_of [] (Some e))
-  glue-at_end key e here ends =
-      glue-whole meaning worker t
-      ∙ ap (λ o. followed_by (glued_trace meaning worker 0 t.items None) (trace_of [] o)) ends
-      ∙ ap (λ ys. followed_by (glued_trace meaning worker 0 ys None) (trace_of [] (Some e))) (sym (ap (λ k. take k t.items) here ∙ take-length t.items))
+  glue-at_end key e here ends = rw (here, take-length t.items, ← ends) (glue-whole meaning worker t)
 
   glue-told : (source_end : Option (ℕ × Ending)) (key : ℕ) → IsSome source_end → IfSome source_end (EndsAt t) → key ≡ length t.items
       → glue meaning worker t ≡ followed_by (before key) (trace_of [] (ending_at source_end key))
   glue-told None key some is here = absurd (let bad : false ≡ true = some in cc)
-  glue-told (Some at) key some is here =
-      glue-at_end key at.1 here is.1 ∙ ap (λ v. followed_by (before key) (trace_of [] (cond v (Some at.1) None))) (sym (same_test at.0 key (is.0 ∙ sym here)))
+  glue-told (Some at) key some is here = rw (same_test at.0 key (is.0 ∙ sym here)) (glue-at_end key at.1 here is.1)
 
   open-begins : (key : ℕ) → Begins (followed_by (before key) (open_trace []))
   open-begins key =
       let rest : Trace T = glued_trace meaning worker (0 + length (take key t.items)) (drop key t.items) t.ending in (
         rest,
         ap (λ ys. glued_trace meaning worker 0 ys t.ending) (sym (take-append-drop key t.items))
-            ∙ glued_trace-append meaning worker 0 (take key t.items) (drop key t.items) t.ending
-            ∙ ap (λ u. followed_by u rest) (sym (followed_by-open_nil (before key))),
+            ∙ rw (followed_by-open_nil (before key)) (glued_trace-append meaning worker 0 (take key t.items) (drop key t.items) t.ending),
       )
 
   gap-begins : (source_end : Option (ℕ × Ending)) (key : ℕ) → IfSome source_end (EndsAt t) → Begins (followed_by (before key) (trace_of [] (ending_at source_end key)))
@@ -194,7 +180,7 @@ module _ {L T : Type 0} (meaning : L → Meaning T) (worker : List (Op L)) (t : 
 
   pub merged_trace-begins : (offers : List (ChunkResult T)) → AreOffers meaning worker t offers → AreTrueTails t offers → Begins (merged_trace ByKey offers)
   merged_trace-begins offers are tails =
-      subst Begins (sym (merged_trace-gap offers are)) (gap-begins (all_told None offers) (first_gap 0 (all_placed ByKey [] offers)) (told-true t None offers tt tails))
+      rw (merged_trace-gap offers are) (gap-begins (all_told None offers) (first_gap 0 (all_placed ByKey [] offers)) (told-true t None offers tt tails))
 
   merged_trace-whole : (offers : List (ChunkResult T)) → AreOffers meaning worker t offers → AreTrueTails t offers → AreWhole t offers
       → merged_trace ByKey offers ≡ glue meaning worker t
