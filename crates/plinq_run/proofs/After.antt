@@ -1,21 +1,10 @@
 -- A token that counts batches lets just so many pass.
-use Rattle.std.specs.Prelude.{◌≡◌, ℕ, ◌+◌, ◌<◌, ◌≤◌, List, [], ◌∷◌, ◌++◌, length, take, true, false, nat_le, Result, Ok, Err}
-use Rattle.std.proofs.Common.{sym, ◌∙◌, ap, subst, arith}
-use Rattle.std.proofs.Math.Seq.{take-append_seam}
-use Rattle.std.proofs.lemmas.Bool.Decides.{nat_tests}
-use Rattle.std.proofs.lemmas.List.{length-append}
-use Rattle.plinq_source.specs.Trace.{Trace}
-use Rattle.plinq_ops.specs.declared.merge_option.MergeOption.{MergeOption}
-use Rattle.plinq_ops.specs.Batches.{batches}
-use Rattle.plinq_merge.specs.declared.cancel_after.CancelAfter.{CancelAfter}
-use Rattle.plinq_merge.specs.Cancelling.{Delivery, Passes, IsStopped}
-use Rattle.plinq_merge.specs.Sending.{Leads}
-use Rattle.plinq_merge.specs.Tokens.{AsksAfter, most_of}
-use Rattle.plinq_merge.proofs.Lent.{leads-map}
-use Rattle.plinq_run.specs.declared.report.Report.{Report}
-use Rattle.plinq_run.specs.declared.run_fault.RunFault.{RunFault}
-use Rattle.plinq_run.specs.declared.run_fault.RunFault.TheVariants.{Cancelled}
-use Rattle.plinq_run.specs.Stopping.{RunsWith, StopsAfter}
+use Rattle.plinq_run.proofs.RunWords.{◌≡◌, ℕ, ◌+◌, ◌<◌, ◌≤◌, List, [], ◌∷◌, ◌++◌, length, take, true, false, nat_le, Result, Ok, Err, sym, ◌∙◌, ap, subst}
+use Rattle.plinq_run.proofs.RunWords.{arith, nat_tests, Trace, MergeOption, batches, Delivery, Passes, IsStopped, Leads, leads-map, Report, RunFault, Cancelled}
+use Rattle.plinq_run.proofs.RunWords.{RunsWith}
+use Rattle.std.proofs.{Math.Seq.take-append_seam, lemmas.List.length-append}
+use Rattle.plinq_merge.specs.{declared.cancel_after.CancelAfter.CancelAfter, Tokens.AsksAfter, Tokens.most_of}
+use Rattle.plinq_run.specs.Stopping.{StopsAfter}
 
 module _ {K T : Type 0} (accepts : K → List T → K → Type 0) where
   -- where some batches passed, each counts, and the last of them was within the number

@@ -1,37 +1,19 @@
 -- By arrival: what results give is how the glued fragments of the source's items in some order begin. The items that are left where
 -- some were taken by their places are with these all items in another order.
-use Rattle.std.specs.Prelude.{◌≡◌, ℕ, ◌+◌, ◌<◌, ◌≤◌, ◌^◌, ◌==◌, ◌⊎◌, List, [], ◌∷◌, ◌++◌, length, take, drop, true, false, cond, Option, Some, None, All, refl, Bool, ◌||◌, IsPermutation}
-use Rattle.std.specs.Option.{IfSome}
-use Rattle.std.proofs.Common.{sym, ◌∙◌, ap, subst, inl, inr, arith, append_assoc}
-use Rattle.std.proofs.lemmas.List.Elements.{All-head, All-tail}
+use Rattle.plinq_run.proofs.RunWords.{◌≡◌, ℕ, ◌+◌, ◌<◌, ◌≤◌, ◌^◌, ◌==◌, ◌⊎◌, List, [], ◌∷◌, ◌++◌, length, take, drop, true, false, cond, Option, Some, None}
+use Rattle.plinq_run.proofs.RunWords.{All, refl, Bool, ◌||◌, IsPermutation, IfSome, sym, ◌∙◌, ap, subst, inl, inr, arith, append_assoc, All-head, All-tail}
+use Rattle.plinq_run.proofs.RunWords.{take-append-drop, length-take-le, length-drop, IsPermutation-refl, IsPermutation-trans, Ending, Trace, open_trace}
+use Rattle.plinq_run.proofs.RunWords.{followed_by, Meaning, Op, ByArrival, Plan, ChunkResult, IsRearranged, result_trace, glue, are_keyless, EndsAt}
+use Rattle.plinq_run.proofs.RunWords.{end_of_result, Interval, unbroken_row, first_gap, is_within, is_offered, all_placed, all_told, all_given, ending_at, row}
+use Rattle.plinq_run.proofs.RunWords.{arrived_trace, merged_trace, AreApart, IsResult}
 use Rattle.std.proofs.lemmas.Bool.{or_parts, or_from, false_from_ne_true}
-use Rattle.std.proofs.lemmas.List.{take-append-drop, length-take-le, length-drop}
-use Rattle.std.proofs.lemmas.List.Sorted.{IsPermutation-refl, IsPermutation-trans, IsPermutation-append_comm, IsPermutation-append_left}
-use Rattle.plinq_source.specs.declared.ending.Ending.{Ending}
-use Rattle.plinq_source.specs.Trace.{Trace, open_trace, followed_by}
+use Rattle.std.proofs.lemmas.List.Sorted.{IsPermutation-append_comm, IsPermutation-append_left}
 use Rattle.plinq_source.proofs.Followed.{trace_of, followed_by-open_nil}
-use Rattle.plinq_lambda.specs.Meaning.{Meaning}
-use Rattle.plinq_ops.specs.declared.op.Op.{Op}
-use Rattle.plinq_ops.specs.declared.order.Order.TheVariants.{ByArrival}
-use Rattle.plinq_ops.specs.declared.plan.Plan.{Plan}
-use Rattle.plinq_ops.specs.declared.results.ChunkResult.{ChunkResult}
-use Rattle.plinq_ops.specs.Answer.{IsRearranged}
-use Rattle.plinq_ops.specs.Chunk.{result_trace}
-use Rattle.plinq_ops.specs.Fragment.{glued_trace, glue}
-use Rattle.plinq_ops.specs.ByKey.{are_keyless}
-use Rattle.plinq_ops.proofs.Keyless.{glued_trace-keyless}
-use Rattle.plinq_ops.proofs.Cut.{undropped-uncut, result-is}
-use Rattle.plinq_ops.proofs.Glue.{glued_trace-append, chunk_answer-uncut}
-use Rattle.plinq_ops.specs.Tails.{EndsAt, end_of_result}
-use Rattle.plinq_reorder.specs.Intervals.{Interval, unbroken_row, first_gap, is_within}
-use Rattle.plinq_reorder.proofs.Keys.{same_key, within-from, not_within-before, not_within-after}
-use Rattle.plinq_reorder.proofs.Gap.{All-unbroken_row, gap-covered}
-use Rattle.plinq_merge.specs.OfferedKeys.{is_offered, AreNew}
-use Rattle.plinq_merge.specs.Shown.{all_placed, all_told, all_given, ending_at, row, arrived_trace, merged_trace}
-use Rattle.plinq_merge.specs.Whole.{AreTrueTails, AreApart}
-use Rattle.plinq_merge.proofs.Holds.{nothing-placed, nothing-given, is_offered-append}
-use Rattle.plinq_merge.proofs.Whole.{told-true, placed-all}
-use Rattle.plinq_crew.specs.Results.{IsResult}
+use Rattle.plinq_ops.specs.Fragment.{glued_trace}
+use Rattle.plinq_ops.proofs.{Keyless.glued_trace-keyless, Cut.undropped-uncut, Cut.result-is, Glue.glued_trace-append, Glue.chunk_answer-uncut}
+use Rattle.plinq_reorder.proofs.{Keys.same_key, Keys.within-from, Keys.not_within-before, Keys.not_within-after, Gap.All-unbroken_row, Gap.gap-covered}
+use Rattle.plinq_merge.specs.{OfferedKeys.AreNew, Whole.AreTrueTails}
+use Rattle.plinq_merge.proofs.{Holds.nothing-placed, Holds.nothing-given, Holds.is_offered-append, Whole.told-true, Whole.placed-all}
 
 -- the items that aren't at these places, counted from k
 abbrev pub without : {T : Type 0} → (ℕ → Bool) → ℕ → List T → List T

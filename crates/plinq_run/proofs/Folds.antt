@@ -1,31 +1,15 @@
 -- Merging folded results is folding what the results merge to; what is a fold is one of a result.
-use Rattle.std.specs.Prelude.{◌≡◌, ℕ, ◌+◌, ◌==◌, List, [], ◌∷◌, Bool, true, false, cond, ◌||◌, ⊤, Option, None, All, refl}
-use Rattle.std.specs.List.{fold}
-use Rattle.std.specs.Option.{option_or}
-use Rattle.std.specs.Ordering.{nat_cmp, match_ordering}
-use Rattle.std.specs.declared.cmp.Ordering.{Ordering}
+use Rattle.plinq_run.proofs.RunWords.{◌≡◌, ℕ, ◌+◌, ◌==◌, List, [], ◌∷◌, Bool, true, false, cond, ◌||◌, Option, None, All, refl, fold, sym, ◌∙◌, ap, subst}
+use Rattle.plinq_run.proofs.RunWords.{All-cons, All-head, All-tail, All-nil, Ending, Trace, open_trace, Meaning, Folding, fold_of, IsFolding, Order, ByKey}
+use Rattle.plinq_run.proofs.RunWords.{ByArrival, Plan, ChunkResult, result_trace, end_of_result, told_at, Interval, unbroken_row, first_gap, is_within}
+use Rattle.plinq_run.proofs.RunWords.{is_offered, AreApart, all_placed, all_told, all_given, ending_at, row, arrived_trace, merged_trace, IsResult, IsPart}
+use Rattle.plinq_run.proofs.RunWords.{IsFolded, IsFoldOf}
+use Rattle.std.specs.{Prelude.⊤, Option.option_or, Ordering.nat_cmp, Ordering.match_ordering, declared.cmp.Ordering.Ordering}
 use Rattle.std.specs.declared.cmp.Ordering.TheVariants.{Less, Equal, Greater}
-use Rattle.std.proofs.Common.{sym, ◌∙◌, ap, subst}
-use Rattle.std.proofs.lemmas.List.Elements.{All-cons, All-head, All-tail, All-nil}
-use Rattle.plinq_source.specs.declared.ending.Ending.{Ending}
-use Rattle.plinq_source.specs.Trace.{Trace, open_trace}
-use Rattle.plinq_lambda.specs.Meaning.{Meaning}
-use Rattle.plinq_aggregate.specs.Folding.{Folding, fold_of, IsFolding}
-use Rattle.plinq_ops.specs.declared.order.Order.{Order}
-use Rattle.plinq_ops.specs.declared.order.Order.TheVariants.{ByKey, ByArrival}
-use Rattle.plinq_ops.specs.declared.plan.Plan.{Plan}
-use Rattle.plinq_ops.specs.declared.results.ChunkResult.{ChunkResult}
-use Rattle.plinq_ops.specs.Chunk.{result_trace, run_ending}
-use Rattle.plinq_ops.specs.Tails.{end_of_result, told_at}
-use Rattle.plinq_reorder.specs.declared.span.Span.{Span}
-use Rattle.plinq_reorder.specs.Intervals.{Interval, insert, unbroken_row, first_gap, is_within}
-use Rattle.plinq_merge.specs.OfferedKeys.{is_offered}
-use Rattle.plinq_merge.specs.Whole.{AreApart}
-use Rattle.plinq_merge.specs.Shown.{at_once, waiting_trace, placed_intervals, all_placed, all_told, all_given, ending_at, row, arrived_trace, merged_trace}
-use Rattle.plinq_crew.specs.Results.{IsResult, IsPart}
-use Rattle.plinq_run.specs.Parting.{IsFolded}
-use Rattle.plinq_run.specs.inner.Folds.{IsFoldOf, AreFoldsOf}
-use Rattle.plinq_run.specs.inner.Standing.{stand-none, followed_by-folded}
+use Rattle.plinq_ops.specs.Chunk.{run_ending}
+use Rattle.plinq_reorder.specs.{declared.span.Span.Span, Intervals.insert}
+use Rattle.plinq_merge.specs.Shown.{at_once, waiting_trace, placed_intervals}
+use Rattle.plinq_run.specs.inner.{Folds.AreFoldsOf, Standing.stand-none, Standing.followed_by-folded}
 
 module _ {T A O : Type 0} (f : Folding T A O) where
   folded-nothing : IsFolded f (open_trace []) (open_trace [])

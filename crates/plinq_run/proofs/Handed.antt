@@ -1,35 +1,20 @@
 -- What records hand out: all that they account for; and a result that is of it is one of these first items of the source.
-use Rattle.std.specs.Prelude.{◌≡◌, ℕ, ◌+◌, ◌≤◌, nat_le, List, [], ◌∷◌, length, map, take, true, false, cond, if◌then◌else◌, None, All, IsPermutation, refl, ◌^◌, ◌==◌, ◌||◌, ◌⊎◌, ◌++◌, drop, Option, Some, MatchBool}
-use Rattle.std.specs.Option.{IfSome}
-use Rattle.std.proofs.Common.{sym, ◌∙◌, ap, arith, subst, inl, inr}
+use Rattle.plinq_run.proofs.RunWords.{◌≡◌, ℕ, ◌+◌, ◌≤◌, nat_le, List, [], ◌∷◌, length, take, true, false, cond, if◌then◌else◌, None, All, IsPermutation, refl}
+use Rattle.plinq_run.proofs.RunWords.{◌^◌, ◌==◌, ◌||◌, ◌⊎◌, ◌++◌, drop, Option, Some, MatchBool, IfSome, sym, ◌∙◌, ap, arith, subst, inl, inr, length-take-le}
+use Rattle.plinq_run.proofs.RunWords.{take-append-drop, length-drop, All-nil, All-cons, All-weaker, IsPermutation-refl, IsPermutation-trans, Trace, Meaning}
+use Rattle.plinq_run.proofs.RunWords.{Record, Chunk, in_ticket_order, Dropped, Op, Plan, ChunkResult, ChunkAnswer, IsToldBy, IsChunkResult, end_of_result}
+use Rattle.plinq_run.proofs.RunWords.{told_at, EndsAt, IsResult, is_close, handed_trace, Covers, IsOffered}
+use Rattle.std.specs.Prelude.{map}
 use Rattle.std.proofs.lemmas.Bool.{and_parts, or_cases, or_left, or_right}
-use Rattle.std.proofs.lemmas.List.{length-take-le, take-append-drop, take-append-le, drop-append-le, length-drop}
-use Rattle.std.proofs.lemmas.List.Elements.{All-nil, All-cons, All-weaker}
-use Rattle.std.proofs.lemmas.List.Folds.{list_any_at, list_any-append}
-use Rattle.std.proofs.lemmas.List.Sorted.{All-permutation, IsPermutation-refl, IsPermutation-sym, IsPermutation-trans, IsPermutation-cons, IsPermutation-middle, list_any-IsPermutation}
-use Rattle.plinq_source.specs.Trace.{Trace}
-use Rattle.plinq_lambda.specs.Meaning.{Meaning}
-use Rattle.plinq_keyed.specs.declared.keyed.Keyed.{Keyed}
-use Rattle.plinq_keyed.specs.declared.record.Record.{Record}
+use Rattle.std.proofs.lemmas.List.{take-append-le, drop-append-le, Folds.list_any_at, Folds.list_any-append}
+use Rattle.std.proofs.lemmas.List.Sorted.{All-permutation, IsPermutation-sym, IsPermutation-cons, IsPermutation-middle, list_any-IsPermutation}
+use Rattle.plinq_keyed.specs.{declared.keyed.Keyed.Keyed, Keys.keyed_from, Keys.is_among, declared.tail.Tail.Tail, declared.tail.Tail.TheVariants.Closed}
 use Rattle.plinq_keyed.specs.History.{Place, start, reply, next_place, place_after, tells, is_run, IsLegalHistory, given_by}
-use Rattle.plinq_keyed.specs.Keys.{keyed_from, is_among}
 use Rattle.plinq_keyed.proofs.Legal.{Told-from_tells, reply-first, next_place-given, IsPrefix-from_legal}
-use Rattle.plinq_keyed.specs.declared.chunk.Chunk.{Chunk}
-use Rattle.plinq_keyed.specs.declared.tail.Tail.{Tail}
-use Rattle.plinq_keyed.specs.declared.tail.Tail.TheVariants.{Closed}
-use Rattle.plinq_ticket.specs.Shares.{placed_records, in_ticket_order}
-use Rattle.plinq_ops.specs.declared.frag_end.FragEnd.TheVariants.{Dropped}
-use Rattle.plinq_ops.specs.declared.op.Op.{Op}
-use Rattle.plinq_ops.specs.declared.plan.Plan.{Plan}
-use Rattle.plinq_ops.specs.declared.results.ChunkResult.{ChunkResult}
-use Rattle.plinq_ops.specs.Chunk.{ChunkAnswer, IsToldBy, IsChunkResult}
-use Rattle.plinq_ops.specs.Cut.{stop_keys, no_cut, is_cut}
-use Rattle.plinq_ops.specs.Row.{IsOffer}
+use Rattle.plinq_ticket.specs.Shares.{placed_records}
+use Rattle.plinq_ops.specs.{Cut.stop_keys, Cut.no_cut, Cut.is_cut, Row.IsOffer}
 use Rattle.plinq_ops.proofs.Cut.{stop_keys-above, stop_keys-append, chunk_answer-above}
-use Rattle.plinq_ops.specs.Tails.{end_of_result, told_at, EndsAt}
-use Rattle.plinq_crew.specs.Results.{IsResult}
-use Rattle.plinq_run.specs.Handed.{is_close, is_end, has_close, handed_trace}
-use Rattle.plinq_run.specs.inner.Offered.{Covers, IsOffered}
+use Rattle.plinq_run.specs.Handed.{is_end, has_close}
 
 -- a run hands out more and more
 place_after-grows : {T : Type 0} (t : Trace T) (p : Place) (h : List Record) → p.given ≤ (place_after t p h).given

@@ -1,30 +1,16 @@
 -- What an ordered run delivers, by the definitions that proofs use and by those of the headline.
-use Rattle.std.specs.Prelude.{◌≡◌, refl, ℕ, pos, negsuc, List, [], ◌∷◌, ◌++◌, ◌+◌, ◌==◌, ◌<◌, nat_le, length, if◌then◌else◌, Bool, true, false, Option, Some, None, Result, Ok, Err}
-use Rattle.std.proofs.Common.{arith, ap, sym, subst, ◌∙◌, append_assoc, append-nil}
-use Rattle.std.proofs.lemmas.Bool.Decides.{nat_tests}
-use Rattle.plinq_source.specs.declared.ending.Ending.{Ending}
-use Rattle.plinq_source.specs.declared.ending.Ending.TheVariants.{End}
-use Rattle.plinq_source.specs.Trace.{Trace, ended_trace, followed_by}
-use Rattle.plinq_lambda.specs.Meaning.{Meaning}
-use Rattle.plinq_ops.specs.declared.merge_option.MergeOption.{MergeOption}
+use Rattle.plinq_run.proofs.RunWords.{◌≡◌, refl, ℕ, List, [], ◌∷◌, ◌++◌, ◌+◌, ◌==◌, ◌<◌, nat_le, length, if◌then◌else◌, Bool, true, false, Option, Some, None}
+use Rattle.plinq_run.proofs.RunWords.{Result, Ok, Err, arith, ap, sym, subst, ◌∙◌, append_assoc, append-nil, nat_tests, Ending, End, Trace, ended_trace}
+use Rattle.plinq_run.proofs.RunWords.{followed_by, Meaning, MergeOption, Op, MayAnswer, batches, batches_from, stages_of, answer_of, seq, Leads, Report}
+use Rattle.plinq_run.proofs.RunWords.{RunFault, Sink, Cancelled, reported_ending, Reports, HasRun, Runs}
+use Rattle.std.specs.Prelude.{pos, negsuc}
 use Rattle.plinq_ops.specs.declared.merge_option.MergeOption.TheVariants.{NotBuffered, FullyBuffered}
-use Rattle.plinq_ops.specs.declared.op.Op.{Op}
 use Rattle.plinq_ops.specs.declared.op.Op.TheVariants.{Select, Filter, SelectMany, Take, Skip, TakeWhile, SkipWhile, AsUnordered}
-use Rattle.plinq_ops.specs.Answer.{MayAnswer}
-use Rattle.plinq_ops.specs.Batches.{batches, batches_from, full_batches, held_back, last_batch}
-use Rattle.plinq_ops.specs.Operator.{selected_piece, filtered_piece, selected_many, taken_while, stage_of, stages_of}
-use Rattle.plinq_ops.specs.Query.{merge_in_force}
-use Rattle.plinq_ops.specs.Sequential.{answer_of}
-use Rattle.plinq_ops.specs.SkipWhile.{skipped_from, skipped_while}
-use Rattle.plinq_ops.specs.Stage.{joined_pieces, taken_trace, apply, seq}
-use Rattle.plinq_merge.specs.Sending.{Leads, TakesBeginning}
-use Rattle.plinq_run.specs.declared.report.Report.{Report}
-use Rattle.plinq_run.specs.declared.run_fault.RunFault.{RunFault}
-use Rattle.plinq_run.specs.declared.run_fault.RunFault.TheVariants.{Sink, Cancelled}
-use Rattle.plinq_run.specs.Endings.{reported_ending}
+use Rattle.plinq_ops.specs.{Batches.full_batches, Batches.held_back, Batches.last_batch, Query.merge_in_force, SkipWhile.skipped_from, SkipWhile.skipped_while}
+use Rattle.plinq_ops.specs.{Stage.joined_pieces, Stage.taken_trace, Stage.apply}
+use Rattle.plinq_ops.specs.Operator.{selected_piece, filtered_piece, selected_many, taken_while, stage_of}
+use Rattle.plinq_merge.specs.Sending.{TakesBeginning}
 use Rattle.plinq_run.specs.Headline.{before, or_fault, each, does, answers, in_batches, handed_over, HasDelivered}
-use Rattle.plinq_run.specs.Reports.{Reports}
-use Rattle.plinq_run.specs.Runs.{HasRun, Runs}
 use Rattle.plinq_run.proofs.Stopping.{reports-runs}
 
 -- ---- operators

@@ -8,3 +8,4 @@ mod PartsGiven
 mod Pieces
 mod Runs
 mod Stopping
+mod RunWords

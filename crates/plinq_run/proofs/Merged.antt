@@ -1,55 +1,24 @@
 -- What was accepted of the parts that workers send is merged; and what is reported of it: where no fault is, it is all that was sent.
-use Rattle.std.specs.Prelude.{◌≡◌, List, [], Bool, Option, Some, None, Result, Ok, Err, All}
+use Rattle.plinq_run.proofs.RunWords.{◌≡◌, List, [], Bool, Option, Some, None, Result, Ok, Err, All, sym, ◌∙◌, ap, subst, inl, inr, arith, All-nil, All-weaker}
+use Rattle.plinq_run.proofs.RunWords.{Ending, SourceGhosts, Trace, open_trace, Record, all_shares, Order, ChunkResult, DeliveryFault, NoMemory, MergeFault}
+use Rattle.plinq_run.proofs.RunWords.{delivery_fault_of, merged_trace, IsTaking, AreApart, Ended, RunFault, HasBrokenOff, Breaks, IsOffered, Cause, Other}
+use Rattle.plinq_run.proofs.RunWords.{cause_of, is_close}
 use Rattle.std.specs.declared.alloc.Global.{Global}
-use Rattle.std.proofs.Common.{refl, sym, ◌∙◌, ap, subst, inl, inr, drop, Vec, arith}
-use Rattle.std.proofs.lemmas.Fn.{chained_keeps}
-use Rattle.std.proofs.lemmas.List.Elements.{All-nil, All-push, All-weaker}
-use Rattle.std.proofs.lemmas.List.Folds.{list_any-from_Any}
-use Rattle.plinq_source.specs.declared.ending.Ending.{Ending}
+use Rattle.std.proofs.{Common.refl, Common.drop, Common.Vec, lemmas.Fn.chained_keeps, lemmas.List.Elements.All-push, lemmas.List.Folds.list_any-from_Any}
 use Rattle.plinq_source.specs.declared.memory.OutOfMemory.{OutOfMemory}
-use Rattle.plinq_source.specs.declared.source.Source.{Ghosts as SourceGhosts}
-use Rattle.plinq_source.specs.Trace.{Trace, open_trace}
-use Rattle.plinq_keyed.specs.declared.record.Record.{Record}
-use Rattle.plinq_partition.specs.Partitions.{all_shares}
 use Rattle.plinq_partition.specs.declared.partition.Partition.{Partition}
-use Rattle.plinq_stream.specs.declared.sent.Sent.{Sent}
-use Rattle.plinq_stream.specs.Passes.{knowledge_of}
+use Rattle.plinq_stream.specs.{declared.sent.Sent.Sent, Passes.knowledge_of}
 use Rattle.plinq_stream.proofs.Under.{or-none}
-use Rattle.plinq_ops.specs.declared.order.Order.{Order}
-use Rattle.plinq_ops.specs.declared.results.ChunkResult.{ChunkResult}
-use Rattle.plinq_merge.specs.declared.delivery_fault.DeliveryFault.{DeliveryFault}
-use Rattle.plinq_merge.specs.declared.delivery_fault.DeliveryFault.TheVariants.{Memory as NoMemory}
-use Rattle.plinq_merge.specs.declared.merge_fault.MergeFault.{MergeFault}
-use Rattle.plinq_merge.specs.declared.merge_fault.MergeFault.TheVariants.{Sink, Gap}
-use Rattle.plinq_merge.specs.declared.more.More.{More}
+use Rattle.plinq_merge.specs.declared.{merge_fault.MergeFault.TheVariants.Sink, merge_fault.MergeFault.TheVariants.Gap, more.More.More, joiner.Joiner.Joiner}
 use Rattle.plinq_merge.specs.Joiners.{taker_of, order_of, ending_of, JoinsOffer}
-use Rattle.plinq_merge.specs.Mergers.{delivery_fault_of}
-use Rattle.plinq_merge.specs.Shown.{merged_trace}
-use Rattle.plinq_merge.specs.Taking.{IsTaking}
-use Rattle.plinq_merge.specs.Whole.{AreApart}
 use Rattle.plinq_merge.proofs.Joins.{AreOneMore, joined-cases, takes-joined, takes-broken, joined-stopped}
-use Rattle.plinq_merge.specs.declared.joiner.Joiner.{Joiner}
-use Rattle.plinq_crew.specs.declared.conducting.Returned.{Returned}
-use Rattle.plinq_crew.specs.declared.worker.Crew.{Crew}
-use Rattle.plinq_crew.specs.declared.worker.WorkerContext.{WorkerContext}
+use Rattle.plinq_crew.specs.declared.{conducting.Returned.Returned, worker.Crew.Crew, worker.WorkerContext.WorkerContext}
 use Rattle.plinq_crew.specs.Conducting.{AcceptsEach, Conducts, IsOfCrew, HasReturned}
-use Rattle.plinq_crew.specs.Polls.{HasAccepted}
-use Rattle.plinq_crew.specs.Working.{IsOfOne, IsAnsweredBy, IsWhollyAnsweredBy}
-use Rattle.plinq_crew.proofs.Working.{answered-wholly}
-use Rattle.plinq_crew.proofs.Polls.{accepted-such}
-use Rattle.plinq_run.specs.declared.planning.Ended.{Ended}
-use Rattle.plinq_run.specs.declared.accepting.Merging.{Merging}
-use Rattle.plinq_run.specs.declared.accepting.MergingInto.{MergingInto}
-use Rattle.plinq_run.specs.declared.run_fault.RunFault.{RunFault}
-use Rattle.plinq_run.specs.inner.Merged.{offer_fault, AcceptsAfter, AreSame, AcceptsInto, Stands, HasMerged, HasBrokenOff}
-use Rattle.plinq_run.specs.inner.Conducted.{HasAnswered, HasRunCrew}
-use Rattle.plinq_run.specs.Parting.{Breaks}
-use Rattle.plinq_run.specs.inner.Finishing.{Finishes}
-use Rattle.plinq_run.specs.inner.Offered.{IsOffered}
-use Rattle.plinq_run.specs.Runs.{Cause, Other, cause_of}
-use Rattle.plinq_run.specs.inner.Reported.{cause_in_merge}
-use Rattle.plinq_run.specs.Handed.{is_close}
-use Rattle.plinq_run.specs.inner.FirstFault.{AreSound}
+use Rattle.plinq_crew.specs.{Polls.HasAccepted, Working.IsOfOne, Working.IsAnsweredBy, Working.IsWhollyAnsweredBy}
+use Rattle.plinq_crew.proofs.{Working.answered-wholly, Polls.accepted-such}
+use Rattle.plinq_run.specs.declared.accepting.{Merging.Merging, MergingInto.MergingInto}
+use Rattle.plinq_run.specs.inner.Merged.{offer_fault, AcceptsAfter, AreSame, AcceptsInto, Stands, HasMerged}
+use Rattle.plinq_run.specs.inner.{Conducted.HasAnswered, Conducted.HasRunCrew, Finishing.Finishes, Reported.cause_in_merge, FirstFault.AreSound}
 use Rattle.plinq_run.proofs.Arrived.{apart-push}
 
 -- a fault of the merge has the cause for which the taker broke off

@@ -1,51 +1,17 @@
 -- A taker that was given the accumulators of what was merged was given those of an answer; and its value, where it combines them.
-use Rattle.std.specs.Prelude.{◌≡◌, ◌≤◌, ◌^◌, List, [], length, Bool, true, false, not, ◌&&◌, Option, Some, None, Result, Ok, Err, All, refl}
-use Rattle.std.specs.List.{list_any}
-use Rattle.std.proofs.Common.{sym, ◌∙◌, ap, subst}
-use Rattle.std.proofs.lemmas.List.Elements.{All-weaker}
-use Rattle.plinq_source.specs.declared.ending.Ending.{Ending}
-use Rattle.plinq_source.specs.declared.ending.Ending.TheVariants.{End}
-use Rattle.plinq_source.specs.declared.source.Source.{Ghosts as SourceGhosts}
-use Rattle.plinq_source.specs.Trace.{Trace, followed_by}
-use Rattle.plinq_lambda.specs.Meaning.{Meaning}
-use Rattle.plinq_aggregate.specs.Folding.{Folding, IsFolding, fold_of}
-use Rattle.plinq_partition.specs.Partitions.{all_shares}
-use Rattle.plinq_ops.specs.declared.op.Op.{Op}
-use Rattle.plinq_ops.specs.declared.plan.Plan.{Plan}
-use Rattle.plinq_ops.specs.declared.results.ChunkResult.{ChunkResult}
-use Rattle.plinq_ops.specs.Answer.{MayAnswer}
-use Rattle.plinq_ops.specs.Feeding.{IsFed, is_empty_take}
-use Rattle.plinq_ops.specs.Operator.{stages_of}
-use Rattle.plinq_ops.specs.Plan.{IsPlanOf}
-use Rattle.plinq_ops.specs.Query.{QueryView}
+use Rattle.plinq_run.proofs.RunWords.{◌≡◌, ◌≤◌, ◌^◌, List, [], length, Bool, true, false, Option, Some, None, Result, Ok, Err, All, refl, list_any, sym, ◌∙◌}
+use Rattle.plinq_run.proofs.RunWords.{ap, subst, All-weaker, Ending, End, SourceGhosts, Trace, followed_by, Meaning, Folding, IsFolding, fold_of, all_shares}
+use Rattle.plinq_run.proofs.RunWords.{Op, Plan, ChunkResult, MayAnswer, IsFed, is_empty_take, stages_of, IsPlanOf, QueryView, Stage, seq, seq_after}
+use Rattle.plinq_run.proofs.RunWords.{some_takes_none, some_takes_none-stages_of, seq-followed_by, DeliveryFault, merged_trace, IsTaking, AreApart, IsUndecided}
+use Rattle.plinq_run.proofs.RunWords.{IsResult, IsPart, RunFault, Breaks, IsFolded, Cause, Other, cause_of, IsFoldOf, merged_answer, MayMerge, IsOffered}
+use Rattle.std.specs.Prelude.{not, ◌&&◌}
 use Rattle.plinq_ops.specs.Pipeline.{IsReached, stages}
-use Rattle.plinq_ops.specs.Stage.{Stage, seq, seq_after, some_takes_none}
-use Rattle.plinq_ops.proofs.ByKey.{stages-begun}
-use Rattle.plinq_ops.proofs.Counts.{some_takes_none-stages_of}
-use Rattle.plinq_ops.proofs.Fed.{undecided-left}
-use Rattle.plinq_ops.proofs.Stages.{seq-followed_by}
-use Rattle.plinq_merge.specs.declared.delivery_fault.DeliveryFault.{DeliveryFault}
+use Rattle.plinq_ops.proofs.{ByKey.stages-begun, Fed.undecided-left}
 use Rattle.plinq_merge.specs.declared.delivery_fault.DeliveryFault.TheVariants.{Memory, Sink}
-use Rattle.plinq_merge.specs.Shown.{merged_trace}
-use Rattle.plinq_merge.specs.Taking.{IsTaking}
-use Rattle.plinq_merge.specs.Whole.{AreApart}
-use Rattle.plinq_crew.specs.Plans.{IsUndecided}
-use Rattle.plinq_crew.specs.Results.{IsResult, IsPart}
-use Rattle.plinq_run.specs.declared.fold_blocks.FoldBlocks.{FoldBlocks}
-use Rattle.plinq_run.specs.declared.planning.Conducted.{Conducted}
-use Rattle.plinq_run.specs.declared.run_fault.RunFault.{RunFault}
-use Rattle.plinq_run.specs.Parting.{Breaks, IsFolded, WasGiven, GivesSome}
-use Rattle.plinq_run.specs.Runs.{Cause, Other, cause_of}
-use Rattle.plinq_run.specs.inner.Blocks.{can_fold, Passes, MadeBy}
-use Rattle.plinq_run.specs.inner.Conducted.{HasConducted, answer_ending}
-use Rattle.plinq_run.specs.inner.Folds.{IsFoldOf}
-use Rattle.plinq_run.specs.inner.PlanAnswers.{merged_answer, MayMerge}
-use Rattle.plinq_run.specs.inner.Offered.{IsOffered}
-use Rattle.plinq_run.specs.inner.Standing.{IsOver, given-none, given-past}
-use Rattle.plinq_run.specs.declared.combiner.Combiner.{Combiner}
-use Rattle.plinq_run.specs.Aggregates.{Aggregates, AggregatesSome}
-use Rattle.plinq_run.specs.inner.Valuing.{value_at, value_of}
-use Rattle.plinq_run.specs.inner.Combining.{MadeBy as CombinedBy}
+use Rattle.plinq_run.specs.declared.{fold_blocks.FoldBlocks.FoldBlocks, planning.Conducted.Conducted, combiner.Combiner.Combiner}
+use Rattle.plinq_run.specs.{Parting.WasGiven, Parting.GivesSome, Aggregates.Aggregates, Aggregates.AggregatesSome}
+use Rattle.plinq_run.specs.inner.{Blocks.can_fold, Blocks.Passes, Blocks.MadeBy, Conducted.HasConducted, Conducted.answer_ending, Standing.IsOver}
+use Rattle.plinq_run.specs.inner.{Standing.given-none, Standing.given-past, Valuing.value_at, Valuing.value_of, Combining.MadeBy as CombinedBy}
 use Rattle.plinq_run.proofs.Runs.{merged-may, begun-in, AsItIs, plain-part, planned-may}
 use Rattle.plinq_run.proofs.Folds.{merged_trace-folded, folds-apart, unfolded}
 

@@ -1,28 +1,14 @@
 -- Folds a piece at a time: of a chunk's answer, and of what one thread feeds, of which the last piece waits.
-use Rattle.std.specs.Prelude.{◌≡◌, ℕ, suc, ◌+◌, ◌<◌, ◌^◌, List, [], ◌∷◌, ◌++◌, length, nat_lt, true, false, cond, Option, Some, None, MatchBool, is_some, refl, ◌≤◌}
-use Rattle.std.specs.Global.{Vec}
-use Rattle.std.specs.List.{fold}
-use Rattle.std.proofs.Common.{sym, ◌∙◌, ap, arith, append-nil, append_assoc, length-append}
-use Rattle.std.proofs.lemmas.List.Sums.{fold-append}
-use Rattle.plinq_source.specs.declared.ending.Ending.{Ending}
-use Rattle.plinq_source.specs.Trace.{Trace, open_trace}
-use Rattle.plinq_lambda.specs.Meaning.{Meaning}
-use Rattle.plinq_aggregate.specs.Folding.{Folding, fold_of}
-use Rattle.plinq_keyed.specs.declared.chunk.Chunk.{Chunk}
-use Rattle.plinq_ops.specs.declared.op.Op.{Op}
-use Rattle.plinq_ops.specs.declared.frag_end.FragEnd.{FragEnd}
-use Rattle.plinq_ops.specs.declared.frag_end.FragEnd.TheVariants.{More, Dropped}
-use Rattle.plinq_ops.specs.declared.results.ChunkResult.{ChunkResult}
-use Rattle.plinq_ops.specs.Fragment.{fragment_of}
-use Rattle.plinq_ops.specs.Chunk.{ChunkAnswer, no_more, dropped_at, before_answer, chunk_answer, AfterItems, IsChunkResult, IsToldBy}
-use Rattle.plinq_ops.specs.Stage.{Stage, seq, some_takes_none}
-use Rattle.plinq_ops.specs.Feeding.{IsFed, FeedsFrom}
-use Rattle.plinq_ops.specs.Sequential.{first_items}
-use Rattle.plinq_ops.proofs.Fed.{fed-none}
-use Rattle.plinq_ops.proofs.Answered.{fed-on, fed-over, least-over}
+use Rattle.plinq_run.proofs.RunWords.{◌≡◌, ℕ, ◌+◌, ◌<◌, ◌^◌, List, [], ◌∷◌, ◌++◌, length, true, false, cond, Option, Some, None, MatchBool, refl, ◌≤◌, fold}
+use Rattle.plinq_run.proofs.RunWords.{sym, ◌∙◌, ap, arith, append-nil, append_assoc, Ending, Trace, open_trace, Meaning, Folding, fold_of, Chunk, Op, Dropped}
+use Rattle.plinq_run.proofs.RunWords.{ChunkResult, ChunkAnswer, IsChunkResult, IsToldBy, Stage, seq, some_takes_none, IsFed, IsFoldOf}
+use Rattle.std.specs.{Prelude.suc, Prelude.nat_lt, Prelude.is_some, Global.Vec}
+use Rattle.std.proofs.{Common.length-append, lemmas.List.Sums.fold-append}
+use Rattle.plinq_ops.specs.{declared.frag_end.FragEnd.FragEnd, declared.frag_end.FragEnd.TheVariants.More, Fragment.fragment_of, Chunk.no_more}
+use Rattle.plinq_ops.specs.{Chunk.dropped_at, Chunk.before_answer, Chunk.chunk_answer, Chunk.AfterItems, Feeding.FeedsFrom, Sequential.first_items}
+use Rattle.plinq_ops.proofs.{Fed.fed-none, Answered.fed-on, Answered.fed-over, Answered.least-over}
 use Rattle.plinq_crew.specs.Results.{IsMadeOf}
-use Rattle.plinq_run.specs.inner.Folds.{IsFoldOf, IsFoldOfChunk}
-use Rattle.plinq_run.specs.inner.SequentialFold.{FoldsAll}
+use Rattle.plinq_run.specs.inner.{Folds.IsFoldOfChunk, SequentialFold.FoldsAll}
 
 -- after an answer that leaves the run open that of the items after it
 abbrev joined_by : {T : Type 0} → Option ℕ → ChunkAnswer T → ChunkAnswer T → ChunkAnswer T

@@ -1,67 +1,24 @@
 -- How a run ends: what was merged is how an answer begins, and all of it where the answer has ended; and what is reported then.
-use Rattle.std.specs.Prelude.{◌≡◌, ℕ, ◌≤◌, ◌^◌, List, [], ◌∷◌, length, Option, Some, None, Result, Ok, Err, All, refl, Bool, true, false, IfOk, IfErr}
-use Rattle.std.specs.List.{list_any}
-use Rattle.std.proofs.Common.{sym, ◌∙◌, ap, subst, append-nil, arith}
-use Rattle.std.proofs.lemmas.List.Elements.{All-head, All-tail, All-weaker}
-use Rattle.plinq_source.specs.declared.ending.Ending.{Ending}
-use Rattle.plinq_source.specs.Trace.{Trace, followed_by, ended_trace}
+use Rattle.plinq_run.proofs.RunWords.{◌≡◌, ℕ, ◌≤◌, ◌^◌, List, [], ◌∷◌, length, Option, Some, None, Result, Ok, Err, All, refl, Bool, true, false, IfOk}
+use Rattle.plinq_run.proofs.RunWords.{list_any, sym, ◌∙◌, ap, subst, append-nil, arith, All-head, All-tail, All-weaker, Ending, Trace, followed_by, ended_trace}
+use Rattle.plinq_run.proofs.RunWords.{SourceGhosts, End, Meaning, Record, in_ticket_order, all_shares, MergeOption, Order, ByKey, ByArrival, Plan, ChunkResult}
+use Rattle.plinq_run.proofs.RunWords.{batches, batches_from, glue, stages_of, seq, seq_after, seq-followed_by, Op, are_keyless, is_empty_take, IsRearranged}
+use Rattle.plinq_run.proofs.RunWords.{MayAnswer, IsPlanOf, QueryView, answer_of, some_takes_none-stages_of, DeliveryFault, NoMemory, Leads, merged_trace}
+use Rattle.plinq_run.proofs.RunWords.{AreApart, IsUndecided, IsResult, IsPart, RunFault, Ended, HasBrokenOff, Breaks, merged_answer, MayMerge, IsOffered}
+use Rattle.plinq_run.proofs.RunWords.{Covers, Reports, HasRun, Cause, SinkRefused, Other, cause_of, BreaksFor, Report, handed_trace}
+use Rattle.std.specs.Prelude.{IfErr}
 use Rattle.plinq_source.proofs.Followed.{followed_by-ended}
-use Rattle.plinq_source.specs.declared.source.Source.{Ghosts as SourceGhosts}
-use Rattle.plinq_source.specs.declared.ending.Ending.TheVariants.{End}
-use Rattle.plinq_lambda.specs.Meaning.{Meaning}
-use Rattle.plinq_keyed.specs.declared.record.Record.{Record}
-use Rattle.plinq_ticket.specs.Shares.{in_ticket_order}
 use Rattle.plinq_partition.specs.GivenBack.{common_origin}
-use Rattle.plinq_partition.specs.Partitions.{all_shares}
-use Rattle.plinq_ops.specs.declared.merge_option.MergeOption.{MergeOption}
-use Rattle.plinq_ops.specs.declared.order.Order.{Order}
-use Rattle.plinq_ops.specs.declared.order.Order.TheVariants.{ByKey, ByArrival}
-use Rattle.plinq_ops.specs.declared.plan.Plan.{Plan}
-use Rattle.plinq_ops.specs.declared.results.ChunkResult.{ChunkResult}
-use Rattle.plinq_ops.specs.Batches.{batch_size, batches, batches_from}
-use Rattle.plinq_ops.specs.Fragment.{glue}
-use Rattle.plinq_ops.specs.Operator.{stages_of}
-use Rattle.plinq_ops.specs.Row.{AreOffers}
-use Rattle.plinq_ops.specs.Stage.{seq, seq_after}
-use Rattle.plinq_ops.proofs.Stages.{seq-followed_by}
-use Rattle.plinq_ops.specs.declared.op.Op.{Op}
-use Rattle.plinq_ops.specs.ByKey.{are_keyless, is_by_key}
-use Rattle.plinq_ops.specs.Feeding.{is_empty_take}
-use Rattle.plinq_ops.specs.Answer.{IsRearranged, Answer, MayAnswer}
-use Rattle.plinq_ops.specs.Plan.{IsPlanOf, order_of, worker_part, after_part}
-use Rattle.plinq_ops.specs.Query.{QueryView}
-use Rattle.plinq_ops.specs.Sequential.{answer_of}
-use Rattle.plinq_ops.proofs.Answered.{answer-of_none}
+use Rattle.plinq_ops.specs.{Batches.batch_size, Row.AreOffers, ByKey.is_by_key, Answer.Answer, Plan.order_of, Plan.worker_part, Plan.after_part}
+use Rattle.plinq_ops.proofs.{Answered.answer-of_none, Glue.answer_of-split, Parts.worker-keyless}
 use Rattle.plinq_ops.proofs.Answers.{IsRearranged-refl, Answer-rearranged, Answer-sequential}
-use Rattle.plinq_ops.proofs.Counts.{some_takes_none-stages_of}
-use Rattle.plinq_ops.proofs.Glue.{answer_of-split}
-use Rattle.plinq_ops.proofs.Parts.{worker-keyless}
-use Rattle.plinq_merge.specs.Deliveries.{batches-first}
-use Rattle.plinq_merge.specs.declared.delivery_fault.DeliveryFault.{DeliveryFault}
-use Rattle.plinq_merge.specs.declared.delivery_fault.DeliveryFault.TheVariants.{Memory as NoMemory, Sink as Refusal}
-use Rattle.plinq_merge.specs.declared.deliver.Deliver.{Deliver}
+use Rattle.plinq_merge.specs.{Deliveries.batches-first, Sending.IsCutOff, Shown.Merge, Shown.answer, Shown.shown_batches, Whole.AreFirstOf}
+use Rattle.plinq_merge.specs.{inner.Sent.cut-before}
+use Rattle.plinq_merge.specs.declared.{delivery_fault.DeliveryFault.TheVariants.Sink as Refusal, deliver.Deliver.Deliver}
 use Rattle.plinq_merge.specs.Delivering.{Line, line_of, Gives, MadeBy}
-use Rattle.plinq_merge.specs.Sending.{Leads, IsCutOff}
-use Rattle.plinq_merge.specs.Shown.{Merge, merged_trace, answer, shown_batches}
-use Rattle.plinq_merge.specs.Whole.{AreApart, AreFirstOf}
-use Rattle.plinq_merge.proofs.Offers.{answer-open}
-use Rattle.plinq_merge.specs.inner.Sent.{cut-before}
-use Rattle.plinq_merge.proofs.Whole.{merged_trace-begins}
-use Rattle.plinq_crew.specs.Plans.{IsUndecided}
-use Rattle.plinq_crew.specs.Results.{IsResult, IsPart}
-use Rattle.plinq_run.specs.declared.run_fault.RunFault.{RunFault}
-use Rattle.plinq_run.specs.declared.planning.Ended.{Ended}
-use Rattle.plinq_run.specs.inner.Merged.{merge_for, HasEnded, HasBrokenOff}
-use Rattle.plinq_run.specs.Parting.{Breaks}
-use Rattle.plinq_run.specs.inner.PlanAnswers.{merged_answer, MayTake, MayMerge}
-use Rattle.plinq_run.specs.inner.Offered.{IsOffered, Covers}
-use Rattle.plinq_run.specs.Reports.{IsBroken, Reports}
-use Rattle.plinq_run.specs.Runs.{HasRun, Cause, SinkRefused, Other, cause_of, BreaksFor}
-use Rattle.plinq_run.specs.declared.report.Report.{Report}
-use Rattle.plinq_run.specs.Handed.{handed_trace}
-use Rattle.plinq_run.specs.inner.Reported.{IsReportOf}
-use Rattle.plinq_run.proofs.Arrived.{are-true_tails, arrival-begins}
-use Rattle.plinq_run.proofs.Handed.{result-covered, covers-handed}
+use Rattle.plinq_merge.proofs.{Offers.answer-open, Whole.merged_trace-begins}
+use Rattle.plinq_run.specs.{inner.Merged.merge_for, inner.Merged.HasEnded, inner.PlanAnswers.MayTake, Reports.IsBroken, inner.Reported.IsReportOf}
+use Rattle.plinq_run.proofs.{Arrived.are-true_tails, Arrived.arrival-begins, Handed.result-covered, Handed.covers-handed}
 
 module _ {L T : Type 0} (meaning : L → Meaning T) (plan : Plan L) (t : Trace T) where
   are-offers : (rs : List (ChunkResult T)) → All (IsResult meaning plan t) rs → AreOffers meaning plan.worker.now t rs

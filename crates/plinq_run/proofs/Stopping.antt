@@ -1,28 +1,15 @@
 -- What is reported of a run; and of one into a sink with its token, in terms of the token and the sink.
-use Rattle.std.specs.Prelude.{◌≡◌, ℕ, List, [], ◌∷◌, Bool, true, false, ◌||◌, ◌⊎◌, Result, Ok, Err, IfOk, refl}
-use Rattle.std.proofs.Common.{sym, ◌∙◌, subst, append-nil, inl, inr}
+use Rattle.plinq_run.proofs.RunWords.{◌≡◌, ℕ, List, [], ◌∷◌, Bool, true, false, ◌||◌, ◌⊎◌, Result, Ok, Err, IfOk, refl, sym, ◌∙◌, subst, append-nil, inl, inr}
+use Rattle.plinq_run.proofs.RunWords.{Trace, End, MergeOption, batches, MergeFault, Delivery, Passes, IsStopped, delivery_fault_of, Leads, leads-map, Report}
+use Rattle.plinq_run.proofs.RunWords.{RunFault, Sink, Cancelled, reported_ending, Reports, HasRun, Cause, SinkRefused, Other, cause_of, BreaksFor, Runs}
+use Rattle.plinq_run.proofs.RunWords.{RunsWith, handed_trace}
 use Rattle.std.proofs.Math.Bool.{or-false, or-true}
-use Rattle.plinq_source.specs.Trace.{Trace}
-use Rattle.plinq_source.specs.declared.ending.Ending.TheVariants.{End}
-use Rattle.plinq_ops.specs.declared.merge_option.MergeOption.{MergeOption}
-use Rattle.plinq_ops.specs.Batches.{batches}
-use Rattle.plinq_merge.specs.declared.merge_fault.MergeFault.{MergeFault}
 use Rattle.plinq_merge.specs.declared.merge_fault.MergeFault.TheVariants.{Memory as NoMemory, Sink as Refusal}
-use Rattle.plinq_merge.specs.declared.with_cancellation.WithCancellation.{WithCancellation}
-use Rattle.plinq_merge.specs.Cancelling.{Delivery, Passes, IsRefused, IsAsked, IsStopped}
+use Rattle.plinq_merge.specs.{declared.with_cancellation.WithCancellation.WithCancellation, Cancelling.IsRefused, Cancelling.IsAsked, Mergers.StopsShort}
 use Rattle.plinq_merge.specs.Lent.{AreSame, delivery_of, Takes, Refuses}
-use Rattle.plinq_merge.specs.Mergers.{delivery_fault_of, StopsShort}
-use Rattle.plinq_merge.specs.Sending.{Leads}
-use Rattle.plinq_merge.proofs.Lent.{leads-map, cut-map, lets-told, stops-told, leads-told, cut-told, leads-on, cut-same, cut-on, cut-kept}
-use Rattle.plinq_run.specs.declared.report.Report.{Report}
-use Rattle.plinq_run.specs.declared.run_fault.RunFault.{RunFault}
-use Rattle.plinq_run.specs.declared.run_fault.RunFault.TheVariants.{Sink, Cancelled}
-use Rattle.plinq_run.specs.Endings.{reported_ending, RunsDecided, RunsDecidedWith}
-use Rattle.plinq_run.specs.Reports.{Reports}
-use Rattle.plinq_run.specs.Runs.{HasRun, HasBroken, Cause, SinkRefused, Stopped, Other, cause_of, BreaksFor, Runs}
-use Rattle.plinq_run.specs.Stopping.{is_stopped, ReportsWith, RunsWith}
+use Rattle.plinq_merge.proofs.Lent.{cut-map, lets-told, stops-told, leads-told, cut-told, leads-on, cut-same, cut-on, cut-kept}
+use Rattle.plinq_run.specs.{Endings.RunsDecided, Endings.RunsDecidedWith, Runs.HasBroken, Runs.Stopped, Stopping.is_stopped, Stopping.ReportsWith}
 use Rattle.plinq_run.specs.inner.TokenReports.{ReportsLent, IsAskedAtLast}
-use Rattle.plinq_run.specs.Handed.{handed_trace}
 
 -- a run that broke off was cut off
 breaks-cut : {K T : Type 0} (accepts : K → List T → K → Type 0) (refuses : K → List T → ℕ → K → Type 0) (cause : Cause) (bs : List (List T)) (s s' : K) → BreaksFor accepts refuses cause bs s s'

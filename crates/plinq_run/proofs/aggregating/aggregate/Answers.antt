@@ -1,12 +1,8 @@
 use Rattle.std.proofs.Common.{rules, ◌≡◌, [], true, refl, sym, ◌∙◌, subst}
-use Rattle.plinq_source.specs.declared.ending.Ending.TheVariants.{End}
-use Rattle.plinq_source.specs.Trace.{ended_trace}
+use Rattle.plinq_source.specs.{declared.ending.Ending.TheVariants.End, Trace.ended_trace}
 use Rattle.plinq_ops.specs.Answer.{MayAnswer}
-use Rattle.plinq_run.specs.declared.combiner.Combiner.{Combiner}
-use Rattle.plinq_run.specs.Parting.{GivesSome}
-use Rattle.plinq_run.specs.inner.Combining.{MadeBy}
-use Rattle.plinq_run.proofs.Runs.{decided-may}
-use Rattle.plinq_run.proofs.PartsGiven.{value-given}
+use Rattle.plinq_run.specs.{declared.combiner.Combiner.Combiner, Parting.GivesSome, inner.Combining.MadeBy}
+use Rattle.plinq_run.proofs.{Runs.decided-may, PartsGiven.value-given}
 use Rattle.plinq_run.proofs.aggregating.aggregate.Goals as goal
 
 pub returns-then-split-clause-value : goal.returns-then-split-clause-value

@@ -1,6 +1,5 @@
 use Rattle.std.proofs.Common.{true}
-use Rattle.plinq_ops.specs.Answer.{MayAnswer}
-use Rattle.plinq_ops.specs.Sequential.{answer_of}
+use Rattle.plinq_ops.specs.{Answer.MayAnswer, Sequential.answer_of}
 use Rattle.plinq_run.proofs.Stopping.{reports-runs}
 use Rattle.plinq_run.proofs.laws.ordered_run_is_sequential.Goals as goal
 

@@ -1,6 +1,5 @@
 use Rattle.std.proofs.Common.{true}
-use Rattle.plinq_ops.specs.Answer.{MayAnswer}
-use Rattle.plinq_ops.specs.Sequential.{answer_of}
+use Rattle.plinq_ops.specs.{Answer.MayAnswer, Sequential.answer_of}
 use Rattle.plinq_run.proofs.Stopping.{reports-accounts}
 use Rattle.plinq_run.proofs.laws.records_account_for_the_answer.Goals as goal
 

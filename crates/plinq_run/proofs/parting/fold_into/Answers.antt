@@ -1,9 +1,7 @@
 use Rattle.std.proofs.Common.{rules, ◌≡◌, [], true, sym, ◌∙◌}
-use Rattle.plinq_source.specs.declared.ending.Ending.TheVariants.{End}
-use Rattle.plinq_source.specs.Trace.{ended_trace}
+use Rattle.plinq_source.specs.{declared.ending.Ending.TheVariants.End, Trace.ended_trace}
 use Rattle.plinq_ops.specs.Answer.{MayAnswer}
-use Rattle.plinq_run.proofs.Runs.{decided-may, planned-undecided}
-use Rattle.plinq_run.proofs.PartsGiven.{gives-weaker, planned-given}
+use Rattle.plinq_run.proofs.{Runs.decided-may, Runs.planned-undecided, PartsGiven.gives-weaker, PartsGiven.planned-given}
 use Rattle.plinq_run.proofs.parting.fold_into.Goals as goal
 
 pub returns-then-plan : goal.returns-then-plan

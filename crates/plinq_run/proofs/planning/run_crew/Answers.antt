@@ -2,8 +2,7 @@ use Rattle.std.proofs.Common.{rules, [], refl, sym, ap, ◌∙◌, subst}
 use Rattle.plinq_merge.specs.Joiners.{HasJoined}
 use Rattle.plinq_merge.proofs.Joins.{begun-joined}
 use Rattle.plinq_crew.specs.Conducting.{Conducts}
-use Rattle.plinq_run.specs.inner.Merged.{AcceptsInto, HasBrokenOff}
-use Rattle.plinq_run.specs.declared.run_fault.RunFault.TheVariants.{Memory}
+use Rattle.plinq_run.specs.{inner.Merged.AcceptsInto, inner.Merged.HasBrokenOff, declared.run_fault.RunFault.TheVariants.Memory}
 use Rattle.plinq_run.proofs.Merged.{none-broken, conducts-same, reported-run}
 use Rattle.plinq_run.proofs.planning.run_crew.Goals as goal
 

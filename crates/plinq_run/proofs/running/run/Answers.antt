@@ -1,16 +1,11 @@
 use Rattle.std.proofs.Common.{rules, ◌≡◌, ◌≤◌, ◌^◌, [], true, Ok, Err, length, sym, ap, ◌∙◌, subst, refl}
 use Rattle.std.proofs.lemmas.Result.{IfOk-weaker}
-use Rattle.plinq_source.specs.declared.ending.Ending.TheVariants.{End}
-use Rattle.plinq_source.specs.Trace.{Trace, ended_trace}
+use Rattle.plinq_source.specs.{declared.ending.Ending.TheVariants.End, Trace.Trace, Trace.ended_trace}
 use Rattle.plinq_keyed.specs.History.{IsLegalHistory}
 use Rattle.plinq_partition.specs.Partitions.{all_shares}
-use Rattle.plinq_ops.specs.Batches.{batches}
-use Rattle.plinq_ops.specs.Query.{merge_in_force}
-use Rattle.plinq_ops.specs.Sequential.{answer_of}
-use Rattle.plinq_run.specs.declared.run_fault.RunFault.TheVariants.{Memory}
-use Rattle.plinq_run.specs.Handed.{has_close}
-use Rattle.plinq_run.proofs.Handed.{closed-in_order}
-use Rattle.plinq_run.proofs.Headline.{ordered-delivered}
+use Rattle.plinq_ops.specs.{Batches.batches, Query.merge_in_force, Sequential.answer_of}
+use Rattle.plinq_run.specs.{declared.run_fault.RunFault.TheVariants.Memory, Handed.has_close}
+use Rattle.plinq_run.proofs.{Handed.closed-in_order, Headline.ordered-delivered}
 use Rattle.plinq_run.proofs.Runs.{whole-reported, broken-reported, decided-may, may-sequential, planned-undecided}
 use Rattle.plinq_run.proofs.running.run.Goals as goal
 

@@ -1,6 +1,5 @@
 use Rattle.std.proofs.Common.{rules, ◌∙◌, refl}
-use Rattle.plinq_ops.proofs.Fed.{undecided-left}
-use Rattle.plinq_ops.proofs.Answered.{feeds-smaller}
+use Rattle.plinq_ops.proofs.{Fed.undecided-left, Answered.feeds-smaller}
 use Rattle.plinq_run.proofs.Pieces.{folded-none, folded-on, folded-full, finished}
 use Rattle.plinq_run.proofs.sequential_fold.fold_all.Goals as goal
 

@@ -1,6 +1,5 @@
 use Rattle.std.proofs.Common.{◌≡◌, length, ◌-◌, None}
-use Rattle.plinq_ops.specs.Pipeline.{stages}
-use Rattle.plinq_ops.specs.Sequential.{first_items}
+use Rattle.plinq_ops.specs.{Pipeline.stages, Sequential.first_items}
 use Rattle.plinq_run.proofs.Pieces.{HasFolded}
 use Rattle.plinq_run.proofs.sequential_fold.fold_all.Given as goal
 

@@ -1,12 +1,7 @@
-use Rattle.std.proofs.Common.{rules, ◌≡◌, true, false, sym, ◌∙◌, refl}
 use Rattle.std.specs.List.{list_any}
-use Rattle.std.proofs.lemmas.Result.{IfOk-weaker}
-use Rattle.plinq_ops.specs.Stage.{some_takes_none}
-use Rattle.plinq_ops.specs.Operator.{stages_of}
-use Rattle.plinq_ops.specs.Feeding.{is_empty_take}
-use Rattle.plinq_ops.proofs.Answered.{answer-of_none, least-of_none}
-use Rattle.plinq_ops.proofs.ByKey.{stages-begun}
-use Rattle.plinq_ops.proofs.Counts.{some_takes_none-stages_of}
+use Rattle.std.proofs.{Common.rules, Common.◌≡◌, Common.true, Common.false, Common.sym, Common.◌∙◌, Common.refl, lemmas.Result.IfOk-weaker}
+use Rattle.plinq_ops.specs.{Stage.some_takes_none, Operator.stages_of, Feeding.is_empty_take}
+use Rattle.plinq_ops.proofs.{Answered.answer-of_none, Answered.least-of_none, ByKey.stages-begun, Counts.some_takes_none-stages_of}
 use Rattle.plinq_run.specs.inner.SequentialFold.{FoldsAll}
 use Rattle.plinq_run.proofs.sequential_fold.fold_sequentially.Goals as goal
 

@@ -1,9 +1,6 @@
+use Rattle.std.specs.{List.fold, Vec.Iter.into_iter_len, Vec.Iter.into_iter_items}
 use Rattle.std.proofs.Common.{rules, refl, ◌≡◌, ◌∙◌, sym, ap, length}
-use Rattle.std.specs.List.{fold}
-use Rattle.std.specs.Vec.Iter.{into_iter_len, into_iter_items}
-use Rattle.std.proofs.lemmas.List.{map-id}
-use Rattle.std.proofs.lemmas.Iterator.Adapters.{YieldsList-from_vec}
-use Rattle.std.proofs.lemmas.Iterator.Consumers.{YieldsList-end}
+use Rattle.std.proofs.lemmas.{List.map-id, Iterator.Adapters.YieldsList-from_vec, Iterator.Consumers.YieldsList-end}
 use Rattle.plinq_run.proofs.combiner.CombinerTakeIntoAcc.take.Goals as goal
 
 pub returns-clause-made : goal.returns-clause-made

@@ -1,7 +1,6 @@
 use Rattle.std.proofs.Common.{◌≤◌, ◌^◌, length, refl}
 use Rattle.plinq_ops.proofs.ByKey.{stages-begun}
-use Rattle.plinq_run.specs.declared.fold_blocks.FoldBlocks.{FoldBlocks}
-use Rattle.plinq_run.specs.declared.run_fault.RunFault.TheVariants.{Memory}
+use Rattle.plinq_run.specs.declared.{fold_blocks.FoldBlocks.FoldBlocks, run_fault.RunFault.TheVariants.Memory}
 use Rattle.plinq_run.proofs.PartsGiven.{none-given, begun-folds, blocks-given}
 use Rattle.plinq_run.proofs.run_request.RunRequest.fold_blocks_into.Goals as goal
 

@@ -1,6 +1,5 @@
+use Rattle.std.specs.{Prelude.is_some, List.fold}
 use Rattle.std.proofs.Common.{rules, ◌≡◌, ◌+◌, ◌<◌, ◌^◌, [], ◌++◌, length, true, false, arith, subst, sym, ◌∙◌, ap, length-append}
-use Rattle.std.specs.Prelude.{is_some}
-use Rattle.std.specs.List.{fold}
 use Rattle.std.proofs.lemmas.List.{nil_from_length}
 use Rattle.plinq_ops.specs.Chunk.{chunk_answer}
 use Rattle.plinq_run.proofs.Pieces.{HasFoldedTo, folded-piece, folded-all, folded-stopped}

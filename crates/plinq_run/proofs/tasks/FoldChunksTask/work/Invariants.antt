@@ -1,6 +1,5 @@
 use Rattle.std.proofs.Common.{◌+◌, ◌<◌, ◌≤◌, ◌^◌, length}
-use Rattle.plinq_ops.specs.Chunk.{chunk_answer}
-use Rattle.plinq_ops.specs.Cut.{most_items}
+use Rattle.plinq_ops.specs.{Chunk.chunk_answer, Cut.most_items}
 use Rattle.plinq_run.proofs.Pieces.{HasFoldedTo}
 use Rattle.plinq_run.proofs.tasks.FoldChunksTask.work.Given as goal
 
