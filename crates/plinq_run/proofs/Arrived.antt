@@ -2,8 +2,8 @@
 -- some were taken by their places are with these all items in another order.
 use Rattle.plinq_run.proofs.RunWords.{◌≡◌, ℕ, ◌+◌, ◌<◌, ◌≤◌, ◌^◌, ◌==◌, ◌⊎◌, List, [], ◌∷◌, ◌++◌, length, take, drop, true, false, cond, Option, Some, None}
 use Rattle.plinq_run.proofs.RunWords.{All, refl, Bool, ◌||◌, IsPermutation, IfSome, sym, ◌∙◌, ap, subst, inl, inr, arith, append_assoc, All-head, All-tail}
-use Rattle.plinq_run.proofs.RunWords.{take-append-drop, length-take-le, length-drop, IsPermutation-refl, IsPermutation-trans, Ending, Trace, open_trace}
-use Rattle.plinq_run.proofs.RunWords.{followed_by, Meaning, Op, ByArrival, Plan, ChunkResult, IsRearranged, result_trace, glue, are_keyless, EndsAt}
+use Rattle.plinq_run.proofs.RunWords.{take-append-drop, length-take-le, length-drop, IsPermutation-refl, IsPermutation-trans, All-weaker, Ending, Trace}
+use Rattle.plinq_run.proofs.RunWords.{open_trace, followed_by, Meaning, Op, ByArrival, Plan, ChunkResult, IsRearranged, result_trace, glue, are_keyless, EndsAt}
 use Rattle.plinq_run.proofs.RunWords.{end_of_result, Interval, unbroken_row, first_gap, is_within, is_offered, all_placed, all_told, all_given, ending_at, row}
 use Rattle.plinq_run.proofs.RunWords.{arrived_trace, merged_trace, AreApart, IsResult}
 use Rattle.std.proofs.lemmas.Bool.{or_parts, or_from, false_from_ne_true}
@@ -56,10 +56,9 @@ abbrev pub taken_by : {T : Type 0} → List T → List (ChunkResult T) → List 
 taken_by xs [] = []
 taken_by xs (r ∷ rs) = take r.count (drop r.first xs) ++ taken_by xs rs
 
--- the results are of items that there are
-abbrev pub AreWithin : {T : Type 0} → List T → List (ChunkResult T) → Type 0
-AreWithin xs [] = Unit {0}
-AreWithin xs (r ∷ rs) = (end_of_result r ≤ length xs) × AreWithin xs rs
+-- a result is of items that there are
+abbrev pub IsWithin : {T : Type 0} → List T → ChunkResult T → Type 0
+IsWithin xs r = end_of_result r ≤ length xs
 
 -- one result more, no key of which was offered, is taken from what is left
 without-result : {T : Type 0} (xs : List T) (r : ChunkResult T) (rs : List (ChunkResult T)) → end_of_result r ≤ length xs → AreNew rs r
@@ -99,13 +98,14 @@ moved-front w a s b =
     subst (λ ys. IsPermutation (w ++ (a ++ (s ++ b))) ys) to (subst (λ ys. IsPermutation ys ((s ++ (w ++ a)) ++ b)) from comm)
 
 -- what results that are apart take of some items, and what is left, are these items in another order
-pub rearranged-taken : {T : Type 0} (xs : List T) (rs : List (ChunkResult T)) → AreWithin xs rs → AreApart rs → IsPermutation xs (taken_by xs rs ++ without (is_offered rs) 0 xs)
+pub rearranged-taken : {T : Type 0} (xs : List T) (rs : List (ChunkResult T)) → All (IsWithin xs) rs → AreApart rs
+    → IsPermutation xs (taken_by xs rs ++ without (is_offered rs) 0 xs)
 rearranged-taken xs [] within apart = subst (λ ys. IsPermutation xs ys) (sym (without-none 0 xs)) (IsPermutation-refl xs)
 rearranged-taken {T} xs (r ∷ rs) within apart =
     let S : List T = take r.count (drop r.first xs) in
     let W : List T = taken_by xs rs in
-    let place = without-result xs r rs within.0 apart.0 in
-    let before = rearranged-taken xs rs within.1 apart.1 in
+    let place = without-result xs r rs (All-head (IsWithin xs) r rs within) apart.0 in
+    let before = rearranged-taken xs rs (All-tail (IsWithin xs) r rs within) apart.1 in
     let here = subst (λ ys. IsPermutation xs (W ++ ys)) place.2 before in
     let moved = IsPermutation-trans xs (W ++ (place.0 ++ (S ++ place.1))) ((S ++ W) ++ (place.0 ++ place.1)) here (moved-front W place.0 S place.1) in
     subst (λ ys. IsPermutation xs ((S ++ W) ++ ys)) (sym place.3) moved
@@ -125,10 +125,6 @@ apart-push (q ∷ qs) r apart new = (
 -- ---- what arrived
 
 module _ {L T : Type 0} (meaning : L → Meaning T) (plan : Plan L) (t : Trace T) where
-  are-within : (rs : List (ChunkResult T)) → All (IsResult meaning plan t) rs → AreWithin t.items rs
-  are-within [] are = tt
-  are-within (r ∷ rs) are = ((All-head (IsResult meaning plan t) r rs are).within, are-within rs (All-tail (IsResult meaning plan t) r rs are))
-
   pub are-true_tails : (rs : List (ChunkResult T)) → All (IsResult meaning plan t) rs → AreTrueTails t rs
   are-true_tails [] are = tt
   are-true_tails (r ∷ rs) are = ((All-head (IsResult meaning plan t) r rs are).tail, are-true_tails rs (All-tail (IsResult meaning plan t) r rs are))
@@ -203,7 +199,8 @@ arrival-begins {L} {T} meaning plan t few by keyless offers are apart =
     let source_end : Option (ℕ × Ending) = all_told None offers in
     let keys : Trace T = row source_end 0 (all_placed ByArrival [] offers) in
     let rest : Trace T = glued_trace meaning ws (0 + length xs) left t.ending in
-    let any : IsRearranged t taken = record { items = rearranged-taken t.items offers (are-within meaning plan t offers are) apart; ending = refl } in
+    let within = All-weaker (IsResult meaning plan t) (IsWithin t.items) (λ r is. is.within) offers are in
+    let any : IsRearranged t taken = record { items = rearranged-taken t.items offers within apart; ending = refl } in
     let all : glue meaning ws taken ≡ followed_by first rest =
     glued_trace-append meaning ws 0 xs left t.ending ∙ ap (λ u. followed_by u rest) (sym (arrived_trace-glued_trace meaning plan t few by keyless offers are)) in
     elim (row-comes offers apart) [

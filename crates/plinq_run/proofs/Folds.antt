@@ -1,10 +1,10 @@
 -- Merging folded results is folding what the results merge to; what is a fold is one of a result.
-use Rattle.plinq_run.proofs.RunWords.{◌≡◌, ℕ, ◌+◌, ◌==◌, List, [], ◌∷◌, Bool, true, false, cond, ◌||◌, Option, None, All, refl, fold, sym, ◌∙◌, ap, subst}
+use Rattle.plinq_run.proofs.RunWords.{◌≡◌, ℕ, ◌==◌, List, [], ◌∷◌, Bool, true, false, cond, ◌||◌, Option, None, All, refl, fold, ◌+◌, sym, ◌∙◌, ap, subst}
 use Rattle.plinq_run.proofs.RunWords.{All-cons, All-head, All-tail, All-nil, Ending, Trace, open_trace, Meaning, Folding, fold_of, IsFolding, Order, ByKey}
 use Rattle.plinq_run.proofs.RunWords.{ByArrival, Plan, ChunkResult, result_trace, end_of_result, told_at, Interval, unbroken_row, first_gap, is_within}
 use Rattle.plinq_run.proofs.RunWords.{is_offered, AreApart, all_placed, all_told, all_given, ending_at, row, arrived_trace, merged_trace, IsResult, IsPart}
-use Rattle.plinq_run.proofs.RunWords.{IsFolded, IsFoldOf}
-use Rattle.std.specs.{Prelude.⊤, Option.option_or, Ordering.nat_cmp, Ordering.match_ordering, declared.cmp.Ordering.Ordering}
+use Rattle.plinq_run.proofs.RunWords.{IsFoldOf, IsFolded}
+use Rattle.std.specs.{Option.option_or, Ordering.nat_cmp, Ordering.match_ordering, declared.cmp.Ordering.Ordering, List.AllZip}
 use Rattle.std.specs.declared.cmp.Ordering.TheVariants.{Less, Equal, Greater}
 use Rattle.plinq_ops.specs.Chunk.{run_ending}
 use Rattle.plinq_reorder.specs.{declared.span.Span.Span, Intervals.insert}
@@ -25,10 +25,7 @@ module _ {T A O : Type 0} (f : Folding T A O) where
     pub trace : IsFolded f p.1.payload q.1.payload
 
   abbrev AreRowsAlike : List (Interval (Trace T)) → List (Interval (Trace A)) → Type 0
-  AreRowsAlike [] [] = ⊤
-  AreRowsAlike [] (q ∷ qs) = ⊥
-  AreRowsAlike (p ∷ ps) [] = ⊥
-  AreRowsAlike (p ∷ ps) (q ∷ qs) = AreAlike p q × AreRowsAlike ps qs
+  AreRowsAlike ps qs = AllZip AreAlike ps qs
 
   given-folded : (ps : List (Interval (Trace T))) (qs : List (Interval (Trace A))) → AreRowsAlike ps qs → IsFolded f (all_given ps) (all_given qs)
   given-folded [] [] alike = folded-nothing
@@ -54,7 +51,7 @@ module _ {T A O : Type 0} (f : Folding T A O) where
       let at = unbroken_row-alike key ps qs alike in
       let last : Trace T = record { items = []; ending = ending_at source_end (first_gap key ps) } in
       followed_by-folded f (all_given (unbroken_row key ps)) last (all_given (unbroken_row key qs)) (record { items = []; ending = ending_at source_end (first_gap key qs) }) (given-folded (unbroken_row key ps) (unbroken_row key qs) at.0)
-      (subst (λ k. IsFolded f last (record { items = []; ending = ending_at source_end k })) (sym at.1) (folded-ending (ending_at source_end (first_gap key ps))))
+      (rw at.1 (folded-ending (ending_at source_end (first_gap key ps))))
 
   insert-alike : (ps : List (Interval (Trace T))) (qs : List (Interval (Trace A))) (first end : ℕ) (p : Trace T) (q : Trace A) → AreRowsAlike ps qs → IsFolded f p q
       → AreRowsAlike (insert ps first end p) (insert qs first end q)
@@ -78,9 +75,6 @@ module _ {T A O : Type 0} (f : Folding T A O) where
         items = λ before. ap (fold f.combine (fold_of f before)) is.items ∙ lawful.joins before r.items.items;
         ending = ap run_ending is.ending;
       }
-
-  after-alike : (r : ChunkResult T) (c : ChunkResult A) → IsFoldOf f r c → end_of_result c ≡ end_of_result r
-  after-alike r c is = ap (λ n. n + c.count) is.first ∙ ap (λ n. r.first + n) is.count
 
   waiting-folded : IsFolding f → (order : Order) (r : ChunkResult T) (c : ChunkResult A) → IsFoldOf f r c → IsFolded f (waiting_trace order r) (waiting_trace order c)
   waiting-folded lawful ByKey r c is = result-folded lawful r c is
@@ -109,10 +103,7 @@ module _ {T A O : Type 0} (f : Folding T A O) where
   all_told-alike : (source_end : Option (ℕ × Ending)) (rs : List (ChunkResult T)) (cs : List (ChunkResult A)) → AreFoldsOf f rs cs → all_told source_end cs ≡ all_told source_end rs
   all_told-alike source_end [] [] are = refl
   all_told-alike source_end (r ∷ rs) (c ∷ cs) are =
-      let is = are.0 in
-      ap (λ k. all_told (option_or source_end (told_at k c.tail)) cs) (after-alike r c is)
-      ∙ ap (λ tail. all_told (option_or source_end (told_at (end_of_result r) tail)) cs) is.tail
-      ∙ all_told-alike (option_or source_end (told_at (end_of_result r) r.tail)) rs cs are.1
+      rw (are.0.first, are.0.count, are.0.tail) (all_told-alike (option_or source_end (told_at (end_of_result r) r.tail)) rs cs are.1)
   all_told-alike source_end rs cs are = absurd are
 
   arrived_trace-folded : IsFolding f → (order : Order) (rs : List (ChunkResult T)) (cs : List (ChunkResult A)) → AreFoldsOf f rs cs → IsFolded f (arrived_trace order rs) (arrived_trace order cs)
@@ -126,7 +117,7 @@ module _ {T A O : Type 0} (f : Folding T A O) where
   merged_trace-folded lawful order rs cs are =
       followed_by-folded f (arrived_trace order rs) (row (all_told None rs) 0 (all_placed order [] rs)) (arrived_trace order cs) (row (all_told None cs) 0 (all_placed order [] cs))
       (arrived_trace-folded lawful order rs cs are)
-      (subst (λ source_end. IsFolded f (row (all_told None rs) 0 (all_placed order [] rs)) (row source_end 0 (all_placed order [] cs))) (sym (all_told-alike None rs cs are))
+      (rw (all_told-alike None rs cs are)
       (row-folded (all_told None rs) 0 (all_placed order [] rs) (all_placed order [] cs) (all_placed-alike lawful order [] [] rs cs tt are)))
 
 -- ---- the results that folds are of

@@ -1,5 +1,5 @@
 -- What an ordered run delivers, by the definitions that proofs use and by those of the headline.
-use Rattle.plinq_run.proofs.RunWords.{◌≡◌, refl, ℕ, List, [], ◌∷◌, ◌++◌, ◌+◌, ◌==◌, ◌<◌, nat_le, length, if◌then◌else◌, Bool, true, false, Option, Some, None}
+use Rattle.plinq_run.proofs.RunWords.{◌≡◌, refl, ℕ, List, [], ◌∷◌, ◌++◌, ◌+◌, ◌==◌, nat_le, length, if◌then◌else◌, Bool, true, false, Option, Some, None}
 use Rattle.plinq_run.proofs.RunWords.{Result, Ok, Err, arith, ap, sym, subst, ◌∙◌, append_assoc, append-nil, nat_tests, Ending, End, Trace, ended_trace}
 use Rattle.plinq_run.proofs.RunWords.{followed_by, Meaning, MergeOption, Op, MayAnswer, batches, batches_from, stages_of, answer_of, seq, Leads, Report}
 use Rattle.plinq_run.proofs.RunWords.{RunFault, Sink, Cancelled, reported_ending, Reports, HasRun, Runs}
@@ -50,12 +50,8 @@ module _ {T : Type 0} where
   skipped-each test (x ∷ xs) e =
       ap (λ u. skipped_from (test x) (x ∷ xs) e u) (skipped-each test xs e) ∙ skips_while (test x) (x ∷ xs) e (each test (λ x passes here rest. if passes then rest else here) xs e)
 
-  with_none : (t : Trace T) (has_all : Bool) → nat_le 0 (length t.items) ≡ has_all → (if has_all then ended_trace [] End else t) ≡ ended_trace [] End
-  with_none t true is = refl
-  with_none t false is = let less : length t.items < 0 = grind (arith, nat_tests) in absurd (omega (arith, less))
-
   none-taken_trace : (t : Trace T) → taken_trace 0 t ≡ ended_trace [] End
-  none-taken_trace t = with_none t (nat_le 0 (length t.items)) refl
+  none-taken_trace t = let all : nat_le 0 (length t.items) ≡ true = grind (arith, nat_tests) in rw all refl
 
   module _ {L : Type 0} (meaning : L → Meaning T) where
     applied : (op : Op L) (t : Trace T) → apply (stage_of meaning op) t ≡ does meaning op t

@@ -9,7 +9,7 @@ use Rattle.plinq_source.specs.declared.memory.OutOfMemory.{OutOfMemory}
 use Rattle.plinq_partition.specs.declared.partition.Partition.{Partition}
 use Rattle.plinq_stream.specs.{declared.sent.Sent.Sent, Passes.knowledge_of}
 use Rattle.plinq_stream.proofs.Under.{or-none}
-use Rattle.plinq_merge.specs.declared.{merge_fault.MergeFault.TheVariants.Sink, merge_fault.MergeFault.TheVariants.Gap, more.More.More, joiner.Joiner.Joiner}
+use Rattle.plinq_merge.specs.declared.{merge_fault.MergeFault.TheVariants.Sink, more.More.More, joiner.Joiner.Joiner}
 use Rattle.plinq_merge.specs.Joiners.{taker_of, order_of, ending_of, JoinsOffer}
 use Rattle.plinq_merge.proofs.Joins.{AreOneMore, joined-cases, takes-joined, takes-broken, joined-stopped}
 use Rattle.plinq_crew.specs.declared.{conducting.Returned.Returned, worker.Crew.Crew, worker.WorkerContext.WorkerContext}
@@ -26,52 +26,38 @@ breaks-by : (fault : MergeFault) (cause : Cause) → cause ≡ cause_in_merge (S
 breaks-by (Sink code) cause is = is
 breaks-by fault cause is = is
 
-ok-same : {a b : Ending} → (let one : Result Ending MergeFault = Ok a in one ≡ Ok b) → a ≡ b
-ok-same same = cc
-
-gap-not_ok : (e : Ending) → (let one : Result Ending MergeFault = Ok e in one ≡ Err Gap) → ⊥
-gap-not_ok e bad = cc
-
 module _ {W O T : Type 0} (made : W → O → Trace T → Result (Option Ending) DeliveryFault → W → O → Type 0) (lawful : IsTaking made) (IsPart : ChunkResult T → Type 0) (order : Order) (a : W) (x : O) where
   -- one part more, or none
   more-merged : (fault : Option MergeFault) (m : Merging W T) (y : O) (part : ChunkResult T) (offers offers' : List (ChunkResult T)) → m.fault ≡ fault
       → IsPart part → All IsPart offers → AreApart offers
       → AreOneMore offers part offers' → Stands made IsPart order a x fault m.joiner y offers' → HasMerged made IsPart order a x m y
   more-merged fault m y part offers offers' kept is are apart (inl same) stands =
-      let stand = subst (λ f. Stands made IsPart order a x f m.joiner y offers') (sym kept) stands in
-      record { offers = offers'; are = subst (All IsPart) (sym same) are; apart = subst AreApart (sym same) apart; stands = stand }
+      record { offers = offers'; are = rw same are; apart = rw same apart; stands = rw kept stands }
   more-merged fault m y part offers offers' kept is are apart (inr more) stands =
-      let stand = subst (λ f. Stands made IsPart order a x f m.joiner y offers') (sym kept) stands in
       record {
         offers = offers';
-        are = subst (All IsPart) (sym more.0) (All-push IsPart offers part are is);
-        apart = subst AreApart (sym more.0)
-            (apart-push offers part apart more.1);
-        stands = stand;
+        are = rw more.0 (All-push IsPart offers part are is);
+        apart = rw more.0 (apart-push offers part apart more.1);
+        stands = rw kept stands;
       }
 
   -- a part was offered to a joiner that had no fault
-  offered-by : (answer : Result More MergeFault) (m : Merging W T) (y : O) (part : ChunkResult T) (m' : Merging W T) (y' : O) → JoinsOffer made m.joiner part y answer m'.joiner y'
-      → order_of m'.joiner ≡ order_of m.joiner → m'.fault ≡ offer_fault answer → IsPart part
-      → (offers : List (ChunkResult T)) → All IsPart offers → AreApart offers → Stands made IsPart order a x None m.joiner y offers
-      → HasMerged made IsPart order a x m' y'
-  offered-by (Ok more) m y part m' y' takes same kept is offers are apart stands =
-      let on = takes-joined made a x lawful m.joiner part y more m'.joiner y' offers same stands.1 takes in
-      more-merged None m' y' part offers on.0 kept is are apart on.1 (same ∙ stands.0, on.2)
-  offered-by (Err fault) m y part m' y' takes same kept is offers are apart stands =
-      let on = takes-broken made a x lawful m.joiner part y fault m'.joiner y' offers same stands.1 takes in
+  offered-by : (answer : Result More MergeFault) (m : Merging W T) (y : O) (part : ChunkResult T) (m' : Merging W T) (y' : O)
+      → JoinsOffer made m.joiner part y answer m'.joiner y' → order_of m'.joiner ≡ order_of m.joiner → m'.fault ≡ offer_fault answer → IsPart part
+      → (h : HasMerged made IsPart order a x m y) → Stands made IsPart order a x None m.joiner y h.offers → HasMerged made IsPart order a x m' y'
+  offered-by (Ok more) m y part m' y' takes same kept is h stands =
+      let on = takes-joined made a x lawful m.joiner part y more m'.joiner y' h.offers same stands.1 takes in
+      more-merged None m' y' part h.offers on.0 kept is h.are h.apart on.1 (same ∙ stands.0, on.2)
+  offered-by (Err fault) m y part m' y' takes same kept is h stands =
+      let on = takes-broken made a x lawful m.joiner part y fault m'.joiner y' h.offers same stands.1 takes in
       let broke = subst (λ o. made a x (merged_trace o on.0) (Err (delivery_fault_of fault)) on.2.0 y') stands.0 on.2.1 in
-      more-merged (Some fault) m' y' part offers on.0 kept is are apart on.1 (on.2.0, broke)
+      more-merged (Some fault) m' y' part h.offers on.0 kept is h.are h.apart on.1 (on.2.0, broke)
 
-  accepted-by : (fault : Option MergeFault) (m : Merging W T) (y : O) (part : ChunkResult T) (m' : Merging W T) (y' : O) → m.fault ≡ fault → AcceptsAfter made fault m y part m' y' → IsPart part
-      → (offers : List (ChunkResult T)) → All IsPart offers → AreApart offers → Stands made IsPart order a x fault m.joiner y offers
-      → HasMerged made IsPart order a x m' y'
-  accepted-by None m y part m' y' same accepts is offers are apart stands =
-      offered-by accepts.answer m y part m' y' accepts.takes accepts.order accepts.kept is offers are apart stands
-  accepted-by (Some fault) m y part m' y' same accepts is offers are apart stands =
-      subst (λ n. HasMerged made IsPart order a x n y') (sym accepts.0)
-      (subst (λ z. HasMerged made IsPart order a x m z) (sym accepts.1)
-      (record { offers = offers; are = are; apart = apart; stands = subst (λ f. Stands made IsPart order a x f m.joiner y offers) (sym same) stands }))
+  accepted-by : (fault : Option MergeFault) (m : Merging W T) (y : O) (part : ChunkResult T) (m' : Merging W T) (y' : O) → m.fault ≡ fault
+      → AcceptsAfter made fault m y part m' y' → IsPart part → HasMerged made IsPart order a x m y → HasMerged made IsPart order a x m' y'
+  accepted-by None m y part m' y' sound accepts is h =
+      offered-by accepts.answer m y part m' y' accepts.takes accepts.order accepts.kept is h (rw sound at h.stands)
+  accepted-by (Some fault) m y part m' y' same accepts is h = rw (accepts.0, accepts.1) h
 
   -- all that were accepted
   accepted-all : (before : List (Sent (ChunkResult T))) (received : List (Sent (ChunkResult T))) (wants_close : Bool) (m m' : MergingInto W T O)
@@ -81,13 +67,8 @@ module _ {W O T : Type 0} (made : W → O → Trace T → Result (Option Ending)
       chained_keeps (AcceptsEach (AcceptsInto made) IsPart) (λ xs z. HasMerged made IsPart order a x z.merging.now z.out.now)
       (λ xs z sent z' from step.
       let so = step.1 in
-      accepted-by z.merging.now.fault z.merging.now z.out.now sent.item z'.merging.now z'.out.now refl so.accepts step.0 from.offers from.are from.apart from.stands)
+      accepted-by z.merging.now.fault z.merging.now z.out.now sent.item z'.merging.now z'.out.now refl so.accepts step.0 from)
       accepted.taken m m' h accepted.steps
-
-  -- nothing was offered yet
-  begun-merged : (m : Merging W T) (y : O) → m.fault ≡ None → Stands made IsPart order a x None m.joiner y [] → HasMerged made IsPart order a x m y
-  begun-merged m y none stands =
-      record { offers = []; are = All-nil IsPart; apart = tt; stands = subst (λ f. Stands made IsPart order a x f m.joiner y []) (sym none) stands }
 
   -- a run that ends before anything was offered
   pub none-broken : (fault : RunFault) → cause_of fault ≡ Other → HasBrokenOff made IsPart order a x fault x
@@ -98,12 +79,9 @@ module _ {W O T : Type 0} (made : W → O → Trace T → Result (Option Ending)
         apart = tt;
         last = a;
         how = Err NoMemory;
-        taken = nothing-merged_trace order (lawful.stops a x [] a x (open_trace []) (lawful.begins a x));
+        taken = lawful.stops a x [] a x (open_trace []) (lawful.begins a x);
         breaks = is;
       }
-    where
-      nothing-merged_trace : (o : Order) → made a x (open_trace []) (Err NoMemory) a x → made a x (merged_trace o []) (Err NoMemory) a x
-      nothing-merged_trace o h = h
 
   broken-by : (fault : Option MergeFault) (m : Merging W T) (y : O) (run_fault : RunFault) → cause_of run_fault ≡ cause_in_merge fault
       → (offers : List (ChunkResult T)) → All IsPart offers → AreApart offers → Stands made IsPart order a x fault m.joiner y offers → HasBrokenOff made IsPart order a x run_fault y
@@ -124,9 +102,11 @@ module _ {W O T : Type 0} (made : W → O → Trace T → Result (Option Ending)
       → made a x (merged_trace order offers) (Ok (Some e)) (taker_of j) y
   ended-by j y e offers stands ending =
       joined-cases made a x j y offers stands.1
-      (λ no gap waits before. absurd (gap-not_ok e (sym ending ∙ gap)))
-      (λ e' yes ok all. subst (λ o. made a x (merged_trace o offers) (Ok (Some e)) (taker_of j) y) stands.0
-      (subst (λ d. made a x (merged_trace (order_of j) offers) (Ok (Some d)) (taker_of j) y) (ok-same (sym ok ∙ ending)) all))
+      (λ no gap waits before. absurd cc)
+      (λ e' yes ok all.
+      let same : e' ≡ e = cc in
+      subst (λ o. made a x (merged_trace o offers) (Ok (Some e)) (taker_of j) y) stands.0
+      (subst (λ d. made a x (merged_trace (order_of j) offers) (Ok (Some d)) (taker_of j) y) same all))
 
 -- what was lent stays the same
 pub conducts-same : {L S J P U W O T : Type 0} {source : SourceGhosts S U} (made : W → O → Trace T → Result (Option Ending) DeliveryFault → W → O → Type 0) (IsPart : ChunkResult T → Type 0) (crew : Crew L S J P U U T source) (context : WorkerContext S T U source)
@@ -151,7 +131,8 @@ module _ {L S J P U W O T : Type 0} {source : SourceGhosts S U} {m : Merging W T
   crew-merged h =
       let P = IsOfCrew back IsPart in
       let order = crew.plan.now.order in
-      let begun = subst (HasMerged made P order a x first.merging.now) (sym out) (begun-merged made lawful P order a x first.merging.now x sound new) in
+      let begun : HasMerged made P order a x first.merging.now first.out.now =
+      record { offers = []; are = All-nil P; apart = tt; stands = rw (sound, out) new } in
       let such =
       accepted-such (AcceptsEach (AcceptsInto made) IsPart) (AcceptsEach (AcceptsInto made) P)
       (λ sent. back.worker_count.started ≡ back.worker_count.wanted → IsOfOne (all_shares back.partitions.items) sent.item)

@@ -1,9 +1,9 @@
 -- A taker that was given the accumulators of what was merged was given those of an answer; and its value, where it combines them.
 use Rattle.plinq_run.proofs.RunWords.{◌≡◌, ◌≤◌, ◌^◌, List, [], length, Bool, true, false, Option, Some, None, Result, Ok, Err, All, refl, list_any, sym, ◌∙◌}
-use Rattle.plinq_run.proofs.RunWords.{ap, subst, All-weaker, Ending, End, SourceGhosts, Trace, followed_by, Meaning, Folding, IsFolding, fold_of, all_shares}
-use Rattle.plinq_run.proofs.RunWords.{Op, Plan, ChunkResult, MayAnswer, IsFed, is_empty_take, stages_of, IsPlanOf, QueryView, Stage, seq, seq_after}
-use Rattle.plinq_run.proofs.RunWords.{some_takes_none, some_takes_none-stages_of, seq-followed_by, DeliveryFault, merged_trace, IsTaking, AreApart, IsUndecided}
-use Rattle.plinq_run.proofs.RunWords.{IsResult, IsPart, RunFault, Breaks, IsFolded, Cause, Other, cause_of, IsFoldOf, merged_answer, MayMerge, IsOffered}
+use Rattle.plinq_run.proofs.RunWords.{ap, subst, All-weaker, Ending, End, SourceGhosts, Trace, Meaning, Folding, IsFolding, fold_of, all_shares, Op, Plan}
+use Rattle.plinq_run.proofs.RunWords.{ChunkResult, MayAnswer, IsFed, is_empty_take, stages_of, IsPlanOf, QueryView, Stage, seq, some_takes_none}
+use Rattle.plinq_run.proofs.RunWords.{some_takes_none-stages_of, DeliveryFault, merged_trace, IsTaking, AreApart, IsUndecided, IsResult, IsPart, RunFault}
+use Rattle.plinq_run.proofs.RunWords.{Breaks, Cause, Other, cause_of, IsFoldOf, merged_answer, MayMerge, IsOffered, IsFolded}
 use Rattle.std.specs.Prelude.{not, ◌&&◌}
 use Rattle.plinq_ops.specs.Pipeline.{IsReached, stages}
 use Rattle.plinq_ops.proofs.{ByKey.stages-begun, Fed.undecided-left}
@@ -12,7 +12,7 @@ use Rattle.plinq_run.specs.declared.{fold_blocks.FoldBlocks.FoldBlocks, planning
 use Rattle.plinq_run.specs.{Parting.WasGiven, Parting.GivesSome, Aggregates.Aggregates, Aggregates.AggregatesSome}
 use Rattle.plinq_run.specs.inner.{Blocks.can_fold, Blocks.Passes, Blocks.MadeBy, Conducted.HasConducted, Conducted.answer_ending, Standing.IsOver}
 use Rattle.plinq_run.specs.inner.{Standing.given-none, Standing.given-past, Valuing.value_at, Valuing.value_of, Combining.MadeBy as CombinedBy}
-use Rattle.plinq_run.proofs.Runs.{merged-may, begun-in, AsItIs, plain-part, planned-may}
+use Rattle.plinq_run.proofs.Runs.{merged-may, begun-in, AsItIs, plain-part, planned-may, answer_so_far}
 use Rattle.plinq_run.proofs.Folds.{merged_trace-folded, folds-apart, unfolded}
 
 breaks-over : (how : Result (Option Ending) DeliveryFault) (cause : Cause) → Breaks how cause → IsOver how
@@ -57,18 +57,11 @@ module _ {L T A U W O : Type 0} (f : Folding T A U) (lawful : IsFolding f) (made
 
   -- what was given of the answer to the results is how an answer of the source begins
   given-some : (how : Result (Option Ending) DeliveryFault) (a : W) (x y : O) (results : List (ChunkResult T)) → All (IsResult meaning plan t) results → AreApart results → IsOver how
-      → WasGiven f made (seq (stages_of meaning plan.after.now) (merged_trace plan.order results)) a x how y → (u : Trace T) × (MayMerge meaning plan t u) × WasGiven f made u a x how y
+      → WasGiven f made (answer_so_far meaning plan results) a x how y → (u : Trace T) × (MayMerge meaning plan t u) × WasGiven f made u a x how y
   given-some how a x y results are apart over given =
-      let begun = begun-in meaning plan t plan.order refl few undecided results are apart in
-      let ss : List (Stage T) = stages_of meaning plan.after.now in
-      let first : Trace T = merged_trace plan.order results in
-      let rest : Trace T = seq (seq_after ss first) begun.rest in
-      let u : Trace T = merged_answer meaning plan begun.taken in
-      let same : u ≡ followed_by (seq ss first) rest = ap (seq ss) begun.is ∙ seq-followed_by ss first begun.rest in (
-        u,
-        record { taken = begun.taken; may = begun.may; is = refl },
-        subst (λ v. WasGiven f made v a x how y) (sym same) (given-past f lawful made taking how (seq ss first) a x y rest over given),
-      )
+      let begun = begun-in meaning plan t few undecided results are apart in
+      let past = given-past f lawful made taking how (answer_so_far meaning plan results) a x y begun.rest over given in
+      (begun.answer, begun.may, subst (λ v. WasGiven f made v a x how y) (sym begun.is) past)
 
   -- where what was taken of such parts is so of an answer of the source, a run that was conducted has given one
   module _ {V M : Type 0} (taken : V → O → Trace M → Result (Option Ending) DeliveryFault → V → O → Type 0) (P : ChunkResult M → Type 0) (first : V) (a : W)
@@ -97,7 +90,8 @@ module _ {L T A U W O : Type 0} (f : Folding T A U) (lawful : IsFolding f) (made
         given-some how a x y un.results un.are (folds-apart f un.results cs un.folds apart) over
         (record {
           parts = merged_trace plan.order cs;
-          folds = subst (λ ops. IsFolded f (seq (stages_of meaning ops) (merged_trace plan.order un.results)) (merged_trace plan.order cs)) (sym alone) (merged_trace-folded f lawful plan.order un.results cs un.folds);
+          folds = subst (λ ops. IsFolded f (seq (stages_of meaning ops) (merged_trace plan.order un.results)) (merged_trace plan.order cs)) (sym alone)
+              (merged_trace-folded f lawful plan.order un.results cs un.folds);
           last = b;
           taken = is;
         })
@@ -124,8 +118,7 @@ module _ {L T A U W O : Type 0} (f : Folding T A U) (lawful : IsFolding f) (made
         passes-over (folding first.aggregator.now) how (stages meaning first.pipeline) (stages meaning last.pipeline) first.inner (merged_trace plan.order rs)
         last.inner y over is.passes in
         given-some how first.inner x y rs (All-weaker (AsItIs meaning plan t) (IsResult meaning plan t) (plain-part meaning plan t) rs are) apart over
-        (subst (λ g. WasGiven g made (seq (stages_of meaning plan.after.now) (merged_trace plan.order rs)) first.inner x how y) same
-        (subst (λ ss. WasGiven (folding first.aggregator.now) made (seq ss (merged_trace plan.order rs)) first.inner x how y) begun passes))
+        (rw (same, begun) at passes)
 
     pub blocks-given : {S : Type 0} {source : SourceGhosts S T} (r : Result (Conducted S (FoldBlocks L F W) T source) RunFault) (y : O)
         → HasConducted (MadeBy meaning folding made) (AsItIs meaning plan t) plan.order t first x r y
@@ -151,8 +144,6 @@ module _ {F T A O : Type 0} (folding : F → Folding T A O) (d : Combiner F) whe
       → GivesSome (folding d.aggregator.now) (CombinedBy folding) IsAnswer d (folding d.aggregator.now).seed r acc
       → AggregatesSome (folding d.aggregator.now) IsAnswer (value_of (folding d.aggregator.now) acc r)
   value-given IsAnswer acc (Ok e) (u, is, given) =
-      let folds = given.folds in
-      let taken = given.taken in
-      (u, is, value-ended (folding d.aggregator.now) u acc e (sym folds.ending ∙ taken.combines.0) (taken.combines.1 ∙ folds.items []))
+      (u, is, value-ended (folding d.aggregator.now) u acc e (sym given.folds.ending ∙ given.taken.combines.0) (given.taken.combines.1 ∙ given.folds.items []))
   value-given IsAnswer acc (Err fault) (u, is, how, given, breaks) =
       (u, is, breaks-other (folding d.aggregator.now).seed given.parts how given.last acc (cause_of fault) given.taken breaks)

@@ -15,11 +15,11 @@ pub use Rattle.plinq_ticket.specs.Shares.{in_ticket_order}
 pub use Rattle.plinq_partition.specs.Partitions.{all_shares}
 pub use Rattle.plinq_ops.specs.{Answer.MayAnswer, Answer.IsRearranged, Batches.batches, Batches.batches_from, ByKey.are_keyless, Feeding.IsFed}
 pub use Rattle.plinq_ops.specs.{Feeding.is_empty_take, Fragment.glue, Operator.stages_of, Plan.IsPlanOf, Query.QueryView, Sequential.answer_of, Stage.Stage}
-pub use Rattle.plinq_ops.specs.{Stage.seq_after, Stage.some_takes_none, Stage.seq, Tails.told_at, Tails.EndsAt, Tails.end_of_result}
+pub use Rattle.plinq_ops.specs.{Stage.some_takes_none, Stage.seq, Tails.told_at, Tails.EndsAt, Tails.end_of_result}
 pub use Rattle.plinq_ops.specs.Chunk.{result_trace, ChunkAnswer, IsToldBy, IsChunkResult}
 pub use Rattle.plinq_ops.specs.declared.{frag_end.FragEnd.TheVariants.Dropped, merge_option.MergeOption.MergeOption, op.Op.Op, order.Order.Order}
 pub use Rattle.plinq_ops.specs.declared.{order.Order.TheVariants.ByKey, order.Order.TheVariants.ByArrival, plan.Plan.Plan, results.ChunkResult.ChunkResult}
-pub use Rattle.plinq_ops.proofs.{Counts.some_takes_none-stages_of, Stages.seq-followed_by}
+pub use Rattle.plinq_ops.proofs.Counts.{some_takes_none-stages_of}
 pub use Rattle.plinq_reorder.specs.Intervals.{Interval, unbroken_row, first_gap, is_within}
 pub use Rattle.plinq_merge.specs.{Cancelling.Delivery, Cancelling.Passes, Cancelling.IsStopped, OfferedKeys.is_offered, Mergers.delivery_fault_of}
 pub use Rattle.plinq_merge.specs.{Sending.Leads, Taking.IsTaking, Whole.AreApart, declared.merge_fault.MergeFault.MergeFault}
@@ -27,7 +27,7 @@ pub use Rattle.plinq_merge.specs.Shown.{all_placed, all_told, all_given, ending_
 pub use Rattle.plinq_merge.specs.declared.delivery_fault.DeliveryFault.{DeliveryFault, TheVariants.Memory as NoMemory}
 pub use Rattle.plinq_merge.proofs.Lent.{leads-map}
 pub use Rattle.plinq_crew.specs.{Plans.IsUndecided, Results.IsPart, Results.IsResult}
-pub use Rattle.plinq_run.specs.{Endings.reported_ending, Handed.is_close, Handed.handed_trace, Parting.IsFolded, Parting.Breaks, Reports.Reports}
+pub use Rattle.plinq_run.specs.{Endings.reported_ending, Handed.is_close, Handed.handed_trace, Parting.Breaks, Parting.IsFolded, Reports.Reports}
 pub use Rattle.plinq_run.specs.{Stopping.RunsWith, declared.planning.Ended.Ended, declared.report.Report.Report}
 pub use Rattle.plinq_run.specs.Runs.{HasRun, Runs, Cause, Other, cause_of, SinkRefused, BreaksFor}
 pub use Rattle.plinq_run.specs.declared.run_fault.RunFault.{RunFault, TheVariants.Cancelled, TheVariants.Sink}

@@ -1,24 +1,27 @@
 -- How a run ends: what was merged is how an answer begins, and all of it where the answer has ended; and what is reported then.
 use Rattle.plinq_run.proofs.RunWords.{◌≡◌, ℕ, ◌≤◌, ◌^◌, List, [], ◌∷◌, length, Option, Some, None, Result, Ok, Err, All, refl, Bool, true, false, IfOk}
-use Rattle.plinq_run.proofs.RunWords.{list_any, sym, ◌∙◌, ap, subst, append-nil, arith, All-head, All-tail, All-weaker, Ending, Trace, followed_by, ended_trace}
-use Rattle.plinq_run.proofs.RunWords.{SourceGhosts, End, Meaning, Record, in_ticket_order, all_shares, MergeOption, Order, ByKey, ByArrival, Plan, ChunkResult}
-use Rattle.plinq_run.proofs.RunWords.{batches, batches_from, glue, stages_of, seq, seq_after, seq-followed_by, Op, are_keyless, is_empty_take, IsRearranged}
-use Rattle.plinq_run.proofs.RunWords.{MayAnswer, IsPlanOf, QueryView, answer_of, some_takes_none-stages_of, DeliveryFault, NoMemory, Leads, merged_trace}
-use Rattle.plinq_run.proofs.RunWords.{AreApart, IsUndecided, IsResult, IsPart, RunFault, Ended, HasBrokenOff, Breaks, merged_answer, MayMerge, IsOffered}
-use Rattle.plinq_run.proofs.RunWords.{Covers, Reports, HasRun, Cause, SinkRefused, Other, cause_of, BreaksFor, Report, handed_trace}
+use Rattle.plinq_run.proofs.RunWords.{list_any, ◌++◌, sym, ◌∙◌, ap, subst, append-nil, arith, All-head, All-tail, All-weaker, Ending, Trace, followed_by}
+use Rattle.plinq_run.proofs.RunWords.{ended_trace, SourceGhosts, End, Meaning, Record, in_ticket_order, all_shares, MergeOption, Order, ByKey, ByArrival, Plan}
+use Rattle.plinq_run.proofs.RunWords.{ChunkResult, batches, batches_from, glue, stages_of, seq, Op, are_keyless, is_empty_take, IsRearranged, MayAnswer}
+use Rattle.plinq_run.proofs.RunWords.{IsPlanOf, QueryView, answer_of, Stage, some_takes_none-stages_of, DeliveryFault, NoMemory, merged_trace, AreApart}
+use Rattle.plinq_run.proofs.RunWords.{IsUndecided, IsResult, IsPart, RunFault, Ended, HasBrokenOff, Breaks, merged_answer, MayMerge, IsOffered, Covers, Reports}
+use Rattle.plinq_run.proofs.RunWords.{HasRun, Cause, SinkRefused, Other, cause_of, BreaksFor, Report, handed_trace}
 use Rattle.std.specs.Prelude.{IfErr}
 use Rattle.plinq_source.proofs.Followed.{followed_by-ended}
 use Rattle.plinq_partition.specs.GivenBack.{common_origin}
-use Rattle.plinq_ops.specs.{Batches.batch_size, Row.AreOffers, ByKey.is_by_key, Answer.Answer, Plan.order_of, Plan.worker_part, Plan.after_part}
-use Rattle.plinq_ops.proofs.{Answered.answer-of_none, Glue.answer_of-split, Parts.worker-keyless}
+use Rattle.plinq_ops.specs.{Stage.seq_after, Batches.batch_size, Row.AreOffers, ByKey.is_by_key, Answer.Answer, Plan.order_of, Plan.worker_part}
+use Rattle.plinq_ops.proofs.{Stages.seq-followed_by, Answered.answer-of_none, Glue.answer_of-split, Parts.worker-keyless}
 use Rattle.plinq_ops.proofs.Answers.{IsRearranged-refl, Answer-rearranged, Answer-sequential}
-use Rattle.plinq_merge.specs.{Deliveries.batches-first, Sending.IsCutOff, Shown.Merge, Shown.answer, Shown.shown_batches, Whole.AreFirstOf}
-use Rattle.plinq_merge.specs.{inner.Sent.cut-before}
+use Rattle.plinq_merge.specs.{Deliveries.batches-first, Sending.IsCutOff, inner.Sent.cut-before}
 use Rattle.plinq_merge.specs.declared.{delivery_fault.DeliveryFault.TheVariants.Sink as Refusal, deliver.Deliver.Deliver}
 use Rattle.plinq_merge.specs.Delivering.{Line, line_of, Gives, MadeBy}
-use Rattle.plinq_merge.proofs.{Offers.answer-open, Whole.merged_trace-begins}
-use Rattle.plinq_run.specs.{inner.Merged.merge_for, inner.Merged.HasEnded, inner.PlanAnswers.MayTake, Reports.IsBroken, inner.Reported.IsReportOf}
+use Rattle.plinq_merge.proofs.Whole.{merged_trace-begins}
+use Rattle.plinq_run.specs.{inner.Merged.HasEnded, inner.PlanAnswers.MayTake, Reports.IsBroken, inner.Reported.IsReportOf}
 use Rattle.plinq_run.proofs.{Arrived.are-true_tails, Arrived.arrival-begins, Handed.result-covered, Handed.covers-handed}
+
+-- what the operators after the merge make of what was merged
+abbrev pub answer_so_far : {L T : Type 0} → (L → Meaning T) → Plan L → List (ChunkResult T) → Trace T
+answer_so_far meaning plan offers = seq (stages_of meaning plan.after.now) (merged_trace plan.order offers)
 
 module _ {L T : Type 0} (meaning : L → Meaning T) (plan : Plan L) (t : Trace T) where
   are-offers : (rs : List (ChunkResult T)) → All (IsResult meaning plan t) rs → AreOffers meaning plan.worker.now t rs
@@ -26,59 +29,46 @@ module _ {L T : Type 0} (meaning : L → Meaning T) (plan : Plan L) (t : Trace T
   are-offers (r ∷ rs) are = ((All-head (IsResult meaning plan t) r rs are).offer, are-offers rs (All-tail (IsResult meaning plan t) r rs are))
 
   -- the fragments of the source's items, in an order in which they may be taken, begin with what was merged
-  pub record HasBegun (offers : List (ChunkResult T)) : Type 0 where
-    pub taken : Trace T
-    pub may : MayTake plan.order t taken
-    pub rest : Trace T
-    pub is : glue meaning plan.worker.now taken ≡ followed_by (merged_trace plan.order offers) rest
+  record IsTakenFirst (order : Order) (offers : List (ChunkResult T)) : Type 0 where
+    taken : Trace T
+    may : MayTake order t taken
+    rest : Trace T
+    is : glue meaning plan.worker.now taken ≡ followed_by (merged_trace order offers) rest
 
-  pub begun-in : (order : Order) → plan.order ≡ order → length t.items ≤ 2 ^ 40 → IsUndecided plan → (offers : List (ChunkResult T)) → All (IsResult meaning plan t) offers → AreApart offers → HasBegun offers
-  begun-in ByKey by few undecided offers are apart =
+  taken-first : (order : Order) → plan.order ≡ order → length t.items ≤ 2 ^ 40 → IsUndecided plan → (offers : List (ChunkResult T))
+      → All (IsResult meaning plan t) offers → AreApart offers → IsTakenFirst order offers
+  taken-first ByKey by few undecided offers are apart =
       let begins = merged_trace-begins meaning plan.worker.now t few offers (are-offers offers are) (are-true_tails meaning plan t offers are) in
-      record {
-        taken = t;
-        may = subst (λ o. MayTake o t t) (sym by) refl;
-        rest = begins.0;
-        is = begins.1 ∙ ap (λ o. followed_by (merged_trace o offers) begins.0) (sym by);
-      }
-  begun-in ByArrival by few undecided offers are apart =
+      record { taken = t; may = refl; rest = begins.0; is = begins.1 }
+  taken-first ByArrival by few undecided offers are apart =
       let begins = arrival-begins meaning plan t few by (undecided.keyless by) offers are apart in
+      record { taken = begins.0; may = begins.1; rest = begins.2; is = begins.3 }
+
+  -- so what the operators after the merge make of it is how an answer of the source begins
+  pub record HasBegun (offers : List (ChunkResult T)) : Type 0 where
+    pub answer : Trace T
+    pub may : MayMerge meaning plan t answer
+    pub rest : Trace T
+    pub is : answer ≡ followed_by (answer_so_far meaning plan offers) rest
+
+  pub begun-in : length t.items ≤ 2 ^ 40 → IsUndecided plan → (offers : List (ChunkResult T)) → All (IsResult meaning plan t) offers → AreApart offers
+      → HasBegun offers
+  begun-in few undecided offers are apart =
+      let first = taken-first plan.order refl few undecided offers are apart in
+      let ss : List (Stage T) = stages_of meaning plan.after.now in
       record {
-        taken = begins.0;
-        may = subst (λ o. MayTake o t begins.0) (sym by) begins.1;
-        rest = begins.2;
-        is = begins.3 ∙ ap (λ o. followed_by (merged_trace o offers) begins.2) (sym by);
+        answer = merged_answer meaning plan first.taken;
+        may = record { taken = first.taken; may = first.may; is = refl };
+        rest = seq (seq_after ss (merged_trace plan.order offers)) first.rest;
+        is = ap (seq ss) first.is ∙ seq-followed_by ss (merged_trace plan.order offers) first.rest;
       }
 
-module _ {L T : Type 0} (meaning : L → Meaning T) (plan : Plan L) (option : MergeOption) (undecided : IsUndecided plan) where
-  abbrev Made : Merge T
-  Made = merge_for meaning plan option
-
-  -- so the answer to these items begins with that to the offers
-  begun-answer : (t : Trace T) (offers : List (ChunkResult T)) → (begun : HasBegun meaning plan t offers) → (rest : Trace T) × (merged_answer meaning plan begun.taken ≡ followed_by (answer Made offers) rest)
-  begun-answer t offers begun =
-      let first : Trace T = merged_trace plan.order offers in
-      let rest : Trace T = seq (seq_after Made.after first) begun.rest in (
-        rest,
-        ap (seq Made.after) begun.is
-            ∙ seq-followed_by Made.after first begun.rest
-            ∙ ap (λ u. followed_by u rest) (sym (answer-open Made offers undecided.undecided)),
-      )
-
-  -- an answer that has ended is one of the source
-  pub ended-answer : (t : Trace T) (offers : List (ChunkResult T)) (e : Ending) → length t.items ≤ 2 ^ 40 → All (IsResult meaning plan t) offers → AreApart offers → (answer Made offers).ending ≡ Some e
-      → MayMerge meaning plan t (answer Made offers)
-  ended-answer t offers e few are apart ends =
-      let begun = begun-in meaning plan t plan.order refl few undecided offers are apart in
-      let begins = begun-answer t offers begun in
-      record { taken = begun.taken; may = begun.may; is = sym (begins.1 ∙ followed_by-ended (answer Made offers) begins.0 e ends) }
-
-  -- what was shown are the first batches of one
-  begun-shown_batches : (t : Trace T) (offers : List (ChunkResult T)) → (begun : HasBegun meaning plan t offers) → AreFirstOf (shown_batches Made offers) (batches option (merged_answer meaning plan begun.taken))
-  begun-shown_batches t offers begun =
-      let begins = begun-answer t offers begun in
-      let first = batches-first (batch_size option) [] (answer Made offers) begins.0 in
-      (first.0, ap (batches_from (batch_size option) []) begins.1 ∙ first.1)
+  -- and all of one, where it has ended
+  ended-may : (e : Ending) → length t.items ≤ 2 ^ 40 → IsUndecided plan → (offers : List (ChunkResult T)) → All (IsResult meaning plan t) offers
+      → AreApart offers → (answer_so_far meaning plan offers).ending ≡ Some e → MayMerge meaning plan t (answer_so_far meaning plan offers)
+  ended-may e few undecided offers are apart ends =
+      let begun = begun-in few undecided offers are apart in
+      subst (MayMerge meaning plan t) (begun.is ∙ followed_by-ended (answer_so_far meaning plan offers) begun.rest e ends) begun.may
 
 -- what begins to deliver the answer of this plan
 abbrev pub begun_line : {L T : Type 0} → (L → Meaning T) → Plan L → MergeOption → Line T
@@ -96,9 +86,7 @@ plain-part meaning plan t r h = subst (IsResult meaning plan t) (sym h.made) h.i
 planned-answer : {L T : Type 0} (meaning : L → Meaning T) (q : QueryView L) (plan : Plan L) (t : Trace T) → IsPlanOf q plan → plan.decided ≡ false
     → merged_answer meaning plan t ≡ answer_of meaning q.ops t
 planned-answer meaning q plan t is undecided =
-    ap (λ xs. answer_of meaning xs (glue meaning plan.worker.now t)) is.after
-    ∙ ap (λ ws. answer_of meaning (after_part (order_of q.ordered) q.ops) (glue meaning ws t)) is.worker
-    ∙ sym (answer_of-split meaning (order_of q.ordered) q.ops t (sym is.decided ∙ undecided))
+    rw (is.after, is.worker) (sym (answer_of-split meaning (order_of q.ordered) q.ops t (sym is.decided ∙ undecided)))
 
 -- a plan answers what the query may
 pub planned-may : {L T : Type 0} (meaning : L → Meaning T) (q : QueryView L) (plan : Plan L) (t u : Trace T) (ordered : Bool)
@@ -128,21 +116,17 @@ module _ {L T K : Type 0} (meaning : L → Meaning T) (q : QueryView L) (plan : 
     has_run : HasRun accepts option answer s s' e
 
   short-of : (s : K) (offers : List (ChunkResult T)) (fault : DeliveryFault) (s' : K) (run_fault : RunFault) (cause : Cause) → All (IsResult meaning plan t) offers → AreApart offers
-      → IsCutOff accepts refuses s (batches_from (batch_size option) [] (seq (stages_of meaning plan.after.now) (merged_trace plan.order offers))) fault s'
+      → IsCutOff accepts refuses s (batches_from (batch_size option) [] (answer_so_far meaning plan offers)) fault s'
       → ((bs : List (List T)) → IsCutOff accepts refuses s bs fault s' → BreaksFor accepts refuses cause bs s s') → cause_of run_fault ≡ cause
       → IsBroken accepts refuses option May t s s' run_fault
   short-of s offers fault s' run_fault cause are apart short on is =
-      let made : Merge T = merge_for meaning plan option in
-      let begun = begun-in meaning plan t plan.order refl few undecided offers are apart in
-      let first = begun-shown_batches meaning plan option undecided t offers begun in
-      let shown-so = subst (λ u. IsCutOff accepts refuses s (batches_from (batch_size option) [] u) fault s') (sym (answer-open made offers undecided.undecided)) short in
-      let sent = cut-before accepts refuses s (shown_batches made offers) first.0 fault s' shown-so in
-      let all = batches option (merged_answer meaning plan begun.taken) in
-      record {
-        answer = merged_answer meaning plan begun.taken;
-        may = may-answer t (merged_answer meaning plan begun.taken) (record { taken = begun.taken; may = begun.may; is = refl });
-        broken = subst (λ c. BreaksFor accepts refuses c all s s') (sym is) (on all (subst (λ bs. IsCutOff accepts refuses s bs fault s') (sym first.1) sent));
-      }
+      let begun = begun-in meaning plan t few undecided offers are apart in
+      let so_far : Trace T = answer_so_far meaning plan offers in
+      let first = batches-first (batch_size option) [] so_far begun.rest in
+      let all : batches option begun.answer ≡ batches_from (batch_size option) [] so_far ++ first.0 =
+      ap (batches_from (batch_size option) []) begun.is ∙ first.1 in
+      let sent = cut-before accepts refuses s (batches_from (batch_size option) [] so_far) first.0 fault s' short in
+      record { answer = begun.answer; may = may-answer t begun.answer begun.may; broken = rw is (on (batches option begun.answer) (rw all sent)) }
 
   -- where parts were merged that were sent as they are
   module _ (first : Deliver L T) (begun : line_of meaning first ≡ begun_line meaning plan option) where
@@ -150,24 +134,21 @@ module _ {L T K : Type 0} (meaning : L → Meaning T) (q : QueryView L) (plan : 
         → HasEnded (MadeBy accepts refuses meaning) (AsItIs meaning plan t) plan.order first s ended s'
         → IsWhole (all_shares ended.partitions.items) s s' ended.joined.ending
     whole-delivered s s' ended h =
-        let made : Merge T = merge_for meaning plan option in
         let records = all_shares ended.partitions.items in
-        let taken = h.taken in
         let gives =
         subst (λ l. Gives accepts refuses l s (merged_trace plan.order h.offers) (Ok (Some ended.joined.ending)) (line_of meaning ended.joined.taker) s') begun
-        taken.gives in
-        let open_now : answer made h.offers ≡ seq made.after (merged_trace plan.order h.offers) = answer-open made h.offers undecided.undecided in
-        let ends : (answer made h.offers).ending ≡ Some ended.joined.ending = ap (λ u. u.ending) open_now ∙ gives.0 in
+        h.taken.gives in
+        let answer : Trace T = answer_so_far meaning plan h.offers in
+        let may : (v : Trace T) → length v.items ≤ 2 ^ 40 → ((r : ChunkResult T) → IsOffered (AsItIs meaning plan t) records r → IsResult meaning plan v r)
+        → May v answer =
+        λ v small results. may-answer v answer (ended-may meaning plan v ended.joined.ending small undecided h.offers
+        (All-weaker (IsOffered (AsItIs meaning plan t) records) (IsResult meaning plan v) results h.offers h.are) h.apart gives.0) in
         record {
-          answer = answer made h.offers;
-          may = may-answer t (answer made h.offers) (ended-answer meaning plan option undecided t h.offers ended.joined.ending few
-              (All-weaker (IsOffered (AsItIs meaning plan t) records) (IsResult meaning plan t) (λ r x. plain-part meaning plan t r x.0)
-              h.offers h.are) h.apart ends);
-          accounts = λ first covers. may-answer first (answer made h.offers) (ended-answer meaning plan option undecided first h.offers ended.joined.ending
-              (omega (arith, few, covers.within))
-              (All-weaker (IsOffered (AsItIs meaning plan t) records) (IsResult meaning plan first)
-              (λ r x. result-covered meaning plan t first records r few covers (plain-part meaning plan t r x.0, x.1)) h.offers h.are) h.apart ends);
-          has_run = record { delivered = subst (λ u. Leads accepts s (batches option u) s') (sym open_now) gives.1; ending = ends };
+          answer = answer;
+          may = may t few (λ r x. plain-part meaning plan t r x.0);
+          accounts = λ first covers. may first (omega (arith, few, covers.within))
+              (λ r x. result-covered meaning plan t first records r few covers (plain-part meaning plan t r x.0, x.1));
+          has_run = record { delivered = gives.1; ending = gives.0 };
         }
 
     -- the report of a run is of the same answer, which its records account for
@@ -181,18 +162,13 @@ module _ {L T K : Type 0} (meaning : L → Meaning T) (q : QueryView L) (plan : 
         record {
           answer = whole.answer;
           may = whole.may;
-          accounts = subst (λ hs. May (handed_trace t hs) whole.answer) (sym is.records)
-              (whole.accounts (handed_trace t (in_ticket_order records)) (covers-handed t records (rw (← is.records, ← origin) is.legal)));
-          has_run = subst (λ x. HasRun accepts option whole.answer s s' x) (sym is.ending) whole.has_run;
+          accounts = rw is.records (whole.accounts (handed_trace t (in_ticket_order records)) (covers-handed t records (rw (← is.records, ← origin) is.legal)));
+          has_run = rw is.ending whole.has_run;
         }
     whole-reported s s' ended (Err f) h origin is cause =
         let whole = whole-delivered s s' ended h in
         let all = batches option whole.answer in
-        record {
-          answer = whole.answer;
-          may = whole.may;
-          broken = subst (λ x. BreaksFor accepts refuses x all s s') (sym cause) (all, [], sym (append-nil all), whole.has_run.delivered);
-        }
+        record { answer = whole.answer; may = whole.may; broken = rw cause (all, [], sym (append-nil all), whole.has_run.delivered) }
 
     -- or the run was broken off
     broken-by : (how : Result (Option Ending) DeliveryFault) (s s' : K) (run_fault : RunFault) (offers : List (ChunkResult T)) (l' : Line T)
@@ -201,7 +177,7 @@ module _ {L T K : Type 0} (meaning : L → Meaning T) (q : QueryView L) (plan : 
         → IsBroken accepts refuses option May t s s' run_fault
     broken-by (Ok None) s s' run_fault offers l' are apart gives breaks = absurd breaks
     broken-by (Ok (Some e)) s s' run_fault offers l' are apart gives breaks =
-        let all : List (List T) = batches_from (batch_size option) [] (seq (stages_of meaning plan.after.now) (merged_trace plan.order offers)) in
+        let all : List (List T) = batches_from (batch_size option) [] (answer_so_far meaning plan offers) in
         short-of s offers NoMemory s' run_fault Other are apart (all, [], sym (append-nil all), gives.1) (λ bs x. x) breaks
     broken-by (Err NoMemory) s s' run_fault offers l' are apart gives breaks = short-of s offers NoMemory s' run_fault Other are apart gives (λ bs x. x) breaks
     broken-by (Err (Refusal code)) s s' run_fault offers l' are apart gives breaks =
@@ -212,7 +188,7 @@ module _ {L T K : Type 0} (meaning : L → Meaning T) (q : QueryView L) (plan : 
     broken-reported s s' fault h =
         broken-by h.how s s' fault h.offers (line_of meaning h.last)
         (All-weaker (AsItIs meaning plan t) (IsResult meaning plan t) (plain-part meaning plan t) h.offers h.are) h.apart
-        (subst (λ l. Gives accepts refuses l s (merged_trace plan.order h.offers) h.how (line_of meaning h.last) s') begun (let taken = h.taken in taken.gives)) h.breaks
+        (subst (λ l. Gives accepts refuses l s (merged_trace plan.order h.offers) h.how (line_of meaning h.last) s') begun h.taken.gives) h.breaks
 
 -- ---- what is reported
 

@@ -30,6 +30,12 @@ module _ {K T : Type 0} (accepts : K → List T → K → Type 0) (refuses : K �
   reports-accounts F (Ok r) only h = sym (only (handed_trace t r.records.items) h.answer h.accounts) ∙ only t h.answer h.may
   reports-accounts F (Err f) only h = tt
 
+  -- it never answers that it was cancelled
+  pub reports-never : (r : Result Report RunFault) → Reports accepts refuses option May t s s' r → is_stopped r ≡ false
+  reports-never (Ok report) h = refl
+  reports-never (Err Cancelled) h = absurd h.broken
+  reports-never (Err fault) h = refl
+
 -- at last the run's outcome is reported, or that it was cancelled
 pub asked-outcome : {C K : Type 0} (asks : C → ℕ → Bool → C → Type 0) (w w' : WithCancellation C K) (stopped : Bool) (outcome r : Result Report RunFault) → IsAskedAtLast asks stopped outcome w r w'
     → (r ≡ outcome) ⊎ (r ≡ Err Cancelled)
@@ -49,13 +55,6 @@ decided-outcome (Ok report) r (inl is) h untouched =
     rw is (record { ended = (let same : Ok report.ending ≡ Ok End = h.answered in cc); cancelled = tt; untouched = untouched; none = h.none })
 decided-outcome (Err fault) r (inl is) h untouched = absurd (let bad : Err fault ≡ Ok End = h.answered in cc)
 decided-outcome outcome r (inr is) h untouched = rw is (record { ended = tt; cancelled = refl; untouched = untouched; none = tt })
-
--- it never answers that it was cancelled
-pub reports-never : {K T : Type 0} (accepts : K → List T → K → Type 0) (refuses : K → List T → ℕ → K → Type 0) (option : MergeOption) (May : Trace T → Trace T → Type 0) (t : Trace T) (s s' : K) (r : Result Report RunFault)
-    → Reports accepts refuses option May t s s' r → is_stopped r ≡ false
-reports-never accepts refuses option May t s s' (Ok report) h = refl
-reports-never accepts refuses option May t s s' (Err Cancelled) h = absurd h.broken
-reports-never accepts refuses option May t s s' (Err fault) h = refl
 
 module _ {C K T : Type 0} (asks : C → ℕ → Bool → C → Type 0) (accepts : K → List T → K → Type 0) (refuses : K → List T → ℕ → K → Type 0) (option : MergeOption) (May : Trace T → Trace T → Type 0) (t : Trace T) where
   abbrev Lends : WithCancellation C K → WithCancellation C K → Result Report RunFault → Type 0
@@ -115,17 +114,11 @@ module _ {C K T : Type 0} (asks : C → ℕ → Bool → C → Type 0) (accepts 
     pub told-with : (has_told : C → Bool) → ((c : C) (n : ℕ) (answer : Bool) (c' : C) → asks c n answer c' → has_told c' ≡ (has_told c || answer)) → (r : Result Report RunFault)
         → ReportsWith asks accepts refuses option May t d d' r → has_told d'.token ≡ (has_told d.token || is_stopped r)
     told-with has_told keeps (Ok report) h =
-        let last = h.last in
-        let reported = h.reported in
-        let lets = h.lets in
-        lets-told asks has_told keeps last.token last.delivered d'.token lets.asked
-        ∙ leads-told asks has_told keeps accepts refuses d (batches option reported.answer) last reported.has_run.delivered
+        lets-told asks has_told keeps h.last.token h.last.delivered d'.token h.lets.asked
+        ∙ leads-told asks has_told keeps accepts refuses d (batches option h.reported.answer) h.last h.reported.has_run.delivered
         ∙ sym (or-false (has_told d.token))
     told-with has_told keeps (Err Cancelled) h =
-        let stopped = h.stopped in
-        let last = stopped.last in
-        let stops = stopped.stops in
-        stops-told asks has_told keeps last.token last.delivered d'.token stops.asked ∙ sym (or-true (has_told d.token))
+        stops-told asks has_told keeps h.stopped.last.token h.stopped.last.delivered d'.token h.stopped.stops.asked ∙ sym (or-true (has_told d.token))
     told-with has_told keeps (Err fault) h =
         let cut = breaks-cut (Passes asks accepts) (IsRefused asks refuses) (cause_of fault) (batches option h.answer) d d' h.broken in
         cut-told asks has_told keeps accepts refuses d (batches option h.answer) (delivery_fault_of cut.0) d' cut.1 ∙ sym (or-false (has_told d.token))
@@ -133,39 +126,35 @@ module _ {C K T : Type 0} (asks : C → ℕ → Bool → C → Type 0) (accepts 
     -- where there is one answer
     pub reports-with-runs : (v : Trace T) (r : Result Report RunFault) → ((u : Trace T) → May t u → u ≡ v) → ReportsWith asks accepts refuses option May t d d' r → RunsWith asks accepts refuses option v d d' r
     reports-with-runs v (Ok report) only h =
-        let reported = h.reported in
-        (h.last, subst (λ u. HasRun (Passes asks accepts) option u d h.last report.ending) (only reported.answer reported.may) reported.has_run, h.lets)
+        let run = subst (λ u. HasRun (Passes asks accepts) option u d h.last report.ending) (only h.reported.answer h.reported.may) h.reported.has_run in
+        (h.last, run, h.lets)
     reports-with-runs v (Err Cancelled) only h = subst (λ u. IsStopped asks accepts d (batches option u) d') (only h.answer h.may) h.stopped
     reports-with-runs v (Err fault) only h =
         subst (λ u. HasBroken (Passes asks accepts) (IsRefused asks refuses) option u d d' fault) (only h.answer h.may) h.broken
 
     -- with a token that never stops anything
     module _ (never : (c c' : C) (n : ℕ) → asks c n true c' → ⊥) where
-      passed-plain : (s : Delivery C K) (b : List T) (s' : Delivery C K) → Passes asks accepts s b s' → accepts s.sink b s'.sink
-      passed-plain s b s' passes = passes.taken
-
-      refused-plain : (s : Delivery C K) (b : List T) (code : ℕ) (s' : Delivery C K) → IsRefused asks refuses s b code s' → refuses s.sink b code s'.sink
-      refused-plain s b code s' refused = refused.refused
-
-      cut-plain : (bs : List (List T)) (fault : MergeFault) → StopsShort (Passes asks accepts) (IsRefused asks refuses) d bs fault d' → StopsShort accepts refuses d.sink bs fault d'.sink
-      cut-plain bs fault = cut-map (λ s. s.sink) (Passes asks accepts) (IsRefused asks refuses) accepts refuses passed-plain refused-plain d bs (delivery_fault_of fault) d'
+      cut-plain : (bs : List (List T)) (fault : MergeFault) → StopsShort (Passes asks accepts) (IsRefused asks refuses) d bs fault d'
+          → StopsShort accepts refuses d.sink bs fault d'.sink
+      cut-plain bs fault =
+          cut-map (λ s. s.sink) (Passes asks accepts) (IsRefused asks refuses) accepts refuses (λ s b s' passes. passes.taken)
+          (λ s b code s' refused. refused.refused) d bs (delivery_fault_of fault) d'
 
       pub reports-plain : (r : Result Report RunFault) → ReportsWith asks accepts refuses option May t d d' r → Reports accepts refuses option May t d.sink d'.sink r
       reports-plain (Ok report) h =
-          let last = h.last in
           let reported = h.reported in
-          let lets = h.lets in
           record {
             answer = reported.answer;
             may = reported.may;
             accounts = reported.accounts;
             has_run = record {
-              delivered = subst (λ s. Leads accepts d.sink (batches option reported.answer) s) (sym lets.sink)
-                  (leads-map (λ s. s.sink) (Passes asks accepts) accepts passed-plain d (batches option reported.answer) last reported.has_run.delivered);
+              delivered = subst (Leads accepts d.sink (batches option reported.answer)) (sym h.lets.sink)
+                  (leads-map (λ s. s.sink) (Passes asks accepts) accepts (λ s b s' passes. passes.taken) d (batches option reported.answer) h.last
+                  reported.has_run.delivered);
               ending = reported.has_run.ending;
             };
           }
-      reports-plain (Err Cancelled) h = let stopped = h.stopped in let stops = stopped.stops in absurd (never _ _ _ stops.asked)
+      reports-plain (Err Cancelled) h = absurd (never _ _ _ h.stopped.stops.asked)
       reports-plain (Err (Sink code)) h = record { answer = h.answer; may = h.may; broken = cut-plain (batches option h.answer) (Refusal code) h.broken }
       reports-plain (Err fault) h = record { answer = h.answer; may = h.may; broken = cut-plain (batches option h.answer) NoMemory h.broken }
 

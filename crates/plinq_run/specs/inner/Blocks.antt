@@ -134,9 +134,10 @@ module _ {T A U W O : Type 0} (f : Folding T A U) (lawful : IsFolding f)
 -- nothing was given on, since memory ran out
 pub made-none : {L F T A U W O : Type 0} (meaning : L → Meaning T) (folding : F → Folding T A U) → ((a : F) → IsFolding (folding a))
     → (made : W → O → Trace A → Result (Option Ending) DeliveryFault → W → O → Type 0) → IsTaking made → (d d' : FoldBlocks L F W) (x : O) (t : Trace T)
-    → d'.aggregator ≡ d.aggregator → MadeBy meaning folding made d x t (Err Memory) d' x
-made-none meaning folding lawful made taking d d' x t same =
-    record { same = same; passes = given-none (folding d.aggregator.now) (lawful d.aggregator.now) made taking (seq (stages meaning d.pipeline) t) d.inner x }
+    → (how : Result (Option Ending) DeliveryFault) → how ≡ Err Memory → d'.aggregator ≡ d.aggregator → MadeBy meaning folding made d x t how d' x
+made-none meaning folding lawful made taking d d' x t how is same =
+    let none = given-none (folding d.aggregator.now) (lawful d.aggregator.now) made taking (seq (stages meaning d.pipeline) t) d.inner x in
+    rw is (record { same = same; passes = none })
 
 -- one trace after another
 pub made-lawful : {L F T A U W O : Type 0} (meaning : L → Meaning T) (folding : F → Folding T A U) → ((a : F) → IsFolding (folding a))

@@ -3,13 +3,8 @@ use Rattle.std.specs.Prelude.{◌≡◌, Bool, List, [], Option, Some, None, Res
 use Rattle.plinq_source.specs.declared.ending.Ending.{Ending}
 use Rattle.plinq_source.specs.declared.source.Source.{Ghosts as SourceGhosts}
 use Rattle.plinq_source.specs.Trace.{Trace}
-use Rattle.plinq_lambda.specs.Meaning.{Meaning}
-use Rattle.plinq_ops.specs.declared.merge_option.MergeOption.{MergeOption}
 use Rattle.plinq_ops.specs.declared.order.Order.{Order}
-use Rattle.plinq_ops.specs.declared.plan.Plan.{Plan}
 use Rattle.plinq_ops.specs.declared.results.ChunkResult.{ChunkResult}
-use Rattle.plinq_ops.specs.Batches.{batch_size}
-use Rattle.plinq_ops.specs.Operator.{stages_of}
 use Rattle.plinq_merge.specs.declared.delivery_fault.DeliveryFault.{DeliveryFault}
 use Rattle.plinq_merge.specs.declared.joined.Joined.{Joined}
 use Rattle.plinq_merge.specs.declared.joiner.Joiner.{Joiner}
@@ -17,7 +12,7 @@ use Rattle.plinq_merge.specs.declared.merge_fault.MergeFault.{MergeFault}
 use Rattle.plinq_merge.specs.declared.more.More.{More}
 use Rattle.plinq_merge.specs.Joiners.{taker_of, order_of, ending_of, JoinsOffer, HasJoined}
 use Rattle.plinq_merge.specs.Mergers.{delivery_fault_of}
-use Rattle.plinq_merge.specs.Shown.{Merge, merged_trace}
+use Rattle.plinq_merge.specs.Shown.{merged_trace}
 use Rattle.plinq_merge.specs.Whole.{AreApart}
 use Rattle.plinq_partition.specs.Partitions.{all_shares}
 use Rattle.plinq_stream.specs.declared.sent.Sent.{Sent}
@@ -30,10 +25,6 @@ use Rattle.plinq_run.specs.declared.run_fault.RunFault.{RunFault}
 use Rattle.plinq_run.specs.inner.Offered.{IsOffered}
 use Rattle.plinq_run.specs.Parting.{Breaks}
 use Rattle.plinq_run.specs.Runs.{cause_of}
-
--- what the results of this plan's workers are merged by
-abbrev pub merge_for : {L T : Type 0} → (L → Meaning T) → Plan L → MergeOption → Merge T
-merge_for meaning plan option = record { after = stages_of meaning plan.after.now; order = plan.order; decided = plan.decided; size = batch_size option }
 
 -- the fault with which an offer was answered, if it was
 abbrev pub offer_fault : Result More MergeFault → Option MergeFault

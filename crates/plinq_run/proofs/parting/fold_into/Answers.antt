@@ -16,16 +16,10 @@ pub fold_chunks_into-requires-clause-may : goal.fold_chunks_into-requires-clause
 fold_chunks_into-requires-clause-may g c κs within = search (rules, planned-undecided)
 
 pub returns-then-is_empty : goal.returns-then-is_empty
-returns-then-is_empty g c =
-    let f = g.A.GrowingAggregator.folding c.args.aggregator.now in
-    planned-given f g.W.TakeInto.made g.L.Lambda.meaning c.args.query.now c.split-plan.result (g.S.Source.whole c.args.source) c.args.taker c.args.out.now
-    c.fold_chunks_into.result c.fold_chunks_into.new.out c.split-plan.ensures.plan (search rules) c.fold_chunks_into.ensures
+returns-then-is_empty g c = search (rules, planned-given)
 
 pub fold_blocks_into-requires-clause-may : goal.fold_blocks_into-requires-clause-may
 fold_blocks_into-requires-clause-may g c κs within = search (rules, planned-undecided)
 
 pub returns : goal.returns
-returns g c =
-    let f = g.A.GrowingAggregator.folding c.args.aggregator.now in
-    planned-given f g.W.TakeInto.made g.L.Lambda.meaning c.args.query.now c.split-plan.result (g.S.Source.whole c.args.source) c.args.taker c.args.out.now
-    c.fold_blocks_into.result c.fold_blocks_into.new.out c.split-plan.ensures.plan (search rules) c.fold_blocks_into.ensures
+returns g c = search (rules, planned-given)

@@ -1,10 +1,10 @@
-use Rattle.std.proofs.Common.{rules, ◌≡◌, ◌≤◌, ◌^◌, [], true, Ok, Err, length, sym, ap, ◌∙◌, subst, refl}
+use Rattle.std.proofs.Common.{rules, ◌≡◌, ◌≤◌, ◌^◌, [], true, length, sym, ap, ◌∙◌, subst, refl}
 use Rattle.std.proofs.lemmas.Result.{IfOk-weaker}
 use Rattle.plinq_source.specs.{declared.ending.Ending.TheVariants.End, Trace.Trace, Trace.ended_trace}
 use Rattle.plinq_keyed.specs.History.{IsLegalHistory}
 use Rattle.plinq_partition.specs.Partitions.{all_shares}
 use Rattle.plinq_ops.specs.{Batches.batches, Query.merge_in_force, Sequential.answer_of}
-use Rattle.plinq_run.specs.{declared.run_fault.RunFault.TheVariants.Memory, Handed.has_close}
+use Rattle.plinq_run.specs.Handed.{has_close}
 use Rattle.plinq_run.proofs.{Handed.closed-in_order, Headline.ordered-delivered}
 use Rattle.plinq_run.proofs.Runs.{whole-reported, broken-reported, decided-may, may-sequential, planned-undecided}
 use Rattle.plinq_run.proofs.running.run.Goals as goal
@@ -18,10 +18,7 @@ returns-then-plan-clause-reports g c =
     record { answer = ended_trace [] End; may = may _; accounts = may _; has_run = record { delivered = refl; ending = refl } }
 
 pub returns-then-plan-clause-ordered : goal.returns-then-plan-clause-ordered
-returns-then-plan-clause-ordered g c = λ ordered.
-    let q = c.args.query.now in
-    ordered-delivered g.L.Lambda.meaning g.K.Sink.accepts g.K.Sink.refuses q.merge q.ordered q.ops (g.S.Source.whole c.args.source)
-    c.args.sink.now c.args.sink.now (Ok (record { ending = End; records = c.new.result })) ordered (returns-then-plan-clause-reports g c)
+returns-then-plan-clause-ordered g c = λ ordered. search (rules, ordered-delivered, returns-then-plan-clause-reports g c)
 
 -- no memory for what delivers
 pub returns-in_default-clause-reports : goal.returns-in_default-clause-reports
@@ -31,10 +28,7 @@ returns-in_default-clause-reports g c =
     record { answer = answer; may = may-sequential g.L.Lambda.meaning q.ordered q.ops _; broken = ([], batches (merge_in_force q.merge) answer, refl, refl) }
 
 pub returns-in_default-clause-ordered : goal.returns-in_default-clause-ordered
-returns-in_default-clause-ordered g c = λ ordered.
-    let q = c.args.query.now in
-    ordered-delivered g.L.Lambda.meaning g.K.Sink.accepts g.K.Sink.refuses q.merge q.ordered q.ops (g.S.Source.whole c.args.source)
-    c.args.sink.now c.args.sink.now (Err Memory) ordered (returns-in_default-clause-reports g c)
+returns-in_default-clause-ordered g c = λ ordered. search (rules, ordered-delivered, returns-in_default-clause-reports g c)
 
 pub conduct_plan-requires-clause-may : goal.conduct_plan-requires-clause-may
 conduct_plan-requires-clause-may g c lifetimes outlive = search (rules, planned-undecided)
@@ -63,10 +57,7 @@ returns-in-Ok-conduct_plan-clause-reports g c =
     c.in-Ok-conduct_plan.ensures.1 c.in-Ok-conduct_plan.ensures.0.origin c.report.ensures.reports c.report.ensures.cause
 
 pub returns-in-Ok-conduct_plan-clause-ordered : goal.returns-in-Ok-conduct_plan-clause-ordered
-returns-in-Ok-conduct_plan-clause-ordered g c = λ ordered.
-    let q = c.args.query.now in
-    ordered-delivered g.L.Lambda.meaning g.K.Sink.accepts g.K.Sink.refuses q.merge q.ordered q.ops (g.S.Source.whole c.args.source)
-    c.args.sink.now c.conduct_plan.new.out c.report.result ordered (returns-in-Ok-conduct_plan-clause-reports g c)
+returns-in-Ok-conduct_plan-clause-ordered g c = λ ordered. search (rules, ordered-delivered, returns-in-Ok-conduct_plan-clause-reports g c)
 
 -- a fault
 pub returns-in-Err-clause-reports : goal.returns-in-Err-clause-reports
@@ -79,7 +70,4 @@ returns-in-Err-clause-reports g c =
     (rw c.merge_option.ensures at c.in-Ok.ensures.begun) c.args.sink.now c.conduct_plan.new.out c.in-Err.fault c.in-Err.ensures
 
 pub returns-in-Err-clause-ordered : goal.returns-in-Err-clause-ordered
-returns-in-Err-clause-ordered g c = λ ordered.
-    let q = c.args.query.now in
-    ordered-delivered g.L.Lambda.meaning g.K.Sink.accepts g.K.Sink.refuses q.merge q.ordered q.ops (g.S.Source.whole c.args.source)
-    c.args.sink.now c.conduct_plan.new.out (Err c.in-Err.fault) ordered (returns-in-Err-clause-reports g c)
+returns-in-Err-clause-ordered g c = λ ordered. search (rules, ordered-delivered, returns-in-Err-clause-reports g c)

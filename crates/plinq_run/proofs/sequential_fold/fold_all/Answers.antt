@@ -17,7 +17,7 @@ returns-in-Some-clause-folds g c =
     let f = g.A.GrowingAggregator.folding c.args.aggregator.now in
     let before = c.loop-piece.invariant in
     let next = rw (c.in-Some.is, before.0) at c.in_ok-ending.ensures.fed in
-    finished f _ _ _ _ _ _ _ _ _ _ _ c.feed_from.ensures.one before.1 next (search rules)
+    finished f _ _ _ _ _ _ _ _ _ before.1 _ _ c.feed_from.ensures.one next (search rules)
 
 -- an item that leaves the answer open
 pub loop-piece-preserved : goal.loop-piece-preserved

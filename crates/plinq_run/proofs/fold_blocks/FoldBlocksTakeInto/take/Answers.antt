@@ -1,30 +1,23 @@
-use Rattle.std.proofs.Common.{rules, ◌≡◌, [], ◌∷◌, Err, None, refl}
+use Rattle.std.proofs.Common.{rules, ◌≡◌, [], ◌∷◌, None, refl}
 use Rattle.plinq_source.proofs.Followed.{trace_of}
 use Rattle.plinq_aggregate.specs.Folding.{fold_of}
 use Rattle.plinq_ops.specs.Pipeline.{stages}
-use Rattle.plinq_merge.specs.declared.delivery_fault.DeliveryFault.TheVariants.{Memory}
+use Rattle.plinq_merge.proofs.Delivered.{fed-open}
 use Rattle.plinq_run.specs.inner.Blocks.{passes-all, made-none}
 use Rattle.plinq_run.proofs.PartsGiven.{still-folds}
-use Rattle.plinq_merge.proofs.Delivered.{fed-open}
 use Rattle.plinq_run.proofs.fold_blocks.FoldBlocksTakeInto.take.Goals as goal
 
 pub returns-in_err-ending-clause-made : goal.returns-in_err-ending-clause-made
 returns-in_err-ending-clause-made g c =
-    let is : c.from_residual.result ≡ Err Memory = search rules in
-    rw is (made-none g.L.Lambda.meaning g.A.GrowingAggregator.folding g.met.A.GrowingAggregator.lawful g.W.TakeInto.made g.met.W.TakeInto.lawful
-    c.args.self.now _ c.args.out.now (trace_of c.args.items.items c.args.ending) refl)
+    made-none _ _ g.met.A.GrowingAggregator.lawful _ g.met.W.TakeInto.lawful _ _ _ _ _ (search rules) refl
 
 pub returns-in_err-parts-clause-made : goal.returns-in_err-parts-clause-made
 returns-in_err-parts-clause-made g c =
-    let is : c.from_residual-in_err-parts.result ≡ Err Memory = search rules in
-    rw is (made-none g.L.Lambda.meaning g.A.GrowingAggregator.folding g.met.A.GrowingAggregator.lawful g.W.TakeInto.made g.met.W.TakeInto.lawful
-    c.args.self.now _ c.args.out.now (trace_of c.args.items.items c.args.ending) refl)
+    made-none _ _ g.met.A.GrowingAggregator.lawful _ g.met.W.TakeInto.lawful _ _ _ _ _ (search rules) refl
 
 pub returns-in_err-part-clause-made : goal.returns-in_err-part-clause-made
 returns-in_err-part-clause-made g c =
-    let is : c.from_residual-in_err-part.result ≡ Err Memory = search rules in
-    rw is (made-none g.L.Lambda.meaning g.A.GrowingAggregator.folding g.met.A.GrowingAggregator.lawful g.W.TakeInto.made g.met.W.TakeInto.lawful
-    c.args.self.now _ c.args.out.now (trace_of c.args.items.items c.args.ending) refl)
+    made-none _ _ g.met.A.GrowingAggregator.lawful _ g.met.W.TakeInto.lawful _ _ _ _ _ (search rules) refl
 
 pub returns-clause-ready : goal.returns-clause-ready
 returns-clause-ready g c = λ is_open.
