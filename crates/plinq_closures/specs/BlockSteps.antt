@@ -1,5 +1,5 @@
 -- A block of items at a step: what comes of it, by the answers that the step may give.
-use Rattle.std.specs.Prelude.{◌≡◌, refl, ℕ, ◌+◌, List, [], ◌∷◌, length, None, Result, Ok}
+use Rattle.std.specs.Prelude.{◌≡◌, ℕ, ◌+◌, List, [], ◌∷◌, length, None, Result, Ok}
 use Rattle.std.proofs.Common.{arith, ap}
 use Rattle.plinq_lambda.specs.Block.{BlockResult, mapped_block}
 

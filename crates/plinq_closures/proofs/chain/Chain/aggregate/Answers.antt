@@ -1,5 +1,4 @@
 -- What an aggregator makes of the query's answer is what it makes of what the steps do.
-use Rattle.std.specs.Prelude.{true}
 use Rattle.std.proofs.Common.{subst, sym, refl}
 use Rattle.plinq_aggregate.specs.Folding.{aggregate_value}
 use Rattle.plinq_ops.specs.Sequential.{answer_of}
