@@ -10,7 +10,7 @@ use crate::starting::WorkerFaults;
 use crate::task::Task;
 use crate::worker::{Crew, Equipment, WorkerContext};
 use crate::worker_count::WorkerCount;
-use plinq_lambda::SharedLambda;
+use plinq_lambda::Lambda;
 use plinq_partition::Partition;
 use plinq_source::{OutOfMemory, Source};
 use std::sync::Wait;
@@ -30,7 +30,7 @@ pub struct Returned<S: Source> {
 /// # Errors
 ///
 /// [`OutOfMemory`] where there is no room for what the workers bring back. No worker was started then.
-pub fn conduct<'x, J, L: SharedLambda, S: Source<Item = L::Item>, P: Task<L::Item>, X, R>(
+pub fn conduct<'x, J, L, S: Source<Item = L::Item>, P: Task<L::Item>, X, R>(
     rt: &'x R,
     crew: &'x Crew<'x, L, S, J, P>,
     context: WorkerContext<S, P::Part>,
@@ -38,6 +38,7 @@ pub fn conduct<'x, J, L: SharedLambda, S: Source<Item = L::Item>, P: Task<L::Ite
 ) -> Result<Returned<S>, OutOfMemory>
 where
     J: RunSpec<P::Part> + Send + Sync,
+    L: Lambda<Item: Send> + Sync,
     X: Consumer<<P as Task<L::Item>>::Part>,
     R: Threads + Wait + Sync,
     requires ready { IsReady L.meaning P.makes J.is_result J.stops_at crew.now context }

@@ -21,7 +21,7 @@ use crate::task::Task;
 use crate::worker::{Crew, Equipment, Worked, WorkerContext};
 use crate::worker_count::WorkerCount;
 use plinq_cut::CutPass;
-use plinq_lambda::SharedLambda;
+use plinq_lambda::Lambda;
 use plinq_partition::{Partition, TakeFault};
 use plinq_source::{OutOfMemory, Source};
 use std::snapshot::Snapshot;
@@ -37,13 +37,13 @@ pub(crate) struct Team<S: Source, M> {
 
 impl<'s, L, S, J, P> Crew<'s, L, S, J, P>
 where
-    L: SharedLambda,
+    L: Lambda<Item: Send> + Sync,
     S: Source<Item = L::Item>,
     J: RunSpec<P::Part> + Send + Sync,
     P: Task<L::Item>,
 {
     /// Starts one worker, unless no thread can be had.
-    fn start<Env, R: Threads + Wait + Sync>(
+    fn start<Env, R: Wait + Sync>(
         &'s self,
         scope: &Scope<'s, Env>,
         rt: &'s R,
@@ -79,7 +79,7 @@ where
 
     /// Starts as many workers as are wanted by now, at least one, each with a new partition beside the caller's thread's own and a
     /// number of its own, or as many as there are threads to be had. Where one was missing before, none is started.
-    fn start_wanted<Env, R: Threads + Wait + Sync>(
+    fn start_wanted<Env, R: Wait + Sync>(
         &'s self,
         scope: &Scope<'s, Env>,
         rt: &'s R,
