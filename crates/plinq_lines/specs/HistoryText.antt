@@ -78,7 +78,8 @@ six_requests =
     ∷ []
 
 pub four_items_in_two : history_text six_requests (Some End)
-    ≡ codes "ticket 0 ask 1 first 0 count 1\nticket 1 ask 1 first 1 count 1\nticket 2 ask 1 first 2 count 1\nticket 3 ask 1 first 3 count 1\nticket 4 ask 1 first 4 count 0 ended\nticket 5 ask 1 first 4 count 0 ended\nend\n"
+    ≡ codes "ticket 0 ask 1 first 0 count 1\nticket 1 ask 1 first 1 count 1\nticket 2 ask 1 first 2 count 1\nticket 3 ask 1 first 3 count 1\n"
+    ++ codes "ticket 4 ask 1 first 4 count 0 ended\nticket 5 ask 1 first 4 count 0 ended\nend\n"
 unfolding digits
 four_items_in_two = refl
 
