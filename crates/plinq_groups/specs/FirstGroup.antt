@@ -5,7 +5,7 @@ use Rattle.std.proofs.Common.{sym, ◌∙◌, ap, append_assoc, append-nil}
 use Rattle.plinq_aggregate.specs.Folding.{Folding, fold_of}
 use Rattle.plinq_groups.specs.Groups.{grouping}
 use Rattle.plinq_groups.specs.inner.Joined.{joined_groups, joined_groups-here, joined_groups-later}
-use Rattle.plinq_groups.specs.Grouping.{single, each_folded, grouped-fold_of}
+use Rattle.plinq_groups.specs.Grouping.{group_of_one, folded_groups, grouped-fold_of}
 
 module _ {K T : Type 0} (eq : K → K → Bool) (key : T → K) where
   -- the items of this key, and those of others
@@ -16,25 +16,25 @@ module _ {K T : Type 0} (eq : K → K → Bool) (key : T → K) where
   of_others k xs = filter (λ x. not (eq (key x) k)) xs
 
   first-at : (k : K) (ys : List T) (gs : List (K × List T)) (x : T) (xs : List T)
-      → ((zs : List T) (hs : List (K × List T)) → fold (joined_groups eq) ((k, zs) ∷ hs) (map (single key) xs)
-      ≡ (k, zs ++ of_key k xs) ∷ fold (joined_groups eq) hs (map (single key) (of_others k xs)))
+      → ((zs : List T) (hs : List (K × List T)) → fold (joined_groups eq) ((k, zs) ∷ hs) (map (group_of_one key) xs)
+      ≡ (k, zs ++ of_key k xs) ∷ fold (joined_groups eq) hs (map (group_of_one key) (of_others k xs)))
       → (b : Bool) → eq (key x) k ≡ b
-      → fold (joined_groups eq) ((k, ys) ∷ gs) (map (single key) (x ∷ xs))
-      ≡ (k, ys ++ of_key k (x ∷ xs)) ∷ fold (joined_groups eq) gs (map (single key) (of_others k (x ∷ xs)))
+      → fold (joined_groups eq) ((k, ys) ∷ gs) (map (group_of_one key) (x ∷ xs))
+      ≡ (k, ys ++ of_key k (x ∷ xs)) ∷ fold (joined_groups eq) gs (map (group_of_one key) (of_others k (x ∷ xs)))
   first-at k ys gs x xs rest true is =
-      ap (λ z. fold (joined_groups eq) z (map (single key) xs)) (joined_groups-here eq (k, ys) (single key x) gs is)
+      ap (λ z. fold (joined_groups eq) z (map (group_of_one key) xs)) (joined_groups-here eq (k, ys) (group_of_one key x) gs is)
       ∙ rest (ys ++ x ∷ []) gs
-      ∙ ap (λ zs. (k, zs) ∷ fold (joined_groups eq) gs (map (single key) (of_others k xs))) (append_assoc ys (x ∷ []) (of_key k xs))
+      ∙ ap (λ zs. (k, zs) ∷ fold (joined_groups eq) gs (map (group_of_one key) (of_others k xs))) (append_assoc ys (x ∷ []) (of_key k xs))
       ∙ sym (ap (λ b. (k, ys ++ cond b (x ∷ of_key k xs) (of_key k xs))
-      ∷ fold (joined_groups eq) gs (map (single key) (cond (not b) (x ∷ of_others k xs) (of_others k xs)))) is)
+      ∷ fold (joined_groups eq) gs (map (group_of_one key) (cond (not b) (x ∷ of_others k xs) (of_others k xs)))) is)
   first-at k ys gs x xs rest false is =
-      ap (λ z. fold (joined_groups eq) z (map (single key) xs)) (joined_groups-later eq (k, ys) (single key x) gs is)
-      ∙ rest ys (joined_groups eq gs (single key x))
+      ap (λ z. fold (joined_groups eq) z (map (group_of_one key) xs)) (joined_groups-later eq (k, ys) (group_of_one key x) gs is)
+      ∙ rest ys (joined_groups eq gs (group_of_one key x))
       ∙ sym (ap (λ b. (k, ys ++ cond b (x ∷ of_key k xs) (of_key k xs))
-      ∷ fold (joined_groups eq) gs (map (single key) (cond (not b) (x ∷ of_others k xs) (of_others k xs)))) is)
+      ∷ fold (joined_groups eq) gs (map (group_of_one key) (cond (not b) (x ∷ of_others k xs) (of_others k xs)))) is)
 
   first-of : (k : K) (xs ys : List T) (gs : List (K × List T))
-      → fold (joined_groups eq) ((k, ys) ∷ gs) (map (single key) xs) ≡ (k, ys ++ of_key k xs) ∷ fold (joined_groups eq) gs (map (single key) (of_others k xs))
+      → fold (joined_groups eq) ((k, ys) ∷ gs) (map (group_of_one key) xs) ≡ (k, ys ++ of_key k xs) ∷ fold (joined_groups eq) gs (map (group_of_one key) (of_others k xs))
   first-of k [] ys gs = ap (λ zs. (k, zs) ∷ gs) (sym (append-nil ys))
   first-of k (x ∷ xs) ys gs = first-at k ys gs x xs (first-of k xs) (eq (key x) k) refl
 
@@ -47,5 +47,5 @@ module _ {K T : Type 0} (eq : K → K → Bool) (key : T → K) where
         → fold_of (grouping eq key f) (x ∷ xs) ≡ (key x, fold_of f (x ∷ of_key (key x) xs)) ∷ fold_of (grouping eq key f) (of_others (key x) xs)
     first-group x xs =
         grouped-fold_of eq key f (x ∷ xs)
-        ∙ ap (each_folded f) (first-of (key x) xs (x ∷ []) [])
+        ∙ ap (folded_groups f) (first-of (key x) xs (x ∷ []) [])
         ∙ ap (λ gs. (key x, fold_of f (x ∷ of_key (key x) xs)) ∷ gs) (sym (grouped-fold_of eq key f (of_others (key x) xs)))

@@ -53,8 +53,8 @@ module _ {T K : Type 0} (rank : T → K) (cmp : K → K → Ordering) where
         (λ a b c. lesser-at a b c (is_lt (cmp (rank c) (rank b))) refl (is_lt (cmp (rank b) (rank a))) refl (is_lt (cmp (rank c) (rank a))) refl)
 
 -- the other way round
-flipped : {K : Type 0} (cmp : K → K → Ordering) → IsTotalOrder cmp → IsTotalOrder (λ x y. cmp y x)
-flipped cmp total =
+IsTotalOrder-flip : {K : Type 0} (cmp : K → K → Ordering) → IsTotalOrder cmp → IsTotalOrder (λ x y. cmp y x)
+IsTotalOrder-flip cmp total =
     record {
       antisymm = λ x y. total.antisymm y x;
       trans = λ x y z first second. total.trans z y x second first;
@@ -65,4 +65,4 @@ flipped cmp total =
     }
 
 pub greater-lawful : {T K : Type 0} (rank : T → K) (cmp : K → K → Ordering) → IsTotalOrder cmp → IsFolding (picking (greater rank cmp))
-greater-lawful rank cmp total = lesser-lawful rank (λ x y. cmp y x) (flipped cmp total)
+greater-lawful rank cmp total = lesser-lawful rank (λ x y. cmp y x) (IsTotalOrder-flip cmp total)

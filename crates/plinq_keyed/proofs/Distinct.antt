@@ -4,8 +4,8 @@ use Rattle.std.specs.List.{list_all, range_with_len, IsDistinct, AllByRecursion}
 use Rattle.std.proofs.lemmas.Bool.{and_parts, and_from, or_parts, or_from, or_cases, ltb-true, lt-ltb, leb-true, le-leb, eqb-true, ne_eqb, not-true, not_from_false, cases_Bool, false≢true}
 use Rattle.std.proofs.lemmas.List.Folds.{list_any-append}
 use Rattle.std.proofs.lemmas.Map.Steps.{length-le_from_distinct_below}
-use Rattle.plinq_keyed.specs.Keys.{is_among, distinct, rises_from, rises, counts_up}
-use Rattle.plinq_keyed.specs.inner.Sweeps.{apart, all_below}
+use Rattle.plinq_keyed.specs.Keys.{is_among, are_distinct, rises_from, rises, counts_up}
+use Rattle.plinq_keyed.specs.inner.Sweeps.{are_disjoint, all_below}
 
 not_or : (a b : Bool) → not (a || b) ≡ (not a && not b)
 not_or true b = refl
@@ -17,17 +17,17 @@ and_regroup true false true d = refl
 and_regroup true false false d = refl
 and_regroup false b c d = refl
 
-pub apart-append : (ks js is : List ℕ) → apart ks (js ++ is) ≡ (apart ks js && apart ks is)
-apart-append [] js is = refl
-apart-append (k ∷ ks) js is =
-    ap (λ b. not b && apart ks (js ++ is)) (list_any-append (λ j. eqb k j) js is)
-    ∙ ap (λ b. b && apart ks (js ++ is)) (not_or (is_among js k) (is_among is k))
-    ∙ ap (λ b. not (is_among js k) && not (is_among is k) && b) (apart-append ks js is)
-    ∙ and_regroup (not (is_among js k)) (not (is_among is k)) (apart ks js) (apart ks is)
+pub are_disjoint-append : (ks js is : List ℕ) → are_disjoint ks (js ++ is) ≡ (are_disjoint ks js && are_disjoint ks is)
+are_disjoint-append [] js is = refl
+are_disjoint-append (k ∷ ks) js is =
+    ap (λ b. not b && are_disjoint ks (js ++ is)) (list_any-append (λ j. eqb k j) js is)
+    ∙ ap (λ b. b && are_disjoint ks (js ++ is)) (not_or (is_among js k) (is_among is k))
+    ∙ ap (λ b. not (is_among js k) && not (is_among is k) && b) (are_disjoint-append ks js is)
+    ∙ and_regroup (not (is_among js k)) (not (is_among is k)) (are_disjoint ks js) (are_disjoint ks is)
 
-pub apart-nil : (ks : List ℕ) → apart ks [] ≡ true
-apart-nil [] = refl
-apart-nil (k ∷ ks) = apart-nil ks
+pub are_disjoint-nil : (ks : List ℕ) → are_disjoint ks [] ≡ true
+are_disjoint-nil [] = refl
+are_disjoint-nil (k ∷ ks) = are_disjoint-nil ks
 
 and_four : (a b c d e : Bool) → ((a && b) && ((c && d) && e)) ≡ (((a && c) && (b && d)) && e)
 and_four true true c d e = refl
@@ -35,13 +35,13 @@ and_four true false true d e = refl
 and_four true false false d e = refl
 and_four false b c d e = refl
 
-pub distinct-append : (ks js : List ℕ) → distinct (ks ++ js) ≡ (distinct ks && apart ks js && distinct js)
-distinct-append [] js = refl
-distinct-append (k ∷ ks) js =
-    ap (λ b. not b && distinct (ks ++ js)) (list_any-append (λ j. eqb k j) ks js)
-    ∙ ap (λ b. b && distinct (ks ++ js)) (not_or (is_among ks k) (is_among js k))
-    ∙ ap (λ b. (not (is_among ks k) && not (is_among js k)) && b) (distinct-append ks js)
-    ∙ and_four (not (is_among ks k)) (not (is_among js k)) (distinct ks) (apart ks js) (distinct js)
+pub are_distinct-append : (ks js : List ℕ) → are_distinct (ks ++ js) ≡ (are_distinct ks && are_disjoint ks js && are_distinct js)
+are_distinct-append [] js = refl
+are_distinct-append (k ∷ ks) js =
+    ap (λ b. not b && are_distinct (ks ++ js)) (list_any-append (λ j. eqb k j) ks js)
+    ∙ ap (λ b. b && are_distinct (ks ++ js)) (not_or (is_among ks k) (is_among js k))
+    ∙ ap (λ b. (not (is_among ks k) && not (is_among js k)) && b) (are_distinct-append ks js)
+    ∙ and_four (not (is_among ks k)) (not (is_among js k)) (are_distinct ks) (are_disjoint ks js) (are_distinct js)
 
 pub is_among-rising : (least k : ℕ) (ks : List ℕ) → rises_from least ks ≡ true → k < least → is_among ks k ≡ false
 is_among-rising least k [] h b = refl
@@ -50,12 +50,12 @@ is_among-rising least k (j ∷ ks) h b =
     let above : least ≤ j = leb-true least j p.0 in
     or_from _ _ (ne_eqb k j (λ e. omega arith)) (is_among-rising (j + 1) k ks p.1 (omega arith))
 
-pub distinct-rising : (least : ℕ) (ks : List ℕ) → rises_from least ks ≡ true → distinct ks ≡ true
-distinct-rising least [] h = refl
-distinct-rising least (k ∷ ks) h =
+pub are_distinct-rising : (least : ℕ) (ks : List ℕ) → rises_from least ks ≡ true → are_distinct ks ≡ true
+are_distinct-rising least [] h = refl
+are_distinct-rising least (k ∷ ks) h =
     let p = and_parts (leb least k) _ h in
     let none : is_among ks k ≡ false = is_among-rising (k + 1) k ks p.1 (omega arith) in
-    and_from _ _ (not_from_false _ none) (distinct-rising (k + 1) ks p.1)
+    and_from _ _ (not_from_false _ none) (are_distinct-rising (k + 1) ks p.1)
 
 pub rises_from-less : (least less : ℕ) (ks : List ℕ) → less ≤ least → rises_from least ks ≡ true → rises_from less ks ≡ true
 rises_from-less least less [] b h = refl
@@ -68,30 +68,30 @@ pub rises-tail : (k : ℕ) (ks : List ℕ) → rises (k ∷ ks) ≡ true → ris
 rises-tail k ks h = rises_from-less (k + 1) 0 ks (omega arith) (and_parts (leb 0 k) _ h).1
 
 -- the lower of two first keys is in no list that rises from the other on
-pub apart-lower_left : (k j : ℕ) (ks js : List ℕ) → k < j → rises (j ∷ js) ≡ true → apart (k ∷ ks) (j ∷ js) ≡ apart ks (j ∷ js)
-apart-lower_left k j ks js b h =
+pub are_disjoint-lower_left : (k j : ℕ) (ks js : List ℕ) → k < j → rises (j ∷ js) ≡ true → are_disjoint (k ∷ ks) (j ∷ js) ≡ are_disjoint ks (j ∷ js)
+are_disjoint-lower_left k j ks js b h =
     let up : rises_from (k + 1) (j ∷ js) ≡ true = and_from _ _ (le-leb (k + 1) j (omega arith)) (and_parts (leb 0 j) _ h).1 in
     let none : is_among (j ∷ js) k ≡ false = is_among-rising (k + 1) k (j ∷ js) up (omega arith) in
-    ap (λ b. not b && apart ks (j ∷ js)) none
+    ap (λ b. not b && are_disjoint ks (j ∷ js)) none
 
-apart-without : (least j : ℕ) (ks js : List ℕ) → rises_from least ks ≡ true → j < least → apart ks (j ∷ js) ≡ apart ks js
-apart-without least j [] js h b = refl
-apart-without least j (k ∷ ks) js h b =
+are_disjoint-without : (least j : ℕ) (ks js : List ℕ) → rises_from least ks ≡ true → j < least → are_disjoint ks (j ∷ js) ≡ are_disjoint ks js
+are_disjoint-without least j [] js h b = refl
+are_disjoint-without least j (k ∷ ks) js h b =
     let p = and_parts (leb least k) _ h in
     let above : least ≤ k = leb-true least k p.0 in
     let ne : eqb k j ≡ false = ne_eqb k j (λ e. omega arith) in
-    ap (λ b. not (b || is_among js k) && apart ks (j ∷ js)) ne
-    ∙ ap (λ b. not (is_among js k) && b) (apart-without (k + 1) j ks js p.1 (omega arith))
+    ap (λ b. not (b || is_among js k) && are_disjoint ks (j ∷ js)) ne
+    ∙ ap (λ b. not (is_among js k) && b) (are_disjoint-without (k + 1) j ks js p.1 (omega arith))
 
-pub apart-lower_right : (k j : ℕ) (ks js : List ℕ) → j < k → rises (k ∷ ks) ≡ true → apart (k ∷ ks) (j ∷ js) ≡ apart (k ∷ ks) js
-apart-lower_right k j ks js b h =
-    apart-without (j + 1) j (k ∷ ks) js (and_from _ _ (le-leb (j + 1) k (omega arith)) (and_parts (leb 0 k) _ h).1) (omega arith)
+pub are_disjoint-lower_right : (k j : ℕ) (ks js : List ℕ) → j < k → rises (k ∷ ks) ≡ true → are_disjoint (k ∷ ks) (j ∷ js) ≡ are_disjoint (k ∷ ks) js
+are_disjoint-lower_right k j ks js b h =
+    are_disjoint-without (j + 1) j (k ∷ ks) js (and_from _ _ (le-leb (j + 1) k (omega arith)) (and_parts (leb 0 k) _ h).1) (omega arith)
 
 all_differ : (k : ℕ) (ks : List ℕ) → is_among ks k ≡ false → AllByRecursion (λ y. eqb k y ≡ false) ks
 all_differ k [] h = tt
 all_differ k (j ∷ ks) h = let p = or_parts (eqb k j) _ h in (p.0, all_differ k ks p.1)
 
-IsDistinct-from_distinct : (ks : List ℕ) → distinct ks ≡ true → IsDistinct eqb ks
+IsDistinct-from_distinct : (ks : List ℕ) → are_distinct ks ≡ true → IsDistinct eqb ks
 unfolding IsDistinct
 IsDistinct-from_distinct [] h = tt
 IsDistinct-from_distinct (k ∷ ks) h =
@@ -106,12 +106,12 @@ below-at n q (k ∷ ks) h m =
     elim (or_cases (eqb q k) _ m) [ inl e ↦ (let same : q ≡ k = eqb-true q k e in omega arith) | inr r ↦ below-at n q ks p.1 r ]
 
 -- as many numbers below n as n, none twice, are all of them
-is_among-full : (ks : List ℕ) (q : ℕ) → all_below (length ks) ks ≡ true → distinct ks ≡ true → q < length ks → is_among ks q ≡ true
+is_among-full : (ks : List ℕ) (q : ℕ) → all_below (length ks) ks ≡ true → are_distinct ks ≡ true → q < length ks → is_among ks q ≡ true
 is_among-full ks q below once h =
     elim (cases_Bool (is_among ks q)) [
       | inl e ↦ e
       | inr none ↦
-          let more : distinct (q ∷ ks) ≡ true = and_from _ _ (not_from_false _ none) once in
+          let more : are_distinct (q ∷ ks) ≡ true = and_from _ _ (not_from_false _ none) once in
           let all : all_below (length ks) (q ∷ ks) ≡ true = and_from _ _ (lt-ltb q (length ks) h) below in
           let few = length-le_from_distinct_below (q ∷ ks) (length ks) (IsDistinct-from_distinct (q ∷ ks) more) (λ j m. below-at (length ks) j (q ∷ ks) all m) in
           absurd (omega arith)
@@ -121,9 +121,9 @@ list_all-range : (p : ℕ → Bool) (a n : ℕ) → ((q : ℕ) → q < a + n →
 list_all-range p a zero h = refl
 list_all-range p a (suc n) h = and_from _ _ (h a (omega arith)) (list_all-range p (a + 1) n (λ q b. h q (omega arith)))
 
-pub counts_up-from : (ks : List ℕ) → counts_up ks ≡ (all_below (length ks) ks && distinct ks)
+pub counts_up-from : (ks : List ℕ) → counts_up ks ≡ (all_below (length ks) ks && are_distinct ks)
 counts_up-from ks =
-    elim (cases_Bool (all_below (length ks) ks && distinct ks)) [
+    elim (cases_Bool (all_below (length ks) ks && are_distinct ks)) [
       | inl e ↦
           let p = and_parts (all_below (length ks) ks) _ e in
           ap (λ b. b && list_all (is_among ks) (range_with_len 0 (length ks))) e

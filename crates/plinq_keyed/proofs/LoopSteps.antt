@@ -5,9 +5,9 @@ use Rattle.std.specs.declared.alloc.Global.{Global}
 use Rattle.std.proofs.lemmas.Bool.{and_parts}
 use Rattle.std.proofs.lemmas.List.{drop_more}
 use Rattle.plinq_keyed.specs.declared.keyed.Keyed.{Keyed}
-use Rattle.plinq_keyed.specs.Keys.{keys, key_lists, element_lists, distinct, rises, ordered_in_each}
-use Rattle.plinq_keyed.specs.inner.Sweeps.{apart}
-use Rattle.plinq_keyed.proofs.Distinct.{apart-append, apart-lower_left, apart-lower_right, distinct-append, distinct-rising, rises-tail}
+use Rattle.plinq_keyed.specs.Keys.{keys, key_lists, element_lists, are_distinct, rises, ordered_in_each}
+use Rattle.plinq_keyed.specs.inner.Sweeps.{are_disjoint}
+use Rattle.plinq_keyed.proofs.Distinct.{are_disjoint-append, are_disjoint-lower_left, are_disjoint-lower_right, are_distinct-append, are_distinct-rising, rises-tail}
 
 abbrev pub all_keys : {T : Type 0} → List (Vec (Keyed T) Global) → List ℕ
 all_keys parts = concat (key_lists (element_lists parts))
@@ -19,38 +19,38 @@ drop-at xs i x h is = drop_more xs i x h ∙ ap (λ y. y ∷ drop (i + 1) xs) (s
 pub rises-next : {T : Type 0} (xs : List (Keyed T)) (i : ℕ) (x : Keyed T) → drop i xs ≡ x ∷ drop (i + 1) xs → rises (keys (drop i xs)) ≡ true → rises (keys (drop (i + 1) xs)) ≡ true
 rises-next xs i x e h = rises-tail x.key (keys (drop (i + 1) xs)) (sym (ap (λ ys. rises (keys ys)) e) ∙ h)
 
-pub apart-left : {T : Type 0} (xs ys : List (Keyed T)) (i j : ℕ) (x y : Keyed T) → drop i xs ≡ x ∷ drop (i + 1) xs → drop j ys ≡ y ∷ drop (j + 1) ys → x.key < y.key → rises (keys (drop j ys)) ≡ true →
-    apart (keys (drop (i + 1) xs)) (keys (drop j ys)) ≡ apart (keys (drop i xs)) (keys (drop j ys))
-apart-left xs ys i j x y ex ey below h =
-    ap (λ zs. apart (keys (drop (i + 1) xs)) (keys zs)) ey
-    ∙ sym (apart-lower_left x.key y.key (keys (drop (i + 1) xs)) (keys (drop (j + 1) ys)) below (sym (ap (λ zs. rises (keys zs)) ey) ∙ h))
-    ∙ sym (ap (λ zs. apart (keys (x ∷ drop (i + 1) xs)) (keys zs)) ey)
-    ∙ sym (ap (λ zs. apart (keys zs) (keys (drop j ys))) ex)
+pub are_disjoint-left : {T : Type 0} (xs ys : List (Keyed T)) (i j : ℕ) (x y : Keyed T) → drop i xs ≡ x ∷ drop (i + 1) xs → drop j ys ≡ y ∷ drop (j + 1) ys → x.key < y.key → rises (keys (drop j ys)) ≡ true →
+    are_disjoint (keys (drop (i + 1) xs)) (keys (drop j ys)) ≡ are_disjoint (keys (drop i xs)) (keys (drop j ys))
+are_disjoint-left xs ys i j x y ex ey below h =
+    ap (λ zs. are_disjoint (keys (drop (i + 1) xs)) (keys zs)) ey
+    ∙ sym (are_disjoint-lower_left x.key y.key (keys (drop (i + 1) xs)) (keys (drop (j + 1) ys)) below (sym (ap (λ zs. rises (keys zs)) ey) ∙ h))
+    ∙ sym (ap (λ zs. are_disjoint (keys (x ∷ drop (i + 1) xs)) (keys zs)) ey)
+    ∙ sym (ap (λ zs. are_disjoint (keys zs) (keys (drop j ys))) ex)
 
-pub apart-right : {T : Type 0} (xs ys : List (Keyed T)) (i j : ℕ) (x y : Keyed T) → drop i xs ≡ x ∷ drop (i + 1) xs → drop j ys ≡ y ∷ drop (j + 1) ys → y.key < x.key → rises (keys (drop i xs)) ≡ true →
-    apart (keys (drop i xs)) (keys (drop (j + 1) ys)) ≡ apart (keys (drop i xs)) (keys (drop j ys))
-apart-right xs ys i j x y ex ey below h =
-    ap (λ zs. apart (keys zs) (keys (drop (j + 1) ys))) ex
-    ∙ sym (apart-lower_right x.key y.key (keys (drop (i + 1) xs)) (keys (drop (j + 1) ys)) below (sym (ap (λ zs. rises (keys zs)) ex) ∙ h))
-    ∙ sym (ap (λ zs. apart (keys zs) (keys (y ∷ drop (j + 1) ys))) ex)
-    ∙ sym (ap (λ zs. apart (keys (drop i xs)) (keys zs)) ey)
+pub are_disjoint-right : {T : Type 0} (xs ys : List (Keyed T)) (i j : ℕ) (x y : Keyed T) → drop i xs ≡ x ∷ drop (i + 1) xs → drop j ys ≡ y ∷ drop (j + 1) ys → y.key < x.key → rises (keys (drop i xs)) ≡ true →
+    are_disjoint (keys (drop i xs)) (keys (drop (j + 1) ys)) ≡ are_disjoint (keys (drop i xs)) (keys (drop j ys))
+are_disjoint-right xs ys i j x y ex ey below h =
+    ap (λ zs. are_disjoint (keys zs) (keys (drop (j + 1) ys))) ex
+    ∙ sym (are_disjoint-lower_right x.key y.key (keys (drop (i + 1) xs)) (keys (drop (j + 1) ys)) below (sym (ap (λ zs. rises (keys zs)) ex) ∙ h))
+    ∙ sym (ap (λ zs. are_disjoint (keys zs) (keys (y ∷ drop (j + 1) ys))) ex)
+    ∙ sym (ap (λ zs. are_disjoint (keys (drop i xs)) (keys zs)) ey)
 
-pub apart-next : {T : Type 0} (ks : List ℕ) (parts : List (Vec (Keyed T) Global)) (i : ℕ) (part : Vec (Keyed T) Global) → drop i parts ≡ part ∷ drop (i + 1) parts →
-    apart ks (all_keys (drop i parts)) ≡ (apart ks (keys part.items) && apart ks (all_keys (drop (i + 1) parts)))
-apart-next ks parts i part e =
-    ap (λ ps. apart ks (all_keys ps)) e ∙ apart-append ks (keys part.items) (all_keys (drop (i + 1) parts))
+pub are_disjoint-next : {T : Type 0} (ks : List ℕ) (parts : List (Vec (Keyed T) Global)) (i : ℕ) (part : Vec (Keyed T) Global) → drop i parts ≡ part ∷ drop (i + 1) parts →
+    are_disjoint ks (all_keys (drop i parts)) ≡ (are_disjoint ks (keys part.items) && are_disjoint ks (all_keys (drop (i + 1) parts)))
+are_disjoint-next ks parts i part e =
+    ap (λ ps. are_disjoint ks (all_keys ps)) e ∙ are_disjoint-append ks (keys part.items) (all_keys (drop (i + 1) parts))
 
 pub ordered-next : {T : Type 0} (parts : List (Vec (Keyed T) Global)) (i : ℕ) (part : Vec (Keyed T) Global) → drop i parts ≡ part ∷ drop (i + 1) parts → ordered_in_each (key_lists (element_lists (drop i parts))) ≡ true →
     (rises (keys part.items) ≡ true) × (ordered_in_each (key_lists (element_lists (drop (i + 1) parts))) ≡ true)
 ordered-next parts i part e h = and_parts (rises (keys part.items)) _ (sym (ap (λ ps. ordered_in_each (key_lists (element_lists ps))) e) ∙ h)
 
-pub distinct-next : {T : Type 0} (parts : List (Vec (Keyed T) Global)) (i : ℕ) (part : Vec (Keyed T) Global) → drop i parts ≡ part ∷ drop (i + 1) parts →
-    distinct (all_keys (drop i parts)) ≡ (distinct (keys part.items) && apart (keys part.items) (all_keys (drop (i + 1) parts)) && distinct (all_keys (drop (i + 1) parts)))
-distinct-next parts i part e =
-    ap (λ ps. distinct (all_keys ps)) e ∙ distinct-append (keys part.items) (all_keys (drop (i + 1) parts))
+pub are_distinct-next : {T : Type 0} (parts : List (Vec (Keyed T) Global)) (i : ℕ) (part : Vec (Keyed T) Global) → drop i parts ≡ part ∷ drop (i + 1) parts →
+    are_distinct (all_keys (drop i parts)) ≡ (are_distinct (keys part.items) && are_disjoint (keys part.items) (all_keys (drop (i + 1) parts)) && are_distinct (all_keys (drop (i + 1) parts)))
+are_distinct-next parts i part e =
+    ap (λ ps. are_distinct (all_keys ps)) e ∙ are_distinct-append (keys part.items) (all_keys (drop (i + 1) parts))
 
-pub distinct-next_rising : {T : Type 0} (parts : List (Vec (Keyed T) Global)) (i : ℕ) (part : Vec (Keyed T) Global) → drop i parts ≡ part ∷ drop (i + 1) parts → rises (keys part.items) ≡ true →
-    distinct (all_keys (drop i parts)) ≡ (apart (keys part.items) (all_keys (drop (i + 1) parts)) && distinct (all_keys (drop (i + 1) parts)))
-distinct-next_rising parts i part e h =
-    distinct-next parts i part e
-    ∙ ap (λ b. b && apart (keys part.items) (all_keys (drop (i + 1) parts)) && distinct (all_keys (drop (i + 1) parts))) (distinct-rising 0 (keys part.items) h)
+pub are_distinct-next_rising : {T : Type 0} (parts : List (Vec (Keyed T) Global)) (i : ℕ) (part : Vec (Keyed T) Global) → drop i parts ≡ part ∷ drop (i + 1) parts → rises (keys part.items) ≡ true →
+    are_distinct (all_keys (drop i parts)) ≡ (are_disjoint (keys part.items) (all_keys (drop (i + 1) parts)) && are_distinct (all_keys (drop (i + 1) parts)))
+are_distinct-next_rising parts i part e h =
+    are_distinct-next parts i part e
+    ∙ ap (λ b. b && are_disjoint (keys part.items) (all_keys (drop (i + 1) parts)) && are_distinct (all_keys (drop (i + 1) parts))) (are_distinct-rising 0 (keys part.items) h)

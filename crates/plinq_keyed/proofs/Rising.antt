@@ -10,7 +10,7 @@ use Rattle.plinq_source.specs.Trace.{Trace}
 use Rattle.plinq_keyed.specs.declared.record.Record.{Record}
 use Rattle.plinq_keyed.specs.History.{IsLegalHistory, handed_out, given_by}
 use Rattle.plinq_keyed.proofs.Legal.{IsPrefix-from_legal}
-use Rattle.plinq_keyed.proofs.Distinct.{rises_from-less, distinct-rising, counts_up-from}
+use Rattle.plinq_keyed.proofs.Distinct.{rises_from-less, are_distinct-rising, counts_up-from}
 
 pub is_below-rising : (least k : ℕ) (js : List ℕ) → rises_from least js ≡ true → k < least → is_below js k ≡ true
 is_below-rising least k [] h b = refl
@@ -55,7 +55,7 @@ counts_up-range n =
     counts_up-from (range_with_len 0 n)
     ∙ and_from _ _
     (ap (λ m. all_below m (range_with_len 0 n)) (length-range_with_len 0 n) ∙ all_below-range n 0 n (omega arith))
-    (distinct-rising 0 (range_with_len 0 n) (rises_from-range 0 0 n (omega arith)))
+    (are_distinct-rising 0 (range_with_len 0 n) (rises_from-range 0 0 n (omega arith)))
 
 -- the keys of what a legal history hands out count up from 0
 pub keys-handed_out : {T : Type 0} (t : Trace T) (h : List Record) → IsLegalHistory t h → keys (handed_out t h) ≡ range_with_len 0 (given_by t h)

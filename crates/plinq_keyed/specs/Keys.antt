@@ -49,13 +49,13 @@ abbrev pub is_among : List ℕ → ℕ → Bool
 is_among ks k = list_any (λ j. k == j) ks
 
 -- whether no number comes twice
-abbrev pub distinct : List ℕ → Bool
-distinct [] = true
-distinct (k ∷ ks) = not (is_among ks k) && distinct ks
+abbrev pub are_distinct : List ℕ → Bool
+are_distinct [] = true
+are_distinct (k ∷ ks) = not (is_among ks k) && are_distinct ks
 
 -- whether the numbers are those from 0 on, each once, in some order
 abbrev pub counts_up : List ℕ → Bool
-counts_up ks = list_all (λ k. nat_lt k (length ks)) ks && distinct ks && list_all (is_among ks) (range_with_len 0 (length ks))
+counts_up ks = list_all (λ k. nat_lt k (length ks)) ks && are_distinct ks && list_all (is_among ks) (range_with_len 0 (length ks))
 
 -- whether the numbers of all lists together are those from 0 on, each once
 abbrev pub normalized : List (List ℕ) → Bool

@@ -1,7 +1,7 @@
 ghost use Rattle.std.specs.Prelude.{◌≡◌, ◌&&◌, length, true};
 ghost use Rattle.std.specs.List.{concat};
-ghost use Rattle.plinq_keyed.specs.Keys.{element_lists, key_lists, keys, ordered_in_each, normalized, rises, is_among, distinct};
-ghost use Rattle.plinq_keyed.specs.inner.Sweeps.{all_below, apart};
+ghost use Rattle.plinq_keyed.specs.Keys.{element_lists, key_lists, keys, ordered_in_each, normalized, rises, is_among, are_distinct};
+ghost use Rattle.plinq_keyed.specs.inner.Sweeps.{all_below, are_disjoint};
 
 use crate::checks::check_in_each;
 use crate::keyed::Keyed;
@@ -60,7 +60,7 @@ fn keys_below<T>(part: &[Keyed<T>], bound: u128) -> bool
 /// Whether no key comes twice, where the keys of each partition rise.
 fn rising_keys_differ<T>(parts: &[Vec<Keyed<T>>]) -> bool
     requires { ordered_in_each (key_lists (element_lists parts.now)) ≡ true }
-    ensures { result ≡ distinct (concat (key_lists (element_lists parts.now))) }
+    ensures { result ≡ are_distinct (concat (key_lists (element_lists parts.now))) }
 {
     for place in 0..parts.len() {
         let (_, later) = parts.split_at(place + 1);
@@ -75,7 +75,7 @@ fn rising_keys_differ<T>(parts: &[Vec<Keyed<T>>]) -> bool
 fn are_apart_from_all<T>(part: &[Keyed<T>], others: &[Vec<Keyed<T>>]) -> bool
     requires part { rises (keys part.now) ≡ true }
     requires others { ordered_in_each (key_lists (element_lists others.now)) ≡ true }
-    ensures { result ≡ apart (keys part.now) (concat (key_lists (element_lists others.now))) }
+    ensures { result ≡ are_disjoint (keys part.now) (concat (key_lists (element_lists others.now))) }
 {
     for other in others {
         if !are_apart(part, other) {
@@ -89,7 +89,7 @@ fn are_apart_from_all<T>(part: &[Keyed<T>], others: &[Vec<Keyed<T>>]) -> bool
 fn are_apart<T>(left: &[Keyed<T>], right: &[Keyed<T>]) -> bool
     requires left { rises (keys left.now) ≡ true }
     requires right { rises (keys right.now) ≡ true }
-    ensures { result ≡ apart (keys left.now) (keys right.now) }
+    ensures { result ≡ are_disjoint (keys left.now) (keys right.now) }
 {
     let mut at = 0;
     let mut by = 0;
@@ -110,7 +110,7 @@ fn are_apart<T>(left: &[Keyed<T>], right: &[Keyed<T>]) -> bool
 
 /// Whether no key comes twice, each being looked for among all that come after it.
 fn keys_differ<T>(parts: &[Vec<Keyed<T>>]) -> bool
-    ensures { result ≡ distinct (concat (key_lists (element_lists parts.now))) }
+    ensures { result ≡ are_distinct (concat (key_lists (element_lists parts.now))) }
 {
     for place in 0..parts.len() {
         let (_, later) = parts.split_at(place + 1);
@@ -123,7 +123,7 @@ fn keys_differ<T>(parts: &[Vec<Keyed<T>>]) -> bool
 
 /// Whether the keys of a partition differ from one another, and from all keys of later ones.
 fn are_found_once<T>(part: &[Keyed<T>], later: &[Vec<Keyed<T>>]) -> bool
-    ensures { result ≡ (distinct (keys part.now) && apart (keys part.now) (concat (key_lists (element_lists later.now)))) }
+    ensures { result ≡ (are_distinct (keys part.now) && are_disjoint (keys part.now) (concat (key_lists (element_lists later.now)))) }
 {
     for place in 0..part.len() {
         let key = part[place].key;

@@ -1,5 +1,5 @@
 ghost use Rattle.plinq_aggregate.specs.Numbers.{picking};
-ghost use Rattle.plinq_log_example.specs.Later.{later, later-lawful};
+ghost use Rattle.plinq_log_example.specs.Later.{later_record, later_record-lawful};
 
 use crate::record::Record;
 use plinq_aggregate::Aggregator;
@@ -16,7 +16,7 @@ impl<'a> Aggregator for Latest<'a> {
 
     type Out = Option<Record<'a>>;
 
-    ghost folding = { λ _. picking later };
+    ghost folding = { λ _. picking later_record };
 
     fn seed(&self) -> Option<Record<'a>> {
         None
@@ -38,5 +38,5 @@ impl<'a> Aggregator for Latest<'a> {
         latest
     }
 
-    ghost lawful = { λ _. later-lawful };
+    ghost lawful = { λ _. later_record-lawful };
 }

@@ -8,7 +8,7 @@ use Rattle.plinq_source.specs.declared.source.Source.{Ghosts}
 use Rattle.plinq_source.specs.Trace.{Trace}
 use Rattle.plinq_keyed.specs.declared.keyed.Keyed.{Keyed}
 use Rattle.plinq_keyed.specs.declared.record.Record.{Record}
-use Rattle.plinq_keyed.specs.Keys.{keys, key_lists, keyed_from, is_among, distinct, ordered_in_each, normalized, counts_up}
+use Rattle.plinq_keyed.specs.Keys.{keys, key_lists, keyed_from, is_among, are_distinct, ordered_in_each, normalized, counts_up}
 use Rattle.plinq_keyed.specs.inner.Sweeps.{all_below}
 use Rattle.plinq_keyed.specs.History.{IsLegalHistory, handed_out, record_items}
 use Rattle.plinq_keyed.proofs.Distinct.{counts_up-from}
@@ -63,7 +63,7 @@ is_among-none k (j ∷ ks) e =
     let other : eqb k j ≡ false = elim (cases_Bool (eqb k j)) [ inl same ↦ (let one = is_one-same k j same in absurd (omega arith)) | inr other ↦ other ] in
     or_from _ _ other (is_among-none k ks (omega arith))
 
-total-distinct : (k : ℕ) (ks : List ℕ) → distinct ks ≡ true → total (is_one k) ks ≤ 1
+total-distinct : (k : ℕ) (ks : List ℕ) → are_distinct ks ≡ true → total (is_one k) ks ≤ 1
 total-distinct k [] e = omega arith
 total-distinct k (j ∷ ks) e =
     let p = and_parts (not (is_among ks j)) _ e in
@@ -80,20 +80,20 @@ total-distinct k (j ∷ ks) e =
     not_true-false true h = absurd (false≢true h)
     not_true-false false h = refl
 
-distinct-total : (ks : List ℕ) → ((k : ℕ) → total (is_one k) ks ≤ 1) → distinct ks ≡ true
-distinct-total [] most = refl
-distinct-total (j ∷ ks) most =
+are_distinct-total : (ks : List ℕ) → ((k : ℕ) → total (is_one k) ks ≤ 1) → are_distinct ks ≡ true
+are_distinct-total [] most = refl
+are_distinct-total (j ∷ ks) most =
     let here = is_one-same j j (eq-eqb j j refl) in
     let whole = most j in
     let none = is_among-none j ks (omega arith) in
-    and_from _ _ (not_from_false _ none) (distinct-total ks (λ k. let m = most k in omega arith))
+    and_from _ _ (not_from_false _ none) (are_distinct-total ks (λ k. let m = most k in omega arith))
 
 counts_up-alike : (ks js : List ℕ) → ((f : ℕ → ℕ) → total f ks ≡ total f js) → counts_up js ≡ true → counts_up ks ≡ true
 counts_up-alike ks js alike up =
     let same : length ks ≡ length js = sym (total-ones ks) ∙ alike (λ _. 1) ∙ total-ones js in
     let p = and_parts (all_below (length js) js) _ (sym (counts_up-from js) ∙ up) in
     let low = all_below-total (length ks) ks (alike (high (length ks)) ∙ ap (λ n. total (high n) js) same ∙ total-high (length js) js p.0) in
-    let once = distinct-total ks (λ k. let a = alike (is_one k) in let m = total-distinct k js p.1 in omega arith) in
+    let once = are_distinct-total ks (λ k. let a = alike (is_one k) in let m = total-distinct k js p.1 in omega arith) in
     counts_up-from ks ∙ and_from _ _ low once
 
 -- ---- what the elements of records weigh by their keys

@@ -32,12 +32,12 @@ abbrev pub malformed_code : ℕ
 malformed_code = 1
 
 -- the code of a token that no `i64` holds
-abbrev pub out_of_range : ℕ
-out_of_range = 2
+abbrev pub out_of_range_code : ℕ
+out_of_range_code = 2
 
 -- a whole number that is an `i64`, or else the refusal
 abbrev pub number_in_range : ℤ → Result ℤ ℕ
-number_in_range z = if int_le (neg_ℤ (pos (2 ^ 63))) z && int_lt z (pos (2 ^ 63)) then Ok z else Err out_of_range
+number_in_range z = if int_le (neg_ℤ (pos (2 ^ 63))) z && int_lt z (pos (2 ^ 63)) then Ok z else Err out_of_range_code
 
 -- what digits say under a sign
 abbrev pub signed_value : (ℕ → ℤ) → List ℕ → Result ℤ ℕ

@@ -17,7 +17,7 @@ use Rattle.plinq_ticket.specs.declared.phase.Phase.TheVariants.{Idle, Waiting, I
 use Rattle.plinq_ticket.specs.declared.standing.Standing.{Standing}
 use Rattle.plinq_ticket.specs.declared.view.View.{View}
 use Rattle.plinq_ticket.specs.Weights.{total}
-use Rattle.plinq_ticket.specs.Turns.{tickets_end, is_inside, InTurn, seeing_drawn, drawing, called_phase, seeing_served, leaving}
+use Rattle.plinq_ticket.specs.Turns.{tickets_end, is_inside, InTurn, with_drawn, with_ticket, called_phase, with_served, without_ticket}
 use Rattle.plinq_ticket.specs.TwoWords.{OfTwoWords}
 use Rattle.plinq_ticket.specs.Shares.{AddsAtMostOne, added_records}
 use Rattle.plinq_ticket.specs.Lawful.{standing_of, origin_in, history_of, inside_of, Knows, Stands, Lawful, first_view}
@@ -84,7 +84,7 @@ module _ {T : Type 0} (t : Trace T) where
       pub allows-see_next : Allows (OfTwoWords (Lawful origin history t)) slots id me 0 (λ n. n) (λ n b. SeesNext n me b)
       allows-see_next = allows-next (Lawful origin history t) slots id me (λ n. n) (λ n b. SeesNext n me b) (λ next serving homes views kept size at.
           let v = me.0 in
-          let w : View T = standing_so (seeing_drawn next v.standing) v in
+          let w : View T = standing_so (with_drawn next v.standing) v in
           let done = step-see_next standing_of next serving views id v w kept.turns at refl in
           let own = knows-standing (history_of views) w.standing v v.standing.phase (kept.knows id v at) in
           (w, keeps, tt, lawful-moved next next serving homes views id v w kept at done.0 refl refl own, record { saw = done.1; view = refl; slot = refl }))
@@ -92,7 +92,7 @@ module _ {T : Type 0} (t : Trace T) where
       pub allows-draw : (k : ℕ) → k < tickets_end → me.0.standing.phase ≡ Idle → Allows (OfTwoWords (Lawful origin history t)) slots id me 0 (λ n. either (n == k) (k + 1) n) (λ n b. Draws k n me b)
       allows-draw k room idle = allows-next (Lawful origin history t) slots id me (λ n. either (n == k) (k + 1) n) (λ n b. Draws k n me b) (λ next serving homes views kept size at.
           let v = me.0 in
-          let w : View T = standing_so (cond (next == k) (drawing k v.standing) (seeing_drawn next v.standing)) v in
+          let w : View T = standing_so (cond (next == k) (with_ticket k v.standing) (with_drawn next v.standing)) v in
           let done = step-draw standing_of k next serving views id v w kept.turns at room idle refl in
           let P : Phase → Type 0 = Knows t (history_of views) v in
           let knew = kept.knows id v at in
@@ -104,14 +104,14 @@ module _ {T : Type 0} (t : Trace T) where
             record { saw = done.1; view = refl; slot = refl },
           ))
         where
-          place : (b : Bool) (n : ℕ) → is_inside (cond b (drawing k me.0.standing) (seeing_drawn n me.0.standing)).phase ≡ is_inside me.0.standing.phase
+          place : (b : Bool) (n : ℕ) → is_inside (cond b (with_ticket k me.0.standing) (with_drawn n me.0.standing)).phase ≡ is_inside me.0.standing.phase
           place true n = sym (ap is_inside idle)
           place false n = refl
 
           after : (b : Bool) (n : ℕ) (h : List Record) → origin_in me.0 ≡ t → Knows t h me.0 me.0.standing.phase
-              → Knows t h (standing_so (cond b (drawing k me.0.standing) (seeing_drawn n me.0.standing)) me.0) (cond b (drawing k me.0.standing) (seeing_drawn n me.0.standing)).phase
+              → Knows t h (standing_so (cond b (with_ticket k me.0.standing) (with_drawn n me.0.standing)) me.0) (cond b (with_ticket k me.0.standing) (with_drawn n me.0.standing)).phase
           after true n h is knew = is
-          after false n h is knew = knows-standing h (seeing_drawn n me.0.standing) me.0 me.0.standing.phase knew
+          after false n h is knew = knows-standing h (with_drawn n me.0.standing) me.0 me.0.standing.phase knew
 
       Owes : ℕ → ℕ → List (maybe.Option (Option V)) → List (View T) → Type 0
       Owes next serving homes views = (w : View T) × (a : Act (Option V)) × Valid homes me.1 a × Lawful origin history t next serving (homes_after homes me.1 a) (set views id w)
@@ -119,11 +119,11 @@ module _ {T : Type 0} (t : Trace T) where
 
       -- it is another's turn, or this pass has no ticket
       goes_on : (next serving : ℕ) (homes : List (maybe.Option (Option V))) (views : List (View T)) → Lawful origin history t next serving homes views → get_elem? views id ≡ some me.0
-          → (p : Phase) → me.0.standing.phase ≡ p → called_phase serving p ≡ p → Goes origin history serving me (standing_so (seeing_served serving me.0.standing) me.0, me.1) p → Owes next serving homes views
+          → (p : Phase) → me.0.standing.phase ≡ p → called_phase serving p ≡ p → Goes origin history serving me (standing_so (with_served serving me.0.standing) me.0, me.1) p → Owes next serving homes views
       unfolding Owes
       goes_on next serving homes views kept at p is stays goes =
           let v = me.0 in
-          let w : View T = standing_so (seeing_served serving v.standing) v in
+          let w : View T = standing_so (with_served serving v.standing) v in
           let done = step-see_serving standing_of next serving views id v w kept.turns at refl in
           let still : w.standing.phase ≡ v.standing.phase = ap (called_phase serving) is ∙ stays ∙ sym is in
           let knew : Knows t (history_of views) w v.standing.phase = knows-standing (history_of views) w.standing v v.standing.phase (kept.knows id v at) in
@@ -143,7 +143,7 @@ module _ {T : Type 0} (t : Trace T) where
       comes_inside next serving homes views kept at waits (inl home) =
           let v = me.0 in
           let h = history_of views in
-          let w : View T = inside_with h (seeing_served serving v.standing) v in
+          let w : View T = inside_with h (with_served serving v.standing) v in
           let done = step-see_serving standing_of next serving views id v w kept.turns at refl in
           let inside : w.standing.phase ≡ Inside serving = ap (called_phase serving) waits ∙ ap (λ (b : Bool). let p : Phase = cond b (Inside serving) (Waiting serving) in p) (eq-eqb serving serving refl) in
           let P : Phase → Type 0 = Knows t h v in
@@ -215,7 +215,7 @@ module _ {T : Type 0} (t : Trace T) where
           let h = history_of views in
           let value = returned.value in
           let new = added_records v.found (history value) in
-          let w : View T = left_with (added_records v.found (slot_records history me.1)) (leaving (k + 1) v.standing) v in
+          let w : View T = left_with (added_records v.found (slot_records history me.1)) (without_ticket (k + 1) v.standing) v in
           let done = step-leave standing_of k next serving views id v w kept.turns at inside refl in
           let served : serving ≡ k = inside-served standing_of next serving k views id v kept.turns at inside in
           let P : Phase → Type 0 = Knows t h v in

@@ -10,7 +10,7 @@ use Rattle.plinq_ticket.specs.declared.phase.Phase.{Phase}
 use Rattle.plinq_ticket.specs.declared.phase.Phase.TheVariants.{Idle, Waiting, Inside, Joined}
 use Rattle.plinq_ticket.specs.declared.standing.Standing.{Standing}
 use Rattle.plinq_ticket.specs.Weights.{total}
-use Rattle.plinq_ticket.specs.Turns.{tickets_end, has_ticket, is_inside, is_open, Fits, InTurn, newcomer, joined_standing, seeing_drawn, drawing, called_phase, seeing_served, leaving, together, NotPassed, SawNext, SawDrawn, SawServing, SawLeft}
+use Rattle.plinq_ticket.specs.Turns.{tickets_end, has_ticket, is_inside, is_open, Fits, InTurn, newcomer, joined_standing, with_drawn, with_ticket, called_phase, with_served, without_ticket, together, NotPassed, SawNext, SawDrawn, SawServing, SawLeft}
 use Rattle.plinq_ticket.proofs.Weights.{total-append, total-set, total-at, total-two, total-most, total-less}
 
 -- one more ticket is open
@@ -173,7 +173,7 @@ module _ {V : Type 0} (standing : V → Standing) where
   same_fits next serving w b e fits = subst (Fits next serving) (sym e) fits
 
   pub step-see_next : (next serving : ℕ) (views : List V) (i : ℕ) (v w : V) → InTurn standing next serving views → get_elem? views i ≡ some v
-      → standing w ≡ seeing_drawn next (standing v) → InTurn standing next serving (set views i w) × SawNext next (standing v) (standing w)
+      → standing w ≡ with_drawn next (standing v) → InTurn standing next serving (set views i w) × SawNext next (standing v) (standing w)
   step-see_next next serving views i v w turns at e =
       let f = turns.each_fits i v at in (
         in_turn-same next serving views i v w turns at (λ k. ap (λ a. has_ticket k a.phase) e)
@@ -182,14 +182,14 @@ module _ {V : Type 0} (standing : V → Standing) where
       )
 
   pub step-draw : (t next serving : ℕ) (views : List V) (i : ℕ) (v w : V) → InTurn standing next serving views → get_elem? views i ≡ some v
-      → t < tickets_end → (standing v).phase ≡ Idle → standing w ≡ cond (next == t) (drawing t (standing v)) (seeing_drawn next (standing v))
+      → t < tickets_end → (standing v).phase ≡ Idle → standing w ≡ cond (next == t) (with_ticket t (standing v)) (with_drawn next (standing v))
       → InTurn standing (either (next == t) (t + 1) next) serving (set views i w) × SawDrawn t next (standing v) (standing w)
   step-draw t next serving views i v w turns at room idle e = (
     by (next == t) refl e,
     record { risen = (turns.each_fits i v at).drawn; order = let f = (turns.each_fits i v at).served in let o = turns.order in omega arith; within = turns.within; after = e },
   )
     where
-      by : (b : Bool) → (next == t) ≡ b → standing w ≡ cond b (drawing t (standing v)) (seeing_drawn next (standing v)) → InTurn standing (either b (t + 1) next) serving (set views i w)
+      by : (b : Bool) → (next == t) ≡ b → standing w ≡ cond b (with_ticket t (standing v)) (with_drawn next (standing v)) → InTurn standing (either b (t + 1) next) serving (set views i w)
       by true hit e =
           let same : next ≡ t = eqb-true next t hit in
           let f = turns.each_fits i v at in
@@ -200,7 +200,7 @@ module _ {V : Type 0} (standing : V → Standing) where
       by false miss e = (step-see_next next serving views i v w turns at e).0
 
   pub step-see_serving : (next serving : ℕ) (views : List V) (i : ℕ) (v w : V) → InTurn standing next serving views → get_elem? views i ≡ some v
-      → standing w ≡ seeing_served serving (standing v) → InTurn standing next serving (set views i w) × SawServing serving (standing v) (standing w)
+      → standing w ≡ with_served serving (standing v) → InTurn standing next serving (set views i w) × SawServing serving (standing v) (standing w)
   step-see_serving next serving views i v w turns at e =
       let f = turns.each_fits i v at in (
         in_turn-same next serving views i v w turns at (λ k. ap (λ a. has_ticket k a.phase) e ∙ has_ticket-called_phase serving k (standing v).phase)
@@ -220,7 +220,7 @@ module _ {V : Type 0} (standing : V → Standing) where
       not_passed Joined is = tt
 
   pub step-leave : (t next serving : ℕ) (views : List V) (i : ℕ) (v w : V) → InTurn standing next serving views → get_elem? views i ≡ some v
-      → (standing v).phase ≡ Inside t → standing w ≡ leaving (t + 1) (standing v)
+      → (standing v).phase ≡ Inside t → standing w ≡ without_ticket (t + 1) (standing v)
       → InTurn standing next (t + 1) (set views i w) × SawLeft (t + 1) (standing v) (standing w)
   step-leave t next serving views i v w turns at inside e =
       let f = turns.each_fits i v at in

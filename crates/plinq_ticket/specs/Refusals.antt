@@ -16,27 +16,27 @@ IsCause a Memory = ⊥
 IsCause a Away = ⊥
 
 -- a pass that has seen so many drawn and served
-abbrev seen : ℕ → ℕ → Standing
-seen drawn served = record { phase = Idle; drawn = drawn; served = served }
+abbrev standing_with : ℕ → ℕ → Standing
+standing_with drawn served = record { phase = Idle; drawn = drawn; served = served }
 
-row_busy : IsCause (seen 5 3) (Busy 3 5)
+row_busy : IsCause (standing_with 5 3) (Busy 3 5)
 row_busy = (omega arith, omega arith, refl, refl)
 
 -- nobody is before a pass where each ticket that was drawn has left
-row_nobody_there : IsCause (seen 5 5) (Busy 5 5) → ⊥
+row_nobody_there : IsCause (standing_with 5 5) (Busy 5 5) → ⊥
 row_nobody_there cause = omega (arith, cause.0)
 
 -- the numbers that are reported are those that were seen
-row_other_numbers : IsCause (seen 5 3) (Busy 4 5) → ⊥
+row_other_numbers : IsCause (standing_with 5 3) (Busy 4 5) → ⊥
 row_other_numbers cause = omega (arith, cause.2)
 
 -- tickets are spent with the last one, and not before
-row_spent : IsCause (seen tickets_end 3) Spent
+row_spent : IsCause (standing_with tickets_end 3) Spent
 row_spent = inl refl
 
-row_spent_early : IsCause (seen 5 3) Spent → ⊥
+row_spent_early : IsCause (standing_with 5 3) Spent → ⊥
 row_spent_early (inl drawn) = omega (arith, drawn)
 row_spent_early (inr served) = omega (arith, served)
 
-row_spent_is_not_busy : IsCause (seen tickets_end 3) (Busy 3 tickets_end) → ⊥
+row_spent_is_not_busy : IsCause (standing_with tickets_end 3) (Busy 3 tickets_end) → ⊥
 row_spent_is_not_busy cause = omega (arith, cause.1)

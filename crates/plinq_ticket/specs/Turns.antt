@@ -51,12 +51,12 @@ abbrev pub joined_standing : Standing
 joined_standing = record { phase = Joined; drawn = 0; served = 0 }
 
 -- a pass that has seen so many drawn
-abbrev pub seeing_drawn : ℕ → Standing → Standing
-seeing_drawn n a = record { phase = a.phase; drawn = n; served = a.served }
+abbrev pub with_drawn : ℕ → Standing → Standing
+with_drawn n a = record { phase = a.phase; drawn = n; served = a.served }
 
 -- a pass that has drawn that ticket
-abbrev pub drawing : ℕ → Standing → Standing
-drawing t a = record { phase = Waiting t; drawn = t + 1; served = a.served }
+abbrev pub with_ticket : ℕ → Standing → Standing
+with_ticket t a = record { phase = Waiting t; drawn = t + 1; served = a.served }
 
 -- its turn has come where its ticket is served
 abbrev pub called_phase : ℕ → Phase → Phase
@@ -66,12 +66,12 @@ called_phase n (Inside t) = Inside t
 called_phase n Joined = Joined
 
 -- a pass that has seen so many served
-abbrev pub seeing_served : ℕ → Standing → Standing
-seeing_served n a = record { phase = called_phase n a.phase; drawn = a.drawn; served = n }
+abbrev pub with_served : ℕ → Standing → Standing
+with_served n a = record { phase = called_phase n a.phase; drawn = a.drawn; served = n }
 
 -- a pass that has left, after which that ticket is served
-abbrev pub leaving : ℕ → Standing → Standing
-leaving n a = record { phase = Idle; drawn = a.drawn; served = n }
+abbrev pub without_ticket : ℕ → Standing → Standing
+without_ticket n a = record { phase = Idle; drawn = a.drawn; served = n }
 
 -- what two passes know together
 abbrev pub together : Standing → Standing → Standing
@@ -88,25 +88,25 @@ NotPassed n Joined = Unit {0}
 pub record SawNext (n : ℕ) (a b : Standing) : Type 0 where
   pub risen : a.drawn ≤ n
   pub within : n ≤ tickets_end
-  pub after : b ≡ seeing_drawn n a
+  pub after : b ≡ with_drawn n a
 
 -- what a compare-exchange of `next` from t reports, which found n
 pub record SawDrawn (t n : ℕ) (a b : Standing) : Type 0 where
   pub risen : a.drawn ≤ n
   pub order : a.served ≤ n
   pub within : n ≤ tickets_end
-  pub after : b ≡ (if n == t then drawing t a else seeing_drawn n a)
+  pub after : b ≡ (if n == t then with_ticket t a else with_drawn n a)
 
 -- what a load of `serving` reports: n were served
 pub record SawServing (n : ℕ) (a b : Standing) : Type 0 where
   pub risen : a.served ≤ n
   pub within : n ≤ tickets_end
   pub turn : NotPassed n a.phase
-  pub after : b ≡ seeing_served n a
+  pub after : b ≡ with_served n a
 
 -- what a store of `serving` reports
 pub record SawLeft (n : ℕ) (a b : Standing) : Type 0 where
-  pub after : b ≡ leaving n a
+  pub after : b ≡ without_ticket n a
 
 -- tickets 3 and 4 are open where 3 is served and 5 is the next
 row_served : is_open 3 5 3 ≡ 1

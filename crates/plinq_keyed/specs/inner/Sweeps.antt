@@ -12,8 +12,8 @@ abbrev pub all_below : ℕ → List ℕ → Bool
 all_below bound ks = list_all (λ k. nat_lt k bound) ks
 
 -- whether none of these is among the others
-abbrev pub apart : List ℕ → List ℕ → Bool
-apart ks js = list_all (λ k. not (is_among js k)) ks
+abbrev pub are_disjoint : List ℕ → List ℕ → Bool
+are_disjoint ks js = list_all (λ k. not (is_among js k)) ks
 
 -- the least number that is above each of these, and not below the one that is given
 abbrev pub least_after : ℕ → List ℕ → ℕ

@@ -1,9 +1,9 @@
 use Rattle.std.proofs.Common.{◌≡◌, ◌<◌, ◌∙◌, [], drop, get_or, sym, ap, arith}
 use Rattle.std.proofs.lemmas.List.{drop_all}
 use Rattle.plinq_keyed.specs.Keys.{keys}
-use Rattle.plinq_keyed.specs.inner.Sweeps.{apart}
-use Rattle.plinq_keyed.proofs.Distinct.{apart-nil}
-use Rattle.plinq_keyed.proofs.LoopSteps.{drop-at, rises-next, apart-left, apart-right}
+use Rattle.plinq_keyed.specs.inner.Sweeps.{are_disjoint}
+use Rattle.plinq_keyed.proofs.Distinct.{are_disjoint-nil}
+use Rattle.plinq_keyed.proofs.LoopSteps.{drop-at, rises-next, are_disjoint-left, are_disjoint-right}
 use Rattle.plinq_keyed.proofs.normalized.are_apart.Goals as goal
 
 pub loop-at-preserved-then-key-other-2 : goal.loop-at-preserved-then-key-other-2
@@ -18,7 +18,7 @@ loop-at-preserved-then-key-other-2 g c =
     let ky : y.key ≡ (get_or ys c.loop-at.by y).key = ap (λ e. e.key) c.index-right-by.is in
     let below : x.key < y.key = omega (arith, c.if-key-other-2.true) in
     record {
-      rest = apart-left xs ys c.loop-at.at c.loop-at.by x y ex ey below c.loop-at.invariant.right ∙ c.loop-at.invariant.rest;
+      rest = are_disjoint-left xs ys c.loop-at.at c.loop-at.by x y ex ey below c.loop-at.invariant.right ∙ c.loop-at.invariant.rest;
       left = rises-next xs c.loop-at.at x ex c.loop-at.invariant.left;
       right = c.loop-at.invariant.right;
     }
@@ -35,7 +35,7 @@ loop-at-preserved g c =
     let ky : y.key ≡ (get_or ys c.loop-at.by y).key = ap (λ e. e.key) c.index-right-by.is in
     let below : y.key < x.key = omega (arith, c.if-key-other.false, c.if-key-other-2.false) in
     record {
-      rest = apart-right xs ys c.loop-at.at c.loop-at.by x y ex ey below c.loop-at.invariant.left ∙ c.loop-at.invariant.rest;
+      rest = are_disjoint-right xs ys c.loop-at.at c.loop-at.by x y ex ey below c.loop-at.invariant.left ∙ c.loop-at.invariant.rest;
       left = c.loop-at.invariant.left;
       right = rises-next ys c.loop-at.by y ey c.loop-at.invariant.right;
     }
@@ -43,4 +43,4 @@ loop-at-preserved g c =
 pub returns-else-by-right : goal.returns-else-by-right
 returns-else-by-right g c =
     let none : drop c.loop-at.by c.args.right.now ≡ [] = drop_all c.loop-at.by c.args.right.now c.if-by-right.false in
-    sym (sym c.loop-at.invariant.rest ∙ ap (λ zs. apart (keys (drop c.loop-at.at c.args.left.now)) (keys zs)) none ∙ apart-nil (keys (drop c.loop-at.at c.args.left.now)))
+    sym (sym c.loop-at.invariant.rest ∙ ap (λ zs. are_disjoint (keys (drop c.loop-at.at c.args.left.now)) (keys zs)) none ∙ are_disjoint-nil (keys (drop c.loop-at.at c.args.left.now)))

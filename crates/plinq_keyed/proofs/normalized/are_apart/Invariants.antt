@@ -1,11 +1,11 @@
 use Rattle.std.proofs.Common.{◌≡◌, ◌+◌, ◌-◌, drop, length, true}
 use Rattle.plinq_keyed.specs.Keys.{keys, rises}
-use Rattle.plinq_keyed.specs.inner.Sweeps.{apart}
+use Rattle.plinq_keyed.specs.inner.Sweeps.{are_disjoint}
 use Rattle.plinq_keyed.proofs.normalized.are_apart.Given as goal
 
 abbrev pub invariant-loop-at : goal.invariant-loop-at
 invariant-loop-at g l = record {
-  rest : apart (keys (drop l.at l.left)) (keys (drop l.by l.right)) ≡ apart (keys l.left) (keys l.right);
+  rest : are_disjoint (keys (drop l.at l.left)) (keys (drop l.by l.right)) ≡ are_disjoint (keys l.left) (keys l.right);
   left : rises (keys (drop l.at l.left)) ≡ true;
   right : rises (keys (drop l.by l.right)) ≡ true;
 }

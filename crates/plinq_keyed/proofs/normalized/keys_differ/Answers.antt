@@ -1,7 +1,7 @@
 use Rattle.std.proofs.Common.{◌≡◌, ◌+◌, ◌∙◌, ◌&&◌, true, false, drop, sym, ap}
-use Rattle.plinq_keyed.specs.Keys.{keys, distinct}
-use Rattle.plinq_keyed.specs.inner.Sweeps.{apart}
-use Rattle.plinq_keyed.proofs.LoopSteps.{drop-at, all_keys, distinct-next}
+use Rattle.plinq_keyed.specs.Keys.{keys, are_distinct}
+use Rattle.plinq_keyed.specs.inner.Sweeps.{are_disjoint}
+use Rattle.plinq_keyed.proofs.LoopSteps.{drop-at, all_keys, are_distinct-next}
 use Rattle.plinq_keyed.proofs.normalized.keys_differ.Goals as goal
 
 pub returns-then-not-are_found_once : goal.returns-then-not-are_found_once
@@ -10,8 +10,8 @@ returns-then-not-are_found_once g c =
     let i = c.loop-place.place in
     let part = c.index-parts-place.result in
     let here = drop-at parts i part c.loop-place-test.true c.index-parts-place.is in
-    let met : (distinct (keys part.items) && apart (keys part.items) (all_keys (drop (i + 1) parts))) ≡ false = cc in
-    sym (sym c.loop-place.invariant ∙ distinct-next parts i part here ∙ ap (λ b. b && distinct (all_keys (drop (i + 1) parts))) met)
+    let met : (are_distinct (keys part.items) && are_disjoint (keys part.items) (all_keys (drop (i + 1) parts))) ≡ false = cc in
+    sym (sym c.loop-place.invariant ∙ are_distinct-next parts i part here ∙ ap (λ b. b && are_distinct (all_keys (drop (i + 1) parts))) met)
 
 pub loop-place-preserved : goal.loop-place-preserved
 loop-place-preserved g c =
@@ -19,5 +19,5 @@ loop-place-preserved g c =
     let i = c.loop-place.place in
     let part = c.index-parts-place.result in
     let here = drop-at parts i part c.loop-place-test.true c.index-parts-place.is in
-    let met : (distinct (keys part.items) && apart (keys part.items) (all_keys (drop (i + 1) parts))) ≡ true = cc in
-    sym (distinct-next parts i part here ∙ ap (λ b. b && distinct (all_keys (drop (i + 1) parts))) met) ∙ c.loop-place.invariant
+    let met : (are_distinct (keys part.items) && are_disjoint (keys part.items) (all_keys (drop (i + 1) parts))) ≡ true = cc in
+    sym (are_distinct-next parts i part here ∙ ap (λ b. b && are_distinct (all_keys (drop (i + 1) parts))) met) ∙ c.loop-place.invariant

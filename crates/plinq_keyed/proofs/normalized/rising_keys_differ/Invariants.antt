@@ -1,10 +1,10 @@
 use Rattle.std.proofs.Common.{◌≡◌, drop, true}
 use Rattle.std.specs.List.{concat}
-use Rattle.plinq_keyed.specs.Keys.{element_lists, key_lists, distinct, ordered_in_each}
+use Rattle.plinq_keyed.specs.Keys.{element_lists, key_lists, are_distinct, ordered_in_each}
 use Rattle.plinq_keyed.proofs.normalized.rising_keys_differ.Given as goal
 
 abbrev pub invariant-loop-place : goal.invariant-loop-place
 invariant-loop-place g l = record {
-  rest : distinct (concat (key_lists (element_lists (drop l.place l.parts)))) ≡ distinct (concat (key_lists (element_lists l.parts)));
+  rest : are_distinct (concat (key_lists (element_lists (drop l.place l.parts)))) ≡ are_distinct (concat (key_lists (element_lists l.parts)));
   rising : ordered_in_each (key_lists (element_lists (drop l.place l.parts))) ≡ true;
 }
