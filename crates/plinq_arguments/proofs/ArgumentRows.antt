@@ -7,7 +7,9 @@ use Rattle.plinq_ops.specs.declared.merge_option.MergeOption.TheVariants.{FullyB
 use Rattle.plinq_arguments.specs.Arguments.{arguments_of, kinds_of}
 use Rattle.plinq_arguments.specs.declared.command.Command.TheVariants.{Run, Plan}
 
-plain_run : (q : ValueParser) → arguments_of q (codes "plinq" ∷ codes "run" ∷ []) ≡ Some (record { command = Run; settings = record { workers = None; merge = None; cancel_after = None } })
+plain_run : (q : ValueParser)
+    → arguments_of q (codes "plinq" ∷ codes "run" ∷ [])
+    ≡ Some (record { command = Run; settings = record { workers = None; merge = None; cancel_after = None } })
 unfolding clap_on_literals
 plain_run q = refl
 

@@ -1,10 +1,12 @@
 -- What the words of a command line ask for, from what `clap` found in them.
-use Rattle.std.proofs.Common.{◌≡◌, ◌∙◌, ℕ, ◌≤◌, ◌<◌, List, [], ◌∷◌, Bool, true, false, Option, Some, None, Result, Ok, Err, is_some, map, refl, sym, ap, ap₂, subst, codes, inl, inr, arith}
+use Rattle.std.proofs.Common.{◌≡◌, ◌∙◌, ℕ, ◌≤◌, ◌<◌, List, [], ◌∷◌, Bool, true, false, Option, Some, None, Result, Ok, Err, is_some, map, refl, sym}
+use Rattle.std.proofs.Common.{ap, ap₂, subst, codes, inl, inr, arith}
 use Rattle.std.specs.Borrow.{Bor}
 use Rattle.std.specs.Prelude.{MatchResult, option_map, option_and_then, find, nat_le, if◌then◌else◌, not, ◌&&◌}
 use Rattle.std.specs.List.{list_all}
 use Rattle.std.specs.Str.Parse.{ParsesUnsigned, digits_value, without_leading_plus}
-use Rattle.clap.specs.Words.{AddsSubcommand, App, HasKind, HasMatchesOf, IsAmong, Row, Shape, Text, app_of, fault_of, first_value, found_of, is_simple_and_free, is_simple, kind_of, one_text, rows_of, ReadsOne, subcommand_of, subcommand_rows_of, with_subcommand}
+use Rattle.clap.specs.Words.{AddsSubcommand, App, HasKind, HasMatchesOf, IsAmong, Row, Shape, Text, app_of, fault_of, first_value, found_of}
+use Rattle.clap.specs.Words.{is_simple_and_free, is_simple, kind_of, one_text, rows_of, ReadsOne, subcommand_of, subcommand_rows_of, with_subcommand}
 use Rattle.clap.specs.Kinds.{Kinds, check_kinds, or_else}
 use Rattle.clap.specs.Simple.{argument_words, built, rows_at, entered, label_of, names_of}
 use Rattle.clap.specs.Walk.{Held, Names, answers_to, finished, nothing_held, settled, stop_after, walk, walk_from}
@@ -23,7 +25,8 @@ use Rattle.plinq_settings.specs.Degrees.{degree_of}
 use Rattle.plinq_ops.specs.Query.{is_degree}
 use Rattle.std.proofs.lemmas.Bool.{le-leb}
 use Rattle.std.proofs.lemmas.Bool.Decides.{nat_tests}
-use Rattle.plinq_arguments.specs.Arguments.{AddsItsShape, IsAsked, Refuses, TakesOnly, arguments_in, arguments_of, arguments_with, command_names, kinds_of, cancel_in, cancel_of, merge_of, merge_words, plinq_app, with_command, workers_in, workers_of}
+use Rattle.plinq_arguments.specs.Arguments.{AddsItsShape, IsAsked, Refuses, TakesOnly, arguments_in, arguments_of, arguments_with, command_names}
+use Rattle.plinq_arguments.specs.Arguments.{kinds_of, cancel_in, cancel_of, merge_of, merge_words, plinq_app, with_command, workers_in, workers_of}
 use Rattle.plinq_arguments.specs.declared.arguments.Arguments.{Arguments}
 
 -- the program's command line is one of which `clap` reports the matches and the faults
@@ -149,7 +152,8 @@ cancel_read_one : (E : Type 0) (G : Text → Result ℕ E → Type 0) (t : Text)
 cancel_read_one E G t None parses h = cancel_no_number E t h.0 (parses (Err h.0) h.1)
 cancel_read_one E G t (Some n) parses h = cancel_parsed E t n (parses (Ok n) h)
 
-cancel_text_read : (m : ArgMatches) (o : Option Text) → one_text (found_of m) (codes "cancel-after") ≡ o → cancel_of (rows_of (found_of m)) ≡ option_and_then cancel_in o
+cancel_text_read : (m : ArgMatches) (o : Option Text) → one_text (found_of m) (codes "cancel-after") ≡ o
+    → cancel_of (rows_of (found_of m)) ≡ option_and_then cancel_in o
 cancel_text_read m o is = ap (option_and_then cancel_in) (sym (one_text-rows (found_of m) (codes "cancel-after")) ∙ is)
 
 -- the number that is asked for, from what was read
@@ -229,7 +233,8 @@ asks q words none =
 -- ---- the program's command line
 
 -- just these words are taken
-pub takes_only : (q : ValueParser) (names : Bor (List (Bor (List ℕ)))) → q ≡ parser.Names names → map (λ name. name.now) names.now ≡ merge_words → TakesOnly merge_words q
+pub takes_only : (q : ValueParser) (names : Bor (List (Bor (List ℕ)))) → q ≡ parser.Names names → map (λ name. name.now) names.now ≡ merge_words
+    → TakesOnly merge_words q
 takes_only q names is words = subst (TakesOnly merge_words) (sym is) words
 
 -- one more subcommand
@@ -262,7 +267,8 @@ pub refused : (q : ValueParser) (app : App) (words : List Text) (r : Result Argu
     → (is_simple_and_free app ≡ true → HasKind (fault_of app words) e) → r ≡ Err x → x ≡ e
     → MatchResult r (IsAsked words) (λ f. Refuses words (kind_of f))
 refused q app words r x e takes is fails err from =
-    subst (λ (y : Result Arguments Error). MatchResult y (IsAsked words) (λ f. Refuses words (kind_of f))) (sym (err ∙ ap Err from)) (go (fails (ap is_simple_and_free is ∙ is_plain q)))
+    subst (λ (y : Result Arguments Error). MatchResult y (IsAsked words) (λ f. Refuses words (kind_of f))) (sym (err ∙ ap Err from))
+    (go (fails (ap is_simple_and_free is ∙ is_plain q)))
   where
     go : HasKind (fault_of app words) e → Refuses words (kind_of e)
     go h = elim h [

@@ -1,5 +1,6 @@
 -- What was written for a document, once a step after it has failed or the output is flushed.
-use Rattle.std.proofs.Common.{◌≡◌, true, false, ℕ, ℤ, ◌+◌, ◌^◌, ◌<◌, List, [], Some, None, Result, Ok, Err, IfSome, refl, sym, subst, inl, inr, arith, length, replicate}
+use Rattle.std.proofs.Common.{◌≡◌, true, false, ℕ, ℤ, ◌+◌, ◌^◌, ◌<◌, List, [], Some, None, Result, Ok, Err, IfSome, refl, sym, subst, inl, inr, arith}
+use Rattle.std.proofs.Common.{length, replicate}
 use Rattle.std.specs.Io.KnownBytes.{Keeps}
 use Rattle.std.proofs.KnownBytes.{Appends-kept, Keeps-refl, Keeps-trans}
 use Rattle.std.proofs.Math.ListN.{length-replicate}
@@ -20,7 +21,8 @@ use Rattle.plinq_cli.specs.declared.failure.Failure.TheVariants.{Document, Memor
 use Rattle.plinq_cli.specs.Served.{HasBegun, HasWritten, IsAnswer, IsText, Serves}
 use Rattle.plinq_cli.specs.Performed.{Answers, AnswersMeaning, Flushes, IfDocument, failure_of_document, failure_of_input, failure_of_serve, unflushed}
 use Rattle.plinq_partition.specs.declared.take_fault.TakeFault.TheVariants.{Memory as TakeMemory, Spent, Busy, Incomplete as RecordsMissing, Away}
-use Rattle.plinq_run.specs.declared.run_fault.RunFault.TheVariants.{Memory as RunMemory, Sink as RunSink, Tickets as RunTickets, Thread as RunThread, Incomplete as RunIncomplete, Cancelled as RunCancelled}
+use Rattle.plinq_run.specs.declared.run_fault.RunFault.TheVariants.{Memory as RunMemory, Sink as RunSink, Tickets as RunTickets, Thread as RunThread}
+use Rattle.plinq_run.specs.declared.run_fault.RunFault.TheVariants.{Incomplete as RunIncomplete, Cancelled as RunCancelled}
 use Rattle.plinq_cli.specs.declared.serve_fault.ServeFault.{ServeFault}
 use Rattle.plinq_cli.specs.declared.serve_fault.ServeFault.TheVariants.{Memory as ServeMemory, Write as ServeWrite, Run as ServeRun, Take}
 use Rattle.plinq_arguments.specs.declared.arguments.Arguments.{Arguments}
@@ -47,7 +49,8 @@ unwritten-read command (Ok job) a = (inl (Keeps-refl a), tt)
 unwritten-read command (Err why) a = (Keeps-refl a, tt)
 
 -- a document that is refused
-refused-as : (command : Command) (meaning : Result JobView DocFault) (a : Bytes) (e : DocFault) → meaning ≡ Err e → AnswersMeaning command meaning a a (Err (Document e))
+refused-as : (command : Command) (meaning : Result JobView DocFault) (a : Bytes) (e : DocFault) → meaning ≡ Err e
+    → AnswersMeaning command meaning a a (Err (Document e))
 refused-as command meaning a e is =
     let P : Result JobView DocFault → Type 0 = λ m. AnswersMeaning command m a a (Err (Document e)) in
     subst P (sym is) (Keeps-refl a, refl)
@@ -80,10 +83,12 @@ not_by-document (Take (RecordsMissing have all)) = tt
 not_by-document (Take Away) = tt
 
 -- a document that is answered, or not to its end
-pub served : (command : Command) (a b : Bytes) {meaning : Result JobView DocFault} {job : JobView} {e : Ending} → meaning ≡ Ok job → HasWritten command job a b e → AnswersMeaning command meaning a b (Ok e)
+pub served : (command : Command) (a b : Bytes) {meaning : Result JobView DocFault} {job : JobView} {e : Ending} → meaning ≡ Ok job
+    → HasWritten command job a b e → AnswersMeaning command meaning a b (Ok e)
 served command a b {e = e} is written = subst (λ m. AnswersMeaning command m a b (Ok e)) (sym is) (written, tt)
 
-pub failed : (command : Command) (a b : Bytes) {meaning : Result JobView DocFault} {job : JobView} (fault : ServeFault) → meaning ≡ Ok job → HasBegun command job a b
+pub failed : (command : Command) (a b : Bytes) {meaning : Result JobView DocFault} {job : JobView} (fault : ServeFault) → meaning ≡ Ok job
+    → HasBegun command job a b
     → AnswersMeaning command meaning a b (Err (failure_of_serve fault))
 failed command a b fault is begun = subst (λ m. AnswersMeaning command m a b (Err (failure_of_serve fault))) (sym is) (begun, not_by-document fault)
 
@@ -143,7 +148,8 @@ unflushed-kept command meaning a b (Err Thread) h = h
 unflushed-kept command meaning a b (Err Tickets) h = h
 unflushed-kept command meaning a b (Err Incomplete) h = h
 
-pub flushed : (arguments : Arguments) (told a b c : Bytes) (r s : Result Ending Failure) → Answers arguments told a b r → Keeps b c → Flushes r s → Answers arguments told a c s
+pub flushed : (arguments : Arguments) (told a b c : Bytes) (r s : Result Ending Failure) → Answers arguments told a b r → Keeps b c → Flushes r s
+    → Answers arguments told a c s
 flushed arguments told a b c r s (bytes, of, h) k (inl same) = subst (Answers arguments told a c) (sym same) (bytes, of, kept arguments.command _ a b c r h k)
 flushed arguments told a b c r s (bytes, of, h) k (inr failed) =
     subst (Answers arguments told a c) (sym failed) (bytes, of, unflushed-kept arguments.command _ a c r (kept arguments.command _ a b c r h k))

@@ -18,7 +18,8 @@ use Rattle.plinq_partition.specs.GivenBack.{common_origin}
 use Rattle.plinq_cli.specs.Rounds.{AreShares, EachUntilTail, IsOpen, IsDone, left_of, end_of_requests}
 
 module _ {S T : Type 0} {source : Ghosts S T} where
-  new-open : (chunked : Chunked S T source) (a : Holding T) (q : Partition S T source) → IsSourceEnding a.origin.ending → IsPartitionOf chunked q → holding_of q ≡ new_beside a → IsOpen chunked a.origin q
+  new-open : (chunked : Chunked S T source) (a : Holding T) (q : Partition S T source) → IsSourceEnding a.origin.ending → IsPartitionOf chunked q
+      → holding_of q ≡ new_beside a → IsOpen chunked a.origin q
   new-open chunked a q ends of same =
       let none : (holding_of q).share ≡ [] = ap (λ (h : Holding T). h.share) same in
       let start : end_of_requests 0 ((holding_of q).share) ≡ 0 = ap (end_of_requests 0) none in
@@ -31,13 +32,16 @@ module _ {S T : Type 0} {source : Ghosts S T} where
         within = omega arith;
       }
 
-  all-new-open : (chunked : Chunked S T source) (a : Holding T) (qs : List (Partition S T source)) → IsSourceEnding a.origin.ending → All (IsPartitionOf chunked) qs → AreNew a qs → All (IsOpen chunked a.origin) qs
+  all-new-open : (chunked : Chunked S T source) (a : Holding T) (qs : List (Partition S T source)) → IsSourceEnding a.origin.ending
+      → All (IsPartitionOf chunked) qs → AreNew a qs → All (IsOpen chunked a.origin) qs
   all-new-open chunked a [] ends of new = All-nil (IsOpen chunked a.origin)
   all-new-open chunked a (q ∷ qs) ends of new =
-      All-cons (IsOpen chunked a.origin) q qs (new-open chunked a q ends (All-head (IsPartitionOf chunked) q qs of) new.0) (all-new-open chunked a qs ends (All-tail (IsPartitionOf chunked) q qs of) new.1)
+      All-cons (IsOpen chunked a.origin) q qs (new-open chunked a q ends (All-head (IsPartitionOf chunked) q qs of) new.0)
+      (all-new-open chunked a qs ends (All-tail (IsPartitionOf chunked) q qs of) new.1)
 
   -- partitions that are made of one that was given nothing have had no tail yet
-  pub all-made-open : (chunked : Chunked S T source) (a : Holding T) (qs : List (Partition S T source)) → IsSourceEnding a.origin.ending → All (IsPartitionOf chunked) qs → AreMadeFrom (new_beside a) qs
+  pub all-made-open : (chunked : Chunked S T source) (a : Holding T) (qs : List (Partition S T source)) → IsSourceEnding a.origin.ending
+      → All (IsPartitionOf chunked) qs → AreMadeFrom (new_beside a) qs
       → All (IsOpen chunked (common_origin qs)) qs × (common_origin qs ≡ a.origin)
   all-made-open chunked a [] ends of made = absurd made
   all-made-open chunked a (q ∷ qs) ends of made =
@@ -55,7 +59,8 @@ module _ {S T : Type 0} {source : Ghosts S T} where
       let both = total-append (λ (x : Partition S T source). suc (left_of x)) rest (q ∷ []) in
       omega arith
 
-  pub first-open : (chunked : Chunked S T source) (t : Trace T) (p : Partition S T source) (old rest : List (Partition S T source)) → old ≡ p ∷ rest → All (IsOpen chunked t) old → IsOpen chunked t p
+  pub first-open : (chunked : Chunked S T source) (t : Trace T) (p : Partition S T source) (old rest : List (Partition S T source)) → old ≡ p ∷ rest
+      → All (IsOpen chunked t) old → IsOpen chunked t p
   first-open chunked t p old rest was all = All-head (IsOpen chunked t) p rest (All-same (IsOpen chunked t) (p ∷ rest) old (sym was) all)
 
   pub own-open : (chunked : Chunked S T source) (t : Trace T) (p : Partition S T source) → IsOpen chunked t p → IsOpen chunked (holding_of p).origin p
@@ -63,7 +68,8 @@ module _ {S T : Type 0} {source : Ghosts S T} where
 
   -- ---- all are done
 
-  pub done-origin : (chunked : Chunked S T source) (t : Trace T) (ps : List (Partition S T source)) → 1 ≤ length ps → All (IsDone chunked t) ps → common_origin ps ≡ t
+  pub done-origin : (chunked : Chunked S T source) (t : Trace T) (ps : List (Partition S T source)) → 1 ≤ length ps → All (IsDone chunked t) ps
+      → common_origin ps ≡ t
   done-origin chunked t [] some all = absurd (omega arith)
   done-origin chunked t (p ∷ ps) some all = (All-head (IsDone chunked t) p ps all).origin
 
@@ -71,11 +77,13 @@ module _ {S T : Type 0} {source : Ghosts S T} where
   joined-shares [] = refl
   joined-shares (p ∷ ps) = ap (λ rs. (holding_of p).share ++ rs) (joined-shares ps)
 
-  each-done : (chunked : Chunked S T source) (t : Trace T) (ps : List (Partition S T source)) → All (IsDone chunked t) ps → EachUntilTail (growth_of chunked) (map (λ p. (holding_of p).share) ps)
+  each-done : (chunked : Chunked S T source) (t : Trace T) (ps : List (Partition S T source)) → All (IsDone chunked t) ps
+      → EachUntilTail (growth_of chunked) (map (λ p. (holding_of p).share) ps)
   each-done chunked t [] all = tt
   each-done chunked t (p ∷ ps) all = ((All-head (IsDone chunked t) p ps all).asks, each-done chunked t ps (All-tail (IsDone chunked t) p ps all))
 
-  pub done-shares : (chunked : Chunked S T source) (t : Trace T) (n : ℕ) (g : GrowthRule) (ps : List (Partition S T source)) (h : List Record) → length ps ≡ n → growth_of chunked ≡ g → All (IsDone chunked t) ps
+  pub done-shares : (chunked : Chunked S T source) (t : Trace T) (n : ℕ) (g : GrowthRule) (ps : List (Partition S T source)) (h : List Record)
+      → length ps ≡ n → growth_of chunked ≡ g → All (IsDone chunked t) ps
       → h ≡ in_ticket_order (all_shares ps) → AreShares n g h
   done-shares chunked t n g ps h count grows all history = record {
     shares = map (λ p. (holding_of p).share) ps;

@@ -16,13 +16,15 @@ pub record Tells (job : JobView) (rs : List Record) : Type 0 where
   pub ends : IsSourceEnding job.source.ending
 
 -- the records do that which partitions left that took in turn, of an enumerator that began with the source
-pub taken-tell : (job inside : JobView) (n : ℕ) (t : Trace ℤ) (h rs : List Record) → inside ≡ job → n ≡ degree_in_force inside.query.degree → t ≡ inside.source → rs ≡ h
+pub taken-tell : (job inside : JobView) (n : ℕ) (t : Trace ℤ) (h rs : List Record) → inside ≡ job → n ≡ degree_in_force inside.query.degree
+    → t ≡ inside.source → rs ≡ h
     → AreShares n inside.growth h → IsLegalHistory t h → 1 ≤ n → IsSourceEnding t.ending → Tells job rs
 taken-tell job inside n t h rs is degree whole same left legal some ends =
     let by_degree : n ≡ degree_in_force job.query.degree = degree ∙ ap (λ (j : JobView). degree_in_force j.query.degree) is in
     let grows : inside.growth ≡ job.growth = ap (λ (j : JobView). j.growth) is in
     let source : t ≡ job.source = whole ∙ ap (λ (j : JobView). j.source) is in
-    let shares : AreShares n job.growth rs = subst (λ (k : GrowthRule). AreShares n k rs) grows (subst (λ (l : List Record). AreShares n inside.growth l) (sym same) left) in
+    let shares : AreShares n job.growth rs =
+    subst (λ (k : GrowthRule). AreShares n k rs) grows (subst (λ (l : List Record). AreShares n inside.growth l) (sym same) left) in
     record {
       history = record {
         left = subst (λ (m : ℕ). AreShares m job.growth rs) by_degree shares;

@@ -48,7 +48,8 @@ module _ (q : QueryView Formula) (t : Trace ℤ) (a b : Bytes) (s s' : Lines) (s
   begun : AppendsBeginning s.bytes s'.bytes (batch_lines q.merge answer) → AppendsBeginning a b (batch_lines q.merge answer)
   begun h = (h.0, appended _ h.1)
 
-  tells : (written : Result ⊤ WriteFault) (r : Result Ending DeliveryFault) → IfOk r (λ e. answer.ending ≡ Some e) → Delivers TakesLine RefusesLine s sent r s' → Told (told_of_one written r)
+  tells : (written : Result ⊤ WriteFault) (r : Result Ending DeliveryFault) → IfOk r (λ e. answer.ending ≡ Some e)
+      → Delivers TakesLine RefusesLine s sent r s' → Told (told_of_one written r)
   tells (Ok all) (Ok e) ends delivers =
       let taken = taken-lines s s' sent delivers in
       (record { lines = appended _ taken.0; ending = ends; faults = tt }, taken.1)
@@ -82,12 +83,14 @@ module _ (j job : JobView) (same : j ≡ job) (items : job.aggregate ≡ None) w
   is-text = ap (λ kind. told_text kind (merge_in_force j.query.merge) (sequential_answer j)) (sym (ap (λ (x : JobView). x.aggregate) same ∙ items))
 
   -- where it fails, a beginning of its lines is written
-  pub answer-failed : (a b : Bytes) (r : Result Ending ServeFault) → IsErr r → AppendsBeginning a b (batch_lines j.query.merge (sequential_answer j)) → Serves Seq job a b r
+  pub answer-failed : (a b : Bytes) (r : Result Ending ServeFault) → IsErr r → AppendsBeginning a b (batch_lines j.query.merge (sequential_answer j))
+      → Serves Seq job a b r
   answer-failed a b r failed begun =
       subst (λ (x : JobView). Serves Seq x a b r) same
       (serves-begun Seq j a b r (sequential_answer j) text failed refl is-text (begins-append a b _ (ending_line (sequential_answer j).ending) begun))
 
-  module _ (a m b : Bytes) (e : Ending) (lines : Appends a m (batch_lines j.query.merge (sequential_answer j))) (ends : (sequential_answer j).ending ≡ Some e) where
+  module _ (a m b : Bytes) (e : Ending) (lines : Appends a m (batch_lines j.query.merge (sequential_answer j)))
+      (ends : (sequential_answer j).ending ≡ Some e) where
     end : (batch_lines j.query.merge (sequential_answer j) ++ line (ending_words e)) ≡ text
     end = ap (λ x. batch_lines j.query.merge (sequential_answer j) ++ ending_line x) (sym ends)
 

@@ -1,5 +1,6 @@
 -- A partition that takes once more: its requests go on with the growth, and it moves on or has had a tail.
-use Rattle.std.proofs.Common.{◌≡◌, ℕ, ◌+◌, ◌-◌, ◌<◌, ◌≤◌, Bool, true, false, cond, ltb, leb, List, [], ◌∷◌, ◌++◌, length, take, drop, Option, Some, None, refl, ap, sym, ◌∙◌, arith}
+use Rattle.std.proofs.Common.{◌≡◌, ℕ, ◌+◌, ◌-◌, ◌<◌, ◌≤◌, Bool, true, false, cond, ltb, leb, List, [], ◌∷◌, ◌++◌, length, take, drop, Option, Some}
+use Rattle.std.proofs.Common.{None, refl, ap, sym, ◌∙◌, arith}
 use Rattle.std.specs.Prelude.{IsSome}
 use Rattle.std.proofs.lemmas.Bool.{and_parts, leb-true}
 use Rattle.std.proofs.lemmas.Bool.Decides.{nat_tests}
@@ -22,15 +23,18 @@ use Rattle.plinq_cli.specs.Rounds.{AsksOn, AsksUntilTail, IsOpen, IsDone, left_o
 
 -- ---- requests
 
-AsksOn-last : (g : GrowthRule) (i : ℕ) (rs : List Record) (r : Record) → AsksOn g i rs → r.asked ≡ Ask (size_at g (i + length rs)) → r.tail ≡ None → AsksOn g i (rs ++ r ∷ [])
+AsksOn-last : (g : GrowthRule) (i : ℕ) (rs : List Record) (r : Record) → AsksOn g i rs → r.asked ≡ Ask (size_at g (i + length rs)) → r.tail ≡ None
+    → AsksOn g i (rs ++ r ∷ [])
 AsksOn-last g i [] r on asked unfinished = (asked ∙ ap (λ m. Ask (size_at g m)) (omega arith), unfinished, tt)
 AsksOn-last g i (x ∷ rs) r on asked unfinished = (on.0, on.1, AsksOn-last g (i + 1) rs r on.2 (asked ∙ ap (λ m. Ask (size_at g m)) (omega arith)) unfinished)
 
-AsksUntilTail-first : (g : GrowthRule) (i : ℕ) (x : Record) (rs : List Record) → x.asked ≡ Ask (size_at g i) → x.tail ≡ None → AsksUntilTail g (i + 1) rs → AsksUntilTail g i (x ∷ rs)
+AsksUntilTail-first : (g : GrowthRule) (i : ℕ) (x : Record) (rs : List Record) → x.asked ≡ Ask (size_at g i) → x.tail ≡ None
+    → AsksUntilTail g (i + 1) rs → AsksUntilTail g i (x ∷ rs)
 AsksUntilTail-first g i x [] asked unfinished rest = absurd rest
 AsksUntilTail-first g i x (s ∷ rs) asked unfinished rest = (asked, unfinished, rest)
 
-AsksUntilTail-last : (g : GrowthRule) (i : ℕ) (rs : List Record) (r : Record) → AsksOn g i rs → r.asked ≡ Ask (size_at g (i + length rs)) → IsSome r.tail → AsksUntilTail g i (rs ++ r ∷ [])
+AsksUntilTail-last : (g : GrowthRule) (i : ℕ) (rs : List Record) (r : Record) → AsksOn g i rs → r.asked ≡ Ask (size_at g (i + length rs))
+    → IsSome r.tail → AsksUntilTail g i (rs ++ r ∷ [])
 AsksUntilTail-last g i [] r on asked tail = (asked ∙ ap (λ m. Ask (size_at g m)) (omega arith), tail)
 AsksUntilTail-last g i (x ∷ rs) r on asked tail =
     AsksUntilTail-first g i x (rs ++ r ∷ []) on.0 on.1 (AsksUntilTail-last g (i + 1) rs r on.2 (asked ∙ ap (λ m. Ask (size_at g m)) (omega arith)) tail)
@@ -52,7 +56,8 @@ ending_tail-some (Some (Refused code)) ends none = cc
 ending_tail-some (Some (Fault code)) ends none = absurd ends
 
 -- an answer without a tail has items
-reply-some : {T : Type 0} (t : Trace T) (p : Place) (n : ℕ) → 1 ≤ n → IsSourceEnding t.ending → (reply t p (Ask n)).tail ≡ None → 1 ≤ length (reply t p (Ask n)).items
+reply-some : {T : Type 0} (t : Trace T) (p : Place) (n : ℕ) → 1 ≤ n → IsSourceEnding t.ending → (reply t p (Ask n)).tail ≡ None
+    → 1 ≤ length (reply t p (Ask n)).items
 reply-some {T = T} t p n some ends = go p.closed
   where
     within : (b : Bool) → ltb (length t.items - p.given) n ≡ b → cond b (ending_tail t.ending) None ≡ None → 1 ≤ length (take n (drop p.given t.items))
@@ -68,7 +73,8 @@ reply-some {T = T} t p n some ends = go p.closed
 -- ---- turns
 
 module _ {S T : Type 0} {source : Ghosts S T} (chunked : Chunked S T source) (p q : Partition S T source) (chunk : Chunk T)
-    (unfinished : IsOpen chunked (holding_of p).origin p) (of : IsPartitionOf chunked q) (taken : IsTaken (growth_of chunked) (holding_of p) (holding_of q) chunk) where
+    (unfinished : IsOpen chunked (holding_of p).origin p) (of : IsPartitionOf chunked q) (taken : IsTaken (growth_of chunked) (holding_of p)
+    (holding_of q) chunk) where
   entry_asked : taken.entry.asked ≡ Ask (size_at (growth_of chunked) (0 + length (holding_of p).share))
   entry_asked = taken.adds.asked_is ∙ ap (λ m. Ask (size_at (growth_of chunked) m)) (unfinished.requests ∙ omega arith)
 
@@ -82,7 +88,8 @@ module _ {S T : Type 0} {source : Ghosts S T} (chunked : Chunked S T source) (p 
   done-taken tail = record {
     of = of;
     origin = taken.adds.origin;
-    asks = rw taken.adds.share (AsksUntilTail-last (growth_of chunked) 0 (holding_of p).share taken.entry unfinished.asks entry_asked (rw (← taken.of.tail) tail));
+    asks =
+        rw taken.adds.share (AsksUntilTail-last (growth_of chunked) 0 (holding_of p).share taken.entry unfinished.asks entry_asked (rw (← taken.of.tail) tail));
   }
 
   pub open-taken : chunk.tail ≡ None → IsOpen chunked (holding_of p).origin q × (left_of q < left_of p)
@@ -92,10 +99,13 @@ module _ {S T : Type 0} {source : Ghosts S T} (chunked : Chunked S T source) (p 
       let t = (holding_of p).origin in
       let answer = reply t taken.adds.place (Ask n) in
       let asked : entry.asked ≡ Ask n = taken.adds.asked_is in
-      let open_answer : answer.tail ≡ None = ap (λ e. (reply t taken.adds.place e).tail) (sym asked) ∙ (sym (ap (λ (r : Record). r.tail) taken.adds.replied) ∙ (sym taken.of.tail ∙ none)) in
-      let count : entry.count ≡ length answer.items = ap (λ (r : Record). r.count) taken.adds.replied ∙ ap (λ e. length (reply t taken.adds.place e).items) asked in
+      let open_answer : answer.tail ≡ None =
+      ap (λ e. (reply t taken.adds.place e).tail) (sym asked) ∙ (sym (ap (λ (r : Record). r.tail) taken.adds.replied) ∙ (sym taken.of.tail ∙ none)) in
+      let count : entry.count ≡ length answer.items =
+      ap (λ (r : Record). r.count) taken.adds.replied ∙ ap (λ e. length (reply t taken.adds.place e).items) asked in
       let some : 1 ≤ length answer.items = reply-some t taken.adds.place n taken.some unfinished.ends open_answer in
-      let rising : keys_rise_from 0 ((holding_of p).share ++ entry ∷ []) ≡ true = ap (keys_rise_from 0) (sym taken.adds.share) ∙ keys_rise-of_partition chunked q of in
+      let rising : keys_rise_from 0 ((holding_of p).share ++ entry ∷ []) ≡ true =
+      ap (keys_rise_from 0) (sym taken.adds.share) ∙ keys_rise-of_partition chunked q of in
       let below = end_of_requests-below 0 (holding_of p).share entry rising in
       let now = reached_now in
       let within = ends_within in

@@ -33,7 +33,8 @@ use Rattle.plinq_arguments.specs.declared.command.Command.TheVariants.{Run}
 use Rattle.plinq_cli.specs.declared.serve_fault.ServeFault.{ServeFault}
 use Rattle.plinq_cli.specs.declared.serve_fault.ServeFault.TheVariants.{Memory, Write, Run as NoRun, Take}
 use Rattle.plinq_cli.specs.ServeFaults.{MayFail, serve_fault_of_run, told_of}
-use Rattle.plinq_cli.specs.Served.{batch_lines, CountsIf, Delivers, EndsInTime, HasDelivered, HasFailed, HasBrokenOff, HasWritten, IsText, LeavesLines, LeavesWholeLines, Serves}
+use Rattle.plinq_cli.specs.Served.{batch_lines, CountsIf, Delivers, EndsInTime, HasDelivered, HasFailed, HasBrokenOff, HasWritten, IsText}
+use Rattle.plinq_cli.specs.Served.{LeavesLines, LeavesWholeLines, Serves}
 use Rattle.plinq_cli.specs.inner.StoppedRun.{Leaves}
 use Rattle.plinq_cli.specs.Told.{told_text}
 use Rattle.plinq_cli.proofs.Flushed.{serves-begun}
@@ -42,12 +43,14 @@ use Rattle.plinq_cli.proofs.Flushed.{serves-begun}
 
 -- a run to a sink of lines ended so with fewer batches or broke off, or it was cancelled after so many
 abbrev RunsOrStops : MergeOption → Option ℕ → Trace ℤ → Lines → Lines → Result Ending RunFault → Type 0
-RunsOrStops option most u s s' (Err Cancelled) = (sent : List (List ℤ)) × (rest : List (List ℤ)) × (batches option u ≡ sent ++ rest) × (most ≡ Some (length sent)) × Leads TakesLine s sent s'
+RunsOrStops option most u s s' (Err Cancelled) =
+    (sent : List (List ℤ)) × (rest : List (List ℤ)) × (batches option u ≡ sent ++ rest) × (most ≡ Some (length sent)) × Leads TakesLine s sent s'
 RunsOrStops option most u s s' (Ok e) = Runs TakesLine RefusesLine option u s s' (Ok e) × IfSome most (λ n. length (batches option u) < n)
 RunsOrStops option most u s s' r = Runs TakesLine RefusesLine option u s s' r
 
 -- a run to a sink of lines, of some answer that threads may give
-pub record HasSome (ordered : Bool) (ops : List (Op Formula)) (option : MergeOption) (most : Option ℕ) (t : Trace ℤ) (s s' : Lines) (r : Result Ending RunFault) : Type 0 where
+pub record HasSome (ordered : Bool) (ops : List (Op Formula)) (option : MergeOption) (most : Option ℕ) (t : Trace ℤ) (s s' : Lines)
+    (r : Result Ending RunFault) : Type 0 where
   pub answer : Trace ℤ
   pub may : MayAnswer formula_meaning ordered ops t answer
   pub runs : RunsOrStops option most answer s s' r
@@ -77,8 +80,10 @@ module _ (q : QueryView Formula) (t : Trace ℤ) (most : Option ℕ) (a b : Byte
       )
 
   -- none was refused
-  stopped : (fault : RunFault) → ((code : ℕ) → cause_of fault ≢ SinkRefused code) → (h : HasSome q.ordered q.ops (merge_in_force q.merge) most t s s' (Err fault))
-      → (sent : List (List ℤ)) × (rest : List (List ℤ)) × (batches (merge_in_force q.merge) h.answer ≡ sent ++ rest) × CountsIf fault most (length sent) × Leads TakesLine s sent s'
+  stopped : (fault : RunFault) → ((code : ℕ) → cause_of fault ≢ SinkRefused code)
+      → (h : HasSome q.ordered q.ops (merge_in_force q.merge) most t s s' (Err fault))
+      → (sent : List (List ℤ)) × (rest : List (List ℤ)) × (batches (merge_in_force q.merge) h.answer ≡ sent ++ rest) × CountsIf fault most (length sent)
+      × Leads TakesLine s sent s'
       → (((code : ℕ) → cause_of fault ≢ SinkRefused code) × HasBrokenOff q t a b most fault) × (s'.writer ≡ s.writer)
   stopped fault none h (sent, rest, first, number, leads) =
       let taken = taken-lines s s' sent leads in (
@@ -108,7 +113,12 @@ module _ (q : QueryView Formula) (t : Trace ℤ) (a b : Bytes) where
   first-begun : (most : Option ℕ) (fault : RunFault) → HasBrokenOff q t a b most fault → HasFailed q t a b
   first-begun most fault h =
       let begun = begins-append a b _ (flat_map batch_line h.rest) (begins-all a b _ h.lines) in
-      record { answer = h.answer; may = h.may; begun = begins-as a b _ _ (sym (flat_map-append batch_line h.sent h.rest) ∙ ap (flat_map batch_line) (sym h.first)) begun }
+      record {
+        answer = h.answer;
+        may = h.may;
+        begun = begins-as a b _ _ (sym (flat_map-append batch_line h.sent h.rest)
+            ∙ ap (flat_map batch_line) (sym h.first)) begun;
+      }
 
   failed-begun : (most : Option ℕ) (fault : ServeFault) → Delivers q t a b most (Err fault) → HasFailed q t a b
   failed-begun most (NoRun fault) h = first-begun most fault h.1
@@ -121,7 +131,8 @@ module _ (q : QueryView Formula) (t : Trace ℤ) (most : Option ℕ) (a b : Byte
   abbrev Told : Result Ending ServeFault → Type 0
   Told r = Delivers q t a b most r × (s'.writer ≡ s.writer)
 
-  tells : (written : Result ⊤ WriteFault) (r : Result Report RunFault) → HasSome q.ordered q.ops (merge_in_force q.merge) most t s s' (reported_ending r) → Told (told_of written r)
+  tells : (written : Result ⊤ WriteFault) (r : Result Report RunFault)
+      → HasSome q.ordered q.ops (merge_in_force q.merge) most t s s' (reported_ending r) → Told (told_of written r)
   tells (Ok all) (Ok report) h = ran-delivered q t most a b s s' start keeps report.ending h
   tells (Ok all) (Err fault) h = broken q t most a b s s' start keeps fault h
   tells (Err failed) (Ok report) h =
@@ -151,17 +162,20 @@ pub run-failed : (j job : JobView) (a b : Bytes) (r : Result Ending ServeFault) 
 run-failed j job a b r fault same items failed d =
     let h = failed-begun j.query j.source a b j.cancel_after fault d in
     subst (λ (x : JobView). Serves Run x a b r) same
-    (serves-begun Run j a b r h.answer (text j.query h.answer) failed h.may (is-text j job h.answer same items) (begins-append a b _ (ending_line h.answer.ending) h.begun))
+    (serves-begun Run j a b r h.answer (text j.query h.answer) failed h.may (is-text j job h.answer same items)
+    (begins-append a b _ (ending_line h.answer.ending) h.begun))
 
 -- unless a write failed, these are whole lines
-whole-lines : (job : JobView) (a b : Bytes) (fault : ServeFault) → job.aggregate ≡ None → Delivers job.query job.source a b job.cancel_after (Err fault) → LeavesWholeLines job a b (Err fault)
+whole-lines : (job : JobView) (a b : Bytes) (fault : ServeFault) → job.aggregate ≡ None
+    → Delivers job.query job.source a b job.cancel_after (Err fault) → LeavesWholeLines job a b (Err fault)
 whole-lines job a b (NoRun fault) items h = subst (λ kind. LeavesLines kind job.query job.source job.cancel_after fault a b) (sym items) h.1
 whole-lines job a b Memory items h = tt
 whole-lines job a b Write items h = tt
 whole-lines job a b (Take fault) items h = tt
 
 -- only a run that broke off, and a failing write, are reported
-pub run-failed-so : (q : QueryView Formula) (t : Trace ℤ) (a b : Bytes) (most : Option ℕ) (fault : ServeFault) → Delivers q t a b most (Err fault) → MayFail Run fault
+pub run-failed-so : (q : QueryView Formula) (t : Trace ℤ) (a b : Bytes) (most : Option ℕ) (fault : ServeFault) → Delivers q t a b most (Err fault)
+    → MayFail Run fault
 run-failed-so q t a b most (NoRun fault) h = (refl, h.0)
 run-failed-so q t a b most Memory h = absurd h
 run-failed-so q t a b most Write h = tt
@@ -179,7 +193,8 @@ pub ending-failed : (j job : JobView) (a m b : Bytes) (r : Result Ending ServeFa
 ending-failed j job a m b r e same items failed h begun =
     let end = ap (λ x. batch_lines j.query.merge h.answer ++ ending_line x) (sym h.ending) in
     subst (λ (x : JobView). Serves Run x a b r) same
-    (serves-begun Run j a b r h.answer (text j.query h.answer) failed h.may (is-text j job h.answer same items) (begins-as a b _ _ end (begins-after a m b _ _ h.lines begun)))
+    (serves-begun Run j a b r h.answer (text j.query h.answer) failed h.may (is-text j job h.answer same items)
+    (begins-as a b _ _ end (begins-after a m b _ _ h.lines begun)))
 
 pub ending-written : (j job : JobView) (a m b : Bytes) (e : Ending) → j ≡ job → job.aggregate ≡ None
     → Delivers j.query j.source a m j.cancel_after (Ok e) → Appends m b (line (ending_words e)) → HasWritten Run job a b e

@@ -20,7 +20,8 @@ use Rattle.plinq_run.specs.Stopping.{ReportsSome}
 use Rattle.plinq_run.proofs.After.{sinks, stopped-number, stops-after}
 use Rattle.plinq_cli.specs.inner.StoppedRun.{Leaves}
 
-module _ {K T : Type 0} (accepts : K → List T → K → Type 0) (refuses : K → List T → ℕ → K → Type 0) (option : MergeOption) (May : Trace T → Trace T → Type 0) (t : Trace T) (s s' : K) where
+module _ {K T : Type 0} (accepts : K → List T → K → Type 0) (refuses : K → List T → ℕ → K → Type 0) (option : MergeOption)
+    (May : Trace T → Trace T → Type 0) (t : Trace T) (s s' : K) where
   pub leaves-run : (r : Result Report RunFault) → Reports accepts refuses option May t s s' r → Leaves accepts refuses option May t None s s' r
   leaves-run (Ok report) h = (h, tt)
   leaves-run (Err Cancelled) h = absurd h.broken
@@ -33,11 +34,14 @@ module _ {K T : Type 0} (accepts : K → List T → K → Type 0) (refuses : K �
   passed : (d : Delivery CancelAfter K) (b : List T) (d' : Delivery CancelAfter K) → Passes AsksAfter accepts d b d' → accepts d.sink b d'.sink
   passed d b d' passes = passes.taken
 
-  refused : (d : Delivery CancelAfter K) (b : List T) (code : ℕ) (d' : Delivery CancelAfter K) → IsRefused AsksAfter refuses d b code d' → refuses d.sink b code d'.sink
+  refused : (d : Delivery CancelAfter K) (b : List T) (code : ℕ) (d' : Delivery CancelAfter K) → IsRefused AsksAfter refuses d b code d'
+      → refuses d.sink b code d'.sink
   refused d b code d' refusal = refusal.refused
 
-  cut : (d : Delivery CancelAfter K) (bs : List (List T)) (fault : MergeFault) (d' : Delivery CancelAfter K) → StopsShort (Passes AsksAfter accepts) (IsRefused AsksAfter refuses) d bs fault d' → StopsShort accepts refuses d.sink bs fault d'.sink
-  cut d bs fault d' = cut-map (λ x. x.sink) (Passes AsksAfter accepts) (IsRefused AsksAfter refuses) accepts refuses passed refused d bs (delivery_fault_of fault) d'
+  cut : (d : Delivery CancelAfter K) (bs : List (List T)) (fault : MergeFault) (d' : Delivery CancelAfter K)
+      → StopsShort (Passes AsksAfter accepts) (IsRefused AsksAfter refuses) d bs fault d' → StopsShort accepts refuses d.sink bs fault d'.sink
+  cut d bs fault d' =
+      cut-map (λ x. x.sink) (Passes AsksAfter accepts) (IsRefused AsksAfter refuses) accepts refuses passed refused d bs (delivery_fault_of fault) d'
 
   module _ (c c' : CancelAfter) (n : ℕ) (small : n ≤ 18446744073709551615) (is : most_of c ≡ n) where
     abbrev before : Delivery CancelAfter K
@@ -49,7 +53,8 @@ module _ {K T : Type 0} (accepts : K → List T → K → Type 0) (refuses : K �
     within : most_of c ≤ 18446744073709551615
     within = omega (arith, small, is)
 
-    pub leaves-with : (r : Result Report RunFault) → ReportsSome AsksAfter accepts refuses option May t c s 0 r c' s' → Leaves accepts refuses option May t (Some n) s s' r
+    pub leaves-with : (r : Result Report RunFault) → ReportsSome AsksAfter accepts refuses option May t c s 0 r c' s'
+        → Leaves accepts refuses option May t (Some n) s s' r
     leaves-with (Ok report) some =
         let h = some.1 in
         let last = h.last in

@@ -32,7 +32,8 @@ ending-some None some = cc
 ending-some (Some tail) some = omega arith
 
 -- a tail that the source's ending gives states that ending
-tail_ending-source : (e : Option Ending) (tail : Tail) (later : Option Ending) → IsSourceEnding e → Some tail ≡ ending_tail e → tail_ending (Some tail) later ≡ e
+tail_ending-source : (e : Option Ending) (tail : Tail) (later : Option Ending) → IsSourceEnding e → Some tail ≡ ending_tail e
+    → tail_ending (Some tail) later ≡ e
 tail_ending-source None tail later ends is = absurd ends
 tail_ending-source (Some End) tail later ends is = ap (λ o. tail_ending o later) is
 tail_ending-source (Some (Refused code)) tail later ends is = ap (λ o. tail_ending o later) is
@@ -44,19 +45,25 @@ told_ending-run : {T : Type 0} (t : Trace T) (p : Place) (h : List Record) → I
 told_ending-run t p [] ends still run asks tails = absurd (omega arith)
 told_ending-run {T = T} t p (r ∷ h) ends still run asks tails =
     let parts = and_parts (tells r (reply t p r.asked)) _ run in
-    at_event r.asked refl (Told-from_tells r (reply t p r.asked) parts.0).tail (λ closed none some. told_ending-run t (next_place t p r.asked) h ends closed parts.1 none some)
+    at_event r.asked refl (Told-from_tells r (reply t p r.asked) parts.0).tail (λ closed none some. told_ending-run t
+    (next_place t p r.asked) h ends closed parts.1 none some)
   where
     at_tail : (o : Option Tail) → r.tail ≡ o → (n : ℕ) (b : Bool) → r.asked ≡ Ask n → r.tail ≡ cond b (ending_tail t.ending) None
-        → ((next_place t p r.asked).closed ≡ false → total (λ (x : Record). closing x.asked) h ≡ 0 → 1 ≤ total (λ (x : Record). ending x.tail) h → told_ending h ≡ t.ending) → told_ending (r ∷ h) ≡ t.ending
+        → ((next_place t p r.asked).closed ≡ false → total (λ (x : Record). closing x.asked) h ≡ 0 → 1 ≤ total (λ (x : Record). ending x.tail) h
+        → told_ending h ≡ t.ending)
+        → told_ending (r ∷ h) ≡ t.ending
     at_tail None none n b is answer rest =
         let nothing = ap ending none in
         let asked = ap closing is in
         ap (λ o. tail_ending o (told_ending h)) none ∙ rest (ap (λ (e : Event). (next_place t p e).closed) is ∙ still) (omega arith) (omega arith)
-    at_tail (Some x) some n true is answer rest = ap (λ o. tail_ending o (told_ending h)) some ∙ tail_ending-source t.ending x (told_ending h) ends (sym some ∙ answer)
+    at_tail (Some x) some n true is answer rest =
+        ap (λ o. tail_ending o (told_ending h)) some ∙ tail_ending-source t.ending x (told_ending h) ends (sym some ∙ answer)
     at_tail (Some x) some n false is answer rest = let bad : Some x ≡ None = sym some ∙ answer in cc
 
     at_event : (e : Event) → r.asked ≡ e → r.tail ≡ (reply t p r.asked).tail
-        → ((next_place t p r.asked).closed ≡ false → total (λ (x : Record). closing x.asked) h ≡ 0 → 1 ≤ total (λ (x : Record). ending x.tail) h → told_ending h ≡ t.ending) → told_ending (r ∷ h) ≡ t.ending
+        → ((next_place t p r.asked).closed ≡ false → total (λ (x : Record). closing x.asked) h ≡ 0 → 1 ≤ total (λ (x : Record). ending x.tail) h
+        → told_ending h ≡ t.ending)
+        → told_ending (r ∷ h) ≡ t.ending
     at_event Close is tail rest = let one = ap closing is in absurd (omega arith)
     at_event (Ask n) is tail rest =
         at_tail r.tail refl n (ltb (length t.items - p.given) n) is
@@ -85,7 +92,8 @@ shares-asks g (share ∷ shares) all =
     let both = total-append (λ (r : Record). closing r.asked) share (joined shares) in
     omega arith
 
-shares-tails : (g : GrowthRule) (shares : List (List Record)) → 1 ≤ length shares → EachUntilTail g shares → 1 ≤ total (λ (r : Record). ending r.tail) (joined shares)
+shares-tails : (g : GrowthRule) (shares : List (List Record)) → 1 ≤ length shares → EachUntilTail g shares
+    → 1 ≤ total (λ (r : Record). ending r.tail) (joined shares)
 shares-tails g [] some all = absurd (omega arith)
 shares-tails g (share ∷ shares) some all =
     let here = share-tails g 0 share all.0 in
@@ -93,11 +101,13 @@ shares-tails g (share ∷ shares) some all =
     omega arith
 
 -- what partitions have left that took until they had a tail says how the source ends
-pub told_ending-shares : {T : Type 0} (n : ℕ) (g : GrowthRule) (t : Trace T) (h : List Record) → 1 ≤ n → IsSourceEnding t.ending → AreShares n g h → IsLegalHistory t h → told_ending h ≡ t.ending
+pub told_ending-shares : {T : Type 0} (n : ℕ) (g : GrowthRule) (t : Trace T) (h : List Record) → 1 ≤ n → IsSourceEnding t.ending → AreShares n g h
+    → IsLegalHistory t h → told_ending h ≡ t.ending
 told_ending-shares n g t h some ends left legal =
     let count = left.count in
     let asks : total (λ (r : Record). closing r.asked) h ≡ 0 =
-    ap (total (λ (r : Record). closing r.asked)) left.history ∙ (total-in_ticket_order (λ r. closing r.asked) (joined left.shares) ∙ shares-asks g left.shares left.each) in
+    ap (total (λ (r : Record). closing r.asked)) left.history
+    ∙ (total-in_ticket_order (λ r. closing r.asked) (joined left.shares) ∙ shares-asks g left.shares left.each) in
     let weighs : total (λ (r : Record). ending r.tail) h ≡ total (λ (r : Record). ending r.tail) (joined left.shares) =
     ap (total (λ (r : Record). ending r.tail)) left.history ∙ total-in_ticket_order (λ r. ending r.tail) (joined left.shares) in
     let tails = shares-tails g left.shares (omega arith) left.each in

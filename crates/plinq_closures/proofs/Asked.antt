@@ -29,13 +29,16 @@ use Rattle.plinq_closures.specs.Steps.{over}
 use Rattle.plinq_closures.proofs.Over.{answer_of-over}
 
 -- what a query may answer that keeps its source's order is what its chain does
-only-answer : {L T : Type 0} (f : L → Meaning T) (ordered : Bool) → ordered ≡ true → (ops : List (Op L)) (does : List (Op (Meaning T))) → map (over f) ops ≡ does
+only-answer : {L T : Type 0} (f : L → Meaning T) (ordered : Bool) → ordered ≡ true → (ops : List (Op L)) (does : List (Op (Meaning T)))
+    → map (over f) ops ≡ does
     → (t u : Trace T) → MayAnswer f ordered ops t u → u ≡ answer_of (λ m. m) does t
 only-answer f true is ops does same t u may = may ∙ (answer_of-over f ops t ∙ ap (λ xs. answer_of (λ m. m) xs t) same)
 only-answer f false is ops does same t u may = absurd (let bad : false ≡ true = is in cc)
 
-gathers-answer : {L T : Type 0} (f : L → Meaning T) (ordered : Bool) → ordered ≡ true → (ops : List (Op L)) (does : List (Op (Meaning T))) → map (over f) ops ≡ does
-    → (merge : Option MergeOption) → merge ≡ None → (t : Trace T) (xs : List T) (e : Ending) → GathersSome (merge_in_force merge) (MayAnswer f ordered ops t) xs e
+gathers-answer : {L T : Type 0} (f : L → Meaning T) (ordered : Bool) → ordered ≡ true → (ops : List (Op L)) (does : List (Op (Meaning T)))
+    → map (over f) ops ≡ does
+    → (merge : Option MergeOption) → merge ≡ None → (t : Trace T) (xs : List T) (e : Ending)
+    → GathersSome (merge_in_force merge) (MayAnswer f ordered ops t) xs e
     → GathersSome AutoBuffered (λ u. u ≡ answer_of (λ m. m) does t) xs e
 gathers-answer f ordered is ops does same merge none t xs e h =
     subst (λ o. GathersSome o (λ u. u ≡ answer_of (λ m. m) does t) xs e) (ap merge_in_force none) (record {
@@ -51,8 +54,10 @@ pub vec-answer : {L T V : Type 0} (workers : ℕ) (f : L → Meaning T) (ordered
 vec-answer workers f ordered is merge none ops does same t items (Ok it) h = gathers-answer f ordered is ops does same merge none t (items it.0) it.1 h
 vec-answer workers f ordered is merge none ops does same t items (Err fault) short = short
 
-pub tells-answer : {L T O : Type 0} (workers : ℕ) (tell : List T → O) (f : L → Meaning T) (ordered : Bool) → ordered ≡ true → (ops : List (Op L)) (does : List (Op (Meaning T))) → map (over f) ops ≡ does
-    → (t : Trace T) (r : Result O AggregateFault) → TellsSome tell (MayAnswer f ordered ops t) r → Tells workers tell (answer_of (λ m. m) does t) (chain_answer r)
+pub tells-answer : {L T O : Type 0} (workers : ℕ) (tell : List T → O) (f : L → Meaning T) (ordered : Bool) → ordered ≡ true
+    → (ops : List (Op L)) (does : List (Op (Meaning T))) → map (over f) ops ≡ does
+    → (t : Trace T) (r : Result O AggregateFault) → TellsSome tell (MayAnswer f ordered ops t) r
+    → Tells workers tell (answer_of (λ m. m) does t) (chain_answer r)
 tells-answer workers tell f ordered is ops does same t (Ok out) (u, may, value, well) =
     let it = only-answer f ordered is ops does same t u may in (value ∙ ap (λ v. tell v.items) it, ap (λ v. v.ending) (sym it) ∙ well)
 tells-answer workers tell f ordered is ops does same t (Err (Ended e)) (u, may, ending, bad) =
@@ -60,7 +65,8 @@ tells-answer workers tell f ordered is ops does same t (Err (Ended e)) (u, may, 
 tells-answer workers tell f ordered is ops does same t (Err (Run fault)) short = short
 
 -- the first of its items, by a take of one
-pub tells-first : {L T : Type 0} (workers : ℕ) (f : L → Meaning T) (ordered : Bool) → ordered ≡ true → (ops : List (Op L)) (does : List (Op (Meaning T))) → map (over f) ops ≡ does
+pub tells-first : {L T : Type 0} (workers : ℕ) (f : L → Meaning T) (ordered : Bool) → ordered ≡ true
+    → (ops : List (Op L)) (does : List (Op (Meaning T))) → map (over f) ops ≡ does
     → (t : Trace T) (r : Result (Option T) AggregateFault) → TellsSome first_of (MayAnswer f ordered (ops ++ Take (pos 1) ∷ []) t) r
     → Tells workers first_of (answer_of (λ m. m) (does ++ Take (pos 1) ∷ []) t) (chain_answer r)
 tells-first workers f ordered is ops does same t r tells =
@@ -71,7 +77,8 @@ there-first : {T : Type 0} (xs : List T) → is_some (first_of xs) ≡ has_item 
 there-first [] = refl
 there-first (x ∷ xs) = refl
 
-pub tells-there : {T : Type 0} (workers : ℕ) (u : Trace T) (r : Result (Option T) ChainFault) → Tells workers first_of u r → Tells workers has_item u (is_there r)
+pub tells-there : {T : Type 0} (workers : ℕ) (u : Trace T) (r : Result (Option T) ChainFault) → Tells workers first_of u r
+    → Tells workers has_item u (is_there r)
 tells-there workers u (Ok first) (value, well) = (ap is_some value ∙ there-first u.items, well)
 tells-there workers u (Err (IsEnded e)) so = so
 tells-there workers u (Err (Build fault)) so = so
@@ -84,8 +91,10 @@ tells-none workers u (Err (Build fault)) so = so
 tells-none workers u (Err (IsRun fault)) so = so
 
 -- the item at a place, by a skip and a take of one
-pub tells-placed : {L T : Type 0} (workers : ℕ) (f : L → Meaning T) (ordered : Bool) → ordered ≡ true → (ops : List (Op L)) (does : List (Op (Meaning T))) → map (over f) ops ≡ does
-    → (place : ℤ) (t : Trace T) (r : Result (Option T) AggregateFault) → TellsSome first_of (MayAnswer f ordered ((ops ++ Skip place ∷ []) ++ Take (pos 1) ∷ []) t) r
+pub tells-placed : {L T : Type 0} (workers : ℕ) (f : L → Meaning T) (ordered : Bool) → ordered ≡ true
+    → (ops : List (Op L)) (does : List (Op (Meaning T))) → map (over f) ops ≡ does
+    → (place : ℤ) (t : Trace T) (r : Result (Option T) AggregateFault)
+    → TellsSome first_of (MayAnswer f ordered ((ops ++ Skip place ∷ []) ++ Take (pos 1) ∷ []) t) r
     → Tells workers first_of (answer_of (λ m. m) ((does ++ Skip place ∷ []) ++ Take (pos 1) ∷ []) t) (chain_answer r)
 tells-placed workers f ordered is ops does same place t r tells =
     tells-first workers f ordered is (ops ++ Skip place ∷ []) (does ++ Skip place ∷ [])
@@ -97,9 +106,12 @@ has-called Step u by (Ok e) g h = record { calls = h }
 has-called Step u by (Err fault) g h = record { calls = h }
 
 -- what a closure was called with
-pub called-answer : {L F T : Type 0} {workers : ℕ} (Step : F → T → Result ⊤ ℕ → F → Type 0) (f : L → Meaning T) (ordered : Bool) → ordered ≡ true → (merge : Option MergeOption) → merge ≡ None
-    → (ops : List (Op L)) (does : List (Op (Meaning T))) → map (over f) ops ≡ does → (t : Trace T) (by : F) (r : Result Ending RunFault) (outcome : Result Ending ChainFault) (g : F)
-    → outcome ≡ chain_outcome r → CallsSome Step (merge_in_force merge) (MayAnswer f ordered ops t) by r g → HasCalled workers Step (answer_of (λ m. m) does t) by outcome g
+pub called-answer : {L F T : Type 0} {workers : ℕ} (Step : F → T → Result ⊤ ℕ → F → Type 0) (f : L → Meaning T) (ordered : Bool) → ordered ≡ true
+    → (merge : Option MergeOption) → merge ≡ None
+    → (ops : List (Op L)) (does : List (Op (Meaning T))) → map (over f) ops ≡ does
+    → (t : Trace T) (by : F) (r : Result Ending RunFault) (outcome : Result Ending ChainFault) (g : F)
+    → outcome ≡ chain_outcome r → CallsSome Step (merge_in_force merge) (MayAnswer f ordered ops t) by r g
+    → HasCalled workers Step (answer_of (λ m. m) does t) by outcome g
 called-answer {workers = workers} Step f ordered is merge none ops does same t by r outcome g is_outcome h =
     let calls = subst (λ o. CallsSome Step o (λ u. u ≡ answer_of (λ m. m) does t) by r g) (ap merge_in_force none) (record {
       answer = h.answer;
@@ -110,7 +122,8 @@ called-answer {workers = workers} Step f ordered is merge none ops does same t b
     subst (λ it. HasCalled workers Step (answer_of (λ m. m) does t) by it g) (sym is_outcome) (has-called Step (answer_of (λ m. m) does t) by r g calls)
 
 -- on one thread
-pub vec-sequentially : {L T V : Type 0} (workers : ℕ) (f : L → Meaning T) (ops : List (Op L)) (does : List (Op (Meaning T))) → map (over f) ops ≡ does → (t : Trace T) (items : V → List T) (r : Result (V × Ending) RunFault)
+pub vec-sequentially : {L T V : Type 0} (workers : ℕ) (f : L → Meaning T) (ops : List (Op L)) (does : List (Op (Meaning T))) → map (over f) ops ≡ does
+    → (t : Trace T) (items : V → List T) (r : Result (V × Ending) RunFault)
     → MatchResult r (λ it. ended_trace (items it.0) it.1 ≡ answer_of f ops t) (λ fault. fault ≡ Memory)
     → MatchResult (chain_outcome r) (λ it. ended_trace (items it.0) it.1 ≡ answer_of (λ m. m) does t) (HasNone workers)
 vec-sequentially workers f ops does same t items (Ok it) h = h ∙ only-answer f true refl ops does same t (answer_of f ops t) refl
@@ -121,8 +134,11 @@ has-called_all : {F T : Type 0} {workers : ℕ} (Step : F → T → Result ⊤ �
 has-called_all Step u by (Ok e) g h = record { calls = h }
 has-called_all Step u by (Err fault) g h = record { calls = h }
 
-pub called-sequentially : {L F T : Type 0} {workers : ℕ} (Step : F → T → Result ⊤ ℕ → F → Type 0) (f : L → Meaning T) (ops : List (Op L)) (does : List (Op (Meaning T))) → map (over f) ops ≡ does
-    → (t : Trace T) (by : F) (r : Result Ending RunFault) (outcome : Result Ending ChainFault) (g : F) → outcome ≡ chain_outcome r → CallsAll Step (answer_of f ops t) by r g
+pub called-sequentially : {L F T : Type 0} {workers : ℕ} (Step : F → T → Result ⊤ ℕ → F → Type 0) (f : L → Meaning T) (ops : List (Op L))
+    (does : List (Op (Meaning T)))
+    → map (over f) ops ≡ does
+    → (t : Trace T) (by : F) (r : Result Ending RunFault) (outcome : Result Ending ChainFault) (g : F) → outcome ≡ chain_outcome r
+    → CallsAll Step (answer_of f ops t) by r g
     → HasCalledAll workers Step (answer_of (λ m. m) does t) by outcome g
 called-sequentially {workers = workers} Step f ops does same t by r outcome g is_outcome h =
     subst (λ it. HasCalledAll workers Step (answer_of (λ m. m) does t) by it g) (sym is_outcome) (has-called_all Step (answer_of (λ m. m) does t) by r g

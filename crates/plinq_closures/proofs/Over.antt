@@ -26,7 +26,8 @@ stages_of-over meaning (op ∷ ops) =
     ap (λ s. s ∷ stages_of meaning ops) (stage_of-over meaning op)
     ∙ ap (λ ss. stage_of (λ f. f) (over meaning op) ∷ ss) (stages_of-over meaning ops)
 
-pub answer_of-over : {L T : Type 0} (meaning : L → Meaning T) (ops : List (Op L)) (t : Trace T) → answer_of meaning ops t ≡ answer_of (λ f. f) (map (over meaning) ops) t
+pub answer_of-over : {L T : Type 0} (meaning : L → Meaning T) (ops : List (Op L)) (t : Trace T)
+    → answer_of meaning ops t ≡ answer_of (λ f. f) (map (over meaning) ops) t
 answer_of-over meaning ops t = ap (λ ss. seq ss t) (stages_of-over meaning ops)
 
 pub over-over : {L M : Type 0} (f : L → M) (l : L) (kind : Op ⊤) → over f (over (λ _. l) kind) ≡ over (λ _. f l) kind

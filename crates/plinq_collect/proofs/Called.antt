@@ -43,7 +43,8 @@ module _ {K F T N : Type 0} (Step : F → T → Result ⊤ ℕ → F → Type 0)
         refused.1 ∙ on.1,
       )
 
-  breaks-items : (cause : Cause) (bs : List (List T)) (s s' : K) → BreaksFor Accepts Rejects cause bs s s' → (CallsFirst Step cause (items_of bs) (p s) (p s')) × (name s' ≡ name s)
+  breaks-items : (cause : Cause) (bs : List (List T)) (s s' : K) → BreaksFor Accepts Rejects cause bs s s'
+      → (CallsFirst Step cause (items_of bs) (p s) (p s')) × (name s' ≡ name s)
   breaks-items (SinkRefused code) bs s s' h = cut-items s bs (Refusal code) s' h
   breaks-items Stopped bs s s' h = absurd h
   breaks-items Other bs s s' h = cut-items s bs NoMore s' h
@@ -76,12 +77,14 @@ module _ {K F T N : Type 0} (Step : F → T → Result ⊤ ℕ → F → Type 0)
       )
 
 -- of an answer whose items are these
-pub calls-answer : {F T : Type 0} (Step : F → T → Result ⊤ ℕ → F → Type 0) (u : Trace T) (xs : List T) (e : Ending) → ended_trace xs e ≡ u → (f : F) (outcome : Result Ending RunFault) (g : F)
+pub calls-answer : {F T : Type 0} (Step : F → T → Result ⊤ ℕ → F → Type 0) (u : Trace T) (xs : List T) (e : Ending) → ended_trace xs e ≡ u
+    → (f : F) (outcome : Result Ending RunFault) (g : F)
     → CallsAll Step (ended_trace xs e) f outcome g → CallsAll Step u f outcome g
 calls-answer Step u xs e is f outcome g h = subst (λ v. CallsAll Step v f outcome g) is h
 
 -- with none of them, where memory ran out
-pub calls-none : {F T : Type 0} (Step : F → T → Result ⊤ ℕ → F → Type 0) (u : Trace T) (f g : F) (fault : RunFault) → fault ≡ Memory → g ≡ f → CallsAll Step u f (Err fault) g
+pub calls-none : {F T : Type 0} (Step : F → T → Result ⊤ ℕ → F → Type 0) (u : Trace T) (f g : F) (fault : RunFault) → fault ≡ Memory → g ≡ f
+    → CallsAll Step u f (Err fault) g
 calls-none Step u f g fault is same = subst (λ it. CallsAll Step u f (Err it) g) (sym is) (record { calls = ([], u.items, refl, same) })
 
 -- a code is all that may come in the place of an ending

@@ -58,7 +58,8 @@ not-item [] = refl
 not-item (x ∷ xs) = refl
 
 -- where there is no item, all pass
-pub tells-none : {T : Type 0} (IsAnswer : Trace T → Type 0) (r : Result Bool AggregateFault) → TellsSome has_item IsAnswer r → TellsSome has_none IsAnswer (negated r)
+pub tells-none : {T : Type 0} (IsAnswer : Trace T → Type 0) (r : Result Bool AggregateFault) → TellsSome has_item IsAnswer r
+    → TellsSome has_none IsAnswer (negated r)
 tells-none IsAnswer (Ok is) (u, may, value, well) = (u, may, ap not value ∙ not-item u.items, well)
 tells-none IsAnswer (Err (Ended e)) so = so
 tells-none IsAnswer (Err (Run fault)) so = so
@@ -69,7 +70,8 @@ lacks-negated (Err (Ended e)) lacks = tt
 lacks-negated (Err (Run fault)) lacks = lacks
 
 -- a run into a list that was empty is gathered, or was short of something
-pub gathers-outcome : {K V T : Type 0} (items : K → List T) (refuses : K → List T → ℕ → K → Type 0) (option : MergeOption) (May : Trace T → Trace T → Type 0) (t : Trace T)
+pub gathers-outcome : {K V T : Type 0} (items : K → List T) (refuses : K → List T → ℕ → K → Type 0) (option : MergeOption)
+    (May : Trace T → Trace T → Type 0) (t : Trace T)
     (s s' : K) (outcome : Result Report RunFault) (read : V → List T) (list : V) → read list ≡ items s' → items s ≡ []
     → Reports (Keeps items) refuses option May t s s' outcome
     → MatchResult (gathered_of list outcome) (λ it. GathersSome option (May t) (read it.0) it.1) IsShort

@@ -62,8 +62,10 @@ told-request_record t p entry is within =
     let tail : entry.tail ≡ r.tail = ap (λ (x : Record). x.tail) is in
     rw (first, count, tail) (told-reply t p entry.asked (omega arith))
 
-pub result-from_taken : {L T : Type 0} (meaning : L → Meaning T) (plan : Plan L) (growth : GrowthRule) (a b : Holding T) (cut : ℕ) (chunk : Chunk T) (r : ChunkResult T)
-    → is_cut meaning plan.worker.now a.origin.items cut ≡ true → (plan.order ≡ ByArrival → cut ≡ no_cut) → IsTaken growth a b chunk → IsChunkResult meaning plan.worker.now cut chunk r
+pub result-from_taken : {L T : Type 0} (meaning : L → Meaning T) (plan : Plan L) (growth : GrowthRule) (a b : Holding T) (cut : ℕ) (chunk : Chunk T)
+    (r : ChunkResult T)
+    → is_cut meaning plan.worker.now a.origin.items cut ≡ true → (plan.order ≡ ByArrival → cut ≡ no_cut) → IsTaken growth a b chunk
+    → IsChunkResult meaning plan.worker.now cut chunk r
     → IsResult meaning plan a.origin r
 result-from_taken meaning plan growth a b cut chunk r is uncut taken made =
     let t = a.origin in

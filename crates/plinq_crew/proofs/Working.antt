@@ -1,5 +1,6 @@
 -- What a worker sends are the results of its records, one after another.
-use Rattle.std.proofs.Common.{◌≡◌, ◌≢◌, ℕ, ◌+◌, ◌≤◌, ◌<◌, ◌==◌, eq-eqb, ◌||◌, List, [], ◌∷◌, ◌++◌, Option, Some, None, is_some, true, false, true≢false, Bool, if◌then◌else◌, IfSome, All, take, drop, refl, sym, ap, ◌∙◌, subst, arith}
+use Rattle.std.proofs.Common.{◌≡◌, ◌≢◌, ℕ, ◌+◌, ◌≤◌, ◌<◌, ◌==◌, eq-eqb, ◌||◌, List, [], ◌∷◌, ◌++◌, Option, Some, None, is_some, true, false}
+use Rattle.std.proofs.Common.{true≢false, Bool, if◌then◌else◌, IfSome, All, take, drop, refl, sym, ap, ◌∙◌, subst, arith}
 use Rattle.std.proofs.lemmas.List.{append-nil}
 use Rattle.std.proofs.lemmas.List.Elements.{All-nil, All-push, All-append, All-weaker}
 use Rattle.std.specs.List.{AllZip}
@@ -20,7 +21,8 @@ use Rattle.plinq_stream.specs.Knowing.{with_sent, with_first, without_first, tog
 use Rattle.plinq_stream.specs.Streams.{has, under}
 use Rattle.plinq_stream.proofs.Numbers.{first-of, rest-of}
 use Rattle.plinq_stream.proofs.Under.{has-append, or-first, or-second, under-append, under-own, under-none}
-use Rattle.plinq_crew.specs.Working.{Answers, IsOpen, Follows, HasTakenChunk, HasLeft, sender, IsAtWork, HasWorked, IsAnsweredBy, IsWhollyAnsweredBy, HasNumbersFrom, IsReceiver}
+use Rattle.plinq_crew.specs.Working.{Answers, IsOpen, Follows, HasTakenChunk, HasLeft, sender, IsAtWork, HasWorked, IsAnsweredBy, IsWhollyAnsweredBy}
+use Rattle.plinq_crew.specs.Working.{HasNumbersFrom, IsReceiver}
 use Rattle.plinq_crew.specs.Noted.{has_worker_fault, lacks_room, has_noted, StaysNoted}
 use Rattle.plinq_crew.specs.Results.{IsOfSameChunk, IsPart}
 use Rattle.plinq_crew.specs.inner.Taking.{IsNextPart}
@@ -35,7 +37,8 @@ AllZip-more R (a ∷ xs) [] x y all is = absurd all
 AllZip-more R (a ∷ xs) (b ∷ ys) x y all is = (all.0, AllZip-more R xs ys x y all.1 is)
 
 -- the chunk of a record was taken, and this is its result
-pub taken-result : {L T : Type 0} (meaning : L → Meaning T) (worker : List (Op L)) (growth : GrowthRule) (a b : Holding T) (cut : ℕ) (chunk : Chunk T) (r : ChunkResult T)
+pub taken-result : {L T : Type 0} (meaning : L → Meaning T) (worker : List (Op L)) (growth : GrowthRule) (a b : Holding T) (cut : ℕ) (chunk : Chunk T)
+    (r : ChunkResult T)
     → IsTaken growth a b chunk → IsChunkResult meaning worker cut chunk r → HasTakenChunk a.share b.share r
 taken-result meaning worker growth a b cut chunk r taken made = record {
   entry = taken.entry;
@@ -44,7 +47,8 @@ taken-result meaning worker growth a b cut chunk r taken made = record {
 }
 
 -- and so is what was made of that result
-pub taken-part : {T M : Type 0} (share share' : List Record) (r : ChunkResult T) (c : ChunkResult M) → HasTakenChunk share share' r → IsOfSameChunk r c → HasTakenChunk share share' c
+pub taken-part : {T M : Type 0} (share share' : List Record) (r : ChunkResult T) (c : ChunkResult M) → HasTakenChunk share share' r
+    → IsOfSameChunk r c → HasTakenChunk share share' c
 taken-part share share' r c taken same = record {
   entry = taken.entry;
   share_is = taken.share_is;
@@ -62,19 +66,24 @@ module _ {T : Type 0} (number : ℕ) where
         opens = subst (λ l. All IsOpen (under number l)) (sym sent) (All-nil IsOpen);
       }
 
-  module _ (share share' : List Record) (a b : PassKnowledge (ChunkResult T)) (r : ChunkResult T) (h : IsAtWork number share a) (taken : HasTakenChunk share share' r)
+  module _ (share share' : List Record) (a b : PassKnowledge (ChunkResult T)) (r : ChunkResult T) (h : IsAtWork number share a)
+      (taken : HasTakenChunk share share' r)
       (is : b ≡ with_sent a (record { number = number; item = r })) where
     sent-is : b.sent ≡ a.sent ++ record { number = number; item = r } ∷ []
     sent-is = ap (λ (k : PassKnowledge (ChunkResult T)). k.sent) is
 
     under-sent : under number b.sent ≡ under number a.sent ++ r ∷ []
-    under-sent = ap (under number) sent-is ∙ under-append number a.sent (record { number = number; item = r } ∷ []) ∙ ap (λ l. under number a.sent ++ l) (under-own number r)
+    under-sent =
+        ap (under number) sent-is ∙ under-append number a.sent (record { number = number; item = r } ∷ [])
+        ∙ ap (λ l. under number a.sent ++ l) (under-own number r)
 
     knows-sent : b ≡ sender number b.sent
     knows-sent = is ∙ ap (λ (k : PassKnowledge (ChunkResult T)). with_sent k (record { number = number; item = r })) h.knows ∙ ap (sender number) (sym sent-is)
 
     own-sent : All (λ s. s.number ≡ number) b.sent
-    own-sent = subst (All (λ s. s.number ≡ number)) (sym sent-is) (All-push (λ (s : Sent (ChunkResult T)). s.number ≡ number) a.sent (record { number = number; item = r }) h.own refl)
+    own-sent =
+        subst (All (λ s. s.number ≡ number)) (sym sent-is) (All-push (λ (s : Sent (ChunkResult T)). s.number ≡ number) a.sent
+        (record { number = number; item = r }) h.own refl)
 
     are-sent : AllZip Answers share' (under number b.sent)
     are-sent = rw (taken.share_is, under-sent) (AllZip-more Answers share (under number a.sent) taken.entry r h.are taken.answers)
@@ -104,7 +113,8 @@ module _ {T : Type 0} (number : ℕ) where
       };
     }
 
-  pub breaks-work : (share share' : List Record) (a : PassKnowledge (ChunkResult T)) (fault : TakeFault) → IsAtWork number share a → HasLeft share share' → HasWorked number share' (Some fault) a
+  pub breaks-work : (share share' : List Record) (a : PassKnowledge (ChunkResult T)) (fault : TakeFault) → IsAtWork number share a
+      → HasLeft share share' → HasWorked number share' (Some fault) a
   breaks-work share share' a fault h left = record {
     knows = h.knows;
     own = h.own;
@@ -112,18 +122,22 @@ module _ {T : Type 0} (number : ℕ) where
   }
 
 -- what a worker has sent was made of results of the source, and so was its next part
-pub each-part : {L T M : Type 0} {meaning : L → Meaning T} {makes : ChunkResult T → ChunkResult M → Type 0} {plan : Plan L} {t : Trace T} {before after : Holding T} {part : ChunkResult M} {b : PassKnowledge (ChunkResult M)}
-    (number : ℕ) (a : PassKnowledge (ChunkResult M)) → IsNextPart meaning makes plan before after part → before.origin ≡ t → b ≡ with_sent a (record { number = number; item = part })
+pub each-part : {L T M : Type 0} {meaning : L → Meaning T} {makes : ChunkResult T → ChunkResult M → Type 0} {plan : Plan L} {t : Trace T}
+    {before after : Holding T} {part : ChunkResult M} {b : PassKnowledge (ChunkResult M)}
+    (number : ℕ) (a : PassKnowledge (ChunkResult M)) → IsNextPart meaning makes plan before after part → before.origin ≡ t
+    → b ≡ with_sent a (record { number = number; item = part })
     → All (λ s. IsPart meaning makes plan t s.item) a.sent → All (λ s. IsPart meaning makes plan t s.item) b.sent
 each-part {L} {T} {M} {meaning} {makes} {plan} {t} {before} {after} {part} number a next origin is all =
     let P : Sent (ChunkResult M) → Type 0 = λ s. IsPart meaning makes plan t s.item in
-    subst (All P) (sym (ap (λ (k : PassKnowledge (ChunkResult M)). k.sent) is)) (All-push P a.sent (record { number = number; item = part }) all (rw (← origin) next.is))
+    subst (All P) (sym (ap (λ (k : PassKnowledge (ChunkResult M)). k.sent) is)) (All-push P a.sent (record { number = number; item = part }) all
+    (rw (← origin) next.is))
 
 -- ---- numbers are handed out one after another
 
 pub first-handed : {T : Type 0} (n : ℕ) (a b : PassKnowledge (ChunkResult T)) → n < 64 → HasNumbersFrom n a → b ≡ with_first a → b ≡ sender n []
 first-handed n a b less has made =
-    made ∙ ap (λ l. record { numbers = take 1 l; sent = []; receives = false; received = [] }) has ∙ ap (λ l. record { numbers = l; sent = []; receives = false; received = [] }) (first-of n 64 less)
+    made ∙ ap (λ l. record { numbers = take 1 l; sent = []; receives = false; received = [] }) has
+    ∙ ap (λ l. record { numbers = l; sent = []; receives = false; received = [] }) (first-of n 64 less)
 
 module _ {T : Type 0} (n : ℕ) (a b : PassKnowledge (ChunkResult T)) where
   pub rest-handed : n < 64 → HasNumbersFrom n a → b ≡ without_first a → HasNumbersFrom (n + 1) b
@@ -152,7 +166,8 @@ module _ {T : Type 0} (a b c : PassKnowledge (ChunkResult T)) (is : c ≡ togeth
       (All-weaker (λ (s : Sent (ChunkResult T)). s.number ≡ n) (λ s. n ≤ s.number) (λ s h. omega arith) b.sent own))
 
 -- a fault that was noted is noted still
-still-noted : (old faults : WorkerFaults) → StaysNoted old faults → (fault : Option TakeFault) → IfSome fault (λ f. has_noted old f ≡ true) → IfSome fault (λ f. has_noted faults f ≡ true)
+still-noted : (old faults : WorkerFaults) → StaysNoted old faults → (fault : Option TakeFault) → IfSome fault (λ f. has_noted old f ≡ true)
+    → IfSome fault (λ f. has_noted faults f ≡ true)
 still-noted old faults kept None noted = tt
 still-noted old faults kept (Some fault) noted = by-kind (lacks_room fault) noted
   where
@@ -166,7 +181,8 @@ faults-by faults false is = or-second faults.memory faults.tickets is
 
 module _ {S T M : Type 0} {source : Ghosts S T} where
   -- without a fault all records are answered
-  pub answered-wholly : (a b : PassKnowledge (ChunkResult M)) (faults : WorkerFaults) → b.sent ≡ a.sent → b.numbers ≡ a.numbers → has_worker_fault faults ≡ false → (p : Partition S T source)
+  pub answered-wholly : (a b : PassKnowledge (ChunkResult M)) (faults : WorkerFaults) → b.sent ≡ a.sent → b.numbers ≡ a.numbers
+      → has_worker_fault faults ≡ false → (p : Partition S T source)
       → IsAnsweredBy 0 a faults p → IsWhollyAnsweredBy b p
   answered-wholly a b faults sent numbers none p h = record {
     number = h.number;
@@ -179,35 +195,45 @@ module _ {S T M : Type 0} {source : Ghosts S T} where
       whole None noted follows = follows
       whole (Some fault) noted follows = absurd (true≢false (sym (faults-by faults (lacks_room fault) noted) ∙ none))
 
-  module _ (n least : ℕ) (next : least ≡ n + 1) (a b c : PassKnowledge (ChunkResult M)) (is : c ≡ together a b) (old faults : WorkerFaults) (kept : StaysNoted old faults) where
+  module _ (n least : ℕ) (next : least ≡ n + 1) (a b c : PassKnowledge (ChunkResult M)) (is : c ≡ together a b) (old faults : WorkerFaults)
+      (kept : StaysNoted old faults) where
     pub answered-before : All (λ s. s.number ≡ n) b.sent → (p : Partition S T source) → IsAnsweredBy least a old p → IsAnsweredBy n c faults p
     answered-before own p h =
         let k = h.number in
         let none : under k b.sent ≡ [] =
-        under-none k b.sent (All-weaker (λ (s : Sent (ChunkResult M)). s.number ≡ n) (λ s. s.number ≢ k) (λ s e same. let far : least ≤ k = h.above in omega arith) b.sent own) in
+        under-none k b.sent (All-weaker (λ (s : Sent (ChunkResult M)). s.number ≡ n) (λ s. s.number ≢ k)
+        (λ s e same. let far : least ≤ k = h.above in omega arith) b.sent own) in
         record {
           number = k;
           above = (let far : least ≤ k = h.above in omega arith);
           own = has-both a b c is k ∙ or-first (has k a.numbers) (has k b.numbers) h.own;
           fault = h.fault;
           noted = still-noted old faults kept h.fault h.noted;
-          follows = subst (Follows (holding_of p).share h.fault) (sym (under-both a b c is k ∙ ap (λ l. under k a.sent ++ l) none ∙ append-nil (under k a.sent))) h.follows;
+          follows =
+              subst (Follows (holding_of p).share h.fault) (sym (under-both a b c is k ∙ ap (λ l. under k a.sent ++ l) none ∙ append-nil (under k a.sent)))
+              h.follows;
         }
 
-    pub answered-now : All (λ s. least ≤ s.number) a.sent → (p : Partition S T source) (fault : Option TakeFault) → IfSome fault (λ f. has_noted faults f ≡ true) → HasWorked n (holding_of p).share fault b → IsAnsweredBy n c faults p
+    pub answered-now : All (λ s. least ≤ s.number) a.sent → (p : Partition S T source) (fault : Option TakeFault)
+        → IfSome fault (λ f. has_noted faults f ≡ true) → HasWorked n (holding_of p).share fault b → IsAnsweredBy n c faults p
     answered-now above p fault noted h =
-        let none : under n a.sent ≡ [] = under-none n a.sent (All-weaker (λ (s : Sent (ChunkResult M)). least ≤ s.number) (λ s. s.number ≢ n) (λ s e same. omega arith) a.sent above) in
+        let none : under n a.sent ≡ [] =
+        under-none n a.sent (All-weaker (λ (s : Sent (ChunkResult M)). least ≤ s.number) (λ s. s.number ≢ n) (λ s e same. omega arith) a.sent above) in
         record {
           number = n;
           above = omega arith;
-          own = has-both a b c is n ∙ or-second (has n a.numbers) (has n b.numbers) (ap (λ (x : PassKnowledge (ChunkResult M)). has n x.numbers) h.knows ∙ or-first (n == n) false (eq-eqb n n refl));
+          own =
+              has-both a b c is n
+              ∙ or-second (has n a.numbers) (has n b.numbers) (ap (λ (x : PassKnowledge (ChunkResult M)). has n x.numbers) h.knows
+              ∙ or-first (n == n) false (eq-eqb n n refl));
           fault = fault;
           noted = noted;
           follows = subst (Follows (holding_of p).share fault) (sym (under-both a b c is n ∙ ap (λ l. l ++ under n b.sent) none)) h.follows;
         }
 
 -- what a pass has answered is answered by one that knows the same
-pub answered-same : {S T M : Type 0} {source : Ghosts S T} (a b : PassKnowledge (ChunkResult M)) (faults : WorkerFaults) (ps : List (Partition S T source)) → b.sent ≡ a.sent → b.numbers ≡ a.numbers
+pub answered-same : {S T M : Type 0} {source : Ghosts S T} (a b : PassKnowledge (ChunkResult M)) (faults : WorkerFaults) (ps : List (Partition S T source))
+    → b.sent ≡ a.sent → b.numbers ≡ a.numbers
     → All (IsAnsweredBy 0 a faults) ps → All (IsAnsweredBy 0 b faults) ps
 answered-same a b faults ps sent numbers answered =
     All-weaker (IsAnsweredBy 0 a faults) (IsAnsweredBy 0 b faults)

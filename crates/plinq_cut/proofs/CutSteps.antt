@@ -30,7 +30,8 @@ module _ (stops_at : ℕ → Bool) where
   knows-less word less Joined below known = tt
 
   -- one view changes, and the word falls to a cut
-  lawful-set : (word less : ℕ) (views : List View) (i : ℕ) (w : View) → IsLawful stops_at word views → less ≤ word → is_cut_of stops_at less ≡ true → Knows less w → IsLawful stops_at less (set views i w)
+  lawful-set : (word less : ℕ) (views : List View) (i : ℕ) (w : View) → IsLawful stops_at word views → less ≤ word → is_cut_of stops_at less ≡ true
+      → Knows less w → IsLawful stops_at less (set views i w)
   lawful-set word less views i w lawful below cut own = record {
     cut = cut;
     known = λ j u at. ⊎_elim (λ h. subst (λ x. Knows less x) h.1 own) (λ h. knows-less word less u below (lawful.known j u h.1)) (at_set views i j w u at);
@@ -47,11 +48,13 @@ module _ (stops_at : ℕ → Bool) where
   step-see word views i Joined passing lawful at = absurd (cc)
 
   -- the word falls to a key that ends the run
-  step-lower : (key word : ℕ) (views : List View) (i : ℕ) (v : View) → is_passing v ≡ true → stops_at key ≡ true → IsLawful stops_at word views → get_elem? views i ≡ some v
+  step-lower : (key word : ℕ) (views : List View) (i : ℕ) (v : View) → is_passing v ≡ true → stops_at key ≡ true → IsLawful stops_at word views
+      → get_elem? views i ≡ some v
       → (w : View) × IsLawful stops_at (min word key) (set views i w) × Sees stops_at word (min word key) v w
   step-lower key word views i (Passing least) passing ends lawful at = (
     Passing (min word key),
-    lawful-set word (min word key) views i (Passing (min word key)) lawful (omega arith) (is_cut_of-min stops_at word key lawful.cut ends) (let same : min word key ≤ min word key = omega arith in same),
+    lawful-set word (min word key) views i (Passing (min word key)) lawful (omega arith) (is_cut_of-min stops_at word key lawful.cut ends)
+        (let same : min word key ≤ min word key = omega arith in same),
     (lawful.cut, lawful.known i (Passing least) at, refl),
   )
   step-lower key word views i Joined passing ends lawful at = absurd (cc)
@@ -63,7 +66,8 @@ module _ (stops_at : ℕ → Bool) where
   knows-together word Joined w known known' = known'
 
   -- a second pass knows what the first does
-  lawful-beside : (word : ℕ) (views : List View) (i : ℕ) (v : View) → IsLawful stops_at word views → get_elem? views i ≡ some v → IsLawful stops_at word (views ++ v ∷ [])
+  lawful-beside : (word : ℕ) (views : List View) (i : ℕ) (v : View) → IsLawful stops_at word views → get_elem? views i ≡ some v
+      → IsLawful stops_at word (views ++ v ∷ [])
   lawful-beside word views i v lawful at = record {
     cut = lawful.cut;
     known = λ j u at'. ⊎_elim (λ h. lawful.known j u h) (λ h. subst (λ x. Knows word x) h (lawful.known i v at)) (at_snoc views v u j at');
@@ -77,7 +81,8 @@ module _ (stops_at : ℕ → Bool) where
   }
 
   -- one pass takes in another
-  lawful-joined : (word : ℕ) (views : List View) (i j : ℕ) (v w : View) → IsLawful stops_at word views → get_elem? views i ≡ some v → get_elem? views j ≡ some w → IsLawful stops_at word (set (set views i (together v w)) j Joined)
+  lawful-joined : (word : ℕ) (views : List View) (i j : ℕ) (v w : View) → IsLawful stops_at word views → get_elem? views i ≡ some v
+      → get_elem? views j ≡ some w → IsLawful stops_at word (set (set views i (together v w)) j Joined)
   lawful-joined word views i j v w lawful at at' =
       let both = knows-together word v w (lawful.known i v at) (lawful.known j w at') in
       let first = lawful-set word word views i (together v w) lawful (omega arith) lawful.cut both in
@@ -98,7 +103,9 @@ module _ (stops_at : ℕ → Bool) (slots id : ℕ) (me : Me (Unit {0}) View) wh
       let done = step-see stops_at word views id me.0 passing lawful at in
       (done.0, done.1, (done.2, refl)))
 
-  pub lowers : (key : ℕ) → is_passing me.0 ≡ true → stops_at key ≡ true → Allows (OfOneWord (IsLawful stops_at)) slots id me 0 (λ n. min n key) (λ n b. Sees stops_at n (min n key) me.0 b.0 × (b.1 ≡ me.1))
-  lowers key passing ends = allows-word (IsLawful stops_at) slots id me (λ n. min n key) (λ n b. Sees stops_at n (min n key) me.0 b.0 × (b.1 ≡ me.1)) (λ word views lawful at.
+  pub lowers : (key : ℕ) → is_passing me.0 ≡ true → stops_at key ≡ true
+      → Allows (OfOneWord (IsLawful stops_at)) slots id me 0 (λ n. min n key) (λ n b. Sees stops_at n (min n key) me.0 b.0 × (b.1 ≡ me.1))
+  lowers key passing ends =
+      allows-word (IsLawful stops_at) slots id me (λ n. min n key) (λ n b. Sees stops_at n (min n key) me.0 b.0 × (b.1 ≡ me.1)) (λ word views lawful at.
       let done = step-lower stops_at key word views id me.0 passing ends lawful at in
       (done.0, done.1, (done.2, refl)))

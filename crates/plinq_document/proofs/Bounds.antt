@@ -7,7 +7,9 @@ use Rattle.serde_json.specs.Find.{as_str, as_array, as_object}
 use Rattle.plinq_source.specs.Trace.{Trace, ended_trace, list_ending}
 use Rattle.plinq_document.specs.JsonValues.{whole_number, only_count, items_len}
 use Rattle.plinq_document.specs.Results.{◌>>=◌, or_shape}
-use Rattle.plinq_document.specs.Sources.{source_name, whole_numbers, few_numbers, list_source, text_source, range_trace, repeat_trace, of_number_and_count, plain_source_named, code_of, plain_source_from, plain_source_of, count_after, bound_named, bound_from, bound_of}
+use Rattle.plinq_document.specs.Sources.{source_name, whole_numbers, few_numbers, list_source, text_source, range_trace, repeat_trace}
+use Rattle.plinq_document.specs.Sources.{of_number_and_count, plain_source_named, code_of, plain_source_from, plain_source_of, count_after}
+use Rattle.plinq_document.specs.Sources.{bound_named, bound_from, bound_of}
 use Rattle.plinq_document.specs.declared.source_name.SourceName.{SourceName}
 use Rattle.plinq_document.specs.declared.source_name.SourceName.TheVariants.{List as ListName, Text as TextName, Range as RangeName, Repeat as RepeatName}
 use Rattle.plinq_document.specs.declared.doc_fault.DocFault.{DocFault}
@@ -17,7 +19,8 @@ use Rattle.plinq_document.proofs.TwoSources.{few-plain}
 some-list : (refusal : Option ℕ) (d : Data) (t : Trace ℤ) → list_source refusal d ≡ Ok t → is_some (option_map items_len (as_array d)) ≡ true
 some-list refusal d t is = by (as_array d) is
   where
-    by : (o : Option Items) → (or_shape (option_and_then whole_numbers o) >>= few_numbers >>= λ xs. Ok (ended_trace xs (list_ending refusal))) ≡ Ok t → is_some (option_map items_len o) ≡ true
+    by : (o : Option Items) → (or_shape (option_and_then whole_numbers o) >>= few_numbers >>= λ xs. Ok (ended_trace xs (list_ending refusal))) ≡ Ok t
+        → is_some (option_map items_len o) ≡ true
     by None is = absurd (cc)
     by (Some ds) is = refl
 
@@ -25,7 +28,8 @@ some-text : (o : Option (List ℕ)) (t : Trace ℤ) → (or_shape o >>= text_sou
 some-text None t is = absurd (cc)
 some-text (Some text) t is = refl
 
-some-counted : (f : ℤ → ℕ → Result (Trace ℤ) DocFault) (o : Option Items) (t : Trace ℤ) → (or_shape o >>= of_number_and_count f) ≡ Ok t → is_some (option_and_then count_after o) ≡ true
+some-counted : (f : ℤ → ℕ → Result (Trace ℤ) DocFault) (o : Option Items) (t : Trace ℤ) → (or_shape o >>= of_number_and_count f) ≡ Ok t
+    → is_some (option_and_then count_after o) ≡ true
 some-counted f None t is = absurd (cc)
 some-counted f (Some no_items) t is = absurd (cc)
 some-counted f (Some (item d ds)) t is = by (whole_number d) (only_count ds) is
@@ -65,6 +69,7 @@ some-members (Some (member name d (member other e (member third g rest)))) t is 
 pub bound-plain : (d : Data) (t : Trace ℤ) → plain_source_of d ≡ Ok t → (m : ℕ) × ((bound_of d ≡ Some m) × (length t.items ≤ m))
 bound-plain d t is = by (bound_of d) (some-members (as_object d) t is) (few-plain d t)
   where
-    by : (o : Option ℕ) → is_some o ≡ true → ((m : ℕ) → plain_source_of d ≡ Ok t → o ≡ Some m → length t.items ≤ m) → (m : ℕ) × ((o ≡ Some m) × (length t.items ≤ m))
+    by : (o : Option ℕ) → is_some o ≡ true → ((m : ℕ) → plain_source_of d ≡ Ok t → o ≡ Some m → length t.items ≤ m)
+        → (m : ℕ) × ((o ≡ Some m) × (length t.items ≤ m))
     by None some few = absurd (cc)
     by (Some m) some few = (m, (refl, few m is refl))

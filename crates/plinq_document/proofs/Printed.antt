@@ -44,7 +44,8 @@ formula_from-read word no_items f is =
     (ap string has.0, subst (λ (n : Option ℤ). NumberItems n no_items) has.1 tt)
 formula_from-read word (item d ds) f is = go (only_whole_number (item d ds)) refl is
   where
-    go : (o : Option ℤ) → only_whole_number (item d ds) ≡ o → option_and_then (λ n. formula_named (Some n) word) o ≡ Some f → FormulaItems f (item (string word) (item d ds))
+    go : (o : Option ℤ) → only_whole_number (item d ds) ≡ o → option_and_then (λ n. formula_named (Some n) word) o ≡ Some f
+        → FormulaItems f (item (string word) (item d ds))
     go None e found = cc
     go (Some c) e found =
         let has = formula_named-has (Some c) word f found in
@@ -99,7 +100,8 @@ pub call_from-printed : (op : Op Formula) (ds : Items) → OpItems op ds → cal
 call_from-printed op no_items h = absurd h
 call_from-printed op (item word ds) h =
     ap (λ (w : Data). call_from Two (item w ds)) h.0
-    ∙ ap (λ o. option_and_then (only_of Two) (option_or (option_map call.Operator (option_and_then (λ a. op_named a (op_name op)) o)) (other_call_from (op_name op) ds)))
+    ∙ ap (λ o. option_and_then (only_of Two) (option_or (option_map call.Operator (option_and_then (λ a. op_named a (op_name op)) o))
+    (other_call_from (op_name op) ds)))
     (argument_of-printed (op_argument op) ds h.1)
     ∙ ap (λ o. option_and_then (only_of Two) (option_or (option_map call.Operator o) (other_call_from (op_name op) ds))) (op_named-own op)
 
@@ -118,7 +120,8 @@ alone-no_op : (s : StepCall) (ds : Items) (c : StepCall) → op_of_call s ≡ No
 alone-no_op s no_items c none is = let same : s ≡ c = cc in subst (λ (x : StepCall). op_of_call x ≡ None) same none
 alone-no_op s (item d ds) c none is = cc
 
-mapped-no_op : {A : Type 0} (make : A → StepCall) (o : Option A) (c : StepCall) → ((x : A) → op_of_call (make x) ≡ None) → option_map make o ≡ Some c → op_of_call c ≡ None
+mapped-no_op : {A : Type 0} (make : A → StepCall) (o : Option A) (c : StepCall) → ((x : A) → op_of_call (make x) ≡ None) → option_map make o ≡ Some c
+    → op_of_call c ≡ None
 mapped-no_op make None c none is = cc
 mapped-no_op make (Some x) c none is = let same : make x ≡ c = cc in subst (λ (y : StepCall). op_of_call y ≡ None) same (none x)
 
@@ -140,7 +143,8 @@ Prints c ds = IfSome (op_of_call c) (λ op. OpItems op ds)
 call_named-read : (word : List ℕ) (ds : Items) (c : StepCall) → call_named ds word ≡ Some c → Prints c (item (string word) ds)
 call_named-read word ds c is = go (op_from word ds) refl is
   where
-    go : (o : Option (Op Formula)) → op_from word ds ≡ o → option_or (option_map call.Operator o) (other_call_from word ds) ≡ Some c → Prints c (item (string word) ds)
+    go : (o : Option (Op Formula)) → op_from word ds ≡ o → option_or (option_map call.Operator o) (other_call_from word ds) ≡ Some c
+        → Prints c (item (string word) ds)
     go (Some op) e found =
         let same : call.Operator op ≡ c = cc in
         subst (λ (x : StepCall). Prints x (item (string word) ds)) same (op_from-read word ds op e)

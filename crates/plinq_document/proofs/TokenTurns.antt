@@ -1,5 +1,6 @@
 -- What one turn of a loop over tokens comes to.
-use Rattle.std.proofs.Common.{◌≡◌, ℕ, suc, ◌-◌, ◌^◌, ◌<◌, ◌≤◌, ℤ, List, [], ◌∷◌, ◌++◌, length, Option, Some, None, Ok, option_map, refl, ap, sym, ◌∙◌, append_assoc, append-nil, arith}
+use Rattle.std.proofs.Common.{◌≡◌, ℕ, suc, ◌-◌, ◌^◌, ◌<◌, ◌≤◌, ℤ, List, [], ◌∷◌, ◌++◌, length, Option, Some, None, Ok, option_map, refl, ap, sym, ◌∙◌}
+use Rattle.std.proofs.Common.{append_assoc, append-nil, arith}
 use Rattle.std.specs.Prelude.{option_and_then, codes, IfSome}
 use Rattle.json.specs.Token.{Token}
 use Rattle.json.specs.Json as json
@@ -32,7 +33,8 @@ converted-made f part made g same (Some p) = ap (option_map (λ b. (b, p.1))) (s
 pub converted-array : (o : Option (json.Items × List Token)) → converted of_json (parse_map json.array o) ≡ parse_map array (converted of_items o)
 converted-array = converted-made of_json of_items json.array array (λ js. refl)
 
-pub converted-object : (o : Option (json.Members × List Token)) → converted of_json (parse_map json.object o) ≡ parse_map object (converted (λ js. of_members js no_members) o)
+pub converted-object : (o : Option (json.Members × List Token))
+    → converted of_json (parse_map json.object o) ≡ parse_map object (converted (λ js. of_members js no_members) o)
 converted-object = converted-made of_json (λ js. of_members js no_members) json.object object (λ js. refl)
 
 abbrev the-first : {A : Type 0} → A → Option A → A
@@ -44,16 +46,19 @@ same-rest r s None b e = absurd (cc)
 same-rest r s (Some y) b e = let same = ap (the-first (y, r)) e in (ap (λ p. p.1) same, ap (λ p. Some p.0) same)
 
 -- a conversion that gives something was one of something
-pub converted-some : {A B : Type 0} (f : A → Option B) (o : Option (A × List Token)) (b : B) (r : List Token) → converted f o ≡ Some (b, r) → (a : A) × (o ≡ Some (a, r)) × (f a ≡ Some b)
+pub converted-some : {A B : Type 0} (f : A → Option B) (o : Option (A × List Token)) (b : B) (r : List Token) → converted f o ≡ Some (b, r)
+    → (a : A) × (o ≡ Some (a, r)) × (f a ≡ Some b)
 converted-some f None b r e = absurd (cc)
 converted-some f (Some p) b r e = let both = same-rest p.1 r (f p.0) b e in (p.0, ap (λ s. Some (p.0, s)) both.0, both.1)
 
 -- a whole text that reads as a value, and nothing after it
-pub whole-read : (o : Option (json.Json × List Token)) (d : Data) → converted of_json o ≡ Some (d, []) → option_and_then of_json (option_and_then (λ p. json.if_last p.0 p.1) o) ≡ Some d
+pub whole-read : (o : Option (json.Json × List Token)) (d : Data) → converted of_json o ≡ Some (d, [])
+    → option_and_then of_json (option_and_then (λ p. json.if_last p.0 p.1) o) ≡ Some d
 whole-read o d e = let j = converted-some of_json o d [] e in ap (λ q. option_and_then of_json (option_and_then (λ p. json.if_last p.0 p.1) q)) j.1 ∙ j.2
 
 -- a number's token is its number
-pub value-number : (depth : ℕ) (ts r : List Token) (s : List ℕ) (num : Num) → ts ≡ Token.number s ∷ r → number_of s ≡ Some num → converted of_json (value depth ts) ≡ Some (number num, r)
+pub value-number : (depth : ℕ) (ts r : List Token) (s : List ℕ) (num : Num) → ts ≡ Token.number s ∷ r → number_of s ≡ Some num
+    → converted of_json (value depth ts) ≡ Some (number num, r)
 value-number depth ts r s num first is = ap (converted of_json) (ap (value depth) first ∙ value_is depth _) ∙ rw is
 
 -- a text's token is its text
@@ -61,13 +66,16 @@ pub value-string : (depth : ℕ) (ts r : List Token) (s : List ℕ) → ts ≡ T
 value-string depth ts r s first = ap (converted of_json) (ap (value depth) first ∙ value_is depth _)
 
 -- the bracket that opens a list is followed by its items
-pub value-list : (depth : ℕ) (ts r : List Token) → 0 < depth → ts ≡ Token.begin_array ∷ r → converted of_json (value depth ts) ≡ parse_map array (converted of_items (items (value (depth - 1)) (length r) r))
-value-list depth ts r some first = ap (converted of_json) (ap (value depth) first ∙ value-begin_array depth r some) ∙ converted-array (items (value (depth - 1)) (length r) r)
+pub value-list : (depth : ℕ) (ts r : List Token) → 0 < depth → ts ≡ Token.begin_array ∷ r
+    → converted of_json (value depth ts) ≡ parse_map array (converted of_items (items (value (depth - 1)) (length r) r))
+value-list depth ts r some first =
+    ap (converted of_json) (ap (value depth) first ∙ value-begin_array depth r some) ∙ converted-array (items (value (depth - 1)) (length r) r)
 
 -- the brace that opens an object is followed by its members
 pub value-object : (depth : ℕ) (ts r : List Token) → 0 < depth → ts ≡ Token.begin_object ∷ r
     → converted of_json (value depth ts) ≡ parse_map object (converted (λ js. of_members js no_members) (members (value (depth - 1)) (length r) r))
-value-object depth ts r some first = ap (converted of_json) (ap (value depth) first ∙ value-begin_object depth r some) ∙ converted-object (members (value (depth - 1)) (length r) r)
+value-object depth ts r some first =
+    ap (converted of_json) (ap (value depth) first ∙ value-begin_object depth r some) ∙ converted-object (members (value (depth - 1)) (length r) r)
 
 -- ---- items
 
@@ -86,7 +94,8 @@ items_before-one : (vs : List Value) (v : Value) (rest : Items) → items_before
 items_before-one [] v rest = refl
 items_before-one (w ∷ vs) v rest = ap (item (view w)) (items_before-one vs v rest)
 
-joined-item : (vs : List Value) (v : Value) (o : Option (Items × List Token)) → parse_map (items_before vs) (parse_map (item (view v)) o) ≡ parse_map (items_before (vs ++ v ∷ [])) o
+joined-item : (vs : List Value) (v : Value) (o : Option (Items × List Token))
+    → parse_map (items_before vs) (parse_map (item (view v)) o) ≡ parse_map (items_before (vs ++ v ∷ [])) o
 joined-item vs v None = refl
 joined-item vs v (Some p) = ap (λ ds. Some (ds, p.1)) (items_before-one vs v p.0)
 
@@ -96,8 +105,10 @@ none-before None = refl
 none-before (Some p) = refl
 
 -- a value joins those before it
-pub items-turn : (depth k : ℕ) (ts r : List Token) (vs : List Value) (v : Value) → 0 < k → after_end_array ts ≡ None → converted of_json (value depth ts) ≡ Some (view v, r)
-    → parse_map (items_before vs) (converted of_items (items (value depth) k ts)) ≡ parse_map (items_before (vs ++ v ∷ [])) (converted of_items (items (value depth) (k - 1) r))
+pub items-turn : (depth k : ℕ) (ts r : List Token) (vs : List Value) (v : Value) → 0 < k → after_end_array ts ≡ None
+    → converted of_json (value depth ts) ≡ Some (view v, r)
+    → parse_map (items_before vs) (converted of_items (items (value depth) k ts)) ≡ parse_map (items_before (vs ++ v ∷ []))
+    (converted of_items (items (value depth) (k - 1) r))
 items-turn depth k ts r vs v some going read =
     let j = converted-some of_json (value depth ts) (view v) r read in
     ap (λ o. parse_map (items_before vs) (converted of_items o)) (items_more (value depth) k ts r j.0 some going j.1)
@@ -113,29 +124,35 @@ items-over depth k ts r vs enough over =
 
 -- ---- numbers
 
-numbers_in-item : (s : List ℕ) (num : Num) (n : ℤ) (js : json.Items) → number_of s ≡ Some num → as_i64 num ≡ Some n → numbers_in (json.item (json.number s) js) ≡ option_map (λ ns. n ∷ ns) (numbers_in js)
+numbers_in-item : (s : List ℕ) (num : Num) (n : ℤ) (js : json.Items) → number_of s ≡ Some num → as_i64 num ≡ Some n
+    → numbers_in (json.item (json.number s) js) ≡ option_map (λ ns. n ∷ ns) (numbers_in js)
 numbers_in-item s num n js is fits = rw is (by (of_items js))
   where
     by : (o : Option Items) → option_and_then whole_numbers (option_map (item (number num)) o) ≡ option_map (λ ns. n ∷ ns) (option_and_then whole_numbers o)
     by None = refl
     by (Some ds) = rw fits refl
 
-joined-number : (ns : List ℤ) (n : ℤ) (o : Option (List ℤ × List Token)) → parse_map (λ rest. ns ++ rest) (parse_map (λ rest. n ∷ rest) o) ≡ parse_map (λ rest. (ns ++ n ∷ []) ++ rest) o
+joined-number : (ns : List ℤ) (n : ℤ) (o : Option (List ℤ × List Token))
+    → parse_map (λ rest. ns ++ rest) (parse_map (λ rest. n ∷ rest) o) ≡ parse_map (λ rest. (ns ++ n ∷ []) ++ rest) o
 joined-number ns n None = refl
 joined-number ns n (Some p) = ap (λ rest. Some (rest, p.1)) (sym (append_assoc ns (n ∷ []) p.0))
 
 -- a number's token joins the numbers before it
-pub numbers-turn : (depth k : ℕ) (ts r : List Token) (s : List ℕ) (num : Num) (ns : List ℤ) (n : ℤ) → 0 < k → ts ≡ Token.number s ∷ r → number_of s ≡ Some num → as_i64 num ≡ Some n
-    → parse_map (λ rest. ns ++ rest) (converted numbers_in (items (value depth) k ts)) ≡ parse_map (λ rest. (ns ++ n ∷ []) ++ rest) (converted numbers_in (items (value depth) (k - 1) r))
+pub numbers-turn : (depth k : ℕ) (ts r : List Token) (s : List ℕ) (num : Num) (ns : List ℤ) (n : ℤ) → 0 < k → ts ≡ Token.number s ∷ r
+    → number_of s ≡ Some num → as_i64 num ≡ Some n
+    → parse_map (λ rest. ns ++ rest) (converted numbers_in (items (value depth) k ts)) ≡ parse_map (λ rest. (ns ++ n ∷ []) ++ rest)
+    (converted numbers_in (items (value depth) (k - 1) r))
 numbers-turn depth k ts r s num ns n some first is fits =
     let going : after_end_array ts ≡ None = ap after_end_array first in
     let valued : value depth ts ≡ Some (json.number s, r) = ap (value depth) first ∙ value_is depth _ in
     ap (λ o. parse_map (λ rest. ns ++ rest) (converted numbers_in o)) (items_more (value depth) k ts r (json.number s) some going valued)
-    ∙ ap (parse_map (λ rest. ns ++ rest)) (converted-made numbers_in numbers_in (json.item (json.number s)) (λ rest. n ∷ rest) (λ js. numbers_in-item s num n js is fits) _)
+    ∙ ap (parse_map (λ rest. ns ++ rest)) (converted-made numbers_in numbers_in (json.item (json.number s)) (λ rest. n ∷ rest)
+    (λ js. numbers_in-item s num n js is fits) _)
     ∙ joined-number ns n _
 
 -- the bracket that closes a list ends its numbers
-pub numbers-over : (depth k : ℕ) (ts r : List Token) (ns : List ℤ) → length ts ≤ k → ts ≡ Token.end_array ∷ r → parse_map (λ rest. ns ++ rest) (converted numbers_in (items (value depth) k ts)) ≡ Some (ns, r)
+pub numbers-over : (depth k : ℕ) (ts r : List Token) (ns : List ℤ) → length ts ≤ k → ts ≡ Token.end_array ∷ r
+    → parse_map (λ rest. ns ++ rest) (converted numbers_in (items (value depth) k ts)) ≡ Some (ns, r)
 numbers-over depth k ts r ns enough first =
     ap (λ o. parse_map (λ rest. ns ++ rest) (converted numbers_in o)) (items_end (value depth) k ts r enough (ap after_end_array first))
     ∙ ap (λ all. Some (all, r)) (append-nil ns)
@@ -156,24 +173,28 @@ of_members-member k j d old is None = refl
 of_members-member k j d old is (Some p) = rw is refl
 
 -- a member is put beside those before it
-pub members-turn : (depth k : ℕ) (ts s r : List Token) (name : List ℕ) (d : Data) (old : Members) → 0 < k → read_key ts ≡ Some (Some name, s) → converted of_json (value depth s) ≡ Some (d, r)
+pub members-turn : (depth k : ℕ) (ts s r : List Token) (name : List ℕ) (d : Data) (old : Members) → 0 < k → read_key ts ≡ Some (Some name, s)
+    → converted of_json (value depth s) ≡ Some (d, r)
     → converted (λ js. of_members js old) (members (value depth) k ts) ≡ converted (λ js. of_members js (put name d old)) (members (value depth) (k - 1) r)
 members-turn depth k ts s r name d old some named read =
     let j = converted-some of_json (value depth s) d r read in
     ap (converted (λ js. of_members js old)) (members_more (value depth) k name ts s r j.0 some named j.1) ∙ of_members-member name j.0 d old j.2 _
 
 -- the brace that closes an object ends its members
-pub members-over : (depth k : ℕ) (ts r : List Token) (old : Members) → length ts ≤ k → read_key ts ≡ Some (None, r) → converted (λ js. of_members js old) (members (value depth) k ts) ≡ Some (old, r)
+pub members-over : (depth k : ℕ) (ts r : List Token) (old : Members) → length ts ≤ k → read_key ts ≡ Some (None, r)
+    → converted (λ js. of_members js old) (members (value depth) k ts) ≡ Some (old, r)
 members-over depth k ts r old enough over = ap (converted (λ js. of_members js old)) (members_end (value depth) k ts r enough over)
 
 -- the only member of an object
-pub member-read : (ts r : List Token) (name : List ℕ) (d : Data) → Reads 125 ts d (Token.end_object ∷ r) → length r < length ts → ReadsMembers 125 (Token.key name ∷ ts) (member name d no_members) r
+pub member-read : (ts r : List Token) (name : List ℕ) (d : Data) → Reads 125 ts d (Token.end_object ∷ r) → length r < length ts
+    → ReadsMembers 125 (Token.key name ∷ ts) (member name d no_members) r
 member-read ts r name d read shorter =
     members-turn 125 (length (Token.key name ∷ ts)) (Token.key name ∷ ts) ts (Token.end_object ∷ r) name d no_members (omega arith) refl read
     ∙ members-over 125 (length (Token.key name ∷ ts) - 1) (Token.end_object ∷ r) r (member name d no_members) (omega (arith, shorter)) refl
 
 -- a list of numbers
-pub list-read : (ts list_left r : List Token) (ns : List ℤ) → ts ≡ Token.begin_array ∷ list_left → converted numbers_in (items (value 124) (length list_left) list_left) ≡ Some (ns, r)
+pub list-read : (ts list_left r : List Token) (ns : List ℤ) → ts ≡ Token.begin_array ∷ list_left
+    → converted numbers_in (items (value 124) (length list_left) list_left) ≡ Some (ns, r)
     → (ds : Items) × (converted of_json (value 125 ts) ≡ Some (array ds, r)) × (whole_numbers ds ≡ Some ns)
 list-read ts list_left r ns first read =
     let js = converted-some numbers_in (items (value 124) (length list_left) list_left) ns r read in
@@ -181,11 +202,17 @@ list-read ts list_left r ns first read =
     let all : converted of_items (items (value 124) (length list_left) list_left) ≡ Some (is.0, r) = ap (converted of_items) js.1 ∙ rw is.1 in
     (is.0, value-list 125 ts list_left (omega arith) first ∙ ap (parse_map array) all, is.2)
 
-list-members-after : (refusal : Option ℕ) (ts left r : List Token) (ds : Items) → Reads 125 ts (array ds) left → length left < length ts → EndsList refusal left r
-    → (ms : Members) × ReadsMembers 125 (Token.key (codes "list") ∷ ts) ms r × ((version : Version) → source_of version (object ms) ≡ list_source refusal (array ds))
+list-members-after : (refusal : Option ℕ) (ts left r : List Token) (ds : Items) → Reads 125 ts (array ds) left → length left < length ts
+    → EndsList refusal left r
+    → (ms : Members) × ReadsMembers 125 (Token.key (codes "list") ∷ ts) ms r × ((version : Version) → source_of version (object ms)
+    ≡ list_source refusal (array ds))
 list-members-after None ts left r ds read shorter over =
-    let fewer : length left ≡ suc (length r) = ap length over in
-    (member (codes "list") (array ds) no_members, member-read ts r (codes "list") (array ds) (read ∙ ap (λ rest. Some (array ds, rest)) over) (omega (arith, shorter, fewer)), λ version. list-alone version (array ds))
+    let fewer : length left ≡ suc (length r) = ap length over in (
+      member (codes "list") (array ds) no_members,
+      member-read ts r (codes "list") (array ds) (read ∙ ap (λ rest. Some (array ds, rest)) over)
+          (omega (arith, shorter, fewer)),
+      λ version. list-alone version (array ds),
+    )
 list-members-after (Some code) ts left r ds read shorter over =
     let s = over.0 in
     let n = over.1 in
@@ -195,21 +222,26 @@ list-members-after (Some code) ts left r ds read shorter over =
     let all = length (Token.key (codes "list") ∷ ts) in (
       member (codes "list") (array ds) (member (codes "refuse") (number n) no_members),
       members-turn 125 all (Token.key (codes "list") ∷ ts) ts left (codes "list") (array ds) no_members (omega arith) refl read
-          ∙ members-turn 125 (all - 1) left after (Token.end_object ∷ r) (codes "refuse") (number n) listed (omega (arith, shorter)) (ap read_key over.2) (value-number 125 after (Token.end_object ∷ r) s n refl over.3)
+          ∙ members-turn 125 (all - 1) left after (Token.end_object ∷ r) (codes "refuse") (number n) listed (omega (arith, shorter)) (ap read_key over.2)
+          (value-number 125 after (Token.end_object ∷ r) s n refl over.3)
           ∙ members-over 125 (all - 1 - 1) (Token.end_object ∷ r) r (put (codes "refuse") (number n) listed) (omega (arith, shorter, fewer)) refl,
       λ version. list-refusing version (array ds) (number n) code over.4,
     )
 
 -- a list's numbers, and how it ends, as the members of a source
-pub list-members : (refusal : Option ℕ) (ts left r : List Token) (ds : Items) (ns : List ℤ) → Reads 125 ts (array ds) left → length left < length ts → EndsList refusal left r → whole_numbers ds ≡ Some ns → length ns ≤ 2 ^ 40
-    → (ms : Members) × ReadsMembers 125 (Token.key (codes "list") ∷ ts) ms r × ((version : Version) → source_of version (object ms) ≡ Ok (ended_trace ns (list_ending refusal)))
+pub list-members : (refusal : Option ℕ) (ts left r : List Token) (ds : Items) (ns : List ℤ) → Reads 125 ts (array ds) left → length left < length ts
+    → EndsList refusal left r → whole_numbers ds ≡ Some ns → length ns ≤ 2 ^ 40
+    → (ms : Members) × ReadsMembers 125 (Token.key (codes "list") ∷ ts) ms r × ((version : Version) → source_of version (object ms)
+    ≡ Ok (ended_trace ns (list_ending refusal)))
 list-members refusal ts left r ds ns read shorter over is few =
     let found = list-members-after refusal ts left r ds read shorter over in
     (found.0, found.1, λ version. found.2 version ∙ list_source-numbers refusal ds ns is few)
 
 -- a source that was read after its first name, as the object that has it
-pub made-source : (ts name_left left r : List Token) (name : List ℕ) (source : Option PlainSource) → ts ≡ Token.begin_object ∷ name_left → name_left ≡ Token.key name ∷ left
-    → IfSome source (λ s. (ms : Members) × ReadsMembers 125 (Token.key name ∷ left) ms r × IsSourceOf s (object ms)) → IfSome source (λ s. (d : Data) × Reads 126 ts d r × IsSourceOf s d)
+pub made-source : (ts name_left left r : List Token) (name : List ℕ) (source : Option PlainSource) → ts ≡ Token.begin_object ∷ name_left
+    → name_left ≡ Token.key name ∷ left
+    → IfSome source (λ s. (ms : Members) × ReadsMembers 125 (Token.key name ∷ left) ms r × IsSourceOf s (object ms))
+    → IfSome source (λ s. (d : Data) × Reads 126 ts d r × IsSourceOf s d)
 made-source ts name_left left r name None first second found = tt
 made-source ts name_left left r name (Some s) first second found =
     let whole : ts ≡ Token.begin_object ∷ Token.key name ∷ left = first ∙ ap (λ rest. Token.begin_object ∷ rest) second in

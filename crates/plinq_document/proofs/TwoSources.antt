@@ -1,5 +1,6 @@
 -- A source of a document has no more items than its bound, and so two of few together have few.
-use Rattle.std.proofs.Common.{◌≡◌, ◌≤◌, ℕ, ◌+◌, ◌^◌, ℤ, Bool, true, false, List, [], ◌∷◌, length, Option, Some, None, Result, Ok, Err, option_map, refl, ap, ◌∙◌, arith}
+use Rattle.std.proofs.Common.{◌≡◌, ◌≤◌, ℕ, ◌+◌, ◌^◌, ℤ, Bool, true, false, List, [], ◌∷◌, length, Option, Some, None, Result, Ok, Err, option_map}
+use Rattle.std.proofs.Common.{refl, ap, ◌∙◌, arith}
 use Rattle.std.proofs.lemmas.Bool.Decides.{nat_tests}
 use Rattle.std.proofs.Math.ListN.{length-replicate}
 use Rattle.std.specs.Prelude.{if◌then◌else◌, option_and_then, nat_le, ◌&&◌, replicate, codes}
@@ -15,7 +16,9 @@ use Rattle.plinq_source.specs.declared.ending.Ending.TheVariants.{End}
 use Rattle.plinq_source.proofs.Walks.{length-range_items}
 use Rattle.plinq_document.specs.JsonValues.{whole_number, only_count, items_len}
 use Rattle.plinq_document.specs.Results.{◌>>=◌, or_shape}
-use Rattle.plinq_document.specs.Sources.{source_name, whole_numbers, few_numbers, list_source, text_source, range_trace, repeat_trace, of_number_and_count, plain_source_named, code_of, plain_source_from, plain_source_of, count_after, bound_named, bound_from, bound_of, few_together}
+use Rattle.plinq_document.specs.Sources.{source_name, whole_numbers, few_numbers, list_source, text_source, range_trace, repeat_trace}
+use Rattle.plinq_document.specs.Sources.{of_number_and_count, plain_source_named, code_of, plain_source_from, plain_source_of, count_after}
+use Rattle.plinq_document.specs.Sources.{bound_named, bound_from, bound_of, few_together}
 use Rattle.plinq_document.specs.declared.source_name.SourceName.{SourceName}
 use Rattle.plinq_document.specs.declared.source_name.SourceName.TheVariants.{List as ListName, Text as TextName, Range as RangeName, Repeat as RepeatName}
 use Rattle.plinq_document.specs.declared.doc_fault.DocFault.{DocFault}
@@ -31,18 +34,22 @@ length-whole_numbers (item d ds) ns is = by (whole_number d) (whole_numbers ds) 
     by (Some x) None k h ns is = absurd (cc)
     by (Some x) (Some ms) k h ns is = let e : ns ≡ x ∷ ms = cc in omega (arith, ap length e, h ms refl)
 
-few-list : (refusal : Option ℕ) (d : Data) (t : Trace ℤ) (m : ℕ) → list_source refusal d ≡ Ok t → option_map items_len (as_array d) ≡ Some m → length t.items ≤ m
+few-list : (refusal : Option ℕ) (d : Data) (t : Trace ℤ) (m : ℕ) → list_source refusal d ≡ Ok t → option_map items_len (as_array d) ≡ Some m
+    → length t.items ≤ m
 few-list refusal d t m is at = by (as_array d) is at
   where
-    made : (b : Bool) (ns : List ℤ) → ((if b then Ok ns else Err Source) >>= λ xs. Ok (ended_trace xs (list_ending refusal))) ≡ Ok t → length t.items ≡ length ns
+    made : (b : Bool) (ns : List ℤ) → ((if b then Ok ns else Err Source) >>= λ xs. Ok (ended_trace xs (list_ending refusal))) ≡ Ok t
+        → length t.items ≡ length ns
     made true ns is = let e : t ≡ ended_trace ns (list_ending refusal) = cc in ap (λ s. length s.items) e
     made false ns is = absurd (cc)
 
-    of : (o : Option (List ℤ)) (k : ℕ) → ((ns : List ℤ) → o ≡ Some ns → length ns ≡ k) → (or_shape o >>= few_numbers >>= λ xs. Ok (ended_trace xs (list_ending refusal))) ≡ Ok t → length t.items ≡ k
+    of : (o : Option (List ℤ)) (k : ℕ) → ((ns : List ℤ) → o ≡ Some ns → length ns ≡ k)
+        → (or_shape o >>= few_numbers >>= λ xs. Ok (ended_trace xs (list_ending refusal))) ≡ Ok t → length t.items ≡ k
     of None k h is = absurd (cc)
     of (Some ns) k h is = made (nat_le (length ns) (2 ^ 40)) ns is ∙ h ns refl
 
-    by : (o : Option Items) → (or_shape (option_and_then whole_numbers o) >>= few_numbers >>= λ xs. Ok (ended_trace xs (list_ending refusal))) ≡ Ok t → option_map items_len o ≡ Some m → length t.items ≤ m
+    by : (o : Option Items) → (or_shape (option_and_then whole_numbers o) >>= few_numbers >>= λ xs. Ok (ended_trace xs (list_ending refusal))) ≡ Ok t
+        → option_map items_len o ≡ Some m → length t.items ≤ m
     by None is at = absurd (cc)
     by (Some ds) is at = let e : items_len ds ≡ m = cc in omega (arith, e, of (whole_numbers ds) (items_len ds) (length-whole_numbers ds) is)
 
@@ -96,7 +103,8 @@ few-refusing true true None other d t m is at = absurd (cc)
 few-refusing true false code other d t m is at = absurd (cc)
 few-refusing false c code other d t m is at = absurd (cc)
 
-few-members : (o : Option Members) (t : Trace ℤ) (m : ℕ) → (or_shape o >>= plain_source_from) ≡ Ok t → option_and_then bound_from o ≡ Some m → length t.items ≤ m
+few-members : (o : Option Members) (t : Trace ℤ) (m : ℕ) → (or_shape o >>= plain_source_from) ≡ Ok t → option_and_then bound_from o ≡ Some m
+    → length t.items ≤ m
 few-members None t m is at = absurd (cc)
 few-members (Some no_members) t m is at = absurd (cc)
 few-members (Some (member name d no_members)) t m is at = by (source_name name) is at
@@ -112,11 +120,13 @@ pub few-plain : (d : Data) (t : Trace ℤ) (m : ℕ) → plain_source_of d ≡ O
 few-plain d t m is at = few-members (as_object d) t m is at
 
 -- sources of such bounds fit into one
-pub few-both : (first second : Data) (a b : Trace ℤ) → plain_source_of first ≡ Ok a → plain_source_of second ≡ Ok b → few_together (bound_of first) (bound_of second) ≡ true → length a.items + length b.items ≤ 2 ^ 40
+pub few-both : (first second : Data) (a b : Trace ℤ) → plain_source_of first ≡ Ok a → plain_source_of second ≡ Ok b
+    → few_together (bound_of first) (bound_of second) ≡ true → length a.items + length b.items ≤ 2 ^ 40
 few-both first second a b is_first is_second few =
     by (bound_of first) (bound_of second) (λ m at. few-plain first a m is_first at) (λ n at. few-plain second b n is_second at) few
   where
-    by : (o p : Option ℕ) → ((m : ℕ) → o ≡ Some m → length a.items ≤ m) → ((n : ℕ) → p ≡ Some n → length b.items ≤ n) → few_together o p ≡ true → length a.items + length b.items ≤ 2 ^ 40
+    by : (o p : Option ℕ) → ((m : ℕ) → o ≡ Some m → length a.items ≤ m) → ((n : ℕ) → p ≡ Some n → length b.items ≤ n) → few_together o p ≡ true
+        → length a.items + length b.items ≤ 2 ^ 40
     by None p f g few = absurd (cc)
     by (Some m) None f g few = absurd (cc)
     by (Some m) (Some n) f g few =

@@ -16,15 +16,24 @@ module _ {K A : Type 0} (eq : K → K → Bool) (k : K) (filler new : A) (change
   changed None = new
   changed (Some a) = change a
 
-  placed_groups-put : (es : List (K × A)) → set_value_at (insert_entry eq es k filler) (position_or_len (eq k) (keys_of es)) (changed (lookup (eq k) es)) ≡ placed_groups eq k new change es
+  placed_groups-put : (es : List (K × A))
+      → set_value_at (insert_entry eq es k filler) (position_or_len (eq k) (keys_of es)) (changed (lookup (eq k) es)) ≡ placed_groups eq k new change es
   placed_groups-put [] = refl
   placed_groups-put (e ∷ es) =
-      let here : (b : Bool) → set_value_at (if b then (e.0, filler) ∷ es else e ∷ insert_entry eq es k filler) (cond (not b) (1 + position_or_len (eq k) (keys_of es)) 0) (changed (cond b (Some e.1) (lookup (eq k) es)))
-      ≡ cond b ((e.0, change e.1) ∷ es) (e ∷ placed_groups eq k new change es) = elim [ true ↦ refl | false ↦ set-later e (insert_entry eq es k filler) (position_or_len (eq k) (keys_of es)) (changed (lookup (eq k) es)) ∙ ap (λ l. e ∷ l) (placed_groups-put es) ] in
+      let here : (b : Bool)
+      → set_value_at (if b then (e.0, filler) ∷ es else e ∷ insert_entry eq es k filler) (cond (not b) (1 + position_or_len (eq k) (keys_of es)) 0)
+      (changed (cond b (Some e.1) (lookup (eq k) es)))
+      ≡ cond b ((e.0, change e.1) ∷ es) (e ∷ placed_groups eq k new change es) =
+      elim [
+        | true ↦ refl
+        | false ↦ set-later e (insert_entry eq es k filler) (position_or_len (eq k) (keys_of es)) (changed (lookup (eq k) es))
+            ∙ ap (λ l. e ∷ l) (placed_groups-put es)
+      ] in
       here (eq k e.0)
 
   -- a value was put at the place of a key that was inserted
-  pub put-placed_groups : (es : List (K × A)) (i : ℕ) (old : Option A) (w : A) → i ≡ position_or_len (eq k) (keys_of es) → old ≡ lookup (eq k) es → w ≡ changed old
+  pub put-placed_groups : (es : List (K × A)) (i : ℕ) (old : Option A) (w : A) → i ≡ position_or_len (eq k) (keys_of es) → old ≡ lookup (eq k) es
+      → w ≡ changed old
       → set_value_at (insert_entry eq es k filler) i w ≡ placed_groups eq k new change es
   put-placed_groups es i old w at was is =
       ap (λ n. set_value_at (insert_entry eq es k filler) n w) at
@@ -37,7 +46,8 @@ module _ {K T A O : Type 0} (eq : K → K → Bool) (key : T → K) (f : Folding
   updated x (Some a) = refl
 
   -- an item was taken in
-  pub takes-item : (es es' : List (K × A)) (x : T) (k : K) (filler : A) (i : ℕ) (old : Option A) (w : A) → k ≡ key x → i ≡ position_or_len (eq k) (keys_of es) → old ≡ lookup (eq k) es
+  pub takes-item : (es es' : List (K × A)) (x : T) (k : K) (filler : A) (i : ℕ) (old : Option A) (w : A) → k ≡ key x
+      → i ≡ position_or_len (eq k) (keys_of es) → old ≡ lookup (eq k) es
       → w ≡ f.update (unwrap_or old f.seed) x → es' ≡ set_value_at (insert_entry eq es k filler) i w → es' ≡ with_item eq key f es x
   takes-item es es' x k filler i old w own at was is becomes =
       becomes
@@ -45,7 +55,8 @@ module _ {K T A O : Type 0} (eq : K → K → Bool) (key : T → K) (f : Folding
       ∙ ap (λ j. placed_groups eq j (f.update f.seed x) (λ a. f.update a x) es) own
 
   -- so the groups are those of one item more
-  pub takes-next : (acc es es' : List (K × A)) (block : List T) (i : ℕ) (x : T) → take (i + 1) block ≡ take i block ++ x ∷ [] → es ≡ fold (with_item eq key f) acc (take i block)
+  pub takes-next : (acc es es' : List (K × A)) (block : List T) (i : ℕ) (x : T) → take (i + 1) block ≡ take i block ++ x ∷ []
+      → es ≡ fold (with_item eq key f) acc (take i block)
       → es' ≡ with_item eq key f es x → es' ≡ fold (with_item eq key f) acc (take (i + 1) block)
   takes-next acc es es' block i x more before becomes =
       becomes
@@ -53,7 +64,8 @@ module _ {K T A O : Type 0} (eq : K → K → Bool) (key : T → K) (f : Folding
       ∙ sym (ap (λ l. fold (with_item eq key f) acc l) more ∙ fold-append (with_item eq key f) acc (take i block) (x ∷ []))
 
   -- a group of later items was taken in
-  pub takes-group : (es es' : List (K × A)) (k : K) (a filler : A) (i : ℕ) (old : Option A) (w : A) → i ≡ position_or_len (eq k) (keys_of es) → old ≡ lookup (eq k) es
+  pub takes-group : (es es' : List (K × A)) (k : K) (a filler : A) (i : ℕ) (old : Option A) (w : A) → i ≡ position_or_len (eq k) (keys_of es)
+      → old ≡ lookup (eq k) es
       → w ≡ changed eq k filler a (λ b. f.combine b a) old → es' ≡ set_value_at (insert_entry eq es k filler) i w → es' ≡ with_group eq key f es (k, a)
   takes-group es es' k a filler i old w at was is becomes = becomes ∙ put-placed_groups eq k filler a (λ b. f.combine b a) es i old w at was is
 

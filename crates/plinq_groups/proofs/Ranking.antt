@@ -13,7 +13,8 @@ module _ {T K : Type 0} (rank : T → K) (cmp : K → K → Ordering) where
   StandsAfter ys x i = with_ranked rank cmp ys x ≡ take i ys ++ with_ranked rank cmp (drop i ys) x
 
   -- nor is one more
-  pub stands-later : (ys : List T) (x y : T) (i : ℕ) → i < length ys → y ≡ get_or ys i y → is_lt (cmp (rank y) (rank x)) ≡ false → StandsAfter ys x i → StandsAfter ys x (i + 1)
+  pub stands-later : (ys : List T) (x y : T) (i : ℕ) → i < length ys → y ≡ get_or ys i y → is_lt (cmp (rank y) (rank x)) ≡ false → StandsAfter ys x i
+      → StandsAfter ys x (i + 1)
   stands-later ys x y i small is keeps so =
       let one : drop i ys ≡ y ∷ drop (i + 1) ys = drop_more ys i y small ∙ ap (λ z. z ∷ drop (i + 1) ys) (sym is) in
       let more : take (i + 1) ys ≡ take i ys ++ y ∷ [] = take_more ys i y small ∙ ap (λ z. take i ys ++ z ∷ []) (sym is) in
@@ -24,7 +25,8 @@ module _ {T K : Type 0} (rank : T → K) (cmp : K → K → Ordering) where
       ∙ ap (λ l. l ++ with_ranked rank cmp (drop (i + 1) ys) x) (sym more)
 
   -- one that is has it stand here
-  pub stands-here : (ys : List T) (x y : T) (i : ℕ) → i < length ys → y ≡ get_or ys i y → is_lt (cmp (rank y) (rank x)) ≡ true → StandsAfter ys x i → with_ranked rank cmp ys x ≡ insert ys i x
+  pub stands-here : (ys : List T) (x y : T) (i : ℕ) → i < length ys → y ≡ get_or ys i y → is_lt (cmp (rank y) (rank x)) ≡ true → StandsAfter ys x i
+      → with_ranked rank cmp ys x ≡ insert ys i x
   stands-here ys x y i small is lesser so =
       let one : drop i ys ≡ y ∷ drop (i + 1) ys = drop_more ys i y small ∙ ap (λ z. z ∷ drop (i + 1) ys) (sym is) in
       so
@@ -39,7 +41,8 @@ module _ {T K : Type 0} (rank : T → K) (cmp : K → K → Ordering) where
       so ∙ ap (λ l. take i ys ++ with_ranked rank cmp l x) none ∙ ap (λ l. take i ys ++ x ∷ l) (sym none)
 
   -- where it stands after the first n, these stay
-  pub stays-top : (n : ℕ) (ys : List T) (x : T) (i : ℕ) → n ≤ i → i ≤ length ys → with_ranked rank cmp ys x ≡ insert ys i x → take n ys ≡ with_top rank cmp n ys x
+  pub stays-top : (n : ℕ) (ys : List T) (x : T) (i : ℕ) → n ≤ i → i ≤ length ys → with_ranked rank cmp ys x ≡ insert ys i x
+      → take n ys ≡ with_top rank cmp n ys x
   stays-top n ys x i after within is =
       let long : n ≤ length (take i ys) = omega (arith, after, length-take-le i ys within) in
       ap (take n) (sym (take-append-drop i ys))

@@ -1,7 +1,9 @@
 -- Numbers of which none comes twice: joined lists, lists that rise, and that n such numbers below n are all of them.
-use Rattle.std.proofs.Common.{◌≡◌, ℕ, zero, suc, ◌+◌, ◌<◌, ◌≤◌, Bool, true, false, not, ◌&&◌, ◌||◌, ltb, leb, eqb, List, [], ◌∷◌, ◌++◌, length, refl, sym, ap, ◌∙◌, arith, inl, inr}
+use Rattle.std.proofs.Common.{◌≡◌, ℕ, zero, suc, ◌+◌, ◌<◌, ◌≤◌, Bool, true, false, not, ◌&&◌, ◌||◌, ltb, leb, eqb, List, [], ◌∷◌, ◌++◌, length, refl}
+use Rattle.std.proofs.Common.{sym, ap, ◌∙◌, arith, inl, inr}
 use Rattle.std.specs.List.{list_all, range_with_len, IsDistinct, AllByRecursion}
-use Rattle.std.proofs.lemmas.Bool.{and_parts, and_from, or_parts, or_from, or_cases, ltb-true, lt-ltb, leb-true, le-leb, eqb-true, ne_eqb, not-true, not_from_false, cases_Bool, false≢true}
+use Rattle.std.proofs.lemmas.Bool.{and_parts, and_from, or_parts, or_from, or_cases, ltb-true, lt-ltb, leb-true, le-leb, eqb-true, ne_eqb, not-true}
+use Rattle.std.proofs.lemmas.Bool.{not_from_false, cases_Bool, false≢true}
 use Rattle.std.proofs.lemmas.List.Folds.{list_any-append}
 use Rattle.std.proofs.lemmas.Map.Steps.{length-le_from_distinct_below}
 use Rattle.plinq_keyed.specs.Keys.{is_among, are_distinct, rises_from, rises, counts_up}
@@ -113,7 +115,8 @@ is_among-full ks q below once h =
       | inr none ↦
           let more : are_distinct (q ∷ ks) ≡ true = and_from _ _ (not_from_false _ none) once in
           let all : all_below (length ks) (q ∷ ks) ≡ true = and_from _ _ (lt-ltb q (length ks) h) below in
-          let few = length-le_from_distinct_below (q ∷ ks) (length ks) (IsDistinct-from_distinct (q ∷ ks) more) (λ j m. below-at (length ks) j (q ∷ ks) all m) in
+          let few =
+          length-le_from_distinct_below (q ∷ ks) (length ks) (IsDistinct-from_distinct (q ∷ ks) more) (λ j m. below-at (length ks) j (q ∷ ks) all m) in
           absurd (omega arith)
     ]
 

@@ -1,5 +1,6 @@
 -- How a history grows by a record, what it then hands out, and that its items don't matter.
-use Rattle.std.proofs.Common.{◌≡◌, ℕ, suc, ◌+◌, ◌-◌, ◌<◌, ◌≤◌, ◌==◌, min, true, false, ◌&&◌, cond, ltb, leb, List, [], ◌∷◌, ◌++◌, length, take, drop, map, Option, Some, None, refl, sym, ap, ◌∙◌, arith, append_assoc, add-zero, length-drop}
+use Rattle.std.proofs.Common.{◌≡◌, ℕ, suc, ◌+◌, ◌-◌, ◌<◌, ◌≤◌, ◌==◌, min, true, false, ◌&&◌, cond, ltb, leb, List, [], ◌∷◌, ◌++◌, length, take, drop}
+use Rattle.std.proofs.Common.{map, Option, Some, None, refl, sym, ap, ◌∙◌, arith, append_assoc, add-zero, length-drop}
 use Rattle.std.proofs.Math.Bool.{and_assoc, and-true}
 use Rattle.std.proofs.lemmas.Bool.{and_parts, and_from, ltb-true, lt-ltb, le-leb, eqb-true, eq-eqb}
 use Rattle.std.proofs.lemmas.List.{length-take, length-take-le, length-replicate, append-nil, map-append}
@@ -11,13 +12,17 @@ use Rattle.plinq_keyed.specs.declared.event.Event.{Event}
 use Rattle.plinq_keyed.specs.declared.event.Event.TheVariants.{Ask, Close}
 use Rattle.plinq_keyed.specs.declared.record.Record.{Record}
 use Rattle.plinq_keyed.specs.Keys.{keyed_from, rises_from, rises}
-use Rattle.plinq_keyed.specs.History.{Place, start, Reply, reply, no_items, next_items, next_place, place_after, request_record, same_way, same_tail, tells, is_run, is_legal_history, IsLegalHistory, next_record, with_next, tickets_below, handed_out, IsPrefix, some_source, ending_tail, record_items}
+use Rattle.plinq_keyed.specs.History.{Place, start, Reply, reply, no_items, next_items, next_place, place_after, request_record, same_way, same_tail}
+use Rattle.plinq_keyed.specs.History.{tells, is_run, is_legal_history, IsLegalHistory, next_record, with_next, tickets_below, handed_out, IsPrefix}
+use Rattle.plinq_keyed.specs.History.{some_source, ending_tail, record_items}
 
-pub place_after-append : {T : Type 0} (t : Trace T) (p : Place) (h : List Record) (r : Record) → place_after t p (h ++ r ∷ []) ≡ next_place t (place_after t p h) r.asked
+pub place_after-append : {T : Type 0} (t : Trace T) (p : Place) (h : List Record) (r : Record)
+    → place_after t p (h ++ r ∷ []) ≡ next_place t (place_after t p h) r.asked
 place_after-append t p [] r = refl
 place_after-append t p (x ∷ h) r = place_after-append t (next_place t p x.asked) h r
 
-pub is_run-append : {T : Type 0} (t : Trace T) (p : Place) (h : List Record) (r : Record) → is_run t p (h ++ r ∷ []) ≡ (is_run t p h && tells r (reply t (place_after t p h) r.asked))
+pub is_run-append : {T : Type 0} (t : Trace T) (p : Place) (h : List Record) (r : Record)
+    → is_run t p (h ++ r ∷ []) ≡ (is_run t p h && tells r (reply t (place_after t p h) r.asked))
 is_run-append t p [] r = and-true (tells r (reply t p r.asked))
 is_run-append t p (x ∷ h) r =
     ap (λ b. tells x (reply t p x.asked) && b) (is_run-append t (next_place t p x.asked) h r)
@@ -51,7 +56,8 @@ tells-request_record k e a =
     and_from _ _ (and_from _ _ (eq-eqb a.first a.first refl) (eq-eqb (length a.items) (length a.items) refl)) (same_tail-refl a.tail)
 
 -- after numbers that rise, and are below it, a number rises too
-rises_from-append : (least : ℕ) (ks : List Record) (k : ℕ) → least ≤ k → rises_from least (map (λ r. r.ticket) ks) ≡ true → tickets_below k ks ≡ true → rises_from least (map (λ r. r.ticket) ks ++ k ∷ []) ≡ true
+rises_from-append : (least : ℕ) (ks : List Record) (k : ℕ) → least ≤ k → rises_from least (map (λ r. r.ticket) ks) ≡ true → tickets_below k ks ≡ true
+    → rises_from least (map (λ r. r.ticket) ks ++ k ∷ []) ≡ true
 rises_from-append least [] k h e f = and_from _ _ (le-leb least k h) refl
 rises_from-append least (x ∷ ks) k h e f =
     let e' = and_parts (leb least x.ticket) _ e in
@@ -60,7 +66,8 @@ rises_from-append least (x ∷ ks) k h e f =
     and_from _ _ e'.0 (rises_from-append (x.ticket + 1) ks k (omega arith) e'.1 f'.1)
 
 -- a legal history stays legal with the record of one more request, under a ticket above all
-pub IsLegalHistory-append : {T : Type 0} (t : Trace T) (h : List Record) (k : ℕ) (e : Event) → IsLegalHistory t h → tickets_below k h ≡ true → IsLegalHistory t (h ++ next_record t h k e ∷ [])
+pub IsLegalHistory-append : {T : Type 0} (t : Trace T) (h : List Record) (k : ℕ) (e : Event) → IsLegalHistory t h → tickets_below k h ≡ true
+    → IsLegalHistory t (h ++ next_record t h k e ∷ [])
 IsLegalHistory-append t h k e legal below =
     let r = next_record t h k e in
     let parts = and_parts (is_run t start h) _ legal in
@@ -115,7 +122,8 @@ keyed_from-append k (x ∷ xs) ys =
     ap (λ zs. record { key = k; value = x } ∷ zs) (keyed_from-append (k + 1) xs ys ∙ ap (λ j. keyed_from (k + 1) xs ++ keyed_from j ys) e)
 
 -- the first g elements, and m from place g on, are the first g + m
-keyed_from-take : {T : Type 0} (xs : List T) (g m : ℕ) → g ≤ length xs → keyed_from 0 (take (g + m) xs) ≡ keyed_from 0 (take g xs) ++ keyed_from g (take m (drop g xs))
+keyed_from-take : {T : Type 0} (xs : List T) (g m : ℕ) → g ≤ length xs
+    → keyed_from 0 (take (g + m) xs) ≡ keyed_from 0 (take g xs) ++ keyed_from g (take m (drop g xs))
 keyed_from-take xs g m within =
     let e : 0 + length (take g xs) ≡ g = omega (arith, length-take-le g xs within) in
     ap (keyed_from 0) (take-add g m xs)
@@ -124,7 +132,8 @@ keyed_from-take xs g m within =
 
 -- from a place on, a run hands out what stands between that place and the one after it
 handed_out-run : {T : Type 0} (t : Trace T) (p : Place) (h : List Record) → p.given ≤ length t.items → is_run t p h ≡ true →
-    (keyed_from 0 (take p.given t.items) ++ handed_out t h ≡ keyed_from 0 (take (place_after t p h).given t.items)) × ((place_after t p h).given ≤ length t.items)
+    (keyed_from 0 (take p.given t.items) ++ handed_out t h ≡ keyed_from 0 (take (place_after t p h).given t.items))
+    × ((place_after t p h).given ≤ length t.items)
 handed_out-run t p [] within run = (append-nil _, within)
 handed_out-run t p (r ∷ h) within run =
     let parts = and_parts (tells r (reply t p r.asked)) _ run in
@@ -150,9 +159,11 @@ IsPrefix-from_legal t h legal =
     let done = handed_out-run t start h (omega arith) run.0 in
     record { prefix = done.0; within = done.1 }
 
-length-reply-alike : {T U : Type 0} (t : Trace T) (u : Trace U) (p : Place) (e : Event) → length t.items ≡ length u.items → length (reply t p e).items ≡ length (reply u p e).items
+length-reply-alike : {T U : Type 0} (t : Trace T) (u : Trace U) (p : Place) (e : Event) → length t.items ≡ length u.items
+    → length (reply t p e).items ≡ length (reply u p e).items
 length-reply-alike t u p (Ask n) l =
-    elim p.closed as (λ c. length (cond c (no_items p.given) (next_items t p.given n)).items ≡ length (cond c (no_items p.given) (next_items u p.given n)).items) [
+    elim p.closed as (λ c. length (cond c (no_items p.given) (next_items t p.given n)).items
+    ≡ length (cond c (no_items p.given) (next_items u p.given n)).items) [
       | true ↦ refl
       | false ↦ length-take n (drop p.given t.items)
           ∙ ap (min n) (length-drop p.given t.items ∙ ap (λ k. k - p.given) l ∙ sym (length-drop p.given u.items))
@@ -160,7 +171,8 @@ length-reply-alike t u p (Ask n) l =
     ]
 length-reply-alike t u p Close l = refl
 
-reply-tail-alike : {T U : Type 0} (t : Trace T) (u : Trace U) (p : Place) (e : Event) → length t.items ≡ length u.items → t.ending ≡ u.ending → (reply t p e).tail ≡ (reply u p e).tail
+reply-tail-alike : {T U : Type 0} (t : Trace T) (u : Trace U) (p : Place) (e : Event) → length t.items ≡ length u.items → t.ending ≡ u.ending
+    → (reply t p e).tail ≡ (reply u p e).tail
 reply-tail-alike t u p (Ask n) l e =
     elim p.closed as (λ c. (cond c (no_items p.given) (next_items t p.given n)).tail ≡ (cond c (no_items p.given) (next_items u p.given n)).tail) [
       | true ↦ refl
@@ -172,26 +184,32 @@ next_place-alike : {T U : Type 0} (t : Trace T) (u : Trace U) (p : Place) (e : E
 next_place-alike t u p (Ask n) l = ap (λ (m : ℕ). let q : Place = record { given = p.given + m; closed = p.closed } in q) (length-reply-alike t u p (Ask n) l)
 next_place-alike t u p Close l = refl
 
-tells-alike : {T U : Type 0} (r : Record) (a : Reply T) (b : Reply U) → a.first ≡ b.first → length a.items ≡ length b.items → a.tail ≡ b.tail → tells r a ≡ tells r b
+tells-alike : {T U : Type 0} (r : Record) (a : Reply T) (b : Reply U) → a.first ≡ b.first → length a.items ≡ length b.items → a.tail ≡ b.tail
+    → tells r a ≡ tells r b
 tells-alike r a b f l e = cc
 
-is_run-alike : {T U : Type 0} (t : Trace T) (u : Trace U) (p : Place) (h : List Record) → length t.items ≡ length u.items → t.ending ≡ u.ending → is_run t p h ≡ is_run u p h
+is_run-alike : {T U : Type 0} (t : Trace T) (u : Trace U) (p : Place) (h : List Record) → length t.items ≡ length u.items → t.ending ≡ u.ending
+    → is_run t p h ≡ is_run u p h
 is_run-alike t u p [] l e = refl
 is_run-alike t u p (r ∷ h) l e =
-    let here = tells-alike r (reply t p r.asked) (reply u p r.asked) (reply-first t p r.asked ∙ sym (reply-first u p r.asked)) (length-reply-alike t u p r.asked l) (reply-tail-alike t u p r.asked l e) in
+    let here =
+    tells-alike r (reply t p r.asked) (reply u p r.asked) (reply-first t p r.asked ∙ sym (reply-first u p r.asked)) (length-reply-alike t u p r.asked l)
+    (reply-tail-alike t u p r.asked l e) in
     let rest = is_run-alike t u (next_place t p r.asked) h l e in
     let past = next_place-alike t u p r.asked l in
     ap (λ b. b && is_run t (next_place t p r.asked) h) here
     ∙ ap (λ b. tells r (reply u p r.asked) && b) (rest ∙ ap (λ q. is_run u q h) past)
 
 -- legality looks at how many items there are and how they end, and at nothing else of them
-pub is_legal_history-alike : {T U : Type 0} (t : Trace T) (u : Trace U) (h : List Record) → length t.items ≡ length u.items → t.ending ≡ u.ending → is_legal_history t h ≡ is_legal_history u h
+pub is_legal_history-alike : {T U : Type 0} (t : Trace T) (u : Trace U) (h : List Record) → length t.items ≡ length u.items → t.ending ≡ u.ending
+    → is_legal_history t h ≡ is_legal_history u h
 is_legal_history-alike t u h l e = ap (λ b. b && rises (map (λ r. r.ticket) h)) (is_run-alike t u start h l e)
 
 pub is_legal_history-some : {T : Type 0} (t : Trace T) (h : List Record) → is_legal_history t h ≡ is_legal_history (some_source (length t.items) t.ending) h
 is_legal_history-some t h = is_legal_history-alike t (some_source (length t.items) t.ending) h (sym (length-replicate (length t.items) tt)) refl
 
 -- tickets below k, and then one that is k, are below k + 1
-pub tickets_below-next : {T : Type 0} (t : Trace T) (h : List Record) (k : ℕ) (e : Event) → tickets_below k h ≡ true → tickets_below (k + 1) (with_next t h k e) ≡ true
+pub tickets_below-next : {T : Type 0} (t : Trace T) (h : List Record) (k : ℕ) (e : Event) → tickets_below k h ≡ true
+    → tickets_below (k + 1) (with_next t h k e) ≡ true
 tickets_below-next t h k e below =
     tickets_below-append (k + 1) h (next_record t h k e) ∙ and_from _ _ (tickets_below-less k (k + 1) h (omega arith) below) (lt-ltb k (k + 1) (omega arith))

@@ -20,7 +20,8 @@ is_below-rising least k (j ∷ js) h b =
     and_from _ _ (lt-ltb k j (omega arith)) (is_below-rising (j + 1) k js p.1 (omega arith))
 
 -- what rises along two lists: it rises in the first, the first is below the second, and it rises in the second
-pub rises_from-parts : (least : ℕ) (ks js : List ℕ) → rises_from least (ks ++ js) ≡ true → (rises_from least ks ≡ true) × (list_all (is_below js) ks ≡ true) × (rises_from least js ≡ true)
+pub rises_from-parts : (least : ℕ) (ks js : List ℕ) → rises_from least (ks ++ js) ≡ true
+    → (rises_from least ks ≡ true) × (list_all (is_below js) ks ≡ true) × (rises_from least js ≡ true)
 rises_from-parts least [] js h = (refl, refl, h)
 rises_from-parts least (k ∷ ks) js h =
     let p = and_parts (leb least k) _ h in

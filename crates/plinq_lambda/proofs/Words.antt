@@ -17,7 +17,8 @@ formula_named-own Even = refl
 formula_named-own (Repeat c) = refl
 formula_named-own UpTo = refl
 
-pub formula_named-has : (number : Option ℤ) (word : List ℕ) (f : Formula) → formula_named number word ≡ Some f → (word ≡ formula_name f) × (number ≡ formula_number f)
+pub formula_named-has : (number : Option ℤ) (word : List ℕ) (f : Formula) → formula_named number word ≡ Some f
+    → (word ≡ formula_name f) × (number ≡ formula_number f)
 formula_named-has None word f is = first_named-has (λ g. None ≡ formula_number g) formula_name (formulas_of None) word f (refl, (refl, tt)) is
 formula_named-has (Some c) word f is =
     first_named-has (λ g. Some c ≡ formula_number g) formula_name (formulas_of (Some c)) word f

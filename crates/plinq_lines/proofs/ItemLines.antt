@@ -4,7 +4,8 @@ use Rattle.std.specs.List.{flat_map}
 use Rattle.std.proofs.lemmas.List.{nil_from_length}
 use Rattle.plinq_lines.specs.AnswerText.{line}
 
-pub line-first : {X : Type 0} (f : X → List ℕ) (xs : List X) (x : X) (further : List X) → xs ≡ x ∷ further → line (flat_map f xs) ≡ f x ++ line (flat_map f further)
+pub line-first : {X : Type 0} (f : X → List ℕ) (xs : List X) (x : X) (further : List X) → xs ≡ x ∷ further
+    → line (flat_map f xs) ≡ f x ++ line (flat_map f further)
 line-first f xs x further is = ap (λ ys. line (flat_map f ys)) is ∙ append_assoc (f x) (flat_map f further) (10 ∷ [])
 
 pub line-none : {X : Type 0} (f : X → List ℕ) (xs : List X) → length xs ≡ 0 → line (flat_map f xs) ≡ 10 ∷ []

@@ -29,7 +29,8 @@ one-joined ys zs None = refl
 one-joined ys zs (Some code) = refl
 
 -- what was made, and then what was made of others
-two-joined : {B : Type 0} (ys : List B) (o : Option ℕ) (p : List B × Option ℕ) → followed_by (trace_at ys o None) (trace_at p.0 p.1 None) ≡ trace_at (both_made ys o p).0 (both_made ys o p).1 None
+two-joined : {B : Type 0} (ys : List B) (o : Option ℕ) (p : List B × Option ℕ)
+    → followed_by (trace_at ys o None) (trace_at p.0 p.1 None) ≡ trace_at (both_made ys o p).0 (both_made ys o p).1 None
 two-joined ys None p = one-joined ys p.0 p.1
 two-joined ys (Some code) p = refl
 
@@ -40,7 +41,8 @@ last-joined ys (Some code) e = refl
 module _ {T B : Type 0} (makes : T → Result B ℕ) where
   -- parts one after another are what they come to, combined
   joined-from : (ys : List B) (o : Option ℕ) (ps : List (List B × Option ℕ)) (e : Option Ending)
-      → followed_by (trace_at ys o None) (parts_joined ps e) ≡ trace_at (fold (mapping makes).combine (ys, o) ps).0 (fold (mapping makes).combine (ys, o) ps).1 e
+      → followed_by (trace_at ys o None) (parts_joined ps e) ≡ trace_at (fold (mapping makes).combine (ys, o) ps).0
+      (fold (mapping makes).combine (ys, o) ps).1 e
   joined-from ys o [] e = last-joined ys o e
   joined-from ys o (p ∷ ps) e =
       sym (followed_by-followed_by (trace_at ys o None) (trace_at p.0 p.1 None) (parts_joined ps e))
@@ -56,7 +58,8 @@ module _ {T B : Type 0} (makes : T → Result B ℕ) where
       ∙ ap (trace_at (mapped_items makes u.items).0 (mapped_items makes u.items).1) folds.ending
 
   module _ {K : Type 0} (accepts : K → List B → K → Type 0) (refuses : K → List B → ℕ → K → Type 0) (option : MergeOption) where
-    gives-broken : (how : Result (Option Ending) DeliveryFault) (v : Trace B) (s : K) (held' : List B) (s' : K) (cause : Cause) → Gives accepts refuses (batch_size option) [] s v how held' s' → Breaks how cause
+    gives-broken : (how : Result (Option Ending) DeliveryFault) (v : Trace B) (s : K) (held' : List B) (s' : K) (cause : Cause)
+        → Gives accepts refuses (batch_size option) [] s v how held' s' → Breaks how cause
         → BreaksFor accepts refuses cause (batches option v) s s'
     gives-broken (Ok None) v s held' s' cause gives breaks = absurd breaks
     gives-broken (Ok (Some e)) v s held' s' cause gives breaks =
@@ -65,14 +68,17 @@ module _ {T B : Type 0} (makes : T → Result B ℕ) where
     gives-broken (Err (Sink code)) v s held' s' cause gives breaks = subst (λ c. BreaksFor accepts refuses c (batches option v) s s') (sym breaks) gives
 
     module _ (first : DeliverMade B) (size : first.size ≡ batch_size option) (held : first.held.items ≡ []) where
-      gives-made : (u : Trace T) (s : K) (how : Result (Option Ending) DeliveryFault) (s' : K) → (given : WasGiven (mapping makes) (MadeBy accepts refuses) u first s how s')
+      gives-made : (u : Trace T) (s : K) (how : Result (Option Ending) DeliveryFault) (s' : K)
+          → (given : WasGiven (mapping makes) (MadeBy accepts refuses) u first s how s')
           → Gives accepts refuses (batch_size option) [] s (made_of makes u) how given.last.held.items s'
       gives-made u s how s' given =
           subst (λ v. Gives accepts refuses (batch_size option) [] s v how given.last.held.items s') (folded-made u given.parts given.folds)
           (subst (λ h. Gives accepts refuses (batch_size option) h s (parts_joined given.parts.items given.parts.ending) how given.last.held.items s') held
-          (subst (λ n. Gives accepts refuses n first.held.items s (parts_joined given.parts.items given.parts.ending) how given.last.held.items s') size given.taken.gives))
+          (subst (λ n. Gives accepts refuses n first.held.items s (parts_joined given.parts.items given.parts.ending) how given.last.held.items s') size
+          given.taken.gives))
 
-      pub runs-made : (IsAnswer : Trace T → Type 0) (s : K) (r : Result Ending RunFault) (s' : K) → GivesSome (mapping makes) (MadeBy accepts refuses) IsAnswer first s r s'
+      pub runs-made : (IsAnswer : Trace T → Type 0) (s : K) (r : Result Ending RunFault) (s' : K)
+          → GivesSome (mapping makes) (MadeBy accepts refuses) IsAnswer first s r s'
           → RunsMadeOf accepts refuses option makes IsAnswer s s' r
       runs-made IsAnswer s (Ok e) s' h =
           let gives = gives-made h.0 s (Ok (Some e)) s' h.2 in
@@ -81,29 +87,36 @@ module _ {T B : Type 0} (makes : T → Result B ℕ) where
           (h.0, h.1, gives-broken h.2 (made_of makes h.0) s h.3.last.held.items s' (cause_of fault) (gives-made h.0 s h.2 s' h.3) h.4)
 
     -- with `as_ordered` there is one answer
-    pub ordered-made : {L : Type 0} (meaning : L → Meaning T) (ordered : Bool) (ops : List (Op L)) (t : Trace T) (s : K) (r : Result Ending RunFault) (s' : K) → ordered ≡ true
-        → RunsMadeOf accepts refuses option makes (MayAnswer meaning ordered ops t) s s' r → Runs accepts refuses option (made_of makes (answer_of meaning ops t)) s s' r
+    pub ordered-made : {L : Type 0} (meaning : L → Meaning T) (ordered : Bool) (ops : List (Op L)) (t : Trace T) (s : K) (r : Result Ending RunFault) (s' : K)
+        → ordered ≡ true
+        → RunsMadeOf accepts refuses option makes (MayAnswer meaning ordered ops t) s s' r
+        → Runs accepts refuses option (made_of makes (answer_of meaning ops t)) s s' r
     ordered-made meaning ordered ops t s r s' is h =
         subst (λ u. Runs accepts refuses option (made_of makes u) s s' r) (subst (λ o. MayAnswer meaning o ops t h.0) is h.1) h.2
 
   -- a list that was given what was made of parts has what is made of an answer
   module _ (first : KeepMade B) (empty last : Kept B) (nothing : empty.items.items ≡ []) where
-    pub keeps-made : (IsAnswer : Trace T → Type 0) (e : Ending) → GivesSome (mapping makes) KeepsBy IsAnswer first empty (Ok e) last → IsMadeOfSome makes IsAnswer last.items.items e
+    pub keeps-made : (IsAnswer : Trace T → Type 0) (e : Ending) → GivesSome (mapping makes) KeepsBy IsAnswer first empty (Ok e) last
+        → IsMadeOfSome makes IsAnswer last.items.items e
     keeps-made IsAnswer e h =
         let given = h.2 in
         let u : Trace B = parts_joined given.parts.items given.parts.ending in
         let all : last.items.items ≡ u.items = given.taken.1 ∙ ap (λ l. l ++ u.items) nothing in
         (h.0, h.1, ap (λ l. trace_of l (Some e)) all ∙ ap (trace_of u.items) (sym given.taken.0) ∙ folded-made h.0 given.parts given.folds)
 
-    keeps-breaks : (how : Result (Option Ending) DeliveryFault) (xs : List B) (u : Trace B) (ys : List B) (cause : Cause) → Keeps xs u how ys → Breaks how cause → cause ≡ Other
+    keeps-breaks : (how : Result (Option Ending) DeliveryFault) (xs : List B) (u : Trace B) (ys : List B) (cause : Cause) → Keeps xs u how ys
+        → Breaks how cause → cause ≡ Other
     keeps-breaks (Ok None) xs u ys cause is breaks = absurd breaks
     keeps-breaks (Ok (Some e)) xs u ys cause is breaks = breaks
     keeps-breaks (Err Memory) xs u ys cause is breaks = breaks
     keeps-breaks (Err (Sink code)) xs u ys cause is breaks = absurd is
 
-    pub keeps-broken : (IsAnswer : Trace T → Type 0) (fault : RunFault) → GivesSome (mapping makes) KeepsBy IsAnswer first empty (Err fault) last → cause_of fault ≡ Other
-    keeps-broken IsAnswer fault h = keeps-breaks h.2 empty.items.items (parts_joined h.3.parts.items h.3.parts.ending) last.items.items (cause_of fault) h.3.taken h.4
+    pub keeps-broken : (IsAnswer : Trace T → Type 0) (fault : RunFault) → GivesSome (mapping makes) KeepsBy IsAnswer first empty (Err fault) last
+        → cause_of fault ≡ Other
+    keeps-broken IsAnswer fault h =
+        keeps-breaks h.2 empty.items.items (parts_joined h.3.parts.items h.3.parts.ending) last.items.items (cause_of fault) h.3.taken h.4
 
-  pub ordered-list : {L : Type 0} (meaning : L → Meaning T) (ordered : Bool) (ops : List (Op L)) (t : Trace T) (ys : List B) (e : Ending) → ordered ≡ true → IsMadeOfSome makes (MayAnswer meaning ordered ops t) ys e
+  pub ordered-list : {L : Type 0} (meaning : L → Meaning T) (ordered : Bool) (ops : List (Op L)) (t : Trace T) (ys : List B) (e : Ending)
+      → ordered ≡ true → IsMadeOfSome makes (MayAnswer meaning ordered ops t) ys e
       → IsMadeOf makes (answer_of meaning ops t) ys e
   ordered-list meaning ordered ops t ys e is h = subst (λ u. IsMadeOf makes u ys e) (subst (λ o. MayAnswer meaning o ops t h.0) is h.1) h.2

@@ -53,7 +53,8 @@ short-filled n k held xs ys count is room test =
 
 -- items that fill up a batch, and the others
 pub taken-full : {T : Type 0} (n k : ℕ) (held xs : List T) → length held < n → length (held ++ take k xs) ≡ n
-    → (full_batches (Some n) held xs ≡ (held ++ take k xs) ∷ full_batches (Some n) [] (drop k xs)) × (held_back (Some n) held xs ≡ held_back (Some n) [] (drop k xs))
+    → (full_batches (Some n) held xs ≡ (held ++ take k xs) ∷ full_batches (Some n) [] (drop k xs))
+    × (held_back (Some n) held xs ≡ held_back (Some n) [] (drop k xs))
 taken-full n k held xs room full =
     let long : length held + length (take k xs) ≡ n = sym (length-append held (take k xs)) ∙ full in
     let parts = sym (take-append-drop k xs) in (
@@ -65,10 +66,12 @@ taken-full n k held xs room full =
 -- ---- items of whole batches
 
 -- the first batch, and the others
-pub full_batches-first : {T : Type 0} (n : ℕ) (xs : List T) → 0 < n → n ≤ length xs → full_batches (Some n) [] xs ≡ take n xs ∷ full_batches (Some n) [] (drop n xs)
+pub full_batches-first : {T : Type 0} (n : ℕ) (xs : List T) → 0 < n → n ≤ length xs
+    → full_batches (Some n) [] xs ≡ take n xs ∷ full_batches (Some n) [] (drop n xs)
 full_batches-first n xs some enough = (taken-full n n [] xs some (length-take-le n xs enough)).0
 
-pub full_batches-split : {T : Type 0} (n : ℕ) (xs front back : List T) → 0 < n → n ≤ length xs → front ≡ take n xs → back ≡ drop n xs → full_batches (Some n) [] xs ≡ front ∷ full_batches (Some n) [] back
+pub full_batches-split : {T : Type 0} (n : ℕ) (xs front back : List T) → 0 < n → n ≤ length xs → front ≡ take n xs → back ≡ drop n xs
+    → full_batches (Some n) [] xs ≡ front ∷ full_batches (Some n) [] back
 full_batches-split n xs front back some enough first rest = rw (first, rest) (full_batches-first n xs some enough)
 
 -- nothing is held back of them
@@ -99,12 +102,14 @@ held_back-rest n xs some =
     ∙ ap (λ held. held_back (Some n) held back) (held_back-whole n (length xs / n) front some (whole-length n xs))
     ∙ (batches-short n [] back (omega (arith, rest-short n xs some))).1
 
-pub full_batches-before : {T : Type 0} (n : ℕ) (xs : List T) → 0 < n → full_batches (Some n) [] xs ≡ full_batches (Some n) [] (take (length xs - length xs % n) xs)
+pub full_batches-before : {T : Type 0} (n : ℕ) (xs : List T) → 0 < n
+    → full_batches (Some n) [] xs ≡ full_batches (Some n) [] (take (length xs - length xs % n) xs)
 full_batches-before n xs some =
     let front = take (length xs - length xs % n) xs in
     let back = drop (length xs - length xs % n) xs in
     full_batches-whole n (length xs / n) xs front back some (take-append-drop (length xs - length xs % n) xs) (whole-length n xs)
-    ∙ ap (λ bs. full_batches (Some n) [] front ++ bs) (full_batches-short n [] back (omega (arith, rest-short n xs some))) ∙ append-nil (full_batches (Some n) [] front)
+    ∙ ap (λ bs. full_batches (Some n) [] front ++ bs) (full_batches-short n [] back (omega (arith, rest-short n xs some)))
+    ∙ append-nil (full_batches (Some n) [] front)
 
 -- batches of one item each
 pub full_batches-one : {T : Type 0} (xs : List T) → full_batches (Some 1) [] xs ≡ singles xs

@@ -39,22 +39,27 @@ below-room (Some n) held room = lt-ltb (length held) n room
 -- where no operator takes none, more may come
 pub can-undecided : {L T : Type 0} (meaning : L → Meaning T) (d : Deliver L T) → some_takes_none (stages meaning d.pipeline) ≡ false → HasRoom d.buffer
     → can_deliver meaning d ≡ true
-can-undecided meaning d undecided room = ap (λ b. not b && is_below (size_of d.buffer) (held_of d.buffer)) undecided ∙ below-room (size_of d.buffer) (held_of d.buffer) room
+can-undecided meaning d undecided room =
+    ap (λ b. not b && is_below (size_of d.buffer) (held_of d.buffer)) undecided ∙ below-room (size_of d.buffer) (held_of d.buffer) room
 
 -- so it may where the answer is open after items that were fed
-pub can-deliver : {L T : Type 0} (meaning : L → Meaning T) (d : Deliver L T) (ss : List (Stage T)) (t : Trace T) (out : List T) → IsFed ss t [] out (stages meaning d.pipeline) None → HasRoom d.buffer
+pub can-deliver : {L T : Type 0} (meaning : L → Meaning T) (d : Deliver L T) (ss : List (Stage T)) (t : Trace T) (out : List T)
+    → IsFed ss t [] out (stages meaning d.pipeline) None → HasRoom d.buffer
     → can_deliver meaning d ≡ true
 can-deliver meaning d ss t out fed room = can-undecided meaning d (undecided-left ss (stages meaning d.pipeline) t [] out fed) room
 
 -- a delivery that has taken nothing
-pub begun-undecided : {L T : Type 0} (meaning : L → Meaning T) (p : PipelineView L) (ops ops' : List (Op L)) (decided : Bool) → decided ≡ list_any is_empty_take ops → decided ≡ false → ops' ≡ ops → IsReached meaning ops' 0 p
+pub begun-undecided : {L T : Type 0} (meaning : L → Meaning T) (p : PipelineView L) (ops ops' : List (Op L)) (decided : Bool)
+    → decided ≡ list_any is_empty_take ops → decided ≡ false → ops' ≡ ops → IsReached meaning ops' 0 p
     → some_takes_none (stages meaning p) ≡ false
 begun-undecided meaning p ops ops' decided is undecided same reached =
-    ap some_takes_none (stages-begun meaning ops' p reached) ∙ sym (some_takes_none-stages_of meaning ops') ∙ ap (list_any is_empty_take) same ∙ sym is ∙ undecided
+    ap some_takes_none (stages-begun meaning ops' p reached) ∙ sym (some_takes_none-stages_of meaning ops') ∙ ap (list_any is_empty_take) same
+    ∙ sym is ∙ undecided
 
 module _ {K T : Type 0} (accepts : K → List T → K → Type 0) (refuses : K → List T → ℕ → K → Type 0) where
   -- all batches were delivered
-  pub made-fed : (l l' : Line T) (t : Trace T) (out : List T) (e : Option Ending) (s s' : K) → IsFed l.now t [] out l'.now e → KeepsPlan l l' → (e ≡ None → l'.held ≡ held_back l.size l.held out)
+  pub made-fed : (l l' : Line T) (t : Trace T) (out : List T) (e : Option Ending) (s s' : K) → IsFed l.now t [] out l'.now e → KeepsPlan l l'
+      → (e ≡ None → l'.held ≡ held_back l.size l.held out)
       → Leads accepts s (batches_from l.size l.held (trace_of out e)) s' → Made accepts refuses l s t (Ok e) l' s'
   made-fed l l' t out None s s' fed plan held leads =
       let given = rw (batches_from-open l.size l.held out) at leads in
@@ -68,9 +73,11 @@ on-any P (Ok x) p = p
 on-any P (Err e) p = tt
 
 -- all of the items were handed on
-pub hands-all : {K T A : Type 0} (accepts : K → List T → K → Type 0) (refuses : K → List T → ℕ → K → Type 0) (size : Option ℕ) (held made : List T) (s : K) (r : Result A DeliveryFault) (held' : List T) (s' : K)
+pub hands-all : {K T A : Type 0} (accepts : K → List T → K → Type 0) (refuses : K → List T → ℕ → K → Type 0) (size : Option ℕ) (held made : List T)
+    (s : K) (r : Result A DeliveryFault) (held' : List T) (s' : K)
     → IsFilled accepts refuses size held made s r held' s' → HandsOn accepts refuses size held made s r held' [] s'
-hands-all accepts refuses size held made s r held' s' filled = record { given = made; left = []; parts = sym (append-nil made); waits = on-any _ r refl; filled = filled }
+hands-all accepts refuses size held made s r held' s' filled =
+    record { given = made; left = []; parts = sym (append-nil made); waits = on-any _ r refl; filled = filled }
 
 module _ {K T : Type 0} (accepts : K → List T → K → Type 0) (refuses : K → List T → ℕ → K → Type 0) (size : Option ℕ) (ss : List (Stage T)) (s : K) where
   -- these items were fed; of what came out, all but the last were given to the buffer, and their full batches sent
@@ -84,7 +91,8 @@ module _ {K T : Type 0} (accepts : K → List T → K → Type 0) (refuses : K �
   sent-none undecided = record { out = []; fed = fed-none ss [] undecided; keeps = refl; leads = refl }
 
   -- what comes out stands after what was given to the buffer
-  feeds-after : (ss' ss'' : List (Stage T)) (t : Trace T) (n m : ℕ) (held made made' : List T) (s' : K) (e : Option Ending) (before : HasSent (first_items n t) held made ss' s' None)
+  feeds-after : (ss' ss'' : List (Stage T)) (t : Trace T) (n m : ℕ) (held made made' : List T) (s' : K) (e : Option Ending)
+      (before : HasSent (first_items n t) held made ss' s' None)
       → FeedsFrom ss' t n m made made' ss'' e → FeedsFrom ss' t n m (before.out ++ made) (before.out ++ made') ss'' e
   feeds-after ss' ss'' t n m held made made' s' e before next =
       record {
@@ -114,7 +122,9 @@ module _ {K T : Type 0} (accepts : K → List T → K → Type 0) (refuses : K �
       }
 
   -- what the source gave next decides the answer, and the rest was delivered or cut off
-  pub sent-over : (most : ℕ) (ss' ss'' : List (Stage T)) (t : Trace T) (n m : ℕ) (held made made' : List T) (s1 s2 : K) (e : Ending) (r : Result Ending DeliveryFault) → m ≤ n + most
+  pub sent-over : (most : ℕ) (ss' ss'' : List (Stage T)) (t : Trace T) (n m : ℕ) (held made made' : List T) (s1 s2 : K) (e : Ending)
+      (r : Result Ending DeliveryFault)
+      → m ≤ n + most
       → HasSent (first_items n t) held made ss' s1 None → FeedsFrom ss' t n m made made' ss'' (Some e) → IfOk r (λ x. x ≡ e)
       → Delivers accepts refuses s1 (batches_from size held (ended_trace made' e)) r s2 → DeliversAnswer accepts refuses size most ss t s m r s2
   sent-over most ss' ss'' t n m held made made' s1 s2 e r block before next same rest =
@@ -129,8 +139,11 @@ module _ {K T : Type 0} (accepts : K → List T → K → Type 0) (refuses : K �
       }
 
   -- a delivery that was cut off in the midst
-  pub sent-cut : {A : Type 0} (most : ℕ) (ss' : List (Stage T)) (t : Trace T) (n m : ℕ) (held held' made made' : List T) (s1 s2 : K) (fault : DeliveryFault) (r : Result Ending DeliveryFault) → r ≡ Err fault
-      → HandsOn {A = A} accepts refuses size held made s1 (Err fault) held' made' s2 → HasSent (first_items n t) held made ss' s1 None → DeliversAnswer accepts refuses size most ss t s m r s2
+  pub sent-cut : {A : Type 0} (most : ℕ) (ss' : List (Stage T)) (t : Trace T) (n m : ℕ) (held held' made made' : List T) (s1 s2 : K)
+      (fault : DeliveryFault) (r : Result Ending DeliveryFault)
+      → r ≡ Err fault
+      → HandsOn {A = A} accepts refuses size held made s1 (Err fault) held' made' s2 → HasSent (first_items n t) held made ss' s1 None
+      → DeliversAnswer accepts refuses size most ss t s m r s2
   sent-cut most ss' t n m held held' made made' s1 s2 fault r is hands before =
       let out : List T = before.out ++ hands.given in
       let others : Trace T = trace_of (drop n t.items) t.ending in

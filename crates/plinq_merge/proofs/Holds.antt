@@ -23,11 +23,15 @@ module _ {T : Type 0} where
   all_told-append source_end [] r = refl
   all_told-append source_end (o ∷ os) r = all_told-append (option_or source_end (told_at (end_of_result o) o.tail)) os r
 
-  arrived_trace-append : (order : Order) (offers : List (ChunkResult T)) (r : ChunkResult T) → arrived_trace order (offers ++ r ∷ []) ≡ followed_by (arrived_trace order offers) (at_once order r)
+  arrived_trace-append : (order : Order) (offers : List (ChunkResult T)) (r : ChunkResult T)
+      → arrived_trace order (offers ++ r ∷ []) ≡ followed_by (arrived_trace order offers) (at_once order r)
   arrived_trace-append order [] r = followed_by-open_nil (at_once order r)
-  arrived_trace-append order (o ∷ os) r = ap (followed_by (at_once order o)) (arrived_trace-append order os r) ∙ sym (followed_by-followed_by (at_once order o) (arrived_trace order os) (at_once order r))
+  arrived_trace-append order (o ∷ os) r =
+      ap (followed_by (at_once order o)) (arrived_trace-append order os r)
+      ∙ sym (followed_by-followed_by (at_once order o) (arrived_trace order os) (at_once order r))
 
-  pub is_offered-append : (offers : List (ChunkResult T)) (r : ChunkResult T) (key : ℕ) → is_offered (offers ++ r ∷ []) key ≡ is_offered offers key || is_within r.first (end_of_result r) key
+  pub is_offered-append : (offers : List (ChunkResult T)) (r : ChunkResult T) (key : ℕ)
+      → is_offered (offers ++ r ∷ []) key ≡ is_offered offers key || is_within r.first (end_of_result r) key
   is_offered-append [] r key = or-false (is_within r.first (end_of_result r) key)
   is_offered-append (o ∷ os) r key = rw (is_offered-append os r key, or_assoc) refl
 
@@ -57,14 +61,16 @@ module _ {T : Type 0} where
   pub nothing-given : (ps : List (Interval (Trace T))) → All (λ p. p.1.payload ≡ open_trace []) ps → all_given ps ≡ open_trace []
   nothing-given [] none = refl
   nothing-given (p ∷ ps) none =
-      ap (λ t. followed_by t (all_given ps)) (All-head (λ q. q.1.payload ≡ open_trace []) p ps none) ∙ nothing-given ps (All-tail (λ q. q.1.payload ≡ open_trace []) p ps none)
+      ap (λ t. followed_by t (all_given ps)) (All-head (λ q. q.1.payload ≡ open_trace []) p ps none)
+      ∙ nothing-given ps (All-tail (λ q. q.1.payload ≡ open_trace []) p ps none)
 
   all_given-append : (ps qs : List (Interval (Trace T))) → all_given (ps ++ qs) ≡ followed_by (all_given ps) (all_given qs)
   all_given-append [] qs = refl
   all_given-append (p ∷ ps) qs = ap (followed_by p.1.payload) (all_given-append ps qs) ∙ sym (followed_by-followed_by p.1.payload (all_given ps) (all_given qs))
 
   -- after a row of intervals the row of keys goes on
-  pub row_of-append : (source_end : Option (ℕ × Ending)) (from : ℕ) (done : List (Interval (Trace T))) (to : ℕ) (rest : List (Interval (Trace T))) → IsRow from done to
+  pub row_of-append : (source_end : Option (ℕ × Ending)) (from : ℕ) (done : List (Interval (Trace T))) (to : ℕ) (rest : List (Interval (Trace T)))
+      → IsRow from done to
       → row_of source_end from (done ++ rest) ≡ followed_by (all_given done) (row_of source_end to rest)
   row_of-append source_end from done to rest is_row =
       let at = row-append from done to rest is_row in
@@ -74,13 +80,15 @@ module _ {T : Type 0} where
   -- ---- what is held
 
   -- what the offers merge to
-  pub merged_trace-holds : (order : Order) (row : Row T) (offers : List (ChunkResult T)) (gone : Trace T) → Holds order row offers gone → merged_trace order offers ≡ followed_by gone (rest_of row)
+  pub merged_trace-holds : (order : Order) (row : Row T) (offers : List (ChunkResult T)) (gone : Trace T) → Holds order row offers gone
+      → merged_trace order offers ≡ followed_by gone (rest_of row)
   merged_trace-holds order row offers gone h =
       let parts = row_of-append row.source_end 0 h.done row.buffer.next row.buffer.held h.is_row in
       rw (h.source_end, h.placed, parts, ← followed_by-followed_by (arrived_trace order offers) (all_given h.done) (rest_of row), h.gave) refl
 
   -- the interval under the next key has gone
-  pub holds-next : (order : Order) (row : Row T) (p : Trace T) (buffer : Buffered (Trace T)) (offers : List (ChunkResult T)) (gone : Trace T) → TakesNext row.buffer p buffer
+  pub holds-next : (order : Order) (row : Row T) (p : Trace T) (buffer : Buffered (Trace T)) (offers : List (ChunkResult T)) (gone : Trace T)
+      → TakesNext row.buffer p buffer
       → Holds order row offers gone → Holds order (record row { buffer = buffer }) offers (followed_by gone p)
   holds-next order row p buffer offers gone takes h =
       let q : Interval (Trace T) = (row.buffer.next, record { end = buffer.next; payload = p }) in
@@ -88,13 +96,23 @@ module _ {T : Type 0} where
         done = h.done ++ q ∷ [];
         placed = h.placed ∙ ap (λ qs. h.done ++ qs) takes.held ∙ sym (append_assoc h.done (q ∷ []) buffer.held);
         is_row = row-push 0 h.done q h.is_row;
-        before = All-push (λ s. s.0 < buffer.next) h.done q (All-weaker (λ s. s.0 < row.buffer.next) (λ s. s.0 < buffer.next) (λ s past. omega (arith, takes.some)) h.done h.before) takes.some;
+        before =
+            All-push (λ s. s.0 < buffer.next) h.done q (All-weaker (λ s. s.0 < row.buffer.next) (λ s. s.0 < buffer.next)
+            (λ s past. omega (arith, takes.some)) h.done h.before) takes.some;
         source_end = h.source_end;
-        gave = rw (all_given-append h.done (q ∷ []), followed_by-open_nil p, ← followed_by-followed_by (arrived_trace order offers) (all_given h.done) p, h.gave) refl;
+        gave =
+            rw (
+              all_given-append h.done (q ∷ []),
+              followed_by-open_nil p,
+              ← followed_by-followed_by (arrived_trace order offers)
+                  (all_given h.done) p,
+              h.gave,
+            ) refl;
       }
 
   -- what is merged at once and what waits may change places, since one of them is nothing
-  swap : (order : Order) (offers : List (ChunkResult T)) (first : Trace T) (r : ChunkResult T) (done rest : List (Interval (Trace T))) → all_placed order [] offers ≡ done ++ rest
+  swap : (order : Order) (offers : List (ChunkResult T)) (first : Trace T) (r : ChunkResult T) (done rest : List (Interval (Trace T)))
+      → all_placed order [] offers ≡ done ++ rest
       → followed_by (followed_by first (at_once order r)) (all_given done) ≡ followed_by (followed_by first (all_given done)) (at_once order r)
   swap ByKey offers first r done rest is = rw (followed_by-open_nil first, followed_by-open_nil (followed_by first (all_given done))) refl
   swap ByArrival offers first r done rest is =
@@ -151,7 +169,8 @@ module _ {T : Type 0} where
       (takes-placed_intervals order before r row fresh (rw test refl) noted offers gone h))
 
   -- by arrival it hands back nothing but keys
-  pub by_arrival-hand : (r : ChunkResult T) (b : Buffered (Trace T)) (turn : Option (Trace T)) (b' : Buffered (Trace T)) → Inserts b r.first (end_of_result r) (open_trace []) turn b'
+  pub by_arrival-hand : (r : ChunkResult T) (b : Buffered (Trace T)) (turn : Option (Trace T)) (b' : Buffered (Trace T))
+      → Inserts b r.first (end_of_result r) (open_trace []) turn b'
       → followed_by (result_trace r) (unwrap_or turn (open_trace [])) ≡ result_trace r
   by_arrival-hand r b None b' inserts = followed_by-open_nil (result_trace r)
   by_arrival-hand r b (Some p) b' inserts = ap (followed_by (result_trace r)) inserts.0 ∙ followed_by-open_nil (result_trace r)

@@ -16,7 +16,8 @@ use Rattle.plinq_merge.proofs.Holds.{is_offered-append, merged_trace-holds, hold
 
 module _ {T : Type 0} where
   -- where the next key is missing, all that the offers merge to was taken
-  pub merged_trace-waits : (order : Order) (row : Row T) (offers : List (ChunkResult T)) → (waits : Waits order row offers) → merged_trace order offers ≡ open_trace waits.out
+  pub merged_trace-waits : (order : Order) (row : Row T) (offers : List (ChunkResult T)) → (waits : Waits order row offers)
+      → merged_trace order offers ≡ open_trace waits.out
   merged_trace-waits order row offers waits =
       rw (merged_trace-holds order row offers (open_trace waits.out) waits.holds, waits.nothing) (followed_by-open_nil (open_trace waits.out))
 
@@ -45,13 +46,15 @@ module _ {T : Type 0} where
 
 module _ {W O T : Type 0} (made : W → O → Trace T → Result (Option Ending) DeliveryFault → W → O → Type 0) (lawful : IsTaking made) where
   -- after an open trace that was taken
-  pub taken-after : (a : W) (x : O) (t u all : Trace T) (b : W) (y : O) (r : Result (Option Ending) DeliveryFault) (c : W) (z : O) → t.ending ≡ None → made a x t (Ok None) b y → made b y u r c z
+  pub taken-after : (a : W) (x : O) (t u all : Trace T) (b : W) (y : O) (r : Result (Option Ending) DeliveryFault) (c : W) (z : O) → t.ending ≡ None
+      → made a x t (Ok None) b y → made b y u r c z
       → all ≡ followed_by t u → made a x all r c z
   taken-after a x t u all b y r c z none first second is =
       rw (is, open-is t none) (lawful.goes_on a x t.items b y u r c z (rw (open-is t none) at first) second)
 
   -- an answer that has ended, or broke off, is that of whatever comes after
-  pub taken-over : (a : W) (x : O) (t rest all : Trace T) (r : Result (Option Ending) DeliveryFault) (b : W) (y : O) → (r ≡ Ok None → ⊥) → made a x t r b y → all ≡ followed_by t rest → made a x all r b y
+  pub taken-over : (a : W) (x : O) (t rest all : Trace T) (r : Result (Option Ending) DeliveryFault) (b : W) (y : O) → (r ≡ Ok None → ⊥)
+      → made a x t r b y → all ≡ followed_by t rest → made a x all r b y
   taken-over a x t rest all (Ok None) b y over taken is = absurd (over refl)
   taken-over a x t rest all (Ok (Some e)) b y over taken is = rw is (lawful.ends a x t e b y rest taken)
   taken-over a x t rest all (Err fault) b y over taken is = rw is (lawful.breaks a x t fault b y rest taken)
@@ -63,7 +66,8 @@ module _ {W O T : Type 0} (made : W → O → Trace T → Result (Option Ending)
       record { items = []; taken = lawful.begins w.taker y; order = refl; holds = λ offers gone h. rw (followed_by-open_nil gone) (takes offers gone h) }
 
   -- what was in hand was taken and is open, and the interval under the next key comes
-  pub moved-next : (w0 : Joining W T) (r : ChunkResult T) (y0 : O) (p : Trace T) (w : Joining W T) (y : O) (buffer : Buffered (Trace T)) (q : Trace T) (a : W) (n : ℕ) (z : O)
+  pub moved-next : (w0 : Joining W T) (r : ChunkResult T) (y0 : O) (p : Trace T) (w : Joining W T) (y : O) (buffer : Buffered (Trace T)) (q : Trace T)
+      (a : W) (n : ℕ) (z : O)
       → HasMoved made w0 r y0 p w y → TakesNext w.row.buffer q buffer → made w.taker y p (Ok None) a z → p.ending ≡ None
       → HasMoved made w0 r y0 q (record w { row = record w.row { buffer = buffer }; taker = a; items = n }) z
   moved-next w0 r y0 p w y buffer q a n z moved takes taken none =
@@ -75,7 +79,8 @@ module _ {W O T : Type 0} (made : W → O → Trace T → Result (Option Ending)
         order = moved.order;
         holds = λ offers gone h.
             rw (all, ← followed_by-followed_by gone (open_trace moved.items) p)
-            (holds-next w0.order w.row q buffer (offers ++ r ∷ []) (followed_by (followed_by gone (open_trace moved.items)) p) takes (moved.holds offers gone h));
+            (holds-next w0.order w.row q buffer (offers ++ r ∷ []) (followed_by (followed_by gone (open_trace moved.items)) p) takes
+            (moved.holds offers gone h));
       }
 
   -- ---- a result of new keys was joined
@@ -143,7 +148,8 @@ AreOneMore offers r offers' = (offers' ≡ offers) ⊎ ((offers' ≡ offers ++ r
 module _ {W O T : Type 0} (made : W → O → Trace T → Result (Option Ending) DeliveryFault → W → O → Type 0) where
   module _ (a : W) (x : O) where
     cases-at : {P : Type 0} (w : Joining W T) (standing : JoinerState) (y : O) (offers : List (ChunkResult T)) → HasJoinedAt made a x w standing y offers
-        → (is_decided standing ≡ false → finish_result standing ≡ Err Gap → Waits w.order w.row offers → made a x (merged_trace w.order offers) (Ok None) w.taker y → P)
+        → (is_decided standing ≡ false → finish_result standing ≡ Err Gap → Waits w.order w.row offers
+        → made a x (merged_trace w.order offers) (Ok None) w.taker y → P)
         → ((e : Ending) → is_decided standing ≡ true → finish_result standing ≡ Ok e → made a x (merged_trace w.order offers) (Ok (Some e)) w.taker y → P) → P
     cases-at w Open y offers joined still ended = still refl refl joined.0 joined.1
     cases-at w (Decided e) y offers joined still ended = ended e refl refl joined
@@ -157,7 +163,8 @@ module _ {W O T : Type 0} (made : W → O → Trace T → Result (Option Ending)
 
     module _ (lawful : IsTaking made) where
       -- what waits for more may have broken off there for lack of memory
-      pub joined-stopped : (j : Joiner W T) (y : O) (offers : List (ChunkResult T)) → WaitsFor j offers → made a x (merged_trace (order_of j) offers) (Ok None) (taker_of j) y
+      pub joined-stopped : (j : Joiner W T) (y : O) (offers : List (ChunkResult T)) → WaitsFor j offers
+          → made a x (merged_trace (order_of j) offers) (Ok None) (taker_of j) y
           → made a x (merged_trace (order_of j) offers) (Err NoMemory) (taker_of j) y
       joined-stopped j y offers waits before =
           let is = merged_trace-waits (order_of j) j.work.row offers waits in
@@ -178,7 +185,8 @@ module _ {W O T : Type 0} (made : W → O → Trace T → Result (Option Ending)
             → Joins made w r y how w' y' → made a x (merged_trace order more) how w'.taker y'
         grown how order is joined joins =
             taken-after made lawful a x (merged_trace w.order offers) joins.gained (merged_trace order more) w.taker y how w'.taker y'
-            (ap (λ t. t.ending) (merged_trace-waits w.order w.row offers joined.0)) joined.1 joins.taken (ap (λ o. merged_trace o more) is ∙ joins.grows offers joined.0)
+            (ap (λ t. t.ending) (merged_trace-waits w.order w.row offers joined.0)) joined.1 joins.taken
+            (ap (λ o. merged_trace o more) is ∙ joins.grows offers joined.0)
 
         offered-at : (standing : JoinerState) (result : Result More MergeFault) → HasJoinedAt made a x w standing y offers
             → JoinsOfferAt made w standing r y result w' standing' y' → (all : List (ChunkResult T)) × AreOneMore offers r all × LeavesAt result all
@@ -196,14 +204,18 @@ module _ {W O T : Type 0} (made : W → O → Trace T → Result (Option Ending)
         offered-at HasFailed result joined o = absurd joined
 
       -- an offer that was taken in
-      pub takes-joined : (j : Joiner W T) (r : ChunkResult T) (y : O) (more : More) (j' : Joiner W T) (y' : O) (offers : List (ChunkResult T)) → order_of j' ≡ order_of j
-          → HasJoined made a x j y offers → JoinsOffer made j r y (Ok more) j' y' → (offers' : List (ChunkResult T)) × AreOneMore offers r offers' × HasJoined made a x j' y' offers'
+      pub takes-joined : (j : Joiner W T) (r : ChunkResult T) (y : O) (more : More) (j' : Joiner W T) (y' : O) (offers : List (ChunkResult T))
+          → order_of j' ≡ order_of j
+          → HasJoined made a x j y offers → JoinsOffer made j r y (Ok more) j' y'
+          → (offers' : List (ChunkResult T)) × AreOneMore offers r offers' × HasJoined made a x j' y' offers'
       takes-joined j r y more j' y' offers same joined o = offered-at j.work j'.work j'.standing r y y' offers same j.standing (Ok more) joined o
 
       -- one that was refused
-      pub takes-broken : (j : Joiner W T) (r : ChunkResult T) (y : O) (fault : MergeFault) (j' : Joiner W T) (y' : O) (offers : List (ChunkResult T)) → order_of j' ≡ order_of j
+      pub takes-broken : (j : Joiner W T) (r : ChunkResult T) (y : O) (fault : MergeFault) (j' : Joiner W T) (y' : O) (offers : List (ChunkResult T))
+          → order_of j' ≡ order_of j
           → HasJoined made a x j y offers → JoinsOffer made j r y (Err fault) j' y'
-          → (offers' : List (ChunkResult T)) × AreOneMore offers r offers' × ((last : W) × made a x (merged_trace (order_of j) offers') (Err (delivery_fault_of fault)) last y')
+          → (offers' : List (ChunkResult T)) × AreOneMore offers r offers' × ((last : W) × made a x (merged_trace (order_of j) offers')
+          (Err (delivery_fault_of fault)) last y')
       takes-broken j r y fault j' y' offers same joined o = offered-at j.work j'.work j'.standing r y y' offers same j.standing (Err fault) joined o
 
   module _ (lawful : IsTaking made) where

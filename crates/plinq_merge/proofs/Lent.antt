@@ -10,13 +10,16 @@ use Rattle.plinq_merge.specs.Lent.{AreSame, delivery_of, Takes, Refuses}
 use Rattle.plinq_merge.specs.{declared.merge_fault.MergeFault.TheVariants.Cancelled, Mergers.AsksEach, Mergers.is_cancelled, Offering.OffersWithAt}
 use Rattle.plinq_merge.specs.{Offering.IsCancelled, Sending.IsCutOff}
 
-pub leads-map : {K M B : Type 0} (f : K → M) (accepts : K → B → K → Type 0) (accepts' : M → B → M → Type 0) → ((s : K) (b : B) (s' : K) → accepts s b s' → accepts' (f s) b (f s'))
+pub leads-map : {K M B : Type 0} (f : K → M) (accepts : K → B → K → Type 0) (accepts' : M → B → M → Type 0)
+    → ((s : K) (b : B) (s' : K) → accepts s b s' → accepts' (f s) b (f s'))
     → (s : K) (bs : List B) (s' : K) → Leads accepts s bs s' → Leads accepts' (f s) bs (f s')
 leads-map f accepts accepts' takes s [] s' leads = ap f leads
 leads-map f accepts accepts' takes s (b ∷ bs) s' leads = (f leads.0, takes s b leads.0 leads.1, leads-map f accepts accepts' takes leads.0 bs s' leads.2)
 
-pub cut-map : {K M B : Type 0} (f : K → M) (accepts : K → B → K → Type 0) (refuses : K → B → ℕ → K → Type 0) (accepts' : M → B → M → Type 0) (refuses' : M → B → ℕ → M → Type 0)
-    → ((s : K) (b : B) (s' : K) → accepts s b s' → accepts' (f s) b (f s')) → ((s : K) (b : B) (code : ℕ) (s' : K) → refuses s b code s' → refuses' (f s) b code (f s'))
+pub cut-map : {K M B : Type 0} (f : K → M) (accepts : K → B → K → Type 0) (refuses : K → B → ℕ → K → Type 0) (accepts' : M → B → M → Type 0)
+    (refuses' : M → B → ℕ → M → Type 0)
+    → ((s : K) (b : B) (s' : K) → accepts s b s' → accepts' (f s) b (f s'))
+    → ((s : K) (b : B) (code : ℕ) (s' : K) → refuses s b code s' → refuses' (f s) b code (f s'))
     → (s : K) (bs : List B) (fault : DeliveryFault) (s' : K) → IsCutOff accepts refuses s bs fault s' → IsCutOff accepts' refuses' (f s) bs fault (f s')
 cut-map f accepts refuses accepts' refuses' takes refused s bs NoMemory s' cut = (cut.0, cut.1, cut.2, leads-map f accepts accepts' takes s cut.0 s' cut.3)
 cut-map f accepts refuses accepts' refuses' takes refused s bs (Refusal code) s' cut =
@@ -42,7 +45,8 @@ module _ {L K M T : Type 0} (meaning : L → Meaning T) (decided : Bool) (accept
   offers-map Open (Err fault) o = absurd o
   offers-map standing result o = (o.0, o.1, o.2, same o.3)
 
-module _ {C : Type 0} (asks : C → ℕ → Bool → C → Type 0) (has_told : C → Bool) (keeps : (t : C) (n : ℕ) (answer : Bool) (t' : C) → asks t n answer t' → has_told t' ≡ (has_told t || answer)) where
+module _ {C : Type 0} (asks : C → ℕ → Bool → C → Type 0) (has_told : C → Bool)
+    (keeps : (t : C) (n : ℕ) (answer : Bool) (t' : C) → asks t n answer t' → has_told t' ≡ (has_told t || answer)) where
   pub lets-told : (t : C) (n : ℕ) (t' : C) → asks t n false t' → has_told t' ≡ has_told t
   lets-told t n t' asked = keeps t n false t' asked ∙ or-false (has_told t)
 
@@ -55,11 +59,13 @@ module _ {C : Type 0} (asks : C → ℕ → Bool → C → Type 0) (has_told : C
     leads-told d [] d' leads = ap (λ x. has_told x.token) leads
     leads-told d (b ∷ bs) d' leads = leads-told leads.0 bs d' leads.2 ∙ lets-told d.token d.delivered leads.0.token leads.1.asked
 
-    pub cut-told : (d : Delivery C K) (bs : List (List T)) (fault : DeliveryFault) (d' : Delivery C K) → IsCutOff (Passes asks accepts) (IsRefused asks refuses) d bs fault d' → has_told d'.token ≡ has_told d.token
+    pub cut-told : (d : Delivery C K) (bs : List (List T)) (fault : DeliveryFault) (d' : Delivery C K)
+        → IsCutOff (Passes asks accepts) (IsRefused asks refuses) d bs fault d' → has_told d'.token ≡ has_told d.token
     cut-told d bs NoMemory d' cut = leads-told d cut.0 d' cut.3
     cut-told d bs (Refusal code) d' cut = lets-told cut.3.token cut.3.delivered d'.token cut.6.asked ∙ leads-told d cut.0 cut.3 cut.5
 
-    pub asks-told : (d : Delivery C K) (r : Result More MergeFault) (d' : Delivery C K) → AsksEach asks accepts refuses d r d' → has_told d'.token ≡ (has_told d.token || is_cancelled r)
+    pub asks-told : (d : Delivery C K) (r : Result More MergeFault) (d' : Delivery C K) → AsksEach asks accepts refuses d r d'
+        → has_told d'.token ≡ (has_told d.token || is_cancelled r)
     asks-told d (Ok more) d' asked = leads-told d asked.0 d' asked.1 ∙ sym (or-false (has_told d.token))
     asks-told d (Err Cancelled) d' asked =
         let last = asked.1.last in
@@ -86,13 +92,16 @@ module _ {C K T : Type 0} (asks : C → ℕ → Bool → C → Type 0) (accepts 
       let on = leads-on m bs w' leads.2 in
       record { same = same-on w m w' step.same on.same; leads = (delivery_of m, step.passes, on.leads); still = on.still ∙ step.goes_on }
 
-  pub cut-same : (w : WithCancellation C K) (bs : List (List T)) (fault : DeliveryFault) (w' : WithCancellation C K) → IsCutOff (Takes asks accepts) (Refuses asks refuses) w bs fault w' → AreSame w w'
+  pub cut-same : (w : WithCancellation C K) (bs : List (List T)) (fault : DeliveryFault) (w' : WithCancellation C K)
+      → IsCutOff (Takes asks accepts) (Refuses asks refuses) w bs fault w' → AreSame w w'
   cut-same w bs NoMemory w' cut = let on = leads-on w cut.0 w' cut.3 in on.same
   cut-same w bs (Refusal code) w' cut = let on = leads-on w cut.0 cut.3 cut.5 in let end = cut.6 in same-on w cut.3 w' on.same end.same
 
   -- the sink was refused memory, or refused a batch, and no batch was kept back
-  pub cut-on : (w : WithCancellation C K) (bs : List (List T)) (fault : DeliveryFault) (w' : WithCancellation C K) → w.is_stopped ≡ false → w'.is_stopped ≡ false
-      → IsCutOff (Takes asks accepts) (Refuses asks refuses) w bs fault w' → IsCutOff (Passes asks accepts) (IsRefused asks refuses) (delivery_of w) bs fault (delivery_of w')
+  pub cut-on : (w : WithCancellation C K) (bs : List (List T)) (fault : DeliveryFault) (w' : WithCancellation C K) → w.is_stopped ≡ false
+      → w'.is_stopped ≡ false
+      → IsCutOff (Takes asks accepts) (Refuses asks refuses) w bs fault w'
+      → IsCutOff (Passes asks accepts) (IsRefused asks refuses) (delivery_of w) bs fault (delivery_of w')
   cut-on w bs NoMemory w' before after cut = let on = leads-on w cut.0 w' cut.3 in (cut.0, cut.1, cut.2, on.leads)
   cut-on w bs (Refusal code) w' before after cut =
       let on = leads-on w cut.0 cut.3 cut.5 in
@@ -100,7 +109,8 @@ module _ {C K T : Type 0} (asks : C → ℕ → Bool → C → Type 0) (accepts 
       (cut.0, cut.1, cut.2, delivery_of cut.3, cut.4, on.leads, rw after at (end.was (on.still ∙ before)))
 
   -- a batch was kept back
-  pub cut-kept : (w : WithCancellation C K) (bs : List (List T)) (fault : DeliveryFault) (w' : WithCancellation C K) → w.is_stopped ≡ false → w'.is_stopped ≡ true
+  pub cut-kept : (w : WithCancellation C K) (bs : List (List T)) (fault : DeliveryFault) (w' : WithCancellation C K) → w.is_stopped ≡ false
+      → w'.is_stopped ≡ true
       → IsCutOff (Takes asks accepts) (Refuses asks refuses) w bs fault w' → IsKeptBack asks accepts (delivery_of w) bs (delivery_of w')
   cut-kept w bs NoMemory w' before after cut = let on = leads-on w cut.0 w' cut.3 in absurd (let bad : true ≡ false = sym after ∙ on.still ∙ before in cc)
   cut-kept w bs (Refusal code) w' before after cut =

@@ -9,17 +9,20 @@ use Rattle.std.proofs.lemmas.Bool.{not-true}
 use Rattle.plinq_ops.proofs.{Open.seq-nothing}
 use Rattle.plinq_merge.specs.{Deliveries.goes_on-on, Delivering.line_of, Delivering.Gives, Delivering.MadeBy, Working.merge_of, Working.Rests}
 
-pub answer-open : {T : Type 0} (merge : Merge T) (offers : List (ChunkResult T)) → merge.decided ≡ false → answer merge offers ≡ seq merge.after (merged_trace merge.order offers)
+pub answer-open : {T : Type 0} (merge : Merge T) (offers : List (ChunkResult T)) → merge.decided ≡ false
+    → answer merge offers ≡ seq merge.after (merged_trace merge.order offers)
 answer-open merge offers undecided = ap (λ b. cond b (ended_trace [] End) (seq merge.after (merged_trace merge.order offers))) undecided
 
 -- what operators give that go on after a trace, and give nothing of nothing
-answer-on : {T : Type 0} (ss : List (Stage T)) (t : Trace T) (out : List T) (ss' : List (Stage T)) → GoesOn ss t out None ss' → seq ss' (open_trace []) ≡ open_trace [] → seq ss t ≡ open_trace out
+answer-on : {T : Type 0} (ss : List (Stage T)) (t : Trace T) (out : List T) (ss' : List (Stage T)) → GoesOn ss t out None ss'
+    → seq ss' (open_trace []) ≡ open_trace [] → seq ss t ≡ open_trace out
 answer-on ss t out ss' on nothing =
     ap (seq ss) (sym (followed_by-open_nil t)) ∙ on.answers (open_trace []) ∙ ap (followed_by (open_trace out)) nothing ∙ followed_by-open_nil (open_trace out)
 
 module _ {K T : Type 0} (accepts : K → List T → K → Type 0) (refuses : K → List T → ℕ → K → Type 0) where
   -- what was delivered of a trace are the batches of what it gives
-  delivers-gives : (l : Line T) (s : K) (t : Trace T) (r : Result (Option Ending) DeliveryFault) (l' : Line T) (s' : K) → (r ≡ Ok None → seq l'.now (open_trace []) ≡ open_trace [])
+  delivers-gives : (l : Line T) (s : K) (t : Trace T) (r : Result (Option Ending) DeliveryFault) (l' : Line T) (s' : K)
+      → (r ≡ Ok None → seq l'.now (open_trace []) ≡ open_trace [])
       → Gives accepts refuses l s t r l' s' → Delivers accepts refuses s (batches_from l.size l.held (seq l.now t)) r s'
   delivers-gives l s t (Ok None) l' s' nothing on =
       rw (answer-on l.now t on.out l'.now on.on (nothing refl), batches_from-open l.size l.held on.out) on.leads
@@ -120,17 +123,20 @@ module _ {L T : Type 0} (meaning : L → Meaning T) (decided : Bool) (w : Work L
       sends-joined HasFailed result o = rw o.0 ([], ([], [], refl, o.3))
 
 -- operators that can take items give nothing of nothing
-pub nothing-given : {L T : Type 0} (meaning : L → Meaning T) (d : Deliver L T) → can_deliver meaning d ≡ true → seq (stages meaning d.pipeline) (open_trace []) ≡ open_trace []
+pub nothing-given : {L T : Type 0} (meaning : L → Meaning T) (d : Deliver L T) → can_deliver meaning d ≡ true
+    → seq (stages meaning d.pipeline) (open_trace []) ≡ open_trace []
 nothing-given meaning d can =
     let parts = and_parts (not (some_takes_none (stages meaning d.pipeline))) (is_below (size_of d.buffer) (held_of d.buffer)) can in
     seq-nothing (stages meaning d.pipeline) None (not-true (some_takes_none (stages meaning d.pipeline)) parts.0)
 
 module _ {L T : Type 0} (meaning : L → Meaning T) (decided : Bool) where
   -- nothing was offered to a new merger
-  pub begun-rests : (w : Work L T) (d : Deliver L T) (ops : List (Op L)) (size : Option ℕ) → decided ≡ false → Waits w.order w.row [] → w.taker ≡ d → can_deliver meaning d ≡ true
+  pub begun-rests : (w : Work L T) (d : Deliver L T) (ops : List (Op L)) (size : Option ℕ) → decided ≡ false → Waits w.order w.row [] → w.taker ≡ d
+      → can_deliver meaning d ≡ true
       → line_of meaning d ≡ record { after = stages_of meaning ops; now = stages_of meaning ops; held = []; size = size } → Rests meaning decided w []
   begun-rests w d ops size undecided waits same can begun =
-      let line : line_of meaning w.taker ≡ record { after = stages_of meaning ops; now = stages_of meaning ops; held = []; size = size } = ap (line_of meaning) same ∙ begun in
+      let line : line_of meaning w.taker ≡ record { after = stages_of meaning ops; now = stages_of meaning ops; held = []; size = size } =
+      ap (line_of meaning) same ∙ begun in
       let start : stages_of meaning w.taker.pipeline.ops ≡ stages meaning w.taker.pipeline = ap (λ l. l.after) line ∙ sym (ap (λ l. l.now) line) in
       record {
         undecided = undecided;

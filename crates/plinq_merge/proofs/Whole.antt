@@ -74,7 +74,8 @@ module _ {L T : Type 0} (meaning : L → Meaning T) (worker : List (Op L)) (t : 
 
 -- ---- what the tails say
 
-pub told-true : {T : Type 0} (t : Trace T) (source_end : Option (ℕ × Ending)) (offers : List (ChunkResult T)) → IfSome source_end (EndsAt t) → AreTrueTails t offers → IfSome (all_told source_end offers) (EndsAt t)
+pub told-true : {T : Type 0} (t : Trace T) (source_end : Option (ℕ × Ending)) (offers : List (ChunkResult T)) → IfSome source_end (EndsAt t)
+    → AreTrueTails t offers → IfSome (all_told source_end offers) (EndsAt t)
 told-true t source_end [] here tails = here
 told-true t None (r ∷ rs) here tails = told-true t (told_at (end_of_result r) r.tail) rs tails.0 tails.1
 told-true t (Some at) (r ∷ rs) here tails = told-true t (Some at) rs here tails.1
@@ -86,8 +87,10 @@ pub record ArePlaced {T : Type 0} (before : List (Interval (Trace T))) (offers :
   pub apart : are_apart 0 after ≡ true
   pub keys : (key : ℕ) → has_key after key ≡ has_key before key || is_offered offers key
 
-placed_intervals-one : {T : Type 0} (order : Order) (ps : List (Interval (Trace T))) (r : ChunkResult T) → are_apart 0 ps ≡ true → IsFree ps r.first (end_of_result r)
-    → (are_apart 0 (placed_intervals order ps r) ≡ true) × ((key : ℕ) → has_key (placed_intervals order ps r) key ≡ has_key ps key || is_within r.first (end_of_result r) key)
+placed_intervals-one : {T : Type 0} (order : Order) (ps : List (Interval (Trace T))) (r : ChunkResult T) → are_apart 0 ps ≡ true
+    → IsFree ps r.first (end_of_result r)
+    → (are_apart 0 (placed_intervals order ps r) ≡ true) × ((key : ℕ) → has_key (placed_intervals order ps r) key ≡ has_key ps key
+    || is_within r.first (end_of_result r) key)
 placed_intervals-one order ps r apart free =
     elim (cases_lt 0 r.count) [
       | inl some ↦
@@ -122,12 +125,14 @@ module _ {L T : Type 0} (meaning : L → Meaning T) (worker : List (Op L)) (t : 
     pub next : followed_by (before p.0) p.1.payload ≡ before p.1.end
     pub within : p.1.end ≤ length t.items
 
-  are-of_source : (offers : List (ChunkResult T)) → AreOffers meaning worker t offers → All (λ r. IsOfSource (r.first, record { end = end_of_result r; payload = result_trace r })) offers
+  are-of_source : (offers : List (ChunkResult T)) → AreOffers meaning worker t offers
+      → All (λ r. IsOfSource (r.first, record { end = end_of_result r; payload = result_trace r })) offers
   are-of_source [] are = All-nil (λ r. IsOfSource (r.first, record { end = end_of_result r; payload = result_trace r }))
   are-of_source (r ∷ rs) are =
       let offer = are.0 in
       All-cons (λ r. IsOfSource (r.first, record { end = end_of_result r; payload = result_trace r })) r rs
-      (record { next = row-next meaning worker t r few offer; within = omega (arith, offer.made.first, offer.made.count, offer.within) }) (are-of_source rs are.1)
+      (record { next = row-next meaning worker t r few offer; within = omega (arith, offer.made.first, offer.made.count, offer.within) })
+      (are-of_source rs are.1)
 
   all-of_source : (offers : List (ChunkResult T)) → AreOffers meaning worker t offers → All IsOfSource (all_placed ByKey [] offers)
   all-of_source offers are = All-placed IsOfSource ByKey [] offers (All-nil IsOfSource) (are-of_source offers are)
@@ -142,7 +147,8 @@ module _ {L T : Type 0} (meaning : L → Meaning T) (worker : List (Op L)) (t : 
 
   -- so the offers merge to what the items before the first gap give, and the source's ending if this is its place
   merged_trace-gap : (offers : List (ChunkResult T)) → AreOffers meaning worker t offers
-      → merged_trace ByKey offers ≡ followed_by (before (first_gap 0 (all_placed ByKey [] offers))) (trace_of [] (ending_at (all_told None offers) (first_gap 0 (all_placed ByKey [] offers))))
+      → merged_trace ByKey offers ≡ followed_by (before (first_gap 0 (all_placed ByKey [] offers)))
+      (trace_of [] (ending_at (all_told None offers) (first_gap 0 (all_placed ByKey [] offers))))
   merged_trace-gap offers are =
       let ps : List (Interval (Trace T)) = all_placed ByKey [] offers in
       let gives = row-gives 0 (unbroken_row 0 ps) (first_gap 0 ps) (row-of-unbroken_row 0 ps) (All-unbroken_row IsOfSource 0 ps (all-of_source offers are)) in
@@ -169,12 +175,16 @@ module _ {L T : Type 0} (meaning : L → Meaning T) (worker : List (Op L)) (t : 
             ∙ rw (followed_by-open_nil (before key)) (glued_trace-append meaning worker 0 (take key t.items) (drop key t.items) t.ending),
       )
 
-  gap-begins : (source_end : Option (ℕ × Ending)) (key : ℕ) → IfSome source_end (EndsAt t) → Begins (followed_by (before key) (trace_of [] (ending_at source_end key)))
+  gap-begins : (source_end : Option (ℕ × Ending)) (key : ℕ) → IfSome source_end (EndsAt t)
+      → Begins (followed_by (before key) (trace_of [] (ending_at source_end key)))
   gap-begins None key is = open-begins key
   gap-begins (Some at) key is =
       elim (at.0 == key) as (λ v. v ≡ (at.0 == key) → Begins (followed_by (before key) (trace_of [] (cond v (Some at.1) None)))) [
-        | true ↦ λ test.
-            (open_trace [], glue-at_end key at.1 (sym (same_key at.0 key (sym test)) ∙ is.0) is.1 ∙ sym (followed_by-open_nil (followed_by (before key) (trace_of [] (Some at.1)))))
+        | true ↦ λ test. (
+          open_trace [],
+          glue-at_end key at.1 (sym (same_key at.0 key (sym test)) ∙ is.0) is.1
+              ∙ sym (followed_by-open_nil (followed_by (before key) (trace_of [] (Some at.1)))),
+        )
         | false ↦ λ test. open-begins key
       ] refl
 
@@ -209,8 +219,11 @@ module _ {L T : Type 0} (meaning : L → Meaning T) (worker : List (Op L)) (t : 
   answer-begins : (rest : Trace T) × (seq merge.after (glue meaning worker t) ≡ followed_by (answer merge offers) rest)
   answer-begins =
       let begins = merged_trace-begins meaning worker t few offers are tails in
-      let rest : Trace T = seq (seq_after merge.after (merged_trace ByKey offers)) begins.0 in
-      (rest, ap (seq merge.after) begins.1 ∙ seq-followed_by merge.after (merged_trace ByKey offers) begins.0 ∙ ap (λ u. followed_by u rest) (sym by_key-answer))
+      let rest : Trace T = seq (seq_after merge.after (merged_trace ByKey offers)) begins.0 in (
+        rest,
+        ap (seq merge.after) begins.1 ∙ seq-followed_by merge.after (merged_trace ByKey offers) begins.0
+            ∙ ap (λ u. followed_by u rest) (sym by_key-answer),
+      )
 
   pub shown_batches-first : AreFirstOf (shown_batches merge offers) (batches_from merge.size [] (seq merge.after (glue meaning worker t)))
   shown_batches-first =

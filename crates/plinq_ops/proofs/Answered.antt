@@ -1,5 +1,6 @@
 -- From the items that were fed to the answer to the whole trace.
-use Rattle.std.specs.Prelude.{◌≡◌, ℕ, ◌+◌, ◌-◌, ◌<◌, ◌≤◌, List, [], ◌∷◌, ◌++◌, length, take, drop, nat_lt, if◌then◌else◌, Bool, true, false, Option, Some, None, IsSome, refl}
+use Rattle.std.specs.Prelude.{◌≡◌, ℕ, ◌+◌, ◌-◌, ◌<◌, ◌≤◌, List, [], ◌∷◌, ◌++◌, length, take, drop, nat_lt, if◌then◌else◌, Bool, true, false, Option}
+use Rattle.std.specs.Prelude.{Some, None, IsSome, refl}
 use Rattle.std.proofs.Common.{sym, ◌∙◌, ap, arith, append-nil, append_assoc, length-drop}
 use Rattle.std.proofs.lemmas.Bool.Decides.{nat_tests}
 use Rattle.std.proofs.lemmas.List.{take-append-drop, take-take, take_all, length-take, length-take-le, length-append}
@@ -60,7 +61,8 @@ take-block {T} xs n most within =
     let block : List T = take most (drop n xs) in
     let others : block ++ drop most (drop n xs) ≡ drop n xs = take-append-drop most (drop n xs) in
     let long : length (take n xs) ≡ n = length-take-le n xs within in
-    let whole : (take n xs ++ block) ++ drop most (drop n xs) ≡ xs = append_assoc (take n xs) block (drop most (drop n xs)) ∙ ap (λ ys. take n xs ++ ys) others ∙ take-append-drop n xs in
+    let whole : (take n xs ++ block) ++ drop most (drop n xs) ≡ xs =
+    append_assoc (take n xs) block (drop most (drop n xs)) ∙ ap (λ ys. take n xs ++ ys) others ∙ take-append-drop n xs in
     let count : n + length block ≡ length (take n xs ++ block) = ap (λ k. k + length block) (sym long) ∙ sym (length-append (take n xs) block) in
     ap (λ k. take k xs) count ∙ ap (take (length (take n xs ++ block))) (sym whole) ∙ take-append_seam (take n xs ++ block) (drop most (drop n xs))
 
@@ -91,7 +93,8 @@ given-if t n most false some within less ends =
 -- and a block of it
 pub given-fill : {T : Type 0} (t : Trace T) (n most m : ℕ) (xs : List T) (o : Option Ending) → 0 < most → IsSourceEnding t.ending → n ≤ length t.items
     → xs ≡ items_from t n most → o ≡ ending_within t n most → m ≡ n + length (items_from t n most) → IsGiven t n (trace_of xs o) m
-given-fill t n most m xs o some ends within items ending moved = rw (moved, items, ending) (given-if t n most (nat_lt (length t.items - n) most) some within refl ends)
+given-fill t n most m xs o some ends within items ending moved =
+    rw (moved, items, ending) (given-if t n most (nat_lt (length t.items - n) most) some within refl ends)
 
 -- ---- what was fed of it
 
@@ -133,7 +136,8 @@ decided-seen_trace ss ss'' t m before after (Some f) e fed = fed
 pub fed-over : {T : Type 0} (ss ss' ss'' : List (Stage T)) (t : Trace T) (n m : ℕ) (before between after : List T) (e : Ending)
     → IsFed ss (first_items n t) before between ss' None → FeedsFrom ss' t n m between after ss'' (Some e) → IsFed ss t before after ss'' (Some e)
 fed-over ss ss' ss'' t n m before between after e first next =
-    decided-seen_trace ss ss'' t m before after next.piece.ending e (fed-given ss ss' ss'' t next.piece n m before between after (Some e) next.given first next.fed)
+    decided-seen_trace ss ss'' t m before after next.piece.ending e (fed-given ss ss' ss'' t next.piece n m before between after
+    (Some e) next.given first next.fed)
 
 -- where so many items leave the answer open, fewer do
 open-up_to : {T : Type 0} (ss : List (Stage T)) (t : Trace T) (n j : ℕ) → (seq ss (first_items n t)).ending ≡ None → j ≤ n
@@ -156,11 +160,14 @@ deciding-over size ss ss' ss'' t n m before between after e block first next =
     record {
       within = next.given.within;
       open_before = λ some. open-up_to ss t n (m - size) (sym first.told) (omega (arith, block));
-      decided = decided-where_open ss ss'' t m before after next.piece.ending e next.given.all (fed-given ss ss' ss'' t next.piece n m before between after (Some e) next.given first next.fed);
+      decided =
+          decided-where_open ss ss'' t m before after next.piece.ending e next.given.all (fed-given ss ss' ss'' t next.piece n m before between after
+          (Some e) next.given first next.fed);
     }
 
 -- nor do those before the last of greater blocks
-pub deciding-wider : {T : Type 0} (size most : ℕ) (ss : List (Stage T)) (t : Trace T) (n : ℕ) → size ≤ most → IsDecidingInBlocks size ss t n → IsDecidingInBlocks most ss t n
+pub deciding-wider : {T : Type 0} (size most : ℕ) (ss : List (Stage T)) (t : Trace T) (n : ℕ) → size ≤ most → IsDecidingInBlocks size ss t n
+    → IsDecidingInBlocks most ss t n
 deciding-wider size most ss t n wider is =
     record { within = is.within; open_before = λ some. open-up_to ss t (n - size) (n - most) (is.open_before some) (omega arith); decided = is.decided }
 
@@ -171,12 +178,14 @@ deciding-singly ss t n is =
 
 pub least-over : {T : Type 0} (ss ss' ss'' : List (Stage T)) (t : Trace T) (n m : ℕ) (before between after : List T) (e : Ending) → m ≤ n + 1
     → IsFed ss (first_items n t) before between ss' None → FeedsFrom ss' t n m between after ss'' (Some e) → IsLeastDeciding ss t m
-least-over ss ss' ss'' t n m before between after e one first next = deciding-singly ss t m (deciding-over 1 ss ss' ss'' t n m before between after e one first next)
+least-over ss ss' ss'' t n m before between after e one first next =
+    deciding-singly ss t m (deciding-over 1 ss ss' ss'' t n m before between after e one first next)
 
 -- a Take of none decides the answer with no item
 pub answer-of_none : {T : Type 0} (ss : List (Stage T)) (t : Trace T) → some_takes_none ss ≡ true → seq ss t ≡ ended_trace [] End
 answer-of_none ss t none =
-    seq-followed_by ss (open_trace []) t ∙ followed_by-ended (seq ss (open_trace [])) _ End (ap (λ u. u.ending) (seq-takes_none ss none)) ∙ seq-takes_none ss none
+    seq-followed_by ss (open_trace []) t ∙ followed_by-ended (seq ss (open_trace [])) _ End (ap (λ u. u.ending) (seq-takes_none ss none))
+    ∙ seq-takes_none ss none
 
 pub deciding-of_none : {T : Type 0} (size : ℕ) (ss : List (Stage T)) (t : Trace T) → some_takes_none ss ≡ true → IsDecidingInBlocks size ss t 0
 deciding-of_none size ss t none =

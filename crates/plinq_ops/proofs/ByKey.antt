@@ -1,5 +1,6 @@
 -- Operators that a worker applies by key: on the element at a position they do what is left of them there.
-use Rattle.std.specs.Prelude.{◌≡◌, ℕ, ◌+◌, ◌-◌, ◌<◌, ◌≤◌, ℤ, pos, negsuc, ◌+ℤ◌, ◌-ℤ◌, ◌<ℤ◌, List, [], ◌∷◌, length, drop, Bool, true, false, cond, Option, None, Result, Ok, Err, refl}
+use Rattle.std.specs.Prelude.{◌≡◌, ℕ, ◌+◌, ◌-◌, ◌<◌, ◌≤◌, ℤ, pos, negsuc, ◌+ℤ◌, ◌-ℤ◌, ◌<ℤ◌, List, [], ◌∷◌, length, drop, Bool, true, false, cond}
+use Rattle.std.specs.Prelude.{Option, None, Result, Ok, Err, refl}
 use Rattle.std.specs.List.{list_any}
 use Rattle.std.proofs.Common.{sym, ◌∙◌, ap, subst, inl, inr, arith}
 use Rattle.std.proofs.lemmas.Int.{ints}
@@ -55,7 +56,8 @@ at-ended_here (no_item e) = (refl, no_item e)
 at-ended_here (one_item x) = (refl, last_item x)
 at-ended_here (last_item x) = (refl, last_item x)
 
-at-joined_pieces : {T : Type 0} (piece : T → Trace T) {p : ℤ} {t : Trace T} → ((k : ℕ) (x : T) → IsAt T (pos k) (piece x)) → IsAt T p t → IsAt T p (joined_pieces piece t.items t.ending)
+at-joined_pieces : {T : Type 0} (piece : T → Trace T) {p : ℤ} {t : Trace T} → ((k : ℕ) (x : T) → IsAt T (pos k) (piece x)) → IsAt T p t
+    → IsAt T p (joined_pieces piece t.items t.ending)
 at-joined_pieces piece each (not_reached e) = not_reached e
 at-joined_pieces piece each (no_item e) = no_item e
 at-joined_pieces {T} piece each (one_item {k = k} x) = subst (IsAt T (pos k)) (sym (followed_by-open_nil (piece x))) (each k x)
@@ -70,7 +72,8 @@ at-taken_while k (Ok true) x = one_item x
 at-taken_while k (Ok false) x = no_item End
 at-taken_while k (Err code) x = no_item (Fault code)
 
-at-taken_trace : {T : Type 0} (c k : ℕ) (t : Trace T) → 0 < c → IsAt T (pos k) t → (taken_at (pos c) (pos k) t ≡ taken_trace (c - k) t) × IsAt T (pos k) (taken_at (pos c) (pos k) t)
+at-taken_trace : {T : Type 0} (c k : ℕ) (t : Trace T) → 0 < c → IsAt T (pos k) t
+    → (taken_at (pos c) (pos k) t ≡ taken_trace (c - k) t) × IsAt T (pos k) (taken_at (pos c) (pos k) t)
 at-taken_trace {T} c k t some at =
     let here = at-ended_here at in
     let less : pos c -ℤ pos 1 ≡ pos (c - 1) = omega (arith, ints, some) in
@@ -119,13 +122,18 @@ passed-skip {L} {T} meaning n (pos k) t at =
       | inr w ↦
           let is : skipped_at (pos c) (pos k) t ≡ trace_of [] t.ending = rw (lt-ltb k c w.1) refl in
           let all : drop (c - k) t.items ≡ [] = drop_all (c - k) t.items (omega (arith, w.1, length-at at)) in
-          record { same = is ∙ ap (λ ys. trace_of ys t.ending) (sym all); at = λ keeps. rw is (at-below T (pos k -ℤ pos c) t.ending (omega (arith, ints, w.1))) }
+          record {
+            same = is ∙ ap (λ ys. trace_of ys t.ending) (sym all);
+            at = λ keeps. rw is
+                (at-below T (pos k -ℤ pos c) t.ending (omega (arith, ints, w.1)));
+          }
     ]
 passed-skip {L} {T} meaning n (negsuc k) t (not_reached e) =
     let c : ℕ = item_count n in
     record { same = ap (λ ys. trace_of ys e) (sym (drop-nil (c - 0))); at = λ keeps. at-below T (negsuc k -ℤ pos c) e (omega (arith, ints)) }
 
-passed-at : {L T : Type 0} (meaning : L → Meaning T) (op : Op L) (p : ℤ) (t : Trace T) → can_apply Position op ≡ true → is_empty_take op ≡ false → IsAt T p t → IsPassedAt meaning op p t
+passed-at : {L T : Type 0} (meaning : L → Meaning T) (op : Op L) (p : ℤ) (t : Trace T) → can_apply Position op ≡ true → is_empty_take op ≡ false
+    → IsAt T p t → IsPassedAt meaning op p t
 passed-at meaning (Select f) p t keyed some at = record { same = refl; at = λ keeps. at-joined_pieces _ (λ k x. at-selected_piece k ((meaning f).map x)) at }
 passed-at meaning (Take n) p t keyed some at = passed-take meaning n p t (grind (arith, nat_tests)) at
 passed-at meaning (Skip n) p t keyed some at = passed-skip meaning n p t at
@@ -172,7 +180,8 @@ record IsKeyedAt {L T : Type 0} (meaning : L → Meaning T) (ops : List (Op L)) 
   pub same : fragment_at meaning ops p t ≡ seq (left_at meaning ops p) t
   pub next : (seq (left_at meaning ops p) t).ending ≡ None → seq_after (left_at meaning ops p) t ≡ left_at meaning ops (p +ℤ pos 1)
 
-keyed-at : {L T : Type 0} (meaning : L → Meaning T) (ops : List (Op L)) (p : ℤ) (t : Trace T) → is_by_key ops ≡ true → list_any is_empty_take ops ≡ false → IsAt T p t → IsKeyedAt meaning ops p t
+keyed-at : {L T : Type 0} (meaning : L → Meaning T) (ops : List (Op L)) (p : ℤ) (t : Trace T) → is_by_key ops ≡ true
+    → list_any is_empty_take ops ≡ false → IsAt T p t → IsKeyedAt meaning ops p t
 keyed-at meaning [] p t keyed some at = record { same = refl; next = λ is_open. refl }
 keyed-at {L} {T} meaning (op ∷ ops) p t keyed some at =
     let both = and_parts (can_apply Position op) (is_by_key_from (known_after Position op) ops) keyed in
@@ -190,12 +199,15 @@ keyed-at {L} {T} meaning (op ∷ ops) p t keyed some at =
       same = others.same ∙ ap (seq left) passed.same;
       next = λ is_open.
           let first = after-at meaning op p t both.0 at (open-from_seq (left_at meaning (op ∷ ops) p) t is_open) in
-          let rest = ap (seq_after left) (sym passed.same) ∙ others.next (ap (λ v. (seq left v).ending) passed.same ∙ is_open) ∙ ap (left_at meaning ops) (position_after-next op p) in
+          let rest =
+          ap (seq_after left) (sym passed.same) ∙ others.next (ap (λ v. (seq left v).ending) passed.same ∙ is_open)
+          ∙ ap (left_at meaning ops) (position_after-next op p) in
           cc;
     }
 
 -- the element of a key gives its fragment
-pub fragment_of-keyed : {L T : Type 0} (meaning : L → Meaning T) (ops : List (Op L)) (key : ℕ) (x : T) → is_by_key ops ≡ true → list_any is_empty_take ops ≡ false
+pub fragment_of-keyed : {L T : Type 0} (meaning : L → Meaning T) (ops : List (Op L)) (key : ℕ) (x : T) → is_by_key ops ≡ true
+    → list_any is_empty_take ops ≡ false
     → fragment_of meaning ops key x ≡ seq (left_at meaning ops (pos key)) (open_trace (x ∷ []))
 fragment_of-keyed meaning ops key x keyed some = (keyed-at meaning ops (pos key) (open_trace (x ∷ [])) keyed some (one_item x)).same
 
@@ -233,8 +245,10 @@ pub left_at-start : {L T : Type 0} (meaning : L → Meaning T) (ops : List (Op L
 left_at-start meaning ops = sym (stages_at-position meaning ops (pos 0)) ∙ stages_at-start meaning ops 0 refl
 
 -- which a pipeline does that they have reached
-pub stages-reached : {L T : Type 0} (meaning : L → Meaning T) (ops : List (Op L)) (key : ℕ) (p : PipelineView L) → IsReached meaning ops key p → stages meaning p ≡ left_at meaning ops (pos key)
+pub stages-reached : {L T : Type 0} (meaning : L → Meaning T) (ops : List (Op L)) (key : ℕ) (p : PipelineView L) → IsReached meaning ops key p
+    → stages meaning p ≡ left_at meaning ops (pos key)
 stages-reached meaning ops key p reached = reached.left ∙ stages_at-position meaning ops (pos key)
 
-pub stages-begun : {L T : Type 0} (meaning : L → Meaning T) (ops : List (Op L)) (p : PipelineView L) → IsReached meaning ops 0 p → stages meaning p ≡ stages_of meaning ops
+pub stages-begun : {L T : Type 0} (meaning : L → Meaning T) (ops : List (Op L)) (p : PipelineView L) → IsReached meaning ops 0 p
+    → stages meaning p ≡ stages_of meaning ops
 stages-begun meaning ops p reached = reached.left ∙ stages_at-start meaning ops 0 refl

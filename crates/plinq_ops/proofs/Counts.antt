@@ -9,7 +9,8 @@ use Rattle.plinq_ops.specs.Feeding.{is_empty_take}
 use Rattle.plinq_ops.proofs.Operators.{takes_none-stage_of}
 
 -- an operator that is a Take of none is a stage that takes none
-pub some_takes_none-stages_of : {L T : Type 0} (meaning : L → Meaning T) (ops : List (Op L)) → list_any is_empty_take ops ≡ some_takes_none (stages_of meaning ops)
+pub some_takes_none-stages_of : {L T : Type 0} (meaning : L → Meaning T) (ops : List (Op L))
+    → list_any is_empty_take ops ≡ some_takes_none (stages_of meaning ops)
 some_takes_none-stages_of meaning [] = refl
 some_takes_none-stages_of meaning (op ∷ ops) =
     let first = takes_none-stage_of meaning op in

@@ -10,7 +10,8 @@ use Rattle.plinq_ops.proofs.Stages.{seq-followed_by}
 use Rattle.plinq_ops.proofs.Open.{seq-nothing, seq_after-nothing, seq_after-followed_by, some-where_open, seq_after-open}
 
 -- the operators but the first see this trace in the place of the items and their ending
-pub fed-through : {T : Type 0} (s s' : Stage T) (xs : List T) (told : Option Ending) (t : Trace T) (ss ss' : List (Stage T)) (before after : List T) (e : Option Ending)
+pub fed-through : {T : Type 0} (s s' : Stage T) (xs : List T) (told : Option Ending) (t : Trace T) (ss ss' : List (Stage T)) (before after : List T)
+    (e : Option Ending)
     → apply s (trace_of xs told) ≡ t → stage_after s xs ≡ s' → IsFed ss t before after ss' e
     → IsFed (s ∷ ss) (trace_of xs told) before after (s' ∷ ss') e
 fed-through s s' xs told t ss ss' before after e is rest fed =

@@ -24,7 +24,8 @@ use Rattle.plinq_ops.proofs.Parts.{worker-after, worker_part-by_key, parts-undec
 use Rattle.plinq_ops.proofs.ByKey.{fragment_of-keyed, left_at-next, left_at-start}
 
 -- the glued fragments of items from a key on are what is left of the operators there makes of them
-pub glued_trace-keyed : {L T : Type 0} (meaning : L → Meaning T) (worker : List (Op L)) (key : ℕ) (xs : List T) (e : Option Ending) → is_by_key worker ≡ true → list_any is_empty_take worker ≡ false
+pub glued_trace-keyed : {L T : Type 0} (meaning : L → Meaning T) (worker : List (Op L)) (key : ℕ) (xs : List T) (e : Option Ending)
+    → is_by_key worker ≡ true → list_any is_empty_take worker ≡ false
     → some_takes_none (left_at meaning worker (pos key)) ≡ false → glued_trace meaning worker key xs e ≡ seq (left_at meaning worker (pos key)) (trace_of xs e)
 glued_trace-keyed meaning worker key [] e keyed some undecided = sym (seq-nothing (left_at meaning worker (pos key)) e undecided)
 glued_trace-keyed {L} {T} meaning worker key (x ∷ xs) e keyed some undecided =
@@ -63,7 +64,8 @@ pub answer_of-split : {L T : Type 0} (meaning : L → Meaning T) (order : Order)
 answer_of-split meaning order ops t some =
     ap (λ both. answer_of meaning both t) (sym (worker-after (known_at_source order) ops))
     ∙ seq-append meaning (worker_part order ops) (after_part order ops) t
-    ∙ ap (seq (stages_of meaning (after_part order ops))) (sym (glue-keyed meaning (worker_part order ops) t (worker_part-by_key order ops) (parts-undecided order ops some).0))
+    ∙ ap (seq (stages_of meaning (after_part order ops))) (sym (glue-keyed meaning (worker_part order ops) t (worker_part-by_key order ops)
+    (parts-undecided order ops some).0))
 
 -- chunks one after another glue to the whole
 pub glued_trace-append : {L T : Type 0} (meaning : L → Meaning T) (worker : List (Op L)) (key : ℕ) (xs ys : List T) (e : Option Ending)
@@ -72,10 +74,13 @@ glued_trace-append meaning worker key [] ys e = ap (λ k. glued_trace meaning wo
 glued_trace-append meaning worker key (x ∷ xs) ys e =
     ap (followed_by (fragment_of meaning worker key x))
     (glued_trace-append meaning worker (key + 1) xs ys e
-    ∙ ap (λ k. followed_by (glued_trace meaning worker (key + 1) xs None) (glued_trace meaning worker k ys e)) (let same : (key + 1) + length xs ≡ key + length (x ∷ xs) = omega arith in same))
-    ∙ sym (followed_by-followed_by (fragment_of meaning worker key x) (glued_trace meaning worker (key + 1) xs None) (glued_trace meaning worker (key + length (x ∷ xs)) ys e))
+    ∙ ap (λ k. followed_by (glued_trace meaning worker (key + 1) xs None) (glued_trace meaning worker k ys e))
+    (let same : (key + 1) + length xs ≡ key + length (x ∷ xs) = omega arith in same))
+    ∙ sym (followed_by-followed_by (fragment_of meaning worker key x) (glued_trace meaning worker (key + 1) xs None)
+    (glued_trace meaning worker (key + length (x ∷ xs)) ys e))
 
-before_answer-trace : {T : Type 0} (key : ℕ) (xs : List T) (e : Option Ending) (a : ChunkAnswer T) → (before_answer key xs e a).trace ≡ continued_by xs e a.trace
+before_answer-trace : {T : Type 0} (key : ℕ) (xs : List T) (e : Option Ending) (a : ChunkAnswer T)
+    → (before_answer key xs e a).trace ≡ continued_by xs e a.trace
 before_answer-trace key xs None a = refl
 before_answer-trace key xs (Some e) a = refl
 

@@ -37,7 +37,8 @@ batches_from-followed_by size held xs t =
     let kept = held_back-append size held xs t.items in
     ap (λ bs. bs ++ last_batch size (held_back size held (xs ++ t.items)) t.ending) full
     ∙ ap (λ rest. (full_batches size held xs ++ full_batches size (held_back size held xs) t.items) ++ last_batch size rest t.ending) kept
-    ∙ append_assoc (full_batches size held xs) (full_batches size (held_back size held xs) t.items) (last_batch size (held_back size (held_back size held xs) t.items) t.ending)
+    ∙ append_assoc (full_batches size held xs) (full_batches size (held_back size held xs) t.items)
+    (last_batch size (held_back size (held_back size held xs) t.items) t.ending)
 
 last_batch-open : {T : Type 0} (size : Option ℕ) (held : List T) → last_batch size held None ≡ []
 last_batch-open size [] = refl
@@ -56,7 +57,8 @@ batches_from-grown size held xs t =
     ∙ ap (λ bs. bs ++ batches_from size (held_back size held xs) t) (sym (batches_from-open size held xs))
 
 -- where the batch is full it is gone, and else there is still room in it
-either-fewer : {T : Type 0} (full : Bool) (n size : ℕ) (emptied kept : List T) → (n == size) ≡ full → n ≤ size → length emptied < size → (n < size → length kept < size) → length (cond full emptied kept) < size
+either-fewer : {T : Type 0} (full : Bool) (n size : ℕ) (emptied kept : List T) → (n == size) ≡ full → n ≤ size → length emptied < size
+    → (n < size → length kept < size) → length (cond full emptied kept) < size
 either-fewer true n size emptied kept is within gone more = gone
 either-fewer false n size emptied kept is within gone more = more (grind (arith, nat_tests))
 
@@ -68,7 +70,8 @@ held_back-fewer size held (x ∷ xs) fewer =
     (held_back-fewer size [] xs (omega arith))
     (λ room. held_back-fewer size (held ++ x ∷ []) xs (omega (arith, length-append held (x ∷ []))))
 
-pub held_back-fewer_than_batch : {T : Type 0} (option : MergeOption) (xs : List T) → IfSome (batch_size option) (λ size. length (held_back (batch_size option) [] xs) < size)
+pub held_back-fewer_than_batch : {T : Type 0} (option : MergeOption) (xs : List T)
+    → IfSome (batch_size option) (λ size. length (held_back (batch_size option) [] xs) < size)
 held_back-fewer_than_batch Default xs = held_back-fewer 16 [] xs (omega arith)
 held_back-fewer_than_batch NotBuffered xs = held_back-fewer 1 [] xs (omega arith)
 held_back-fewer_than_batch AutoBuffered xs = held_back-fewer 16 [] xs (omega arith)

@@ -25,18 +25,22 @@ mapped-first (Ok y) rest = refl
 mapped-first (Err code) rest = refl
 
 -- mapped items are the pieces of a Select
-pub joined_pieces-mapped : {L T : Type 0} (meaning : L → Meaning T) (f : L) (xs : List T) → trace_of_block (mapped_block (meaning f).map xs) ≡ joined_pieces (select_piece meaning f) xs None
+pub joined_pieces-mapped : {L T : Type 0} (meaning : L → Meaning T) (f : L) (xs : List T)
+    → trace_of_block (mapped_block (meaning f).map xs) ≡ joined_pieces (select_piece meaning f) xs None
 joined_pieces-mapped meaning f [] = refl
 joined_pieces-mapped meaning f (x ∷ xs) =
     mapped-first ((meaning f).map x) (mapped_block (meaning f).map xs) ∙ ap (followed_by (select_piece meaning f x)) (joined_pieces-mapped meaning f xs)
 
-filtered_piece-first : {T : Type 0} (r : Result Bool ℕ) (x : T) (rest : BlockResult T) → trace_of_block (filtered_from r x rest) ≡ followed_by (filtered_piece r x) (trace_of_block rest)
+filtered_piece-first : {T : Type 0} (r : Result Bool ℕ) (x : T) (rest : BlockResult T)
+    → trace_of_block (filtered_from r x rest) ≡ followed_by (filtered_piece r x) (trace_of_block rest)
 filtered_piece-first (Ok true) x rest = refl
 filtered_piece-first (Ok false) x rest = refl
 filtered_piece-first (Err code) x rest = refl
 
 -- those that pass are the pieces of a Where
-pub joined_pieces-filtered : {L T : Type 0} (meaning : L → Meaning T) (f : L) (xs : List T) → trace_of_block (filtered_block (meaning f).test xs) ≡ joined_pieces (filter_piece meaning f) xs None
+pub joined_pieces-filtered : {L T : Type 0} (meaning : L → Meaning T) (f : L) (xs : List T)
+    → trace_of_block (filtered_block (meaning f).test xs) ≡ joined_pieces (filter_piece meaning f) xs None
 joined_pieces-filtered meaning f [] = refl
 joined_pieces-filtered meaning f (x ∷ xs) =
-    filtered_piece-first ((meaning f).test x) x (filtered_block (meaning f).test xs) ∙ ap (followed_by (filter_piece meaning f x)) (joined_pieces-filtered meaning f xs)
+    filtered_piece-first ((meaning f).test x) x (filtered_block (meaning f).test xs)
+    ∙ ap (followed_by (filter_piece meaning f x)) (joined_pieces-filtered meaning f xs)

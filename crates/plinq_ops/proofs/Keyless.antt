@@ -11,7 +11,8 @@ use Rattle.plinq_ops.specs.ByKey.{is_keyless, are_keyless}
 use Rattle.plinq_ops.proofs.Operators.{apply_at-keyless}
 
 module _ {L T : Type 0} (meaning : L → Meaning T) where
-  fragment_at-keyless : (worker : List (Op L)) (p q : ℤ) (t : Trace T) → are_keyless worker ≡ true → fragment_at meaning worker p t ≡ fragment_at meaning worker q t
+  fragment_at-keyless : (worker : List (Op L)) (p q : ℤ) (t : Trace T) → are_keyless worker ≡ true
+      → fragment_at meaning worker p t ≡ fragment_at meaning worker q t
   fragment_at-keyless [] p q t keyless = refl
   fragment_at-keyless (op ∷ ops) p q t keyless =
       let both = and_parts (is_keyless op) (are_keyless ops) keyless in
@@ -19,7 +20,8 @@ module _ {L T : Type 0} (meaning : L → Meaning T) where
       ∙ ap (fragment_at meaning ops (position_after op q)) (apply_at-keyless meaning op p q t both.0)
 
   -- the fragments of items are glued alike from each key on
-  pub glued_trace-keyless : (worker : List (Op L)) (j k : ℕ) (xs : List T) (e : Option Ending) → are_keyless worker ≡ true → glued_trace meaning worker j xs e ≡ glued_trace meaning worker k xs e
+  pub glued_trace-keyless : (worker : List (Op L)) (j k : ℕ) (xs : List T) (e : Option Ending) → are_keyless worker ≡ true
+      → glued_trace meaning worker j xs e ≡ glued_trace meaning worker k xs e
   glued_trace-keyless worker j k [] e keyless = refl
   glued_trace-keyless worker j k (x ∷ xs) e keyless =
       ap (λ u. followed_by u (glued_trace meaning worker (j + 1) xs e)) (fragment_at-keyless worker (pos j) (pos k) (open_trace (x ∷ [])) keyless)

@@ -7,7 +7,8 @@ use Rattle.plinq_source.specs.declared.ending.Ending.TheVariants.{End}
 use Rattle.plinq_source.specs.Trace.{Trace, open_trace, ended_trace, continued_by, followed_by}
 use Rattle.plinq_source.proofs.Followed.{trace_of, followed_by-ended, followed_by-open_nil}
 use Rattle.plinq_ops.specs.Stage.{Stage, apply, seq, stage_after, seq_after, takes_none, some_takes_none}
-use Rattle.plinq_ops.proofs.Stages.{is_some-apply, apply-followed_by, after-after, after-nothing, apply-nothing, apply-takes_none, apply-ended_nil, seq-followed_by}
+use Rattle.plinq_ops.proofs.Stages.{is_some-apply, apply-followed_by, after-after, after-nothing, apply-nothing, apply-takes_none, apply-ended_nil}
+use Rattle.plinq_ops.proofs.Stages.{seq-followed_by}
 
 pub is_some-seq : {T : Type 0} (ss : List (Stage T)) (t : Trace T) → is_some t.ending ≡ true → is_some (seq ss t).ending ≡ true
 is_some-seq [] t ends = ends
@@ -129,7 +130,8 @@ or_none (Some x) = refl
 
 apply-told_some : {T : Type 0} (s : Stage T) (xs : List T) (f : Ending) (e : Option Ending) → (apply s (open_trace xs)).ending ≡ e
     → apply s (ended_trace (xs ++ []) f) ≡ trace_of (apply s (open_trace xs)).items (option_or e (Some f))
-apply-told_some s xs f None is = seq-ending_of_open (s ∷ []) (open_trace xs) (apply s (open_trace xs)).items f (ap (trace_of (apply s (open_trace xs)).items) is)
+apply-told_some s xs f None is =
+    seq-ending_of_open (s ∷ []) (open_trace xs) (apply s (open_trace xs)).items f (ap (trace_of (apply s (open_trace xs)).items) is)
 apply-told_some s xs f (Some g) is =
     apply-followed_by s (open_trace xs) (ended_trace [] f)
     ∙ followed_by-ended (apply s (open_trace xs)) (apply (stage_after s xs) (ended_trace [] f)) g is

@@ -15,7 +15,8 @@ use Rattle.plinq_ops.specs.declared.op.Op.TheVariants.{Select, Filter, SelectMan
 use Rattle.plinq_ops.specs.declared.known.Known.TheVariants.{Nothing}
 use Rattle.plinq_ops.specs.SkipWhile.{skipped_from, skipped_while}
 use Rattle.plinq_ops.specs.Stage.{joined_pieces, apply, takes_none}
-use Rattle.plinq_ops.specs.Operator.{selected_piece, filtered_piece, selected_many, taken_while, stage_of, counted_off, stage_left, op_name, op_argument, ops_of, op_named}
+use Rattle.plinq_ops.specs.Operator.{selected_piece, filtered_piece, selected_many, taken_while, stage_of, counted_off, stage_left, op_name}
+use Rattle.plinq_ops.specs.Operator.{op_argument, ops_of, op_named}
 use Rattle.plinq_ops.specs.Feeding.{is_empty_take}
 use Rattle.plinq_ops.specs.ByKey.{can_apply}
 use Rattle.plinq_ops.specs.Fragment.{apply_at}
@@ -34,7 +35,8 @@ takes_none-stage_of meaning op = refl
 
 -- ---- what a worker can apply never refuses
 
-continued_by-ending : {T : Type 0} (xs : List T) (e : Option Ending) (t : Trace T) → IsWorkerEnding e → IsWorkerEnding t.ending → IsWorkerEnding (continued_by xs e t).ending
+continued_by-ending : {T : Type 0} (xs : List T) (e : Option Ending) (t : Trace T) → IsWorkerEnding e → IsWorkerEnding t.ending
+    → IsWorkerEnding (continued_by xs e t).ending
 continued_by-ending xs None t first second = second
 continued_by-ending xs (Some e) t first second = first
 
@@ -72,11 +74,13 @@ skipped_from-ending (Ok true) xs e rest ending others = others
 skipped_from-ending (Ok false) xs e rest ending others = ending
 skipped_from-ending (Err code) xs e rest ending others = tt
 
-skipped_while-ending : {T : Type 0} (test : T → Result Bool ℕ) (xs : List T) (e : Option Ending) → IsWorkerEnding e → IsWorkerEnding (skipped_while test xs e).ending
+skipped_while-ending : {T : Type 0} (test : T → Result Bool ℕ) (xs : List T) (e : Option Ending) → IsWorkerEnding e
+    → IsWorkerEnding (skipped_while test xs e).ending
 skipped_while-ending test [] e ending = ending
 skipped_while-ending test (x ∷ xs) e ending = skipped_from-ending (test x) (x ∷ xs) e (skipped_while test xs e) ending (skipped_while-ending test xs e ending)
 
-pub apply-ending : {L T : Type 0} (meaning : L → Meaning T) (op : Op L) (count : ℕ) (t : Trace T) → IsWorkerEnding t.ending → IsWorkerEnding (apply (stage_left meaning op count) t).ending
+pub apply-ending : {L T : Type 0} (meaning : L → Meaning T) (op : Op L) (count : ℕ) (t : Trace T) → IsWorkerEnding t.ending
+    → IsWorkerEnding (apply (stage_left meaning op count) t).ending
 apply-ending meaning (Select f) count t ending = joined_pieces-ending _ t.items t.ending (λ x. selected_piece-ending ((meaning f).map x)) ending
 apply-ending meaning (Filter f) count t ending = joined_pieces-ending _ t.items t.ending (λ x. filtered_piece-ending ((meaning f).test x) x) ending
 apply-ending meaning (SelectMany f) count t ending = joined_pieces-ending _ t.items t.ending (λ x. selected_many-ending ((meaning f).expand x)) ending
@@ -87,7 +91,8 @@ apply-ending meaning (SkipWhile f) count t ending = skipped_while-ending (meanin
 apply-ending meaning AsUnordered count t ending = ending
 
 -- an operator that looks at no key does the same at each
-pub apply_at-keyless : {L T : Type 0} (meaning : L → Meaning T) (op : Op L) (p q : ℤ) (t : Trace T) → can_apply Nothing op ≡ true → apply_at meaning op p t ≡ apply_at meaning op q t
+pub apply_at-keyless : {L T : Type 0} (meaning : L → Meaning T) (op : Op L) (p q : ℤ) (t : Trace T) → can_apply Nothing op ≡ true
+    → apply_at meaning op p t ≡ apply_at meaning op q t
 apply_at-keyless meaning (Take n) p q t keyless = absurd (let bad : false ≡ true = keyless in cc)
 apply_at-keyless meaning (Skip n) p q t keyless = absurd (let bad : false ≡ true = keyless in cc)
 apply_at-keyless meaning op p q t keyless = refl
@@ -103,5 +108,6 @@ ops_of-argument NoArgument = (refl, tt)
 ops_of-argument (Number n) = (refl, (refl, tt))
 ops_of-argument (FormulaArgument f) = (refl, (refl, (refl, (refl, (refl, tt)))))
 
-pub op_named-has : (argument : Argument) (word : List ℕ) (op : Op Formula) → op_named argument word ≡ Some op → (word ≡ op_name op) × (argument ≡ op_argument op)
+pub op_named-has : (argument : Argument) (word : List ℕ) (op : Op Formula) → op_named argument word ≡ Some op
+    → (word ≡ op_name op) × (argument ≡ op_argument op)
 op_named-has argument word op is = first_named-has (λ o. argument ≡ op_argument o) op_name (ops_of argument) word op (ops_of-argument argument) is

@@ -18,7 +18,8 @@ use Rattle.plinq_ops.specs.Plan.{known_at_source, worker_from, after_from, worke
 pub worker-after : {L : Type 0} (known : Known) (ops : List (Op L)) → worker_from known ops ++ after_from known ops ≡ ops
 worker-after known [] = refl
 worker-after known (op ∷ ops) =
-    elim (can_apply known op) as (λ v. cond v (op ∷ worker_from (known_after known op) ops) [] ++ cond v (after_from (known_after known op) ops) (op ∷ ops) ≡ op ∷ ops) [
+    elim (can_apply known op) as (λ v. cond v (op ∷ worker_from (known_after known op) ops) [] ++ cond v (after_from (known_after known op) ops) (op ∷ ops)
+    ≡ op ∷ ops) [
       | true ↦ ap (λ rest. op ∷ rest) (worker-after (known_after known op) ops)
       | false ↦ refl
     ]
@@ -35,7 +36,8 @@ length-worker-le known (op ∷ ops) =
 pub take-worker : {L : Type 0} (known : Known) (ops : List (Op L)) → take (length (worker_from known ops)) ops ≡ worker_from known ops
 take-worker known [] = refl
 take-worker known (op ∷ ops) =
-    elim (can_apply known op) as (λ v. take (length (cond v (op ∷ worker_from (known_after known op) ops) [])) (op ∷ ops) ≡ cond v (op ∷ worker_from (known_after known op) ops) []) [
+    elim (can_apply known op) as (λ v. take (length (cond v (op ∷ worker_from (known_after known op) ops) [])) (op ∷ ops)
+    ≡ cond v (op ∷ worker_from (known_after known op) ops) []) [
       | true ↦ ap (λ rest. op ∷ rest) (take-worker (known_after known op) ops)
       | false ↦ refl
     ]
@@ -43,7 +45,8 @@ take-worker known (op ∷ ops) =
 pub drop-worker : {L : Type 0} (known : Known) (ops : List (Op L)) → drop (length (worker_from known ops)) ops ≡ after_from known ops
 drop-worker known [] = refl
 drop-worker known (op ∷ ops) =
-    elim (can_apply known op) as (λ v. drop (length (cond v (op ∷ worker_from (known_after known op) ops) [])) (op ∷ ops) ≡ cond v (after_from (known_after known op) ops) (op ∷ ops)) [
+    elim (can_apply known op) as (λ v. drop (length (cond v (op ∷ worker_from (known_after known op) ops) [])) (op ∷ ops)
+    ≡ cond v (after_from (known_after known op) ops) (op ∷ ops)) [
       | true ↦ drop-worker (known_after known op) ops
       | false ↦ refl
     ]
@@ -84,7 +87,8 @@ worker_part-by_key ByArrival ops = by_key-knowing_more Position (worker_part ByA
 pub parts-undecided : {L : Type 0} (order : Order) (ops : List (Op L)) → list_any is_empty_take ops ≡ false
     → (list_any is_empty_take (worker_part order ops) ≡ false) × (list_any is_empty_take (after_part order ops) ≡ false)
 parts-undecided order ops some =
-    or_parts _ _ (sym (list_any-append is_empty_take (worker_part order ops) (after_part order ops)) ∙ ap (list_any is_empty_take) (worker-after (known_at_source order) ops) ∙ some)
+    or_parts _ _ (sym (list_any-append is_empty_take (worker_part order ops) (after_part order ops))
+    ∙ ap (list_any is_empty_take) (worker-after (known_at_source order) ops) ∙ some)
 
 -- ---- operators that don't look at keys
 

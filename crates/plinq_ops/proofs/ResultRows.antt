@@ -24,14 +24,16 @@ record IsResultAt {L T : Type 0} (meaning : L → Meaning T) (worker : List (Op 
   pub end : p.given + r.count ≡ (next_place t p asked.asked).given
   pub within : (next_place t p asked.asked).given ≤ length t.items
 
-result-at : {L T : Type 0} (meaning : L → Meaning T) (worker : List (Op L)) (t : Trace T) (p : Place) (asked : Record) (r : ChunkResult T) → p.given ≤ length t.items
+result-at : {L T : Type 0} (meaning : L → Meaning T) (worker : List (Op L)) (t : Trace T) (p : Place) (asked : Record) (r : ChunkResult T)
+    → p.given ≤ length t.items
     → tells asked (reply t p asked.asked) ≡ true → IsResultOf meaning worker t asked r → IsResultAt meaning worker t p asked r
 result-at {L} {T} meaning worker t p asked r within tells_it answer =
     let told = Told-from_tells asked (reply t p asked.asked) tells_it in
     let few = length-reply t p asked.asked in
     let first : asked.first ≡ p.given = told.first ∙ reply-first t p asked.asked in
     let count : length answer.chunk.items.items ≡ asked.count =
-    ap length answer.of.items ∙ length-take-le asked.count (drop asked.first t.items) (omega (arith, length-drop asked.first t.items, first, told.count, few, within)) in
+    ap length answer.of.items
+    ∙ length-take-le asked.count (drop asked.first t.items) (omega (arith, length-drop asked.first t.items, first, told.count, few, within)) in
     let moved = next_place-given t p asked.asked in
     let place : answer.chunk.first ≡ p.given = answer.of.first ∙ first in
     record {
@@ -40,7 +42,9 @@ result-at {L} {T} meaning worker t p asked r within tells_it answer =
         chunk = answer.chunk;
         is_cut = answer.is_cut;
         within = omega (arith, place, count, told.count, few, within);
-        items = answer.of.items ∙ ap (λ n. take n (drop asked.first t.items)) (sym count) ∙ ap (λ k. take (length answer.chunk.items.items) (drop k t.items)) (sym answer.of.first);
+        items =
+            answer.of.items ∙ ap (λ n. take n (drop asked.first t.items)) (sym count)
+            ∙ ap (λ k. take (length answer.chunk.items.items) (drop k t.items)) (sym answer.of.first);
         made = answer.made;
       };
       first = answer.made.first ∙ place;
@@ -49,7 +53,8 @@ result-at {L} {T} meaning worker t p asked r within tells_it answer =
     }
 
 -- the results of a run's records stand in a row
-offers-of_run : {L T : Type 0} (meaning : L → Meaning T) (worker : List (Op L)) (t : Trace T) (p : Place) (h : List Record) (rs : List (ChunkResult T)) → p.given ≤ length t.items
+offers-of_run : {L T : Type 0} (meaning : L → Meaning T) (worker : List (Op L)) (t : Trace T) (p : Place) (h : List Record) (rs : List (ChunkResult T))
+    → p.given ≤ length t.items
     → is_run t p h ≡ true → AreResultsOf meaning worker t h rs → AreOffers meaning worker t rs × IsRow p.given rs (place_after t p h).given
 offers-of_run meaning worker t p [] [] within run answers = (tt, refl)
 offers-of_run meaning worker t p [] (r ∷ rs) within run answers = absurd answers
@@ -61,7 +66,8 @@ offers-of_run {L} {T} meaning worker t p (asked ∷ h) (r ∷ rs) within run ans
     ((here.offer, rest.0), (here.first, rw here.end rest.1))
 
 -- the results of the records of a legal history give the glued fragments of what it handed out
-pub row-of_history : {L T : Type 0} (meaning : L → Meaning T) (worker : List (Op L)) (t : Trace T) (h : List Record) (rs : List (ChunkResult T)) → length t.items ≤ most_items → IsLegalHistory t h
+pub row-of_history : {L T : Type 0} (meaning : L → Meaning T) (worker : List (Op L)) (t : Trace T) (h : List Record) (rs : List (ChunkResult T))
+    → length t.items ≤ most_items → IsLegalHistory t h
     → AreResultsOf meaning worker t h rs → row_trace rs ≡ glued_trace meaning worker 0 (take (given_by t h) t.items) None
 row-of_history meaning worker t h rs few legal answers =
     let run = and_parts (is_run t start h) _ legal in
@@ -72,7 +78,8 @@ is_first : {A : Type 0} (x y : A) → Contains (x ∷ []) y → x ≡ y
 is_first x y there = elim (Contains-push_cases [] x y there) [ inl none ↦ absurd (omega (arith, none.1)) | inr is ↦ is ]
 
 -- the result of one record of a run
-offer-of_run : {L T : Type 0} (meaning : L → Meaning T) (worker : List (Op L)) (t : Trace T) (p : Place) (h : List Record) (asked : Record) (r : ChunkResult T) → p.given ≤ length t.items
+offer-of_run : {L T : Type 0} (meaning : L → Meaning T) (worker : List (Op L)) (t : Trace T) (p : Place) (h : List Record) (asked : Record) (r : ChunkResult T)
+    → p.given ≤ length t.items
     → is_run t p h ≡ true → Contains h asked → IsResultOf meaning worker t asked r → IsOffer meaning worker t r
 offer-of_run meaning worker t p [] asked r within run there answer = absurd (omega (arith, there.1))
 offer-of_run {L} {T} meaning worker t p (first ∷ h) asked r within run there answer =
@@ -87,7 +94,8 @@ offer-of_run {L} {T} meaning worker t p (first ∷ h) asked r within run there a
           offer-of_run meaning worker t (next_place t p first.asked) h asked r (omega (arith, moved, few, within)) parts.1 later answer
     ]
 
-pub offer-of_record : {L T : Type 0} (meaning : L → Meaning T) (worker : List (Op L)) (t : Trace T) (h : List Record) (asked : Record) (r : ChunkResult T) → IsLegalHistory t h
+pub offer-of_record : {L T : Type 0} (meaning : L → Meaning T) (worker : List (Op L)) (t : Trace T) (h : List Record) (asked : Record) (r : ChunkResult T)
+    → IsLegalHistory t h
     → Contains h asked → IsResultOf meaning worker t asked r → IsOffer meaning worker t r
 offer-of_record meaning worker t h asked r legal there answer =
     offer-of_run meaning worker t start h asked r (omega arith) (and_parts (is_run t start h) _ legal).0 there answer

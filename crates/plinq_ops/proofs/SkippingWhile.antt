@@ -1,5 +1,6 @@
 -- What is left of a SkipWhile after items is a SkipWhile that goes on from there.
-use Rattle.std.specs.Prelude.{◌≡◌, ℕ, List, [], ◌∷◌, ◌++◌, length, take, drop, ◌==◌, Bool, true, false, cond, Option, Some, None, is_some, Result, Ok, Err, refl}
+use Rattle.std.specs.Prelude.{◌≡◌, ℕ, List, [], ◌∷◌, ◌++◌, length, take, drop, ◌==◌, Bool, true, false, cond, Option, Some, None, is_some, Result, Ok}
+use Rattle.std.specs.Prelude.{Err, refl}
 use Rattle.std.proofs.Common.{◌≤◌, suc, ◌∙◌, ap, sym, arith}
 use Rattle.std.proofs.lemmas.Bool.Decides.{nat_tests}
 use Rattle.std.proofs.lemmas.List.{length-take-le}
@@ -46,7 +47,8 @@ is_some-first (Ok true) xs e rest ends others = others
 is_some-first (Ok false) xs e rest ends others = ends
 is_some-first (Err code) xs e rest ends others = refl
 
-pub is_some-skipped_while : {T : Type 0} (test : T → Result Bool ℕ) (xs : List T) (e : Option Ending) → is_some e ≡ true → is_some (skipped_while test xs e).ending ≡ true
+pub is_some-skipped_while : {T : Type 0} (test : T → Result Bool ℕ) (xs : List T) (e : Option Ending) → is_some e ≡ true
+    → is_some (skipped_while test xs e).ending ≡ true
 is_some-skipped_while test [] e ends = ends
 is_some-skipped_while test (x ∷ xs) e ends = is_some-first (test x) (x ∷ xs) e (skipped_while test xs e) ends (is_some-skipped_while test xs e ends)
 
@@ -56,7 +58,8 @@ after-first test (Ok true) now all ys rest = rest
 after-first test (Ok false) now all ys rest = refl
 after-first test (Err code) now all ys rest = refl
 
-pub after-skipping_while : {T : Type 0} (test : T → Result Bool ℕ) (xs ys : List T) → stage_after (stage_after (skipping_while test) xs) ys ≡ stage_after (skipping_while test) (xs ++ ys)
+pub after-skipping_while : {T : Type 0} (test : T → Result Bool ℕ) (xs ys : List T)
+    → stage_after (stage_after (skipping_while test) xs) ys ≡ stage_after (skipping_while test) (xs ++ ys)
 after-skipping_while test [] ys = refl
 after-skipping_while test (x ∷ xs) ys = after-first test (test x) (all_pass test xs) (all_pass test (xs ++ ys)) ys (after-skipping_while test xs ys)
 
@@ -69,7 +72,8 @@ pub record IsCounted {T : Type 0} (skipped : Trace T) (all : Bool) (xs : List T)
 fault_is : {a b : ℕ} → Some a ≡ Some b → a ≡ b
 fault_is same = cc
 
-counted-first : {T : Type 0} (r : Result Bool ℕ) (x : T) (xs : List T) (skipped : Trace T) (all : Bool) (passing : BlockResult T) → IsCounted skipped all xs passing
+counted-first : {T : Type 0} (r : Result Bool ℕ) (x : T) (xs : List T) (skipped : Trace T) (all : Bool) (passing : BlockResult T)
+    → IsCounted skipped all xs passing
     → IsCounted (skipped_from r (x ∷ xs) None skipped) (still_skips r all) (x ∷ xs) (passing_from r x passing)
 counted-first (Ok true) x xs skipped all passing rest =
     let same : (length passing.items == length xs) ≡ (suc (length passing.items) == suc (length xs)) = grind (arith, nat_tests) in
@@ -77,19 +81,22 @@ counted-first (Ok true) x xs skipped all passing rest =
 counted-first (Ok false) x xs skipped all passing rest =
     let fewer : false ≡ (0 == suc (length xs)) = grind (arith, nat_tests) in
     record { faulted = λ code bad. absurd (cc); stopped = λ none. (refl, fewer) }
-counted-first (Err code) x xs skipped all passing rest = record { faulted = λ other is. (ap (λ c. ended_trace [] (Fault c)) (fault_is is), refl); stopped = λ bad. absurd (cc) }
+counted-first (Err code) x xs skipped all passing rest =
+    record { faulted = λ other is. (ap (λ c. ended_trace [] (Fault c)) (fault_is is), refl); stopped = λ bad. absurd (cc) }
 
 pub counted : {T : Type 0} (test : T → Result Bool ℕ) (xs : List T) → IsCounted (skipped_while test xs None) (all_pass test xs) xs (passing_block test xs)
 counted test [] = record { faulted = λ code bad. absurd (cc); stopped = λ none. (refl, refl) }
 counted test (x ∷ xs) = counted-first (test x) x xs (skipped_while test xs None) (all_pass test xs) (passing_block test xs) (counted test xs)
 
 -- so many of a block pass before one faults
-pub skipped-faulted : {T : Type 0} (test : T → Result Bool ℕ) (xs : List T) (n code : ℕ) (fault : Option ℕ) → record { items = take n xs; fault = fault } ≡ passing_block test xs → fault ≡ Some code
+pub skipped-faulted : {T : Type 0} (test : T → Result Bool ℕ) (xs : List T) (n code : ℕ) (fault : Option ℕ)
+    → record { items = take n xs; fault = fault } ≡ passing_block test xs → fault ≡ Some code
     → (skipped_while test xs None ≡ ended_trace [] (Fault code)) × (all_pass test xs ≡ false)
 skipped-faulted test xs n code fault same is = (counted test xs).faulted code (ap (λ b. b.fault) (sym same) ∙ is)
 
 -- so many pass before one fails, or all
-pub skipped-stopped : {T : Type 0} (test : T → Result Bool ℕ) (xs : List T) (n : ℕ) (fault : Option ℕ) → n ≤ length xs → record { items = take n xs; fault = fault } ≡ passing_block test xs → fault ≡ None
+pub skipped-stopped : {T : Type 0} (test : T → Result Bool ℕ) (xs : List T) (n : ℕ) (fault : Option ℕ) → n ≤ length xs
+    → record { items = take n xs; fault = fault } ≡ passing_block test xs → fault ≡ None
     → (skipped_while test xs None ≡ open_trace (drop n xs)) × (all_pass test xs ≡ (n == length xs))
 skipped-stopped test xs n fault within same none =
     let len : length (passing_block test xs).items ≡ n = ap (λ b. length b.items) (sym same) ∙ length-take-le n xs within in

@@ -1,5 +1,6 @@
 -- Laws of the operators on traces: a trace that follows another goes through what is left of the operators.
-use Rattle.std.specs.Prelude.{◌≡◌, ℕ, zero, suc, ◌-◌, ◌<◌, ◌≤◌, List, [], ◌∷◌, ◌++◌, length, take, drop, nat_le, true, false, cond, Option, Some, None, is_some, refl}
+use Rattle.std.specs.Prelude.{◌≡◌, ℕ, zero, suc, ◌-◌, ◌<◌, ◌≤◌, List, [], ◌∷◌, ◌++◌, length, take, drop, nat_le, true, false, cond, Option, Some}
+use Rattle.std.specs.Prelude.{None, is_some, refl}
 use Rattle.std.proofs.Common.{sym, ◌∙◌, ap, inl, inr, arith, length-append}
 use Rattle.std.proofs.lemmas.List.{take-append-le}
 use Rattle.std.proofs.lemmas.Bool.{le-leb, lt-leb}
@@ -10,7 +11,8 @@ use Rattle.plinq_source.specs.declared.ending.Ending.{Ending}
 use Rattle.plinq_source.specs.declared.ending.Ending.TheVariants.{End}
 use Rattle.plinq_source.specs.Trace.{Trace, open_trace, ended_trace, continued_by, followed_by}
 use Rattle.plinq_source.proofs.Followed.{trace_of, followed_by-followed_by}
-use Rattle.plinq_ops.specs.Stage.{Stage, pieces, taking, skipping, skipping_while, unchanged, joined_pieces, taken_trace, apply, seq, stage_after, seq_after, takes_none}
+use Rattle.plinq_ops.specs.Stage.{Stage, pieces, taking, skipping, skipping_while, unchanged, joined_pieces, taken_trace, apply, seq, stage_after}
+use Rattle.plinq_ops.specs.Stage.{seq_after, takes_none}
 use Rattle.plinq_ops.proofs.SkippingWhile.{skipped_while-append, skipped_while-ended, is_some-skipped_while, after-skipping_while}
 
 -- the pieces of a list after another
@@ -18,7 +20,8 @@ pub joined_pieces-append : {T : Type 0} (piece : T → Trace T) (xs ys : List T)
     → joined_pieces piece (xs ++ ys) e ≡ followed_by (joined_pieces piece xs None) (joined_pieces piece ys e)
 joined_pieces-append piece [] ys e = refl
 joined_pieces-append piece (x ∷ xs) ys e =
-    ap (followed_by (piece x)) (joined_pieces-append piece xs ys e) ∙ sym (followed_by-followed_by (piece x) (joined_pieces piece xs None) (joined_pieces piece ys e))
+    ap (followed_by (piece x)) (joined_pieces-append piece xs ys e)
+    ∙ sym (followed_by-followed_by (piece x) (joined_pieces piece xs None) (joined_pieces piece ys e))
 
 -- nothing follows the pieces of a trace that has ended
 pub followed_by-joined_pieces : {T : Type 0} (piece : T → Trace T) (xs : List T) (e : Ending) (b : Trace T)
@@ -75,7 +78,9 @@ taken_trace-append n xs b =
 
 taken_trace-ended_trace : {T : Type 0} (n : ℕ) (xs : List T) (e : Ending) (b : Trace T)
     → taken_trace n (ended_trace xs e) ≡ followed_by (taken_trace n (ended_trace xs e)) b
-taken_trace-ended_trace n xs e b = elim (nat_le n (length xs)) as (λ v. cond v (ended_trace (take n xs) End) (ended_trace xs e) ≡ followed_by (cond v (ended_trace (take n xs) End) (ended_trace xs e)) b) [ true ↦ refl | false ↦ refl ]
+taken_trace-ended_trace n xs e b =
+    elim (nat_le n (length xs)) as (λ v. cond v (ended_trace (take n xs) End) (ended_trace xs e)
+    ≡ followed_by (cond v (ended_trace (take n xs) End) (ended_trace xs e)) b) [ true ↦ refl | false ↦ refl ]
 
 -- one operator on a trace after an open or an ended one
 pub apply-continued_by : {T : Type 0} (s : Stage T) (xs : List T) (e : Option Ending) (b : Trace T)
@@ -100,7 +105,8 @@ pub is_some-continued_by : {T : Type 0} (xs : List T) (e : Option Ending) (b : T
 is_some-continued_by xs None b ends = ends
 is_some-continued_by xs (Some e) b ends = refl
 
-pub is_some-joined_pieces : {T : Type 0} (piece : T → Trace T) (xs : List T) (e : Option Ending) → is_some e ≡ true → is_some (joined_pieces piece xs e).ending ≡ true
+pub is_some-joined_pieces : {T : Type 0} (piece : T → Trace T) (xs : List T) (e : Option Ending) → is_some e ≡ true
+    → is_some (joined_pieces piece xs e).ending ≡ true
 is_some-joined_pieces piece [] e ends = ends
 is_some-joined_pieces piece (x ∷ xs) e ends =
     is_some-continued_by (piece x).items (piece x).ending (joined_pieces piece xs e) (is_some-joined_pieces piece xs e ends)

@@ -23,14 +23,17 @@ taken-first (Ok true) x xs taken passing rest = record {
   whole = λ none all. ap (followed_by (open_trace (x ∷ []))) (rest.whole none (omega (arith, all)));
   stopped = λ none fewer. ap (followed_by (open_trace (x ∷ []))) (rest.stopped none (omega (arith, fewer)));
 }
-taken-first (Ok false) x xs taken passing rest = record { faulted = λ code bad. absurd (cc); whole = λ none bad. absurd (omega (arith, bad)); stopped = λ none fewer. refl }
-taken-first (Err code) x xs taken passing rest = record { faulted = λ other is. ap (λ c. ended_trace [] (Fault c)) (fault_is is); whole = λ bad all. absurd (cc); stopped = λ bad fewer. absurd (cc) }
+taken-first (Ok false) x xs taken passing rest =
+    record { faulted = λ code bad. absurd (cc); whole = λ none bad. absurd (omega (arith, bad)); stopped = λ none fewer. refl }
+taken-first (Err code) x xs taken passing rest =
+    record { faulted = λ other is. ap (λ c. ended_trace [] (Fault c)) (fault_is is); whole = λ bad all. absurd (cc); stopped = λ bad fewer. absurd (cc) }
 
 taken-block : {T : Type 0} (test : T → Result Bool ℕ) (xs : List T) → IsTaken (joined_pieces (λ x. taken_while (test x) x) xs None) xs (passing_block test xs)
 taken-block test [] = record { faulted = λ code bad. absurd (cc); whole = λ none all. refl; stopped = λ none bad. absurd (omega (arith, bad)) }
 taken-block test (x ∷ xs) = taken-first (test x) x xs (joined_pieces (λ y. taken_while (test y) y) xs None) (passing_block test xs) (taken-block test xs)
 
 -- the same, where so many of a block pass
-pub taken-passing : {T : Type 0} (test : T → Result Bool ℕ) (xs : List T) (n : ℕ) (fault : Option ℕ) → record { items = take n xs; fault = fault } ≡ passing_block test xs
+pub taken-passing : {T : Type 0} (test : T → Result Bool ℕ) (xs : List T) (n : ℕ) (fault : Option ℕ)
+    → record { items = take n xs; fault = fault } ≡ passing_block test xs
     → IsTaken (joined_pieces (λ x. taken_while (test x) x) xs None) xs (record { items = take n xs; fault = fault })
 taken-passing test xs n fault same = rw same (taken-block test xs)

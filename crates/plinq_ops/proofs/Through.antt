@@ -67,7 +67,8 @@ through-all {L} {T} {meaning} {ops} {x} {before} {out} {i} {now} {y} past throug
     rw (take-append-drop i now) at (through.goes_on (drop i now) (out ++ y ∷ []) None fed)
 
 -- at the next operator
-pub at-op : {L T : Type 0} {meaning : L → Meaning T} {ops : List (StageState L)} {x : T} {before out : List T} {i : ℕ} {op : StageState L} {now : List (StageState L)} {y : T}
+pub at-op : {L T : Type 0} {meaning : L → Meaning T} {ops : List (StageState L)} {x : T} {before out : List T} {i : ℕ} {op : StageState L}
+    {now : List (StageState L)} {y : T}
     (d : StageState L) → i < length now → op ≡ get_or now i d → IsThrough meaning ops x before out i now y
     → IsAt meaning ops x before out i op now y
 at-op {L} {T} {meaning} {ops} {x} {before} {out} {i} {op} {now} {y} d within is through =
@@ -86,7 +87,8 @@ at-op {L} {T} {meaning} {ops} {x} {before} {out} {i} {op} {now} {y} d within is 
     }
 
 -- the operator gives one item
-pub through-item : {L T : Type 0} {meaning : L → Meaning T} {ops : List (StageState L)} {x : T} {before out : List T} {i : ℕ} {op : StageState L} {now : List (StageState L)} {y : T}
+pub through-item : {L T : Type 0} {meaning : L → Meaning T} {ops : List (StageState L)} {x : T} {before out : List T} {i : ℕ} {op : StageState L}
+    {now : List (StageState L)} {y : T}
     (y' : T) (op' : StageState L) → IsAt meaning ops x before out i op now y
     → open_trace (y' ∷ []) ≡ apply (state_stage meaning op) (open_trace (y ∷ [])) → state_stage meaning op' ≡ stage_after (state_stage meaning op) (y ∷ [])
     → IsThrough meaning ops x before out (i + 1) (set now i op') y'
@@ -105,7 +107,8 @@ whole : {A : Type 0} (xs ys : List A) (i : ℕ) (x : A) → take (i + 1) ys ≡ 
 whole xs ys i x front = sym (take-append-drop (i + 1) ys) ∙ ap (λ zs. zs ++ drop (i + 1) ys) front ∙ append_assoc (take i xs) (x ∷ []) (drop (i + 1) ys)
 
 -- a SelectMany, with the operators after it, makes this of the item
-pub through-expansion : {L T : Type 0} {meaning : L → Meaning T} {ops : List (StageState L)} {x : T} {before out : List T} {i : ℕ} {op : StageState L} {now : List (StageState L)} {y : T}
+pub through-expansion : {L T : Type 0} {meaning : L → Meaning T} {ops : List (StageState L)} {x : T} {before out : List T} {i : ℕ} {op : StageState L}
+    {now : List (StageState L)} {y : T}
     (s : Stage T) (now' : List (StageState L)) (after : List T) (e : Option Ending) (d : StageState L)
     → i < length now → op ≡ get_or now i d → state_stage meaning op ≡ s → IsThrough meaning ops x before out i now y
     → FeedsStages meaning (s ∷ []) (i + 1) now now' (open_trace (y ∷ [])) out after e
@@ -121,7 +124,8 @@ set-parts : {L : Type 0} (now : List (StageState L)) (i : ℕ) (op : StageState 
 set-parts now i op within = rw add-one (set_split now i op within)
 
 -- the operator gives nothing
-pub through-nothing : {L T : Type 0} {meaning : L → Meaning T} {ops : List (StageState L)} {x : T} {before out : List T} {i : ℕ} {op : StageState L} {now : List (StageState L)} {y : T}
+pub through-nothing : {L T : Type 0} {meaning : L → Meaning T} {ops : List (StageState L)} {x : T} {before out : List T} {i : ℕ} {op : StageState L}
+    {now : List (StageState L)} {y : T}
     (op' : StageState L) → IsAt meaning ops x before out i op now y
     → open_trace [] ≡ apply (state_stage meaning op) (open_trace (y ∷ [])) → state_stage meaning op' ≡ stage_after (state_stage meaning op) (y ∷ [])
     → IsFed (stages_now meaning ops) (open_trace (x ∷ [])) before out (stages_now meaning (set now i op')) None
@@ -130,17 +134,20 @@ through-nothing {L} {T} {meaning} {ops} {x} {before} {out} {i} {op} {now} op' he
     (here.passed (open_trace []) op' (drop (i + 1) now) out None gives stage_after (fed-none (stages_now meaning (drop (i + 1) now)) out here.undecided))
 
 -- what the operator gives has gone through those after it
-pub through-rest : {L T : Type 0} {meaning : L → Meaning T} {ops : List (StageState L)} {x : T} {before out : List T} {i : ℕ} {op : StageState L} {now : List (StageState L)} {y : T}
+pub through-rest : {L T : Type 0} {meaning : L → Meaning T} {ops : List (StageState L)} {x : T} {before out : List T} {i : ℕ} {op : StageState L}
+    {now : List (StageState L)} {y : T}
     (t : Trace T) (op' : StageState L) (now' : List (StageState L)) (after : List T) (e : Option Ending) → IsAt meaning ops x before out i op now y
     → t ≡ apply (state_stage meaning op) (open_trace (y ∷ [])) → state_stage meaning op' ≡ stage_after (state_stage meaning op) (y ∷ [])
     → FeedsStages meaning [] (i + 1) (set now i op') now' t out after e
     → IsFed (stages_now meaning ops) (open_trace (x ∷ [])) before after (stages_now meaning now') e
 through-rest {L} {T} {meaning} {ops} {x} {before} {out} {i} {op} {now} t op' now' after e here gives stage_after feeds =
     let others : drop (i + 1) (set now i op') ≡ drop (i + 1) now = drop-set-lt (i + 1) now i op' (omega arith) in
-    rw (whole now now' i op' (feeds.others ∙ take_more_set now i op' here.within)) (here.passed t op' (drop (i + 1) now') after e gives stage_after (rw others at feeds.fed))
+    rw (whole now now' i op' (feeds.others ∙ take_more_set now i op' here.within)) (here.passed t op' (drop (i + 1) now') after e gives stage_after
+    (rw others at feeds.fed))
 
 -- and they take what it gives
-pub undecided-rest : {L T : Type 0} {meaning : L → Meaning T} {ops : List (StageState L)} {x : T} {before out : List T} {i : ℕ} {op : StageState L} {now : List (StageState L)} {y : T}
+pub undecided-rest : {L T : Type 0} {meaning : L → Meaning T} {ops : List (StageState L)} {x : T} {before out : List T} {i : ℕ} {op : StageState L}
+    {now : List (StageState L)} {y : T}
     (op' : StageState L) → IsAt meaning ops x before out i op now y → some_takes_none (stages_now meaning (drop (i + 1) (set now i op'))) ≡ false
 undecided-rest {L} {T} {meaning} {ops} {x} {before} {out} {i} {op} {now} op' here =
     let others : drop (i + 1) (set now i op') ≡ drop (i + 1) now = drop-set-lt (i + 1) now i op' (omega arith) in
@@ -151,11 +158,13 @@ undecided-rest {L} {T} {meaning} {ops} {x} {before} {out} {i} {op} {now} op' her
 -- the operators from one on, where it is as it is now, and all before it are as they were
 drop-one : {A : Type 0} (xs ys : List A) (i : ℕ) (x : A) → i < length xs → take (i + 1) ys ≡ take (i + 1) (set xs i x) → drop i ys ≡ x ∷ drop (i + 1) ys
 drop-one xs ys i x within same =
-    ap (drop i) (whole xs ys i x (same ∙ take_more_set xs i x within)) ∙ drop_at (take i xs) (x ∷ drop (i + 1) ys) i (length-take-le i xs (omega (arith, within)))
+    ap (drop i) (whole xs ys i x (same ∙ take_more_set xs i x within))
+    ∙ drop_at (take i xs) (x ∷ drop (i + 1) ys) i (length-take-le i xs (omega (arith, within)))
 
 take-one : {A : Type 0} (xs ys : List A) (i : ℕ) (x : A) → i < length xs → take (i + 1) ys ≡ take (i + 1) (set xs i x) → take i ys ≡ take i xs
 take-one xs ys i x within same =
-    ap (take i) (whole xs ys i x (same ∙ take_more_set xs i x within)) ∙ take_at (take i xs) (x ∷ drop (i + 1) ys) i (length-take-le i xs (omega (arith, within)))
+    ap (take i) (whole xs ys i x (same ∙ take_more_set xs i x within))
+    ∙ take_at (take i xs) (x ∷ drop (i + 1) ys) i (length-take-le i xs (omega (arith, within)))
 
 -- what an operator makes of the items goes on through those after it
 pub through-first : {L T : Type 0} {meaning : L → Meaning T} {ops ops' : List (StageState L)} {i : ℕ} {t : Trace T} {before after : List T} {e : Option Ending}
@@ -168,7 +177,8 @@ through-first {L} {T} {meaning} {ops} {ops'} {i} {t} {before} {after} {e} op op'
     record {
       others = take-one ops ops' i op' within feeds.others;
       fed = rw (here, drop-one ops ops' i op' within feeds.others)
-          (fed-through (state_stage meaning op) (state_stage meaning op') xs told t (stages_now meaning (drop (i + 1) ops)) (stages_now meaning (drop (i + 1) ops')) before after e (sym gives) (sym stage_after) (rw rest at feeds.fed));
+          (fed-through (state_stage meaning op) (state_stage meaning op') xs told t (stages_now meaning (drop (i + 1) ops))
+          (stages_now meaning (drop (i + 1) ops')) before after e (sym gives) (sym stage_after) (rw rest at feeds.fed));
     }
 
 module _ {L T : Type 0} {meaning : L → Meaning T} {i : ℕ} {ops ops' : List (StageState L)} {before after : List T} {e : Option Ending} where
@@ -184,7 +194,8 @@ module _ {L T : Type 0} {meaning : L → Meaning T} {i : ℕ} {ops ops' : List (
   feeds-through s xs told gives stays feeds = record { others = feeds.others; fed = fed-through s s xs told _ _ _ before after e gives stays feeds.fed }
 
   -- what is fed after a trace that left the run open
-  pub feeds-followed_by : {first : List (Stage T)} {now : List (StageState L)} {between : List T} {a b : Trace T} → FeedsStages meaning first i ops now a before between None
+  pub feeds-followed_by : {first : List (Stage T)} {now : List (StageState L)} {between : List T} {a b : Trace T}
+      → FeedsStages meaning first i ops now a before between None
       → FeedsStages meaning first i now ops' b between after e → FeedsStages meaning first i ops ops' (followed_by a b) before after e
   feeds-followed_by {first} {now} {between} {a} {b} one next =
       record { others = next.others ∙ one.others; fed = fed-followed_by _ _ _ a b before between after e one.fed next.fed }

@@ -11,7 +11,9 @@ use Rattle.plinq_ops.specs.Chunk.{IsWorkerEnding}
 use Rattle.plinq_ops.proofs.Operators.{apply-ending}
 
 -- operators never refuse
-pub seq-ending : {L T : Type 0} (meaning : L → Meaning T) (ops : List (Op L)) (p : ℤ) (t : Trace T) → IsWorkerEnding t.ending → IsWorkerEnding (seq (left_at meaning ops p) t).ending
+pub seq-ending : {L T : Type 0} (meaning : L → Meaning T) (ops : List (Op L)) (p : ℤ) (t : Trace T) → IsWorkerEnding t.ending
+    → IsWorkerEnding (seq (left_at meaning ops p) t).ending
 seq-ending meaning [] p t ending = ending
 seq-ending meaning (op ∷ ops) p t ending =
-    seq-ending meaning ops (position_after op p) (apply (stage_left meaning op (counted_off op - item_count p)) t) (apply-ending meaning op (counted_off op - item_count p) t ending)
+    seq-ending meaning ops (position_after op p) (apply (stage_left meaning op (counted_off op - item_count p)) t)
+    (apply-ending meaning op (counted_off op - item_count p) t ending)

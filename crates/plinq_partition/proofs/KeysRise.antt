@@ -12,5 +12,6 @@ keys_rise-at : {V T : Type 0} (lock : TicketLock V T) (n : ℕ) (o : Option (Tok
 keys_rise-at lock n None at = absurd at
 keys_rise-at lock n (Some q) at = at.rising
 
-pub keys_rise-of_partition : {S T : Type 0} {source : Ghosts S T} (chunked : Chunked S T source) (p : Partition S T source) → IsPartitionOf chunked p → keys_rise_from 0 (holding_of p).share ≡ true
+pub keys_rise-of_partition : {S T : Type 0} {source : Ghosts S T} (chunked : Chunked S T source) (p : Partition S T source) → IsPartitionOf chunked p
+    → keys_rise_from 0 (holding_of p).share ≡ true
 keys_rise-of_partition chunked p of = keys_rise-at chunked.lock p.requests p.pass of

@@ -1,5 +1,6 @@
 -- What a chunked source promises of its partitions' keys, these have: their records are the history in another order.
-use Rattle.std.proofs.Common.{◌≡◌, ℕ, ◌+◌, ◌≤◌, Bool, true, false, not, cond, ltb, eqb, Option, Some, None, List, [], ◌∷◌, length, All, refl, sym, ap, ◌∙◌, arith, inl, inr}
+use Rattle.std.proofs.Common.{◌≡◌, ℕ, ◌+◌, ◌≤◌, Bool, true, false, not, cond, ltb, eqb, Option, Some, None, List, [], ◌∷◌, length, All, refl, sym, ap}
+use Rattle.std.proofs.Common.{◌∙◌, arith, inl, inr}
 use Rattle.std.specs.List.{concat}
 use Rattle.std.proofs.lemmas.Bool.{and_parts, and_from, or_parts, or_from, eqb-true, eq-eqb, not_from_false, cases_Bool, false≢true}
 use Rattle.std.proofs.lemmas.List.{map-append, append-nil}
@@ -29,7 +30,12 @@ abbrev high : ℕ → ℕ → ℕ
 high n k = cond (ltb k n) 0 1
 
 high-below : (n k : ℕ) → high n k ≡ 0 → ltb k n ≡ true
-high-below n k e = elim (cases_Bool (ltb k n)) [ inl below ↦ below | inr above ↦ (let one : high n k ≡ 1 = ap (λ (b : Bool). let m : ℕ = cond b 0 1 in m) above in absurd (omega arith)) ]
+high-below n k e =
+    elim (cases_Bool (ltb k n)) [
+      | inl below ↦ below
+      | inr above ↦ (let one : high n k ≡ 1 = ap (λ (b : Bool). let m : ℕ = cond b 0 1 in m) above in absurd
+          (omega arith))
+    ]
 
 total-high : (n : ℕ) (ks : List ℕ) → all_below n ks ≡ true → total (high n) ks ≡ 0
 total-high n [] e = refl
@@ -111,7 +117,8 @@ total-handed_out t f (r ∷ rs) =
     ∙ ap (λ n. total f (keys here) + n) (total-handed_out t f rs)
 
 module _ {S T : Type 0} {source : Ghosts S T} where
-  total-lists : (t : Trace T) (f : ℕ → ℕ) (ps : List (Partition S T source)) → total f (concat (key_lists (lists_of t ps))) ≡ total (weighed t f) (all_shares ps)
+  total-lists : (t : Trace T) (f : ℕ → ℕ) (ps : List (Partition S T source))
+      → total f (concat (key_lists (lists_of t ps))) ≡ total (weighed t f) (all_shares ps)
   total-lists t f [] = refl
   total-lists t f (p ∷ ps) =
       total-append f (keys (handed_out t (share_at p.pass))) (concat (key_lists (lists_of t ps)))
@@ -126,13 +133,15 @@ module _ {S T : Type 0} {source : Ghosts S T} where
       by None there = absurd there
       by (Some q) there = there.rising
 
-  pub ordered-lists : (c : Chunked S T source) (t : Trace T) (ps : List (Partition S T source)) → All (IsPartitionOf c) ps → ordered_in_each (key_lists (lists_of t ps)) ≡ true
+  pub ordered-lists : (c : Chunked S T source) (t : Trace T) (ps : List (Partition S T source)) → All (IsPartitionOf c) ps
+      → ordered_in_each (key_lists (lists_of t ps)) ≡ true
   ordered-lists c t [] all = refl
   ordered-lists c t (p ∷ ps) all =
       let here = ordered-share t (share_at p.pass) (rises-at c p (All-head (IsPartitionOf c) p ps all)) in
       and_from _ _ (and_parts _ true here).0 (ordered-lists c t ps (All-tail (IsPartitionOf c) p ps all))
 
-  pub normalized-lists : (t : Trace T) (ps : List (Partition S T source)) → IsLegalHistory t (in_ticket_order (all_shares ps)) → normalized (key_lists (lists_of t ps)) ≡ true
+  pub normalized-lists : (t : Trace T) (ps : List (Partition S T source)) → IsLegalHistory t (in_ticket_order (all_shares ps))
+      → normalized (key_lists (lists_of t ps)) ≡ true
   normalized-lists t ps legal =
       let h = in_ticket_order (all_shares ps) in
       let up : counts_up (keys (handed_out t h)) ≡ true = ap counts_up (sym (append-nil (keys (handed_out t h)))) ∙ normalized-history t h legal in

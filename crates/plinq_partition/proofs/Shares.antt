@@ -10,7 +10,8 @@ use Rattle.plinq_keyed.specs.declared.event.Event.{Event}
 use Rattle.plinq_keyed.specs.declared.keyed.Keyed.{Keyed}
 use Rattle.plinq_keyed.specs.declared.record.Record.{Record}
 use Rattle.plinq_keyed.specs.Keys.{keys, keyed_from, rises_from, ordered_in_each, normalized, counts_up}
-use Rattle.plinq_keyed.specs.History.{Place, start, reply, next_place, place_after, tells, is_run, IsLegalHistory, next_record, handed_out, given_by, record_items, IsChunkOf}
+use Rattle.plinq_keyed.specs.History.{Place, start, reply, next_place, place_after, tells, is_run, IsLegalHistory, next_record, handed_out, given_by}
+use Rattle.plinq_keyed.specs.History.{record_items, IsChunkOf}
 use Rattle.plinq_keyed.proofs.Legal.{Told-from_tells, reply-first, next_place-given, length-reply, IsPrefix-from_legal}
 use Rattle.plinq_keyed.proofs.Rising.{keys-keyed_from, counts_up-range, keys-handed_out}
 use Rattle.plinq_keyed.proofs.Distinct.{rises_from-less}
@@ -51,7 +52,8 @@ run-ends t p (r ∷ h) g run within =
     omega arith
 
 -- after a share that ends by a key, a record that begins there is above it
-rises-after : (least g : ℕ) (share : List Record) (r : Record) → keys_rise_from least share ≡ true → total (late g) share ≡ 0 → least ≤ g → r.first ≡ g → keys_rise_from least (share ++ r ∷ []) ≡ true
+rises-after : (least g : ℕ) (share : List Record) (r : Record) → keys_rise_from least share ≡ true → total (late g) share ≡ 0 → least ≤ g
+    → r.first ≡ g → keys_rise_from least (share ++ r ∷ []) ≡ true
 rises-after least g [] r rising ends below at = and_from _ _ (le-leb least r.first (omega arith)) refl
 rises-after least g (x ∷ share) r rising ends below at =
     let parts = and_parts (leb least x.first) _ rising in
@@ -60,7 +62,8 @@ rises-after least g (x ∷ share) r rising ends below at =
     and_from _ _ parts.0 (rises-after (x.first + x.count) g share r parts.1 rest (late-none g x first) at)
 
 -- a share stays one whose keys rise, with a record that comes after the whole history
-pub rises-next : {T : Type 0} (t : Trace T) (h share : List Record) (ticket : ℕ) (e : Event) → IsLegalHistory t h → Contains h share → keys_rise_from 0 share ≡ true → keys_rise_from 0 (share ++ next_record t h ticket e ∷ []) ≡ true
+pub rises-next : {T : Type 0} (t : Trace T) (h share : List Record) (ticket : ℕ) (e : Event) → IsLegalHistory t h → Contains h share
+    → keys_rise_from 0 share ≡ true → keys_rise_from 0 (share ++ next_record t h ticket e ∷ []) ≡ true
 rises-next t h share ticket e legal contains rising =
     let run = and_parts (is_run t start h) _ legal in
     let all = run-ends t start h (given_by t h) run.0 (omega arith) in
@@ -69,7 +72,8 @@ rises-next t h share ticket e legal contains rising =
     rises-after 0 (given_by t h) share (next_record t h ticket e) rising none (omega arith) (reply-first t (place_after t start h) e)
 
 -- a chunk of what is recorded next has as many items as the record says, and lies within its source
-pub chunk-within : {T : Type 0} (t : Trace T) (h : List Record) (ticket : ℕ) (e : Event) (chunk : Chunk T) → IsLegalHistory t h → IsChunkOf t (next_record t h ticket e) chunk →
+pub chunk-within : {T : Type 0} (t : Trace T) (h : List Record) (ticket : ℕ) (e : Event) (chunk : Chunk T) → IsLegalHistory t h
+    → IsChunkOf t (next_record t h ticket e) chunk →
     (length chunk.items.items ≡ (next_record t h ticket e).count) × (chunk.first + length chunk.items.items ≤ length t.items)
 chunk-within t h ticket e chunk legal of =
     let r = next_record t h ticket e in
@@ -90,7 +94,8 @@ rises-range least k (suc n) ks below rising =
     let e : k + suc n ≡ (k + 1) + n = omega arith in
     and_from _ _ (le-leb least k below) (rises-range (k + 1) (k + 1) n ks (omega arith) (ap (λ m. rises_from m ks) (sym e) ∙ rising))
 
-rises-share : {T : Type 0} (t : Trace T) (least : ℕ) (share : List Record) → keys_rise_from least share ≡ true → rises_from least (keys (handed_out t share)) ≡ true
+rises-share : {T : Type 0} (t : Trace T) (least : ℕ) (share : List Record) → keys_rise_from least share ≡ true
+    → rises_from least (keys (handed_out t share)) ≡ true
 rises-share t least [] rising = refl
 rises-share t least (r ∷ share) rising =
     let parts = and_parts (leb least r.first) _ rising in
@@ -98,7 +103,8 @@ rises-share t least (r ∷ share) rising =
     let most = length-take r.count (drop r.first t.items) in
     let rest = rises-share t (r.first + r.count) share parts.1 in
     let past = rises_from-less (r.first + r.count) (r.first + length items) (keys (handed_out t share)) (omega arith) rest in
-    ap (rises_from least) (map-append (λ (x : Keyed _). x.key) (keyed_from r.first items) (handed_out t share) ∙ ap (λ ks. ks ++ keys (handed_out t share)) (keys-keyed_from r.first items))
+    ap (rises_from least) (map-append (λ (x : Keyed _). x.key) (keyed_from r.first items) (handed_out t share)
+    ∙ ap (λ ks. ks ++ keys (handed_out t share)) (keys-keyed_from r.first items))
     ∙ rises-range least r.first (length items) (keys (handed_out t share)) (leb-true least r.first parts.0) past
 
 pub ordered-share : {T : Type 0} (t : Trace T) (share : List Record) → keys_rise_from 0 share ≡ true → ordered_in_each (keys (handed_out t share) ∷ []) ≡ true

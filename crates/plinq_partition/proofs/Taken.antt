@@ -17,9 +17,11 @@ use Rattle.plinq_partition.specs.PartitionRecords.{keys_rise_from}
 use Rattle.plinq_partition.proofs.Shares.{rises-next}
 
 -- the share after a request: what came after the history came after the share
-next-share : {T : Type 0} (t : Trace T) (h found new share : List Record) (ticket : ℕ) (e : Event) → new ≡ with_next t h ticket e → h ≡ found → share ++ added_records found new ≡ share ++ next_record t h ticket e ∷ []
+next-share : {T : Type 0} (t : Trace T) (h found new share : List Record) (ticket : ℕ) (e : Event) → new ≡ with_next t h ticket e → h ≡ found
+    → share ++ added_records found new ≡ share ++ next_record t h ticket e ∷ []
 next-share t h found new share ticket e recorded same =
-    ap (λ rs. share ++ rs) (ap (λ rs. added_records rs new) (sym same) ∙ ap (λ rs. added_records h rs) recorded ∙ added_records-append h (next_record t h ticket e ∷ []))
+    ap (λ rs. share ++ rs) (ap (λ rs. added_records rs new) (sym same) ∙ ap (λ rs. added_records h rs) recorded
+    ∙ added_records-append h (next_record t h ticket e ∷ []))
 
 module _ {S T : Type 0} {source : Ghosts S T} where
   -- What is known of the enumerator inside, before a request, and of the share after it
@@ -29,7 +31,8 @@ module _ {S T : Type 0} {source : Ghosts S T} where
     pub share : after ≡ held_share held ++ next_record (source.whole (held_source value)) (held_records value) ticket e ∷ []
     pub rising : keys_rise_from 0 after ≡ true
 
-  pub recorded-inside : (chunked : Chunked S T source) (requests : ℕ) (held : Entry (Enumerator S T source) T) (value : Enumerator S T source) (new after : List Record) (ticket : ℕ) (e : Event)
+  pub recorded-inside : (chunked : Chunked S T source) (requests : ℕ) (held : Entry (Enumerator S T source) T) (value : Enumerator S T source)
+      (new after : List Record) (ticket : ℕ) (e : Event)
       → IsInside chunked requests held → value ≡ held_value held → new ≡ with_next (source.whole (held_source value)) (held_records value) ticket e
       → after ≡ held_share held ++ added_records (held_found held) new → Recorded held value ticket e after
   recorded-inside chunked requests held value new after ticket e inside is recorded left =

@@ -1,5 +1,6 @@
 -- What partitions took together is one history's chunks.
-use Rattle.std.proofs.Common.{◌≡◌, ℕ, List, [], ◌∷◌, ◌++◌, Option, Some, None, Bool, true, false, cond, leb, refl, ap, sym, subst, ◌∙◌, arith, append_assoc, append-nil}
+use Rattle.std.proofs.Common.{◌≡◌, ℕ, List, [], ◌∷◌, ◌++◌, Option, Some, None, Bool, true, false, cond, leb, refl, ap, sym, subst, ◌∙◌, arith}
+use Rattle.std.proofs.Common.{append_assoc, append-nil}
 use Rattle.std.specs.List.{AllZip, FoldsTo}
 use Rattle.plinq_source.specs.Trace.{Trace, items_from}
 use Rattle.plinq_keyed.specs.declared.chunk.Chunk.{Chunk}
@@ -91,7 +92,8 @@ module _ {T : Type 0} (growth : GrowthRule) (t : Trace T) where
         are = (one.is, others.are);
       }
 
-  all-grown : (ps : List (Holding T)) (acts : List (List (Option (Chunk T)))) → AllZip (HasDone growth t) ps acts → AllZip (IsOf t) (records_of ps) (all_acts acts)
+  all-grown : (ps : List (Holding T)) (acts : List (List (Option (Chunk T)))) → AllZip (HasDone growth t) ps acts
+      → AllZip (IsOf t) (records_of ps) (all_acts acts)
   all-grown [] [] all = tt
   all-grown [] (own ∷ acts) all = absurd all
   all-grown (p ∷ ps) [] all = absurd all
@@ -107,7 +109,8 @@ module _ {T : Type 0} (growth : GrowthRule) (t : Trace T) where
   of-all [] [] all = refl
   of-all [] (act ∷ acts) all = absurd all
   of-all (r ∷ rs) [] all = absurd all
-  of-all (r ∷ rs) (act ∷ acts) all = ap (λ xs. xs ++ all_elements acts) (of-one r act all.0) ∙ ap (λ ys. keyed_from r.first (record_items t r) ++ ys) (of-all rs acts all.1)
+  of-all (r ∷ rs) (act ∷ acts) all =
+      ap (λ xs. xs ++ all_elements acts) (of-one r act all.0) ∙ ap (λ ys. keyed_from r.first (record_items t r) ++ ys) (of-all rs acts all.1)
 
 pub takes-one-history : (T : Type 0) → TakesAreOneHistory T
 takes-one-history T growth t ps acts all legal =

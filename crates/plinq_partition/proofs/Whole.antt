@@ -38,7 +38,8 @@ cuts-more xs n p =
     ∙ ap (λ q. map (cut xs n) (range_with_len 0 p) ++ cut xs n q ∷ []) f
 
 -- the keys of the first p partitions are those before the place of partition p
-joined : {T : Type 0} (xs : List (Keyed T)) (n p : ℕ) → 1 ≤ n → concat (key_lists (map (cut xs n) (range_with_len 0 p))) ≡ keys (take (cut_place p (length xs) n) xs)
+joined : {T : Type 0} (xs : List (Keyed T)) (n p : ℕ) → 1 ≤ n
+    → concat (key_lists (map (cut xs n) (range_with_len 0 p))) ≡ keys (take (cut_place p (length xs) n) xs)
 joined xs n zero some =
     let first : 0 ≡ cut_place 0 (length xs) n = omega (arith, div-le_self (0 * length xs) n) in
     ap (λ k. keys (take k xs)) first
@@ -61,7 +62,8 @@ keys-cuts xs n some =
     joined xs n n some ∙ ap (λ m. keys (take m xs)) (cut_place-all (length xs) n some) ∙ ap keys (take_all (length xs) xs (omega arith))
 
 -- a list whose keys rise is cut into partitions that rise in each and across
-pub ordered-cuts : {T : Type 0} (xs : List (Keyed T)) (n : ℕ) → 1 ≤ n → rises (keys xs) ≡ true → (ordered_in_each (key_lists (cuts xs n)) ≡ true) × (ordered_across (key_lists (cuts xs n)) ≡ true)
+pub ordered-cuts : {T : Type 0} (xs : List (Keyed T)) (n : ℕ) → 1 ≤ n → rises (keys xs) ≡ true
+    → (ordered_in_each (key_lists (cuts xs n)) ≡ true) × (ordered_across (key_lists (cuts xs n)) ≡ true)
 ordered-cuts xs n some h = ordered-rising 0 (key_lists (cuts xs n)) (ap rises (keys-cuts xs n some) ∙ h)
 
 -- a list whose keys are its indexes is cut into normalized partitions

@@ -10,7 +10,8 @@ use Rattle.plinq_reorder.proofs.Keys.{same_key, same_test, within-from, not_with
 
 module _ {P : Type 0} where
   -- by the first interval: the row goes on with it, or is at a gap
-  row-cases : (Q : List (Interval P) → ℕ → Type 0) (key : ℕ) (p : Interval P) (ps : List (Interval P)) → (p.0 ≡ key → Q (p ∷ unbroken_row p.1.end ps) (first_gap p.1.end ps))
+  row-cases : (Q : List (Interval P) → ℕ → Type 0) (key : ℕ) (p : Interval P) (ps : List (Interval P))
+      → (p.0 ≡ key → Q (p ∷ unbroken_row p.1.end ps) (first_gap p.1.end ps))
       → ((p.0 == key) ≡ false → Q [] key) → Q (unbroken_row key (p ∷ ps)) (first_gap key (p ∷ ps))
   row-cases Q key p ps here gap =
       elim (p.0 == key) as (λ v. v ≡ (p.0 == key) → Q (cond v (p ∷ unbroken_row p.1.end ps) []) (cond v (first_gap p.1.end ps) key)) [
@@ -27,7 +28,8 @@ module _ {P : Type 0} where
   pub All-unbroken_row : (Q : Interval P → Type 0) (key : ℕ) (ps : List (Interval P)) → All Q ps → All Q (unbroken_row key ps)
   All-unbroken_row Q key [] all = all
   All-unbroken_row Q key (p ∷ ps) all =
-      row-cases (λ us gap. All Q us) key p ps (λ is. All-cons Q p (unbroken_row p.1.end ps) (All-head Q p ps all) (All-unbroken_row Q p.1.end ps (All-tail Q p ps all))) (λ is. All-nil Q)
+      row-cases (λ us gap. All Q us) key p ps (λ is. All-cons Q p (unbroken_row p.1.end ps) (All-head Q p ps all)
+      (All-unbroken_row Q p.1.end ps (All-tail Q p ps all))) (λ is. All-nil Q)
 
   -- each key before the gap is in an interval
   pub gap-covered : (key : ℕ) (ps : List (Interval P)) (k : ℕ) → key ≤ k → k < first_gap key ps → has_key ps k ≡ true
@@ -62,7 +64,8 @@ module _ {P : Type 0} where
   pub gap-most : (most key : ℕ) (ps : List (Interval P)) → key ≤ most → All (λ p. p.1.end ≤ most) ps → first_gap key ps ≤ most
   gap-most most key [] within all = within
   gap-most most key (p ∷ ps) within all =
-      row-cases (λ us gap. gap ≤ most) key p ps (λ is. gap-most most p.1.end ps (All-head (λ p. p.1.end ≤ most) p ps all) (All-tail (λ p. p.1.end ≤ most) p ps all)) (λ is. within)
+      row-cases (λ us gap. gap ≤ most) key p ps (λ is. gap-most most p.1.end ps (All-head (λ p. p.1.end ≤ most) p ps all)
+      (All-tail (λ p. p.1.end ≤ most) p ps all)) (λ is. within)
 
   -- after a row, it is that row and what follows without a gap
   pub row-append : (from : ℕ) (done : List (Interval P)) (to : ℕ) (rest : List (Interval P)) → IsRow from done to

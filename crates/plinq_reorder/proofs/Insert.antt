@@ -19,7 +19,8 @@ data IsPlace (first end at at_end : ℕ) : Type 0 where
 
 module _ {P : Type 0} where
   -- what is true of each interval, and of the new one, is true of all
-  pub All-insert : (Q : Interval P → Type 0) (ps : List (Interval P)) (first end : ℕ) (x : P) → All Q ps → Q (first, record { end = end; payload = x }) → All Q (insert ps first end x)
+  pub All-insert : (Q : Interval P → Type 0) (ps : List (Interval P)) (first end : ℕ) (x : P) → All Q ps
+      → Q (first, record { end = end; payload = x }) → All Q (insert ps first end x)
   All-insert Q [] first end x all here = All-cons Q (first, record { end = end; payload = x }) [] here all
   All-insert Q (p ∷ ps) first end x all here =
       let s : Span P = record { end = end; payload = x } in
@@ -37,7 +38,8 @@ module _ {P : Type 0} where
   free-rest : (p : Interval P) (ps : List (Interval P)) (first end : ℕ) → IsFree (p ∷ ps) first end → IsFree ps first end
   free-rest p ps first end free key within = (or_parts (is_within p.0 p.1.end key) (has_key ps key) (free key within)).1
 
-  find-place : (start first end : ℕ) (p : Interval P) (ps : List (Interval P)) → are_apart start (p ∷ ps) ≡ true → first < end → IsFree (p ∷ ps) first end → IsPlace first end p.0 p.1.end
+  find-place : (start first end : ℕ) (p : Interval P) (ps : List (Interval P)) → are_apart start (p ∷ ps) ≡ true → first < end
+      → IsFree (p ∷ ps) first end → IsPlace first end p.0 p.1.end
   find-place start first end p ps apart some free =
       let has = apart-some start p ps apart in
       let not_here : (key : ℕ) → is_within first end key ≡ true → is_within p.0 p.1.end key ≡ true → ⊥ =
@@ -53,7 +55,8 @@ module _ {P : Type 0} where
         ]
       ]
 
-  insert-front : (first end : ℕ) (x : P) (p : Interval P) (ps : List (Interval P)) → first < p.0 → insert (p ∷ ps) first end x ≡ (first, record { end = end; payload = x }) ∷ p ∷ ps
+  insert-front : (first end : ℕ) (x : P) (p : Interval P) (ps : List (Interval P)) → first < p.0
+      → insert (p ∷ ps) first end x ≡ (first, record { end = end; payload = x }) ∷ p ∷ ps
   insert-front first end x p ps before =
       let test : nat_lt first p.0 ≡ true = lt-ltb first p.0 before in
       rw test refl
@@ -65,20 +68,23 @@ module _ {P : Type 0} where
       rw (past, apart) refl
 
   -- a later key's place is after all of these
-  pub insert-after : (done rest : List (Interval P)) (first end : ℕ) (x : P) → All (λ p. p.0 < first) done → insert (done ++ rest) first end x ≡ done ++ insert rest first end x
+  pub insert-after : (done rest : List (Interval P)) (first end : ℕ) (x : P) → All (λ p. p.0 < first) done
+      → insert (done ++ rest) first end x ≡ done ++ insert rest first end x
   insert-after [] rest first end x before = refl
   insert-after (p ∷ done) rest first end x before =
       insert-further first end x p (done ++ rest) (All-head (λ p. p.0 < first) p done before)
       ∙ ap (λ qs. p ∷ qs) (insert-after done rest first end x (All-tail (λ p. p.0 < first) p done before))
 
   -- the intervals stay apart
-  pub apart-insert : (start first end : ℕ) (x : P) (ps : List (Interval P)) → are_apart start ps ≡ true → start ≤ first → first < end → IsFree ps first end → are_apart start (insert ps first end x) ≡ true
+  pub apart-insert : (start first end : ℕ) (x : P) (ps : List (Interval P)) → are_apart start ps ≡ true → start ≤ first → first < end
+      → IsFree ps first end → are_apart start (insert ps first end x) ≡ true
   apart-insert start first end x [] apart from_start some free = apart-cons start (first, record { end = end; payload = x }) [] from_start some refl
   apart-insert start first end x (p ∷ ps) apart from_start some free =
       elim (find-place start first end p ps apart some free) [
         | in_front before past ↦
             rw (insert-front first end x p ps before)
-            (apart-cons start (first, record { end = end; payload = x }) (p ∷ ps) from_start some (apart-cons end p ps past (apart-some start p ps apart) (apart-rest start p ps apart)))
+            (apart-cons start (first, record { end = end; payload = x }) (p ∷ ps) from_start some
+            (apart-cons end p ps past (apart-some start p ps apart) (apart-rest start p ps apart)))
         | further later past ↦
             rw (insert-further first end x p ps later)
             (apart-cons start p (insert ps first end x) (apart-start start p ps apart) (apart-some start p ps apart)
@@ -94,12 +100,14 @@ module _ {P : Type 0} where
         | in_front before past ↦ rw (insert-front first end x p ps before) (or_comm (is_within first end key) (has_key (p ∷ ps) key))
         | further later past ↦
             rw (insert-further first end x p ps later)
-            (ap (λ b. is_within p.0 p.1.end key || b) (has_key-insert p.1.end first end x ps key (apart-rest start p ps apart) some (free-rest p ps first end free))
+            (ap (λ b. is_within p.0 p.1.end key || b) (has_key-insert p.1.end first end x ps key (apart-rest start p ps apart) some
+            (free-rest p ps first end free))
             ∙ sym (or_assoc (is_within p.0 p.1.end key) (has_key ps key) (is_within first end key)))
       ]
 
   -- under the next key it is the first
-  insert-next : (next end : ℕ) (x : P) (ps : List (Interval P)) → are_apart next ps ≡ true → next < end → IsFree ps next end → insert ps next end x ≡ (next, record { end = end; payload = x }) ∷ ps
+  insert-next : (next end : ℕ) (x : P) (ps : List (Interval P)) → are_apart next ps ≡ true → next < end → IsFree ps next end
+      → insert ps next end x ≡ (next, record { end = end; payload = x }) ∷ ps
   insert-next next end x [] apart some free = refl
   insert-next next end x (p ∷ ps) apart some free =
       elim (find-place next next end p ps apart some free) [
@@ -114,10 +122,13 @@ module _ {P : Type 0} where
 
   -- fresh keys stand after those that have gone
   pub after-next : (b : Buffered P) (first end : ℕ) → IsFresh b first end → first < end → b.next ≤ first
-  after-next b first end fresh some = ltb-false first b.next (or_parts (nat_lt first b.next) (has_key b.held first) (fresh first (within-from first end first (omega arith) some))).0
+  after-next b first end fresh some =
+      ltb-false first b.next (or_parts (nat_lt first b.next) (has_key b.held first) (fresh first (within-from first end first (omega arith) some))).0
 
-  pub apart-inserted : (b : Buffered P) (first end : ℕ) (x : P) → are_apart b.next b.held ≡ true → first < end → IsFresh b first end → are_apart b.next (insert b.held first end x) ≡ true
-  apart-inserted b first end x apart some fresh = apart-insert b.next first end x b.held apart (after-next b first end fresh some) some (free-from_fresh b first end fresh)
+  pub apart-inserted : (b : Buffered P) (first end : ℕ) (x : P) → are_apart b.next b.held ≡ true → first < end → IsFresh b first end
+      → are_apart b.next (insert b.held first end x) ≡ true
+  apart-inserted b first end x apart some fresh =
+      apart-insert b.next first end x b.held apart (after-next b first end fresh some) some (free-from_fresh b first end fresh)
 
   pub taken-with_interval : (b : Buffered P) (first end : ℕ) (x : P) (key : ℕ) → are_apart b.next b.held ≡ true → first < end → IsFresh b first end
       → is_taken (with_interval b first end x) key ≡ is_taken b key || is_within first end key
@@ -126,7 +137,8 @@ module _ {P : Type 0} where
       ∙ sym (or_assoc (nat_lt key b.next) (has_key b.held key) (is_within first end key))
 
   -- the interval under the next key has gone
-  pub takes-next : (b : Buffered P) (x : P) (b' : Buffered P) → are_apart b.next b.held ≡ true → b.held ≡ (b.next, record { end = b'.next; payload = x }) ∷ b'.held
+  pub takes-next : (b : Buffered P) (x : P) (b' : Buffered P) → are_apart b.next b.held ≡ true
+      → b.held ≡ (b.next, record { end = b'.next; payload = x }) ∷ b'.held
       → TakesNext b x b' × (are_apart b'.next b'.held ≡ true)
   takes-next b x b' apart is =
       let p : Interval P = (b.next, record { end = b'.next; payload = x }) in

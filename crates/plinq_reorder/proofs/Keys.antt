@@ -36,16 +36,19 @@ module _ {P : Type 0} where
   -- the parts of `are_apart`
   pub apart-start : (start : ℕ) (p : Interval P) (ps : List (Interval P)) → are_apart start (p ∷ ps) ≡ true → start ≤ p.0
   apart-start start p ps apart =
-      leb-true start p.0 (and_parts (nat_le start p.0) (nat_lt p.0 p.1.end) (and_parts (nat_le start p.0 && nat_lt p.0 p.1.end) (are_apart p.1.end ps) apart).0).0
+      leb-true start p.0 (and_parts (nat_le start p.0) (nat_lt p.0 p.1.end) (and_parts (nat_le start p.0 && nat_lt p.0 p.1.end)
+      (are_apart p.1.end ps) apart).0).0
 
   pub apart-some : (start : ℕ) (p : Interval P) (ps : List (Interval P)) → are_apart start (p ∷ ps) ≡ true → p.0 < p.1.end
   apart-some start p ps apart =
-      ltb-true p.0 p.1.end (and_parts (nat_le start p.0) (nat_lt p.0 p.1.end) (and_parts (nat_le start p.0 && nat_lt p.0 p.1.end) (are_apart p.1.end ps) apart).0).1
+      ltb-true p.0 p.1.end (and_parts (nat_le start p.0) (nat_lt p.0 p.1.end) (and_parts (nat_le start p.0 && nat_lt p.0 p.1.end)
+      (are_apart p.1.end ps) apart).0).1
 
   pub apart-rest : (start : ℕ) (p : Interval P) (ps : List (Interval P)) → are_apart start (p ∷ ps) ≡ true → are_apart p.1.end ps ≡ true
   apart-rest start p ps apart = (and_parts (nat_le start p.0 && nat_lt p.0 p.1.end) (are_apart p.1.end ps) apart).1
 
-  pub apart-cons : (start : ℕ) (p : Interval P) (ps : List (Interval P)) → start ≤ p.0 → p.0 < p.1.end → are_apart p.1.end ps ≡ true → are_apart start (p ∷ ps) ≡ true
+  pub apart-cons : (start : ℕ) (p : Interval P) (ps : List (Interval P)) → start ≤ p.0 → p.0 < p.1.end → are_apart p.1.end ps ≡ true
+      → are_apart start (p ∷ ps) ≡ true
   apart-cons start p ps from_start some rest = and_from _ _ (and_from _ _ (le-leb start p.0 from_start) (lt-ltb p.0 p.1.end some)) rest
 
   -- no key before all intervals is in one

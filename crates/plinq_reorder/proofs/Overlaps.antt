@@ -76,12 +76,15 @@ module _ {P : Type 0} where
   last-begun start [] end [] last apart is = absurd (cc)
   last-begun start [] end (f ∷ front) last apart is = absurd (cc)
   last-begun start (p ∷ ps) end front last apart is =
-      elim (is_before end p.0) as (λ v. v ≡ is_before end p.0 → cond v (p ∷ begun_before end ps) (begun_before end ps) ≡ front ++ last ∷ [] → IsLastBegun start (p ∷ ps) end last) [
-        | true ↦ λ test all. last-cases start p ps end front last apart (before-true end p.0 (sym test)) all (λ rest_front rest. last-begun p.1.end ps end rest_front last (apart-rest start p ps apart) rest)
+      elim (is_before end p.0) as (λ v. v ≡ is_before end p.0 → cond v (p ∷ begun_before end ps) (begun_before end ps) ≡ front ++ last ∷ []
+      → IsLastBegun start (p ∷ ps) end last) [
+        | true ↦ λ test all. last-cases start p ps end front last apart (before-true end p.0 (sym test)) all
+            (λ rest_front rest. last-begun p.1.end ps end rest_front last (apart-rest start p ps apart) rest)
         | false ↦ λ test all. last-later start p ps end last apart (last-begun p.1.end ps end front last (apart-rest start p ps apart) all)
       ] refl is
     where
-      last-cases : (start : ℕ) (p : Interval P) (ps : List (Interval P)) (end : ℕ) (front : List (Interval P)) (last : Interval P) → are_apart start (p ∷ ps) ≡ true
+      last-cases : (start : ℕ) (p : Interval P) (ps : List (Interval P)) (end : ℕ) (front : List (Interval P)) (last : Interval P)
+          → are_apart start (p ∷ ps) ≡ true
           → p.0 < end → p ∷ begun_before end ps ≡ front ++ last ∷ []
           → ((rest_front : List (Interval P)) → begun_before end ps ≡ rest_front ++ last ∷ [] → IsLastBegun p.1.end ps end last)
           → IsLastBegun start (p ∷ ps) end last
@@ -93,7 +96,8 @@ module _ {P : Type 0} where
 
   -- where no interval begins before `end`, no key is taken
   pub fresh-none : (b : Buffered P) (first end : ℕ) → b.next ≤ first → entries_between nat_cmp Unbounded (Excluded end) b.held ≡ [] → IsFresh b first end
-  fresh-none b first end after none key within = or_from _ _ (not_gone b first key after (within-first first end key within)) (none-begun end b.held key none (within-end first end key within))
+  fresh-none b first end after none key within =
+      or_from _ _ (not_gone b first key after (within-first first end key within)) (none-begun end b.held key none (within-end first end key within))
 
   -- where the last of them ends at or before `first`, neither
   pub fresh-last : (b : Buffered P) (first end : ℕ) (front : List (Interval P)) (last : Interval P) → are_apart b.next b.held ≡ true → b.next ≤ first
@@ -111,6 +115,11 @@ module _ {P : Type 0} where
       let last_some = here.some in
       let last_before = here.before in
       elim (cases_lt first last.0) [
-        | inl w ↦ (last.0, within-from first end last.0 (omega arith) here.before, or_right _ _ (here.there last.0 (within-from last.0 last.1.end last.0 (omega arith) here.some)))
+        | inl w ↦ (
+          last.0,
+          within-from first end last.0 (omega arith) here.before,
+          or_right _ _
+              (here.there last.0 (within-from last.0 last.1.end last.0 (omega arith) here.some)),
+        )
         | inr w ↦ (first, within-from first end first (omega arith) some, or_right _ _ (here.there first (within-from last.0 last.1.end first w overlaps)))
       ]

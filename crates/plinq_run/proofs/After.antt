@@ -13,11 +13,17 @@ module _ {K T : Type 0} (accepts : K → List T → K → Type 0) where
     within : d'.delivered ≤ most_of d.token
     most : most_of d'.token ≡ most_of d.token
 
-  have-passed : (d : Delivery CancelAfter K) (bs : List (List T)) (d' : Delivery CancelAfter K) → most_of d.token ≤ 18446744073709551615 → d.delivered ≤ most_of d.token
+  have-passed : (d : Delivery CancelAfter K) (bs : List (List T)) (d' : Delivery CancelAfter K) → most_of d.token ≤ 18446744073709551615
+      → d.delivered ≤ most_of d.token
       → Leads (Passes AsksAfter accepts) d bs d' → HavePassed d (length bs) d'
   have-passed d [] d' small within leads =
       let same : d' ≡ d = leads in
-      record { counts = omega (arith, ap (λ x. x.delivered) same); within = omega (arith, within, ap (λ x. x.delivered) same); most = ap (λ x. most_of x.token) same }
+      record {
+        counts = omega (arith, ap (λ x. x.delivered) same);
+        within = omega (arith, within, ap (λ x. x.delivered) same);
+        most = ap
+            (λ x. most_of x.token) same;
+      }
   have-passed d (b ∷ bs) d' small within (m, step, leads) =
       let asked = step.asked in
       let before : nat_le (most_of d.token) d.delivered ≡ false = sym asked.is in
@@ -27,11 +33,13 @@ module _ {K T : Type 0} (accepts : K → List T → K → Type 0) where
       let on = have-passed m bs d' (omega (arith, small, most)) (omega (arith, counts, under, most)) leads in
       record { counts = omega (arith, on.counts, counts); within = omega (arith, on.within, most); most = on.most ∙ most }
 
-  pub sinks : (d : Delivery CancelAfter K) (bs : List (List T)) (d' : Delivery CancelAfter K) → Leads (Passes AsksAfter accepts) d bs d' → Leads accepts d.sink bs d'.sink
+  pub sinks : (d : Delivery CancelAfter K) (bs : List (List T)) (d' : Delivery CancelAfter K) → Leads (Passes AsksAfter accepts) d bs d'
+      → Leads accepts d.sink bs d'.sink
   sinks = leads-map (λ (x : Delivery CancelAfter K). x.sink) (Passes AsksAfter accepts) accepts (λ d b d' passes. passes.taken)
 
   -- where the token stops a delivery from its beginning on, the number was delivered
-  pub stopped-number : (d : Delivery CancelAfter K) (bs : List (List T)) (d' : Delivery CancelAfter K) → d.delivered ≡ 0 → most_of d.token ≤ 18446744073709551615
+  pub stopped-number : (d : Delivery CancelAfter K) (bs : List (List T)) (d' : Delivery CancelAfter K) → d.delivered ≡ 0
+      → most_of d.token ≤ 18446744073709551615
       → (h : IsStopped AsksAfter accepts d bs d') → length h.sent ≡ most_of d.token
   stopped-number d bs d' start small h =
       let on = have-passed d h.sent h.last small (omega (arith, start)) h.leads in
@@ -39,8 +47,10 @@ module _ {K T : Type 0} (accepts : K → List T → K → Type 0) where
       let reached : most_of h.last.token ≤ h.last.delivered = grind (arith, nat_tests) in
       omega (arith, on.counts, on.within, on.most, reached, start)
 
-  module _ (refuses : K → List T → ℕ → K → Type 0) (option : MergeOption) (u : Trace T) (d d' : Delivery CancelAfter K) (start : d.delivered ≡ 0) (small : most_of d.token ≤ 18446744073709551615) where
-    pub stops-after : (r : Result Report RunFault) → RunsWith AsksAfter accepts refuses option u d d' r → StopsAfter accepts (most_of d.token) (batches option u) d.sink d'.sink r
+  module _ (refuses : K → List T → ℕ → K → Type 0) (option : MergeOption) (u : Trace T) (d d' : Delivery CancelAfter K) (start : d.delivered ≡ 0)
+      (small : most_of d.token ≤ 18446744073709551615) where
+    pub stops-after : (r : Result Report RunFault) → RunsWith AsksAfter accepts refuses option u d d' r
+        → StopsAfter accepts (most_of d.token) (batches option u) d.sink d'.sink r
     stops-after (Ok report) (last, run, lets) =
         let on = have-passed d (batches option u) last small (omega (arith, start)) run.delivered in
         let open_ : nat_le (most_of last.token) last.delivered ≡ false = sym lets.asked.is in

@@ -24,8 +24,10 @@ pub without-append : {T : Type 0} (p : ℕ → Bool) (k : ℕ) (xs ys : List T) 
 without-append p k [] ys = ap (λ j. without p j ys) (let same : k ≡ k + 0 = omega arith in same)
 without-append p k (x ∷ xs) ys =
     let later : without p (k + 1) (xs ++ ys) ≡ without p (k + 1) xs ++ without p (k + length (x ∷ xs)) ys =
-    without-append p (k + 1) xs ys ∙ ap (λ j. without p (k + 1) xs ++ without p j ys) (let same : (k + 1) + length xs ≡ k + length (x ∷ xs) = omega arith in same) in
-    elim (p k) as (λ v. cond v (without p (k + 1) (xs ++ ys)) (x ∷ without p (k + 1) (xs ++ ys)) ≡ cond v (without p (k + 1) xs) (x ∷ without p (k + 1) xs) ++ without p (k + length (x ∷ xs)) ys) [
+    without-append p (k + 1) xs ys
+    ∙ ap (λ j. without p (k + 1) xs ++ without p j ys) (let same : (k + 1) + length xs ≡ k + length (x ∷ xs) = omega arith in same) in
+    elim (p k) as (λ v. cond v (without p (k + 1) (xs ++ ys)) (x ∷ without p (k + 1) (xs ++ ys)) ≡ cond v (without p (k + 1) xs) (x ∷ without p (k + 1) xs)
+    ++ without p (k + length (x ∷ xs)) ys) [
       | true ↦ later
       | false ↦ ap (λ zs. x ∷ zs) later
     ]
@@ -62,7 +64,8 @@ IsWithin xs r = end_of_result r ≤ length xs
 
 -- one result more, no key of which was offered, is taken from what is left
 without-result : {T : Type 0} (xs : List T) (r : ChunkResult T) (rs : List (ChunkResult T)) → end_of_result r ≤ length xs → AreNew rs r
-    → (before : List T) × (end : List T) × (without (is_offered rs) 0 xs ≡ before ++ (take r.count (drop r.first xs) ++ end)) × (without (is_offered (r ∷ rs)) 0 xs ≡ before ++ end)
+    → (before : List T) × (end : List T) × (without (is_offered rs) 0 xs ≡ before ++ (take r.count (drop r.first xs) ++ end))
+    × (without (is_offered (r ∷ rs)) 0 xs ≡ before ++ end)
 without-result {T} xs r rs within new =
     let f : ℕ = r.first in
     let c : ℕ = r.count in
@@ -77,17 +80,23 @@ without-result {T} xs r rs within new =
     λ p. ap (without p 0) parts
     ∙ without-append p 0 A (S ++ B)
     ∙ ap (λ j. without p 0 A ++ without p j (S ++ B)) (let same : 0 + length A ≡ f = omega (arith, size_a) in same)
-    ∙ ap (λ ys. without p 0 A ++ ys) (without-append p f S B ∙ ap (λ j. without p f S ++ without p j B) (let same : f + length S ≡ f + c = omega (arith, size_s) in same)) in
+    ∙ ap (λ ys. without p 0 A ++ ys) (without-append p f S B ∙ ap (λ j. without p f S ++ without p j B)
+    (let same : f + length S ≡ f + c = omega (arith, size_s) in same)) in
     let old : ℕ → Bool = is_offered rs in
     let all : ℕ → Bool = is_offered (r ∷ rs) in
-    let free : without old f S ≡ S = without-as old (λ _. false) f S (λ j from below. new j (within-from f (f + c) j from (omega (arith, below, size_s)))) ∙ without-none f S in
-    let gone : without all f S ≡ [] = without-all all f S (λ j from below. ap (λ v. v || is_offered rs j) (within-from f (f + c) j from (omega (arith, below, size_s)))) in
-    let same_a : without all 0 A ≡ without old 0 A = without-as all old 0 A (λ j from below. ap (λ v. v || is_offered rs j) (not_within-before f (f + c) j (omega (arith, below, size_a)))) in
-    let same_b : without all (f + c) B ≡ without old (f + c) B = without-as all old (f + c) B (λ j from below. ap (λ v. v || is_offered rs j) (not_within-after f (f + c) j from)) in (
+    let free : without old f S ≡ S =
+    without-as old (λ _. false) f S (λ j from below. new j (within-from f (f + c) j from (omega (arith, below, size_s)))) ∙ without-none f S in
+    let gone : without all f S ≡ [] =
+    without-all all f S (λ j from below. ap (λ v. v || is_offered rs j) (within-from f (f + c) j from (omega (arith, below, size_s)))) in
+    let same_a : without all 0 A ≡ without old 0 A =
+    without-as all old 0 A (λ j from below. ap (λ v. v || is_offered rs j) (not_within-before f (f + c) j (omega (arith, below, size_a)))) in
+    let same_b : without all (f + c) B ≡ without old (f + c) B =
+    without-as all old (f + c) B (λ j from below. ap (λ v. v || is_offered rs j) (not_within-after f (f + c) j from)) in (
       without old 0 A,
       without old (f + c) B,
       split old ∙ ap (λ ys. without old 0 A ++ (ys ++ without old (f + c) B)) free,
-      split all ∙ ap (λ ys. without all 0 A ++ (ys ++ without all (f + c) B)) gone ∙ ap (λ ys. ys ++ without all (f + c) B) same_a ∙ ap (λ ys. without old 0 A ++ ys) same_b,
+      split all ∙ ap (λ ys. without all 0 A ++ (ys ++ without all (f + c) B)) gone ∙ ap (λ ys. ys ++ without all (f + c) B) same_a
+          ∙ ap (λ ys. without old 0 A ++ ys) same_b,
     )
 
 moved-front : {T : Type 0} (w a s b : List T) → IsPermutation (w ++ (a ++ (s ++ b))) ((s ++ w) ++ (a ++ b))
@@ -115,7 +124,8 @@ rearranged-taken {T} xs (r ∷ rs) within apart =
 pub apart-push : {T : Type 0} (offers : List (ChunkResult T)) (r : ChunkResult T) → AreApart offers → AreNew offers r → AreApart (offers ++ r ∷ [])
 apart-push [] r apart new = (λ key within. refl, tt)
 apart-push (q ∷ qs) r apart new = (
-  λ key within. is_offered-append qs r key ∙ or_from (is_offered qs key) _ (apart.0 key within) (false_from_ne_true _ (λ there. let bad : true ≡ false = twice key within there in cc)),
+  λ key within. is_offered-append qs r key
+      ∙ or_from (is_offered qs key) _ (apart.0 key within) (false_from_ne_true _ (λ there. let bad : true ≡ false = twice key within there in cc)),
   apart-push qs r apart.1 (λ key within. (or_parts (is_within q.first (end_of_result q) key) (is_offered qs key) (new key within)).1),
 )
   where
@@ -129,12 +139,14 @@ module _ {L T : Type 0} (meaning : L → Meaning T) (plan : Plan L) (t : Trace T
   are-true_tails [] are = tt
   are-true_tails (r ∷ rs) are = ((All-head (IsResult meaning plan t) r rs are).tail, are-true_tails rs (All-tail (IsResult meaning plan t) r rs are))
 
-module _ {L T : Type 0} (meaning : L → Meaning T) (plan : Plan L) (t : Trace T) (few : length t.items ≤ 2 ^ 40) (by : plan.order ≡ ByArrival) (keyless : are_keyless plan.worker.now ≡ true) where
+module _ {L T : Type 0} (meaning : L → Meaning T) (plan : Plan L) (t : Trace T) (few : length t.items ≤ 2 ^ 40) (by : plan.order ≡ ByArrival)
+    (keyless : are_keyless plan.worker.now ≡ true) where
   abbrev worker : List (Op L)
   worker = plan.worker.now
 
   -- a result that nothing was cut off gives its items' fragments
-  result-glued_trace : (r : ChunkResult T) → IsResult meaning plan t r → result_trace r ≡ glued_trace meaning worker 0 (take r.count (drop r.first t.items)) None
+  result-glued_trace : (r : ChunkResult T) → IsResult meaning plan t r
+      → result_trace r ≡ glued_trace meaning worker 0 (take r.count (drop r.first t.items)) None
   result-glued_trace r is =
       let offer = is.offer in
       let xs : List T = offer.chunk.items.items in
@@ -146,13 +158,15 @@ module _ {L T : Type 0} (meaning : L → Meaning T) (plan : Plan L) (t : Trace T
       ∙ glued_trace-keyless meaning worker offer.chunk.first 0 xs None keyless
       ∙ ap (λ ys. glued_trace meaning worker 0 ys None) items
 
-  arrived_trace-glued_trace : (rs : List (ChunkResult T)) → All (IsResult meaning plan t) rs → arrived_trace ByArrival rs ≡ glued_trace meaning worker 0 (taken_by t.items rs) None
+  arrived_trace-glued_trace : (rs : List (ChunkResult T)) → All (IsResult meaning plan t) rs
+      → arrived_trace ByArrival rs ≡ glued_trace meaning worker 0 (taken_by t.items rs) None
   arrived_trace-glued_trace [] are = refl
   arrived_trace-glued_trace (r ∷ rs) are =
       let xs : List T = take r.count (drop r.first t.items) in
       let ys : List T = taken_by t.items rs in
       ap (λ u. followed_by u (arrived_trace ByArrival rs)) (result-glued_trace r (All-head (IsResult meaning plan t) r rs are))
-      ∙ ap (followed_by (glued_trace meaning worker 0 xs None)) (arrived_trace-glued_trace rs (All-tail (IsResult meaning plan t) r rs are) ∙ glued_trace-keyless meaning worker 0 (0 + length xs) ys None keyless)
+      ∙ ap (followed_by (glued_trace meaning worker 0 xs None)) (arrived_trace-glued_trace rs (All-tail (IsResult meaning plan t) r rs are)
+      ∙ glued_trace-keyless meaning worker 0 (0 + length xs) ys None keyless)
       ∙ sym (glued_trace-append meaning worker 0 xs ys None)
 
 -- ---- the row of keys: nothing but the source's ending, where all keys before it were offered
@@ -168,7 +182,8 @@ module _ {T : Type 0} (offers : List (ChunkResult T)) where
   abbrev Comes : Option (ℕ × Ending) → Trace T → Type 0
   Comes source_end u = (u ≡ open_trace []) ⊎ HasCome source_end u
 
-  gap-comes : (source_end : Option (ℕ × Ending)) (gap : ℕ) → ((k : ℕ) → k < gap → is_offered offers k ≡ true) → Comes source_end (trace_of [] (ending_at source_end gap))
+  gap-comes : (source_end : Option (ℕ × Ending)) (gap : ℕ) → ((k : ℕ) → k < gap → is_offered offers k ≡ true)
+      → Comes source_end (trace_of [] (ending_at source_end gap))
   gap-comes None gap keys = inl refl
   gap-comes (Some at) gap keys =
       elim (at.0 == gap) as (λ v. v ≡ (at.0 == gap) → Comes (Some at) (trace_of [] (cond v (Some at.1) None))) [
@@ -182,12 +197,14 @@ module _ {T : Type 0} (offers : List (ChunkResult T)) where
       let ps : List (Interval (Trace T)) = all_placed ByArrival [] offers in
       let gap : ℕ = first_gap 0 ps in
       let stand = placed-all ByArrival [] offers refl apart (λ key there. refl) in
-      let none : all_given (unbroken_row 0 ps) ≡ open_trace [] = nothing-given (unbroken_row 0 ps) (All-unbroken_row (λ p. p.1.payload ≡ open_trace []) 0 ps (nothing-placed offers)) in
+      let none : all_given (unbroken_row 0 ps) ≡ open_trace [] =
+      nothing-given (unbroken_row 0 ps) (All-unbroken_row (λ p. p.1.payload ≡ open_trace []) 0 ps (nothing-placed offers)) in
       let is : trace_of [] (ending_at source_end gap) ≡ row source_end 0 ps = ap (λ u. followed_by u (trace_of [] (ending_at source_end gap))) (sym none) in
       subst (Comes source_end) is (gap-comes source_end gap (λ k below. sym (stand.keys k) ∙ gap-covered 0 ps k (omega arith) below))
 
 -- what was merged by arrival is how the fragments of the items in some order begin
-pub arrival-begins : {L T : Type 0} (meaning : L → Meaning T) (plan : Plan L) (t : Trace T) → length t.items ≤ 2 ^ 40 → plan.order ≡ ByArrival → are_keyless plan.worker.now ≡ true
+pub arrival-begins : {L T : Type 0} (meaning : L → Meaning T) (plan : Plan L) (t : Trace T) → length t.items ≤ 2 ^ 40 → plan.order ≡ ByArrival
+    → are_keyless plan.worker.now ≡ true
     → (offers : List (ChunkResult T)) → All (IsResult meaning plan t) offers → AreApart offers
     → (taken : Trace T) × IsRearranged t taken × (rest : Trace T) × (glue meaning plan.worker.now taken ≡ followed_by (merged_trace ByArrival offers) rest)
 arrival-begins {L} {T} meaning plan t few by keyless offers are apart =
@@ -202,7 +219,8 @@ arrival-begins {L} {T} meaning plan t few by keyless offers are apart =
     let within = All-weaker (IsResult meaning plan t) (IsWithin t.items) (λ r is. is.within) offers are in
     let any : IsRearranged t taken = record { items = rearranged-taken t.items offers within apart; ending = refl } in
     let all : glue meaning ws taken ≡ followed_by first rest =
-    glued_trace-append meaning ws 0 xs left t.ending ∙ ap (λ u. followed_by u rest) (sym (arrived_trace-glued_trace meaning plan t few by keyless offers are)) in
+    glued_trace-append meaning ws 0 xs left t.ending
+    ∙ ap (λ u. followed_by u rest) (sym (arrived_trace-glued_trace meaning plan t few by keyless offers are)) in
     elim (row-comes offers apart) [
       | inl none ↦
           let same : followed_by first keys ≡ first = ap (followed_by first) none ∙ followed_by-open_nil first in

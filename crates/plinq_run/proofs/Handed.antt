@@ -101,7 +101,8 @@ module _ {L T : Type 0} (meaning : L → Meaning T) (worker : List (Op L)) where
       ]
 
   -- a cut after a chunk cuts nothing off
-  result-uncut : (cut : ℕ) (chunk : Chunk T) (r : ChunkResult T) → chunk.first + length chunk.items.items ≤ cut → chunk.first + length chunk.items.items ≤ 2 ^ 40
+  result-uncut : (cut : ℕ) (chunk : Chunk T) (r : ChunkResult T) → chunk.first + length chunk.items.items ≤ cut
+      → chunk.first + length chunk.items.items ≤ 2 ^ 40
       → IsChunkResult meaning worker cut chunk r → IsChunkResult meaning worker no_cut chunk r
   result-uncut cut chunk r above few made =
       let same = chunk_answer-above meaning worker cut no_cut chunk.first chunk.items.items (omega (arith, above)) (omega (arith, few)) in
@@ -114,7 +115,8 @@ module _ {L T : Type 0} (meaning : L → Meaning T) (worker : List (Op L)) where
         tail = made.tail;
       }
 
-  offer-first : (t first : Trace T) (r : ChunkResult T) → length t.items ≤ 2 ^ 40 → first.items ≡ take (length first.items) t.items → end_of_result r ≤ length first.items
+  offer-first : (t first : Trace T) (r : ChunkResult T) → length t.items ≤ 2 ^ 40 → first.items ≡ take (length first.items) t.items
+      → end_of_result r ≤ length first.items
       → (offer : IsOffer meaning worker t r) → (now : IsOffer meaning worker first r) × (offer.cut ≡ no_cut → now.cut ≡ no_cut)
   offer-first t first r few is within offer =
       let xs : List T = offer.chunk.items.items in
@@ -143,7 +145,8 @@ module _ {L T : Type 0} (meaning : L → Meaning T) (worker : List (Op L)) where
       ]
 
   -- a tail that gives the source's end gives that of its first items, which are all then
-  told-first : (t first : Trace T) (key : ℕ) (tail : Option Tail) → length first.items ≤ length t.items → key ≤ length first.items → (is_end tail ≡ true → first.ending ≡ t.ending)
+  told-first : (t first : Trace T) (key : ℕ) (tail : Option Tail) → length first.items ≤ length t.items → key ≤ length first.items
+      → (is_end tail ≡ true → first.ending ≡ t.ending)
       → IfSome (told_at key tail) (EndsAt t) → IfSome (told_at key tail) (EndsAt first)
   told-first t first key None less within told at = tt
   told-first t first key (Some Closed) less within told at = tt

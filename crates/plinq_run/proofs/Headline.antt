@@ -20,7 +20,8 @@ module _ {T : Type 0} where
   selects (Ok y) rest = refl
   selects (Err code) rest = refl
 
-  filters : (r : Result Bool ℕ) (x : T) (rest : Trace T) → followed_by (filtered_piece r x) rest ≡ or_fault r (λ passes. if passes then before (x ∷ []) rest else rest)
+  filters : (r : Result Bool ℕ) (x : T) (rest : Trace T)
+      → followed_by (filtered_piece r x) rest ≡ or_fault r (λ passes. if passes then before (x ∷ []) rest else rest)
   filters (Ok true) x rest = refl
   filters answer x rest = refl
 
@@ -28,7 +29,8 @@ module _ {T : Type 0} where
   expands (Ok ys) rest = refl
   expands (Err code) rest = refl
 
-  takes_while : (r : Result Bool ℕ) (x : T) (rest : Trace T) → followed_by (taken_while r x) rest ≡ or_fault r (λ passes. if passes then before (x ∷ []) rest else ended_trace [] End)
+  takes_while : (r : Result Bool ℕ) (x : T) (rest : Trace T)
+      → followed_by (taken_while r x) rest ≡ or_fault r (λ passes. if passes then before (x ∷ []) rest else ended_trace [] End)
   takes_while (Ok true) x rest = refl
   takes_while answer x rest = refl
 
@@ -45,20 +47,28 @@ module _ {T : Type 0} where
   joined_pieces-each asks gives piece same (x ∷ xs) e =
       ap (λ u. followed_by (piece x) u) (joined_pieces-each asks gives piece same xs e) ∙ same x (record { items = x ∷ xs; ending = e }) (each asks gives xs e)
 
-  skipped-each : (test : T → Result Bool ℕ) (xs : List T) (e : Option Ending) → skipped_while test xs e ≡ each test (λ x passes here rest. if passes then rest else here) xs e
+  skipped-each : (test : T → Result Bool ℕ) (xs : List T) (e : Option Ending)
+      → skipped_while test xs e ≡ each test (λ x passes here rest. if passes then rest else here) xs e
   skipped-each test [] e = refl
   skipped-each test (x ∷ xs) e =
-      ap (λ u. skipped_from (test x) (x ∷ xs) e u) (skipped-each test xs e) ∙ skips_while (test x) (x ∷ xs) e (each test (λ x passes here rest. if passes then rest else here) xs e)
+      ap (λ u. skipped_from (test x) (x ∷ xs) e u) (skipped-each test xs e)
+      ∙ skips_while (test x) (x ∷ xs) e (each test (λ x passes here rest. if passes then rest else here) xs e)
 
   none-taken_trace : (t : Trace T) → taken_trace 0 t ≡ ended_trace [] End
   none-taken_trace t = let all : nat_le 0 (length t.items) ≡ true = grind (arith, nat_tests) in rw all refl
 
   module _ {L : Type 0} (meaning : L → Meaning T) where
     applied : (op : Op L) (t : Trace T) → apply (stage_of meaning op) t ≡ does meaning op t
-    applied (Select f) t = joined_pieces-each (meaning f).map _ (λ x. selected_piece ((meaning f).map x)) (λ x here rest. selects ((meaning f).map x) rest) t.items t.ending
-    applied (Filter f) t = joined_pieces-each (meaning f).test _ (λ x. filtered_piece ((meaning f).test x) x) (λ x here rest. filters ((meaning f).test x) x rest) t.items t.ending
-    applied (SelectMany f) t = joined_pieces-each (meaning f).expand _ (λ x. selected_many ((meaning f).expand x)) (λ x here rest. expands ((meaning f).expand x) rest) t.items t.ending
-    applied (TakeWhile f) t = joined_pieces-each (meaning f).test _ (λ x. taken_while ((meaning f).test x) x) (λ x here rest. takes_while ((meaning f).test x) x rest) t.items t.ending
+    applied (Select f) t =
+        joined_pieces-each (meaning f).map _ (λ x. selected_piece ((meaning f).map x)) (λ x here rest. selects ((meaning f).map x) rest) t.items t.ending
+    applied (Filter f) t =
+        joined_pieces-each (meaning f).test _ (λ x. filtered_piece ((meaning f).test x) x) (λ x here rest. filters ((meaning f).test x) x rest) t.items t.ending
+    applied (SelectMany f) t =
+        joined_pieces-each (meaning f).expand _ (λ x. selected_many ((meaning f).expand x))
+        (λ x here rest. expands ((meaning f).expand x) rest) t.items t.ending
+    applied (TakeWhile f) t =
+        joined_pieces-each (meaning f).test _ (λ x. taken_while ((meaning f).test x) x) (λ x here rest. takes_while ((meaning f).test x) x rest) t.items
+        t.ending
     applied (SkipWhile f) t = skipped-each (meaning f).test t.items t.ending
     applied (Take (pos n)) t = refl
     applied (Take (negsuc n)) t = none-taken_trace t
@@ -110,7 +120,8 @@ module _ {T : Type 0} where
   by_size n u =
       cut_up n [] u.items
       ∙ ap (λ zs. full_batches (Some n) [] u.items ++ zs) (last n (held_back (Some n) [] u.items) u.ending)
-      ∙ sym (append_assoc (full_batches (Some n) [] u.items) (last_batch (Some n) (held_back (Some n) [] u.items) u.ending) (kept (held_back (Some n) [] u.items) u.ending))
+      ∙ sym (append_assoc (full_batches (Some n) [] u.items) (last_batch (Some n) (held_back (Some n) [] u.items) u.ending)
+      (kept (held_back (Some n) [] u.items) u.ending))
 
   -- without a size no batch is ever full
   none-full : (hand xs : List T) → full_batches None hand xs ≡ []
@@ -134,7 +145,8 @@ module _ {T : Type 0} where
       ∙ sym (append-nil (batches_from None [] u))
 
   begins : (option : Option MergeOption) (u : Trace T) → IsBeginning option u
-  begins (Some NotBuffered) u = record { more = kept (held_back (Some 1) [] u.items) u.ending; parts = by_size 1 u; all = kept-none (held_back (Some 1) [] u.items) u.ending }
+  begins (Some NotBuffered) u =
+      record { more = kept (held_back (Some 1) [] u.items) u.ending; parts = by_size 1 u; all = kept-none (held_back (Some 1) [] u.items) u.ending }
   begins (Some FullyBuffered) u = record { more = []; parts = whole u; all = λ e is. refl }
   begins option u =
       record { more = kept (held_back (Some 16) [] u.items) u.ending; parts = by_size 16 u; all = kept-none (held_back (Some 16) [] u.items) u.ending }
@@ -142,7 +154,8 @@ module _ {T : Type 0} where
   -- ---- runs
 
   module _ {K : Type 0} (accepts : K → List T → K → Type 0) (option : Option MergeOption) (u : Trace T) (s s' : K) where
-    ended-delivered : (e : Ending) → HasRun accepts (merge_in_force option) u s s' e → (u.ending ≡ Some e) × Leads accepts s (handed_over option u.items u.ending) s'
+    ended-delivered : (e : Ending) → HasRun accepts (merge_in_force option) u s s' e
+        → (u.ending ≡ Some e) × Leads accepts s (handed_over option u.items u.ending) s'
     ended-delivered e h =
         let b = begins option u in
         let bs = batches (merge_in_force option) u in
@@ -154,7 +167,8 @@ module _ {T : Type 0} where
         let b = begins option u in
         (first, rest ++ b.more, b.parts ∙ ap (λ zs. zs ++ b.more) parts ∙ append_assoc first rest b.more, leads)
 
-    runs-delivered : (refuses : K → List T → ℕ → K → Type 0) (r : Result Report RunFault) → Runs accepts refuses (merge_in_force option) u s s' (reported_ending r)
+    runs-delivered : (refuses : K → List T → ℕ → K → Type 0) (r : Result Report RunFault)
+        → Runs accepts refuses (merge_in_force option) u s s' (reported_ending r)
         → HasDelivered accepts refuses option u s s' r
     runs-delivered refuses (Ok report) h = ended-delivered report.ending h
     runs-delivered refuses (Err (Sink code)) (first, next, rest, between, parts, leads, refused) =
@@ -164,9 +178,12 @@ module _ {T : Type 0} where
     runs-delivered refuses (Err fault) h = first-of h
 
 -- an ordered run has delivered what one thread answers
-pub ordered-delivered : {L T K : Type 0} (meaning : L → Meaning T) (accepts : K → List T → K → Type 0) (refuses : K → List T → ℕ → K → Type 0) (option : Option MergeOption) (ordered : Bool) (ops : List (Op L)) (t : Trace T) (s s' : K)
-    (r : Result Report RunFault) → ordered ≡ true → Reports accepts refuses (merge_in_force option) (MayAnswer meaning ordered ops) t s s' r → HasDelivered accepts refuses option (answers meaning ops t) s s' r
+pub ordered-delivered : {L T K : Type 0} (meaning : L → Meaning T) (accepts : K → List T → K → Type 0) (refuses : K → List T → ℕ → K → Type 0)
+    (option : Option MergeOption) (ordered : Bool) (ops : List (Op L)) (t : Trace T) (s s' : K)
+    (r : Result Report RunFault) → ordered ≡ true → Reports accepts refuses (merge_in_force option) (MayAnswer meaning ordered ops) t s s' r
+    → HasDelivered accepts refuses option (answers meaning ops t) s s' r
 ordered-delivered meaning accepts refuses option ordered ops t s s' r is h =
     runs-delivered accepts option (answers meaning ops t) s s' refuses r
-    (reports-runs accepts refuses (merge_in_force option) (MayAnswer meaning true ops) t s s' (answers meaning ops t) r (λ u may. may ∙ answers-same meaning ops t)
+    (reports-runs accepts refuses (merge_in_force option) (MayAnswer meaning true ops) t s s' (answers meaning ops t) r
+    (λ u may. may ∙ answers-same meaning ops t)
     (subst (λ o. Reports accepts refuses (merge_in_force option) (MayAnswer meaning o ops) t s s' r) is h))

@@ -26,7 +26,8 @@ breaks-by : (fault : MergeFault) (cause : Cause) → cause ≡ cause_in_merge (S
 breaks-by (Sink code) cause is = is
 breaks-by fault cause is = is
 
-module _ {W O T : Type 0} (made : W → O → Trace T → Result (Option Ending) DeliveryFault → W → O → Type 0) (lawful : IsTaking made) (IsPart : ChunkResult T → Type 0) (order : Order) (a : W) (x : O) where
+module _ {W O T : Type 0} (made : W → O → Trace T → Result (Option Ending) DeliveryFault → W → O → Type 0) (lawful : IsTaking made)
+    (IsPart : ChunkResult T → Type 0) (order : Order) (a : W) (x : O) where
   -- one part more, or none
   more-merged : (fault : Option MergeFault) (m : Merging W T) (y : O) (part : ChunkResult T) (offers offers' : List (ChunkResult T)) → m.fault ≡ fault
       → IsPart part → All IsPart offers → AreApart offers
@@ -84,10 +85,12 @@ module _ {W O T : Type 0} (made : W → O → Trace T → Result (Option Ending)
       }
 
   broken-by : (fault : Option MergeFault) (m : Merging W T) (y : O) (run_fault : RunFault) → cause_of run_fault ≡ cause_in_merge fault
-      → (offers : List (ChunkResult T)) → All IsPart offers → AreApart offers → Stands made IsPart order a x fault m.joiner y offers → HasBrokenOff made IsPart order a x run_fault y
+      → (offers : List (ChunkResult T)) → All IsPart offers → AreApart offers → Stands made IsPart order a x fault m.joiner y offers
+      → HasBrokenOff made IsPart order a x run_fault y
   broken-by None m y run_fault is offers are apart stands =
       let last = taker_of m.joiner in
-      let broken : (how : Result (Option Ending) DeliveryFault) → made a x (merged_trace order offers) how last y → Breaks how (cause_of run_fault) → HasBrokenOff made
+      let broken : (how : Result (Option Ending) DeliveryFault) → made a x (merged_trace order offers) how last y → Breaks how (cause_of run_fault)
+      → HasBrokenOff made
       IsPart order a x run_fault y =
       λ how taken breaks. record { offers = offers; are = are; apart = apart; last = last; how = how; taken = taken; breaks = breaks } in
       joined-cases made a x m.joiner y offers stands.1
@@ -95,7 +98,16 @@ module _ {W O T : Type 0} (made : W → O → Trace T → Result (Option Ending)
       (subst (λ o. made a x (merged_trace o offers) (Err NoMemory) last y) stands.0 (joined-stopped made a x lawful m.joiner y offers waits before)) is)
       (λ e yes ok all. broken (Ok (Some e)) (subst (λ o. made a x (merged_trace o offers) (Ok (Some e)) last y) stands.0 all) is)
   broken-by (Some fault) m y run_fault is offers are apart stands =
-      record { offers = offers; are = are; apart = apart; last = stands.0; how = Err (delivery_fault_of fault); taken = stands.1; breaks = breaks-by fault (cause_of run_fault) is }
+      record {
+        offers = offers;
+        are = are;
+        apart = apart;
+        last = stands.0;
+        how = Err (delivery_fault_of fault);
+        taken = stands.1;
+        breaks = breaks-by fault
+            (cause_of run_fault) is;
+      }
 
   -- where the joiner has ended the answer, its taker has taken all that was offered
   ended-by : (j : Joiner W T) (y : O) (e : Ending) (offers : List (ChunkResult T)) → Stands made IsPart order a x None j y offers → ending_of j ≡ Ok e
@@ -109,12 +121,15 @@ module _ {W O T : Type 0} (made : W → O → Trace T → Result (Option Ending)
       (subst (λ d. made a x (merged_trace (order_of j) offers) (Ok (Some d)) (taker_of j) y) same all))
 
 -- what was lent stays the same
-pub conducts-same : {L S J P U W O T : Type 0} {source : SourceGhosts S U} (made : W → O → Trace T → Result (Option Ending) DeliveryFault → W → O → Type 0) (IsPart : ChunkResult T → Type 0) (crew : Crew L S J P U U T source) (context : WorkerContext S T U source)
+pub conducts-same : {L S J P U W O T : Type 0} {source : SourceGhosts S U}
+    (made : W → O → Trace T → Result (Option Ending) DeliveryFault → W → O → Type 0) (IsPart : ChunkResult T → Type 0)
+    (crew : Crew L S J P U U T source) (context : WorkerContext S T U source)
     (m m' : MergingInto W T O) (result : Result (Returned S U source) OutOfMemory) → Conducts (AcceptsInto made) IsPart crew context m m' result → AreSame m m'
 conducts-same made IsPart crew context m m' (Ok back) h =
     let accepted = h.accepted in
     chained_keeps (AcceptsEach (AcceptsInto made) IsPart) (λ xs z. AreSame m z)
-    (λ xs z sent z' at step. let so = step.1 in record { merging = so.same.merging ∙ at.merging; out = so.same.out ∙ at.out }) accepted.taken m m' (record { merging = refl; out = refl }) accepted.steps
+    (λ xs z sent z' at step. let so = step.1 in record { merging = so.same.merging ∙ at.merging; out = so.same.out ∙ at.out }) accepted.taken m m'
+    (record { merging = refl; out = refl }) accepted.steps
 conducts-same made IsPart crew context m m' (Err fault) h = record { merging = ap (λ x. x.merging.ghost_name) h; out = ap (λ x. x.out.ghost_name) h }
 
 -- ---- what is reported

@@ -21,7 +21,8 @@ breaks-over (Ok (Some e)) cause breaks = tt
 breaks-over (Err fault) cause breaks = tt
 
 -- what is so of answers to some is so of answers to more
-pub gives-weaker : {T A U W O : Type 0} (f : Folding T A U) (made : W → O → Trace A → Result (Option Ending) DeliveryFault → W → O → Type 0) (P Q : Trace T → Type 0) (a : W) (x : O) (r : Result Ending RunFault) (y : O)
+pub gives-weaker : {T A U W O : Type 0} (f : Folding T A U) (made : W → O → Trace A → Result (Option Ending) DeliveryFault → W → O → Type 0)
+    (P Q : Trace T → Type 0) (a : W) (x : O) (r : Result Ending RunFault) (y : O)
     → ((u : Trace T) → P u → Q u) → GivesSome f made P a x r y → GivesSome f made Q a x r y
 gives-weaker f made P Q a x (Ok e) y on h = (h.0, on h.0 h.1, h.2)
 gives-weaker f made P Q a x (Err fault) y on h = (h.0, on h.0 h.1, h.2, h.3, h.4)
@@ -36,18 +37,22 @@ planned-given f made meaning q plan t a x r y is undecided =
     (λ u. planned-may meaning q plan t u q.ordered refl is undecided)
 
 -- a taker that can take gets to fold the blocks of operators that have seen nothing
-pub begun-folds : {L T F W : Type 0} (meaning : L → Meaning T) (can_take : W → Bool) (d : FoldBlocks L F W) (ops : List (Op L)) → IsReached meaning ops 0 d.pipeline → list_any is_empty_take ops ≡ false → can_take d.inner ≡ true
+pub begun-folds : {L T F W : Type 0} (meaning : L → Meaning T) (can_take : W → Bool) (d : FoldBlocks L F W) (ops : List (Op L))
+    → IsReached meaning ops 0 d.pipeline → list_any is_empty_take ops ≡ false → can_take d.inner ≡ true
     → can_fold meaning can_take d ≡ true
 begun-folds meaning can_take d ops reached some can =
-    let undecided : some_takes_none (stages meaning d.pipeline) ≡ false = ap some_takes_none (stages-begun meaning ops d.pipeline reached) ∙ sym (some_takes_none-stages_of meaning ops) ∙ some in
+    let undecided : some_takes_none (stages meaning d.pipeline) ≡ false =
+    ap some_takes_none (stages-begun meaning ops d.pipeline reached) ∙ sym (some_takes_none-stages_of meaning ops) ∙ some in
     ap (λ b. not b && can_take d.inner) undecided ∙ can
 
 -- and so where the answer is open after items that were fed
-pub still-folds : {L T F W : Type 0} (meaning : L → Meaning T) (can_take : W → Bool) (d : FoldBlocks L F W) (ss : List (Stage T)) (t : Trace T) (out : List T) → IsFed ss t [] out (stages meaning d.pipeline) None
+pub still-folds : {L T F W : Type 0} (meaning : L → Meaning T) (can_take : W → Bool) (d : FoldBlocks L F W) (ss : List (Stage T)) (t : Trace T) (out : List T)
+    → IsFed ss t [] out (stages meaning d.pipeline) None
     → can_take d.inner ≡ true → can_fold meaning can_take d ≡ true
 still-folds meaning can_take d ss t out fed can = ap (λ b. not b && can_take d.inner) (undecided-left ss (stages meaning d.pipeline) t [] out fed) ∙ can
 
-module _ {L T A U W O : Type 0} (f : Folding T A U) (lawful : IsFolding f) (made : W → O → Trace A → Result (Option Ending) DeliveryFault → W → O → Type 0) (taking : IsTaking made)
+module _ {L T A U W O : Type 0} (f : Folding T A U) (lawful : IsFolding f)
+    (made : W → O → Trace A → Result (Option Ending) DeliveryFault → W → O → Type 0) (taking : IsTaking made)
     (meaning : L → Meaning T) (plan : Plan L) (t : Trace T) (few : length t.items ≤ 2 ^ 40) (undecided : IsUndecided plan) where
   -- a run that ends before anything was offered
   pub none-given : (a : W) (x : O) (fault : RunFault) → cause_of fault ≡ Other → GivesSome f made (MayMerge meaning plan t) a x (Err fault) x
@@ -56,7 +61,8 @@ module _ {L T A U W O : Type 0} (f : Folding T A U) (lawful : IsFolding f) (made
       (u, merged-may meaning plan t, Err Memory, given-none f lawful made taking u a x, is)
 
   -- what was given of the answer to the results is how an answer of the source begins
-  given-some : (how : Result (Option Ending) DeliveryFault) (a : W) (x y : O) (results : List (ChunkResult T)) → All (IsResult meaning plan t) results → AreApart results → IsOver how
+  given-some : (how : Result (Option Ending) DeliveryFault) (a : W) (x y : O) (results : List (ChunkResult T)) → All (IsResult meaning plan t) results
+      → AreApart results → IsOver how
       → WasGiven f made (answer_so_far meaning plan results) a x how y → (u : Trace T) × (MayMerge meaning plan t u) × WasGiven f made u a x how y
   given-some how a x y results are apart over given =
       let begun = begun-in meaning plan t few undecided results are apart in
@@ -112,7 +118,8 @@ module _ {L T A U W O : Type 0} (f : Folding T A U) (lawful : IsFolding f) (made
 
     blocks-some : (how : Result (Option Ending) DeliveryFault) (rs : List (ChunkResult T)) (last : FoldBlocks L F W) (y : O)
         → All (AsItIs meaning plan t) rs → AreApart rs → IsOver how
-        → MadeBy meaning folding made first x (merged_trace plan.order rs) how last y → (u : Trace T) × (MayMerge meaning plan t u) × WasGiven f made u first.inner x how y
+        → MadeBy meaning folding made first x (merged_trace plan.order rs) how last y
+        → (u : Trace T) × (MayMerge meaning plan t u) × WasGiven f made u first.inner x how y
     blocks-some how rs last y are apart over is =
         let passes =
         passes-over (folding first.aggregator.now) how (stages meaning first.pipeline) (stages meaning last.pipeline) first.inner (merged_trace plan.order rs)

@@ -65,7 +65,8 @@ module _ {L T : Type 0} (meaning : L → Meaning T) (worker : List (Op L)) (cut 
     -- a piece that leaves the run open
     pub folded-piece : (all : ChunkAnswer T) (first : ℕ) (rest block others : List T) (acc acc' : A) (count : ℕ) (chunk : Chunk T) (r : ChunkResult T)
         → rest ≡ block ++ others → chunk.first ≡ first → chunk.items.items ≡ block → IsChunkResult meaning worker cut chunk r → is_some r.stop ≡ false
-        → acc' ≡ fold f.update acc r.items.items → HasFoldedTo all first rest acc count → HasFoldedTo all (first + length block) others acc' (count + length r.items.items)
+        → acc' ≡ fold f.update acc r.items.items → HasFoldedTo all first rest acc count
+        → HasFoldedTo all (first + length block) others acc' (count + length r.items.items)
     folded-piece all first rest block others acc acc' count chunk r parts at is made is_open next before =
         let a : ChunkAnswer T = chunk_answer meaning worker cut first block in
         let b : ChunkAnswer T = chunk_answer meaning worker cut (first + length block) others in
@@ -118,7 +119,8 @@ module _ {L T : Type 0} (meaning : L → Meaning T) (worker : List (Op L)) (cut 
         folded-last chunk first rest acc acc count c no_more More before (ap (chunk_answer meaning worker cut first) none) refl refl (omega (arith, few)) told
 
     -- a piece in which the run stopped
-    pub folded-stopped : (chunk : Chunk T) (first : ℕ) (rest block others : List T) (acc acc' : A) (count : ℕ) (piece : Chunk T) (r : ChunkResult T) (c : ChunkResult A)
+    pub folded-stopped : (chunk : Chunk T) (first : ℕ) (rest block others : List T) (acc acc' : A) (count : ℕ) (piece : Chunk T) (r : ChunkResult T)
+        (c : ChunkResult A)
         → rest ≡ block ++ others → piece.first ≡ first → piece.items.items ≡ block → IsChunkResult meaning worker cut piece r → is_some r.stop ≡ true
         → acc' ≡ fold f.update acc r.items.items → count + length r.items.items < 2 ^ 63
         → HasFoldedTo (chunk_answer meaning worker cut chunk.first chunk.items.items) first rest acc count → IsFoldOfChunk chunk acc' r.ending r.stop c

@@ -72,7 +72,8 @@ module _ {L T : Type 0} (meaning : L → Meaning T) (plan : Plan L) (t : Trace T
 
 -- what begins to deliver the answer of this plan
 abbrev pub begun_line : {L T : Type 0} → (L → Meaning T) → Plan L → MergeOption → Line T
-begun_line meaning plan option = record { after = stages_of meaning plan.after.now; now = stages_of meaning plan.after.now; held = []; size = batch_size option }
+begun_line meaning plan option =
+    record { after = stages_of meaning plan.after.now; now = stages_of meaning plan.after.now; held = []; size = batch_size option }
 
 -- what is sent as it is
 abbrev pub AsItIs : {L T : Type 0} → (L → Meaning T) → Plan L → Trace T → ChunkResult T → Type 0
@@ -115,7 +116,8 @@ module _ {L T K : Type 0} (meaning : L → Meaning T) (q : QueryView L) (plan : 
     accounts : (first : Trace T) → Covers t records first → May first answer
     has_run : HasRun accepts option answer s s' e
 
-  short-of : (s : K) (offers : List (ChunkResult T)) (fault : DeliveryFault) (s' : K) (run_fault : RunFault) (cause : Cause) → All (IsResult meaning plan t) offers → AreApart offers
+  short-of : (s : K) (offers : List (ChunkResult T)) (fault : DeliveryFault) (s' : K) (run_fault : RunFault) (cause : Cause)
+      → All (IsResult meaning plan t) offers → AreApart offers
       → IsCutOff accepts refuses s (batches_from (batch_size option) [] (answer_so_far meaning plan offers)) fault s'
       → ((bs : List (List T)) → IsCutOff accepts refuses s bs fault s' → BreaksFor accepts refuses cause bs s s') → cause_of run_fault ≡ cause
       → IsBroken accepts refuses option May t s s' run_fault
@@ -208,12 +210,14 @@ planned-keyless {L} q plan is by =
 
 -- the plan of a query that isn't decided needs workers
 pub planned-undecided : {L : Type 0} (q : QueryView L) (plan : Plan L) → IsPlanOf q plan → is_by_key plan.worker.now ≡ true
-    → (plan.decided ≡ false → (list_any is_empty_take plan.worker.now ≡ false) × (list_any is_empty_take plan.after.now ≡ false)) → plan.decided ≡ false → IsUndecided plan
+    → (plan.decided ≡ false → (list_any is_empty_take plan.worker.now ≡ false) × (list_any is_empty_take plan.after.now ≡ false))
+    → plan.decided ≡ false → IsUndecided plan
 planned-undecided q plan is keyed parts undecided =
     record { keyed = keyed; worker = (parts undecided).0; after = (parts undecided).1; undecided = undecided; keyless = planned-keyless q plan is }
 
 -- what one thread answers may be answered
-pub may-sequential : {L T : Type 0} (meaning : L → Meaning T) (ordered : Bool) (ops : List (Op L)) (t : Trace T) → MayAnswer meaning ordered ops t (answer_of meaning ops t)
+pub may-sequential : {L T : Type 0} (meaning : L → Meaning T) (ordered : Bool) (ops : List (Op L)) (t : Trace T)
+    → MayAnswer meaning ordered ops t (answer_of meaning ops t)
 may-sequential meaning true ops t = refl
 may-sequential meaning false ops t = Answer-sequential meaning false ops t
 

@@ -12,20 +12,24 @@ use Rattle.plinq_run.specs.{Endings.RunsDecided, Endings.RunsDecidedWith, Runs.H
 use Rattle.plinq_run.specs.inner.TokenReports.{ReportsLent, IsAskedAtLast}
 
 -- a run that broke off was cut off
-breaks-cut : {K T : Type 0} (accepts : K → List T → K → Type 0) (refuses : K → List T → ℕ → K → Type 0) (cause : Cause) (bs : List (List T)) (s s' : K) → BreaksFor accepts refuses cause bs s s'
+breaks-cut : {K T : Type 0} (accepts : K → List T → K → Type 0) (refuses : K → List T → ℕ → K → Type 0) (cause : Cause) (bs : List (List T)) (s s' : K)
+    → BreaksFor accepts refuses cause bs s s'
     → (fault : MergeFault) × StopsShort accepts refuses s bs fault s'
 breaks-cut accepts refuses (SinkRefused code) bs s s' h = (Refusal code, h)
 breaks-cut accepts refuses Stopped bs s s' h = absurd h
 breaks-cut accepts refuses Other bs s s' h = (NoMemory, h)
 
-module _ {K T : Type 0} (accepts : K → List T → K → Type 0) (refuses : K → List T → ℕ → K → Type 0) (option : MergeOption) (May : Trace T → Trace T → Type 0) (t : Trace T) (s s' : K) where
+module _ {K T : Type 0} (accepts : K → List T → K → Type 0) (refuses : K → List T → ℕ → K → Type 0) (option : MergeOption)
+    (May : Trace T → Trace T → Type 0) (t : Trace T) (s s' : K) where
   -- where there is one answer, it was delivered
-  pub reports-runs : (v : Trace T) (b : Result Report RunFault) → ((u : Trace T) → May t u → u ≡ v) → Reports accepts refuses option May t s s' b → Runs accepts refuses option v s s' (reported_ending b)
+  pub reports-runs : (v : Trace T) (b : Result Report RunFault) → ((u : Trace T) → May t u → u ≡ v) → Reports accepts refuses option May t s s' b
+      → Runs accepts refuses option v s s' (reported_ending b)
   reports-runs v (Ok r) only h = subst (λ u. HasRun accepts option u s s' r.ending) (only h.answer h.may) h.has_run
   reports-runs v (Err f) only h = subst (λ u. HasBroken accepts refuses option u s s' f) (only h.answer h.may) h.broken
 
   -- and what the records hand out has the same
-  pub reports-accounts : (F : Trace T → Trace T) (b : Result Report RunFault) → ((x u : Trace T) → May x u → u ≡ F x) → Reports accepts refuses option May t s s' b
+  pub reports-accounts : (F : Trace T → Trace T) (b : Result Report RunFault) → ((x u : Trace T) → May x u → u ≡ F x)
+      → Reports accepts refuses option May t s s' b
       → IfOk b (λ r. F (handed_trace t r.records.items) ≡ F t)
   reports-accounts F (Ok r) only h = sym (only (handed_trace t r.records.items) h.answer h.accounts) ∙ only t h.answer h.may
   reports-accounts F (Err f) only h = tt
@@ -37,7 +41,8 @@ module _ {K T : Type 0} (accepts : K → List T → K → Type 0) (refuses : K �
   reports-never (Err fault) h = refl
 
 -- at last the run's outcome is reported, or that it was cancelled
-pub asked-outcome : {C K : Type 0} (asks : C → ℕ → Bool → C → Type 0) (w w' : WithCancellation C K) (stopped : Bool) (outcome r : Result Report RunFault) → IsAskedAtLast asks stopped outcome w r w'
+pub asked-outcome : {C K : Type 0} (asks : C → ℕ → Bool → C → Type 0) (w w' : WithCancellation C K) (stopped : Bool) (outcome r : Result Report RunFault)
+    → IsAskedAtLast asks stopped outcome w r w'
     → (r ≡ outcome) ⊎ (r ≡ Err Cancelled)
 asked-outcome asks w w' true outcome r last = inr last.1
 asked-outcome asks w w' false (Err fault) r last = inl last.1
@@ -50,13 +55,15 @@ ok-outcome P outcome r (inl is) h = rw is h
 ok-outcome P outcome r (inr is) h = rw is tt
 
 -- of a decided query
-pub decided-outcome : {W K : Type 0} {w w' : W} {s s' : K} (outcome r : Result Report RunFault) → (r ≡ outcome) ⊎ (r ≡ Err Cancelled) → RunsDecided w w' outcome → s' ≡ s → RunsDecidedWith s s' r
+pub decided-outcome : {W K : Type 0} {w w' : W} {s s' : K} (outcome r : Result Report RunFault) → (r ≡ outcome) ⊎ (r ≡ Err Cancelled)
+    → RunsDecided w w' outcome → s' ≡ s → RunsDecidedWith s s' r
 decided-outcome (Ok report) r (inl is) h untouched =
     rw is (record { ended = (let same : Ok report.ending ≡ Ok End = h.answered in cc); cancelled = tt; untouched = untouched; none = h.none })
 decided-outcome (Err fault) r (inl is) h untouched = absurd (let bad : Err fault ≡ Ok End = h.answered in cc)
 decided-outcome outcome r (inr is) h untouched = rw is (record { ended = tt; cancelled = refl; untouched = untouched; none = tt })
 
-module _ {C K T : Type 0} (asks : C → ℕ → Bool → C → Type 0) (accepts : K → List T → K → Type 0) (refuses : K → List T → ℕ → K → Type 0) (option : MergeOption) (May : Trace T → Trace T → Type 0) (t : Trace T) where
+module _ {C K T : Type 0} (asks : C → ℕ → Bool → C → Type 0) (accepts : K → List T → K → Type 0) (refuses : K → List T → ℕ → K → Type 0)
+    (option : MergeOption) (May : Trace T → Trace T → Type 0) (t : Trace T) where
   abbrev Lends : WithCancellation C K → WithCancellation C K → Result Report RunFault → Type 0
   Lends w w' r = Reports (Takes asks accepts) (Refuses asks refuses) option May t w w' r
 
@@ -81,7 +88,8 @@ module _ {C K T : Type 0} (asks : C → ℕ → Bool → C → Type 0) (accepts 
         stopped = record { sent = kept.sent; rest = kept.kept ∷ kept.rest; parts = kept.parts; last = kept.last; leads = kept.leads; stops = kept.stops };
       }
 
-  breaks-on : (w w' : WithCancellation C K) (cause : Cause) (bs : List (List T)) → w.is_stopped ≡ false → w'.is_stopped ≡ false → BreaksFor (Takes asks accepts) (Refuses asks refuses) cause bs w w'
+  breaks-on : (w w' : WithCancellation C K) (cause : Cause) (bs : List (List T)) → w.is_stopped ≡ false → w'.is_stopped ≡ false
+      → BreaksFor (Takes asks accepts) (Refuses asks refuses) cause bs w w'
       → BreaksFor (Passes asks accepts) (IsRefused asks refuses) cause bs (delivery_of w) (delivery_of w')
   breaks-on w w' (SinkRefused code) bs before after h = cut-on asks accepts refuses w bs (delivery_fault_of (Refusal code)) w' before after h
   breaks-on w w' Stopped bs before after h = h
@@ -97,21 +105,32 @@ module _ {C K T : Type 0} (asks : C → ℕ → Bool → C → Type 0) (accepts 
       record { answer = h.answer; may = h.may; broken = breaks-on w w' (cause_of fault) (batches option h.answer) before after h.broken }
 
   module _ (d d' : Delivery C K) where
-    pub broken-with : (fault : RunFault) → Reports (Passes asks accepts) (IsRefused asks refuses) option May t d d' (Err fault) → ReportsWith asks accepts refuses option May t d d' (Err fault)
+    pub broken-with : (fault : RunFault) → Reports (Passes asks accepts) (IsRefused asks refuses) option May t d d' (Err fault)
+        → ReportsWith asks accepts refuses option May t d d' (Err fault)
     broken-with Cancelled h = absurd h.broken
     broken-with fault h = h
 
     -- at the last question
-    pub stopped-last : (report : Report) (last : Delivery C K) → Reports (Passes asks accepts) (IsRefused asks refuses) option May t d last (Ok report) → IsAsked asks true last d'
+    pub stopped-last : (report : Report) (last : Delivery C K)
+        → Reports (Passes asks accepts) (IsRefused asks refuses) option May t d last (Ok report) → IsAsked asks true last d'
         → ReportsWith asks accepts refuses option May t d d' (Err Cancelled)
     stopped-last report last h stops =
         record {
           answer = h.answer;
           may = h.may;
-          stopped = record { sent = batches option h.answer; rest = []; parts = sym (append-nil (batches option h.answer)); last = last; leads = h.has_run.delivered; stops = stops };
+          stopped =
+              record {
+                sent = batches option h.answer;
+                rest = [];
+                parts = sym (append-nil (batches option h.answer));
+                last = last;
+                leads = h.has_run.delivered;
+                stops = stops;
+              };
         }
 
-    pub told-with : (has_told : C → Bool) → ((c : C) (n : ℕ) (answer : Bool) (c' : C) → asks c n answer c' → has_told c' ≡ (has_told c || answer)) → (r : Result Report RunFault)
+    pub told-with : (has_told : C → Bool) → ((c : C) (n : ℕ) (answer : Bool) (c' : C) → asks c n answer c' → has_told c' ≡ (has_told c || answer))
+        → (r : Result Report RunFault)
         → ReportsWith asks accepts refuses option May t d d' r → has_told d'.token ≡ (has_told d.token || is_stopped r)
     told-with has_told keeps (Ok report) h =
         lets-told asks has_told keeps h.last.token h.last.delivered d'.token h.lets.asked
@@ -124,7 +143,8 @@ module _ {C K T : Type 0} (asks : C → ℕ → Bool → C → Type 0) (accepts 
         cut-told asks has_told keeps accepts refuses d (batches option h.answer) (delivery_fault_of cut.0) d' cut.1 ∙ sym (or-false (has_told d.token))
 
     -- where there is one answer
-    pub reports-with-runs : (v : Trace T) (r : Result Report RunFault) → ((u : Trace T) → May t u → u ≡ v) → ReportsWith asks accepts refuses option May t d d' r → RunsWith asks accepts refuses option v d d' r
+    pub reports-with-runs : (v : Trace T) (r : Result Report RunFault) → ((u : Trace T) → May t u → u ≡ v)
+        → ReportsWith asks accepts refuses option May t d d' r → RunsWith asks accepts refuses option v d d' r
     reports-with-runs v (Ok report) only h =
         let run = subst (λ u. HasRun (Passes asks accepts) option u d h.last report.ending) (only h.reported.answer h.reported.may) h.reported.has_run in
         (h.last, run, h.lets)
@@ -140,7 +160,8 @@ module _ {C K T : Type 0} (asks : C → ℕ → Bool → C → Type 0) (accepts 
           cut-map (λ s. s.sink) (Passes asks accepts) (IsRefused asks refuses) accepts refuses (λ s b s' passes. passes.taken)
           (λ s b code s' refused. refused.refused) d bs (delivery_fault_of fault) d'
 
-      pub reports-plain : (r : Result Report RunFault) → ReportsWith asks accepts refuses option May t d d' r → Reports accepts refuses option May t d.sink d'.sink r
+      pub reports-plain : (r : Result Report RunFault) → ReportsWith asks accepts refuses option May t d d' r
+          → Reports accepts refuses option May t d.sink d'.sink r
       reports-plain (Ok report) h =
           let reported = h.reported in
           record {
@@ -173,7 +194,8 @@ module _ {C K T : Type 0} (asks : C → ℕ → Bool → C → Type 0) (accepts 
     asked-same last r h same = let first = reports-same w w' r h in record { token = same.token ∙ first.token; sink = same.sink ∙ first.sink }
 
     -- by what its token has answered by then, how it has ended, and what the token answers at last
-    pub lent-asked : (stopped : Bool) (outcome r : Result Report RunFault) (last : WithCancellation C K) → w'.is_stopped ≡ stopped → Lends w w' outcome → AreSame w' last
+    pub lent-asked : (stopped : Bool) (outcome r : Result Report RunFault) (last : WithCancellation C K) → w'.is_stopped ≡ stopped
+        → Lends w w' outcome → AreSame w' last
         → IsAskedAtLast asks stopped outcome w' r last → Reported last r
     lent-asked true outcome r last is h same (unchanged, cancelled) =
         rw (unchanged, cancelled) (lent w' (Err Cancelled) (reports-same w w' outcome h) (reports-stopped w w' outcome before is h))

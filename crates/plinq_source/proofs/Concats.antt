@@ -17,12 +17,14 @@ step_at-second a b m n all ends =
     ∙ ap (λ k. step_of (drop (k + n) (a.items ++ b.items)) b.ending) all
     ∙ ap (λ xs. step_of xs b.ending) (drop-append-add a.items b.items n)
 
-pub given_after-second : {T : Type 0} (a b : Trace T) (m n : ℕ) → m ≡ length a.items → a.ending ≡ Some End → given_after (concat a b) (m + n) ≡ m + given_after b n
+pub given_after-second : {T : Type 0} (a b : Trace T) (m n : ℕ) → m ≡ length a.items → a.ending ≡ Some End
+    → given_after (concat a b) (m + n) ≡ m + given_after b n
 given_after-second a b m n all ends =
     omega (arith, all, ap (λ t. length t.items) (concat-end a b ends), length-append a.items b.items)
 
 -- asked for several: once the first has ended, the second gives them
-pub items_from-second : {T : Type 0} (a b : Trace T) (g m n : ℕ) → g ≡ length a.items → a.ending ≡ Some End → items_from (concat a b) (g + m) n ≡ items_from b m n
+pub items_from-second : {T : Type 0} (a b : Trace T) (g m n : ℕ) → g ≡ length a.items → a.ending ≡ Some End
+    → items_from (concat a b) (g + m) n ≡ items_from b m n
 items_from-second a b g m n all ends =
     ap (λ t. items_from t (g + m) n) (concat-end a b ends)
     ∙ ap (λ k. take n (drop (k + m) (a.items ++ b.items))) all

@@ -1,5 +1,6 @@
 -- Filling a list: each item that the source gives comes after those taken, and where it ends, all that is left was taken.
-use Rattle.std.proofs.Common.{◌≡◌, ℕ, List, ◌+◌, ◌-◌, ◌<◌, ◌≤◌, [], ◌∷◌, ◌++◌, length, take, drop, Some, None, Bool, cond, ltb, true, false, refl, arith, ap, sym, ◌∙◌, length-drop, vec_len, vec_capacity}
+use Rattle.std.proofs.Common.{◌≡◌, ℕ, List, ◌+◌, ◌-◌, ◌<◌, ◌≤◌, [], ◌∷◌, ◌++◌, length, take, drop, Some, None, Bool, cond, ltb, true, false, refl}
+use Rattle.std.proofs.Common.{arith, ap, sym, ◌∙◌, length-drop, vec_len, vec_capacity}
 use Rattle.std.proofs.lemmas.Bool.{lt-ltb, le-ltb, ltb-true}
 use Rattle.std.proofs.lemmas.List.{append_assoc, drop-drop, take_all, length-take-le}
 use Rattle.std.proofs.Math.Seq.{take-add}
@@ -35,7 +36,9 @@ filled_on t g place before now after x i step added longer same =
     let at : place ≡ g + m = omega (arith, i.from) in
     let one_more : m + 1 ≡ place + 1 - g = omega (arith, i.from) in
     record {
-      filled = filled-more t g m before.items now.items after.items x (ap (step_at t) (sym at) ∙ step) i.filled added ∙ ap (λ k. before.items ++ items_from t g k) one_more;
+      filled =
+          filled-more t g m before.items now.items after.items x (ap (step_at t) (sym at) ∙ step) i.filled added
+          ∙ ap (λ k. before.items ++ items_from t g k) one_more;
       counted = omega (arith, longer, i.counted);
       capacity = same ∙ i.capacity;
       from = omega (arith, i.from);

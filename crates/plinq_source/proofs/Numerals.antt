@@ -1,5 +1,6 @@
 -- Digits one after another, and the numbers that fit.
-use Rattle.std.proofs.Common.{◌≡◌, ℕ, suc, ◌+◌, ◌-◌, ◌*◌, ◌^◌, ◌<◌, ◌≤◌, min, true, false, cond, ◌&&◌, List, [], ◌∷◌, length, drop, get_or, fold, refl, sym, ap, ◌∙◌, arith}
+use Rattle.std.proofs.Common.{◌≡◌, ℕ, suc, ◌+◌, ◌-◌, ◌*◌, ◌^◌, ◌<◌, ◌≤◌, min, true, false, cond, ◌&&◌, List, [], ◌∷◌, length, drop, get_or, fold}
+use Rattle.std.proofs.Common.{refl, sym, ap, ◌∙◌, arith}
 use Rattle.std.proofs.lemmas.Bool.Decides.{nat_tests}
 use Rattle.std.specs.Char.{is_ascii_digit}
 use Rattle.std.specs.List.{list_all}
@@ -22,7 +23,8 @@ fold_cut (b ∷ bs) n =
     sym (fold_cut bs (digit_step (min n most) b)) ∙ ap (λ k. min (fold digit_step k bs) most) once ∙ fold_cut bs (digit_step n b)
 
 -- a byte that is no separator stands first in the token ahead
-pub token_ahead_more : (text : List ℕ) (n b : ℕ) → n < length text → get_or text n 0 ≡ b → is_separator b ≡ false → token_ahead (drop n text) ≡ b ∷ token_ahead (drop (n + 1) text)
+pub token_ahead_more : (text : List ℕ) (n b : ℕ) → n < length text → get_or text n 0 ≡ b → is_separator b ≡ false
+    → token_ahead (drop n text) ≡ b ∷ token_ahead (drop (n + 1) text)
 token_ahead_more text n b h e s =
     ap token_ahead (drop_more text n 0 h ∙ ap (λ x. x ∷ drop (n + 1) text) e)
     ∙ ap (λ k. cond k [] (b ∷ token_ahead (drop (n + 1) text))) s
@@ -37,7 +39,8 @@ pub record ReadsDigits (text : List ℕ) (n value : ℕ) : Type 0 where
 digit-tests : (b : ℕ) → 48 ≤ b → b ≤ 57 → (is_separator b ≡ false) × (is_ascii_digit b ≡ true)
 digit-tests b low high = (grind (arith, nat_tests), grind (arith, nat_tests))
 
-pub ReadsDigits_more : (text : List ℕ) (n value next : ℕ) → n < length text → 48 ≤ get_or text n 0 → get_or text n 0 ≤ 57 → next ≡ min (min (value * 10) most + (get_or text n 0 - 48)) most → ReadsDigits text n value → ReadsDigits text (n + 1) next
+pub ReadsDigits_more : (text : List ℕ) (n value next : ℕ) → n < length text → 48 ≤ get_or text n 0 → get_or text n 0 ≤ 57
+    → next ≡ min (min (value * 10) most + (get_or text n 0 - 48)) most → ReadsDigits text n value → ReadsDigits text (n + 1) next
 ReadsDigits_more text n value next h low high step r =
     let b : ℕ = get_or text n 0 in
     let tests = digit-tests b low high in
@@ -48,7 +51,9 @@ ReadsDigits_more text n value next h low high step r =
     let long : length (token_ahead (drop n text)) ≡ suc (length rest) = ap length ahead in
     record {
       digits = r.digits ∙ ap (list_all is_ascii_digit) ahead ∙ here;
-      number = r.number ∙ ap (λ t. min (fold digit_step value t) most) ahead ∙ sym (fold_cut rest (digit_step value b)) ∙ ap (λ k. min (fold digit_step k rest) most) (sym cut);
+      number =
+          r.number ∙ ap (λ t. min (fold digit_step value t) most) ahead ∙ sym (fold_cut rest (digit_step value b))
+          ∙ ap (λ k. min (fold digit_step k rest) most) (sym cut);
       long = omega (arith, r.long);
       small = omega arith;
     }

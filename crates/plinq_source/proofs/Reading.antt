@@ -29,31 +29,40 @@ pub record StandsAhead (text : List ℕ) (at skipped : ℕ) (left rest : List �
   pub ahead : is_some_bytes (token_ahead (drop skipped left)) ≡ is_some_bytes (drop skipped left)
   pub more : false ≡ (length rest == 0)
 
-pub standing : (text slice : List ℕ) (at skipped : ℕ) (left rest : List ℕ) → slice ≡ text → left ≡ drop at slice → rest ≡ drop skipped left → tokens (drop skipped left) ≡ tokens left → is_some_bytes (token_ahead (drop skipped left)) ≡ is_some_bytes (drop skipped left) → false ≡ (length rest == 0) → StandsAhead text at skipped left rest
-standing text slice at skipped left rest e here past same ahead more = record { here = here ∙ ap (drop at) e; past = past; same = same; ahead = ahead; more = more }
+pub standing : (text slice : List ℕ) (at skipped : ℕ) (left rest : List ℕ) → slice ≡ text → left ≡ drop at slice → rest ≡ drop skipped left
+    → tokens (drop skipped left) ≡ tokens left → is_some_bytes (token_ahead (drop skipped left)) ≡ is_some_bytes (drop skipped left)
+    → false ≡ (length rest == 0) → StandsAhead text at skipped left rest
+standing text slice at skipped left rest e here past same ahead more =
+    record { here = here ∙ ap (drop at) e; past = past; same = same; ahead = ahead; more = more }
 
 -- to pass over the blanks changes nothing
-pub unmoved : (text : List ℕ) (at skipped : ℕ) (left rest : List ℕ) → StandsAhead text at skipped left rest → tokens (drop (at + skipped) text) ≡ tokens (drop at text)
+pub unmoved : (text : List ℕ) (at skipped : ℕ) (left rest : List ℕ) → StandsAhead text at skipped left rest
+    → tokens (drop (at + skipped) text) ≡ tokens (drop at text)
 unmoved text at skipped left rest s = ap tokens (sym (ap (drop skipped) s.here ∙ drop-drop skipped at text)) ∙ s.same ∙ ap tokens s.here
 
-first-token : (text : List ℕ) (at skipped : ℕ) (left rest : List ℕ) → StandsAhead text at skipped left rest → tokens (drop at text) ≡ token_ahead rest ∷ tokens (drop (at + skipped + length (token_ahead rest)) text)
+first-token : (text : List ℕ) (at skipped : ℕ) (left rest : List ℕ) → StandsAhead text at skipped left rest
+    → tokens (drop at text) ≡ token_ahead rest ∷ tokens (drop (at + skipped + length (token_ahead rest)) text)
 first-token text at skipped left rest s =
     let n : ℕ = length (token_ahead rest) in
     let where_rest : rest ≡ drop (at + skipped) text = s.past ∙ ap (drop skipped) s.here ∙ drop-drop skipped at text in
     let where_after : drop n rest ≡ drop (at + skipped + n) text = ap (drop n) where_rest ∙ drop-drop n (at + skipped) text in
-    let some : is_some_bytes (token_ahead rest) ≡ true = ap (λ bs. is_some_bytes (token_ahead bs)) s.past ∙ s.ahead ∙ ap is_some_bytes (sym s.past) ∙ some-bytes rest s.more in
+    let some : is_some_bytes (token_ahead rest) ≡ true =
+    ap (λ bs. is_some_bytes (token_ahead bs)) s.past ∙ s.ahead ∙ ap is_some_bytes (sym s.past) ∙ some-bytes rest s.more in
     ap tokens (sym s.here) ∙ sym s.same ∙ ap tokens (sym s.past) ∙ tokens-ahead rest some ∙ ap (λ bs. token_ahead rest ∷ tokens bs) where_after
 
-pub reads_value : (text : List ℕ) (at skipped : ℕ) (left rest : List ℕ) (n : ℕ) (z : ℤ) → StandsAhead text at skipped left rest → n ≡ length (token_ahead rest) → Ok z ≡ token_value (token_ahead rest) → ReadsValue text at z (at + skipped + n)
+pub reads_value : (text : List ℕ) (at skipped : ℕ) (left rest : List ℕ) (n : ℕ) (z : ℤ) → StandsAhead text at skipped left rest
+    → n ≡ length (token_ahead rest) → Ok z ≡ token_value (token_ahead rest) → ReadsValue text at z (at + skipped + n)
 reads_value text at skipped left rest n z s long said =
     let after : List (List ℕ) = tokens (drop (at + skipped + n) text) in
-    let first : tokens (drop at text) ≡ token_ahead rest ∷ after = first-token text at skipped left rest s ∙ ap (λ k. token_ahead rest ∷ tokens (drop (at + skipped + k) text)) (sym long) in
+    let first : tokens (drop at text) ≡ token_ahead rest ∷ after =
+    first-token text at skipped left rest s ∙ ap (λ k. token_ahead rest ∷ tokens (drop (at + skipped + k) text)) (sym long) in
     record {
       items = ap values first ∙ ap (λ r. value_before r (values after)) (sym said);
       ending = ap refusal first ∙ ap (λ r. refusal_before r (refusal after)) (sym said);
     }
 
-pub refuses : (text : List ℕ) (at skipped : ℕ) (left rest : List ℕ) (code : ℕ) → StandsAhead text at skipped left rest → Err code ≡ token_value (token_ahead rest) → Refuses text at code
+pub refuses : (text : List ℕ) (at skipped : ℕ) (left rest : List ℕ) (code : ℕ) → StandsAhead text at skipped left rest
+    → Err code ≡ token_value (token_ahead rest) → Refuses text at code
 refuses text at skipped left rest code s said =
     let after : List (List ℕ) = tokens (drop (at + skipped + length (token_ahead rest)) text) in
     let first : tokens (drop at text) ≡ token_ahead rest ∷ after = first-token text at skipped left rest s in
@@ -76,17 +85,20 @@ left_more all left rest z h e =
     let place : length all - length rest ≡ (length all - length left) + 1 = omega arith in
     ap (λ n. drop n all) place ∙ sym (drop-drop 1 (length all - length left) all) ∙ ap (drop 1) (h ∙ e)
 
-pub given_more : (all left rest : List ℤ) (z : ℤ) (e : Ending) → drop (length all - length left) all ≡ left → left ≡ z ∷ rest → length all - length rest ≡ given_after (ended_trace all e) (length all - length left)
+pub given_more : (all left rest : List ℤ) (z : ℤ) (e : Ending) → drop (length all - length left) all ≡ left → left ≡ z ∷ rest
+    → length all - length rest ≡ given_after (ended_trace all e) (length all - length left)
 given_more all left rest z e h is =
     let long : length left ≡ suc (length rest) = ap length is in
     let within : length left ≤ length all = left-within all left h in
     omega arith
 
 -- the answer where a value is left, and where nothing is
-pub step_at-left : (all left rest : List ℤ) (z : ℤ) (e : Ending) → drop (length all - length left) all ≡ left → left ≡ z ∷ rest → step_at (ended_trace all e) (length all - length left) ≡ Item z
+pub step_at-left : (all left rest : List ℤ) (z : ℤ) (e : Ending) → drop (length all - length left) all ≡ left → left ≡ z ∷ rest
+    → step_at (ended_trace all e) (length all - length left) ≡ Item z
 step_at-left all left rest z e h is = ap (λ zs. step_of zs (Some e)) (h ∙ is)
 
-pub step_at-none : (all left : List ℤ) (e : Ending) → drop (length all - length left) all ≡ left → left ≡ [] → step_at (ended_trace all e) (length all - length left) ≡ step_of [] (Some e)
+pub step_at-none : (all left : List ℤ) (e : Ending) → drop (length all - length left) all ≡ left → left ≡ []
+    → step_at (ended_trace all e) (length all - length left) ≡ step_of [] (Some e)
 step_at-none all left e h is = ap (λ zs. step_of zs (Some e)) (h ∙ is)
 
 -- where nothing is left all was handed out

@@ -13,7 +13,9 @@ parts_after : List ℕ → List (List ℕ)
 parts_after [] = []
 parts_after (b ∷ bs) = cond (is_separator b) (slice_split is_separator bs) (parts_after bs)
 
-split-cases : (s : Bool) (b : ℕ) (bs : List ℕ) → slice_split is_separator bs ≡ token_ahead bs ∷ parts_after bs → cond s ([] ∷ slice_split is_separator bs) (onto_first b (slice_split is_separator bs)) ≡ cond s [] (b ∷ token_ahead bs) ∷ cond s (slice_split is_separator bs) (parts_after bs)
+split-cases : (s : Bool) (b : ℕ) (bs : List ℕ) → slice_split is_separator bs ≡ token_ahead bs ∷ parts_after bs
+    → cond s ([] ∷ slice_split is_separator bs) (onto_first b (slice_split is_separator bs))
+    ≡ cond s [] (b ∷ token_ahead bs) ∷ cond s (slice_split is_separator bs) (parts_after bs)
 split-cases true b bs ih = refl
 split-cases false b bs ih = ap (onto_first b) ih
 
@@ -22,7 +24,9 @@ unfolding parts_after
 split-ahead [] = refl
 split-ahead (b ∷ bs) = split-cases (is_separator b) b bs (split-ahead bs)
 
-after-cases : (s : Bool) (b : ℕ) (bs : List ℕ) → is_separator b ≡ s → filter is_some_bytes (parts_after bs) ≡ tokens (drop (length (token_ahead bs)) bs) → filter is_some_bytes (cond s (slice_split is_separator bs) (parts_after bs)) ≡ tokens (drop (length (cond s [] (b ∷ token_ahead bs))) (b ∷ bs))
+after-cases : (s : Bool) (b : ℕ) (bs : List ℕ) → is_separator b ≡ s
+    → filter is_some_bytes (parts_after bs) ≡ tokens (drop (length (token_ahead bs)) bs)
+    → filter is_some_bytes (cond s (slice_split is_separator bs) (parts_after bs)) ≡ tokens (drop (length (cond s [] (b ∷ token_ahead bs))) (b ∷ bs))
 after-cases true b bs e ih = sym (tokens-separator b bs e)
 after-cases false b bs e ih = ih
 

@@ -1,5 +1,6 @@
 -- Numbers one after another.
-use Rattle.std.proofs.Common.{◌≡◌, ℕ, zero, suc, ◌+◌, ◌-◌, ◌<◌, ◌≤◌, ◌==◌, eqb-true, eq-eqb, true, false, true≢false, [], ◌∷◌, take, drop, sym, ap, ◌∙◌, ⊎_elim, arith}
+use Rattle.std.proofs.Common.{◌≡◌, ℕ, zero, suc, ◌+◌, ◌-◌, ◌<◌, ◌≤◌, ◌==◌, eqb-true, eq-eqb, true, false, true≢false, [], ◌∷◌, take, drop, sym, ap}
+use Rattle.std.proofs.Common.{◌∙◌, ⊎_elim, arith}
 use Rattle.std.proofs.lemmas.Bool.{cases_lt}
 use Rattle.plinq_stream.specs.declared.pass_knowledge.PassKnowledge.{PassKnowledge}
 use Rattle.plinq_stream.specs.Knowing.{numbers_from}
@@ -9,7 +10,9 @@ use Rattle.plinq_stream.proofs.Under.{or-cases, or-first, or-second, either-way}
 -- they are at least the first
 from-above : (n m count : ℕ) → has m (numbers_from n count) ≡ true → n ≤ m
 from-above n m zero is = absurd (true≢false (sym is))
-from-above n m (suc count) is = ⊎_elim (λ e. let same : n ≡ m = eqb-true n m e in omega arith) (λ e. let rest = from-above (n + 1) m count e in omega arith) (or-cases (n == m) (has m (numbers_from (n + 1) count)) is)
+from-above n m (suc count) is =
+    ⊎_elim (λ e. let same : n ≡ m = eqb-true n m e in omega arith) (λ e. let rest = from-above (n + 1) m count e in omega arith)
+    (or-cases (n == m) (has m (numbers_from (n + 1) count)) is)
 
 -- they are so many
 pub from-below : (n m count : ℕ) → has m (numbers_from n count) ≡ true → m < n + count
@@ -37,7 +40,8 @@ rest-of n most less = ap (λ k. drop 1 (numbers_from n k)) (left-after n most le
 -- the first isn't among the rest
 first-once : (n m count : ℕ) → has m (n ∷ []) ≡ true → has m (numbers_from (n + 1) count) ≡ false
 first-once n m count is = ⊎_elim
-    (λ e. ⊎_elim (λ too. let same : n ≡ m = eqb-true n m e in let above = from-above (n + 1) m count too in absurd (omega arith)) (λ not. not) (either-way (has m (numbers_from (n + 1) count))))
+    (λ e. ⊎_elim (λ too. let same : n ≡ m = eqb-true n m e in let above = from-above (n + 1) m count too in absurd (omega arith)) (λ not. not)
+    (either-way (has m (numbers_from (n + 1) count))))
     (λ e. absurd (true≢false (sym e))) (or-cases (n == m) false is)
 
 -- a pass with such numbers that has sent nothing may hand out the first

@@ -1,5 +1,6 @@
 -- Each step of a pass keeps the stream's rule.
-use Rattle.std.proofs.Common.{◌≡◌, ◌≢◌, ℕ, ◌<◌, zero, suc, Bool, true, false, true≢false, List, [], ◌∷◌, ◌++◌, length, take, drop, set, All, if◌then◌else◌, refl, sym, ap, ◌∙◌, subst, append_assoc, ◌⊎◌, inl, inr, ⊎_elim, arith}
+use Rattle.std.proofs.Common.{◌≡◌, ◌≢◌, ℕ, ◌<◌, zero, suc, Bool, true, false, true≢false, List, [], ◌∷◌, ◌++◌, length, take, drop, set, All}
+use Rattle.std.proofs.Common.{if◌then◌else◌, refl, sym, ap, ◌∙◌, subst, append_assoc, ◌⊎◌, inl, inr, ⊎_elim, arith}
 use Rattle.std.proofs.lemmas.List.{append-nil}
 use Rattle.std.proofs.lemmas.List.Elements.{All-nil, All-push, All-head, All-tail}
 use Rattle.std.specs.Prelude.{Option, Some, None, IfNone, MatchOption}
@@ -83,12 +84,21 @@ module _ {T : Type 0} (Carried : T → Type 0) where
             received = h.received;
             seat = h.seat;
             reader = h.reader;
-            each = λ j u e. ⊎_elim (λ (x : (j ≡ pass) × (b ≡ u)). subst (λ (y : ℕ × PassKnowledge T). Fits h.seat h.reader h.received after y.0 y.1) (λ i. (sym x.0 i, x.1 i)) fits)
+            each =
+                λ j u e. ⊎_elim (λ (x : (j ≡ pass) × (b ≡ u)). subst (λ (y : ℕ × PassKnowledge T). Fits h.seat h.reader h.received after y.0 y.1)
+                (λ i. (sym x.0 i, x.1 i)) fits)
                 (λ (x : (j ≢ pass) × (get_elem? views j ≡ some u)).
                 let theirs = h.each j u x.1 in
                 let apart : (n : ℕ) → has n u.numbers ≡ true → has n a.numbers ≡ false =
                 λ n is. ⊎_elim (λ both. absurd (x.0 (sym (theirs.alone n is) ∙ mine.alone n both))) (λ not. not) (either-way (has n a.numbers)) in
-                record { alone = theirs.alone; below = theirs.below; sent = λ n is. same n (apart n is) ∙ theirs.sent n is; only = theirs.only; received_all = theirs.received_all })
+                record {
+                  alone = theirs.alone;
+                  below = theirs.below;
+                  sent = λ n is. same n (apart n is)
+                      ∙ theirs.sent n is;
+                  only = theirs.only;
+                  received_all = theirs.received_all;
+                })
                 (at_set views pass j b u e);
             others = λ n nobody.
                 let not : has n a.numbers ≡ false = nobody pass b (set_at views pass a b at) in
@@ -114,10 +124,18 @@ module _ {T : Type 0} (Carried : T → Type 0) where
           received_all = λ _. (mine_all.0, ap (λ l. l ++ s ∷ []) mine_all.1);
         } in
         let each : (j : ℕ) (u : PassKnowledge T) → get_elem? (set views pass b) j ≡ some u → Fits h.seat h.reader received stream j u =
-        λ j u e. ⊎_elim (λ (x : (j ≡ pass) × (b ≡ u)). subst (λ (y : ℕ × PassKnowledge T). Fits h.seat h.reader received stream y.0 y.1) (λ i. (sym x.0 i, x.1 i)) fits)
+        λ j u e. ⊎_elim (λ (x : (j ≡ pass) × (b ≡ u)). subst (λ (y : ℕ × PassKnowledge T). Fits h.seat h.reader received stream y.0 y.1)
+        (λ i. (sym x.0 i, x.1 i)) fits)
         (λ (x : (j ≢ pass) × (get_elem? views j ≡ some u)).
         let theirs = h.each j u x.1 in
-        record { alone = theirs.alone; below = theirs.below; sent = theirs.sent; only = theirs.only; received_all = λ is. absurd (x.0 ((theirs.received_all is).0 ∙ sym mine_all.0)) })
+        record {
+          alone = theirs.alone;
+          below = theirs.below;
+          sent = theirs.sent;
+          only = theirs.only;
+          received_all = λ is. absurd
+              (x.0 ((theirs.received_all is).0 ∙ sym mine_all.0));
+        })
         (at_set views pass j b u e) in
         let others : (n : ℕ) → IsNobodys (set views pass b) n → under n stream ≡ [] =
         λ n nobody. h.others n (each-unset (λ u. has n u.numbers ≡ false) views pass a b at (nobody pass b (set_at views pass a b at)) nobody) in (
@@ -143,14 +161,19 @@ module _ {T : Type 0} (Carried : T → Type 0) where
         let seat : ℕ → ℕ = λ n. if has n (take 1 a.numbers) then length made else h.seat n in
         let seat-new : (n : ℕ) → has n (take 1 a.numbers) ≡ true → seat n ≡ length made = λ n is. ap (λ (x : Bool). if x then length made else h.seat n) is in
         let seat-old : (n : ℕ) → has n (take 1 a.numbers) ≡ false → seat n ≡ h.seat n = λ n is. ap (λ (x : Bool). if x then length made else h.seat n) is in
-        let was-first : (n : ℕ) → has n (take 1 a.numbers) ≡ true → has n a.numbers ≡ true = λ n is. has-split n a.numbers ∙ or-first (has n (take 1 a.numbers)) (has n (drop 1 a.numbers)) is in
-        let was-rest : (n : ℕ) → has n (drop 1 a.numbers) ≡ true → has n a.numbers ≡ true = λ n is. has-split n a.numbers ∙ or-second (has n (take 1 a.numbers)) (has n (drop 1 a.numbers)) is in
+        let was-first : (n : ℕ) → has n (take 1 a.numbers) ≡ true → has n a.numbers ≡ true =
+        λ n is. has-split n a.numbers ∙ or-first (has n (take 1 a.numbers)) (has n (drop 1 a.numbers)) is in
+        let was-rest : (n : ℕ) → has n (drop 1 a.numbers) ≡ true → has n a.numbers ≡ true =
+        λ n is. has-split n a.numbers ∙ or-second (has n (take 1 a.numbers)) (has n (drop 1 a.numbers)) is in
         let fits-left : Fits seat h.reader h.received stream pass left = record {
-          alone = λ n is. ⊎_elim (λ first. absurd (true≢false (sym is ∙ may.once n first))) (λ not. seat-old n not ∙ mine.alone n (was-rest n is)) (either-way (has n (take 1 a.numbers)));
+          alone =
+              λ n is. ⊎_elim (λ first. absurd (true≢false (sym is ∙ may.once n first))) (λ not. seat-old n not ∙ mine.alone n (was-rest n is))
+              (either-way (has n (take 1 a.numbers)));
           below = λ n is. mine.below n (was-rest n is);
           sent = λ n is. mine.sent n (was-rest n is);
           only = λ n not. ⊎_elim (λ first. may.unsent n first)
-              (λ none. mine.only n (has-split n a.numbers ∙ or-none (has n (take 1 a.numbers)) (has n (drop 1 a.numbers)) none not)) (either-way (has n (take 1 a.numbers)));
+              (λ none. mine.only n (has-split n a.numbers ∙ or-none (has n (take 1 a.numbers)) (has n (drop 1 a.numbers)) none not))
+              (either-way (has n (take 1 a.numbers)));
           received_all = mine.received_all;
         } in
         let fits-right : Fits seat h.reader h.received stream (length made) right = record {
@@ -166,11 +189,14 @@ module _ {T : Type 0} (Carried : T → Type 0) where
           reader = h.reader;
           each = λ j u e. ⊎_elim
               (λ (old : get_elem? made j ≡ some u). ⊎_elim
-              (λ (x : (j ≡ pass) × (left ≡ u)). subst (λ (y : ℕ × PassKnowledge T). Fits seat h.reader h.received stream y.0 y.1) (λ i. (sym x.0 i, x.1 i)) fits-left)
+              (λ (x : (j ≡ pass) × (left ≡ u)). subst (λ (y : ℕ × PassKnowledge T). Fits seat h.reader h.received stream y.0 y.1)
+              (λ i. (sym x.0 i, x.1 i)) fits-left)
               (λ (x : (j ≢ pass) × (get_elem? views j ≡ some u)).
               let theirs = h.each j u x.1 in
               record {
-                alone = λ n is. ⊎_elim (λ first. absurd (x.0 (sym (theirs.alone n is) ∙ mine.alone n (was-first n first)))) (λ not. seat-old n not ∙ theirs.alone n is)
+                alone =
+                    λ n is. ⊎_elim (λ first. absurd (x.0 (sym (theirs.alone n is) ∙ mine.alone n (was-first n first))))
+                    (λ not. seat-old n not ∙ theirs.alone n is)
                     (either-way (has n (take 1 a.numbers)));
                 below = theirs.below;
                 sent = theirs.sent;
@@ -178,7 +204,8 @@ module _ {T : Type 0} (Carried : T → Type 0) where
                 received_all = theirs.received_all;
               })
               (at_set views pass j left u old))
-              (λ (x : (j ≡ length made) × (right ≡ u)). subst (λ (y : ℕ × PassKnowledge T). Fits seat h.reader h.received stream y.0 y.1) (λ i. (sym x.0 i, x.1 i)) fits-right)
+              (λ (x : (j ≡ length made) × (right ≡ u)). subst (λ (y : ℕ × PassKnowledge T). Fits seat h.reader h.received stream y.0 y.1)
+              (λ i. (sym x.0 i, x.1 i)) fits-right)
               (at_end made right u j e);
           others = λ n nobody.
               let old : IsNobodys made n = λ j u e. nobody j u (at_longer made (right ∷ []) j u e) in
@@ -203,17 +230,21 @@ module _ {T : Type 0} (Carried : T → Type 0) where
         let apart : (n : ℕ) → has n a.numbers ≡ true → has n b.numbers ≡ false =
         λ n is. ⊎_elim (λ too. absurd (two (sym (theirs.alone n too) ∙ mine.alone n is))) (λ not. not) (either-way (has n b.numbers)) in
         let fits : Fits seat h.reader h.received stream pass both = record {
-          alone = λ n is. ⊎_elim (λ own. seat-old n (apart n own) ∙ mine.alone n own) (λ new. seat-new n new) (or-cases (has n a.numbers) (has n b.numbers) (sym (has-append n a.numbers b.numbers) ∙ is));
+          alone =
+              λ n is. ⊎_elim (λ own. seat-old n (apart n own) ∙ mine.alone n own) (λ new. seat-new n new)
+              (or-cases (has n a.numbers) (has n b.numbers) (sym (has-append n a.numbers b.numbers) ∙ is));
           below = λ n is. ⊎_elim (λ own. mine.below n own) (λ new. theirs.below n new)
               (or-cases (has n a.numbers) (has n b.numbers) (sym (has-append n a.numbers b.numbers) ∙ is));
           sent = λ n is. ⊎_elim
-              (λ own. mine.sent n own ∙ sym (under-append n a.sent b.sent ∙ ap (λ l. under n a.sent ++ l) (theirs.only n (apart n own)) ∙ append-nil (under n a.sent)))
+              (λ own. mine.sent n own ∙ sym (under-append n a.sent b.sent ∙ ap (λ l. under n a.sent ++ l) (theirs.only n (apart n own))
+              ∙ append-nil (under n a.sent)))
               (λ new. ⊎_elim (λ own. absurd (true≢false (sym new ∙ apart n own)))
               (λ not. theirs.sent n new ∙ sym (under-append n a.sent b.sent ∙ ap (λ l. l ++ under n b.sent) (mine.only n not))) (either-way (has n a.numbers)))
               (or-cases (has n a.numbers) (has n b.numbers) (sym (has-append n a.numbers b.numbers) ∙ is));
           only = λ n not.
               let none = sym (has-append n a.numbers b.numbers) ∙ not in
-              under-append n a.sent b.sent ∙ ap (λ l. l ++ under n b.sent) (mine.only n (or-left (has n a.numbers) (has n b.numbers) none)) ∙ theirs.only n (or-right (has n a.numbers) (has n b.numbers) none);
+              under-append n a.sent b.sent ∙ ap (λ l. l ++ under n b.sent) (mine.only n (or-left (has n a.numbers) (has n b.numbers) none))
+              ∙ theirs.only n (or-right (has n a.numbers) (has n b.numbers) none);
           received_all = mine.received_all;
         } in
         let spent : Fits seat h.reader h.received stream other nothing_known = record {
@@ -227,13 +258,18 @@ module _ {T : Type 0} (Carried : T → Type 0) where
           received = h.received;
           seat = seat;
           reader = h.reader;
-          each = λ j u e. ⊎_elim (λ (x : (j ≡ other) × (nothing_known ≡ u)). subst (λ (y : ℕ × PassKnowledge T). Fits seat h.reader h.received stream y.0 y.1) (λ i. (sym x.0 i, x.1 i)) spent)
+          each =
+              λ j u e. ⊎_elim (λ (x : (j ≡ other) × (nothing_known ≡ u)). subst (λ (y : ℕ × PassKnowledge T). Fits seat h.reader h.received stream y.0 y.1)
+              (λ i. (sym x.0 i, x.1 i)) spent)
               (λ (far : (j ≢ other) × (get_elem? made j ≡ some u)). ⊎_elim
-              (λ (x : (j ≡ pass) × (both ≡ u)). subst (λ (y : ℕ × PassKnowledge T). Fits seat h.reader h.received stream y.0 y.1) (λ i. (sym x.0 i, x.1 i)) fits)
+              (λ (x : (j ≡ pass) × (both ≡ u)). subst (λ (y : ℕ × PassKnowledge T). Fits seat h.reader h.received stream y.0 y.1)
+              (λ i. (sym x.0 i, x.1 i)) fits)
               (λ (x : (j ≢ pass) × (get_elem? views j ≡ some u)).
               let here = h.each j u x.1 in
               record {
-                alone = λ n is. ⊎_elim (λ too. absurd (far.0 (sym (here.alone n is) ∙ theirs.alone n too))) (λ not. seat-old n not ∙ here.alone n is) (either-way (has n b.numbers));
+                alone =
+                    λ n is. ⊎_elim (λ too. absurd (far.0 (sym (here.alone n is) ∙ theirs.alone n too))) (λ not. seat-old n not ∙ here.alone n is)
+                    (either-way (has n b.numbers));
                 below = here.below;
                 sent = here.sent;
                 only = here.only;
@@ -242,7 +278,8 @@ module _ {T : Type 0} (Carried : T → Type 0) where
               (at_set views pass j both u far.1))
               (at_set made other j nothing_known u e);
           others = λ n nobody.
-              let none : has n (a.numbers ++ b.numbers) ≡ false = nobody pass both (set_else made other pass nothing_known (λ e. two (sym e)) ∙ set_at views pass a both at) in
+              let none : has n (a.numbers ++ b.numbers) ≡ false =
+              nobody pass both (set_else made other pass nothing_known (λ e. two (sym e)) ∙ set_at views pass a both at) in
               let none' = sym (has-append n a.numbers b.numbers) ∙ none in
               let own = or-left (has n a.numbers) (has n b.numbers) none' in
               let theirs' = or-right (has n a.numbers) (has n b.numbers) none' in
@@ -259,7 +296,8 @@ module _ {T : Type 0} (Carried : T → Type 0) where
           own = λ n is. sym (mine.sent n is) ∙ ap (under n) same;
           none = λ n far.
               ap (under n) (sym same)
-              ∙ h.others n (λ j u e. ⊎_elim (λ is. let near : n < 64 = (h.each j u e).below n is in absurd (omega (arith, near, far))) (λ not. not) (either-way (has n u.numbers)));
+              ∙ h.others n (λ j u e. ⊎_elim (λ is. let near : n < 64 = (h.each j u e).below n is in absurd (omega (arith, near, far))) (λ not. not)
+              (either-way (has n u.numbers)));
         }
 
 -- at a moment at which the queue holds nothing, all has come
@@ -271,6 +309,7 @@ module _ {T : Type 0} where
       (record { own = λ n is. sym (come.own n is ∙ ap (under n) all); none = λ n far. ap (under n) (sym all) ∙ come.none n far })
   come-at_empty a b same (x ∷ items) none come = absurd (omega arith)
 
-  pub all-come : (P : Sent T → Type 0) (a b : PassKnowledge T) (result : Option (Sent T)) → MatchOption result ((b ≡ a) × Held 0 (HasReceived a)) P → IfNone result (HasReceivedAll b)
+  pub all-come : (P : Sent T → Type 0) (a b : PassKnowledge T) (result : Option (Sent T)) → MatchOption result ((b ≡ a) × Held 0 (HasReceived a)) P
+      → IfNone result (HasReceivedAll b)
   all-come P a b None h = come-at_empty a b h.0 h.1.0 h.1.1 h.1.2
   all-come P a b (Some s) h = tt

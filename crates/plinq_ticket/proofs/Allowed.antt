@@ -23,7 +23,8 @@ module _ {S V : Type 0} (holds : Fact S V) where
   -- the step changes the second number by f
   pub allows-serving : (slots id : ℕ) (me : Me S V) (f : ℕ → ℕ) (then : ℕ → Me S V → Type 0)
       → ((next serving : ℕ) (homes : List (Option S)) (views : List V) → holds next serving homes views → length homes ≡ slots → get_elem? views id ≡ some me.0
-      → (w : V) × (a : Act S) × Valid homes me.1 a × holds next (f serving) (homes_after homes me.1 a) (set views id w) × then serving (w, carried_after me.1 a))
+      → (w : V) × (a : Act S) × Valid homes me.1 a × holds next (f serving) (homes_after homes me.1 a) (set views id w)
+      × then serving (w, carried_after me.1 a))
       → Allows (OfTwoWords holds) slots id me 1 f then
   allows-serving slots id me f then owed s kept size at small =
       let P : List ℕ → Type 0 = λ ws.

@@ -12,7 +12,8 @@ use Rattle.plinq_ticket.proofs.LastState.{Counted, Last, counted-from_last, hist
 
 module _ {V T : Type 0} (origin : V → Trace T) (history : V → List Record) (p : Token V T) where
   -- the state in which the lock was taken apart answers for what is reported
-  pub finished-by : (drawn served : ℕ) (slot : Option V) (result : Result V (Option V × LockFault)) → Last origin history p.seat.id p.seat.me.0 drawn served slot → IsAnswer origin history p drawn served result
+  pub finished-by : (drawn served : ℕ) (slot : Option V) (result : Result V (Option V × LockFault))
+      → Last origin history p.seat.id p.seat.me.0 drawn served slot → IsAnswer origin history p drawn served result
       → IsFinished origin history p result
   finished-by drawn served slot result last answer =
       record {
@@ -26,7 +27,8 @@ module _ {V T : Type 0} (origin : V → Trace T) (history : V → List Record) (
       }
 
   -- where all tickets are served the value is home, and the pass's count is exact
-  pub home-from_last : (drawn served : ℕ) (slot : Option V) (value : V) (records : ℕ) (last : Last origin history p.seat.id p.seat.me.0 drawn served slot) → drawn ≤ served → slot ≡ Some value
+  pub home-from_last : (drawn served : ℕ) (slot : Option V) (value : V) (records : ℕ) (last : Last origin history p.seat.id p.seat.me.0 drawn served slot)
+      → drawn ≤ served → slot ≡ Some value
       → length (history value) < 2 ^ 64 → records ≡ min (length (pass_share p)) (2 ^ 64 - 1)
       → (served ≡ drawn) × Counted origin history p.seat.me.0 value records last.views
   home-from_last drawn served slot value records last past is small count =
@@ -35,16 +37,20 @@ module _ {V T : Type 0} (origin : V → Trace T) (history : V → List Record) (
       (all, counted-from_last origin history p.seat.id p.seat.me.0 drawn served slot value records last all is small count)
 
   -- a pass that has as many records as the value has all of them
-  pub whole-from_last : (drawn served : ℕ) (slot : Option V) (value : V) (records : ℕ) (last : Last origin history p.seat.id p.seat.me.0 drawn served slot) → Counted origin history p.seat.me.0 value records last.views
+  pub whole-from_last : (drawn served : ℕ) (slot : Option V) (value : V) (records : ℕ) (last : Last origin history p.seat.id p.seat.me.0 drawn served slot)
+      → Counted origin history p.seat.me.0 value records last.views
       → records ≡ length (history value) → IsWhole origin history p value
   whole-from_last drawn served slot value records last counted same =
       record {
         origin_is = counted.origin_is;
-        history_is = counted.history_is ∙ history_of-whole _ last.views p.seat.id p.seat.me.0 last.lawful.legal last.seat (sym counted.exact ∙ same ∙ ap length counted.history_is);
+        history_is =
+            counted.history_is
+            ∙ history_of-whole _ last.views p.seat.id p.seat.me.0 last.lawful.legal last.seat (sym counted.exact ∙ same ∙ ap length counted.history_is);
       }
 
   -- one that has another number has fewer
-  pub incomplete-from_last : (value : V) (records all : ℕ) (views : List (View T)) → Counted origin history p.seat.me.0 value records views → all ≡ length (history value) → (records ≡ all → ⊥)
+  pub incomplete-from_last : (value : V) (records all : ℕ) (views : List (View T)) → Counted origin history p.seat.me.0 value records views
+      → all ≡ length (history value) → (records ≡ all → ⊥)
       → IsIncomplete origin history p value records all
   incomplete-from_last value records all views counted count differ =
       let whole = ap length counted.history_is in

@@ -15,7 +15,8 @@ use Rattle.plinq_ticket.proofs.Turns.{not_inside-beside}
 use Rattle.plinq_ticket.proofs.LastState.{IsHome}
 
 module _ {V T : Type 0} (origin : V → Trace T) (history : V → List Record) where
-  home-is : (t : Trace T) (h : List Record) (homes : List (maybe.Option (Option V))) (inside : ℕ) (value : V) → Stands origin history t h homes inside → homes ≡ some (Some value) ∷ []
+  home-is : (t : Trace T) (h : List Record) (homes : List (maybe.Option (Option V))) (inside : ℕ) (value : V) → Stands origin history t h homes inside
+      → homes ≡ some (Some value) ∷ []
       → (origin value ≡ t) × (history value ≡ h)
   home-is t h homes inside value (inl home) is =
       let same : Some home.0 ≡ Some value = some-injective _ _ (some-injective _ _ (ap (λ l. get_elem? l 0) (sym home.1 ∙ is))) in
@@ -28,7 +29,8 @@ module _ {V T : Type 0} (origin : V → Trace T) (history : V → List Record) w
       let legal : IsLegalHistory t (history value) = subst (IsLegalHistory t) (sym home.1) law.legal in
       record { origin_is = home.0; whole = home.1; legal = legal; handed = IsPrefix-from_legal t (history value) legal }
 
-  out-is : (t : Trace T) (h : List Record) (homes : List (maybe.Option (Option V))) (inside : ℕ) → Stands origin history t h homes inside → 1 ≤ inside → homes ≡ none ∷ []
+  out-is : (t : Trace T) (h : List Record) (homes : List (maybe.Option (Option V))) (inside : ℕ) → Stands origin history t h homes inside → 1 ≤ inside
+      → homes ≡ none ∷ []
   out-is t h homes inside (inl home) some_in = let none_in = home.4 in absurd (omega arith)
   out-is t h homes inside (inr out) some_in = out.0
 

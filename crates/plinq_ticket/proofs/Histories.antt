@@ -38,17 +38,20 @@ module _ {T : Type 0} where
   total-history_of f views = total-in_ticket_order f (all_shares views) ∙ total-all_shares f views
 
   -- passes whose shares weigh what records weigh whose tickets rise have these as their history
-  pub history_of-weights : (views : List (View T)) (h : List Record) → rises (map (λ r. r.ticket) h) ≡ true → ((f : Record → ℕ) → total (λ v. total f v.share) views ≡ total f h) → history_of views ≡ h
+  pub history_of-weights : (views : List (View T)) (h : List Record) → rises (map (λ r. r.ticket) h) ≡ true
+      → ((f : Record → ℕ) → total (λ v. total f v.share) views ≡ total f h) → history_of views ≡ h
   history_of-weights views h up same = in_ticket_order-same (all_shares views) h 0 up (λ f. total-all_shares f views ∙ same f)
 
-  pub history_of-set : (views : List (View T)) (i : ℕ) (v w : View T) → rises (map (λ r. r.ticket) (history_of views)) ≡ true → get_elem? views i ≡ some v → w.share ≡ v.share → history_of (set views i w) ≡ history_of views
+  pub history_of-set : (views : List (View T)) (i : ℕ) (v w : View T) → rises (map (λ r. r.ticket) (history_of views)) ≡ true
+      → get_elem? views i ≡ some v → w.share ≡ v.share → history_of (set views i w) ≡ history_of views
   history_of-set views i v w up at same = history_of-weights (set views i w) (history_of views) up (λ f.
       let moved = total-set (λ u. total f u.share) views i v w at in
       let e : total f w.share ≡ total f v.share = ap (total f) same in
       let was = total-history_of f views in
       omega arith)
 
-  pub history_of-add : (views : List (View T)) (w : View T) → rises (map (λ r. r.ticket) (history_of views)) ≡ true → w.share ≡ [] → history_of (views ++ w ∷ []) ≡ history_of views
+  pub history_of-add : (views : List (View T)) (w : View T) → rises (map (λ r. r.ticket) (history_of views)) ≡ true → w.share ≡ []
+      → history_of (views ++ w ∷ []) ≡ history_of views
   history_of-add views w up none = history_of-weights (views ++ w ∷ []) (history_of views) up (λ f.
       let more = total-append (λ u. total f u.share) views (w ∷ []) in
       let e : total f w.share ≡ 0 = ap (total f) none in
@@ -56,7 +59,8 @@ module _ {T : Type 0} where
       omega arith)
 
   -- a pass takes records in after the history
-  pub history_of-more : (views : List (View T)) (i : ℕ) (v w : View T) (new h : List Record) → rises (map (λ r. r.ticket) h) ≡ true → get_elem? views i ≡ some v → w.share ≡ v.share ++ new
+  pub history_of-more : (views : List (View T)) (i : ℕ) (v w : View T) (new h : List Record) → rises (map (λ r. r.ticket) h) ≡ true
+      → get_elem? views i ≡ some v → w.share ≡ v.share ++ new
       → h ≡ history_of views ++ new → history_of (set views i w) ≡ h
   history_of-more views i v w new h up at share is = history_of-weights (set views i w) h up (λ f.
       let moved = total-set (λ u. total f u.share) views i v w at in

@@ -37,7 +37,8 @@ pub count-least : (share h : List Record) → Contains h share → length share 
 count-least share h contains = let fewer = contains (λ _. 1) in let own = total-ones share in let all = total-ones h in omega arith
 
 -- a count that stops at the greatest number is exact where the history has fewer records
-pub count-exact : (records : ℕ) (share h : List Record) → Contains h share → length h < 2 ^ 64 → records ≡ min (length share) (2 ^ 64 - 1) → records ≡ length share
+pub count-exact : (records : ℕ) (share h : List Record) → Contains h share → length h < 2 ^ 64 → records ≡ min (length share) (2 ^ 64 - 1)
+    → records ≡ length share
 count-exact records share h contains small count =
     let fewer = count-least share h contains in
     omega arith
@@ -48,7 +49,8 @@ module _ {T : Type 0} where
   contains-share views i v at f = let own = total-at (λ u. total f u.share) views i v at in let whole = total-history_of f views in omega arith
 
   -- a pass with as many records as the history has all of them
-  pub history_of-whole : (t : Trace T) (views : List (View T)) (i : ℕ) (v : View T) → IsLegalHistory t (history_of views) → get_elem? views i ≡ some v → length v.share ≡ length (history_of views) → history_of views ≡ in_ticket_order v.share
+  pub history_of-whole : (t : Trace T) (views : List (View T)) (i : ℕ) (v : View T) → IsLegalHistory t (history_of views) → get_elem? views i ≡ some v
+      → length v.share ≡ length (history_of views) → history_of views ≡ in_ticket_order v.share
   history_of-whole t views i v legal at all =
       sym (in_ticket_order-same v.share (history_of views) 0 (rises-legal t (history_of views) legal) (λ f.
       let others = set views i (cut_view v) in
@@ -83,7 +85,8 @@ module _ {T : Type 0} where
       pub exact : records ≡ length v.share
       pub fewer : length v.share ≤ length (history_of views)
 
-    pub counted-from_last : (id : ℕ) (v : View T) (drawn served : ℕ) (slot : Option V) (value : V) (records : ℕ) (l : Last id v drawn served slot) → served ≡ drawn → slot ≡ Some value
+    pub counted-from_last : (id : ℕ) (v : View T) (drawn served : ℕ) (slot : Option V) (value : V) (records : ℕ) (l : Last id v drawn served slot)
+        → served ≡ drawn → slot ≡ Some value
         → length (history value) < 2 ^ 64 → records ≡ min (length v.share) (2 ^ 64 - 1) → Counted v value records l.views
     counted-from_last id v drawn served slot value records l all is small count =
         let home = subst (IsHome (origin_in v) (history_of l.views)) is (l.home all) in
@@ -97,8 +100,10 @@ module _ {T : Type 0} where
           fewer = count-least v.share (history_of l.views) contains;
         }
 
-    pub last-from_final : (t : Trace T) (id : ℕ) (v : View T) (ws : List ℕ) (xs : List (Option V)) (drawn served : ℕ) (slot : Option V) → v.standing.phase ≡ Idle
-        → Final (Seen (OfTwoWords (Lawful origin history t)) id v) ws xs → get_elem? ws 0 ≡ some drawn → get_elem? ws 1 ≡ some served → get_elem? xs 0 ≡ some slot
+    pub last-from_final : (t : Trace T) (id : ℕ) (v : View T) (ws : List ℕ) (xs : List (Option V)) (drawn served : ℕ) (slot : Option V)
+        → v.standing.phase ≡ Idle
+        → Final (Seen (OfTwoWords (Lawful origin history t)) id v) ws xs → get_elem? ws 0 ≡ some drawn → get_elem? ws 1 ≡ some served
+        → get_elem? xs 0 ≡ some slot
         → Last id v drawn served slot
     last-from_final t id v ws xs drawn served slot idle final at0 at1 at_slot =
         let s = final.0 in

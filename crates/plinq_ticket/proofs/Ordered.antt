@@ -1,5 +1,6 @@
 -- Records in the order of their tickets are a function of what they weigh.
-use Rattle.std.proofs.Common.{◌≡◌, ℕ, suc, ◌+◌, ◌<◌, ◌≤◌, Bool, true, false, ◌&&◌, cond, ltb, leb, List, [], ◌∷◌, ◌++◌, map, Option, Some, None, refl, ap, ◌∙◌, arith, inl, inr}
+use Rattle.std.proofs.Common.{◌≡◌, ℕ, suc, ◌+◌, ◌<◌, ◌≤◌, Bool, true, false, ◌&&◌, cond, ltb, leb, List, [], ◌∷◌, ◌++◌, map, Option, Some, None, refl}
+use Rattle.std.proofs.Common.{ap, ◌∙◌, arith, inl, inr}
 use Rattle.std.proofs.lemmas.Bool.{and_parts, and_from, leb-true, le-leb, ltb-true, lt-ltb, cases_Bool}
 use Rattle.std.proofs.lemmas.Bool.Decides.{nat_tests}
 use Rattle.plinq_keyed.specs.declared.tail.Tail.{Tail}
@@ -35,9 +36,11 @@ climbs least (x ∷ xs) = leb least x.ticket && climbs x.ticket xs
 climbs-placed_records : (least : ℕ) (r : Record) (xs : List Record) → least ≤ r.ticket → climbs least xs ≡ true → climbs least (placed_records r xs) ≡ true
 unfolding climbs
 climbs-placed_records least r [] h c = and_from _ _ (le-leb least r.ticket h) refl
-climbs-placed_records least r (x ∷ xs) h c = by (leb r.ticket x.ticket) refl (λ below. climbs-placed_records x.ticket r xs below (and_parts (leb least x.ticket) _ c).1)
+climbs-placed_records least r (x ∷ xs) h c =
+    by (leb r.ticket x.ticket) refl (λ below. climbs-placed_records x.ticket r xs below (and_parts (leb least x.ticket) _ c).1)
   where
-    by : (b : Bool) → leb r.ticket x.ticket ≡ b → (x.ticket ≤ r.ticket → climbs x.ticket (placed_records r xs) ≡ true) → climbs least (cond b (r ∷ x ∷ xs) (x ∷ placed_records r xs)) ≡ true
+    by : (b : Bool) → leb r.ticket x.ticket ≡ b → (x.ticket ≤ r.ticket → climbs x.ticket (placed_records r xs) ≡ true)
+        → climbs least (cond b (r ∷ x ∷ xs) (x ∷ placed_records r xs)) ≡ true
     by true e rest = let p = and_parts (leb least x.ticket) _ c in and_from _ _ (le-leb least r.ticket h) (and_from _ _ e p.1)
     by false e rest =
         let p = and_parts (leb least x.ticket) _ c in
@@ -181,6 +184,7 @@ same-from_weights (y ∷ ys) (h ∷ hs) least low c r same =
     λ i. first i ∷ rest i
 
 -- what weighs as much as records whose tickets rise is these, once it is in their order
-pub in_ticket_order-same : (xs hs : List Record) (least : ℕ) → rises_from least (map (λ r. r.ticket) hs) ≡ true → ((f : Record → ℕ) → total f xs ≡ total f hs) → in_ticket_order xs ≡ hs
+pub in_ticket_order-same : (xs hs : List Record) (least : ℕ) → rises_from least (map (λ r. r.ticket) hs) ≡ true
+    → ((f : Record → ℕ) → total f xs ≡ total f hs) → in_ticket_order xs ≡ hs
 in_ticket_order-same xs hs least r same =
     same-from_weights (in_ticket_order xs) hs least 0 (climbs-in_ticket_order xs) r (λ f. total-in_ticket_order f xs ∙ same f)

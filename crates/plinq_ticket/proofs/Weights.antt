@@ -32,7 +32,8 @@ module _ {A : Type 0} (f g : A → ℕ) where
   total-most (x ∷ xs) h = let here = h zero x refl in let rest = total-most xs (λ j b d. h (suc j) b d) in omega arith
 
   -- where each weighs at most as much, one that weighs less makes the whole less
-  pub total-less : (xs : List A) (i : ℕ) (a : A) → ((j : ℕ) (b : A) → get_elem? xs j ≡ some b → f b ≤ g b) → get_elem? xs i ≡ some a → total f xs + g a ≤ total g xs + f a
+  pub total-less : (xs : List A) (i : ℕ) (a : A) → ((j : ℕ) (b : A) → get_elem? xs j ≡ some b → f b ≤ g b) → get_elem? xs i ≡ some a
+      → total f xs + g a ≤ total g xs + f a
   total-less [] i a least e = absurd (some-ne-none a (sym e))
   total-less (x ∷ xs) zero a least e =
       let sf : f x ≡ f a = ap f (some-injective x a e) in

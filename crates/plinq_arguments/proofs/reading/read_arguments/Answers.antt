@@ -9,7 +9,8 @@ pub returns-in_err-matches : goal.returns-in_err-matches
 returns-in_err-matches c =
     let app = c.in_ok-app.ensures in
     let p = err_from_is_err_and c.from_residual-in_err-matches.result c.from_residual-in_err-matches.ensures.1 in
-    refused app.0 (app_of c.in_ok-app.app) (map string_bytes c.args.words.now) _ p.0 c.in_err-matches.field-0.0 app.1 app.2 c.in_err-matches.ensures.kinds p.1 p.2
+    refused app.0 (app_of c.in_ok-app.app) (map string_bytes c.args.words.now) _ p.0 c.in_err-matches.field-0.0 app.1 app.2 c.in_err-matches.ensures.kinds
+    p.1 p.2
 
 pub returns-in-Some : goal.returns-in-Some
 returns-in-Some c =

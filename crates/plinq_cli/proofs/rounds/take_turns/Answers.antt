@@ -14,13 +14,18 @@ loop-next-preserved-in-Some-2 g c =
     let rest = c.pop_front.new.self.items in
     let was : c.loop-next.waiting.items ≡ p ∷ rest = c.in-Some.ensures.items in
     let mine = first-open chunked t p c.loop-next.waiting.items rest was c.loop-next.invariant.waiting in
-    let done : IsDone chunked t c.take_once.new.partition = subst (λ u. IsDone chunked u c.take_once.new.partition) mine.origin (c.in_ok-take_once.ensures.done (search rules)) in
+    let done : IsDone chunked t c.take_once.new.partition =
+    subst (λ u. IsDone chunked u c.take_once.new.partition) mine.origin (c.in_ok-take_once.ensures.done (search rules)) in
     let pushed : c.push_reserved.new.self.items ≡ c.loop-next.done.items ++ c.take_once.new.partition ∷ [] = c.push_reserved.ensures.items in
     record {
       waiting = All-rest (IsOpen chunked t) p rest c.loop-next.waiting.items was c.loop-next.invariant.waiting;
       done = rw pushed (All-push (IsDone chunked t) c.loop-next.done.items c.take_once.new.partition c.loop-next.invariant.done done);
-      count = let a = ap length was in let b = ap length pushed in let k = length_push c.loop-next.done.items c.take_once.new.partition in let n = c.loop-next.invariant.count in omega arith;
-      room = let a = ap length was in let n = c.loop-next.invariant.room in let l = c.push_reserved.ensures.len in let k = c.push_reserved.ensures.capacity in omega arith;
+      count =
+          let a = ap length was in let b = ap length pushed in let k = length_push c.loop-next.done.items c.take_once.new.partition in let
+          n = c.loop-next.invariant.count in omega arith;
+      room =
+          let a = ap length was in let n = c.loop-next.invariant.room in let l = c.push_reserved.ensures.len in let k = c.push_reserved.ensures.capacity in
+          omega arith;
     }
 
 pub loop-next-smaller : goal.loop-next-smaller
@@ -41,10 +46,17 @@ loop-next-preserved g c =
     let was : c.loop-next.waiting.items ≡ p ∷ rest = c.in-Some.ensures.items in
     let mine = first-open chunked t p c.loop-next.waiting.items rest was c.loop-next.invariant.waiting in
     let pushed : c.push_back.new.self.items ≡ rest ++ c.take_once.new.partition ∷ [] = search rules in
-    let further : IsOpen chunked t c.take_once.new.partition = subst (λ u. IsOpen chunked u c.take_once.new.partition) mine.origin (c.in_ok-take_once.ensures.goes_on c.in-None.is).0 in
+    let further : IsOpen chunked t c.take_once.new.partition =
+    subst (λ u. IsOpen chunked u c.take_once.new.partition) mine.origin (c.in_ok-take_once.ensures.goes_on c.in-None.is).0 in
     record {
-      waiting = rw pushed (All-push (IsOpen chunked t) rest c.take_once.new.partition (All-rest (IsOpen chunked t) p rest c.loop-next.waiting.items was c.loop-next.invariant.waiting) further);
+      waiting =
+          rw pushed (All-push (IsOpen chunked t) rest c.take_once.new.partition (All-rest
+          (IsOpen chunked t) p rest c.loop-next.waiting.items was c.loop-next.invariant.waiting) further);
       done = c.loop-next.invariant.done;
-      count = let a = ap length was in let b = ap length pushed in let k = length_push rest c.take_once.new.partition in let n = c.loop-next.invariant.count in omega arith;
-      room = let a = ap length was in let b = ap length pushed in let k = length_push rest c.take_once.new.partition in let n = c.loop-next.invariant.room in omega arith;
+      count =
+          let a = ap length was in let b = ap length pushed in let k = length_push rest c.take_once.new.partition in let n = c.loop-next.invariant.count in
+          omega arith;
+      room =
+          let a = ap length was in let b = ap length pushed in let k = length_push rest c.take_once.new.partition in let n = c.loop-next.invariant.room in
+          omega arith;
     }

@@ -13,6 +13,7 @@ returns g c =
     let q = c.args.query.now in
     let may = MayAnswer formula_meaning q.ordered q.ops in
     let all = any_whole c.args.source in
-    subst (λ most. Leaves g.K.Sink.accepts g.K.Sink.refuses (merge_in_force q.merge) may all most c.args.sink.now c.run_with.new.sink c.run_with.result) (sym c.in-Some.is)
+    subst (λ most. Leaves g.K.Sink.accepts g.K.Sink.refuses (merge_in_force q.merge) may all most c.args.sink.now c.run_with.new.sink c.run_with.result)
+    (sym c.in-Some.is)
     (leaves-with g.K.Sink.accepts g.K.Sink.refuses (merge_in_force q.merge) may all c.args.sink.now c.run_with.new.sink
     c.new-token.result c.run_with.new.token c.in-Some.most (omega arith) c.new-token.ensures.most c.run_with.result c.run_with.ensures.reports)

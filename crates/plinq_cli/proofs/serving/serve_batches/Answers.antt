@@ -23,7 +23,8 @@ returns-in_err-ending-clause-whole g c =
 pub returns-in_err-ending-clause-faults : goal.returns-in_err-ending-clause-faults
 returns-in_err-ending-clause-faults g c =
     let p = err_from_is_err_and c.from_residual.result c.from_residual.ensures.1 in
-    subst (λ r. IfErr r (MayFail Run)) (sym (p.1 ∙ ap Err p.2)) (run-failed-so _ _ _ _ _ _ (subst (Delivers _ _ _ _ _) c.in_err-ending.was c.run_lines-ended.ensures.delivers))
+    subst (λ r. IfErr r (MayFail Run)) (sym (p.1 ∙ ap Err p.2)) (run-failed-so _ _ _ _ _ _
+    (subst (Delivers _ _ _ _ _) c.in_err-ending.was c.run_lines-ended.ensures.delivers))
 
 pub returns-in_err-write_ending-clause-written : goal.returns-in_err-write_ending-clause-written
 returns-in_err-write_ending-clause-written g c =

@@ -15,7 +15,8 @@ unreachable-requires g c =
     let e = c.in_ok-enumerator.enumerator in
     let records = c.records-records.result.now in
     let tells = taken-tell c.args.job _ c.degree.result (any_whole (held_source e)) (held_records e) records c.job.view_is c.degree.ensures.value
-    c.in_ok-enumerator.ensures.origin c.records-records.ensures.value c.in_ok-enumerator.ensures.shares c.records-records.ensures.legal c.degree.ensures.within.0
+    c.in_ok-enumerator.ensures.origin c.records-records.ensures.value c.in_ok-enumerator.ensures.shares c.records-records.ensures.legal
+    c.degree.ensures.within.0
     (any_walked (held_source e)).ends in
     let none : c.args.job.source.ending ≡ None = sym tells.told ∙ (sym c.told_ending.ensures ∙ c.in_default.is) in
     subst IsSourceEnding none tells.ends
@@ -25,7 +26,8 @@ returns-in_err-write_history-clause-written g c =
     let e = c.in_ok-enumerator.enumerator in
     let records = c.records-records.result.now in
     let tells = taken-tell c.args.job _ c.degree.result (any_whole (held_source e)) (held_records e) records c.job.view_is c.degree.ensures.value
-    c.in_ok-enumerator.ensures.origin c.records-records.ensures.value c.in_ok-enumerator.ensures.shares c.records-records.ensures.legal c.degree.ensures.within.0
+    c.in_ok-enumerator.ensures.origin c.records-records.ensures.value c.in_ok-enumerator.ensures.shares c.records-records.ensures.legal
+    c.degree.ensures.within.0
     (any_walked (held_source e)).ends in
     let ended : Some c.in-Some.ending ≡ c.args.job.source.ending = sym c.in-Some.is ∙ (c.told_ending.ensures ∙ tells.told) in
     serves-begun History c.args.job _ _ _ c.args.job.source _ c.from_residual-in_err-write_history.ensures.0 refl (records, tells.history, refl)
@@ -36,7 +38,8 @@ returns-clause-written g c =
     let e = c.in_ok-enumerator.enumerator in
     let records = c.records-records.result.now in
     let tells = taken-tell c.args.job _ c.degree.result (any_whole (held_source e)) (held_records e) records c.job.view_is c.degree.ensures.value
-    c.in_ok-enumerator.ensures.origin c.records-records.ensures.value c.in_ok-enumerator.ensures.shares c.records-records.ensures.legal c.degree.ensures.within.0
+    c.in_ok-enumerator.ensures.origin c.records-records.ensures.value c.in_ok-enumerator.ensures.shares c.records-records.ensures.legal
+    c.degree.ensures.within.0
     (any_walked (held_source e)).ends in
     let ended : Some c.in-Some.ending ≡ c.args.job.source.ending = sym c.in-Some.is ∙ (c.told_ending.ensures ∙ tells.told) in (
       c.args.job.source,

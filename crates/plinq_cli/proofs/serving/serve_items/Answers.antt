@@ -17,7 +17,8 @@ returns-in_err-ending-clause-faults g c =
 
 pub returns-in_err-write_ending-clause-written : goal.returns-in_err-write_ending-clause-written
 returns-in_err-write_ending-clause-written g c =
-    last-failed _ c.args.job c.job.view_is c.requires.items _ _ _ _ c.in_ok-ending.ensures.lines c.in_ok-ending.ensures.ending _ c.from_residual-in_err-write_ending.ensures.0 c.in_err-write_ending.ensures
+    last-failed _ c.args.job c.job.view_is c.requires.items _ _ _ _ c.in_ok-ending.ensures.lines c.in_ok-ending.ensures.ending _
+    c.from_residual-in_err-write_ending.ensures.0 c.in_err-write_ending.ensures
 
 pub returns-clause-written : goal.returns-clause-written
 returns-clause-written g c =

@@ -33,7 +33,8 @@ returns-in_err-partitions-clause-written g c = serves-unwritten Parts c.args.job
 pub returns-in_err-write_parts-clause-written : goal.returns-in_err-write_parts-clause-written
 returns-in_err-write_parts-clause-written g c =
     let cut : element_lists c.as_slice.result.now ≡ cuts (keyed_from 0 c.in_ok-items.items.items) c.degree.result = search rules in
-    let degree : c.degree.result ≡ degree_in_force c.args.job.query.degree = c.degree.ensures.value ∙ ap (λ (j : JobView). degree_in_force j.query.degree) c.job.view_is in
+    let degree : c.degree.result ≡ degree_in_force c.args.job.query.degree =
+    c.degree.ensures.value ∙ ap (λ (j : JobView). degree_in_force j.query.degree) c.job.view_is in
     let whole = ap (λ (j : JobView). j.source) c.job.view_is in
     serves-begun Parts c.args.job _ _ _ c.args.job.source _ c.from_residual-in_err-write_parts.ensures.0 refl refl
     (begins-as _ _ _ _ (written _ _ _ _ _ _ _ _ c.properties.ensures cut degree c.in_ok-items.ensures whole) c.in_err-write_parts.ensures)
@@ -41,7 +42,8 @@ returns-in_err-write_parts-clause-written g c =
 pub returns-clause-written : goal.returns-clause-written
 returns-clause-written g c =
     let cut : element_lists c.as_slice.result.now ≡ cuts (keyed_from 0 c.in_ok-items.items.items) c.degree.result = search rules in
-    let degree : c.degree.result ≡ degree_in_force c.args.job.query.degree = c.degree.ensures.value ∙ ap (λ (j : JobView). degree_in_force j.query.degree) c.job.view_is in
+    let degree : c.degree.result ≡ degree_in_force c.args.job.query.degree =
+    c.degree.ensures.value ∙ ap (λ (j : JobView). degree_in_force j.query.degree) c.job.view_is in
     let whole = ap (λ (j : JobView). j.source) c.job.view_is in (
       c.args.job.source,
       refl,

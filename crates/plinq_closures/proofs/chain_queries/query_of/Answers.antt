@@ -14,12 +14,14 @@ with_steps-requires-clause-called g c = may_call c.requires.is_called (g.met.S.S
 pub with_steps-requires-clause-one_map : goal.with_steps-requires-clause-one_map
 with_steps-requires-clause-one_map g c at x =
     let s = c.args.steps.now in
-    only_one (Coded-set (coded_result g.row.S-Item.coded coded_ℕ)) (g.S.Steps.maps s at x) (g.met.S.Steps.map_gives s c.requires.gives at x) (g.met.S.Steps.map_gives_one s c.requires.gives_one at x)
+    only_one (Coded-set (coded_result g.row.S-Item.coded coded_ℕ)) (g.S.Steps.maps s at x) (g.met.S.Steps.map_gives s c.requires.gives at x)
+    (g.met.S.Steps.map_gives_one s c.requires.gives_one at x)
 
 pub with_steps-requires-clause-one_test : goal.with_steps-requires-clause-one_test
 with_steps-requires-clause-one_test g c at x =
     let s = c.args.steps.now in
-    only_one (Coded-set (coded_result coded_bool coded_ℕ)) (g.S.Steps.tests s at x) (g.met.S.Steps.test_gives s c.requires.gives at x) (g.met.S.Steps.test_gives_one s c.requires.gives_one at x)
+    only_one (Coded-set (coded_result coded_bool coded_ℕ)) (g.S.Steps.tests s at x) (g.met.S.Steps.test_gives s c.requires.gives at x)
+    (g.met.S.Steps.test_gives_one s c.requires.gives_one at x)
 
 pub returns-clause-ops : goal.returns-clause-ops
 returns-clause-ops g c ops does =

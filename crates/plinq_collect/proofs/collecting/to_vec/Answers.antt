@@ -15,4 +15,5 @@ returns g c =
     let option = merge_in_force q.merge in
     let outcome = c.run_into-outcome in
     subst (λ r. MatchResult r (λ it. GathersSome option (May t) it.0.items it.1) IsShort) (sym c.gathered.ensures)
-    (gathers-outcome (λ s. s.0.items) _ option May t _ outcome.new.sink outcome.result (λ v. v.items) outcome.new.sink.0 refl c.new.ensures.items outcome.ensures)
+    (gathers-outcome (λ s. s.0.items) _ option May t _ outcome.new.sink outcome.result (λ v. v.items) outcome.new.sink.0 refl c.new.ensures.items
+    outcome.ensures)

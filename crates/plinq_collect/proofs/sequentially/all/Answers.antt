@@ -10,9 +10,12 @@ use Rattle.plinq_collect.proofs.sequentially.all.Goals as goal
 
 pub returns-clause-value : goal.returns-clause-value
 returns-clause-value g c =
-    subst (λ r. TellsSome has_none (λ u. u ≡ answer_of g.L.Lambda.meaning ((c.args.query.ops ++ SkipWhile c.args.test ∷ []) ++ Take (pos 1) ∷ []) (g.S.Source.whole c.args.source)) r) (sym c.negated.ensures)
-    (subst (λ q. TellsSome has_none (λ u. u ≡ answer_of g.L.Lambda.meaning (q.ops ++ Take (pos 1) ∷ []) (g.S.Source.whole c.args.source)) (negated c.is_there.result)) c.in-Ok.ensures
-    (tells-none (λ u. u ≡ answer_of g.L.Lambda.meaning (c.in-Ok.query.ops ++ Take (pos 1) ∷ []) (g.S.Source.whole c.args.source)) c.is_there.result c.is_there.ensures.value))
+    subst (λ r. TellsSome has_none (λ u. u ≡ answer_of g.L.Lambda.meaning ((c.args.query.ops ++ SkipWhile c.args.test ∷ []) ++ Take (pos 1) ∷ [])
+    (g.S.Source.whole c.args.source)) r) (sym c.negated.ensures)
+    (subst (λ q. TellsSome has_none (λ u. u ≡ answer_of g.L.Lambda.meaning (q.ops ++ Take (pos 1) ∷ []) (g.S.Source.whole c.args.source))
+    (negated c.is_there.result)) c.in-Ok.ensures
+    (tells-none (λ u. u ≡ answer_of g.L.Lambda.meaning (c.in-Ok.query.ops ++ Take (pos 1) ∷ []) (g.S.Source.whole c.args.source)) c.is_there.result
+    c.is_there.ensures.value))
 
 pub returns-clause-memory : goal.returns-clause-memory
 returns-clause-memory g c = subst LacksRoom (sym c.negated.ensures) (lacks-negated c.is_there.result c.is_there.ensures.memory)

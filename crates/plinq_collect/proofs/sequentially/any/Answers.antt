@@ -9,4 +9,5 @@ use Rattle.plinq_collect.proofs.sequentially.any.Goals as goal
 
 pub returns-clause-value : goal.returns-clause-value
 returns-clause-value g c =
-    subst (λ q. TellsSome has_item (λ u. u ≡ answer_of g.L.Lambda.meaning (q.ops ++ Take (pos 1) ∷ []) (g.S.Source.whole c.args.source)) c.is_there.result) c.in-Ok.ensures c.is_there.ensures.value
+    subst (λ q. TellsSome has_item (λ u. u ≡ answer_of g.L.Lambda.meaning (q.ops ++ Take (pos 1) ∷ []) (g.S.Source.whole c.args.source)) c.is_there.result)
+    c.in-Ok.ensures c.is_there.ensures.value

@@ -6,4 +6,5 @@ use Rattle.plinq_collect.proofs.sequentially.count.Goals as goal
 
 pub returns-clause-value : goal.returns-clause-value
 returns-clause-value g c =
-    tells-one counting_items wrapped_count (answer_of g.L.Lambda.meaning c.args.query.now.ops (g.S.Source.whole c.args.source)) c.aggregate.result fold_of-counting_items c.aggregate.ensures.value
+    tells-one counting_items wrapped_count (answer_of g.L.Lambda.meaning c.args.query.now.ops (g.S.Source.whole c.args.source)) c.aggregate.result
+    fold_of-counting_items c.aggregate.ensures.value

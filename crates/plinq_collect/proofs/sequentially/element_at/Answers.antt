@@ -10,4 +10,5 @@ use Rattle.plinq_collect.proofs.sequentially.element_at.Goals as goal
 pub returns-clause-value : goal.returns-clause-value
 returns-clause-value g c =
     let skipped : c.in-Ok.query ≡ record c.args.query { ops = c.args.query.ops ++ Skip (pos c.args.place) ∷ [] } = search rules in
-    subst (λ q. TellsSome first_of (λ u. u ≡ answer_of g.L.Lambda.meaning (q.ops ++ Take (pos 1) ∷ []) (g.S.Source.whole c.args.source)) c.first.result) skipped c.first.ensures.value
+    subst (λ q. TellsSome first_of (λ u. u ≡ answer_of g.L.Lambda.meaning (q.ops ++ Take (pos 1) ∷ []) (g.S.Source.whole c.args.source)) c.first.result)
+    skipped c.first.ensures.value

@@ -10,4 +10,5 @@ use Rattle.plinq_collect.proofs.sequentially.first.Goals as goal
 pub returns-clause-value : goal.returns-clause-value
 returns-clause-value g c =
     subst (λ q. TellsSome first_of (λ u. u ≡ answer_of g.L.Lambda.meaning q.ops (g.S.Source.whole c.args.source)) c.aggregate.result) c.in-Ok.ensures
-    (tells-one picking_first first_of (answer_of g.L.Lambda.meaning c.in-Ok.query.ops (g.S.Source.whole c.args.source)) c.aggregate.result fold_of-first c.aggregate.ensures.value)
+    (tells-one picking_first first_of (answer_of g.L.Lambda.meaning c.in-Ok.query.ops (g.S.Source.whole c.args.source)) c.aggregate.result fold_of-first
+    c.aggregate.ensures.value)

@@ -10,6 +10,9 @@ use Rattle.plinq_collect.proofs.telling.all.Goals as goal
 
 pub returns : goal.returns
 returns g c =
-    subst (λ r. TellsSome has_none (MayAnswer g.L.Lambda.meaning c.args.query.ordered ((c.args.query.ops ++ SkipWhile c.args.test ∷ []) ++ Take (pos 1) ∷ []) (g.S.Source.whole c.args.source)) r) (sym c.negated.ensures)
-    (subst (λ q. TellsSome has_none (MayAnswer g.L.Lambda.meaning q.ordered (q.ops ++ Take (pos 1) ∷ []) (g.S.Source.whole c.args.source)) (negated c.is_there.result)) c.in-Ok.ensures
-    (tells-none (MayAnswer g.L.Lambda.meaning c.in-Ok.query.ordered (c.in-Ok.query.ops ++ Take (pos 1) ∷ []) (g.S.Source.whole c.args.source)) c.is_there.result c.is_there.ensures))
+    subst (λ r. TellsSome has_none (MayAnswer g.L.Lambda.meaning c.args.query.ordered ((c.args.query.ops ++ SkipWhile c.args.test ∷ []) ++ Take (pos 1) ∷ [])
+    (g.S.Source.whole c.args.source)) r) (sym c.negated.ensures)
+    (subst (λ q. TellsSome has_none (MayAnswer g.L.Lambda.meaning q.ordered (q.ops ++ Take (pos 1) ∷ []) (g.S.Source.whole c.args.source))
+    (negated c.is_there.result)) c.in-Ok.ensures
+    (tells-none (MayAnswer g.L.Lambda.meaning c.in-Ok.query.ordered (c.in-Ok.query.ops ++ Take (pos 1) ∷ []) (g.S.Source.whole c.args.source))
+    c.is_there.result c.is_there.ensures))

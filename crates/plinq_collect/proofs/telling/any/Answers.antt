@@ -9,4 +9,5 @@ use Rattle.plinq_collect.proofs.telling.any.Goals as goal
 
 pub returns : goal.returns
 returns g c =
-    subst (λ q. TellsSome has_item (MayAnswer g.L.Lambda.meaning q.ordered (q.ops ++ Take (pos 1) ∷ []) (g.S.Source.whole c.args.source)) c.is_there.result) c.in-Ok.ensures c.is_there.ensures
+    subst (λ q. TellsSome has_item (MayAnswer g.L.Lambda.meaning q.ordered (q.ops ++ Take (pos 1) ∷ []) (g.S.Source.whole c.args.source)) c.is_there.result)
+    c.in-Ok.ensures c.is_there.ensures

@@ -6,4 +6,5 @@ use Rattle.plinq_collect.proofs.telling.count.Goals as goal
 
 pub returns : goal.returns
 returns g c =
-    tells counting_items wrapped_count (MayAnswer g.L.Lambda.meaning c.args.query.now.ordered c.args.query.now.ops (g.S.Source.whole c.args.source)) c.aggregate.result fold_of-counting_items c.aggregate.ensures.value
+    tells counting_items wrapped_count (MayAnswer g.L.Lambda.meaning c.args.query.now.ordered c.args.query.now.ops (g.S.Source.whole c.args.source))
+    c.aggregate.result fold_of-counting_items c.aggregate.ensures.value

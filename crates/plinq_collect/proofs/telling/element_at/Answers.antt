@@ -10,4 +10,5 @@ use Rattle.plinq_collect.proofs.telling.element_at.Goals as goal
 pub returns : goal.returns
 returns g c =
     let skipped : c.in-Ok.query ≡ record c.args.query { ops = c.args.query.ops ++ Skip (pos c.args.place) ∷ [] } = search rules in
-    subst (λ q. TellsSome first_of (MayAnswer g.L.Lambda.meaning q.ordered (q.ops ++ Take (pos 1) ∷ []) (g.S.Source.whole c.args.source)) c.first.result) skipped c.first.ensures
+    subst (λ q. TellsSome first_of (MayAnswer g.L.Lambda.meaning q.ordered (q.ops ++ Take (pos 1) ∷ []) (g.S.Source.whole c.args.source)) c.first.result)
+    skipped c.first.ensures

@@ -9,4 +9,5 @@ use Rattle.plinq_collect.proofs.telling.first.Goals as goal
 pub returns : goal.returns
 returns g c =
     subst (λ q. TellsSome first_of (MayAnswer g.L.Lambda.meaning q.ordered q.ops (g.S.Source.whole c.args.source)) c.aggregate.result) c.in-Ok.ensures
-    (tells picking_first first_of (MayAnswer g.L.Lambda.meaning c.in-Ok.query.ordered c.in-Ok.query.ops (g.S.Source.whole c.args.source)) c.aggregate.result fold_of-first c.aggregate.ensures.value)
+    (tells picking_first first_of (MayAnswer g.L.Lambda.meaning c.in-Ok.query.ordered c.in-Ok.query.ops (g.S.Source.whole c.args.source)) c.aggregate.result
+    fold_of-first c.aggregate.ensures.value)

@@ -9,4 +9,5 @@ use Rattle.plinq_collect.proofs.telling.is_there.Goals as goal
 pub returns : goal.returns
 returns g c =
     subst (λ q. TellsSome has_item (MayAnswer g.L.Lambda.meaning q.ordered q.ops (g.S.Source.whole c.args.source)) c.aggregate.result) c.in-Ok.ensures
-    (tells being_there has_item (MayAnswer g.L.Lambda.meaning c.in-Ok.query.ordered c.in-Ok.query.ops (g.S.Source.whole c.args.source)) c.aggregate.result fold_of-there c.aggregate.ensures.value)
+    (tells being_there has_item (MayAnswer g.L.Lambda.meaning c.in-Ok.query.ordered c.in-Ok.query.ops (g.S.Source.whole c.args.source)) c.aggregate.result
+    fold_of-there c.aggregate.ensures.value)

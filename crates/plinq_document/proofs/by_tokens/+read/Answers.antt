@@ -55,4 +55,5 @@ read_value-returns-in_ok-read_items-in-BeginArray-clause-read t c =
     let first : c.args.reader.now ≡ token_of c.in_ok-text.field-0 ∷ r = grind arith in
     let is : c.args.reader.now ≡ Token.begin_array ∷ r = first ∙ ap (λ k. token_of k ∷ r) c.in-BeginArray.is in
     let found = c.in_ok-read_items-in-BeginArray in
-    value-list c.args.depth c.args.reader.now r (omega arith) is ∙ ap (parse_map array) found.ensures.read ∙ ap (λ d. Some (d, c.read_items.new.reader)) (sym (view-Array found.field-0))
+    value-list c.args.depth c.args.reader.now r (omega arith) is ∙ ap (parse_map array) found.ensures.read
+    ∙ ap (λ d. Some (d, c.read_items.new.reader)) (sym (view-Array found.field-0))

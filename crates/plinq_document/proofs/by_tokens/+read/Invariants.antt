@@ -14,7 +14,8 @@ decreases-read_items l = 2 * l.depth + 1
 abbrev pub invariant-read_items-items : goal.invariant-read_items-items
 invariant-read_items-items l =
     (n : ℕ) × (length l.reader ≤ n)
-    × (converted of_items (items (value l.depth) (length l.initial.reader) l.initial.reader) ≡ parse_map (items_before l.found.items) (converted of_items (items (value l.depth) n l.reader)))
+    × (converted of_items (items (value l.depth) (length l.initial.reader) l.initial.reader)
+    ≡ parse_map (items_before l.found.items) (converted of_items (items (value l.depth) n l.reader)))
     × (length l.reader ≤ length l.initial.reader)
 
 abbrev pub decreases-read_items-items : goal.decreases-read_items-items

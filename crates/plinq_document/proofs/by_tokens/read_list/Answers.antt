@@ -26,5 +26,6 @@ returns-in-Some-clause-read c =
     let opened : length c.args.reader.now ≡ length (Token.begin_array ∷ c.next.new.self) = ap length first in
     let shorter : length c.read_numbers.new.reader < length c.args.reader.now = omega (arith, opened, c.in_ok-numbers.ensures.shorter) in
     let read = list-read c.args.reader.now c.next.new.self c.read_numbers.new.reader numbers.items first c.in_ok-numbers.ensures.read in
-    let found = list-members (Some code) c.args.reader.now c.read_numbers.new.reader c.read_refusal.new.reader read.0 numbers.items read.1 shorter over read.2 few in
+    let found =
+    list-members (Some code) c.args.reader.now c.read_numbers.new.reader c.read_refusal.new.reader read.0 numbers.items read.1 shorter over read.2 few in
     (found.0, found.1, λ version. found.2 version ∙ ap Ok (sym c.refusing.ensures.whole))

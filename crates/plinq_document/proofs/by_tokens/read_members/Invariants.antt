@@ -10,7 +10,8 @@ use Rattle.plinq_document.proofs.by_tokens.read_members.Given as goal
 abbrev pub invariant-members : goal.invariant-members
 invariant-members l =
     (n : ℕ) × (ms : Members) × (length l.reader ≤ n)
-    × (converted (λ js. of_members js no_members) (members (value 126) (length l.initial.reader) l.initial.reader) ≡ converted (λ js. of_members js ms) (members (value 126) n l.reader))
+    × (converted (λ js. of_members js no_members) (members (value 126) (length l.initial.reader) l.initial.reader)
+    ≡ converted (λ js. of_members js ms) (members (value 126) n l.reader))
     × AreApart l.parts.source (members_view l.parts.others.entries) ms
     × IsFresh l.parts.source
 

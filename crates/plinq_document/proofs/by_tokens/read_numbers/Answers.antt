@@ -17,7 +17,9 @@ numbers-preserved c =
     let shorter : length l.reader ≡ suc (length r) = ap length is in
     let number = c.in_ok-whole_number_of-in-Number in
     let pushed : c.add.new.items.items ≡ l.numbers.items ++ number.field-0 ∷ [] = search rules in
-    let turn = numbers-turn 124 n l.reader r c.in-Number.text.now _ l.numbers.items number.field-0 (omega (arith, l.invariant.1, shorter)) is number.ensures.is number.ensures.fits in (
+    let turn =
+    numbers-turn 124 n l.reader r c.in-Number.text.now _ l.numbers.items number.field-0
+    (omega (arith, l.invariant.1, shorter)) is number.ensures.is number.ensures.fits in (
       n - 1,
       omega (arith, l.invariant.1, shorter),
       l.invariant.2 ∙ turn ∙ ap (λ ns. parse_map (λ rest. ns ++ rest) (converted numbers_in (items (value 124) (n - 1) r))) (sym pushed),

@@ -8,7 +8,8 @@ use Rattle.plinq_document.proofs.by_tokens.read_numbers.Given as goal
 abbrev pub invariant-numbers : goal.invariant-numbers
 invariant-numbers l =
     (n : ℕ) × (length l.reader ≤ n)
-    × (converted numbers_in (items (value 124) (length l.initial.reader) l.initial.reader) ≡ parse_map (λ rest. l.numbers.items ++ rest) (converted numbers_in (items (value 124) n l.reader)))
+    × (converted numbers_in (items (value 124) (length l.initial.reader) l.initial.reader)
+    ≡ parse_map (λ rest. l.numbers.items ++ rest) (converted numbers_in (items (value 124) n l.reader)))
     × (length l.reader ≤ length l.initial.reader)
 
 abbrev pub decreases-numbers : goal.decreases-numbers

@@ -14,5 +14,9 @@ returns-in-Ok-clause-read c =
     let last : c.next.new.self ≡ Token.end_object ∷ r = search rules in
     let whole : c.args.reader.now ≡ Token.string text ∷ Token.end_object ∷ r = first ∙ ap (λ rest. Token.string text ∷ rest) last in
     let longer : length c.args.reader.now ≡ suc (suc (length r)) = ap length whole in
-    let read = value-string 125 c.args.reader.now (Token.end_object ∷ r) text whole in
-    (member (codes "text") (string text) no_members, member-read c.args.reader.now r (codes "text") (string text) read (omega (arith, longer)), λ version. text-alone version text ∙ c.in-Ok.ensures.whole)
+    let read = value-string 125 c.args.reader.now (Token.end_object ∷ r) text whole in (
+      member (codes "text") (string text) no_members,
+      member-read c.args.reader.now r (codes "text") (string text) read
+          (omega (arith, longer)),
+      λ version. text-alone version text ∙ c.in-Ok.ensures.whole,
+    )

@@ -12,9 +12,11 @@ returns-in-Err c = λ not_memory.
     let q = c.loop-at.query in
     let vs = c.args.steps.now in
     let turn = with_steps_of-turn c.args.version at q vs c.index-steps-at.result c.loop-at-test.true c.index-steps-at.is in
-    let step : with_step_of c.args.version q (view c.index-steps-at.result) ≡ Err c.in-Err.why = c.in-Err.ensures (λ e. not_memory (c.step_refused.ensures.memory e)) in
+    let step : with_step_of c.args.version q (view c.index-steps-at.result) ≡ Err c.in-Err.why =
+    c.in-Err.ensures (λ e. not_memory (c.step_refused.ensures.memory e)) in
     let why = c.step_refused.ensures.other (λ e. not_memory (c.step_refused.ensures.memory e)) in
-    c.loop-at.invariant ∙ turn ∙ ap (λ r. step_result at r >>= λ new. with_steps_of c.args.version (at + 1) new (items_view (drop (at + 1) vs))) step ∙ ap Err (sym why)
+    c.loop-at.invariant ∙ turn ∙ ap (λ r. step_result at r >>= λ new. with_steps_of c.args.version (at + 1) new (items_view (drop (at + 1) vs))) step
+    ∙ ap Err (sym why)
 
 pub loop-at-preserved : goal.loop-at-preserved
 loop-at-preserved c =

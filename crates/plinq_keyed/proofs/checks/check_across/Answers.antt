@@ -19,7 +19,8 @@ loop-part-preserved g c =
     let part = c.part-item.result in
     let least = c.loop-part.least in
     let rest = key_lists (element_lists (drop (i + 1) parts)) in
-    let here : drop i parts ≡ part ∷ drop (i + 1) parts = drop_more parts i part c.loop-part-test.true ∙ ap (λ v. v ∷ drop (i + 1) parts) (sym c.part-item.is) in
+    let here : drop i parts ≡ part ∷ drop (i + 1) parts =
+    drop_more parts i part c.loop-part-test.true ∙ ap (λ v. v ∷ drop (i + 1) parts) (sym c.part-item.is) in
     let passed : all_from least (keys part.items) ≡ true = cc in
     let moved : c.least_above-least.result ≡ least_after least (keys part.items) = cc in
     record {

@@ -5,4 +5,5 @@ use Rattle.plinq_keyed.specs.inner.Sweeps.{all_below}
 use Rattle.plinq_keyed.proofs.normalized.all_keys_below.Given as goal
 
 abbrev pub invariant-loop-part : goal.invariant-loop-part
-invariant-loop-part g l = all_below l.bound (concat (key_lists (element_lists (drop l.part-index l.parts)))) ≡ all_below l.bound (concat (key_lists (element_lists l.parts)))
+invariant-loop-part g l =
+    all_below l.bound (concat (key_lists (element_lists (drop l.part-index l.parts)))) ≡ all_below l.bound (concat (key_lists (element_lists l.parts)))

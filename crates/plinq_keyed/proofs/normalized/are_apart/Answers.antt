@@ -43,4 +43,5 @@ loop-at-preserved g c =
 pub returns-else-by-right : goal.returns-else-by-right
 returns-else-by-right g c =
     let none : drop c.loop-at.by c.args.right.now ≡ [] = drop_all c.loop-at.by c.args.right.now c.if-by-right.false in
-    sym (sym c.loop-at.invariant.rest ∙ ap (λ zs. are_disjoint (keys (drop c.loop-at.at c.args.left.now)) (keys zs)) none ∙ are_disjoint-nil (keys (drop c.loop-at.at c.args.left.now)))
+    sym (sym c.loop-at.invariant.rest ∙ ap (λ zs. are_disjoint (keys (drop c.loop-at.at c.args.left.now)) (keys zs)) none
+    ∙ are_disjoint-nil (keys (drop c.loop-at.at c.args.left.now)))

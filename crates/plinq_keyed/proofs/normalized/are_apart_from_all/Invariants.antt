@@ -6,6 +6,7 @@ use Rattle.plinq_keyed.proofs.normalized.are_apart_from_all.Given as goal
 
 abbrev pub invariant-loop-other : goal.invariant-loop-other
 invariant-loop-other g l = record {
-  rest : are_disjoint (keys l.part) (concat (key_lists (element_lists (drop l.other-index l.others)))) ≡ are_disjoint (keys l.part) (concat (key_lists (element_lists l.others)));
+  rest : are_disjoint (keys l.part) (concat (key_lists (element_lists (drop l.other-index l.others))))
+      ≡ are_disjoint (keys l.part) (concat (key_lists (element_lists l.others)));
   rising : ordered_in_each (key_lists (element_lists (drop l.other-index l.others))) ≡ true;
 }

@@ -12,7 +12,8 @@ returns-then-not-are_apart_from_all g c =
     let here = drop-at parts i part c.loop-place-test.true c.index-parts-place.is in
     let rising = ordered-next parts i part here c.loop-place.invariant.rising in
     let met : are_disjoint (keys part.items) (all_keys (drop (i + 1) parts)) ≡ false = cc in
-    sym (sym c.loop-place.invariant.rest ∙ are_distinct-next_rising parts i part here rising.0 ∙ ap (λ b. b && are_distinct (all_keys (drop (i + 1) parts))) met)
+    sym (sym c.loop-place.invariant.rest ∙ are_distinct-next_rising parts i part here rising.0
+    ∙ ap (λ b. b && are_distinct (all_keys (drop (i + 1) parts))) met)
 
 pub loop-place-preserved : goal.loop-place-preserved
 loop-place-preserved g c =
@@ -23,6 +24,8 @@ loop-place-preserved g c =
     let rising = ordered-next parts i part here c.loop-place.invariant.rising in
     let met : are_disjoint (keys part.items) (all_keys (drop (i + 1) parts)) ≡ true = cc in
     record {
-      rest = sym (are_distinct-next_rising parts i part here rising.0 ∙ ap (λ b. b && are_distinct (all_keys (drop (i + 1) parts))) met) ∙ c.loop-place.invariant.rest;
+      rest =
+          sym (are_distinct-next_rising parts i part here rising.0 ∙ ap (λ b. b && are_distinct (all_keys (drop (i + 1) parts))) met)
+          ∙ c.loop-place.invariant.rest;
       rising = rising.1;
     }

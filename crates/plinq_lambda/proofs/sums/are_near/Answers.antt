@@ -1,4 +1,5 @@
-use Rattle.std.proofs.Common.{rules, ◌≡◌, ◌^◌, pos, ℕ, ◌+◌, ◌<◌, ◌%◌, w64, ◌+ℤ◌, to_z, of_z, is_ok, true, nat_lt, refl, sym, ap, suc, arith, drop, ◌∙◌, slice_index_or}
+use Rattle.std.proofs.Common.{rules, ◌≡◌, ◌^◌, pos, ℕ, ◌+◌, ◌<◌, ◌%◌, w64, ◌+ℤ◌, to_z, of_z, is_ok, true, nat_lt, refl, sym, ap, suc, arith, drop}
+use Rattle.std.proofs.Common.{◌∙◌, slice_index_or}
 use Rattle.std.proofs.lemmas.Nat.{le_or_l, le_or_r}
 use Rattle.plinq_lambda.specs.Formula.{fits}
 use Rattle.plinq_lambda.specs.inner.Sums.{sums_fit}
@@ -11,7 +12,8 @@ loop-at-preserved c = λ few.
     let n : ℕ = c.cast_unsigned.result in
     let left = le_or_l c.loop-at.bits ((n + 2 ^ 62) % 2 ^ 64) in
     let right = le_or_r c.loop-at.bits ((n + 2 ^ 62) % 2 ^ 64) in
-    let fit : is_ok (fits (to_z w64 n +ℤ c.args.c)) ≡ true = near-bits c.args.c n (nat_lt n (2 ^ 62)) refl c.cast_unsigned.type_inv (search rules) c.requires.from c.requires.to in
+    let fit : is_ok (fits (to_z w64 n +ℤ c.args.c)) ≡ true =
+    near-bits c.args.c n (nat_lt n (2 ^ 62)) refl c.cast_unsigned.type_inv (search rules) c.requires.from c.requires.to in
     let small : c.loop-at.bits < 2 ^ 63 = search rules in
     let so_far = c.loop-at.invariant small in
     let same : to_z w64 n ≡ slice_index_or c.args.block.now c.loop-at.at (pos 0) = search rules in

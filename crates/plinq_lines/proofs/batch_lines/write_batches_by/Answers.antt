@@ -12,7 +12,8 @@ use Rattle.plinq_lines.proofs.PartWritten.{piece-failed, piece-written, rest-wri
 use Rattle.plinq_lines.proofs.batch_lines.write_batches_by.Goals as goal
 
 cut : (n most : ℕ) (xs front back : List ℤ) → 0 < n → most - most % n ≤ length xs → front ≡ take (most - most % n) xs → back ≡ drop (most - most % n) xs
-    → flat_map batch_line (full_batches (Some n) [] xs) ≡ flat_map batch_line (full_batches (Some n) [] front) ++ flat_map batch_line (full_batches (Some n) [] back)
+    → flat_map batch_line (full_batches (Some n) [] xs) ≡ flat_map batch_line (full_batches (Some n) [] front)
+    ++ flat_map batch_line (full_batches (Some n) [] back)
 cut n most xs front back some within first rest =
     let parts : front ++ back ≡ xs = rw (first, rest, take-append-drop (most - most % n) xs) in
     let count : length front ≡ most / n * n = ap length first ∙ length-take-le (most - most % n) xs within ∙ omega (arith, div-add-mod' most n) in
@@ -28,7 +29,8 @@ returns-in_err-write_few_batches g c =
 pub loop-rest-preserved : goal.loop-rest-preserved
 loop-rest-preserved g c =
     let within : 128 - 128 % c.args.size ≤ length c.loop-rest.rest.now = search rules in
-    piece-written _ _ _ c.loop-rest.invariant (cut c.args.size 128 _ _ _ c.requires within c.split_at.ensures.front c.split_at.ensures.back) c.in_ok-write_few_batches.ensures
+    piece-written _ _ _ c.loop-rest.invariant (cut c.args.size 128 _ _ _ c.requires within c.split_at.ensures.front c.split_at.ensures.back)
+    c.in_ok-write_few_batches.ensures
 
 pub returns : goal.returns
 returns g c = rest-writes _ _ _ c.loop-rest.invariant refl c.write_few_batches-2.ensures

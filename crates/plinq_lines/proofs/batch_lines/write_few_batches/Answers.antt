@@ -31,7 +31,8 @@ returns g c =
     let room : length c.args.text.now ≡ 2816 = search rules in
     let none : drop 2816 c.args.text.now ≡ [] = nil_from_length _ (length-drop 2816 c.args.text.now ∙ omega (arith, room)) in
     let whole : c.split_at.result.0.now ≡ take (length xs - length xs % n) xs = search rules in
-    let same : flat_map batch_line (full_batches (Some n) [] c.split_at.result.0.now) ≡ lines = ap (λ zs. flat_map batch_line (full_batches (Some n) [] zs)) whole ∙ sym (ap (flat_map batch_line) (full_batches-before n xs c.requires.some)) in
+    let same : flat_map batch_line (full_batches (Some n) [] c.split_at.result.0.now) ≡ lines =
+    ap (λ zs. flat_map batch_line (full_batches (Some n) [] zs)) whole ∙ sym (ap (flat_map batch_line) (full_batches-before n xs c.requires.some)) in
     let is : drop c.place_lines-start.result c.place_lines-start.new.text ≡ lines =
     c.place_lines-start.ensures.placed ∙ ap (λ z. z ++ drop 2816 c.args.text.now) same ∙ ap (λ z. lines ++ z) none ∙ append-nil lines in
     writes-as _ _ _ _ _ is c.write_from-2.ensures

@@ -20,7 +20,8 @@ returns-in_err-write_long_batch g c =
 pub loop-rest-preserved : goal.loop-rest-preserved
 loop-rest-preserved g c =
     let enough : c.args.size ≤ length c.loop-rest.rest.now = search rules in
-    piece-written _ _ _ c.loop-rest.invariant (cut c.args.size _ _ _ c.requires enough c.split_at.ensures.front c.split_at.ensures.back) c.in_ok-write_long_batch.ensures
+    piece-written _ _ _ c.loop-rest.invariant (cut c.args.size _ _ _ c.requires enough c.split_at.ensures.front c.split_at.ensures.back)
+    c.in_ok-write_long_batch.ensures
 
 pub returns : goal.returns
 returns g c =

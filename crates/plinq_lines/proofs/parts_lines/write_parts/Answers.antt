@@ -8,7 +8,8 @@ use Rattle.plinq_lines.proofs.parts_lines.write_parts.Goals as goal
 
 pub returns-in_err-write_properties : goal.returns-in_err-write_properties
 returns-in_err-write_properties g c =
-    piece-failed _ _ (properties_line c.args.properties) (part_lines 0 (element_lists c.args.partitions.now) ++ line (ending_words c.args.ending)) (none-written _ _)
+    piece-failed _ _ (properties_line c.args.properties) (part_lines 0 (element_lists c.args.partitions.now) ++ line (ending_words c.args.ending))
+    (none-written _ _)
     refl c.from_residual.ensures.0 c.in_err-write_properties.ensures
 
 pub returns-in_err-write_partitions : goal.returns-in_err-write_partitions

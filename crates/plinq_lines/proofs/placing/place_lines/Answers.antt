@@ -1,5 +1,6 @@
 -- each line is placed in front of those after it
-use Rattle.std.proofs.Common.{rules, ◌≡◌, ℕ, zero, suc, ◌-◌, ◌*◌, ◌/◌, ◌<◌, ◌≤◌, ◌++◌, ℤ, List, [], ◌∷◌, Some, length, take, drop, arith, ap, sym, refl, ◌∙◌, append-nil, append_assoc, length-drop}
+use Rattle.std.proofs.Common.{rules, ◌≡◌, ℕ, zero, suc, ◌-◌, ◌*◌, ◌/◌, ◌<◌, ◌≤◌, ◌++◌, ℤ, List, [], ◌∷◌, Some, length, take, drop, arith, ap, sym}
+use Rattle.std.proofs.Common.{refl, ◌∙◌, append-nil, append_assoc, length-drop}
 use Rattle.std.specs.List.{flat_map}
 use Rattle.std.proofs.Common.{length-take-le}
 use Rattle.std.proofs.lemmas.Grind.{flat_map-append}
@@ -19,7 +20,8 @@ fewer n (suc k) xs some enough is = (k, omega (arith, is))
 last_line : (n k : ℕ) (xs front back : List ℤ) → 0 < n → front ++ back ≡ xs → length front ≡ k * n → length back ≡ n
     → flat_map batch_line (full_batches (Some n) [] xs) ≡ flat_map batch_line (full_batches (Some n) [] front) ++ batch_line back
 last_line n k xs front back some parts is alone =
-    let one : full_batches (Some n) [] back ≡ back ∷ [] = ap (full_batches (Some n) []) (sym (append-nil back)) ∙ full_batches-filled n [] back [] (omega arith) (omega arith) in
+    let one : full_batches (Some n) [] back ≡ back ∷ [] =
+    ap (full_batches (Some n) []) (sym (append-nil back)) ∙ full_batches-filled n [] back [] (omega arith) (omega arith) in
     ap (flat_map batch_line) (full_batches-whole n k xs front back some parts is ∙ ap (λ bs. full_batches (Some n) [] front ++ bs) one)
     ∙ flat_map-append batch_line (full_batches (Some n) [] front) (back ∷ [])
     ∙ ap (λ text. flat_map batch_line (full_batches (Some n) [] front) ++ text) (append-nil (batch_line back))
@@ -62,5 +64,6 @@ loop-rest-preserved c =
 pub returns-clause-placed : goal.returns-clause-placed
 returns-clause-placed c =
     let short : length c.loop-rest.rest.now < c.args.size = search rules in
-    let none : flat_map batch_line (full_batches (Some c.args.size) [] c.loop-rest.rest.now) ≡ [] = ap (flat_map batch_line) (full_batches-short c.args.size [] c.loop-rest.rest.now (omega (arith, short))) in
+    let none : flat_map batch_line (full_batches (Some c.args.size) [] c.loop-rest.rest.now) ≡ [] =
+    ap (flat_map batch_line) (full_batches-short c.args.size [] c.loop-rest.rest.now (omega (arith, short))) in
     ap (λ text. text ++ drop c.loop-rest.at c.loop-rest.text) (sym none) ∙ c.loop-rest.invariant.placed

@@ -11,7 +11,8 @@ invariant-loop-rest l = record {
   room : 22 * length l.rest ≤ l.at;
   below : l.at ≤ l.end;
   same : length l.text ≡ length l.initial.text;
-  placed : flat_map batch_line (full_batches (Some l.size) [] l.rest) ++ drop l.at l.text ≡ flat_map batch_line (full_batches (Some l.size) [] l.numbers) ++ drop l.end l.initial.text;
+  placed : flat_map batch_line (full_batches (Some l.size) [] l.rest) ++ drop l.at l.text
+      ≡ flat_map batch_line (full_batches (Some l.size) [] l.numbers) ++ drop l.end l.initial.text;
 }
 
 abbrev pub decreases-loop-rest : goal.decreases-loop-rest

@@ -16,7 +16,8 @@ abbrev part_line : List ℕ → List (Op Formula) → List ℕ
 part_line name ops = line (name ++ part_words ops)
 
 parts : (q : QueryView Formula) (n : ℕ) (option : MergeOption) (order : Order) (worker after : List (Op Formula))
-    → n ≡ degree_in_force q.degree → option ≡ merge_in_force q.merge → order ≡ order_of q.ordered → worker ≡ worker_part (order_of q.ordered) q.ops → after ≡ after_part (order_of q.ordered) q.ops
+    → n ≡ degree_in_force q.degree → option ≡ merge_in_force q.merge → order ≡ order_of q.ordered → worker ≡ worker_part (order_of q.ordered) q.ops
+    → after ≡ after_part (order_of q.ordered) q.ops
     → plan_text q ≡ settings_text n option order ++ (part_line (codes "worker ") worker ++ part_line (codes "after ") after)
 parts q n option order worker after degree merge ordered first rest = rw (degree, merge, ordered, first, rest) refl
 

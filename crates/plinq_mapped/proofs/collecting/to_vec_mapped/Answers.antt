@@ -20,4 +20,5 @@ returns-clause-made g c =
 pub returns-clause-ordered : goal.returns-clause-ordered
 returns-clause-ordered g c = λ ordered.
     let q = c.args.query.now in
-    ordered-list (g.M.MakeOf.makes c.args.mapping.now.make) g.L.Lambda.meaning q.ordered q.ops (g.S.Source.whole c.args.source) c.fold_into.new.out.items.items c.in_ok-ending.ending ordered (returns-clause-made g c)
+    ordered-list (g.M.MakeOf.makes c.args.mapping.now.make) g.L.Lambda.meaning q.ordered q.ops
+    (g.S.Source.whole c.args.source) c.fold_into.new.out.items.items c.in_ok-ending.ending ordered (returns-clause-made g c)

@@ -49,4 +49,5 @@ returns-in_err-deliver_block-clause-delivers g c =
     let before = c.loop-block.invariant in
     let next = rw (c.in_default.is, before.whole) at c.in_ok-ending.ensures.fed in
     let is : c.from_residual-in_err-deliver_block.result ≡ Err c.in_err-deliver_block.field-0.0 = search rules in
-    sent-cut g.K.Sink.accepts g.K.Sink.refuses _ _ _ _ _ _ _ _ _ _ _ _ _ _ _ _ is (hands-all _ _ _ _ _ _ _ _ _ (rw before.size at c.in_err-deliver_block.ensures.fills.filled)) (sent-on g.K.Sink.accepts g.K.Sink.refuses _ _ _ _ _ _ _ _ _ _ _ _ before.sent next)
+    sent-cut g.K.Sink.accepts g.K.Sink.refuses _ _ _ _ _ _ _ _ _ _ _ _ _ _ _ _ is (hands-all _ _ _ _ _ _ _ _ _
+    (rw before.size at c.in_err-deliver_block.ensures.fills.filled)) (sent-on g.K.Sink.accepts g.K.Sink.refuses _ _ _ _ _ _ _ _ _ _ _ _ before.sent next)

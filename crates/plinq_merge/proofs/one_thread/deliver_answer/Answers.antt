@@ -9,15 +9,19 @@ pub returns-then-split-clause-delivers : goal.returns-then-split-clause-delivers
 returns-then-split-clause-delivers g c =
     let ops = c.args.query.now.ops in
     let decided : c.split.result.decided ≡ list_any is_empty_take ops = c.split.ensures.plan.decided in
-    let none : some_takes_none (stages_of g.L.Lambda.meaning ops) ≡ true = sym (some_takes_none-stages_of g.L.Lambda.meaning ops) ∙ sym decided ∙ search rules in
+    let none : some_takes_none (stages_of g.L.Lambda.meaning ops) ≡ true =
+    sym (some_takes_none-stages_of g.L.Lambda.meaning ops) ∙ sym decided ∙ search rules in
     answer-none _ _ _ _ _ _ _ _ none c.requires.fresh
 
 pub deliver_blocks-requires-clause-undecided : goal.deliver_blocks-requires-clause-undecided
-deliver_blocks-requires-clause-undecided g c lives within = begun-undecided g.L.Lambda.meaning c.in_ok-pipeline.pipeline c.args.query.now.ops c.ops.result.now c.split.result.decided c.split.ensures.plan.decided (search rules) (search rules) c.in_ok-pipeline.ensures
+deliver_blocks-requires-clause-undecided g c lives within =
+    begun-undecided g.L.Lambda.meaning c.in_ok-pipeline.pipeline c.args.query.now.ops c.ops.result.now c.split.result.decided c.split.ensures.plan.decided
+    (search rules) (search rules) c.in_ok-pipeline.ensures
 
 pub returns-clause-delivers : goal.returns-clause-delivers
 returns-clause-delivers g c =
     let same : c.ops.result.now ≡ c.args.query.now.ops = search rules in
     let begins = stages-begun g.L.Lambda.meaning c.args.query.now.ops c.in_ok-pipeline.pipeline (rw same at c.in_ok-pipeline.ensures) in
-    let size : size_of c.in_ok-buffer.buffer ≡ batch_size (merge_in_force c.args.query.now.merge) = c.in_ok-buffer.ensures.size ∙ ap batch_size c.merge_option.ensures in
+    let size : size_of c.in_ok-buffer.buffer ≡ batch_size (merge_in_force c.args.query.now.merge) =
+    c.in_ok-buffer.ensures.size ∙ ap batch_size c.merge_option.ensures in
     rw (begins, size) at c.deliver_blocks.ensures.delivers

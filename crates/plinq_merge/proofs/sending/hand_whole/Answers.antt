@@ -13,7 +13,9 @@ returns g c =
     let back : rest ≡ drop (length xs - length xs % n) xs = search rules in
     let short : length rest < n = rw back (rest-short n xs c.requires.size) in
     let empty = c.requires.empty in
-    let is : c.fill_from_slice.new.self.items ≡ [] ++ rest = filled-all n c.fill_from_slice.result [] rest c.fill_from_slice.new.self.items (rw empty at c.fill_from_slice.ensures.count) (omega arith) (rw empty at (ap (λ b. b.items) c.fill_from_slice.ensures.items)) in
+    let is : c.fill_from_slice.new.self.items ≡ [] ++ rest =
+    filled-all n c.fill_from_slice.result [] rest c.fill_from_slice.new.self.items (rw empty at c.fill_from_slice.ensures.count) (omega arith)
+    (rw empty at (ap (λ b. b.items) c.fill_from_slice.ensures.items)) in
     let sent : Leads g.K.Sink.accepts c.args.sink.now (full_batches (Some n) [] xs) c.batches_of.new.self = search rules in
     let capacity : c.fill_from_slice.new.self.capacity ≡ n = search rules in
     let kept = is ∙ back ∙ sym (held_back-rest n xs c.requires.size) in

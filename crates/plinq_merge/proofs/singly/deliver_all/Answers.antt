@@ -18,7 +18,8 @@ pub returns-in-Some-clause-delivers : goal.returns-in-Some-clause-delivers
 returns-in-Some-clause-delivers g c =
     let before = c.loop-made.invariant in
     let next = rw (c.in-Some.is, before.whole) at c.in_ok-ending.ensures.fed in
-    sent-over g.K.Sink.accepts g.K.Sink.refuses _ _ _ _ _ _ _ _ _ _ _ _ _ _ _ _ c.feed_from.ensures.one before.sent next c.deliver_rest.ensures.ending (rw before.size at c.deliver_rest.ensures.delivered)
+    sent-over g.K.Sink.accepts g.K.Sink.refuses _ _ _ _ _ _ _ _ _ _ _ _ _ _ _ _ c.feed_from.ensures.one before.sent next c.deliver_rest.ensures.ending
+    (rw before.size at c.deliver_rest.ensures.delivered)
 
 -- a batch that couldn't be delivered
 pub returns-in_err-deliver_ready-clause-delivers : goal.returns-in_err-deliver_ready-clause-delivers
@@ -26,7 +27,8 @@ returns-in_err-deliver_ready-clause-delivers g c =
     let before = c.loop-made.invariant in
     let next = rw (c.in_default.is, before.whole) at c.in_ok-ending.ensures.fed in
     let is : c.from_residual-in_err-deliver_ready.result ≡ Err c.in_err-deliver_ready.field-0.0 = search rules in
-    sent-cut g.K.Sink.accepts g.K.Sink.refuses _ _ _ _ _ _ _ _ _ _ _ _ _ _ _ _ is (rw before.size at c.in_err-deliver_ready.ensures.handed) (sent-on g.K.Sink.accepts g.K.Sink.refuses _ _ _ _ _ _ _ _ _ _ _ _ before.sent next)
+    sent-cut g.K.Sink.accepts g.K.Sink.refuses _ _ _ _ _ _ _ _ _ _ _ _ _ _ _ _ is (rw before.size at c.in_err-deliver_ready.ensures.handed)
+    (sent-on g.K.Sink.accepts g.K.Sink.refuses _ _ _ _ _ _ _ _ _ _ _ _ before.sent next)
 
 pub loop-made-smaller : goal.loop-made-smaller
 loop-made-smaller g c = rw c.feed_from.ensures.whole (feeds-smaller _ _ _ _ _ _ _ (rw c.in_default.is at c.in_ok-ending.ensures.fed))

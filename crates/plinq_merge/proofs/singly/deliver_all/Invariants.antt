@@ -12,7 +12,8 @@ invariant-loop-made g l =
       size : size_of l.buffer ≡ size_of l.fn.buffer;
       room : HasRoom l.buffer;
       sent : HasSent g.K.Sink.accepts g.K.Sink.refuses (size_of l.fn.buffer) (stages g.L.Lambda.meaning l.fn.pipeline) l.fn.sink
-          (first_items (g.S.Source.given l.source) (g.S.Source.whole l.fn.source)) (held_of l.buffer) l.made.items (stages g.L.Lambda.meaning l.pipeline) l.sink None;
+          (first_items (g.S.Source.given l.source) (g.S.Source.whole l.fn.source)) (held_of l.buffer) l.made.items
+          (stages g.L.Lambda.meaning l.pipeline) l.sink None;
     }
 
 abbrev pub decreases-loop-made : goal.decreases-loop-made

@@ -10,7 +10,8 @@ feed-requires g c = record { undecided = c.loop-at.invariant.2 }
 
 pub frag_end-ending-requires : goal.frag_end-ending-requires
 frag_end-ending-requires g c =
-    (fed-fragment g.L.Lambda.meaning c.args.worker.now (c.args.first + c.loop-at.at) c.index-items-at.result _ _ _ _ _ c.loop-at.invariant.1 c.requires.keyed c.requires.some c.in_ok-ending.ensures.fed).sound
+    (fed-fragment g.L.Lambda.meaning c.args.worker.now (c.args.first + c.loop-at.at) c.index-items-at.result _ _ _ _ _ c.loop-at.invariant.1 c.requires.keyed
+    c.requires.some c.in_ok-ending.ensures.fed).sound
 
 pub returns-then-is_some : goal.returns-then-is_some
 returns-then-is_some g c =
@@ -42,8 +43,12 @@ loop-at-preserved g c =
     let open_still : c.in_ok-ending.ending ≡ None = none-from_is_some _ (search rules) in
     let fed = rw open_still at (fed-fragment m worker key x _ _ _ _ _ c.loop-at.invariant.1 c.requires.keyed c.requires.some c.in_ok-ending.ensures.fed) in
     let next : key + 1 ≡ c.args.first + (i + 1) = omega arith in
-    let left = fed.left refl in
-    (rw (← next) (after-more m worker c.args.cut key x (drop (i + 1) items) _ _ _ _ _ within past fed), rw (← next) left, undecided-left _ _ _ _ _ (rw open_still at c.in_ok-ending.ensures.fed))
+    let left = fed.left refl in (
+      rw (← next) (after-more m worker c.args.cut key x (drop (i + 1) items) _ _ _ _ _ within past fed),
+      rw (← next) left,
+      undecided-left _ _ _ _ _
+          (rw open_still at c.in_ok-ending.ensures.fed),
+    )
 
 pub loop-at-init : goal.loop-at-init
 loop-at-init g c =
@@ -57,5 +62,7 @@ returns-then-key-cut g c =
     let i = c.loop-at.at in
     let x = c.index-items-at.result in
     let here : drop i items ≡ x ∷ drop (i + 1) items = drop_more items i x c.loop-at-test.true ∙ ap (λ y. y ∷ drop (i + 1) items) (sym c.index-items-at.is) in
-    let dropped = after-dropped g.L.Lambda.meaning c.args.worker.now c.args.cut (c.args.first + i) x (drop (i + 1) items) _ _ _ (omega (arith, c.if-key-cut.true)) (rw here at c.loop-at.invariant.0) in
+    let dropped =
+    after-dropped g.L.Lambda.meaning c.args.worker.now c.args.cut (c.args.first + i) x (drop (i + 1) items) _ _ _ (omega (arith, c.if-key-cut.true))
+    (rw here at c.loop-at.invariant.0) in
     record { items = dropped.0; stop = (dropped.1, rw dropped.2 refl) }

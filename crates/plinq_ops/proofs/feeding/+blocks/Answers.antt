@@ -26,11 +26,13 @@ feed_expansion-returns-in-Err-Code g t c =
     (λ e feeds. feeds-through _ (c.args.item ∷ []) None (followed_by-open_nil _ ∙ gives) refl feeds) (rw c.new.ensures.items at c.feed_rest-in-Err-Code.ensures)
 
 pub feed_expansions-loop-item-init : goal.feed_expansions-loop-item-init
-feed_expansions-loop-item-init g t c = rw (c.replace-items.ensures.after, c.new.ensures.items) (record { others = refl; fed = fed-none _ [] c.requires.undecided })
+feed_expansions-loop-item-init g t c =
+    rw (c.replace-items.ensures.after, c.new.ensures.items) (record { others = refl; fed = fed-none _ [] c.requires.undecided })
 
 pub feed_expansions-feed_expansion-requires : goal.feed_expansions-feed_expansion-requires
 feed_expansions-feed_expansion-requires g t c =
-    let undecided : some_takes_none (stages_now g.L.Lambda.meaning (drop c.args.from c.loop-item.ops)) ≡ false = undecided-left _ _ _ _ _ c.loop-item.invariant.fed in
+    let undecided : some_takes_none (stages_now g.L.Lambda.meaning (drop c.args.from c.loop-item.ops)) ≡ false =
+    undecided-left _ _ _ _ _ c.loop-item.invariant.fed in
     search rules
 
 pub feed_block-returns : goal.feed_block-returns
@@ -38,7 +40,8 @@ feed_block-returns g t c =
     let within : c.args.from < length c.args.ops.now = search rules in
     let passed = c.pass_block-ending.ensures in
     IfOk-weaker c.feed_block.result _ _
-    (λ e feeds. through-first _ c.pass_block-ending.new.op c.args.block.now.items c.args.ending c.index-ops-from.result within refl passed.passed passed.left feeds)
+    (λ e feeds. through-first _ c.pass_block-ending.new.op c.args.block.now.items c.args.ending c.index-ops-from.result within refl passed.passed passed.left
+    feeds)
     c.feed_block.ensures
 
 pub feed_expansions-returns-then-is_some : goal.feed_expansions-returns-then-is_some
@@ -48,7 +51,8 @@ feed_expansions-returns-then-is_some g t c =
     let x = c.item-item.result in
     let same : items ≡ c.args.block.now.items = search rules in
     let all : items ≡ (take i items ++ x ∷ []) ++ drop (i + 1) items =
-    sym (take-append-drop (i + 1) items) ∙ ap (λ ys. ys ++ drop (i + 1) items) (take_more items i x c.loop-item-test.true ∙ ap (λ y. take i items ++ y ∷ []) (sym c.item-item.is)) in
+    sym (take-append-drop (i + 1) items)
+    ∙ ap (λ ys. ys ++ drop (i + 1) items) (take_more items i x c.loop-item-test.true ∙ ap (λ y. take i items ++ y ∷ []) (sym c.item-item.is)) in
     let ends : is_some c.in_ok-ended.ended ≡ true = search rules in
     let feeds = feeds-followed_by c.loop-item.invariant c.in_ok-ended.ensures in
     rw (← same, all) (record {
@@ -61,7 +65,8 @@ feed_expansions-loop-item-preserved g t c =
     let i = c.loop-item.item-index in
     let items = c.deref-item-items.result.now in
     let x = c.item-item.result in
-    let more : take (i + 1) items ≡ take i items ++ x ∷ [] = take_more items i x c.loop-item-test.true ∙ ap (λ y. take i items ++ y ∷ []) (sym c.item-item.is) in
+    let more : take (i + 1) items ≡ take i items ++ x ∷ [] =
+    take_more items i x c.loop-item-test.true ∙ ap (λ y. take i items ++ y ∷ []) (sym c.item-item.is) in
     let open_still : c.in_ok-ended.ended ≡ None = none-from_is_some _ (search rules) in
     rw more (feeds-followed_by c.loop-item.invariant (rw open_still at c.in_ok-ended.ensures))
 
@@ -69,7 +74,8 @@ pub feed_expansions-returns-then-is_none : goal.feed_expansions-returns-then-is_
 feed_expansions-returns-then-is_none g t c =
     let items = c.deref-item-items.result.now in
     let same : items ≡ c.args.block.now.items = search rules in
-    let all : take c.loop-item.item-index items ≡ c.args.block.now.items = take_all c.loop-item.item-index items (omega (arith, c.loop-item-test.false)) ∙ same in
+    let all : take c.loop-item.item-index items ≡ c.args.block.now.items =
+    take_all c.loop-item.item-index items (omega (arith, c.loop-item-test.false)) ∙ same in
     let still_open : c.args.ending ≡ None = none-from_is_some _ c.if-is_none.ensures in
     rw still_open (rw all at c.loop-item.invariant)
 
@@ -86,5 +92,6 @@ feed_expansions-returns g t c =
 
 pub feed_expansions-feed_rest-requires : goal.feed_expansions-feed_rest-requires
 feed_expansions-feed_rest-requires g t c =
-    let undecided : some_takes_none (stages_now g.L.Lambda.meaning (drop c.args.from c.loop-item.ops)) ≡ false = undecided-left _ _ _ _ _ c.loop-item.invariant.fed in
+    let undecided : some_takes_none (stages_now g.L.Lambda.meaning (drop c.args.from c.loop-item.ops)) ≡ false =
+    undecided-left _ _ _ _ _ c.loop-item.invariant.fed in
     search rules

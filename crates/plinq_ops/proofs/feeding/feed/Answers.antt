@@ -18,34 +18,46 @@ returns-in-Expanding g c =
 
 pub returns-in-Nothing : goal.returns-in-Nothing
 returns-in-Nothing g c =
-    let here = at-op {op = get_or c.loop-at.ops c.loop-at.at c.index-ops-at.result} c.index-ops-at.result (omega (arith, c.loop-at-test.true, c.loop-at.auto.ops)) refl c.loop-at.invariant in
+    let here =
+    at-op {op = get_or c.loop-at.ops c.loop-at.at c.index-ops-at.result} c.index-ops-at.result
+    (omega (arith, c.loop-at-test.true, c.loop-at.auto.ops)) refl c.loop-at.invariant in
     through-nothing c.pass.new.op here (rw c.in-Nothing.is at c.pass.ensures.passed) c.pass.ensures.left
 
 pub feed_last-requires-clause-undecided : goal.feed_last-requires-clause-undecided
 feed_last-requires-clause-undecided g c =
-    let here = at-op {op = get_or c.loop-at.ops c.loop-at.at c.index-ops-at.result} c.index-ops-at.result (omega (arith, c.loop-at-test.true, c.loop-at.auto.ops)) refl c.loop-at.invariant in
+    let here =
+    at-op {op = get_or c.loop-at.ops c.loop-at.at c.index-ops-at.result} c.index-ops-at.result
+    (omega (arith, c.loop-at-test.true, c.loop-at.auto.ops)) refl c.loop-at.invariant in
     undecided-rest c.pass.new.op here
 
 pub feed_end-requires-clause-undecided : goal.feed_end-requires-clause-undecided
 feed_end-requires-clause-undecided g c =
-    let here = at-op {op = get_or c.loop-at.ops c.loop-at.at c.index-ops-at.result} c.index-ops-at.result (omega (arith, c.loop-at-test.true, c.loop-at.auto.ops)) refl c.loop-at.invariant in
+    let here =
+    at-op {op = get_or c.loop-at.ops c.loop-at.at c.index-ops-at.result} c.index-ops-at.result
+    (omega (arith, c.loop-at-test.true, c.loop-at.auto.ops)) refl c.loop-at.invariant in
     undecided-rest c.pass.new.op here
 
 pub returns-in-Last : goal.returns-in-Last
 returns-in-Last g c =
-    let here = at-op {op = get_or c.loop-at.ops c.loop-at.at c.index-ops-at.result} c.index-ops-at.result (omega (arith, c.loop-at-test.true, c.loop-at.auto.ops)) refl c.loop-at.invariant in
+    let here =
+    at-op {op = get_or c.loop-at.ops c.loop-at.at c.index-ops-at.result} c.index-ops-at.result
+    (omega (arith, c.loop-at-test.true, c.loop-at.auto.ops)) refl c.loop-at.invariant in
     through-rest _ c.pass.new.op c.feed_last.new.ops _ _ here (rw c.in-Last.is at c.pass.ensures.passed) c.pass.ensures.left
     c.in_ok-ended-in-Last.ensures
 
 pub returns-in-Ends : goal.returns-in-Ends
 returns-in-Ends g c =
-    let here = at-op {op = get_or c.loop-at.ops c.loop-at.at c.index-ops-at.result} c.index-ops-at.result (omega (arith, c.loop-at-test.true, c.loop-at.auto.ops)) refl c.loop-at.invariant in
+    let here =
+    at-op {op = get_or c.loop-at.ops c.loop-at.at c.index-ops-at.result} c.index-ops-at.result
+    (omega (arith, c.loop-at-test.true, c.loop-at.auto.ops)) refl c.loop-at.invariant in
     through-rest _ c.pass.new.op c.feed_end.new.ops _ _ here (rw c.in-Ends.is at c.pass.ensures.passed) c.pass.ensures.left
     c.in_ok-ended-in-Ends.ensures
 
 pub loop-at-preserved : goal.loop-at-preserved
 loop-at-preserved g c =
-    let here = at-op {op = get_or c.loop-at.ops c.loop-at.at c.index-ops-at.result} c.index-ops-at.result (omega (arith, c.loop-at-test.true, c.loop-at.auto.ops)) refl c.loop-at.invariant in
+    let here =
+    at-op {op = get_or c.loop-at.ops c.loop-at.at c.index-ops-at.result} c.index-ops-at.result
+    (omega (arith, c.loop-at-test.true, c.loop-at.auto.ops)) refl c.loop-at.invariant in
     through-item c.pass.new.item c.pass.new.op here (search rules) c.pass.ensures.left
 
 pub returns : goal.returns

@@ -14,7 +14,9 @@ returns-in-Some g c =
 
 pub returns : goal.returns
 returns g c =
-    let skips = skipped-stopped _ c.args.block.now.items _ _ (rw c.as_slice.ensures.value at c.count_passing-len.ensures.within) (rw c.as_slice.ensures.value at c.count_passing-len.ensures.passing) c.in_default.is in
+    let skips =
+    skipped-stopped _ c.args.block.now.items _ _ (rw c.as_slice.ensures.value at c.count_passing-len.ensures.within)
+    (rw c.as_slice.ensures.value at c.count_passing-len.ensures.passing) c.in_default.is in
     record {
       skipped = ap open_trace c.skip.ensures.passed ∙ sym skips.0;
       all = ap (λ n. c.count_passing-len.result.0 == n) (c.len.ensures ∙ sym c.as_slice.ensures.len ∙ ap length c.as_slice.ensures.value) ∙ sym skips.1;

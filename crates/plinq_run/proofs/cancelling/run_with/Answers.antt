@@ -14,7 +14,9 @@ returns g c =
     let is = asked-outcome g.C.Cancel.asks run.new.sink last.new.with run.new.sink.is_stopped run.result last.result last.ensures.asked in
     record {
       legal = ok-outcome _ run.result last.result is run.ensures.legal;
-      decided = λ decided. let nothing = run.ensures.decided decided in decided-outcome run.result last.result is nothing (search (rules, lent.same, nothing.untouched));
+      decided =
+          λ decided. let nothing = run.ensures.decided decided in decided-outcome run.result last.result is nothing
+          (search (rules, lent.same, nothing.untouched));
       closed = λ undecided. ok-outcome _ run.result last.result is (run.ensures.closed undecided);
       told = search (rules, lent.same, lent.told);
       reports = (last.new.with.delivered, rw (token, sink) lent.reports);

@@ -5,4 +5,5 @@ use Rattle.plinq_run.proofs.laws.ordered_run_is_sequential.Goals as goal
 
 pub returns : goal.returns
 returns g c = λ option ops t s s' result.
-    reports-runs g.K.Sink.accepts g.K.Sink.refuses option (MayAnswer g.L.Lambda.meaning true ops) t s s' (answer_of g.L.Lambda.meaning ops t) result (λ u may. may)
+    reports-runs g.K.Sink.accepts g.K.Sink.refuses option (MayAnswer g.L.Lambda.meaning true ops) t s s' (answer_of g.L.Lambda.meaning ops t) result
+    (λ u may. may)

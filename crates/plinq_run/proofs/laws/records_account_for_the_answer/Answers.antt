@@ -5,4 +5,5 @@ use Rattle.plinq_run.proofs.laws.records_account_for_the_answer.Goals as goal
 
 pub returns : goal.returns
 returns g c = λ option ops t s s' result.
-    reports-accounts g.K.Sink.accepts g.K.Sink.refuses option (MayAnswer g.L.Lambda.meaning true ops) t s s' (answer_of g.L.Lambda.meaning ops) result (λ x u may. may)
+    reports-accounts g.K.Sink.accepts g.K.Sink.refuses option (MayAnswer g.L.Lambda.meaning true ops) t s s' (answer_of g.L.Lambda.meaning ops) result
+    (λ x u may. may)

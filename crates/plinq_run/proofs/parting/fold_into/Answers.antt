@@ -9,7 +9,8 @@ returns-then-plan g c =
     let q = c.args.query.now in
     let t = g.S.Source.whole c.args.source in
     let is : c.split-plan.result.decided ≡ true = search rules in
-    gives-weaker (g.A.GrowingAggregator.folding c.args.aggregator.now) g.W.TakeInto.made (λ u. u ≡ ended_trace [] End) (MayAnswer g.L.Lambda.meaning q.ordered q.ops t) c.args.taker c.args.out.now c.hand_nothing.result c.hand_nothing.new.out
+    gives-weaker (g.A.GrowingAggregator.folding c.args.aggregator.now) g.W.TakeInto.made (λ u. u ≡ ended_trace [] End)
+    (MayAnswer g.L.Lambda.meaning q.ordered q.ops t) c.args.taker c.args.out.now c.hand_nothing.result c.hand_nothing.new.out
     (λ u nothing. decided-may g.L.Lambda.meaning q.ordered q.ops t u (sym c.split-plan.ensures.plan.decided ∙ is) nothing) c.hand_nothing.ensures
 
 pub fold_chunks_into-requires-clause-may : goal.fold_chunks_into-requires-clause-may

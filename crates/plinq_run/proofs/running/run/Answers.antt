@@ -39,7 +39,8 @@ conduct_plan-requires-clause-takes g c lifetimes outlive = c.in-Ok.ensures.ready
 -- an answer
 pub returns-in-Ok-conduct_plan-clause-legal : goal.returns-in-Ok-conduct_plan-clause-legal
 returns-in-Ok-conduct_plan-clause-legal g c =
-    IfOk-weaker c.report.result _ _ (λ r is. subst (λ t. IsLegalHistory t r.records.items) c.in-Ok-conduct_plan.ensures.0.origin is.legal) c.report.ensures.reports
+    IfOk-weaker c.report.result _ _ (λ r is. subst (λ t. IsLegalHistory t r.records.items) c.in-Ok-conduct_plan.ensures.0.origin is.legal)
+    c.report.ensures.reports
 
 pub returns-in-Ok-conduct_plan-clause-closed : goal.returns-in-Ok-conduct_plan-clause-closed
 returns-in-Ok-conduct_plan-clause-closed g c = λ undecided.

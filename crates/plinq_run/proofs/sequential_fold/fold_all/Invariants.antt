@@ -7,7 +7,8 @@ use Rattle.plinq_run.proofs.sequential_fold.fold_all.Given as goal
 abbrev pub invariant-loop-piece : goal.invariant-loop-piece
 invariant-loop-piece g l =
     (g.S.Source.whole l.source ≡ g.S.Source.whole l.fn.source)
-    × HasFolded (g.A.GrowingAggregator.folding l.aggregator) (stages g.L.Lambda.meaning l.fn.pipeline) (first_items (g.S.Source.given l.source) (g.S.Source.whole l.fn.source))
+    × HasFolded (g.A.GrowingAggregator.folding l.aggregator) (stages g.L.Lambda.meaning l.fn.pipeline)
+    (first_items (g.S.Source.given l.source) (g.S.Source.whole l.fn.source))
     l.acc l.piece.items (stages g.L.Lambda.meaning l.pipeline) None
 
 abbrev pub decreases-loop-piece : goal.decreases-loop-piece

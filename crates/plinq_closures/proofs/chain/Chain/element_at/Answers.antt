@@ -13,5 +13,6 @@ returns-in-Ok g c ops does =
     let q = c.in-Ok.query in
     let is = c.in-Ok.ensures in
     let t = g.Src.Source.whole c.args.source in
-    subst (λ r. Tells c.args.workers first_of (answer_of (λ f. f) ((ops ++ Skip (pos c.args.place) ∷ []) ++ Take (pos 1) ∷ []) t) r) (sym c.chain_answer.ensures)
+    subst (λ r. Tells c.args.workers first_of (answer_of (λ f. f) ((ops ++ Skip (pos c.args.place) ∷ []) ++ Take (pos 1) ∷ []) t) r)
+    (sym c.chain_answer.ensures)
     (tells-placed c.args.workers _ q.ordered is.ordered.0 q.ops ops (is.ops ops does) (pos c.args.place) t c.element_at.result c.element_at.ensures)

@@ -6,5 +6,6 @@ pub returns-in-Ok : goal.returns-in-Ok
 returns-in-Ok g c ops does =
     let q = c.in-Ok.query in
     let is = c.in-Ok.ensures in
-    called-answer _ _ q.ordered is.ordered.0 q.merge is.ordered.1 q.ops ops (is.ops ops does) (g.Src.Source.whole c.args.source) _ c.for_each.result c.chain_outcome.result _
+    called-answer _ _ q.ordered is.ordered.0 q.merge is.ordered.1 q.ops ops (is.ops ops does)
+    (g.Src.Source.whole c.args.source) _ c.for_each.result c.chain_outcome.result _
     c.chain_outcome.ensures c.for_each.ensures

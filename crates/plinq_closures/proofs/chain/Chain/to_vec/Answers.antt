@@ -13,5 +13,6 @@ returns-in-Ok g c ops does =
     let q = c.in-Ok.query in
     let is = c.in-Ok.ensures in
     let t = g.Src.Source.whole c.args.source in
-    subst (λ r. MatchResult r (λ it. GathersSome AutoBuffered (λ u. u ≡ answer_of (λ f. f) ops t) it.0.items it.1) (HasNone c.args.workers)) (sym c.chain_outcome.ensures)
+    subst (λ r. MatchResult r (λ it. GathersSome AutoBuffered (λ u. u ≡ answer_of (λ f. f) ops t) it.0.items it.1) (HasNone c.args.workers))
+    (sym c.chain_outcome.ensures)
     (vec-answer c.args.workers _ q.ordered is.ordered.0 q.merge is.ordered.1 q.ops ops (is.ops ops does) t (λ v. v.items) c.to_vec.result c.to_vec.ensures)

@@ -11,8 +11,10 @@ use Rattle.plinq_closures.proofs.chain_sequentially.Sequentially.element_at.Goal
 pub returns-in-Ok-clause-value : goal.returns-in-Ok-clause-value
 returns-in-Ok-clause-value g c ops does =
     let t = g.Src.Source.whole c.args.source in
-    subst (λ r. Tells c.args.workers first_of (answer_of (λ f. f) ((ops ++ Skip (pos c.args.place) ∷ []) ++ Take (pos 1) ∷ []) t) r) (sym c.chain_answer.ensures)
-    (tells-placed c.args.workers _ true refl c.in-Ok.query.ops ops (c.in-Ok.ensures.ops ops does) (pos c.args.place) t c.element_at.result c.element_at.ensures.value)
+    subst (λ r. Tells c.args.workers first_of (answer_of (λ f. f) ((ops ++ Skip (pos c.args.place) ∷ []) ++ Take (pos 1) ∷ []) t) r)
+    (sym c.chain_answer.ensures)
+    (tells-placed c.args.workers _ true refl c.in-Ok.query.ops ops (c.in-Ok.ensures.ops ops does)
+    (pos c.args.place) t c.element_at.result c.element_at.ensures.value)
 
 pub returns-in-Ok-clause-memory : goal.returns-in-Ok-clause-memory
 returns-in-Ok-clause-memory g c =

@@ -13,5 +13,6 @@ invariant-loop g l = record {
   sent : (knowledge_of l.pass).sent ≡ (knowledge_of l.fn.pass).sent;
   numbers : (knowledge_of l.pass).numbers ≡ (knowledge_of l.fn.pass).numbers;
   ready : g.X.Consumer.is_ready l.consumer;
-  accepted : AcceptsOn g.X.Consumer.accepts g.J.RunSpec.is_result (knowledge_of l.fn.pass).received (wants_close l.closing) l.fn.consumer (knowledge_of l.pass).received (wants_close l.closing) l.consumer;
+  accepted : AcceptsOn g.X.Consumer.accepts g.J.RunSpec.is_result (knowledge_of l.fn.pass).received (wants_close l.closing) l.fn.consumer
+      (knowledge_of l.pass).received (wants_close l.closing) l.consumer;
 }

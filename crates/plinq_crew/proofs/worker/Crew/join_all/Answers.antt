@@ -95,7 +95,8 @@ loop-handle-init g c =
         pass = c.requires.pass;
         receives = c.requires.receiver.receives;
         received = refl;
-        answered = (let Is = IsAnsweredBy count (knowledge_of c.args.pass.now) c.args.worker_faults.now in subst (λ ps. All Is (drop 1 ps)) (sym pushed) (All-nil Is));
+        answered =
+            (let Is = IsAnsweredBy count (knowledge_of c.args.pass.now) c.args.worker_faults.now in subst (λ ps. All Is (drop 1 ps)) (sym pushed) (All-nil Is));
         sent = subst (All (λ s. IsOfOne (all_shares c.push_reserved.new.self.items) s.item)) (sym none)
             (All-nil (λ (s : Sent _). IsOfOne (all_shares c.push_reserved.new.self.items) s.item));
         numbers = λ from n above near. ap (has n) from ∙ from-all count n (64 - count) above (omega (arith, above, near));

@@ -15,7 +15,8 @@ cut_off-requires-clause-stop_key g c key kept stop =
     let of = c.in_ok-part.ensures in
     let is = cut-read meaning plan t g.J.RunSpec.stops_at c.requires.stop_keys cut c.cut_now-cut.ensures.cut in
     let made = result-from_taken meaning plan _ _ _ cut c.in_ok-chunk.chunk of.result is c.cut_now-cut.ensures.uncut c.in_ok-chunk.ensures.taken of.is in
-    stop-stop_key meaning plan t g.J.RunSpec.stops_at c.requires.stop_keys of.result key made (λ dropped. kept (of.same.ending ∙ dropped)) (sym of.same.stop ∙ stop)
+    stop-stop_key meaning plan t g.J.RunSpec.stops_at c.requires.stop_keys of.result key made (λ dropped. kept (of.same.ending ∙ dropped))
+    (sym of.same.stop ∙ stop)
 
 pub returns-clause-next : goal.returns-clause-next
 returns-clause-next g c =
@@ -24,7 +25,8 @@ returns-clause-next g c =
     let before = holding_of c.args.partition.now in
     let of = c.in_ok-part.ensures in
     let is = cut-read meaning plan before.origin g.J.RunSpec.stops_at c.requires.stop_keys _ c.cut_now-cut.ensures.cut in
-    let taken = taken-part _ _ of.result c.in_ok-part.part (taken-result meaning _ _ _ _ _ c.in_ok-chunk.chunk of.result c.in_ok-chunk.ensures.taken of.is) of.same in
+    let taken =
+    taken-part _ _ of.result c.in_ok-part.part (taken-result meaning _ _ _ _ _ c.in_ok-chunk.chunk of.result c.in_ok-chunk.ensures.taken of.is) of.same in
     record {
       is = record {
         result = of.result;

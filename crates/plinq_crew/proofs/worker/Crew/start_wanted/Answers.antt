@@ -16,7 +16,8 @@ start-requires-clause-equipped g c κs within =
 pub give_number-requires-clause-first : goal.give_number-requires-clause-first
 give_number-requires-clause-first g c =
     let less : c.loop-worker.worker < 64 = search rules in
-    may-give_number (knowledge_of c.loop-worker.coordinator.stream) c.loop-worker.worker 64 less c.loop-worker.invariant.numbers c.loop-worker.invariant.receiver.sent
+    may-give_number (knowledge_of c.loop-worker.coordinator.stream) c.loop-worker.worker 64 less c.loop-worker.invariant.numbers
+    c.loop-worker.invariant.receiver.sent
 
 pub start-requires-clause-new : goal.start-requires-clause-new
 start-requires-clause-new g c κs within =

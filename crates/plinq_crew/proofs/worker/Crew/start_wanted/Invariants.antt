@@ -8,7 +8,9 @@ use Rattle.plinq_crew.proofs.worker.Crew.start_wanted.Given as goal
 
 abbrev pub invariant-loop-worker : goal.invariant-loop-worker
 invariant-loop-worker g l = record {
-  equipped : IsEquipped g.L.Lambda.meaning (g.P.Task.makes l.self.task.now) g.J.RunSpec.is_result g.J.RunSpec.stops_at l.self.plan.now l.self.chunked.now l.self.cut.now l.coordinator.partition l.team.cut;
+  equipped : IsEquipped g.L.Lambda.meaning
+      (g.P.Task.makes l.self.task.now) g.J.RunSpec.is_result g.J.RunSpec.stops_at l.self.plan.now l.self.chunked.now l.self.cut.now l.coordinator.partition
+      l.team.cut;
   same : holding_of l.coordinator.partition ≡ holding_of l.fn.coordinator.partition;
   stream : IsPassOf l.self.stream.now l.coordinator.stream;
   receiver : IsReceiver (knowledge_of l.coordinator.stream);

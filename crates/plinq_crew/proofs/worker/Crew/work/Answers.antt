@@ -3,7 +3,8 @@ use Rattle.plinq_crew.proofs.Working.{goes-on, ends-work, each-part}
 use Rattle.plinq_crew.proofs.worker.Crew.work.Goals as goal
 
 pub returns-then-is_last-clause-worked : goal.returns-then-is_last-clause-worked
-returns-then-is_last-clause-worked g c = ends-work c.args.worker _ _ _ _ c.in-Ok.made c.loop.invariant.work c.in-Ok.ensures.next.taken c.send.ensures.sent (search rules)
+returns-then-is_last-clause-worked g c =
+    ends-work c.args.worker _ _ _ _ c.in-Ok.made c.loop.invariant.work c.in-Ok.ensures.next.taken c.send.ensures.sent (search rules)
 
 pub returns-then-is_last-clause-results : goal.returns-then-is_last-clause-results
 returns-then-is_last-clause-results g c =

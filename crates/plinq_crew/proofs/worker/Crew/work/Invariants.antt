@@ -15,5 +15,6 @@ invariant-loop g l = record {
   cut : IsCutPassOf l.self.cut.now l.cut;
   stream : IsPassOf l.self.stream.now l.stream;
   work : IsAtWork l.worker (holding_of l.partition).share (knowledge_of l.stream);
-  results : All (λ s. IsPart g.L.Lambda.meaning (g.P.Task.makes l.self.task.now) l.self.plan.now (holding_of l.fn.context.partition).origin s.item) (knowledge_of l.stream).sent;
+  results : All (λ s. IsPart g.L.Lambda.meaning (g.P.Task.makes l.self.task.now) l.self.plan.now (holding_of l.fn.context.partition).origin s.item)
+      (knowledge_of l.stream).sent;
 }

@@ -9,7 +9,9 @@ invariant_of-self-2 g c =
     let old = c.args.self.now in
     let t = g.S.Source.whole old.source in
     let h = old.records.items in
-    let grown = Grown-from_next t h c.push.new.self.items c.args.ticket Close _ c.in_ok-push.ensures.items (next_record-close t h c.args.ticket old.given old.at) old.legal c.requires.rising in
+    let grown =
+    Grown-from_next t h c.push.new.self.items c.args.ticket Close _ c.in_ok-push.ensures.items
+    (next_record-close t h c.args.ticket old.given old.at) old.legal c.requires.rising in
     record {
       walked = old.walked;
       at = ap (λ (p : Place). p.given) grown.place ∙ old.at;

@@ -18,7 +18,8 @@ loop-key-preserved g c =
     let filler = c.seed-filler.result in
     let first : c.loop-key.key-iterator ≡ (k, a) ∷ c.next.new.self = c.in-Some.ensures.steps in
     let is : value ≡ changed eq k filler a (λ b. f.combine b a) c.in_ok-index.before = elim c.match-before.branch [
-      | in-Some-before+in_ok-combine-in-Some-before w ↦ w.drop-is ∙ w.in_ok-combine-in-Some-before.ensures ∙ sym (ap (changed eq k filler a (λ b. f.combine b a)) w.in-Some-before.is)
+      | in-Some-before+in_ok-combine-in-Some-before w ↦ w.drop-is ∙ w.in_ok-combine-in-Some-before.ensures
+          ∙ sym (ap (changed eq k filler a (λ b. f.combine b a)) w.in-Some-before.is)
       | in-None-before w ↦ w.drop-is ∙ sym (ap (changed eq k filler a (λ b. f.combine b a)) w.in-None-before.is)
     ] in
     let becomes = ap (λ l. set_value_at l index value) c.in_ok-index.ensures.entries in

@@ -6,4 +6,5 @@ use Rattle.plinq_groups.proofs.group_by.GroupByGrowingAggregator.update_block.Gi
 -- the groups are those of the items so far
 abbrev pub invariant-loop-item : goal.invariant-loop-item
 invariant-loop-item g l =
-    l.map.entries ≡ fold (with_item g.F.Key.PartialEq.eq (g.F.KeyOf.keys l.self.key) (g.A.GrowingAggregator.folding l.self.each)) l.fn.acc (take l.item-index l.block)
+    l.map.entries ≡ fold (with_item g.F.Key.PartialEq.eq (g.F.KeyOf.keys l.self.key) (g.A.GrowingAggregator.folding l.self.each)) l.fn.acc
+    (take l.item-index l.block)

@@ -4,7 +4,8 @@ use Rattle.std.specs.Ordering.{is_lt}
 use Rattle.plinq_groups.specs.Topped.{with_ranked, with_top}
 use Rattle.plinq_groups.proofs.Ranking.{stands-later, stands-here, stands-last, stays-top}
 use Rattle.plinq_groups.proofs.top.TopGrowingAggregator.update.Goals as goal
-use Rattle.plinq_groups.proofs.top.TopGrowingAggregator.update.Goals.{then-loop-at-test+else-not-is_lt, else-loop-at-test, then-at-self+in_ok-insert, else-at-self}
+use Rattle.plinq_groups.proofs.top.TopGrowingAggregator.update.Goals.{then-loop-at-test+else-not-is_lt, else-loop-at-test, then-at-self+in_ok-insert}
+use Rattle.plinq_groups.proofs.top.TopGrowingAggregator.update.Goals.{else-at-self}
 
 pub loop-at-preserved : goal.loop-at-preserved
 loop-at-preserved g c =
@@ -16,7 +17,8 @@ loop-at-preserved g c =
     let small : i < length ys = search rules in
     let is : y ≡ get_or ys i y = search rules in
     let keeps : is_lt (cmp (rank y) (rank c.args.x)) ≡ false =
-    ap is_lt (ap (λ r. cmp r (rank c.args.x)) (sym c.rank_of.ensures) ∙ ap (cmp c.rank_of.result) (sym c.rank_of-rank.ensures) ∙ sym c.cmp.ensures) ∙ sym c.is_lt.ensures ∙ c.if-not-is_lt.true in
+    ap is_lt (ap (λ r. cmp r (rank c.args.x)) (sym c.rank_of.ensures) ∙ ap (cmp c.rank_of.result) (sym c.rank_of-rank.ensures) ∙ sym c.cmp.ensures)
+    ∙ sym c.is_lt.ensures ∙ c.if-not-is_lt.true in
     record { within = omega (arith, small); is = stands-later rank cmp ys c.args.x y i small is keeps c.loop-at.invariant.is }
 
 pub returns : goal.returns
@@ -33,7 +35,8 @@ returns g c =
           let small : i < length ys = search rules in
           let is : y ≡ get_or ys i y = search rules in
           let lesser : is_lt (cmp (rank y) (rank x)) ≡ true =
-          ap is_lt (ap (λ r. cmp r (rank x)) (sym w.rank_of.ensures) ∙ ap (cmp w.rank_of.result) (sym c.rank_of-rank.ensures) ∙ sym w.cmp.ensures) ∙ sym w.is_lt.ensures ∙ w.if-not-is_lt.false in
+          ap is_lt (ap (λ r. cmp r (rank x)) (sym w.rank_of.ensures) ∙ ap (cmp w.rank_of.result) (sym c.rank_of-rank.ensures) ∙ sym w.cmp.ensures)
+          ∙ sym w.is_lt.ensures ∙ w.if-not-is_lt.false in
           stands-here rank cmp ys x y i small is lesser c.loop-at.invariant.is
       | else-loop-at-test w ↦
           let end : length ys ≤ i = search rules in

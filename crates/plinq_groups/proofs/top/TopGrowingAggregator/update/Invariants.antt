@@ -7,7 +7,8 @@ abbrev pub invariant-loop-at : goal.invariant-loop-at
 invariant-loop-at g l =
     record {
       within : l.at ≤ length l.items.items;
-      is : with_ranked (g.F.RankOf.ranks l.self.rank) g.F.Rank.Ord.cmp l.items.items l.x ≡ take l.at l.items.items ++ with_ranked (g.F.RankOf.ranks l.self.rank) g.F.Rank.Ord.cmp (drop l.at l.items.items) l.x;
+      is : with_ranked (g.F.RankOf.ranks l.self.rank) g.F.Rank.Ord.cmp l.items.items l.x
+          ≡ take l.at l.items.items ++ with_ranked (g.F.RankOf.ranks l.self.rank) g.F.Rank.Ord.cmp (drop l.at l.items.items) l.x;
     }
 
 abbrev pub decreases-loop-at : goal.decreases-loop-at

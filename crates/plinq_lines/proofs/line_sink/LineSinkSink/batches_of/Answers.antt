@@ -17,9 +17,11 @@ returns-then-has_failed g c =
 pub returns-in-Ok : goal.returns-in-Ok
 returns-in-Ok g c =
     let enough : c.args.size ≤ length c.args.items.now = search rules in
-    rw (sym c.self.view_is) (all-taken _ _ _ _ _ (full_batches-first c.args.size c.args.items.now c.requires enough) (since-appends _ _ _ _ c.self.invariant c.in-Ok.ensures) refl)
+    rw (sym c.self.view_is) (all-taken _ _ _ _ _ (full_batches-first c.args.size c.args.items.now c.requires enough)
+    (since-appends _ _ _ _ c.self.invariant c.in-Ok.ensures) refl)
 
 pub returns-in-Err : goal.returns-in-Err
 returns-in-Err g c =
     let enough : c.args.size ≤ length c.args.items.now = search rules in
-    rw (sym c.self.view_is) (first-taken _ _ _ _ _ (full_batches-first c.args.size c.args.items.now c.requires enough) (since-begins _ _ _ _ c.self.invariant c.in-Err.ensures) refl)
+    rw (sym c.self.view_is) (first-taken _ _ _ _ _ (full_batches-first c.args.size c.args.items.now c.requires enough)
+    (since-begins _ _ _ _ c.self.invariant c.in-Err.ensures) refl)

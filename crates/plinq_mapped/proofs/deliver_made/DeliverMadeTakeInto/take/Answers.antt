@@ -26,10 +26,14 @@ returns-in_err-deliver-clause-made g c =
     let so_far = sym (map-id ps) ∙ YieldsList-so_far yields ps c.loop-part.part-iterator c.loop-part.yielded_by in
     let turn = YieldsList-turn yields ps c.loop-part.part-iterator c.loop-part.yielded_by c.next.result c.next.new.self p c.in-Some.is c.next.ensures.steps in
     let all = turn-parts ps items p so_far turn.0 turn.1 in
-    let cut : IsCutOff g.K.Sink.accepts g.K.Sink.refuses c.loop-part.out (batches_from c.loop-part.self.size c.loop-part.self.held.items (open_trace ys)) fault c.deliver.new.out = search rules in
+    let cut : IsCutOff g.K.Sink.accepts g.K.Sink.refuses c.loop-part.out (batches_from c.loop-part.self.size c.loop-part.self.held.items (open_trace ys))
+    fault c.deliver.new.out =
+    search rules in
     rw err (record {
       size = c.deliver.ensures.size ∙ c.loop-part.invariant.size;
-      gives = part-cut g.K.Sink.accepts g.K.Sink.refuses d.size d.held.items c.args.out.now ps c.loop-part.self.held.items c.loop-part.out c.loop-part.invariant.gives ys o p c.into_parts-made.ensures items all.0 all.1 c.args.ending fault c.deliver.new.out
+      gives =
+          part-cut g.K.Sink.accepts g.K.Sink.refuses d.size d.held.items c.args.out.now ps c.loop-part.self.held.items c.loop-part.out
+          c.loop-part.invariant.gives ys o p c.into_parts-made.ensures items all.0 all.1 c.args.ending fault c.deliver.new.out
           (rw c.loop-part.invariant.size at cut);
     })
 
@@ -48,11 +52,16 @@ returns-in-Some-fault-clause-made g c =
     let turn = YieldsList-turn yields ps c.loop-part.part-iterator c.loop-part.yielded_by c.next.result c.next.new.self p c.in-Some.is c.next.ensures.steps in
     let all = turn-parts ps items p so_far turn.0 turn.1 in
     let some : o ≡ Some c.in-Some-fault.code = search rules in
-    let on : DeliversOn g.K.Sink.accepts g.K.Sink.refuses c.loop-part.self.size c.loop-part.self.held.items c.loop-part.out (open_trace ys) c.deliver.new.self.held.items c.deliver.new.out = search rules in
+    let on : DeliversOn g.K.Sink.accepts g.K.Sink.refuses c.loop-part.self.size c.loop-part.self.held.items c.loop-part.out
+    (open_trace ys) c.deliver.new.self.held.items c.deliver.new.out =
+    search rules in
     record {
       size = c.end.ensures.size ∙ c.deliver.ensures.size ∙ c.loop-part.invariant.size;
-      gives = part-ends g.K.Sink.accepts g.K.Sink.refuses d.size d.held.items c.args.out.now ps c.loop-part.self.held.items c.loop-part.out c.loop-part.invariant.gives ys o p c.into_parts-made.ensures items all.0 all.1 c.args.ending c.in-Some-fault.code
-          c.deliver.new.self.held.items c.deliver.new.out some (rw c.loop-part.invariant.size at on) c.end.result c.end.new.self.held.items c.end.new.out (rw (c.deliver.ensures.size, c.loop-part.invariant.size) at c.end.ensures.gives);
+      gives =
+          part-ends g.K.Sink.accepts g.K.Sink.refuses d.size d.held.items c.args.out.now ps c.loop-part.self.held.items c.loop-part.out
+          c.loop-part.invariant.gives ys o p c.into_parts-made.ensures items all.0 all.1 c.args.ending c.in-Some-fault.code
+          c.deliver.new.self.held.items c.deliver.new.out some (rw c.loop-part.invariant.size at on) c.end.result c.end.new.self.held.items c.end.new.out
+          (rw (c.deliver.ensures.size, c.loop-part.invariant.size) at c.end.ensures.gives);
     }
 
 pub loop-part-preserved : goal.loop-part-preserved
@@ -61,10 +70,14 @@ loop-part-preserved g c =
     let ys = c.into_parts-made.result.0.items in
     let o = c.into_parts-made.result.1 in
     let none : o ≡ None = search rules in
-    let on : DeliversOn g.K.Sink.accepts g.K.Sink.refuses c.loop-part.self.size c.loop-part.self.held.items c.loop-part.out (open_trace ys) c.deliver.new.self.held.items c.deliver.new.out = search rules in
+    let on : DeliversOn g.K.Sink.accepts g.K.Sink.refuses c.loop-part.self.size c.loop-part.self.held.items c.loop-part.out
+    (open_trace ys) c.deliver.new.self.held.items c.deliver.new.out =
+    search rules in
     record {
       size = c.deliver.ensures.size ∙ c.loop-part.invariant.size;
-      gives = part-kept g.K.Sink.accepts g.K.Sink.refuses d.size d.held.items c.args.out.now c.loop-part.yielded c.loop-part.self.held.items c.loop-part.out c.loop-part.invariant.gives ys o c.in-Some.part c.into_parts-made.ensures
+      gives =
+          part-kept g.K.Sink.accepts g.K.Sink.refuses d.size d.held.items c.args.out.now c.loop-part.yielded c.loop-part.self.held.items c.loop-part.out
+          c.loop-part.invariant.gives ys o c.in-Some.part c.into_parts-made.ensures
           c.deliver.new.self.held.items c.deliver.new.out none (rw c.loop-part.invariant.size at on);
     }
 
@@ -75,11 +88,16 @@ returns-in-Some-ending-clause-made g c =
     let ps = c.loop-part.yielded in
     let from : into_iter_items c.into_iter-part-iterator.result ≡ items = search rules in
     let many : into_iter_len c.into_iter-part-iterator.result ≡ length items = search rules in
-    let end = YieldsList-end (YieldsList-from_vec items from many) ps c.loop-part.part-iterator c.loop-part.yielded_by c.next.result c.next.new.self c.in-None.is c.next.ensures.steps in
+    let end =
+    YieldsList-end (YieldsList-from_vec items from many) ps c.loop-part.part-iterator c.loop-part.yielded_by c.next.result c.next.new.self c.in-None.is
+    c.next.ensures.steps in
     let same : ps ≡ items = sym (map-id ps) ∙ end.0 in
     let ends : c.args.ending ≡ Some c.in-Some-ending.ending = c.in-Some-ending.is in
     rw ends (record {
       size = c.end-in-Some-ending.ensures.size ∙ c.loop-part.invariant.size;
-      gives = all-end g.K.Sink.accepts g.K.Sink.refuses d.size d.held.items c.args.out.now ps c.loop-part.self.held.items c.loop-part.out c.loop-part.invariant.gives items c.in-Some-ending.ending same
-          c.end-in-Some-ending.result c.end-in-Some-ending.new.self.held.items c.end-in-Some-ending.new.out (rw c.loop-part.invariant.size at c.end-in-Some-ending.ensures.gives);
+      gives =
+          all-end g.K.Sink.accepts g.K.Sink.refuses d.size d.held.items c.args.out.now ps c.loop-part.self.held.items c.loop-part.out
+          c.loop-part.invariant.gives items c.in-Some-ending.ending same
+          c.end-in-Some-ending.result c.end-in-Some-ending.new.self.held.items c.end-in-Some-ending.new.out
+          (rw c.loop-part.invariant.size at c.end-in-Some-ending.ensures.gives);
     })

@@ -17,7 +17,8 @@ pub returns-clause-ready : goal.returns-clause-ready
 returns-clause-ready g c = λ is_open.
     let d = c.args.self.now in
     let none : c.in_ok-ending.ending ≡ None = cc in
-    can-deliver g.L.Lambda.meaning (record { alloc = d.alloc; pipeline = c.feed_block.new.self; buffer = c.deliver_piece.new.buffer }) _ _ _ (rw none at c.in_ok-ending.ensures.fed) (c.in_ok-deliver_piece.ensures.kept none).0
+    can-deliver g.L.Lambda.meaning (record { alloc = d.alloc; pipeline = c.feed_block.new.self; buffer = c.deliver_piece.new.buffer }) _ _ _
+    (rw none at c.in_ok-ending.ensures.fed) (c.in_ok-deliver_piece.ensures.kept none).0
 
 pub returns-clause-last : goal.returns-clause-last
 returns-clause-last g c = λ is_open.
@@ -29,6 +30,10 @@ returns-clause-made g c =
     let m = g.L.Lambda.meaning in
     let d = c.args.self.now in
     let slice : c.as_slice.result.now ≡ c.feed_block.new.block.items = search rules in
-    made-fed g.K.Sink.accepts g.K.Sink.refuses (line_of m d) (line_of m (record { alloc = d.alloc; pipeline = c.feed_block.new.self; buffer = c.deliver_piece.new.buffer })) _ _ _ c.args.out.now c.deliver_piece.new.sink
+    made-fed g.K.Sink.accepts g.K.Sink.refuses (line_of m d) (line_of m (record {
+      alloc = d.alloc;
+      pipeline = c.feed_block.new.self;
+      buffer = c.deliver_piece.new.buffer;
+    })) _ _ _ c.args.out.now c.deliver_piece.new.sink
     c.in_ok-ending.ensures.fed (record { after = ap (stages_of m) c.feed_block.ensures.same; size = c.deliver_piece.ensures.size })
     (λ none. (rw slice at (c.in_ok-deliver_piece.ensures.kept none)).1) (rw slice at c.in_ok-deliver_piece.ensures.sent)

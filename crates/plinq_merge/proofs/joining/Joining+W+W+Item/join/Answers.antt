@@ -54,7 +54,8 @@ returns-in_default-clause-joins g c =
     let none : c.in_ok-ending.ending ≡ None = none-from_is_some _ (search rules) in
     let gap : (c.take_next.new.self ≡ w.row.buffer) × IsAtGap w.row.buffer = search rules in
     let ends : is_none c.ending-ending.result ≡ false = search rules in
-    let ending : c.ending-ending.result ≡ ending_at w.row.source_end w.row.buffer.next = c.ending-ending.ensures ∙ ap (λ b. ending_at w.row.source_end b.next) gap.0 in
+    let ending : c.ending-ending.result ≡ ending_at w.row.source_end w.row.buffer.next =
+    c.ending-ending.ensures ∙ ap (λ b. ending_at w.row.source_end b.next) gap.0 in
     joins-ended g.W.TakeInto.made g.met.W.TakeInto.lawful _ _ _ c.requires.fresh c.loop-ending.part w c.loop-ending.out
     c.loop-ending.invariant.moves _ _ _ _ _ (rw (none, c.part.view_is) at c.in_ok-ending.ensures.made)
     (ap (λ t. t.ending) (sym c.part.view_is) ∙ c.in_ok-ending.ensures.last (ap Ok none)) gap.1

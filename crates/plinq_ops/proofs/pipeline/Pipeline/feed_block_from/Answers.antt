@@ -11,11 +11,14 @@ returns-clause-fed g c =
     let law = g.met.S.Source g.world.𝓛 g.world.𝓜 g.world.𝓡 (λ s a. a, λ a. a, λ a. a, λ a. a) in
     let t = g.S.Source.whole source in
     let xs = c.fill-ending.new.items.items in
-    let filled : xs ≡ items_from t (g.S.Source.given source) c.args.most = c.fill-ending.ensures.filled ∙ ap (λ ys. ys ++ items_from t (g.S.Source.given source) c.args.most) (c.in_ok-reserve.ensures.items ∙ c.requires.empty) in
+    let filled : xs ≡ items_from t (g.S.Source.given source) c.args.most =
+    c.fill-ending.ensures.filled ∙ ap (λ ys. ys ++ items_from t (g.S.Source.given source) c.args.most) (c.in_ok-reserve.ensures.items ∙ c.requires.empty) in
     IfOk-weaker c.feed_block.result _ _
     (λ e fed. record {
       piece = trace_of xs c.fill-ending.result;
-      given = given-fill t _ c.args.most _ _ _ c.requires.some (law.ends source) (law.within source) filled c.fill-ending.ensures.ending c.fill-ending.ensures.moved;
+      given =
+          given-fill t _ c.args.most _ _ _ c.requires.some (law.ends source) (law.within source) filled c.fill-ending.ensures.ending
+          c.fill-ending.ensures.moved;
       fed = fed;
     })
     c.feed_block.ensures.fed

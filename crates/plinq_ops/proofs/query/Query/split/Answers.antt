@@ -21,11 +21,21 @@ pub returns-clause-by_key : goal.returns-clause-by_key
 returns-clause-by_key g c =
     let ops = c.args.self.now.ops in
     let order = order_of c.args.self.now.ordered in
-    rw (c.split_at.ensures.front, c.worker_len.ensures, c.order-order.ensures, c.ops-ops.ensures, take-worker (known_at_source order) ops) (worker_part-by_key order ops)
+    rw (c.split_at.ensures.front, c.worker_len.ensures, c.order-order.ensures, c.ops-ops.ensures, take-worker (known_at_source order) ops)
+    (worker_part-by_key order ops)
 
 pub returns-clause-undecided : goal.returns-clause-undecided
 returns-clause-undecided g c = λ undecided.
     let ops = c.args.self.now.ops in
     let order = order_of c.args.self.now.ordered in
-    rw (c.split_at.ensures.front, c.split_at.ensures.back, c.worker_len.ensures, c.order-order.ensures, c.ops-ops.ensures, take-worker (known_at_source order) ops, drop-worker (known_at_source order) ops)
+    rw (
+      c.split_at.ensures.front,
+      c.split_at.ensures.back,
+      c.worker_len.ensures,
+      c.order-order.ensures,
+      c.ops-ops.ensures,
+      take-worker
+          (known_at_source order) ops,
+      drop-worker (known_at_source order) ops,
+    )
     (parts-undecided order ops (search (rules, undecided)))

@@ -13,23 +13,31 @@ loop-partition-init g c =
     record {
       all = popped.0;
       of = (at-some c.args.self.lock c.in-Some.last.requests c.in-Some.last.pass c.into_pass-pass.result c.into_pass-pass.ensures popped.1).of;
-      gathered = gathered-last c.args.partitions.items c.pop.new.self.items c.in-Some.last c.into_pass-pass.result c.in-Some.ensures.items c.into_pass-pass.ensures;
+      gathered =
+          gathered-last c.args.partitions.items c.pop.new.self.items c.in-Some.last c.into_pass-pass.result c.in-Some.ensures.items c.into_pass-pass.ensures;
     }
 
 pub join-pass-requires-after_bounds : goal.join-pass-requires-after_bounds
 join-pass-requires-after_bounds g c =
-    let popped = All-pop (IsPartitionOf c.args.self) c.loop-partition.partitions.items c.pop-in-loop-partition.new.self.items (Some c.in-Some-pop.partition) c.in-Some-pop.ensures.items c.loop-partition.invariant.all in
-    let mine : IsPassOf c.args.self.lock c.into_pass.result = (at-some c.args.self.lock c.in-Some-pop.partition.requests c.in-Some-pop.partition.pass c.into_pass.result c.into_pass.ensures popped.1).of in
+    let popped =
+    All-pop (IsPartitionOf c.args.self) c.loop-partition.partitions.items c.pop-in-loop-partition.new.self.items
+    (Some c.in-Some-pop.partition) c.in-Some-pop.ensures.items c.loop-partition.invariant.all in
+    let mine : IsPassOf c.args.self.lock c.into_pass.result =
+    (at-some c.args.self.lock c.in-Some-pop.partition.requests c.in-Some-pop.partition.pass c.into_pass.result c.into_pass.ensures popped.1).of in
     let other : IsPassOf c.args.self.lock c.loop-partition.pass = c.loop-partition.invariant.of in
     search rules
 
 pub loop-partition-preserved : goal.loop-partition-preserved
 loop-partition-preserved g c =
-    let popped = All-pop (IsPartitionOf c.args.self) c.loop-partition.partitions.items c.pop-in-loop-partition.new.self.items (Some c.in-Some-pop.partition) c.in-Some-pop.ensures.items c.loop-partition.invariant.all in
+    let popped =
+    All-pop (IsPartitionOf c.args.self) c.loop-partition.partitions.items c.pop-in-loop-partition.new.self.items
+    (Some c.in-Some-pop.partition) c.in-Some-pop.ensures.items c.loop-partition.invariant.all in
     record {
       all = popped.0;
       of = c.join-pass.ensures.lock;
-      gathered = gathered-next c.args.partitions.items c.loop-partition.partitions.items c.pop-in-loop-partition.new.self.items c.in-Some-pop.partition c.into_pass.result c.loop-partition.pass c.join-pass.result
+      gathered =
+          gathered-next c.args.partitions.items c.loop-partition.partitions.items c.pop-in-loop-partition.new.self.items c.in-Some-pop.partition
+          c.into_pass.result c.loop-partition.pass c.join-pass.result
           c.loop-partition.invariant.gathered c.in-Some-pop.ensures.items c.into_pass.ensures c.join-pass.ensures.share c.join-pass.ensures.origin;
     }
 

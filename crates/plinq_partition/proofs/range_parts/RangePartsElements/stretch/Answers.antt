@@ -14,7 +14,9 @@ loop-key-preserved g c =
     let within : k < length xs = omega (arith, length-keyed_from 0 xs) in
     let is : x ≡ get_or xs k x = c.index.ensures ∙ ap (λ ys. get_or ys k x) c.self.view_is in
     record {
-      made = c.push_reserved.ensures.items ∙ ap (λ ys. ys ++ keyed k x ∷ []) c.loop-key.invariant.made ∙ sym (between-indexes from k xs x c.loop-key.auto.key within is);
+      made =
+          c.push_reserved.ensures.items ∙ ap (λ ys. ys ++ keyed k x ∷ []) c.loop-key.invariant.made
+          ∙ sym (between-indexes from k xs x c.loop-key.auto.key within is);
       counted = omega (arith, c.push_reserved.ensures.len);
       room = omega (arith, c.push_reserved.ensures.capacity);
     }

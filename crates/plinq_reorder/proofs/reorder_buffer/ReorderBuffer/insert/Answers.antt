@@ -32,5 +32,6 @@ returns-clause-keys g c = λ key.
     let fresh : IsFresh b c.args.first c.args.end = subst (λ v. IsFresh v c.args.first c.args.end) (sym c.self.view_is) c.requires.fresh in
     let is : c.insert.new.self.entries ≡ insert b.held c.args.first c.args.end c.args.payload = search rules in
     ap (λ qs. is_taken (record b { held = qs }) key) is
-    ∙ subst (λ v. is_taken (with_interval b c.args.first c.args.end c.args.payload) key ≡ is_taken v key || is_within c.args.first c.args.end key) c.self.view_is
+    ∙ subst (λ v. is_taken (with_interval b c.args.first c.args.end c.args.payload) key ≡ is_taken v key || is_within c.args.first c.args.end key)
+    c.self.view_is
     (taken-with_interval b c.args.first c.args.end c.args.payload key c.self.invariant c.requires.some fresh)

@@ -23,7 +23,12 @@ pub returns-clause-ready : goal.returns-clause-ready
 returns-clause-ready g c = λ is_open.
     let d = c.args.self.now in
     let none : c.in_ok-ending.ending ≡ None = c.take.ensures.last is_open in
-    still-folds g.L.Lambda.meaning g.W.Taker.can_take (record { alloc = d.alloc; pipeline = c.feed_block.new.self; aggregator = d.aggregator; inner = c.take.new.self }) _ _ _
+    still-folds g.L.Lambda.meaning g.W.Taker.can_take (record {
+      alloc = d.alloc;
+      pipeline = c.feed_block.new.self;
+      aggregator = d.aggregator;
+      inner = c.take.new.self;
+    }) _ _ _
     (rw none at c.in_ok-ending.ensures.fed) (c.take.ensures.ready is_open)
 
 pub returns-clause-last : goal.returns-clause-last
@@ -41,6 +46,8 @@ returns-clause-made g c =
     let parts : c.push_reserved.new.self.items ≡ fold_of f out ∷ [] = search rules in
     record {
       same = refl;
-      passes = passes-all f lawful g.W.TakeInto.made g.met.W.TakeInto.lawful c.take.result (stages m d.pipeline) (stages m c.feed_block.new.self) (trace_of c.args.items.items c.args.ending) out c.in_ok-ending.ending d.inner c.args.out.now c.take.new.self c.take.new.out
+      passes =
+          passes-all f lawful g.W.TakeInto.made g.met.W.TakeInto.lawful c.take.result (stages m d.pipeline) (stages m c.feed_block.new.self)
+          (trace_of c.args.items.items c.args.ending) out c.in_ok-ending.ending d.inner c.args.out.now c.take.new.self c.take.new.out
           c.in_ok-ending.ensures.fed c.take.ensures.last (rw parts at c.take.ensures.made);
     }

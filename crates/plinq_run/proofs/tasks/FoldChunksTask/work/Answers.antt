@@ -36,4 +36,5 @@ returns g c =
 
 -- elements that don't expand: what is sent is made of the chunk's result
 pub returns-then-not-expands : goal.returns-then-not-expands
-returns-then-not-expands g c = record { result = c.in_ok-made.made; is = c.in_ok-made.ensures; made = c.in_ok-part.ensures.makes; same = c.in_ok-part.ensures.same }
+returns-then-not-expands g c =
+    record { result = c.in_ok-made.made; is = c.in_ok-made.ensures; made = c.in_ok-part.ensures.makes; same = c.in_ok-part.ensures.same }

@@ -15,7 +15,8 @@ returns-then-self-clause-filled g c =
     let a = g.A.Source.whole s.first in
     let b = g.B.Source.whole s.second in
     c.fill.ensures.filled
-    ∙ ap (λ xs. c.args.items.now.items ++ xs) (sym (items_from-second a b (g.A.Source.given s.first) (g.B.Source.given s.second) c.args.n (s.all ended) (s.ends ended)))
+    ∙ ap (λ xs. c.args.items.now.items ++ xs) (sym (items_from-second a b (g.A.Source.given s.first) (g.B.Source.given s.second) c.args.n (s.all ended)
+    (s.ends ended)))
 
 pub returns-in-Some-End-clause-filled : goal.returns-in-Some-End-clause-filled
 returns-in-Some-End-clause-filled g c =
@@ -36,5 +37,6 @@ returns-in-Some-End-clause-filled g c =
     ∙ append_assoc before (items_from a m n) (items_from b (g.B.Source.given s.second) (n - k))
     ∙ ap (λ xs. before ++ xs)
     (ap (λ f. items_from a m n ++ items_from b f (n - k)) unasked
-    ∙ sym (items_from-across a b m n k (omega (arith, ending.1, within, counted, left, c.len.ensures, c.len-before.ensures, c.fill-2.ensures.len)) (omega (arith, counted, left, c.len.ensures, c.len-before.ensures, c.fill-2.ensures.len)) ending.0)
+    ∙ sym (items_from-across a b m n k (omega (arith, ending.1, within, counted, left, c.len.ensures, c.len-before.ensures, c.fill-2.ensures.len))
+    (omega (arith, counted, left, c.len.ensures, c.len-before.ensures, c.fill-2.ensures.len)) ending.0)
     ∙ ap (λ f. items_from (concat a b) f n) (omega (arith, unasked)))

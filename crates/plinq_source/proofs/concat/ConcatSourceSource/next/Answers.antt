@@ -8,7 +8,9 @@ pub returns-then-self-clause-step : goal.returns-then-self-clause-step
 returns-then-self-clause-step g c =
     let s = c.args.self.now in
     let ended = c.if-self.true in
-    c.next.ensures.step ∙ sym (step_at-second (g.A.Source.whole s.first) (g.B.Source.whole s.second) (g.A.Source.given s.first) (g.B.Source.given s.second) (s.all ended) (s.ends ended))
+    c.next.ensures.step
+    ∙ sym (step_at-second (g.A.Source.whole s.first) (g.B.Source.whole s.second) (g.A.Source.given s.first) (g.B.Source.given s.second) (s.all ended)
+    (s.ends ended))
 
 pub invariant_of-self-in-End : goal.invariant_of-self-in-End
 invariant_of-self-in-End g c =

@@ -29,7 +29,8 @@ pub returns-then-n-left-clause-filled : goal.returns-then-n-left-clause-filled
 returns-then-n-left-clause-filled c =
     let s = c.args.self.now in
     let all : c.loop-place.place - s.next ≡ s.count - s.next = omega arith in
-    c.loop-place.invariant.filled ∙ ap (λ m. c.args.items.now.items ++ items_from (range_whole s) s.next m) all ∙ ap (λ xs. c.args.items.now.items ++ xs) (sym (last c).items)
+    c.loop-place.invariant.filled ∙ ap (λ m. c.args.items.now.items ++ items_from (range_whole s) s.next m) all
+    ∙ ap (λ xs. c.args.items.now.items ++ xs) (sym (last c).items)
 
 pub returns-then-n-left-clause-len : goal.returns-then-n-left-clause-len
 returns-then-n-left-clause-len c = omega (arith, (last c).count, c.loop-place.invariant.counted)
@@ -43,7 +44,8 @@ returns-then-n-left-clause-ending c = (last c).ending
 enough : (c : goal.Else-n-left) → AreEnough (range_whole c.args.self.now) c.args.self.now.next c.args.n
 enough c =
     let s = c.args.self.now in
-    enough_items (range_whole s) s.next c.args.n (omega (arith, length-range_items s.start s.count, s.within)) (omega (arith, length-range_items s.start s.count))
+    enough_items (range_whole s) s.next c.args.n (omega (arith, length-range_items s.start s.count, s.within))
+    (omega (arith, length-range_items s.start s.count))
 
 pub returns-else-n-left-clause-len : goal.returns-else-n-left-clause-len
 returns-else-n-left-clause-len c = omega (arith, (enough c).count, c.loop-place.invariant.counted)

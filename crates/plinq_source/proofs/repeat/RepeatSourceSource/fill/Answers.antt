@@ -30,7 +30,8 @@ pub returns-then-n-left-clause-filled : goal.returns-then-n-left-clause-filled
 returns-then-n-left-clause-filled c =
     let s = c.args.self.now in
     let all : c.loop-place._place - s.next ≡ s.count - s.next = omega arith in
-    c.loop-place.invariant.filled ∙ ap (λ m. c.args.items.now.items ++ items_from (repeat_whole s) s.next m) all ∙ ap (λ xs. c.args.items.now.items ++ xs) (sym (last c).items)
+    c.loop-place.invariant.filled ∙ ap (λ m. c.args.items.now.items ++ items_from (repeat_whole s) s.next m) all
+    ∙ ap (λ xs. c.args.items.now.items ++ xs) (sym (last c).items)
 
 pub returns-then-n-left-clause-len : goal.returns-then-n-left-clause-len
 returns-then-n-left-clause-len c = omega (arith, (last c).count, c.loop-place.invariant.counted)

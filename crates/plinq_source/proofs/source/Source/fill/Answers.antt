@@ -19,17 +19,21 @@ loop-filled-preserved g c =
     let few = ap (λ w. length w.items) i.same in
     record {
       same = c.in-Item.ensures.same ∙ i.same;
-      filled = filled-more t from m c.args.items.now.items c.loop-filled.items.items c.push_reserved.new.self.items x step i.filled c.push_reserved.ensures.items;
+      filled =
+          filled-more t from m c.args.items.now.items c.loop-filled.items.items c.push_reserved.new.self.items x step i.filled c.push_reserved.ensures.items;
       counted = omega (arith, c.push_reserved.ensures.len);
       capacity = c.push_reserved.ensures.capacity ∙ i.capacity;
       moved = omega (arith, c.in-Item.ensures.moved);
       within = omega arith;
     }
 
-last-in-End : (g : _) (c : goal.In-End g) → IsLast (g.Self.Source.whole c.args.self.now) (g.Self.Source.given c.args.self.now) c.loop-filled._filled c.args.n End
+last-in-End : (g : _) (c : goal.In-End g)
+    → IsLast (g.Self.Source.whole c.args.self.now) (g.Self.Source.given c.args.self.now) c.loop-filled._filled c.args.n End
 last-in-End g c =
     let i = c.loop-filled.invariant in
-    let at = at_end (g.Self.Source.whole c.loop-filled.self) (g.Self.Source.given c.loop-filled.self) (g.met.Self.Source.ends c.loop-filled.self) (g.met.Self.Source.within c.loop-filled.self) (sym c.next.ensures.step ∙ c.in-End.is) in
+    let at =
+    at_end (g.Self.Source.whole c.loop-filled.self) (g.Self.Source.given c.loop-filled.self) (g.met.Self.Source.ends c.loop-filled.self)
+    (g.met.Self.Source.within c.loop-filled.self) (sym c.next.ensures.step ∙ c.in-End.is) in
     last_items (g.Self.Source.whole c.args.self.now) (g.Self.Source.given c.args.self.now) c.loop-filled._filled c.args.n End
     (omega (arith, at.all, i.moved, ap (λ w. length w.items) i.same)) (ap (λ w. w.ending) (sym i.same) ∙ at.ends) (omega arith)
 
@@ -43,16 +47,21 @@ returns-in-End-clause-len g c = omega (arith, c.loop-filled.invariant.counted, (
 pub returns-in-End-clause-moved : goal.returns-in-End-clause-moved
 returns-in-End-clause-moved g c =
     let i = c.loop-filled.invariant in
-    let at = at_end (g.Self.Source.whole c.loop-filled.self) (g.Self.Source.given c.loop-filled.self) (g.met.Self.Source.ends c.loop-filled.self) (g.met.Self.Source.within c.loop-filled.self) (sym c.next.ensures.step ∙ c.in-End.is) in
+    let at =
+    at_end (g.Self.Source.whole c.loop-filled.self) (g.Self.Source.given c.loop-filled.self) (g.met.Self.Source.ends c.loop-filled.self)
+    (g.met.Self.Source.within c.loop-filled.self) (sym c.next.ensures.step ∙ c.in-End.is) in
     omega (arith, c.next.ensures.moved, at.moved, i.moved, (last-in-End g c).count)
 
 pub returns-in-End-clause-ending : goal.returns-in-End-clause-ending
 returns-in-End-clause-ending g c = (last-in-End g c).ending
 
-last-in-Refused : (g : _) (c : goal.In-Refused g) → IsLast (g.Self.Source.whole c.args.self.now) (g.Self.Source.given c.args.self.now) c.loop-filled._filled c.args.n (Refused c.in-Refused.code)
+last-in-Refused : (g : _) (c : goal.In-Refused g)
+    → IsLast (g.Self.Source.whole c.args.self.now) (g.Self.Source.given c.args.self.now) c.loop-filled._filled c.args.n (Refused c.in-Refused.code)
 last-in-Refused g c =
     let i = c.loop-filled.invariant in
-    let at = at_refusal (g.Self.Source.whole c.loop-filled.self) (g.Self.Source.given c.loop-filled.self) c.in-Refused.code (g.met.Self.Source.within c.loop-filled.self) (sym c.next.ensures.step ∙ c.in-Refused.is) in
+    let at =
+    at_refusal (g.Self.Source.whole c.loop-filled.self) (g.Self.Source.given c.loop-filled.self) c.in-Refused.code
+    (g.met.Self.Source.within c.loop-filled.self) (sym c.next.ensures.step ∙ c.in-Refused.is) in
     last_items (g.Self.Source.whole c.args.self.now) (g.Self.Source.given c.args.self.now) c.loop-filled._filled c.args.n (Refused c.in-Refused.code)
     (omega (arith, at.all, i.moved, ap (λ w. length w.items) i.same)) (ap (λ w. w.ending) (sym i.same) ∙ at.ends) (omega arith)
 
@@ -66,7 +75,9 @@ returns-in-Refused-clause-len g c = omega (arith, c.loop-filled.invariant.counte
 pub returns-in-Refused-clause-moved : goal.returns-in-Refused-clause-moved
 returns-in-Refused-clause-moved g c =
     let i = c.loop-filled.invariant in
-    let at = at_refusal (g.Self.Source.whole c.loop-filled.self) (g.Self.Source.given c.loop-filled.self) c.in-Refused.code (g.met.Self.Source.within c.loop-filled.self) (sym c.next.ensures.step ∙ c.in-Refused.is) in
+    let at =
+    at_refusal (g.Self.Source.whole c.loop-filled.self) (g.Self.Source.given c.loop-filled.self) c.in-Refused.code
+    (g.met.Self.Source.within c.loop-filled.self) (sym c.next.ensures.step ∙ c.in-Refused.is) in
     omega (arith, c.next.ensures.moved, at.moved, i.moved, (last-in-Refused g c).count)
 
 pub returns-in-Refused-clause-ending : goal.returns-in-Refused-clause-ending

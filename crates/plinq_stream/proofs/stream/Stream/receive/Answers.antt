@@ -6,4 +6,6 @@ pub pop_as-received-requires-clause-rule : goal.pop_as-received-requires-clause-
 pop_as-received-requires-clause-rule g c = (comes g.C.Admits.admits _ _ c.requires.receives, has_come g.C.Admits.admits _ _ c.requires.receives)
 
 pub returns-clause-all : goal.returns-clause-all
-returns-clause-all g c = all-come _ (knowledge_of c.args.pass.now) (knowledge_of (record { pass = c.pop_as-received.new.pass })) c.pop_as-received.result c.pop_as-received.ensures.rule
+returns-clause-all g c =
+    all-come _ (knowledge_of c.args.pass.now) (knowledge_of (record { pass = c.pop_as-received.new.pass })) c.pop_as-received.result
+    c.pop_as-received.ensures.rule

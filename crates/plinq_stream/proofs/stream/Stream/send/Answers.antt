@@ -8,4 +8,5 @@ pub try_push_as-requires-clause-rule : goal.try_push_as-requires-clause-rule
 try_push_as-requires-clause-rule g c =
     let is = c.loop.invariant.waiting in
     let own = subst (λ a. has c.args.number a.numbers ≡ true) (sym c.loop.invariant.known) c.requires.own in
-    sends g.C.Admits.admits _ _ _ c.loop.waiting (subst (λ s. has s.number (knowledge_of c.loop.pass).numbers ≡ true) (sym is) own) (subst (λ s. g.C.Admits.admits s.item) (sym is) c.requires.carried)
+    sends g.C.Admits.admits _ _ _ c.loop.waiting (subst (λ s. has s.number (knowledge_of c.loop.pass).numbers ≡ true) (sym is) own)
+    (subst (λ s. g.C.Admits.admits s.item) (sym is) c.requires.carried)

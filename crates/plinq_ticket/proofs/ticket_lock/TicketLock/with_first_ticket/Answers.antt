@@ -10,7 +10,8 @@ new-requires g c =
     let origin = g.V.Guarded.origin in
     let history = g.V.Guarded.history in
     let k = c.args.first in
-    let P : List (Option g.row.V.Denot) × g.row.V.Denot → Type 0 = λ x. OfTwoWords (Lawful origin history (origin x.1)) (opening (k ∷ k ∷ []) x.0 (first_view (origin x.1) (history x.1))) in
+    let P : List (Option g.row.V.Denot) × g.row.V.Denot → Type 0 =
+    λ x. OfTwoWords (Lawful origin history (origin x.1)) (opening (k ∷ k ∷ []) x.0 (first_view (origin x.1) (history x.1))) in
     let about = c.of-about.ensures in
     let items = c.in_ok-slot.ensures.ok in
     subst P (λ i. (sym items i, sym about i)) (opens _ origin history c.args.value k refl c.records.ensures.legal c.requires.below c.requires.within)
