@@ -26,9 +26,7 @@ module _ {T : Type 0} where
   arrived_trace-append : (order : Order) (offers : List (ChunkResult T)) (r : ChunkResult T)
       → arrived_trace order (offers ++ r ∷ []) ≡ followed_by (arrived_trace order offers) (at_once order r)
   arrived_trace-append order [] r = followed_by-open_nil (at_once order r)
-  arrived_trace-append order (o ∷ os) r =
-      ap (followed_by (at_once order o)) (arrived_trace-append order os r)
-      ∙ sym (followed_by-followed_by (at_once order o) (arrived_trace order os) (at_once order r))
+  arrived_trace-append order (o ∷ os) r = rw (arrived_trace-append order os r, followed_by-followed_by) refl
 
   pub is_offered-append : (offers : List (ChunkResult T)) (r : ChunkResult T) (key : ℕ)
       → is_offered (offers ++ r ∷ []) key ≡ is_offered offers key || is_within r.first (end_of_result r) key
@@ -66,13 +64,12 @@ module _ {T : Type 0} where
 
   all_given-append : (ps qs : List (Interval (Trace T))) → all_given (ps ++ qs) ≡ followed_by (all_given ps) (all_given qs)
   all_given-append [] qs = refl
-  all_given-append (p ∷ ps) qs = ap (followed_by p.1.payload) (all_given-append ps qs) ∙ sym (followed_by-followed_by p.1.payload (all_given ps) (all_given qs))
+  all_given-append (p ∷ ps) qs = rw (all_given-append ps qs, followed_by-followed_by) refl
 
   -- after a row of intervals the row of keys goes on
-  pub row_of-append : (source_end : Option (ℕ × Ending)) (from : ℕ) (done : List (Interval (Trace T))) (to : ℕ) (rest : List (Interval (Trace T)))
-      → IsRow from done to
+  row_of-append : (source_end : Option (ℕ × Ending)) (from to : ℕ) (done rest : List (Interval (Trace T))) → IsRow from done to
       → row_of source_end from (done ++ rest) ≡ followed_by (all_given done) (row_of source_end to rest)
-  row_of-append source_end from done to rest is_row =
+  row_of-append source_end from to done rest is_row =
       let at = row-append from done to rest is_row in
       rw (at.1, at.0, all_given-append done (unbroken_row to rest))
       (followed_by-followed_by (all_given done) (all_given (unbroken_row to rest)) (trace_of [] (ending_at source_end (first_gap to rest))))
@@ -80,34 +77,25 @@ module _ {T : Type 0} where
   -- ---- what is held
 
   -- what the offers merge to
-  pub merged_trace-holds : (order : Order) (row : Row T) (offers : List (ChunkResult T)) (gone : Trace T) → Holds order row offers gone
+  pub merged_trace-holds : {order : Order} {row : Row T} {offers : List (ChunkResult T)} {gone : Trace T} → Holds order row offers gone
       → merged_trace order offers ≡ followed_by gone (rest_of row)
-  merged_trace-holds order row offers gone h =
-      let parts = row_of-append row.source_end 0 h.done row.buffer.next row.buffer.held h.is_row in
+  merged_trace-holds {order} {row} {offers} h =
+      let parts = row_of-append row.source_end 0 row.buffer.next h.done row.buffer.held h.is_row in
       rw (h.source_end, h.placed, parts, ← followed_by-followed_by (arrived_trace order offers) (all_given h.done) (rest_of row), h.gave) refl
 
   -- the interval under the next key has gone
-  pub holds-next : (order : Order) (row : Row T) (p : Trace T) (buffer : Buffered (Trace T)) (offers : List (ChunkResult T)) (gone : Trace T)
-      → TakesNext row.buffer p buffer
-      → Holds order row offers gone → Holds order (record row { buffer = buffer }) offers (followed_by gone p)
-  holds-next order row p buffer offers gone takes h =
+  pub holds-next : {order : Order} {row : Row T} {p gone : Trace T} {buffer : Buffered (Trace T)} {offers : List (ChunkResult T)}
+      → TakesNext row.buffer p buffer → Holds order row offers gone → Holds order (record row { buffer = buffer }) offers (followed_by gone p)
+  holds-next {order} {row} {p} {buffer} {offers} takes h =
       let q : Interval (Trace T) = (row.buffer.next, record { end = buffer.next; payload = p }) in
       record {
         done = h.done ++ q ∷ [];
         placed = h.placed ∙ ap (λ qs. h.done ++ qs) takes.held ∙ sym (append_assoc h.done (q ∷ []) buffer.held);
         is_row = row-push 0 h.done q h.is_row;
-        before =
-            All-push (λ s. s.0 < buffer.next) h.done q (All-weaker (λ s. s.0 < row.buffer.next) (λ s. s.0 < buffer.next)
-            (λ s past. omega (arith, takes.some)) h.done h.before) takes.some;
+        before = All-push (λ s. s.0 < buffer.next) h.done q
+            (All-weaker (λ s. s.0 < row.buffer.next) (λ s. s.0 < buffer.next) (λ s past. omega (arith, takes.some)) h.done h.before) takes.some;
         source_end = h.source_end;
-        gave =
-            rw (
-              all_given-append h.done (q ∷ []),
-              followed_by-open_nil p,
-              ← followed_by-followed_by (arrived_trace order offers)
-                  (all_given h.done) p,
-              h.gave,
-            ) refl;
+        gave = rw (all_given-append h.done (q ∷ []), followed_by-open_nil p, ← h.gave, followed_by-followed_by) refl;
       }
 
   -- what is merged at once and what waits may change places, since one of them is nothing
@@ -165,8 +153,7 @@ module _ {T : Type 0} where
       let q : Trace T = waiting_trace order r in
       let row : Row T = record { buffer = with_interval before.buffer r.first (end_of_result r) q; source_end = after.source_end } in
       rw (inserts.0, ← followed_by-followed_by gone (at_once order r) q)
-      (holds-next order row q after.buffer (offers ++ r ∷ []) (followed_by gone (at_once order r)) inserts.1
-      (takes-placed_intervals order before r row fresh (rw test refl) noted offers gone h))
+      (holds-next inserts.1 (takes-placed_intervals order before r row fresh (rw test refl) noted offers gone h))
 
   -- by arrival it hands back nothing but keys
   pub by_arrival-hand : (r : ChunkResult T) (b : Buffered (Trace T)) (turn : Option (Trace T)) (b' : Buffered (Trace T))

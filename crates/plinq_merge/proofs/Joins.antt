@@ -1,33 +1,24 @@
 -- What the taker has taken, and which offers a row or a joiner stands for, with one offer more.
 use Rattle.plinq_merge.proofs.MergerWords.{◌≡◌, ℕ, ◌<◌, List, [], ◌∷◌, ◌++◌, true, false, ◌||◌, nat_lt, Option, Some, None, Result, Ok, Err, refl, option_or}
-use Rattle.plinq_merge.proofs.MergerWords.{sym, ◌∙◌, ap, subst, inl, inr, arith, or_from, All-nil, Ending, Trace, open_trace, followed_by, trace_of}
+use Rattle.plinq_merge.proofs.MergerWords.{sym, ◌∙◌, ap, inl, inr, arith, or_from, All-nil, Ending, Trace, open_trace, followed_by, trace_of}
 use Rattle.plinq_merge.proofs.MergerWords.{followed_by-followed_by, followed_by-open_nil, Order, ChunkResult, end_of_result, told_at, is_within, Buffered}
-use Rattle.plinq_merge.proofs.MergerWords.{IsFresh, TakesNext, IsAtGap, DeliveryFault, NoMemory, Refusal, Row, MergeFault, Memory, Sink, Twice, More, Yes, No}
-use Rattle.plinq_merge.proofs.MergerWords.{JoinerState, Open, Decided, HasFailed, ending_at, merged_trace, TakesIn, rest_of, Waits, Joins, JoinsOfferAt}
+use Rattle.plinq_merge.proofs.MergerWords.{IsFresh, TakesNext, IsAtGap, DeliveryFault, NoMemory, Row, MergeFault, Memory, Sink, Twice, More, Yes, No}
+use Rattle.plinq_merge.proofs.MergerWords.{JoinerState, Open, Decided, HasFailed, ending_at, merged_trace, rest_of, Waits, Joins, JoinsOfferAt}
 use Rattle.plinq_merge.proofs.MergerWords.{delivery_fault_of, placed_intervals, Interval}
 use Rattle.std.specs.Prelude.{◌⊎◌}
 use Rattle.std.proofs.lemmas.Bool.{le-ltb}
 use Rattle.plinq_reorder.specs.Buffered.{is_taken}
 use Rattle.plinq_merge.specs.declared.{joining.Joining.Joining, joiner.Joiner.Joiner}
-use Rattle.plinq_merge.specs.{Taking.IsTaking, inner.Moving.HasMoved}
+use Rattle.plinq_merge.specs.{Taking.IsTaking, inner.Moving.HasMoved, Shown.at_once}
 use Rattle.plinq_merge.specs.Joiners.{taker_of, order_of, WaitsFor, has_decided, ending_of, JoinsOffer, HasJoinedAt, HasJoined}
 use Rattle.plinq_merge.specs.{declared.merge_fault.MergeFault.TheVariants.Gap, OfferedKeys.AreNew, Offering.is_decided, Offering.finish_result}
 use Rattle.plinq_merge.proofs.Holds.{is_offered-append, merged_trace-holds, holds-next, takes-placed_intervals, rest-gap}
 
 module _ {T : Type 0} where
   -- where the next key is missing, all that the offers merge to was taken
-  pub merged_trace-waits : (order : Order) (row : Row T) (offers : List (ChunkResult T)) → (waits : Waits order row offers)
+  merged_trace-waits : {order : Order} {row : Row T} {offers : List (ChunkResult T)} (waits : Waits order row offers)
       → merged_trace order offers ≡ open_trace waits.out
-  merged_trace-waits order row offers waits =
-      rw (merged_trace-holds order row offers (open_trace waits.out) waits.holds, waits.nothing) (followed_by-open_nil (open_trace waits.out))
-
-  -- a row that has taken in a result which couldn't be kept
-  takes-unkept : (order : Order) (row : Row T) (r : ChunkResult T) → IsFresh row.buffer r.first (end_of_result r)
-      → (hand : Trace T) × (row1 : Row T) × TakesIn order row r hand row1
-  takes-unkept order row r fresh =
-      let held : Buffered (Trace T) = record row.buffer { held = placed_intervals order row.buffer.held r } in
-      let kept : Row T = record { buffer = held; source_end = option_or row.source_end (told_at (end_of_result r) r.tail) } in
-      (_, kept, takes-placed_intervals order row r kept fresh refl refl)
+  merged_trace-waits waits = rw (merged_trace-holds waits.holds, waits.nothing) (followed_by-open_nil (open_trace waits.out))
 
   -- a row in which nothing is waits for no offers
   pub begun-waits : (order : Order) (row : Row T) → row.buffer ≡ record { next = 0; held = [] } → row.source_end ≡ None → Waits order row []
@@ -44,102 +35,89 @@ module _ {T : Type 0} where
   open-is : (t : Trace T) → t.ending ≡ None → t ≡ open_trace t.items
   open-is t none = ap (trace_of t.items) none
 
-module _ {W O T : Type 0} (made : W → O → Trace T → Result (Option Ending) DeliveryFault → W → O → Type 0) (lawful : IsTaking made) where
+module _ {W O T : Type 0} {made : W → O → Trace T → Result (Option Ending) DeliveryFault → W → O → Type 0} (lawful : IsTaking made) where
   -- after an open trace that was taken
-  pub taken-after : (a : W) (x : O) (t u all : Trace T) (b : W) (y : O) (r : Result (Option Ending) DeliveryFault) (c : W) (z : O) → t.ending ≡ None
-      → made a x t (Ok None) b y → made b y u r c z
-      → all ≡ followed_by t u → made a x all r c z
-  taken-after a x t u all b y r c z none first second is =
-      rw (is, open-is t none) (lawful.goes_on a x t.items b y u r c z (rw (open-is t none) at first) second)
+  taken-after : {a b c : W} {x y z : O} {t u all : Trace T} {r : Result (Option Ending) DeliveryFault} → t.ending ≡ None → made a x t (Ok None) b y
+      → made b y u r c z → all ≡ followed_by t u → made a x all r c z
+  taken-after {t} none first second is = rw (is, open-is t none) (lawful.goes_on _ _ t.items _ _ _ _ _ _ (rw (open-is t none) at first) second)
 
   -- an answer that has ended, or broke off, is that of whatever comes after
-  pub taken-over : (a : W) (x : O) (t rest all : Trace T) (r : Result (Option Ending) DeliveryFault) (b : W) (y : O) → (r ≡ Ok None → ⊥)
-      → made a x t r b y → all ≡ followed_by t rest → made a x all r b y
-  taken-over a x t rest all (Ok None) b y over taken is = absurd (over refl)
-  taken-over a x t rest all (Ok (Some e)) b y over taken is = rw is (lawful.ends a x t e b y rest taken)
-  taken-over a x t rest all (Err fault) b y over taken is = rw is (lawful.breaks a x t fault b y rest taken)
+  taken-over : {a b : W} {x y : O} {t : Trace T} (rest : Trace T) (r : Result (Option Ending) DeliveryFault) → (r ≡ Ok None → ⊥) → made a x t r b y
+      → made a x (followed_by t rest) r b y
+  taken-over rest (Ok None) over taken = absurd (over refl)
+  taken-over rest (Ok (Some e)) over taken = lawful.ends _ _ _ e _ _ rest taken
+  taken-over rest (Err fault) over taken = lawful.breaks _ _ _ fault _ _ rest taken
 
-  -- a result was taken in, and nothing of what it brings was taken yet
-  pub moved-begun : (w : Joining W T) (r : ChunkResult T) (y : O) (hand : Trace T) (row1 : Row T) → TakesIn w.order w.row r hand row1
-      → HasMoved made w r y hand (record w { row = row1 }) y
-  moved-begun w r y hand row1 takes =
-      record { items = []; taken = lawful.begins w.taker y; order = refl; holds = λ offers gone h. rw (followed_by-open_nil gone) (takes offers gone h) }
+  module _ {w : Joining W T} {r : ChunkResult T} {y : O} {hand : Trace T} {w1 : Joining W T} {y1 : O} (moved : HasMoved made w r y hand w1 y1) where
+    -- what was in hand was taken and is open, and the interval under the next key comes
+    pub moved-next : {buffer : Buffered (Trace T)} {q : Trace T} {a : W} {n : ℕ} {z : O} → TakesNext w1.row.buffer q buffer
+        → made w1.taker y1 hand (Ok None) a z → hand.ending ≡ None
+        → HasMoved made w r y q (record w1 { row = record w1.row { buffer = buffer }; taker = a; items = n }) z
+    moved-next takes taken none =
+        let all : open_trace (moved.items ++ hand.items) ≡ followed_by (open_trace moved.items) hand = ap (trace_of (moved.items ++ hand.items)) (sym none) in
+        record {
+          items = moved.items ++ hand.items;
+          taken = taken-after refl moved.taken taken all;
+          order = moved.order;
+          holds = λ offers gone h. rw (all, ← followed_by-followed_by gone (open_trace moved.items) hand) (holds-next takes (moved.holds offers gone h));
+        }
 
-  -- what was in hand was taken and is open, and the interval under the next key comes
-  pub moved-next : (w0 : Joining W T) (r : ChunkResult T) (y0 : O) (p : Trace T) (w : Joining W T) (y : O) (buffer : Buffered (Trace T)) (q : Trace T)
-      (a : W) (n : ℕ) (z : O)
-      → HasMoved made w0 r y0 p w y → TakesNext w.row.buffer q buffer → made w.taker y p (Ok None) a z → p.ending ≡ None
-      → HasMoved made w0 r y0 q (record w { row = record w.row { buffer = buffer }; taker = a; items = n }) z
-  moved-next w0 r y0 p w y buffer q a n z moved takes taken none =
-      let row : Row T = record w.row { buffer = buffer } in
-      let all : open_trace (moved.items ++ p.items) ≡ followed_by (open_trace moved.items) p = ap (trace_of (moved.items ++ p.items)) (sym none) in
-      record {
-        items = moved.items ++ p.items;
-        taken = taken-after w0.taker y0 (open_trace moved.items) p (open_trace (moved.items ++ p.items)) w.taker y (Ok None) a z refl moved.taken taken all;
-        order = moved.order;
-        holds = λ offers gone h.
-            rw (all, ← followed_by-followed_by gone (open_trace moved.items) p)
-            (holds-next w0.order w.row q buffer (offers ++ r ∷ []) (followed_by (followed_by gone (open_trace moved.items)) p) takes
-            (moved.holds offers gone h));
-      }
+    -- ---- a result of new keys was joined
 
-  -- ---- a result of new keys was joined
+    module _ (fresh : IsFresh w.row.buffer r.first (end_of_result r)) where
+      module _ {result : Result (Option Ending) DeliveryFault} {w' : Joining W T} {y' : O} where
+        joins-moved : made w1.taker y1 (followed_by hand (rest_of w1.row)) result w'.taker y'
+            → (result ≡ Ok None → (offers : List (ChunkResult T)) → Waits w.order w.row offers → Waits w'.order w'.row (offers ++ r ∷ []))
+            → Joins made w r y result w' y'
+        joins-moved taken waits =
+            let left : Trace T = followed_by hand (rest_of w1.row) in
+            record {
+              gained = followed_by (open_trace moved.items) left;
+              taken = lawful.goes_on w.taker y moved.items w1.taker y1 left result w'.taker y' moved.taken taken;
+              are_new = λ offers before key within. before.keys key ∙ fresh key within;
+              grows = λ offers before. rw (merged_trace-waits before) (merged_trace-holds (moved.holds offers (open_trace before.out) before.holds)
+                  ∙ followed_by-followed_by (followed_by (open_trace before.out) (open_trace moved.items)) hand (rest_of w1.row)
+                  ∙ followed_by-followed_by (open_trace before.out) (open_trace moved.items) left);
+              waits = waits;
+            }
 
-  module _ (w : Joining W T) (r : ChunkResult T) (y : O) (fresh : IsFresh w.row.buffer r.first (end_of_result r)) where
-    module _ (hand : Trace T) (w1 : Joining W T) (y1 : O) (moved : HasMoved made w r y hand w1 y1) (result : Result (Option Ending) DeliveryFault)
-        (w' : Joining W T) (y' : O) where
-      joins-moved : made w1.taker y1 (followed_by hand (rest_of w1.row)) result w'.taker y'
-          → (result ≡ Ok None → (offers : List (ChunkResult T)) → Waits w.order w.row offers → Waits w'.order w'.row (offers ++ r ∷ []))
-          → Joins made w r y result w' y'
-      joins-moved taken waits =
-          let left : Trace T = followed_by hand (rest_of w1.row) in
-          record {
-            gained = followed_by (open_trace moved.items) left;
-            taken = lawful.goes_on w.taker y moved.items w1.taker y1 left result w'.taker y' moved.taken taken;
-            are_new = λ offers before key within. before.keys key ∙ fresh key within;
-            grows = λ offers before. rw (merged_trace-waits w.order w.row offers before)
-                (merged_trace-holds w.order w1.row (offers ++ r ∷ []) _ (moved.holds offers (open_trace before.out) before.holds)
-                ∙ followed_by-followed_by (followed_by (open_trace before.out) (open_trace moved.items)) hand (rest_of w1.row)
-                ∙ followed_by-followed_by (open_trace before.out) (open_trace moved.items) left);
-            waits = waits;
-          }
+        -- what was in hand ended the answer, or broke it off
+        pub joins-over : made w1.taker y1 hand result w'.taker y' → (result ≡ Ok None → ⊥) → Joins made w r y result w' y'
+        joins-over taken over = joins-moved (taken-over (rest_of w1.row) result over taken) (λ none. absurd (over none))
 
-      -- what was in hand ended the answer, or broke it off
-      pub joins-over : made w1.taker y1 hand result w'.taker y' → (result ≡ Ok None → ⊥) → Joins made w r y result w' y'
-      joins-over taken over = joins-moved (taken-over w1.taker y1 hand (rest_of w1.row) _ result w'.taker y' over taken refl) (λ none. absurd (over none))
+        -- at a gap the source's ending came after it
+        pub joins-ended : {a : W} {z : O} → made w1.taker y1 hand (Ok None) a z → hand.ending ≡ None → IsAtGap w1.row.buffer
+            → made a z (trace_of [] (ending_at w1.row.source_end w1.row.buffer.next)) result w'.taker y' → (result ≡ Ok None → ⊥)
+            → Joins made w r y result w' y'
+        joins-ended taken none gap last over = joins-moved (taken-after none taken (rw (rest-gap w1.row gap) last) refl) (λ is. absurd (over is))
 
-      -- at a gap the source's ending came after it
-      pub joins-ended : (a : W) (z : O) → made w1.taker y1 hand (Ok None) a z → hand.ending ≡ None → IsAtGap w1.row.buffer
-          → made a z (trace_of [] (ending_at w1.row.source_end w1.row.buffer.next)) result w'.taker y' → (result ≡ Ok None → ⊥)
-          → Joins made w r y result w' y'
-      joins-ended a z taken none gap last over =
-          joins-moved (taken-after w1.taker y1 hand (rest_of w1.row) _ a z result w'.taker y' none taken (rw (rest-gap w1.row gap) last) refl)
-          (λ is. absurd (over is))
+      -- or more may follow, and the row waits for it
+      pub joins-waits : {a : W} {n : ℕ} {z : O} → made w1.taker y1 hand (Ok None) a z → hand.ending ≡ None → IsAtGap w1.row.buffer
+          → ending_at w1.row.source_end w1.row.buffer.next ≡ None
+          → ((key : ℕ) → is_taken w1.row.buffer key ≡ is_taken w.row.buffer key || is_within r.first (end_of_result r) key)
+          → Joins made w r y (Ok None) (record w1 { taker = a; items = n }) z
+      joins-waits taken none gap still keys =
+          let nothing : rest_of w1.row ≡ open_trace [] = rest-gap w1.row gap ∙ ap (trace_of []) still in
+          joins-moved (rw (nothing, followed_by-open_nil hand) taken) (λ is_open offers before. rw moved.order (record {
+            out = (before.out ++ moved.items) ++ hand.items;
+            holds = rw (open-is hand none) at (moved.holds offers (open_trace before.out) before.holds);
+            keys = λ key. is_offered-append offers r key ∙ ap (λ v. v || is_within r.first (end_of_result r) key) (before.keys key) ∙ sym (keys key);
+            missing = gap.missing;
+            nothing = nothing;
+          }))
 
-    -- or more may follow, and the row waits for it
-    pub joins-waits : (hand : Trace T) (w1 : Joining W T) (y1 : O) (moved : HasMoved made w r y hand w1 y1) (a : W) (n : ℕ) (z : O)
-        → made w1.taker y1 hand (Ok None) a z → hand.ending ≡ None → IsAtGap w1.row.buffer → ending_at w1.row.source_end w1.row.buffer.next ≡ None
-        → ((key : ℕ) → is_taken w1.row.buffer key ≡ is_taken w.row.buffer key || is_within r.first (end_of_result r) key)
-        → Joins made w r y (Ok None) (record w1 { taker = a; items = n }) z
-    joins-waits hand w1 y1 moved a n z taken none gap still keys =
-        let nothing : rest_of w1.row ≡ open_trace [] = rest-gap w1.row gap ∙ ap (trace_of []) still in
-        joins-moved hand w1 y1 moved (Ok None) (record w1 { taker = a; items = n }) z (rw (nothing, followed_by-open_nil hand) taken) (λ is_open offers before.
-        rw moved.order (record {
-          out = (before.out ++ moved.items) ++ hand.items;
-          holds = rw (open-is hand none) at (moved.holds offers (open_trace before.out) before.holds);
-          keys = λ key. is_offered-append offers r key ∙ ap (λ v. v || is_within r.first (end_of_result r) key) (before.keys key) ∙ sym (keys key);
-          missing = gap.missing;
-          nothing = nothing;
-        }))
-
-    -- it couldn't be kept
-    pub joins-unkept : (w' : Joining W T) → w'.taker ≡ w.taker → Joins made w r y (Err NoMemory) w' y
-    joins-unkept w' same =
-        let kept = takes-unkept w.order w.row r fresh in
-        let left : Trace T = followed_by kept.0 (rest_of kept.1) in
-        let stopped = lawful.stops w.taker y [] w.taker y left (lawful.begins w.taker y) in
-        joins-moved kept.0 (record w { row = kept.1 }) y (moved-begun w r y kept.0 kept.1 kept.2) (Err NoMemory) w' y
-        (rw same stopped) (λ bad. absurd (cc))
+  -- it couldn't be kept
+  pub joins-unkept : (w : Joining W T) (r : ChunkResult T) (y : O) → IsFresh w.row.buffer r.first (end_of_result r) → (w' : Joining W T) → w'.taker ≡ w.taker
+      → Joins made w r y (Err NoMemory) w' y
+  joins-unkept w r y fresh w' same =
+      let held : Buffered (Trace T) = record w.row.buffer { held = placed_intervals w.order w.row.buffer.held r } in
+      let kept : Row T = record { buffer = held; source_end = option_or w.row.source_end (told_at (end_of_result r) r.tail) } in
+      let hand : Trace T = at_once w.order r in
+      let begun = lawful.begins w.taker y in
+      let takes = takes-placed_intervals w.order w.row r kept fresh refl refl in
+      let moved : HasMoved made w r y hand (record w { row = kept }) y =
+      record { items = []; taken = begun; order = refl; holds = λ offers gone h. rw (followed_by-open_nil gone) (takes offers gone h) } in
+      joins-moved moved fresh (rw same (lawful.stops w.taker y [] w.taker y (followed_by hand (rest_of kept)) begun)) (λ bad. absurd (cc))
 
 -- the offers so far, or these and one more, of which no key was offered before
 abbrev pub AreOneMore : {T : Type 0} → List (ChunkResult T) → ChunkResult T → List (ChunkResult T) → Type 0
@@ -167,9 +145,8 @@ module _ {W O T : Type 0} (made : W → O → Trace T → Result (Option Ending)
           → made a x (merged_trace (order_of j) offers) (Ok None) (taker_of j) y
           → made a x (merged_trace (order_of j) offers) (Err NoMemory) (taker_of j) y
       joined-stopped j y offers waits before =
-          let is = merged_trace-waits (order_of j) j.work.row offers waits in
-          subst (λ t. made a x t (Err NoMemory) (taker_of j) y) (followed_by-open_nil (open_trace waits.out) ∙ sym is)
-          (lawful.stops a x waits.out (taker_of j) y (open_trace []) (subst (λ t. made a x t (Ok None) (taker_of j) y) is before))
+          let is = merged_trace-waits waits in
+          rw (is, ← followed_by-open_nil (open_trace waits.out)) (lawful.stops a x waits.out (taker_of j) y (open_trace []) (rw is at before))
 
       module _ (w w' : Joining W T) (standing' : JoinerState) (r : ChunkResult T) (y y' : O) (offers : List (ChunkResult T)) (same : w'.order ≡ w.order) where
         -- where an offer is taken in, the answer is open or has ended; where it is refused, the taker broke off what is merged then
@@ -181,21 +158,19 @@ module _ {W O T : Type 0} (made : W → O → Trace T → Result (Option Ending)
         more = offers ++ r ∷ []
 
         -- with one offer more the taker has taken what they merge to then
-        grown : (how : Result (Option Ending) DeliveryFault) (order : Order) → order ≡ w.order → HasJoinedAt made a x w Open y offers
+        grown : {how : Result (Option Ending) DeliveryFault} {order : Order} → order ≡ w.order → HasJoinedAt made a x w Open y offers
             → Joins made w r y how w' y' → made a x (merged_trace order more) how w'.taker y'
-        grown how order is joined joins =
-            taken-after made lawful a x (merged_trace w.order offers) joins.gained (merged_trace order more) w.taker y how w'.taker y'
-            (ap (λ t. t.ending) (merged_trace-waits w.order w.row offers joined.0)) joined.1 joins.taken
+        grown is joined joins =
+            taken-after lawful (ap (λ t. t.ending) (merged_trace-waits joined.0)) joined.1 joins.taken
             (ap (λ o. merged_trace o more) is ∙ joins.grows offers joined.0)
 
         offered-at : (standing : JoinerState) (result : Result More MergeFault) → HasJoinedAt made a x w standing y offers
             → JoinsOfferAt made w standing r y result w' standing' y' → (all : List (ChunkResult T)) × AreOneMore offers r all × LeavesAt result all
         offered-at Open (Ok Yes) joined o =
-            (more, inr (refl, o.1.are_new offers joined.0), rw o.0 (o.1.waits refl offers joined.0, grown (Ok None) w'.order same joined o.1))
-        offered-at Open (Ok No) joined o = (more, inr (refl, o.2.are_new offers joined.0), rw o.1 (grown (Ok (Some o.0)) w'.order same joined o.2))
-        offered-at Open (Err Memory) joined o = (more, inr (refl, o.1.are_new offers joined.0), (w'.taker, grown (Err NoMemory) w.order refl joined o.1))
-        offered-at Open (Err (Sink code)) joined o =
-            (more, inr (refl, o.1.are_new offers joined.0), (w'.taker, grown (Err (Refusal code)) w.order refl joined o.1))
+            (more, inr (refl, o.1.are_new offers joined.0), rw o.0 (o.1.waits refl offers joined.0, grown same joined o.1))
+        offered-at Open (Ok No) joined o = (more, inr (refl, o.2.are_new offers joined.0), rw o.1 (grown same joined o.2))
+        offered-at Open (Err Memory) joined o = (more, inr (refl, o.1.are_new offers joined.0), (w'.taker, grown refl joined o.1))
+        offered-at Open (Err (Sink code)) joined o = (more, inr (refl, o.1.are_new offers joined.0), (w'.taker, grown refl joined o.1))
         offered-at Open (Err Twice) joined o =
             (offers, inl refl, (w.taker, rw o.2 (joined-stopped (record { work = w; standing = Open }) y offers joined.0 joined.1)))
         offered-at Open (Err fault) joined o = absurd o
@@ -203,20 +178,18 @@ module _ {W O T : Type 0} (made : W → O → Trace T → Result (Option Ending)
         offered-at (Decided e) (Err fault) joined o = absurd (let bad : Err fault ≡ Ok No = o.0 in cc)
         offered-at HasFailed result joined o = absurd joined
 
-      -- an offer that was taken in
-      pub takes-joined : (j : Joiner W T) (r : ChunkResult T) (y : O) (more : More) (j' : Joiner W T) (y' : O) (offers : List (ChunkResult T))
-          → order_of j' ≡ order_of j
-          → HasJoined made a x j y offers → JoinsOffer made j r y (Ok more) j' y'
-          → (offers' : List (ChunkResult T)) × AreOneMore offers r offers' × HasJoined made a x j' y' offers'
-      takes-joined j r y more j' y' offers same joined o = offered-at j.work j'.work j'.standing r y y' offers same j.standing (Ok more) joined o
+      module _ (j : Joiner W T) (r : ChunkResult T) (y : O) where
+        -- an offer that was taken in
+        pub takes-joined : (more : More) (j' : Joiner W T) (y' : O) (offers : List (ChunkResult T)) → order_of j' ≡ order_of j
+            → HasJoined made a x j y offers → JoinsOffer made j r y (Ok more) j' y'
+            → (offers' : List (ChunkResult T)) × AreOneMore offers r offers' × HasJoined made a x j' y' offers'
+        takes-joined more j' y' offers same joined o = offered-at j.work j'.work j'.standing r y y' offers same j.standing (Ok more) joined o
 
-      -- one that was refused
-      pub takes-broken : (j : Joiner W T) (r : ChunkResult T) (y : O) (fault : MergeFault) (j' : Joiner W T) (y' : O) (offers : List (ChunkResult T))
-          → order_of j' ≡ order_of j
-          → HasJoined made a x j y offers → JoinsOffer made j r y (Err fault) j' y'
-          → (offers' : List (ChunkResult T)) × AreOneMore offers r offers' × ((last : W) × made a x (merged_trace (order_of j) offers')
-          (Err (delivery_fault_of fault)) last y')
-      takes-broken j r y fault j' y' offers same joined o = offered-at j.work j'.work j'.standing r y y' offers same j.standing (Err fault) joined o
+        -- one that was refused
+        pub takes-broken : (fault : MergeFault) (j' : Joiner W T) (y' : O) (offers : List (ChunkResult T)) → order_of j' ≡ order_of j
+            → HasJoined made a x j y offers → JoinsOffer made j r y (Err fault) j' y' → (offers' : List (ChunkResult T)) × AreOneMore offers r offers'
+            × ((last : W) × made a x (merged_trace (order_of j) offers') (Err (delivery_fault_of fault)) last y')
+        takes-broken fault j' y' offers same joined o = offered-at j.work j'.work j'.standing r y y' offers same j.standing (Err fault) joined o
 
   module _ (lawful : IsTaking made) where
     -- nothing was offered to a new joiner

@@ -25,9 +25,9 @@ cut-map f accepts refuses accepts' refuses' takes refused s bs NoMemory s' cut =
 cut-map f accepts refuses accepts' refuses' takes refused s bs (Refusal code) s' cut =
     (cut.0, cut.1, cut.2, f cut.3, cut.4, leads-map f accepts accepts' takes s cut.0 cut.3 cut.5, refused cut.3 cut.1 code s' cut.6)
 
-brings-map : {T : Type 0} (merge : Merge T) (offers : List (ChunkResult T)) (r : ChunkResult T) (P Q : List (List T) → Type 0)
+brings-map : {T : Type 0} {merge : Merge T} {offers : List (ChunkResult T)} {r : ChunkResult T} {P Q : List (List T) → Type 0}
     → ((bs : List (List T)) → P bs → Q bs) → Brings merge offers r P → Brings merge offers r Q
-brings-map merge offers r P Q on brings = record { are_new = brings.are_new; gained = brings.gained; grows = brings.grows; sent = on brings.gained brings.sent }
+brings-map on brings = record { are_new = brings.are_new; gained = brings.gained; grows = brings.grows; sent = on brings.gained brings.sent }
 
 -- an offer, where what is delivered goes from s to s', and in the other words from t to t'
 module _ {L K M T : Type 0} (meaning : L → Meaning T) (decided : Bool) (accepts : K → List T → K → Type 0) (refuses : K → List T → ℕ → K → Type 0)
@@ -37,10 +37,10 @@ module _ {L K M T : Type 0} (meaning : L → Meaning T) (decided : Bool) (accept
     (same : s' ≡ s → t' ≡ t) (w : Work L T) (r : ChunkResult T) (w' : Work L T) (standing' : JoinerState) where
   offers-map : (standing : JoinerState) (result : Result More MergeFault) → OffersAt meaning decided accepts refuses w standing r s result w' standing' s'
       → OffersAt meaning decided accepts' refuses' w standing r t result w' standing' t'
-  offers-map Open (Ok Yes) o = (o.0, λ offers rests. let on = o.1 offers rests in (brings-map _ offers r _ _ leads on.0, on.1))
-  offers-map Open (Ok No) o = (o.0, o.1, λ offers rests. let on = o.2 offers rests in (brings-map _ offers r _ _ leads on.0, on.1))
-  offers-map Open (Err Memory) o = (o.0, λ offers rests. brings-map _ offers r _ _ (λ bs. cuts bs NoMemory) (o.1 offers rests))
-  offers-map Open (Err (Sink code)) o = (o.0, λ offers rests. brings-map _ offers r _ _ (λ bs. cuts bs (Refusal code)) (o.1 offers rests))
+  offers-map Open (Ok Yes) o = (o.0, λ offers rests. let on = o.1 offers rests in (brings-map leads on.0, on.1))
+  offers-map Open (Ok No) o = (o.0, o.1, λ offers rests. let on = o.2 offers rests in (brings-map leads on.0, on.1))
+  offers-map Open (Err Memory) o = (o.0, λ offers rests. brings-map (λ bs. cuts bs NoMemory) (o.1 offers rests))
+  offers-map Open (Err (Sink code)) o = (o.0, λ offers rests. brings-map (λ bs. cuts bs (Refusal code)) (o.1 offers rests))
   offers-map Open (Err Twice) o = (o.0, o.1, same o.2, o.3)
   offers-map Open (Err fault) o = absurd o
   offers-map standing result o = (o.0, o.1, o.2, same o.3)
@@ -67,9 +67,7 @@ module _ {C : Type 0} (asks : C → ℕ → Bool → C → Type 0) (has_told : C
     pub asks-told : (d : Delivery C K) (r : Result More MergeFault) (d' : Delivery C K) → AsksEach asks accepts refuses d r d'
         → has_told d'.token ≡ (has_told d.token || is_cancelled r)
     asks-told d (Ok more) d' asked = leads-told d asked.0 d' asked.1 ∙ sym (or-false (has_told d.token))
-    asks-told d (Err Cancelled) d' asked =
-        let last = asked.1.last in
-        stops-told last.token last.delivered d'.token asked.1.stops.asked ∙ sym (or-true (has_told d.token))
+    asks-told d (Err Cancelled) d' asked = stops-told _ _ d'.token asked.1.stops.asked ∙ sym (or-true (has_told d.token))
     asks-told d (Err fault) d' asked = cut-told d asked.0 (delivery_fault_of fault) d' asked.1 ∙ sym (or-false (has_told d.token))
 
 same-on : {C K : Type 0} (w m w' : WithCancellation C K) → AreSame w m → AreSame m w' → AreSame w w'
@@ -86,44 +84,38 @@ module _ {C K T : Type 0} (asks : C → ℕ → Bool → C → Type 0) (accepts 
   leads-on w [] w' is =
       let same : AreSame w w' = record { token = ap (λ x. x.token.ghost_name) is; sink = ap (λ x. x.sink.ghost_name) is } in
       record { same = same; leads = ap delivery_of is; still = ap (λ x. x.is_stopped) is }
-  leads-on w (b ∷ bs) w' leads =
-      let m = leads.0 in
-      let step = leads.1 in
-      let on = leads-on m bs w' leads.2 in
+  leads-on w (b ∷ bs) w' (m, step, leads) =
+      let on = leads-on m bs w' leads in
       record { same = same-on w m w' step.same on.same; leads = (delivery_of m, step.passes, on.leads); still = on.still ∙ step.goes_on }
 
   pub cut-same : (w : WithCancellation C K) (bs : List (List T)) (fault : DeliveryFault) (w' : WithCancellation C K)
       → IsCutOff (Takes asks accepts) (Refuses asks refuses) w bs fault w' → AreSame w w'
-  cut-same w bs NoMemory w' cut = let on = leads-on w cut.0 w' cut.3 in on.same
-  cut-same w bs (Refusal code) w' cut = let on = leads-on w cut.0 cut.3 cut.5 in let end = cut.6 in same-on w cut.3 w' on.same end.same
+  cut-same w bs NoMemory w' cut = (leads-on w cut.0 w' cut.3).same
+  cut-same w bs (Refusal code) w' cut = same-on w cut.3 w' (leads-on w cut.0 cut.3 cut.5).same cut.6.same
 
   -- the sink was refused memory, or refused a batch, and no batch was kept back
   pub cut-on : (w : WithCancellation C K) (bs : List (List T)) (fault : DeliveryFault) (w' : WithCancellation C K) → w.is_stopped ≡ false
-      → w'.is_stopped ≡ false
-      → IsCutOff (Takes asks accepts) (Refuses asks refuses) w bs fault w'
+      → w'.is_stopped ≡ false → IsCutOff (Takes asks accepts) (Refuses asks refuses) w bs fault w'
       → IsCutOff (Passes asks accepts) (IsRefused asks refuses) (delivery_of w) bs fault (delivery_of w')
-  cut-on w bs NoMemory w' before after cut = let on = leads-on w cut.0 w' cut.3 in (cut.0, cut.1, cut.2, on.leads)
+  cut-on w bs NoMemory w' before after cut = (cut.0, cut.1, cut.2, (leads-on w cut.0 w' cut.3).leads)
   cut-on w bs (Refusal code) w' before after cut =
       let on = leads-on w cut.0 cut.3 cut.5 in
-      let end = cut.6 in
-      (cut.0, cut.1, cut.2, delivery_of cut.3, cut.4, on.leads, rw after at (end.was (on.still ∙ before)))
+      (cut.0, cut.1, cut.2, delivery_of cut.3, cut.4, on.leads, rw after at (cut.6.was (on.still ∙ before)))
 
   -- a batch was kept back
   pub cut-kept : (w : WithCancellation C K) (bs : List (List T)) (fault : DeliveryFault) (w' : WithCancellation C K) → w.is_stopped ≡ false
-      → w'.is_stopped ≡ true
-      → IsCutOff (Takes asks accepts) (Refuses asks refuses) w bs fault w' → IsKeptBack asks accepts (delivery_of w) bs (delivery_of w')
+      → w'.is_stopped ≡ true → IsCutOff (Takes asks accepts) (Refuses asks refuses) w bs fault w' → IsKeptBack asks accepts (delivery_of w) bs (delivery_of w')
   cut-kept w bs NoMemory w' before after cut = let on = leads-on w cut.0 w' cut.3 in absurd (let bad : true ≡ false = sym after ∙ on.still ∙ before in cc)
   cut-kept w bs (Refusal code) w' before after cut =
       let on = leads-on w cut.0 cut.3 cut.5 in
-      let end = cut.6 in
-      let stops = rw after at (end.was (on.still ∙ before)) in
+      let stops = rw after at (cut.6.was (on.still ∙ before)) in
       record { sent = cut.0; kept = cut.1; rest = cut.2; parts = cut.4; last = delivery_of cut.3; leads = on.leads; stops = stops }
 
   abbrev Sends : WithCancellation C K → Result More MergeFault → WithCancellation C K → Type 0
   Sends w r w' = SendsSome (Takes asks accepts) (Refuses asks refuses) w r w'
 
   pub sends-same : (w : WithCancellation C K) (r : Result More MergeFault) (w' : WithCancellation C K) → Sends w r w' → AreSame w w'
-  sends-same w (Ok more) w' sends = let on = leads-on w sends.0 w' sends.1 in on.same
+  sends-same w (Ok more) w' sends = (leads-on w sends.0 w' sends.1).same
   sends-same w (Err Cancelled) w' sends = absurd sends
   sends-same w (Err fault) w' sends = cut-same w sends.0 (delivery_fault_of fault) w' sends.1
 
@@ -136,9 +128,9 @@ module _ {C K T : Type 0} (asks : C → ℕ → Bool → C → Type 0) (accepts 
     pub asks-within : (stops : Bool) (r : Result More MergeFault) → w'.is_stopped ≡ stops → Sends w r w'
         → AsksEach asks accepts refuses (delivery_of w) (answer_unless_stopped stops r) (delivery_of w')
     asks-within stops (Err Cancelled) after sends = absurd sends
-    asks-within true (Ok more) after sends = let on = leads-on w sends.0 w' sends.1 in not-stopped on.still after
+    asks-within true (Ok more) after sends = not-stopped (leads-on w sends.0 w' sends.1).still after
     asks-within true (Err fault) after sends = (sends.0, cut-kept w sends.0 (delivery_fault_of fault) w' before after sends.1)
-    asks-within false (Ok more) after sends = let on = leads-on w sends.0 w' sends.1 in (sends.0, on.leads)
+    asks-within false (Ok more) after sends = (sends.0, (leads-on w sends.0 w' sends.1).leads)
     asks-within false (Err fault) after sends = (sends.0, cut-on w sends.0 (delivery_fault_of fault) w' before after sends.1)
 
     module _ {L : Type 0} (meaning : L → Meaning T) (decided : Bool) (x : Work L T) (r : ChunkResult T) (x' : Work L T) (standing' : JoinerState) where
@@ -147,11 +139,11 @@ module _ {C K T : Type 0} (asks : C → ℕ → Bool → C → Type 0) (accepts 
 
       offers-stopped : (standing : JoinerState) (answer : Result More MergeFault) → w'.is_stopped ≡ true → Sends w answer w' → OffersTo standing answer
           → IsCancelled meaning decided asks accepts x standing r (delivery_of w) standing' (delivery_of w')
-      offers-stopped Open (Ok more) after sends o = let on = leads-on w sends.0 w' sends.1 in not-stopped on.still after
+      offers-stopped Open (Ok more) after sends o = not-stopped (leads-on w sends.0 w' sends.1).still after
       offers-stopped Open (Err Memory) after sends o =
-          (refl, o.0, λ offers rests. brings-map _ offers r _ _ (λ bs. cut-kept w bs NoMemory w' before after) (o.1 offers rests))
+          (refl, o.0, λ offers rests. brings-map (λ bs. cut-kept w bs NoMemory w' before after) (o.1 offers rests))
       offers-stopped Open (Err (Sink code)) after sends o =
-          (refl, o.0, λ offers rests. brings-map _ offers r _ _ (λ bs. cut-kept w bs (Refusal code) w' before after) (o.1 offers rests))
+          (refl, o.0, λ offers rests. brings-map (λ bs. cut-kept w bs (Refusal code) w' before after) (o.1 offers rests))
       offers-stopped Open (Err Twice) after sends o = not-stopped (ap (λ y. y.is_stopped) o.2) after
       offers-stopped Open (Err fault) after sends o = absurd o
       offers-stopped standing answer after sends o = not-stopped (ap (λ y. y.is_stopped) o.3) after
@@ -163,9 +155,8 @@ module _ {C K T : Type 0} (asks : C → ℕ → Bool → C → Type 0) (accepts 
       offers-within standing stops (Err Cancelled) after sends o = absurd sends
       offers-within standing true answer after sends o = offers-stopped standing answer after sends o
       offers-within standing false answer after sends o =
-          offers-map meaning decided (Takes asks accepts) (Refuses asks refuses) (Passes asks accepts) (IsRefused asks refuses) w w' (delivery_of w)
-          (delivery_of w') (λ bs leads. let on = leads-on w bs w' leads in on.leads) (λ bs fault cut. cut-on w bs fault w' before after cut) (ap delivery_of)
-          x r x' standing' standing answer o
+          offers-map meaning decided _ _ _ _ w w' (delivery_of w) (delivery_of w') (λ bs leads. (leads-on w bs w' leads).leads)
+          (λ bs fault cut. cut-on w bs fault w' before after cut) (ap delivery_of) x r x' standing' standing answer o
 
 -- where the token never stops, along a function of deliveries
 module _ {C K T L M : Type 0} (asks : C → ℕ → Bool → C → Type 0) (never : (c c' : C) (n : ℕ) → asks c n true c' → ⊥) (accepts : K → List T → K → Type 0)
@@ -179,7 +170,5 @@ module _ {C K T L M : Type 0} (asks : C → ℕ → Bool → C → Type 0) (neve
       → OffersAt meaning decided accepts' refuses' w standing r (f d) answer w' standing' (f d')
   offers-seen standing (Err Cancelled) asked o = absurd (never _ _ _ asked.1.stops.asked)
   offers-seen standing answer asked o =
-      offers-map meaning decided (Passes asks accepts) (IsRefused asks refuses) accepts' refuses' d d' (f d) (f d')
-      (λ bs. leads-map f (Passes asks accepts) accepts' takes d bs d')
-      (λ bs fault. cut-map f (Passes asks accepts) (IsRefused asks refuses) accepts' refuses' takes refused d bs fault d')
-      (ap f) w r w' standing' standing answer o
+      offers-map meaning decided _ _ accepts' refuses' d d' (f d) (f d') (λ bs. leads-map f _ accepts' takes d bs d')
+      (λ bs fault. cut-map f _ _ accepts' refuses' takes refused d bs fault d') (ap f) w r w' standing' standing answer o

@@ -2,7 +2,7 @@
 pub use Rattle.std.specs.List.{list_any}
 pub use Rattle.std.specs.Option.{option_or, unwrap_or, IfSome}
 pub use Rattle.std.specs.Prelude.{◌≡◌, ℕ, ◌+◌, ◌-◌, ◌<◌, ◌≤◌, ◌==◌, take, drop, List, [], ◌∷◌, ◌++◌, length, true, false, Some, refl, ◌||◌, cond, Option, None}
-pub use Rattle.std.specs.Prelude.{All, nat_lt, Result, Ok, Err, Bool, not}
+pub use Rattle.std.specs.Prelude.{All, nat_lt, Result, Ok, Err, Bool}
 pub use Rattle.std.proofs.Common.{sym, ◌∙◌, ap, arith, append-nil, append_assoc, length-drop, length-take-le, subst, inl, inr, rules}
 pub use Rattle.std.proofs.Math.Bool.{or_assoc, or-false}
 pub use Rattle.std.proofs.lemmas.Bool.{or_from, cases_lt, and_parts}
@@ -32,7 +32,7 @@ pub use Rattle.plinq_merge.specs.declared.more.More.{More, TheVariants.Yes, TheV
 pub use Rattle.plinq_merge.specs.declared.{deliver.Deliver.Deliver, row.Row.Row}
 pub use Rattle.plinq_merge.specs.{Buffer.held_of, Buffer.size_of, OfferedKeys.is_offered}
 pub use Rattle.plinq_merge.specs.Deliveries.{batches-on, held-on}
-pub use Rattle.plinq_merge.specs.Delivering.{Line, is_below, can_deliver}
+pub use Rattle.plinq_merge.specs.Delivering.{Line, can_deliver}
 pub use Rattle.plinq_merge.specs.Joining.{rest_of, Waits, Joins, JoinsOfferAt}
 pub use Rattle.plinq_merge.specs.Mergers.{delivery_fault_of, SendsSome}
 pub use Rattle.plinq_merge.specs.Merging.{TakesIn, GoesOn}

@@ -17,7 +17,7 @@ use Rattle.plinq_reorder.specs.Intervals.{has_key, are_apart, IsFree}
 use Rattle.plinq_merge.specs.Deliveries.{batches-first}
 use Rattle.plinq_keyed.specs.declared.event.Event.{Event, TheVariants.Ask, TheVariants.Close}
 use Rattle.plinq_keyed.specs.declared.record.Record.{Record}
-use Rattle.plinq_ops.specs.{Row.IsResultOf, Row.AreOffers, Fragment.glued_trace, Fragment.glue, Stage.seq_after, Tails.EndsAt}
+use Rattle.plinq_ops.specs.{Row.IsResultOf, Row.AreOffers, Fragment.glued_trace, Fragment.glue, Tails.EndsAt}
 use Rattle.plinq_ops.proofs.{Glue.glued_trace-append, Rows.row-next, Rows.glue-whole}
 use Rattle.plinq_merge.proofs.{Offers.answer-open, Holds.All-placed, Holds.arrived_trace-by_key}
 use Rattle.plinq_keyed.specs.History.{Place, start, ending_tail, no_items, next_items, reply, next_place, tells, is_run, IsLegalHistory}
@@ -169,22 +169,17 @@ module _ {L T : Type 0} (meaning : L → Meaning T) (worker : List (Op L)) (t : 
 
   open-begins : (key : ℕ) → Begins (followed_by (before key) (open_trace []))
   open-begins key =
-      let rest : Trace T = glued_trace meaning worker (0 + length (take key t.items)) (drop key t.items) t.ending in (
-        rest,
-        ap (λ ys. glued_trace meaning worker 0 ys t.ending) (sym (take-append-drop key t.items))
-            ∙ rw (followed_by-open_nil (before key)) (glued_trace-append meaning worker 0 (take key t.items) (drop key t.items) t.ending),
-      )
+      let parts = glued_trace-append meaning worker 0 (take key t.items) (drop key t.items) t.ending in
+      (_, rw (take-append-drop key t.items, ← followed_by-open_nil (before key)) at parts)
 
   gap-begins : (source_end : Option (ℕ × Ending)) (key : ℕ) → IfSome source_end (EndsAt t)
       → Begins (followed_by (before key) (trace_of [] (ending_at source_end key)))
   gap-begins None key is = open-begins key
   gap-begins (Some at) key is =
       elim (at.0 == key) as (λ v. v ≡ (at.0 == key) → Begins (followed_by (before key) (trace_of [] (cond v (Some at.1) None)))) [
-        | true ↦ λ test. (
-          open_trace [],
-          glue-at_end key at.1 (sym (same_key at.0 key (sym test)) ∙ is.0) is.1
-              ∙ sym (followed_by-open_nil (followed_by (before key) (trace_of [] (Some at.1)))),
-        )
+        | true ↦ λ test.
+            let ended = glue-at_end key at.1 (sym (same_key at.0 key (sym test)) ∙ is.0) is.1 in
+            (open_trace [], ended ∙ sym (followed_by-open_nil (followed_by (before key) (trace_of [] (Some at.1)))))
         | false ↦ λ test. open-begins key
       ] refl
 
@@ -219,11 +214,7 @@ module _ {L T : Type 0} (meaning : L → Meaning T) (worker : List (Op L)) (t : 
   answer-begins : (rest : Trace T) × (seq merge.after (glue meaning worker t) ≡ followed_by (answer merge offers) rest)
   answer-begins =
       let begins = merged_trace-begins meaning worker t few offers are tails in
-      let rest : Trace T = seq (seq_after merge.after (merged_trace ByKey offers)) begins.0 in (
-        rest,
-        ap (seq merge.after) begins.1 ∙ seq-followed_by merge.after (merged_trace ByKey offers) begins.0
-            ∙ ap (λ u. followed_by u rest) (sym by_key-answer),
-      )
+      (_, rw (← by_key-answer, ← begins.1) at (seq-followed_by merge.after (merged_trace ByKey offers) begins.0))
 
   pub shown_batches-first : AreFirstOf (shown_batches merge offers) (batches_from merge.size [] (seq merge.after (glue meaning worker t)))
   shown_batches-first =

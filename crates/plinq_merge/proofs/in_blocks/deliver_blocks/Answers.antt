@@ -11,21 +11,15 @@ feed_block_from-requires-clause-undecided g c lives within = undecided-left _ _ 
 -- no room for a block, or for what it gives
 pub returns-in_err-ending-clause-delivers : goal.returns-in_err-ending-clause-delivers
 returns-in_err-ending-clause-delivers g c =
-    let is : c.from_residual.result ≡ Err Memory = search rules in
-    sent-stopped g.K.Sink.accepts g.K.Sink.refuses _ _ _ _ _ _ _ _ _ _ _ _ is c.loop-block.invariant.sent
+    let is : c.from_residual.result ≡ Err Memory = search rules in sent-stopped _ is c.loop-block.invariant.sent
 
 -- a block that decides the answer
 pub returns-in-Some-clause-delivers : goal.returns-in-Some-clause-delivers
 returns-in-Some-clause-delivers g c =
     let before = c.loop-block.invariant in
     let next = rw (c.in-Some.is, before.whole) at c.in_ok-ending.ensures.fed in
-    sent-over g.K.Sink.accepts g.K.Sink.refuses _ _ _ _ _ _ _ _ _ _ _ _ _ _ _ _
-    (omega (
-      arith,
-      c.in_ok-ending.ensures.asked,
-      length-take c.args.most
-          (drop (g.S.Source.given c.loop-block.source) (g.S.Source.whole c.loop-block.source).items),
-    )) before.sent next c.deliver_rest.ensures.ending
+    let few = length-take c.args.most (drop (g.S.Source.given c.loop-block.source) (g.S.Source.whole c.loop-block.source).items) in
+    sent-over before.sent (omega (arith, c.in_ok-ending.ensures.asked, few)) next c.deliver_rest.ensures.ending
     (rw before.size at c.deliver_rest.ensures.delivered)
 
 -- a block that leaves the answer open
@@ -38,9 +32,7 @@ loop-block-preserved g c =
       size = c.deliver_block.ensures.fills.size ∙ before.size;
       room = search rules;
       empty = search rules;
-      sent = sent-handed g.K.Sink.accepts g.K.Sink.refuses _ _ _ _ _ _ _ _ _ _ _ _ _
-          (hands-all _ _ _ _ _ _ _ _ _ (rw before.size at c.in_ok-deliver_block.ensures.fills.filled))
-          (sent-on g.K.Sink.accepts g.K.Sink.refuses _ _ _ _ _ _ _ _ _ _ _ _ before.sent next);
+      sent = sent-handed (hands-all (rw before.size at c.in_ok-deliver_block.ensures.fills.filled)) (sent-on before.sent next);
     }
 
 -- a batch that couldn't be delivered
@@ -49,5 +41,4 @@ returns-in_err-deliver_block-clause-delivers g c =
     let before = c.loop-block.invariant in
     let next = rw (c.in_default.is, before.whole) at c.in_ok-ending.ensures.fed in
     let is : c.from_residual-in_err-deliver_block.result ≡ Err c.in_err-deliver_block.field-0.0 = search rules in
-    sent-cut g.K.Sink.accepts g.K.Sink.refuses _ _ _ _ _ _ _ _ _ _ _ _ _ _ _ _ is (hands-all _ _ _ _ _ _ _ _ _
-    (rw before.size at c.in_err-deliver_block.ensures.fills.filled)) (sent-on g.K.Sink.accepts g.K.Sink.refuses _ _ _ _ _ _ _ _ _ _ _ _ before.sent next)
+    sent-cut _ is (hands-all (rw before.size at c.in_err-deliver_block.ensures.fills.filled)) (sent-on before.sent next)

@@ -11,7 +11,7 @@ returns-then-split-clause-delivers g c =
     let decided : c.split.result.decided ≡ list_any is_empty_take ops = c.split.ensures.plan.decided in
     let none : some_takes_none (stages_of g.L.Lambda.meaning ops) ≡ true =
     sym (some_takes_none-stages_of g.L.Lambda.meaning ops) ∙ sym decided ∙ search rules in
-    answer-none _ _ _ _ _ _ _ _ none c.requires.fresh
+    answer-none none c.requires.fresh
 
 pub deliver_blocks-requires-clause-undecided : goal.deliver_blocks-requires-clause-undecided
 deliver_blocks-requires-clause-undecided g c lives within =

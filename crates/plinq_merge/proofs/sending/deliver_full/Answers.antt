@@ -20,8 +20,7 @@ returns-then-not-is_full g c =
     rw c.in-Ring.is (record {
       size = ap Some capacity;
       room = omega (arith, few, capacity, ap length all ∙ length-append held xs);
-      filled = record
-          { held = all ∙ sym kept.1; sent = rw kept.0 refl };
+      filled = record { held = all ∙ sym kept.1; sent = rw kept.0 refl };
     })
 
 pub returns-in_err-sent-in-Ring : goal.returns-in_err-sent-in-Ring
@@ -39,11 +38,7 @@ returns-in_err-sent-in-Ring g c =
     rw (c.in-Ring.is, err) (record {
       size = search rules;
       room = tt;
-      filled = record {
-        held = tt;
-        sent = rw parts.0
-            (cut-before _ _ _ ((held ++ take k xs) ∷ []) _ _ _ (rw is at cut));
-      };
+      filled = record { held = tt; sent = rw parts.0 (cut-before _ _ _ ((held ++ take k xs) ∷ []) _ _ _ (rw is at cut)) };
     })
 
 pub returns-in_ok-sent-in-Ring : goal.returns-in_ok-sent-in-Ring
@@ -60,7 +55,6 @@ returns-in_ok-sent-in-Ring g c =
     let sent : Leads g.K.Sink.accepts c.args.sink.now (c.make_contiguous.result.now ∷ []) c.send-sent.new.sink = search rules in
     let parts = taken-full n k held xs (rw c.in-Ring.is at c.requires) full in
     let others = rw (empty, capacity, rest) at c.hand_whole-in-Ring.ensures in
-    let sends =
-    delivers-as _ _ _ _ _ _ _ parts.0 (delivers-after _ _ c.args.sink.now ((held ++ take k xs) ∷ []) _ c.send-sent.new.sink _ _
-    (rw is at sent) others.filled.sent) in
+    let all = delivers-after _ _ _ ((held ++ take k xs) ∷ []) _ _ _ _ (rw is at sent) others.filled.sent in
+    let sends = delivers-as _ _ _ _ _ _ _ parts.0 all in
     rw c.in-Ring.is (record { size = others.size; room = others.room; filled = record { held = rw parts.1 others.filled.held; sent = sends } })

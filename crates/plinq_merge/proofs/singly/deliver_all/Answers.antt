@@ -10,16 +10,14 @@ feed_from-requires-clause-undecided g c lives within = undecided-left _ _ _ _ _ 
 -- no room for what an item gives
 pub returns-in_err-ending-clause-delivers : goal.returns-in_err-ending-clause-delivers
 returns-in_err-ending-clause-delivers g c =
-    let is : c.from_residual.result ≡ Err Memory = search rules in
-    sent-stopped g.K.Sink.accepts g.K.Sink.refuses _ _ _ _ _ _ _ _ _ _ _ _ is c.loop-made.invariant.sent
+    let is : c.from_residual.result ≡ Err Memory = search rules in sent-stopped _ is c.loop-made.invariant.sent
 
 -- what decides the answer
 pub returns-in-Some-clause-delivers : goal.returns-in-Some-clause-delivers
 returns-in-Some-clause-delivers g c =
     let before = c.loop-made.invariant in
     let next = rw (c.in-Some.is, before.whole) at c.in_ok-ending.ensures.fed in
-    sent-over g.K.Sink.accepts g.K.Sink.refuses _ _ _ _ _ _ _ _ _ _ _ _ _ _ _ _ c.feed_from.ensures.one before.sent next c.deliver_rest.ensures.ending
-    (rw before.size at c.deliver_rest.ensures.delivered)
+    sent-over before.sent c.feed_from.ensures.one next c.deliver_rest.ensures.ending (rw before.size at c.deliver_rest.ensures.delivered)
 
 -- a batch that couldn't be delivered
 pub returns-in_err-deliver_ready-clause-delivers : goal.returns-in_err-deliver_ready-clause-delivers
@@ -27,8 +25,7 @@ returns-in_err-deliver_ready-clause-delivers g c =
     let before = c.loop-made.invariant in
     let next = rw (c.in_default.is, before.whole) at c.in_ok-ending.ensures.fed in
     let is : c.from_residual-in_err-deliver_ready.result ≡ Err c.in_err-deliver_ready.field-0.0 = search rules in
-    sent-cut g.K.Sink.accepts g.K.Sink.refuses _ _ _ _ _ _ _ _ _ _ _ _ _ _ _ _ is (rw before.size at c.in_err-deliver_ready.ensures.handed)
-    (sent-on g.K.Sink.accepts g.K.Sink.refuses _ _ _ _ _ _ _ _ _ _ _ _ before.sent next)
+    sent-cut _ is (rw before.size at c.in_err-deliver_ready.ensures.handed) (sent-on before.sent next)
 
 pub loop-made-smaller : goal.loop-made-smaller
 loop-made-smaller g c = rw c.feed_from.ensures.whole (feeds-smaller _ _ _ _ _ _ _ (rw c.in_default.is at c.in_ok-ending.ensures.fed))

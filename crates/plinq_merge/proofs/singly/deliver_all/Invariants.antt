@@ -11,7 +11,7 @@ invariant-loop-made g l =
       whole : g.S.Source.whole l.source ≡ g.S.Source.whole l.fn.source;
       size : size_of l.buffer ≡ size_of l.fn.buffer;
       room : HasRoom l.buffer;
-      sent : HasSent g.K.Sink.accepts g.K.Sink.refuses (size_of l.fn.buffer) (stages g.L.Lambda.meaning l.fn.pipeline) l.fn.sink
+      sent : HasSent g.K.Sink.accepts (size_of l.fn.buffer) (stages g.L.Lambda.meaning l.fn.pipeline) l.fn.sink
           (first_items (g.S.Source.given l.source) (g.S.Source.whole l.fn.source)) (held_of l.buffer) l.made.items
           (stages g.L.Lambda.meaning l.pipeline) l.sink None;
     }

@@ -13,6 +13,6 @@ returns-then-is_filled_by g c =
     let size : size_of buffer ≡ Some (length made) = search rules in
     let some : 0 < length made = rw (size, empty) at c.requires in
     let whole = batches-filled (length made) [] made some (omega arith) in
-    let kept = on-any _ c.send.result (sym whole.1) in
+    let kept = on-any c.send.result (sym whole.1) in
     let sent = delivers-as _ _ _ _ _ _ _ whole.0 c.send.ensures in
-    record { size = refl; room = on-any _ c.send.result c.requires; filled = rw (size, empty) (record { held = kept; sent = sent }) }
+    record { size = refl; room = on-any c.send.result c.requires; filled = rw (size, empty) (record { held = kept; sent = sent }) }

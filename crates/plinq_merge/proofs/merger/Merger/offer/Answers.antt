@@ -12,17 +12,11 @@ nothing-stops t t' n bad = cc
 
 pub returns-clause-takes : goal.returns-clause-takes
 returns-clause-takes g c =
-    let m = c.args.self.now in
-    let m' = c.offer_with.new.self in
-    offers-seen never nothing-stops g.K.Sink.accepts g.K.Sink.refuses g.L.Lambda.meaning m.decided g.K.Sink.accepts g.K.Sink.refuses (λ d. d.sink)
-    (λ d b d' passes. passes.taken) (λ d b code d' refused. refused.refused) m.joiner.work c.args.offered _ m'.joiner.work m'.joiner.standing _
-    m.joiner.standing c.offer_with.result c.offer_with.ensures.asks c.offer_with.ensures.takes
+    offers-seen never nothing-stops _ _ _ _ _ _ (λ d. d.sink) (λ d b d' passes. passes.taken) (λ d b code d' refused. refused.refused)
+    _ _ _ _ _ _ _ _ c.offer_with.ensures.asks c.offer_with.ensures.takes
 
 pub returns-clause-counts : goal.returns-clause-counts
 returns-clause-counts g c =
-    let m = c.args.self.now in
-    let m' = c.offer_with.new.self in
-    offers-seen never nothing-stops g.K.Sink.accepts g.K.Sink.refuses g.L.Lambda.meaning m.decided (Counts g.K.Sink.accepts) (CountsNot g.K.Sink.refuses)
-    (λ d. record { sink = d.sink; delivered = d.delivered }) (λ d b d' passes. (passes.taken, passes.counts))
-    (λ d b code d' refused. (refused.refused, refused.counts)) m.joiner.work c.args.offered _ m'.joiner.work m'.joiner.standing _
-    m.joiner.standing c.offer_with.result c.offer_with.ensures.asks c.offer_with.ensures.takes
+    offers-seen never nothing-stops _ _ _ _ (Counts g.K.Sink.accepts) (CountsNot g.K.Sink.refuses) (λ d. record { sink = d.sink; delivered = d.delivered })
+    (λ d b d' passes. (passes.taken, passes.counts)) (λ d b code d' refused. (refused.refused, refused.counts))
+    _ _ _ _ _ _ _ _ c.offer_with.ensures.asks c.offer_with.ensures.takes

@@ -12,14 +12,12 @@ returns g c =
     let answer = c.offer_to-answer.result in
     let did = c.offer_to-answer.ensures in
     let asked : AsksEach g.C.Cancel.asks g.K.Sink.accepts g.K.Sink.refuses (delivery_of w) c.answer_unless_stopped.result (delivery_of w') =
-    rw c.answer_unless_stopped.ensures (asks-within g.C.Cancel.asks g.K.Sink.accepts g.K.Sink.refuses w w' c.requires.unstopped w'.is_stopped answer refl
-    did.sends) in
+    rw c.answer_unless_stopped.ensures (asks-within _ _ _ w w' c.requires.unstopped w'.is_stopped answer refl did.sends) in
     record {
-      same = sends-same g.C.Cancel.asks g.K.Sink.accepts g.K.Sink.refuses w answer w' did.sends;
+      same = sends-same _ _ _ w answer w' did.sends;
       plan = did.plan;
-      takes = rw c.answer_unless_stopped.ensures (offers-within g.C.Cancel.asks g.K.Sink.accepts g.K.Sink.refuses w w' c.requires.unstopped
-          g.L.Lambda.meaning m.decided m.joiner.work c.args.offered m'.joiner.work m'.joiner.standing m.joiner.standing w'.is_stopped answer refl did.sends
-          did.takes);
-      told = asks-told g.C.Cancel.asks g.C.Cancel.has_told g.met.C.Cancel.keeps_told g.K.Sink.accepts g.K.Sink.refuses (delivery_of w) _ (delivery_of w') asked;
+      takes = rw c.answer_unless_stopped.ensures (offers-within _ _ _ w w' c.requires.unstopped g.L.Lambda.meaning m.decided m.joiner.work c.args.offered
+          m'.joiner.work m'.joiner.standing m.joiner.standing w'.is_stopped answer refl did.sends did.takes);
+      told = asks-told _ _ g.met.C.Cancel.keeps_told _ _ (delivery_of w) _ (delivery_of w') asked;
       asks = asked;
     }

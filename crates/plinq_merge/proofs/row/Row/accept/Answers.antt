@@ -7,8 +7,7 @@ pub returns-then-count-eq0-clause-taken : goal.returns-then-count-eq0-clause-tak
 returns-then-count-eq0-clause-taken g c =
     let by_key : c.args.order ≡ ByKey = search rules in
     rw (by_key, c.new.ensures.items)
-    (takes-placed_intervals ByKey c.args.self.now c.args.offered c.note_tail.new.self c.requires.fresh (rw c.if-count-eq0.true c.note_tail.ensures.buffer)
-    c.note_tail.ensures.source_end)
+    (takes-placed_intervals ByKey _ _ _ c.requires.fresh (rw c.if-count-eq0.true c.note_tail.ensures.buffer) c.note_tail.ensures.source_end)
 
 pub returns-in_ok-insert-in-ByKey-clause-taken : goal.returns-in_ok-insert-in-ByKey-clause-taken
 returns-in_ok-insert-in-ByKey-clause-taken g c =
@@ -25,8 +24,7 @@ pub returns-then-count-eq0-2-clause-taken : goal.returns-then-count-eq0-2-clause
 returns-then-count-eq0-2-clause-taken g c =
     let by_arrival : c.args.order ≡ ByArrival = search rules in
     rw (by_arrival, c.run_ending.ensures)
-    (takes-placed_intervals ByArrival c.args.self.now c.args.offered c.note_tail.new.self c.requires.fresh (rw c.if-count-eq0-2.true c.note_tail.ensures.buffer)
-    c.note_tail.ensures.source_end)
+    (takes-placed_intervals ByArrival _ _ _ c.requires.fresh (rw c.if-count-eq0-2.true c.note_tail.ensures.buffer) c.note_tail.ensures.source_end)
 
 pub returns-in_ok-insert-in-ByArrival-clause-taken : goal.returns-in_ok-insert-in-ByArrival-clause-taken
 returns-in_ok-insert-in-ByArrival-clause-taken g c =
@@ -34,8 +32,7 @@ returns-in_ok-insert-in-ByArrival-clause-taken g c =
     let by_arrival : c.args.order ≡ ByArrival = search rules in
     let turn = c.in_ok-insert-in-ByArrival.field-0 in
     let b' = c.insert-in-ByArrival.new.self in
-    let at : Inserts c.args.self.now.buffer r.first (end_of_result r) (open_trace c.new.result.items) turn b' = search rules in
-    let inserts : Inserts c.args.self.now.buffer r.first (end_of_result r) (open_trace []) turn b' = rw (← c.new.ensures.items) at in
+    let inserts : Inserts c.args.self.now.buffer r.first (end_of_result r) (open_trace []) turn b' = rw (← c.new.ensures.items) (search rules) in
     let after : Row g.row.T.Denot = record { buffer = b'; source_end = c.note_tail.new.self.source_end } in
     rw (by_arrival, c.run_ending.ensures)
     (subst (λ hand. TakesIn ByArrival c.args.self.now r hand after) (by_arrival-hand r c.args.self.now.buffer turn b' inserts)
