@@ -1,9 +1,8 @@
 -- A token that counts batches lets just so many pass.
-use Rattle.plinq_run.proofs.RunWords.{◌≡◌, ℕ, ◌+◌, ◌<◌, ◌≤◌, List, [], ◌∷◌, ◌++◌, length, take, true, false, nat_le, Result, Ok, Err, sym, ◌∙◌, ap, subst}
-use Rattle.plinq_run.proofs.RunWords.{arith, nat_tests, Trace, MergeOption, batches, Delivery, Passes, IsStopped, Leads, leads-map, Report, RunFault, Cancelled}
-use Rattle.plinq_run.proofs.RunWords.{RunsWith}
+use Rattle.plinq_run.proofs.RunWords.{◌≡◌, ℕ, ◌+◌, ◌<◌, ◌≤◌, List, [], ◌∷◌, ◌++◌, length, take, true, false, nat_le, Result, Ok, Err, sym, ◌∙◌, ap, subst, refl}
+use Rattle.plinq_run.proofs.RunWords.{arith, nat_tests, Trace, MergeOption, batches, Delivery, Passes, leads-map, Report, RunFault, Cancelled, RunsWith}
 use Rattle.std.proofs.{Math.Seq.take-append_seam, lemmas.List.length-append}
-use Rattle.plinq_merge.specs.{declared.cancel_after.CancelAfter.CancelAfter, Tokens.AsksAfter, Tokens.most_of}
+use Rattle.plinq_merge.specs.{declared.cancel_after.CancelAfter.CancelAfter, Cancelling.IsStopped, Sending.Leads, Tokens.AsksAfter, Tokens.most_of}
 use Rattle.plinq_run.specs.Stopping.{StopsAfter}
 
 module _ {K T : Type 0} (accepts : K → List T → K → Type 0) where
@@ -17,13 +16,7 @@ module _ {K T : Type 0} (accepts : K → List T → K → Type 0) where
       → d.delivered ≤ most_of d.token
       → Leads (Passes AsksAfter accepts) d bs d' → HavePassed d (length bs) d'
   have-passed d [] d' small within leads =
-      let same : d' ≡ d = leads in
-      record {
-        counts = omega (arith, ap (λ x. x.delivered) same);
-        within = omega (arith, within, ap (λ x. x.delivered) same);
-        most = ap
-            (λ x. most_of x.token) same;
-      }
+      let same : d' ≡ d = leads in rw same (record { counts = omega arith; within = within; most = refl })
   have-passed d (b ∷ bs) d' small within (m, step, leads) =
       let asked = step.asked in
       let before : nat_le (most_of d.token) d.delivered ≡ false = sym asked.is in

@@ -4,15 +4,16 @@ use Rattle.plinq_run.proofs.RunWords.{◌≡◌, ℕ, ◌+◌, ◌<◌, ◌≤�
 use Rattle.plinq_run.proofs.RunWords.{All, refl, Bool, ◌||◌, IsPermutation, IfSome, sym, ◌∙◌, ap, subst, inl, inr, arith, append_assoc, All-head, All-tail}
 use Rattle.plinq_run.proofs.RunWords.{take-append-drop, length-take-le, length-drop, IsPermutation-refl, IsPermutation-trans, All-weaker, Ending, Trace}
 use Rattle.plinq_run.proofs.RunWords.{open_trace, followed_by, Meaning, Op, ByArrival, Plan, ChunkResult, IsRearranged, result_trace, glue, are_keyless, EndsAt}
-use Rattle.plinq_run.proofs.RunWords.{end_of_result, Interval, unbroken_row, first_gap, is_within, is_offered, all_placed, all_told, all_given, ending_at, row}
+use Rattle.plinq_run.proofs.RunWords.{end_of_result, Interval, unbroken_row, first_gap, is_offered, all_placed, all_told, all_given}
 use Rattle.plinq_run.proofs.RunWords.{arrived_trace, merged_trace, AreApart, IsResult}
 use Rattle.std.proofs.lemmas.Bool.{or_parts, or_from, false_from_ne_true}
 use Rattle.std.proofs.lemmas.List.Sorted.{IsPermutation-append_comm, IsPermutation-append_left}
 use Rattle.plinq_source.proofs.Followed.{trace_of, followed_by-open_nil}
 use Rattle.plinq_ops.specs.Fragment.{glued_trace}
 use Rattle.plinq_ops.proofs.{Keyless.glued_trace-keyless, Cut.undropped-uncut, Cut.result-is, Glue.glued_trace-append, Glue.chunk_answer-uncut}
+use Rattle.plinq_reorder.specs.Intervals.{is_within}
 use Rattle.plinq_reorder.proofs.{Keys.same_key, Keys.within-from, Keys.not_within-before, Keys.not_within-after, Gap.All-unbroken_row, Gap.gap-covered}
-use Rattle.plinq_merge.specs.{OfferedKeys.AreNew, Whole.AreTrueTails}
+use Rattle.plinq_merge.specs.{OfferedKeys.AreNew, Whole.AreTrueTails, Shown.ending_at, Shown.row}
 use Rattle.plinq_merge.proofs.{Holds.nothing-placed, Holds.nothing-given, Holds.is_offered-append, Whole.told-true, Whole.placed-all}
 
 -- the items that aren't at these places, counted from k
@@ -21,16 +22,15 @@ without p k [] = []
 without p k (x ∷ xs) = cond (p k) (without p (k + 1) xs) (x ∷ without p (k + 1) xs)
 
 pub without-append : {T : Type 0} (p : ℕ → Bool) (k : ℕ) (xs ys : List T) → without p k (xs ++ ys) ≡ without p k xs ++ without p (k + length xs) ys
-without-append p k [] ys = ap (λ j. without p j ys) (let same : k ≡ k + 0 = omega arith in same)
+without-append p k [] ys = let same : k + 0 ≡ k = omega arith in rw same
 without-append p k (x ∷ xs) ys =
-    let later : without p (k + 1) (xs ++ ys) ≡ without p (k + 1) xs ++ without p (k + length (x ∷ xs)) ys =
-    without-append p (k + 1) xs ys
-    ∙ ap (λ j. without p (k + 1) xs ++ without p j ys) (let same : (k + 1) + length xs ≡ k + length (x ∷ xs) = omega arith in same) in
-    elim (p k) as (λ v. cond v (without p (k + 1) (xs ++ ys)) (x ∷ without p (k + 1) (xs ++ ys)) ≡ cond v (without p (k + 1) xs) (x ∷ without p (k + 1) xs)
-    ++ without p (k + length (x ∷ xs)) ys) [
-      | true ↦ later
-      | false ↦ ap (λ zs. x ∷ zs) later
-    ]
+    let place : k + length (x ∷ xs) ≡ (k + 1) + length xs = omega arith in
+    let rest : List _ = without p ((k + 1) + length xs) ys in
+    let here = without p (k + 1) xs in
+    rw (place, without-append p (k + 1) xs ys) (elim (p k) as (λ v. cond v (here ++ rest) (x ∷ here ++ rest) ≡ cond v here (x ∷ here) ++ rest) [
+      | true ↦ refl
+      | false ↦ refl
+    ])
 
 -- places that are the same among those of the items
 pub without-as : {T : Type 0} (p q : ℕ → Bool) (k : ℕ) (xs : List T) → ((j : ℕ) → k ≤ j → j < k + length xs → p j ≡ q j) → without p k xs ≡ without q k xs
@@ -43,13 +43,11 @@ without-none : {T : Type 0} (k : ℕ) (xs : List T) → without (λ _. false) k 
 without-none k [] = refl
 without-none k (x ∷ xs) = ap (λ zs. x ∷ zs) (without-none (k + 1) xs)
 
-without-every : {T : Type 0} (k : ℕ) (xs : List T) → without (λ _. true) k xs ≡ []
-without-every k [] = refl
-without-every k (x ∷ xs) = without-every (k + 1) xs
-
 -- nothing is left where all were taken
 pub without-all : {T : Type 0} (p : ℕ → Bool) (k : ℕ) (xs : List T) → ((j : ℕ) → k ≤ j → j < k + length xs → p j ≡ true) → without p k xs ≡ []
-without-all p k xs all = without-as p (λ _. true) k xs all ∙ without-every k xs
+without-all p k [] all = refl
+without-all p k (x ∷ xs) all =
+    rw (all k (omega arith) (omega arith)) (without-all p (k + 1) xs (λ j from below. all j (omega arith) (omega arith)))
 
 -- ---- results
 
@@ -76,12 +74,9 @@ without-result {T} xs r rs within new =
     let size_a : length A ≡ f = length-take-le f xs few in
     let size_s : length S ≡ c = length-take-le c (drop f xs) (omega (arith, within, length-drop f xs)) in
     let parts : xs ≡ A ++ (S ++ B) = sym (take-append-drop f xs) ∙ ap (λ ys. A ++ ys) (sym (take-append-drop c (drop f xs))) in
+    let from_a : 0 + length A ≡ f = omega (arith, size_a) in
     let split : (p : ℕ → Bool) → without p 0 xs ≡ without p 0 A ++ (without p f S ++ without p (f + c) B) =
-    λ p. ap (without p 0) parts
-    ∙ without-append p 0 A (S ++ B)
-    ∙ ap (λ j. without p 0 A ++ without p j (S ++ B)) (let same : 0 + length A ≡ f = omega (arith, size_a) in same)
-    ∙ ap (λ ys. without p 0 A ++ ys) (without-append p f S B ∙ ap (λ j. without p f S ++ without p j B)
-    (let same : f + length S ≡ f + c = omega (arith, size_s) in same)) in
+    λ p. ap (without p 0) parts ∙ without-append p 0 A (S ++ B) ∙ rw (from_a, without-append p f S B, size_s) in
     let old : ℕ → Bool = is_offered rs in
     let all : ℕ → Bool = is_offered (r ∷ rs) in
     let free : without old f S ≡ S =
@@ -94,30 +89,25 @@ without-result {T} xs r rs within new =
     without-as all old (f + c) B (λ j from below. ap (λ v. v || is_offered rs j) (not_within-after f (f + c) j from)) in (
       without old 0 A,
       without old (f + c) B,
-      split old ∙ ap (λ ys. without old 0 A ++ (ys ++ without old (f + c) B)) free,
-      split all ∙ ap (λ ys. without all 0 A ++ (ys ++ without all (f + c) B)) gone ∙ ap (λ ys. ys ++ without all (f + c) B) same_a
-          ∙ ap (λ ys. without old 0 A ++ ys) same_b,
+      split old ∙ rw free,
+      split all ∙ rw (gone, same_a, same_b),
     )
 
 moved-front : {T : Type 0} (w a s b : List T) → IsPermutation (w ++ (a ++ (s ++ b))) ((s ++ w) ++ (a ++ b))
 moved-front w a s b =
-    let comm = IsPermutation-append_left b ((w ++ a) ++ s) (s ++ (w ++ a)) (IsPermutation-append_comm (w ++ a) s) in
-    let from : ((w ++ a) ++ s) ++ b ≡ w ++ (a ++ (s ++ b)) = append_assoc (w ++ a) s b ∙ append_assoc w a (s ++ b) in
-    let to : (s ++ (w ++ a)) ++ b ≡ (s ++ w) ++ (a ++ b) = ap (λ ys. ys ++ b) (sym (append_assoc s w a)) ∙ append_assoc (s ++ w) a b in
-    subst (λ ys. IsPermutation (w ++ (a ++ (s ++ b))) ys) to (subst (λ ys. IsPermutation ys ((s ++ (w ++ a)) ++ b)) from comm)
+    rw (← append_assoc w a (s ++ b), ← append_assoc (w ++ a) s b, ← append_assoc (s ++ w) a b, append_assoc s w a)
+    (IsPermutation-append_left b ((w ++ a) ++ s) (s ++ (w ++ a)) (IsPermutation-append_comm (w ++ a) s))
 
 -- what results that are apart take of some items, and what is left, are these items in another order
 pub rearranged-taken : {T : Type 0} (xs : List T) (rs : List (ChunkResult T)) → All (IsWithin xs) rs → AreApart rs
     → IsPermutation xs (taken_by xs rs ++ without (is_offered rs) 0 xs)
-rearranged-taken xs [] within apart = subst (λ ys. IsPermutation xs ys) (sym (without-none 0 xs)) (IsPermutation-refl xs)
+rearranged-taken xs [] within apart = rw (without-none 0 xs) (IsPermutation-refl xs)
 rearranged-taken {T} xs (r ∷ rs) within apart =
     let S : List T = take r.count (drop r.first xs) in
     let W : List T = taken_by xs rs in
     let place = without-result xs r rs (All-head (IsWithin xs) r rs within) apart.0 in
-    let before = rearranged-taken xs rs (All-tail (IsWithin xs) r rs within) apart.1 in
-    let here = subst (λ ys. IsPermutation xs (W ++ ys)) place.2 before in
-    let moved = IsPermutation-trans xs (W ++ (place.0 ++ (S ++ place.1))) ((S ++ W) ++ (place.0 ++ place.1)) here (moved-front W place.0 S place.1) in
-    subst (λ ys. IsPermutation xs ((S ++ W) ++ ys)) (sym place.3) moved
+    let before = rw place.2 at (rearranged-taken xs rs (All-tail (IsWithin xs) r rs within) apart.1) in
+    rw place.3 (IsPermutation-trans xs _ ((S ++ W) ++ (place.0 ++ place.1)) before (moved-front W place.0 S place.1))
 
 -- ---- results that are apart, and one more
 

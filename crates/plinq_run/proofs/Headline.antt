@@ -1,8 +1,8 @@
 -- What an ordered run delivers, by the definitions that proofs use and by those of the headline.
-use Rattle.plinq_run.proofs.RunWords.{◌≡◌, refl, ℕ, List, [], ◌∷◌, ◌++◌, ◌+◌, ◌==◌, nat_le, length, if◌then◌else◌, Bool, true, false, Option, Some, None}
-use Rattle.plinq_run.proofs.RunWords.{Result, Ok, Err, arith, ap, sym, subst, ◌∙◌, append_assoc, append-nil, nat_tests, Ending, End, Trace, ended_trace}
-use Rattle.plinq_run.proofs.RunWords.{followed_by, Meaning, MergeOption, Op, MayAnswer, batches, batches_from, stages_of, answer_of, seq, Leads, Report}
-use Rattle.plinq_run.proofs.RunWords.{RunFault, Sink, Cancelled, reported_ending, Reports, HasRun, Runs}
+use Rattle.plinq_run.proofs.RunWords.{◌≡◌, refl, ℕ, List, [], ◌∷◌, ◌++◌, nat_le, length, if◌then◌else◌, Bool, true, Option, Some, None}
+use Rattle.plinq_run.proofs.RunWords.{Result, Ok, Err, arith, ap, sym, ◌∙◌, append_assoc, append-nil, nat_tests, Ending, End, Trace, ended_trace}
+use Rattle.plinq_run.proofs.RunWords.{followed_by, Meaning, MergeOption, Op, MayAnswer, batches, batches_from, stages_of, answer_of, seq, Report}
+use Rattle.plinq_run.proofs.RunWords.{RunFault, Sink, Cancelled, reported_ending, Reports, Runs}
 use Rattle.std.specs.Prelude.{pos, negsuc}
 use Rattle.plinq_ops.specs.declared.merge_option.MergeOption.TheVariants.{NotBuffered, FullyBuffered}
 use Rattle.plinq_ops.specs.declared.op.Op.TheVariants.{Select, Filter, SelectMany, Take, Skip, TakeWhile, SkipWhile, AsUnordered}
@@ -16,43 +16,24 @@ use Rattle.plinq_run.proofs.Stopping.{reports-runs}
 -- ---- operators
 
 module _ {T : Type 0} where
-  selects : (r : Result T ℕ) (rest : Trace T) → followed_by (selected_piece r) rest ≡ or_fault r (λ y. before (y ∷ []) rest)
-  selects (Ok y) rest = refl
-  selects (Err code) rest = refl
-
-  filters : (r : Result Bool ℕ) (x : T) (rest : Trace T)
-      → followed_by (filtered_piece r x) rest ≡ or_fault r (λ passes. if passes then before (x ∷ []) rest else rest)
-  filters (Ok true) x rest = refl
-  filters answer x rest = refl
-
-  expands : (r : Result (List T) ℕ) (rest : Trace T) → followed_by (selected_many r) rest ≡ or_fault r (λ ys. before ys rest)
-  expands (Ok ys) rest = refl
-  expands (Err code) rest = refl
-
-  takes_while : (r : Result Bool ℕ) (x : T) (rest : Trace T)
-      → followed_by (taken_while r x) rest ≡ or_fault r (λ passes. if passes then before (x ∷ []) rest else ended_trace [] End)
-  takes_while (Ok true) x rest = refl
-  takes_while answer x rest = refl
-
   skips_while : (r : Result Bool ℕ) (xs : List T) (e : Option Ending) (rest : Trace T)
       → skipped_from r xs e rest ≡ or_fault r (λ passes. if passes then rest else record { items = xs; ending = e })
   skips_while (Ok true) xs e rest = refl
   skips_while answer xs e rest = refl
 
   -- where each piece, followed by what comes of the later items, is what an item gives
-  joined_pieces-each : {A : Type 0} (asks : T → Result A ℕ) (gives : T → A → Trace T → Trace T → Trace T) (piece : T → Trace T)
-      → ((x : T) (here rest : Trace T) → followed_by (piece x) rest ≡ or_fault (asks x) (λ answer. gives x answer here rest))
-      → (xs : List T) (e : Option Ending) → joined_pieces piece xs e ≡ each asks gives xs e
+  joined_pieces-each : {A : Type 0} (asks : T → Result A ℕ) (gives : T → A → Trace T → Trace T → Trace T) (piece : T → Result A ℕ → Trace T)
+      → ((x : T) (r : Result A ℕ) (here rest : Trace T) → followed_by (piece x r) rest ≡ or_fault r (λ answer. gives x answer here rest))
+      → (xs : List T) (e : Option Ending) → joined_pieces (λ x. piece x (asks x)) xs e ≡ each asks gives xs e
   joined_pieces-each asks gives piece same [] e = refl
   joined_pieces-each asks gives piece same (x ∷ xs) e =
-      ap (λ u. followed_by (piece x) u) (joined_pieces-each asks gives piece same xs e) ∙ same x (record { items = x ∷ xs; ending = e }) (each asks gives xs e)
+      ap (followed_by (piece x (asks x))) (joined_pieces-each asks gives piece same xs e) ∙ same x (asks x) (record { items = x ∷ xs; ending = e }) _
 
   skipped-each : (test : T → Result Bool ℕ) (xs : List T) (e : Option Ending)
       → skipped_while test xs e ≡ each test (λ x passes here rest. if passes then rest else here) xs e
   skipped-each test [] e = refl
   skipped-each test (x ∷ xs) e =
-      ap (λ u. skipped_from (test x) (x ∷ xs) e u) (skipped-each test xs e)
-      ∙ skips_while (test x) (x ∷ xs) e (each test (λ x passes here rest. if passes then rest else here) xs e)
+      ap (skipped_from (test x) (x ∷ xs) e) (skipped-each test xs e) ∙ skips_while (test x) (x ∷ xs) e _
 
   none-taken_trace : (t : Trace T) → taken_trace 0 t ≡ ended_trace [] End
   none-taken_trace t = let all : nat_le 0 (length t.items) ≡ true = grind (arith, nat_tests) in rw all refl
@@ -60,15 +41,15 @@ module _ {T : Type 0} where
   module _ {L : Type 0} (meaning : L → Meaning T) where
     applied : (op : Op L) (t : Trace T) → apply (stage_of meaning op) t ≡ does meaning op t
     applied (Select f) t =
-        joined_pieces-each (meaning f).map _ (λ x. selected_piece ((meaning f).map x)) (λ x here rest. selects ((meaning f).map x) rest) t.items t.ending
+        joined_pieces-each _ _ (λ x r. selected_piece r) (λ x. elim [ Ok y ↦ λ here rest. refl | Err code ↦ λ here rest. refl ]) t.items t.ending
     applied (Filter f) t =
-        joined_pieces-each (meaning f).test _ (λ x. filtered_piece ((meaning f).test x) x) (λ x here rest. filters ((meaning f).test x) x rest) t.items t.ending
+        joined_pieces-each _ (λ x passes here rest. if passes then before (x ∷ []) rest else rest) (λ x r. filtered_piece r x)
+        (λ x. elim [ Ok true ↦ λ here rest. refl | _ ↦ λ here rest. refl ]) t.items t.ending
     applied (SelectMany f) t =
-        joined_pieces-each (meaning f).expand _ (λ x. selected_many ((meaning f).expand x))
-        (λ x here rest. expands ((meaning f).expand x) rest) t.items t.ending
+        joined_pieces-each _ _ (λ x r. selected_many r) (λ x. elim [ Ok ys ↦ λ here rest. refl | Err code ↦ λ here rest. refl ]) t.items t.ending
     applied (TakeWhile f) t =
-        joined_pieces-each (meaning f).test _ (λ x. taken_while ((meaning f).test x) x) (λ x here rest. takes_while ((meaning f).test x) x rest) t.items
-        t.ending
+        joined_pieces-each _ (λ x passes here rest. if passes then before (x ∷ []) rest else ended_trace [] End) (λ x r. taken_while r x)
+        (λ x. elim [ Ok true ↦ λ here rest. refl | _ ↦ λ here rest. refl ]) t.items t.ending
     applied (SkipWhile f) t = skipped-each (meaning f).test t.items t.ending
     applied (Take (pos n)) t = refl
     applied (Take (negsuc n)) t = none-taken_trace t
@@ -87,15 +68,10 @@ module _ {T : Type 0} where
   in_hand [] = []
   in_hand (x ∷ xs) = (x ∷ xs) ∷ []
 
-  either_way : (full : Bool) (b : List T) (xs ys fs gs : List (List T)) (h k : List T) → xs ≡ fs ++ in_hand h → ys ≡ gs ++ in_hand k
-      → (if full then b ∷ xs else ys) ≡ (if full then b ∷ fs else gs) ++ in_hand (if full then h else k)
-  either_way true b xs ys fs gs h k first second = ap (λ zs. b ∷ zs) first
-  either_way false b xs ys fs gs h k first second = second
-
   cut_up : (n : ℕ) (hand xs : List T) → in_batches n hand xs ≡ full_batches (Some n) hand xs ++ in_hand (held_back (Some n) hand xs)
   cut_up n [] [] = refl
   cut_up n (y ∷ ys) [] = refl
-  cut_up n hand (x ∷ xs) = either_way (length hand + 1 == n) (hand ++ x ∷ []) _ _ _ _ _ _ (cut_up n [] xs) (cut_up n (hand ++ x ∷ []) xs)
+  cut_up n hand (x ∷ xs) = grind (arith, cut_up n [] xs, cut_up n (hand ++ x ∷ []) xs)
 
   -- where more may come, what is in hand isn't handed over yet
   abbrev kept : List T → Option Ending → List (List T)
@@ -113,15 +89,9 @@ module _ {T : Type 0} where
     pub parts : handed_over option u.items u.ending ≡ batches (merge_in_force option) u ++ more
     pub all : (e : Ending) → u.ending ≡ Some e → more ≡ []
 
-  kept-none : (xs : List T) (ending : Option Ending) (e : Ending) → ending ≡ Some e → kept xs ending ≡ []
-  kept-none xs ending e is = ap (kept xs) is
-
   by_size : (n : ℕ) (u : Trace T) → in_batches n [] u.items ≡ batches_from (Some n) [] u ++ kept (held_back (Some n) [] u.items) u.ending
   by_size n u =
-      cut_up n [] u.items
-      ∙ ap (λ zs. full_batches (Some n) [] u.items ++ zs) (last n (held_back (Some n) [] u.items) u.ending)
-      ∙ sym (append_assoc (full_batches (Some n) [] u.items) (last_batch (Some n) (held_back (Some n) [] u.items) u.ending)
-      (kept (held_back (Some n) [] u.items) u.ending))
+      rw (cut_up n [] u.items, last n (held_back (Some n) [] u.items) u.ending) (sym (append_assoc (full_batches (Some n) [] u.items) _ _))
 
   -- without a size no batch is ever full
   none-full : (hand xs : List T) → full_batches None hand xs ≡ []
@@ -138,39 +108,26 @@ module _ {T : Type 0} where
   at_end xs e = refl
 
   whole : (u : Trace T) → handed_over (Some FullyBuffered) u.items u.ending ≡ batches_from None [] u ++ []
-  whole u =
-      at_end u.items u.ending
-      ∙ ap (λ xs. last_batch None xs u.ending) (sym (all-held [] u.items))
-      ∙ ap (λ zs. zs ++ last_batch None (held_back None [] u.items) u.ending) (sym (none-full [] u.items))
-      ∙ sym (append-nil (batches_from None [] u))
+  whole u = at_end u.items u.ending ∙ rw (none-full [] u.items, all-held [] u.items) (sym (append-nil _))
 
   begins : (option : Option MergeOption) (u : Trace T) → IsBeginning option u
-  begins (Some NotBuffered) u =
-      record { more = kept (held_back (Some 1) [] u.items) u.ending; parts = by_size 1 u; all = kept-none (held_back (Some 1) [] u.items) u.ending }
+  begins (Some NotBuffered) u = record { more = _; parts = by_size 1 u; all = λ e is. ap (kept (held_back (Some 1) [] u.items)) is }
   begins (Some FullyBuffered) u = record { more = []; parts = whole u; all = λ e is. refl }
-  begins option u =
-      record { more = kept (held_back (Some 16) [] u.items) u.ending; parts = by_size 16 u; all = kept-none (held_back (Some 16) [] u.items) u.ending }
+  begins option u = record { more = _; parts = by_size 16 u; all = λ e is. ap (kept (held_back (Some 16) [] u.items)) is }
 
   -- ---- runs
 
   module _ {K : Type 0} (accepts : K → List T → K → Type 0) (option : Option MergeOption) (u : Trace T) (s s' : K) where
-    ended-delivered : (e : Ending) → HasRun accepts (merge_in_force option) u s s' e
-        → (u.ending ≡ Some e) × Leads accepts s (handed_over option u.items u.ending) s'
-    ended-delivered e h =
-        let b = begins option u in
-        let bs = batches (merge_in_force option) u in
-        let same : handed_over option u.items u.ending ≡ bs = b.parts ∙ ap (λ zs. bs ++ zs) (b.all e h.ending) ∙ append-nil bs in
-        (h.ending, subst (λ bs. Leads accepts s bs s') (sym same) h.delivered)
-
     first-of : TakesBeginning accepts s (batches (merge_in_force option) u) s' → TakesBeginning accepts s (handed_over option u.items u.ending) s'
     first-of (first, rest, parts, leads) =
-        let b = begins option u in
-        (first, rest ++ b.more, b.parts ∙ ap (λ zs. zs ++ b.more) parts ∙ append_assoc first rest b.more, leads)
+        let b = begins option u in (first, rest ++ b.more, b.parts ∙ ap (λ zs. zs ++ b.more) parts ∙ append_assoc first rest b.more, leads)
 
     runs-delivered : (refuses : K → List T → ℕ → K → Type 0) (r : Result Report RunFault)
         → Runs accepts refuses (merge_in_force option) u s s' (reported_ending r)
         → HasDelivered accepts refuses option u s s' r
-    runs-delivered refuses (Ok report) h = ended-delivered report.ending h
+    runs-delivered refuses (Ok report) h =
+        let b = begins option u in
+        (h.ending, rw (b.parts, b.all report.ending h.ending, append-nil (batches (merge_in_force option) u)) h.delivered)
     runs-delivered refuses (Err (Sink code)) (first, next, rest, between, parts, leads, refused) =
         let b = begins option u in
         (first, next, rest ++ b.more, between, b.parts ∙ ap (λ zs. zs ++ b.more) parts ∙ append_assoc first (next ∷ rest) b.more, leads, refused)
@@ -185,5 +142,4 @@ pub ordered-delivered : {L T K : Type 0} (meaning : L → Meaning T) (accepts : 
 ordered-delivered meaning accepts refuses option ordered ops t s s' r is h =
     runs-delivered accepts option (answers meaning ops t) s s' refuses r
     (reports-runs accepts refuses (merge_in_force option) (MayAnswer meaning true ops) t s s' (answers meaning ops t) r
-    (λ u may. may ∙ answers-same meaning ops t)
-    (subst (λ o. Reports accepts refuses (merge_in_force option) (MayAnswer meaning o ops) t s s' r) is h))
+    (λ u may. may ∙ answers-same meaning ops t) (rw is at h))

@@ -3,10 +3,8 @@ use Rattle.plinq_run.proofs.RunWords.{◌≡◌, List, [], Bool, Option, Some, N
 use Rattle.plinq_run.proofs.RunWords.{Ending, SourceGhosts, Trace, open_trace, Record, all_shares, Order, ChunkResult, DeliveryFault, NoMemory, MergeFault}
 use Rattle.plinq_run.proofs.RunWords.{delivery_fault_of, merged_trace, IsTaking, AreApart, Ended, RunFault, HasBrokenOff, Breaks, IsOffered, Cause, Other}
 use Rattle.plinq_run.proofs.RunWords.{cause_of, is_close}
-use Rattle.std.specs.declared.alloc.Global.{Global}
-use Rattle.std.proofs.{Common.refl, Common.drop, Common.Vec, lemmas.Fn.chained_keeps, lemmas.List.Elements.All-push, lemmas.List.Folds.list_any-from_Any}
+use Rattle.std.proofs.{Common.refl, Common.drop, lemmas.Fn.chained_keeps, lemmas.List.Elements.All-push, lemmas.List.Folds.list_any-from_Any}
 use Rattle.plinq_source.specs.declared.memory.OutOfMemory.{OutOfMemory}
-use Rattle.plinq_partition.specs.declared.partition.Partition.{Partition}
 use Rattle.plinq_stream.specs.{declared.sent.Sent.Sent, Passes.knowledge_of}
 use Rattle.plinq_stream.proofs.Under.{or-none}
 use Rattle.plinq_merge.specs.declared.{merge_fault.MergeFault.TheVariants.Sink, more.More.More, joiner.Joiner.Joiner}
@@ -18,7 +16,7 @@ use Rattle.plinq_crew.specs.{Polls.HasAccepted, Working.IsOfOne, Working.IsAnswe
 use Rattle.plinq_crew.proofs.{Working.answered-wholly, Polls.accepted-such}
 use Rattle.plinq_run.specs.declared.accepting.{Merging.Merging, MergingInto.MergingInto}
 use Rattle.plinq_run.specs.inner.Merged.{offer_fault, AcceptsAfter, AreSame, AcceptsInto, Stands, HasMerged}
-use Rattle.plinq_run.specs.inner.{Conducted.HasAnswered, Conducted.HasRunCrew, Finishing.Finishes, Reported.cause_in_merge, FirstFault.AreSound}
+use Rattle.plinq_run.specs.inner.{Conducted.HasRunCrew, Finishing.Finishes, Reported.cause_in_merge, FirstFault.AreSound}
 use Rattle.plinq_run.proofs.Arrived.{apart-push}
 
 -- a fault of the merge has the cause for which the taker broke off
@@ -90,24 +88,13 @@ module _ {W O T : Type 0} (made : W → O → Trace T → Result (Option Ending)
   broken-by None m y run_fault is offers are apart stands =
       let last = taker_of m.joiner in
       let broken : (how : Result (Option Ending) DeliveryFault) → made a x (merged_trace order offers) how last y → Breaks how (cause_of run_fault)
-      → HasBrokenOff made
-      IsPart order a x run_fault y =
+      → HasBrokenOff made IsPart order a x run_fault y =
       λ how taken breaks. record { offers = offers; are = are; apart = apart; last = last; how = how; taken = taken; breaks = breaks } in
       joined-cases made a x m.joiner y offers stands.1
-      (λ no gap waits before. broken (Err NoMemory)
-      (subst (λ o. made a x (merged_trace o offers) (Err NoMemory) last y) stands.0 (joined-stopped made a x lawful m.joiner y offers waits before)) is)
-      (λ e yes ok all. broken (Ok (Some e)) (subst (λ o. made a x (merged_trace o offers) (Ok (Some e)) last y) stands.0 all) is)
+      (λ no gap waits before. broken (Err NoMemory) (rw stands.0 at (joined-stopped made a x lawful m.joiner y offers waits before)) is)
+      (λ e yes ok all. broken (Ok (Some e)) (rw stands.0 at all) is)
   broken-by (Some fault) m y run_fault is offers are apart stands =
-      record {
-        offers = offers;
-        are = are;
-        apart = apart;
-        last = stands.0;
-        how = Err (delivery_fault_of fault);
-        taken = stands.1;
-        breaks = breaks-by fault
-            (cause_of run_fault) is;
-      }
+      record { offers = offers; are = are; apart = apart; last = stands.0; how = Err (delivery_fault_of fault); taken = stands.1; breaks = breaks-by _ _ is }
 
   -- where the joiner has ended the answer, its taker has taken all that was offered
   ended-by : (j : Joiner W T) (y : O) (e : Ending) (offers : List (ChunkResult T)) → Stands made IsPart order a x None j y offers → ending_of j ≡ Ok e
@@ -115,10 +102,7 @@ module _ {W O T : Type 0} (made : W → O → Trace T → Result (Option Ending)
   ended-by j y e offers stands ending =
       joined-cases made a x j y offers stands.1
       (λ no gap waits before. absurd cc)
-      (λ e' yes ok all.
-      let same : e' ≡ e = cc in
-      subst (λ o. made a x (merged_trace o offers) (Ok (Some e)) (taker_of j) y) stands.0
-      (subst (λ d. made a x (merged_trace (order_of j) offers) (Ok (Some d)) (taker_of j) y) same all))
+      (λ e' yes ok all. let same : e' ≡ e = cc in rw (stands.0, same) at all)
 
 -- what was lent stays the same
 pub conducts-same : {L S J P U W O T : Type 0} {source : SourceGhosts S U}
@@ -165,9 +149,7 @@ module _ {L S J P U W O T : Type 0} {source : SourceGhosts S U} {m : Merging W T
       let complete : AreSound back.worker_faults back.worker_count = f.sound in
       let none = or-none back.worker_faults.memory back.worker_faults.tickets complete.memory complete.tickets in
       let (k, entry, less, at, asked) = h.closed none in
-      subst (λ (ps : Vec (Partition S U source) Global). HasAnswered made IsPart crew context a x (record { partitions = ps; joined = ended.joined }) y)
-      (sym f.partitions)
-      (record {
+      rw f.partitions (record {
         shared = record {
           some = h.some;
           of = h.of;
@@ -197,8 +179,7 @@ module _ {L S J P U W O T : Type 0} {source : SourceGhosts S U} {m : Merging W T
           are = All-weaker (IsOfCrew back IsPart) (IsOffered IsPart (all_shares back.partitions.items)) (λ c is. (is.0, is.1 complete.started))
               all.offers all.are;
           apart = all.apart;
-          taken = subst (λ b. made a x (merged_trace order all.offers) (Ok (Some ended.joined.ending)) b y) (sym f.taker)
-              (ended-by made lawful IsPart order a x m.joiner y ended.joined.ending all.offers stands f.ending);
+          taken = rw f.taker (ended-by made lawful IsPart order a x m.joiner y ended.joined.ending all.offers stands f.ending);
         };
       })
   reported-run (Err fault) f h =

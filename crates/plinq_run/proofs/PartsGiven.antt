@@ -1,7 +1,7 @@
 -- A taker that was given the accumulators of what was merged was given those of an answer; and its value, where it combines them.
 use Rattle.plinq_run.proofs.RunWords.{◌≡◌, ◌≤◌, ◌^◌, List, [], length, Bool, true, false, Option, Some, None, Result, Ok, Err, All, refl, list_any, sym, ◌∙◌}
 use Rattle.plinq_run.proofs.RunWords.{ap, subst, All-weaker, Ending, End, SourceGhosts, Trace, Meaning, Folding, IsFolding, fold_of, all_shares, Op, Plan}
-use Rattle.plinq_run.proofs.RunWords.{ChunkResult, MayAnswer, IsFed, is_empty_take, stages_of, IsPlanOf, QueryView, Stage, seq, some_takes_none}
+use Rattle.plinq_run.proofs.RunWords.{ChunkResult, MayAnswer, IsFed, is_empty_take, stages_of, IsPlanOf, QueryView, Stage, seq}
 use Rattle.plinq_run.proofs.RunWords.{some_takes_none-stages_of, DeliveryFault, merged_trace, IsTaking, AreApart, IsUndecided, IsResult, IsPart, RunFault}
 use Rattle.plinq_run.proofs.RunWords.{Breaks, Cause, Other, cause_of, IsFoldOf, merged_answer, MayMerge, IsOffered, IsFolded}
 use Rattle.std.specs.Prelude.{not, ◌&&◌}
@@ -41,9 +41,7 @@ pub begun-folds : {L T F W : Type 0} (meaning : L → Meaning T) (can_take : W �
     → IsReached meaning ops 0 d.pipeline → list_any is_empty_take ops ≡ false → can_take d.inner ≡ true
     → can_fold meaning can_take d ≡ true
 begun-folds meaning can_take d ops reached some can =
-    let undecided : some_takes_none (stages meaning d.pipeline) ≡ false =
-    ap some_takes_none (stages-begun meaning ops d.pipeline reached) ∙ sym (some_takes_none-stages_of meaning ops) ∙ some in
-    ap (λ b. not b && can_take d.inner) undecided ∙ can
+    rw (stages-begun meaning ops d.pipeline reached, ← some_takes_none-stages_of meaning ops, some) can
 
 -- and so where the answer is open after items that were fed
 pub still-folds : {L T F W : Type 0} (meaning : L → Meaning T) (can_take : W → Bool) (d : FoldBlocks L F W) (ss : List (Stage T)) (t : Trace T) (out : List T)
@@ -88,24 +86,20 @@ module _ {L T A U W O : Type 0} (f : Folding T A U) (lawful : IsFolding f)
 
   -- workers that fold
   module _ (alone : plan.after.now ≡ []) (a : W) (x : O) where
-    chunks-some : (how : Result (Option Ending) DeliveryFault) (cs : List (ChunkResult A)) (b : W) (y : O) → All (IsPart meaning (IsFoldOf f) plan t) cs
-        → AreApart cs → IsOver how
-        → made a x (merged_trace plan.order cs) how b y → (u : Trace T) × (MayMerge meaning plan t u) × WasGiven f made u a x how y
-    chunks-some how cs b y are apart over is =
-        let un = unfolded f meaning plan t cs are in
-        given-some how a x y un.results un.are (folds-apart f un.results cs un.folds apart) over
+    pub chunks-given : {S : Type 0} {source : SourceGhosts S T} (r : Result (Conducted S W T source) RunFault) (y : O)
+        → HasConducted made (IsPart meaning (IsFoldOf f) plan t) plan.order t a x r y
+        → GivesSome f made (MayMerge meaning plan t) a x (answer_ending r) y
+    chunks-given r y h =
+        conducted-given made (IsPart meaning (IsFoldOf f) plan t) a a x
+        (λ how cs b z are apart over is. let un = unfolded f meaning plan t cs are in
+        given-some how a x z un.results un.are (folds-apart f un.results cs un.folds apart) over
         (record {
           parts = merged_trace plan.order cs;
           folds = subst (λ ops. IsFolded f (seq (stages_of meaning ops) (merged_trace plan.order un.results)) (merged_trace plan.order cs)) (sym alone)
               (merged_trace-folded f lawful plan.order un.results cs un.folds);
           last = b;
           taken = is;
-        })
-
-    pub chunks-given : {S : Type 0} {source : SourceGhosts S T} (r : Result (Conducted S W T source) RunFault) (y : O)
-        → HasConducted made (IsPart meaning (IsFoldOf f) plan t) plan.order t a x r y
-        → GivesSome f made (MayMerge meaning plan t) a x (answer_ending r) y
-    chunks-given r y h = conducted-given made (IsPart meaning (IsFoldOf f) plan t) a a x chunks-some r y h
+        })) r y h
 
   -- the caller's thread folds what leaves the operators after the merge
   module _ {F : Type 0} (folding : F → Folding T A U) (first : FoldBlocks L F W)
@@ -116,21 +110,15 @@ module _ {L T A U W O : Type 0} (f : Folding T A U) (lawful : IsFolding f)
     passes-over g (Ok None) now now' a v b y over is = absurd over
     passes-over g how now now' a v b y over is = is
 
-    blocks-some : (how : Result (Option Ending) DeliveryFault) (rs : List (ChunkResult T)) (last : FoldBlocks L F W) (y : O)
-        → All (AsItIs meaning plan t) rs → AreApart rs → IsOver how
-        → MadeBy meaning folding made first x (merged_trace plan.order rs) how last y
-        → (u : Trace T) × (MayMerge meaning plan t u) × WasGiven f made u first.inner x how y
-    blocks-some how rs last y are apart over is =
-        let passes =
-        passes-over (folding first.aggregator.now) how (stages meaning first.pipeline) (stages meaning last.pipeline) first.inner (merged_trace plan.order rs)
-        last.inner y over is.passes in
-        given-some how first.inner x y rs (All-weaker (AsItIs meaning plan t) (IsResult meaning plan t) (plain-part meaning plan t) rs are) apart over
-        (rw (same, begun) at passes)
-
     pub blocks-given : {S : Type 0} {source : SourceGhosts S T} (r : Result (Conducted S (FoldBlocks L F W) T source) RunFault) (y : O)
         → HasConducted (MadeBy meaning folding made) (AsItIs meaning plan t) plan.order t first x r y
         → GivesSome f made (MayMerge meaning plan t) first.inner x (answer_ending r) y
-    blocks-given r y h = conducted-given (MadeBy meaning folding made) (AsItIs meaning plan t) first first.inner x blocks-some r y h
+    blocks-given r y h =
+        conducted-given (MadeBy meaning folding made) (AsItIs meaning plan t) first first.inner x
+        (λ how rs last z are apart over is.
+        given-some how first.inner x z rs (All-weaker (AsItIs meaning plan t) (IsResult meaning plan t) (plain-part meaning plan t) rs are) apart over
+        (rw (same, begun) at (passes-over (folding first.aggregator.now) how _ _ first.inner (merged_trace plan.order rs) last.inner z over is.passes)))
+        r y h
 
 -- ---- the value of parts that were combined
 

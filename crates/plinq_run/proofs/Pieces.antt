@@ -1,11 +1,11 @@
 -- Folds a piece at a time: of a chunk's answer, and of what one thread feeds, of which the last piece waits.
 use Rattle.plinq_run.proofs.RunWords.{◌≡◌, ℕ, ◌+◌, ◌<◌, ◌^◌, List, [], ◌∷◌, ◌++◌, length, Bool, true, false, cond, Option, Some, None, MatchBool, refl, ◌≤◌}
 use Rattle.plinq_run.proofs.RunWords.{fold, sym, ◌∙◌, ap, arith, append_assoc, subst, Ending, Trace, open_trace, Meaning, Folding, fold_of, Chunk, Op, Dropped}
-use Rattle.plinq_run.proofs.RunWords.{ChunkResult, ChunkAnswer, IsChunkResult, IsToldBy, Stage, seq, some_takes_none, IsFed, IsFoldOf}
+use Rattle.plinq_run.proofs.RunWords.{ChunkResult, ChunkAnswer, IsChunkResult, IsToldBy, Stage, seq, IsFed, IsFoldOf}
 use Rattle.std.specs.{Prelude.suc, Prelude.nat_lt, Prelude.is_some, Global.Vec}
 use Rattle.std.proofs.{Common.length-append, lemmas.List.Sums.fold-append}
-use Rattle.plinq_ops.specs.{declared.frag_end.FragEnd.FragEnd, declared.frag_end.FragEnd.TheVariants.More, Fragment.fragment_of, Chunk.no_more}
-use Rattle.plinq_ops.specs.{Chunk.dropped_at, Chunk.before_answer, Chunk.chunk_answer, Chunk.AfterItems, Feeding.FeedsFrom, Sequential.first_items}
+use Rattle.plinq_ops.specs.{declared.frag_end.FragEnd.FragEnd, declared.frag_end.FragEnd.TheVariants.More, Sequential.first_items, Stage.some_takes_none}
+use Rattle.plinq_ops.specs.{Fragment.fragment_of, Chunk.no_more, Chunk.dropped_at, Chunk.before_answer, Chunk.chunk_answer, Chunk.AfterItems, Feeding.FeedsFrom}
 use Rattle.plinq_ops.proofs.{Fed.fed-none, Answered.fed-on, Answered.fed-over, Answered.least-over}
 use Rattle.plinq_crew.specs.Results.{IsMadeOf}
 use Rattle.plinq_run.specs.inner.{Folds.IsFoldOfChunk, SequentialFold.FoldsAll}
@@ -18,9 +18,7 @@ joined_by false a b = record { trace = record { items = a.trace.items ++ b.trace
 before-joined : {T : Type 0} (key : ℕ) (xs : List T) (stops : Bool) (a b : ChunkAnswer T)
     → before_answer key xs None (joined_by stops a b) ≡ joined_by stops (before_answer key xs None a) b
 before-joined key xs true a b = refl
-before-joined {T} key xs false a b =
-    let of : List T → ChunkAnswer T = λ zs. record { trace = record { items = zs; ending = b.trace.ending }; dropped = b.dropped; stop = b.stop } in
-    ap of (sym (append_assoc xs a.trace.items b.trace.items))
+before-joined key xs false a b = rw (append_assoc xs a.trace.items b.trace.items)
 
 more-fold_of : {T A O : Type 0} (f : Folding T A O) (acc : A) (out more : List T) → acc ≡ fold_of f out → fold f.update acc more ≡ fold_of f (out ++ more)
 more-fold_of f acc out more same = ap (λ a. fold f.update a more) same ∙ sym (fold-append f.update f.seed out more)
@@ -73,8 +71,7 @@ module _ {L T : Type 0} (meaning : L → Meaning T) (worker : List (Op L)) (cut 
         let made_items : r.items.items ≡ a.trace.items = rw (at, is) at made.items in
         let made_stop : r.stop ≡ a.stop = rw (at, is) at made.stop in
         let whole : chunk_answer meaning worker cut first rest ≡ joined_by false a b =
-        ap (chunk_answer meaning worker cut first) parts ∙ answer-append first block others
-        ∙ ap (λ s. joined_by s a b) (ap is_some (sym made_stop) ∙ is_open) in
+        rw (parts, answer-append first block others, ← made_stop, is_open) in
         let after = subst (λ u. AfterItems [] before.out u all) whole before.after in
         record {
           out = before.out ++ r.items.items;
@@ -130,9 +127,7 @@ module _ {L T : Type 0} (meaning : L → Meaning T) (worker : List (Op L)) (cut 
         let b : ChunkAnswer T = chunk_answer meaning worker cut (first + length block) others in
         let made_items : r.items.items ≡ a.trace.items = rw (at, is) at made.items in
         let made_stop : r.stop ≡ a.stop = rw (at, is) at made.stop in
-        let whole : chunk_answer meaning worker cut first rest ≡ a =
-        ap (chunk_answer meaning worker cut first) parts ∙ answer-append first block others
-        ∙ ap (λ s. joined_by s a b) (ap is_some (sym made_stop) ∙ stopped) in
+        let whole : chunk_answer meaning worker cut first rest ≡ a = rw (parts, answer-append first block others, ← made_stop, stopped) in
         folded-last chunk first rest acc acc' count c a r.ending before whole (rw (at, is) at made.ending) (next ∙ ap (fold f.update acc) made_items)
         (omega (arith, few, ap length made_items)) (subst (λ s. IsFoldOfChunk chunk acc' r.ending s c) made_stop told)
 

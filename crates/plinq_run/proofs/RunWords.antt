@@ -15,15 +15,15 @@ pub use Rattle.plinq_ticket.specs.Shares.{in_ticket_order}
 pub use Rattle.plinq_partition.specs.Partitions.{all_shares}
 pub use Rattle.plinq_ops.specs.{Answer.MayAnswer, Answer.IsRearranged, Batches.batches, Batches.batches_from, ByKey.are_keyless, Feeding.IsFed}
 pub use Rattle.plinq_ops.specs.{Feeding.is_empty_take, Fragment.glue, Operator.stages_of, Plan.IsPlanOf, Query.QueryView, Sequential.answer_of, Stage.Stage}
-pub use Rattle.plinq_ops.specs.{Stage.some_takes_none, Stage.seq, Tails.told_at, Tails.EndsAt, Tails.end_of_result}
+pub use Rattle.plinq_ops.specs.{Stage.seq, Tails.told_at, Tails.EndsAt, Tails.end_of_result}
 pub use Rattle.plinq_ops.specs.Chunk.{result_trace, ChunkAnswer, IsToldBy, IsChunkResult}
 pub use Rattle.plinq_ops.specs.declared.{frag_end.FragEnd.TheVariants.Dropped, merge_option.MergeOption.MergeOption, op.Op.Op, order.Order.Order}
 pub use Rattle.plinq_ops.specs.declared.{order.Order.TheVariants.ByKey, order.Order.TheVariants.ByArrival, plan.Plan.Plan, results.ChunkResult.ChunkResult}
 pub use Rattle.plinq_ops.proofs.Counts.{some_takes_none-stages_of}
-pub use Rattle.plinq_reorder.specs.Intervals.{Interval, unbroken_row, first_gap, is_within}
-pub use Rattle.plinq_merge.specs.{Cancelling.Delivery, Cancelling.Passes, Cancelling.IsStopped, OfferedKeys.is_offered, Mergers.delivery_fault_of}
-pub use Rattle.plinq_merge.specs.{Sending.Leads, Taking.IsTaking, Whole.AreApart, declared.merge_fault.MergeFault.MergeFault}
-pub use Rattle.plinq_merge.specs.Shown.{all_placed, all_told, all_given, ending_at, row, arrived_trace, merged_trace}
+pub use Rattle.plinq_reorder.specs.Intervals.{Interval, unbroken_row, first_gap}
+pub use Rattle.plinq_merge.specs.{Cancelling.Delivery, Cancelling.Passes, OfferedKeys.is_offered, Mergers.delivery_fault_of}
+pub use Rattle.plinq_merge.specs.{Taking.IsTaking, Whole.AreApart, declared.merge_fault.MergeFault.MergeFault}
+pub use Rattle.plinq_merge.specs.Shown.{all_placed, all_told, all_given, arrived_trace, merged_trace}
 pub use Rattle.plinq_merge.specs.declared.delivery_fault.DeliveryFault.{DeliveryFault, TheVariants.Memory as NoMemory}
 pub use Rattle.plinq_merge.proofs.Lent.{leads-map}
 pub use Rattle.plinq_crew.specs.{Plans.IsUndecided, Results.IsPart, Results.IsResult}

@@ -29,20 +29,13 @@ module _ {L T : Type 0} (meaning : L → Meaning T) (plan : Plan L) (t : Trace T
   are-offers (r ∷ rs) are = ((All-head (IsResult meaning plan t) r rs are).offer, are-offers rs (All-tail (IsResult meaning plan t) r rs are))
 
   -- the fragments of the source's items, in an order in which they may be taken, begin with what was merged
-  record IsTakenFirst (order : Order) (offers : List (ChunkResult T)) : Type 0 where
-    taken : Trace T
-    may : MayTake order t taken
-    rest : Trace T
-    is : glue meaning plan.worker.now taken ≡ followed_by (merged_trace order offers) rest
-
   taken-first : (order : Order) → plan.order ≡ order → length t.items ≤ 2 ^ 40 → IsUndecided plan → (offers : List (ChunkResult T))
-      → All (IsResult meaning plan t) offers → AreApart offers → IsTakenFirst order offers
+      → All (IsResult meaning plan t) offers → AreApart offers
+      → (taken : Trace T) × MayTake order t taken × (rest : Trace T) × (glue meaning plan.worker.now taken ≡ followed_by (merged_trace order offers) rest)
   taken-first ByKey by few undecided offers are apart =
       let begins = merged_trace-begins meaning plan.worker.now t few offers (are-offers offers are) (are-true_tails meaning plan t offers are) in
-      record { taken = t; may = refl; rest = begins.0; is = begins.1 }
-  taken-first ByArrival by few undecided offers are apart =
-      let begins = arrival-begins meaning plan t few by (undecided.keyless by) offers are apart in
-      record { taken = begins.0; may = begins.1; rest = begins.2; is = begins.3 }
+      (t, refl, begins.0, begins.1)
+  taken-first ByArrival by few undecided offers are apart = arrival-begins meaning plan t few by (undecided.keyless by) offers are apart
 
   -- so what the operators after the merge make of it is how an answer of the source begins
   pub record HasBegun (offers : List (ChunkResult T)) : Type 0 where
@@ -54,13 +47,13 @@ module _ {L T : Type 0} (meaning : L → Meaning T) (plan : Plan L) (t : Trace T
   pub begun-in : length t.items ≤ 2 ^ 40 → IsUndecided plan → (offers : List (ChunkResult T)) → All (IsResult meaning plan t) offers → AreApart offers
       → HasBegun offers
   begun-in few undecided offers are apart =
-      let first = taken-first plan.order refl few undecided offers are apart in
+      let (taken, may, rest, is) = taken-first plan.order refl few undecided offers are apart in
       let ss : List (Stage T) = stages_of meaning plan.after.now in
       record {
-        answer = merged_answer meaning plan first.taken;
-        may = record { taken = first.taken; may = first.may; is = refl };
-        rest = seq (seq_after ss (merged_trace plan.order offers)) first.rest;
-        is = ap (seq ss) first.is ∙ seq-followed_by ss (merged_trace plan.order offers) first.rest;
+        answer = merged_answer meaning plan taken;
+        may = record { taken = taken; may = may; is = refl };
+        rest = seq (seq_after ss (merged_trace plan.order offers)) rest;
+        is = ap (seq ss) is ∙ seq-followed_by ss (merged_trace plan.order offers) rest;
       }
 
   -- and all of one, where it has ended

@@ -1,8 +1,7 @@
 -- What is reported of a run; and of one into a sink with its token, in terms of the token and the sink.
 use Rattle.plinq_run.proofs.RunWords.{◌≡◌, ℕ, List, [], ◌∷◌, Bool, true, false, ◌||◌, ◌⊎◌, Result, Ok, Err, IfOk, refl, sym, ◌∙◌, subst, append-nil, inl, inr}
-use Rattle.plinq_run.proofs.RunWords.{Trace, End, MergeOption, batches, MergeFault, Delivery, Passes, IsStopped, delivery_fault_of, Leads, leads-map, Report}
-use Rattle.plinq_run.proofs.RunWords.{RunFault, Sink, Cancelled, reported_ending, Reports, HasRun, Cause, SinkRefused, Other, cause_of, BreaksFor, Runs}
-use Rattle.plinq_run.proofs.RunWords.{RunsWith, handed_trace}
+use Rattle.plinq_run.proofs.RunWords.{Trace, End, MergeOption, batches, MergeFault, Delivery, Passes, delivery_fault_of, leads-map, Report, RunFault, Sink}
+use Rattle.plinq_run.proofs.RunWords.{Cancelled, reported_ending, Reports, HasRun, Cause, SinkRefused, Other, cause_of, BreaksFor, Runs, RunsWith, handed_trace}
 use Rattle.std.proofs.Math.Bool.{or-false, or-true}
 use Rattle.plinq_merge.specs.declared.merge_fault.MergeFault.TheVariants.{Memory as NoMemory, Sink as Refusal}
 use Rattle.plinq_merge.specs.{declared.with_cancellation.WithCancellation.WithCancellation, Cancelling.IsRefused, Cancelling.IsAsked, Mergers.StopsShort}
@@ -118,15 +117,7 @@ module _ {C K T : Type 0} (asks : C → ℕ → Bool → C → Type 0) (accepts 
         record {
           answer = h.answer;
           may = h.may;
-          stopped =
-              record {
-                sent = batches option h.answer;
-                rest = [];
-                parts = sym (append-nil (batches option h.answer));
-                last = last;
-                leads = h.has_run.delivered;
-                stops = stops;
-              };
+          stopped = record { sent = _; rest = []; parts = sym (append-nil _); last = last; leads = h.has_run.delivered; stops = stops };
         }
 
     pub told-with : (has_told : C → Bool) → ((c : C) (n : ℕ) (answer : Bool) (c' : C) → asks c n answer c' → has_told c' ≡ (has_told c || answer))
@@ -145,12 +136,9 @@ module _ {C K T : Type 0} (asks : C → ℕ → Bool → C → Type 0) (accepts 
     -- where there is one answer
     pub reports-with-runs : (v : Trace T) (r : Result Report RunFault) → ((u : Trace T) → May t u → u ≡ v)
         → ReportsWith asks accepts refuses option May t d d' r → RunsWith asks accepts refuses option v d d' r
-    reports-with-runs v (Ok report) only h =
-        let run = subst (λ u. HasRun (Passes asks accepts) option u d h.last report.ending) (only h.reported.answer h.reported.may) h.reported.has_run in
-        (h.last, run, h.lets)
-    reports-with-runs v (Err Cancelled) only h = subst (λ u. IsStopped asks accepts d (batches option u) d') (only h.answer h.may) h.stopped
-    reports-with-runs v (Err fault) only h =
-        subst (λ u. HasBroken (Passes asks accepts) (IsRefused asks refuses) option u d d' fault) (only h.answer h.may) h.broken
+    reports-with-runs v (Ok report) only h = (h.last, rw (only h.reported.answer h.reported.may) at h.reported.has_run, h.lets)
+    reports-with-runs v (Err Cancelled) only h = rw (only h.answer h.may) at h.stopped
+    reports-with-runs v (Err fault) only h = rw (only h.answer h.may) at h.broken
 
     -- with a token that never stops anything
     module _ (never : (c c' : C) (n : ℕ) → asks c n true c' → ⊥) where
@@ -169,8 +157,7 @@ module _ {C K T : Type 0} (asks : C → ℕ → Bool → C → Type 0) (accepts 
             may = reported.may;
             accounts = reported.accounts;
             has_run = record {
-              delivered = subst (Leads accepts d.sink (batches option reported.answer)) (sym h.lets.sink)
-                  (leads-map (λ s. s.sink) (Passes asks accepts) accepts (λ s b s' passes. passes.taken) d (batches option reported.answer) h.last
+              delivered = rw h.lets.sink (leads-map (λ s. s.sink) (Passes asks accepts) accepts (λ s b s' passes. passes.taken) _ _ _
                   reported.has_run.delivered);
               ending = reported.has_run.ending;
             };

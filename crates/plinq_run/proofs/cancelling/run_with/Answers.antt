@@ -6,9 +6,7 @@ pub returns : goal.returns
 returns g c =
     let run = c.run-outcome in
     let last = c.ask_at_last in
-    let lent =
-    lent-asked g.C.Cancel.asks g.K.Sink.accepts g.K.Sink.refuses _ _ _ g.C.Cancel.has_told g.met.C.Cancel.keeps_told _ run.new.sink refl
-    _ run.result last.result last.new.with refl run.ensures.reports last.ensures.same last.ensures.asked in
+    let lent = lent-asked _ _ _ _ _ _ _ g.met.C.Cancel.keeps_told _ _ refl _ _ _ _ refl run.ensures.reports last.ensures.same last.ensures.asked in
     let token : c.token-1.given.0 ≡ last.new.with.token.now = search (rules, lent.same) in
     let sink : c.sink-1.given.0 ≡ last.new.with.sink.now = search (rules, lent.same) in
     let is = asked-outcome g.C.Cancel.asks run.new.sink last.new.with run.new.sink.is_stopped run.result last.result last.ensures.asked in

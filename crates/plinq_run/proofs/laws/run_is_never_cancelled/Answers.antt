@@ -1,7 +1,5 @@
-use Rattle.plinq_ops.specs.Answer.{MayAnswer}
 use Rattle.plinq_run.proofs.Stopping.{reports-never}
 use Rattle.plinq_run.proofs.laws.run_is_never_cancelled.Goals as goal
 
 pub returns : goal.returns
-returns g c = λ option ordered ops t s s' result.
-    reports-never g.K.Sink.accepts g.K.Sink.refuses option (MayAnswer g.L.Lambda.meaning ordered ops) t s s' result
+returns g c = λ option ordered ops t s s' result. reports-never _ _ _ _ _ _ _ result

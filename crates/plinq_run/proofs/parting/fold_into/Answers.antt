@@ -1,17 +1,13 @@
-use Rattle.std.proofs.Common.{rules, ◌≡◌, [], true, sym, ◌∙◌}
-use Rattle.plinq_source.specs.{declared.ending.Ending.TheVariants.End, Trace.ended_trace}
-use Rattle.plinq_ops.specs.Answer.{MayAnswer}
+use Rattle.std.proofs.Common.{rules, ◌≡◌, true, sym, ◌∙◌}
 use Rattle.plinq_run.proofs.{Runs.decided-may, Runs.planned-undecided, PartsGiven.gives-weaker, PartsGiven.planned-given}
 use Rattle.plinq_run.proofs.parting.fold_into.Goals as goal
 
 pub returns-then-plan : goal.returns-then-plan
 returns-then-plan g c =
     let q = c.args.query.now in
-    let t = g.S.Source.whole c.args.source in
     let is : c.split-plan.result.decided ≡ true = search rules in
-    gives-weaker (g.A.GrowingAggregator.folding c.args.aggregator.now) g.W.TakeInto.made (λ u. u ≡ ended_trace [] End)
-    (MayAnswer g.L.Lambda.meaning q.ordered q.ops t) c.args.taker c.args.out.now c.hand_nothing.result c.hand_nothing.new.out
-    (λ u nothing. decided-may g.L.Lambda.meaning q.ordered q.ops t u (sym c.split-plan.ensures.plan.decided ∙ is) nothing) c.hand_nothing.ensures
+    gives-weaker _ _ _ _ _ _ _ _
+    (λ u nothing. decided-may g.L.Lambda.meaning q.ordered q.ops _ u (sym c.split-plan.ensures.plan.decided ∙ is) nothing) c.hand_nothing.ensures
 
 pub fold_chunks_into-requires-clause-may : goal.fold_chunks_into-requires-clause-may
 fold_chunks_into-requires-clause-may g c κs within = search (rules, planned-undecided)

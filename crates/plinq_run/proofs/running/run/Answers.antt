@@ -1,4 +1,4 @@
-use Rattle.std.proofs.Common.{rules, ◌≡◌, ◌≤◌, ◌^◌, [], true, length, sym, ap, ◌∙◌, subst, refl}
+use Rattle.std.proofs.Common.{rules, ◌≡◌, [], true, sym, ap, ◌∙◌, subst, refl}
 use Rattle.std.proofs.lemmas.Result.{IfOk-weaker}
 use Rattle.plinq_source.specs.{declared.ending.Ending.TheVariants.End, Trace.Trace, Trace.ended_trace}
 use Rattle.plinq_keyed.specs.History.{IsLegalHistory}
@@ -49,13 +49,10 @@ returns-in-Ok-conduct_plan-clause-closed g c = λ undecided.
 
 pub returns-in-Ok-conduct_plan-clause-reports : goal.returns-in-Ok-conduct_plan-clause-reports
 returns-in-Ok-conduct_plan-clause-reports g c =
-    let q = c.args.query.now in
-    let t = g.S.Source.whole c.args.source in
-    let few : length t.items ≤ 2 ^ 40 = (g.met.S.Source g.world.𝓛 g.world.𝓜 g.world.𝓡 (λ s a. a, λ a. a, λ a. a, λ a. a)).few c.args.source in
-    whole-reported g.L.Lambda.meaning q c.split-plan.result c.split-plan.ensures.plan (merge_in_force q.merge)
-    (search (rules, planned-undecided)) t few g.K.Sink.accepts g.K.Sink.refuses c.in-Ok.taker
-    (rw c.merge_option.ensures at c.in-Ok.ensures.begun) c.args.sink.now c.conduct_plan.new.out c.in-Ok-conduct_plan.conducted.ended c.report.result
-    c.in-Ok-conduct_plan.ensures.1 c.in-Ok-conduct_plan.ensures.0.origin c.report.ensures.reports c.report.ensures.cause
+    let few = (g.met.S.Source g.world.𝓛 g.world.𝓜 g.world.𝓡 (λ s a. a, λ a. a, λ a. a, λ a. a)).few c.args.source in
+    whole-reported _ _ _ c.split-plan.ensures.plan _ (search (rules, planned-undecided)) _ few _ _ _
+    (rw c.merge_option.ensures at c.in-Ok.ensures.begun) _ _ _ _ c.in-Ok-conduct_plan.ensures.1 c.in-Ok-conduct_plan.ensures.0.origin
+    c.report.ensures.reports c.report.ensures.cause
 
 pub returns-in-Ok-conduct_plan-clause-ordered : goal.returns-in-Ok-conduct_plan-clause-ordered
 returns-in-Ok-conduct_plan-clause-ordered g c = λ ordered. search (rules, ordered-delivered, returns-in-Ok-conduct_plan-clause-reports g c)
@@ -63,12 +60,9 @@ returns-in-Ok-conduct_plan-clause-ordered g c = λ ordered. search (rules, order
 -- a fault
 pub returns-in-Err-clause-reports : goal.returns-in-Err-clause-reports
 returns-in-Err-clause-reports g c =
-    let q = c.args.query.now in
-    let t = g.S.Source.whole c.args.source in
-    let few : length t.items ≤ 2 ^ 40 = (g.met.S.Source g.world.𝓛 g.world.𝓜 g.world.𝓡 (λ s a. a, λ a. a, λ a. a, λ a. a)).few c.args.source in
-    broken-reported g.L.Lambda.meaning q c.split-plan.result c.split-plan.ensures.plan (merge_in_force q.merge)
-    (search (rules, planned-undecided)) t few g.K.Sink.accepts g.K.Sink.refuses c.in-Ok.taker
-    (rw c.merge_option.ensures at c.in-Ok.ensures.begun) c.args.sink.now c.conduct_plan.new.out c.in-Err.fault c.in-Err.ensures
+    let few = (g.met.S.Source g.world.𝓛 g.world.𝓜 g.world.𝓡 (λ s a. a, λ a. a, λ a. a, λ a. a)).few c.args.source in
+    broken-reported _ _ _ c.split-plan.ensures.plan _ (search (rules, planned-undecided)) _ few _ _ _
+    (rw c.merge_option.ensures at c.in-Ok.ensures.begun) _ _ _ c.in-Err.ensures
 
 pub returns-in-Err-clause-ordered : goal.returns-in-Err-clause-ordered
 returns-in-Err-clause-ordered g c = λ ordered. search (rules, ordered-delivered, returns-in-Err-clause-reports g c)
