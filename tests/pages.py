@@ -1,7 +1,7 @@
 #!/usr/bin/env python3
 """Looks whether what the pages name is there: each link's target, and each file that is named by its path in a crate; and
 whether they are short: README in 7,000 bytes, docs/ in 82,000 without TRUSTED.md, which a tool makes, and no sentence of
-README of more than 30 words.
+README of more than 30 words. No line of a crate's sources has more than 160 columns.
 
     python3 tests/pages.py
 """
@@ -50,6 +50,17 @@ def lengths(tests):
     tests.check("docs/ has at most 82,000 bytes", 0 < total <= 82_000, total)
 
 
+def wide_lines(tests):
+    files, wide = 0, []
+    for at, folders, names in os.walk(os.path.join(ROOT, "crates")):
+        folders[:] = sorted(it for it in folders if it != "out")
+        for path in (os.path.join(at, it) for it in sorted(names) if it.endswith((".rt", ".antt"))):
+            with open(path, encoding="utf-8") as file:
+                wide += [f"{os.path.relpath(path, ROOT)}:{number}" for number, line in enumerate(file, 1) if len(line.rstrip("\n")) > 160]
+            files += 1
+    tests.check("no line of the crates' sources has more than 160 columns", files > 1_000 and not wide, wide or files)
+
+
 def main():
     tests = Tests()
     for page in pages():
@@ -57,6 +68,7 @@ def main():
             missing = sorted({it for it in named(page, file.read()) if not os.path.exists(os.path.join(ROOT, it))})
         tests.check(page, not missing, f"names what isn't there: {', '.join(missing)}")
     lengths(tests)
+    wide_lines(tests)
     tests.end()
 
 
