@@ -64,7 +64,7 @@ fn rising_keys_differ<T>(parts: &[Vec<Keyed<T>>]) -> bool
 {
     for place in 0..parts.len() {
         let (_, later) = parts.split_at(place + 1);
-        if !are_apart_from_all(&parts[place], later) {
+        if !are_disjoint_from_all(&parts[place], later) {
             return false;
         }
     }
@@ -72,13 +72,13 @@ fn rising_keys_differ<T>(parts: &[Vec<Keyed<T>>]) -> bool
 }
 
 /// Whether a partition has no key of any of the others.
-fn are_apart_from_all<T>(part: &[Keyed<T>], others: &[Vec<Keyed<T>>]) -> bool
+fn are_disjoint_from_all<T>(part: &[Keyed<T>], others: &[Vec<Keyed<T>>]) -> bool
     requires part { rises (keys part.now) ≡ true }
     requires others { ordered_in_each (key_lists (element_lists others.now)) ≡ true }
     ensures { result ≡ are_disjoint (keys part.now) (concat (key_lists (element_lists others.now))) }
 {
     for other in others {
-        if !are_apart(part, other) {
+        if !are_disjoint(part, other) {
             return false;
         }
     }
@@ -86,7 +86,7 @@ fn are_apart_from_all<T>(part: &[Keyed<T>], others: &[Vec<Keyed<T>>]) -> bool
 }
 
 /// Whether two partitions have no key in common: both are walked at once, the one with the lower key first.
-fn are_apart<T>(left: &[Keyed<T>], right: &[Keyed<T>]) -> bool
+fn are_disjoint<T>(left: &[Keyed<T>], right: &[Keyed<T>]) -> bool
     requires left { rises (keys left.now) ≡ true }
     requires right { rises (keys right.now) ≡ true }
     ensures { result ≡ are_disjoint (keys left.now) (keys right.now) }

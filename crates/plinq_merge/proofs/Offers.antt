@@ -114,8 +114,8 @@ module _ {L T : Type 0} (meaning : L → Meaning T) (decided : Bool) (w : Work L
 
 module _ {L T : Type 0} (meaning : L → Meaning T) where
   -- operators that can take items give nothing of nothing
-  pub nothing-given : (d : Deliver L T) → can_deliver meaning d ≡ true → seq (stages meaning d.pipeline) (open_trace []) ≡ open_trace []
-  nothing-given d can =
+  pub nothing-made : (d : Deliver L T) → can_deliver meaning d ≡ true → seq (stages meaning d.pipeline) (open_trace []) ≡ open_trace []
+  nothing-made d can =
       let parts = and_parts (not (some_takes_none (stages meaning d.pipeline))) _ can in seq-nothing (stages meaning d.pipeline) None (not-true _ parts.0)
 
   -- nothing was offered to a new merger
@@ -129,6 +129,6 @@ module _ {L T : Type 0} (meaning : L → Meaning T) where
         waits = waits;
         out = [];
         on = record { answers = λ rest. rw same (ap (λ ss. seq ss rest) start) };
-        nothing = nothing-given w.taker (rw same can);
+        nothing = nothing-made w.taker (rw same can);
         held = rw same (ap (λ l. l.held) begun);
       }

@@ -18,7 +18,7 @@ use Rattle.plinq_ticket.specs.declared.phase.Phase.TheVariants.{Idle, Waiting, I
 use Rattle.plinq_ticket.specs.declared.standing.Standing.{Standing}
 use Rattle.plinq_ticket.specs.declared.view.View.{View}
 use Rattle.plinq_ticket.specs.Weights.{total}
-use Rattle.plinq_ticket.specs.Turns.{tickets_end, is_inside, InTurn, with_drawn, with_ticket, called_phase, with_served, without_ticket}
+use Rattle.plinq_ticket.specs.Turns.{tickets_end, is_inside, InTurn, with_drawn, with_ticket, called_phase, with_served, idle_standing}
 use Rattle.plinq_ticket.specs.TwoWords.{OfTwoWords}
 use Rattle.plinq_ticket.specs.Shares.{AddsAtMostOne, added_records}
 use Rattle.plinq_ticket.specs.Lawful.{standing_of, origin_in, history_of, inside_of, Knows, Stands, Lawful, first_view}
@@ -242,7 +242,7 @@ module _ {T : Type 0} (t : Trace T) where
           let h = history_of views in
           let value = returned.value in
           let new = added_records v.found (history value) in
-          let w : View T = left_with (added_records v.found (slot_records history me.1)) (without_ticket (k + 1) v.standing) v in
+          let w : View T = left_with (added_records v.found (slot_records history me.1)) (idle_standing (k + 1) v.standing) v in
           let done = step-leave standing_of k next serving views id v w kept.turns at inside refl in
           let served : serving ≡ k = inside-served standing_of next serving k views id v kept.turns at inside in
           let P : Phase → Type 0 = Knows t h v in

@@ -12,7 +12,7 @@ use Rattle.plinq_ticket.specs.declared.phase.Phase.TheVariants.{Idle, Waiting, I
 use Rattle.plinq_ticket.specs.declared.standing.Standing.{Standing}
 use Rattle.plinq_ticket.specs.Weights.{total}
 use Rattle.plinq_ticket.specs.Turns.{tickets_end, has_ticket, is_inside, is_open, Fits, InTurn, newcomer, joined_standing, with_drawn, with_ticket}
-use Rattle.plinq_ticket.specs.Turns.{called_phase, with_served, without_ticket, together, NotPassed, SawNext, SawDrawn, SawServing, SawLeft}
+use Rattle.plinq_ticket.specs.Turns.{called_phase, with_served, idle_standing, together, NotPassed, SawNext, SawDrawn, SawServing, SawLeft}
 use Rattle.plinq_ticket.proofs.Weights.{total-append, total-set, total-at, total-two, total-most, total-less}
 
 -- one more ticket is open
@@ -54,9 +54,6 @@ called_phase-first n (Inside t) h = h
 called_phase-first n Joined h = h
 
 module _ {V : Type 0} (standing : V → Standing) where
-  ticket_at : ℕ → V → ℕ
-  ticket_at k v = has_ticket k (standing v).phase
-
   each-set : (P : V → Type 0) (views : List V) (i : ℕ) (w : V) → ((j : ℕ) (u : V) → j ≢ i → get_elem? views j ≡ some u → P u) → P w → (j : ℕ) (u : V)
       → get_elem? (set views i w) j ≡ some u → P u
   each-set P views i w others own j u at = ⊎_elim (λ h. subst P h.1 own) (λ h. others j u h.0 h.1) (at_set views i j w u at)
@@ -241,7 +238,7 @@ module _ {V : Type 0} (standing : V → Standing) where
       not_passed Joined is = tt
 
   pub step-leave : (t next serving : ℕ) (views : List V) (i : ℕ) (v w : V) → InTurn standing next serving views → get_elem? views i ≡ some v
-      → (standing v).phase ≡ Inside t → standing w ≡ without_ticket (t + 1) (standing v)
+      → (standing v).phase ≡ Inside t → standing w ≡ idle_standing (t + 1) (standing v)
       → InTurn standing next (t + 1) (set views i w) × SawLeft (t + 1) (standing v) (standing w)
   step-leave t next serving views i v w turns at inside e =
       let f = turns.each_fits i v at in

@@ -70,8 +70,8 @@ abbrev pub with_served : ℕ → Standing → Standing
 with_served n a = record { phase = called_phase n a.phase; drawn = a.drawn; served = n }
 
 -- a pass that has left, after which that ticket is served
-abbrev pub without_ticket : ℕ → Standing → Standing
-without_ticket n a = record { phase = Idle; drawn = a.drawn; served = n }
+abbrev pub idle_standing : ℕ → Standing → Standing
+idle_standing n a = record { phase = Idle; drawn = a.drawn; served = n }
 
 -- what two passes know together
 abbrev pub together : Standing → Standing → Standing
@@ -106,7 +106,7 @@ pub record SawServing (n : ℕ) (a b : Standing) : Type 0 where
 
 -- what a store of `serving` reports
 pub record SawLeft (n : ℕ) (a b : Standing) : Type 0 where
-  pub after : b ≡ without_ticket n a
+  pub after : b ≡ idle_standing n a
 
 -- tickets 3 and 4 are open where 3 is served and 5 is the next
 row_served : is_open 3 5 3 ≡ 1

@@ -8,7 +8,7 @@ use Rattle.plinq_ticket.specs.declared.phase.Phase.{Phase}
 use Rattle.plinq_ticket.specs.declared.phase.Phase.TheVariants.{Idle, Waiting, Inside, Joined}
 use Rattle.plinq_ticket.specs.declared.standing.Standing.{Standing}
 use Rattle.plinq_ticket.specs.declared.view.View.{View}
-use Rattle.plinq_ticket.specs.Turns.{SawNext, SawDrawn, SawServing, joined_standing, without_ticket, together}
+use Rattle.plinq_ticket.specs.Turns.{SawNext, SawDrawn, SawServing, joined_standing, idle_standing, together}
 use Rattle.plinq_ticket.specs.Shares.{Contains, AddsAtMostOne, added_records, closed_under}
 use Rattle.plinq_ticket.specs.Lawful.{origin_in, first_view}
 
@@ -93,7 +93,7 @@ module _ {T : Type 0} where
 
     -- a pass that leaves takes the records that it added into its share
     pub record Leaves (history : V → List Record) (n : ℕ) (a b : Me (Option V) (View T)) : Type 0 where
-      pub view : b.0 ≡ left_with (added_records a.0.found (slot_records history a.1)) (without_ticket n a.0.standing) a.0
+      pub view : b.0 ≡ left_with (added_records a.0.found (slot_records history a.1)) (idle_standing n a.0.standing) a.0
       pub slot : b.1 ≡ rest a.1
 
 -- a pass with those records
@@ -108,9 +108,9 @@ row_together : together_with (with_records (closed_under 0 ∷ [])) (cut_view (w
 row_together = refl
 
 -- what the value has more than was found becomes the pass's own
-row_left : left_with (added_records (closed_under 0 ∷ []) (closed_under 0 ∷ closed_under 2 ∷ [])) (without_ticket 3 (with_records []).standing)
+row_left : left_with (added_records (closed_under 0 ∷ []) (closed_under 0 ∷ closed_under 2 ∷ [])) (idle_standing 3 (with_records []).standing)
     (with_records (closed_under 1 ∷ []))
-    ≡ standing_so (without_ticket 3 (with_records []).standing) (with_records (closed_under 1 ∷ closed_under 2 ∷ []))
+    ≡ standing_so (idle_standing 3 (with_records []).standing) (with_records (closed_under 1 ∷ closed_under 2 ∷ []))
 row_left = refl
 
 -- the slot's value is read, and none is read where it is out

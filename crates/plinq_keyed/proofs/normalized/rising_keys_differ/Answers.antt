@@ -4,8 +4,8 @@ use Rattle.plinq_keyed.specs.inner.Sweeps.{are_disjoint}
 use Rattle.plinq_keyed.proofs.LoopSteps.{drop-at, all_keys, are_distinct-next_rising, ordered-next}
 use Rattle.plinq_keyed.proofs.normalized.rising_keys_differ.Goals as goal
 
-pub returns-then-not-are_apart_from_all : goal.returns-then-not-are_apart_from_all
-returns-then-not-are_apart_from_all g c =
+pub returns-then-not-are_disjoint_from_all : goal.returns-then-not-are_disjoint_from_all
+returns-then-not-are_disjoint_from_all g c =
     let parts = c.args.parts.now in
     let i = c.loop-place.place in
     let part = c.index-parts-place.result in

@@ -1,7 +1,7 @@
 use Rattle.std.proofs.Common.{◌≡◌, ◌+◌, ◌-◌, drop, length, true}
 use Rattle.plinq_keyed.specs.Keys.{keys, rises}
 use Rattle.plinq_keyed.specs.inner.Sweeps.{are_disjoint}
-use Rattle.plinq_keyed.proofs.normalized.are_apart.Given as goal
+use Rattle.plinq_keyed.proofs.normalized.are_disjoint.Given as goal
 
 abbrev pub invariant-loop-at : goal.invariant-loop-at
 invariant-loop-at g l = record {

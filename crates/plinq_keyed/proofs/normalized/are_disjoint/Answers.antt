@@ -4,7 +4,7 @@ use Rattle.plinq_keyed.specs.Keys.{keys}
 use Rattle.plinq_keyed.specs.inner.Sweeps.{are_disjoint}
 use Rattle.plinq_keyed.proofs.Distinct.{are_disjoint-nil}
 use Rattle.plinq_keyed.proofs.LoopSteps.{drop-at, rises-next, are_disjoint-left, are_disjoint-right}
-use Rattle.plinq_keyed.proofs.normalized.are_apart.Goals as goal
+use Rattle.plinq_keyed.proofs.normalized.are_disjoint.Goals as goal
 
 pub loop-at-preserved-then-key-other-2 : goal.loop-at-preserved-then-key-other-2
 loop-at-preserved-then-key-other-2 g c =

@@ -4,10 +4,10 @@ use Rattle.plinq_keyed.specs.Keys.{keys}
 use Rattle.plinq_keyed.specs.inner.Sweeps.{are_disjoint}
 use Rattle.plinq_keyed.proofs.Distinct.{are_disjoint-nil}
 use Rattle.plinq_keyed.proofs.LoopSteps.{drop-at, all_keys, are_disjoint-next, ordered-next}
-use Rattle.plinq_keyed.proofs.normalized.are_apart_from_all.Goals as goal
+use Rattle.plinq_keyed.proofs.normalized.are_disjoint_from_all.Goals as goal
 
-pub returns-then-not-are_apart : goal.returns-then-not-are_apart
-returns-then-not-are_apart g c =
+pub returns-then-not-are_disjoint : goal.returns-then-not-are_disjoint
+returns-then-not-are_disjoint g c =
     let ks = keys c.args.part.now in
     let others = c.args.others.now in
     let i = c.loop-other.other-index in

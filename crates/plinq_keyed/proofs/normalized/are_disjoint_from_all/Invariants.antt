@@ -2,7 +2,7 @@ use Rattle.std.proofs.Common.{◌≡◌, drop, true}
 use Rattle.std.specs.List.{concat}
 use Rattle.plinq_keyed.specs.Keys.{element_lists, key_lists, keys, ordered_in_each}
 use Rattle.plinq_keyed.specs.inner.Sweeps.{are_disjoint}
-use Rattle.plinq_keyed.proofs.normalized.are_apart_from_all.Given as goal
+use Rattle.plinq_keyed.proofs.normalized.are_disjoint_from_all.Given as goal
 
 abbrev pub invariant-loop-other : goal.invariant-loop-other
 invariant-loop-other g l = record {
