@@ -34,8 +34,8 @@ module _ {K T : Type 0} (eq : K → K → Bool) (key : T → K) where
       ∷ fold (joined_groups eq) gs (map (group_of_one key) (cond (not b) (x ∷ of_others k xs) (of_others k xs)))) is)
 
   first-of : (k : K) (xs ys : List T) (gs : List (K × List T))
-      → fold (joined_groups eq) ((k, ys) ∷ gs) (map (group_of_one key) xs) ≡ (k, ys ++ of_key k xs)
-      ∷ fold (joined_groups eq) gs (map (group_of_one key) (of_others k xs))
+      → fold (joined_groups eq) ((k, ys) ∷ gs) (map (group_of_one key) xs)
+      ≡ (k, ys ++ of_key k xs) ∷ fold (joined_groups eq) gs (map (group_of_one key) (of_others k xs))
   first-of k [] ys gs = ap (λ zs. (k, zs) ∷ gs) (sym (append-nil ys))
   first-of k (x ∷ xs) ys gs = first-at k ys gs x xs (first-of k xs) (eq (key x) k) refl
 

@@ -53,9 +53,8 @@ module _ {K T A O : Type 0} (eq : K → K → Bool) (key : T → K) (f : Folding
       ≡ folded_groups f (fold (joined_groups eq) gs (map (group_of_one key) xs))
   folds-items gs [] = refl
   folds-items gs (x ∷ xs) =
-      ap (λ a. fold (with_item eq key f) a xs) (sym (folds-placed_groups (group_of_one key x) (λ a. f.update a x)
-      (λ ys. fold-append f.update f.seed ys (x ∷ [])) gs))
-      ∙ folds-items (joined_groups eq gs (group_of_one key x)) xs
+      let joined = folds-placed_groups (group_of_one key x) (λ a. f.update a x) (λ ys. fold-append f.update f.seed ys (x ∷ [])) gs in
+      ap (λ a. fold (with_item eq key f) a xs) (sym joined) ∙ folds-items (joined_groups eq gs (group_of_one key x)) xs
 
   -- the groups' accumulators are those of the items in them
   pub grouped-fold_of : (xs : List T) → fold_of (grouping eq key f) xs ≡ folded_groups f (collected_groups eq key xs)

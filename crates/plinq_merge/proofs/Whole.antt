@@ -89,8 +89,8 @@ pub record ArePlaced {T : Type 0} (before : List (Interval (Trace T))) (offers :
 
 placed_intervals-one : {T : Type 0} (order : Order) (ps : List (Interval (Trace T))) (r : ChunkResult T) → are_apart 0 ps ≡ true
     → IsFree ps r.first (end_of_result r)
-    → (are_apart 0 (placed_intervals order ps r) ≡ true) × ((key : ℕ) → has_key (placed_intervals order ps r) key ≡ has_key ps key
-    || is_within r.first (end_of_result r) key)
+    → (are_apart 0 (placed_intervals order ps r) ≡ true)
+    × ((key : ℕ) → has_key (placed_intervals order ps r) key ≡ has_key ps key || is_within r.first (end_of_result r) key)
 placed_intervals-one order ps r apart free =
     elim (cases_lt 0 r.count) [
       | inl some ↦

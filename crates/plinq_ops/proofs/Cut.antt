@@ -36,10 +36,9 @@ pub stop_keys-append : {L T : Type 0} (meaning : L → Meaning T) (worker : List
     → stop_keys meaning worker key (xs ++ ys) ≡ stop_keys meaning worker key xs ++ stop_keys meaning worker (key + length xs) ys
 stop_keys-append meaning worker key [] ys = ap (λ k. stop_keys meaning worker k ys) (let same : key ≡ key + 0 = omega arith in same)
 stop_keys-append meaning worker key (x ∷ xs) ys =
+    let same : (key + 1) + length xs ≡ key + length (x ∷ xs) = omega arith in
     let later : stop_keys meaning worker (key + 1) (xs ++ ys) ≡ stop_keys meaning worker (key + 1) xs ++ stop_keys meaning worker (key + length (x ∷ xs)) ys =
-    stop_keys-append meaning worker (key + 1) xs ys
-    ∙ ap (λ k. stop_keys meaning worker (key + 1) xs ++ stop_keys meaning worker k ys) (let same : (key + 1) + length xs
-    ≡ key + length (x ∷ xs) = omega arith in same) in
+    stop_keys-append meaning worker (key + 1) xs ys ∙ ap (λ k. stop_keys meaning worker (key + 1) xs ++ stop_keys meaning worker k ys) same in
     elim (is_some (fragment_of meaning worker key x).ending) as (λ v. cond v (key ∷ stop_keys meaning worker (key + 1) (xs ++ ys))
     (stop_keys meaning worker (key + 1) (xs ++ ys))
     ≡ cond v (key ∷ stop_keys meaning worker (key + 1) xs) (stop_keys meaning worker (key + 1) xs) ++ stop_keys meaning worker (key + length (x ∷ xs)) ys) [
@@ -102,8 +101,7 @@ undropped-uncut {L} {T} meaning worker cut key (x ∷ xs) above =
     let rest : ChunkAnswer T = chunk_answer meaning worker cut (key + 1) xs in
     ap (λ a. a.dropped) (chunk_answer-cons meaning worker cut key x xs (omega arith))
     ∙ elim f.ending as (λ v. (before_answer key f.items v rest).dropped ≡ false) [
-      | None ↦ undropped-uncut meaning worker cut (key + 1) xs
-          (omega arith)
+      | None ↦ undropped-uncut meaning worker cut (key + 1) xs (omega arith)
       | Some e ↦ refl
     ]
 

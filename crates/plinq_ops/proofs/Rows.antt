@@ -74,12 +74,12 @@ row-next {L} {T} meaning worker t r few offer =
     let before : Trace T = glued_trace meaning worker 0 (take r.first t.items) None in
     let here : Trace T = glued_trace meaning worker r.first xs None in
     let place = rw (← offer.made.first) at (has_place t.items offer.chunk.first xs offer.within offer.items) in
+    let same : 0 + length (take r.first t.items) ≡ r.first = omega (arith, place.place) in
     let all : glued_trace meaning worker 0 (take (r.first + r.count) t.items) None ≡ followed_by before here =
     ap (λ n. glued_trace meaning worker 0 (take (r.first + n) t.items) None) offer.made.count
     ∙ ap (λ ys. glued_trace meaning worker 0 ys None) place.joined
     ∙ glued_trace-append meaning worker 0 (take r.first t.items) xs None
-    ∙ ap (λ k. followed_by before (glued_trace meaning worker k xs None)) (let same : 0 + length (take r.first t.items)
-    ≡ r.first = omega (arith, place.place) in same) in
+    ∙ ap (λ k. followed_by before (glued_trace meaning worker k xs None)) same in
     elim (none-or_ending before.ending) [
       | inl is_open ↦ ap (followed_by before) (result-after_open meaning worker t r few offer is_open).0 ∙ sym all
       | inr ends ↦ followed_by-ended before (result_trace r) ends.0 ends.1 ∙ sym (followed_by-ended before here ends.0 ends.1) ∙ sym all

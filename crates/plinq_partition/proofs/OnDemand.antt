@@ -33,8 +33,7 @@ high-below : (n k : ℕ) → high n k ≡ 0 → ltb k n ≡ true
 high-below n k e =
     elim (cases_Bool (ltb k n)) [
       | inl below ↦ below
-      | inr above ↦ (let one : high n k ≡ 1 = ap (λ (b : Bool). let m : ℕ = cond b 0 1 in m) above in absurd
-          (omega arith))
+      | inr above ↦ (let one : high n k ≡ 1 = ap (λ (b : Bool). let m : ℕ = cond b 0 1 in m) above in absurd (omega arith))
     ]
 
 total-high : (n : ℕ) (ks : List ℕ) → all_below n ks ≡ true → total (high n) ks ≡ 0
@@ -69,9 +68,9 @@ is_among-none k (j ∷ ks) e =
     let other : eqb k j ≡ false = elim (cases_Bool (eqb k j)) [ inl same ↦ (let one = is_one-same k j same in absurd (omega arith)) | inr other ↦ other ] in
     or_from _ _ other (is_among-none k ks (omega arith))
 
-total-distinct : (k : ℕ) (ks : List ℕ) → are_distinct ks ≡ true → total (is_one k) ks ≤ 1
-total-distinct k [] e = omega arith
-total-distinct k (j ∷ ks) e =
+total-are_distinct : (k : ℕ) (ks : List ℕ) → are_distinct ks ≡ true → total (is_one k) ks ≤ 1
+total-are_distinct k [] e = omega arith
+total-are_distinct k (j ∷ ks) e =
     let p = and_parts (not (is_among ks j)) _ e in
     elim (cases_Bool (eqb k j)) [
       | inl same ↦
@@ -79,7 +78,7 @@ total-distinct k (j ∷ ks) e =
           let at : k ≡ j = eqb-true k j same in
           let none = total-is_one k ks (ap (is_among ks) at ∙ not_true-false (is_among ks j) p.0) in
           omega arith
-      | inr other ↦ let zero_here = is_one-other k j other in let rest = total-distinct k ks p.1 in omega arith
+      | inr other ↦ let zero_here = is_one-other k j other in let rest = total-are_distinct k ks p.1 in omega arith
     ]
   where
     not_true-false : (b : Bool) → not b ≡ true → b ≡ false
@@ -99,7 +98,7 @@ counts_up-alike ks js alike up =
     let same : length ks ≡ length js = sym (total-ones ks) ∙ alike (λ _. 1) ∙ total-ones js in
     let p = and_parts (all_below (length js) js) _ (sym (counts_up-from js) ∙ up) in
     let low = all_below-total (length ks) ks (alike (high (length ks)) ∙ ap (λ n. total (high n) js) same ∙ total-high (length js) js p.0) in
-    let once = are_distinct-total ks (λ k. let a = alike (is_one k) in let m = total-distinct k js p.1 in omega arith) in
+    let once = are_distinct-total ks (λ k. let a = alike (is_one k) in let m = total-are_distinct k js p.1 in omega arith) in
     counts_up-from ks ∙ and_from _ _ low once
 
 -- ---- what the elements of records weigh by their keys

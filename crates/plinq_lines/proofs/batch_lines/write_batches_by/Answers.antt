@@ -12,8 +12,8 @@ use Rattle.plinq_lines.proofs.PartWritten.{piece-failed, piece-written, rest-wri
 use Rattle.plinq_lines.proofs.batch_lines.write_batches_by.Goals as goal
 
 cut : (n most : ℕ) (xs front back : List ℤ) → 0 < n → most - most % n ≤ length xs → front ≡ take (most - most % n) xs → back ≡ drop (most - most % n) xs
-    → flat_map batch_line (full_batches (Some n) [] xs) ≡ flat_map batch_line (full_batches (Some n) [] front)
-    ++ flat_map batch_line (full_batches (Some n) [] back)
+    → flat_map batch_line (full_batches (Some n) [] xs)
+    ≡ flat_map batch_line (full_batches (Some n) [] front) ++ flat_map batch_line (full_batches (Some n) [] back)
 cut n most xs front back some within first rest =
     let parts : front ++ back ≡ xs = rw (first, rest, take-append-drop (most - most % n) xs) in
     let count : length front ≡ most / n * n = ap length first ∙ length-take-le (most - most % n) xs within ∙ omega (arith, div-add-mod' most n) in
