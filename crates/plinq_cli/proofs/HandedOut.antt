@@ -63,9 +63,6 @@ module _ {S T : Type 0} {source : Ghosts S T} where
       → All (IsOpen chunked t) old → IsOpen chunked t p
   first-open chunked t p old rest was all = All-head (IsOpen chunked t) p rest (All-same (IsOpen chunked t) (p ∷ rest) old (sym was) all)
 
-  pub own-open : (chunked : Chunked S T source) (t : Trace T) (p : Partition S T source) → IsOpen chunked t p → IsOpen chunked (holding_of p).origin p
-  own-open chunked t p is = subst (λ (u : Trace T). IsOpen chunked u p) (sym is.origin) is
-
   -- ---- all are done
 
   pub done-origin : (chunked : Chunked S T source) (t : Trace T) (ps : List (Partition S T source)) → 1 ≤ length ps → All (IsDone chunked t) ps

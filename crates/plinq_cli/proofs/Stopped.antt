@@ -1,5 +1,5 @@
 -- A run with a token that counts batches, seen from its sink alone.
-use Rattle.std.specs.Prelude.{◌≡◌, ℕ, ◌≤◌, List, None, Some, Result, Ok, Err, refl}
+use Rattle.std.specs.Prelude.{◌≡◌, ℕ, ◌≤◌, List, Some, Result, Ok, Err, refl}
 use Rattle.std.proofs.Common.{sym, ◌∙◌, ap, subst, arith}
 use Rattle.plinq_source.specs.Trace.{Trace}
 use Rattle.plinq_merge.specs.declared.merge_fault.MergeFault.{MergeFault}
@@ -15,22 +15,12 @@ use Rattle.plinq_ops.specs.Batches.{batches}
 use Rattle.plinq_run.specs.declared.report.Report.{Report}
 use Rattle.plinq_run.specs.declared.run_fault.RunFault.{RunFault}
 use Rattle.plinq_run.specs.declared.run_fault.RunFault.TheVariants.{Memory, Sink, Tickets, Thread, Incomplete, Cancelled}
-use Rattle.plinq_run.specs.Reports.{Reports}
 use Rattle.plinq_run.specs.Stopping.{ReportsSome}
 use Rattle.plinq_run.proofs.After.{sinks, stopped-number, stops-after}
 use Rattle.plinq_cli.specs.inner.StoppedRun.{Leaves}
 
 module _ {K T : Type 0} (accepts : K → List T → K → Type 0) (refuses : K → List T → ℕ → K → Type 0) (option : MergeOption)
     (May : Trace T → Trace T → Type 0) (t : Trace T) (s s' : K) where
-  pub leaves-run : (r : Result Report RunFault) → Reports accepts refuses option May t s s' r → Leaves accepts refuses option May t None s s' r
-  leaves-run (Ok report) h = (h, tt)
-  leaves-run (Err Cancelled) h = absurd h.broken
-  leaves-run (Err (Sink code)) h = h
-  leaves-run (Err Memory) h = h
-  leaves-run (Err Tickets) h = h
-  leaves-run (Err Thread) h = h
-  leaves-run (Err Incomplete) h = h
-
   passed : (d : Delivery CancelAfter K) (b : List T) (d' : Delivery CancelAfter K) → Passes AsksAfter accepts d b d' → accepts d.sink b d'.sink
   passed d b d' passes = passes.taken
 

@@ -2,7 +2,7 @@
 use Rattle.std.proofs.Common.{◌≡◌, ◌≢◌, ℕ, ◌+◌, ◌≤◌, ◌<◌, ◌==◌, eq-eqb, ◌||◌, List, [], ◌∷◌, ◌++◌, Option, Some, None, is_some, true, false}
 use Rattle.std.proofs.Common.{true≢false, Bool, if◌then◌else◌, IfSome, All, take, drop, refl, sym, ap, ◌∙◌, subst, arith}
 use Rattle.std.proofs.lemmas.List.{append-nil}
-use Rattle.std.proofs.lemmas.List.Elements.{All-nil, All-push, All-append, All-weaker}
+use Rattle.std.proofs.lemmas.List.Elements.{All-push, All-append, All-weaker}
 use Rattle.std.specs.List.{AllZip}
 use Rattle.plinq_source.specs.Trace.{Trace}
 use Rattle.plinq_keyed.specs.declared.chunk.Chunk.{Chunk}
@@ -21,7 +21,7 @@ use Rattle.plinq_stream.specs.Knowing.{with_sent, with_first, without_first, tog
 use Rattle.plinq_stream.specs.Streams.{has, under}
 use Rattle.plinq_stream.proofs.Numbers.{first-of, rest-of}
 use Rattle.plinq_stream.proofs.Under.{has-append, or-first, or-second, under-append, under-own, under-none}
-use Rattle.plinq_crew.specs.Working.{Answers, IsOpen, Follows, HasTakenChunk, HasLeft, sender, IsAtWork, HasWorked, IsAnsweredBy, IsWhollyAnsweredBy}
+use Rattle.plinq_crew.specs.Working.{Answers, IsOpen, Follows, HasTakenChunk, sender, IsAtWork, HasWorked, IsAnsweredBy, IsWhollyAnsweredBy}
 use Rattle.plinq_crew.specs.Working.{HasNumbersFrom, IsReceiver}
 use Rattle.plinq_crew.specs.Noted.{has_worker_fault, lacks_room, has_noted, StaysNoted}
 use Rattle.plinq_crew.specs.Results.{IsOfSameChunk, IsPart}
@@ -56,16 +56,6 @@ taken-part share share' r c taken same = record {
 }
 
 module _ {T : Type 0} (number : ℕ) where
-  pub begins-work : (share : List Record) (a : PassKnowledge (ChunkResult T)) → share ≡ [] → a ≡ sender number [] → IsAtWork number share a
-  begins-work share a none knows =
-      let sent : a.sent ≡ [] = ap (λ (k : PassKnowledge (ChunkResult T)). k.sent) knows in
-      record {
-        knows = knows ∙ ap (sender number) (sym sent);
-        own = subst (All (λ s. s.number ≡ number)) (sym sent) (All-nil (λ (s : Sent (ChunkResult T)). s.number ≡ number));
-        are = rw (none, sent) tt;
-        opens = subst (λ l. All IsOpen (under number l)) (sym sent) (All-nil IsOpen);
-      }
-
   module _ (share share' : List Record) (a b : PassKnowledge (ChunkResult T)) (r : ChunkResult T) (h : IsAtWork number share a)
       (taken : HasTakenChunk share share' r)
       (is : b ≡ with_sent a (record { number = number; item = r })) where
@@ -112,14 +102,6 @@ module _ {T : Type 0} (number : ℕ) where
         stops = (refl, record { before = under number a.sent; last = r; are = under-sent; opens = h.opens; tail = last });
       };
     }
-
-  pub breaks-work : (share share' : List Record) (a : PassKnowledge (ChunkResult T)) (fault : TakeFault) → IsAtWork number share a
-      → HasLeft share share' → HasWorked number share' (Some fault) a
-  breaks-work share share' a fault h left = record {
-    knows = h.knows;
-    own = h.own;
-    follows = record { answered = share; rest = left.more; share_is = left.share_is; are = h.are; stops = h.opens };
-  }
 
 -- what a worker has sent was made of results of the source, and so was its next part
 pub each-part : {L T M : Type 0} {meaning : L → Meaning T} {makes : ChunkResult T → ChunkResult M → Type 0} {plan : Plan L} {t : Trace T}

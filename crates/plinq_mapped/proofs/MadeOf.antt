@@ -16,12 +16,12 @@ use Rattle.plinq_merge.specs.declared.delivery_fault.DeliveryFault.{DeliveryFaul
 use Rattle.plinq_merge.specs.declared.delivery_fault.DeliveryFault.TheVariants.{Memory, Sink}
 use Rattle.plinq_run.specs.declared.run_fault.RunFault.{RunFault}
 use Rattle.plinq_run.specs.Parting.{Breaks, IsFolded, WasGiven, GivesSome}
-use Rattle.plinq_run.specs.Runs.{Cause, Other, cause_of, BreaksFor, Runs}
+use Rattle.plinq_run.specs.Runs.{Cause, cause_of, BreaksFor, Runs}
 use Rattle.plinq_mapped.specs.declared.deliver_made.DeliverMade.{DeliverMade}
 use Rattle.plinq_mapped.specs.inner.Making.{parts_joined, Gives, MadeBy}
 use Rattle.plinq_mapped.specs.declared.keep_made.KeepMade.{KeepMade}
 use Rattle.plinq_mapped.specs.declared.keep_made.Kept.{Kept}
-use Rattle.plinq_mapped.specs.inner.Keeping.{Keeps, KeepsBy}
+use Rattle.plinq_mapped.specs.inner.Keeping.{KeepsBy}
 use Rattle.plinq_mapped.specs.Mapped.{trace_at, made_of, RunsMadeOf, IsMadeOf, IsMadeOfSome}
 
 one-joined : {B : Type 0} (ys zs : List B) (o : Option ℕ) → followed_by (open_trace ys) (trace_at zs o None) ≡ trace_at (ys ++ zs) o None
@@ -103,18 +103,6 @@ module _ {T B : Type 0} (makes : T → Result B ℕ) where
         let u : Trace B = parts_joined given.parts.items given.parts.ending in
         let all : last.items.items ≡ u.items = given.taken.1 ∙ ap (λ l. l ++ u.items) nothing in
         (h.0, h.1, ap (λ l. trace_of l (Some e)) all ∙ ap (trace_of u.items) (sym given.taken.0) ∙ folded-made h.0 given.parts given.folds)
-
-    keeps-breaks : (how : Result (Option Ending) DeliveryFault) (xs : List B) (u : Trace B) (ys : List B) (cause : Cause) → Keeps xs u how ys
-        → Breaks how cause → cause ≡ Other
-    keeps-breaks (Ok None) xs u ys cause is breaks = absurd breaks
-    keeps-breaks (Ok (Some e)) xs u ys cause is breaks = breaks
-    keeps-breaks (Err Memory) xs u ys cause is breaks = breaks
-    keeps-breaks (Err (Sink code)) xs u ys cause is breaks = absurd is
-
-    pub keeps-broken : (IsAnswer : Trace T → Type 0) (fault : RunFault) → GivesSome (mapping makes) KeepsBy IsAnswer first empty (Err fault) last
-        → cause_of fault ≡ Other
-    keeps-broken IsAnswer fault h =
-        keeps-breaks h.2 empty.items.items (parts_joined h.3.parts.items h.3.parts.ending) last.items.items (cause_of fault) h.3.taken h.4
 
   pub ordered-list : {L : Type 0} (meaning : L → Meaning T) (ordered : Bool) (ops : List (Op L)) (t : Trace T) (ys : List B) (e : Ending)
       → ordered ≡ true → IsMadeOfSome makes (MayAnswer meaning ordered ops t) ys e

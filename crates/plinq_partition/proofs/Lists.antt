@@ -1,10 +1,9 @@
 -- Partitions in lists: those that are made from one, and those that are given back.
-use Rattle.std.proofs.Common.{◌≡◌, ℕ, ◌<◌, List, [], ◌∷◌, ◌++◌, length, get_or, set, refl, sym, ap, ◌∙◌, arith, append_assoc, subst, Option, Some, None}
+use Rattle.std.proofs.Common.{◌≡◌, ℕ, List, [], ◌∷◌, ◌++◌, get_or, set, refl, sym, ap, ◌∙◌, append_assoc, subst, Option, Some}
 use Rattle.std.proofs.lemmas.List.{append-nil}
 use Rattle.plinq_source.specs.declared.source.Source.{Ghosts}
 use Rattle.plinq_source.specs.Trace.{Trace, open_trace}
 use Rattle.plinq_partition.specs.declared.partition.Partition.{Partition}
-use Rattle.std.specs.Option.{IsSome}
 use Rattle.plinq_enumerator.specs.declared.enumerator.Enumerator.{Enumerator}
 use Rattle.plinq_ticket.specs.declared.pass.Token.{Token}
 use Rattle.plinq_ticket.specs.declared.ticket_lock.TicketLock.{TicketLock}
@@ -14,10 +13,6 @@ use Rattle.plinq_partition.specs.Partitions.{Holding, holding_of, new_beside, Ar
 use Rattle.plinq_partition.specs.GivenBack.{first_origin, common_origin}
 
 module _ {S T : Type 0} {source : Ghosts S T} where
-  pub made-some : (a : Holding T) (qs : List (Partition S T source)) → AreMadeFrom a qs → 0 < length qs
-  made-some a [] made = absurd made
-  made-some a (q ∷ qs) made = omega arith
-
   pub made-first : (a : Holding T) (qs : List (Partition S T source)) (d : Partition S T source) → AreMadeFrom a qs → holding_of (get_or qs 0 d) ≡ a
   made-first a [] d made = absurd made
   made-first a (q ∷ qs) d made = made.0
@@ -46,11 +41,6 @@ module _ {S T : Type 0} {source : Ghosts S T} where
       → first_origin t (ps ++ p ∷ []) ≡ first_origin (holding_of p).origin ps
   first_origin-last t [] p = refl
   first_origin-last t (x ∷ ps) p = refl
-
-  -- the pass of a partition is there
-  pub at-there : (lock : TicketLock (Enumerator S T source) T) (n : ℕ) (o : Option (Token (Enumerator S T source) T)) → IsAt lock n o → IsSome o
-  at-there lock n None at = absurd at
-  at-there lock n (Some q) at = refl
 
   pub at-some : (lock : TicketLock (Enumerator S T source) T) (n : ℕ) (o : Option (Token (Enumerator S T source) T)) (q : Token (Enumerator S T source) T)
       → o ≡ Some q → IsAt lock n o → IsPassAt lock n q

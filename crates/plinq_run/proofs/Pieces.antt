@@ -57,9 +57,6 @@ module _ {L T : Type 0} (meaning : L → Meaning T) (worker : List (Op L)) (cut 
       pub same : acc ≡ fold_of f out
       pub counted : length out ≡ count
 
-    pub folded-nothing : (first : ℕ) (rest : List T) → HasFoldedTo (chunk_answer meaning worker cut first rest) first rest f.seed 0
-    folded-nothing first rest = record { out = []; after = record { items = refl; ending = refl; dropped = refl; stop = refl }; same = refl; counted = refl }
-
     -- a piece that leaves the run open
     pub folded-piece : (all : ChunkAnswer T) (first : ℕ) (rest block others : List T) (acc acc' : A) (count : ℕ) (chunk : Chunk T) (r : ChunkResult T)
         → rest ≡ block ++ others → chunk.first ≡ first → chunk.items.items ≡ block → IsChunkResult meaning worker cut chunk r → is_some r.stop ≡ false
