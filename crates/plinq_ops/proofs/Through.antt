@@ -156,15 +156,13 @@ undecided-rest {L} {T} {meaning} {ops} {x} {before} {out} {i} {op} {now} op' her
 -- ---- a block, from an operator on
 
 -- the operators from one on, where it is as it is now, and all before it are as they were
-drop-one : {A : Type 0} (xs ys : List A) (i : ℕ) (x : A) → i < length xs → take (i + 1) ys ≡ take (i + 1) (set xs i x) → drop i ys ≡ x ∷ drop (i + 1) ys
-drop-one xs ys i x within same =
-    ap (drop i) (whole xs ys i x (same ∙ take_more_set xs i x within))
-    ∙ drop_at (take i xs) (x ∷ drop (i + 1) ys) i (length-take-le i xs (omega (arith, within)))
+drop-one : {A : Type 0} (xs ys : List A) (i : ℕ) (x : A) → i < length xs → take (i + 1) ys ≡ take i xs ++ x ∷ [] → drop i ys ≡ x ∷ drop (i + 1) ys
+drop-one xs ys i x within front =
+    ap (drop i) (whole xs ys i x front) ∙ drop_at (take i xs) (x ∷ drop (i + 1) ys) i (length-take-le i xs (omega (arith, within)))
 
-take-one : {A : Type 0} (xs ys : List A) (i : ℕ) (x : A) → i < length xs → take (i + 1) ys ≡ take (i + 1) (set xs i x) → take i ys ≡ take i xs
-take-one xs ys i x within same =
-    ap (take i) (whole xs ys i x (same ∙ take_more_set xs i x within))
-    ∙ take_at (take i xs) (x ∷ drop (i + 1) ys) i (length-take-le i xs (omega (arith, within)))
+take-one : {A : Type 0} (xs ys : List A) (i : ℕ) (x : A) → i < length xs → take (i + 1) ys ≡ take i xs ++ x ∷ [] → take i ys ≡ take i xs
+take-one xs ys i x within front =
+    ap (take i) (whole xs ys i x front) ∙ take_at (take i xs) (x ∷ drop (i + 1) ys) i (length-take-le i xs (omega (arith, within)))
 
 -- what an operator makes of the items goes on through those after it
 pub through-first : {L T : Type 0} {meaning : L → Meaning T} {ops ops' : List (StageState L)} {i : ℕ} {t : Trace T} {before after : List T} {e : Option Ending}
@@ -174,12 +172,49 @@ pub through-first : {L T : Type 0} {meaning : L → Meaning T} {ops ops' : List 
 through-first {L} {T} {meaning} {ops} {ops'} {i} {t} {before} {after} {e} op op' xs told d within is gives stage_after feeds =
     let here : drop i ops ≡ op ∷ drop (i + 1) ops = drop_more ops i d within ∙ ap (λ o. o ∷ drop (i + 1) ops) (sym is) in
     let rest : drop (i + 1) (set ops i op') ≡ drop (i + 1) ops = drop-set-lt (i + 1) ops i op' (omega arith) in
+    let front : take (i + 1) ops' ≡ take i ops ++ op' ∷ [] = feeds.others ∙ take_more_set ops i op' within in
     record {
-      others = take-one ops ops' i op' within feeds.others;
-      fed = rw (here, drop-one ops ops' i op' within feeds.others)
+      others = take-one ops ops' i op' within front;
+      fed = rw (here, drop-one ops ops' i op' within front)
           (fed-through (state_stage meaning op) (state_stage meaning op') xs told t (stages_now meaning (drop (i + 1) ops))
           (stages_now meaning (drop (i + 1) ops')) before after e (sym gives) (sym stage_after) (rw rest at feeds.fed));
     }
+
+-- a SelectMany stays as it is before the operators after it
+pub through-expansions : {L T : Type 0} {meaning : L → Meaning T} {ops ops' : List (StageState L)} {i : ℕ} {t : Trace T} {before after : List T}
+    {e : Option Ending} (op : StageState L) (s : Stage T) (d : StageState L) → i < length ops → op ≡ get_or ops i d → state_stage meaning op ≡ s
+    → FeedsStages meaning (s ∷ []) (i + 1) ops ops' t before after e → FeedsStages meaning [] i ops ops' t before after e
+through-expansions {L} {T} {meaning} {ops} {ops'} {i} op s d within is expands feeds =
+    let here : drop i ops ≡ op ∷ drop (i + 1) ops = drop_more ops i d within ∙ ap (λ o. o ∷ drop (i + 1) ops) (sym is) in
+    let front : take (i + 1) ops' ≡ take i ops ++ op ∷ [] = feeds.others ∙ take_more ops i d within ∙ ap (λ o. take i ops ++ o ∷ []) (sym is) in
+    record { others = take-one ops ops' i op within front; fed = rw (here, drop-one ops ops' i op within front, expands) feeds.fed }
+
+-- a trace t that has become u on its way through the operators from place `from` to i, which are as in `now`: whatever the rest make of u,
+-- all make of t
+pub record GoesThrough {L T : Type 0} (meaning : L → Meaning T) (from : ℕ) (ops : List (StageState L)) (t : Trace T) (i : ℕ) (now : List (StageState L))
+    (u : Trace T) : Type 0 where
+  pub undecided : some_takes_none (stages_now meaning (drop i now)) ≡ false
+  pub goes_on : (ops' : List (StageState L)) (after : List T) (e : Option Ending)
+      → FeedsStages meaning [] i now ops' u [] after e → FeedsStages meaning [] from ops ops' t [] after e
+
+module _ {L T : Type 0} {meaning : L → Meaning T} {from i : ℕ} {ops now : List (StageState L)} {t u : Trace T} where
+  -- one operator more
+  pub goes-next : (op op' : StageState L) (xs : List T) (told : Option Ending) (d : StageState L) → i < length now → op ≡ get_or now i d
+      → u ≡ apply (state_stage meaning op) (trace_of xs told) → state_stage meaning op' ≡ stage_after (state_stage meaning op) xs
+      → GoesThrough meaning from ops t i now (trace_of xs told) → GoesThrough meaning from ops t (i + 1) (set now i op') u
+  goes-next op op' xs told d within is gives stage_after through =
+      let here : drop i now ≡ op ∷ drop (i + 1) now = drop_more now i d within ∙ ap (λ o. o ∷ drop (i + 1) now) (sym is) in
+      let others : drop (i + 1) (set now i op') ≡ drop (i + 1) now = drop-set-lt (i + 1) now i op' (omega arith) in
+      record {
+        undecided = rw others (second_false _ _ (rw here at through.undecided));
+        goes_on = λ ops' after e feeds. through.goes_on ops' after e (through-first op op' xs told d within is gives stage_after feeds);
+      }
+
+  -- all operators have let the trace through
+  pub goes-all : length now ≤ i → GoesThrough meaning from ops t i now u → FeedsStages meaning [] from ops now t [] u.items u.ending
+  goes-all past through =
+      let none : drop i now ≡ [] = drop_all i now past in
+      through.goes_on now u.items u.ending (record { others = refl; fed = rw none (record { items = refl; told = refl; left = λ open_still. refl }) })
 
 module _ {L T : Type 0} {meaning : L → Meaning T} {i : ℕ} {ops ops' : List (StageState L)} {before after : List T} {e : Option Ending} where
   -- what came out stands after other items

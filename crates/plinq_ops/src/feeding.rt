@@ -96,14 +96,14 @@ pub(crate) fn feed_block<L: Lambda>(
     requires undecided { some_takes_none (stages_now L.meaning (drop from ops.old)) ≡ false }
     ensures { IfOk result (FeedsStages L.meaning [] from ops.old ops.new (record { items = block.old.items; ending = ending }) [] block.new.items) }
 {
-    if from == ops.len() {
-        return Ok(ending);
+    let mut ending = ending;
+    for at in from..ops.len() {
+        if let StageState::Expanding(f) = ops[at] {
+            return feed_expansions(alloc, f, ops, at + 1, block, ending);
+        }
+        ending = pass_block(&mut ops[at], block, ending);
     }
-    if let StageState::Expanding(f) = ops[from] {
-        return feed_expansions(alloc, f, ops, from + 1, block, ending);
-    }
-    let ending = pass_block(&mut ops[from], block, ending);
-    feed_block(alloc, ops, from + 1, block, ending)
+    Ok(ending)
 }
 
 /// Sends the expansions of a block's items through the operators from one on, one expansion after another, so that no more

@@ -8,7 +8,7 @@ use Rattle.plinq_ops.specs.Stage.{some_takes_none}
 use Rattle.plinq_ops.specs.Operator.{selected_many}
 use Rattle.plinq_ops.specs.Pipeline.{stages_now}
 use Rattle.plinq_ops.proofs.Fed.{fed-none, fed-ended_before, undecided-left, none-from_is_some}
-use Rattle.plinq_ops.proofs.Through.{through-first, feeds-appended, feeds-through, feeds-followed_by}
+use Rattle.plinq_ops.proofs.Through.{through-expansions, goes-next, goes-all, feeds-appended, feeds-through, feeds-followed_by}
 use Rattle.plinq_ops.proofs.feeding.+blocks.Goals as goal
 
 pub feed_rest-returns : goal.feed_rest-returns
@@ -35,14 +35,20 @@ feed_expansions-feed_expansion-requires g t c =
     undecided-left _ _ _ _ _ c.loop-item.invariant.fed in
     search rules
 
+pub feed_block-loop-at-preserved : goal.feed_block-loop-at-preserved
+feed_block-loop-at-preserved g t c =
+    let within : c.loop-at.at < length c.loop-at.ops = omega (arith, c.loop-at-test.true, c.loop-at.auto.ops) in
+    goes-next _ c.pass_block-ending.new.op c.loop-at.block.items c.loop-at.ending c.index-ops-at.result within refl c.pass_block-ending.ensures.passed
+    c.pass_block-ending.ensures.left c.loop-at.invariant
+
+pub feed_block-returns-in-Expanding : goal.feed_block-returns-in-Expanding
+feed_block-returns-in-Expanding g t c =
+    let within : c.loop-at.at < length c.loop-at.ops = omega (arith, c.loop-at-test.true, c.loop-at.auto.ops) in
+    IfOk-weaker c.feed_expansions.result _ _
+    (λ e feeds. c.loop-at.invariant.goes_on _ _ e (through-expansions _ _ _ within (sym c.in-Expanding.is) refl feeds)) c.feed_expansions.ensures
+
 pub feed_block-returns : goal.feed_block-returns
-feed_block-returns g t c =
-    let within : c.args.from < length c.args.ops.now = search rules in
-    let passed = c.pass_block-ending.ensures in
-    IfOk-weaker c.feed_block.result _ _
-    (λ e feeds. through-first _ c.pass_block-ending.new.op c.args.block.now.items c.args.ending c.index-ops-from.result within refl passed.passed passed.left
-    feeds)
-    c.feed_block.ensures
+feed_block-returns g t c = goes-all (omega (arith, c.loop-at-test.false, c.loop-at.auto.ops)) c.loop-at.invariant
 
 pub feed_expansions-returns-then-is_some : goal.feed_expansions-returns-then-is_some
 feed_expansions-returns-then-is_some g t c =

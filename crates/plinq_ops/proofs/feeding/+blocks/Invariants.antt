@@ -1,8 +1,10 @@
 use Rattle.std.proofs.Common.{◌+◌, ◌-◌, ◌*◌, length, take, [], ◌∷◌, None}
 use Rattle.plinq_source.specs.Trace.{open_trace}
+use Rattle.plinq_source.proofs.Followed.{trace_of}
 use Rattle.plinq_ops.specs.declared.op.Op.TheVariants.{SelectMany}
 use Rattle.plinq_ops.specs.Operator.{stage_of}
 use Rattle.plinq_ops.specs.inner.FeedingFrom.{FeedsStages}
+use Rattle.plinq_ops.proofs.Through.{GoesThrough}
 use Rattle.plinq_ops.proofs.feeding.+blocks.Given as goal
 
 abbrev pub decreases-feed_block : goal.decreases-feed_block
@@ -22,3 +24,7 @@ abbrev pub invariant-feed_expansions-loop-item : goal.invariant-feed_expansions-
 invariant-feed_expansions-loop-item g l =
     FeedsStages g.L.Lambda.meaning (stage_of g.L.Lambda.meaning (SelectMany l.f) ∷ []) l.from l.fn.ops l.ops
     (open_trace (take l.item-index l.item-items)) [] l.block.items None
+
+abbrev pub invariant-feed_block-loop-at : goal.invariant-feed_block-loop-at
+invariant-feed_block-loop-at g l =
+    GoesThrough g.L.Lambda.meaning l.fn.from l.fn.ops (trace_of l.fn.block.items l.fn.ending) l.at l.ops (trace_of l.block.items l.ending)
