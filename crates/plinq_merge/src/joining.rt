@@ -4,6 +4,7 @@ ghost use Rattle.plinq_reorder.specs.Buffered.{IsFresh};
 ghost use Rattle.plinq_merge.specs.Joining.{Waits, Joins};
 
 use crate::delivery_fault::DeliveryFault;
+use crate::pending::Pending;
 use crate::row::Row;
 use crate::taker::{TakeInto, Taker};
 use plinq_ops::{ChunkResult, Order};
@@ -59,7 +60,7 @@ impl<W: Taker> Joining<W, W::Item> {
         let mut part = self.row.accept(self.alloc, self.order, offered)?;
         loop {
             self.items = self.items.saturating_add(part.items.len() as u64);
-            let ending = self.taker.take(part.items, part.ending, out)?;
+            let ending = give(&mut self.taker, part, out)?;
             if ending.is_some() {
                 return Ok(ending);
             }
@@ -73,4 +74,21 @@ impl<W: Taker> Joining<W, W::Item> {
             part = next;
         }
     }
+}
+
+/// Gives a taker what a result brings now, unless that is nothing, as of one that waits for earlier keys.
+fn give<W: TakeInto<O>, O>(
+    taker: &mut W,
+    part: Pending<W::Item>,
+    out: &mut O,
+) -> Result<Option<Ending>, DeliveryFault>
+    requires { W.can_take taker.old ≡ true }
+    ensures ready { result ≡ Ok None → W.can_take taker.new ≡ true }
+    ensures last { result ≡ Ok None → part.ending ≡ None }
+    ensures made { W.made taker.old out.old part result taker.new out.new }
+{
+    if part.items.is_empty() && part.ending.is_none() {
+        return Ok(None);
+    }
+    taker.take(part.items, part.ending, out)
 }
