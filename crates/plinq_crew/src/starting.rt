@@ -42,7 +42,7 @@ where
     J: RunSpec<P::Part> + Send + Sync,
     P: Task<L::Item>,
 {
-    /// Starts one worker, unless no thread can be had.
+    /// Starts one worker, unless no thread can be had. The scope makes the thread; the worker needs `rt` only to wait.
     fn start<Env, R: Wait + Sync>(
         &'s self,
         scope: &Scope<'s, Env>,
