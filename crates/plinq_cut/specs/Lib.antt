@@ -1,3 +1,4 @@
+pub mod CutRows
 pub mod Cutting
 pub mod OfPlan
 pub mod Passes

@@ -147,7 +147,7 @@ module _ {T : Type 0} where
       → TakesIn order before r (followed_by (at_once order r) (unwrap_or turn (open_trace []))) after
   takes-inserted order before r None after some fresh inserts noted offers gone h =
       let test : (r.count == 0) ≡ false = grind (arith, nat_tests) in
-      rw (followed_by-open_nil (at_once order r)) (takes-placed_intervals order before r after fresh (rw test inserts) noted offers gone h)
+      rw (followed_by-open_nil (at_once order r)) (takes-placed_intervals order before r after fresh (rw test inserts.1) noted offers gone h)
   takes-inserted order before r (Some p) after some fresh inserts noted offers gone h =
       let test : (r.count == 0) ≡ false = grind (arith, nat_tests) in
       let q : Trace T = waiting_trace order r in

@@ -1,5 +1,5 @@
 -- What a contract sees of a reorder buffer.
-use Rattle.std.specs.Prelude.{◌≡◌, ℕ, ◌<◌, List, [], ◌∷◌, Bool, true, false, ◌||◌, nat_lt, Option, Some, None}
+use Rattle.std.specs.Prelude.{◌≡◌, ◌≢◌, ℕ, ◌<◌, List, [], ◌∷◌, Bool, true, false, ◌||◌, nat_lt, Option, Some, None}
 use Rattle.plinq_reorder.specs.Intervals.{Interval, is_within, has_key, insert, unbroken_row, first_gap}
 
 -- the next key, and the intervals that are held; all keys before the next one have gone
@@ -35,9 +35,9 @@ pub record IsAtGap {P : Type 0} (b : Buffered P) : Type 0 where
   pub nothing : unbroken_row b.next b.held ≡ []
   pub gap : first_gap b.next b.held ≡ b.next
 
--- an interval comes in: it is held, or its turn has come and its payload is handed back
+-- an interval comes in: it is held if it doesn't begin with the next key, or its turn has come and its payload is handed back
 abbrev pub Inserts : {P : Type 0} → Buffered P → ℕ → ℕ → P → Option P → Buffered P → Type 0
-Inserts b first end payload None b' = b' ≡ with_interval b first end payload
+Inserts b first end payload None b' = (first ≢ b.next) × (b' ≡ with_interval b first end payload)
 Inserts b first end payload (Some same) b' = (same ≡ payload) × TakesNext (with_interval b first end payload) payload b'
 
 -- the interval under the next key is taken, or there is none

@@ -1,3 +1,4 @@
 pub mod Knowing
 pub mod Passes
+pub mod StreamRows
 pub mod Streams
