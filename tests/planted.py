@@ -16,15 +16,15 @@ import time
 
 from support.program import HANGS, ROOT, Tests
 
-# A stand-in for rt, whose check looks for texts in the sources, and says of each what stands beside it in the file says. It
-# notes how many of them each check finds.
+# A stand-in for rt, whose check looks for texts in the sources, and says of each what stands beside it in the file says, in which
+# a | begins a further line of a message. It notes how many of them each check finds.
 RT = """#!/usr/bin/env python3
 import os, pathlib, sys, time
 top = os.environ["TOP"]
 os.makedirs("out/incremental", exist_ok=True)
 text = "".join(it.read_text() for it in sorted(pathlib.Path("src").iterdir()))
 said = [it.split("=>", 1) for it in pathlib.Path(f"{top}/says").read_text().splitlines()]
-found = [line for word, line in said if word in text]
+found = [line.replace("|", "\\n  ") for word, line in said if word in text]
 with open(f"{top}/calls", "a") as calls:
     print(os.getcwd().startswith(top), " ".join(sys.argv[1:]), len(found), file=calls)
 while os.path.exists(f"{top}/waits") and os.getcwd().startswith(f"{top}/tmp"):
@@ -103,8 +103,11 @@ get(31)=>fn low::ThingFromVec::from: no proof: expected answers in ./proofs/Thin
 n + 11=>fn low::caller: no proof: it calls `low::first`, which is not proved
 (5) + 61=>fn low::caller: no proof: it calls `low::first`, which is not proved
 71 + =>./proofs/Thing/method/Answers.antt:4:35: error: `returns`: as printed, the two types first differ where one has `8`
-72 + =>./proofs/Thing/method/Answers.antt:4:35: error: `gone`: `goal.gone`: module `low.proofs.Thing.method.Goals` has no `gone` that can be named from here
+72 + =>./proofs/Thing/method/Answers.antt:13:46: error: `gone`: `goal.gone`: module `Rattle.low.proofs.Thing.method.Goals`|has no `gone` that can be named from here (names in it that begin alike: `returns`)
 72 + =>fn low::Thing::method: not proved
+72 + =>help: `Goals` has no `gone`; rattle asks for `returns`, `returns-then` and 13 more; a `use` line of it can name these places: `Then-first-self`
+73 + =>./proofs/Thing/method/Answers.antt:62:52: error: `returns`: `.0` projects from a `×` type or a record, but this has type|`is_within 4 4 both.0 ≡ true`
+74 + =>./proofs/Thing/method/Answers.antt:4:35: error: `returns`: as printed, the two types|first differ where one has `8`
 u64 = 17=>./proofs/Thing+T/method/Answers.antt:4:35: error: `returns`: as printed, the two types first differ where one has `8`
 n + 13=>./proofs/+turns/Answers.antt:4:35: error: `first-returns`: as printed, the two types first differ where one has `8`
 n + 14=>./proofs/+turns/Answers.antt:4:35: error: `second-returns`: as printed, the two types first differ where one has `8`
@@ -194,6 +197,8 @@ def refused(place, tests):
     place.plant(constant=("lib", "u64 = 16", "u64 = 17"), method=edits["method"])
     status, said, last, checks = place.run()
     tests.check("a constant edits the functions that name it", (status, [it[-1] for it in checks]) == (0, ["0", "1", "1"]), (said, checks))
+    place.plant(method=("other", "7 + ", "74 + "))
+    tests.check("a goal that is told of in two lines", place.run()[2] == "1 passed, 0 failed")
     place.plant(turns=("lib", "n + 1", "n + 13"))
     tests.check("a function that others call in turn", place.run()[2] == "1 passed, 0 failed")
     place.plant(itself=("lib", "n + 1", "n + 15"))
@@ -222,6 +227,7 @@ def not_refused(place, tests):
     names("one that a function in turn with it refuses", ("lib", "n + 1", "n + 14"), "NOT REFUSED for a goal of low::first: ")
     names("one that a function which calls itself refuses", ("lib", "n + 2", "n + 16"), "NOT REFUSED for a goal of low::second: ")
     names("one that only renames a goal which is answered by hand", ("other", "7 + ", "72 + "), "NOT REFUSED for a goal of ")
+    names("one of which a proof file reads a fact as another shape", ("other", "7 + ", "73 + "), "NOT REFUSED for a goal of ")
     names("one that doesn't compile", ("lib", "n + 1", "n + text"), "BAD EDIT: it can't be compiled or read: src/lib.rt:13:9: error[E0425]")
     names("one that can't be read", ("lib", "n + 1", "n + ghost"), "BAD EDIT: it can't be compiled or read: src/lib.rt:13:9: error: ")
     names("one whose text isn't there", ("lib", "n + 9", "n + 11"), "BAD EDIT: an 'old:' text doesn't stand in src/lib.rt just once")
