@@ -1,9 +1,12 @@
 #!/usr/bin/env python3
-"""docs/TRUSTED.md beside what tools/trusted makes of the sources, what that does with words that it can't follow, and whether
-specs/inner/ of each crate has just what no public contract reaches.
+"""docs/TRUSTED.md beside what tools/trusted makes of the sources, whether a second way reaches the same, what the tool does with
+words that it can't follow, and whether specs/inner/ of each crate has just what no public contract reaches.
 
     python3 tests/trusted.py
 """
+import functools
+import importlib.machinery
+import importlib.util
 import os
 import re
 import shutil
@@ -39,6 +42,8 @@ REACHED = {
     "free_lock_has_handed_out_a_prefix:lock": (["IsFree V.origin V.history", "ghost holds ="], ["FreeWhileHome"]),
     "ordered_run_is_sequential": (["MayAnswer", "cause_of", "pieces : (T → Trace T) → Stage T"], ["HasDelivered"]),
     "plinq_partition::take": (["IsTaken", "IsChunkOf", "size_at"], ["Lawful"]),
+    # (a field of a record that it reaches has the name of a definition)
+    "plinq_ops::history_glues": (["stop_keys", "abbrev pub is_cut :"], ["HasDelivered"]),
 }
 
 # A function's name and what its contract says, where several have one name.
@@ -170,6 +175,103 @@ def finds_apart(tests):
                 file.write(right)
 
 
+# A second way to find what contracts reach, which knows nothing of the tool's: by the words of texts alone.
+
+USES = re.compile(r"^\s*(?:ghost |pub )?use Rattle\.(plinq_\w+)\.specs\.((?!declared|contracts)[\w.]+?)\.\{(.*)\};?$", re.M)
+BEGINS = re.compile(r"^ *(?:abbrev )?(?:pub )?(?:record |data )?([^\s:(){}]+) (?:[({].*)?: ")
+WORDS = re.compile(r"(?<!\.)[^\s(){}\[\],;.\"λ⟦⟧«»]+")
+BOUND = re.compile(r"[({]((?:[^\s:(){}]+ )+):")
+
+
+@functools.cache
+def text_of(path):
+    with open(os.path.join(ROOT, "crates", path), encoding="utf-8") as file:
+        return file.read()
+
+
+def imported(path):
+    """Of each name that a file takes from a file of specs/, where it stands and its name there."""
+    found = {}
+    for crate, module, names in USES.findall(text_of(path)):
+        for name in names.split(", "):
+            there, _, here = name.partition(" as ")
+            found[(here or there).strip("◌")] = (f"{crate}/specs/{module.replace('.', '/')}.antt", there)
+    return found
+
+
+def named_in(text, known):
+    bound = {word for group in BOUND.findall(text) for word in group.split()}
+    words = {word for word in WORDS.findall(text) if word in known and word not in bound}
+    return {known[word] for word in words} | ({known[it] for it in (">>=", ">>") if it in known} if re.search(r"\bdo\b", text) else set())
+
+
+@functools.cache
+def definitions(path):
+    """Of each definition of a file of specs/ those that its text, or a header of a module around it, names; and of each variant of
+    a `data` that data."""
+    texts, variants, headers, name = {}, {}, [], None
+    for line in text_of(path).split("\n"):
+        depth, begins = len(line) - len(line.lstrip(" ")), BEGINS.match(line)
+        if line.strip().startswith(("--", "use ", "pub use ")):
+            continue
+        if not line.strip() or line.strip().startswith("module "):
+            headers = [*(it for it in headers if it[0] < depth), (depth, line)] if line.strip() else headers
+            name = None
+        elif name is None and begins:
+            headers, name = [it for it in headers if it[0] < depth], begins[1]
+            texts[name] = " ".join(it[1] for it in headers) + line
+        elif name is not None:
+            texts[name] += "\n" + line
+            if begins and re.search(r"\bdata \S", texts[name]):
+                variants[begins[1]] = (path, name)
+    known = imported(path) | {it.strip("◌"): (path, it) for it in texts}
+    return {it: named_in(text, known) for it, text in texts.items()}, variants
+
+
+def reached_otherwise(contract, others):
+    """The definitions of specs/ that a contract reaches, by its text and by those of what else of Rust's it reaches."""
+    left, seen = set(), set()
+    for it in (contract, *others):
+        lines = (re.sub(r"-- .*", "", line) for line in it.text)
+        left |= named_in("\n".join(lines), imported(it.path))
+    while left:
+        path, name = left.pop()
+        named, variants = definitions(path)
+        there = variants.get(name, (path, name))
+        if there not in seen:
+            seen.add(there)
+            left |= named.get(there[1], set())
+    return seen
+
+
+def reaches_the_same(tests, tool):
+    """Both ways reach the same definitions from each public contract of the engine and of the library."""
+    count, wrong = 0, []
+    for crate in sorted(tool.OWN):
+        if crate.endswith(("_tests", "_testing", "_example", "_bench")):
+            continue
+        for rust in tool.sources(crate):
+            for at, line in enumerate(rust.lines):
+                if not re.match(r"\s*pub fn ", line):
+                    continue
+                contract, reading = tool.contract_at(rust, at), tool.Reading()
+                for word in contract.names:
+                    reading.reach(word)
+                one = {(it.path, it.name) for it in reading.order if "/specs/" in it.path}
+                other = reached_otherwise(contract, [it for it in reading.order if "/specs/" not in it.path])
+                count += 1
+                if one != other:
+                    wrong.append((contract, one ^ other))
+    tests.check("a second way reaches the same of each public contract", count > 200 and not wrong, wrong[:3])
+
+
+def the_tool(root=ROOT):
+    loader = importlib.machinery.SourceFileLoader("trusted_tool", os.path.join(root, "tools", "trusted"))
+    tool = importlib.util.module_from_spec(importlib.util.spec_from_loader(loader.name, loader))
+    loader.exec_module(tool)
+    return tool
+
+
 def main():
     tests = Tests()
     made = trusted("--page")
@@ -191,6 +293,7 @@ def main():
     for name, says in NAMED.items():
         seen = trusted(name)
         tests.check(f"{name} is found", seen.returncode == 0 and says in seen.stdout, seen.stderr)
+    reaches_the_same(tests, the_tool())
     finds_lost(tests)
     stands_apart(tests)
     finds_apart(tests)
