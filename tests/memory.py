@@ -1,9 +1,10 @@
 #!/usr/bin/env python3
-"""The limit of memory under which ./plinq starts the program (tools/limit.sh): what it is, and that a run which wants more
-reports it. Then what some runs take, that first lines come at once, and that memory is used again.
+"""The limit of memory under which ./plinq starts the program (tools/limit.sh): what it is, also in a control group, and that a run
+which wants more reports it, and one that doesn't never does. Then what some runs take, that first lines come at once, and that memory is used again.
 
     python3 tests/memory.py
 """
+import contextlib
 import os
 import re
 import subprocess
@@ -12,7 +13,7 @@ import threading
 
 from support.program import HANGS, PLINQ, ROOT, Outcome, Tests, build, run
 
-STACK = 8 * 2**20
+STACK = 2**20
 OUT_OF_MEMORY = Outcome(5, b"", b"plinq: out of memory\n")
 # Documents of few bytes that want more memory than any machine has.
 HUNGRY = {
@@ -41,43 +42,153 @@ AGAIN = '{"version":1,"source":{"range":[0,10000000]},"query":[["as_ordered"],["
 ADDED = b'{"version":1,"source":{"list":[3,1,4]},"query":[["as_ordered"],["select","add",1]]}'
 
 
-def limit_of(text):
-    return re.search(r"^Max data size +(\S+) +(\S+)", text, re.M).groups()
+def limit_of(text, name="data"):
+    return re.search(rf"^Max {name} size +(\S+) +(\S+)", text, re.M).groups()
+
+
+# What the fake control groups of a test have: of version 2, with a parent that has less left; of version 1; and without a limit.
+GROUPS = {
+    "none": ({}, ""),
+    "one of version 2": ({"a/b/memory.max": "400000000", "a/b/memory.current": "0", "a/memory.max": "max"}, "0::/a/b"),
+    "a parent that has less": ({"a/b/memory.max": "400000000", "a/b/memory.current": "0", "a/memory.max": "300000000", "a/memory.current": "100000000"}, "0::/a/b"),
+    "pages of files are given up": (
+        {"memory.max": "300000000", "memory.current": "200000000", "memory.stat": "anon 50000000\ninactive_file 100000000\nactive_file 50000000"},
+        "0::/",
+    ),
+    "the path of a host, in a container": ({"memory.max": "200000000", "memory.current": "0"}, "0::/docker/0123"),
+    "one of version 1": (
+        {"memory/a/memory.limit_in_bytes": "200000000", "memory/a/memory.usage_in_bytes": "0", "memory/memory.limit_in_bytes": "9223372036854771712"},
+        "3:cpu,cpuacct:/\n2:hugetlb,memory:/a\n0::/",
+    ),
+    "one that is full": ({"memory.max": "100000000", "memory.current": "100000000"}, "0::/"),
+}
+LEFT = {"none": None, "one of version 2": 400_000_000, "a parent that has less": 200_000_000, "pages of files are given up": 250_000_000}
+LEFT |= {"the path of a host, in a container": 200_000_000, "one of version 1": 200_000_000, "one that is full": 2**20}
 
 
 def limits(tests, folder):
     """What the lines set, with a machine that has 1,000,000 kB available, and with no commands but the shell's own."""
     with open(f"{ROOT}/tools/limit.sh", encoding="utf-8") as file:
         lines = file.read()
-    tests.check("it reads what the machine has", lines.count("/proc/meminfo") == 2)
+    tests.check("it reads what the machine and its groups have", (lines.count("/proc/meminfo"), lines.count("/proc/self/cgroup")) == (2, 2))
     with open(f"{folder}/meminfo", "w", encoding="utf-8") as file:
         file.write("MemTotal:        9000000 kB\nMemFree:          500000 kB\nMemAvailable:    1000000 kB\nBuffers: 7 kB\n")
     with open(f"{folder}/old", "w", encoding="utf-8") as file:
         file.write("MemTotal:        9000000 kB\n")
+    for name, (files, own) in GROUPS.items():
+        for path, text in {**{f"groups/{it}": text for it, text in files.items()}, "cgroup": own}.items():
+            os.makedirs(os.path.dirname(f"{folder}/{name}/{path}"), exist_ok=True)
+            with open(f"{folder}/{name}/{path}", "w", encoding="utf-8") as file:
+                file.write(f"{text}\n")
     shown = 'limit_memory "$@"\nwhile read -r line; do echo "$line"; done </proc/self/limits\n'
     available = 1_000_000 * 1024
-    default = str(available + 4 * STACK)
+
+    def ran(shell, before, meminfo, group, value, *words):
+        text = lines.replace("/proc/meminfo", f"{folder}/{meminfo}").replace("/proc/self/cgroup", f"'{folder}/{group}/cgroup'")
+        text = text.replace("/sys/fs/cgroup", f"'{folder}/{group}/groups'")
+        env = {"PATH": ""} | ({} if value is None else {"PLINQ_MEMORY": value})
+        return subprocess.run([f"/bin/{shell}", "-c", f"set -eu\n{before}\n{text}\n{shown}", "plinq", *words], env=env, capture_output=True, text=True, timeout=HANGS)
+
+    def bytes_of(number, workers=4):
+        return str((number // 1024 + workers * 1024) * 1024)
+
+    default = bytes_of(available)
     for shell in ("sh", "bash"):
         for name, value, before, meminfo, wanted in (
             ("what is available", None, "", "meminfo", (default, "unlimited")),
             ("an empty word", "", "", "meminfo", (default, "unlimited")),
-            ("a number of bytes", "300000500", "", "meminfo", ("300000256", "unlimited")),
+            ("a number of bytes", "300000500", "", "meminfo", (bytes_of(300_000_500), "unlimited")),
+            ("a number of kilobytes", "30000k", "", "meminfo", (bytes_of(30_000 * 1024), "unlimited")),
+            ("a number of megabytes", "300M", "", "meminfo", (bytes_of(300 * 2**20), "unlimited")),
+            ("a number of gigabytes, which aren't there", "2G", "", "meminfo", (default, "unlimited")),
+            ("a number of gigabytes", "2G", "", "gone", (bytes_of(2 * 2**30), "unlimited")),
+            ("more than a shell computes with", "99999999999999999999", "", "meminfo", (default, "unlimited")),
+            ("more gigabytes than that", "99999999999G", "", "meminfo", (default, "unlimited")),
+            ("the least", "1M", "", "meminfo", (bytes_of(2**20), "unlimited")),
             ("no limit", "unlimited", "", "meminfo", ("unlimited", "unlimited")),
             ("a lower limit stays", None, "ulimit -d 5000", "meminfo", ("5120000", "5120000")),
             ("a lower limit that could be raised stays", None, "ulimit -S -d 5000", "meminfo", ("5120000", "unlimited")),
-            ("below a limit", "4096000", "ulimit -d 5000", "meminfo", ("4096000", "5120000")),
+            ("below a limit", "4096000", "ulimit -d 50000", "meminfo", (bytes_of(4_096_000), "51200000")),
             ("no number of what is available", None, "", "old", ("unlimited", "unlimited")),
-            ("no file of what is available", None, "", "none", ("unlimited", "unlimited")),
+            ("no file of what is available", None, "", "gone", ("unlimited", "unlimited")),
         ):
-            text = f"set -eu\n{before}\n{lines.replace('/proc/meminfo', f'{folder}/{meminfo}')}\n{shown}"
-            env = {"PATH": ""} | ({} if value is None else {"PLINQ_MEMORY": value})
-            ran = subprocess.run([f"/bin/{shell}", "-c", text], env=env, capture_output=True, text=True, timeout=HANGS)
-            tests.check(f"{shell}: {name}", (ran.returncode, ran.stderr) == (0, "") and limit_of(ran.stdout) == wanted, ran)
-        text = f"set -eu\n{lines.replace('/proc/meminfo', f'{folder}/meminfo')}\n{shown}"
+            seen = ran(shell, before, meminfo, "none", value)
+            tests.check(f"{shell}: {name}", (seen.returncode, seen.stderr) == (0, "") and limit_of(seen.stdout) == wanted, seen)
+        for before, value, wanted in (("", None, "1048576"), ("ulimit -S -s 512", None, "524288"), ("", "unlimited", None)):
+            seen = ran(shell, before, "meminfo", "none", value)
+            is_so = limit_of(seen.stdout, "stack")[0] == wanted if wanted else limit_of(seen.stdout, "stack")[0] != "1048576"
+            tests.check(f"{shell}: a thread's stack {before} {value}", seen.returncode == 0 and is_so, seen)
+        for name, left in LEFT.items():
+            for meminfo, least in (("meminfo", min(left or available, available)), ("gone", left)):
+                wanted = bytes_of(least) if least else "unlimited"
+                seen = ran(shell, "", meminfo, name, None)
+                is_so = (seen.returncode, seen.stderr) == (0, "") and limit_of(seen.stdout)[0] == wanted
+                tests.check(f"{shell}: a control group: {name}, {meminfo}", is_so, (wanted, seen))
+        seen = ran(shell, "", "meminfo", "one of version 1", "100M")
+        tests.check(f"{shell}: less than a control group has", limit_of(seen.stdout)[0] == bytes_of(100 * 2**20), seen)
         for words, workers in (("run --workers 64", 64), ("run --workers=1 --merge not", 1), ("run --merge not --workers 7", 7), ("run --workers", 4), ("run --workers 70", 4), ("run --workers x", 4)):
-            ran = subprocess.run([f"/bin/{shell}", "-c", text, "plinq", *words.split()], env={"PATH": ""}, capture_output=True, text=True, timeout=HANGS)
-            is_so = (ran.returncode, ran.stderr) == (0, "") and limit_of(ran.stdout)[0] == str(available + workers * STACK)
-            tests.check(f"{shell}: the stacks of {words}", is_so, ran)
+            seen = ran(shell, "", "meminfo", "none", None, *words.split())
+            is_so = (seen.returncode, seen.stderr) == (0, "") and limit_of(seen.stdout)[0] == bytes_of(available, workers)
+            tests.check(f"{shell}: the stacks of {words}", is_so, seen)
+
+
+# A control group of 300 MB, of version 1 or 2, if this machine lets one be made.
+LIMITED = 300_000_000
+
+
+def new_group():
+    """The folder of a new control group with that limit, or None."""
+    with open("/proc/self/cgroup", encoding="utf-8") as file:
+        own = [line.rstrip("\n").split(":", 2) for line in file]
+    for _, controllers, path in own:
+        version_1 = "memory" in controllers.split(",")
+        if not (version_1 or controllers == ""):
+            continue
+        top, name = ("/sys/fs/cgroup/memory", "memory.limit_in_bytes") if version_1 else ("/sys/fs/cgroup", "memory.max")
+        made = f"{top}{path.rstrip('/')}/plinq-{os.getpid()}"
+        try:
+            os.mkdir(made)
+            with open(f"{made}/{name}", "w", encoding="utf-8") as file:
+                file.write(str(LIMITED))
+            return made
+        except OSError:
+            with contextlib.suppress(OSError):
+                os.rmdir(made)
+    return None
+
+
+def in_a_group(tests):
+    """What a run says in a control group that has less than it wants: never is it killed."""
+    group = new_group()
+    if group is None:
+        print("(this machine lets no control group be made)", flush=True)
+        return
+    try:
+        for name, (words, document) in HUNGRY.items():
+            script = f'echo $$ >"{group}/cgroup.procs" && exec "{PLINQ}" {words}'
+            seen = subprocess.run(["sh", "-c", script], input=document.encode(), capture_output=True, timeout=HANGS)
+            tests.check(f"{name}, in a group of 300 MB", Outcome(seen.returncode, seen.stdout, seen.stderr) == OUT_OF_MEMORY, seen)
+    finally:
+        os.rmdir(group)
+
+
+# The least limit in bytes from which on no right run of these fails, whatever its threads do, and how often each is tried.
+ENOUGH = 8 * 2**20
+TIMES = 50
+
+
+def one_outcome(tests):
+    """A small run under each limit from 1 MB up, by few and many workers: from ENOUGH on it is always right, and below it says that
+    memory ran out, or that no thread could be had for its lack, and nothing else."""
+    right = Outcome(0, b"4\n2\n5\nend\n", b"")
+    for megabytes in (1, 2, 3, 4, 6, 8, 12, 16, 32, 64):
+        for workers in ("1", "4", "16", "64"):
+            env = os.environ | {"PLINQ_MEMORY": f"{megabytes}M"}
+            seen = [run(["run", "--merge", "not", "--workers", workers], ADDED, env=env) for _ in range(TIMES)]
+            others = [it for it in seen if it != right]
+            is_enough = megabytes * 2**20 >= ENOUGH
+            is_so = not others if is_enough else all(it == OUT_OF_MEMORY for it in others)
+            tests.check(f"{megabytes} MB by {workers}", is_so, f"{len(others)} of {TIMES}: {others[:1]}")
 
 
 def started(tests):
@@ -93,9 +204,12 @@ def started(tests):
         output, _ = program.communicate(ADDED, timeout=HANGS)
     tests.check("the program has a limit below all memory and the stacks", soft != "unlimited" and 4 * STACK < int(soft) < total + 4 * STACK, soft)
     tests.check("and answers within it", output == b"4\n2\n5\nend\n", output)
-    for value in ("1e9", "-1", "1 000", "all", "0100", "0x100"):
+    neither = b'plinq: PLINQ_MEMORY is neither a number of bytes, as 500M, nor "unlimited"\n'
+    below = b"plinq: PLINQ_MEMORY is below 1M, in which the program cannot start\n"
+    odd = ("1e9", "-1", "1 000", "all", "0100", "0x100", "0", "0M", "M", "1T", "5.5M", "5MB", "5 M")
+    for value in (*odd, "1", "1023", "4096", "1023k", "1048575"):
         seen = run(["run"], ADDED, env=os.environ | {"PLINQ_MEMORY": value})
-        wanted = Outcome(2, b"", b'plinq: PLINQ_MEMORY is neither a number of bytes nor "unlimited"\n')
+        wanted = Outcome(2, b"", neither if value in odd else below)
         tests.check(f"PLINQ_MEMORY={value} is refused", seen == wanted, seen)
     seen = run(["run", "--merge", "not"], ADDED, env=os.environ | {"PLINQ_MEMORY": "unlimited"})
     tests.check("PLINQ_MEMORY=unlimited", seen == Outcome(0, b"4\n2\n5\nend\n", b""), seen)
@@ -156,7 +270,9 @@ def main():
     with tempfile.TemporaryDirectory() as folder:
         limits(tests, folder)
     started(tests)
+    one_outcome(tests)
     hungry(tests)
+    in_a_group(tests)
     sparing(tests)
     endless(tests)
     again(tests)

@@ -1,8 +1,9 @@
-# A part of the scripts that start the program: it limits the memory that it may take, and starts no process for that.
+# A part of the scripts that start the program: it limits the memory that the program may take, and starts no process for that.
 #
-# The limit is what the machine has available, beside the stacks of as many workers as the words ask for, which are 8 MB each
-# and hardly used. The kernel counts what is mapped to be written. A limit of addresses would have to leave room for what the
-# C library reserves for each thread, 64 MB, and that can then be used as well: several GB more than there are.
+# The limit is the lowest of what the machine has available, what each control group around this process has left, and
+# PLINQ_MEMORY. The stacks of as many workers as the words ask for come on top, 1 MB each, so that the limit refuses no thread.
+# The kernel counts what is mapped to be written. A limit of addresses would have to leave room for what the C library reserves
+# for each thread, 64 MB, and that can then be used as well: several GB more than there are.
 limit_memory() {
     workers=4 before=
     for word in "$@"; do
@@ -17,28 +18,101 @@ limit_memory() {
         [1-9] | [1-6][0-9]) ;;
         *) workers=4 ;;
     esac
+    # (in kB; more than any machine has)
+    most=999999999999
+    kilobytes=$most
     case ${PLINQ_MEMORY-} in
         unlimited) return 0 ;;
-        '')
-            [ -r /proc/meminfo ] || return 0
-            kilobytes=
-            while [ -z "$kilobytes" ] && read -r name number unit; do
-                [ "$name" != MemAvailable: ] || kilobytes=$((number + workers * 8192))
-            done </proc/meminfo
-            [ -n "$kilobytes" ] || return 0
-            ;;
-        *[!0-9]* | 0?*)
-            echo 'plinq: PLINQ_MEMORY is neither a number of bytes nor "unlimited"' >&2
-            exit 2
-            ;;
-        *) kilobytes=$((PLINQ_MEMORY / 1024)) ;;
+        '') ;;
+        *) read_size "$PLINQ_MEMORY" ;;
     esac
+    if [ -r /proc/meminfo ]; then
+        while read -r name number unit; do
+            [ "$name" != MemAvailable: ] || { at_most "$number" && break; }
+        done </proc/meminfo
+    fi
+    if [ -r /proc/self/cgroup ]; then
+        while IFS=: read -r number controllers path; do
+            case $number:,$controllers, in
+                0:,,) groups /sys/fs/cgroup "$path" memory.max memory.current '' ;;
+                *,memory,*) groups /sys/fs/cgroup/memory "$path" memory.limit_in_bytes memory.usage_in_bytes total_ ;;
+            esac
+        done </proc/self/cgroup
+    fi
+    [ "$kilobytes" != "$most" ] || return 0
+    kilobytes=$((kilobytes + workers * 1024))
     # (a limit that is lower already stays; a shell reads byte by byte, so no more is read than is wanted)
+    data=unlimited
     while read -r first second third soft rest; do
         case "$first $second $third" in
-            'Max data size') break ;;
+            'Max data size') data=$soft ;;
+            'Max stack size') break ;;
         esac
     done </proc/self/limits
-    [ "${soft:-unlimited}" = unlimited ] || [ "$soft" -ge $((kilobytes * 1024)) ] || return 0
-    ulimit -S -d "$kilobytes"
+    [ "$data" != unlimited ] && [ "$data" -lt $((kilobytes * 1024)) ] || ulimit -S -d "$kilobytes"
+    # (a thread's stack is as large as this limit, and counted whole)
+    [ "${soft:-unlimited}" != unlimited ] && [ "$soft" -le 1048576 ] || ulimit -S -s 1024
+}
+
+at_most() {
+    [ "$kilobytes" -le "$1" ] || kilobytes=$1
+}
+
+# A number of bytes, of 1,024 (k), 1,048,576 (M) or 1,073,741,824 (G).
+read_size() {
+    unit=1 longest=18 number=$1
+    case $number in
+        *[kK]) unit=1024 ;;
+        *[mM]) unit=1048576 ;;
+        *[gG]) unit=1073741824 ;;
+    esac
+    [ "$unit" = 1 ] || longest=9 number=${number%?}
+    case $number in
+        '' | *[!0-9]* | 0*)
+            echo 'plinq: PLINQ_MEMORY is neither a number of bytes, as 500M, nor "unlimited"' >&2
+            exit 2
+            ;;
+    esac
+    # (more than a shell computes with is more than there is)
+    [ "${#number}" -le "$longest" ] || return 0
+    if [ $((number * unit)) -lt 1048576 ]; then
+        echo 'plinq: PLINQ_MEMORY is below 1M, in which the program cannot start' >&2
+        exit 2
+    fi
+    at_most $((number * unit / 1024))
+}
+
+# What a control group and those around it have left: their limit less what their processes hold. Of that the pages of files
+# don't count, which the kernel gives up first. Where the path isn't shown, as in a container, the top is the own group.
+groups() {
+    path=$2
+    while :; do
+        if { read -r limit <"$1$path/$3"; } 2>/dev/null; then
+            case $limit in
+                # (none, or more than any machine has)
+                '' | *[!0-9]* | ???????????????*) ;;
+                *) group_has "$1$path" "$limit" "$4" "$5" ;;
+            esac
+        fi
+        case $path in
+            '' | /) break ;;
+        esac
+        path=${path%/*}
+    done
+}
+
+group_has() {
+    used=0 files=0
+    { read -r used <"$1/$3"; } 2>/dev/null || used=0
+    if [ -r "$1/memory.stat" ]; then
+        while read -r name number; do
+            case $name in
+                "$4inactive_file" | "$4active_file") files=$((files + number)) ;;
+            esac
+        done <"$1/memory.stat"
+    fi
+    [ "$files" -le "$used" ] || files=$used
+    left=$((($2 - used + files) / 1024))
+    [ "$left" -ge 1024 ] || left=1024
+    at_most "$left"
 }
