@@ -20,7 +20,7 @@ _plinq() {
         --workers | --cancel-after) words='' ;;
         *)
             if [ "$COMP_CWORD" = 1 ]; then
-                words='run seq plan parts history --help'
+                words='run seq plan parts history --help --version'
             else
                 words='--workers --merge --help'
                 [ "${COMP_WORDS[1]}" = run ] && words="$words --cancel-after"

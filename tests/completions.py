@@ -32,6 +32,7 @@ PLACES = {"plinq.bash": ".local/share/bash-completion/completions/plinq", "_plin
 # What is typed, with a TAB in it, and what the program is then given.
 COMPLETED = [
     ("plinq his\t", "got: history"),
+    ("plinq --ver\t", "got: --version"),
     ("plinq ru\t--wor\t", "got: run --workers"),
     ("plinq run --merge n\t", "got: run --merge not"),
     ("plinq run --merge=f\t", "got: run --merge=full"),

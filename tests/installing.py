@@ -46,6 +46,8 @@ def answers(tests, name, prefix):
         seen = run(["run", "--merge", "not"], document, program, cwd="/", **how)
         tests.check(f"{name}: {program} answers", seen == wanted, seen)
     os.remove(f"{prefix}/linked")
+    seen = run(["--version"], b"", f"{prefix}/bin/plinq", cwd="/")
+    tests.check(f"{name}: its version", seen == Outcome(0, f"plinq {version()[0]}\n".encode(), b""), seen)
     hungry = b'{"version":1,"source":{"range":[0,1099511627776]},"query":[["as_ordered"]]}'
     seen = run(["run", "--merge", "full"], hungry, f"{prefix}/bin/plinq", env=os.environ | {"PLINQ_MEMORY": "200000000"})
     tests.check(f"{name}: within PLINQ_MEMORY", seen == Outcome(5, b"", b"plinq: out of memory\n"), seen)

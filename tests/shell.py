@@ -17,7 +17,7 @@ SHARE = os.path.join(ROOT, "share")
 def described(text, heading):
     """The names and descriptions of a section of help."""
     section = text.split(f"\n{heading}:\n", 1)[1].split("\n\n", 1)[0]
-    return {name: about for name, about in re.findall(r"^ {2,}(?:-h, )?(\S+).*?  +(\S.*)$", section, re.M)}
+    return {name: about for name, about in re.findall(r"^ {2,}(?:-\w, )?(\S+).*?  +(\S.*)$", section, re.M)}
 
 
 def completed(*words):
@@ -41,6 +41,9 @@ def main():
     commands = described(run(["--help"]).output.decode(), "Commands")
     text = run(["run", "--help"]).output.decode()
     options = described(text, "Options")
+    # (those of the program, and with a command)
+    all_options = options | described(run(["--help"]).output.decode(), "Options")
+    tests.check("the program has a version", set(all_options) - set(options) == {"--version"}, all_options)
     merge_words = re.search(r"\[possible values: (.*)\]", text)[1].split(", ")
     status_lines = re.findall(r"^  (\d)  (.*)$", run(["--help"]).output.decode(), re.M)
     tests.check("help has commands, options, words and statuses", (len(commands), set(options), len(merge_words), len(status_lines)) == (5, {"--workers", "--merge", "--cancel-after", "--help"}, 4, 5), (commands, options, merge_words, status_lines))
@@ -59,7 +62,7 @@ def main():
     for name, about in commands.items():
         tests.check(f"and what {name} does", f".B {name}\n{about}." in sections["COMMANDS"])
     tests.check("and what --workers is for", f"{options['--workers']}." in sections["OPTIONS"], sections["OPTIONS"])
-    tests.check("the man page has the options", set(re.findall(r"--\w[\w-]*", sections["OPTIONS"])) == set(options), sections["OPTIONS"])
+    tests.check("the man page has the options", set(re.findall(r"--\w[\w-]*", sections["OPTIONS"])) == set(all_options), sections["OPTIONS"])
     tests.check("and the words of --merge", re.findall(r"^\.B(?:R)? (\w+)(?: \.)?$", sections["OPTIONS"].split("--merge")[1].split(".TP")[0], re.M)[:4] == merge_words, sections["OPTIONS"])
     wanted = [(status, f"{about[0].upper()}{about[1:]}.") for status, about in status_lines]
     tests.check("the man page has the statuses", re.findall(r"^\.TP\n\.B (\d)\n(.*)$", sections["EXIT STATUS"], re.M) == wanted, sections["EXIT STATUS"])
@@ -76,7 +79,7 @@ def main():
     for name in ("plinq.1", "plinq-check.1"):
         tests.check(f"{name} has no fault", mandoc(f"{SHARE}/{name}") == "", mandoc(f"{SHARE}/{name}"))
 
-    tests.check("bash completes the commands", completed("plinq", "") == [*commands, "--help"], completed("plinq", ""))
+    tests.check("bash completes the commands", completed("plinq", "") == [*commands, "--help", "--version"], completed("plinq", ""))
     tests.check("bash completes the options", set(completed("plinq", "run", "--")) == set(options), completed("plinq", "run", "--"))
     tests.check("bash completes an option that was begun", completed("plinq", "seq", "--m") == ["--merge"], completed("plinq", "seq", "--m"))
     tests.check("bash completes the words of --merge", completed("plinq", "run", "--merge", "") == merge_words)
@@ -86,11 +89,11 @@ def main():
 
     fish = files["plinq.fish"]
     tests.check("fish has the commands", dict(re.findall(r"-a (\w+) -d '(.*)'", fish)) == commands, fish)
-    tests.check("fish has the options", {f"--{it}" for it in re.findall(r"-l ([\w-]+)", fish)} == set(options), fish)
+    tests.check("fish has the options", {f"--{it}" for it in re.findall(r"-l ([\w-]+)", fish)} == set(all_options), fish)
     tests.check("fish has the words of --merge", re.findall(r"-l merge -x -a '(.*?)'", fish) == [" ".join(merge_words)], fish)
     zsh = files["_plinq"]
     tests.check("zsh has the commands", dict(re.findall(r'(\w+)\\:"(.*?)"', zsh)) == commands, zsh)
-    tests.check("zsh has the options", set(re.findall(r"--\w[\w-]*(?=[=}']?[\[}])", zsh)) == set(options), zsh)
+    tests.check("zsh has the options", set(re.findall(r"--\w[\w-]*(?=[=}']?[\[}])", zsh)) == set(all_options), zsh)
     tests.check("zsh has the words of --merge", re.findall(r"OPTION:\((.*?)\)", zsh) == [" ".join(merge_words)], zsh)
     tests.end()
 

@@ -4,6 +4,7 @@
     python3 tests/words.py
 """
 import os
+import re
 import subprocess
 
 from support.program import EXAMPLES, HANGS, ROOT, Outcome, Tests, build, run
@@ -18,7 +19,6 @@ REFUSED = {
     "help": "error: unrecognized subcommand 'help'\n" + USAGE,
     "RUN": "error: unrecognized subcommand 'RUN'\n" + USAGE,
     "ru": "error: unrecognized subcommand 'ru'\n\n  tip: a similar subcommand exists: 'run'\n" + USAGE,
-    "--version": "error: unexpected argument '--version' found\n" + USAGE,
     "--workers 2 run": "error: unexpected argument '--workers' found\n\n  tip: 'run --workers' exists\n" + USAGE,
     "--merge not run": "error: unexpected argument '--merge' found\n\n  tip: 'run --merge' exists\n" + USAGE,
     "run document.json": "error: unexpected argument 'document.json' found\n" + OPTIONS,
@@ -54,7 +54,8 @@ Commands:
   history  Shows the requests of partitions that take from the source in turn
 
 Options:
-  -h, --help  Print help
+  -h, --help     Print help
+  -V, --version  Print version
 
 Each command takes --workers N, from 1 to 64, and --merge with one of these words:
   not      a line for each element
@@ -81,7 +82,7 @@ A text that isn't whole numbers parted by spaces and line feeds ends in one of t
   refused 2  a whole number is outside 64 bits
 
 Exit status:
-  0  the answer came to its end, or help was shown
+  0  the answer came to its end, or help or the version was shown
   2  the arguments or the document were refused
   3  the source refused
   4  a formula had a fault
@@ -162,6 +163,10 @@ def main():
         for command in ABOUT:
             ends([command, word], Outcome(0, help_of(command).encode(), b""))
     ends(["run", "--workers", "2", "--help"], Outcome(0, RUN_HELP.encode(), b""))
+    with open(os.path.join(ROOT, "CHANGES.md"), encoding="utf-8") as file:
+        number = re.search(r"^## ([\d.]+), ", file.read(), re.M)[1]
+    for word in ("--version", "-V"):
+        ends([word], Outcome(0, f"plinq {number}\n".encode(), b""))
 
     # (neither reads the input first)
     for words in ([], ["walk"], ["run", "--workers", "0"], ["seq", "more"]):

@@ -1,7 +1,8 @@
 -- What some command lines ask for.
 use Rattle.std.proofs.Common.{◌≡◌, [], ◌∷◌, Some, None, refl, codes}
 use Rattle.clap.specs.declared.builder.value_parser.ValueParser.{ValueParser}
-use Rattle.clap.specs.declared.error.kind.ErrorKind.TheVariants.{DisplayHelp, MissingSubcommand, UnknownArgument, ValueValidation, InvalidSubcommand}
+use Rattle.clap.specs.declared.error.kind.ErrorKind.TheVariants.{DisplayHelp, DisplayVersion, MissingSubcommand}
+use Rattle.clap.specs.declared.error.kind.ErrorKind.TheVariants.{UnknownArgument, ValueValidation, InvalidSubcommand}
 use Rattle.clap.proofs.OnLiterals.{clap_on_literals}
 use Rattle.plinq_ops.specs.declared.merge_option.MergeOption.TheVariants.{FullyBuffered}
 use Rattle.plinq_arguments.specs.Arguments.{arguments_of, kinds_of}
@@ -44,6 +45,14 @@ no_command q = refl
 wants_help : (q : ValueParser) → kinds_of q (codes "plinq" ∷ codes "--help" ∷ []) ≡ DisplayHelp ∷ []
 unfolding clap_on_literals
 wants_help q = refl
+
+wants_the_version : (q : ValueParser) → kinds_of q (codes "plinq" ∷ codes "--version" ∷ []) ≡ DisplayVersion ∷ []
+unfolding clap_on_literals
+wants_the_version q = refl
+
+a_command_has_no_version : (q : ValueParser) → kinds_of q (codes "plinq" ∷ codes "run" ∷ codes "--version" ∷ []) ≡ UnknownArgument ∷ []
+unfolding clap_on_literals
+a_command_has_no_version q = refl
 
 unknown_command : (q : ValueParser) → kinds_of q (codes "plinq" ∷ codes "walk" ∷ []) ≡ UnknownArgument ∷ InvalidSubcommand ∷ []
 unfolding clap_on_literals

@@ -75,9 +75,9 @@ history_app words = subcommand_app words (codes "history")
 abbrev pub AddsItsShape : ClapCommand → Type 0
 AddsItsShape sub = (old new : ClapCommand) → AddsSubcommand old sub new → app_of new ≡ with_subcommand (app_of old) (shape_of sub)
 
--- the program, of which the words need a subcommand, and `help` isn't one
+-- the program, of which the words need a subcommand, and `help` isn't one; it has a version
 abbrev pub bare_app : App
-bare_app = on_top (λ s. record s { disable_help_subcommand = true; subcommand_required = true }) (new_app (codes "plinq"))
+bare_app = on_top (λ s. record s { disable_help_subcommand = true; subcommand_required = true; has_version = true }) (new_app (codes "plinq"))
 
 -- the program with one more subcommand
 abbrev pub with_command : App → App → App

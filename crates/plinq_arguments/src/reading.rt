@@ -17,6 +17,9 @@ use std::alloc::{AllocError, Global};
 /// The greatest number of batches after which a run can be cancelled.
 const MOST_BATCHES: u64 = 4_294_967_295;
 
+/// The version of this program: the first one of CHANGES.md.
+const VERSION: &str = "1.3";
+
 static MERGE_WORDS: [&str; 4] = ["not", "auto", "full", "default"];
 
 /// What stands at the end of the program's help.
@@ -46,7 +49,7 @@ A text that isn't whole numbers parted by spaces and line feeds ends in one of t
   refused 2  a whole number is outside 64 bits
 
 Exit status:
-  0  the answer came to its end, or help was shown
+  0  the answer came to its end, or help or the version was shown
   2  the arguments or the document were refused
   3  the source refused
   4  a formula had a fault
@@ -127,6 +130,7 @@ fn bare_command<'a>(alloc: Global) -> clap::Command<'a>
 {
     clap::Command::new(alloc, "plinq")
         .about("Answers the query of a JSON document, which it reads from standard input")
+        .version(VERSION)
         .override_usage("plinq <COMMAND> [OPTIONS] < DOCUMENT")
         .after_help(AFTER_HELP)
         .disable_help_subcommand(true)
