@@ -3,6 +3,7 @@
 
     python3 tests/installing.py
 """
+import gzip
 import os
 import re
 import shutil
@@ -45,9 +46,9 @@ def answers(tests, name, prefix):
             program = shutil.which("plinq", path=how["env"]["PATH"])
         seen = run(["run", "--merge", "not"], document, program, cwd="/", **how)
         tests.check(f"{name}: {program} answers", seen == wanted, seen)
-    os.remove(f"{prefix}/linked")
     seen = run(["--version"], b"", f"{prefix}/bin/plinq", cwd="/")
     tests.check(f"{name}: its version", seen == Outcome(0, f"plinq {version()[0]}\n".encode(), b""), seen)
+    os.remove(f"{prefix}/linked")
     hungry = b'{"version":1,"source":{"range":[0,1099511627776]},"query":[["as_ordered"]]}'
     seen = run(["run", "--merge", "full"], hungry, f"{prefix}/bin/plinq", env=os.environ | {"PLINQ_MEMORY": "200000000"})
     tests.check(f"{name}: within PLINQ_MEMORY", seen == Outcome(5, b"", b"plinq: out of memory\n"), seen)
@@ -73,12 +74,20 @@ def prefixes(tests, folder):
     for words, status in ((["--help"], 0), (["--some"], 2)):
         seen = calls(*words)
         tests.check(f"{words}", seen.returncode == status and "tools/install [PREFIX]" in seen.stdout, seen)
+    for words in ([""], ["--uninstall", ""], ["--deb", ""]):
+        seen = calls(*words)
+        tests.check(f"{words}", (seen.returncode, seen.stdout, seen.stderr) == (2, "", "tools/install: a folder without a name\n"), seen)
 
 
 def version():
     """The first version that CHANGES.md has, and its day."""
     with open(os.path.join(ROOT, "CHANGES.md"), encoding="utf-8") as file:
         return re.search(r"^## ([\d.]+), (\d{4}-\d\d-\d\d)$", file.read(), re.M).groups()
+
+
+def versions():
+    with open(os.path.join(ROOT, "CHANGES.md"), encoding="utf-8") as file:
+        return re.findall(r"^## ([\d.]+), ", file.read(), re.M)
 
 
 def pages(tests):
@@ -94,15 +103,29 @@ def package(tests, folder):
     (made,) = (it for it in os.listdir(folder) if it.endswith(".deb"))
     tests.check("says which package it made", (seen.returncode, seen.stdout) == (0, f"{folder}/{made}\n"), seen)
     number, _ = version()
-    tests.check("its name has the version", re.fullmatch(rf"plinq_{re.escape(number)}(\+\d{{8}}\.\w+)?_amd64\.deb", made), made)
+    tests.check("its name has the version", re.fullmatch(rf"plinq_{re.escape(number)}(\+\d{{8}}\.\d+\.\w+)?_amd64\.deb", made), made)
     listed = subprocess.check_output(["dpkg-deb", "--contents", f"{folder}/{made}"], text=True)
-    wanted = {f"usr/{it}".replace("site-functions", "vendor-completions") for it in FILES}
+    wanted = {f"usr/{it}".replace("site-functions", "vendor-completions") + ".gz" * it.endswith(".1") for it in FILES}
+    wanted.add("usr/share/doc/plinq/changelog.gz")
     names = {it.split("./", 1)[1] for it in listed.splitlines() if not it.endswith("/")}
     tests.check("what the package has", names == wanted, names)
     tests.check("all of it is root's", all(it.split()[1] == "root/root" for it in listed.splitlines()), listed)
     fields = subprocess.check_output(["dpkg-deb", "--field", f"{folder}/{made}"], text=True)
-    tests.check("it needs no rt", re.search(r"^Depends: libc6$", fields, re.M) and "rt" not in fields.split(), fields)
     subprocess.run(["dpkg-deb", "--extract", f"{folder}/{made}", f"{folder}/taken"], check=True)
+    program = f"{folder}/taken/usr/lib/plinq/plinq"
+    linked = re.findall(r"GLIBC_([\d.]+)", subprocess.check_output(["objdump", "-T", program], text=True))
+    newest = max(linked, key=lambda it: [int(part) for part in it.split(".")])
+    is_so = f"Depends: libc6 (>= {newest})" in fields.splitlines() and "rt" not in fields.split()
+    tests.check("it needs no rt, and the C library that it links", is_so, (newest, fields))
+    sections = subprocess.check_output(["objdump", "-h", program], text=True)
+    tests.check("the program is stripped", ".symtab" not in sections and ".debug_info" not in sections, sections)
+    with gzip.open(f"{folder}/taken/usr/share/doc/plinq/changelog.gz", "rt") as file:
+        log = file.read()
+    read_by = shutil.which("dpkg-parsechangelog")
+    parsed = subprocess.run([read_by, "--all", "-l-"], input=log, capture_output=True, text=True) if read_by else None
+    tests.check("its changelog has each version", re.findall(r"^plinq \(([\d.]+)\) unstable; urgency=medium$", log, re.M) == versions(), log[:300])
+    tests.check("each is signed with its day", len(re.findall(r"^ -- .+ <\S+>  \w{3}, \d\d \w{3} \d{4} 00:00:00 \+0000$", log, re.M)) == len(versions()), log[:300])
+    tests.check("Debian reads it", parsed is None or parsed.returncode == 0 and "warning" not in parsed.stderr, parsed)
     answers(tests, "the package", f"{folder}/taken/usr")
     seen = subprocess.run(["apt-get", "install", "--simulate", f"{folder}/{made}"], capture_output=True, text=True, timeout=HANGS)
     tests.check("apt-get takes it", seen.returncode == 0 and re.search(r"^Inst plinq ", seen.stdout, re.M), seen)
