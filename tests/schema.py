@@ -105,6 +105,16 @@ def changed(comparing, changes):
     comparing.all("the longest and one byte more", [b" " * length + b"0" for length in (16_777_215, 16_777_216)])
 
 
+def long_lists(tests):
+    """One item that is wrong behind 1,400,000 that are right: its place is the one that it has in the document."""
+    numbers = ",".join(map(str, range(1_400_000)))
+    for item, shown in (('"x"', '"x"'), ("1e5", "100000.0"), ("-0", "-0.0"), ("9223372036854775808", "9223372036854775808"), ("null", "null")):
+        for source, place in ((f'{{"list":[{numbers},{item},5]}}', "source"), (f'{{"concat":[{{"list":[1]}},{{"list":[{numbers},{item}]}}]}}', "source.concat[1]")):
+            seen = checked([], f'{{"version":2,"source":{source},"query":[]}}'.encode(), CHECK)
+            line = f"plinq-check: {place}.list[1400000]: {shown} can't stand here; what can: a whole number of 64 bits, without a point or an exponent\n"
+            tests.check(f"a long list with {item} in {place}", seen == Outcome(2, b"", line.encode()), seen)
+
+
 def other_steps(comparing):
     """Each step alone with each value, and as_ordered and the settings in each order."""
     named = ["as_ordered", "as_unordered", "select", "filter", "select_many", "take_while", "skip_while", "take", "skip", "with_merge", "with_degree", "sort"]
@@ -238,6 +248,7 @@ def main():
     wants = {None, "not JSON", "too long", "wrong shape", "unknown version", "source too large", "zero", "first above max", "max too large", "unknown", "not at source", "merge twice", "degree twice", "degree out of range"}
     tests.check("every cause came", set(comparing.seen) == wants, comparing.seen)
     tests.check("many were accepted", comparing.seen[None] > 1_000, comparing.seen)
+    long_lists(tests)
     as_a_program(tests)
     elsewhere(tests)
     in_an_editor(tests)
