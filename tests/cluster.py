@@ -181,6 +181,32 @@ def portions(tests, local):
         cluster.MOST_BYTES = before
 
 
+def calls(tests, local):
+    """The call for who has a Dask client, beside what the program prints."""
+    import plinq_shards
+    from plinq_shards import trouble
+
+    for document in (
+        {"version": 1, "source": {"range": [0, 1_000]}, "query": [ORDERED, ["filter", "even"], ["take", 7]]},
+        {"version": 2, "source": {"concat": [{"list": [3, 1]}, {"text": "4 x"}]}, "query": [ORDERED, ["select", "add", 1]]},
+        {"version": 1, "source": {"list": [2, 0, 5]}, "query": [ORDERED, ["select", "into", 10]]},
+        {"version": 1, "source": {"list": [2, 0, 5]}, "query": [["with_merge", "full"], ORDERED, ["select", "into", 10]]},
+        {"version": 1, "source": {"range": [1, 100]}, "query": [], "aggregate": "sum"},
+        {"version": 1, "source": {"list": []}, "query": [], "aggregate": "min"},
+    ):
+        text = json.dumps(document).encode()
+        *lines, ending = run(["seq"], text, PROGRAM).output.decode().splitlines()
+        wanted = plinq_shards.Answer([int(it) for it in " ".join(lines).split() if it != "none"], ending)
+        for given in (document, text):
+            seen = plinq_shards.run(local.client, given, PROGRAM, shards=3)
+            tests.check(f"a call from Python: {text.decode()}", seen == wanted, (wanted, seen))
+    try:
+        said = plinq_shards.run(local.client, {"version": 1, "source": {"list": []}, "query": [["sort"]]}, PROGRAM)
+    except trouble.Trouble as why:
+        said = why.line, why.status
+    tests.check("a call from Python: a document that is refused", said == ("plinq: document: step 0: unknown", 2), said)
+
+
 def unknown(tests, folder):
     """Steps and sources of a later program, which this one doesn't refuse."""
     with open(f"{folder}/later", "w") as file:
@@ -205,6 +231,9 @@ def refused(tests):
     tests.check("refused: a closed input", seen == right and seen.status == 5, f"wanted {right}; seen {seen}")
     seen = command([*words, "--text", "/nowhere"], text_of({"list": [1]}))
     tests.check("refused: a text that isn't there", seen == Outcome(5, b"", b"plinq-cluster: /nowhere: No such file or directory\n"), seen)
+    for empty in ("", " "):
+        seen = command(["--scheduler", empty], text_of({"list": [1]}))
+        tests.check(f"refused: the scheduler {empty!r}", seen.status == 2 and b"invalid HOST:PORT value" in seen.errors, seen)
     seen = command([*words, "--program", "/nowhere"], text_of({"list": [1]}))
     tests.check("refused: a program that isn't there", seen.status == 5 and seen.errors.startswith(b"plinq-cluster: /nowhere isn't there: "), seen)
 
@@ -314,7 +343,7 @@ def deadly_shard(tests, folder):
     """A worker is killed at each try of one shard."""
     path = wrapper(folder, "deadly", f"""document=$(cat)\n[[ $document = *'[60000, 10000]'* ]] && kill -9 $PPID\n{PROGRAM} "$@" <<< "$document" """)
     seen = ended(begun(["--local", "2", "--shards", str(SHARDS), "--program", path]))
-    tests.check("a worker that is killed at each try", is_trouble(seen, ANSWER, "lost with its worker 4 times, the last time tcp://"), seen)
+    tests.check("a worker that is killed at each try", is_trouble(seen, ANSWER, "lost with its worker 4 times, the last time tls://"), seen)
 
 
 def cut_link(tests, folder):
@@ -428,6 +457,59 @@ def other_programs(tests, folder):
     tests.check("a scheduler that isn't there", is_trouble(seen, ANSWER, "plinq-cluster: scheduler 127.0.0.1:1: "), seen)
 
 
+def installed_programs(tests, folder):
+    """Programs behind one start script, as `tools/install` makes it: what a worker is compared by has the program itself as well."""
+    from plinq_shards import program
+
+    sums = {}
+    for name in ("one", "other"):
+        for path, text in (("bin/plinq", "exec ../lib/plinq/plinq"), ("lib/plinq/plinq", f"echo {name}")):
+            os.makedirs(os.path.dirname(f"{folder}/{name}/{path}"), exist_ok=True)
+            wrapper(os.path.dirname(f"{folder}/{name}/{path}"), os.path.basename(path), text)
+        sums[name] = program.sum_of(f"{folder}/{name}/bin/plinq")[1]
+    tests.check("programs behind one start script", sums["one"] != sums["other"], sums)
+    known = {}
+    before = program.known_sum_of(f"{folder}/one/bin/plinq", known)[1]
+    wrapper(f"{folder}/one/lib/plinq", "plinq", "echo another")
+    after = program.known_sum_of(f"{folder}/one/bin/plinq", known)[1]
+    tests.check("a program that is replaced behind its start script", before == sums["one"] and after not in sums.values(), (before, after))
+
+
+# A client of another user of this machine, who would have the workers run what they like.
+CLIENT = "import distributed, sys; print(distributed.Client(sys.argv[1], timeout=4).submit(sum, [40, 2]).result())"
+
+
+def other_users(tests, folder):
+    """Who asks a cluster of --local: all its ports are this machine's own, and no client without its keys is let in."""
+    import psutil
+
+    child = begun(["--local", "2", "--program", slow(folder, "held", 30)])
+    try:
+        wait_until(lambda: asked(folder, "held"), "a shard is at work")
+        ports = set()
+
+        def are_found():
+            command = psutil.Process(child.pid)
+            for process in (command, *command.children(recursive=True)):
+                with contextlib.suppress(psutil.Error):
+                    ports.update(it.laddr for it in process.connections("inet") if it.status == psutil.CONN_LISTEN)
+            return len(ports) >= 5
+
+        # (one of the scheduler, and of each of two workers one of its own and one of the process that looks after it)
+        wait_until(are_found, "all ports are open")
+        elsewhere = {it for it in ports if it.ip not in ("127.0.0.1", "::1")}
+        tests.check("all ports of a local cluster are on the loopback", len(ports) >= 5 and not elsewhere, (ports, elsewhere))
+        nobody = ["setpriv", "--reuid", "65534", "--regid", "65534", "--clear-groups"] if os.getuid() == 0 else []
+        for port in sorted(it.port for it in ports):
+            for how in ("tcp", "tls"):
+                words = [*nobody, SYSTEM, "-c", CLIENT, f"{how}://127.0.0.1:{port}"]
+                seen = subprocess.run(words, capture_output=True, text=True, timeout=HANGS, cwd="/")
+                tests.check(f"another user's client by {how}", seen.returncode != 0 and "42" not in seen.stdout, seen)
+    finally:
+        child.terminate()
+        child.wait(timeout=HANGS)
+
+
 def help_and_progress(tests, folder):
     """The example that help shows, on a terminal."""
     seen = command(["--help"], b"")
@@ -448,7 +530,7 @@ def help_and_progress(tests, folder):
 
 def processes(tests, folder):
     """What wants a cluster of processes."""
-    for it in (lost_worker, last_worker, lost_answer, deadly_shard, few_shards, other_programs, help_and_progress):
+    for it in (lost_worker, last_worker, lost_answer, deadly_shard, few_shards, other_programs, installed_programs, other_users, help_and_progress):
         it(tests, folder)
     with Machines(folder) as machines:
         for name in ("e", "f"):
@@ -474,6 +556,7 @@ def main():
             print("left out: all that wants a cluster: Dask isn't installed (apt-get install python3-distributed)")
             tests.end()
         with InProcess() as local:
+            calls(tests, local)
             random_documents(tests, local)
             most_steps(tests, local)
             portions(tests, local)

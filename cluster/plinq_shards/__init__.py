@@ -1,1 +1,49 @@
-"""What `plinq-cluster` is made of: a document is cut into shards, which `plinq` answers on the workers of a Dask cluster."""
+"""What `plinq-cluster` is made of: a document is cut into shards, which `plinq` answers on the workers of a Dask cluster.
+
+Who has a Dask client calls `run`, as this folder's parent is on Python's path.
+"""
+import dataclasses
+import json
+
+
+@dataclasses.dataclass(frozen=True)
+class Answer:
+    """The items of an answer, or the one value of an aggregate (none if no item has one), and how the answer ended."""
+
+    items: list
+    ending: str
+
+
+def run(client, document, program="plinq", shards=None):
+    """Answers a document, a `dict` or the bytes of one, by the workers of a Dask client, of which each has the same program.
+
+        >>> run(client, {"version": 1, "source": {"range": [0, 10]}, "query": [["as_ordered"], ["filter", "even"]]})
+        Answer(items=[0, 2, 4, 6, 8], ending='end')
+
+    The ending is 'end', 'refused N' or 'fault NAME', as `plinq run` prints it; the items before a fault are there. What has no
+    answer raises `trouble.Trouble` with the line that plinq-cluster prints: a document that is refused, a worker with another
+    program, a cluster that is gone. Items are held in memory. The merge option has no effect but that a fully buffered answer
+    that doesn't end well has none.
+    """
+    import cloudpickle
+
+    from . import program as by_worker
+    from .answer import show
+    from .cluster import Cluster
+    from .document import found, understood
+    from .progress import Progress
+    from .shard import Cut, elements_for, parts_of
+    from .shard import shards as shards_of
+
+    # (workers need no file of this folder)
+    cloudpickle.register_pickle_by_value(by_worker)
+    name, path = found(program)
+    text = document if isinstance(document, bytes) else json.dumps(document).encode()
+    asked = understood(path, text)
+    there = Cluster(client, f"scheduler {client.scheduler.address}", name, asked.degree, Progress(None))
+    parts = parts_of(asked.source, Cut(shards, there.threads, elements_for(asked.steps, asked.aggregate)))
+    written = []
+    ending = show(there, asked, shards_of(parts), written.append)
+    # (the last of what was written is the ending)
+    items = [int(it) for it in b"".join(written[:-1]).split() if it != b"none"]
+    return Answer(items, ending)

@@ -17,22 +17,32 @@ LOOK = 0.2
 STATUSES = {"end": 0, "refused": 3, "fault": 4}
 
 
+def files_of(path):
+    """The file of a program, and if it is a start script, as `tools/install` and the repository have one, the program behind it."""
+    folder = os.path.dirname(os.path.realpath(path))
+    behind = (os.path.join(folder, "..", "lib", "plinq", "plinq"), os.path.join(folder, "crates", "plinq", "out", "plinq"))
+    return [path, *(it for it in behind if os.path.exists(it))]
+
+
 def sum_of(program):
-    """The path of a program on this machine, and a sum of its bytes; nothing where it isn't there."""
+    """The path of a program on this machine, and a sum of the bytes of its files; nothing if it isn't there."""
     path = shutil.which(program)
     if path is None:
         return None, None
-    with open(path, "rb") as file:
-        return path, hashlib.sha256(file.read()).hexdigest()
+    found = hashlib.sha256()
+    for it in files_of(path):
+        with open(it, "rb") as file:
+            found.update(hashlib.sha256(file.read()).digest())
+    return path, found.hexdigest()
 
 
 def known_sum_of(program, known):
-    """As `sum_of`, read once for each file that the program was."""
+    """As `sum_of`, read once for the files that the program was."""
     path = shutil.which(program)
     if path is None:
         return None, None
-    seen = os.stat(path)
-    key = (path, seen.st_ino, seen.st_size, seen.st_mtime_ns)
+    seen = [(it, os.stat(it)) for it in files_of(path)]
+    key = tuple((it, stat.st_ino, stat.st_size, stat.st_mtime_ns) for it, stat in seen)
     if key not in known:
         known[key] = sum_of(path)[1]
     return path, known[key]

@@ -38,21 +38,36 @@ def without_interrupts():
         signal.pthread_sigmask(signal.SIG_SETMASK, before)
 
 
-def dashboard():
-    """Where Dask's own dashboard is shown: at any free port, where its library is installed."""
-    return ":0" if importlib.util.find_spec("bokeh") else None
+# Dask's web servers, of the scheduler and of each worker, listen for this machine alone, at any free port.
+HERE = "127.0.0.1:0"
+
+
+def has_dashboard():
+    """Whether the scheduler's web server shows Dask's own dashboard: if its library is installed."""
+    return importlib.util.find_spec("bokeh") is not None
+
+
+def own_keys():
+    """TLS with keys that are made for this cluster alone, so that no other user of the machine has its workers run anything."""
+    try:
+        return distributed.Security.temporary()
+    except ImportError as error:
+        raise own(f"{error}: --local wants Python's cryptography (apt-get install python3-cryptography)") from None
 
 
 @contextlib.contextmanager
 def local(count):
     """A cluster of so many workers of one thread each on this machine, for as long as it is wanted."""
+    security = own_keys()
     with tempfile.TemporaryDirectory(prefix="plinq-cluster-", ignore_cleanup_errors=True) as folder:
         with without_interrupts():
             cluster = distributed.LocalCluster(
                 n_workers=count,
                 threads_per_worker=1,
                 processes=True,
-                dashboard_address=dashboard(),
+                security=security,
+                dashboard_address=HERE,
+                worker_dashboard_address=HERE,
                 silence_logs=logging.CRITICAL,
                 local_directory=folder,
             )
