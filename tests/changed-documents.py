@@ -7,9 +7,8 @@ What is said of a changed document is compared with a model in Python of how one
 """
 import os
 
-from support.model import wanted
+from support.large import outcome_of_document
 from support.program import EXAMPLES, PROGRAM, Outcome, Tests, build, run
-from support.reading import Refused, read
 
 CHANGES = {"0": b"\0", "255": b"\xff", "a quote": b'"', "a bracket": b"[", "a digit": b"9"}
 
@@ -18,18 +17,8 @@ def refused(why):
     return Outcome(2, b"", f"plinq: document: {why}\n".encode())
 
 
-def right(text):
-    """What the model says."""
-    try:
-        document = read(text)
-    except Refused as why:
-        return refused(why)
-    lines, status = wanted("seq", document["source"], document["query"], document["growth"], document.get("aggregate"))
-    return Outcome(status, "".join(it + "\n" for it in lines).encode(), b"")
-
-
 def all_as_right(tests, name, texts):
-    wrong = [(text, seen, right(text)) for text in texts if (seen := run(["seq"], text, PROGRAM)) != right(text)]
+    wrong = [(text, seen, outcome_of_document(text)) for text in texts if (seen := run(["seq"], text, PROGRAM)) != outcome_of_document(text)]
     told = [f"{text}: wanted {wants}; seen {seen}" for text, seen, wants in wrong[:1]]
     tests.check(name, texts and not wrong, f"{len(wrong)} of {len(texts)}; the first is {told}")
 

@@ -3,7 +3,7 @@
 
     python3 tests/lies.py
 
-A liar runs the program, and changes what it says where the lie applies.
+A liar runs the program, and changes what it says where the lie applies, or the document before the program reads it.
 """
 import json
 import os
@@ -111,6 +111,58 @@ def value_after(name):
     return lambda told: by_arrival(name)(told) and "aggregate" in told.document
 
 
+def source_is(name):
+    return lambda told: name in told.document.get("source", {})
+
+
+def steps_one_after_the_other(name):
+    return lambda told: any(one[0] == two[0] == name for one, two in zip(told.steps, told.steps[1:]))
+
+
+def with_number(name, least, most=float("inf")):
+    return lambda told: any(step[0] == name and least <= step[-1] <= most for step in told.steps if type(step[-1]) is int)
+
+
+def having(name):
+    return lambda told: told.has(name)
+
+
+def many_lines(least):
+    return lambda told: len(told.lines) > least
+
+
+def all_of(*applies):
+    return lambda told: all(it(told) for it in applies)
+
+
+def without_an_operator(told):
+    """A plan of more than 300 bytes, without one of the workers' operators."""
+    return re.sub(rb"(worker .*?), [^,]+,", rb"\1,", told.output, count=1) if told.words[:1] == ["plan"] and len(told.output) > 300 else told.output
+
+
+def another_copy(told):
+    """A copy of the item behind it in the place of the third copy."""
+    return b"".join([*told.lines[:2], told.lines[3], *told.lines[3:]]) if len(told.lines) > 300 else told.output
+
+
+def modulo_2_to_32(told):
+    """What steps of 2^32 and more say if their number is cut to 32 bits: nothing is taken, or not all is skipped."""
+    return told.lines[-1] if told.has("take") else b"0\n" + told.output
+
+
+def cut_code(told):
+    """A refusal's code of ten digits without the last."""
+    return re.sub(rb"(refused \d{9})\d\n$", rb"\1\n", told.output)
+
+
+def has_degree(*degrees):
+    return lambda told: any(step[0] == "with_degree" and step[1] in degrees for step in told.steps)
+
+
+def repeats_1_000(told):
+    return bool(told.document.get("growth")) and told.document["growth"][1] >= 1_000
+
+
 # The lies: what each makes of the right output, and the runs that are to show it.
 WRONG = {
     "swaps lines 41 and 42": (swapped_lines, large.answers),
@@ -154,14 +206,54 @@ WRONG = {
     "says that a fault without an order is the end": (where(lambda told: told.is_run and not told.is_ordered and told.lines[-1][:5] == b"fault", lambda told: b"".join([*told.lines[:-1], b"end\n"])), distinct.answers),
     "gives an item twice before a fault": (where(lambda told: told.is_run and not told.is_ordered and told.lines[-1][:5] == b"fault", first_in_place_of_another), distinct.answers),
 }
+WRONG |= {
+    "loses a line of a long text": (where(all_of(source_is("text"), many_lines(4_000)), without_line(3_000)), large.long_answers),
+    "loses an operator of a plan of more than 300 bytes": (without_an_operator, large.long_plans),
+    "gives a copy of another item in a take of copies": (where(all_of(with_number("select_many", 2), having("take")), another_copy), large.long_answers),
+    "loses a copy of copies": (where(all_of(steps_one_after_the_other("select_many"), many_lines(300)), without_line(310)), large.long_answers),
+    "skips one too many of what a filter leaves": (where(all_of(having("filter"), having("skip"), many_lines(2_000)), without_line(0)), large.long_answers),
+    "takes a number of 2^32 and more modulo 2^32": (where(with_number("take", 2**32), modulo_2_to_32), large.long_answers),
+    "skips a number of 2^32 and more modulo 2^32": (where(with_number("skip", 2**32), modulo_2_to_32), large.long_answers),
+    "cuts a code of ten digits": (cut_code, large.long_answers),
+    "counts one too few by 5 workers": (where(lambda told: told.option("--workers") == 5, value_less_one), large.each_worker_count),
+    "loses a line by 48 workers of the document": (where(has_degree(33, 48, 63), without_line(7)), large.each_worker_count),
+    "loses a copy of as many as there may be": (where(all_of(with_number("select_many", 65_536)), lambda told: told.output.replace(b"7 8", b"8", 1)), large.long_answers),
+    "loses a line where each size of chunks is repeated 1,000 times": (where(repeats_1_000, without_line(3)), large.each_worker_count),
+    "loses an item without an order by 64 workers": (where(lambda told: not told.is_ordered and told.option("--workers") == 64 and len(told.lines) > 3_000, without_line(3_500)), large.long_answers),
+}
+# The lies about a long document: what each makes of its bytes before the program reads them.
+MISREAD = {
+    "reads a point and a zero as a whole number": lambda text: text.replace(b"1.0]", b"1]"),
+    "reads an exponent as a whole number": lambda text: text.replace(b"1e5]", b"100000]"),
+    "reads minus zero as a whole number": lambda text: text.replace(b"-0]", b"0]"),
+    "reads 2^63 as a whole number": lambda text: text.replace(b"%d]" % 2**63, b"%d]" % (2**63 - 1)),
+    "reads a comma before the end of a list": lambda text: text.replace(b",]", b"]"),
+    "reads a document without its last brace": lambda text: text if text.rstrip().endswith(b"}}") else text + b"}",
+    "reads an escaped carriage return as no part of a number": lambda text: text.replace(rb"\r", b""),
+    "reads an escaped space as another letter": lambda text: text.replace(rb"\u0020", b"x"),
+    "reads a sign before a number": lambda text: text.replace(b"+", b""),
+    "reads zeros before a number of a list": lambda text: text.replace(b",01]", b",1]"),
+    "reads two documents as one": lambda text: re.sub(rb"\} 1$", b"}", text),
+    "reads no growth behind a long list": lambda text: re.sub(rb',"growth":\[0.*?\]', b"", text),
+    "reads a line feed within a text": lambda text: re.sub(rb'\r?\n(?=.*"\})', b" ", text),
+}
+# A liar that says nothing before its answer is whole.
+HELD_BACK = "holds back all lines to the end"
 RIGHT = "lies in nothing"
+
+
+def first_lines_soon(program):
+    """The same as a test that waits longer, for a liar that shows them hours later."""
+    return large.first_lines(program, patience=20)
 
 
 def lie(name, words):
     """Runs the program, and passes on what it says, all but one lie."""
     given = sys.stdin.buffer.read()
+    if name in MISREAD and len(given) > 8_000:
+        given = MISREAD[name](given)
     ran = subprocess.run([PROGRAM, *words], input=given, stdout=subprocess.PIPE)
-    sys.stdout.buffer.write(ran.stdout if name == RIGHT or not ran.stdout else WRONG[name][0](Told(words, given, ran.stdout)))
+    sys.stdout.buffer.write(WRONG[name][0](Told(words, given, ran.stdout)) if name in WRONG and ran.stdout else ran.stdout)
     return ran.returncode
 
 
@@ -178,11 +270,12 @@ def main():
     build()
     tests = Tests()
     with tempfile.TemporaryDirectory() as folder:
-        for name, (_, runs) in WRONG.items():
+        misread = dict.fromkeys(MISREAD, (None, large.long_documents))
+        for name, (_, runs) in {**WRONG, **misread, HELD_BACK: (None, first_lines_soon)}.items():
             is_shown = any(seen != right for _, right, seen in runs(liar(folder, name)))
             tests.check(f"a program that {name}", is_shown, "not shown")
         # (so that each was shown for its lie, and not as one that doesn't run)
-        for runs in {runs for _, runs in WRONG.values()}:
+        for runs in {large.long_documents, *(runs for _, runs in WRONG.values())}:
             some = list(islice(runs(liar(folder, RIGHT)), 20))
             tests.check(f"a program that {RIGHT}", some and all(seen == right for _, right, seen in some), "shown as one that lies")
     tests.end()

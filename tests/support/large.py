@@ -1,9 +1,15 @@
 """Queries with answers of thousands of lines, which threads run in many chunks, and what a program says of each."""
+import contextlib
 import json
+import os
+import signal
+import subprocess
+import threading
 
 from support.batches import batches_in, in_batches
 from support.model import GREATEST, cancelled_after, wanted
-from support.program import Outcome, run
+from support.program import HANGS, Outcome, run
+from support.reading import Refused, read
 
 ORDERED = ["as_ordered"]
 NUMBERS = [3 * it % 1_009 + 1 for it in range(3_000)]
@@ -157,6 +163,14 @@ LONG = {
     "all but those at first": ({"list": [1] * 700 + NUMBERS}, [["skip_while", "below", 2], ["select", "add", 1]], NOT),
     "a fault after 200 KB": ({"list": [*range(1, 40_001), 0, 5]}, [["select", "into", 10**12]], NOT),
     "a refusal after 200 KB": ({"list": list(range(40_000)), "refuse": 8}, [["select", "add", 10**6]], "auto"),
+    "a refusal with a long code": ({"list": NUMBERS, "refuse": 4_123_456_789}, [["select", "add", 1]], NOT),
+    "a long text": ({"text": " ".join(map(str, range(6_000)))}, [["select", "add", 1]], NOT),
+    "a take of copies": ({"list": NUMBERS}, [["select_many", "repeat", 3], ["take", 4_000]], NOT),
+    "copies of copies": ({"list": NUMBERS}, [["select_many", "repeat", 2], ["select_many", "repeat", 2]], NOT),
+    "as many copies as there may be": ({"list": [7, 8]}, [["select_many", "repeat", 65_536], ["skip", 65_500]], FULL),
+    "a skip of what a filter leaves": ({"range": [0, 7_000]}, [["filter", "even"], ["skip", 500]], NOT),
+    "a take of 2^32 and more": ({"range": [0, 3_000]}, [["take", 2**32 + 5], ["take", 2**33]], NOT),
+    "a skip of 2^32 and more": ({"range": [0, 3_000]}, [["skip", 2**32 + 5]], NOT),
 }
 
 
@@ -175,17 +189,85 @@ def long_answers(program):
         text = document(source, [ORDERED, *steps])
         for words in (SEQ, ["run", "--workers", "2"], ["run", "--workers", "8"]):
             yield f"{name}: {' '.join(words)}", says, run([*words, "--merge", merge], text, program)
+    # (without an order more items than the workers' first chunks have)
+    source, steps = {"range": [0, 9_000]}, [["select", "mul", 3]]
+    says = in_any_order(outcome_of(*wanted("seq", source, [["with_merge", NOT], *steps], None, None)), NOT)
+    for workers in ("2", "64"):
+        seen = run(["run", "--workers", workers, "--merge", NOT], document(source, steps), program)
+        yield f"in any order by {workers}", says, in_any_order(seen, NOT)
 
 
 def each_worker_count(program):
-    """One answer by each number of workers, and by growths of each kind."""
+    """One answer and its count by each number of workers, asked for by words and by the document, and by growths of each kind."""
     source, steps = {"range": [0, 700]}, [["filter", "even"], ["skip", 3]]
     says = outcome_of(*wanted("seq", source, [["with_merge", NOT], *steps], None, None))
-    growths = ([1, 1, 1], [1, 3, 512], [2, 3, 16], [7, 5, 100], [1, 1, 65_536], [300, 2, 301], [3, 1, 3])
+    counted = outcome_of(*wanted("seq", source, steps, None, "count"))
+    growths = ([1, 1, 1], [1, 3, 512], [2, 3, 16], [7, 5, 100], [1, 1, 65_536], [300, 2, 301], [3, 1, 3], [2, 1_000, 64], [1, 2_000, 512])
     for workers in range(1, 65):
         for growth in (growths[workers % len(growths)], growths[(workers + 3) % len(growths)]):
             text = document(source, [ORDERED, *steps], growth=growth)
             yield f"by {workers} workers, growth {growth}", says, run(["run", "--workers", str(workers), "--merge", NOT], text, program)
+        text = document(source, [["with_degree", workers], ORDERED, *steps])
+        yield f"by {workers} workers of the document", says, run(["run", "--merge", NOT], text, program)
+        text = document(source, [ORDERED, *steps], aggregate="count")
+        yield f"a count by {workers} workers", counted, run(["run", "--workers", str(workers)], text, program)
+
+
+def long_plans(program):
+    """Plans of many operators, those of the workers and those after the merge."""
+    some = [["select", "add", 1], ["take_while", "below", 90], ["take", 70], ["filter", "even"], ["select_many", "repeat", 2]]
+    for count in (9, 40, 120):
+        steps = [some[it % (3 if it < count // 2 else 5)] for it in range(count)]
+        for before in ([ORDERED], []):
+            lines, status = wanted("plan", {"range": [0, 9]}, [*before, *steps], None, None)
+            name = f"plan of {count}{' by key' if before else ''}"
+            yield name, outcome_of(lines, status), run(["plan"], document({"range": [0, 9]}, [*before, *steps]), program)
+
+
+# What stands behind 2,000 numbers of a list or a text, and what comes after the list.
+LAST_OF_A_LIST = ("1", "-1", "1.0", "1e5", "-0", "0", str(2**63 - 1), str(2**63), str(-(2**63)), str(-(2**63) - 1), "1,", "", "01", "+1", "[1]", '"1"', "null", "1 2")
+LAST_OF_A_TEXT = ("1", "1\\r\\n2", "1\\n2", "1\\u00202", "1\\t2", "1\\u0000", "-", "--1", "00012", str(2**63), str(-(2**63)), "1.0", "\\ud83d\\ude00", "\\ud83d", "1\r\n2", "1\n2")
+ENDS = ("}", "", "}}", "}\r\n", "} 1", ',"growth":[2,3,16]}', ',"growth":[0,3,16]}', ',"version":1}', ",}")
+
+
+def outcome_of_document(text):
+    """What the model says of a document, or of what is wrong with it."""
+    try:
+        asked = read(text)
+    except Refused as why:
+        return Outcome(2, b"", f"plinq: document: {why}\n".encode())
+    return outcome_of(*wanted("seq", asked["source"], asked["query"], asked["growth"], asked.get("aggregate")))
+
+
+def long_documents(program):
+    """Documents of more than 8,000 bytes that are right or wrong in one place near their end."""
+    numbers = [str(it) for it in range(1_000, 3_000)]
+    lists = ((f'{{"list":[{",".join([*numbers, last])}]}}', "}", last) for last in LAST_OF_A_LIST)
+    texts = ((f'{{"text":"{" ".join([*numbers, last])}"}}', "}", last) for last in LAST_OF_A_TEXT)
+    ends = ((f'{{"list":[{",".join(numbers)}]}}', end, end) for end in ENDS)
+    for source, end, name in (*lists, *texts, *ends):
+        for version, steps in (("1", '[["as_ordered"],["skip",1990]]'), ("2", "[]")):
+            text = f'{{"version":{version},"query":{steps},"source":{source}{end}'.encode()
+            says = outcome_of_document(text)
+            for words in (SEQ, ["run", "--workers", "3"]) if version == "1" else (SEQ,):
+                yield f"behind 2,000 numbers {name!r}: {' '.join(words)}, version {version}", says, run(words, text, program)
+
+
+def first_lines(program, patience=HANGS):
+    """The first lines of an answer whose end is hours away."""
+    text = document({"range": [0, 2**40]}, [ORDERED, ["filter", "below", 3]])
+    says = b"0\n1\n2\n"
+    for words in (SEQ, ["run", "--workers", "2"]):
+        with subprocess.Popen([program, *words, "--merge", NOT], stdin=subprocess.PIPE, stdout=subprocess.PIPE, start_new_session=True) as started:
+            given_up = threading.Timer(patience, os.killpg, (started.pid, signal.SIGKILL))
+            given_up.start()
+            started.stdin.write(text)
+            started.stdin.close()
+            seen = b"".join(started.stdout.readline() for _ in range(3))
+            given_up.cancel()
+            with contextlib.suppress(ProcessLookupError):
+                os.killpg(started.pid, signal.SIGKILL)
+        yield f"first lines: {' '.join(words)}", says, seen
 
 
 def long_histories(program):
