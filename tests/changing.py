@@ -1,6 +1,6 @@
 #!/usr/bin/env python3
-"""Compares the lists of docs/CHANGING.md with the crates: the files that a new operator, formula, aggregate or option touches
-are those in whose code a neighbour of it is named.
+"""Compares the lists of docs/CHANGING.md with the crates, the cluster, share/ and the tests' models: the files that a new operator,
+formula, aggregate or option touches are those in whose code a neighbour of it is named.
 
     python3 tests/changing.py
 """
@@ -9,16 +9,17 @@ import re
 
 from support.program import ROOT, Tests
 
-# what is added, a neighbour's names, and the neighbour's own files
+# what is added, a neighbour's names, and the neighbour's own files and those that only use it: whether all items pass is asked by
+# a SkipWhile, and a growth has a largest size
 NEIGHBOURS = (
-    ("An operator", r"SkipWhile|SkippingWhile|skip_while|skipped_while", r"skip_while\.rt|/skip_while/|SkipWhile\.antt|SkippingWhile\.antt"),
-    ("A formula", r"UpTo", None),
-    ("An aggregate", r"Max", None),
+    ("An operator", r"SkipWhile|SkippingWhile|skip_while|skipped_while", r"skip_while\.rt|/skip_while/|SkipWhile\.antt|SkippingWhile\.antt|/all/|/(?:telling|sequentially|searching|searching_sequentially)\.rt"),
+    ("A formula", r"UpTo|up_to(?=\")", None),
+    ("An aggregate", r"Max|max(?=\")", r"/growth_fault\.rt"),
     ("An option of the command line", r"cancel_after", r"/plinq_merge/|/plinq_run/|/proofs/reading/"),
 )
 
 # rows are worked examples, a lib lists what its crate has, and laws retell what is listed
-APART = r"Rows\.antt|/Lib\.antt|/lib\.rt|/laws\.rt"
+APART = r"Rows\.antt|/Lib\.antt|/lib\.rt|/laws\.rt|/tests/support/(?:large|distinct)\.py"
 
 
 def code(path):
@@ -29,20 +30,25 @@ def code(path):
 
 
 def files():
-    """The sources, specifications and proofs of the crates that the program is made of."""
+    """The sources, specifications and proofs of all crates but those of tests and examples, and what else knows the language of
+    documents: the cluster, the schema, and the models of the tests."""
     for crate in sorted(os.listdir(os.path.join(ROOT, "crates"))):
-        if crate.endswith(("_tests", "_testing", "_example")) or crate in ("plinq_bench", "plinq_closures", "plinq_collect", "plinq_prelude"):
+        if crate.endswith(("_tests", "_testing", "_example", "_bench")):
             continue
         for part in ("src", "specs", "proofs"):
             for at, _, names in os.walk(os.path.join(ROOT, "crates", crate, part)):
                 yield from (os.path.relpath(os.path.join(at, it), ROOT) for it in sorted(names))
+    for folder in ("cluster/plinq_shards", "tests/support"):
+        yield from (f"{folder}/{it}" for it in sorted(os.listdir(os.path.join(ROOT, folder))) if it.endswith(".py"))
+    yield from ("share/plinq.schema.json", "share/plinq-check")
 
 
 def listed(page, what):
     """The files that the page lists for what is added."""
     begin = page.index(f"**{what}**")
     end = page.find("\n**", begin + 1)
-    return {f"crates/{it}" for it in re.findall(r"`(plinq_\w+/(?:src|specs|proofs)/[\w./]+)`", page[begin:end])}
+    crates = {f"crates/{it}" for it in re.findall(r"`(plinq_\w+/(?:src|specs|proofs)/[\w./]+)`", page[begin:end])}
+    return crates | set(re.findall(r"`((?:cluster|share|tests)/[\w./-]+)`", page[begin:end]))
 
 
 def main():
@@ -52,7 +58,7 @@ def main():
     texts = {it: code(it) for it in files()}
     for what, names, own in NEIGHBOURS:
         apart = f"{APART}|{own}" if own else APART
-        named = {it for it, text in texts.items() if re.search(rf"\b(?:{names})\b", text) and not re.search(apart, it)}
+        named = {it for it, text in texts.items() if re.search(rf"\b(?:{names})\b", text) and not re.search(apart, f"/{it}")}
         missing = sorted(named - listed(page, what))
         tests.check(f"{what}: each of {len(named)} files that know its neighbour is listed", len(named) > 3 and not missing, missing)
         gone = sorted(it for it in listed(page, what) if not os.path.exists(os.path.join(ROOT, it)))

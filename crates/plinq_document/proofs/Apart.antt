@@ -99,25 +99,26 @@ AreApart-source before s d others ms is apart = record {
 
 -- what the parts of a document ask for
 abbrev meaning_of : Settings → Result Version DocFault → Result ⊤ DocFault → Result Items DocFault → Result GrowthCounts DocFault
-    → Result (Option Kind) DocFault → (Version → Result (Trace ℤ) DocFault) → Result JobView DocFault
+    → (Version → Result (Option Kind) DocFault) → (Version → Result (Trace ℤ) DocFault) → Result JobView DocFault
 meaning_of settings version_is names_are steps_are counts_are aggregate_is source_is = do
   version ← version_is
   names_are
   steps ← steps_are
   counts ← counts_are
-  aggregate ← aggregate_is
+  aggregate ← aggregate_is version
   source ← source_is version
   growth ← growth_of counts
   query ← with_steps_of version 0 (new_query settings) steps
   Ok (record { query = query; source = source; growth = growth; aggregate = aggregate; cancel_after = settings.cancel_after })
 
-same-source : (settings : Settings) (v : Result Version DocFault) (names : Result ⊤ DocFault) (steps : Result Items DocFault)
-    (counts : Result GrowthCounts DocFault) (aggregate : Result (Option Kind) DocFault)
-    (f g : Version → Result (Trace ℤ) DocFault) → ((version : Version) → f version ≡ g version)
-    → meaning_of settings v names steps counts aggregate f ≡ meaning_of settings v names steps counts aggregate g
-same-source settings (Ok version) names steps counts aggregate f g same =
-    ap (λ source. meaning_of settings (Ok version) names steps counts aggregate (λ v. source)) (same version)
-same-source settings (Err e) names steps counts aggregate f g same = refl
+same-by_version : (settings : Settings) (v : Result Version DocFault) (names : Result ⊤ DocFault) (steps : Result Items DocFault)
+    (counts : Result GrowthCounts DocFault) (k l : Version → Result (Option Kind) DocFault) → ((version : Version) → k version ≡ l version)
+    → (f g : Version → Result (Trace ℤ) DocFault) → ((version : Version) → f version ≡ g version)
+    → meaning_of settings v names steps counts k f ≡ meaning_of settings v names steps counts l g
+same-by_version settings (Ok version) names steps counts k l kinds f g sources =
+    ap (λ kind. meaning_of settings (Ok version) names steps counts (λ v. kind) f) (kinds version)
+    ∙ ap (λ source. meaning_of settings (Ok version) names steps counts l (λ v. source)) (sources version)
+same-by_version settings (Err e) names steps counts k l kinds f g sources = refl
 
 source-apart : (source : Option PlainSource) (others ms : Members) → IsUnderSource source ms others → (version : Version)
     → source_in version (object ms) ≡ source_apart source version (object others)
@@ -153,13 +154,15 @@ document_meaning-apart settings source others ms apart =
     let names = ap (λ b. if b then Ok tt else Err Shape) apart.names in
     let steps = ap (λ o. or_shape (option_and_then as_array o) >>= few_steps) (apart.beside (codes "query") (differ (codes "query") (codes "source") refl)) in
     let counts = ap counts_or_default (apart.beside (codes "growth") (differ (codes "growth") (codes "source") refl)) in
-    let aggregate = ap aggregate_or_none (apart.beside (codes "aggregate") (differ (codes "aggregate") (codes "source") refl)) in
+    let aggregate : (version : Version) → aggregate_in version (object ms) ≡ aggregate_in version (object others) =
+    λ version. ap (aggregate_or_none version) (apart.beside (codes "aggregate") (differ (codes "aggregate") (codes "source") refl)) in
     let a = object ms in
     let b = object others in
-    ap (λ v. meaning_of settings v (names_check a) (steps_in a) (growth_counts a) (aggregate_in a) (λ version. source_in version a)) version
-    ∙ ap (λ n. meaning_of settings (version_in b) n (steps_in a) (growth_counts a) (aggregate_in a) (λ version. source_in version a)) names
-    ∙ ap (λ s. meaning_of settings (version_in b) (names_check b) s (growth_counts a) (aggregate_in a) (λ version. source_in version a)) steps
-    ∙ ap (λ g. meaning_of settings (version_in b) (names_check b) (steps_in b) g (aggregate_in a) (λ version. source_in version a)) counts
-    ∙ ap (λ k. meaning_of settings (version_in b) (names_check b) (steps_in b) (growth_counts b) k (λ version. source_in version a)) aggregate
-    ∙ same-source settings (version_in b) (names_check b) (steps_in b) (growth_counts b) (aggregate_in b) _ (λ version. source_apart source version b)
-    (source-apart source others ms apart.under)
+    let kinds : Version → Result (Option Kind) DocFault = λ version. aggregate_in version a in
+    let sources : Version → Result (Trace ℤ) DocFault = λ version. source_in version a in
+    ap (λ v. meaning_of settings v (names_check a) (steps_in a) (growth_counts a) kinds sources) version
+    ∙ ap (λ n. meaning_of settings (version_in b) n (steps_in a) (growth_counts a) kinds sources) names
+    ∙ ap (λ s. meaning_of settings (version_in b) (names_check b) s (growth_counts a) kinds sources) steps
+    ∙ ap (λ g. meaning_of settings (version_in b) (names_check b) (steps_in b) g kinds sources) counts
+    ∙ same-by_version settings (version_in b) (names_check b) (steps_in b) (growth_counts b) kinds (λ version. aggregate_in version b) aggregate
+    sources (λ version. source_apart source version b) (source-apart source others ms apart.under)

@@ -1,5 +1,5 @@
 -- What a plan prints is read as itself, and what is read is printed by the same words.
-use Rattle.std.specs.Prelude.{◌≡◌, ℕ, ℤ, List, Option, Some, None, IfSome, option_map, option_and_then, refl}
+use Rattle.std.specs.Prelude.{◌≡◌, ℕ, ℤ, List, Option, Some, None, IfSome, true, if◌then◌else◌, option_map, option_and_then, refl}
 use Rattle.std.specs.Option.{option_or}
 use Rattle.std.proofs.Common.{ap, sym, ◌∙◌, subst}
 use Rattle.serde_json.specs.Data.{Data, null, boolean, number, string, array, object, Items, no_items, item}
@@ -9,12 +9,14 @@ use Rattle.plinq_lambda.proofs.Words.{formula_named-own, formula_named-has}
 use Rattle.plinq_ops.specs.declared.argument.Argument.{Argument}
 use Rattle.plinq_ops.specs.declared.argument.Argument.TheVariants.{Nothing, Formula as FormulaArgument, Number}
 use Rattle.plinq_ops.specs.declared.op.Op.{Op}
+use Rattle.plinq_ops.specs.declared.op.Op.TheVariants.{Select, Filter, SelectMany, Take, Skip, TakeWhile, SkipWhile, AsUnordered}
 use Rattle.plinq_ops.specs.MergeWords.{merge_named}
 use Rattle.plinq_ops.specs.Operator.{op_name, op_argument, op_named}
 use Rattle.plinq_ops.proofs.Operators.{op_named-own, op_named-has}
 use Rattle.plinq_document.specs.JsonValues.{only_whole_number, only_count, only_text}
 use Rattle.plinq_document.specs.Formulas.{formula_of, formula_from}
-use Rattle.plinq_document.specs.Steps.{argument_of, op_from, other_step_named, other_call_of, other_call_from, call_alone, call_named, only_of, call_from}
+use Rattle.plinq_document.specs.Steps.{argument_of, op_from, other_step_named, other_call_of, other_call_from, call_alone, call_named}
+use Rattle.plinq_document.specs.Steps.{has_formula, only_of, call_from}
 use Rattle.plinq_document.specs.Printed.{NumberItems, FormulaItems, ArgumentItems, OpItems, op_of_call}
 use Rattle.plinq_document.specs.declared.version.Version.TheVariants.{One, Two}
 use Rattle.plinq_document.specs.declared.other_step.OtherStep.{OtherStep}
@@ -95,6 +97,24 @@ argument_of-read a (item d ds) is = go (only_whole_number (item d ds)) refl (for
         subst (λ (b : Argument). ArgumentItems b (item d ds)) same (formula_of-read f (item d ds) e')
     go None e None e' found = cc
 
+-- version 2 has every formula, and every step
+has_formula-two : (op : Op Formula) → has_formula Two op ≡ true
+has_formula-two (Select f) = refl
+has_formula-two (Filter f) = refl
+has_formula-two (SelectMany f) = refl
+has_formula-two (Take n) = refl
+has_formula-two (Skip n) = refl
+has_formula-two (TakeWhile f) = refl
+has_formula-two (SkipWhile f) = refl
+has_formula-two AsUnordered = refl
+
+only_of-two : (o : Option StepCall) → option_and_then (only_of Two) o ≡ o
+only_of-two None = refl
+only_of-two (Some call.AsOrdered) = refl
+only_of-two (Some (call.Operator op)) = ap (λ b. if b then Some (call.Operator op) else None) (has_formula-two op)
+only_of-two (Some (call.WithMerge option)) = refl
+only_of-two (Some (call.WithDegree n)) = refl
+
 -- an operator's printed words are read as the call that adds it
 pub call_from-printed : (op : Op Formula) (ds : Items) → OpItems op ds → call_from Two ds ≡ Some (call.Operator op)
 call_from-printed op no_items h = absurd h
@@ -104,6 +124,7 @@ call_from-printed op (item word ds) h =
     (other_call_from (op_name op) ds)))
     (argument_of-printed (op_argument op) ds h.1)
     ∙ ap (λ o. option_and_then (only_of Two) (option_or (option_map call.Operator o) (other_call_from (op_name op) ds))) (op_named-own op)
+    ∙ only_of-two (Some (call.Operator op))
 
 op_from-read : (word : List ℕ) (ds : Items) (op : Op Formula) → op_from word ds ≡ Some op → OpItems op (item (string word) ds)
 op_from-read word ds op is = go (argument_of ds) refl is
@@ -149,14 +170,6 @@ call_named-read word ds c is = go (op_from word ds) refl is
         let same : call.Operator op ≡ c = cc in
         subst (λ (x : StepCall). Prints x (item (string word) ds)) same (op_from-read word ds op e)
     go None e found = rw (other_call_from-no_op word ds c found) tt
-
--- version 2 has every step
-only_of-two : (o : Option StepCall) → option_and_then (only_of Two) o ≡ o
-only_of-two None = refl
-only_of-two (Some call.AsOrdered) = refl
-only_of-two (Some (call.Operator op)) = refl
-only_of-two (Some (call.WithMerge option)) = refl
-only_of-two (Some (call.WithDegree n)) = refl
 
 -- what is read as a call that adds an operator are its printed words
 pub call_from-read : (ds : Items) (c : StepCall) → call_from Two ds ≡ Some c → Prints c ds

@@ -55,7 +55,7 @@ document_meaning settings d = do
   names_check d
   steps ← steps_in d
   counts ← growth_counts d
-  aggregate ← aggregate_in d
+  aggregate ← aggregate_in version d
   source ← source_in version d
   growth ← growth_of counts
   query ← with_steps_of version 0 (new_query settings) steps

@@ -4,7 +4,7 @@ use Rattle.serde_json.specs.Data.{Data, null, unsigned, negative, number, string
 use Rattle.serde_json.specs.View.{items_of}
 use Rattle.plinq_source.specs.Trace.{Trace, ended_trace}
 use Rattle.plinq_source.specs.declared.ending.Ending.TheVariants.{End, Refused}
-use Rattle.plinq_lambda.specs.declared.formula.Formula.TheVariants.{Add, Below, Even}
+use Rattle.plinq_lambda.specs.declared.formula.Formula.TheVariants.{Add, Mul, Mod, Into, Below, Above, Equal, Even, Repeat, UpTo}
 use Rattle.plinq_ops.specs.declared.op.Op.TheVariants.{Select, Filter, SelectMany, Take, Skip, TakeWhile, SkipWhile, AsUnordered}
 use Rattle.plinq_ops.specs.declared.merge_option.MergeOption.TheVariants.{NotBuffered}
 use Rattle.plinq_ops.specs.declared.build_fault.BuildFault.TheVariants.{NotAtSource, MergeTwice, DegreeTwice, DegreeOutOfRange}
@@ -12,7 +12,10 @@ use Rattle.plinq_enumerator.specs.declared.growth_fault.GrowthFault.TheVariants.
 use Rattle.plinq_document.specs.Document.{document_meaning}
 use Rattle.plinq_document.specs.Sources.{bound_of, few_together}
 use Rattle.plinq_document.specs.Jobs.{JobView}
-use Rattle.plinq_document.specs.Steps.{since}
+use Rattle.plinq_document.specs.Formulas.{formula_since}
+use Rattle.plinq_document.specs.Aggregates.{kind_since}
+use Rattle.plinq_document.specs.Steps.{since, has_step}
+use Rattle.plinq_document.specs.declared.step_call.StepCall.TheVariants.{Operator}
 use Rattle.plinq_settings.specs.declared.settings.Settings.{Settings}
 use Rattle.plinq_document.specs.declared.version.Version.TheVariants.{One, Two}
 use Rattle.plinq_document.specs.declared.kind.Kind.{Kind}
@@ -313,3 +316,15 @@ many-beside_repeat = refl
 pub operators-since : map since (Select Even ∷ Filter Even ∷ SelectMany Even ∷ Take (pos 1) ∷ Skip (pos 1) ∷ TakeWhile Even ∷ AsUnordered ∷ SkipWhile Even ∷ [])
     ≡ One ∷ One ∷ One ∷ One ∷ One ∷ One ∷ One ∷ Two ∷ []
 operators-since = refl
+
+-- every formula and every aggregate came with version 1
+pub formulas-since : map formula_since (Add (pos 1) ∷ Mul (pos 1) ∷ Mod (pos 1) ∷ Into (pos 1) ∷ Below (pos 1) ∷ Above (pos 1) ∷ Equal (pos 1) ∷ Even
+    ∷ Repeat (pos 1) ∷ UpTo ∷ []) ≡ One ∷ One ∷ One ∷ One ∷ One ∷ One ∷ One ∷ One ∷ One ∷ One ∷ []
+formulas-since = refl
+
+pub kinds-since : map kind_since (Sum ∷ Count ∷ Min ∷ Max ∷ []) ≡ One ∷ One ∷ One ∷ One ∷ []
+kinds-since = refl
+
+-- a formula that a version has stands in none of its steps that the version lacks
+pub a_later_step_of_an_earlier_formula : has_step One (Operator (SkipWhile Even)) ≡ false
+a_later_step_of_an_earlier_formula = refl

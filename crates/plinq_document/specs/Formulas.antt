@@ -4,7 +4,10 @@ use Rattle.serde_json.specs.Data.{Items, no_items, item}
 use Rattle.serde_json.specs.Find.{as_str}
 use Rattle.plinq_document.specs.JsonValues.{only_whole_number}
 use Rattle.plinq_lambda.specs.declared.formula.Formula.{Formula}
+use Rattle.plinq_lambda.specs.declared.formula.Formula.TheVariants.{Add, Mul, Mod, Into, Below, Above, Equal, Even, Repeat, UpTo}
 use Rattle.plinq_lambda.specs.FormulaWords.{formula_named}
+use Rattle.plinq_document.specs.declared.version.Version.{Version}
+use Rattle.plinq_document.specs.declared.version.Version.TheVariants.{One}
 
 -- the formula of a name and of the items after it: no item, or one that is a whole number
 abbrev pub formula_from : Items → List ℕ → Option Formula
@@ -15,3 +18,16 @@ formula_from (item c rest) word = option_and_then (λ n. formula_named (Some n) 
 abbrev pub formula_of : Items → Option Formula
 formula_of no_items = None
 formula_of (item word rest) = option_and_then (formula_from rest) (as_str word)
+
+-- the version with which a formula came
+abbrev pub formula_since : Formula → Version
+formula_since (Add c) = One
+formula_since (Mul c) = One
+formula_since (Mod c) = One
+formula_since (Into c) = One
+formula_since (Below c) = One
+formula_since (Above c) = One
+formula_since (Equal c) = One
+formula_since Even = One
+formula_since (Repeat c) = One
+formula_since UpTo = One

@@ -1,5 +1,6 @@
 -- The steps of a document's query.
-use Rattle.std.specs.Prelude.{ℕ, ◌+◌, List, [], ◌∷◌, ◌++◌, Bool, true, if◌then◌else◌, Option, Some, None, Result, Ok, Err, option_map, option_and_then, codes}
+use Rattle.std.specs.Prelude.{ℕ, ◌+◌, List, [], ◌∷◌, ◌++◌, Bool, true, ◌&&◌, if◌then◌else◌, Option, Some, None, Result, Ok, Err}
+use Rattle.std.specs.Prelude.{option_map, option_and_then, codes}
 use Rattle.std.specs.Option.{option_or}
 use Rattle.serde_json.specs.Data.{Data, Items, no_items, item}
 use Rattle.serde_json.specs.Find.{as_str, as_array}
@@ -13,7 +14,7 @@ use Rattle.plinq_ops.specs.Operator.{op_named}
 use Rattle.plinq_ops.specs.Query.{QueryView, Built, with_order, with_option, with_degree_of}
 use Rattle.plinq_words.specs.Tables.{beside}
 use Rattle.plinq_document.specs.JsonValues.{only_whole_number, only_count, only_text}
-use Rattle.plinq_document.specs.Formulas.{formula_of}
+use Rattle.plinq_document.specs.Formulas.{formula_of, formula_since}
 use Rattle.plinq_document.specs.Results.{◌>>=◌}
 use Rattle.plinq_document.specs.Versions.{has}
 use Rattle.plinq_document.specs.declared.version.Version.{Version}
@@ -78,10 +79,21 @@ since (TakeWhile f) = One
 since (SkipWhile f) = Two
 since AsUnordered = One
 
+-- whether a version has an operator's formula, if the operator has one
+abbrev pub has_formula : Version → Op Formula → Bool
+has_formula version (Select f) = has version (formula_since f)
+has_formula version (Filter f) = has version (formula_since f)
+has_formula version (SelectMany f) = has version (formula_since f)
+has_formula version (Take n) = true
+has_formula version (Skip n) = true
+has_formula version (TakeWhile f) = has version (formula_since f)
+has_formula version (SkipWhile f) = has version (formula_since f)
+has_formula version AsUnordered = true
+
 -- whether a version has a step
 abbrev pub has_step : Version → StepCall → Bool
 has_step version call.AsOrdered = true
-has_step version (call.Operator op) = has version (since op)
+has_step version (call.Operator op) = has version (since op) && has_formula version op
 has_step version (call.WithMerge option) = true
 has_step version (call.WithDegree n) = true
 

@@ -109,7 +109,7 @@ fn job_of(
     check_names(value)?;
     let steps = steps_in(value)?;
     let counts = growth_counts(value)?;
-    let aggregate = aggregate_in(value)?;
+    let aggregate = aggregate_in(version, value)?;
     let source = source_apart(alloc, source, version, value)?;
     let growth = counts.growth()?;
     let query = with_steps(version, new_query(alloc, settings), steps)?;

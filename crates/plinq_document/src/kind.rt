@@ -1,5 +1,7 @@
 ghost use Rattle.std.specs.Prelude.{◌≡◌};
-ghost use Rattle.plinq_document.specs.Aggregates.{kind_word};
+ghost use Rattle.plinq_document.specs.Aggregates.{kind_since, kind_word};
+
+use crate::version::Version;
 
 /// What is reported of an answer's items in their place.
 #[derive(Clone, Copy, Debug, PartialEq, Eq)]
@@ -24,5 +26,14 @@ pub(crate) fn kind_word(word: &str) -> Option<Kind>
         "min" => Some(Kind::Min),
         "max" => Some(Kind::Max),
         _ => None,
+    }
+}
+
+/// The version with which an aggregate came.
+pub(crate) fn kind_since(kind: Kind) -> Version
+    ensures { result ≡ kind_since kind }
+{
+    match kind {
+        Kind::Sum | Kind::Count | Kind::Min | Kind::Max => Version::One,
     }
 }

@@ -1,9 +1,9 @@
 ghost use Rattle.std.specs.Prelude.{◌≡◌, ◌≢◌, MatchResult};
 ghost use Rattle.serde_json.specs.View.{view, items_view};
 ghost use Rattle.plinq_ops.specs.declared.build_fault.BuildFault.TheVariants.{Memory};
-ghost use Rattle.plinq_document.specs.Steps.{argument_of, op_from, other_call_from, call_alone, call_named, since, has_step, call_of, call_result};
+ghost use Rattle.plinq_document.specs.Steps.{argument_of, op_from, other_call_from, call_alone, call_named, since, has_formula, has_step, call_of, call_result};
 
-use crate::formulas::formula_of;
+use crate::formulas::{formula_of, formula_since};
 use crate::other_step::{OtherStep, other_step_named};
 use crate::values::{only_count, only_item, only_whole_number};
 use crate::version::Version;
@@ -88,7 +88,19 @@ fn has_step(version: Version, call: StepCall) -> bool
 {
     match call {
         StepCall::AsOrdered | StepCall::WithMerge(_) | StepCall::WithDegree(_) => true,
-        StepCall::Operator(op) => version.has(since(op)),
+        StepCall::Operator(op) => version.has(since(op)) && has_formula(version, op),
+    }
+}
+
+/// Whether a version has an operator's formula, if the operator has one.
+fn has_formula(version: Version, op: Op<Formula>) -> bool
+    ensures { result ≡ has_formula version op }
+{
+    match op {
+        Op::Select(f) | Op::Filter(f) | Op::SelectMany(f) | Op::TakeWhile(f) | Op::SkipWhile(f) => {
+            version.has(formula_since(f))
+        }
+        Op::Take(_) | Op::Skip(_) | Op::AsUnordered => true,
     }
 }
 

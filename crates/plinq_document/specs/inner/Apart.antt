@@ -79,7 +79,7 @@ meaning_apart settings apart d = do
   names_check d
   steps ← steps_in d
   counts ← growth_counts d
-  aggregate ← aggregate_in d
+  aggregate ← aggregate_in version d
   source ← source_apart apart version d
   growth ← growth_of counts
   query ← with_steps_of version 0 (new_query settings) steps
