@@ -1,5 +1,8 @@
 //! What is asked of a chain.
-ghost use Rattle.std.specs.Prelude.{◌≡◌, pos, [], ◌∷◌, ◌++◌, MatchResult};
+ghost use Rattle.std.specs.Prelude.{◌≡◌, pos, [], ◌∷◌, ◌++◌, MatchResult, false, Err};
+ghost use Rattle.plinq_ops.specs.Query.{is_degree};
+ghost use Rattle.plinq_ops.specs.declared.build_fault.BuildFault.TheVariants.{DegreeOutOfRange};
+ghost use Rattle.plinq_closures.specs.declared.chain_fault.ChainFault.TheVariants.{Build};
 ghost use Rattle.plinq_ops.specs.declared.merge_option.MergeOption.TheVariants.{AutoBuffered};
 ghost use Rattle.plinq_ops.specs.declared.op.Op.{Op};
 ghost use Rattle.plinq_ops.specs.Sequential.{answer_of};
@@ -40,7 +43,8 @@ impl<S: Steps<Item: Send> + Sync> Chain<S> {
         requires in_one_way { S.in_one_way self.now.steps }
         requires gives { S.gives self.now.steps }
         requires gives_one { S.gives_one self.now.steps }
-        ensures { (ops : _) → S.does self.now.steps ops → MatchResult result
+        ensures degree { is_degree workers ≡ false → result ≡ Err (Build DegreeOutOfRange) }
+        ensures answer { (ops : _) → S.does self.now.steps ops → MatchResult result
             (λ it. GathersSome AutoBuffered (λ u. u ≡ answer_of (λ f. f) ops (Src.whole source)) it.0.items it.1)
             (HasNone workers) }
     {
@@ -71,7 +75,8 @@ impl<S: Steps<Item: Send> + Sync> Chain<S> {
         requires in_one_way { S.in_one_way self.now.steps }
         requires gives { S.gives self.now.steps }
         requires gives_one { S.gives_one self.now.steps }
-        ensures { (ops : _) → S.does self.now.steps ops →
+        ensures degree { is_degree workers ≡ false → result ≡ Err (Build DegreeOutOfRange) }
+        ensures answer { (ops : _) → S.does self.now.steps ops →
             Tells workers first_of (answer_of (λ f. f) (ops ++ Op.Take (pos 1) ∷ []) (Src.whole source)) result }
     {
         match query_of(alloc, workers, &self.steps) {
@@ -101,7 +106,8 @@ impl<S: Steps<Item: Send> + Sync> Chain<S> {
         requires in_one_way { S.in_one_way self.now.steps }
         requires gives { S.gives self.now.steps }
         requires gives_one { S.gives_one self.now.steps }
-        ensures { (ops : _) → S.does self.now.steps ops →
+        ensures degree { is_degree workers ≡ false → result ≡ Err (Build DegreeOutOfRange) }
+        ensures answer { (ops : _) → S.does self.now.steps ops →
             Tells workers has_item (answer_of (λ f. f) (ops ++ Op.Take (pos 1) ∷ []) (Src.whole source)) result }
     {
         there(self.first(rt, alloc, workers, source))
@@ -127,7 +133,8 @@ impl<S: Steps<Item: Send> + Sync> Chain<S> {
         requires in_one_way { S.in_one_way self.now.steps }
         requires gives { S.gives self.now.steps }
         requires gives_one { S.gives_one self.now.steps }
-        ensures { (ops : _) → S.does self.now.steps ops → Tells workers wrapped_count (answer_of (λ f. f) ops (Src.whole source)) result }
+        ensures degree { is_degree workers ≡ false → result ≡ Err (Build DegreeOutOfRange) }
+        ensures answer { (ops : _) → S.does self.now.steps ops → Tells workers wrapped_count (answer_of (λ f. f) ops (Src.whole source)) result }
     {
         match query_of(alloc, workers, &self.steps) {
             Ok(query) => chain_answer(count(rt, alloc, &query, source)),

@@ -1,5 +1,8 @@
 //! What an aggregator makes of a chain's answer.
-ghost use Rattle.std.specs.Prelude.{◌≡◌};
+ghost use Rattle.std.specs.Prelude.{◌≡◌, false, Err};
+ghost use Rattle.plinq_ops.specs.Query.{is_degree};
+ghost use Rattle.plinq_ops.specs.declared.build_fault.BuildFault.TheVariants.{DegreeOutOfRange};
+ghost use Rattle.plinq_closures.specs.declared.chain_fault.ChainFault.TheVariants.{Build};
 ghost use Rattle.plinq_aggregate.specs.Folding.{aggregate_value};
 ghost use Rattle.plinq_ops.specs.Sequential.{answer_of};
 ghost use Rattle.plinq_closures.specs.Asked.{LacksRoomAlone, Tells};
@@ -43,7 +46,8 @@ impl<S: Steps<Item: Send> + Sync> Chain<S> {
         requires in_one_way { S.in_one_way self.now.steps }
         requires gives { S.gives self.now.steps }
         requires gives_one { S.gives_one self.now.steps }
-        ensures { (ops : _) → S.does self.now.steps ops →
+        ensures degree { is_degree workers ≡ false → result ≡ Err (Build DegreeOutOfRange) }
+        ensures answer { (ops : _) → S.does self.now.steps ops →
             Tells workers (aggregate_value (A.folding aggregator.now)) (answer_of (λ f. f) ops (Src.whole source)) result }
     {
         match query_of(alloc, workers, &self.steps) {

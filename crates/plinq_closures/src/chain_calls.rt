@@ -1,5 +1,8 @@
 //! A closure that is called with the items of a chain's answer.
-ghost use Rattle.std.specs.Prelude.{◌≡◌};
+ghost use Rattle.std.specs.Prelude.{◌≡◌, false, Err};
+ghost use Rattle.plinq_ops.specs.Query.{is_degree};
+ghost use Rattle.plinq_ops.specs.declared.build_fault.BuildFault.TheVariants.{DegreeOutOfRange};
+ghost use Rattle.plinq_closures.specs.declared.chain_fault.ChainFault.TheVariants.{Build};
 ghost use Rattle.plinq_ops.specs.Sequential.{answer_of};
 ghost use Rattle.plinq_closures.specs.Asked.{HasCalled};
 
@@ -40,7 +43,8 @@ impl<S: Steps<Item: Send> + Sync> Chain<S> {
         requires gives_one { S.gives_one self.now.steps }
         requires calls { (f : F) (x : S.Item) → F.pre f x }
         requires calls_in_one_way { (f : F) (x : S.Item) (a b : F.pre f x) → a ≡ b }
-        ensures { (ops : _) → S.does self.now.steps ops →
+        ensures degree { is_degree workers ≡ false → result ≡ Err (Build DegreeOutOfRange) }
+        ensures answer { (ops : _) → S.does self.now.steps ops →
             HasCalled workers (λ f x r g. F.step f x r g) (answer_of (λ f. f) ops (Src.whole source)) by.old result by.new }
     {
         match query_of(alloc, workers, &self.steps) {

@@ -1,5 +1,7 @@
 //! The query that a chain's steps make.
-ghost use Rattle.std.specs.Prelude.{◌≡◌, ℕ, ◌++◌, [], true, None, map, IfOk, IfErr};
+ghost use Rattle.std.specs.Prelude.{◌≡◌, ℕ, ◌++◌, [], true, None, map, IfOk, IfErr, false, Err};
+ghost use Rattle.plinq_ops.specs.Query.{is_degree};
+ghost use Rattle.plinq_ops.specs.declared.build_fault.BuildFault.TheVariants.{DegreeOutOfRange};
 ghost use Rattle.plinq_lambda.specs.Meaning.{Meaning};
 ghost use Rattle.plinq_ops.specs.declared.op.Op.{Op};
 ghost use Rattle.plinq_ops.specs.declared.build_fault.BuildFault.{BuildFault};
@@ -24,18 +26,21 @@ pub(crate) fn query_of<'a, S: Steps>(
     requires gives { S.gives steps.now }
     requires gives_one { S.gives_one steps.now }
     ensures refused { IfErr result (CantBuild workers) }
+    ensures degree { is_degree workers ≡ false → result ≡ Err DegreeOutOfRange }
     ensures ordered { IfOk result (λ q. (q.ordered ≡ true) × (q.merge ≡ None)) }
     ensures ops { (ops : _) → S.does steps.now ops → IfOk result (λ q. map (over ⟦<At<'a, S> as Lambda>⟧.meaning) q.ops ≡ ops) }
 {
+    let query = begun(alloc, workers)?;
     let Some(count) = steps.count() else {
         return Err(BuildFault::Memory);
     };
-    with_steps(begun(alloc, workers)?, steps, count)
+    with_steps(query, steps, count)
 }
 
 /// A query with no step, which keeps its source's order.
 fn begun<L: Drop>(alloc: Global, workers: u64) -> Result<Query<L>, BuildFault>
     ensures refused { IfErr result (CantBuild workers) }
+    ensures degree { is_degree workers ≡ false → result ≡ Err DegreeOutOfRange }
     ensures begun { IfOk result (λ q. (q.ops ≡ []) × (q.ordered ≡ true) × (q.merge ≡ None)) }
 {
     let Ok(query) = Query::new(alloc).as_ordered() else {

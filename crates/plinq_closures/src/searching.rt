@@ -1,5 +1,8 @@
 //! What is looked for in a chain's answer: an item at a place, one that equals another, one that doesn't pass.
-ghost use Rattle.std.specs.Prelude.{◌≡◌, ℕ, pos, [], ◌∷◌, ◌++◌, Bool, Result, Ok};
+ghost use Rattle.std.specs.Prelude.{◌≡◌, ℕ, pos, [], ◌∷◌, ◌++◌, Bool, Result, Ok, false, Err};
+ghost use Rattle.plinq_ops.specs.Query.{is_degree};
+ghost use Rattle.plinq_ops.specs.declared.build_fault.BuildFault.TheVariants.{DegreeOutOfRange};
+ghost use Rattle.plinq_closures.specs.declared.chain_fault.ChainFault.TheVariants.{Build};
 ghost use Rattle.plinq_ops.specs.declared.op.Op.{Op};
 ghost use Rattle.plinq_ops.specs.Sequential.{answer_of};
 ghost use Rattle.plinq_collect.specs.ItemFoldings.{first_of, has_item, has_none};
@@ -41,7 +44,8 @@ impl<S: Steps<Item: Send> + Sync> Chain<S> {
         requires in_one_way { S.in_one_way self.now.steps }
         requires gives { S.gives self.now.steps }
         requires gives_one { S.gives_one self.now.steps }
-        ensures { (ops : _) → S.does self.now.steps ops →
+        ensures degree { is_degree workers ≡ false → result ≡ Err (Build DegreeOutOfRange) }
+        ensures answer { (ops : _) → S.does self.now.steps ops →
             Tells workers first_of (answer_of (λ f. f) ((ops ++ Op.Skip (pos place) ∷ []) ++ Op.Take (pos 1) ∷ []) (Src.whole source)) result }
     {
         match query_of(alloc, workers, &self.steps) {
@@ -72,7 +76,8 @@ impl<S: Steps<Item: Send> + Sync> Chain<S> {
         requires in_one_way { S.in_one_way self.now.steps }
         requires gives { S.gives self.now.steps }
         requires gives_one { S.gives_one self.now.steps }
-        ensures { (ops : _) → S.does self.now.steps ops →
+        ensures degree { is_degree workers ≡ false → result ≡ Err (Build DegreeOutOfRange) }
+        ensures answer { (ops : _) → S.does self.now.steps ops →
             Tells workers has_item
             (answer_of (λ f. f) ((ops ++ Op.Filter (tests (λ x. Ok (S.Item.eq x item))) ∷ []) ++ Op.Take (pos 1) ∷ []) (Src.whole source))
             result }
@@ -107,7 +112,8 @@ impl<S: Steps<Item: Send> + Sync> Chain<S> {
         requires gives { ((x : S.Item) → (r : Result Bool ℕ) × P.post by x r) × S.gives self.now.steps }
         requires gives_one { ((x : S.Item) (r q : Result Bool ℕ) → P.post by x r → P.post by x q → q ≡ r)
             × S.gives_one self.now.steps }
-        ensures { (ops : _) (p : S.Item → Result Bool ℕ) → S.does self.now.steps ops →
+        ensures degree { is_degree workers ≡ false → result ≡ Err (Build DegreeOutOfRange) }
+        ensures answer { (ops : _) (p : S.Item → Result Bool ℕ) → S.does self.now.steps ops →
             ((x : S.Item) → P.post by x (p x)) →
             Tells workers has_item (answer_of (λ f. f) ((ops ++ Op.Filter (tests p) ∷ []) ++ Op.Take (pos 1) ∷ []) (Src.whole source))
             result }
@@ -140,7 +146,8 @@ impl<S: Steps<Item: Send> + Sync> Chain<S> {
         requires gives { ((x : S.Item) → (r : Result Bool ℕ) × P.post by x r) × S.gives self.now.steps }
         requires gives_one { ((x : S.Item) (r q : Result Bool ℕ) → P.post by x r → P.post by x q → q ≡ r)
             × S.gives_one self.now.steps }
-        ensures { (ops : _) (p : S.Item → Result Bool ℕ) → S.does self.now.steps ops →
+        ensures degree { is_degree workers ≡ false → result ≡ Err (Build DegreeOutOfRange) }
+        ensures answer { (ops : _) (p : S.Item → Result Bool ℕ) → S.does self.now.steps ops →
             ((x : S.Item) → P.post by x (p x)) →
             Tells workers has_none (answer_of (λ f. f) ((ops ++ Op.SkipWhile (tests p) ∷ []) ++ Op.Take (pos 1) ∷ []) (Src.whole source))
             result }

@@ -17,7 +17,7 @@ impl<T: Copy> Sink for Collect<T> {
 
     ghost accepts = { λ s batch s'. s'.0.items ≡ s.0.items ++ batch };
 
-    ghost refuses = { λ s batch code s'. s'.0.items ≡ s.0.items };
+    ghost refuses = { λ s batch code s'. (code ≡ 1) × (s'.0.items ≡ s.0.items) };
 
     fn batch(&mut self, batch: &[T]) -> Result<(), u32> {
         self.0.extend_from_slice(batch).map_err(|_| 1)

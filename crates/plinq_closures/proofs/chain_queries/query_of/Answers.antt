@@ -30,5 +30,5 @@ returns-clause-ops g c ops does =
     let tests = g.met.S.Steps.test_gives s c.requires.gives in
     let m : ℕ → Meaning g.row.S-Item.Denot = λ at. record { map = λ x. (maps at x).0; test = λ x. (tests at x).0; expand = λ x. Err 0 } in
     let is : Agrees (g.S.Steps.maps s) (g.S.Steps.tests s) m = record { map = λ at x. (maps at x).1; test = λ at x. (tests at x).1; expand = λ at x. refl } in
-    all_down _ (g.S.Steps.kinds s) m c.in-Some.count c.in-Some.ensures c.in_ok-begun.field-0.ops c.in_ok-begun.ensures.begun.0 ops
+    all_down _ (g.S.Steps.kinds s) m c.in-Some.count c.in-Some.ensures c.in_ok-query.query.ops c.in_ok-query.ensures.begun.0 ops
     (g.met.S.Steps.comes_to s c.requires.gives_one m is ops does) c.with_steps.result (c.with_steps.ensures.ops m is)

@@ -7,8 +7,8 @@ use Rattle.plinq_closures.specs.Asked.{Tells}
 use Rattle.plinq_closures.proofs.Asked.{tells-answer}
 use Rattle.plinq_closures.proofs.chain.Chain.aggregate.Goals as goal
 
-pub returns-in-Ok : goal.returns-in-Ok
-returns-in-Ok g c ops does =
+pub returns-in-Ok-clause-answer : goal.returns-in-Ok-clause-answer
+returns-in-Ok-clause-answer g c ops does =
     let q = c.in-Ok.query in
     let t = g.Src.Source.whole c.args.source in
     let fold = g.A.GrowingAggregator.folding c.args.aggregator.now in

@@ -10,14 +10,14 @@ use Rattle.plinq_closures.specs.Steps.{over}
 use Rattle.plinq_closures.proofs.Asked.{tells-none}
 use Rattle.plinq_closures.proofs.chain.Chain.all.Goals as goal
 
-pub returns : goal.returns
-returns g c ops p does gives =
+pub returns-clause-answer : goal.returns-clause-answer
+returns-clause-answer g c ops p does gives =
     let steps = ops ++ SkipWhile (tests p) ∷ [] in
     let u = answer_of (λ f. f) (steps ++ Take (pos 1) ∷ []) (g.Src.Source.whole c.args.source) in
     let is = c.skip_while-chain.ensures in
     let same : c.skip_while-chain.result.steps.before.steps.now ≡ c.args.self.now.steps = ap (λ l. l.steps.now) is.0 ∙ c.lent.ensures in
     subst (λ r. Tells c.args.workers has_none u r) (sym c.negated.ensures)
-    (tells-none c.args.workers u c.any.result (c.any.ensures steps (record {
+    (tells-none c.args.workers u c.any.result (c.any.ensures.answer steps (record {
       before = ops;
       was = subst (λ s. g.S.Steps.does s ops) (sym same) does;
       does = p;

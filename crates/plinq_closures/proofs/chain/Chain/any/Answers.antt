@@ -8,7 +8,7 @@ use Rattle.plinq_closures.specs.Asked.{Tells}
 use Rattle.plinq_closures.proofs.Asked.{tells-there}
 use Rattle.plinq_closures.proofs.chain.Chain.any.Goals as goal
 
-pub returns : goal.returns
-returns g c ops does =
+pub returns-clause-answer : goal.returns-clause-answer
+returns-clause-answer g c ops does =
     let u = answer_of (λ f. f) (ops ++ Take (pos 1) ∷ []) (g.Src.Source.whole c.args.source) in
-    subst (λ r. Tells c.args.workers has_item u r) (sym c.there.ensures) (tells-there c.args.workers u c.first.result (c.first.ensures ops does))
+    subst (λ r. Tells c.args.workers has_item u r) (sym c.there.ensures) (tells-there c.args.workers u c.first.result (c.first.ensures.answer ops does))

@@ -6,11 +6,11 @@ use Rattle.plinq_closures.specs.Functions.{tests}
 use Rattle.plinq_closures.specs.Steps.{over}
 use Rattle.plinq_closures.proofs.chain.Chain.any_that.Goals as goal
 
-pub returns : goal.returns
-returns g c ops p does gives =
+pub returns-clause-answer : goal.returns-clause-answer
+returns-clause-answer g c ops p does gives =
     let is = c.filter-chain.ensures in
     let same : c.filter-chain.result.steps.before.steps.now ≡ c.args.self.now.steps = ap (λ l. l.steps.now) is.0 ∙ c.lent.ensures in
-    c.any.ensures (ops ++ Filter (tests p) ∷ []) (record {
+    c.any.ensures.answer (ops ++ Filter (tests p) ∷ []) (record {
       before = ops;
       was = subst (λ s. g.S.Steps.does s ops) (sym same) does;
       does = p;

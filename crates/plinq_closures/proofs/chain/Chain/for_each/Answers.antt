@@ -2,8 +2,8 @@
 use Rattle.plinq_closures.proofs.Asked.{called-answer}
 use Rattle.plinq_closures.proofs.chain.Chain.for_each.Goals as goal
 
-pub returns-in-Ok : goal.returns-in-Ok
-returns-in-Ok g c ops does =
+pub returns-in-Ok-clause-answer : goal.returns-in-Ok-clause-answer
+returns-in-Ok-clause-answer g c ops does =
     let q = c.in-Ok.query in
     let is = c.in-Ok.ensures in
     called-answer _ _ q.ordered is.ordered.0 q.merge is.ordered.1 q.ops ops (is.ops ops does)
