@@ -3,4 +3,5 @@ pub mod ServeFaults
 pub mod Told
 pub mod Served
 pub mod Performed
+pub mod ProgramRows
 pub mod inner

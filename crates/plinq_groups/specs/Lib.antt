@@ -7,3 +7,4 @@ pub mod Others
 pub mod Ranked
 pub mod Topped
 pub mod inner
+pub mod RankRows

@@ -7,3 +7,4 @@ pub mod PartsText
 pub mod HistoryText
 pub mod AggregateText
 pub mod LineSink
+pub mod LineRows
