@@ -56,8 +56,8 @@ REFUSED = [
     document(LIST, ["take", 1], ["as_ordered"]),
 ]
 # What is wrong with this document is found once all of it was read, so where no room is left on the way, that is answered. The
-# C library does without one allocation.
-WRONG_AT_ITS_END = document({"list": list(range(9))}, x=[1])
+# C library does without one allocation. The text has an escape, so that its bytes are gathered in a list that grows.
+WRONG_AT_ITS_END = document({"list": list(range(9))}, x=[1]), document({"text": "1\n2 3 " * 20}, x=[1])
 DONE_WITHOUT = 1
 CASES = (
     [(words, it) for it in ANSWERED for words in (["run", "--workers", "2", "--merge", "not"], ["run", "--workers", "1"], ["run", "--workers", "8"], ["seq"], ["plan", "--workers", "2"], ["parts"], ["history", "--workers", "2"])]
@@ -69,7 +69,7 @@ CASES = (
     # (of so long a range the close may not be forgotten that finds no room for its record: it is tried again)
     + [(["run", "--workers", "1", "--merge", "not"], document({"range": [0, 2**40]}, ["take", it], growth=[1, 1, 1])) for it in (4, 8)]
     + [(["run"], it) for it in REFUSED]
-    + [(["seq"], WRONG_AT_ITS_END)]
+    + [(["seq"], it) for it in WRONG_AT_ITS_END]
     + [(words, ANSWERED[0]) for words in ([], ["walk"], ["run", "--workers", "0"], ["seq", "--merge", "some"], ["plan", "x"])]
     + [(words, b"") for words in (["--help"], ["run", "--help"], ["help"])]
 )
@@ -128,7 +128,7 @@ def main():
                 if which == "REFUSE_AT" and words[:3] == ["run", "--workers", "1"]:
                     tests.check(f"{name}: out of memory isn't reported as a missing thread", threads <= FOR_ONE_THREAD, f"{threads} of {at - 1}")
                 tests.check(f"{name}: an allocation was refused", at > 1 and memory > 0, f"{at - 1} refused, {memory} answered")
-                if given == WRONG_AT_ITS_END:
+                if given in WRONG_AT_ITS_END:
                     tests.check(f"{name}: out of memory is answered whatever stands later", at - 1 - memory <= DONE_WITHOUT, f"{memory} of {at - 1}")
     tests.end()
 

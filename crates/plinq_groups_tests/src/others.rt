@@ -1,11 +1,14 @@
 //! Aggregates made of others, of a few pairs.
-ghost use Rattle.std.specs.Prelude.{◌≡◌};
+ghost use Rattle.std.specs.Prelude.{◌≡◌, pos, if◌then◌else◌, Ok, Err};
+ghost use Rattle.std.specs.Ordering.{int_eq};
 
 use plinq_aggregate::{Count, GrowingAggregator, Sum};
 use plinq_groups::{
-    Both, By, Collect, FieldOf, First, GreatestBy, GroupBy, KeyOf, LeastBy, RankOf, Top,
+    Both, By, Collect, FieldOf, First, GreatestBy, GroupBy, KeyOf, LeastBy, MakeOf, MapEach,
+    MapFault, RankOf, Top,
 };
 use std::alloc::{AllocError, Global};
+use std::sync::atomic::{AtomicU64, Ordering};
 use std::test::*;
 
 /// The first of a pair, as a field, as a rank and as a key.
@@ -138,4 +141,114 @@ fn is_group_of_two(alloc: Global) -> bool {
 #[test]
 fn the_first_item_of_each_key_and_all_of_them(rt: HostRuntime) {
     assert!(rt; is_group_of_two(rt.alloc()));
+}
+
+fn are_all(alloc: Global) -> bool {
+    match of_parts(alloc, &Collect::new(), &ONE, &OTHER) {
+        Ok(items) => items.as_slice()
+            == [(7, 1), (2, 2), (7, 3), (2, 4), (9, 5), (9, 6)].as_slice(),
+        Err(_) => false,
+    }
+}
+
+/// Groups beside another aggregate take in their items one by one.
+fn are_groups_beside_all(alloc: Global) -> bool {
+    let both = Both {
+        first: GroupBy {
+            key: Whose,
+            each: First::new(),
+        },
+        second: Collect::new(),
+    };
+    match of_parts(alloc, &both, &ONE, &OTHER) {
+        Ok((groups, items)) => {
+            let map = groups.as_map();
+            map.len() == 3 && map.get(&9) == Some(&Some((9, 5))) && items.as_slice().len() == 6
+        }
+        Err(_) => false,
+    }
+}
+
+#[test]
+fn all_items_and_groups_beside_all(rt: HostRuntime) {
+    assert!(rt; are_all(rt.alloc()));
+    assert!(rt; are_groups_beside_all(rt.alloc()));
+}
+
+/// So many pairs, each of a key of its own.
+fn pairs(alloc: Global, count: i64) -> Result<Vec<(i64, i64)>, AllocError> {
+    let mut pairs = Vec::new(alloc);
+    for n in 0..count {
+        pairs.push((n, n))?;
+    }
+    Ok(pairs)
+}
+
+/// A block that is longer than a run's chunks.
+fn are_groups_of_a_long_block(alloc: Global) -> bool {
+    let Ok(pairs) = pairs(alloc, 3_000) else {
+        return false;
+    };
+    let by = GroupBy {
+        key: Whose,
+        each: First::new(),
+    };
+    match of_parts(alloc, &by, pairs.as_slice(), &ONE) {
+        Ok(groups) => {
+            let map = groups.as_map();
+            map.len() == 3_000
+                && map.get(&2_999) == Some(&Some((2_999, 2_999)))
+                && map.get(&7) == Some(&Some((7, 7)))
+        }
+        Err(_) => false,
+    }
+}
+
+#[test]
+fn groups_of_a_block_of_3000(rt: HostRuntime) {
+    assert!(rt; are_groups_of_a_long_block(rt.alloc()));
+}
+
+/// The second of a pair, unless the first is 2. It counts how often it is asked.
+#[derive(Drop)]
+struct Counting<'a> {
+    times: &'a AtomicU64,
+}
+
+impl<'a> MakeOf for Counting<'a> {
+    type Item = (i64, i64);
+
+    type Made = i64;
+
+    ghost makes = { λ _ x. if int_eq x.0 (pos 2) then Err 5 else Ok x.1 };
+
+    fn make_of(&self, _alloc: Global, x: (i64, i64)) -> Result<i64, MapFault> {
+        self.times.fetch_add(1, Ordering::SeqCst);
+        if x.0 == 2 {
+            return Err(MapFault::Code(5));
+        }
+        Ok(x.1)
+    }
+}
+
+/// Of each part as much is made as up to its first pair of which nothing can be made.
+fn stops_at_a_code(alloc: Global) -> bool {
+    let times = AtomicU64::new(0);
+    let map = MapEach {
+        make: Counting { times: &times },
+    };
+    match of_parts(alloc, &map, &ONE, &OTHER) {
+        Ok(mapped) => {
+            let (made, code) = mapped.into_parts();
+            made.as_slice() == [1].as_slice()
+                && code == Some(5)
+                && times.load(Ordering::SeqCst) == 3
+        }
+        Err(_) => false,
+    }
+}
+
+#[test]
+fn nothing_is_made_after_a_code(rt: HostRuntime) {
+    assert!(rt; stops_at_a_code(rt.alloc()));
 }

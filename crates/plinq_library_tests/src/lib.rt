@@ -7,6 +7,8 @@
 #[cfg(test)]
 mod against_a_loop;
 #[cfg(test)]
+mod asked_by_workers;
+#[cfg(test)]
 mod called_closures;
 #[cfg(test)]
 mod chains;

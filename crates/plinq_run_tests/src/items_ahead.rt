@@ -26,29 +26,30 @@ const SUM: i64 = 199_000_000;
 
 /// A sink that is held with its first batch until each worker has taken, and then for as long as chunks are taken.
 #[derive(Drop)]
-struct WaitsForTaking<'a> {
-    taken: &'a AtomicU64,
-    workers: u64,
+pub(crate) struct WaitsForTaking<'a> {
+    pub(crate) taken: &'a AtomicU64,
+    pub(crate) workers: u64,
     /// How many chunks were taken when the first batch was let go; 0 before.
-    taken_by_then: u64,
-    sink: Counted,
+    pub(crate) taken_by_then: u64,
+    pub(crate) sink: Counted,
+}
+
+/// Waits until so many chunks were taken, and then for as long as more are. How many were taken then.
+pub(crate) fn taken_at_last(taken: &AtomicU64, least: u64) -> u64 {
+    waits_for(taken, least);
+    let mut last = 0u64;
+    for _turn in 0..NUMBERS {
+        let now = taken.load(Ordering::SeqCst);
+        if now == last {
+            break;
+        }
+        last = now;
+        lingers();
+    }
+    last
 }
 
 impl<'a> WaitsForTaking<'a> {
-    fn hold(&mut self) {
-        waits_for(self.taken, self.workers);
-        let mut last = 0u64;
-        for _turn in 0..NUMBERS {
-            let taken = self.taken.load(Ordering::SeqCst);
-            if taken == last {
-                break;
-            }
-            last = taken;
-            lingers();
-        }
-        self.taken_by_then = last;
-    }
-
     fn has_all(&self, by_key: bool) -> bool {
         let sink = &self.sink;
         sink.count == ITEMS && sink.sum == SUM && (sink.is_in_order || !by_key)
@@ -72,7 +73,7 @@ impl<'a> Sink for WaitsForTaking<'a> {
 
     fn batch(&mut self, items: &[i64]) -> Result<(), u32> {
         if self.sink.batches == 0 {
-            self.hold();
+            self.taken_by_then = taken_at_last(self.taken, self.workers);
         }
         self.sink.batch(items)
     }

@@ -22,6 +22,8 @@ mod cancelled;
 #[cfg(test)]
 mod cut_off;
 #[cfg(test)]
+mod enough;
+#[cfg(test)]
 mod failing_worker;
 #[cfg(test)]
 mod fault_words;
@@ -57,3 +59,5 @@ mod streams;
 mod unasked_sources;
 #[cfg(test)]
 mod unordered;
+#[cfg(test)]
+mod wide_items;

@@ -56,9 +56,24 @@ fn is_refused_afterwards(alloc: Global) -> bool {
     are_refused && out.taken() == b"-12".as_slice() && out.calls == 2
 }
 
+/// The same of batches of one size that go in one call.
+fn are_batches_refused_afterwards(alloc: Global) -> bool {
+    let mut out = FailsOnce::new(alloc, 2);
+    let mut sink = LineSink::new(&mut out);
+    let first = sink.batches_of(1, &[-12, 345]);
+    let has_failed = sink.has_failed();
+    let second = sink.batches_of(1, &[6, 7]);
+    let third = sink.batch(&[8]);
+    sink.idle();
+    let out = sink.into_writer();
+    let are_refused = first == Err(WRITE_FAILED) && second == first && third == first;
+    has_failed && are_refused && out.taken() == b"-12".as_slice() && out.calls == 2
+}
+
 #[test]
 fn a_batch_after_a_failure(rt: HostRuntime) {
     assert!(rt; is_refused_afterwards(rt.alloc()));
+    assert!(rt; are_batches_refused_afterwards(rt.alloc()));
 }
 
 fn is_flushed_twice(alloc: Global) -> bool {
