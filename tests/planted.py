@@ -107,6 +107,7 @@ n + 11=>fn low::caller: no proof: it calls `low::first`, which is not proved
 72 + =>fn low::Thing::method: not proved
 72 + =>help: `Goals` has no `gone`; rattle asks for `returns`, `returns-then` and 13 more; a `use` line of it can name these places: `Then-first-self`
 73 + =>./proofs/Thing/method/Answers.antt:62:52: error: `returns`: `.0` projects from a `×` type or a record, but this has type|`is_within 4 4 both.0 ≡ true`
+75 + =>./proofs/Thing/method/Answers.antt:12:31: error: `returns`: record `Rattle.low.proofs.Thing.method.Lts.After-drop` (nearest: .in_ok-get) has no field `in_ok-all`|the fields that can be named here are `before`, `in_ok-get`
 74 + =>./proofs/Thing/method/Answers.antt:4:35: error: `returns`: as printed, the two types|first differ where one has `8`
 u64 = 17=>./proofs/Thing+T/method/Answers.antt:4:35: error: `returns`: as printed, the two types first differ where one has `8`
 n + 13=>./proofs/+turns/Answers.antt:4:35: error: `first-returns`: as printed, the two types first differ where one has `8`
@@ -228,6 +229,7 @@ def not_refused(place, tests):
     names("one that a function which calls itself refuses", ("lib", "n + 2", "n + 16"), "NOT REFUSED for a goal of low::second: ")
     names("one that only renames a goal which is answered by hand", ("other", "7 + ", "72 + "), "NOT REFUSED for a goal of ")
     names("one of which a proof file reads a fact as another shape", ("other", "7 + ", "73 + "), "NOT REFUSED for a goal of ")
+    names("one of which a proof file names a fact that is gone", ("other", "7 + ", "75 + "), "NOT REFUSED for a goal of ")
     names("one that doesn't compile", ("lib", "n + 1", "n + text"), "BAD EDIT: it can't be compiled or read: src/lib.rt:13:9: error[E0425]")
     names("one that can't be read", ("lib", "n + 1", "n + ghost"), "BAD EDIT: it can't be compiled or read: src/lib.rt:13:9: error: ")
     names("one whose text isn't there", ("lib", "n + 9", "n + 11"), "BAD EDIT: an 'old:' text doesn't stand in src/lib.rt just once")
@@ -235,6 +237,12 @@ def not_refused(place, tests):
     names("one of a file that isn't there", ("none", "n + 1", "n + 11"), "BAD EDIT: ")
     names("one that changes nothing", ("lib", "n + 1", "n + 1"), "BAD EDIT: it changes nothing")
     names("one of what no function names", ("lib", "u64 = 3", "u64 = 4"), "BAD EDIT: src/lib.rt:5 is edited, which lies in no function")
+    # (a check says of the goals of others what it says, and shows nothing of them)
+    seems = "n + text=>fn low::caller: no proof: expected answers in ./proofs/caller/Answers.antt; `search` did not prove `returns`\n"
+    place.plant(says=SAYS + seems, it=("lib", "first(5) + 6", "6 + first(5)"), unread=("lib", "n + 1", "n + text"))
+    status, said, last, _ = place.run()
+    is_so = (status, last) == (1, "0 passed, 2 failed") and said["low/planted/it"].startswith("NOT REFUSED: ") and said["low/planted/unread"].startswith("BAD EDIT: ")
+    tests.check("a goal that is open beside a text which can't be read shows nothing", is_so, said)
     place.plant(says=SAYS + "n + 1=>fn low::first: no proof: expected answers in ./proofs/first/Answers.antt\n", **first)
     status, said, last, _ = place.run()
     is_so = (status, last) == (1, "0 passed, 1 failed") and said["low/planted/first"].startswith("NOT TRIED: ")
