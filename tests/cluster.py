@@ -13,6 +13,7 @@ import json
 import os
 import pty
 import random
+import re
 import signal
 import subprocess
 import sys
@@ -356,7 +357,26 @@ def cut_link(tests, folder):
         wait_until(lambda: len(asked(folder, "far")) > 9, "shards that are asked")
         net.cut(1)
         seen = ended(child)
-        tests.check("a link that is cut in the middle", seen == Outcome(0, ANSWER, b""), seen)
+        # (that a host says nothing may be said before its link is given up)
+        is_so = (seen.status, seen.output) == (0, ANSWER) and all("says nothing" in it for it in seen.errors.decode().splitlines())
+        tests.check("a link that is cut in the middle", is_so, seen)
+
+
+def hung_worker(tests, folder):
+    """One of two workers says nothing any more, with shards that it is to answer: it is waited for, and given up."""
+    # (the scheduler itself would wait for an hour)
+    with Machines(folder, env={"DASK_DISTRIBUTED__SCHEDULER__WORKER_TTL": "1h"}) as machines:
+        workers = [machines.worker(name, "--no-nanny") for name in ("awake", "asleep")]
+        machines.are_there("awake", "asleep")
+        child = begun(over(machines, slow(folder, "hung", 0.1), "--patience", "6"))
+        wait_until(lambda: len(asked(folder, "hung")) > 5, "shards that are asked")
+        os.killpg(workers[1].pid, signal.SIGSTOP)
+        seen = ended(child)
+        tests.check("a worker that hangs: the answer", (seen.status, seen.output) == (0, ANSWER), seen)
+        said = seen.errors.decode().splitlines()
+        named = rf"plinq-cluster: scheduler {machines.address}: worker tcp://127.0.0.1:\d+"
+        is_so = len(said) == 2 and re.fullmatch(f"{named} says nothing, and is given up 6 seconds after its last word", said[0]) and re.fullmatch(f"{named} is given up", said[1])
+        tests.check("it is said when the wait begins, and when it is given up", is_so, said)
 
 
 def few_shards(tests, folder):
@@ -530,7 +550,7 @@ def help_and_progress(tests, folder):
 
 def processes(tests, folder):
     """What wants a cluster of processes."""
-    for it in (lost_worker, last_worker, lost_answer, deadly_shard, few_shards, other_programs, installed_programs, other_users, help_and_progress):
+    for it in (lost_worker, last_worker, hung_worker, lost_answer, deadly_shard, few_shards, other_programs, installed_programs, other_users, help_and_progress):
         it(tests, folder)
     with Machines(folder) as machines:
         for name in ("e", "f"):

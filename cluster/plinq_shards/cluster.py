@@ -13,6 +13,10 @@ from .trouble import own
 RETRIES = 3
 # How many seconds there may be no worker at all.
 PATIENCE = 30
+# How many seconds a worker may say nothing until it is given up, unless another number is asked for, and until it is said that
+# it is waited for.
+SILENCE = 60
+SILENCE_IS_SAID = 10
 TICK = 0.25
 # What a call to a cluster ends with that is gone, now by one of them and now by another.
 GONE = (asyncio.CancelledError, concurrent.futures.CancelledError, distributed.CancelledError, distributed.comm.CommClosedError)
@@ -49,8 +53,11 @@ class Asked:
 class Cluster:
     """The workers, the program that each of them is to have, and what shows how far they are."""
 
-    def __init__(self, client, where, path, degree, progress):
+    def __init__(self, client, where, path, degree, progress, patience=SILENCE):
         self.client, self.where, self.path, self.degree, self.progress = client, where, path, degree, progress
+        self.patience = patience
+        # Of each worker: what the scheduler heard of it last, since when that is so, and how long a silence was spoken of.
+        self.heard = {}
         self.sum = program.sum_of(path)[1]
         self.looked, self.threads, self.empty_since = 0, 1, None
         self.look()
@@ -64,9 +71,27 @@ class Cluster:
         workers = self.client.scheduler_info()["workers"]
         self.threads = max(1, sum(it["nthreads"] for it in workers.values()))
         self.progress.has_workers(set(workers))
+        self.look_for_silence(workers, now)
         self.empty_since = None if workers else self.empty_since or now
         if not workers and now > self.empty_since + PATIENCE:
             raise own(f"{self.where}: no worker is left")
+
+    def look_for_silence(self, workers, now):
+        """Gives up a worker that hangs: the scheduler forgets it, and has its shards answered by others."""
+        self.heard = {it: self.heard[it] for it in workers if it in self.heard}
+        for address, worker in workers.items():
+            last, since, is_said = self.heard.get(address, (None, now, False))
+            if worker["last_seen"] != last:
+                self.heard[address] = worker["last_seen"], now, False
+            elif now >= since + self.patience:
+                self.progress.say(f"plinq-cluster: {self.where}: worker {address} is given up")
+                self.heard[address] = last, now, True
+                give_up = self.client.run_on_scheduler(program.give_up, address, self.patience, asynchronous=True)
+                asyncio.run_coroutine_threadsafe(give_up, self.client.loop.asyncio_loop)
+            elif not is_said and now >= since + min(SILENCE_IS_SAID, self.patience / 2):
+                self.heard[address] = last, since, True
+                waits = f"worker {address} says nothing, and is given up {self.patience} seconds after its last word"
+                self.progress.say(f"plinq-cluster: {self.where}: {waits}")
 
     def ask(self, shard, steps, aggregate=None, merge="not"):
         """Asks the workers what these steps make of a shard's source."""

@@ -42,7 +42,7 @@ def answered(args, errors):
     there = workers.remote(args.scheduler) if args.scheduler else workers.local(args.local or os.cpu_count())
     with there as client:
         progress = Progress(errors, client.dashboard_link if workers.has_dashboard() else None)
-        cluster = Cluster(client, f"scheduler {client.scheduler.address}", name, asked.degree, progress)
+        cluster = Cluster(client, f"scheduler {client.scheduler.address}", name, asked.degree, progress, args.patience)
         cut = Cut(args.shards, cluster.threads, elements_for(asked.steps, asked.aggregate))
         parts = of_text(*file, cut, args.text) if file else parts_of(asked.source, cut)
         try:

@@ -8,6 +8,7 @@ import os
 import select
 import shutil
 import subprocess
+import time
 
 # The last version, which has all that the others have.
 VERSION = 2
@@ -15,6 +16,13 @@ MOST_STEPS = 1_000
 # After how many seconds without output it is looked whether the shard is still wanted.
 LOOK = 0.2
 STATUSES = {"end": 0, "refused": 3, "fault": 4}
+
+
+async def give_up(address, patience, dask_scheduler=None):
+    """Runs on the scheduler: it forgets a worker that has said nothing for so many seconds, but doesn't blame what that did."""
+    worker = dask_scheduler.workers.get(address)
+    if worker is not None and time.time() - worker.last_seen >= patience / 2:
+        await dask_scheduler.remove_worker(address, stimulus_id=f"plinq-cluster-{time.time()}", safe=True)
 
 
 def files_of(path):

@@ -46,6 +46,13 @@ class Progress:
         self.stream.flush()
         self.is_open = True
 
+    def say(self, line):
+        """Writes a line that stays."""
+        if self.stream is not None:
+            self.clear()
+            self.stream.write(f"{line}\n")
+            self.stream.flush()
+
     def clear(self):
         """Takes the line back, before anything else is written to the terminal."""
         if self.is_open:

@@ -30,9 +30,9 @@ def end(process):
 class Machines:
     """A scheduler and its workers. All of them end with the `with` block."""
 
-    def __init__(self, folder, host="127.0.0.1", prefix=()):
+    def __init__(self, folder, host="127.0.0.1", prefix=(), env=()):
         self.folder, self.host, self.processes = folder, host, []
-        self.scheduler = self.start("scheduler", "dask-scheduler", [], "--host", host, "--port", "0", "--no-dashboard", prefix=prefix)
+        self.scheduler = self.start("scheduler", "dask-scheduler", env, "--host", host, "--port", "0", "--no-dashboard", prefix=prefix)
         self.address = self.wait_for("scheduler", r"Scheduler at:\s+(tcp://\S+)")
 
     def __enter__(self):
