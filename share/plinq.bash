@@ -17,13 +17,17 @@ _plinq() {
     esac
     case ${COMP_WORDS[at - 1]} in
         --merge) words='not auto full default' ;;
-        --workers | --cancel-after) words='' ;;
+        --workers) words=auto ;;
+        --cancel-after) words='' ;;
         *)
             if [ "$COMP_CWORD" = 1 ]; then
                 words='run seq plan parts history --help --version'
             else
                 words='--workers --merge --help'
-                [ "${COMP_WORDS[1]}" = run ] && words="$words --cancel-after"
+                case ${COMP_WORDS[1]} in
+                    run) words="$words --plain --cancel-after" ;;
+                    seq) words="$words --plain" ;;
+                esac
             fi
             ;;
     esac

@@ -240,7 +240,12 @@ def first_answers(place, tests):
 
 
 def first_inputs(place, tests):
-    for words in (["--help"], ["run", "-h"], []):
+    for words, name in ((["--help"], "plinq"), (["-h"], "plinq"), (["seq", "--help"], "seq"), (["run", "-h"], "run"), (["--version"], "version"), (["-V"], "version")):
+        place.write(f"share/help/{name}", f"the file {name}\n")
+        seen = place.run(*words, given="some\ninput")
+        tests.check(f"what {words} asks for stands in a file, and no rt is called", seen == (0, f"the file {name}\n", "", []), seen)
+    shutil.rmtree(f"{place.top}/share")
+    for words in (["run", "--workers", "2", "--help"], []):
         # (a pipe that nobody closes, as a terminal is)
         reading, writing = os.pipe()
         _, output, errors, calls = place.run(*words, stdin=reading)

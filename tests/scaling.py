@@ -99,7 +99,7 @@ def main():
         # what the page says of the operators and of a shard that fails
         first = '{"version":1,"source":{"range":[%d,2]},"query":[["as_ordered"],["%s",1]]}'
         for operator, whole in (("take", [0]), ("skip", [1, 2, 3])):
-            shards = [run(f"echo '{first % (start, operator)}' | plinq run --merge not | sed '$d'", folder)[1] for start in (0, 2)]
+            shards = [run(f"echo '{first % (start, operator)}' | plinq run --plain --merge not", folder)[1] for start in (0, 2)]
             seen = [int(it) for it in "".join(shards).split()]
             tests.check(f"shards of {operator} are not the whole answer", seen != whole, seen)
         with open(f"{folder}/bad", "w") as file:

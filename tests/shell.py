@@ -46,9 +46,10 @@ def main():
     tests.check("the program has a version", set(all_options) - set(options) == {"--version"}, all_options)
     merge_words = re.search(r"\[possible values: (.*)\]", text)[1].split(", ")
     status_lines = re.findall(r"^  (\d)  (.*)$", run(["--help"]).output.decode(), re.M)
-    tests.check("help has commands, options, words and statuses", (len(commands), set(options), len(merge_words), len(status_lines)) == (5, {"--workers", "--merge", "--cancel-after", "--help"}, 4, 5), (commands, options, merge_words, status_lines))
+    tests.check("help has commands, options, words and statuses", (len(commands), set(options), len(merge_words), len(status_lines)) == (5, {"--workers", "--merge", "--plain", "--cancel-after", "--help"}, 4, 5), (commands, options, merge_words, status_lines))
     for command in commands:
-        wanted = {name: about for name, about in options.items() if command == "run" or name != "--cancel-after"}
+        without = {"run": set(), "seq": {"--cancel-after"}}.get(command, {"--cancel-after", "--plain"})
+        wanted = {name: about for name, about in options.items() if name not in without}
         tests.check(f"{command} has the same options", described(run([command, "--help"]).output.decode(), "Options") == wanted)
 
     files = {}
@@ -83,14 +84,17 @@ def main():
     tests.check("bash completes the options", set(completed("plinq", "run", "--")) == set(options), completed("plinq", "run", "--"))
     tests.check("bash completes an option that was begun", completed("plinq", "seq", "--m") == ["--merge"], completed("plinq", "seq", "--m"))
     tests.check("bash completes the words of --merge", completed("plinq", "run", "--merge", "") == merge_words)
-    tests.check("bash completes no number", completed("plinq", "run", "--workers", "") == [])
+    tests.check("bash completes the word for a number of workers", completed("plinq", "run", "--workers", "") == ["auto"])
     tests.check("bash completes no number of batches", completed("plinq", "run", "--cancel-after", "") == [])
     tests.check("bash completes no cancellation of seq", "--cancel-after" not in completed("plinq", "seq", "--"), completed("plinq", "seq", "--"))
+    tests.check("bash completes no plain plan", "--plain" not in completed("plinq", "plan", "--"), completed("plinq", "plan", "--"))
 
     fish = files["plinq.fish"]
-    tests.check("fish has the commands", dict(re.findall(r"-a (\w+) -d '(.*)'", fish)) == commands, fish)
+    tests.check("fish has the commands", dict(re.findall(r"use_subcommand -a (\w+) -d '(.*)'", fish)) == commands, fish)
     tests.check("fish has the options", {f"--{it}" for it in re.findall(r"-l ([\w-]+)", fish)} == set(all_options), fish)
-    tests.check("fish has the words of --merge", re.findall(r"-l merge -x -a '(.*?)'", fish) == [" ".join(merge_words)], fish)
+    by_word = dict(re.findall(r"-l merge -x -a (\w+) -d '(.*)'", fish))
+    tests.check("fish has the words of --merge", list(by_word) == merge_words, fish)
+    tests.check("and says what each is for, as help does", all(re.search(rf"^  {it} +{re.escape(about)}$", text, re.M) for it, about in by_word.items()), by_word)
     zsh = files["_plinq"]
     tests.check("zsh has the commands", dict(re.findall(r'(\w+)\\:"(.*?)"', zsh)) == commands, zsh)
     tests.check("zsh has the options", set(re.findall(r"--\w[\w-]*(?=[=}']?[\[}])", zsh)) == set(all_options), zsh)

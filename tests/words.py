@@ -32,6 +32,15 @@ REFUSED = {
     "run --workers 65": "error: invalid value '65' for '--workers <N>': 65 is not in 1..=64\n" + MORE,
     "run --workers -1": "error: unexpected argument '-1' found\n" + OPTIONS,
     "run --workers=-1": "error: invalid value '-1' for '--workers <N>': invalid digit found in string\n" + MORE,
+    "run --workers Auto": "error: invalid value 'Auto' for '--workers <N>': invalid digit found in string\n" + MORE,
+    "run --workers=": "error: invalid value '' for '--workers <N>': cannot parse integer from empty string\n" + MORE,
+    "run --workers 2 --workers auto": "error: the argument '--workers <N>' cannot be used multiple times\n" + OPTIONS,
+    "run --workers auto --workers auto": "error: invalid value 'auto' for '--workers <N>': invalid digit found in string\n" + MORE,
+    "run --workers auto --merge some": "error: invalid value 'auto' for '--workers <N>': invalid digit found in string\n" + MORE,
+    "run --plain --plain": "error: the argument '--plain' cannot be used multiple times\n" + OPTIONS,
+    "run --plain=yes": "error: unexpected value 'yes' for '--plain' found; no more were expected\n" + OPTIONS,
+    "plan --plain": "error: unexpected argument '--plain' found\n\nUsage: plinq plan [OPTIONS] < DOCUMENT\n" + MORE,
+    "history --plain": "error: unexpected argument '--plain' found\n\nUsage: plinq history [OPTIONS] < DOCUMENT\n" + MORE,
     "run --workers x": "error: invalid value 'x' for '--workers <N>': invalid digit found in string\n" + MORE,
     "run --cancel-after -1": "error: unexpected argument '-1' found\n" + OPTIONS,
     "run --cancel-after=-1": "error: invalid value '-1' for '--cancel-after <N>': invalid digit found in string\n" + MORE,
@@ -42,95 +51,17 @@ REFUSED = {
     "run --merge some": "error: invalid value 'some' for '--merge <OPTION>'\n  [possible values: not, auto, full, default]\n" + MORE,
 }
 
-HELP = """Answers the query of a JSON document, which it reads from standard input
-
-Usage: plinq <COMMAND> [OPTIONS] < DOCUMENT
-
-Commands:
-  run      Answers the query
-  seq      Answers the query on one thread, whatever --workers says
-  plan     Shows how the query is shared among workers
-  parts    Shows the source cut into partitions
-  history  Shows the requests of partitions that take from the source in turn
-
-Options:
-  -h, --help     Print help
-  -V, --version  Print version
-
-Each command takes --workers N, from 1 to 64, and --merge with one of these words:
-  not      a line for each element
-  auto     lines of 16 elements
-  full     one line of all elements, where there are any and the answer comes to its end
-  default  as auto
-
-run takes --cancel-after N too, a whole number of at most 4294967295: once N lines of elements were written it stops, and
-writes "plinq: cancelled" on standard error and no ending. A number that isn't reached has no effect, nor has any with an
-aggregate.
-
-As many workers as there are cores answer soonest, and more cost little. Where --workers isn't given there are 4, or as
-many as the query asks for by with_degree.
-
-The first mistake of a refused document is shown, as these are:
-  not JSON         no JSON text of UTF-8, or one that is nested more than 127 deep
-  wrong shape      a name or a value is missing, or isn't one that a document may have
-  step K: unknown  step K of the query, counted from 0, is none of the steps, or has other values than that step
-plinq-check < DOCUMENT says where a mistake is, and what can stand there. By plinq.schema.json editors say it while one
-types. plan checks a document, and asks its source for nothing. man plinq has all sources, steps and formulas.
-
-A text that isn't whole numbers parted by spaces and line feeds ends in one of these:
-  refused 1  a token is no whole number, as a heading, 1.5 and 1,2 are none, nor one with a tab or a carriage return
-  refused 2  a whole number is outside 64 bits
-
-Exit status:
-  0  the answer came to its end, or help or the version was shown
-  2  the arguments or the document were refused
-  3  the source refused
-  4  a formula had a fault
-  5  memory ran out, no thread could be started, reading or writing failed, or a run broke off or was cancelled
-
-Example, which prints 4, 2, 5 and end, a line each:
-  echo '{"version":1,"source":{"list":[3,1,4]},"query":[["as_ordered"],["select","add",1]]}' | plinq run --merge not
-"""
-ABOUT = {
-    "run": "Answers the query",
-    "seq": "Answers the query on one thread, whatever --workers says",
-    "plan": "Shows how the query is shared among workers",
-    "parts": "Shows the source cut into partitions",
-    "history": "Shows the requests of partitions that take from the source in turn",
-}
-AFTER_COMMAND_HELP = """
-The words of --merge, by which results are handed over:
-  not      a line for each element
-  auto     lines of 16 elements, as where none is given
-  full     one line of all elements, where there are any and the answer comes to its end
-  default  as auto
-
-plinq --help says what else there is to know of commands, refused documents and statuses.
-"""
-COMMAND_HELP = """
-
-Usage: plinq {} [OPTIONS] < DOCUMENT
-
-Options:
-      --workers <N>     How many workers, from 1 to 64; 4 where none are given; best as many as cores
-      --merge <OPTION>  How results are handed over [possible values: not, auto, full, default]
-  -h, --help            Print help
-""" + AFTER_COMMAND_HELP
-RUN_HELP = """Answers the query
-
-Usage: plinq run [OPTIONS] < DOCUMENT
-
-Options:
-      --workers <N>       How many workers, from 1 to 64; 4 where none are given; best as many as cores
-      --merge <OPTION>    How results are handed over [possible values: not, auto, full, default]
-      --cancel-after <N>  Cancels the run once N lines of elements were written
-  -h, --help              Print help
-""" + AFTER_COMMAND_HELP
+ABOUT = ("run", "seq", "plan", "parts", "history")
 
 
-def help_of(command):
-    """The help of a command, of which `run` alone can be cancelled."""
-    return RUN_HELP if command == "run" else ABOUT[command] + COMMAND_HELP.format(command)
+def help_of(name):
+    """What help is to print: a file of share/help, which ./plinq shows as well where no program is built."""
+    with open(f"{ROOT}/share/help/{name}", encoding="utf-8") as file:
+        return file.read()
+
+
+HELP = help_of("plinq")
+RUN_HELP = help_of("run")
 
 
 def with_open_input(words):
@@ -167,6 +98,7 @@ def main():
         number = re.search(r"^## ([\d.]+), ", file.read(), re.M)[1]
     for word in ("--version", "-V"):
         ends([word], Outcome(0, f"plinq {number}\n".encode(), b""))
+    tests.check("the version that ./plinq shows where no program is built", help_of("version") == f"plinq {number}\n", help_of("version"))
 
     # (neither reads the input first)
     for words in ([], ["walk"], ["run", "--workers", "0"], ["seq", "more"]):

@@ -16,6 +16,7 @@ limit_memory() {
     # (what isn't a number of workers is refused later)
     case $workers in
         [1-9] | [1-6][0-9]) ;;
+        auto) workers=64 ;;
         *) workers=4 ;;
     esac
     # (in kB; more than any machine has)

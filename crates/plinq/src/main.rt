@@ -1,7 +1,8 @@
 //! `plinq`: answers a PLINQ query over a JSON document.
 #![tactic(auto)]
 
-use plinq_cli::perform;
+use plinq_cli::{WithCause, perform};
+use std::env::{Env, FillError};
 use std::io::{BufWriter, ErrorKind};
 use std::process::ExitCode;
 use std::{env, io};
@@ -9,23 +10,39 @@ use std::{env, io};
 /// How many bytes of output are held back until they are written.
 const HELD_BACK: usize = 65_536;
 
+/// What the scripts that start the program set where standard error is a terminal: a second line says why something failed.
+const EXPLAIN: &str = "PLINQ_EXPLAIN";
+
 fn main(rt: HostRuntime) -> ExitCode {
     let words = match words_of(&rt) {
         Ok(words) => words,
         Err(error) => return ExitCode::from(refuse(&rt, &error)),
     };
     let mut out = match BufWriter::with_capacity(rt.alloc(), HELD_BACK, rt.stdout()) {
-        Ok(out) => out,
+        Ok(out) => WithCause::new(out),
         Err(_) => return ExitCode::from(refuse_for_memory(&rt)),
     };
-    let status = perform(&rt, words, &mut rt.stdin(), &mut out, &mut rt.stderr());
+    let mut input = WithCause::new(rt.stdin());
+    let explains = is_set(&rt, EXPLAIN);
+    let mut err = rt.stderr();
+    let status = perform(&rt, words, explains, &mut input, &mut out, &mut err);
     // What it still holds is what a failing write kept back. Dropped, it would be written after the failure's line.
-    let (_stdout, _unwritten) = out.into_parts();
+    let WithCause { inner, .. } = out;
+    let (_stdout, _unwritten) = inner.into_parts();
     ExitCode::from(status)
 }
 
 fn words_of(rt: &HostRuntime) -> io::Result<Vec<String>> {
     Ok(env::args(rt)?.collect(rt.alloc())?)
+}
+
+/// Whether the environment has this name. Takes no memory.
+fn is_set(rt: &HostRuntime, name: &str) -> bool {
+    let mut start = [0; 1];
+    match rt.var(name, &mut start) {
+        Ok(_) | Err(FillError::TooLong) => true,
+        Err(FillError::NotPresent) => false,
+    }
 }
 
 /// Why the words couldn't be had: no memory for them, or they are no text.

@@ -16,6 +16,8 @@ use Rattle.clap.specs.declared.builder.value_parser.ValueParser.{ValueParser}
 use Rattle.clap.specs.declared.builder.value_parser.ValueParser.TheVariants as parser
 use Rattle.clap.specs.declared.builder.command.Command.{Command as ClapCommand}
 use Rattle.clap.specs.declared.error.Error.{Error}
+use Rattle.clap.specs.declared.error.kind.ErrorKind.{ErrorKind}
+use Rattle.clap.specs.declared.error.kind.ErrorKind.TheVariants.{OutOfMemory, ValueValidation}
 use Rattle.clap.specs.declared.parser.matches.ArgMatches.{ArgMatches}
 use Rattle.clap.proofs.WalkLemmas.{both, first_value-rows, one_text-rows}
 use Rattle.clap.proofs.ValueTestLemmas.{accepts-Accepts, Accepts-accepts}
@@ -25,21 +27,32 @@ use Rattle.plinq_settings.specs.Degrees.{degree_of}
 use Rattle.plinq_ops.specs.Query.{is_degree}
 use Rattle.std.proofs.lemmas.Bool.{le-leb}
 use Rattle.std.proofs.lemmas.Bool.Decides.{nat_tests}
-use Rattle.plinq_arguments.specs.Arguments.{AddsItsShape, IsAsked, Refuses, TakesOnly, arguments_in, arguments_of, arguments_with, command_names}
+use Rattle.plinq_arguments.specs.Arguments.{AddsItsShape, IsAsked, IsAskedBy, IsAuto, IsRefusedBy, Refuses, RefusesBy, TakesOnly}
+use Rattle.plinq_arguments.specs.Arguments.{numbers, arguments_in, arguments_of, arguments_with, command_names}
+use Rattle.plinq_arguments.specs.Arguments.{auto_words, cores_of, flag_words, plain_of}
 use Rattle.plinq_arguments.specs.Arguments.{kinds_of, cancel_in, cancel_of, merge_of, merge_words, plinq_app, with_command, workers_in, workers_of}
 use Rattle.plinq_arguments.specs.declared.arguments.Arguments.{Arguments}
 
 -- the program's command line is one of which `clap` reports the matches and the faults
-pub is_plain : (q : ValueParser) → is_simple_and_free (plinq_app q) ≡ true
-is_plain q = refl
+pub is_plain : (w q : ValueParser) → is_simple_and_free (plinq_app w q) ≡ true
+is_plain w q = refl
 
-pub is_simple_line : (q : ValueParser) → is_simple (plinq_app q) ≡ true
-is_simple_line q = refl
+pub is_simple_line : (w q : ValueParser) → is_simple (plinq_app w q) ≡ true
+is_simple_line w q = refl
 
 -- the merge option of the text that was found
 pub merge_read : (m : ArgMatches) (o : Option Text) → o ≡ first_value (found_of m) (codes "merge")
     → option_and_then merge_named o ≡ merge_of (rows_of (found_of m))
 merge_read m o is = ap (option_and_then merge_named) (is ∙ first_value-rows (found_of m) (codes "merge"))
+
+-- whether as many workers as cores are asked for, and elements alone
+pub cores_read : (m : ArgMatches) (o : Option Text) → o ≡ first_value (found_of m) (codes "workers")
+    → option_and_then (beside auto_words) o ≡ cores_of (rows_of (found_of m))
+cores_read m o is = ap (option_and_then (beside auto_words)) (is ∙ first_value-rows (found_of m) (codes "workers"))
+
+pub plain_read : (m : ArgMatches) (o : Option Text) → o ≡ first_value (found_of m) (codes "plain")
+    → option_and_then (beside flag_words) o ≡ plain_of (rows_of (found_of m))
+plain_read m o is = ap (option_and_then (beside flag_words)) (is ∙ first_value-rows (found_of m) (codes "plain"))
 
 text_read : (m : ArgMatches) (o : Option Text) → one_text (found_of m) (codes "workers") ≡ o → workers_of (rows_of (found_of m)) ≡ option_and_then workers_in o
 text_read m o is = ap (option_and_then workers_in) (sym (one_text-rows (found_of m) (codes "workers")) ∙ is)
@@ -205,10 +218,10 @@ named (s ∷ subs) p words all = go (p s) (named_here s words (both _ _ all).0) 
     go true here rest = here
     go false here rest = rest
 
-entered_named : (q : ValueParser) (stop : Option (Text × List Text)) → is_some (entered (built (plinq_app q)) stop) ≡ true
-    → is_some (option_and_then arguments_in (entered (built (plinq_app q)) stop)) ≡ true
-entered_named q None is = is
-entered_named q (Some met) is = named (built (plinq_app q)).subs (λ s. answers_to met.0 (label_of s)) met.1 refl is
+entered_named : (w q : ValueParser) (stop : Option (Text × List Text)) → is_some (entered (built (plinq_app w q)) stop) ≡ true
+    → is_some (option_and_then arguments_in (entered (built (plinq_app w q)) stop)) ≡ true
+entered_named w q None is = is
+entered_named w q (Some met) is = named (built (plinq_app w q)).subs (λ s. answers_to met.0 (label_of s)) met.1 refl is
 
 level_enters : (s : Shape) (names : Names) (h : Held) (words : List Text) (has : Bool) (below : Kinds) → s.subcommand_required ≡ true
     → level_fault s names h words has below ≡ [] → has ≡ true
@@ -223,19 +236,19 @@ level_enters s names h words has below needed none =
     let after_settling : or_else defaults checks ≡ [] = last_empty settling (or_else defaults checks) after_level in
     has_subcommand s (finished s.rules end) has needed (last_empty defaults checks after_settling)
 
-pub asks : (q : ValueParser) (words : List Text) → kinds_of q words ≡ [] → is_some (arguments_of q words) ≡ true
-asks q words none =
-    let app = built (plinq_app q) in
-    let stop = stop_after app.top.rules (names_of app) (argument_words (plinq_app q) words) in
-    entered_named q stop
-    (level_enters app.top (names_of app) nothing_held (argument_words (plinq_app q) words) (is_some (entered app stop)) (entered_fault app stop) refl none)
+pub asks : (w q : ValueParser) (words : List Text) → kinds_of w q words ≡ [] → is_some (arguments_of w q words) ≡ true
+asks w q words none =
+    let app = built (plinq_app w q) in
+    let stop = stop_after app.top.rules (names_of app) (argument_words (plinq_app w q) words) in
+    entered_named w q stop
+    (level_enters app.top (names_of app) nothing_held (argument_words (plinq_app w q) words) (is_some (entered app stop)) (entered_fault app stop) refl none)
 
 -- ---- the program's command line
 
 -- just these words are taken
-pub takes_only : (q : ValueParser) (names : Bor (List (Bor (List ℕ)))) → q ≡ parser.Names names → map (λ name. name.now) names.now ≡ merge_words
-    → TakesOnly merge_words q
-takes_only q names is words = subst (TakesOnly merge_words) (sym is) words
+pub takes_only : (texts : List Text) (q : ValueParser) (names : Bor (List (Bor (List ℕ)))) → q ≡ parser.Names names
+    → map (λ name. name.now) names.now ≡ texts → TakesOnly texts q
+takes_only texts q names is words = subst (TakesOnly texts) (sym is) words
 
 -- one more subcommand
 pub added : (old sub new : ClapCommand) (app sub_app : App) → AddsItsShape sub × (app_of sub ≡ sub_app) → AddsSubcommand old sub new → app_of old ≡ app
@@ -245,33 +258,71 @@ added old sub new app sub_app has adds was = has.0 old new adds ∙ ap₂ with_s
 -- ---- the words, from a parse that succeeds and from one that fails
 
 -- what the subcommand asks for is what the words ask for
-pub asked : (q : ValueParser) (app : App) (words : List Text) (m : ArgMatches) (r : Option Arguments) → app ≡ plinq_app q → HasMatchesOf app words m
-    → r ≡ option_and_then arguments_in (subcommand_rows_of m) → arguments_of q words ≡ r
-asked q app words m r is has chosen =
+pub asked : (w q : ValueParser) (app : App) (words : List Text) (m : ArgMatches) (r : Option Arguments) → app ≡ plinq_app w q → HasMatchesOf app words m
+    → r ≡ option_and_then arguments_in (subcommand_rows_of m) → arguments_of w q words ≡ r
+asked w q app words m r is has chosen =
     sym (ap (λ (a : App). option_and_then arguments_in (subcommand_of a words)) is)
-    ∙ (ap (option_and_then arguments_in) (sym (has (ap is_simple is ∙ is_simple_line q)).1) ∙ sym chosen)
+    ∙ (ap (option_and_then arguments_in) (sym (has (ap is_simple is ∙ is_simple_line w q)).1) ∙ sym chosen)
 
 -- no fault in the words
-pub no_fault : (q : ValueParser) (app : App) (words : List Text) → app ≡ plinq_app q → (is_simple_and_free app ≡ true → fault_of app words ≡ [])
-    → kinds_of q words ≡ []
-no_fault q app words is none = sym (ap (λ (a : App). fault_of a words) is) ∙ none (ap is_simple_and_free is ∙ is_plain q)
+pub no_fault : (w q : ValueParser) (app : App) (words : List Text) → app ≡ plinq_app w q → (is_simple_and_free app ≡ true → fault_of app words ≡ [])
+    → kinds_of w q words ≡ []
+no_fault w q app words is none = sym (ap (λ (a : App). fault_of a words) is) ∙ none (ap is_simple_and_free is ∙ is_plain w q)
 
 -- words without a fault ask for something
-pub never_nothing : (q : ValueParser) (words : List Text) (r : Option Arguments) → arguments_of q words ≡ r → r ≡ None → kinds_of q words ≡ [] → ⊥
-never_nothing q words r is nothing none =
-    let bad : false ≡ true = sym (ap is_some (is ∙ nothing)) ∙ asks q words none in
+pub never_nothing : (w q : ValueParser) (words : List Text) (r : Option Arguments) → arguments_of w q words ≡ r → r ≡ None → kinds_of w q words ≡ [] → ⊥
+never_nothing w q words r is nothing none =
+    let bad : false ≡ true = sym (ap is_some (is ∙ nothing)) ∙ asks w q words none in
     cc
 
 -- an error of the parse
-pub refused : (q : ValueParser) (app : App) (words : List Text) (r : Result Arguments Error) (x e : Error) → TakesOnly merge_words q → app ≡ plinq_app q
+pub refused : (w q : ValueParser) (app : App) (words : List Text) (r : Result Arguments Error) (x e : Error) → TakesOnly merge_words q → app ≡ plinq_app w q
     → (is_simple_and_free app ≡ true → HasKind (fault_of app words) e) → r ≡ Err x → x ≡ e
-    → MatchResult r (IsAsked words) (λ f. Refuses words (kind_of f))
-refused q app words r x e takes is fails err from =
-    subst (λ (y : Result Arguments Error). MatchResult y (IsAsked words) (λ f. Refuses words (kind_of f))) (sym (err ∙ ap Err from))
-    (go (fails (ap is_simple_and_free is ∙ is_plain q)))
+    → MatchResult r (IsAskedBy w words) (λ f. RefusesBy w words (kind_of f))
+refused w q app words r x e takes is fails err from =
+    subst (λ (y : Result Arguments Error). MatchResult y (IsAskedBy w words) (λ f. RefusesBy w words (kind_of f))) (sym (err ∙ ap Err from))
+    (go (fails (ap is_simple_and_free is ∙ is_plain w q)))
   where
-    go : HasKind (fault_of app words) e → Refuses words (kind_of e)
+    go : HasKind (fault_of app words) e → RefusesBy w words (kind_of e)
     go h = elim h [
       | inl memory ↦ inl memory
       | inr among ↦ inr (q, takes, subst (λ (a : App). IsAmong (kind_of e) (fault_of a words)) is among)
     ]
+
+-- ---- a number of workers, or the word in its place
+
+-- memory isn't a value
+no_memory : (kind : ErrorKind) → kind ≡ ValueValidation → kind ≡ OutOfMemory → ⊥
+no_memory kind value memory = let bad : ValueValidation ≡ OutOfMemory = sym value ∙ memory in cc
+
+-- words that are refused, unless memory ran out
+refused_so : (w : ValueParser) (words : List Text) (kind : ErrorKind) → RefusesBy w words kind → (kind ≡ OutOfMemory → ⊥) → IsRefusedBy w words kind
+refused_so w words kind (inl memory) none = absurd (none memory)
+refused_so w words kind (inr refusal) none = refusal
+
+-- they are refused for a value of theirs
+refused_value : (w : ValueParser) (words : List Text) (kind : ErrorKind) → w ≡ numbers → RefusesBy w words kind → kind ≡ ValueValidation
+    → IsRefusedBy numbers words kind
+refused_value w words kind is refuses value =
+    refused_so numbers words kind (subst (λ x. RefusesBy x words kind) is refuses) (no_memory kind value)
+
+pub asked_number : (w : ValueParser) (words : List Text) (arguments : Arguments) → w ≡ numbers → IsAskedBy w words arguments → IsAsked words arguments
+asked_number w words arguments is taken = inl (subst (λ x. IsAskedBy x words arguments) is taken)
+
+pub refused_otherwise : (w : ValueParser) (words : List Text) (kind : ErrorKind) → w ≡ numbers → RefusesBy w words kind → (kind ≡ ValueValidation → ⊥)
+    → Refuses words kind
+refused_otherwise w words kind is refuses other = go (subst (λ x. RefusesBy x words kind) is refuses)
+  where
+    go : RefusesBy numbers words kind → Refuses words kind
+    go (inl memory) = inl memory
+    go (inr refusal) = inr (refusal, λ value. absurd (other value))
+
+pub asked_word : (w v : ValueParser) (words : List Text) (kind : ErrorKind) (arguments : Arguments) → w ≡ numbers → RefusesBy w words kind
+    → kind ≡ ValueValidation → IsAuto v → IsAskedBy v words arguments → IsAsked words arguments
+asked_word w v words kind arguments is refuses value auto taken =
+    inr (subst (IsRefusedBy numbers words) value (refused_value w words kind is refuses value), (v, auto, taken))
+
+pub refused_word : (w v : ValueParser) (words : List Text) (kind other : ErrorKind) → w ≡ numbers → RefusesBy w words kind → kind ≡ ValueValidation
+    → IsAuto v → RefusesBy v words other → (other ≡ OutOfMemory → ⊥) → Refuses words kind
+refused_word w v words kind other is refuses value auto again none =
+    inr (refused_value w words kind is refuses value, λ same. (v, auto, other, refused_so v words other again none))

@@ -6,6 +6,10 @@ use plinq_settings::Settings;
 pub struct Arguments {
     /// The subcommand.
     pub command: Command,
-    /// The options.
+    /// The options of the query.
     pub settings: Settings,
+    /// `--workers auto`: as many workers as the process may use cores. The settings have no number of workers then.
+    pub cores: bool,
+    /// `--plain`: elements alone are printed.
+    pub plain: bool,
 }

@@ -2,17 +2,22 @@ ghost use Rattle.std.specs.Prelude.{◌≡◌, false, map, option_and_then, IfOk
 ghost use Rattle.std.specs.String.{string_bytes};
 ghost use Rattle.clap.specs.Words.{app_of, found_of, kind_of, rows_of, rule_of, subcommand_rows_of};
 ghost use Rattle.plinq_words.specs.Tables.{beside};
-ghost use Rattle.plinq_arguments.specs.Arguments.{AddsItsShape, IsAsked, IsPlinq, Refuses, arguments_in, bare_app, cancel_of, cancel_rule};
-ghost use Rattle.plinq_arguments.specs.Arguments.{command_names, merge_of, merge_rule, run_app, subcommand_app, with_command, workers_of, workers_rule};
+ghost use Rattle.plinq_arguments.specs.Arguments.{AddsItsShape, IsAsked, IsAskedBy, IsPlinq, Refuses, RefusesBy, arguments_in};
+ghost use Rattle.plinq_arguments.specs.Arguments.{bare_app, cancel_of, cancel_rule};
+ghost use Rattle.plinq_arguments.specs.Arguments.{command_names, cores_of, flag_words, merge_of, merge_rule, plain_of, plain_rule, run_app, seq_app};
+ghost use Rattle.plinq_arguments.specs.Arguments.{auto_words, subcommand_app, with_command, workers_of, workers_rule};
 
 use crate::arguments::Arguments;
 use crate::command::Command;
 use clap::builder::ValueParser;
 use clap::error::ErrorKind;
-use clap::{Arg, ArgMatches};
+use clap::{Arg, ArgAction, ArgMatches};
 use plinq_ops::MergeOption;
 use plinq_settings::{Degree, Settings};
 use std::alloc::{AllocError, Global};
+
+/// The greatest number of workers.
+const MOST_WORKERS: u64 = 64;
 
 /// The greatest number of batches after which a run can be cancelled.
 const MOST_BATCHES: u64 = 4_294_967_295;
@@ -22,27 +27,32 @@ const VERSION: &str = "1.3";
 
 static MERGE_WORDS: [&str; 4] = ["not", "auto", "full", "default"];
 
+static AUTO_WORDS: [&str; 1] = ["auto"];
+
 /// What stands at the end of the program's help.
 const AFTER_HELP: &str =
-    r#"Each command takes --workers N, from 1 to 64, and --merge with one of these words:
+    r#"Each command takes --workers with a number from 1 to 64 or auto, and --merge with one of these words:
   not      a line for each element
   auto     lines of 16 elements
-  full     one line of all elements, where there are any and the answer comes to its end
+  full     all elements on one line, if the query succeeds
   default  as auto
 
 run takes --cancel-after N too, a whole number of at most 4294967295: once N lines of elements were written it stops, and
 writes "plinq: cancelled" on standard error and no ending. A number that isn't reached has no effect, nor has any with an
 aggregate.
 
-As many workers as there are cores answer soonest, and more cost little. Where --workers isn't given there are 4, or as
-many as the query asks for by with_degree.
+run and seq take --plain too, which prints elements or the aggregate's value alone. An ending other than "end" is a line on
+standard error then, and a second line says what to do about it. When its reader has gone, the run ends without a message.
+
+As many workers as there are cores answer soonest, and more cost little: --workers auto takes as many as the process may use,
+by its affinity and its container's quota. Without --workers there are 4, or as many as the query asks for by with_degree.
 
 The first mistake of a refused document is shown, as these are:
   not JSON         no JSON text of UTF-8, or one that is nested more than 127 deep
   wrong shape      a name or a value is missing, or isn't one that a document may have
   step K: unknown  step K of the query, counted from 0, is none of the steps, or has other values than that step
-plinq-check < DOCUMENT says where a mistake is, and what can stand there. By plinq.schema.json editors say it while one
-types. plan checks a document, and asks its source for nothing. man plinq has all sources, steps and formulas.
+plinq-check < DOCUMENT says where a mistake is, and what can stand there. Editors can use plinq.schema.json. plan checks
+a document, and asks its source for nothing. man plinq has all sources, steps and formulas.
 
 A text that isn't whole numbers parted by spaces and line feeds ends in one of these:
   refused 1  a token is no whole number, as a heading, 1.5 and 1,2 are none, nor one with a tab or a carriage return
@@ -62,7 +72,7 @@ Example, which prints 4, 2, 5 and end, a line each:
 const AFTER_COMMAND_HELP: &str = r#"The words of --merge, by which results are handed over:
   not      a line for each element
   auto     lines of 16 elements, as where none is given
-  full     one line of all elements, where there are any and the answer comes to its end
+  full     all elements on one line, if the query succeeds
   default  as auto
 
 plinq --help says what else there is to know of commands, refused documents and statuses."#;
@@ -76,7 +86,35 @@ plinq --help says what else there is to know of commands, refused documents and 
 pub fn read_arguments(alloc: Global, words: &[String]) -> Result<Arguments, clap::Error>
     ensures { MatchResult result (IsAsked (map string_bytes words.now)) (λ e. Refuses (map string_bytes words.now) (kind_of e)) }
 {
-    let mut app = command_line(alloc)?;
+    let refusal = match read_by(alloc, ValueParser::unsigned(1, MOST_WORKERS), words) {
+        Ok(arguments) => return Ok(arguments),
+        Err(refusal) => refusal,
+    };
+    if refusal.kind() != ErrorKind::ValueValidation {
+        return Err(refusal);
+    }
+    // (a value is no number, or too large or small: it may be the word)
+    match read_by(alloc, ValueParser::from(AUTO_WORDS.as_slice()), words) {
+        Ok(arguments) => Ok(arguments),
+        Err(other) if other.kind() == ErrorKind::OutOfMemory => Err(other),
+        Err(_) => Err(refusal),
+    }
+}
+
+/// Reads a command line whose `--workers` takes what passes this parser.
+///
+/// # Errors
+///
+/// As of [`read_arguments`].
+fn read_by(
+    alloc: Global,
+    workers: ValueParser<'_>,
+    words: &[String],
+) -> Result<Arguments, clap::Error>
+    ensures { MatchResult result (IsAskedBy workers.entry (map string_bytes words.now))
+        (λ e. RefusesBy workers.entry (map string_bytes words.now) (kind_of e)) }
+{
+    let mut app = command_line(alloc, workers)?;
     let matches = app.try_get_matches_from_mut(words)?;
     match chosen(&matches) {
         Some(arguments) => Ok(arguments),
@@ -85,25 +123,22 @@ pub fn read_arguments(alloc: Global, words: &[String]) -> Result<Arguments, clap
 }
 
 /// The program's command line.
-fn command_line<'a>(alloc: Global) -> Result<clap::Command<'a>, AllocError>
-    ensures { IfOk result (λ app. IsPlinq (app_of app)) }
+fn command_line<'a>(
+    alloc: Global,
+    workers: ValueParser<'a>,
+) -> Result<clap::Command<'a>, AllocError>
+    ensures { IfOk result (λ app. IsPlinq workers.entry (app_of app)) }
 {
     let merge = ValueParser::from(MERGE_WORDS.as_slice());
-    let with_run = bare_command(alloc).subcommand(run_command(alloc, merge)?)?;
-    let with_seq = with_subcommand(
-        alloc,
-        with_run,
-        "seq",
-        "plinq seq [OPTIONS] < DOCUMENT",
-        "Answers the query on one thread, whatever --workers says",
-        merge,
-    )?;
+    let with_run = bare_command(alloc).subcommand(run_command(alloc, workers, merge)?)?;
+    let with_seq = with_run.subcommand(seq_command(alloc, workers, merge)?)?;
     let with_plan = with_subcommand(
         alloc,
         with_seq,
         "plan",
         "plinq plan [OPTIONS] < DOCUMENT",
         "Shows how the query is shared among workers",
+        workers,
         merge,
     )?;
     let with_parts = with_subcommand(
@@ -112,6 +147,7 @@ fn command_line<'a>(alloc: Global) -> Result<clap::Command<'a>, AllocError>
         "parts",
         "plinq parts [OPTIONS] < DOCUMENT",
         "Shows the source cut into partitions",
+        workers,
         merge,
     )?;
     with_subcommand(
@@ -120,6 +156,7 @@ fn command_line<'a>(alloc: Global) -> Result<clap::Command<'a>, AllocError>
         "history",
         "plinq history [OPTIONS] < DOCUMENT",
         "Shows the requests of partitions that take from the source in turn",
+        workers,
         merge,
     )
 }
@@ -144,29 +181,52 @@ fn with_subcommand<'a>(
     name: &'a str,
     usage: &'a str,
     about: &'a str,
+    workers: ValueParser<'a>,
     merge_words: ValueParser<'a>,
 ) -> Result<clap::Command<'a>, AllocError>
-    ensures { IfOk result (λ app. app_of app ≡ with_command (app_of line.entry) (subcommand_app merge_words.entry name.entry.now)) }
+    ensures { IfOk result (λ app. app_of app ≡ with_command (app_of line.entry) (subcommand_app workers.entry merge_words.entry name.entry.now)) }
 {
-    let sub = subcommand(alloc, name, usage, about, merge_words)?;
+    let sub = subcommand(alloc, name, usage, about, workers, merge_words)?;
     line.subcommand(sub)
 }
 
 /// The command line of `run`, which alone can be cancelled.
 fn run_command<'a>(
     alloc: Global,
+    workers: ValueParser<'a>,
     merge_words: ValueParser<'a>,
 ) -> Result<clap::Command<'a>, AllocError>
-    ensures { IfOk result (λ s. AddsItsShape s × (app_of s ≡ run_app merge_words.entry)) }
+    ensures { IfOk result (λ s. AddsItsShape s × (app_of s ≡ run_app workers.entry merge_words.entry)) }
 {
     let run = subcommand(
         alloc,
         "run",
         "plinq run [OPTIONS] < DOCUMENT",
         "Answers the query",
+        workers,
         merge_words,
     )?;
-    run.arg(cancel_after_option(alloc))
+    let with_plain = run.arg(plain_option(alloc))?;
+    with_plain.arg(cancel_after_option(alloc))
+}
+
+/// The command line of `seq`.
+fn seq_command<'a>(
+    alloc: Global,
+    workers: ValueParser<'a>,
+    merge_words: ValueParser<'a>,
+) -> Result<clap::Command<'a>, AllocError>
+    ensures { IfOk result (λ s. AddsItsShape s × (app_of s ≡ seq_app workers.entry merge_words.entry)) }
+{
+    let seq = subcommand(
+        alloc,
+        "seq",
+        "plinq seq [OPTIONS] < DOCUMENT",
+        "Answers the query on one thread, whatever --workers says",
+        workers,
+        merge_words,
+    )?;
+    seq.arg(plain_option(alloc))
 }
 
 /// A subcommand that has the two options of the settings.
@@ -175,29 +235,32 @@ fn subcommand<'a>(
     name: &'a str,
     usage: &'a str,
     about: &'a str,
+    workers: ValueParser<'a>,
     merge_words: ValueParser<'a>,
 ) -> Result<clap::Command<'a>, AllocError>
     ensures { IfOk result (λ s. AddsItsShape s
-        × (app_of s ≡ subcommand_app merge_words.entry name.entry.now)) }
+        × (app_of s ≡ subcommand_app workers.entry merge_words.entry name.entry.now)) }
 {
     clap::Command::new(alloc, name)
         .override_usage(usage)
         .about(about)
         .after_help(AFTER_COMMAND_HELP)
-        .arg(workers_option(alloc))?
+        .arg(workers_option(alloc, workers))?
         .arg(merge_option(alloc, merge_words))
 }
 
-/// `--workers`, which the command has of its own and hands on to none.
-fn workers_option<'a>(alloc: Global) -> Arg<'a>
-    ensures rule { rule_of result ≡ workers_rule }
+/// `--workers`, which subcommands don't inherit.
+fn workers_option<'a>(alloc: Global, workers: ValueParser<'a>) -> Arg<'a>
+    ensures rule { rule_of result ≡ workers_rule workers.entry }
     ensures own { result.global ≡ false }
 {
     Arg::new(alloc, "workers")
         .long("workers")
         .value_name("N")
-        .help("How many workers, from 1 to 64; 4 where none are given; best as many as cores")
-        .value_parser(ValueParser::unsigned(1, 64))
+        .help(
+            "How many workers, from 1 to 64, or auto for as many as cores; 4 where none are given",
+        )
+        .value_parser(workers)
 }
 
 /// `--merge`, which takes one of these words.
@@ -224,6 +287,17 @@ fn cancel_after_option<'a>(alloc: Global) -> Arg<'a>
         .value_parser(ValueParser::unsigned(0, MOST_BATCHES))
 }
 
+/// `--plain`, which `run` and `seq` have.
+fn plain_option<'a>(alloc: Global) -> Arg<'a>
+    ensures rule { rule_of result ≡ plain_rule }
+    ensures own { result.global ≡ false }
+{
+    Arg::new(alloc, "plain")
+        .long("plain")
+        .help("Prints elements alone; an ending other than end goes to standard error")
+        .action(ArgAction::SetTrue)
+}
+
 fn chosen(matches: &ArgMatches<'_>) -> Option<Arguments>
     ensures { result ≡ option_and_then arguments_in (subcommand_rows_of matches.now) }
 {
@@ -235,6 +309,8 @@ fn chosen(matches: &ArgMatches<'_>) -> Option<Arguments>
             merge: merge_of(options),
             cancel_after: cancel_of(options),
         },
+        cores: cores_of(options).unwrap_or(false),
+        plain: plain_of(options).unwrap_or(false),
     })
 }
 
@@ -274,4 +350,38 @@ fn merge_of(options: &ArgMatches<'_>) -> Option<MergeOption>
     ensures { result ≡ merge_of (rows_of (found_of options.now)) }
 {
     MergeOption::named(options.get_str("merge")?)
+}
+
+/// Whether as many workers as cores are asked for, if any number or word is.
+fn cores_of(options: &ArgMatches<'_>) -> Option<bool>
+    ensures { result ≡ cores_of (rows_of (found_of options.now)) }
+{
+    is_auto(options.get_str("workers")?)
+}
+
+fn is_auto(word: &str) -> Option<bool>
+    ensures { result ≡ beside auto_words word.now }
+{
+    match word {
+        "auto" => Some(true),
+        _ => None,
+    }
+}
+
+/// Whether elements alone are asked for, where the command has that flag.
+fn plain_of(options: &ArgMatches<'_>) -> Option<bool>
+    ensures { result ≡ plain_of (rows_of (found_of options.now)) }
+{
+    flag_of(options.get_str("plain")?)
+}
+
+/// What a flag was set to.
+fn flag_of(word: &str) -> Option<bool>
+    ensures { result ≡ beside flag_words word.now }
+{
+    match word {
+        "true" => Some(true),
+        "false" => Some(false),
+        _ => None,
+    }
 }

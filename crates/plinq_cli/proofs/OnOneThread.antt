@@ -1,6 +1,6 @@
 -- What one thread reports, and has written: the lines of the answer's batches, or where it failed a beginning of them.
 use Rattle.std.specs.Prelude.{⊤, IfOk}
-use Rattle.std.proofs.Common.{◌≡◌, ℕ, ℤ, List, ◌++◌, Some, None, Result, Ok, Err, refl, ap, sym, ◌∙◌, subst}
+use Rattle.std.proofs.Common.{◌≡◌, Bool, ℕ, ℤ, List, ◌++◌, Some, None, Result, Ok, Err, refl, ap, sym, ◌∙◌, subst}
 use Rattle.std.specs.Result.{IsErr}
 use Rattle.std.specs.Io.KnownBytes.{Appends, Keeps}
 use Rattle.std.proofs.KnownBytes.{Appends-kept, Appends-trans}
@@ -18,7 +18,6 @@ use Rattle.plinq_ops.specs.Sequential.{answer_of}
 use Rattle.plinq_document.specs.Jobs.{JobView}
 use Rattle.plinq_lines.specs.declared.write_fault.WriteFault.{WriteFault}
 use Rattle.plinq_lines.specs.LineSink.{Lines, TakesLine, RefusesLine}
-use Rattle.plinq_lines.specs.AnswerText.{line, ending_words, ending_line, answer_text}
 use Rattle.plinq_lines.specs.Written.{AppendsBeginning}
 use Rattle.plinq_lines.proofs.LinesTaken.{taken-lines, short-lines}
 use Rattle.plinq_lines.proofs.WrittenBytes.{Bytes, appends-as, begins-all, begins-after, begins-append, begins-as}
@@ -26,7 +25,7 @@ use Rattle.plinq_arguments.specs.declared.command.Command.TheVariants.{Seq}
 use Rattle.plinq_cli.specs.declared.serve_fault.ServeFault.{ServeFault}
 use Rattle.plinq_cli.specs.ServeFaults.{told_of_one}
 use Rattle.plinq_cli.specs.Served.{batch_lines, sequential_answer, HasWritten, IsText, Serves}
-use Rattle.plinq_cli.specs.Told.{told_text}
+use Rattle.plinq_cli.specs.Told.{last_line, told_text}
 use Rattle.plinq_cli.specs.inner.WrittenAnswer.{HasWrittenAnswer}
 use Rattle.plinq_cli.proofs.Flushed.{serves-begun}
 
@@ -75,32 +74,32 @@ module _ (q : QueryView Formula) (t : Trace ℤ) (a b : Bytes) (s s' : Lines) (s
 
 -- ---- the line of the ending after them
 
-module _ (j job : JobView) (same : j ≡ job) (items : job.aggregate ≡ None) where
+module _ (plain : Bool) (j job : JobView) (same : j ≡ job) (items : job.aggregate ≡ None) where
   abbrev text : List ℕ
-  text = answer_text (merge_in_force j.query.merge) (sequential_answer j)
+  text = told_text plain None (merge_in_force j.query.merge) (sequential_answer j)
 
-  is-text : IsText Seq j (sequential_answer j) text
-  is-text = ap (λ kind. told_text kind (merge_in_force j.query.merge) (sequential_answer j)) (sym (ap (λ (x : JobView). x.aggregate) same ∙ items))
+  is-text : IsText plain Seq j (sequential_answer j) text
+  is-text = ap (λ kind. told_text plain kind (merge_in_force j.query.merge) (sequential_answer j)) (sym (ap (λ (x : JobView). x.aggregate) same ∙ items))
 
   -- where it fails, a beginning of its lines is written
   pub answer-failed : (a b : Bytes) (r : Result Ending ServeFault) → IsErr r → AppendsBeginning a b (batch_lines j.query.merge (sequential_answer j))
-      → Serves Seq job a b r
+      → Serves plain Seq job a b r
   answer-failed a b r failed begun =
-      subst (λ (x : JobView). Serves Seq x a b r) same
-      (serves-begun Seq j a b r (sequential_answer j) text failed refl is-text (begins-append a b _ (ending_line (sequential_answer j).ending) begun))
+      subst (λ (x : JobView). Serves plain Seq x a b r) same
+      (serves-begun plain Seq j a b r (sequential_answer j) text failed refl is-text (begins-append a b _ (last_line plain (sequential_answer j).ending) begun))
 
   module _ (a m b : Bytes) (e : Ending) (lines : Appends a m (batch_lines j.query.merge (sequential_answer j)))
       (ends : (sequential_answer j).ending ≡ Some e) where
-    end : (batch_lines j.query.merge (sequential_answer j) ++ line (ending_words e)) ≡ text
-    end = ap (λ x. batch_lines j.query.merge (sequential_answer j) ++ ending_line x) (sym ends)
+    end : (batch_lines j.query.merge (sequential_answer j) ++ last_line plain (Some e)) ≡ text
+    end = ap (λ x. batch_lines j.query.merge (sequential_answer j) ++ last_line plain x) (sym ends)
 
     -- where the line of the ending fails, all lines of batches and a beginning of that one are written
-    pub last-failed : (r : Result Ending ServeFault) → IsErr r → AppendsBeginning m b (line (ending_words e)) → Serves Seq job a b r
+    pub last-failed : (r : Result Ending ServeFault) → IsErr r → AppendsBeginning m b (last_line plain (Some e)) → Serves plain Seq job a b r
     last-failed r failed begun =
-        subst (λ (x : JobView). Serves Seq x a b r) same
-        (serves-begun Seq j a b r (sequential_answer j) text failed refl is-text (begins-as a b _ _ end (begins-after a m b _ _ lines begun)))
+        subst (λ (x : JobView). Serves plain Seq x a b r) same
+        (serves-begun plain Seq j a b r (sequential_answer j) text failed refl is-text (begins-as a b _ _ end (begins-after a m b _ _ lines begun)))
 
-    pub last-written : Appends m b (line (ending_words e)) → HasWritten Seq job a b e
+    pub last-written : Appends m b (last_line plain (Some e)) → HasWritten plain Seq job a b e
     last-written written =
-        subst (λ (x : JobView). HasWritten Seq x a b e) same
+        subst (λ (x : JobView). HasWritten plain Seq x a b e) same
         (sequential_answer j, refl, text, is-text, appends-as a b _ _ end (Appends-trans a m b _ _ lines written), ends)

@@ -25,7 +25,7 @@ use Rattle.plinq_run.specs.Runs.{Runs, SinkRefused, cause_of}
 use Rattle.plinq_document.specs.Jobs.{JobView}
 use Rattle.plinq_lines.specs.declared.write_fault.WriteFault.{WriteFault}
 use Rattle.plinq_lines.specs.LineSink.{Lines, TakesLine, RefusesLine}
-use Rattle.plinq_lines.specs.AnswerText.{line, batch_line, ending_words, ending_line, answer_text}
+use Rattle.plinq_lines.specs.AnswerText.{batch_line}
 use Rattle.plinq_lines.specs.Written.{AppendsBeginning}
 use Rattle.plinq_lines.proofs.LinesTaken.{taken-lines, short-lines}
 use Rattle.plinq_lines.proofs.WrittenBytes.{Bytes, appends-as, begins-all, begins-after, begins-append, begins-as}
@@ -36,7 +36,7 @@ use Rattle.plinq_cli.specs.ServeFaults.{MayFail, serve_fault_of_run, told_of}
 use Rattle.plinq_cli.specs.Served.{batch_lines, CountsIf, Delivers, EndsInTime, HasDelivered, HasFailed, HasBrokenOff, HasWritten, IsText}
 use Rattle.plinq_cli.specs.Served.{LeavesLines, LeavesWholeLines, Serves}
 use Rattle.plinq_cli.specs.inner.StoppedRun.{Leaves}
-use Rattle.plinq_cli.specs.Told.{told_text}
+use Rattle.plinq_cli.specs.Told.{last_line, told_text}
 use Rattle.plinq_cli.proofs.Flushed.{serves-begun}
 
 -- ---- which answer it is
@@ -149,29 +149,29 @@ module _ (q : QueryView Formula) (t : Trace ℤ) (most : Option ℕ) (a b : Byte
 
 -- ---- the line of the ending after them
 
-abbrev text : QueryView Formula → Trace ℤ → List ℕ
-text q u = answer_text (merge_in_force q.merge) u
+abbrev text : Bool → QueryView Formula → Trace ℤ → List ℕ
+text plain q u = told_text plain None (merge_in_force q.merge) u
 
 -- where no aggregate is asked for, these lines are what is reported of the answer
-is-text : (j job : JobView) (u : Trace ℤ) → j ≡ job → job.aggregate ≡ None → IsText Run j u (text j.query u)
-is-text j job u same items = ap (λ kind. told_text kind (merge_in_force j.query.merge) u) (sym (ap (λ (x : JobView). x.aggregate) same ∙ items))
+is-text : (plain : Bool) (j job : JobView) (u : Trace ℤ) → j ≡ job → job.aggregate ≡ None → IsText plain Run j u (text plain j.query u)
+is-text plain j job u same items = ap (λ kind. told_text plain kind (merge_in_force j.query.merge) u) (sym (ap (λ (x : JobView). x.aggregate) same ∙ items))
 
 -- where the run fails, a beginning of its lines is written
-pub run-failed : (j job : JobView) (a b : Bytes) (r : Result Ending ServeFault) (fault : ServeFault) → j ≡ job → job.aggregate ≡ None → IsErr r
-    → Delivers j.query j.source a b j.cancel_after (Err fault) → Serves Run job a b r
-run-failed j job a b r fault same items failed d =
+pub run-failed : (plain : Bool) (j job : JobView) (a b : Bytes) (r : Result Ending ServeFault) (fault : ServeFault) → j ≡ job → job.aggregate ≡ None → IsErr r
+    → Delivers j.query j.source a b j.cancel_after (Err fault) → Serves plain Run job a b r
+run-failed plain j job a b r fault same items failed d =
     let h = failed-begun j.query j.source a b j.cancel_after fault d in
-    subst (λ (x : JobView). Serves Run x a b r) same
-    (serves-begun Run j a b r h.answer (text j.query h.answer) failed h.may (is-text j job h.answer same items)
-    (begins-append a b _ (ending_line h.answer.ending) h.begun))
+    subst (λ (x : JobView). Serves plain Run x a b r) same
+    (serves-begun plain Run j a b r h.answer (text plain j.query h.answer) failed h.may (is-text plain j job h.answer same items)
+    (begins-append a b _ (last_line plain h.answer.ending) h.begun))
 
 -- unless a write failed, these are whole lines
-whole-lines : (job : JobView) (a b : Bytes) (fault : ServeFault) → job.aggregate ≡ None
-    → Delivers job.query job.source a b job.cancel_after (Err fault) → LeavesWholeLines job a b (Err fault)
-whole-lines job a b (NoRun fault) items h = subst (λ kind. LeavesLines kind job.query job.source job.cancel_after fault a b) (sym items) h.1
-whole-lines job a b Memory items h = tt
-whole-lines job a b Write items h = tt
-whole-lines job a b (Take fault) items h = tt
+whole-lines : (plain : Bool) (job : JobView) (a b : Bytes) (fault : ServeFault) → job.aggregate ≡ None
+    → Delivers job.query job.source a b job.cancel_after (Err fault) → LeavesWholeLines plain job a b (Err fault)
+whole-lines plain job a b (NoRun fault) items h = subst (λ kind. LeavesLines kind job.query job.source job.cancel_after fault a b) (sym items) h.1
+whole-lines plain job a b Memory items h = tt
+whole-lines plain job a b Write items h = tt
+whole-lines plain job a b (Take fault) items h = tt
 
 -- only a run that broke off, and a failing write, are reported
 pub run-failed-so : (q : QueryView Formula) (t : Trace ℤ) (a b : Bytes) (most : Option ℕ) (fault : ServeFault) → Delivers q t a b most (Err fault)
@@ -181,34 +181,40 @@ run-failed-so q t a b most Memory h = absurd h
 run-failed-so q t a b most Write h = tt
 run-failed-so q t a b most (Take fault) h = absurd h
 
-pub run-failed-whole : (j job : JobView) (a b : Bytes) (r : Result Ending ServeFault) (fault : ServeFault) → j ≡ job → job.aggregate ≡ None → r ≡ Err fault
-    → Delivers j.query j.source a b j.cancel_after (Err fault) → LeavesWholeLines job a b r
-run-failed-whole j job a b r fault same items failed d =
+pub run-failed-whole : (plain : Bool) (j job : JobView) (a b : Bytes) (r : Result Ending ServeFault) (fault : ServeFault) → j ≡ job → job.aggregate ≡ None
+    → r ≡ Err fault → Delivers j.query j.source a b j.cancel_after (Err fault) → LeavesWholeLines plain job a b r
+run-failed-whole plain j job a b r fault same items failed d =
     let Q : JobView → Type 0 = λ x. Delivers x.query x.source a b x.cancel_after (Err fault) in
-    subst (LeavesWholeLines job a b) (sym failed) (whole-lines job a b fault items (subst Q same d))
+    subst (LeavesWholeLines plain job a b) (sym failed) (whole-lines plain job a b fault items (subst Q same d))
 
 -- where the line of the ending fails, all lines of batches and a beginning of that one are written
-pub ending-failed : (j job : JobView) (a m b : Bytes) (r : Result Ending ServeFault) (e : Ending) → j ≡ job → job.aggregate ≡ None → IsErr r
-    → Delivers j.query j.source a m j.cancel_after (Ok e) → AppendsBeginning m b (line (ending_words e)) → Serves Run job a b r
-ending-failed j job a m b r e same items failed h begun =
-    let end = ap (λ x. batch_lines j.query.merge h.answer ++ ending_line x) (sym h.ending) in
-    subst (λ (x : JobView). Serves Run x a b r) same
-    (serves-begun Run j a b r h.answer (text j.query h.answer) failed h.may (is-text j job h.answer same items)
+pub ending-failed : (plain : Bool) (j job : JobView) (a m b : Bytes) (r : Result Ending ServeFault) (e : Ending) → j ≡ job → job.aggregate ≡ None → IsErr r
+    → Delivers j.query j.source a m j.cancel_after (Ok e) → AppendsBeginning m b (last_line plain (Some e)) → Serves plain Run job a b r
+ending-failed plain j job a m b r e same items failed h begun =
+    let end = ap (λ x. batch_lines j.query.merge h.answer ++ last_line plain x) (sym h.ending) in
+    subst (λ (x : JobView). Serves plain Run x a b r) same
+    (serves-begun plain Run j a b r h.answer (text plain j.query h.answer) failed h.may (is-text plain j job h.answer same items)
     (begins-as a b _ _ end (begins-after a m b _ _ h.lines begun)))
 
-pub ending-written : (j job : JobView) (a m b : Bytes) (e : Ending) → j ≡ job → job.aggregate ≡ None
-    → Delivers j.query j.source a m j.cancel_after (Ok e) → Appends m b (line (ending_words e)) → HasWritten Run job a b e
-ending-written j job a m b e same items h written =
-    let end = ap (λ x. batch_lines j.query.merge h.answer ++ ending_line x) (sym h.ending) in
-    subst (λ (x : JobView). HasWritten Run x a b e) same
-    (h.answer, h.may, text j.query h.answer, is-text j job h.answer same items, appends-as a b _ _ end (Appends-trans a m b _ _ h.lines written), h.ending)
+pub ending-written : (plain : Bool) (j job : JobView) (a m b : Bytes) (e : Ending) → j ≡ job → job.aggregate ≡ None
+    → Delivers j.query j.source a m j.cancel_after (Ok e) → Appends m b (last_line plain (Some e)) → HasWritten plain Run job a b e
+ending-written plain j job a m b e same items h written =
+    let end = ap (λ x. batch_lines j.query.merge h.answer ++ last_line plain x) (sym h.ending) in
+    subst (λ (x : JobView). HasWritten plain Run x a b e) same (
+      h.answer,
+      h.may,
+      text plain j.query h.answer,
+      is-text plain j job h.answer same items,
+      appends-as a b _ _ end (Appends-trans a m b _ _ h.lines written),
+      h.ending,
+    )
 
 -- so the run wasn't to be cancelled before
-pub ending-in_time : (j job : JobView) (a m b : Bytes) (e : Ending) → j ≡ job → job.aggregate ≡ None
-    → Delivers j.query j.source a m j.cancel_after (Ok e) → Appends m b (line (ending_words e)) → LeavesWholeLines job a b (Ok e)
-ending-in_time j job a m b e same items h written =
-    let end = ap (λ x. batch_lines j.query.merge h.answer ++ ending_line x) (sym h.ending) in
+pub ending-in_time : (plain : Bool) (j job : JobView) (a m b : Bytes) (e : Ending) → j ≡ job → job.aggregate ≡ None
+    → Delivers j.query j.source a m j.cancel_after (Ok e) → Appends m b (last_line plain (Some e)) → LeavesWholeLines plain job a b (Ok e)
+ending-in_time plain j job a m b e same items h written =
+    let end = ap (λ x. batch_lines j.query.merge h.answer ++ last_line plain x) (sym h.ending) in
     let none : j.aggregate ≡ None = ap (λ (x : JobView). x.aggregate) same ∙ items in
-    subst (λ (x : JobView). LeavesWholeLines x a b (Ok e)) same
-    (subst (λ kind. EndsInTime kind j.query j.source j.cancel_after a b) (sym none)
+    subst (λ (x : JobView). LeavesWholeLines plain x a b (Ok e)) same
+    (subst (λ kind. EndsInTime plain kind j.query j.source j.cancel_after a b) (sym none)
     (h.answer, h.may, h.fewer, appends-as a b _ _ end (Appends-trans a m b _ _ h.lines written)))

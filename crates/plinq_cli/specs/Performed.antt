@@ -1,5 +1,5 @@
 -- What the program does with a document, and the status that it ends with.
-use Rattle.std.specs.Prelude.{◌≡◌, ℕ, List, Option, Result, Ok, Err, IfSome, IfErr, ⊤, ◌⊎◌, refl}
+use Rattle.std.specs.Prelude.{◌≡◌, ℕ, Bool, true, false, List, Option, if◌then◌else◌, Result, Ok, Err, IfSome, IfErr, ⊤, ◌⊎◌, refl}
 use Rattle.std.specs.Io.KnownBytes.{Keeps}
 use Rattle.clap.specs.declared.error.kind.ErrorKind.{ErrorKind}
 use Rattle.clap.specs.declared.error.kind.ErrorKind.TheVariants.{DisplayHelp, DisplayVersion, OutOfMemory}
@@ -23,6 +23,7 @@ use Rattle.plinq_cli.specs.declared.failure.Failure.{Failure}
 use Rattle.plinq_cli.specs.declared.failure.Failure.TheVariants.{Document, Memory, Read, Write, Thread, Tickets, Incomplete, Cancelled}
 use Rattle.plinq_arguments.specs.declared.arguments.Arguments.{Arguments}
 use Rattle.plinq_arguments.specs.Arguments.{IsAsked, Refuses}
+use Rattle.plinq_settings.specs.declared.settings.Settings.{Settings}
 use Rattle.plinq_cli.specs.Served.{Serves}
 
 abbrev pub failure_of_document : DocFault → Failure
@@ -72,14 +73,18 @@ RefusesDocument why old new (Ok e) = ⊥
 RefusesDocument why old new (Err failure) = Keeps old new × IfDocument (λ fault. fault ≡ why) failure
 
 -- what the program does with a document of this meaning: it answers the job, and fails by nothing that the document is to blame for, or it refuses it
-abbrev pub AnswersMeaning : Command → Result JobView DocFault → Option (List ℕ) → Option (List ℕ) → Result Ending Failure → Type 0
-AnswersMeaning command (Ok job) old new r = Serves command job old new r × IfErr r (IfDocument (λ fault. ⊥))
-AnswersMeaning command (Err why) old new r = RefusesDocument why old new r
+abbrev pub AnswersMeaning : Bool → Command → Result JobView DocFault → Option (List ℕ) → Option (List ℕ) → Result Ending Failure → Type 0
+AnswersMeaning plain command (Ok job) old new r = Serves plain command job old new r × IfErr r (IfDocument (λ fault. ⊥))
+AnswersMeaning plain command (Err why) old new r = RefusesDocument why old new r
+
+-- these are the settings that the arguments ask for; if they ask for cores, with any number of workers
+abbrev pub IsMeant : Arguments → Settings → Type 0
+IsMeant arguments settings = (n : Option ℕ) × (settings ≡ (if arguments.cores then record arguments.settings { workers = n } else arguments.settings))
 
 -- what it does with the bytes that it reads: those of the reader, where this reports them
 abbrev pub Answers : Arguments → Option (List ℕ) → Option (List ℕ) → Option (List ℕ) → Result Ending Failure → Type 0
-Answers arguments told old new r =
-    (bytes : List ℕ) × IfSome told (λ all. bytes ≡ all) × AnswersMeaning arguments.command (document_of arguments.settings bytes) old new r
+Answers arguments told old new r = (bytes : List ℕ) × IfSome told (λ all. bytes ≡ all)
+    × (settings : Settings) × IsMeant arguments settings × AnswersMeaning arguments.plain arguments.command (document_of settings bytes) old new r
 
 -- what is answered where a flush failed: a failing write, also after a cancelled run, but what failed before it is answered
 abbrev pub unflushed : Result Ending Failure → Result Ending Failure
@@ -130,9 +135,14 @@ PerformsWords words told old new status =
     ((arguments : Arguments) × IsAsked words arguments × Performs arguments told old new status)
     ⊎ ((kind : ErrorKind) × Refuses words kind × Shows kind old new status)
 
--- nothing is written of what is wrong, unless the status is that of a failure
-abbrev pub IsSilent : Option (List ℕ) → Option (List ℕ) → ℕ → Type 0
-IsSilent old new status = (status ≡ 2) ⊎ ((status ≡ 5) ⊎ Keeps old new)
+-- nothing is written of what is wrong, unless the status is that of a failure, or that of an ending that a plain answer doesn't have
+abbrev pub IsSilent : Bool → Option (List ℕ) → Option (List ℕ) → ℕ → Type 0
+IsSilent plain old new status = (status ≡ 2) ⊎ ((status ≡ 5) ⊎ (Keeps old new ⊎ ((plain ≡ true) × ((status ≡ 3) ⊎ (status ≡ 4)))))
+
+-- of words as well: only a plain answer is one of words that ask for it
+abbrev pub IsSilentOn : List (List ℕ) → Option (List ℕ) → Option (List ℕ) → ℕ → Type 0
+IsSilentOn words old new status = IsSilent false old new status
+    ⊎ ((arguments : Arguments) × IsAsked words arguments × IsSilent arguments.plain old new status)
 
 -- ---- worked rows
 

@@ -1,5 +1,5 @@
 -- Rows of what commands report, which faults each may have, and what a run that breaks off leaves.
-use Rattle.std.specs.Prelude.{◌≡◌, refl, ℕ, ℤ, pos, List, [], ◌∷◌, true, false, length, Option, Some, None, Ok, Err}
+use Rattle.std.specs.Prelude.{◌≡◌, refl, ℕ, ℤ, pos, List, [], ◌∷◌, true, false, length, unwrap_or, Option, Some, None, Ok, Err}
 use Rattle.std.proofs.Common.{sym, ◌∙◌, ap, inl, inr, arith}
 use Rattle.clap.specs.declared.error.kind.ErrorKind.TheVariants.{UnknownArgument, DisplayHelp, OutOfMemory}
 use Rattle.plinq_source.specs.declared.ending.Ending.TheVariants.{End, Refused, Fault}
@@ -22,7 +22,10 @@ use Rattle.plinq_cli.specs.ServeFaults.{MayFail}
 use Rattle.plinq_cli.specs.Rounds.{AsksUntilTail, tail_ending, told_ending}
 use Rattle.plinq_cli.specs.Told.{TellsValue}
 use Rattle.plinq_cli.specs.Served.{CountsIf, HasBrokenOff, EndsInTime, Serves, add_one}
-use Rattle.plinq_cli.specs.Performed.{RefusesDocument, Flushes, Shows, IsSilent}
+use Rattle.plinq_cli.specs.Performed.{RefusesDocument, Flushes, IsMeant, Shows, IsSilent}
+use Rattle.plinq_ops.specs.declared.merge_option.MergeOption.TheVariants.{NotBuffered}
+use Rattle.plinq_settings.specs.declared.settings.Settings.{Settings}
+use Rattle.plinq_arguments.specs.declared.arguments.Arguments.{Arguments}
 
 -- ---- which faults each command may have
 
@@ -57,7 +60,7 @@ cancelled_though_nobody_asked : (old new : Option (List ℕ)) → HasBrokenOff a
 cancelled_though_nobody_asked old new it = let is = it.number in absurd (cc)
 
 -- it was to be cancelled at once
-goes_on_to_its_end : (old new : Option (List ℕ)) → EndsInTime None add_one.query add_one.source (Some 0) old new → ⊥
+goes_on_to_its_end : (old new : Option (List ℕ)) → EndsInTime false None add_one.query add_one.source (Some 0) old new → ⊥
 goes_on_to_its_end old new it = absurd (omega (arith, it.2))
 
 -- ---- what is told of an aggregate
@@ -129,7 +132,32 @@ help_is_refused old new (inr is) = absurd (omega (arith, is))
 no_memory_for_the_words : (old new : Option (List ℕ)) → Shows OutOfMemory old new 2 → ⊥
 no_memory_for_the_words old new shows = absurd (omega (arith, shows.0))
 
-something_is_wrong_at_status_0 : IsSilent (Some []) (Some (7 ∷ [])) 0 → ⊥
+something_is_wrong_at_status_0 : IsSilent false (Some []) (Some (7 ∷ [])) 0 → ⊥
 something_is_wrong_at_status_0 (inl is) = absurd (omega (arith, is))
 something_is_wrong_at_status_0 (inr (inl is)) = absurd (omega (arith, is))
-something_is_wrong_at_status_0 (inr (inr is)) = let bad : 1 ≡ 0 = ap length is in absurd (omega (arith, bad))
+something_is_wrong_at_status_0 (inr (inr (inr asked))) = let bad = asked.0 in absurd (cc)
+something_is_wrong_at_status_0 (inr (inr (inl is))) = let bad : 1 ≡ 0 = ap length is in absurd (omega (arith, bad))
+
+-- an ending is said on standard error of a plain answer alone
+an_ending_is_said_twice : IsSilent false (Some []) (Some (7 ∷ [])) 3 → ⊥
+an_ending_is_said_twice (inl is) = absurd (omega (arith, is))
+an_ending_is_said_twice (inr (inl is)) = absurd (omega (arith, is))
+an_ending_is_said_twice (inr (inr (inl is))) = let bad : 1 ≡ 0 = ap length is in absurd (omega (arith, bad))
+an_ending_is_said_twice (inr (inr (inr asked))) = let bad = asked.0 in absurd (cc)
+
+a_plain_answer_says_its_end : IsSilent true (Some []) (Some (7 ∷ [])) 0 → ⊥
+a_plain_answer_says_its_end (inl is) = absurd (omega (arith, is))
+a_plain_answer_says_its_end (inr (inl is)) = absurd (omega (arith, is))
+a_plain_answer_says_its_end (inr (inr (inl is))) = let bad : 1 ≡ 0 = ap length is in absurd (omega (arith, bad))
+a_plain_answer_says_its_end (inr (inr (inr (asked, inl is)))) = absurd (omega (arith, is))
+a_plain_answer_says_its_end (inr (inr (inr (asked, inr is)))) = absurd (omega (arith, is))
+
+-- --workers auto changes the number of workers and nothing else
+abbrev asks_for_two : Arguments
+asks_for_two = record { command = Seq; settings = record { workers = Some 2; merge = None; cancel_after = None }; cores = false; plain = false }
+
+a_number_is_replaced : IsMeant asks_for_two (record { workers = Some 3; merge = None; cancel_after = None }) → ⊥
+a_number_is_replaced (n, is) = let bad : 3 ≡ 2 = ap (λ (s : Settings). unwrap_or s.workers 0) is in absurd (omega (arith, bad))
+
+another_merge_option : IsMeant (record asks_for_two { cores = true }) (record { workers = Some 3; merge = Some NotBuffered; cancel_after = None }) → ⊥
+another_merge_option (n, is) = let bad : Some NotBuffered ≡ None = ap (λ (s : Settings). s.merge) is in absurd (cc)

@@ -1,5 +1,5 @@
 -- What each command answers, and the text that it prints.
-use Rattle.std.specs.Prelude.{◌≡◌, ◌≢◌, ◌<◌, ◌⊎◌, ⊤, ℕ, ℤ, pos, List, [], ◌∷◌, ◌++◌, length, true, false, Option, Some, None, IfSome, Result, Ok, Err}
+use Rattle.std.specs.Prelude.{◌≡◌, ◌≢◌, ◌<◌, ◌⊎◌, ⊤, ℕ, ℤ, pos, List, [], ◌∷◌, ◌++◌, length, Bool, true, false, Option, Some, None, IfSome, Result, Ok, Err}
 use Rattle.std.specs.Prelude.{MatchResult, codes, refl}
 use Rattle.std.proofs.Common.{arith}
 use Rattle.std.specs.Fmt.{digits}
@@ -27,7 +27,7 @@ use Rattle.plinq_document.specs.declared.kind.Kind.TheVariants.{Sum}
 use Rattle.plinq_document.specs.Jobs.{JobView}
 use Rattle.plinq_arguments.specs.declared.command.Command.{Command}
 use Rattle.plinq_arguments.specs.declared.command.Command.TheVariants.{Run, Seq, Plan, Parts, History}
-use Rattle.plinq_lines.specs.AnswerText.{batch_line, answer_text}
+use Rattle.plinq_lines.specs.AnswerText.{batch_line}
 use Rattle.plinq_lines.specs.PlanText.{plan_text}
 use Rattle.plinq_lines.specs.PartsText.{parts_text}
 use Rattle.plinq_lines.specs.HistoryText.{history_text}
@@ -53,27 +53,27 @@ IsAnswer Plan job u = u ≡ ended_trace [] End
 IsAnswer Parts job u = u ≡ job.source
 IsAnswer History job u = u ≡ job.source
 
--- these are the lines of an answer
-abbrev pub IsText : Command → JobView → Trace ℤ → List ℕ → Type 0
-IsText Run job u lines = lines ≡ told_text job.aggregate (merge_in_force job.query.merge) u
-IsText Seq job u lines = lines ≡ told_text job.aggregate (merge_in_force job.query.merge) u
-IsText Plan job u lines = lines ≡ plan_text job.query
-IsText Parts job u lines = lines ≡ parts_text (degree_in_force job.query.degree) u
-IsText History job u lines = (h : List Record) × IsHistory (degree_in_force job.query.degree) job.growth u h × (lines ≡ history_text h u.ending)
+-- these are the lines of an answer; only that of a query can be plain
+abbrev pub IsText : Bool → Command → JobView → Trace ℤ → List ℕ → Type 0
+IsText plain Run job u lines = lines ≡ told_text plain job.aggregate (merge_in_force job.query.merge) u
+IsText plain Seq job u lines = lines ≡ told_text plain job.aggregate (merge_in_force job.query.merge) u
+IsText plain Plan job u lines = lines ≡ plan_text job.query
+IsText plain Parts job u lines = lines ≡ parts_text (degree_in_force job.query.degree) u
+IsText plain History job u lines = (h : List Record) × IsHistory (degree_in_force job.query.degree) job.growth u h × (lines ≡ history_text h u.ending)
 
 -- the lines of an answer were written, and this is how it ended
-abbrev pub HasWritten : Command → JobView → Option (List ℕ) → Option (List ℕ) → Ending → Type 0
-HasWritten command job old new e =
-    (u : Trace ℤ) × IsAnswer command job u × (lines : List ℕ) × IsText command job u lines × Appends old new lines × (u.ending ≡ Some e)
+abbrev pub HasWritten : Bool → Command → JobView → Option (List ℕ) → Option (List ℕ) → Ending → Type 0
+HasWritten plain command job old new e =
+    (u : Trace ℤ) × IsAnswer command job u × (lines : List ℕ) × IsText plain command job u lines × Appends old new lines × (u.ending ≡ Some e)
 
 -- nothing was written, or a beginning of the lines of an answer
-abbrev pub HasBegun : Command → JobView → Option (List ℕ) → Option (List ℕ) → Type 0
-HasBegun command job old new =
-    Keeps old new ⊎ ((u : Trace ℤ) × IsAnswer command job u × (lines : List ℕ) × IsText command job u lines × AppendsBeginning old new lines)
+abbrev pub HasBegun : Bool → Command → JobView → Option (List ℕ) → Option (List ℕ) → Type 0
+HasBegun plain command job old new =
+    Keeps old new ⊎ ((u : Trace ℤ) × IsAnswer command job u × (lines : List ℕ) × IsText plain command job u lines × AppendsBeginning old new lines)
 
 -- what was written for a job: the lines of an answer with the reported ending, or after a fault a beginning of such lines
-abbrev pub Serves : {E : Type 0} → Command → JobView → Option (List ℕ) → Option (List ℕ) → Result Ending E → Type 0
-Serves command job old new r = MatchResult r (HasWritten command job old new) (λ _. HasBegun command job old new)
+abbrev pub Serves : {E : Type 0} → Bool → Command → JobView → Option (List ℕ) → Option (List ℕ) → Result Ending E → Type 0
+Serves plain command job old new r = MatchResult r (HasWritten plain command job old new) (λ _. HasBegun plain command job old new)
 
 -- ---- a run that broke off
 
@@ -122,19 +122,19 @@ LeavesLines None q t most fault old new = HasBrokenOff q t old new most fault
 LeavesLines (Some kind) q t most fault old new = (cause_of fault ≡ Other) × Keeps old new
 
 -- the lines of an answer were written, of fewer batches than a run was to be cancelled after; an aggregate isn't cancelled
-abbrev pub EndsInTime : Option Kind → QueryView Formula → Trace ℤ → Option ℕ → Option (List ℕ) → Option (List ℕ) → Type 0
-EndsInTime None q t most old new =
+abbrev pub EndsInTime : Bool → Option Kind → QueryView Formula → Trace ℤ → Option ℕ → Option (List ℕ) → Option (List ℕ) → Type 0
+EndsInTime plain None q t most old new =
     (u : Trace ℤ) × MayAnswer formula_meaning q.ordered q.ops t u × IfSome most (λ n. length (batches (merge_in_force q.merge) u) < n)
-    × Appends old new (answer_text (merge_in_force q.merge) u)
-EndsInTime (Some kind) q t most old new = ⊤
+    × Appends old new (told_text plain None (merge_in_force q.merge) u)
+EndsInTime plain (Some kind) q t most old new = ⊤
 
 -- a run that wasn't cancelled ended in time; where it broke off, no line was left half written
-abbrev pub LeavesWholeLines : JobView → Option (List ℕ) → Option (List ℕ) → Result Ending ServeFault → Type 0
-LeavesWholeLines job old new (Ok e) = EndsInTime job.aggregate job.query job.source job.cancel_after old new
-LeavesWholeLines job old new (Err (NoRun fault)) = LeavesLines job.aggregate job.query job.source job.cancel_after fault old new
-LeavesWholeLines job old new (Err Memory) = ⊤
-LeavesWholeLines job old new (Err Write) = ⊤
-LeavesWholeLines job old new (Err (Take fault)) = ⊤
+abbrev pub LeavesWholeLines : Bool → JobView → Option (List ℕ) → Option (List ℕ) → Result Ending ServeFault → Type 0
+LeavesWholeLines plain job old new (Ok e) = EndsInTime plain job.aggregate job.query job.source job.cancel_after old new
+LeavesWholeLines plain job old new (Err (NoRun fault)) = LeavesLines job.aggregate job.query job.source job.cancel_after fault old new
+LeavesWholeLines plain job old new (Err Memory) = ⊤
+LeavesWholeLines plain job old new (Err Write) = ⊤
+LeavesWholeLines plain job old new (Err (Take fault)) = ⊤
 
 -- ---- worked rows
 
@@ -151,7 +151,7 @@ add_one = record {
 pub add_one_is_answered : sequential_answer add_one ≡ ended_trace (pos 4 ∷ pos 2 ∷ pos 5 ∷ []) End
 add_one_is_answered = refl
 
-pub add_one_is_printed : IsText Run add_one (sequential_answer add_one) (codes "4\n2\n5\nend\n")
+pub add_one_is_printed : IsText false Run add_one (sequential_answer add_one) (codes "4\n2\n5\nend\n")
 unfolding digits
 add_one_is_printed = refl
 

@@ -12,8 +12,10 @@ mod input;
 mod input_fault;
 mod performing;
 mod rounds;
+mod saying;
 mod serve_fault;
 mod serving;
+mod with_cause;
 
 pub use failure::Failure;
 pub use input::read_input;
@@ -23,4 +25,5 @@ pub use plinq_arguments::{Arguments, Command, read_arguments};
 pub use plinq_document::{AnySource, DocFault, Job, Kind, PlainSource, StepFault, read_document};
 pub use plinq_settings::{Degree, Settings};
 pub use serve_fault::ServeFault;
-pub use serving::serve;
+pub use serving::{serve, serve_plain};
+pub use with_cause::WithCause;

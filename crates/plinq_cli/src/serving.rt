@@ -1,8 +1,11 @@
-ghost use Rattle.std.specs.Prelude.{◌≡◌, ◌≤◌, Some, None, IfOk, IfErr};
+ghost use Rattle.std.specs.Prelude.{◌≡◌, ◌≤◌, ◌++◌, true, false, Some, None, IfOk, IfErr};
 ghost use Rattle.plinq_keyed.specs.Keys.{keyed_from, element_lists};
 ghost use Rattle.plinq_partition.specs.Cuts.{cuts};
 ghost use Rattle.plinq_source.specs.Trace.{ended_trace};
 ghost use Rattle.plinq_cli.specs.ServeFaults.{MayFail, told_of, told_of_one};
+ghost use Rattle.plinq_lines.specs.AggregateText.{told_value};
+ghost use Rattle.plinq_lines.specs.Written.{Writes};
+ghost use Rattle.plinq_cli.specs.Told.{last_line};
 ghost use Rattle.plinq_cli.specs.Served.{Delivers, LeavesWholeLines, Serves};
 ghost use Rattle.plinq_cli.specs.inner.WrittenAnswer.{HasWrittenAnswer};
 ghost use Rattle.plinq_cli.specs.inner.StoppedRun.{Leaves};
@@ -19,7 +22,7 @@ use plinq_enumerator::Growth;
 use plinq_keyed::{Guarded, Keyed};
 use plinq_lambda::Formula;
 use plinq_lines::{
-    LineSink, WriteFault, write_aggregate, write_ending, write_history, write_parts, write_plan,
+    LineSink, WriteFault, write_ending, write_history, write_parts, write_plan, write_value,
 };
 use plinq_merge::{CancelAfter, DeliveryFault, Sink, deliver_in_blocks};
 use plinq_ops::{Query, sequential};
@@ -51,19 +54,63 @@ pub fn serve<R, W>(rt: &R, command: Command, job: Job, writer: &mut W) -> Result
 where
     R: AllocGlobal + Threads + Wait + Sync,
     W: Write,
-    ensures written { Serves command job (W.contents writer.old) (W.contents writer.new) result }
-    ensures whole { command ≡ Command.Run → LeavesWholeLines job (W.contents writer.old) (W.contents writer.new) result }
+    ensures written { Serves false command job (W.contents writer.old) (W.contents writer.new) result }
+    ensures whole { command ≡ Command.Run → LeavesWholeLines false job (W.contents writer.old) (W.contents writer.new) result }
+    ensures faults { IfErr result (MayFail command) }
+{
+    serve_as(rt, command, false, job, writer)
+}
+
+/// Answers a document's job as [`serve`] does, but writes no line of an ending for `run` and `seq`: elements alone, or the
+/// value of an aggregate. How the answer ended is returned.
+///
+/// ```text
+/// let ending = serve_plain(&rt, Command::Run, job, &mut out)?; // 4, 2, 5
+/// ```
+///
+/// # Errors
+///
+/// As of [`serve`].
+pub fn serve_plain<R, W>(
+    rt: &R,
+    command: Command,
+    job: Job,
+    writer: &mut W,
+) -> Result<Ending, ServeFault>
+where
+    R: AllocGlobal + Threads + Wait + Sync,
+    W: Write,
+    ensures written { Serves true command job (W.contents writer.old) (W.contents writer.new) result }
+    ensures whole { command ≡ Command.Run → LeavesWholeLines true job (W.contents writer.old) (W.contents writer.new) result }
+    ensures faults { IfErr result (MayFail command) }
+{
+    serve_as(rt, command, true, job, writer)
+}
+
+/// Answers a job as the command asks, plain or not.
+pub(crate) fn serve_as<R, W>(
+    rt: &R,
+    command: Command,
+    plain: bool,
+    job: Job,
+    writer: &mut W,
+) -> Result<Ending, ServeFault>
+where
+    R: AllocGlobal + Threads + Wait + Sync,
+    W: Write,
+    ensures written { Serves plain command job (W.contents writer.old) (W.contents writer.new) result }
+    ensures whole { command ≡ Command.Run → LeavesWholeLines plain job (W.contents writer.old) (W.contents writer.new) result }
     ensures faults { IfErr result (MayFail command) }
 {
     let alloc = rt.alloc();
     match command {
         Command::Run => match job.aggregate {
-            None => serve_batches(rt, job, writer),
-            Some(kind) => serve_value(rt, job, kind, writer),
+            None => serve_batches(rt, plain, job, writer),
+            Some(kind) => serve_value(rt, plain, job, kind, writer),
         },
         Command::Seq => match job.aggregate {
-            None => serve_items(alloc, job, writer),
-            Some(kind) => serve_fold(alloc, job, kind, writer),
+            None => serve_items(alloc, plain, job, writer),
+            Some(kind) => serve_fold(alloc, plain, job, kind, writer),
         },
         Command::Plan => serve_plan(&job, writer),
         Command::Parts => serve_parts(alloc, job, writer),
@@ -72,13 +119,13 @@ where
 }
 
 /// Runs a job's query, and writes each batch as it is delivered.
-fn serve_batches<R, W>(rt: &R, job: Job, writer: &mut W) -> Result<Ending, ServeFault>
+fn serve_batches<R, W>(rt: &R, plain: bool, job: Job, writer: &mut W) -> Result<Ending, ServeFault>
 where
     R: AllocGlobal + Threads + Wait + Sync,
     W: Write,
     requires items { job.aggregate ≡ None }
-    ensures written { Serves Command.Run job (W.contents writer.old) (W.contents writer.new) result }
-    ensures whole { LeavesWholeLines job (W.contents writer.old) (W.contents writer.new) result }
+    ensures written { Serves plain Command.Run job (W.contents writer.old) (W.contents writer.new) result }
+    ensures whole { LeavesWholeLines plain job (W.contents writer.old) (W.contents writer.new) result }
     ensures faults { IfErr result (MayFail Command.Run) }
 {
     let Job {
@@ -90,18 +137,53 @@ where
     } = job;
     let (ended, _writer) = run_lines(rt, &query, source, growth, cancel_after, writer);
     let ending = ended?;
-    write_ending(writer, ending)?;
+    write_last(writer, plain, ending)?;
     Ok(ending)
 }
 
+/// Writes the line of an answer's ending, unless the answer is plain.
+fn write_last<W: Write>(writer: &mut W, plain: bool, ending: Ending) -> Result<(), WriteFault>
+    ensures { Writes (W.contents writer.old) (W.contents writer.new) result (last_line plain (Some ending)) }
+{
+    if plain {
+        return Ok(());
+    }
+    write_ending(writer, ending)
+}
+
+/// Writes an aggregated answer: its value where it ended well, and its ending, unless it is plain.
+fn write_told<W: Write>(
+    writer: &mut W,
+    plain: bool,
+    value: Option<i128>,
+    ending: Ending,
+) -> Result<(), WriteFault>
+    ensures { Writes (W.contents writer.old) (W.contents writer.new) result (told_value value (Some ending) ++ last_line plain (Some ending)) }
+{
+    match ending {
+        Ending::End => {
+            write_value(writer, value)?;
+            write_last(writer, plain, ending)
+        }
+        Ending::Refused(_) => write_last(writer, plain, ending),
+        Ending::Fault(_) => write_last(writer, plain, ending),
+    }
+}
+
 /// Runs a job's aggregate, and writes its value once that is there.
-fn serve_value<R, W>(rt: &R, job: Job, kind: Kind, writer: &mut W) -> Result<Ending, ServeFault>
+fn serve_value<R, W>(
+    rt: &R,
+    plain: bool,
+    job: Job,
+    kind: Kind,
+    writer: &mut W,
+) -> Result<Ending, ServeFault>
 where
     R: AllocGlobal + Threads + Wait + Sync,
     W: Write,
     requires value { job.aggregate ≡ Some kind }
-    ensures written { Serves Command.Run job (W.contents writer.old) (W.contents writer.new) result }
-    ensures whole { LeavesWholeLines job (W.contents writer.old) (W.contents writer.new) result }
+    ensures written { Serves plain Command.Run job (W.contents writer.old) (W.contents writer.new) result }
+    ensures whole { LeavesWholeLines plain job (W.contents writer.old) (W.contents writer.new) result }
     ensures faults { IfErr result (MayFail Command.Run) }
 {
     let Job {
@@ -112,11 +194,11 @@ where
     } = job;
     match value_by_threads(rt, kind, &query, source, growth) {
         Ok(value) => {
-            write_aggregate(writer, value, Ending::End)?;
+            write_told(writer, plain, value, Ending::End)?;
             Ok(Ending::End)
         }
         Err(AggregateFault::Ended(ending)) => {
-            write_aggregate(writer, None, ending)?;
+            write_told(writer, plain, None, ending)?;
             Ok(ending)
         }
         Err(AggregateFault::Run(fault)) => Err(ServeFault::Run(fault)),
@@ -199,9 +281,14 @@ where
 }
 
 /// Answers a job's query on one thread, and writes each batch as it comes.
-fn serve_items<W: Write>(alloc: Global, job: Job, writer: &mut W) -> Result<Ending, ServeFault>
+fn serve_items<W: Write>(
+    alloc: Global,
+    plain: bool,
+    job: Job,
+    writer: &mut W,
+) -> Result<Ending, ServeFault>
     requires items { job.aggregate ≡ None }
-    ensures written { Serves Command.Seq job (W.contents writer.old) (W.contents writer.new) result }
+    ensures written { Serves plain Command.Seq job (W.contents writer.old) (W.contents writer.new) result }
     ensures faults { IfErr result (MayFail Command.Seq) }
 {
     let Job {
@@ -210,7 +297,7 @@ fn serve_items<W: Write>(alloc: Global, job: Job, writer: &mut W) -> Result<Endi
         ..
     } = job;
     let ending = answer_into(alloc, &query, &mut source, writer)?;
-    write_ending(writer, ending)?;
+    write_last(writer, plain, ending)?;
     Ok(ending)
 }
 
@@ -261,12 +348,13 @@ fn tell_answer(
 /// The items are folded as they come.
 fn serve_fold<W: Write>(
     alloc: Global,
+    plain: bool,
     job: Job,
     kind: Kind,
     writer: &mut W,
 ) -> Result<Ending, ServeFault>
     requires value { job.aggregate ≡ Some kind }
-    ensures written { Serves Command.Seq job (W.contents writer.old) (W.contents writer.new) result }
+    ensures written { Serves plain Command.Seq job (W.contents writer.old) (W.contents writer.new) result }
     ensures faults { IfErr result (MayFail Command.Seq) }
 {
     let Job {
@@ -275,12 +363,12 @@ fn serve_fold<W: Write>(
         ..
     } = job;
     let (value, ending) = value_by_one(alloc, kind, &query, &mut source)?;
-    write_aggregate(writer, value, ending)?;
+    write_told(writer, plain, value, ending)?;
     Ok(ending)
 }
 
 fn serve_plan<W: Write>(job: &Job, writer: &mut W) -> Result<Ending, ServeFault>
-    ensures written { Serves Command.Plan job.now (W.contents writer.old) (W.contents writer.new) result }
+    ensures written { Serves false Command.Plan job.now (W.contents writer.old) (W.contents writer.new) result }
     ensures faults { IfErr result (MayFail Command.Plan) }
 {
     write_plan(writer, &job.query)?;
@@ -288,7 +376,7 @@ fn serve_plan<W: Write>(job: &Job, writer: &mut W) -> Result<Ending, ServeFault>
 }
 
 fn serve_parts<W: Write>(alloc: Global, job: Job, writer: &mut W) -> Result<Ending, ServeFault>
-    ensures written { Serves Command.Parts job (W.contents writer.old) (W.contents writer.new) result }
+    ensures written { Serves false Command.Parts job (W.contents writer.old) (W.contents writer.new) result }
     ensures faults { IfErr result (MayFail Command.Parts) }
 {
     let Job {
@@ -304,7 +392,7 @@ fn serve_parts<W: Write>(alloc: Global, job: Job, writer: &mut W) -> Result<Endi
 }
 
 fn serve_history<W: Write>(alloc: Global, job: Job, writer: &mut W) -> Result<Ending, ServeFault>
-    ensures written { Serves Command.History job (W.contents writer.old) (W.contents writer.new) result }
+    ensures written { Serves false Command.History job (W.contents writer.old) (W.contents writer.new) result }
     ensures faults { IfErr result (MayFail Command.History) }
 {
     let Job {

@@ -1,7 +1,7 @@
 //! The names that the program's crates have.
 use plinq_cli::{
     AnySource, Command, Degree, DocFault, InputFault, Job, Kind, ServeFault, Settings, StepFault,
-    read_document, read_input, serve,
+    read_document, read_input, serve, serve_plain,
 };
 use plinq_enumerator::Growth;
 use plinq_lambda::Formula;
@@ -27,6 +27,19 @@ where
     W: Write,
 {
     serve(rt, command, job, writer)
+}
+
+fn served_plain<R, W>(
+    rt: &R,
+    command: Command,
+    job: Job,
+    writer: &mut W,
+) -> Result<Ending, ServeFault>
+where
+    R: AllocGlobal + Threads + Wait + Sync,
+    W: Write,
+{
+    serve_plain(rt, command, job, writer)
 }
 
 fn of_settings(settings: Settings) -> (Option<Degree>, Option<MergeOption>) {

@@ -1,7 +1,7 @@
 //! Runs of the program that write to what fails in other ways than its streams: in the middle of a line, or at each flush, also
 //! where nothing was written.
 use crate::narrow::Narrow;
-use plinq_cli::perform;
+use plinq_cli::{WithCause, perform};
 use std::alloc::{AllocError, Global};
 use std::sync::Wait;
 use std::thread::Threads;
@@ -22,7 +22,7 @@ fn ends<R: AllocGlobal + Threads + Wait + Sync>(
     rt: &R,
     words: &[&str],
     document: &str,
-    out: &mut Narrow,
+    out: &mut WithCause<Narrow>,
     status: u8,
     line: &str,
 ) -> bool {
@@ -30,7 +30,8 @@ fn ends<R: AllocGlobal + Threads + Wait + Sync>(
         return false;
     };
     let mut err = Vec::new(rt.alloc());
-    let ended = perform(rt, words, &mut document.as_bytes(), out, &mut err);
+    let mut input = WithCause::new(document.as_bytes());
+    let ended = perform(rt, words, false, &mut input, out, &mut err);
     ended == status && err.as_slice() == line.as_bytes()
 }
 
@@ -46,10 +47,10 @@ fn writes<R: AllocGlobal + Threads + Wait + Sync>(
     taken: &str,
     status: u8,
 ) -> bool {
-    let mut out = Narrow::new(rt.alloc(), room, at_once);
-    out.interrupts = true;
+    let mut out = WithCause::new(Narrow::new(rt.alloc(), room, at_once));
+    out.inner.interrupts = true;
     let line = if status == 0 { "" } else { WRITE_FAILED };
-    ends(rt, &NOT, ADD_ONE, &mut out, status, line) && out.taken() == taken.as_bytes()
+    ends(rt, &NOT, ADD_ONE, &mut out, status, line) && out.inner.taken() == taken.as_bytes()
 }
 
 #[test]
@@ -77,9 +78,10 @@ fn flushes<R: AllocGlobal + Threads + Wait + Sync>(
     status: u8,
     line: &str,
 ) -> bool {
-    let mut out = Narrow::new(rt.alloc(), 100, 100);
-    out.flushes = false;
-    ends(rt, words, document, &mut out, status, line) && taken.as_bytes().starts_with(out.taken())
+    let mut out = WithCause::new(Narrow::new(rt.alloc(), 100, 100));
+    out.inner.flushes = false;
+    ends(rt, words, document, &mut out, status, line)
+        && taken.as_bytes().starts_with(out.inner.taken())
 }
 
 /// Cancelled at once a run has written nothing, and all that fails is the last flush. A refused document comes before that.

@@ -1,5 +1,5 @@
 -- nothing is written before all have had a tail, and then the lines of their records
-use Rattle.std.proofs.Common.{◌≡◌, Some, None, refl, ap, sym, ◌∙◌, subst}
+use Rattle.std.proofs.Common.{◌≡◌, false, Some, None, refl, ap, sym, ◌∙◌, subst}
 use Rattle.plinq_source.specs.Trace.{IsSourceEnding}
 use Rattle.plinq_enumerator.specs.Held.{held_source, held_records}
 use Rattle.plinq_document.specs.WalkedSources.{any_whole, any_walked}
@@ -30,7 +30,7 @@ returns-in_err-write_history-clause-written g c =
     c.degree.ensures.within.0
     (any_walked (held_source e)).ends in
     let ended : Some c.in-Some.ending ≡ c.args.job.source.ending = sym c.in-Some.is ∙ (c.told_ending.ensures ∙ tells.told) in
-    serves-begun History c.args.job _ _ _ c.args.job.source _ c.from_residual-in_err-write_history.ensures.0 refl (records, tells.history, refl)
+    serves-begun false History c.args.job _ _ _ c.args.job.source _ c.from_residual-in_err-write_history.ensures.0 refl (records, tells.history, refl)
     (begins-as _ _ _ _ (ap (history_text records) ended) c.in_err-write_history.ensures)
 
 pub returns-clause-written : goal.returns-clause-written

@@ -8,18 +8,19 @@ use Rattle.plinq_cli.proofs.serving.serve_items.Goals as goal
 
 pub returns-in_err-ending-clause-written : goal.returns-in_err-ending-clause-written
 returns-in_err-ending-clause-written g c =
-    answer-failed _ c.args.job c.job.view_is c.requires.items _ _ _ c.from_residual.ensures.0 c.in_err-ending.ensures.lines
+    answer-failed c.args.plain _ c.args.job c.job.view_is c.requires.items _ _ _ c.from_residual.ensures.0 c.in_err-ending.ensures.lines
 
 pub returns-in_err-ending-clause-faults : goal.returns-in_err-ending-clause-faults
 returns-in_err-ending-clause-faults g c =
     let p = err_from_is_err_and c.from_residual.result c.from_residual.ensures.1 in
     subst (λ r. IfErr r (MayFail Seq)) (sym (p.1 ∙ ap Err p.2)) c.in_err-ending.ensures.faults
 
-pub returns-in_err-write_ending-clause-written : goal.returns-in_err-write_ending-clause-written
-returns-in_err-write_ending-clause-written g c =
-    last-failed _ c.args.job c.job.view_is c.requires.items _ _ _ _ c.in_ok-ending.ensures.lines c.in_ok-ending.ensures.ending _
-    c.from_residual-in_err-write_ending.ensures.0 c.in_err-write_ending.ensures
+pub returns-in_err-write_last-clause-written : goal.returns-in_err-write_last-clause-written
+returns-in_err-write_last-clause-written g c =
+    last-failed c.args.plain _ c.args.job c.job.view_is c.requires.items _ _ _ _ c.in_ok-ending.ensures.lines c.in_ok-ending.ensures.ending _
+    c.from_residual-in_err-write_last.ensures.0 c.in_err-write_last.ensures
 
 pub returns-clause-written : goal.returns-clause-written
 returns-clause-written g c =
-    last-written _ c.args.job c.job.view_is c.requires.items _ _ _ _ c.in_ok-ending.ensures.lines c.in_ok-ending.ensures.ending c.in_ok-write_ending.ensures
+    last-written c.args.plain _ c.args.job c.job.view_is c.requires.items _ _ _ _ c.in_ok-ending.ensures.lines c.in_ok-ending.ensures.ending
+    c.in_ok-write_last.ensures

@@ -1,5 +1,5 @@
 -- nothing is written before the partitions are there, and then their lines
-use Rattle.std.proofs.Common.{◌≡◌, ℕ, ℤ, List, ◌++◌, refl, ap, sym, ◌∙◌, rules}
+use Rattle.std.proofs.Common.{◌≡◌, false, ℕ, ℤ, List, ◌++◌, refl, ap, sym, ◌∙◌, rules}
 use Rattle.plinq_source.specs.declared.ending.Ending.{Ending}
 use Rattle.plinq_source.specs.Trace.{Trace, ended_trace}
 use Rattle.plinq_keyed.specs.declared.keyed.Keyed.{Keyed}
@@ -25,10 +25,10 @@ written p parts e items n m t u properties cut same all whole =
     ∙ ap (λ k. parts_text k u) same
 
 pub returns-in_err-items-clause-written : goal.returns-in_err-items-clause-written
-returns-in_err-items-clause-written g c = serves-unwritten Parts c.args.job _ _ c.from_residual.ensures.0
+returns-in_err-items-clause-written g c = serves-unwritten false Parts c.args.job _ _ c.from_residual.ensures.0
 
 pub returns-in_err-partitions-clause-written : goal.returns-in_err-partitions-clause-written
-returns-in_err-partitions-clause-written g c = serves-unwritten Parts c.args.job _ _ c.from_residual-in_err-partitions.ensures.0
+returns-in_err-partitions-clause-written g c = serves-unwritten false Parts c.args.job _ _ c.from_residual-in_err-partitions.ensures.0
 
 pub returns-in_err-write_parts-clause-written : goal.returns-in_err-write_parts-clause-written
 returns-in_err-write_parts-clause-written g c =
@@ -36,7 +36,7 @@ returns-in_err-write_parts-clause-written g c =
     let degree : c.degree.result ≡ degree_in_force c.args.job.query.degree =
     c.degree.ensures.value ∙ ap (λ (j : JobView). degree_in_force j.query.degree) c.job.view_is in
     let whole = ap (λ (j : JobView). j.source) c.job.view_is in
-    serves-begun Parts c.args.job _ _ _ c.args.job.source _ c.from_residual-in_err-write_parts.ensures.0 refl refl
+    serves-begun false Parts c.args.job _ _ _ c.args.job.source _ c.from_residual-in_err-write_parts.ensures.0 refl refl
     (begins-as _ _ _ _ (written _ _ _ _ _ _ _ _ c.properties.ensures cut degree c.in_ok-items.ensures whole) c.in_err-write_parts.ensures)
 
 pub returns-clause-written : goal.returns-clause-written
