@@ -129,6 +129,38 @@ def package(tests, folder):
     answers(tests, "the package", f"{folder}/taken/usr")
     seen = subprocess.run(["apt-get", "install", "--simulate", f"{folder}/{made}"], capture_output=True, text=True, timeout=HANGS)
     tests.check("apt-get takes it", seen.returncode == 0 and re.search(r"^Inst plinq ", seen.stdout, re.M), seen)
+    linted(tests, f"{folder}/{made}")
+    fresh_root(tests, folder, made)
+
+
+def linted(tests, path):
+    """What lintian says is wrong, if it is there: only that no licence has been chosen."""
+    if not shutil.which("lintian"):
+        print("left out: lintian isn't installed")
+        return
+    seen = subprocess.run(["lintian", "--allow-root", path], capture_output=True, text=True, timeout=HANGS)
+    errors = [it for it in seen.stdout.splitlines() if it.startswith("E: ")]
+    tests.check("lintian has one error", errors == ["E: plinq: no-copyright-file"], (errors, seen.stderr[-300:]))
+
+
+def fresh_root(tests, folder, made):
+    """The package in a Debian of its own, which has nothing but what each Debian has."""
+    if os.geteuid() != 0 or not shutil.which("debootstrap"):
+        print("left out: a fresh Debian: root and debootstrap are wanted")
+        return
+    root = f"{folder}/root"
+    try:
+        subprocess.run(["debootstrap", "--variant=minbase", "bookworm", root], capture_output=True, check=True, timeout=2 * HANGS)
+    except (subprocess.CalledProcessError, subprocess.TimeoutExpired) as why:
+        print(f"left out: a fresh Debian: {why}")
+        return
+    shutil.copy(f"{folder}/{made}", root)
+    with open(os.path.join(EXAMPLES, "add-one.json"), "rb") as file:
+        document = file.read()
+    line = f"dpkg --install /{made} >/dev/null 2>&1 && plinq run --workers auto --merge not"
+    ran = subprocess.run(["chroot", root, "sh", "-c", line], input=document, capture_output=True, timeout=HANGS)
+    seen = Outcome(ran.returncode, ran.stdout, ran.stderr)
+    tests.check("it is installed into a fresh Debian, and answers there", seen == Outcome(0, b"4\n2\n5\nend\n", b""), seen)
 
 
 def main():
