@@ -8,10 +8,13 @@ that leaves is a failing write. Where a thread isn't started the run is refused 
 out as well, that is told.
 """
 import array
+import contextlib
 import fcntl
+import glob
 import json
 import os
 import pwd
+import random
 import resource
 import shutil
 import signal
@@ -164,29 +167,40 @@ def has_no_thread(name, seen):
     return (seen.status, seen.errors) == (5, NO_THREAD) and lines_are_right
 
 
-def another_user():
-    """A user who has no process, or None where this one can't become another."""
-    try:
-        return pwd.getpwnam("nobody") if os.geteuid() == 0 else None
-    except KeyError:
+def users_at_work():
+    """The numbers of the users who have a process here."""
+    for process in glob.glob("/proc/[0-9]*"):
+        with contextlib.suppress(FileNotFoundError):
+            yield os.stat(process).st_uid
+
+
+def unused_user():
+    """The number of a user who has no process, or None if this process can't become another user.
+
+    The system counts a user's threads over all containers that share its numbers, so a user such as nobody won't do.
+    """
+    if os.geteuid() != 0:
         return None
+    with open("/proc/self/uid_map") as lines:
+        first, count = max(((int(it.split()[0]), int(it.split()[2])) for it in lines), key=lambda it: it[1])
+    taken = {it.pw_uid for it in pwd.getpwall()} | set(users_at_work())
+    mapped = range(first + min(100_000, count // 2), min(first + count, 2**31))
+    return next(it for it in random.sample(mapped, min(1_000, len(mapped))) if it not in taken)
 
 
-def leaving(threads):
-    """What leaves a new process so many threads, by a limit of the system that holds for each user but root."""
-    user = another_user()
+def leaving(threads, user):
+    """What leaves a new process of that user so many threads, by a limit of the system that holds for each user but root."""
 
     def limited():
         resource.setrlimit(resource.RLIMIT_NPROC, (threads, threads))
-        if user:
-            os.setgroups([])
-            os.setgid(user.pw_gid)
-            os.setuid(user.pw_uid)
+        if user is not None:
+            os.setuid(user)
 
     return limited
 
 
 def few_threads(tests):
+    user = unused_user()
     with tempfile.TemporaryDirectory() as folder:
         os.chmod(folder, 0o755)
         program = shutil.copy(PROGRAM, folder)
@@ -197,13 +211,13 @@ def few_threads(tests):
                 for name, more, right, wanted in (("one by one", {}, RIGHT, 1), ("a sum", {"aggregate": "sum"}, SUM, min(workers, CORES))):
                     are_few = threads <= wanted
                     given = document(ENDLESS if are_few else {"range": [0, NUMBERS]}, **more)
-                    seen = run([*MANY, str(workers)], given, program, preexec_fn=leaving(threads))
+                    seen = run([*MANY, str(workers)], given, program, preexec_fn=leaving(threads, user))
                     is_so = has_no_thread(name, seen) if are_few else answers_or_refuses(seen, right)
                     tests.check(f"{threads} threads for {workers} workers: {name}", is_so, seen)
-        no_thread_and_no_memory(tests, folder, program)
+        no_thread_and_no_memory(tests, folder, program, user)
 
 
-def no_thread_and_no_memory(tests, folder, program):
+def no_thread_and_no_memory(tests, folder, program, user):
     """No thread is started, and allocations are refused in turn: the last of them is to close the source after that."""
     shim = shared_library("refusing.c", folder)
     for name, more in (("run", {}), ("sum", {"aggregate": "sum"})):
@@ -212,7 +226,7 @@ def no_thread_and_no_memory(tests, folder, program):
             reading, writing = os.pipe()
             env = os.environ | {"LD_PRELOAD": shim, "REFUSE_AT": str(len(seen) + 1), "REFUSED_TO": str(writing)}
             given = document({"range": [0, NUMBERS]}, **more)
-            seen.append(run([*MANY, "2"], given, program, preexec_fn=leaving(1), env=env, pass_fds=(writing,)))
+            seen.append(run([*MANY, "2"], given, program, preexec_fn=leaving(1, user), env=env, pass_fds=(writing,)))
             os.close(writing)
             met = os.read(reading, 1)
             os.close(reading)
