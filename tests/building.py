@@ -96,7 +96,7 @@ class Place:
         for it in (self.bin, self.temporary, f"{self.top}/tools", f"{self.top}/orders", f"{self.top}/.git"):
             os.makedirs(it)
         shutil.copy(f"{ROOT}/plinq", self.top)
-        for it in ("build", "limit.sh"):
+        for it in ("build", "start.sh"):
             shutil.copy(f"{ROOT}/tools/{it}", f"{self.top}/tools")
         for name in TOOLS:
             os.symlink(shutil.which(name), f"{self.bin}/{name}")

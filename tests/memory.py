@@ -1,5 +1,5 @@
 #!/usr/bin/env python3
-"""The limit of memory under which ./plinq starts the program (tools/limit.sh): what it is, also in a control group, and that a run
+"""The limit of memory under which ./plinq starts the program (tools/start.sh): what it is, also in a control group, and that a run
 which wants more reports it, and one that doesn't never does. Then what some runs take, that first lines come at once, and that memory is used again.
 
     python3 tests/memory.py
@@ -68,9 +68,9 @@ LEFT |= {"the path of a host, in a container": 200_000_000, "one of version 1": 
 
 def limits(tests, folder):
     """What the lines set, with a machine that has 1,000,000 kB available, and with no commands but the shell's own."""
-    with open(f"{ROOT}/tools/limit.sh", encoding="utf-8") as file:
+    with open(f"{ROOT}/tools/start.sh", encoding="utf-8") as file:
         lines = file.read()
-    tests.check("it reads what the machine and its groups have", (lines.count("/proc/meminfo"), lines.count("/proc/self/cgroup")) == (2, 2))
+    tests.check("it reads what the machine and its groups have", (lines.count("/proc/meminfo"), lines.count("/proc/self/cgroup")) == (2, 4))
     with open(f"{folder}/meminfo", "w", encoding="utf-8") as file:
         file.write("MemTotal:        9000000 kB\nMemFree:          500000 kB\nMemAvailable:    1000000 kB\nBuffers: 7 kB\n")
     with open(f"{folder}/old", "w", encoding="utf-8") as file:

@@ -3,13 +3,17 @@
 
     python3 tests/plain.py
 """
+import contextlib
 import os
 import pty
 import re
+import shutil
 import subprocess
+import tempfile
 
 from answers import ANSWERS
-from support.program import EXAMPLES, HANGS, PLINQ, Outcome, Tests, build, run
+from support.program import EXAMPLES, HANGS, PLINQ, PROGRAM, ROOT, Outcome, Tests, build, run
+from support.threads import leaving, unused_user
 
 ORDERED = '{"version":1,"source":{%s},"query":[["as_ordered"]%s]%s}'
 ENDING = re.compile(rb"(end|refused \d+|fault \w+)\n\Z")
@@ -85,6 +89,22 @@ def reasons(tests):
     tests.check("refused words have no further line", seen.status == 2 and b"\n  " not in seen.errors, seen)
 
 
+def without_a_thread(tests, folder):
+    """What is said where the system starts no thread, by a limit on a user who has no process."""
+    os.chmod(folder, 0o755)
+    program = shutil.copy(PROGRAM, folder)
+    first, user = b"plinq: no thread\n", unused_user()
+    for aggregate in ("", ',"aggregate":"sum"'):
+        text = (ORDERED % ('"range":[0,1000000]', "", aggregate)).encode()
+        for words, more in (("--plain", {}), ("", {"PLINQ_EXPLAIN": "yes"})):
+            seen = run(["run", *words.split()], text, program, preexec_fn=leaving(1, user), env=os.environ | more)
+            said, is_explained = lines_of(seen.errors)
+            is_so = (seen.status, seen.output, said, is_explained) == (5, b"", first, True) and b"ulimit -u" in seen.errors
+            tests.check(f"no thread: {words or more} {aggregate}", is_so, seen)
+        seen = run(["run"], text, program, preexec_fn=leaving(1, user))
+        tests.check(f"no thread in one line: {aggregate}", seen == Outcome(5, b"", first), seen)
+
+
 def on_a_terminal(tests):
     """./plinq asks for second lines where standard error is a terminal, and else for none."""
     for words, given, wanted in (
@@ -103,6 +123,92 @@ def on_a_terminal(tests):
         tests.check(f"on a terminal: plinq {' '.join(words)}", seen.startswith(wanted) and (wanted != b"" or seen == b"over"), seen)
 
 
+# How many cores there are to be: by the list of those that are allowed, of those that are there, and by control groups: the files
+# of these, and what the process says of its own.
+COUNTED = {
+    "as many as are allowed": (6, "0-3,8,10", "0-15", {}, ""),
+    "no more than are there": (4, "0-127", "0-3", {}, ""),
+    "those that are allowed and there": (4, "1-4,9-20", "0-2,4-8,12", {}, ""),
+    "no list of those that are there": (2, "5-6", None, {}, ""),
+    "more than there can be workers": (64, "0-255", "0-255", {}, ""),
+    "no list at all": (0, None, "0-3", {}, ""),
+    "a quota of version 2": (2, "0-7", "0-7", {"a/cpu.max": "200000 100000"}, "0::/a"),
+    "a quota of one and a half": (2, "0-7", "0-7", {"a/cpu.max": "150000 100000"}, "0::/a"),
+    "a quota below one core": (1, "0-7", "0-7", {"a/cpu.max": "1000 100000"}, "0::/a"),
+    "no quota": (8, "0-7", "0-7", {"a/cpu.max": "max 100000"}, "0::/a"),
+    "the quota of a parent": (3, "0-7", "0-7", {"a/b/cpu.max": "400000 100000", "a/cpu.max": "300000 100000"}, "0::/a/b"),
+    "a quota above the affinity": (2, "0-1", "0-7", {"a/cpu.max": "400000 100000"}, "0::/a"),
+    "the path of a host, in a container": (2, "0-7", "0-7", {"cpu.max": "200000 100000"}, "0::/docker/0123"),
+    "a quota of version 1": (2, "0-7", "0-7", {"cpu/a/cpu.cfs_quota_us": "50000", "cpu/a/cpu.cfs_period_us": "25000"}, "4:memory:/\n3:cpuacct,cpu:/a\n0::/"),
+    "no quota of version 1": (8, "0-7", "0-7", {"cpu/a/cpu.cfs_quota_us": "-1", "cpu/a/cpu.cfs_period_us": "100000"}, "3:cpu:/a"),
+    "a quota without a period": (8, "0-7", "0-7", {"cpu/a/cpu.cfs_quota_us": "50000"}, "3:cpu:/a"),
+    "a period of nothing": (8, "0-7", "0-7", {"a/cpu.max": "200000 0"}, "0::/a"),
+    "an empty file": (8, "0-7", "0-7", {"a/cpu.max": ""}, "0::/a"),
+}
+
+
+def counted(tests, folder):
+    """What the lines count, with no commands but the shell's own, and that the number stands in the place of the word alone."""
+    with open(f"{ROOT}/tools/start.sh", encoding="utf-8") as file:
+        lines = file.read()
+    for name, (wanted, allowed, online, files, own) in COUNTED.items():
+        status = "Name:\tsh\n" + ("" if allowed is None else f"Cpus_allowed:\tff\nCpus_allowed_list:\t{allowed}\nMems_allowed:\t1")
+        there = {f"groups/{path}": text for path, text in files.items()} | {"cgroup": own, "status": status} | ({} if online is None else {"online": online})
+        for path, text in there.items():
+            os.makedirs(os.path.dirname(f"{folder}/{name}/{path}"), exist_ok=True)
+            with open(f"{folder}/{name}/{path}", "w", encoding="utf-8") as file:
+                file.write(f"{text}\n")
+        script = lines
+        for real, path in (("/proc/self/cgroup", "cgroup"), ("/proc/self/status", "status"), ("/sys/devices/system/cpu/online", "online"), ("/sys/fs/cgroup", "groups")):
+            tests.check(f"{real} is read", real in script)
+            script = script.replace(real, f"'{folder}/{name}/{path}'")
+        for shell in ("sh", "bash"):
+            ran = subprocess.run([f"/bin/{shell}", "-c", f'set -eu\n{script}\ncount_cores\necho "$cores"'], env={"PATH": ""}, capture_output=True, text=True, timeout=HANGS)
+            tests.check(f"{shell}: {name}", (ran.returncode, ran.stdout, ran.stderr) == (0, f"{wanted}\n", ""), (ran.stdout, ran.stderr))
+            words = ["run", "--merge", "auto", "--workers", "auto", "a b", "", "--merge=auto", "auto"]
+            number = [str(wanted)] if wanted else ["auto"]
+            for given, told in ((words, [*words[:4], *number, *words[5:]]), (["--workers=auto"], [f"--workers={number[0]}"]), (["--workers", "auto", "--workers", "3"], None)):
+                line = f'set -eu\n{script}\nstart_program /bin/sh -c \'for it in "$@"; do echo "$it"; done\' sh "$@"'
+                ran = subprocess.run([f"/bin/{shell}", "-c", line, "plinq", *given], env={"PATH": ""}, capture_output=True, text=True, timeout=HANGS)
+                tests.check(f"{shell}: {name}: {given}", (ran.returncode, ran.stdout.splitlines(), ran.stderr) == (0, told or given, ""), (ran.stdout, ran.stderr))
+
+
+def quota_group():
+    """The folder of a new control group that may use one and a half cores, or None if this machine lets none be made."""
+    with open("/proc/self/cgroup", encoding="utf-8") as file:
+        own = [line.rstrip("\n").split(":", 2) for line in file]
+    for _, controllers, path in own:
+        is_first_version = "cpu" in controllers.split(",")
+        if not (is_first_version or controllers == ""):
+            continue
+        top, name, quota = ("/sys/fs/cgroup/cpu", "cpu.cfs_quota_us", "150000") if is_first_version else ("/sys/fs/cgroup", "cpu.max", "150000 100000")
+        made = f"{top}{path.rstrip('/')}/plinq-{os.getpid()}"
+        try:
+            os.mkdir(made)
+            with open(f"{made}/{name}", "w", encoding="utf-8") as file:
+                file.write(quota)
+            return made
+        except OSError:
+            with contextlib.suppress(OSError):
+                os.rmdir(made)
+    return None
+
+
+def by_quota(tests):
+    """In a real control group `--workers auto` is what its quota says."""
+    group = quota_group()
+    if group is None:
+        print("(this machine lets no control group be made)", flush=True)
+        return
+    try:
+        for line in ("--workers auto", "--workers=auto"):
+            seen = as_shell(f'echo $$ >"{group}/cgroup.procs" && exec $0 plan {line} < add-one.json')
+            wanted = b"workers %d\n" % min(2, len(os.sched_getaffinity(0)))
+            tests.check(f"in a group of one and a half cores: {line}", seen.status == 0 and seen.output.startswith(wanted), seen)
+    finally:
+        os.rmdir(group)
+
+
 def as_many_as_cores(tests):
     """`--workers auto` is as many as the process may use, and else a number of workers like any other."""
     cores = sorted(os.sched_getaffinity(0))
@@ -114,6 +220,10 @@ def as_many_as_cores(tests):
         # (a quota may be lower)
         is_so = seen.status == 0 and number is not None and (int(number[1]) == count if count == 1 else 1 <= int(number[1]) <= count)
         tests.check(f"on {count} cores", is_so, seen)
+    # (a start script counts before the program does)
+    for words, wanted in (("--workers auto --merge some", b"'some'"), ("--merge some --workers=auto", b"'some'"), ("--workers auto --bogus", b"'--bogus'")):
+        seen = as_shell(f"$0 run {words} < add-one.json")
+        tests.check(f"what is wrong beside it is said: {words}", seen.status == 2 and wanted in seen.errors and b"'auto'" not in seen.errors.split(b"[")[0], seen)
     text = b'{"version":1,"source":{"range":[1,100]},"query":[["as_ordered"],["with_degree",2]]}'
     seen = run(["run", "--workers", "auto"], text)
     tests.check("it is a settings call", seen == Outcome(2, b"", b"plinq: document: step 1: degree twice\n"), seen)
@@ -132,6 +242,10 @@ def main():
     reasons(tests)
     on_a_terminal(tests)
     as_many_as_cores(tests)
+    by_quota(tests)
+    with tempfile.TemporaryDirectory() as folder:
+        without_a_thread(tests, folder)
+        counted(tests, folder)
     tests.end()
 
 

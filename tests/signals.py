@@ -8,13 +8,9 @@ that leaves is a failing write. Where a thread isn't started the run is refused 
 out as well, that is told.
 """
 import array
-import contextlib
 import fcntl
-import glob
 import json
 import os
-import pwd
-import random
 import resource
 import shutil
 import signal
@@ -24,6 +20,7 @@ import termios
 import time
 
 from support.program import HANGS, PROGRAM, Outcome, Tests, build, run, shared_library
+from support.threads import leaving, unused_user
 
 # More than any test waits for, in lines that a test can count.
 ENDLESS = {"range": [0, 2**40]}
@@ -165,38 +162,6 @@ def answers_or_refuses(seen, right):
 def has_no_thread(name, seen):
     lines_are_right = is_beginning(name, seen.output) if name == "one by one" else not seen.output
     return (seen.status, seen.errors) == (5, NO_THREAD) and lines_are_right
-
-
-def users_at_work():
-    """The numbers of the users who have a process here."""
-    for process in glob.glob("/proc/[0-9]*"):
-        with contextlib.suppress(FileNotFoundError):
-            yield os.stat(process).st_uid
-
-
-def unused_user():
-    """The number of a user who has no process, or None if this process can't become another user.
-
-    The system counts a user's threads over all containers that share its numbers, so a user such as nobody won't do.
-    """
-    if os.geteuid() != 0:
-        return None
-    with open("/proc/self/uid_map") as lines:
-        first, count = max(((int(it.split()[0]), int(it.split()[2])) for it in lines), key=lambda it: it[1])
-    taken = {it.pw_uid for it in pwd.getpwall()} | set(users_at_work())
-    mapped = range(first + min(100_000, count // 2), min(first + count, 2**31))
-    return next(it for it in random.sample(mapped, min(1_000, len(mapped))) if it not in taken)
-
-
-def leaving(threads, user):
-    """What leaves a new process of that user so many threads, by a limit of the system that holds for each user but root."""
-
-    def limited():
-        resource.setrlimit(resource.RLIMIT_NPROC, (threads, threads))
-        if user is not None:
-            os.setuid(user)
-
-    return limited
 
 
 def few_threads(tests):

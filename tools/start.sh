@@ -1,10 +1,33 @@
-# A part of the scripts that start the program: it limits the memory that the program may take, and starts no process for that.
-#
-# The limit is the lowest of what the machine has available, what each control group around this process has left, and
-# PLINQ_MEMORY. The stacks of as many workers as the words ask for come on top, 1 MB each, so that the limit refuses no thread.
-# The kernel counts what is mapped to be written. A limit of addresses would have to leave room for what the C library reserves
-# for each thread, 64 MB, and that can then be used as well: several GB more than there are.
-limit_memory() {
+# A part of the scripts that start the program: it counts cores for `--workers auto`, limits the memory that the program may take,
+# and starts no other process.
+
+# Starts a program on some words. If these ask for as many workers as cores, the number stands in the place of the word.
+start_program() {
+    program=$1
+    shift
+    workers_of "$@"
+    if [ "$workers" = auto ]; then
+        count_cores
+        before= left=$#
+        while [ "$cores" != 0 ] && [ "$left" != 0 ]; do
+            word=$1
+            shift
+            case $before:$word in
+                --workers:auto) set -- "$@" "$cores" ;;
+                *:--workers=auto) set -- "$@" "--workers=$cores" ;;
+                *) set -- "$@" "$word" ;;
+            esac
+            before=$word left=$((left - 1))
+        done
+    fi
+    limit_memory "$@"
+    # (on a terminal a second line says why something failed)
+    [ ! -t 2 ] || export PLINQ_EXPLAIN=yes
+    exec "$program" "$@"
+}
+
+# The last word or number that the words have for `--workers`.
+workers_of() {
     workers=4 before=
     for word in "$@"; do
         [ "$before" != --workers ] || workers=$word
@@ -13,6 +36,63 @@ limit_memory() {
             --workers=*) workers=${word#*=} ;;
         esac
     done
+}
+
+# How many cores this process may use: those of its affinity that are there, but no more than the quota of any control group
+# around it, rounded up, and at most 64. None where the system doesn't say.
+count_cores() {
+    cores=0 allowed=
+    [ -r /proc/self/status ] || return 0
+    while read -r name value; do
+        [ "$name" != Cpus_allowed_list: ] || { allowed=$value && break; }
+    done </proc/self/status
+    { read -r online </sys/devices/system/cpu/online; } 2>/dev/null || online=$allowed
+    separators=$IFS IFS=,
+    for ours in $allowed; do
+        for theirs in $online; do
+            low=${ours%-*} high=${ours#*-}
+            [ "$low" -ge "${theirs%-*}" ] || low=${theirs%-*}
+            [ "$high" -le "${theirs#*-}" ] || high=${theirs#*-}
+            [ "$low" -gt "$high" ] || cores=$((cores + high - low + 1))
+        done
+    done
+    IFS=$separators
+    [ "$cores" -le 64 ] || cores=64
+    [ -r /proc/self/cgroup ] || return 0
+    while IFS=: read -r number controllers path; do
+        case $number:,$controllers, in
+            0:,,) quotas /sys/fs/cgroup "$path" cpu.max '' ;;
+            *,cpu,*) quotas /sys/fs/cgroup/cpu "$path" cpu.cfs_quota_us cpu.cfs_period_us ;;
+        esac
+    done </proc/self/cgroup
+}
+
+# What a control group and those around it let their processes use, in microseconds of each period. Where the path isn't shown, as
+# in a container, the top is the own group.
+quotas() {
+    path=$2
+    while :; do
+        quota= period=
+        { read -r quota period <"$1$path/$3"; } 2>/dev/null || quota=
+        [ -z "$4" ] || { read -r period <"$1$path/$4"; } 2>/dev/null || period=
+        case $quota,$period in
+            # (none, or more than any machine has)
+            ,* | *, | *,0 | *[!0-9,]* | ????????????????????*) ;;
+            *) [ $((cores * period)) -le "$quota" ] || cores=$(((quota + period - 1) / period)) ;;
+        esac
+        case $path in
+            '' | /) break ;;
+        esac
+        path=${path%/*}
+    done
+}
+
+# The limit of memory is the lowest of what the machine has available, what each control group around this process has left, and
+# PLINQ_MEMORY. The stacks of as many workers as the words ask for come on top, 1 MB each, so that the limit refuses no thread.
+# The kernel counts what is mapped to be written. A limit of addresses would have to leave room for what the C library reserves
+# for each thread, 64 MB, and that can then be used as well: several GB more than there are.
+limit_memory() {
+    workers_of "$@"
     # (what isn't a number of workers is refused later)
     case $workers in
         [1-9] | [1-6][0-9]) ;;
