@@ -9,13 +9,12 @@ import re
 
 from support.program import ROOT, Tests
 
-# what is added, a neighbour's names, and the neighbour's own files and those that only use it: whether all items pass is asked by
-# a SkipWhile, and a growth has a largest size
+# what is added, and a neighbour's names
 NEIGHBOURS = (
-    ("An operator", r"SkipWhile|SkippingWhile|skip_while|skipped_while", r"skip_while\.rt|/skip_while/|SkipWhile\.antt|SkippingWhile\.antt|/all/|/(?:telling|sequentially|searching|searching_sequentially)\.rt"),
-    ("A formula", r"UpTo|up_to(?=\")", None),
-    ("An aggregate", r"Max|max(?=\")", r"/growth_fault\.rt"),
-    ("An option of the command line", r"cancel_after", r"/plinq_merge/|/plinq_run/|/proofs/reading/"),
+    ("An operator", r"SkipWhile|SkippingWhile|skip_while|skipped_while"),
+    ("A formula", r"UpTo|up_to(?=\")"),
+    ("An aggregate", r"Min|min(?=\")"),
+    ("An option of the command line", r"cancel_after"),
 )
 
 # rows are worked examples, a lib lists what its crate has, and laws retell what is listed
@@ -56,9 +55,8 @@ def main():
     with open(os.path.join(ROOT, "docs", "CHANGING.md"), encoding="utf-8") as file:
         page = file.read()
     texts = {it: code(it) for it in files()}
-    for what, names, own in NEIGHBOURS:
-        apart = f"{APART}|{own}" if own else APART
-        named = {it for it, text in texts.items() if re.search(rf"\b(?:{names})\b", text) and not re.search(apart, f"/{it}")}
+    for what, names in NEIGHBOURS:
+        named = {it for it, text in texts.items() if re.search(rf"\b(?:{names})\b", text) and not re.search(APART, f"/{it}")}
         missing = sorted(named - listed(page, what))
         tests.check(f"{what}: each of {len(named)} files that know its neighbour is listed", len(named) > 3 and not missing, missing)
         gone = sorted(it for it in listed(page, what) if not os.path.exists(os.path.join(ROOT, it)))
