@@ -1,6 +1,6 @@
 #!/usr/bin/env python3
-"""Tests ./test, which counts what rt ci and the tests of the program say, in a folder of its own with stand-ins for both; and
-.ci/run, which installs the packages that the tests want, with stand-ins for Debian's commands.
+"""Tests ./test, which installs the packages that the tests want, and counts what rt ci and the tests of the program say: in a
+folder of its own, with stand-ins for all of them.
 
     python3 tests/gate.py
 """
@@ -37,6 +37,7 @@ class Place:
         shutil.copy(f"{ROOT}/test", folder)
         shutil.copy(f"{ROOT}/tools/build", f"{folder}/tools")
         self.write("bin/rt", RT, 0o755)
+        self.write("bin/dpkg-query", "#!/usr/bin/env bash\nprintf installed\n", 0o755)
         self.write("crates.txt", "plinq:\n")
         self.write("crates/plinq/src/main.rt", "main\n")
 
@@ -299,7 +300,7 @@ def packages(place, tests):
     shutil.copy(f"{ROOT}/.ci/run", f"{place.top}/.ci")
     for name, line in DEBIAN.items():
         place.write(f"bin/{name}", f"#!/usr/bin/env bash\n{line}\n", 0o755)
-    with open(f"{place.top}/.ci/run", encoding="utf-8") as file:
+    with open(f"{ROOT}/test", encoding="utf-8") as file:
         wanted = re.search(r"^packages=\((.*)\)$", file.read(), re.M)[1].split()
     tests.check("the packages are named in order, each once", wanted == sorted(set(wanted)) and wanted, wanted)
     place.tell(COUNTED, one=PASSES)
