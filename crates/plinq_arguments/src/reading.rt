@@ -69,9 +69,9 @@ Example, which prints 4, 2, 5 and end, a line each:
   echo '{"version":1,"source":{"list":[3,1,4]},"query":[["as_ordered"],["select","add",1]]}' | plinq run --merge not"#;
 
 /// What stands at the end of a command's help.
-const AFTER_COMMAND_HELP: &str = r#"The words of --merge, by which results are handed over:
+const AFTER_COMMAND_HELP: &str = r#"The words of --merge, which say how results are delivered:
   not      a line for each element
-  auto     lines of 16 elements, as where none is given
+  auto     lines of 16 elements, the default
   full     all elements on one line, if the query succeeds
   default  as auto
 
@@ -257,9 +257,7 @@ fn workers_option<'a>(alloc: Global, workers: ValueParser<'a>) -> Arg<'a>
     Arg::new(alloc, "workers")
         .long("workers")
         .value_name("N")
-        .help(
-            "How many workers, from 1 to 64, or auto for as many as cores; 4 where none are given",
-        )
+        .help("How many workers, from 1 to 64, or auto for as many as cores; 4 by default")
         .value_parser(workers)
 }
 
@@ -271,7 +269,7 @@ fn merge_option<'a>(alloc: Global, words: ValueParser<'a>) -> Arg<'a>
     Arg::new(alloc, "merge")
         .long("merge")
         .value_name("OPTION")
-        .help("How results are handed over")
+        .help("How results are delivered")
         .value_parser(words)
 }
 
