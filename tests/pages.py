@@ -1,7 +1,7 @@
 #!/usr/bin/env python3
 """Looks whether what the pages name is there: each link's target, and each file that is named by its path in a crate; and
-whether no sentence of README.md and docs/ has more than 30 words (TRUSTED.md, which a tool makes, is left out). No line of a
-crate's sources has more than 160 columns.
+whether no sentence of README.md and docs/ has more than 30 words (TRUSTED.md, which a tool makes, is left out), and no page or
+help has a twisted form that the field says otherwise. No line of a crate's sources has more than 160 columns.
 
     python3 tests/pages.py
 """
@@ -45,6 +45,28 @@ def lengths(tests):
         tests.check(f"{page} has sentences, none of more than 30 words", len(found) > 20 and not long, long or len(found))
 
 
+# Forms that were in these pages, and what to write in their place.
+TWISTED = (
+    (r"\bhanded over\b", "delivered, passed"),
+    (r"(?:\bas|\balso|[,;]) where (?:none|no)\b", "if none, by default"),
+    (r"\b[Aa]lso where\b", "also if"),
+    (r"\bjust what\b", "only what"),
+    (r"\bdoes for\b", "is enough for"),
+    (r"\banswered as\b", "reported as"),
+    (r"\bWhere (?:an?|the|it|they|there|no|nothing|all|more|one|operators|tickets)\b(?!.* (?:lies|go(?:es)?)\b)", "If, When, Once"),
+    (r"\blets go of\b", "releases, drops"),
+    (r"\bsed '\$d'", "--plain, which keeps the status"),
+)
+
+
+def twisted(tests):
+    for page in (*(it for it in pages() if it != "docs/TRUSTED.md"), *(f"share/help/{it}" for it in sorted(os.listdir(f"{ROOT}/share/help")))):
+        with open(os.path.join(ROOT, page), encoding="utf-8") as file:
+            text = file.read()
+        found = [f"{it[0]!r}: {better}" for form, better in TWISTED for it in re.finditer(form, text)]
+        tests.check(f"{page} has no twisted form", not found, found)
+
+
 def wide_lines(tests):
     files, wide = 0, []
     for at, folders, names in os.walk(os.path.join(ROOT, "crates")):
@@ -63,6 +85,7 @@ def main():
             missing = sorted({it for it in named(page, file.read()) if not os.path.exists(os.path.join(ROOT, it))})
         tests.check(page, not missing, f"names what isn't there: {', '.join(missing)}")
     lengths(tests)
+    twisted(tests)
     wide_lines(tests)
     tests.end()
 
