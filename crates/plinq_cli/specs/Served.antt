@@ -144,6 +144,7 @@ add_one = record {
   query = record { ops = Select (Add (pos 1)) ∷ []; ordered = true; merge = Some NotBuffered; degree = None };
   source = ended_trace (pos 3 ∷ pos 1 ∷ pos 4 ∷ []) End;
   growth = record { first = 1; repeat = 3; max = 512 };
+  has_growth = false;
   aggregate = None;
   cancel_after = None;
 }

@@ -11,11 +11,12 @@ use plinq_document::{AnySource, Kind};
 use plinq_enumerator::Growth;
 use plinq_lambda::Formula;
 use plinq_ops::Query;
-use plinq_run::{AggregateFault, Combined, OpenGate, aggregate, fold_sequentially};
+use plinq_run::{AggregateFault, Combined, TimedGate, aggregate, fold_sequentially};
 use plinq_source::{Ending, OutOfMemory, Source};
 use std::alloc::Global;
 use std::sync::Wait;
 use std::thread::Threads;
+use std::time::Clock;
 
 /// The value of an aggregate of a query's answer on one thread, if its items have one, and how the answer ends.
 pub(crate) fn value_by_one(
@@ -68,17 +69,18 @@ pub(crate) fn value_by_threads<R>(
     query: &Query<Formula>,
     source: AnySource,
     growth: Growth,
+    gate: &TimedGate<'_, R>,
 ) -> Result<Option<i128>, AggregateFault>
 where
-    R: AllocGlobal + Threads + Wait + Sync,
+    R: AllocGlobal + Clock + Threads + Wait + Sync,
     requires unasked { ⟦<AnySource as Source>⟧.given source ≡ 0 }
     ensures { TellsValue (kind_value kind) (MayAnswer formula_meaning query.now.ordered query.now.ops (⟦<AnySource as Source>⟧.whole source)) result }
 {
     match kind {
-        Kind::Sum => Ok(Some(by_threads(rt, query, source, growth, &Sum)?)),
-        Kind::Count => Ok(Some(i128::from(by_threads(rt, query, source, growth, &Count)?))),
-        Kind::Min => Ok(as_value(by_threads(rt, query, source, growth, &Min)?)),
-        Kind::Max => Ok(as_value(by_threads(rt, query, source, growth, &Max)?)),
+        Kind::Sum => Ok(Some(by_threads(rt, query, source, growth, gate, &Sum)?)),
+        Kind::Count => Ok(Some(i128::from(by_threads(rt, query, source, growth, gate, &Count)?))),
+        Kind::Min => Ok(as_value(by_threads(rt, query, source, growth, gate, &Min)?)),
+        Kind::Max => Ok(as_value(by_threads(rt, query, source, growth, gate, &Max)?)),
     }
 }
 
@@ -87,16 +89,17 @@ fn by_threads<R, A>(
     query: &Query<Formula>,
     source: AnySource,
     growth: Growth,
+    gate: &TimedGate<'_, R>,
     aggregator: &A,
 ) -> Result<A::Out, AggregateFault>
 where
-    R: AllocGlobal + Threads + Wait + Sync,
+    R: AllocGlobal + Clock + Threads + Wait + Sync,
     A: Aggregator<Item = i64>,
     requires unasked { ⟦<AnySource as Source>⟧.given source ≡ 0 }
     ensures { AggregatesSome (A.folding aggregator.now)
         (MayAnswer formula_meaning query.now.ordered query.now.ops (⟦<AnySource as Source>⟧.whole source)) result }
 {
-    aggregate(rt, rt.alloc(), query, source, growth, &OpenGate, aggregator)
+    aggregate(rt, rt.alloc(), query, source, growth, gate, aggregator)
 }
 
 fn as_value(best: Option<i64>) -> Option<i128>

@@ -19,6 +19,7 @@ use std::io;
 use std::io::{Read, Write};
 use std::sync::Wait;
 use std::thread::{Threads, available_parallelism};
+use std::time::Clock;
 
 /// Does what the program does: reads the command line, of which the first word is the program's name, and the
 /// document from `reader`. Writes the answer to `out` and what is wrong to `err`, and answers the exit status.
@@ -41,7 +42,7 @@ pub fn perform<R, I, W, E>(
     err: &mut E,
 ) -> u8
 where
-    R: AllocGlobal + Threads + Wait + Sync,
+    R: AllocGlobal + Clock + Threads + Wait + Sync,
     I: Read,
     W: Write,
     E: Write,
@@ -69,7 +70,7 @@ fn carry_out<R, I, W, E>(
     err: &mut E,
 ) -> u8
 where
-    R: AllocGlobal + Threads + Wait + Sync,
+    R: AllocGlobal + Clock + Threads + Wait + Sync,
     I: Read,
     W: Write,
     E: Write,
@@ -94,7 +95,7 @@ fn answer<R, I, W>(
     out: &mut W,
 ) -> Result<Ending, Failure>
 where
-    R: AllocGlobal + Threads + Wait + Sync,
+    R: AllocGlobal + Clock + Threads + Wait + Sync,
     I: Read,
     W: Write,
     ensures { Answers arguments (I.remaining reader.old) (W.contents out.old) (W.contents out.new) result }

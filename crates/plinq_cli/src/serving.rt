@@ -25,14 +25,15 @@ use plinq_lines::{
     LineSink, WriteFault, write_ending, write_history, write_parts, write_plan, write_value,
 };
 use plinq_merge::{CancelAfter, DeliveryFault, Sink, deliver_in_blocks};
-use plinq_ops::{Query, sequential};
+use plinq_ops::{Op, Query, sequential};
 use plinq_partition::{OrderablePartitioner, RangeParts};
-use plinq_run::{AggregateFault, OpenGate, Report, RunFault, run, run_with};
+use plinq_run::{AggregateFault, Report, RunFault, TimedGate, run, run_with};
 use plinq_source::{Ending, OutOfMemory, Source};
 use std::alloc::Global;
 use std::io::Write;
 use std::sync::Wait;
 use std::thread::Threads;
+use std::time::Clock;
 
 /// Answers a document's job as the command asks, and writes the lines of the answer.
 ///
@@ -52,7 +53,7 @@ use std::thread::Threads;
 /// before. [`ServeFault::Take`] where the partitions of a history don't get through for another cause than that.
 pub fn serve<R, W>(rt: &R, command: Command, job: Job, writer: &mut W) -> Result<Ending, ServeFault>
 where
-    R: AllocGlobal + Threads + Wait + Sync,
+    R: AllocGlobal + Clock + Threads + Wait + Sync,
     W: Write,
     ensures written { Serves false command job (W.contents writer.old) (W.contents writer.new) result }
     ensures whole { command ≡ Command.Run → LeavesWholeLines false job (W.contents writer.old) (W.contents writer.new) result }
@@ -78,7 +79,7 @@ pub fn serve_plain<R, W>(
     writer: &mut W,
 ) -> Result<Ending, ServeFault>
 where
-    R: AllocGlobal + Threads + Wait + Sync,
+    R: AllocGlobal + Clock + Threads + Wait + Sync,
     W: Write,
     ensures written { Serves true command job (W.contents writer.old) (W.contents writer.new) result }
     ensures whole { command ≡ Command.Run → LeavesWholeLines true job (W.contents writer.old) (W.contents writer.new) result }
@@ -96,7 +97,7 @@ pub(crate) fn serve_as<R, W>(
     writer: &mut W,
 ) -> Result<Ending, ServeFault>
 where
-    R: AllocGlobal + Threads + Wait + Sync,
+    R: AllocGlobal + Clock + Threads + Wait + Sync,
     W: Write,
     ensures written { Serves plain command job (W.contents writer.old) (W.contents writer.new) result }
     ensures whole { command ≡ Command.Run → LeavesWholeLines plain job (W.contents writer.old) (W.contents writer.new) result }
@@ -121,7 +122,7 @@ where
 /// Runs a job's query, and writes each batch as it is delivered.
 fn serve_batches<R, W>(rt: &R, plain: bool, job: Job, writer: &mut W) -> Result<Ending, ServeFault>
 where
-    R: AllocGlobal + Threads + Wait + Sync,
+    R: AllocGlobal + Clock + Threads + Wait + Sync,
     W: Write,
     requires items { job.aggregate ≡ None }
     ensures written { Serves plain Command.Run job (W.contents writer.old) (W.contents writer.new) result }
@@ -132,13 +133,34 @@ where
         query,
         source,
         growth,
+        has_growth,
         cancel_after,
         ..
     } = job;
-    let (ended, _writer) = run_lines(rt, &query, source, growth, cancel_after, writer);
+    let gate = gate_of(rt, &query, has_growth);
+    let (ended, _writer) = run_lines(rt, &query, source, growth, &gate, cancel_after, writer);
     let ending = ended?;
     write_last(writer, plain, ending)?;
     Ok(ending)
+}
+
+/// The gate of a run: one with a clock, unless the document says how its chunks grow. If elements expand it has none either: few of
+/// these fill the time of a chunk, and chunks of 512 cost less for each.
+fn gate_of<'a, R>(rt: &'a R, query: &Query<Formula>, has_growth: bool) -> TimedGate<'a, R> {
+    if has_growth || expands(query.ops()) {
+        return TimedGate::untimed();
+    }
+    TimedGate::new(rt)
+}
+
+/// Whether some operator makes more elements of one.
+fn expands(ops: &[Op<Formula>]) -> bool {
+    for op in ops {
+        if let Op::SelectMany(_) = op {
+            return true;
+        }
+    }
+    false
 }
 
 /// Writes the line of an answer's ending, unless the answer is plain.
@@ -179,7 +201,7 @@ fn serve_value<R, W>(
     writer: &mut W,
 ) -> Result<Ending, ServeFault>
 where
-    R: AllocGlobal + Threads + Wait + Sync,
+    R: AllocGlobal + Clock + Threads + Wait + Sync,
     W: Write,
     requires value { job.aggregate ≡ Some kind }
     ensures written { Serves plain Command.Run job (W.contents writer.old) (W.contents writer.new) result }
@@ -190,9 +212,11 @@ where
         query,
         source,
         growth,
+        has_growth,
         ..
     } = job;
-    match value_by_threads(rt, kind, &query, source, growth) {
+    let gate = gate_of(rt, &query, has_growth);
+    match value_by_threads(rt, kind, &query, source, growth, &gate) {
         Ok(value) => {
             write_told(writer, plain, value, Ending::End)?;
             Ok(Ending::End)
@@ -211,18 +235,19 @@ fn run_lines<'a, R, W>(
     query: &Query<Formula>,
     source: AnySource,
     growth: Growth,
+    gate: &TimedGate<'_, R>,
     cancel_after: Option<u64>,
     writer: &'a mut W,
 ) -> (Result<Ending, ServeFault>, &'a mut W)
 where
-    R: AllocGlobal + Threads + Wait + Sync,
+    R: AllocGlobal + Clock + Threads + Wait + Sync,
     W: Write,
     requires unasked { ⟦<AnySource as Source>⟧.given source ≡ 0 }
     ensures delivers { Delivers query.now (⟦<AnySource as Source>⟧.whole source) (W.contents writer.old) (W.contents result.1.now) cancel_after result.0 }
     ensures same { result.1.ghost_name ≡ writer.entry.ghost_name }
 {
     let mut sink = LineSink::new(writer);
-    let reported = run_until(rt, query, source, growth, cancel_after, &mut sink);
+    let reported = run_until(rt, query, source, growth, gate, cancel_after, &mut sink);
     let written = written_by(&sink);
     (tell(written, reported), sink.into_writer())
 }
@@ -253,11 +278,12 @@ fn run_until<R, K>(
     query: &Query<Formula>,
     source: AnySource,
     growth: Growth,
+    gate: &TimedGate<'_, R>,
     cancel_after: Option<u64>,
     sink: &mut K,
 ) -> Result<Report, RunFault>
 where
-    R: AllocGlobal + Threads + Wait + Sync,
+    R: AllocGlobal + Clock + Threads + Wait + Sync,
     K: Sink<Item = i64>,
     requires unasked { ⟦<AnySource as Source>⟧.given source ≡ 0 }
     ensures { Leaves K.accepts K.refuses (merge_in_force query.now.merge)
@@ -265,7 +291,7 @@ where
         cancel_after sink.old sink.new result }
 {
     let Some(most) = cancel_after else {
-        return run(rt, rt.alloc(), query, source, growth, &OpenGate, sink);
+        return run(rt, rt.alloc(), query, source, growth, gate, sink);
     };
     let mut token = CancelAfter::new(most);
     run_with(
@@ -274,7 +300,7 @@ where
         query,
         source,
         growth,
-        &OpenGate,
+        gate,
         &mut token,
         sink,
     )

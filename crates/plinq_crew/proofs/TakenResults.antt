@@ -14,8 +14,7 @@ use Rattle.plinq_keyed.specs.declared.event.Event.TheVariants.{Ask, Close}
 use Rattle.plinq_keyed.specs.declared.record.Record.{Record}
 use Rattle.plinq_keyed.specs.declared.tail.Tail.{Tail}
 use Rattle.plinq_keyed.specs.History.{Place, reply, request_record, ending_tail}
-use Rattle.plinq_enumerator.specs.Growing.{GrowthRule}
-use Rattle.plinq_partition.specs.Partitions.{Holding, IsTaken}
+use Rattle.plinq_partition.specs.Partitions.{Holding, IsTakenOf}
 use Rattle.plinq_ops.specs.declared.order.Order.TheVariants.{ByArrival}
 use Rattle.plinq_ops.specs.declared.plan.Plan.{Plan}
 use Rattle.plinq_ops.specs.declared.results.ChunkResult.{ChunkResult}
@@ -62,12 +61,12 @@ told-request_record t p entry is within =
     let tail : entry.tail ≡ r.tail = ap (λ (x : Record). x.tail) is in
     rw (first, count, tail) (told-reply t p entry.asked (omega arith))
 
-pub result-from_taken : {L T : Type 0} (meaning : L → Meaning T) (plan : Plan L) (growth : GrowthRule) (a b : Holding T) (cut : ℕ) (chunk : Chunk T)
+pub result-from_taken : {L T : Type 0} (meaning : L → Meaning T) (plan : Plan L) (n : ℕ) (a b : Holding T) (cut : ℕ) (chunk : Chunk T)
     (r : ChunkResult T)
-    → is_cut meaning plan.worker.now a.origin.items cut ≡ true → (plan.order ≡ ByArrival → cut ≡ no_cut) → IsTaken growth a b chunk
+    → is_cut meaning plan.worker.now a.origin.items cut ≡ true → (plan.order ≡ ByArrival → cut ≡ no_cut) → IsTakenOf n a b chunk
     → IsChunkResult meaning plan.worker.now cut chunk r
     → IsResult meaning plan a.origin r
-result-from_taken meaning plan growth a b cut chunk r is uncut taken made =
+result-from_taken meaning plan n a b cut chunk r is uncut taken made =
     let t = a.origin in
     let entry = taken.entry in
     let first : chunk.first ≡ entry.first = taken.of.first in

@@ -8,13 +8,12 @@ use Rattle.plinq_source.specs.Trace.{Trace}
 use Rattle.plinq_keyed.specs.declared.chunk.Chunk.{Chunk}
 use Rattle.plinq_keyed.specs.declared.record.Record.{Record}
 use Rattle.plinq_lambda.specs.Meaning.{Meaning}
-use Rattle.plinq_enumerator.specs.Growing.{GrowthRule}
 use Rattle.plinq_ops.specs.declared.op.Op.{Op}
 use Rattle.plinq_ops.specs.declared.plan.Plan.{Plan}
 use Rattle.plinq_ops.specs.declared.results.ChunkResult.{ChunkResult}
 use Rattle.plinq_ops.specs.Chunk.{IsChunkResult}
 use Rattle.plinq_partition.specs.declared.take_fault.TakeFault.{TakeFault}
-use Rattle.plinq_partition.specs.Partitions.{Holding, IsTaken, holding_of}
+use Rattle.plinq_partition.specs.Partitions.{Holding, IsTakenOf, holding_of}
 use Rattle.plinq_stream.specs.declared.pass_knowledge.PassKnowledge.{PassKnowledge}
 use Rattle.plinq_stream.specs.declared.sent.Sent.{Sent}
 use Rattle.plinq_stream.specs.Knowing.{with_sent, with_first, without_first, together}
@@ -37,10 +36,10 @@ AllZip-more R (a ∷ xs) [] x y all is = absurd all
 AllZip-more R (a ∷ xs) (b ∷ ys) x y all is = (all.0, AllZip-more R xs ys x y all.1 is)
 
 -- the chunk of a record was taken, and this is its result
-pub taken-result : {L T : Type 0} (meaning : L → Meaning T) (worker : List (Op L)) (growth : GrowthRule) (a b : Holding T) (cut : ℕ) (chunk : Chunk T)
+pub taken-result : {L T : Type 0} (meaning : L → Meaning T) (worker : List (Op L)) (n : ℕ) (a b : Holding T) (cut : ℕ) (chunk : Chunk T)
     (r : ChunkResult T)
-    → IsTaken growth a b chunk → IsChunkResult meaning worker cut chunk r → HasTakenChunk a.share b.share r
-taken-result meaning worker growth a b cut chunk r taken made = record {
+    → IsTakenOf n a b chunk → IsChunkResult meaning worker cut chunk r → HasTakenChunk a.share b.share r
+taken-result meaning worker n a b cut chunk r taken made = record {
   entry = taken.entry;
   share_is = taken.adds.share;
   answers = record { first = made.first ∙ taken.of.first; count = made.count ∙ taken.counted; tail = made.tail ∙ taken.of.tail };

@@ -12,6 +12,12 @@ pub trait Gate: Sync {
     fn may_block(&self) -> bool {
         true
     }
+
+    /// A clock's time in nanoseconds. With one, workers choose how large their chunks are by how long they take; without one
+    /// these are as large as the growth says.
+    fn nanoseconds(&self) -> Option<u64> {
+        None
+    }
 }
 
 /// A gate that lets every worker pass.

@@ -27,6 +27,11 @@ pub trait Task<T: Copy>: Sync {
     /// A worker has taken the chunk whose first key is `first`, and computes its result next.
     fn after_chunk(&self, worker: u64, first: u64);
 
+    /// A clock's time in nanoseconds, by which workers choose how large their chunks are; none where the growth says that.
+    fn nanoseconds(&self) -> Option<u64> {
+        None
+    }
+
     /// What a worker sends of a result: of the same chunk, with the same ending.
     ///
     /// # Errors

@@ -1,5 +1,5 @@
 //! What a worker does: it takes chunks until one has a tail, and sends their results.
-ghost use Rattle.std.specs.Prelude.{◌≡◌, All, IfOk, IfErr};
+ghost use Rattle.std.specs.Prelude.{◌≡◌, ◌≤◌, All, IfOk, IfErr};
 ghost use Rattle.plinq_cut.specs.Passes.{IsPassOf as IsCutPassOf};
 ghost use Rattle.plinq_ops.specs.declared.results.ChunkResult.{ChunkResult};
 ghost use Rattle.plinq_partition.specs.Partitions.{IsPartitionOf, holding_of};
@@ -9,6 +9,7 @@ ghost use Rattle.plinq_crew.specs.Results.{IsPart};
 ghost use Rattle.plinq_crew.specs.Working.{IsNewcomer, HasWorked, HasLeft};
 ghost use Rattle.plinq_stream.specs.Passes.{IsPassOf, knowledge_of};
 
+use crate::pace::Pace;
 use crate::progress::Progress;
 use crate::result_stream::{ResultPass, ResultStream, RunSpec, RunStopKeys};
 use crate::task::Task;
@@ -66,6 +67,8 @@ pub struct Crew<'a, L: Lambda, S: Source, J: RunSpec<P::Part>, P: Task<L::Item>>
     pub task: &'a P,
     pub progress: &'a Progress,
     pub workers: u64,
+    /// The most items of a chunk whose size a worker chooses.
+    pub largest: u64,
 }
 
 /// What the closure of a thread captures. (It is one value, since each that is captured or named makes the closure's proof
@@ -84,6 +87,17 @@ where
     J: RunSpec<P::Part>,
     P: Task<L::Item>,
 {
+    /// How many items the next chunk has: by a clock, if there is one, as many as its pace says, else as many as the growth says.
+    fn size_of_next(&self, partition: &Partition<S>, pace: &Pace, time: Option<u64>) -> u64
+        ensures least { 1 ≤ result }
+        ensures most { result ≤ 65536 }
+    {
+        match time {
+            Some(_) => pace.size(self.largest),
+            None => partition.next_size(self.chunked),
+        }
+    }
+
     /// Takes the next chunk, and gives what is sent of its result under the cut that all share, which it lowers where the run
     /// ends.
     fn next_result<R: Wait>(
@@ -92,6 +106,7 @@ where
         worker: u64,
         partition: &mut Partition<S>,
         pass: &mut CutPass,
+        pace: &mut Pace,
     ) -> Result<ChunkResult<P::Part>, TakeFault>
         requires { MayTakeNext L.meaning J.stops_at self.now partition.old pass.old }
         ensures of { IsPartitionOf self.now.chunked.now partition.new }
@@ -101,13 +116,16 @@ where
         ensures left { IfErr result (λ fault. HasLeft (holding_of partition.old).share (holding_of partition.new).share) }
     {
         self.task.before_take(worker);
-        let chunk = partition.take(rt, self.chunked)?;
+        let began = self.task.nanoseconds();
+        let size = self.size_of_next(partition, pace, began);
+        let chunk = partition.take_up_to(rt, self.chunked, size)?;
         self.progress.note_taken(chunk.tail.is_some());
         self.task.after_chunk(worker, chunk.first);
         let cut = cut_now(self.plan, self.cut, pass);
         let part = self.task.work(self.alloc, self.plan, &chunk, cut)?;
         partition.reuse(chunk.items);
         cut_off(self.plan, self.cut, pass, &part);
+        pace.note(size, began, self.task.nanoseconds());
         Ok(part)
     }
 
@@ -133,8 +151,9 @@ where
             mut stream,
             mut cut,
         } = context;
+        let mut pace = Pace::new(self.workers);
         for _ in rt.forever() {
-            match self.next_result(rt, worker, &mut partition, &mut cut) {
+            match self.next_result(rt, worker, &mut partition, &mut cut, &mut pace) {
                 Ok(made) => {
                     let is_last = made.tail.is_some();
                     let place = next_place(&made);

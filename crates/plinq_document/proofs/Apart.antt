@@ -109,7 +109,7 @@ meaning_of settings version_is names_are steps_are counts_are aggregate_is sourc
   source ← source_is version
   growth ← growth_of counts
   query ← with_steps_of version 0 (new_query settings) steps
-  Ok (record { query = query; source = source; growth = growth; aggregate = aggregate; cancel_after = settings.cancel_after })
+  Ok (record { query = query; source = source; growth = growth; has_growth = counts.is_given; aggregate = aggregate; cancel_after = settings.cancel_after })
 
 same-by_version : (settings : Settings) (v : Result Version DocFault) (names : Result ⊤ DocFault) (steps : Result Items DocFault)
     (counts : Result GrowthCounts DocFault) (k l : Version → Result (Option Kind) DocFault) → ((version : Version) → k version ≡ l version)

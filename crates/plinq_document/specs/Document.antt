@@ -59,7 +59,7 @@ document_meaning settings d = do
   source ← source_in version d
   growth ← growth_of counts
   query ← with_steps_of version 0 (new_query settings) steps
-  Ok (record { query = query; source = source; growth = growth; aggregate = aggregate; cancel_after = settings.cancel_after })
+  Ok (record { query = query; source = source; growth = growth; has_growth = counts.is_given; aggregate = aggregate; cancel_after = settings.cancel_after })
 
 -- at most 16,777,216 bytes
 abbrev pub length_check : List ℕ → Result ⊤ DocFault

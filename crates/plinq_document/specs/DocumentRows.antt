@@ -61,6 +61,7 @@ pub meaning-example : document_meaning plain (document (as_ordered ∷ select_ad
       query = record { ops = Select (Add (pos 1)) ∷ []; ordered = true; merge = None; degree = None };
       source = ended_trace (pos 3 ∷ pos 1 ∷ pos 4 ∷ []) End;
       growth = record { first = 1; repeat = 3; max = 512 };
+      has_growth = false;
       aggregate = None;
       cancel_after = None;
     })
@@ -143,9 +144,16 @@ with_aggregate kind = record {
   query = record { ops = []; ordered = false; merge = None; degree = None };
   source = ended_trace [] End;
   growth = record { first = 1; repeat = 3; max = 512 };
+  has_growth = false;
   aggregate = kind;
   cancel_after = None;
 }
+
+-- the growth [1,3,512] of a document is its own, also where it is what one without a growth has
+pub meaning-own_growth : document_meaning plain (object (member (codes "growth") (row (whole 1 ∷ whole 3 ∷ whole 512 ∷ []))
+    (member (codes "query") (row []) (member (codes "source") (list_of []) (member (codes "version") (whole 1) no_members)))))
+    ≡ Ok (record (with_aggregate None) { has_growth = true })
+meaning-own_growth = refl
 
 pub meaning-sum : document_meaning plain (aggregating (word (codes "sum"))) ≡ Ok (with_aggregate (Some Sum))
 meaning-sum = refl
@@ -192,6 +200,7 @@ all_of t = record {
   query = record { ops = []; ordered = false; merge = None; degree = None };
   source = t;
   growth = record { first = 1; repeat = 3; max = 512 };
+  has_growth = false;
   aggregate = None;
   cancel_after = None;
 }
@@ -262,6 +271,7 @@ pub meaning-skip_while : document_meaning plain (document (as_ordered ∷ skip_w
       query = record { ops = SkipWhile (Below (pos 5)) ∷ []; ordered = true; merge = None; degree = None };
       source = ended_trace [] End;
       growth = record { first = 1; repeat = 3; max = 512 };
+      has_growth = false;
       aggregate = None;
       cancel_after = None;
     })

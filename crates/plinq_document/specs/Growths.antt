@@ -1,5 +1,5 @@
 -- The growth of a document.
-use Rattle.std.specs.Prelude.{ℕ, Option, Some, None, option_map, option_and_then, Result, Ok, Err, codes}
+use Rattle.std.specs.Prelude.{ℕ, true, false, Option, Some, None, option_map, option_and_then, Result, Ok, Err, codes}
 use Rattle.serde_json.specs.Data.{Data, Items, no_items, item}
 use Rattle.serde_json.specs.Find.{as_array, get}
 use Rattle.plinq_enumerator.specs.Growing.{GrowthRule, growth_rule}
@@ -12,7 +12,7 @@ use Rattle.plinq_document.specs.declared.doc_fault.DocFault.TheVariants.{Growth}
 
 -- the counts after the first two
 abbrev pub counts_from : ℕ → ℕ → Items → Option GrowthCounts
-counts_from first repeat ds = option_map (λ max. record { first = first; repeat = repeat; max = max }) (only_count ds)
+counts_from first repeat ds = option_map (λ max. record { first = first; repeat = repeat; max = max; is_given = true }) (only_count ds)
 
 -- the counts after the first
 abbrev pub counts_after : ℕ → Items → Option GrowthCounts
@@ -26,7 +26,7 @@ three_counts (item d ds) = option_and_then (λ first. counts_after first ds) (co
 
 -- the counts under a name that may be omitted, for 1, 3 and 512
 abbrev pub counts_or_default : Option Data → Result GrowthCounts DocFault
-counts_or_default None = Ok (record { first = 1; repeat = 3; max = 512 })
+counts_or_default None = Ok (record { first = 1; repeat = 3; max = 512; is_given = false })
 counts_or_default (Some d) = or_shape (option_and_then three_counts (as_array d))
 
 -- the counts under the name "growth"

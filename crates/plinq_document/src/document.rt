@@ -117,6 +117,7 @@ fn job_of(
         query,
         source,
         growth,
+        has_growth: counts.is_given,
         aggregate,
         cancel_after,
     })

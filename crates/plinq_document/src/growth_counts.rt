@@ -16,6 +16,8 @@ pub(crate) struct GrowthCounts {
     pub(crate) repeat: u64,
     /// The largest size, in items.
     pub(crate) max: u64,
+    /// Whether the document gives them.
+    pub(crate) is_given: bool,
 }
 
 impl GrowthCounts {
@@ -37,6 +39,7 @@ pub(crate) fn growth_counts(document: &Value) -> Result<GrowthCounts, DocFault>
             first: 1,
             repeat: 3,
             max: 512,
+            is_given: false,
         }),
         Some(counts) => three_counts(counts.as_array().ok_or(DocFault::Shape)?).ok_or(
             DocFault::Shape,
@@ -52,5 +55,10 @@ fn three_counts(counts: &[Value]) -> Option<GrowthCounts>
     let (repeat, counts) = counts.split_first()?;
     let repeat = repeat.as_u64()?;
     let max = only_count(counts)?;
-    Some(GrowthCounts { first, repeat, max })
+    Some(GrowthCounts {
+        first,
+        repeat,
+        max,
+        is_given: true,
+    })
 }

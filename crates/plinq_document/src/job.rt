@@ -15,6 +15,9 @@ pub struct Job {
     pub source: AnySource,
     /// How the chunks grow that partitions take from the source.
     pub growth: Growth,
+    /// Whether the document says how they grow. If not, a run may choose other sizes, and `history` still shows those of
+    /// [`Growth::DEFAULT`].
+    pub has_growth: bool,
     /// What is reported of the answer in place of its items; where there is none, the items themselves.
     pub aggregate: Option<Kind>,
     /// After how many batches a run of it is cancelled, if it is.
@@ -31,6 +34,7 @@ impl Model for Job {
       query = job.query;
       source = ⟦<AnySource as Source>⟧.whole job.source;
       growth = job.growth;
+      has_growth = job.has_growth;
       aggregate = job.aggregate;
       cancel_after = job.cancel_after;
     } };

@@ -34,17 +34,20 @@ pub record Adds {T : Type 0} (a b : Holding T) (asked : Event) (entry : Record) 
   pub place : Place
   pub replied : entry ≡ request_record entry.ticket entry.asked (reply a.origin place entry.asked)
 
--- A chunk was taken: it is that of one record more, which asked for as many items as the growth says. So the records of a
--- partition that has only taken ask for chunks number 0, 1, 2 and so on of the growth. Where its caller takes no more
--- after a tail, the last record alone has one.
-pub record IsTaken {T : Type 0} (growth : GrowthRule) (a b : Holding T) (chunk : Chunk T) : Type 0 where
+-- A chunk was taken by a request for so many items: it is that of one record more
+pub record IsTakenOf {T : Type 0} (n : ℕ) (a b : Holding T) (chunk : Chunk T) : Type 0 where
   pub entry : Record
-  pub adds : Adds a b (Ask (size_at growth a.requests)) entry
-  pub some : 1 ≤ size_at growth a.requests
+  pub adds : Adds a b (Ask n) entry
+  pub some : 1 ≤ n
   pub of : IsChunkOf a.origin entry chunk
   pub counted : length chunk.items.items ≡ entry.count
   pub within : chunk.first + length chunk.items.items ≤ length a.origin.items
   pub requests : b.requests ≡ a.requests + 1
+
+-- The request was for as many items as the growth says. So the records of a partition that has only taken so ask for chunks
+-- number 0, 1, 2 and so on of the growth. Where its caller takes no more after a tail, the last record alone has one.
+abbrev pub IsTaken : {T : Type 0} → GrowthRule → Holding T → Holding T → Chunk T → Type 0
+IsTaken growth a b chunk = IsTakenOf (size_at growth a.requests) a b chunk
 
 -- the source was closed: there is one Close more
 pub record IsStopped {T : Type 0} (a b : Holding T) : Type 0 where

@@ -1,8 +1,9 @@
-ghost use Rattle.std.specs.Prelude.{◌≡◌, ◌+◌, Some, IsSome, IfOk, IfErr, OnOk, OnErr};
+ghost use Rattle.std.specs.Prelude.{◌≡◌, ◌+◌, ◌≤◌, Some, IsSome, IfOk, IfErr, OnOk, OnErr};
 ghost use Rattle.plinq_partition.specs.Faults.{take_fault_of};
 ghost use Rattle.plinq_partition.specs.inner.Inside.{IsInside, holding_inside};
-ghost use Rattle.plinq_partition.specs.Partitions.{IsPartitionOf, IsTaken, IsStopped, IsRefused, IsNotBusy, StaysOf, growth_of, holding_of};
+ghost use Rattle.plinq_partition.specs.Partitions.{IsPartitionOf, IsTaken, IsTakenOf, IsStopped, IsRefused, IsNotBusy, StaysOf, growth_of, holding_of};
 ghost use Rattle.plinq_partition.specs.PartitionRecords.{drawn_at, served_at};
+ghost use Rattle.plinq_enumerator.specs.Growing.{size_at};
 ghost use Rattle.plinq_ticket.specs.Passes.{held_drawn, held_ticket};
 
 use crate::chunked::Chunked;
@@ -21,6 +22,15 @@ impl<S: Source> Partition<S> {
         ensures { result ≡ (holding_of self.now).requests }
     {
         self.requests
+    }
+
+    /// How many items the next chunk has by the growth. Takes no memory.
+    pub fn next_size(&self, chunked: &Chunked<S>) -> u64
+        ensures size { result ≡ size_at (growth_of chunked.now) (holding_of self.now).requests }
+        ensures least { 1 ≤ result }
+        ensures most { result ≤ 65536 }
+    {
+        chunked.growth.size(self.requests)
     }
 
     /// The next chunk of the source, of as many items as the growth says for this request; the last one may be shorter
@@ -43,9 +53,37 @@ impl<S: Source> Partition<S> {
         ensures refused { IfErr result (IsRefused self.old self.new) }
         ensures waited { IfErr result IsNotBusy }
     {
+        let n = self.next_size(chunked);
+        self.take_up_to(rt, chunked, n)
+    }
+
+    /// The next chunk of the source, as [`Partition::take`] gives it, but of `n` items, whatever the growth says.
+    ///
+    /// ```text
+    /// let n = partition.next_size(&chunked);
+    /// let chunk = partition.take_up_to(&rt, &chunked, (2 * n).min(65_536))?;
+    /// ```
+    ///
+    /// # Errors
+    ///
+    /// As of [`Partition::take`].
+    pub fn take_up_to<R: Wait>(
+        &mut self,
+        rt: &R,
+        chunked: &Chunked<S>,
+        n: u64,
+    ) -> Result<Chunk<S::Item>, TakeFault>
+        requires of { IsPartitionOf chunked.now self.old }
+        requires some { 1 ≤ n }
+        requires few { n ≤ 65536 }
+        ensures of { IsPartitionOf chunked.now self.new }
+        ensures taken { IfOk result (IsTakenOf n (holding_of self.old) (holding_of self.new)) }
+        ensures refused { IfErr result (IsRefused self.old self.new) }
+        ensures waited { IfErr result IsNotBusy }
+    {
         let pass = self.lend_pass();
         match chunked.lock.enter_when_free(rt, pass) {
-            Ok(held) => self.ask(chunked, held),
+            Ok(held) => self.ask(chunked, held, n),
             Err(refusal) => Err(self.have_back(refusal)),
         }
     }
@@ -63,9 +101,22 @@ impl<S: Source> Partition<S> {
         ensures taken { IfOk result (IsTaken (growth_of chunked.now) (holding_of self.old) (holding_of self.new)) }
         ensures refused { IfErr result (IsRefused self.old self.new) }
     {
+        let n = self.next_size(chunked);
+        self.try_take_up_to(chunked, n)
+    }
+
+    /// The next chunk of `n` items, but only where no other partition is before this one.
+    fn try_take_up_to(&mut self, chunked: &Chunked<S>, n: u64) -> Result<Chunk<S::Item>, TakeFault>
+        requires of { IsPartitionOf chunked.now self.old }
+        requires some { 1 ≤ n }
+        requires few { n ≤ 65536 }
+        ensures of { IsPartitionOf chunked.now self.new }
+        ensures taken { IfOk result (IsTakenOf n (holding_of self.old) (holding_of self.new)) }
+        ensures refused { IfErr result (IsRefused self.old self.new) }
+    {
         let pass = self.lend_pass();
         match chunked.lock.try_enter(pass) {
-            Ok(held) => self.ask(chunked, held),
+            Ok(held) => self.ask(chunked, held, n),
             Err(refusal) => Err(self.have_back(refusal)),
         }
     }
@@ -152,22 +203,24 @@ impl<S: Source> Partition<S> {
         }
     }
 
-    /// Takes the chunk of the next request while inside, and leaves.
+    /// Takes a chunk of `n` items while inside, and leaves.
     fn ask(
         &mut self,
         chunked: &Chunked<S>,
         held: Held<Enumerator<S>>,
+        n: u64,
     ) -> Result<Chunk<S::Item>, TakeFault>
-        requires { IsInside chunked.now self.old.requests held }
+        requires inside { IsInside chunked.now self.old.requests held }
+        requires some { 1 ≤ n }
+        requires few { n ≤ 65536 }
         ensures of { IsPartitionOf chunked.now self.new }
-        ensures taken { IfOk result (IsTaken (growth_of chunked.now) (holding_inside self.old.requests held) (holding_of self.new)) }
+        ensures taken { IfOk result (IsTakenOf n (holding_inside self.old.requests held) (holding_of self.new)) }
         ensures same { OnErr result (holding_of self.new ≡ holding_inside self.old.requests held) }
         ensures memory { IfErr result (λ fault. fault ≡ TakeFault.Memory) }
         ensures left { (drawn_at self.new.pass ≡ held_drawn held) × (served_at self.new.pass ≡ held_ticket held + 1) }
     {
         let mut held = held;
         let ticket = held.ticket();
-        let n = chunked.growth.size(self.requests);
         let list = self.spare_list(chunked.alloc);
         let asked = held.value_mut().ask_into(ticket, n, list);
         self.pass = Some(chunked.lock.leave(held));

@@ -17,7 +17,9 @@ pub use plinq_enumerator::Growth;
 pub use plinq_lambda::{ExpandFault, Formula, Lambda, SharedLambda};
 pub use plinq_merge::{Cancel, CancelAfter, CancelFlag, Sink};
 pub use plinq_ops::{BuildFault, MergeOption, Op, Query, sequential};
-pub use plinq_run::{AggregateFault, OpenGate, Report, RunFault, aggregate, run, run_with};
+pub use plinq_run::{
+    AggregateFault, OpenGate, Report, RunFault, TimedGate, aggregate, run, run_with,
+};
 pub use plinq_slice::{IndexSource, ItemAt, SliceSource, lines_source, list_source};
 pub use plinq_source::{
     ConcatSource, Ending, ListSource, OutOfMemory, RangeSource, RepeatSource, Source, SourceFault,

@@ -44,7 +44,7 @@ pub use aggregating::aggregate;
 pub use cancelling::run_with;
 pub use combined::Combined;
 pub use parting::fold_into;
-pub use plinq_crew::{Gate, OpenGate};
+pub use plinq_crew::{Gate, OpenGate, TimedGate};
 pub use report::Report;
 pub use run_fault::RunFault;
 pub use running::run;

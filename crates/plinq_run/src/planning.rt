@@ -6,7 +6,7 @@ ghost use Rattle.plinq_run.specs.inner.Conducted.{MayConduct, HasRunCrew, HasCon
 use crate::accepting::{Merging, MergingInto};
 use crate::kept_memory::keep_memory;
 use crate::reporting::finish;
-use crate::run_ahead::progress_of;
+use crate::run_ahead::{largest_chunk, progress_of};
 use crate::run_fault::RunFault;
 use crate::run_request::RunRequest;
 use crate::run_types::RunTypes;
@@ -89,7 +89,8 @@ impl<'x, Q: RunTypes> RunRequest<'x, Q> {
             gate,
         } = self;
         keep_memory(alloc);
-        let progress = progress_of::<Q::Item, Q::Gate, R>(rt, gate, plan.order, workers, growth);
+        let largest = largest_chunk::<Q::Item, Q::Lambda, Q::Gate>(gate, plan, growth);
+        let progress = progress_of::<Q::Item, Q::Gate, R>(rt, gate, plan.order, workers, largest);
         let Ok((cut, cut_pass)) = CutWord::<RunStopKeys<P::Part, J>>::new(alloc, plan, &source)
         else {
             return Err(RunFault::Memory);
@@ -109,6 +110,7 @@ impl<'x, Q: RunTypes> RunRequest<'x, Q> {
             task,
             progress: &progress,
             workers,
+            largest,
         };
         let context = WorkerContext {
             partition,

@@ -1,9 +1,10 @@
 //! How far workers run ahead of what is merged, and how many of them are at work at first.
 ghost use Rattle.std.specs.Prelude.{◌≤◌, ◌<◌, ◌+◌, ◌*◌};
 
+use crate::chunk_pieces::expands;
 use plinq_crew::{Gate, Progress};
 use plinq_enumerator::Growth;
-use plinq_ops::Order;
+use plinq_ops::{Order, Plan};
 use std::mem::{align_of_val, size_of_val};
 use std::thread::{Threads, available_parallelism};
 
@@ -31,6 +32,36 @@ fn chunks_ahead(item_bytes: u64) -> u64
     (BYTES_AHEAD / bytes).max(LEAST_AHEAD)
 }
 
+/// How many times as much as a chunk whose size a worker chooses it may be ahead, at least.
+const CHUNKS_AHEAD: u64 = 8;
+
+/// The most items of a chunk.
+const MOST_ITEMS: u64 = 65_536;
+
+/// How many items a chunk may have whose size a worker chooses, where an item takes so many bytes.
+fn most_chosen(item_bytes: u64) -> u64
+    ensures least { 1 ≤ result }
+    ensures most { result ≤ 65536 }
+    ensures within { 1 < result → result * item_bytes ≤ 131072 }
+{
+    (BYTES_AHEAD / CHUNKS_AHEAD / item_bytes.max(1))
+        .min(MOST_ITEMS)
+        .max(1)
+}
+
+/// How many items the largest chunk has: by a clock as many as a worker may choose, else as many as the growth says. Where
+/// elements expand it is the growth's also by a clock, since the result of a chunk is many times as large.
+pub(crate) fn largest_chunk<T: Copy, L, G: Gate>(
+    gate: &G,
+    plan: &Plan<'_, L>,
+    growth: Growth,
+) -> u64 {
+    if gate.nanoseconds().is_none() || expands(plan.worker) || expands(plan.after) {
+        return growth.size(u64::MAX);
+    }
+    most_chosen(item_bytes::<T>())
+}
+
 /// How many workers are at work at first: one for each core, since on a machine that does nothing else more only take cores from
 /// one another. A gate that holds some back may need all of them.
 fn at_first<G: Gate, R: Threads>(rt: &R, gate: &G) -> u64 {
@@ -43,18 +74,17 @@ fn at_first<G: Gate, R: Threads>(rt: &R, gate: &G) -> u64 {
     }
 }
 
-/// How many workers are at work at first, and how far they may be ahead of what is merged: how many keys above it, and how many
-/// items of this type may be sent that aren't merged yet. By arrival each result is merged at once, so there is no bound on
-/// keys.
+/// How many workers are at work at first, and how far they may be ahead of what is merged, where a chunk has so many items at
+/// most: how many keys above it, and how many items of this type may be sent that aren't merged yet. By arrival each result is
+/// merged at once, so there is no bound on keys.
 pub(crate) fn progress_of<T: Copy, G: Gate, R: Threads>(
     rt: &R,
     gate: &G,
     order: Order,
     workers: u64,
-    growth: Growth,
+    largest: u64,
 ) -> Progress {
     let at_first = at_first(rt, gate);
-    let largest = growth.size(u64::MAX);
     let chunks = chunks_ahead(largest.saturating_mul(item_bytes::<T>()));
     let ahead = chunks.saturating_mul(largest);
     let most = ahead.saturating_mul(workers.min(at_first.saturating_add(at_first / 2)));

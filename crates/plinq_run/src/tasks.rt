@@ -31,6 +31,10 @@ impl<'a, T: Copy + Send, G: Gate> Task<T> for Unchanged<'a, G> {
         self.gate.after_chunk(worker, first);
     }
 
+    fn nanoseconds(&self) -> Option<u64> {
+        self.gate.nanoseconds()
+    }
+
     fn make(&self, _alloc: Global, made: ChunkResult<T>) -> Result<ChunkResult<T>, OutOfMemory>
         ensures makes { IfOk result (λ c. c ≡ made) }
         ensures same { IfOk result (IsOfSameChunk made) }
@@ -60,6 +64,10 @@ impl<'a, T: Copy, A: GrowingAggregator<Item = T>, G: Gate> Task<T> for FoldChunk
 
     fn after_chunk(&self, worker: u64, first: u64) {
         self.gate.after_chunk(worker, first);
+    }
+
+    fn nanoseconds(&self) -> Option<u64> {
+        self.gate.nanoseconds()
     }
 
     fn make(&self, alloc: Global, made: ChunkResult<T>) -> Result<ChunkResult<A::Acc>, OutOfMemory>

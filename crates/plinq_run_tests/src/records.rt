@@ -4,11 +4,12 @@ use plinq_enumerator::{Growth, replays};
 use plinq_keyed::{Event, Record};
 use plinq_lambda::Formula;
 use plinq_ops::{MergeOption, Op};
-use plinq_run::OpenGate;
+use plinq_run::{Gate, OpenGate};
 use plinq_source::Ending;
 use plinq_testing::WORKERS;
 use std::alloc::Global;
 use std::sync::Wait;
+use std::sync::atomic::{AtomicU64, Ordering};
 use std::test::*;
 use std::thread::Threads;
 
@@ -171,4 +172,81 @@ fn chunks_grow_as_the_run_was_told(rt: HostRuntime) {
         ..Setting::by(1)
     };
     assert!(rt; asks_for(&rt, rt.alloc(), 3, stays, &[1, 1, 1, 1]));
+}
+
+/// A gate whose clock says how many nanoseconds each chunk takes, one after another, of one worker; of those after them none. It is
+/// asked once before there is a chunk.
+#[derive(Drop)]
+struct Times<'a> {
+    all: &'a [u64],
+    calls: AtomicU64,
+}
+
+impl<'a> Gate for Times<'a> {
+    fn before_take(&self, _worker: u64) {}
+
+    fn after_chunk(&self, _worker: u64, _first: u64) {}
+
+    fn may_block(&self) -> bool {
+        false
+    }
+
+    fn nanoseconds(&self) -> Option<u64> {
+        let call = self.calls.fetch_add(1, Ordering::SeqCst);
+        if call % 2 == 1 {
+            return Some(7);
+        }
+        match self.all.get((call / 2).wrapping_sub(1) as usize) {
+            Some(took) => Some(took.wrapping_add(7)),
+            None => Some(7),
+        }
+    }
+}
+
+/// Whether a run over so many numbers, of which one worker takes so long for its chunks, asks for these sizes.
+fn asks_by_time<R: Threads + Wait + Sync>(
+    rt: &R,
+    alloc: Global,
+    count: u64,
+    ops: &[Op<Formula>],
+    times: &[u64],
+    sizes: &[u64],
+) -> bool {
+    let gate = Times {
+        all: times,
+        calls: AtomicU64::new(0),
+    };
+    let Some(answers) = ask_range(rt, alloc, count, ops, by(1), &gate) else {
+        return false;
+    };
+    match records_of(answers) {
+        Some(records) => are_sizes(&records, sizes),
+        None => false,
+    }
+}
+
+#[test]
+fn brief_chunks_double_and_long_ones_halve(rt: HostRuntime) {
+    let times = [
+        24_999, 24_999, 24_999, 25_000, 100_003, 100_004, 100_004, 24_999,
+    ];
+    let sizes = [1, 2, 4, 8, 8, 8, 4, 2, 4];
+    assert!(rt; asks_by_time(&rt, rt.alloc(), 40, &[], &times, &sizes));
+    let long = [1_000_000; 5];
+    assert!(rt; asks_by_time(&rt, rt.alloc(), 4, &[], &long, &[1, 1, 1, 1, 1]));
+}
+
+#[test]
+fn a_chunk_has_at_most_an_eighth_of_what_a_worker_may_be_ahead(rt: HostRuntime) {
+    let grown = [
+        1, 2, 4, 8, 16, 32, 64, 128, 256, 512, 1_024, 2_048, 4_096, 8_192, 16_384, 16_384,
+    ];
+    assert!(rt; asks_by_time(&rt, rt.alloc(), 40_000, &[], &[], &grown));
+}
+
+#[test]
+fn chunks_whose_elements_expand_stay_as_small_as_the_growth_says(rt: HostRuntime) {
+    let expands = [Op::SelectMany(Formula::Repeat(2))];
+    let grown = [1, 2, 4, 8, 16, 32, 64, 128, 256, 512, 512, 512];
+    assert!(rt; asks_by_time(&rt, rt.alloc(), 2_000, &expands, &[], &grown));
 }

@@ -12,6 +12,7 @@ use std::io::{Read, Write};
 use std::sync::Wait;
 use std::test::*;
 use std::thread::Threads;
+use std::time::Clock;
 
 fn bytes<R: Read>(alloc: Global, reader: &mut R) -> Result<Vec<u8>, InputFault> {
     read_input(alloc, reader)
@@ -23,7 +24,7 @@ fn meant(alloc: Global, bytes: &[u8], settings: Settings) -> Result<Job, DocFaul
 
 fn served<R, W>(rt: &R, command: Command, job: Job, writer: &mut W) -> Result<Ending, ServeFault>
 where
-    R: AllocGlobal + Threads + Wait + Sync,
+    R: AllocGlobal + Clock + Threads + Wait + Sync,
     W: Write,
 {
     serve(rt, command, job, writer)
@@ -36,7 +37,7 @@ fn served_plain<R, W>(
     writer: &mut W,
 ) -> Result<Ending, ServeFault>
 where
-    R: AllocGlobal + Threads + Wait + Sync,
+    R: AllocGlobal + Clock + Threads + Wait + Sync,
     W: Write,
 {
     serve_plain(rt, command, job, writer)

@@ -5,6 +5,7 @@ use plinq_cli::{WithCause, perform};
 use std::alloc::{AllocError, Global};
 use std::sync::Wait;
 use std::thread::Threads;
+use std::time::Clock;
 
 const ADD_ONE: &str =
     r#"{"version":1,"source":{"list":[3,1,4]},"query":[["as_ordered"],["select","add",1]]}"#;
@@ -18,7 +19,7 @@ fn words_of(alloc: Global, words: &[&str]) -> Result<Vec<String>, AllocError> {
 }
 
 /// Whether a run ends with this status and says this. In one place, since a call of `perform` is dear to prove.
-fn ends<R: AllocGlobal + Threads + Wait + Sync>(
+fn ends<R: AllocGlobal + Clock + Threads + Wait + Sync>(
     rt: &R,
     words: &[&str],
     document: &str,
@@ -40,7 +41,7 @@ const NOT: [&str; 4] = ["plinq", "run", "--merge", "not"];
 const WRITE_FAILED: &str = "plinq: write failed\n";
 
 /// Whether so much is taken with room for some of the bytes, some at once, where each write is interrupted.
-fn writes<R: AllocGlobal + Threads + Wait + Sync>(
+fn writes<R: AllocGlobal + Clock + Threads + Wait + Sync>(
     rt: &R,
     room: usize,
     at_once: usize,
@@ -70,7 +71,7 @@ fn writes_that_fail(rt: HostRuntime) {
 }
 
 /// Whether at most so much is taken by one that takes all, and fails at each flush.
-fn flushes<R: AllocGlobal + Threads + Wait + Sync>(
+fn flushes<R: AllocGlobal + Clock + Threads + Wait + Sync>(
     rt: &R,
     words: &[&str],
     document: &str,

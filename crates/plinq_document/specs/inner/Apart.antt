@@ -83,4 +83,4 @@ meaning_apart settings apart d = do
   source ← source_apart apart version d
   growth ← growth_of counts
   query ← with_steps_of version 0 (new_query settings) steps
-  Ok (record { query = query; source = source; growth = growth; aggregate = aggregate; cancel_after = settings.cancel_after })
+  Ok (record { query = query; source = source; growth = growth; has_growth = counts.is_given; aggregate = aggregate; cancel_after = settings.cancel_after })

@@ -38,4 +38,4 @@ returns-clause-next g c =
     }
 
 pub returns-clause-of : goal.returns-clause-of
-returns-clause-of g c = c.reuse.ensures.of c.args.self.now.chunked.now c.take.ensures.of
+returns-clause-of g c = c.reuse.ensures.of c.args.self.now.chunked.now c.take_up_to.ensures.of

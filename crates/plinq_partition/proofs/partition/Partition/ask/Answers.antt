@@ -1,4 +1,4 @@
-use Rattle.std.proofs.Common.{◌+◌, ◌≤◌, length, ap, arith, subst}
+use Rattle.std.proofs.Common.{◌+◌, ◌≤◌, length, refl, ap, arith, subst}
 use Rattle.plinq_source.specs.Trace.{Trace}
 use Rattle.plinq_keyed.specs.declared.event.Event.TheVariants.{Ask}
 use Rattle.plinq_keyed.specs.History.{start, place_after, reply, request_record, next_record, IsChunkOf}
@@ -9,13 +9,13 @@ use Rattle.plinq_partition.proofs.partition.Partition.ask.Goals as goal
 
 pub returns-clause-of : goal.returns-clause-of
 returns-clause-of g c =
-    let e = Ask c.size-n.result in
+    let e = Ask c.args.n in
     let recorded =
-    recorded-inside _ _ c.args.held c.value_mut.result.now _ _ c.ticket-ticket.result e c.requires c.value_mut.ensures.value
+    recorded-inside _ _ c.args.held c.value_mut.result.now _ _ c.ticket-ticket.result e c.requires.inside c.value_mut.ensures.value
     c.in_ok-chunk.ensures.recorded c.leave.ensures.share in
     record {
       of = c.leave.ensures.lock;
-      counted = let d = c.leave.ensures.drawn in let k = c.requires.counted in let n = c.requires.drawn in omega arith;
+      counted = let d = c.leave.ensures.drawn in let k = c.requires.inside.counted in let n = c.requires.inside.drawn in omega arith;
       rising = recorded.rising;
     }
 
@@ -25,8 +25,10 @@ returns-clause-taken g c =
     let t = g.S.Source.whole (held_source value) in
     let h = held_records value in
     let ticket = c.ticket-ticket.result in
-    let e = Ask c.size-n.result in
-    let left = recorded-inside _ _ c.args.held value _ _ ticket e c.requires c.value_mut.ensures.value c.in_ok-chunk.ensures.recorded c.leave.ensures.share in
+    let e = Ask c.args.n in
+    let left =
+    recorded-inside _ _ c.args.held value _ _ ticket e c.requires.inside c.value_mut.ensures.value c.in_ok-chunk.ensures.recorded
+    c.leave.ensures.share in
     let entry = next_record t h ticket e in
     let chunk = c.in_ok-chunk.chunk in
     let of : IsChunkOf t entry chunk = c.in_ok-chunk.ensures.chunk in
@@ -38,11 +40,11 @@ returns-clause-taken g c =
       adds = record {
         origin = c.leave.ensures.origin;
         share = left.share;
-        asked_is = ap Ask c.size-n.ensures.size;
+        asked_is = refl;
         place = place;
         replied = ap (λ u. request_record ticket e (reply u place e)) left.origin;
       };
-      some = let same = c.size-n.ensures.size in let least = c.size-n.ensures.least in omega arith;
+      some = c.requires.some;
       of = rw (← left.origin) of;
       counted = sized.0;
       within = subst Within left.origin sized.1;
