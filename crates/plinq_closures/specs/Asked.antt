@@ -1,8 +1,9 @@
 -- What a chain answers.
-use Rattle.std.specs.Prelude.{◌≡◌, ◌≢◌, refl, ℕ, List, Some, ⊤, Bool, false, not, Option, is_some, Result, Ok, Err}
+use Rattle.std.specs.Prelude.{◌≡◌, ◌≢◌, refl, ℕ, ◌+◌, List, [], ◌∷◌, length, Some, ⊤, Bool, false, not, Option, is_some, Result, Ok, Err}
+use Rattle.std.proofs.Common.{arith}
 use Rattle.plinq_source.specs.declared.ending.Ending.{Ending}
-use Rattle.plinq_source.specs.declared.ending.Ending.TheVariants.{End}
-use Rattle.plinq_source.specs.Trace.{Trace}
+use Rattle.plinq_source.specs.declared.ending.Ending.TheVariants.{End, Refused}
+use Rattle.plinq_source.specs.Trace.{Trace, ended_trace}
 use Rattle.plinq_ops.specs.declared.build_fault.BuildFault.{BuildFault}
 use Rattle.plinq_ops.specs.declared.build_fault.BuildFault.TheVariants.{NotAtSource, MergeTwice, DegreeTwice, DegreeOutOfRange, Memory as NoRoom}
 use Rattle.plinq_ops.specs.declared.merge_option.MergeOption.TheVariants.{AutoBuffered}
@@ -115,3 +116,37 @@ no_thread is = absurd cc
 
 no_thread_for_a_closure : LacksRoomOrRefused (Err (Run Thread)) → ⊥
 no_thread_for_a_closure is = is
+
+-- ---- what is made of the items of an answer
+
+abbrev one_item : Ending → Trace ℕ
+one_item ending = ended_trace (7 ∷ []) ending
+
+abbrev count_of : List ℕ → ℕ
+count_of xs = length xs
+
+one_is_counted : Tells 4 count_of (one_item End) (Ok 1)
+one_is_counted = (refl, refl)
+
+-- one item isn't two
+another_count : Tells 4 count_of (one_item End) (Ok 2) → ⊥
+another_count told = let bad : 2 ≡ 1 = told.0 in omega (arith, bad)
+
+-- nothing is made of an answer that ended otherwise
+a_refusal_has_no_count : Tells 4 count_of (one_item (Refused 7)) (Ok 1) → ⊥
+a_refusal_has_no_count told = absurd (let bad : ◌≡◌ {A = Option Ending} (Some (Refused 7)) (Some End) = told.1 in cc)
+
+-- and one that ended well has something
+an_end_is_no_fault : Tells 4 count_of (one_item End) (Err (Ended End)) → ⊥
+an_end_is_no_fault told = told.1 refl
+
+-- nor is another ending reported
+another_ending : Tells 4 count_of (one_item (Refused 7)) (Err (Ended (Refused 8))) → ⊥
+another_ending told = absurd (let bad : ◌≡◌ {A = Option Ending} (Some (Refused 7)) (Some (Refused 8)) = told.0 in cc)
+
+-- a closure isn't called if its query can't be built, here by 65 workers
+not_called : WasCalled 65 (λ f x r g. g ≡ f + 1) (one_item End) 0 (Err (Build DegreeOutOfRange)) 0
+not_called = (refl, refl)
+
+called_all_the_same : WasCalled 65 (λ f x r g. g ≡ f + 1) (one_item End) 0 (Err (Build DegreeOutOfRange)) 1 → ⊥
+called_all_the_same is = let bad : 1 ≡ 0 = is.1 in omega (arith, bad)
