@@ -22,6 +22,7 @@ use plinq_prelude::{NAMES};
 use std::alloc::Global;
 use std::sync::Wait;
 use std::thread::Threads;
+use std::time::Clock;
 
 #[derive(Clone, Copy)]
 struct Record<'a> {
@@ -40,7 +41,7 @@ fn main(rt: HostRuntime) -> Result<()> {
 # the function that each block stands in, by how the block begins; each answers how many items it was given
 FUNCTIONS = {
     "let query": """
-fn numbers<R: Threads + Wait + Sync>(rt: &R, alloc: Global) -> Result<usize> {
+fn numbers<R: Clock + Threads + Wait + Sync>(rt: &R, alloc: Global) -> Result<usize> {
     let records = [1, 2, 4];
     let errors = Formula::Even;
 BLOCK
@@ -48,7 +49,7 @@ BLOCK
 }
 """,
     "let chain": """
-fn records<R: Threads + Wait + Sync>(rt: &R, alloc: Global) -> Result<usize> {
+fn records<R: Clock + Threads + Wait + Sync>(rt: &R, alloc: Global) -> Result<usize> {
     let records = [Record { severity: 4, message: "a" }, Record { severity: 2, message: "b" }];
     let source = SliceSource::new(&records)?;
 BLOCK

@@ -20,6 +20,7 @@ use plinq_source::{Ending, Source};
 use std::alloc::Global;
 use std::sync::Wait;
 use std::thread::Threads;
+use std::time::Clock;
 
 impl<S: Steps<Item: Send> + Sync> Chain<S> {
     /// All items of the answer in their order, and how it ended (.NET's `ToList`, rayon's `collect`).
@@ -37,7 +38,7 @@ impl<S: Steps<Item: Send> + Sync> Chain<S> {
     ) -> Result<(Vec<S::Item>, Ending), ChainFault>
     where
         Src: Source<Item = S::Item>,
-        R: Threads + Wait + Sync,
+        R: Clock + Threads + Wait + Sync,
         requires fresh { Src.given source ≡ 0 }
         requires is_called { S.is_called self.now.steps }
         requires in_one_way { S.in_one_way self.now.steps }
@@ -69,7 +70,7 @@ impl<S: Steps<Item: Send> + Sync> Chain<S> {
     ) -> Result<Option<S::Item>, ChainFault>
     where
         Src: Source<Item = S::Item>,
-        R: Threads + Wait + Sync,
+        R: Clock + Threads + Wait + Sync,
         requires fresh { Src.given source ≡ 0 }
         requires is_called { S.is_called self.now.steps }
         requires in_one_way { S.in_one_way self.now.steps }
@@ -100,7 +101,7 @@ impl<S: Steps<Item: Send> + Sync> Chain<S> {
     ) -> Result<bool, ChainFault>
     where
         Src: Source<Item = S::Item>,
-        R: Threads + Wait + Sync,
+        R: Clock + Threads + Wait + Sync,
         requires fresh { Src.given source ≡ 0 }
         requires is_called { S.is_called self.now.steps }
         requires in_one_way { S.in_one_way self.now.steps }
@@ -127,7 +128,7 @@ impl<S: Steps<Item: Send> + Sync> Chain<S> {
     ) -> Result<u64, ChainFault>
     where
         Src: Source<Item = S::Item>,
-        R: Threads + Wait + Sync,
+        R: Clock + Threads + Wait + Sync,
         requires fresh { Src.given source ≡ 0 }
         requires is_called { S.is_called self.now.steps }
         requires in_one_way { S.in_one_way self.now.steps }

@@ -16,11 +16,12 @@ use crate::steps::Steps;
 use plinq_aggregate::{Aggregator, GrowingAggregator};
 use plinq_collect::sequentially;
 use plinq_enumerator::Growth;
-use plinq_run::{OpenGate, aggregate};
+use plinq_run::{TimedGate, aggregate};
 use plinq_source::Source;
 use std::alloc::Global;
 use std::sync::Wait;
 use std::thread::Threads;
+use std::time::Clock;
 
 impl<S: Steps<Item: Send> + Sync> Chain<S> {
     /// The aggregate of the answer (.NET's `Aggregate`, rayon's `fold` and `reduce`). It needs all of it.
@@ -40,7 +41,7 @@ impl<S: Steps<Item: Send> + Sync> Chain<S> {
         Src: Source<Item = S::Item>,
         A: GrowingAggregator<Item = S::Item>,
         A::Out: Drop,
-        R: Threads + Wait + Sync,
+        R: Clock + Threads + Wait + Sync,
         requires fresh { Src.given source ≡ 0 }
         requires is_called { S.is_called self.now.steps }
         requires in_one_way { S.in_one_way self.now.steps }
@@ -57,7 +58,7 @@ impl<S: Steps<Item: Send> + Sync> Chain<S> {
                 &query,
                 source,
                 Growth::DEFAULT,
-                &OpenGate,
+                &TimedGate::new(rt),
                 aggregator,
             )),
             Err(fault) => Err(ChainFault::Build(fault)),
@@ -83,7 +84,7 @@ impl<'a, S: Steps<Item: Send> + Sync> Sequentially<'a, S> {
         Src: Source<Item = S::Item>,
         A: Aggregator<Item = S::Item>,
         A::Out: Drop,
-        R: Threads + Wait + Sync,
+        R: Clock + Threads + Wait + Sync,
         requires fresh { Src.given source ≡ 0 }
         requires is_called { S.is_called self.now.steps.now }
         requires in_one_way { S.in_one_way self.now.steps.now }

@@ -16,6 +16,7 @@ use plinq_source::{Ending, Source};
 use std::alloc::Global;
 use std::sync::Wait;
 use std::thread::Threads;
+use std::time::Clock;
 
 impl<S: Steps<Item: Send> + Sync> Chain<S> {
     /// Calls a closure with each item of the answer, one after another, and answers how it ended (C#'s `foreach`). It is called
@@ -35,7 +36,7 @@ impl<S: Steps<Item: Send> + Sync> Chain<S> {
     where
         Src: Source<Item = S::Item>,
         F: FnMut(S::Item) -> Result<(), u32>,
-        R: Threads + Wait + Sync,
+        R: Clock + Threads + Wait + Sync,
         requires fresh { Src.given source ≡ 0 }
         requires is_called { S.is_called self.now.steps }
         requires in_one_way { S.in_one_way self.now.steps }

@@ -20,6 +20,7 @@ use plinq_source::Source;
 use std::alloc::Global;
 use std::sync::Wait;
 use std::thread::Threads;
+use std::time::Clock;
 
 impl<S: Steps<Item: Send> + Sync> Chain<S> {
     /// The item at a place, counted from 0, if there are as many (.NET's `ElementAtOrDefault`). No item after it is asked for
@@ -38,7 +39,7 @@ impl<S: Steps<Item: Send> + Sync> Chain<S> {
     ) -> Result<Option<S::Item>, ChainFault>
     where
         Src: Source<Item = S::Item>,
-        R: Threads + Wait + Sync,
+        R: Clock + Threads + Wait + Sync,
         requires fresh { Src.given source ≡ 0 }
         requires is_called { S.is_called self.now.steps }
         requires in_one_way { S.in_one_way self.now.steps }
@@ -70,7 +71,7 @@ impl<S: Steps<Item: Send> + Sync> Chain<S> {
     where
         S::Item: PartialEq + Sync,
         Src: Source<Item = S::Item>,
-        R: Threads + Wait + Sync,
+        R: Clock + Threads + Wait + Sync,
         requires fresh { Src.given source ≡ 0 }
         requires is_called { S.is_called self.now.steps }
         requires in_one_way { S.in_one_way self.now.steps }
@@ -105,7 +106,7 @@ impl<S: Steps<Item: Send> + Sync> Chain<S> {
     where
         P: Fn(S::Item) -> Result<bool, u32> + Sync,
         Src: Source<Item = S::Item>,
-        R: Threads + Wait + Sync,
+        R: Clock + Threads + Wait + Sync,
         requires fresh { Src.given source ≡ 0 }
         requires is_called { ((x : S.Item) → P.pre by x) × S.is_called self.now.steps }
         requires in_one_way { ((x : S.Item) (a b : P.pre by x) → a ≡ b) × S.in_one_way self.now.steps }
@@ -139,7 +140,7 @@ impl<S: Steps<Item: Send> + Sync> Chain<S> {
     where
         P: Fn(S::Item) -> Result<bool, u32> + Sync,
         Src: Source<Item = S::Item>,
-        R: Threads + Wait + Sync,
+        R: Clock + Threads + Wait + Sync,
         requires fresh { Src.given source ≡ 0 }
         requires is_called { ((x : S.Item) → P.pre by x) × S.is_called self.now.steps }
         requires in_one_way { ((x : S.Item) (a b : P.pre by x) → a ≡ b) × S.in_one_way self.now.steps }

@@ -16,6 +16,7 @@ use plinq_source::{Ending, Source};
 use std::alloc::Global;
 use std::sync::Wait;
 use std::thread::Threads;
+use std::time::Clock;
 
 /// Calls a closure with each item of a query's answer, one after another, and answers how it ended (C#'s `foreach` over a
 /// query). It is called on the caller's thread, while the workers go on; rayon's `for_each` calls on the workers'.
@@ -41,7 +42,7 @@ where
     L: SharedLambda,
     S: Source<Item = L::Item>,
     F: FnMut(L::Item) -> Result<(), u32>,
-    R: Threads + Wait + Sync,
+    R: Clock + Threads + Wait + Sync,
     requires fresh { S.given source ≡ 0 }
     requires is_called { (f : F) (x : L.Item) → F.pre f x }
     requires in_one_way { (f : F) (x : L.Item) (a b : F.pre f x) → a ≡ b }
@@ -63,7 +64,7 @@ where
     L: SharedLambda,
     S: Source<Item = L::Item>,
     V: Visits<Item = L::Item>,
-    R: Threads + Wait + Sync,
+    R: Clock + Threads + Wait + Sync,
     requires fresh { S.given source ≡ 0 }
     requires is_called { V.is_called }
     requires in_one_way { (a b : V.is_called) → a ≡ b }
@@ -85,7 +86,7 @@ where
     L: SharedLambda,
     S: Source<Item = L::Item>,
     V: Visits<Item = L::Item>,
-    R: Threads + Wait + Sync,
+    R: Clock + Threads + Wait + Sync,
     requires fresh { S.given source ≡ 0 }
     ensures same { sink.new.by.ghost_name ≡ sink.old.by.ghost_name }
     ensures calls { CallsSome V.steps (merge_in_force query.now.merge)

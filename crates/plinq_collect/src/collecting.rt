@@ -10,11 +10,12 @@ use plinq_enumerator::Growth;
 use plinq_lambda::SharedLambda;
 use plinq_merge::Sink;
 use plinq_ops::Query;
-use plinq_run::{OpenGate, Report, RunFault, run};
+use plinq_run::{Report, RunFault, TimedGate, run};
 use plinq_source::{Ending, Source};
 use std::alloc::Global;
 use std::sync::Wait;
 use std::thread::Threads;
+use std::time::Clock;
 
 /// Runs a query into a sink, with the default growth and the gate that holds no worker back.
 ///
@@ -32,12 +33,20 @@ where
     L: SharedLambda,
     S: Source<Item = L::Item>,
     K: Sink<Item = L::Item>,
-    R: Threads + Wait + Sync,
+    R: Clock + Threads + Wait + Sync,
     requires { S.given source ≡ 0 }
     ensures { Reports K.accepts K.refuses (merge_in_force query.now.merge) (MayAnswer L.meaning query.now.ordered query.now.ops)
         (S.whole source) sink.old sink.new result }
 {
-    run(rt, alloc, query, source, Growth::DEFAULT, &OpenGate, sink)
+    run(
+        rt,
+        alloc,
+        query,
+        source,
+        Growth::DEFAULT,
+        &TimedGate::new(rt),
+        sink,
+    )
 }
 
 /// The items of a query's answer, and how it ended (.NET's `ToList`, rayon's `collect`).
@@ -61,7 +70,7 @@ pub fn to_vec<L, S, R>(
 where
     L: SharedLambda,
     S: Source<Item = L::Item>,
-    R: Threads + Wait + Sync,
+    R: Clock + Threads + Wait + Sync,
     requires { S.given source ≡ 0 }
     ensures { MatchResult result
         (λ it. GathersSome (merge_in_force query.now.merge) (MayAnswer L.meaning query.now.ordered query.now.ops (S.whole source)) it.0.items it.1)

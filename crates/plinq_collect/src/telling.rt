@@ -13,12 +13,13 @@ use crate::item_count::ItemCount;
 use plinq_enumerator::Growth;
 use plinq_lambda::SharedLambda;
 use plinq_ops::Query;
-use plinq_run::{AggregateFault, OpenGate, RunFault, aggregate};
+use plinq_run::{AggregateFault, RunFault, TimedGate, aggregate};
 use plinq_source::Source;
 use std::alloc::Global;
 use std::marker::PhantomData;
 use std::sync::Wait;
 use std::thread::Threads;
+use std::time::Clock;
 
 /// The first item, if there is one (.NET's `FirstOrDefault`, rayon's `find_first`; without `as_ordered` `find_any`).
 ///
@@ -38,7 +39,7 @@ pub fn first<L, S, R>(
 where
     L: SharedLambda,
     S: Source<Item = L::Item>,
-    R: Threads + Wait + Sync,
+    R: Clock + Threads + Wait + Sync,
     requires { S.given source ≡ 0 }
     ensures { TellsSome first_of (MayAnswer L.meaning query.ordered (query.ops ++ Op.Take (pos 1) ∷ []) (S.whole source)) result }
 {
@@ -52,7 +53,7 @@ where
         &query,
         source,
         Growth::DEFAULT,
-        &OpenGate,
+        &TimedGate::new(rt),
         &first,
     )
 }
@@ -74,7 +75,7 @@ pub fn element_at<L, S, R>(
 where
     L: SharedLambda,
     S: Source<Item = L::Item>,
-    R: Threads + Wait + Sync,
+    R: Clock + Threads + Wait + Sync,
     requires { S.given source ≡ 0 }
     ensures { TellsSome first_of (MayAnswer L.meaning query.ordered ((query.ops ++ Op.Skip (pos place) ∷ []) ++ Op.Take (pos 1) ∷ []) (S.whole source)) result }
 {
@@ -102,7 +103,7 @@ pub fn any<L, S, R>(
 where
     L: SharedLambda,
     S: Source<Item = L::Item>,
-    R: Threads + Wait + Sync,
+    R: Clock + Threads + Wait + Sync,
     requires { S.given source ≡ 0 }
     ensures { TellsSome has_item (MayAnswer L.meaning query.ordered ((query.ops ++ Op.Filter test ∷ []) ++ Op.Take (pos 1) ∷ []) (S.whole source)) result }
 {
@@ -127,7 +128,7 @@ pub fn contains<L, S, R>(
 where
     L: EqualTo + SharedLambda,
     S: Source<Item = L::Item>,
-    R: Threads + Wait + Sync,
+    R: Clock + Threads + Wait + Sync,
     requires { S.given source ≡ 0 }
     ensures { (test : L) × (IsTestOf L.Item.eq (L.meaning test) item) × TellsSome has_item (MayAnswer L.meaning query.ordered
         ((query.ops ++ Op.Filter test ∷ []) ++ Op.Take (pos 1) ∷ []) (S.whole source)) result }
@@ -153,7 +154,7 @@ pub fn all<L, S, R>(
 where
     L: SharedLambda,
     S: Source<Item = L::Item>,
-    R: Threads + Wait + Sync,
+    R: Clock + Threads + Wait + Sync,
     requires { S.given source ≡ 0 }
     ensures { TellsSome has_none (MayAnswer L.meaning query.ordered ((query.ops ++ Op.SkipWhile test ∷ []) ++ Op.Take (pos 1) ∷ []) (S.whole source)) result }
 {
@@ -177,7 +178,7 @@ pub fn count<L, S, R>(
 where
     L: SharedLambda,
     S: Source<Item = L::Item>,
-    R: Threads + Wait + Sync,
+    R: Clock + Threads + Wait + Sync,
     requires { S.given source ≡ 0 }
     ensures { TellsSome wrapped_count (MayAnswer L.meaning query.now.ordered query.now.ops (S.whole source)) result }
 {
@@ -188,7 +189,7 @@ where
         query,
         source,
         Growth::DEFAULT,
-        &OpenGate,
+        &TimedGate::new(rt),
         &counted,
     )
 }
@@ -203,7 +204,7 @@ fn is_there<L, S, R>(
 where
     L: SharedLambda,
     S: Source<Item = L::Item>,
-    R: Threads + Wait + Sync,
+    R: Clock + Threads + Wait + Sync,
     requires { S.given source ≡ 0 }
     ensures { TellsSome has_item (MayAnswer L.meaning query.ordered (query.ops ++ Op.Take (pos 1) ∷ []) (S.whole source)) result }
 {
@@ -217,7 +218,7 @@ where
         &query,
         source,
         Growth::DEFAULT,
-        &OpenGate,
+        &TimedGate::new(rt),
         &is_there,
     )
 }

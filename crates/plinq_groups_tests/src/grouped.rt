@@ -13,6 +13,7 @@ use std::process::Abort;
 use std::sync::Wait;
 use std::test::*;
 use std::thread::Threads;
+use std::time::Clock;
 
 /// How numbers are asked for.
 #[derive(Clone, Copy)]
@@ -74,7 +75,7 @@ fn query_of(alloc: Global, setting: &Setting) -> Built<Formula> {
     }
 }
 
-fn groups_of<F: KeyOf<Item = i64>, R: Threads + Wait + Sync>(
+fn groups_of<F: KeyOf<Item = i64>, R: Clock + Threads + Wait + Sync>(
     rt: &R,
     alloc: Global,
     setting: &Setting,
@@ -156,7 +157,7 @@ fn are_groups_of<F: KeyOf<Item = i64>>(
     count == usize::from(setting.left)
 }
 
-fn are_grouped<F: KeyOf<Item = i64> + Copy, R: Threads + Wait + Sync>(
+fn are_grouped<F: KeyOf<Item = i64> + Copy, R: Clock + Threads + Wait + Sync>(
     rt: &R,
     alloc: Global,
     setting: &Setting,
@@ -177,7 +178,7 @@ const PARTS: [(u8, u8, bool); 5] = [
     (200, 77, true),
 ];
 
-fn ask_each<F: KeyOf<Item = i64> + Copy, R: Threads + Wait + Sync + Abort>(
+fn ask_each<F: KeyOf<Item = i64> + Copy, R: Clock + Threads + Wait + Sync + Abort>(
     rt: &R,
     alloc: Global,
     growth: Growth,

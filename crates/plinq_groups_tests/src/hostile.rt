@@ -10,13 +10,14 @@ use plinq_source::RangeSource;
 use std::alloc::Global;
 use std::sync::Wait;
 use std::thread::Threads;
+use std::time::Clock;
 
 fn query_by_two(alloc: Global) -> Built<Formula> {
     Query::new(alloc).as_ordered()?.with_degree(2)
 }
 
 /// How many groups so many different numbers make.
-fn groups_of<R: Threads + Wait + Sync>(
+fn groups_of<R: Clock + Threads + Wait + Sync>(
     rt: &R,
     alloc: Global,
     query: &Query<Formula>,

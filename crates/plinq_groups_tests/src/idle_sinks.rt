@@ -12,6 +12,7 @@ use std::sync::Wait;
 use std::sync::atomic::Ordering;
 use std::test::*;
 use std::thread::Threads;
+use std::time::Clock;
 
 /// Four numbers, by one worker, and where it is asked for an operator after the merge.
 fn query_of(alloc: Global, skips: bool) -> Built<Formula> {
@@ -26,7 +27,7 @@ fn query_of(alloc: Global, skips: bool) -> Built<Formula> {
 }
 
 /// Whether it was reported to the sink, until which the worker is held back, in a run that ended well.
-fn is_told<R: Threads + Wait + Sync>(rt: &R, alloc: Global, skips: bool) -> bool {
+fn is_told<R: Clock + Threads + Wait + Sync>(rt: &R, alloc: Global, skips: bool) -> bool {
     let (Ok(query), Ok(source)) = (query_of(alloc, skips), RangeSource::new(0, 4)) else {
         return false;
     };

@@ -16,6 +16,7 @@ use std::process::Abort;
 use std::sync::Wait;
 use std::test::*;
 use std::thread::Threads;
+use std::time::Clock;
 
 /// The code of the number of which nothing is made.
 const NOTHING: u32 = 5;
@@ -181,7 +182,7 @@ struct Told {
 }
 
 /// What a run delivers, in batches of the size that is asked for, to a sink that takes so many.
-fn delivered<R: Threads + Wait + Sync>(
+fn delivered<R: Clock + Threads + Wait + Sync>(
     rt: &R,
     alloc: Global,
     setting: &Setting,
@@ -205,7 +206,11 @@ fn delivered<R: Threads + Wait + Sync>(
 }
 
 /// All that is made.
-fn listed<R: Threads + Wait + Sync>(rt: &R, alloc: Global, setting: &Setting) -> Option<Told> {
+fn listed<R: Clock + Threads + Wait + Sync>(
+    rt: &R,
+    alloc: Global,
+    setting: &Setting,
+) -> Option<Told> {
     let Ok(query) = query_of(alloc, setting) else {
         return None;
     };
@@ -238,7 +243,11 @@ fn to_deliver(option: MergeOption, made: &[u64], ending: Ending) -> (&[u64], usi
     }
 }
 
-fn is_as_by_loop<R: Threads + Wait + Sync>(rt: &R, alloc: Global, setting: &Setting) -> bool {
+fn is_as_by_loop<R: Clock + Threads + Wait + Sync>(
+    rt: &R,
+    alloc: Global,
+    setting: &Setting,
+) -> bool {
     let Ok((made, ending)) = by_loop(alloc, setting.after, setting.but) else {
         return false;
     };
@@ -266,7 +275,7 @@ const CASES: [(After, i64); 9] = [
     (After::All, 51),
 ];
 
-fn ask_in_order<R: Threads + Wait + Sync + Abort>(rt: &R, alloc: Global, growth: Growth) {
+fn ask_in_order<R: Clock + Threads + Wait + Sync + Abort>(rt: &R, alloc: Global, growth: Growth) {
     for workers in [1, 2, 8, 64] {
         for option in OPTIONS {
             for (after, but) in CASES {
@@ -292,7 +301,7 @@ fn what_is_made_by_workers_and_after_the_merge(rt: HostRuntime) -> Result<(), Fa
 }
 
 /// Whether a sink that takes two batches has the first 32 of what is made.
-fn are_two_batches<R: Threads + Wait + Sync>(
+fn are_two_batches<R: Clock + Threads + Wait + Sync>(
     rt: &R,
     alloc: Global,
     workers: u64,
@@ -330,7 +339,7 @@ fn a_refused_batch_is_the_last(rt: HostRuntime) {
 }
 
 /// Whether a query of which nothing is taken delivers no batch, and lists nothing.
-fn is_nothing<R: Threads + Wait + Sync>(rt: &R, alloc: Global, setting: &Setting) -> bool {
+fn is_nothing<R: Clock + Threads + Wait + Sync>(rt: &R, alloc: Global, setting: &Setting) -> bool {
     is_told(delivered(rt, alloc, setting, 0), &[], Ok(Ending::End))
         && is_told(listed(rt, alloc, setting), &[], Ok(Ending::End))
 }
@@ -393,7 +402,11 @@ fn is_of_some_loop(told: Option<Told>, setting: &Setting, all: &[u64], is_kept_b
     is_right && are_of_all(made, all) && count_of(made, setting.but.cast_unsigned()) == 0
 }
 
-fn is_in_some_order<R: Threads + Wait + Sync>(rt: &R, alloc: Global, setting: &Setting) -> bool {
+fn is_in_some_order<R: Clock + Threads + Wait + Sync>(
+    rt: &R,
+    alloc: Global,
+    setting: &Setting,
+) -> bool {
     let Ok((all, _)) = by_loop(alloc, After::Nothing, NONE) else {
         return false;
     };
@@ -407,7 +420,11 @@ fn is_in_some_order<R: Threads + Wait + Sync>(rt: &R, alloc: Global, setting: &S
         )
 }
 
-fn ask_in_any_order<R: Threads + Wait + Sync + Abort>(rt: &R, alloc: Global, growth: Growth) {
+fn ask_in_any_order<R: Clock + Threads + Wait + Sync + Abort>(
+    rt: &R,
+    alloc: Global,
+    growth: Growth,
+) {
     for workers in [1, 2, 8, 64] {
         for option in OPTIONS {
             for (after, but) in [

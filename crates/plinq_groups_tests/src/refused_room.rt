@@ -13,6 +13,7 @@ use plinq_testing::Taken;
 use std::alloc::Global;
 use std::sync::Wait;
 use std::thread::Threads;
+use std::time::Clock;
 
 /// What is asked for.
 #[derive(Clone, Copy)]
@@ -40,7 +41,7 @@ fn first(alloc: Global, asked: Asked, workers: u64) -> Built<Formula> {
 }
 
 /// Groups them by their lowest bits. Answers whether so many are in the group of 1.
-fn grouped<R: Threads + Wait + Sync>(
+fn grouped<R: Clock + Threads + Wait + Sync>(
     rt: &R,
     alloc: Global,
     query: &Query<Formula>,
@@ -67,7 +68,7 @@ fn grouped<R: Threads + Wait + Sync>(
 }
 
 /// Makes something of each of them. Answers whether a sink took so many, which may lack room as well.
-fn delivered<R: Threads + Wait + Sync>(
+fn delivered<R: Clock + Threads + Wait + Sync>(
     rt: &R,
     alloc: Global,
     query: &Query<Formula>,
@@ -95,7 +96,7 @@ fn delivered<R: Threads + Wait + Sync>(
 }
 
 /// Keeps what is made of each of them in a list. Answers whether it has so many.
-fn listed<R: Threads + Wait + Sync>(
+fn listed<R: Clock + Threads + Wait + Sync>(
     rt: &R,
     alloc: Global,
     query: &Query<Formula>,
@@ -111,7 +112,7 @@ fn listed<R: Threads + Wait + Sync>(
     Ok(ending == Ending::End && made.len() == count && made.first() == Some(&1))
 }
 
-fn told<R: Threads + Wait + Sync>(
+fn told<R: Clock + Threads + Wait + Sync>(
     rt: &R,
     alloc: Global,
     asked: Asked,
@@ -141,7 +142,7 @@ fn are_right(first: Result<bool, RunFault>, second: Result<bool, RunFault>) -> b
 }
 
 /// Asks a query twice, if there is room for it.
-fn is_answered<R: Threads + Wait + Sync>(
+fn is_answered<R: Clock + Threads + Wait + Sync>(
     rt: &R,
     alloc: Global,
     asked: Asked,
@@ -166,7 +167,7 @@ fn counts(asked: Asked) -> (usize, usize) {
     }
 }
 
-fn are_answered<R: Threads + Wait + Sync>(
+fn are_answered<R: Clock + Threads + Wait + Sync>(
     rt: &R,
     alloc: Global,
     asked: Asked,

@@ -9,6 +9,7 @@ use plinq_source::Ending;
 use std::alloc::{AllocError, Global};
 use std::sync::Wait;
 use std::thread::Threads;
+use std::time::Clock;
 
 const WORKERS: [u64; 4] = [1, 2, 8, 64];
 
@@ -64,7 +65,7 @@ fn numbers(alloc: Global, seed: u64) -> Result<Vec<i64>, AllocError> {
 // A function asks for one thing, and answers whether it is told what a loop tells: what is known and owned at a step is what its
 // proof costs.
 
-fn is_list<R: Threads + Wait + Sync>(
+fn is_list<R: Clock + Threads + Wait + Sync>(
     rt: &R,
     alloc: Global,
     items: &[i64],
@@ -83,7 +84,7 @@ fn is_list<R: Threads + Wait + Sync>(
     }
 }
 
-fn is_list_by_one<R: Threads + Wait + Sync>(
+fn is_list_by_one<R: Clock + Threads + Wait + Sync>(
     rt: &R,
     alloc: Global,
     items: &[i64],
@@ -102,7 +103,7 @@ fn is_list_by_one<R: Threads + Wait + Sync>(
     }
 }
 
-fn is_count<R: Threads + Wait + Sync>(
+fn is_count<R: Clock + Threads + Wait + Sync>(
     rt: &R,
     alloc: Global,
     items: &[i64],
@@ -118,7 +119,7 @@ fn is_count<R: Threads + Wait + Sync>(
     }
 }
 
-fn is_first<R: Threads + Wait + Sync>(
+fn is_first<R: Clock + Threads + Wait + Sync>(
     rt: &R,
     alloc: Global,
     items: &[i64],
@@ -134,7 +135,7 @@ fn is_first<R: Threads + Wait + Sync>(
     }
 }
 
-fn is_at<R: Threads + Wait + Sync>(
+fn is_at<R: Clock + Threads + Wait + Sync>(
     rt: &R,
     alloc: Global,
     items: &[i64],
@@ -151,7 +152,7 @@ fn is_at<R: Threads + Wait + Sync>(
     }
 }
 
-fn is_any<R: Threads + Wait + Sync>(
+fn is_any<R: Clock + Threads + Wait + Sync>(
     rt: &R,
     alloc: Global,
     items: &[i64],
@@ -168,7 +169,7 @@ fn is_any<R: Threads + Wait + Sync>(
     }
 }
 
-fn is_there<R: Threads + Wait + Sync>(
+fn is_there<R: Clock + Threads + Wait + Sync>(
     rt: &R,
     alloc: Global,
     items: &[i64],
@@ -185,7 +186,7 @@ fn is_there<R: Threads + Wait + Sync>(
     }
 }
 
-fn is_all<R: Threads + Wait + Sync>(
+fn is_all<R: Clock + Threads + Wait + Sync>(
     rt: &R,
     alloc: Global,
     items: &[i64],
@@ -202,7 +203,7 @@ fn is_all<R: Threads + Wait + Sync>(
     }
 }
 
-fn is_count_by_one<R: Threads + Wait + Sync>(
+fn is_count_by_one<R: Clock + Threads + Wait + Sync>(
     rt: &R,
     alloc: Global,
     items: &[i64],
@@ -218,7 +219,7 @@ fn is_count_by_one<R: Threads + Wait + Sync>(
     }
 }
 
-fn is_first_by_one<R: Threads + Wait + Sync>(
+fn is_first_by_one<R: Clock + Threads + Wait + Sync>(
     rt: &R,
     alloc: Global,
     items: &[i64],
@@ -234,7 +235,7 @@ fn is_first_by_one<R: Threads + Wait + Sync>(
     }
 }
 
-fn is_at_by_one<R: Threads + Wait + Sync>(
+fn is_at_by_one<R: Clock + Threads + Wait + Sync>(
     rt: &R,
     alloc: Global,
     items: &[i64],
@@ -252,7 +253,7 @@ fn is_at_by_one<R: Threads + Wait + Sync>(
     }
 }
 
-fn is_any_by_one<R: Threads + Wait + Sync>(
+fn is_any_by_one<R: Clock + Threads + Wait + Sync>(
     rt: &R,
     alloc: Global,
     items: &[i64],
@@ -270,7 +271,7 @@ fn is_any_by_one<R: Threads + Wait + Sync>(
     }
 }
 
-fn is_there_by_one<R: Threads + Wait + Sync>(
+fn is_there_by_one<R: Clock + Threads + Wait + Sync>(
     rt: &R,
     alloc: Global,
     items: &[i64],
@@ -287,7 +288,7 @@ fn is_there_by_one<R: Threads + Wait + Sync>(
     }
 }
 
-fn is_all_by_one<R: Threads + Wait + Sync>(
+fn is_all_by_one<R: Clock + Threads + Wait + Sync>(
     rt: &R,
     alloc: Global,
     items: &[i64],
@@ -306,7 +307,7 @@ fn is_all_by_one<R: Threads + Wait + Sync>(
 }
 
 /// Whether the sums that are left are these, by threads and by one.
-fn are_left<R: Threads + Wait + Sync>(
+fn are_left<R: Clock + Threads + Wait + Sync>(
     rt: &R,
     alloc: Global,
     items: &[i64],
@@ -324,7 +325,7 @@ fn are_left<R: Threads + Wait + Sync>(
 }
 
 /// Whether the one at this place is told.
-fn is_placed<R: Threads + Wait + Sync>(
+fn is_placed<R: Clock + Threads + Wait + Sync>(
     rt: &R,
     alloc: Global,
     items: &[i64],
@@ -338,7 +339,7 @@ fn is_placed<R: Threads + Wait + Sync>(
 }
 
 /// Whether it is told that this is among them, and that all are below it.
-fn is_compared<R: Threads + Wait + Sync>(
+fn is_compared<R: Clock + Threads + Wait + Sync>(
     rt: &R,
     alloc: Global,
     items: &[i64],
@@ -357,7 +358,7 @@ fn is_compared<R: Threads + Wait + Sync>(
 }
 
 /// Whether a query by chance is answered as a loop does.
-fn is_as_by_loop<R: Threads + Wait + Sync>(
+fn is_as_by_loop<R: Clock + Threads + Wait + Sync>(
     rt: &R,
     alloc: Global,
     number: u64,
@@ -395,7 +396,7 @@ fn queries_by_chance_answer_what_a_loop_does(rt: HostRuntime) {
 }
 
 /// What is told of a fault at the third item, where all are asked for.
-fn told_of_a_fault<R: Threads + Wait + Sync>(
+fn told_of_a_fault<R: Clock + Threads + Wait + Sync>(
     rt: &R,
     alloc: Global,
     workers: u64,

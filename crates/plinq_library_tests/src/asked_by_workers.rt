@@ -9,9 +9,11 @@ use plinq_lambda::Formula;
 use plinq_source::{Ending, RangeSource, Source, Step};
 use plinq_testing::waits_for;
 use std::alloc::Global;
+use std::io;
 use std::sync::Wait;
 use std::sync::atomic::{AtomicU64, Ordering};
 use std::thread::Threads;
+use std::time::{Clock, Duration};
 
 /// A source that counts how many chunks another one is asked for.
 #[derive(Drop)]
@@ -43,7 +45,27 @@ impl<'a, S: Source> Source for InChunks<'a, S> {
     }
 }
 
-/// How many numbers there are, and in how many chunks one worker takes them at most, which grow from 1 to 512.
+/// A runtime whose clock stands still, so that no chunk takes any time.
+#[derive(Drop)]
+struct Still<R> {
+    rt: R,
+}
+
+impl<R: Threads> Threads for Still<R> {}
+
+impl<R: Wait> Wait for Still<R> {}
+
+impl<R> Clock for Still<R> {
+    fn monotonic(&self) -> io::Result<Duration> {
+        Ok(Duration::ZERO)
+    }
+
+    fn since_1970(&self) -> io::Result<Duration> {
+        Ok(Duration::ZERO)
+    }
+}
+
+/// How many numbers there are, and in how many chunks one worker takes them at most, none of which takes any time.
 const NUMBERS: u64 = 10_000;
 
 const CHUNKS: u64 = 50;
@@ -65,7 +87,7 @@ fn are_few(chunks: &AtomicU64) -> bool {
 }
 
 /// Whether a count, a list and a first item ask for few chunks of all numbers.
-fn asks_in_chunks<R: Threads + Wait + Sync>(rt: &R, alloc: Global) -> bool {
+fn asks_in_chunks<R: Clock + Threads + Wait + Sync>(rt: &R, alloc: Global) -> bool {
     let chunks = AtomicU64::new(0);
     is_count(rt, alloc, &chunks)
         && are_few(&chunks)
@@ -75,14 +97,18 @@ fn asks_in_chunks<R: Threads + Wait + Sync>(rt: &R, alloc: Global) -> bool {
         && are_few(&chunks)
 }
 
-fn is_count<R: Threads + Wait + Sync>(rt: &R, alloc: Global, chunks: &AtomicU64) -> bool {
+fn is_count<R: Clock + Threads + Wait + Sync>(rt: &R, alloc: Global, chunks: &AtomicU64) -> bool {
     match (ordered(alloc, 1), numbers(chunks)) {
         (Ok(query), Some(source)) => count(rt, alloc, &query, source) == Ok(NUMBERS),
         _ => false,
     }
 }
 
-fn are_in_a_list<R: Threads + Wait + Sync>(rt: &R, alloc: Global, chunks: &AtomicU64) -> bool {
+fn are_in_a_list<R: Clock + Threads + Wait + Sync>(
+    rt: &R,
+    alloc: Global,
+    chunks: &AtomicU64,
+) -> bool {
     let (Ok(query), Some(source)) = (ordered(alloc, 1), numbers(chunks)) else {
         return false;
     };
@@ -93,7 +119,7 @@ fn are_in_a_list<R: Threads + Wait + Sync>(rt: &R, alloc: Global, chunks: &Atomi
     }
 }
 
-fn is_last<R: Threads + Wait + Sync>(rt: &R, alloc: Global, chunks: &AtomicU64) -> bool {
+fn is_last<R: Clock + Threads + Wait + Sync>(rt: &R, alloc: Global, chunks: &AtomicU64) -> bool {
     let (Ok(query), Some(source)) = (ordered(alloc, 1), numbers(chunks)) else {
         return false;
     };
@@ -105,11 +131,13 @@ fn is_last<R: Threads + Wait + Sync>(rt: &R, alloc: Global, chunks: &AtomicU64) 
 
 #[test]
 fn a_source_is_asked_in_chunks_that_grow(rt: HostRuntime) {
-    assert!(rt; asks_in_chunks(&rt, rt.alloc()));
+    let alloc = rt.alloc();
+    let still = Still { rt: &rt };
+    assert!(rt; asks_in_chunks(&still, alloc));
 }
 
 /// How many of two calls of a chain's closure have met the other one: each waits for it.
-fn meet<R: Threads + Wait + Sync>(rt: &R, alloc: Global, workers: u64) -> Option<u64> {
+fn meet<R: Clock + Threads + Wait + Sync>(rt: &R, alloc: Global, workers: u64) -> Option<u64> {
     let inside = AtomicU64::new(0);
     let met = AtomicU64::new(0);
     let chain = Chain::new().select(

@@ -6,6 +6,7 @@ use plinq_source::{Ending, RangeSource};
 use std::alloc::Global;
 use std::sync::Wait;
 use std::thread::Threads;
+use std::time::Clock;
 
 const WORKERS: [u64; 4] = [1, 2, 8, 64];
 
@@ -19,7 +20,7 @@ fn note(next: &mut i64, item: i64) -> Result<(), u32> {
 }
 
 /// How many of the numbers below this one a closure is called with, and what is told of its calls.
-fn noted<R: Threads + Wait + Sync>(
+fn noted<R: Clock + Threads + Wait + Sync>(
     rt: &R,
     alloc: Global,
     workers: u64,
@@ -43,7 +44,7 @@ fn noted<R: Threads + Wait + Sync>(
 }
 
 /// The same on one thread.
-fn noted_by_one<R: Threads + Wait + Sync>(
+fn noted_by_one<R: Clock + Threads + Wait + Sync>(
     rt: &R,
     alloc: Global,
     workers: u64,
@@ -67,7 +68,7 @@ fn noted_by_one<R: Threads + Wait + Sync>(
 }
 
 /// Whether it is called with so many, and this is told, both by threads and on one.
-fn is_called<R: Threads + Wait + Sync>(
+fn is_called<R: Clock + Threads + Wait + Sync>(
     rt: &R,
     alloc: Global,
     workers: u64,

@@ -12,10 +12,11 @@ use std::alloc::Global;
 use std::sync::Wait;
 use std::test::Fail;
 use std::thread::Threads;
+use std::time::Clock;
 
 const NUMBERS: [i64; 7] = [1, 4, 2, 8, 5, 7, 3];
 
-fn is_list<S: Steps<Item = i64> + Sync, R: Threads + Wait + Sync>(
+fn is_list<S: Steps<Item = i64> + Sync, R: Clock + Threads + Wait + Sync>(
     rt: &R,
     alloc: Global,
     chain: &Chain<S>,
@@ -35,7 +36,7 @@ fn is_list<S: Steps<Item = i64> + Sync, R: Threads + Wait + Sync>(
     }
 }
 
-fn is_first<S: Steps<Item = i64> + Sync, R: Threads + Wait + Sync>(
+fn is_first<S: Steps<Item = i64> + Sync, R: Clock + Threads + Wait + Sync>(
     rt: &R,
     alloc: Global,
     chain: &Chain<S>,
@@ -52,7 +53,7 @@ fn is_first<S: Steps<Item = i64> + Sync, R: Threads + Wait + Sync>(
     }
 }
 
-fn is_at<S: Steps<Item = i64> + Sync, R: Threads + Wait + Sync>(
+fn is_at<S: Steps<Item = i64> + Sync, R: Clock + Threads + Wait + Sync>(
     rt: &R,
     alloc: Global,
     chain: &Chain<S>,
@@ -70,7 +71,7 @@ fn is_at<S: Steps<Item = i64> + Sync, R: Threads + Wait + Sync>(
     }
 }
 
-fn is_any<S: Steps<Item = i64> + Sync, R: Threads + Wait + Sync>(
+fn is_any<S: Steps<Item = i64> + Sync, R: Clock + Threads + Wait + Sync>(
     rt: &R,
     alloc: Global,
     chain: &Chain<S>,
@@ -87,7 +88,7 @@ fn is_any<S: Steps<Item = i64> + Sync, R: Threads + Wait + Sync>(
     }
 }
 
-fn is_count<S: Steps<Item = i64> + Sync, R: Threads + Wait + Sync>(
+fn is_count<S: Steps<Item = i64> + Sync, R: Clock + Threads + Wait + Sync>(
     rt: &R,
     alloc: Global,
     chain: &Chain<S>,
@@ -104,7 +105,7 @@ fn is_count<S: Steps<Item = i64> + Sync, R: Threads + Wait + Sync>(
     }
 }
 
-fn is_first_by_one<S: Steps<Item = i64> + Sync, R: Threads + Wait + Sync>(
+fn is_first_by_one<S: Steps<Item = i64> + Sync, R: Clock + Threads + Wait + Sync>(
     rt: &R,
     alloc: Global,
     chain: &Sequentially<'_, S>,
@@ -121,7 +122,7 @@ fn is_first_by_one<S: Steps<Item = i64> + Sync, R: Threads + Wait + Sync>(
     }
 }
 
-fn is_at_by_one<S: Steps<Item = i64> + Sync, R: Threads + Wait + Sync>(
+fn is_at_by_one<S: Steps<Item = i64> + Sync, R: Clock + Threads + Wait + Sync>(
     rt: &R,
     alloc: Global,
     chain: &Sequentially<'_, S>,
@@ -139,7 +140,7 @@ fn is_at_by_one<S: Steps<Item = i64> + Sync, R: Threads + Wait + Sync>(
     }
 }
 
-fn is_any_by_one<S: Steps<Item = i64> + Sync, R: Threads + Wait + Sync>(
+fn is_any_by_one<S: Steps<Item = i64> + Sync, R: Clock + Threads + Wait + Sync>(
     rt: &R,
     alloc: Global,
     chain: &Sequentially<'_, S>,
@@ -156,7 +157,7 @@ fn is_any_by_one<S: Steps<Item = i64> + Sync, R: Threads + Wait + Sync>(
     }
 }
 
-fn is_count_by_one<S: Steps<Item = i64> + Sync, R: Threads + Wait + Sync>(
+fn is_count_by_one<S: Steps<Item = i64> + Sync, R: Clock + Threads + Wait + Sync>(
     rt: &R,
     alloc: Global,
     chain: &Sequentially<'_, S>,
@@ -173,7 +174,7 @@ fn is_count_by_one<S: Steps<Item = i64> + Sync, R: Threads + Wait + Sync>(
     }
 }
 
-fn is_there<S: Steps<Item = i64> + Sync, R: Threads + Wait + Sync>(
+fn is_there<S: Steps<Item = i64> + Sync, R: Clock + Threads + Wait + Sync>(
     rt: &R,
     alloc: Global,
     chain: &Chain<S>,
@@ -191,7 +192,7 @@ fn is_there<S: Steps<Item = i64> + Sync, R: Threads + Wait + Sync>(
     }
 }
 
-fn is_all_below<S: Steps<Item = i64> + Sync, R: Threads + Wait + Sync>(
+fn is_all_below<S: Steps<Item = i64> + Sync, R: Clock + Threads + Wait + Sync>(
     rt: &R,
     alloc: Global,
     chain: &Chain<S>,
@@ -234,7 +235,7 @@ fn counts_and_tests_in_their_order(rt: HostRuntime) {
     assert!(&rt; is_count_by_one(&rt, rt.alloc(), &chain, 3));
 }
 
-fn is_refused<R: Threads + Wait + Sync>(rt: &R, alloc: Global, workers: u64) -> bool {
+fn is_refused<R: Clock + Threads + Wait + Sync>(rt: &R, alloc: Global, workers: u64) -> bool {
     let fault = ChainFault::Build(BuildFault::DegreeOutOfRange);
     match SliceSource::new(&NUMBERS) {
         Ok(source) => Chain::new().count(rt, alloc, workers, source) == Err(fault),
@@ -288,7 +289,7 @@ fn note(digits: &mut i64, item: i64, last: i64) -> Result<(), u32> {
 }
 
 /// The digits with which a closure is called up to the 5, if it is told so.
-fn called<R: Threads + Wait + Sync>(rt: &R, alloc: Global) -> Option<i64> {
+fn called<R: Clock + Threads + Wait + Sync>(rt: &R, alloc: Global) -> Option<i64> {
     let Ok(source) = SliceSource::new(&NUMBERS) else {
         return None;
     };
@@ -308,7 +309,7 @@ fn called<R: Threads + Wait + Sync>(rt: &R, alloc: Global) -> Option<i64> {
 }
 
 /// The same on one thread, up to the 8.
-fn called_by_one<R: Threads + Wait + Sync>(rt: &R, alloc: Global) -> Option<i64> {
+fn called_by_one<R: Clock + Threads + Wait + Sync>(rt: &R, alloc: Global) -> Option<i64> {
     let Ok(source) = SliceSource::new(&NUMBERS) else {
         return None;
     };

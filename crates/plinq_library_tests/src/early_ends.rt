@@ -12,6 +12,7 @@ use std::alloc::Global;
 use std::sync::Wait;
 use std::sync::atomic::{AtomicU64, Ordering};
 use std::thread::Threads;
+use std::time::Clock;
 
 /// How many items leave at most: those up to the chunk with the one that decides, and those that so many workers may be ahead of
 /// it.
@@ -37,7 +38,7 @@ fn from_zero(left: &AtomicU64) -> Result<Asked<'_, RangeSource>, SourceFault>
     }
 }
 
-fn is_first_above<R: Threads + Wait + Sync>(
+fn is_first_above<R: Clock + Threads + Wait + Sync>(
     rt: &R,
     alloc: Global,
     workers: u64,
@@ -52,7 +53,7 @@ fn is_first_above<R: Threads + Wait + Sync>(
     }
 }
 
-fn is_any_above<R: Threads + Wait + Sync>(
+fn is_any_above<R: Clock + Threads + Wait + Sync>(
     rt: &R,
     alloc: Global,
     workers: u64,
@@ -67,7 +68,7 @@ fn is_any_above<R: Threads + Wait + Sync>(
     }
 }
 
-fn are_not_all_below<R: Threads + Wait + Sync>(
+fn are_not_all_below<R: Clock + Threads + Wait + Sync>(
     rt: &R,
     alloc: Global,
     workers: u64,
@@ -82,7 +83,7 @@ fn are_not_all_below<R: Threads + Wait + Sync>(
     }
 }
 
-fn is_at_hundred<R: Threads + Wait + Sync>(
+fn is_at_hundred<R: Clock + Threads + Wait + Sync>(
     rt: &R,
     alloc: Global,
     workers: u64,
@@ -102,7 +103,7 @@ fn are_few(left: &AtomicU64, workers: u64) -> bool {
 }
 
 /// Whether all is answered, and but few items have left for each answer.
-fn ends_early<R: Threads + Wait + Sync>(
+fn ends_early<R: Clock + Threads + Wait + Sync>(
     rt: &R,
     alloc: Global,
     workers: u64,

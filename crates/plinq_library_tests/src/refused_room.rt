@@ -9,6 +9,7 @@ use std::alloc::Global;
 use std::process::Abort;
 use std::sync::Wait;
 use std::thread::Threads;
+use std::time::Clock;
 
 const NUMBERS: [i64; 3] = [4, 5, 6];
 
@@ -31,7 +32,7 @@ fn is_short(fault: RunFault) -> bool {
 }
 
 /// Asks for all items. Answers whether that was refused.
-fn is_list_refused<R: Threads + Wait + Sync + Abort>(rt: &R, alloc: Global) -> bool {
+fn is_list_refused<R: Clock + Threads + Wait + Sync + Abort>(rt: &R, alloc: Global) -> bool {
     let Some(query) = even(rt, alloc) else {
         return true;
     };
@@ -51,7 +52,7 @@ fn is_list_refused<R: Threads + Wait + Sync + Abort>(rt: &R, alloc: Global) -> b
 }
 
 /// Asks for the first. Answers whether that was refused.
-fn is_first_refused<R: Threads + Wait + Sync + Abort>(rt: &R, alloc: Global) -> bool {
+fn is_first_refused<R: Clock + Threads + Wait + Sync + Abort>(rt: &R, alloc: Global) -> bool {
     let Some(query) = even(rt, alloc) else {
         return true;
     };
@@ -110,7 +111,7 @@ fn note(digits: &mut i64, item: i64) -> Result<(), u32> {
 
 /// Calls a closure with the even numbers, which makes a number of their digits. Answers whether it was called with all of
 /// them; where that was refused, it was called with the first of them.
-fn is_called<R: Threads + Wait + Sync + Abort>(rt: &R, alloc: Global) -> bool {
+fn is_called<R: Clock + Threads + Wait + Sync + Abort>(rt: &R, alloc: Global) -> bool {
     let Some(query) = even(rt, alloc) else {
         return false;
     };
@@ -145,7 +146,7 @@ fn calls_that_are_refused_are_made_the_next_time(rt: HostRuntime) {
 }
 
 /// The same on one thread, where nothing is called before all items are there.
-fn is_called_by_one<R: Threads + Wait + Sync + Abort>(rt: &R, alloc: Global) -> bool {
+fn is_called_by_one<R: Clock + Threads + Wait + Sync + Abort>(rt: &R, alloc: Global) -> bool {
     let Some(query) = even(rt, alloc) else {
         return false;
     };
@@ -180,7 +181,11 @@ fn calls_on_one_thread_that_are_refused_are_made_the_next_time(rt: HostRuntime) 
 }
 
 /// Whether a text has this line, or none where that was refused.
-fn has_line<R: Threads + Wait + Sync + Abort>(rt: &R, alloc: Global, line: &str) -> Option<bool> {
+fn has_line<R: Clock + Threads + Wait + Sync + Abort>(
+    rt: &R,
+    alloc: Global,
+    line: &str,
+) -> Option<bool> {
     let Ok(query) = Query::<Same<&str>>::new(alloc).with_degree(1) else {
         return None;
     };

@@ -23,6 +23,7 @@ use std::alloc::Global;
 use std::marker::PhantomData;
 use std::sync::Wait;
 use std::thread::Threads;
+use std::time::Clock;
 
 /// The errors of a log in their order, and the latest of them.
 type Found<'a> = (Vec<Record<'a>>, Option<Record<'a>>);
@@ -41,7 +42,7 @@ fn main(rt: HostRuntime) -> Result<()> {
     Ok(())
 }
 
-fn by_workers<'a, R: Threads + Wait + Sync>(
+fn by_workers<'a, R: Clock + Threads + Wait + Sync>(
     rt: &R,
     alloc: Global,
     log: &'a str,

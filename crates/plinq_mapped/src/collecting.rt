@@ -9,12 +9,13 @@ use plinq_enumerator::Growth;
 use plinq_groups::{MakeOf, MapEach};
 use plinq_lambda::SharedLambda;
 use plinq_ops::Query;
-use plinq_run::{OpenGate, RunFault, fold_into};
+use plinq_run::{RunFault, TimedGate, fold_into};
 use plinq_source::{Ending, Source};
 use std::alloc::Global;
 use std::marker::PhantomData;
 use std::sync::Wait;
 use std::thread::Threads;
+use std::time::Clock;
 
 /// What is made of the items of a query's answer, in a list, and how the mapped answer ended (.NET's `Select` to another type and
 /// `ToList`).
@@ -40,7 +41,7 @@ where
     L: SharedLambda,
     S: Source<Item = L::Item>,
     M: MakeOf<Item = L::Item>,
-    R: Threads + Wait + Sync,
+    R: Clock + Threads + Wait + Sync,
     requires { S.given source ≡ 0 }
     ensures ordered { query.now.ordered ≡ true → MatchResult result
         (λ it. IsMadeOf (M.makes mapping.now.make) (answer_of L.meaning query.now.ops (S.whole source)) it.0.items it.1)
@@ -55,7 +56,15 @@ where
     let taker = KeepMade { of: PhantomData };
     let growth = Growth::DEFAULT;
     let ending = fold_into(
-        rt, alloc, query, source, growth, &OpenGate, mapping, taker, &mut kept,
+        rt,
+        alloc,
+        query,
+        source,
+        growth,
+        &TimedGate::new(rt),
+        mapping,
+        taker,
+        &mut kept,
     )?;
     Ok((kept.items, ending))
 }

@@ -28,6 +28,7 @@ use std::alloc::{AllocError, Global};
 use std::marker::PhantomData;
 use std::sync::Wait;
 use std::thread::Threads;
+use std::time::Clock;
 
 /// How many of the dearest orders are shown.
 const SHOWN: usize = 3;
@@ -72,7 +73,7 @@ fn query<'a>(alloc: Global, workers: u64) -> Result<Query<Paid<'a>>, BuildFault>
 }
 
 /// What each customer has spent, in the order of their first orders.
-fn spent_by<'a, R: Threads + Wait + Sync>(
+fn spent_by<'a, R: Clock + Threads + Wait + Sync>(
     rt: &R,
     alloc: Global,
     orders: &[Order<'a>],
@@ -152,7 +153,7 @@ fn put_in<'a>(dearest: &mut Vec<Order<'a>>, order: Order<'a>) -> Result<(), Allo
 }
 
 /// The orders as lines, which the workers make.
-fn lines<R: Threads + Wait + Sync>(
+fn lines<R: Clock + Threads + Wait + Sync>(
     rt: &R,
     alloc: Global,
     orders: &[Order<'_>],

@@ -7,6 +7,7 @@ use plinq_prelude::*;
 use std::alloc::Global;
 use std::sync::Wait;
 use std::thread::{Threads, join};
+use std::time::Clock;
 
 fn main(rt: HostRuntime) -> Result<()> {
     let text = std::io::read_to_string(rt.alloc(), rt.stdin())?;
@@ -39,7 +40,7 @@ fn tens(alloc: Global) -> Result<Query<Formula>, BuildFault> {
 }
 
 /// The slice is lent twice: to one thread, and to four.
-fn by_one_and_by_four<R: Threads + Wait + Sync>(
+fn by_one_and_by_four<R: Clock + Threads + Wait + Sync>(
     rt: &R,
     alloc: Global,
     numbers: &[i64],
@@ -54,7 +55,7 @@ fn by_one_and_by_four<R: Threads + Wait + Sync>(
 }
 
 /// How a run ends whose flag another thread has set.
-fn stopped<R: Threads + Wait + Sync>(
+fn stopped<R: Clock + Threads + Wait + Sync>(
     rt: &R,
     alloc: Global,
     numbers: &[i64],
