@@ -111,6 +111,10 @@ def value_after(name):
     return lambda told: by_arrival(name)(told) and "aggregate" in told.document
 
 
+def aggregate_is(name):
+    return lambda told: told.document.get("aggregate") == name
+
+
 def source_is(name):
     return lambda told: name in told.document.get("source", {})
 
@@ -214,8 +218,11 @@ WRONG |= {
     "skips one too many of what a filter leaves": (where(all_of(having("filter"), having("skip"), many_lines(2_000)), without_line(0)), large.long_answers),
     "takes a number of 2^32 and more modulo 2^32": (where(with_number("take", 2**32), modulo_2_to_32), large.long_answers),
     "skips a number of 2^32 and more modulo 2^32": (where(with_number("skip", 2**32), modulo_2_to_32), large.long_answers),
+    "drops items below zero of a long answer": (where(many_lines(1_000), lambda told: b"".join(it for it in told.lines if it[:1] != b"-")), large.long_answers),
+    "gives the item that ends a long take_while": (where(all_of(having("take_while"), many_lines(1_000)), lambda told: b"".join([*told.lines[:-1], b"3000\n", told.lines[-1]])), large.long_answers),
     "cuts a code of ten digits": (cut_code, large.long_answers),
     "counts one too few by 5 workers": (where(lambda told: told.option("--workers") == 5, value_less_one), large.each_worker_count),
+    "gives a least that is one too small by 3 workers": (where(all_of(aggregate_is("min"), lambda told: told.option("--workers") == 3), value_less_one), large.each_worker_count),
     "loses a line by 48 workers of the document": (where(has_degree(33, 48, 63), without_line(7)), large.each_worker_count),
     "loses a copy of as many as there may be": (where(all_of(with_number("select_many", 65_536)), lambda told: told.output.replace(b"7 8", b"8", 1)), large.long_answers),
     "loses a line where each size of chunks is repeated 1,000 times": (where(repeats_1_000, without_line(3)), large.each_worker_count),

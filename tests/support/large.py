@@ -171,6 +171,8 @@ LONG = {
     "a skip of what a filter leaves": ({"range": [0, 7_000]}, [["filter", "even"], ["skip", 500]], NOT),
     "a take of 2^32 and more": ({"range": [0, 3_000]}, [["take", 2**32 + 5], ["take", 2**33]], NOT),
     "a skip of 2^32 and more": ({"range": [0, 3_000]}, [["skip", 2**32 + 5]], NOT),
+    "numbers below and above zero": ({"range": [-3_000, 6_000]}, [["select", "add", 1]], NOT),
+    "those before one that fails": ({"range": [0, 5_000]}, [["take_while", "below", 3_000]], NOT),
 }
 
 
@@ -198,10 +200,10 @@ def long_answers(program):
 
 
 def each_worker_count(program):
-    """One answer and its count by each number of workers, asked for by words and by the document, and by growths of each kind."""
+    """One answer and its values by each number of workers, asked for by words and by the document, and by growths of each kind."""
     source, steps = {"range": [0, 700]}, [["filter", "even"], ["skip", 3]]
     says = outcome_of(*wanted("seq", source, [["with_merge", NOT], *steps], None, None))
-    counted = outcome_of(*wanted("seq", source, steps, None, "count"))
+    values = {it: outcome_of(*wanted("seq", source, steps, None, it)) for it in ("count", "sum", "min", "max")}
     growths = ([1, 1, 1], [1, 3, 512], [2, 3, 16], [7, 5, 100], [1, 1, 65_536], [300, 2, 301], [3, 1, 3], [2, 1_000, 64], [1, 2_000, 512])
     for workers in range(1, 65):
         for growth in (growths[workers % len(growths)], growths[(workers + 3) % len(growths)]):
@@ -209,8 +211,9 @@ def each_worker_count(program):
             yield f"by {workers} workers, growth {growth}", says, run(["run", "--workers", str(workers), "--merge", NOT], text, program)
         text = document(source, [["with_degree", workers], ORDERED, *steps])
         yield f"by {workers} workers of the document", says, run(["run", "--merge", NOT], text, program)
-        text = document(source, [ORDERED, *steps], aggregate="count")
-        yield f"a count by {workers} workers", counted, run(["run", "--workers", str(workers)], text, program)
+        for aggregate, value in values.items():
+            text = document(source, [ORDERED, *steps], aggregate=aggregate)
+            yield f"a {aggregate} by {workers} workers", value, run(["run", "--workers", str(workers)], text, program)
 
 
 def long_plans(program):
