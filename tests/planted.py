@@ -109,7 +109,10 @@ n + 11=>fn low::caller: no proof: it calls `low::first`, which is not proved
 73 + =>./proofs/Thing/method/Answers.antt:62:52: error: `returns`: `.0` projects from a `×` type or a record, but this has type|`is_within 4 4 both.0 ≡ true`
 75 + =>./proofs/Thing/method/Answers.antt:12:31: error: `returns`: record `Rattle.low.proofs.Thing.method.Lts.After-drop` (nearest: .in_ok-get) has no field `in_ok-all`|the fields that can be named here are `before`, `in_ok-get`
 74 + =>./proofs/Thing/method/Answers.antt:4:35: error: `returns`: as printed, the two types|first differ where one has `8`
+76 + =>./proofs/Thing/method/Answers.antt:5:49: error: `returns`: `has_key-inserted` is not in scope; did you mean `has_key-insert`?
+77 + =>./proofs/Thing/method/Answers.antt:6:12: error: `returns`: `Span` was not admitted (it has holes or was rejected), so its derived definitions cannot be used
 u64 = 17=>./proofs/Thing+T/method/Answers.antt:4:35: error: `returns`: as printed, the two types first differ where one has `8`
+n + 17=>fn low::first_of_all: no proof: expected answers in ./proofs/first_of_all/Answers.antt; `search` did not prove `returns`
 n + 13=>./proofs/+turns/Answers.antt:4:35: error: `first-returns`: as printed, the two types first differ where one has `8`
 n + 14=>./proofs/+turns/Answers.antt:4:35: error: `second-returns`: as printed, the two types first differ where one has `8`
 n + 15=>./proofs/+first/Answers.antt:4:35: error: `returns-in-Ok-clause-least`: as printed, the two types first differ where one has `8`
@@ -117,6 +120,8 @@ n + 16=>./proofs/+first/Answers.antt:4:35: error: `returns-in-Ok-clause-least`: 
     11=>fn high::main: no proof: expected answers in ./proofs/main/Answers.antt; `search` did not prove `returns`
 n + text=>src/lib.rt:13:9: error[E0425]: cannot find value `text` in this scope
 n + ghost=>src/lib.rt:13:9: error: expected the end of the text
+n + other=>src/lib.rt:13:9: error[E0425]: cannot find value `other` in this scope
+n + other=>fn low::first: no proof: expected answers in ./proofs/first/Answers.antt; `search` did not prove `returns`
 """
 
 
@@ -230,8 +235,12 @@ def not_refused(place, tests):
     names("one that only renames a goal which is answered by hand", ("other", "7 + ", "72 + "), "NOT REFUSED for a goal of ")
     names("one of which a proof file reads a fact as another shape", ("other", "7 + ", "73 + "), "NOT REFUSED for a goal of ")
     names("one of which a proof file names a fact that is gone", ("other", "7 + ", "75 + "), "NOT REFUSED for a goal of ")
+    names("one of which a proof file names what is not in scope", ("other", "7 + ", "76 + "), "NOT REFUSED for a goal of ")
+    names("one of which a proof file names a type that was refused", ("other", "7 + ", "77 + "), "NOT REFUSED for a goal of ")
+    names("one that a function refuses whose name begins alike", ("lib", "n + 1", "n + 17"), "NOT REFUSED for a goal of low::first: ")
     names("one that doesn't compile", ("lib", "n + 1", "n + text"), "BAD EDIT: it can't be compiled or read: src/lib.rt:13:9: error[E0425]")
     names("one that can't be read", ("lib", "n + 1", "n + ghost"), "BAD EDIT: it can't be compiled or read: src/lib.rt:13:9: error: ")
+    names("one that doesn't compile, beside an open goal", ("lib", "n + 1", "n + other"), "BAD EDIT: it can't be compiled or read: ")
     names("one whose text isn't there", ("lib", "n + 9", "n + 11"), "BAD EDIT: an 'old:' text doesn't stand in src/lib.rt just once")
     names("one whose text is there twice", ("lib", "u64 = ", "u64 = 1"), "BAD EDIT: an 'old:' text doesn't stand in src/lib.rt just once")
     names("one of a file that isn't there", ("none", "n + 1", "n + 11"), "BAD EDIT: ")

@@ -17,19 +17,28 @@ from support.program import ROOT, Tests
 
 HEADLINE = "crates/plinq_run/specs/Headline.antt"
 RUNNING = "crates/plinq_run/src/running.rt"
-# A file, what stands there once, and what stands there in a copy of the sources in which no contract can be followed.
+# A contract, a file, what stands there once, what stands there in a copy of the sources in which that contract can't be followed, and
+# what the tool says of it.
 LOST = {
-    "an import that is gone": (HEADLINE, "Sending.{Leads}", "Sending.{TakesBeginning}", "can't follow Leads"),
+    "an import that is gone": ("run:ordered", HEADLINE, "Sending.{Leads}", "Sending.{TakesBeginning}", "can't follow Leads"),
     "a definition that is gone": (
+        "run:ordered",
         "crates/plinq_ops/specs/Query.antt",
         "pub record QueryView (",
         "pub record QueriesView (",
         "has no QueryView",
     ),
-    "a module that is gone": (HEADLINE, "specs.Meaning.{", "specs.Meanings.{", "there is no file"),
-    "a clause that is gone": (RUNNING, "ensures ordered {", "ensures arranged {", "has no clause ordered"),
-    "a bound that is gone": (RUNNING, "specs.Headline.{answers, HasDelivered};", "specs.Headline.{answers};", "can't follow HasDelivered"),
-    "a definition that became a proof": (HEADLINE, "use Rattle.plinq_merge.specs.Sending.{", "use Rattle.plinq_merge.proofs.Sending.{", "is a proof"),
+    "a module that is gone": ("run:ordered", HEADLINE, "specs.Meaning.{", "specs.Meanings.{", "there is no file"),
+    "a clause that is gone": ("run:ordered", RUNNING, "ensures ordered {", "ensures arranged {", "has no clause ordered"),
+    "a bound that is gone": ("run:ordered", RUNNING, "specs.Headline.{answers, HasDelivered};", "specs.Headline.{answers};", "can't follow HasDelivered"),
+    "a definition that became a proof": ("run:ordered", HEADLINE, "use Rattle.plinq_merge.specs.Sending.{", "use Rattle.plinq_merge.proofs.Sending.{", "is a proof"),
+    "a type that is gone from the parameters of a module": (
+        "plinq_run::run",
+        "crates/plinq_run/specs/Endings.antt",
+        "(s s' : K) (result : Result Report RunFault) where",
+        "(s s' : K) (result : Result Report RunFaults) where",
+        "can't follow RunFaults",
+    ),
 }
 # What a contract reaches, and what it doesn't.
 REACHED = {
@@ -129,13 +138,13 @@ def finds_lost(tests):
     with tempfile.TemporaryDirectory() as folder:
         copied(folder)
         tests.check("a copy of the sources can be followed", trusted("run:ordered", root=folder).returncode == 0)
-        for name, (path, old, new, says) in LOST.items():
+        for name, (contract, path, old, new, says) in LOST.items():
             path = os.path.join(folder, path)
             with open(path, encoding="utf-8") as file:
                 right = file.read()
             with open(path, "w", encoding="utf-8") as file:
                 file.write(right.replace(old, new))
-            seen = trusted("run:ordered", root=folder)
+            seen = trusted(contract, root=folder)
             is_told = right.count(old) == 1 and seen.returncode == 1 and says in seen.stderr and not seen.stdout
             tests.check(name, is_told, f"status {seen.returncode}, {seen.stderr[-300:]!r}")
             with open(path, "w", encoding="utf-8") as file:
