@@ -77,7 +77,7 @@ quotas() {
         [ -z "$4" ] || { read -r period <"$1$path/$4"; } 2>/dev/null || period=
         case $quota,$period in
             # (none, or more than any machine has)
-            ,* | *, | *,0 | *[!0-9,]* | ????????????????????*) ;;
+            ,* | *, | *[!0-9,]* | ????????????????????*) ;;
             *) [ $((cores * period)) -le "$quota" ] || cores=$(((quota + period - 1) / period)) ;;
         esac
         case $path in
