@@ -30,6 +30,11 @@ SPARING = {
     "an aggregate of great expansions": ("run", '{"version":1,"source":{"range":[0,2000]},"query":[["select_many","repeat",65536]],"aggregate":"count"}', 131_072_000, 60_000_000),
     "a filter that keeps one, fully buffered": ("run --merge full", '{"version":1,"source":{"range":[0,20000000]},"query":[["as_ordered"],["filter","equal",7]]}', 7, 60_000_000),
 }
+# A million items that are counted: the growth, and the least and the most bytes that it takes. Each chunk leaves a record of 48 bytes.
+GROWN = {
+    "chunks of one, as the document says": (',"growth":[1,1,1]', 48_000_000, 300_000_000),
+    "chunks by time, if it doesn't say": ("", 0, 40_000_000),
+}
 # Documents of 2^40 items whose first lines come at once: the words, the operator, the first line, how many MB more are read.
 ENDLESS = {
     "lines of 16 numbers in one thread": ("seq", '["skip",0]', b"0 1 2 3 4 5 6 7 8 9 10 11 12 13 14 15\n", 50),
@@ -240,6 +245,14 @@ def sparing(tests):
         tests.check(f"{name}: it took {most} bytes at most", taken < most, taken)
 
 
+def grown(tests):
+    for name, (growth, least, most) in GROWN.items():
+        document = f'{{"version":1,"source":{{"range":[0,1000000]}},"query":[["select","add",1]],"aggregate":"count"{growth}}}'
+        seen, taken, _ = measured("run --workers 1", document)
+        tests.check(name, seen == Outcome(0, b"1000000\nend\n", b""), seen)
+        tests.check(f"{name}: it took {least} to {most} bytes", least <= taken <= most, taken)
+
+
 def endless(tests):
     for name, (words, operator, line, more) in ENDLESS.items():
         document = f'{{"version":1,"source":{{"range":[0,1099511627776]}},"query":[["as_ordered"],{operator}]}}'
@@ -274,6 +287,7 @@ def main():
     hungry(tests)
     in_a_group(tests)
     sparing(tests)
+    grown(tests)
     endless(tests)
     again(tests)
     tests.end()
