@@ -25,7 +25,7 @@ use plinq_lines::{
     LineSink, WriteFault, write_ending, write_history, write_parts, write_plan, write_value,
 };
 use plinq_merge::{CancelAfter, DeliveryFault, Sink, deliver_in_blocks};
-use plinq_ops::{Op, Query, sequential};
+use plinq_ops::{Query, sequential};
 use plinq_partition::{OrderablePartitioner, RangeParts};
 use plinq_run::{AggregateFault, Report, RunFault, TimedGate, run, run_with};
 use plinq_source::{Ending, OutOfMemory, Source};
@@ -137,30 +137,19 @@ where
         cancel_after,
         ..
     } = job;
-    let gate = gate_of(rt, &query, has_growth);
+    let gate = gate_of(rt, has_growth);
     let (ended, _writer) = run_lines(rt, &query, source, growth, &gate, cancel_after, writer);
     let ending = ended?;
     write_last(writer, plain, ending)?;
     Ok(ending)
 }
 
-/// The gate of a run: one with a clock, unless the document says how its chunks grow. If elements expand it has none either: few of
-/// these fill the time of a chunk, and chunks of 512 cost less for each.
-fn gate_of<'a, R>(rt: &'a R, query: &Query<Formula>, has_growth: bool) -> TimedGate<'a, R> {
-    if has_growth || expands(query.ops()) {
+/// The gate of a run: one with a clock, unless the document says how its chunks grow.
+fn gate_of<'a, R>(rt: &'a R, has_growth: bool) -> TimedGate<'a, R> {
+    if has_growth {
         return TimedGate::untimed();
     }
     TimedGate::new(rt)
-}
-
-/// Whether some operator makes more elements of one.
-fn expands(ops: &[Op<Formula>]) -> bool {
-    for op in ops {
-        if let Op::SelectMany(_) = op {
-            return true;
-        }
-    }
-    false
 }
 
 /// Writes the line of an answer's ending, unless the answer is plain.
@@ -215,7 +204,7 @@ where
         has_growth,
         ..
     } = job;
-    let gate = gate_of(rt, &query, has_growth);
+    let gate = gate_of(rt, has_growth);
     match value_by_threads(rt, kind, &query, source, growth, &gate) {
         Ok(value) => {
             write_told(writer, plain, value, Ending::End)?;

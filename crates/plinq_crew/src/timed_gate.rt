@@ -5,7 +5,8 @@ use std::time::Clock;
 ///
 /// A worker begins with a chunk of one item. It doubles its chunk while one takes less than 25 microseconds, 50 from 32 workers
 /// on, and halves it if one took more than four times that. So chunks of cheap items grow to what the lock is worth, and those of
-/// heavy items stay small. A chunk has 65,536 items at most, and no more than a quarter of what a worker may be ahead.
+/// heavy items stay small. A chunk has 65,536 items at most, and no more than an eighth of what a worker may be ahead. If an
+/// operator of the query expands its items, chunks are as large as the growth says.
 ///
 /// ```text
 /// let report = run(&rt, alloc, &query, source, Growth::DEFAULT, &TimedGate::new(&rt), &mut sink)?;

@@ -67,8 +67,8 @@ pub struct Crew<'a, L: Lambda, S: Source, J: RunSpec<P::Part>, P: Task<L::Item>>
     pub task: &'a P,
     pub progress: &'a Progress,
     pub workers: u64,
-    /// The most items of a chunk whose size a worker chooses.
-    pub largest: u64,
+    /// The most items of a chunk whose size a worker chooses by a clock, or none if the growth says how large chunks are.
+    pub chosen: Option<u64>,
 }
 
 /// What the closure of a thread captures. (It is one value, since each that is captured or named makes the closure's proof
@@ -87,14 +87,14 @@ where
     J: RunSpec<P::Part>,
     P: Task<L::Item>,
 {
-    /// How many items the next chunk has: by a clock, if there is one, as many as its pace says, else as many as the growth says.
+    /// How many items the next chunk has: as many as the worker's pace says if it chooses by a clock, else as many as the growth says.
     fn size_of_next(&self, partition: &Partition<S>, pace: &Pace, time: Option<u64>) -> u64
         ensures least { 1 ≤ result }
         ensures most { result ≤ 65536 }
     {
-        match time {
-            Some(_) => pace.size(self.largest),
-            None => partition.next_size(self.chunked),
+        match (self.chosen, time) {
+            (Some(most), Some(_)) => pace.size(most),
+            _ => partition.next_size(self.chunked),
         }
     }
 

@@ -6,7 +6,7 @@ ghost use Rattle.plinq_run.specs.inner.Conducted.{MayConduct, HasRunCrew, HasCon
 use crate::accepting::{Merging, MergingInto};
 use crate::kept_memory::keep_memory;
 use crate::reporting::finish;
-use crate::run_ahead::{largest_chunk, progress_of};
+use crate::run_ahead::{most_by_clock, progress_of};
 use crate::run_fault::RunFault;
 use crate::run_request::RunRequest;
 use crate::run_types::RunTypes;
@@ -89,7 +89,8 @@ impl<'x, Q: RunTypes> RunRequest<'x, Q> {
             gate,
         } = self;
         keep_memory(alloc);
-        let largest = largest_chunk::<Q::Item, Q::Lambda, Q::Gate>(gate, plan, growth);
+        let chosen = most_by_clock::<Q::Item, Q::Lambda, Q::Gate>(gate, plan);
+        let largest = chosen.unwrap_or(growth.size(u64::MAX));
         let progress = progress_of::<Q::Item, Q::Gate, R>(rt, gate, plan.order, workers, largest);
         let Ok((cut, cut_pass)) = CutWord::<RunStopKeys<P::Part, J>>::new(alloc, plan, &source)
         else {
@@ -110,7 +111,7 @@ impl<'x, Q: RunTypes> RunRequest<'x, Q> {
             task,
             progress: &progress,
             workers,
-            largest,
+            chosen,
         };
         let context = WorkerContext {
             partition,

@@ -3,7 +3,6 @@ ghost use Rattle.std.specs.Prelude.{◌≤◌, ◌<◌, ◌+◌, ◌*◌};
 
 use crate::chunk_pieces::expands;
 use plinq_crew::{Gate, Progress};
-use plinq_enumerator::Growth;
 use plinq_ops::{Order, Plan};
 use std::mem::{align_of_val, size_of_val};
 use std::thread::{Threads, available_parallelism};
@@ -49,17 +48,13 @@ fn most_chosen(item_bytes: u64) -> u64
         .max(1)
 }
 
-/// How many items the largest chunk has: by a clock as many as a worker may choose, else as many as the growth says. Where
-/// elements expand it is the growth's also by a clock, since the result of a chunk is many times as large.
-pub(crate) fn largest_chunk<T: Copy, L, G: Gate>(
-    gate: &G,
-    plan: &Plan<'_, L>,
-    growth: Growth,
-) -> u64 {
+/// How many items a chunk may have whose size a worker chooses by the gate's clock, or none if the growth says how large chunks are:
+/// if there is no clock, or if an operator expands items. Few of these fill the time of a chunk, and many small chunks cost more.
+pub(crate) fn most_by_clock<T: Copy, L, G: Gate>(gate: &G, plan: &Plan<'_, L>) -> Option<u64> {
     if gate.nanoseconds().is_none() || expands(plan.worker) || expands(plan.after) {
-        return growth.size(u64::MAX);
+        return None;
     }
-    most_chosen(item_bytes::<T>())
+    Some(most_chosen(item_bytes::<T>()))
 }
 
 /// How many workers are at work at first: one for each core, since on a machine that does nothing else more only take cores from

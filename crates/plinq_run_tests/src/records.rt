@@ -6,7 +6,7 @@ use plinq_lambda::Formula;
 use plinq_ops::{MergeOption, Op};
 use plinq_run::{Gate, OpenGate};
 use plinq_source::Ending;
-use plinq_testing::WORKERS;
+use plinq_testing::{WORKERS, waits_for};
 use std::alloc::Global;
 use std::sync::Wait;
 use std::sync::atomic::{AtomicU64, Ordering};
@@ -127,7 +127,7 @@ fn a_long_range_is_closed_long_before_its_end(rt: HostRuntime) {
     }
 }
 
-/// Whether these are the sizes that were asked for.
+/// Whether these are the sizes that were asked for, up to the source's end.
 fn are_sizes(records: &[Record], sizes: &[u64]) -> bool {
     let mut left = sizes;
     for record in records {
@@ -135,6 +135,9 @@ fn are_sizes(records: &[Record], sizes: &[u64]) -> bool {
             match left.split_first() {
                 Some((next, following)) if *next == size => left = following,
                 _ => return false,
+            }
+            if record.tail.is_some() {
+                break;
             }
         }
     }
@@ -174,16 +177,21 @@ fn chunks_grow_as_the_run_was_told(rt: HostRuntime) {
     assert!(rt; asks_for(&rt, rt.alloc(), 3, stays, &[1, 1, 1, 1]));
 }
 
-/// A gate whose clock says how many nanoseconds each chunk takes, one after another, of one worker; of those after them none. It is
-/// asked once before there is a chunk.
+/// A gate whose clock says how many nanoseconds each chunk of the first worker takes, one after another; of those after them none. It
+/// is asked once before there is a chunk. Other workers are held until the first has taken so many chunks.
 #[derive(Drop)]
 struct Times<'a> {
     all: &'a [u64],
+    chunks: u64,
     calls: AtomicU64,
 }
 
 impl<'a> Gate for Times<'a> {
-    fn before_take(&self, _worker: u64) {}
+    fn before_take(&self, worker: u64) {
+        if worker > 0 {
+            let _has_ended = waits_for(&self.calls, self.chunks.wrapping_mul(2).wrapping_add(1));
+        }
+    }
 
     fn after_chunk(&self, _worker: u64, _first: u64) {}
 
@@ -203,20 +211,22 @@ impl<'a> Gate for Times<'a> {
     }
 }
 
-/// Whether a run over so many numbers, of which one worker takes so long for its chunks, asks for these sizes.
+/// Whether the first worker of a run over so many numbers, which takes so long for its chunks, asks for these sizes.
 fn asks_by_time<R: Threads + Wait + Sync>(
     rt: &R,
     alloc: Global,
     count: u64,
     ops: &[Op<Formula>],
+    setting: Setting,
     times: &[u64],
     sizes: &[u64],
 ) -> bool {
     let gate = Times {
         all: times,
+        chunks: sizes.len() as u64,
         calls: AtomicU64::new(0),
     };
-    let Some(answers) = ask_range(rt, alloc, count, ops, by(1), &gate) else {
+    let Some(answers) = ask_range(rt, alloc, count, ops, setting, &gate) else {
         return false;
     };
     match records_of(answers) {
@@ -231,9 +241,18 @@ fn brief_chunks_double_and_long_ones_halve(rt: HostRuntime) {
         24_999, 24_999, 24_999, 25_000, 100_003, 100_004, 100_004, 24_999,
     ];
     let sizes = [1, 2, 4, 8, 8, 8, 4, 2, 4];
-    assert!(rt; asks_by_time(&rt, rt.alloc(), 40, &[], &times, &sizes));
+    assert!(rt; asks_by_time(&rt, rt.alloc(), 40, &[], by(1), &times, &sizes));
     let long = [1_000_000; 5];
-    assert!(rt; asks_by_time(&rt, rt.alloc(), 4, &[], &long, &[1, 1, 1, 1, 1]));
+    assert!(rt; asks_by_time(&rt, rt.alloc(), 4, &[], by(1), &long, &[1, 1, 1, 1, 1]));
+}
+
+#[test]
+fn from_32_workers_on_chunks_may_take_twice_as_long(rt: HostRuntime) {
+    let times = [49_999, 49_999, 50_000, 200_003, 200_004];
+    let sizes = [1, 2, 4, 4, 4, 2];
+    assert!(rt; asks_by_time(&rt, rt.alloc(), 16, &[], by(32), &times, &sizes));
+    let fewer = [24_999, 24_999, 25_000, 100_003, 100_004];
+    assert!(rt; asks_by_time(&rt, rt.alloc(), 16, &[], by(31), &fewer, &sizes));
 }
 
 #[test]
@@ -241,12 +260,17 @@ fn a_chunk_has_at_most_an_eighth_of_what_a_worker_may_be_ahead(rt: HostRuntime) 
     let grown = [
         1, 2, 4, 8, 16, 32, 64, 128, 256, 512, 1_024, 2_048, 4_096, 8_192, 16_384, 16_384,
     ];
-    assert!(rt; asks_by_time(&rt, rt.alloc(), 40_000, &[], &[], &grown));
+    assert!(rt; asks_by_time(&rt, rt.alloc(), 40_000, &[], by(1), &[], &grown));
 }
 
 #[test]
-fn chunks_whose_elements_expand_stay_as_small_as_the_growth_says(rt: HostRuntime) {
-    let expands = [Op::SelectMany(Formula::Repeat(2))];
-    let grown = [1, 2, 4, 8, 16, 32, 64, 128, 256, 512, 512, 512];
-    assert!(rt; asks_by_time(&rt, rt.alloc(), 2_000, &expands, &[], &grown));
+fn chunks_whose_elements_expand_grow_as_the_run_was_told(rt: HostRuntime) {
+    let by_workers = [Op::SelectMany(Formula::Repeat(2))];
+    let by_the_caller = [
+        Op::SkipWhile(Formula::Below(0)),
+        Op::SelectMany(Formula::Repeat(2)),
+    ];
+    let grown = [1, 1, 1, 2, 2, 2, 4, 4, 4, 8];
+    assert!(rt; asks_by_time(&rt, rt.alloc(), 28, &by_workers, by(1), &[], &grown));
+    assert!(rt; asks_by_time(&rt, rt.alloc(), 28, &by_the_caller, by(1), &[], &grown));
 }
