@@ -71,7 +71,7 @@ fn failure_advice(failure: Failure) -> &'static str {
             "a document has at most 16777216 bytes; plinq-cluster answers one in parts",
         Failure::Document(_) => "plinq-check < DOCUMENT says where, and what can stand there",
         Failure::Memory =>
-            "smaller chunks (\"growth\":[1,3,64]), fewer workers or a larger PLINQ_MEMORY need less or give more",
+            "use fewer workers or smaller chunks (\"growth\":[1,3,64]), or allow more (PLINQ_MEMORY, the container); --merge full holds the whole answer",
         Failure::Read => "; a document is read from standard input: plinq run < DOCUMENT",
         Failure::Write => "; what was written until then is a beginning of the answer",
         Failure::Thread =>
