@@ -12,7 +12,7 @@ items_of-append [] cs = refl
 items_of-append (b ∷ bs) cs = ap (λ ys. b ++ ys) (items_of-append bs cs) ∙ sym (append_assoc b (items_of bs) (items_of cs))
 
 -- the full batches, and then what is held back
-items_of-full_batches : {T : Type 0} (size : Option ℕ) (held xs : List T) → items_of (full_batches size held xs) ++ held_back size held xs ≡ held ++ xs
+pub items_of-full_batches : {T : Type 0} (size : Option ℕ) (held xs : List T) → items_of (full_batches size held xs) ++ held_back size held xs ≡ held ++ xs
 items_of-full_batches size held [] = sym (append-nil held)
 items_of-full_batches size held (x ∷ xs) =
     elim (is_full size (length held + 1)) as (λ v. items_of (cond v ((held ++ x ∷ []) ∷ full_batches size [] xs) (full_batches size (held ++ x ∷ []) xs))

@@ -1,3 +1,4 @@
 mod Called
+mod Collected
 mod JoinedBatches
 pub mod Gathered

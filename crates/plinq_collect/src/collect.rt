@@ -22,4 +22,15 @@ impl<T: Copy> Sink for Collect<T> {
     fn batch(&mut self, batch: &[T]) -> Result<(), u32> {
         self.0.extend_from_slice(batch).map_err(|_| 1)
     }
+
+    fn batches_of(&mut self, size: usize, items: &[T]) -> Result<(), u32> {
+        if items.len() < size {
+            return Ok(());
+        }
+        let (full, _left) = items.split_at(items.len() - items.len() % size);
+        match self.0.extend_from_slice(full) {
+            Ok(()) => Ok(()),
+            Err(_) => Err(1),
+        }
+    }
 }

@@ -17,7 +17,7 @@ use std::sync::Wait;
 use std::thread::Threads;
 use std::time::Clock;
 
-/// Runs a query into a sink, with the default growth and the gate that holds no worker back.
+/// Runs a query into a sink, by workers that choose their chunks' sizes by time ([`TimedGate`]).
 ///
 /// # Errors
 ///

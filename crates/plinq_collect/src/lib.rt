@@ -5,7 +5,7 @@
 //! - [`first`], [`element_at`], [`any`], [`contains`], [`all`] put a step on the query that ends it early, and [`count`] needs
 //!   all of it. Each says what it makes of one of the query's answers (`TellsSome`); with `as_ordered` that is the sequential
 //!   one.
-//! - [`build`] makes a query in one expression, and [`run_into`] is a run with the default growth and the open gate.
+//! - [`build`] makes a query in one expression, and [`run_into`] is a run whose workers choose their chunks' sizes by time.
 //! - [`sequentially`] has the same calls on one thread, with the same arguments.
 #![tactic(auto)]
 
