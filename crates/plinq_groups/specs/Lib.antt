@@ -2,9 +2,11 @@ pub mod Collecting
 pub mod FirstGroup
 pub mod Grouping
 pub mod Groups
+pub mod Lasting
 pub mod Mapping
 pub mod Others
 pub mod Ranked
+pub mod Singles
 pub mod Topped
 pub mod inner
 pub mod RankRows

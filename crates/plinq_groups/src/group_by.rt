@@ -10,7 +10,7 @@ use std::alloc::{AllocError, Global};
 /// (.NET's `GroupBy` with a result selector).
 ///
 /// ```text
-/// let groups = aggregate(&rt, alloc, &query, source, growth, &OpenGate, &GroupBy { key: Customer, each: Sum })?;
+/// let groups = aggregate(&rt, alloc, &query, source, growth, &TimedGate::new(&rt), &GroupBy { key: Customer, each: Sum })?;
 /// ```
 #[derive(Drop)]
 pub struct GroupBy<F, A> {

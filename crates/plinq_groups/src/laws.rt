@@ -1,6 +1,8 @@
 //! What groups are, each law the contract of a function with nothing to do.
 ghost use Rattle.std.specs.Prelude.{◌≡◌, ℕ, List, [], ◌∷◌, take};
 ghost use Rattle.plinq_aggregate.specs.Folding.{Folding, fold_of};
+ghost use Rattle.plinq_groups.specs.Lasting.{last_of, picking_last};
+ghost use Rattle.plinq_groups.specs.Singles.{being_single, only_of};
 ghost use Rattle.plinq_groups.specs.Groups.{grouping};
 ghost use Rattle.plinq_groups.specs.FirstGroup.{of_key, of_others};
 ghost use Rattle.plinq_groups.specs.Topped.{topping, ranked_items};
@@ -17,4 +19,14 @@ pub fn first_group_is_of_the_first_item<K: Eq, T, A, O>()
 /// The items of the greatest ranks are the first of all in descending order of rank, in which equal ones stand as they came.
 pub fn top_is_the_first_of_the_ranked<K: Ord, T>()
     ensures { (rank : T → K) (n : ℕ) (xs : List T) → fold_of (topping rank K.cmp n) xs ≡ take n (ranked_items rank K.cmp xs) }
+{}
+
+/// What [`Last`](crate::Last) finds is the last item, if there is one.
+pub fn last_is_the_last_item<T>()
+    ensures { (xs : List T) → fold_of picking_last xs ≡ last_of xs }
+{}
+
+/// What [`Single`](crate::Single) finds is the only item, or that there is none or more than one.
+pub fn single_is_the_only_item<T>()
+    ensures { (xs : List T) → fold_of being_single xs ≡ only_of xs }
 {}

@@ -4,8 +4,8 @@ ghost use Rattle.std.specs.Ordering.{int_eq};
 
 use plinq_aggregate::{Count, GrowingAggregator, Sum};
 use plinq_groups::{
-    Both, By, Collect, FieldOf, First, GreatestBy, GroupBy, KeyOf, LeastBy, MakeOf, MapEach,
-    MapFault, RankOf, Top,
+    Both, By, Collect, FieldOf, First, GreatestBy, GroupBy, KeyOf, Last, LeastBy, MakeOf, MapEach,
+    MapFault, Only, RankOf, Single, Top,
 };
 use std::alloc::{AllocError, Global};
 use std::sync::atomic::{AtomicU64, Ordering};
@@ -97,6 +97,29 @@ fn is_first_of_the_greatest(alloc: Global) -> bool {
 fn the_first_of_the_least_and_of_the_greatest(rt: HostRuntime) {
     assert!(rt; is_first_of_the_least(rt.alloc()));
     assert!(rt; is_first_of_the_greatest(rt.alloc()));
+}
+
+fn is_last(alloc: Global, second: &[(i64, i64)], wanted: (i64, i64)) -> bool {
+    matches!(of_parts(alloc, &Last::new(), &ONE, second), Ok(Some(last)) if last == wanted)
+}
+
+#[test]
+fn the_last_of_two_parts(rt: HostRuntime) {
+    assert!(rt; is_last(rt.alloc(), &OTHER, (9, 6)));
+    assert!(rt; is_last(rt.alloc(), &[], (7, 3)));
+}
+
+fn is_only(alloc: Global, first: &[i64], second: &[i64], wanted: Only<i64>) -> bool {
+    matches!(of_parts(alloc, &Single::new(), first, second), Ok(only) if only == wanted)
+}
+
+#[test]
+fn the_only_one_of_two_parts(rt: HostRuntime) {
+    assert!(rt; is_only(rt.alloc(), &[], &[], Only::NoElements));
+    assert!(rt; is_only(rt.alloc(), &[7], &[], Only::One(7)));
+    assert!(rt; is_only(rt.alloc(), &[], &[7], Only::One(7)));
+    assert!(rt; is_only(rt.alloc(), &[7], &[7], Only::MoreThanOne));
+    assert!(rt; is_only(rt.alloc(), &[7, 8, 9], &[], Only::MoreThanOne));
 }
 
 fn is_top(alloc: Global) -> bool {
