@@ -9,7 +9,7 @@ use crate::workload::Workload;
 use plinq_enumerator::Growth;
 use plinq_keyed::Record;
 use plinq_ops::Query;
-use plinq_run::{OpenGate, aggregate, run};
+use plinq_run::{TimedGate, aggregate, run};
 use plinq_source::{RangeSource, Source};
 use std::alloc::Global;
 use std::sync::Wait;
@@ -105,11 +105,12 @@ fn run_it<R: Threads + Wait + Sync + Clock>(
 ) -> Result<Seen, BenchFault> {
     let source = job.source()?;
     let growth = job.workload.growth()?;
+    let gate = job.workload.gate(rt);
     let query = job.workload.query(alloc, job.workers, job.items)?;
     if job.workload == Workload::Sum {
-        aggregated(rt, alloc, &query, source, growth)
+        aggregated(rt, alloc, &query, source, growth, &gate)
     } else {
-        delivered(rt, alloc, &query, source, growth)
+        delivered(rt, alloc, &query, source, growth, &gate)
     }
 }
 
@@ -119,11 +120,12 @@ fn aggregated<R: Threads + Wait + Sync + Clock>(
     query: &Query<Work>,
     source: RangeSource,
     growth: Growth,
+    gate: &TimedGate<'_, R>,
 ) -> Result<Seen, BenchFault>
     requires { ⟦<RangeSource as Source>⟧.given source ≡ 0 }
 {
     let start = Instant::now(rt)?;
-    let sum = aggregate(rt, alloc, query, source, growth, &OpenGate, &Total)?;
+    let sum = aggregate(rt, alloc, query, source, growth, gate, &Total)?;
     Ok(Seen {
         time: start.elapsed(rt)?,
         sum,
@@ -138,12 +140,13 @@ fn delivered<R: Threads + Wait + Sync + Clock>(
     query: &Query<Work>,
     source: RangeSource,
     growth: Growth,
+    gate: &TimedGate<'_, R>,
 ) -> Result<Seen, BenchFault>
     requires { ⟦<RangeSource as Source>⟧.given source ≡ 0 }
 {
     let start = Instant::now(rt)?;
     let mut sink = Summed::new(rt, start);
-    let report = run(rt, alloc, query, source, growth, &OpenGate, &mut sink)?;
+    let report = run(rt, alloc, query, source, growth, gate, &mut sink)?;
     Ok(Seen {
         time: start.elapsed(rt)?,
         sum: sink.sum,

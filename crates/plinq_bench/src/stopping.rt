@@ -2,7 +2,7 @@ use crate::bench_fault::BenchFault;
 use crate::job::Job;
 use crate::summed::Summed;
 use plinq_merge::CancelFlag;
-use plinq_run::{OpenGate, RunFault, run_with};
+use plinq_run::{RunFault, run_with};
 use std::alloc::Global;
 use std::io;
 use std::sync::Wait;
@@ -46,11 +46,12 @@ fn run_until<R: Threads + Wait + Sync + Clock>(
 ) -> Result<Option<Instant>, BenchFault> {
     let source = job.source()?;
     let growth = job.workload.growth()?;
+    let gate = job.workload.gate(rt);
     let mut sink = Summed::new(rt, Instant::now(rt)?);
     let query = job.workload.query(alloc, job.workers, job.items)?;
     let mut token = flag.token();
     let outcome = run_with(
-        rt, alloc, &query, source, growth, &OpenGate, &mut token, &mut sink,
+        rt, alloc, &query, source, growth, &gate, &mut token, &mut sink,
     );
     match outcome {
         Err(RunFault::Cancelled) => Ok(Some(Instant::now(rt)?)),

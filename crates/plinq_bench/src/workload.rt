@@ -3,6 +3,7 @@ use crate::work::{Cost, Work, kept, turns};
 use plinq_enumerator::{Growth, GrowthFault};
 use plinq_lambda::Formula;
 use plinq_ops::{BuildFault, MergeOption, Op, Query};
+use plinq_run::TimedGate;
 use std::alloc::Global;
 
 /// The turns of an element that takes about 0.7 microseconds.
@@ -87,7 +88,15 @@ impl Workload {
         }
     }
 
-    /// How its chunks grow.
+    /// The gate that its workers pass, which has a clock unless its chunks grow as they are told.
+    pub(crate) fn gate<C>(self, clock: &C) -> TimedGate<'_, C> {
+        if self == Workload::Grown {
+            return TimedGate::untimed();
+        }
+        TimedGate::new(clock)
+    }
+
+    /// How its chunks grow without a clock.
     pub(crate) fn growth(self) -> Result<Growth, GrowthFault> {
         match self {
             Workload::Grown => Growth::new(1, 3, GROWN),

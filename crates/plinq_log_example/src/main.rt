@@ -17,7 +17,7 @@ use crate::record::{Record, records_of};
 use anyhow::{Context, Result, bail};
 use plinq_enumerator::Growth;
 use plinq_ops::{BuildFault, Query};
-use plinq_run::{OpenGate, aggregate, run};
+use plinq_run::{TimedGate, aggregate, run};
 use plinq_source::{Ending, ListSource};
 use std::alloc::Global;
 use std::marker::PhantomData;
@@ -55,14 +55,15 @@ fn by_workers<'a, R: Clock + Threads + Wait + Sync>(
     let query = query(alloc, Errors { start }, workers)?;
     let source = ListSource::new(alloc, records);
     let growth = Growth::DEFAULT;
+    let gate = TimedGate::new(rt);
     let mut sink = Collected(Vec::new(alloc));
-    let report = run(rt, alloc, &query, source, growth, &OpenGate, &mut sink)?;
+    let report = run(rt, alloc, &query, source, growth, &gate, &mut sink)?;
     if report.ending != Ending::End {
         bail!("an error from before the start");
     }
     let source = ListSource::new(alloc, records_of(alloc, log)?);
     let latest = Latest(PhantomData);
-    let latest = aggregate(rt, alloc, &query, source, growth, &OpenGate, &latest)?;
+    let latest = aggregate(rt, alloc, &query, source, growth, &gate, &latest)?;
     Ok((sink.0, latest))
 }
 

@@ -29,7 +29,7 @@ use std::thread::Threads;
 /// As [`run`](plinq_run::run), [`RunFault::Memory`] also where there is no room for what is made.
 ///
 /// ```text
-/// let ending = run_mapped(&rt, alloc, &query, source, Growth::DEFAULT, &OpenGate, &MapEach { make }, &mut sink)?;
+/// let ending = run_mapped(&rt, alloc, &query, source, Growth::DEFAULT, &TimedGate::new(&rt), &MapEach { make }, &mut sink)?;
 /// ```
 pub fn run_mapped<L, S, G, M, K, R>(
     rt: &R,

@@ -21,7 +21,7 @@ use plinq_enumerator::Growth;
 use plinq_groups::{Both, By, GroupBy, MapEach, Top};
 use plinq_mapped::to_vec_mapped;
 use plinq_ops::{BuildFault, Query};
-use plinq_run::{OpenGate, aggregate};
+use plinq_run::{TimedGate, aggregate};
 use plinq_slice::SliceSource;
 use plinq_source::Ending;
 use std::alloc::{AllocError, Global};
@@ -97,7 +97,8 @@ fn spent_by<'a, R: Clock + Threads + Wait + Sync>(
     };
     let query = query(alloc, workers)?;
     let source = SliceSource::new(orders)?;
-    let groups = aggregate(rt, alloc, &query, source, Growth::DEFAULT, &OpenGate, &by)?;
+    let gate = TimedGate::new(rt);
+    let groups = aggregate(rt, alloc, &query, source, Growth::DEFAULT, &gate, &by)?;
     let mut spent = Vec::new(alloc);
     for (customer, ((cents, count), dearest)) in groups.into_map() {
         spent.push(Spent {

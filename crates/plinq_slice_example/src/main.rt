@@ -70,7 +70,7 @@ fn stopped<R: Clock + Threads + Wait + Sync>(
         &query,
         SliceSource::new(numbers)?,
         Growth::DEFAULT,
-        &OpenGate,
+        &TimedGate::new(rt),
         &mut flag.token(),
         &mut sink,
     );
