@@ -9,6 +9,7 @@ what is refused before a cluster is asked. As root and where `ip` is, one of its
 import concurrent.futures
 import contextlib
 import importlib
+import io
 import json
 import os
 import pty
@@ -198,7 +199,7 @@ def calls(tests, local):
         text = json.dumps(document).encode()
         *lines, ending = run(["seq"], text, PROGRAM).output.decode().splitlines()
         wanted = plinq_shards.Answer([int(it) for it in " ".join(lines).split() if it != "none"], ending)
-        for given in (document, text):
+        for given in (document, text, text.decode()):
             seen = plinq_shards.run(local.client, given, PROGRAM, shards=3)
             tests.check(f"a call from Python: {text.decode()}", seen == wanted, (wanted, seen))
     try:
@@ -206,6 +207,18 @@ def calls(tests, local):
     except trouble.Trouble as why:
         said = why.line, why.status
     tests.check("a call from Python: a document that is refused", said == ("plinq: document: step 0: unknown", 2), said)
+    closed = distributed.Client(local.cluster, set_as_default=False)
+    closed.close()
+    try:
+        said = plinq_shards.run(closed, {"version": 1, "source": {"list": []}, "query": []})
+    except trouble.Trouble as why:
+        said = why.line, why.status
+    tests.check("a call from Python: a client that is closed", said == ("plinq-cluster: the client is closed", 5), said)
+    with open(f"{ROOT}/docs/SCALING.md", encoding="utf-8") as file:
+        (code,) = re.findall(r"^```python\n(.*?)^```", file.read(), re.M | re.S)
+    with contextlib.redirect_stdout(io.StringIO()) as printed:
+        exec(code, {"sys": sys, "client": local.client})
+    tests.check("the page's call from Python", printed.getvalue() == "[0, 2, 4, 6, 8] end\n", printed.getvalue())
 
 
 def unknown(tests, folder):
@@ -237,6 +250,10 @@ def refused(tests):
         tests.check(f"refused: the scheduler {empty!r}", seen.status == 2 and b"invalid HOST:PORT value" in seen.errors, seen)
     seen = command([*words, "--program", "/nowhere"], text_of({"list": [1]}))
     tests.check("refused: a program that isn't there", seen.status == 5 and seen.errors.startswith(b"plinq-cluster: /nowhere isn't there: "), seen)
+    for program, status in (("/bin/true", 0), ("/bin/false", 1), ("/bin/cat", 1)):
+        seen = command([*words, "--program", program], text_of({"list": [1]}))
+        wanted = f"plinq-cluster: {program} printed no plan (status {status}): is it plinq?\n".encode()
+        tests.check(f"refused: {program} in the place of plinq", seen == Outcome(5, b"", wanted), seen)
 
 
 def is_trouble(seen, right, said):

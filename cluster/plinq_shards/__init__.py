@@ -4,6 +4,10 @@ Who has a Dask client calls `run`, as this folder's parent is on Python's path.
 """
 import dataclasses
 import json
+import os
+
+# The program that `./plinq --build` makes.
+PROGRAM = os.path.join(os.path.dirname(os.path.dirname(os.path.dirname(os.path.realpath(__file__)))), "crates", "plinq", "out", "plinq")
 
 
 @dataclasses.dataclass(frozen=True)
@@ -14,8 +18,9 @@ class Answer:
     ending: str
 
 
-def run(client, document, program="plinq", shards=None):
-    """Answers a document, a `dict` or the bytes of one, by the workers of a Dask client, of which each has the same program.
+def run(client, document, program=PROGRAM, shards=None):
+    """Answers a document, a `dict` or the text of one, by the workers of a Dask client, of which each has the same program: the
+    one that `./plinq --build` makes, or another by its path, or by its name on the PATH (`program="plinq"` once it is installed).
 
         >>> run(client, {"version": 1, "source": {"range": [0, 10]}, "query": [["as_ordered"], ["filter", "even"]]})
         Answer(items=[0, 2, 4, 6, 8], ending='end')
@@ -34,11 +39,15 @@ def run(client, document, program="plinq", shards=None):
     from .progress import Progress
     from .shard import Cut, elements_for, parts_of
     from .shard import shards as shards_of
+    from .trouble import own
 
+    if client.scheduler is None:
+        raise own("the client is closed")
     # (workers need no file of this folder)
     cloudpickle.register_pickle_by_value(by_worker)
     name, path = found(program)
-    text = document if isinstance(document, bytes) else json.dumps(document).encode()
+    text = document.encode() if isinstance(document, str) else document
+    text = text if isinstance(text, bytes) else json.dumps(text).encode()
     asked = understood(path, text)
     there = Cluster(client, f"scheduler {client.scheduler.address}", name, asked.degree, Progress(None))
     parts = parts_of(asked.source, Cut(shards, there.threads, elements_for(asked.steps, asked.aggregate)))

@@ -52,9 +52,13 @@ def judged(program, text, workers, merge):
         ran = subprocess.run(words, input=text, capture_output=True)
     except OSError as error:
         raise own(f"{program}: {error.strerror}") from None
-    if ran.returncode:
-        raise Trouble(ran.stderr.decode("utf-8", "replace").rstrip("\n"), ran.returncode)
-    return ran.stdout.decode().splitlines()
+    said = ran.stderr.decode("utf-8", "replace").rstrip("\n")
+    if ran.returncode and said.startswith("plinq: "):
+        raise Trouble(said, ran.returncode)
+    lines = ran.stdout.decode("utf-8", "replace").splitlines()
+    if ran.returncode or not any(it.startswith("merge ") for it in lines):
+        raise own(f"{program} printed no plan (status {ran.returncode}): is it plinq?")
+    return lines
 
 
 def understood(program, text, workers=None, merge=None):
@@ -81,5 +85,5 @@ def found(program):
     name = os.path.abspath(program) if "/" in program else program
     path = shutil.which(name)
     if path is None:
-        raise own(f"{program} isn't there: build it by ./plinq --build, or name another by --program")
+        raise own(f"{program} isn't there: ./plinq --build makes one, and --program (in Python, program=) names another")
     return name, path
