@@ -1,6 +1,6 @@
 #!/usr/bin/env python3
 """Looks whether what the pages name is there: each link's target, and each file that is named by its path in a crate; and
-whether no sentence of README.md and docs/ has more than 30 words (TRUSTED.md, which a tool makes, is left out), and no page or
+whether no sentence of README.md and docs/ has more than 30 words (TRUSTED.md and api/, which tools make, are left out), and no page or
 help has a twisted form that the field says otherwise. No line of a crate's sources has more than 160 columns.
 
     python3 tests/pages.py
@@ -37,8 +37,13 @@ def sentences(text):
             yield from re.split(r"(?<=[.:;?!])\s+|(?<=[.:;?!]\*\*)\s+", cell.strip())
 
 
+def is_made(page):
+    """Whether a tool makes a page, of what stands in the sources."""
+    return page == "docs/TRUSTED.md" or page.startswith("docs/api/")
+
+
 def lengths(tests):
-    for page in ("README.md", *(it for it in pages() if it.startswith("docs/") and it != "docs/TRUSTED.md")):
+    for page in ("README.md", *(it for it in pages() if it.startswith("docs/") and not is_made(it))):
         with open(os.path.join(ROOT, page), encoding="utf-8") as file:
             found = list(sentences(file.read()))
         long = [it for it in found if len(re.findall(r"\S*\w\S*", it)) > 30]
@@ -60,7 +65,7 @@ TWISTED = (
 
 
 def twisted(tests):
-    for page in (*(it for it in pages() if it != "docs/TRUSTED.md"), *(f"share/help/{it}" for it in sorted(os.listdir(f"{ROOT}/share/help")))):
+    for page in (*(it for it in pages() if not is_made(it)), *(f"share/help/{it}" for it in sorted(os.listdir(f"{ROOT}/share/help")))):
         with open(os.path.join(ROOT, page), encoding="utf-8") as file:
             text = file.read()
         found = [f"{it[0]!r}: {better}" for form, better in TWISTED for it in re.finditer(form, text)]
