@@ -27,6 +27,7 @@ HUNGRY = {
 # printed, the most bytes.
 SPARING = {
     "an aggregate in one thread": ("seq", '{"version":1,"source":{"range":[0,200000]},"query":[["select_many","repeat",100]],"aggregate":"count"}', 20_000_000, 60_000_000),
+    "an aggregate after the merge": ("run", '{"version":1,"source":{"range":[0,200000]},"query":[["as_ordered"],["select_many","repeat",100],["take",100000000]],"aggregate":"count"}', 20_000_000, 60_000_000),
     "an aggregate of great expansions": ("run", '{"version":1,"source":{"range":[0,2000]},"query":[["select_many","repeat",65536]],"aggregate":"count"}', 131_072_000, 60_000_000),
     "a filter that keeps one, fully buffered": ("run --merge full", '{"version":1,"source":{"range":[0,20000000]},"query":[["as_ordered"],["filter","equal",7]]}', 7, 60_000_000),
 }
