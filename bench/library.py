@@ -1,6 +1,6 @@
 #!/usr/bin/env python3
-"""Measures closures beside a lambda type, `to_vec` beside a sink by hand, and how much `first` and `any` ask for, and prints the
-tables of bench/README.md.
+"""Measures closures beside a lambda type, `to_vec` beside a sink by hand, steps that change the type beside the engine's
+operators, and how much `first` and `any` ask for, and prints the tables of bench/README.md.
 
     python3 bench/library.py            # each row by 1 and by 4 workers, the best of seven runs of a process
     python3 bench/library.py ROUNDS     # the best of so many processes, which take turns
@@ -17,18 +17,25 @@ import tempfile
 
 ROOT = os.path.dirname(os.path.dirname(os.path.abspath(__file__)))
 NAME = "bench_library"
-USES = "plinq_prelude plinq_source anyhow"
+USES = "plinq_prelude plinq_source plinq_lambda plinq_aggregate plinq_groups plinq_enumerator plinq_ops plinq_run plinq_collect plinq_mapped anyhow"
 PLACES = {
     "src/main.rt": "src/main.rt.txt",
     "src/by_hand.rt": "src/by_hand.rt.txt",
     "src/counted.rt": "src/counted.rt.txt",
     "src/spinning.rt": "src/spinning.rt.txt",
     "src/step.rt": "src/step.rt.txt",
+    "src/steps.rt": "src/steps.rt.txt",
     "specs/Lib.antt": "specs/Lib.antt.txt",
     "specs/Spinning.antt": "specs/Spinning.antt.txt",
     "proofs/spinning/spun/Invariants.antt": "proofs/spun/Invariants.antt.txt",
 }
-ROWS = [("cheap", "lambda", "closures", 10_000_000), ("heavy", "lambda", "closures", 1_000_000), ("list", "sink", "to_vec", 10_000_000)]
+ROWS = [
+    ("cheap", "lambda", "closures", 10_000_000),
+    ("heavy", "lambda", "closures", 1_000_000),
+    ("list", "sink", "to_vec", 10_000_000),
+    ("steps_list", "operators", "typed", 10_000_000),
+    ("steps_sum", "operators", "typed", 10_000_000),
+]
 
 
 def build(folder):

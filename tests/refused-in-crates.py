@@ -49,6 +49,8 @@ CALLS = {
     "run and aggregate by eight workers": ("run", "refused_room::eight_workers_may_be_refused_room"),
     "aggregate with GroupBy by one worker": ("groups", "refused_room::groups_by_one_worker_may_be_refused_room"),
     "aggregate with GroupBy by two workers": ("groups", "refused_room::groups_by_two_workers_may_be_refused_room"),
+    "aggregate with FoldEach by one worker": ("groups", "refused_room::a_fold_of_what_is_made_by_one_worker_may_be_refused_room"),
+    "aggregate with FoldEach by two workers": ("groups", "refused_room::a_fold_of_what_is_made_by_two_workers_may_be_refused_room"),
     "run_mapped by one worker": ("groups", "refused_room::a_mapped_run_by_one_worker_may_be_refused_room"),
     "run_mapped by two workers": ("groups", "refused_room::a_mapped_run_by_two_workers_may_be_refused_room"),
     "to_vec_mapped by one worker": ("groups", "refused_room::a_mapped_list_by_one_worker_may_be_refused_room"),

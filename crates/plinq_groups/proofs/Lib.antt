@@ -1,2 +1,3 @@
+mod MadeBlocks
 mod Placed
 mod Ranking

@@ -1,12 +1,14 @@
 pub mod Collecting
+pub mod Composed
 pub mod FirstGroup
+pub mod FoldedEach
 pub mod Grouping
 pub mod Groups
 pub mod Lasting
 pub mod Mapping
 pub mod Others
+pub mod RankRows
 pub mod Ranked
 pub mod Singles
 pub mod Topped
 pub mod inner
-pub mod RankRows

@@ -5,6 +5,9 @@
 //! sequential answer, and each folds its items in their order. [`Collect`], [`First`], [`Last`], [`Single`], [`LeastBy`],
 //! [`GreatestBy`], [`Top`], [`By`] and [`Both`] are aggregators of a group, or of a whole answer; their laws come from those of what
 //! they are made of.
+//!
+//! A step to another type is a [`MakeOf`], and two of them are one by [`Then`]. [`MapEach`] lists what is made of each item, and
+//! [`FoldEach`] aggregates it.
 #![tactic(auto)]
 
 mod both;
@@ -12,6 +15,7 @@ mod by;
 mod collect;
 mod field_of;
 mod first;
+mod fold_each;
 mod greatest_by;
 mod group_by;
 mod groups;
@@ -27,6 +31,7 @@ mod mapped;
 mod only;
 mod rank_of;
 mod single;
+mod then;
 mod top;
 
 pub use both::Both;
@@ -34,6 +39,7 @@ pub use by::By;
 pub use collect::Collect;
 pub use field_of::FieldOf;
 pub use first::First;
+pub use fold_each::FoldEach;
 pub use greatest_by::GreatestBy;
 pub use group_by::GroupBy;
 pub use groups::Groups;
@@ -48,4 +54,5 @@ pub use mapped::Mapped;
 pub use only::Only;
 pub use rank_of::RankOf;
 pub use single::Single;
+pub use then::Then;
 pub use top::Top;

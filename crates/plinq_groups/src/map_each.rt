@@ -6,8 +6,7 @@ use crate::mapped::Mapped;
 use plinq_aggregate::GrowingAggregator;
 use std::alloc::{AllocError, Global};
 
-/// What is made of all items, in their order, up to the first of which nothing can be made: a last step to another type, by
-/// the workers.
+/// What is made of all items, in their order, up to the first that faults: last steps to another type, by the workers.
 #[derive(Drop)]
 pub struct MapEach<M> {
     pub make: M,
@@ -40,16 +39,31 @@ impl<M: MakeOf> GrowingAggregator for MapEach<M> {
         }
         let mut made = acc.made;
         match self.make.make_of(alloc, x) {
-            Ok(one) => {
+            Ok(Some(one)) => {
                 made.push(one)?;
                 Ok(Mapped { made, fault: None })
             }
+            Ok(None) => Ok(Mapped { made, fault: None }),
             Err(MapFault::Code(code)) => Ok(Mapped {
                 made,
                 fault: Some(code),
             }),
             Err(MapFault::Memory) => Err(AllocError),
         }
+    }
+
+    fn update_block(
+        &self,
+        alloc: Global,
+        acc: Mapped<M::Made>,
+        block: &[M::Item],
+    ) -> Result<Mapped<M::Made>, AllocError> {
+        if acc.fault.is_some() {
+            return Ok(acc);
+        }
+        let mut made = acc.made;
+        let fault = self.make.make_block(alloc, block, &mut made)?;
+        Ok(Mapped { made, fault })
     }
 
     fn combine(

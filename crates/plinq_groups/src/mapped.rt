@@ -2,7 +2,7 @@ ghost use Rattle.std.specs.Prelude.{◌≡◌, ℕ, List, Option};
 
 use std::marker::Model;
 
-/// What was made of items, and the code of the one after them of which nothing can be made, if there is one.
+/// What was made of items, and the code of the one after them that faulted, if there is one.
 ///
 /// A contract sees the pair of the list and the code.
 #[derive(Drop)]

@@ -1,14 +1,14 @@
-//! Mapped runs by threads beside those of a plain loop.
-ghost use Rattle.std.specs.Prelude.{◌≡◌, if◌then◌else◌, Ok, Err, IfSome};
+//! Mapped runs by threads, and folds of what is made, beside those of a plain loop.
+ghost use Rattle.std.specs.Prelude.{◌≡◌, if◌then◌else◌, int_lt, Some, None, Ok, Err, IfSome};
 ghost use Rattle.std.specs.Int.{cast_unsigned, w64};
 ghost use Rattle.std.specs.Ordering.{int_eq};
 
 use plinq_enumerator::Growth;
-use plinq_groups::{MakeOf, MapEach, MapFault};
+use plinq_groups::{Collect, FoldEach, MakeOf, MapEach, MapFault, Then};
 use plinq_lambda::Formula;
 use plinq_mapped::{run_mapped, to_vec_mapped};
 use plinq_ops::{Built, MergeOption, Query};
-use plinq_run::{OpenGate, RunFault};
+use plinq_run::{OpenGate, RunFault, aggregate};
 use plinq_source::{Ending, ListSource, Source};
 use plinq_testing::Taken;
 use std::alloc::{AllocError, Global};
@@ -18,13 +18,13 @@ use std::test::*;
 use std::thread::Threads;
 use std::time::Clock;
 
-/// The code of the number of which nothing is made.
+/// The code of the number that faults.
 const NOTHING: u32 = 5;
 
 /// The code with which the sink refuses a batch more than it takes.
 const FULL: u32 = 9;
 
-/// The bits of each number but one, of which nothing is made.
+/// The bits of each number but one, which faults.
 #[derive(Clone, Copy)]
 pub(crate) struct BitsOf {
     pub(crate) but: i64,
@@ -35,13 +35,34 @@ impl MakeOf for BitsOf {
 
     type Made = u64;
 
-    ghost makes = { λ m x. if int_eq x m.but then Err 5 else Ok (cast_unsigned w64 x) };
+    ghost makes = { λ m x. if int_eq x m.but then Err 5 else Ok (Some (cast_unsigned w64 x)) };
 
-    fn make_of(&self, _alloc: Global, x: i64) -> Result<u64, MapFault> {
+    fn make_of(&self, _alloc: Global, x: i64) -> Result<Option<u64>, MapFault> {
         if x == self.but {
             return Err(MapFault::Code(NOTHING));
         }
-        Ok(x.cast_unsigned())
+        Ok(Some(x.cast_unsigned()))
+    }
+}
+
+/// Each number that isn't below the least.
+#[derive(Clone, Copy)]
+pub(crate) struct AtLeast {
+    pub(crate) least: i64,
+}
+
+impl MakeOf for AtLeast {
+    type Item = i64;
+
+    type Made = i64;
+
+    ghost makes = { λ m x. if int_lt x m.least then Ok None else Ok (Some x) };
+
+    fn make_of(&self, _alloc: Global, x: i64) -> Result<Option<i64>, MapFault> {
+        if x < self.least {
+            return Ok(None);
+        }
+        Ok(Some(x))
     }
 }
 
@@ -89,8 +110,20 @@ struct Setting {
     option: MergeOption,
     is_ordered: bool,
     after: After,
-    /// Of this one nothing is made.
+    /// What is below this is left out.
+    least: i64,
+    /// This one faults, unless it is left out.
     but: i64,
+}
+
+/// The two steps on each number.
+fn steps(setting: &Setting) -> Then<AtLeast, BitsOf> {
+    Then {
+        first: AtLeast {
+            least: setting.least,
+        },
+        second: BitsOf { but: setting.but },
+    }
 }
 
 fn with_operators(query: Query<Formula>, setting: &Setting) -> Built<Formula> {
@@ -143,8 +176,14 @@ fn limits(after: After) -> (usize, i64, usize) {
 }
 
 /// What a plain loop makes, and how it ends.
-fn by_loop(alloc: Global, after: After, but: i64) -> Result<(Vec<u64>, Ending), AllocError> {
+fn by_loop(
+    alloc: Global,
+    after: After,
+    least: i64,
+    but: i64,
+) -> Result<(Vec<u64>, Ending), AllocError> {
     let (mut skip, until, most) = limits(after);
+    let mut count = 0usize;
     let mut made = Vec::new(alloc);
     for at in 0..200 {
         let number = number(at);
@@ -155,8 +194,12 @@ fn by_loop(alloc: Global, after: After, but: i64) -> Result<(Vec<u64>, Ending), 
             skip -= 1;
             continue;
         }
-        if number >= until || made.len() == most {
+        if number >= until || count == most {
             break;
+        }
+        count = count.wrapping_add(1);
+        if number < least {
+            continue;
         }
         if number == but {
             return Ok((made, Ending::Fault(NOTHING)));
@@ -193,7 +236,7 @@ fn delivered<R: Clock + Threads + Wait + Sync>(
     };
     let source = source_of(alloc)?;
     let bits = MapEach {
-        make: BitsOf { but: setting.but },
+        make: steps(setting),
     };
     let mut taken = Taken::new(alloc, most);
     let growth = setting.growth;
@@ -216,12 +259,36 @@ fn listed<R: Clock + Threads + Wait + Sync>(
     };
     let source = source_of(alloc)?;
     let bits = MapEach {
-        make: BitsOf { but: setting.but },
+        make: steps(setting),
     };
     match to_vec_mapped(rt, alloc, &query, source, &bits) {
         Ok((made, ending)) => Some(Told {
             made,
             ended: Ok(ending),
+        }),
+        Err(_) => None,
+    }
+}
+
+/// All that is made, by a fold of it.
+fn folded<R: Clock + Threads + Wait + Sync>(
+    rt: &R,
+    alloc: Global,
+    setting: &Setting,
+) -> Option<Told> {
+    let Ok(query) = query_of(alloc, setting) else {
+        return None;
+    };
+    let source = source_of(alloc)?;
+    let each = FoldEach {
+        make: steps(setting),
+        each: Collect::new(),
+    };
+    let growth = setting.growth;
+    match aggregate(rt, alloc, &query, source, growth, &OpenGate, &each) {
+        Ok((made, code)) => Some(Told {
+            made: made.into_vec(),
+            ended: Ok(code.map_or(Ending::End, Ending::Fault)),
         }),
         Err(_) => None,
     }
@@ -248,12 +315,13 @@ fn is_as_by_loop<R: Clock + Threads + Wait + Sync>(
     alloc: Global,
     setting: &Setting,
 ) -> bool {
-    let Ok((made, ending)) = by_loop(alloc, setting.after, setting.but) else {
+    let Ok((made, ending)) = by_loop(alloc, setting.after, setting.least, setting.but) else {
         return false;
     };
     let (wanted, most) = to_deliver(setting.option, &made, ending);
     is_told(delivered(rt, alloc, setting, most), wanted, Ok(ending))
         && is_told(listed(rt, alloc, setting), &made, Ok(ending))
+        && is_told(folded(rt, alloc, setting), &made, Ok(ending))
 }
 
 const OPTIONS: [MergeOption; 3] = [
@@ -262,29 +330,38 @@ const OPTIONS: [MergeOption; 3] = [
     MergeOption::FullyBuffered,
 ];
 
-/// Nothing is made of none, of the second, of one in the midst, of the last but one.
-const CASES: [(After, i64); 9] = [
-    (After::Nothing, NONE),
-    (After::Nothing, 77),
-    (After::Nothing, 33),
-    (After::Nothing, 122),
-    (After::Take(90), NONE),
-    (After::Take(90), 33),
-    (After::Take(3), 33),
-    (After::All, NONE),
-    (After::All, 51),
+/// Nothing is as small.
+const ALL: i64 = -1;
+
+/// None faults, the second, one in the midst, the last but one; and some are left out, also one that would fault.
+const CASES: [(After, i64, i64); 14] = [
+    (After::Nothing, ALL, NONE),
+    (After::Nothing, ALL, 77),
+    (After::Nothing, ALL, 33),
+    (After::Nothing, ALL, 122),
+    (After::Nothing, 60, NONE),
+    (After::Nothing, 60, 122),
+    (After::Nothing, 60, 33),
+    (After::Nothing, NONE, 33),
+    (After::Take(90), ALL, NONE),
+    (After::Take(90), ALL, 33),
+    (After::Take(90), 60, NONE),
+    (After::Take(3), ALL, 33),
+    (After::All, ALL, NONE),
+    (After::All, 60, 51),
 ];
 
 fn ask_in_order<R: Clock + Threads + Wait + Sync + Abort>(rt: &R, alloc: Global, growth: Growth) {
     for workers in [1, 2, 8, 64] {
         for option in OPTIONS {
-            for (after, but) in CASES {
+            for (after, least, but) in CASES {
                 let setting = Setting {
                     workers,
                     growth,
                     option,
                     is_ordered: true,
                     after,
+                    least,
                     but,
                 };
                 assert!(rt; is_as_by_loop(rt, alloc, &setting));
@@ -313,9 +390,10 @@ fn are_two_batches<R: Clock + Threads + Wait + Sync>(
         option: MergeOption::AutoBuffered,
         is_ordered: true,
         after,
+        least: ALL,
         but: NONE,
     };
-    let Ok((made, _)) = by_loop(alloc, after, NONE) else {
+    let Ok((made, _)) = by_loop(alloc, after, ALL, NONE) else {
         return false;
     };
     match made.get(..32) {
@@ -342,6 +420,7 @@ fn a_refused_batch_is_the_last(rt: HostRuntime) {
 fn is_nothing<R: Clock + Threads + Wait + Sync>(rt: &R, alloc: Global, setting: &Setting) -> bool {
     is_told(delivered(rt, alloc, setting, 0), &[], Ok(Ending::End))
         && is_told(listed(rt, alloc, setting), &[], Ok(Ending::End))
+        && is_told(folded(rt, alloc, setting), &[], Ok(Ending::End))
 }
 
 #[test]
@@ -355,6 +434,7 @@ fn nothing_is_made_of_a_decided_query(rt: HostRuntime) {
                     option,
                     is_ordered,
                     after: After::Take(0),
+                    least: ALL,
                     but: 77,
                 };
                 assert!(rt; is_nothing(&rt, rt.alloc(), &setting));
@@ -407,11 +487,12 @@ fn is_in_some_order<R: Clock + Threads + Wait + Sync>(
     alloc: Global,
     setting: &Setting,
 ) -> bool {
-    let Ok((all, _)) = by_loop(alloc, After::Nothing, NONE) else {
+    let Ok((all, _)) = by_loop(alloc, After::Nothing, ALL, NONE) else {
         return false;
     };
     let is_kept_back = setting.option == MergeOption::FullyBuffered;
     is_of_some_loop(listed(rt, alloc, setting), setting, &all, false)
+        && is_of_some_loop(folded(rt, alloc, setting), setting, &all, false)
         && is_of_some_loop(
             delivered(rt, alloc, setting, 1_000),
             setting,
@@ -440,6 +521,7 @@ fn ask_in_any_order<R: Clock + Threads + Wait + Sync + Abort>(
                     option,
                     is_ordered: false,
                     after,
+                    least: ALL,
                     but,
                 };
                 assert!(rt; is_in_some_order(rt, alloc, &setting));

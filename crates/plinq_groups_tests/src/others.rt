@@ -1,5 +1,5 @@
 //! Aggregates made of others, of a few pairs.
-ghost use Rattle.std.specs.Prelude.{◌≡◌, pos, if◌then◌else◌, Ok, Err};
+ghost use Rattle.std.specs.Prelude.{◌≡◌, pos, if◌then◌else◌, Some, Ok, Err};
 ghost use Rattle.std.specs.Ordering.{int_eq};
 
 use plinq_aggregate::{Count, GrowingAggregator, Sum};
@@ -243,18 +243,18 @@ impl<'a> MakeOf for Counting<'a> {
 
     type Made = i64;
 
-    ghost makes = { λ _ x. if int_eq x.0 (pos 2) then Err 5 else Ok x.1 };
+    ghost makes = { λ _ x. if int_eq x.0 (pos 2) then Err 5 else Ok (Some x.1) };
 
-    fn make_of(&self, _alloc: Global, x: (i64, i64)) -> Result<i64, MapFault> {
+    fn make_of(&self, _alloc: Global, x: (i64, i64)) -> Result<Option<i64>, MapFault> {
         self.times.fetch_add(1, Ordering::SeqCst);
         if x.0 == 2 {
             return Err(MapFault::Code(5));
         }
-        Ok(x.1)
+        Ok(Some(x.1))
     }
 }
 
-/// Of each part as much is made as up to its first pair of which nothing can be made.
+/// Of each part as much is made as up to its first pair that faults.
 fn stops_at_a_code(alloc: Global) -> bool {
     let times = AtomicU64::new(0);
     let map = MapEach {

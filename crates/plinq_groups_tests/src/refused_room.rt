@@ -1,9 +1,9 @@
 //! Groups and mapped runs that are refused an allocation, and the same once more. Each test is run with each allocation
 //! failing in turn.
 use crate::keys::Masked;
-use crate::made_by_workers::{BitsOf, count_in};
+use crate::made_by_workers::{AtLeast, BitsOf, count_in};
 use plinq_enumerator::Growth;
-use plinq_groups::{Collect, GroupBy, MapEach};
+use plinq_groups::{Collect, FoldEach, GroupBy, MapEach};
 use plinq_lambda::Formula;
 use plinq_mapped::{run_mapped, to_vec_mapped};
 use plinq_ops::{Built, Query};
@@ -19,6 +19,7 @@ use std::time::Clock;
 #[derive(Clone, Copy)]
 enum Asked {
     Groups,
+    Fold,
     Run,
     List,
 }
@@ -35,7 +36,7 @@ fn all(alloc: Global, workers: u64) -> Built<Formula> {
 fn first(alloc: Global, asked: Asked, workers: u64) -> Built<Formula> {
     let query = all(alloc, workers)?;
     match asked {
-        Asked::Groups => query.take(9),
+        Asked::Groups | Asked::Fold => query.take(9),
         Asked::Run | Asked::List => query.filter(Formula::Above(0))?.take(9),
     }
 }
@@ -59,6 +60,38 @@ fn grouped<R: Clock + Threads + Wait + Sync>(
             let map = groups.as_map();
             match map.get(&1) {
                 Some(items) => Ok(map.len() == 8 && items.as_slice().len() == count),
+                None => Ok(false),
+            }
+        }
+        Err(AggregateFault::Run(fault)) => Err(fault),
+        Err(_) => Ok(false),
+    }
+}
+
+/// Groups those above 1 by their lowest bits. Returns whether so many are in the group of 1, or would be with 1.
+fn folded<R: Clock + Threads + Wait + Sync>(
+    rt: &R,
+    alloc: Global,
+    query: &Query<Formula>,
+    count: usize,
+) -> Result<bool, RunFault> {
+    let Ok(source) = RangeSource::new(1, 17) else {
+        return Ok(false);
+    };
+    let each = FoldEach {
+        make: AtLeast { least: 2 },
+        each: GroupBy {
+            key: Masked { mask: 7 },
+            each: Collect::new(),
+        },
+    };
+    match aggregate(rt, alloc, query, source, Growth::ONE, &OpenGate, &each) {
+        Ok((groups, fault)) => {
+            let map = groups.as_map();
+            match map.get(&1) {
+                Some(items) => {
+                    Ok(fault.is_none() && map.len() == 8 && items.as_slice().len() + 1 == count)
+                }
                 None => Ok(false),
             }
         }
@@ -121,6 +154,7 @@ fn told<R: Clock + Threads + Wait + Sync>(
 ) -> Result<bool, RunFault> {
     match asked {
         Asked::Groups => grouped(rt, alloc, query, count),
+        Asked::Fold => folded(rt, alloc, query, count),
         Asked::Run => delivered(rt, alloc, query, count),
         Asked::List => listed(rt, alloc, query, count),
     }
@@ -162,7 +196,7 @@ fn is_answered<R: Clock + Threads + Wait + Sync>(
 /// How many are in the group of 1 or taken: of all, and of the first 9.
 fn counts(asked: Asked) -> (usize, usize) {
     match asked {
-        Asked::Groups => (3, 2),
+        Asked::Groups | Asked::Fold => (3, 2),
         Asked::Run | Asked::List => (17, 9),
     }
 }
@@ -186,6 +220,16 @@ fn groups_by_one_worker_may_be_refused_room(rt: HostRuntime) {
 #[test]
 fn groups_by_two_workers_may_be_refused_room(rt: HostRuntime) {
     assert!(rt; are_answered(&rt, rt.alloc(), Asked::Groups, 2));
+}
+
+#[test]
+fn a_fold_of_what_is_made_by_one_worker_may_be_refused_room(rt: HostRuntime) {
+    assert!(rt; are_answered(&rt, rt.alloc(), Asked::Fold, 1));
+}
+
+#[test]
+fn a_fold_of_what_is_made_by_two_workers_may_be_refused_room(rt: HostRuntime) {
+    assert!(rt; are_answered(&rt, rt.alloc(), Asked::Fold, 2));
 }
 
 #[test]

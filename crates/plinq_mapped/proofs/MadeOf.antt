@@ -38,7 +38,7 @@ last-joined : {B : Type 0} (ys : List B) (o : Option ℕ) (e : Option Ending) �
 last-joined ys None e = ap (λ zs. trace_of zs e) (append-nil ys)
 last-joined ys (Some code) e = refl
 
-module _ {T B : Type 0} (makes : T → Result B ℕ) where
+module _ {T B : Type 0} (makes : T → Result (Option B) ℕ) where
   -- parts one after another are what they come to, combined
   joined-from : (ys : List B) (o : Option ℕ) (ps : List (List B × Option ℕ)) (e : Option Ending)
       → followed_by (trace_at ys o None) (parts_joined ps e) ≡ trace_at (fold (mapping makes).combine (ys, o) ps).0

@@ -1,4 +1,4 @@
--- An answer with what is made of each item in its place.
+-- An answer with what is made of each item in its place, or without it.
 use Rattle.std.specs.Prelude.{◌≡◌, refl, ℕ, ◌+◌, ◌==◌, if◌then◌else◌, List, [], ◌∷◌, ◌++◌, length, Option, Some, None, Result, Ok, Err}
 use Rattle.std.proofs.Common.{arith, ap, ◌∙◌}
 use Rattle.plinq_source.specs.declared.ending.Ending.{Ending}
@@ -15,32 +15,35 @@ abbrev pub trace_at : {B : Type 0} → List B → Option ℕ → Option Ending �
 trace_at ys None e = record { items = ys; ending = e }
 trace_at ys (Some code) e = ended_trace ys (Fault code)
 
--- What is made of an answer's items, up to the first of which nothing can be made: its code is the fault that ends the answer.
--- Where something can be made of each, the answer ends as before.
-abbrev pub made_of : {T B : Type 0} → (T → Result B ℕ) → Trace T → Trace B
+-- What is made of an answer's items, up to the first that faults: its code is the fault that ends the answer. Where none
+-- faults, the answer ends as before.
+abbrev pub made_of : {T B : Type 0} → (T → Result (Option B) ℕ) → Trace T → Trace B
 made_of makes u = trace_at (mapped_items makes u.items).0 (mapped_items makes u.items).1 u.ending
 
 -- what a mapped run delivers: what is made of one of these answers
-abbrev pub RunsMadeOf : {K T B : Type 0} → (K → List B → K → Type 0) → (K → List B → ℕ → K → Type 0) → MergeOption → (T → Result B ℕ) → (Trace T → Type 0) → K
-    → K → Result Ending RunFault → Type 0
+abbrev pub RunsMadeOf : {K T B : Type 0} → (K → List B → K → Type 0) → (K → List B → ℕ → K → Type 0) → MergeOption
+    → (T → Result (Option B) ℕ) → (Trace T → Type 0) → K → K → Result Ending RunFault → Type 0
 RunsMadeOf {K} {T} accepts refuses option makes IsAnswer s s' r = (u : Trace T) × (IsAnswer u) × Runs accepts refuses option (made_of makes u) s s' r
 
 -- a list has all that is made of this answer, which ends so
-abbrev pub IsMadeOf : {T B : Type 0} → (T → Result B ℕ) → Trace T → List B → Ending → Type 0
+abbrev pub IsMadeOf : {T B : Type 0} → (T → Result (Option B) ℕ) → Trace T → List B → Ending → Type 0
 IsMadeOf makes u ys e = ended_trace ys e ≡ made_of makes u
 
 -- the same, of one of these answers
-abbrev pub IsMadeOfSome : {T B : Type 0} → (T → Result B ℕ) → (Trace T → Type 0) → List B → Ending → Type 0
+abbrev pub IsMadeOfSome : {T B : Type 0} → (T → Result (Option B) ℕ) → (Trace T → Type 0) → List B → Ending → Type 0
 IsMadeOfSome {T} makes IsAnswer ys e = (u : Trace T) × (IsAnswer u) × IsMadeOf makes u ys e
 
 -- ---- worked rows
 
--- one more than each, of all but 3
-abbrev one_more : ℕ → Result ℕ ℕ
-one_more n = if n == 3 then Err 7 else Ok (n + 1)
+-- one more than each, without 4, and of all but 3
+abbrev one_more : ℕ → Result (Option ℕ) ℕ
+one_more n = if n == 3 then Err 7 else (if n == 4 then Ok None else Ok (Some (n + 1)))
 
 all_are_made : made_of one_more (ended_trace (5 ∷ 1 ∷ []) (Refused 9)) ≡ ended_trace (6 ∷ 2 ∷ []) (Refused 9)
 all_are_made = refl
+
+one_is_left_out : made_of one_more (ended_trace (5 ∷ 4 ∷ 1 ∷ []) End) ≡ ended_trace (6 ∷ 2 ∷ []) End
+one_is_left_out = refl
 
 made_up_to_a_fault : made_of one_more (ended_trace (5 ∷ 3 ∷ 1 ∷ 3 ∷ []) End) ≡ ended_trace (6 ∷ []) (Fault 7)
 made_up_to_a_fault = refl

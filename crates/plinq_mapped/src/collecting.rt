@@ -20,12 +20,12 @@ use std::time::Clock;
 /// What is made of the items of a query's answer, in a list, and how the mapped answer ended (.NET's `Select` to another type and
 /// `ToList`).
 ///
-/// Where it ends well that is all that was made, and before a fault or a refusal what comes before it, whatever the query's merge
-/// option. Chunks grow by default.
+/// If it ends well, that is all that was made. Otherwise it is what comes before the fault or the refusal, whatever the query's
+/// merge option.
 ///
 /// # Errors
 ///
-/// [`RunFault::Memory`] where there is no room, also for the list; else as [`run`](plinq_run::run).
+/// [`RunFault::Memory`] if there is no room, also for the list; else as [`run`](plinq_run::run).
 ///
 /// ```text
 /// let (lines, ending) = to_vec_mapped(rt, alloc, &query, SliceSource::new(&orders)?, &MapEach { make: Print })?;

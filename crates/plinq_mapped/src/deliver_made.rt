@@ -10,7 +10,7 @@ use plinq_ops::MergeOption;
 use plinq_source::Ending;
 use std::alloc::Global;
 
-/// Delivers what was made, in batches. The first item of which nothing can be made ends the answer.
+/// Delivers what was made, in batches. The first item that faults ends the answer.
 #[derive(Drop)]
 pub(crate) struct DeliverMade<B> {
     /// After how many a batch is full; a fully buffered one never is.

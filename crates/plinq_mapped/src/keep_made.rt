@@ -12,7 +12,7 @@ pub(crate) struct Kept<B> {
     pub(crate) items: Vec<B>,
 }
 
-/// Keeps what was made. The first item of which nothing can be made ends the answer.
+/// Keeps what was made. The first item that faults ends the answer.
 #[derive(Drop)]
 pub(crate) struct KeepMade<B> {
     pub(crate) of: PhantomData<B>,

@@ -17,16 +17,17 @@ use std::alloc::Global;
 use std::sync::Wait;
 use std::thread::Threads;
 
-/// Runs a query whose last step makes something else of each item (.NET's `Select` to another type, at a query's end): the
-/// sink gets the batches of what was made, by the query's merge option. Answers how the mapped answer ended.
+/// Runs a query whose last steps make something else of each item, or leave it out (.NET's `Select` to another type and `Where`,
+/// at a query's end): the sink gets the batches of what was made, by the query's merge option. Returns how the mapped answer
+/// ended.
 ///
-/// Where all operators are the workers' own, the workers map; where operators stand after the merge, the caller's thread maps
-/// what leaves these. The first item of which nothing can be made ends the answer: its code is the ending's `Fault`, and what was
-/// made before it is delivered, unless the query is FullyBuffered.
+/// If all operators are the workers' own, the workers map. If operators stand after the merge, the caller's thread maps what
+/// leaves these. The first item that faults ends the answer: its code is the ending's `Fault`, and what was made before it is
+/// delivered, unless the query is FullyBuffered.
 ///
 /// # Errors
 ///
-/// As [`run`](plinq_run::run), [`RunFault::Memory`] also where there is no room for what is made.
+/// As [`run`](plinq_run::run), [`RunFault::Memory`] also if there is no room for what is made.
 ///
 /// ```text
 /// let ending = run_mapped(&rt, alloc, &query, source, Growth::DEFAULT, &TimedGate::new(&rt), &MapEach { make }, &mut sink)?;

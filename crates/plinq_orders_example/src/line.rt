@@ -1,4 +1,4 @@
-ghost use Rattle.std.specs.Prelude.{List, ℕ, ◌∷◌, ◌++◌, Ok, string_bytes};
+ghost use Rattle.std.specs.Prelude.{List, ℕ, ◌∷◌, ◌++◌, Some, Ok, string_bytes};
 
 use crate::orders::Order;
 use plinq_groups::{MakeOf, MapFault};
@@ -26,13 +26,13 @@ impl<'a> MakeOf for Print<'a> {
 
     type Made = Line;
 
-    ghost makes = { λ _ order. Ok (order.customer.now ++ 58 ∷ 32 ∷ order.article.now) };
+    ghost makes = { λ _ order. Ok (Some (order.customer.now ++ 58 ∷ 32 ∷ order.article.now)) };
 
-    fn make_of(&self, alloc: Global, order: Order<'a>) -> Result<Line, MapFault> {
+    fn make_of(&self, alloc: Global, order: Order<'a>) -> Result<Option<Line>, MapFault> {
         let mut text = String::new(alloc);
         text.push_str(order.customer)?;
         text.push_str(": ")?;
         text.push_str(order.article)?;
-        Ok(Line { text })
+        Ok(Some(Line { text }))
     }
 }
