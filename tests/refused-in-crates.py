@@ -55,6 +55,8 @@ CALLS = {
     "run_mapped by two workers": ("groups", "refused_room::a_mapped_run_by_two_workers_may_be_refused_room"),
     "to_vec_mapped by one worker": ("groups", "refused_room::a_mapped_list_by_one_worker_may_be_refused_room"),
     "to_vec_mapped by two workers": ("groups", "refused_room::a_mapped_list_by_two_workers_may_be_refused_room"),
+    "order_by by one worker": ("groups", "refused_room::an_order_by_one_worker_may_be_refused_room"),
+    "order_by by two workers": ("groups", "refused_room::an_order_by_two_workers_may_be_refused_room"),
 }
 
 

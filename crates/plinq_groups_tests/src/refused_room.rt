@@ -1,13 +1,15 @@
-//! Groups and mapped runs that are refused an allocation, and the same once more. Each test is run with each allocation
+//! Groups, mapped runs and orders that are refused an allocation, and the same once more. Each test is run with each allocation
 //! failing in turn.
 use crate::keys::Masked;
 use crate::made_by_workers::{AtLeast, BitsOf, count_in};
+use crate::ordered::LowBits;
 use plinq_enumerator::Growth;
 use plinq_groups::{Collect, FoldEach, GroupBy, MapEach};
 use plinq_lambda::Formula;
 use plinq_mapped::{run_mapped, to_vec_mapped};
 use plinq_ops::{Built, Query};
 use plinq_run::{AggregateFault, OpenGate, RunFault, aggregate};
+use plinq_sorted::order_by;
 use plinq_source::{Ending, RangeSource};
 use plinq_testing::Taken;
 use std::alloc::Global;
@@ -22,6 +24,7 @@ enum Asked {
     Fold,
     Run,
     List,
+    Order,
 }
 
 /// The numbers from 1 to 17.
@@ -37,7 +40,7 @@ fn first(alloc: Global, asked: Asked, workers: u64) -> Built<Formula> {
     let query = all(alloc, workers)?;
     match asked {
         Asked::Groups | Asked::Fold => query.take(9),
-        Asked::Run | Asked::List => query.filter(Formula::Above(0))?.take(9),
+        Asked::Run | Asked::List | Asked::Order => query.filter(Formula::Above(0))?.take(9),
     }
 }
 
@@ -145,6 +148,23 @@ fn listed<R: Clock + Threads + Wait + Sync>(
     Ok(ending == Ending::End && made.len() == count && made.first() == Some(&1))
 }
 
+/// Puts 200 numbers in the order of their lowest bits. Returns whether there are so many, with 8 as the first.
+fn ordered<R: Clock + Threads + Wait + Sync>(
+    rt: &R,
+    alloc: Global,
+    query: &Query<Formula>,
+    count: usize,
+) -> Result<bool, RunFault> {
+    let Ok(source) = RangeSource::new(1, 200) else {
+        return Ok(false);
+    };
+    match order_by(rt, alloc, query, source, &LowBits) {
+        Ok(items) => Ok(items.len() == count && items.first() == Some(&8)),
+        Err(AggregateFault::Run(fault)) => Err(fault),
+        Err(_) => Ok(false),
+    }
+}
+
 fn told<R: Clock + Threads + Wait + Sync>(
     rt: &R,
     alloc: Global,
@@ -157,6 +177,7 @@ fn told<R: Clock + Threads + Wait + Sync>(
         Asked::Fold => folded(rt, alloc, query, count),
         Asked::Run => delivered(rt, alloc, query, count),
         Asked::List => listed(rt, alloc, query, count),
+        Asked::Order => ordered(rt, alloc, query, count),
     }
 }
 
@@ -198,6 +219,7 @@ fn counts(asked: Asked) -> (usize, usize) {
     match asked {
         Asked::Groups | Asked::Fold => (3, 2),
         Asked::Run | Asked::List => (17, 9),
+        Asked::Order => (200, 9),
     }
 }
 
@@ -250,4 +272,14 @@ fn a_mapped_list_by_one_worker_may_be_refused_room(rt: HostRuntime) {
 #[test]
 fn a_mapped_list_by_two_workers_may_be_refused_room(rt: HostRuntime) {
     assert!(rt; are_answered(&rt, rt.alloc(), Asked::List, 2));
+}
+
+#[test]
+fn an_order_by_one_worker_may_be_refused_room(rt: HostRuntime) {
+    assert!(rt; are_answered(&rt, rt.alloc(), Asked::Order, 1));
+}
+
+#[test]
+fn an_order_by_two_workers_may_be_refused_room(rt: HostRuntime) {
+    assert!(rt; are_answered(&rt, rt.alloc(), Asked::Order, 2));
 }

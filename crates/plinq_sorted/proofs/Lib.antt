@@ -1,0 +1,2 @@
+mod OneOrder
+mod Slices
