@@ -1,7 +1,7 @@
 #!/usr/bin/env python3
 """Looks whether what the pages name is there: each link's target, and each file that is named by its path in a crate; and
 whether no sentence of README.md and docs/ has more than 30 words (TRUSTED.md and api/, which tools make, are left out), and no page or
-help has a twisted form that the field says otherwise. No line of a crate's sources has more than 160 columns.
+help, and no item's documentation, has a twisted form that the field says otherwise. No line of a crate's sources has more than 160 columns.
 
     python3 tests/pages.py
 """
@@ -72,6 +72,28 @@ def twisted(tests):
         tests.check(f"{page} has no twisted form", not found, found)
 
 
+# such forms in the documentation of an item
+DOCUMENTED = (
+    (r"\] where\b|\b(?:[Aa]lso|only|none|exactly) where\b|\bWhere there\b", "if"),
+    (r"\bAnswers (?:how|whether)\b", "Returns"),
+)
+
+
+def documented(tests):
+    """Whether the documentation of the crates' items has a form of DOCUMENTED."""
+    found, lines = [], 0
+    for at, folders, names in os.walk(os.path.join(ROOT, "crates")):
+        folders[:] = sorted(it for it in folders if it != "out")
+        for path in (os.path.join(at, it) for it in sorted(names) if it.endswith(".rt")):
+            with open(path, encoding="utf-8") as file:
+                for number, line in enumerate(file, 1):
+                    if re.match(r"\s*//[/!]", line):
+                        lines += 1
+                        place = f"{os.path.relpath(path, ROOT)}:{number}"
+                        found += [f"{place} {it[0]!r}: {better}" for form, better in DOCUMENTED for it in re.finditer(form, line)]
+    tests.check("no item's documentation has a twisted form", lines > 2_000 and not found, found or lines)
+
+
 def wide_lines(tests):
     files, wide = 0, []
     for at, folders, names in os.walk(os.path.join(ROOT, "crates")):
@@ -91,6 +113,7 @@ def main():
         tests.check(page, not missing, f"names what isn't there: {', '.join(missing)}")
     lengths(tests)
     twisted(tests)
+    documented(tests)
     wide_lines(tests)
     tests.end()
 

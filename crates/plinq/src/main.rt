@@ -10,7 +10,7 @@ use std::{env, io};
 /// How many bytes of output are held back until they are written.
 const HELD_BACK: usize = 65_536;
 
-/// What the scripts that start the program set where standard error is a terminal: a second line says why something failed.
+/// What the scripts that start the program set if standard error is a terminal: a second line says why something failed.
 const EXPLAIN: &str = "PLINQ_EXPLAIN";
 
 fn main(rt: HostRuntime) -> ExitCode {

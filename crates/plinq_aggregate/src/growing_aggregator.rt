@@ -7,7 +7,7 @@ use std::alloc::{AllocError, Global};
 
 /// An [`Aggregator`] that may take memory: taking in and combining may find no room for it.
 ///
-/// Where there is room, it computes a `Folding` with the same two laws. Each [`Aggregator`] is one.
+/// If there is room, it computes a `Folding` with the same two laws. Each [`Aggregator`] is one.
 pub trait GrowingAggregator: Sync + Drop {
     /// What is taken in.
     type Item: Copy;
@@ -29,7 +29,7 @@ pub trait GrowingAggregator: Sync + Drop {
     ///
     /// # Errors
     ///
-    /// [`AllocError`] where there is no room; the accumulator is lost then.
+    /// [`AllocError`] if there is no room; the accumulator is lost then.
     fn update(&self, alloc: Global, acc: Self::Acc, x: Self::Item) -> Result<Self::Acc, AllocError>
         ensures { IfOk result (λ after. after ≡ (folding self.now).update acc x) };
 

@@ -6,7 +6,7 @@ use crate::aggregator::Aggregator;
 
 /// The greatest number; of none there is none.
 ///
-/// .NET's `Max` throws where there are no numbers.
+/// .NET's `Max` throws if there are no numbers.
 #[derive(Clone, Copy, Debug)]
 pub struct Max;
 

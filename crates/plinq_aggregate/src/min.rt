@@ -6,7 +6,7 @@ use crate::aggregator::Aggregator;
 
 /// The least number; of none there is none.
 ///
-/// .NET's `Min` throws where there are no numbers.
+/// .NET's `Min` throws if there are no numbers.
 #[derive(Clone, Copy, Debug)]
 pub struct Min;
 

@@ -366,7 +366,7 @@ fn is_auto(word: &str) -> Option<bool>
     }
 }
 
-/// Whether elements alone are asked for, where the command has that flag.
+/// Whether elements alone are asked for, if the command has that flag.
 fn plain_of(options: &ArgMatches<'_>) -> Option<bool>
     ensures { result ≡ plain_of (rows_of (found_of options.now)) }
 {

@@ -12,7 +12,7 @@ use std::time::{Clock, Duration, Instant};
 /// How long a run goes on before its flag is set, in milliseconds.
 const BEFORE: u64 = 200;
 
-/// Has another thread set the flag of a workload's run, and answers how long the run went on then. It is `None` where the
+/// Has another thread set the flag of a workload's run, and returns how long the run went on then. It is `None` if the
 /// run had ended before.
 pub(crate) fn stop_it<R: Threads + Wait + Sync + Clock>(
     rt: &R,

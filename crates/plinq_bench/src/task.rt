@@ -1,10 +1,10 @@
 use crate::job::Job;
 use crate::workload::Workload;
 
-/// How many items a run that is to be stopped has where no number is given, so many that the flag comes first.
+/// How many items a run that is to be stopped has if no number is given, so many that the flag comes first.
 const MANY: i64 = 1_000_000_000;
 
-/// How many rounds there are where none are asked for.
+/// How many rounds there are if none are asked for.
 const ROUNDS: i64 = 4;
 
 /// What is asked for.
@@ -18,7 +18,7 @@ pub(crate) enum Task {
     Measure(Job, i64),
 }
 
-/// What the words of a command line ask for, of which the first is the program's. It is `None` where they don't say.
+/// What the words of a command line ask for, of which the first is the program's. It is `None` if they don't say.
 pub(crate) fn task_of(words: &[String]) -> Option<Task> {
     let (_, words) = words.split_first()?;
     let (word, rest) = words.split_first()?;
@@ -43,7 +43,7 @@ fn measured_by(words: &[String]) -> Option<Task> {
     Some(Task::Measure(job_of(words, None)?, number_at(words, 3, ROUNDS)?))
 }
 
-/// Where no number of items is given, there are so many, or the usual ones.
+/// If no number of items is given, there are so many, or the usual ones.
 fn job_of(words: &[String], most: Option<i64>) -> Option<Job> {
     let workload = Workload::named(words.first()?.as_str())?;
     let workers = words.get(1)?.parse::<u64>().ok()?;
@@ -55,7 +55,7 @@ fn job_of(words: &[String], most: Option<i64>) -> Option<Job> {
     })
 }
 
-/// The number at this place, or the usual one where no word is there.
+/// The number at this place, or the usual one if no word is there.
 fn number_at(words: &[String], place: usize, usual: i64) -> Option<i64> {
     match words.get(place) {
         Some(word) => word.parse::<i64>().ok(),

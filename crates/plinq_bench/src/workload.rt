@@ -9,7 +9,7 @@ use std::alloc::Global;
 /// The turns of an element that takes about 0.7 microseconds.
 const TURNS: u64 = 500;
 
-/// The most items of a chunk where chunks grow further than by default.
+/// The most items of a chunk if chunks grow further than by default.
 const GROWN: u64 = 2_048;
 
 /// A workload by its name.
@@ -68,7 +68,7 @@ impl Workload {
         None
     }
 
-    /// How many items it has where no number is given.
+    /// How many items it has if no number is given.
     pub(crate) fn usual_items(self) -> i64 {
         match self {
             Workload::Cheap | Workload::Grown | Workload::Full | Workload::Sum => 10_000_000,
@@ -80,7 +80,7 @@ impl Workload {
         }
     }
 
-    /// How many elements its source has, where it counts so many items.
+    /// How many elements its source has, if it counts so many items.
     pub(crate) fn source_length(self, items: u64) -> u64 {
         match self {
             Workload::TakeWhile | Workload::Take => 1_000_000_000,
@@ -158,7 +158,7 @@ impl Workload {
         }
     }
 
-    /// The one after that, where it has two.
+    /// The one after that, if it has two.
     fn last_step(self, items: i64) -> Option<Op<Work>> {
         match self {
             Workload::Cheap | Workload::Grown => Some(Op::Filter(Work::Plain(Formula::Even))),

@@ -20,8 +20,8 @@ const PIECE_BYTES: usize = 65_536;
 /// # Errors
 ///
 /// [`InputFault::Read`] at the first read that fails, whatever the cause, also one that was only interrupted.
-/// [`InputFault::TooLong`] where there are more bytes, of which no more than one read's are taken.
-/// [`InputFault::Memory`] where there is no memory for them.
+/// [`InputFault::TooLong`] if there are more bytes, of which no more than one read's are taken.
+/// [`InputFault::Memory`] if there is no memory for them.
 pub fn read_input<R: Read>(alloc: Global, reader: &mut R) -> Result<Vec<u8>, InputFault>
     // Of a reader that reports its bytes these are all of them, and no byte is left.
     ensures bytes { IfOk result (λ v. IfSome (R.remaining reader.old) (λ told. v.items ≡ told)) }

@@ -22,10 +22,10 @@ use std::thread::{Threads, available_parallelism};
 use std::time::Clock;
 
 /// Does what the program does: reads the command line, of which the first word is the program's name, and the
-/// document from `reader`. Writes the answer to `out` and what is wrong to `err`, and answers the exit status.
+/// document from `reader`. Writes the answer to `out` and what is wrong to `err`, and returns the exit status.
 ///
-/// The status is 0 at the end of an answer and for help, 2 for refused arguments and documents, 3 where the source
-/// refused, 4 at a fault, and 5 where anything else failed or the run was cancelled. `out` is flushed before the status
+/// The status is 0 at the end of an answer and for help, 2 for refused arguments and documents, 3 if the source
+/// refused, 4 at a fault, and 5 if anything else failed or the run was cancelled. `out` is flushed before the status
 /// is answered, and a flush that fails is a failing write, also of a cancelled run, unless something has failed before.
 /// After a failing write `out` is left alone,
 /// so that a caller who lets go of what it still holds writes nothing after the line of the failure. What fails in
@@ -120,7 +120,7 @@ fn settings_here<R: Threads>(rt: &R, arguments: Arguments) -> Settings
     }
 }
 
-/// As many as the process may use, by its affinity and the quota of its control group, and at most 64; none where the system
+/// As many as the process may use, by its affinity and the quota of its control group, and at most 64; none if the system
 /// doesn't say.
 fn as_many_as_cores<R: Threads>(rt: &R) -> Option<Degree> {
     match available_parallelism(rt) {
@@ -146,7 +146,7 @@ fn flush<W: Write>(answered: Result<Ending, Failure>, out: &mut W) -> Result<End
     }
 }
 
-/// What is answered where a flush fails: what has failed before it, and else a failing write. A cancelled run hasn't failed.
+/// What is answered if a flush fails: what has failed before it, and else a failing write. A cancelled run hasn't failed.
 fn unflushed(answered: Result<Ending, Failure>) -> Result<Ending, Failure>
     ensures { result ≡ unflushed answered }
 {

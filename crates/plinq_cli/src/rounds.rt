@@ -15,7 +15,7 @@ use std::collections::VecDeque;
 ///
 /// # Errors
 ///
-/// [`TakeFault::Memory`] where there is no room for the partitions or a chunk. The other faults are those of a lock that
+/// [`TakeFault::Memory`] if there is no room for the partitions or a chunk. The other faults are those of a lock that
 /// others take as well, which nobody does here.
 pub(crate) fn drive_partitions<S: Source>(
     alloc: Global,

@@ -1,4 +1,4 @@
-//! What is said on standard error: a line of what is wrong, and where it is wanted one more of why it is and what to do.
+//! What is said on standard error: a line of what is wrong, and if it is wanted one more of why it is and what to do.
 use crate::failure::Failure;
 use plinq_document::DocFault;
 use plinq_lambda::Formula;

@@ -47,10 +47,10 @@ use std::time::Clock;
 ///
 /// # Errors
 ///
-/// [`ServeFault::Memory`] where `seq`, `parts` or `history` have no memory for the answer. [`ServeFault::Write`] where the
+/// [`ServeFault::Memory`] if `seq`, `parts` or `history` have no memory for the answer. [`ServeFault::Write`] if the
 /// writer answers an error, also in a flush while nothing comes, or takes none of the bytes that it is given.
-/// [`ServeFault::Run`] where a run breaks off for another cause, also where memory runs out, and the writer hasn't failed
-/// before. [`ServeFault::Take`] where the partitions of a history don't get through for another cause than that.
+/// [`ServeFault::Run`] if a run breaks off for another cause, also if memory runs out, and the writer hasn't failed
+/// before. [`ServeFault::Take`] if the partitions of a history don't get through for another cause than that.
 pub fn serve<R, W>(rt: &R, command: Command, job: Job, writer: &mut W) -> Result<Ending, ServeFault>
 where
     R: AllocGlobal + Clock + Threads + Wait + Sync,
@@ -162,7 +162,7 @@ fn write_last<W: Write>(writer: &mut W, plain: bool, ending: Ending) -> Result<(
     write_ending(writer, ending)
 }
 
-/// Writes an aggregated answer: its value where it ended well, and its ending, unless it is plain.
+/// Writes an aggregated answer: its value if it ended well, and its ending, unless it is plain.
 fn write_told<W: Write>(
     writer: &mut W,
     plain: bool,
@@ -241,7 +241,7 @@ where
     (tell(written, reported), sink.into_writer())
 }
 
-/// Whether the writer took all lines. A flush that fails while nothing comes is a failing write, also where no batch comes
+/// Whether the writer took all lines. A flush that fails while nothing comes is a failing write, also if no batch comes
 /// after it.
 fn written_by<W: Write>(sink: &LineSink<'_, W>) -> Result<(), WriteFault> {
     if sink.has_failed() {
@@ -250,7 +250,7 @@ fn written_by<W: Write>(sink: &LineSink<'_, W>) -> Result<(), WriteFault> {
     Ok(())
 }
 
-/// What is reported of a run: a failing write before any other fault, so also where the run was cancelled after it.
+/// What is reported of a run: a failing write before any other fault, so also if the run was cancelled after it.
 fn tell(
     written: Result<(), WriteFault>,
     reported: Result<Report, RunFault>,

@@ -27,7 +27,7 @@ impl<S: Steps<Item: Send> + Sync> Chain<S> {
     ///
     /// # Errors
     ///
-    /// [`ChainFault::Build`] where `workers` isn't from 1 to 64, else [`ChainFault::Build`] or [`ChainFault::Run`] where
+    /// [`ChainFault::Build`] if `workers` isn't from 1 to 64, else [`ChainFault::Build`] or [`ChainFault::Run`] if
     /// memory, a thread or tickets are short.
     pub fn to_vec<Src, R>(
         &self,
@@ -60,7 +60,7 @@ impl<S: Steps<Item: Send> + Sync> Chain<S> {
     ///
     /// # Errors
     ///
-    /// [`ChainFault::Ended`] where a fault or a refusal comes before any item, else as [`Chain::to_vec`].
+    /// [`ChainFault::Ended`] if a fault or a refusal comes before any item, else as [`Chain::to_vec`].
     pub fn first<Src, R>(
         &self,
         rt: &R,
@@ -118,7 +118,7 @@ impl<S: Steps<Item: Send> + Sync> Chain<S> {
     ///
     /// # Errors
     ///
-    /// [`ChainFault::Ended`] where the answer doesn't end well, else as [`Chain::to_vec`].
+    /// [`ChainFault::Ended`] if the answer doesn't end well, else as [`Chain::to_vec`].
     pub fn count<Src, R>(
         &self,
         rt: &R,

@@ -66,7 +66,7 @@ impl<S: Steps> Chain<S> {
         tested(self, Op::SkipWhile(()), by)
     }
 
-    /// Keeps the first `n` items, none where `n` is negative (.NET's `Take`).
+    /// Keeps the first `n` items, none if `n` is negative (.NET's `Take`).
     pub fn take(self, n: i64) -> Chain<Counted<S>>
         ensures { (result.steps.before ≡ self.steps) × (result.steps.kind ≡ Op.Take n) }
     {
@@ -78,7 +78,7 @@ impl<S: Steps> Chain<S> {
         }
     }
 
-    /// Passes over the first `n` items, none where `n` is negative (.NET's `Skip`).
+    /// Passes over the first `n` items, none if `n` is negative (.NET's `Skip`).
     pub fn skip(self, n: i64) -> Chain<Counted<S>>
         ensures { (result.steps.before ≡ self.steps) × (result.steps.kind ≡ Op.Skip n) }
     {

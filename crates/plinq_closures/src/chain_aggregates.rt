@@ -28,7 +28,7 @@ impl<S: Steps<Item: Send> + Sync> Chain<S> {
     ///
     /// # Errors
     ///
-    /// [`ChainFault::Ended`] where the answer doesn't end well, else as [`Chain::to_vec`].
+    /// [`ChainFault::Ended`] if the answer doesn't end well, else as [`Chain::to_vec`].
     pub fn aggregate<Src, A, R>(
         &self,
         rt: &R,
@@ -71,7 +71,7 @@ impl<'a, S: Steps<Item: Send> + Sync> Sequentially<'a, S> {
     ///
     /// # Errors
     ///
-    /// [`ChainFault::Ended`] where the answer doesn't end well, else as [`Sequentially::to_vec`].
+    /// [`ChainFault::Ended`] if the answer doesn't end well, else as [`Sequentially::to_vec`].
     pub fn aggregate<Src, A, R>(
         &self,
         rt: &R,

@@ -19,7 +19,7 @@ use std::thread::Threads;
 use std::time::Clock;
 
 impl<S: Steps<Item: Send> + Sync> Chain<S> {
-    /// Calls a closure with each item of the answer, one after another, and answers how it ended (C#'s `foreach`). It is called
+    /// Calls a closure with each item of the answer, one after another, and returns how it ended (C#'s `foreach`). It is called
     /// on the caller's thread, while the workers go on.
     ///
     /// # Errors

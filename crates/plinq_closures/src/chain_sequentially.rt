@@ -38,7 +38,7 @@ impl<'a, S: Steps<Item: Send> + Sync> Sequentially<'a, S> {
     ///
     /// # Errors
     ///
-    /// [`ChainFault::Build`] where `workers` isn't from 1 to 64, else [`ChainFault::Build`] or [`ChainFault::Run`] where there
+    /// [`ChainFault::Build`] if `workers` isn't from 1 to 64, else [`ChainFault::Build`] or [`ChainFault::Run`] if there
     /// is no room.
     pub fn to_vec<Src, R>(
         &self,
@@ -70,7 +70,7 @@ impl<'a, S: Steps<Item: Send> + Sync> Sequentially<'a, S> {
     ///
     /// # Errors
     ///
-    /// [`ChainFault::Ended`] where a fault or a refusal comes before any item, else as [`Sequentially::to_vec`].
+    /// [`ChainFault::Ended`] if a fault or a refusal comes before any item, else as [`Sequentially::to_vec`].
     pub fn first<Src, R>(
         &self,
         rt: &R,
@@ -158,7 +158,7 @@ impl<'a, S: Steps<Item: Send> + Sync> Sequentially<'a, S> {
     ///
     /// # Errors
     ///
-    /// [`ChainFault::Ended`] where the answer doesn't end well, else as [`Sequentially::to_vec`].
+    /// [`ChainFault::Ended`] if the answer doesn't end well, else as [`Sequentially::to_vec`].
     pub fn count<Src, R>(
         &self,
         rt: &R,
@@ -184,7 +184,7 @@ impl<'a, S: Steps<Item: Send> + Sync> Sequentially<'a, S> {
         }
     }
 
-    /// As [`Chain::for_each`]. The closure is called once all items are there; where there is no room it isn't called.
+    /// As [`Chain::for_each`]. The closure is called once all items are there; if there is no room it isn't called.
     ///
     /// # Errors
     ///

@@ -167,7 +167,7 @@ pub(crate) fn lent<'a, S: Steps>(steps: &'a S) -> Chain<Lent<'a, S>>
     }
 }
 
-/// The other answer, where there is one.
+/// The other answer, if there is one.
 pub(crate) fn negated(answer: Result<bool, ChainFault>) -> Result<bool, ChainFault>
     ensures { result ≡ negated answer }
 {

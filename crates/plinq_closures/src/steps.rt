@@ -48,7 +48,7 @@ pub trait Steps {
     ///
     /// # Errors
     ///
-    /// The code that the closure answers; 0 where the step doesn't map.
+    /// The code that the closure answers; 0 if the step doesn't map.
     fn map(&self, at: u64, x: Self::Item) -> Result<Self::Item, u32>
         requires { is_called self.now }
         ensures { maps self.now at x result };
@@ -57,7 +57,7 @@ pub trait Steps {
     ///
     /// # Errors
     ///
-    /// The code that the closure answers; 0 where the step doesn't test.
+    /// The code that the closure answers; 0 if the step doesn't test.
     fn test(&self, at: u64, x: Self::Item) -> Result<bool, u32>
         requires { is_called self.now }
         ensures { tests self.now at x result };

@@ -18,7 +18,7 @@ use std::sync::Wait;
 use std::thread::Threads;
 use std::time::Clock;
 
-/// Calls a closure with each item of a query's answer, one after another, and answers how it ended (C#'s `foreach` over a
+/// Calls a closure with each item of a query's answer, one after another, and returns how it ended (C#'s `foreach` over a
 /// query). It is called on the caller's thread, while the workers go on; rayon's `for_each` calls on the workers'.
 ///
 /// The closure is lent, as a sink is: whatever is answered, it has been called with the first items of the answer and with no

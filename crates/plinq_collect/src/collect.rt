@@ -2,7 +2,7 @@ ghost use Rattle.std.specs.Prelude.{◌≡◌, ◌++◌};
 
 use plinq_merge::Sink;
 
-/// A sink that collects the items that it takes. Where memory runs out, it refuses the batch with 1 and stays as it is.
+/// A sink that collects the items that it takes. If memory runs out, it refuses the batch with 1 and stays as it is.
 ///
 /// ```text
 /// let mut sink = Collect(Vec::new(alloc));

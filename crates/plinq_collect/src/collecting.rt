@@ -51,12 +51,12 @@ where
 
 /// The items of a query's answer, and how it ended (.NET's `ToList`, rayon's `collect`).
 ///
-/// Where the answer ends well these are all of its items. Before a fault or a refusal they are those that come before it;
+/// If the answer ends well these are all of its items. Before a fault or a refusal they are those that come before it;
 /// a fully buffered query hands over none then.
 ///
 /// # Errors
 ///
-/// [`RunFault::Memory`] where there is no room, also for the list; else as [`run`](plinq_run::run).
+/// [`RunFault::Memory`] if there is no room, also for the list; else as [`run`](plinq_run::run).
 ///
 /// ```text
 /// let (items, ending) = to_vec(rt, alloc, &query, SliceSource::new(&numbers)?)?;

@@ -31,7 +31,7 @@ use std::thread::Threads;
 ///
 /// # Errors
 ///
-/// [`RunFault::Memory`] where there is no room.
+/// [`RunFault::Memory`] if there is no room.
 pub fn to_vec<L, S, R>(
     _rt: &R,
     alloc: Global,
@@ -54,11 +54,11 @@ where
     }
 }
 
-/// As [`for_each`](crate::for_each). The closure is called once all items are there; where there is no room it isn't called.
+/// As [`for_each`](crate::for_each). The closure is called once all items are there; if there is no room it isn't called.
 ///
 /// # Errors
 ///
-/// [`RunFault::Sink`] with the code that the closure answers, [`RunFault::Memory`] where there is no room.
+/// [`RunFault::Sink`] with the code that the closure answers, [`RunFault::Memory`] if there is no room.
 pub fn for_each<L, S, F, R>(
     rt: &R,
     alloc: Global,
@@ -88,7 +88,7 @@ where
 ///
 /// # Errors
 ///
-/// [`AggregateFault::Ended`] where the answer doesn't end well; [`AggregateFault::Run`] with [`RunFault::Memory`] where
+/// [`AggregateFault::Ended`] if the answer doesn't end well; [`AggregateFault::Run`] with [`RunFault::Memory`] if
 /// there is no room.
 pub fn aggregate<L, S, A, R>(
     rt: &R,

@@ -28,7 +28,7 @@ use std::time::Clock;
 ///
 /// # Errors
 ///
-/// [`AggregateFault::Ended`] where a fault or a refusal comes before any item, [`AggregateFault::Run`] where there is no
+/// [`AggregateFault::Ended`] if a fault or a refusal comes before any item, [`AggregateFault::Run`] if there is no
 /// answer.
 pub fn first<L, S, R>(
     rt: &R,
@@ -138,7 +138,7 @@ where
 
 /// Whether every item passes this test (.NET's and rayon's `All`); of no items it is true.
 ///
-/// A skip_while and a take of one are put on the query: all pass where nothing is left. Nothing after the first that fails is
+/// A skip_while and a take of one are put on the query: all pass if nothing is left. Nothing after the first that fails is
 /// asked for once it is known.
 ///
 /// # Errors
@@ -168,7 +168,7 @@ where
 ///
 /// # Errors
 ///
-/// [`AggregateFault::Ended`] where the answer doesn't end well, [`AggregateFault::Run`] where there is none.
+/// [`AggregateFault::Ended`] if the answer doesn't end well, [`AggregateFault::Run`] if there is none.
 pub fn count<L, S, R>(
     rt: &R,
     alloc: Global,
@@ -223,7 +223,7 @@ where
     )
 }
 
-/// The other answer, where there is one.
+/// The other answer, if there is one.
 pub(crate) fn negated(answer: Result<bool, AggregateFault>) -> Result<bool, AggregateFault>
     ensures { result ≡ negated answer }
 {

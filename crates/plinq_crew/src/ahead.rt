@@ -20,7 +20,7 @@ impl Ahead {
         }
     }
 
-    /// All up to this place is merged, or, where it is the greatest number, nothing more is wanted. Says whether those that sleep
+    /// All up to this place is merged, or, if it is the greatest number, nothing more is wanted. Says whether those that sleep
     /// are to be woken. They are once an eighth of what a worker may be ahead was merged since the last time, and not by each
     /// result: one that looks finds the bound as it is, and what is sent is merged, so that none sleeps on for good.
     pub(crate) fn move_to(&self, place: u64) -> bool {

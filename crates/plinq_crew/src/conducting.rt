@@ -29,7 +29,7 @@ pub struct Returned<S: Source> {
 ///
 /// # Errors
 ///
-/// [`OutOfMemory`] where there is no room for what the workers bring back. No worker was started then.
+/// [`OutOfMemory`] if there is no room for what the workers bring back. No worker was started then.
 pub fn conduct<'x, J, L, S: Source<Item = L::Item>, P: Task<L::Item>, X, R>(
     rt: &'x R,
     crew: &'x Crew<'x, L, S, J, P>,

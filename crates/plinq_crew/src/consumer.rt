@@ -33,6 +33,6 @@ pub trait Consumer<M>: Drop {
     /// The first key whose part is missing.
     fn next_key(&self) -> u64;
 
-    /// How many items had their turn so far, or the greatest number where there were more.
+    /// How many items had their turn so far, or the greatest number if there were more.
     fn merged_items(&self) -> u64;
 }

@@ -55,7 +55,7 @@ impl<S: Source, M: Drop> Coordinator<S, M> {
         }
     }
 
-    /// Spins for a moment, or sleeps, where nothing was there at a poll.
+    /// Spins for a moment, or sleeps, if nothing was there at a poll.
     pub(crate) fn wait<R: Wait>(&self, rt: &R, sleep: Option<Key<'_>>) {
         match sleep {
             Some(sleep) => {
@@ -67,7 +67,7 @@ impl<S: Source, M: Drop> Coordinator<S, M> {
     }
 }
 
-/// Tells the consumer that nothing comes for now, where the thread is about to sleep. A moment's lack is not worth what it does
+/// Tells the consumer that nothing comes for now, if the thread is about to sleep. A moment's lack is not worth what it does
 /// then: a buffer that is flushed after each result writes too little at a time.
 fn tell_before_sleep<M, X: Consumer<M>>(consumer: &mut X, sleeps: bool)
     ensures { consumer.new ≡ consumer.old }
@@ -85,7 +85,7 @@ where
     P: Task<L::Item>,
 {
     /// Closes the source once nothing more is wanted: the answer is decided, or there was a fault. Workers that wait are let
-    /// on after that, so that they take nothing more. Where there is no memory to close it, it is tried again at the next
+    /// on after that, so that they take nothing more. If there is no memory to close it, it is tried again at the next
     /// poll.
     fn close_in_time<R: Wait>(
         &self,
@@ -117,7 +117,7 @@ where
         self.progress.window.let_all_on();
     }
 
-    /// Closes the source where no poll has: what is accepted once workers were joined may be what decides the answer.
+    /// Closes the source if no poll has: what is accepted once workers were joined may be what decides the answer.
     pub(crate) fn close_at_last<R: Wait>(
         &self,
         rt: &R,
@@ -136,7 +136,7 @@ where
         }
     }
 
-    /// The next result that a worker has sent. Where none comes for a while, the thread is to sleep until something is
+    /// The next result that a worker has sent. If none comes for a while, the thread is to sleep until something is
     /// reported, so that it takes no processor from a worker.
     fn poll<R: Wait>(
         &self,
@@ -179,7 +179,7 @@ where
     }
 
     /// Accepts what the workers send, until all have ended and nothing seems to be left in the queue, or more workers are wanted:
-    /// says whether they are. Where they aren't, the source is closed if the consumer is over, unless a worker's fault stands
+    /// says whether they are. If they aren't, the source is closed if the consumer is over, unless a worker's fault stands
     /// noted.
     pub(crate) fn accept_some<X: Consumer<P::Part>, R: Wait>(
         &self,

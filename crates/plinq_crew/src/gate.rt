@@ -7,7 +7,7 @@ pub trait Gate: Sync {
     /// A worker has taken the chunk whose first key is `first`, and computes its result next.
     fn after_chunk(&self, worker: u64, first: u64);
 
-    /// Whether it may hold a worker back until another one has passed. Then all workers are at work at once, also where they are
+    /// Whether it may hold a worker back until another one has passed. Then all workers are at work at once, also if they are
     /// many more than there are cores.
     fn may_block(&self) -> bool {
         true

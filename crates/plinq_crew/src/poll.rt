@@ -6,7 +6,7 @@ use plinq_ops::ChunkResult;
 pub(crate) enum Poll<'a, M> {
     /// A worker has sent this.
     Came(ChunkResult<M>),
-    /// Nothing is there; where that has been so for a while, the thread is to sleep.
+    /// Nothing is there; if that has been so for a while, the thread is to sleep.
     Nothing(Option<Key<'a>>),
     /// All workers have ended, and nothing seems to be left.
     Over,

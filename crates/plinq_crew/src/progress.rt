@@ -18,8 +18,8 @@ pub struct Progress {
 
 impl Progress {
     /// Nothing is merged yet, and workers may be so many keys above it, and so many items. One of them is wanted at first, and so
-    /// many where there is more to do than one does at once; still more the longer the caller's thread mostly waits for them.
-    /// Where that is the greatest number, all are wanted from the start.
+    /// many if there is more to do than one does at once; still more the longer the caller's thread mostly waits for them.
+    /// If that is the greatest number, all are wanted from the start.
     pub fn new(keys: u64, items: u64, at_first: u64) -> Progress {
         Progress {
             window: Window::new(keys, items),

@@ -6,7 +6,7 @@ const LACKS: u64 = 32;
 /// So many results of the first worker show that the run isn't a short one.
 const MANY: u64 = 32;
 
-/// How many workers are wanted at once: one at first, as many as there are cores where there is more to do than one does at
+/// How many workers are wanted at once: one at first, as many as there are cores if there is more to do than one does at
 /// once, and still more the longer the caller's thread mostly waits for them.
 #[derive(Drop)]
 pub(crate) struct RampUp {
@@ -21,7 +21,7 @@ pub(crate) struct RampUp {
 }
 
 impl RampUp {
-    /// Where this is the greatest number, all are wanted from the start.
+    /// If this is the greatest number, all are wanted from the start.
     pub(crate) fn new(at_first: u64) -> RampUp {
         RampUp {
             at_once: AtomicU64::new(if at_first == u64::MAX { u64::MAX } else { 1 }),
@@ -56,7 +56,7 @@ impl RampUp {
         at_once
     }
 
-    /// The caller's thread lacks a result. Where the first worker has begun, as many are wanted as there are cores. Where that is
+    /// The caller's thread lacks a result. If the first worker has begun, as many are wanted as there are cores. If that is
     /// so for every second result, workers are what it waits for, and more of them are wanted: a busy machine shares its cores
     /// out by threads.
     pub(crate) fn note_starved(&self) {

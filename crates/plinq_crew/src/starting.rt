@@ -78,7 +78,7 @@ where
     }
 
     /// Starts as many workers as are wanted by now, at least one, each with a new partition beside the caller's thread's own and a
-    /// number of its own, or as many as there are threads to be had. Where one was missing before, none is started.
+    /// number of its own, or as many as there are threads to be had. If one was missing before, none is started.
     fn start_wanted<Env, R: Wait + Sync>(
         &'s self,
         scope: &Scope<'s, Env>,

@@ -27,7 +27,7 @@ pub trait Task<T: Copy>: Sync {
     /// A worker has taken the chunk whose first key is `first`, and computes its result next.
     fn after_chunk(&self, worker: u64, first: u64);
 
-    /// A clock's time in nanoseconds, by which workers choose how large their chunks are; none where the growth says that.
+    /// A clock's time in nanoseconds, by which workers choose how large their chunks are; none if the growth says that.
     fn nanoseconds(&self) -> Option<u64> {
         None
     }
@@ -36,7 +36,7 @@ pub trait Task<T: Copy>: Sync {
     ///
     /// # Errors
     ///
-    /// [`OutOfMemory`] where there is no room for it.
+    /// [`OutOfMemory`] if there is no room for it.
     fn make(
         &self,
         alloc: Global,
@@ -51,7 +51,7 @@ pub trait Task<T: Copy>: Sync {
     ///
     /// # Errors
     ///
-    /// [`OutOfMemory`] where there is no room for it.
+    /// [`OutOfMemory`] if there is no room for it.
     fn work<L: Lambda<Item = T>>(
         &self,
         alloc: Global,

@@ -27,7 +27,7 @@ impl Window {
         }
     }
 
-    /// All keys below this one are merged, and so many items; where they are the greatest numbers, nothing more is wanted.
+    /// All keys below this one are merged, and so many items; if they are the greatest numbers, nothing more is wanted.
     pub(crate) fn move_to(&self, key: u64, items: u64) {
         let is_raised = self.keys.move_to(key);
         if self.items.move_to(items) || is_raised {
@@ -63,7 +63,7 @@ impl Window {
     }
 
     /// Waits while a worker stands so far above what is merged that it may not take more, while too many items wait to be
-    /// merged, or while the answer is about to be decided. Where that takes long, it sleeps.
+    /// merged, or while the answer is about to be decided. If that takes long, it sleeps.
     pub(crate) fn wait_until_within<R: Wait>(&self, rt: &R, key: u64) {
         let waiter = self.merged.waiter();
         for _ in rt.forever() {

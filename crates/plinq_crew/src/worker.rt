@@ -98,7 +98,7 @@ where
         }
     }
 
-    /// Takes the next chunk, and gives what is sent of its result under the cut that all share, which it lowers where the run
+    /// Takes the next chunk, and gives what is sent of its result under the cut that all share, which it lowers if the run
     /// ends.
     fn next_result<R: Wait>(
         &self,

@@ -19,7 +19,7 @@ impl<E: StopKeys> CutWord<E> {
     ///
     /// # Errors
     ///
-    /// [`OutOfMemory`] where there is no room for the number.
+    /// [`OutOfMemory`] if there is no room for the number.
     pub fn new<L: Lambda, S: Source<Item = L::Item>>(
         alloc: Global,
         _plan: &Plan<'_, L>,
@@ -46,7 +46,7 @@ impl<E: StopKeys> CutWord<E> {
         self.table.shared.load::<See<E>>(&mut pass.seat, WORD)
     }
 
-    /// Lowers the cut to a key that ends the run, where it is above.
+    /// Lowers the cut to a key that ends the run, if it is above.
     pub fn lower(&self, pass: &mut CutPass, key: u64)
         requires pass { IsPassOf self.now pass.old }
         requires stop_key { E.stops_at key ≡ true }

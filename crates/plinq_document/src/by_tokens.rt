@@ -24,7 +24,7 @@ const MOST_DEPTH: usize = 126;
 /// The most items of a list.
 const MOST_ITEMS: usize = 1 << 40;
 
-/// The members of a document that was read token by token. Its source stands apart where there is one.
+/// The members of a document that was read token by token. Its source stands apart if there is one.
 #[derive(Drop)]
 pub(crate) struct Parts {
     pub(crate) others: Map<String, Value>,
@@ -34,7 +34,7 @@ pub(crate) struct Parts {
 /// Reads a document token by token, so that no number of a list becomes a value of its own.
 ///
 /// Only what most large documents have is read: a list or a text as the source, and texts, whole numbers and lists of these
-/// elsewhere. Nothing is said of any other document, nor where memory ran out, which `lacked` says then.
+/// elsewhere. Nothing is said of any other document, nor if memory ran out, which `lacked` says then.
 pub(crate) fn parts_of(alloc: Global, bytes: &[u8], lacked: &mut bool) -> Option<Parts>
     ensures fresh { IfSome result (λ p. IsFresh p.source) }
     ensures read { IfSome result (λ p.

@@ -15,7 +15,7 @@ use std::alloc::Global;
 /// The most items of two sources together.
 const MOST_ITEMS: u64 = 1 << 40;
 
-/// The two values of `{"concat":[S,T]}`, where a value is that.
+/// The two values of `{"concat":[S,T]}`, if a value is that.
 pub(crate) fn concat_pair(value: &Value) -> Option<(&Value, &Value)>
     ensures { option_map (λ pair. (view pair.0.now, view pair.1.now)) result ≡ concat_pair (view value.now) }
 {

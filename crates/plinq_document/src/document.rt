@@ -42,7 +42,7 @@ const MOST_STEPS: usize = 1_000;
 /// # Errors
 ///
 /// The first thing that is wrong, in this order: the length, the JSON, whether there is a version, which version it is,
-/// the shape of everything else, the source, the growth, and then the steps in their order. [`DocFault::Memory`] where
+/// the shape of everything else, the source, the growth, and then the steps in their order. [`DocFault::Memory`] if
 /// memory ran out on the way, whatever stands later.
 pub fn read_document(alloc: Global, bytes: &[u8], settings: Settings) -> Result<Job, DocFault>
     ensures { MatchResult result (λ job. document_of settings bytes.now ≡ Ok job) (IfMeant (document_of settings bytes.now)) }

@@ -29,7 +29,7 @@ impl GrowthCounts {
     }
 }
 
-/// The counts that a document gives for its growth; where they are omitted, those of one item at first, doubling after
+/// The counts that a document gives for its growth; if they are omitted, those of one item at first, doubling after
 /// every third chunk up to 512.
 pub(crate) fn growth_counts(document: &Value) -> Result<GrowthCounts, DocFault>
     ensures { result ≡ growth_counts (view document.now) }

@@ -18,7 +18,7 @@ pub struct Job {
     /// Whether the document says how they grow. If not, a run may choose other sizes, and `history` still shows those of
     /// [`Growth::DEFAULT`].
     pub has_growth: bool,
-    /// What is reported of the answer in place of its items; where there is none, the items themselves.
+    /// What is reported of the answer in place of its items; if there is none, the items themselves.
     pub aggregate: Option<Kind>,
     /// After how many batches a run of it is cancelled, if it is.
     pub cancel_after: Option<u64>,

@@ -14,7 +14,7 @@ ghost use Rattle.plinq_document.specs.Steps.{call_from, has_step, only_of};
 ghost use Rattle.plinq_document.specs.Printed.{FormulaItems, OpItems, op_of_call};
 
 /// Each source that may stand in a concatenation has a bound, and no more items than that. So a concatenation of two is
-/// too large only where their bounds add up to too much.
+/// too large only if their bounds add up to too much.
 pub fn a_source_keeps_to_its_bound()
     ensures { (d : Data) (t : Trace ℤ) → plain_source_of d ≡ Ok t →
         (m : ℕ) × ((bound_of d ≡ Some m) × (length t.items ≤ m)) }

@@ -111,7 +111,7 @@ fn numbers_of(alloc: Global, list: &Value) -> Result<Vec<i64>, DocFault>
     Ok(numbers)
 }
 
-/// The items, where all are whole numbers.
+/// The items, if all are whole numbers.
 fn whole_numbers(alloc: Global, items: &[Value]) -> Result<Vec<i64>, DocFault>
     ensures { MatchResult result
         (λ ns. whole_numbers (items_view items.now) ≡ Some ns.items)

@@ -4,7 +4,7 @@ ghost use Rattle.plinq_document.specs.JsonValues.{only_item, only_whole_number, 
 
 use serde_json::Value;
 
-/// The only item, where there is just one.
+/// The only item, if there is just one.
 pub(crate) fn only_item(items: &[Value]) -> Option<&Value>
     ensures { option_map (λ v. view v.now) result ≡ only_item (items_view items.now) }
 {

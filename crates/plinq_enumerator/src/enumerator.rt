@@ -15,7 +15,7 @@ use std::alloc::Global;
 ///
 /// ```text
 /// let mut numbers = Enumerator::new(alloc, ListSource::new(alloc, list));
-/// let chunk = numbers.ask(0, 8)?;   // the first 8 items, or all where there are fewer
+/// let chunk = numbers.ask(0, 8)?;   // the first 8 items, or all if there are fewer
 /// numbers.close(1)?;
 /// ```
 #[derive(Drop)]
@@ -65,7 +65,7 @@ impl<S: Source> Enumerator<S> {
     ///
     /// # Errors
     ///
-    /// [`OutOfMemory`] where there is no room for the chunk, or else for the record. Nothing has changed then: the
+    /// [`OutOfMemory`] if there is no room for the chunk, or else for the record. Nothing has changed then: the
     /// source wasn't asked.
     pub fn ask(&mut self, ticket: u64, n: u64) -> Result<Chunk<S::Item>, OutOfMemory>
         requires least { 1 ≤ n }
@@ -82,7 +82,7 @@ impl<S: Source> Enumerator<S> {
         self.ask_into(ticket, n, Vec::new(self.alloc))
     }
 
-    /// The same, where the chunk takes this list's room, and more only where it has too little. What was in the list goes.
+    /// The same, but the chunk takes this list's room, and more only if it has too little. What was in the list goes.
     ///
     /// # Errors
     ///
@@ -138,11 +138,11 @@ impl<S: Source> Enumerator<S> {
         Ok(Chunk { first, items, tail })
     }
 
-    /// Closes the enumerator, also where it is closed already, and records it.
+    /// Closes the enumerator, also if it is closed already, and records it.
     ///
     /// # Errors
     ///
-    /// [`OutOfMemory`] where there is no room for the record. Nothing has changed then.
+    /// [`OutOfMemory`] if there is no room for the record. Nothing has changed then.
     pub fn close(&mut self, ticket: u64) -> Result<(), OutOfMemory>
         requires rising { tickets_below ticket (⟦<Enumerator<S> as Guarded>⟧.history self.old) ≡ true }
         ensures origin { ⟦<Enumerator<S> as Guarded>⟧.origin self.new ≡ ⟦<Enumerator<S> as Guarded>⟧.origin self.old }

@@ -49,8 +49,8 @@ impl Growth {
     ///
     /// # Errors
     ///
-    /// [`GrowthFault::Zero`] where one of them is 0, else [`GrowthFault::FirstAboveMax`], else
-    /// [`GrowthFault::MaxTooLarge`] where `max` is above 65,536.
+    /// [`GrowthFault::Zero`] if one of them is 0, else [`GrowthFault::FirstAboveMax`], else
+    /// [`GrowthFault::MaxTooLarge`] if `max` is above 65,536.
     pub fn new(first: u64, repeat: u64, max: u64) -> Result<Growth, GrowthFault>
         ensures { result ≡ growth_rule first repeat max }
     {

@@ -8,7 +8,7 @@ use plinq_source::Ending;
 
 /// Whether records are a legal history of a source of `len` items that ends so.
 ///
-/// They are where each states the answer to its request, one after another from the first item on, under tickets
+/// They are if each states the answer to its request, one after another from the first item on, under tickets
 /// that rise. Takes no memory.
 pub fn replays(records: &[Record], len: u64, ending: Ending) -> bool
     requires { IsSourceEnding (Some ending) }

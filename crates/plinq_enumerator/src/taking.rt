@@ -17,7 +17,7 @@ fn tail_of(ending: Option<Ending>) -> Option<Tail>
     }
 }
 
-/// Takes the next `n` items, or what is left of them, into an empty list with that much room; the source's tail where
+/// Takes the next `n` items, or what is left of them, into an empty list with that much room; the source's tail if
 /// there are fewer.
 pub(crate) fn take_items<S: Source>(
     source: &mut S,

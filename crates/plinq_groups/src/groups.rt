@@ -48,7 +48,7 @@ impl<K: Eq + Hash, C> Groups<K, C> {
 }
 
 impl<K: Eq + Hash + Drop, C: Drop> Groups<K, C> {
-    /// The same groups, and where there are none yet, room for the first of as many items.
+    /// The same groups, and if there are none yet, room for the first of as many items.
     pub(crate) fn with_room(self, items: usize) -> Result<Groups<K, C>, AllocError>
         ensures { IfOk result (λ g. g ≡ self) }
     {

@@ -131,7 +131,7 @@ fn sum_of(items: &[i64]) -> i64 {
     sum
 }
 
-/// Whether groups are those of the numbers: each has all numbers of its key, and each number is in one. Where they are ordered,
+/// Whether groups are those of the numbers: each has all numbers of its key, and each number is in one. If they are ordered,
 /// the items of each are in order, and so are the groups by their first items.
 fn are_groups_of<F: KeyOf<Item = i64>>(
     groups: &Groups<F::Key, Items<i64>>,

@@ -14,7 +14,7 @@ use std::test::*;
 use std::thread::Threads;
 use std::time::Clock;
 
-/// Four numbers, by one worker, and where it is asked for an operator after the merge.
+/// Four numbers, by one worker, and if it is asked for an operator after the merge.
 fn query_of(alloc: Global, skips: bool) -> Built<Formula> {
     let query = Query::new(alloc)
         .as_ordered()?

@@ -301,7 +301,7 @@ fn is_told(told: Option<Told>, made: &[u64], ended: Result<Ending, RunFault>) ->
     }
 }
 
-/// What is delivered of what is made, and in how many batches at most: nothing in none, where a fault comes before the one batch.
+/// What is delivered of what is made, and in how many batches at most: nothing in none, if a fault comes before the one batch.
 fn to_deliver(option: MergeOption, made: &[u64], ending: Ending) -> (&[u64], usize) {
     if option == MergeOption::FullyBuffered && ending != Ending::End {
         (&[], 0)

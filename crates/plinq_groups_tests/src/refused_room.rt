@@ -44,7 +44,7 @@ fn first(alloc: Global, asked: Asked, workers: u64) -> Built<Formula> {
     }
 }
 
-/// Groups them by their lowest bits. Answers whether so many are in the group of 1.
+/// Groups them by their lowest bits. Returns whether so many are in the group of 1.
 fn grouped<R: Clock + Threads + Wait + Sync>(
     rt: &R,
     alloc: Global,
@@ -103,7 +103,7 @@ fn folded<R: Clock + Threads + Wait + Sync>(
     }
 }
 
-/// Makes something of each of them. Answers whether a sink took so many, which may lack room as well.
+/// Makes something of each of them. Returns whether a sink took so many, which may lack room as well.
 fn delivered<R: Clock + Threads + Wait + Sync>(
     rt: &R,
     alloc: Global,
@@ -131,7 +131,7 @@ fn delivered<R: Clock + Threads + Wait + Sync>(
     }
 }
 
-/// Keeps what is made of each of them in a list. Answers whether it has so many.
+/// Keeps what is made of each of them in a list. Returns whether it has so many.
 fn listed<R: Clock + Threads + Wait + Sync>(
     rt: &R,
     alloc: Global,

@@ -8,7 +8,7 @@ use crate::keyed::Keyed;
 
 /// Whether the keys of all partitions are the numbers from 0 on, each once (.NET's `KeysNormalized`).
 ///
-/// Takes no memory. Where the keys of each partition rise, as those of every partitioner here do, each two partitions
+/// Takes no memory. If the keys of each partition rise, as those of every partitioner here do, each two partitions
 /// are walked once. So the steps are at most the elements times the partitions. For keys in no order each is compared
 /// with each, so the steps may be the square of the elements.
 pub fn check_normalized<T>(parts: &[Vec<Keyed<T>>]) -> bool
@@ -57,7 +57,7 @@ fn keys_below<T>(part: &[Keyed<T>], bound: u128) -> bool
     true
 }
 
-/// Whether no key comes twice, where the keys of each partition rise.
+/// Whether no key comes twice, if the keys of each partition rise.
 fn rising_keys_differ<T>(parts: &[Vec<Keyed<T>>]) -> bool
     requires { ordered_in_each (key_lists (element_lists parts.now)) ≡ true }
     ensures { result ≡ are_distinct (concat (key_lists (element_lists parts.now))) }

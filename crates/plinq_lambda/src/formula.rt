@@ -19,7 +19,7 @@ const MOST_ITEMS: i64 = 65_536;
 /// There are three kinds: arithmetic gives a number, a test an answer, and an expansion a list. Each may still stand
 /// in every operator. Mapped, a test gives 1 or 0, and an expansion the element itself. Tested, what is no test
 /// passes if it maps the element to anything but 0. Expanded, what is no expansion gives the one element that it maps
-/// to. Where the mapping faults, so do these two. Mapping and testing take no memory.
+/// to. If the mapping faults, so do these two. Mapping and testing take no memory.
 ///
 /// ```text
 /// Formula::Add(1).map(4)               // Ok(5)
@@ -46,9 +46,9 @@ pub enum Formula {
     Equal(i64),
     /// Whether the element is even.
     Even,
-    /// The element so many times; not at all where the number is below 1.
+    /// The element so many times; not at all if the number is below 1.
     Repeat(i64),
-    /// 1, 2, .. up to the element; nothing where the element is below 1.
+    /// 1, 2, .. up to the element; nothing if the element is below 1.
     UpTo,
 }
 
@@ -122,7 +122,7 @@ impl Lambda for Formula {
     }
 }
 
-/// One number added to each of a block. Where all are near to zero, no sum is looked at by itself.
+/// One number added to each of a block. If all are near to zero, no sum is looked at by itself.
 fn map_sums(c: i64, block: &mut [i64]) -> (usize, Option<u32>)
     ensures within { result.0 ≤ length block.new }
     ensures mapped { record { items = take result.0 block.new; fault = result.1 } ≡ mapped_block (formula_meaning (Add c)).map block.old }
@@ -198,7 +198,7 @@ fn quotient(x: i64, y: i64) -> Result<i64, u32>
     x.checked_div(y).ok_or(Formula::OVERFLOW)
 }
 
-/// What that division leaves over. It always is an `i64`, also where the quotient isn't one.
+/// What that division leaves over. It always is an `i64`, also if the quotient isn't one.
 fn remainder(x: i64, y: i64) -> Result<i64, u32>
     ensures { result ≡ remainder x y }
 {

@@ -24,7 +24,7 @@ impl Named for Formula {
 }
 
 impl Formula {
-    /// The number after its name, where it has one.
+    /// The number after its name, if it has one.
     pub fn number(self) -> Option<i64>
         ensures { result ≡ formula_number self }
     {

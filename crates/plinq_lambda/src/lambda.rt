@@ -36,13 +36,13 @@ pub trait Lambda: Drop {
     ///
     /// # Errors
     ///
-    /// [`ExpandFault::Code`] where the lambda faults, also where memory is short; else [`ExpandFault::Memory`] where there
+    /// [`ExpandFault::Code`] if the lambda faults, also if memory is short; else [`ExpandFault::Memory`] if there
     /// is no room for them.
     fn expand(&self, alloc: Global, x: Self::Item) -> Result<Vec<Self::Item>, ExpandFault>
         ensures items { IfOk result (λ ys. (meaning self.now).expand x ≡ Ok ys.items) }
         ensures fault { IfErr result (IsFaultOf ((meaning self.now).expand x)) };
 
-    /// Maps the items of a block in their places, up to the first that faults. Answers how many are mapped, and the code of
+    /// Maps the items of a block in their places, up to the first that faults. Returns how many are mapped, and the code of
     /// the fault. What stands after them then isn't said.
     ///
     /// It is `map` for each; a lambda with a quicker loop has its own. Takes no memory.
@@ -61,7 +61,7 @@ pub trait Lambda: Drop {
         (block.len(), None)
     }
 
-    /// Brings the items of a block that pass to its front, up to the first that faults. Answers how many pass, and the code
+    /// Brings the items of a block that pass to its front, up to the first that faults. Returns how many pass, and the code
     /// of the fault. What stands after them then isn't said.
     ///
     /// It is `test` for each; a lambda with a quicker loop has its own. Takes no memory.

@@ -395,7 +395,7 @@ fn queries_by_chance_answer_what_a_loop_does(rt: HostRuntime) {
     }
 }
 
-/// What is told of a fault at the third item, where all are asked for.
+/// What is told of a fault at the third item, if all are asked for.
 fn told_of_a_fault<R: Clock + Threads + Wait + Sync>(
     rt: &R,
     alloc: Global,

@@ -13,7 +13,7 @@ use std::time::Clock;
 
 const NUMBERS: [i64; 3] = [4, 5, 6];
 
-/// The query of the even numbers, or none where memory ran out.
+/// The query of the even numbers, or none if memory ran out.
 fn even(rt: &impl Abort, alloc: Global) -> Option<Query<Formula>> {
     match build(
         alloc,
@@ -31,7 +31,7 @@ fn is_short(fault: RunFault) -> bool {
     matches!(fault, RunFault::Memory | RunFault::Thread)
 }
 
-/// Asks for all items. Answers whether that was refused.
+/// Asks for all items. Returns whether that was refused.
 fn is_list_refused<R: Clock + Threads + Wait + Sync + Abort>(rt: &R, alloc: Global) -> bool {
     let Some(query) = even(rt, alloc) else {
         return true;
@@ -51,7 +51,7 @@ fn is_list_refused<R: Clock + Threads + Wait + Sync + Abort>(rt: &R, alloc: Glob
     }
 }
 
-/// Asks for the first. Answers whether that was refused.
+/// Asks for the first. Returns whether that was refused.
 fn is_first_refused<R: Clock + Threads + Wait + Sync + Abort>(rt: &R, alloc: Global) -> bool {
     let Some(query) = even(rt, alloc) else {
         return true;
@@ -109,8 +109,8 @@ fn note(digits: &mut i64, item: i64) -> Result<(), u32> {
     Ok(())
 }
 
-/// Calls a closure with the even numbers, which makes a number of their digits. Answers whether it was called with all of
-/// them; where that was refused, it was called with the first of them.
+/// Calls a closure with the even numbers, which makes a number of their digits. Returns whether it was called with all of
+/// them; if that was refused, it was called with the first of them.
 fn is_called<R: Clock + Threads + Wait + Sync + Abort>(rt: &R, alloc: Global) -> bool {
     let Some(query) = even(rt, alloc) else {
         return false;
@@ -180,7 +180,7 @@ fn calls_on_one_thread_that_are_refused_are_made_the_next_time(rt: HostRuntime) 
     }
 }
 
-/// Whether a text has this line, or none where that was refused.
+/// Whether a text has this line, or none if that was refused.
 fn has_line<R: Clock + Threads + Wait + Sync + Abort>(
     rt: &R,
     alloc: Global,

@@ -10,7 +10,7 @@ use crate::write_fault::WriteFault;
 use plinq_source::Ending;
 use std::io::Write;
 
-/// Writes an aggregated answer: its value where it ended well, and its ending. Takes no memory.
+/// Writes an aggregated answer: its value if it ended well, and its ending. Takes no memory.
 ///
 /// ```text
 /// write_aggregate(&mut out, Some(6), Ending::End)?;
@@ -21,7 +21,7 @@ use std::io::Write;
 ///
 /// # Errors
 ///
-/// [`WriteFault`] where the writer fails, or takes none of the bytes that it is given. What it took until then is a
+/// [`WriteFault`] if the writer fails, or takes none of the bytes that it is given. What it took until then is a
 /// beginning of these lines.
 pub fn write_aggregate<W: Write>(
     writer: &mut W,
@@ -40,11 +40,11 @@ pub fn write_aggregate<W: Write>(
     }
 }
 
-/// Writes the line of an aggregate's value: its decimal, or `none` where the items have no value. Takes no memory.
+/// Writes the line of an aggregate's value: its decimal, or `none` if the items have no value. Takes no memory.
 ///
 /// # Errors
 ///
-/// [`WriteFault`] where the writer fails, or takes none of the bytes that it is given. What it took until then is a
+/// [`WriteFault`] if the writer fails, or takes none of the bytes that it is given. What it took until then is a
 /// beginning of the line.
 pub fn write_value<W: Write>(writer: &mut W, value: Option<i128>) -> Result<(), WriteFault>
     ensures { Writes (W.contents writer.old) (W.contents writer.new) result (value_line value) }

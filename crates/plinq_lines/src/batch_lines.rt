@@ -21,7 +21,7 @@ const NUMBER_ROOM: usize = 21;
 
 const NUMBERS_ROOM: usize = 336;
 
-/// How many numbers are placed at once where batches follow one another.
+/// How many numbers are placed at once if batches follow one another.
 const MOST_NUMBERS: usize = 128;
 
 /// The room that so many take, of which each may end a line.
@@ -39,7 +39,7 @@ const LINE_ROOM: usize = 337;
 ///
 /// # Errors
 ///
-/// [`WriteFault`] where the writer fails, or takes none of the bytes that it is given. What it took until then is a
+/// [`WriteFault`] if the writer fails, or takes none of the bytes that it is given. What it took until then is a
 /// beginning of the line.
 pub fn write_batch<W: Write>(writer: &mut W, batch: &[i64]) -> Result<(), WriteFault>
     ensures { Writes (W.contents writer.old) (W.contents writer.new) result (batch_line batch.now) }

@@ -5,7 +5,7 @@ use crate::write_fault::WriteFault;
 use std::io;
 use std::io::{ErrorKind, Write};
 
-/// Writes all the bytes, each once. Where the writer fails, what it took is a beginning of them.
+/// Writes all the bytes, each once. If the writer fails, what it took is a beginning of them.
 ///
 /// std's `write_all` says nothing of the bytes after an `Err`, and so this is a loop of its own. A call that was
 /// interrupted is made again.

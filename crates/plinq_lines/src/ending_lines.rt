@@ -13,7 +13,7 @@ use std::io::Write;
 ///
 /// # Errors
 ///
-/// [`WriteFault`] where the writer fails, or takes none of the bytes that it is given. What it took until then is a
+/// [`WriteFault`] if the writer fails, or takes none of the bytes that it is given. What it took until then is a
 /// beginning of the line.
 pub fn write_ending<W: Write>(writer: &mut W, ending: Ending) -> Result<(), WriteFault>
     ensures { Writes (W.contents writer.old) (W.contents writer.new) result (line (ending_words ending)) }

@@ -21,7 +21,7 @@ use std::io::Write;
 ///
 /// # Errors
 ///
-/// [`WriteFault`] where the writer fails, or takes none of the bytes that it is given. What it took until then is a
+/// [`WriteFault`] if the writer fails, or takes none of the bytes that it is given. What it took until then is a
 /// beginning of these lines.
 pub fn write_history<W: Write>(
     writer: &mut W,

@@ -9,13 +9,13 @@ ghost use Rattle.plinq_lines.specs.LineSink.{Lines, TakesLine, RefusesLine};
 ghost use Rattle.plinq_lines.specs.AnswerText.{batch_line};
 ghost use Rattle.plinq_lines.specs.Written.{AppendsBeginning};
 
-/// Where a [`LineSink`](crate::LineSink) takes batches one after another, their lines are written.
+/// If a [`LineSink`](crate::LineSink) takes batches one after another, their lines are written.
 pub fn taken_batches_are_lines()
     ensures { (s s' : Lines) (bs : List (List ℤ)) → Leads TakesLine s bs s'
         → Appends s.bytes s'.bytes (flat_map batch_line bs) × (s'.writer ≡ s.writer) }
 {}
 
-/// Where it takes the first of some batches, or memory ran out, a beginning of their lines is written.
+/// If it takes the first of some batches, or memory ran out, a beginning of their lines is written.
 pub fn first_batches_are_a_beginning_of_lines()
     ensures { (s s' : Lines) (bs : List (List ℤ)) (fault : MergeFault) → StopsShort TakesLine RefusesLine s bs fault s'
         → AppendsBeginning s.bytes s'.bytes (flat_map batch_line bs) × (s'.writer ≡ s.writer) }

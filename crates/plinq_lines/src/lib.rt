@@ -7,7 +7,7 @@
 //! - [`write_batch`] writes the line of one batch (`batch_line`), and [`write_ending`] the line of how an answer ended
 //!   (`ending_words`). The lines of an answer's batches and of its ending are its text (`answer_text`).
 //! - [`write_aggregate`] writes an aggregated answer (`aggregate_text`): the value's line, which [`write_value`] writes
-//!   (`value_line`), where it ended well, and the line of its ending.
+//!   (`value_line`), if it ended well, and the line of its ending.
 //! - [`write_plan`] writes the five lines of a query's plan (`plan_text`), [`write_parts`] those of a source cut into
 //!   partitions (`properties_line`, `part_lines`, `ending_words`), [`write_history`] those of a history of requests
 //!   (`history_text`).

@@ -13,12 +13,12 @@ pub const WRITE_FAILED: u32 = 1;
 
 /// A sink that writes each batch as its line, as [`write_batch`](crate::write_batch) does. Takes no memory.
 ///
-/// A writer that keeps back what it was given, as a buffer does, is flushed where a run finds no batch to deliver. Once the
+/// A writer that keeps back what it was given, as a buffer does, is flushed if a run finds no batch to deliver. Once the
 /// writer has failed, each batch is refused with [`WRITE_FAILED`], and nothing more is written or flushed.
 ///
 /// ```text
 /// let mut sink = LineSink::new(&mut out);
-/// run(&rt, alloc, &query, source, Growth::DEFAULT, &OpenGate, &mut sink)?;
+/// run(&rt, alloc, &query, source, Growth::DEFAULT, &TimedGate::new(&rt), &mut sink)?;
 /// ```
 #[derive(Drop)]
 pub struct LineSink<'a, W: Write> {

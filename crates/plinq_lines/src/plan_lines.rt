@@ -23,7 +23,7 @@ use std::io::Write;
 ///
 /// # Errors
 ///
-/// [`WriteFault`] where the writer fails, or takes none of the bytes that it is given. What it took until then is a
+/// [`WriteFault`] if the writer fails, or takes none of the bytes that it is given. What it took until then is a
 /// beginning of these lines.
 pub fn write_plan<W: Write>(writer: &mut W, query: &Query<Formula>) -> Result<(), WriteFault>
     ensures { Writes (W.contents writer.old) (W.contents writer.new) result (plan_text query.now) }

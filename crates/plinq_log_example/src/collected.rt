@@ -3,7 +3,7 @@ ghost use Rattle.std.specs.Prelude.{◌≡◌, ◌++◌};
 use crate::record::Record;
 use plinq_merge::Sink;
 
-/// A sink that collects what it takes. Where memory runs out, it refuses the batch with 1 and stays as it is.
+/// A sink that collects what it takes. If memory runs out, it refuses the batch with 1 and stays as it is.
 #[derive(Drop)]
 pub(crate) struct Collected<'a>(pub(crate) Vec<Record<'a>>);
 

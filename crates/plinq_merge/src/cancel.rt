@@ -17,7 +17,7 @@ pub trait Cancel {
     // Whether it has answered true.
     ghost has_told: { Self → Bool };
 
-    /// Whether to stop, where so many batches were delivered.
+    /// Whether to stop, if so many batches were delivered.
     fn cancelled(&mut self, delivered: u64) -> bool
         ensures { asks self.old delivered result self.new };
 

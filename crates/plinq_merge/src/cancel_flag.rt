@@ -24,7 +24,7 @@ impl CancelFlag {
         }
     }
 
-    /// Sets it. Where several threads do so at once, one of them sets it for all.
+    /// Sets it. If several threads do so at once, one of them sets it for all.
     pub fn cancel(&self) {
         let _ = self.set.try_set(());
     }

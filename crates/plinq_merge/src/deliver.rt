@@ -31,7 +31,7 @@ impl<'a, L: Lambda> Deliver<'a, L, L::Item> {
     ///
     /// # Errors
     ///
-    /// [`OutOfMemory`] where there is no room for what is left of the operators or for a batch.
+    /// [`OutOfMemory`] if there is no room for what is left of the operators or for a batch.
     pub fn new(
         alloc: Global,
         ops: &'a [Op<L>],

@@ -60,8 +60,8 @@ impl<W: Taker> Joiner<W, W::Item> {
     ///
     /// # Errors
     ///
-    /// [`MergeFault::Twice`] where one of its keys was offered before; the joiner is unchanged.
-    /// [`MergeFault::Memory`] and [`MergeFault::Sink`] where the taker broke off or there was no room; the joiner has
+    /// [`MergeFault::Twice`] if one of its keys was offered before; the joiner is unchanged.
+    /// [`MergeFault::Memory`] and [`MergeFault::Sink`] if the taker broke off or there was no room; the joiner has
     /// failed. [`MergeFault::Failed`] from then on.
     pub fn offer<O>(
         &mut self,
@@ -130,7 +130,7 @@ impl<W: Taker> Joiner<W, W::Item> {
         self.work.row.buffer.next_key()
     }
 
-    /// How many items had their turn so far, or the greatest number where there were more. Takes no memory.
+    /// How many items had their turn so far, or the greatest number if there were more. Takes no memory.
     pub fn joined_items(&self) -> u64 {
         self.work.items
     }
@@ -139,7 +139,7 @@ impl<W: Taker> Joiner<W, W::Item> {
     ///
     /// # Errors
     ///
-    /// [`MergeFault::Gap`] where the answer isn't decided, [`MergeFault::Failed`] after a failure.
+    /// [`MergeFault::Gap`] if the answer isn't decided, [`MergeFault::Failed`] after a failure.
     pub fn ending(&self) -> Result<Ending, MergeFault>
         ensures { result ≡ ending_of self.now }
     {

@@ -18,7 +18,7 @@ pub(crate) struct Joining<W, T> {
     pub(crate) order: Order,
     pub(crate) row: Row<T>,
     pub(crate) taker: W,
-    /// How many items had their turn, or the greatest number where there were more.
+    /// How many items had their turn, or the greatest number if there were more.
     pub(crate) items: u64,
 }
 
@@ -42,7 +42,7 @@ impl<W: Taker> Joining<W, W::Item> {
     /// Joins a result of keys that weren't offered before, and gives the taker the items whose turn it brings: up to a gap in
     /// the row or to the end of the answer.
     ///
-    /// Answers how the answer ends, or `None` where it is still open.
+    /// Returns how the answer ends, or `None` if it is still open.
     pub(crate) fn join<O>(
         &mut self,
         offered: ChunkResult<W::Item>,

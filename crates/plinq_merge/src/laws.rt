@@ -29,7 +29,7 @@ pub fn shown_is_a_prefix<L, T>()
         AreFirstOf (shown_batches merge offers) (batches_from merge.size [] (seq merge.after (glue meaning worker t))) }
 {}
 
-/// An answer that has ended is the sequential answer, also where results are missing.
+/// An answer that has ended is the sequential answer, also if results are missing.
 pub fn decided_is_sequential<L, T>()
     ensures { (meaning : L → Meaning T) (worker : List (Op L)) (t : Trace T) (merge : Merge T) (offers : List (ChunkResult T)) (e : Ending) →
         length t.items ≤ most_items → merge.order ≡ ByKey → merge.decided ≡ false →
@@ -37,7 +37,7 @@ pub fn decided_is_sequential<L, T>()
         answer merge offers ≡ seq merge.after (glue meaning worker t) }
 {}
 
-/// Where all of the source was offered, the answer is the sequential one.
+/// If all of the source was offered, the answer is the sequential one.
 pub fn whole_is_sequential<L, T>()
     ensures { (meaning : L → Meaning T) (worker : List (Op L)) (t : Trace T) (merge : Merge T) (offers : List (ChunkResult T)) →
         length t.items ≤ most_items → merge.order ≡ ByKey → merge.decided ≡ false →
@@ -45,7 +45,7 @@ pub fn whole_is_sequential<L, T>()
         answer merge offers ≡ seq merge.after (glue meaning worker t) }
 {}
 
-/// The tail of a legal history's chunk gives the source's end, where it gives one.
+/// The tail of a legal history's chunk gives the source's end, if it gives one.
 pub fn tails_tell_the_end<L, T>()
     ensures { (meaning : L → Meaning T) (worker : List (Op L)) (t : Trace T) (h : List Record) (asked : Record) (r : ChunkResult T) →
         IsLegalHistory t h → Contains h asked → IsResultOf meaning worker t asked r → IsTrueTail t r }

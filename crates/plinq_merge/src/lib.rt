@@ -5,7 +5,7 @@
 //!   merge.
 //! - Each offer delivers exactly the batches that the answer gains by it, or after a fault the first of them
 //!   (`Merger::offer`). `decided`, `finish` and [`More`] report whether and how the answer ends.
-//! - What offers of one source show by key is at each moment a beginning of the sequential answer, and all of it where
+//! - What offers of one source show by key is at each moment a beginning of the sequential answer, and all of it if
 //!   all was offered ([`laws`]).
 //! - A [`Joiner`] is what a merger stands on: it joins results by key for a [`Taker`] of the items whose turn has come. A
 //!   merger's taker is a [`Deliver`], and so is a run's; a run of folds has one that combines them.

@@ -21,7 +21,7 @@ pub struct Merger<'a, L: Lambda> {
     pub(crate) joiner: Joiner<Deliver<'a, L, L::Item>, L::Item>,
     /// Whether the plan was decided from the start.
     pub(crate) decided: bool,
-    /// How many batches were delivered, or the greatest number where there were more.
+    /// How many batches were delivered, or the greatest number if there were more.
     pub(crate) delivered: u64,
     ghost ready: { IsReady (can_deliver L.meaning) joiner } by { Prim.hlevel props },
 }

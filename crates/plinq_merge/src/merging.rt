@@ -28,7 +28,7 @@ impl<'a, L: Lambda> Merger<'a, L> {
     ///
     /// # Errors
     ///
-    /// [`MergeFault::Memory`] where there is no room for what is left of the operators or for a batch.
+    /// [`MergeFault::Memory`] if there is no room for what is left of the operators or for a batch.
     pub fn new(
         alloc: Global,
         plan: &Plan<'a, L>,
@@ -103,7 +103,7 @@ impl<'a, L: Lambda> Merger<'a, L> {
     ///
     /// # Errors
     ///
-    /// [`MergeFault::Gap`] where the answer isn't decided, [`MergeFault::Failed`] after a failure.
+    /// [`MergeFault::Gap`] if the answer isn't decided, [`MergeFault::Failed`] after a failure.
     pub fn finish(self) -> Result<Ending, MergeFault>
         ensures ending { result ≡ tells_ending self.entry }
         ensures answer { (offers : List (ChunkResult L.Item)) → IsFor self.entry offers →

@@ -23,8 +23,8 @@ impl<'a, L: Lambda> Merger<'a, L> {
     ///
     /// # Errors
     ///
-    /// [`MergeFault::Twice`] where one of its keys was offered before; the merger is unchanged.
-    /// [`MergeFault::Memory`] and [`MergeFault::Sink`] where a batch couldn't be made or was refused: the batches before
+    /// [`MergeFault::Twice`] if one of its keys was offered before; the merger is unchanged.
+    /// [`MergeFault::Memory`] and [`MergeFault::Sink`] if a batch couldn't be made or was refused: the batches before
     /// it were delivered, and the merger has failed. [`MergeFault::Failed`] from then on.
     pub fn offer<K: Sink<Item = L::Item>>(
         &mut self,
@@ -49,7 +49,7 @@ impl<'a, L: Lambda> Merger<'a, L> {
     ///
     /// # Errors
     ///
-    /// [`MergeFault::Cancelled`] where the token answered `true`: the batches before the one that it was asked of were
+    /// [`MergeFault::Cancelled`] if the token answered `true`: the batches before the one that it was asked of were
     /// delivered, and the merger has failed. Others are those of [`Merger::offer`].
     pub fn offer_with<C: Cancel, K: Sink<Item = L::Item>>(
         &mut self,
@@ -92,7 +92,7 @@ impl<'a, L: Lambda> Merger<'a, L> {
         with.answer_unless_stopped(answer)
     }
 
-    /// How many batches it has delivered, and the greatest number where there were more. Takes no memory.
+    /// How many batches it has delivered, and the greatest number if there were more. Takes no memory.
     pub fn delivered(&self) -> u64
         ensures { result ≡ delivered_of self.now }
     {

@@ -21,14 +21,14 @@ use std::alloc::Global;
 /// How many elements a source is asked for at once.
 const BLOCK: u64 = 512;
 
-/// Delivers a query's answer on one thread, and answers how it ends. A batch goes to the sink as soon as the item has come that
+/// Delivers a query's answer on one thread, and returns how it ends. A batch goes to the sink as soon as the item has come that
 /// fills it, so that no more items are held than a batch has, or one element's expansion; of FullyBuffered all are.
 ///
 /// The source must have given nothing. It is asked for no element after the one that decides the answer.
 ///
 /// # Errors
 ///
-/// [`DeliveryFault::Memory`] where there is no room for what is left of the operators or for items, [`DeliveryFault::Sink`] where
+/// [`DeliveryFault::Memory`] if there is no room for what is left of the operators or for items, [`DeliveryFault::Sink`] if
 /// the sink refused a batch. What was delivered then are the first batches. The source may have given some of its elements.
 ///
 /// ```text

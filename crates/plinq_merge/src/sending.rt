@@ -86,7 +86,7 @@ where
     }
 }
 
-/// Hands out the batches that a piece of an answer fills, and all of them where the answer ends with it.
+/// Hands out the batches that a piece of an answer fills, and all of them if the answer ends with it.
 #[tactic(auto, using(crate::proofs::Delivered::delivering))]
 pub(crate) fn deliver_piece<K: Sink>(
     buffer: &mut Buffer<K::Item>,
@@ -107,7 +107,7 @@ where
     deliver_last(buffer, ending, sink)
 }
 
-/// Delivers what the last items fill and leave, and answers the ending.
+/// Delivers what the last items fill and leave, and returns the ending.
 #[tactic(auto, using(crate::proofs::Delivered::delivering))]
 pub(crate) fn deliver_rest<K: Sink>(
     buffer: &mut Buffer<K::Item>,

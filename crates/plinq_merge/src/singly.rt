@@ -78,7 +78,7 @@ where
     Ok(())
 }
 
-/// Delivers the batches that these items fill. Where they are just one, it goes to the sink as it is.
+/// Delivers the batches that these items fill. If they are just one, it goes to the sink as it is.
 #[inline(always)]
 fn deliver_made<K: Sink>(
     buffer: &mut Buffer<K::Item>,

@@ -22,9 +22,9 @@ pub trait TakeInto<O>: Taker {
     // it broke off.
     ghost made: { Self → O → Trace Self.Item → Result (Option Ending) DeliveryFault → Self → O → Type 0 };
 
-    /// Takes items, and the run's ending after them where they are its last.
+    /// Takes items, and the run's ending after them if they are its last.
     ///
-    /// Answers how the answer ends, or `None` where more may follow.
+    /// Returns how the answer ends, or `None` if more may follow.
     ///
     /// # Errors
     ///

@@ -8,20 +8,20 @@ use crate::merge_fault::MergeFault;
 use crate::more::More;
 use crate::sink::Sink;
 
-/// A sink of which a token is asked before each batch: where that answers `true`, the batch is refused and the sink isn't
+/// A sink of which a token is asked before each batch: if that answers `true`, the batch is refused and the sink isn't
 /// called.
 #[derive(Drop)]
 pub struct WithCancellation<'a, C, K> {
     pub token: &'a mut C,
     pub sink: &'a mut K,
-    /// How many batches were delivered, or the greatest number where there were more.
+    /// How many batches were delivered, or the greatest number if there were more.
     pub delivered: u64,
     /// Whether the token has answered `true`.
     pub is_stopped: bool,
 }
 
 impl<'a, C: Cancel, K> WithCancellation<'a, C, K> {
-    /// Asks the token, and notes where it answers `true`.
+    /// Asks the token, and notes if it answers `true`.
     pub fn stops(&mut self) -> bool
         ensures same { AreSame self.old self.new }
         ensures asked { IsAsked C.asks result (delivery_of self.old) (delivery_of self.new) }
@@ -32,7 +32,7 @@ impl<'a, C: Cancel, K> WithCancellation<'a, C, K> {
         answer
     }
 
-    /// What an offer to this sink answers: Cancelled where the token has stopped it, and else what it answered without that.
+    /// What an offer to this sink answers: Cancelled if the token has stopped it, and else what it answered without that.
     pub(crate) fn answer_unless_stopped(
         &self,
         answer: Result<More, MergeFault>,

@@ -1,4 +1,4 @@
-//! Answers of one thread, where there is room for them.
+//! Answers of one thread, if there is room for them.
 ghost use Rattle.std.specs.Prelude.{◌≡◌, IfSome};
 
 use crate::building::ordered;
@@ -7,7 +7,7 @@ use plinq_ops::{Op, sequential};
 use plinq_source::{Ending, ListSource, RangeSource, Source};
 use std::alloc::Global;
 
-/// A source of a list, which refuses after it where there is a code.
+/// A source of a list, which refuses after it if there is a code.
 pub(crate) fn source_of(
     alloc: Global,
     list: &[i64],
@@ -67,7 +67,7 @@ fn is_right_if_any(alloc: Global) -> bool {
     }
 }
 
-/// Also where an allocation fails: run it with each allocation refused in turn.
+/// Also if an allocation fails: run it with each allocation refused in turn.
 #[test]
 fn answers_or_says_that_memory_ran_out(rt: HostRuntime) {
     assert!(rt; is_right_if_any(rt.alloc()));

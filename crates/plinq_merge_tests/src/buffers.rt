@@ -3,7 +3,7 @@ ghost use Rattle.std.specs.Prelude.{◌<◌};
 use plinq_reorder::ReorderBuffer;
 use std::alloc::Global;
 
-/// Takes in an interval, if none of its keys came before and there is room. Answers the letters whose turn has come.
+/// Takes in an interval, if none of its keys came before and there is room. Returns the letters whose turn has come.
 fn insert(
     buffer: &mut ReorderBuffer<char>,
     first: u64,

@@ -15,7 +15,7 @@ pub(crate) fn with<L: Drop>(query: Query<L>, op: Op<L>) -> Built<L> {
     }
 }
 
-/// An ordered query of these operators, where there is room for it.
+/// An ordered query of these operators, if there is room for it.
 pub(crate) fn ordered<L: Copy + Drop>(alloc: Global, ops: &[Op<L>]) -> Option<Query<L>> {
     let Ok(mut query) = Query::new(alloc).as_ordered() else {
         return None;

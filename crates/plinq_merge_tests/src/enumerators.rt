@@ -14,7 +14,7 @@ fn is_new_ticket(records: &[Record], ticket: u64) -> bool
     records.iter().all(|record| record.ticket < ticket)
 }
 
-/// So many zeros, where there is room for them.
+/// So many zeros, if there is room for them.
 fn zeros(alloc: Global, count: usize) -> Option<Enumerator<ListSource<u64>>> {
     match vec![in alloc; 0; count] {
         Ok(list) => {
@@ -32,7 +32,7 @@ fn count_records<V: Guarded>(value: &V) -> usize {
     value.records().len()
 }
 
-/// Asks for so many items. Answers how many came, or that it was refused.
+/// Asks for so many items. Returns how many came, or that it was refused.
 fn ask(zeros: &mut Enumerator<ListSource<u64>>, ticket: u64, n: u64) -> Option<usize> {
     if !is_new_ticket(zeros.records(), ticket) || n == 0 || n > 65_536 {
         return None;
@@ -43,7 +43,7 @@ fn ask(zeros: &mut Enumerator<ListSource<u64>>, ticket: u64, n: u64) -> Option<u
     }
 }
 
-/// Closes it. Answers whether that was refused.
+/// Closes it. Returns whether that was refused.
 fn is_close_refused(zeros: &mut Enumerator<ListSource<u64>>, ticket: u64) -> bool {
     !is_new_ticket(zeros.records(), ticket) || zeros.close(ticket).is_err()
 }
@@ -66,7 +66,7 @@ fn growth_faults_in_words(rt: HostRuntime) {
     }
 }
 
-/// Asks for one item under each of so many tickets. Answers how many were refused.
+/// Asks for one item under each of so many tickets. Returns how many were refused.
 fn refusals(zeros: &mut Enumerator<ListSource<u64>>, tickets: u64) -> usize {
     let mut refused = 0usize;
     for ticket in 0..tickets {

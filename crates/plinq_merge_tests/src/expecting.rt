@@ -9,7 +9,7 @@ use plinq_source::RangeSource;
 use std::alloc::Global;
 use std::sync::Wait;
 
-/// Some numbers, and their first partition, where there is room.
+/// Some numbers, and their first partition, if there is room.
 pub(crate) fn range_of(
     alloc: Global,
     start: i64,
@@ -35,7 +35,7 @@ pub(crate) enum Call<'a> {
     Stop,
 }
 
-/// Makes a call. Answers whether it gives that chunk.
+/// Makes a call. Returns whether it gives that chunk.
 pub(crate) fn answer<R: Wait>(
     rt: &R,
     chunked: &Chunked<RangeSource>,
@@ -102,7 +102,7 @@ fn are_so_many(records: &[Record], count: usize, ticket: u64) -> bool {
     }
 }
 
-/// The same of a source's only partition; nothing where there is no room for a list of it.
+/// The same of a source's only partition; nothing if there is no room for a list of it.
 pub(crate) fn has_all(
     alloc: Global,
     chunked: Chunked<RangeSource>,

@@ -34,7 +34,7 @@ fn send_all<R: Wait>(rt: &R, stream: &Stream<u64, AnyNumber>, pass: StreamPass<u
     }
 }
 
-/// Receives the numbers from 0 on, and where there is none only waits.
+/// Receives the numbers from 0 on, and if there is none only waits.
 fn receive_all<R: Wait + Abort>(rt: &R, stream: &Stream<u64, AnyNumber>, pass: StreamPass<u64>)
     requires of { IsPassOf stream.now pass }
     requires receives { (knowledge_of pass).receives ≡ true }

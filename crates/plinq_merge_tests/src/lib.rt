@@ -1,6 +1,6 @@
 //! The tests of all that stands below a run, from `plinq_source` up to `plinq_merge`, of what no contract says: that calls succeed
-//! with ample memory, and what they answer where there is none; sources, formulas, aggregators and keys; enumerators and the lock,
-//! also where many threads take from one source; lists that are given back; lambdas and results over another type, how often a
+//! with ample memory, and what they answer if there is none; sources, formulas, aggregators and keys; enumerators and the lock,
+//! also if many threads take from one source; lists that are given back; lambdas and results over another type, how often a
 //! source is asked and an item tested, when a batch is sent, which word a cut has, flags of another thread, streams, and texts.
 //!
 //! They stand in a crate of their own, since a crate with tests is proved twice, and in one, since each costs the reading of the

@@ -13,7 +13,7 @@ use std::test::Fail;
 use std::thread;
 use std::thread::Threads;
 
-/// What the threads do: all take until there is a tail but every fourth, which stops half way. Where one is to stop the
+/// What the threads do: all take until there is a tail but every fourth, which stops half way. If one is to stop the
 /// source, that is the first, half way too.
 #[derive(Clone, Copy)]
 struct Row {
@@ -62,7 +62,7 @@ fn take_all<R: Wait>(
     Ok(taken)
 }
 
-/// Keeps some values under the keys from that one on, where there is room.
+/// Keeps some values under the keys from that one on, if there is room.
 fn keep(taken: &mut Vec<Keyed<i64>>, first: u64, values: &[i64]) -> bool {
     let mut key = first;
     for value in values {

@@ -15,7 +15,7 @@ use std::thread::Threads;
 mod notes;
 mod when_free;
 
-/// How a pass enters where others may be inside.
+/// How a pass enters if others may be inside.
 #[derive(Clone, Copy)]
 enum Way {
     // It draws a ticket, and waits for its turn.
@@ -37,7 +37,7 @@ fn try_in_vain(lock: &TicketLock<Notes>, pass: Pass<Notes>) -> (Pass<Notes>, Opt
     }
 }
 
-/// Enters, notes that it was there, and leaves. Answers the ticket.
+/// Enters, notes that it was there, and leaves. Returns the ticket.
 fn visit<R: Wait>(
     rt: &R,
     lock: &TicketLock<Notes>,
@@ -149,7 +149,7 @@ fn passes_enter_in_the_order_of_tickets(rt: HostRuntime) {
 /// The last ticket of each lock.
 const LAST: u64 = 4_611_686_018_427_387_903;
 
-/// Whether a lock is made and used, at the second attempt where the first is refused.
+/// Whether a lock is made and used, at the second attempt if the first is refused.
 fn is_made<R: Wait>(rt: &R, alloc: Global) -> bool {
     let (lock, pass) = match lock_of(alloc) {
         Some(made) => made,

@@ -65,7 +65,7 @@ fn are_merged(alloc: Global, merger: Merger<'_, Formula>) -> bool {
     ends(merger, counted(&sink.batches), failed)
 }
 
-/// Whether a merger does so that is made at the second attempt where the first is refused.
+/// Whether a merger does so that is made at the second attempt if the first is refused.
 fn merges(alloc: Global, option: MergeOption) -> bool {
     let Some(query) = ordered(alloc) else {
         return true;
@@ -113,7 +113,7 @@ fn delivered(alloc: Global, how: How, query: &Query<Formula>, most: u32) -> Resu
     }
 }
 
-/// Whether all are delivered, at the second attempt where there was no room at the first.
+/// Whether all are delivered, at the second attempt if there was no room at the first.
 fn delivers(alloc: Global, how: How, option: MergeOption, most: u32) -> bool {
     let Ok(query) = Query::new(alloc).with_merge(option) else {
         return true;
@@ -124,7 +124,7 @@ fn delivers(alloc: Global, how: How, option: MergeOption, most: u32) -> bool {
     }
 }
 
-/// The batches of one thread are the first of the answer's, and all of them where the call answers its ending; where it doesn't, it
+/// The batches of one thread are the first of the answer's, and all of them if the call answers its ending; if it doesn't, it
 /// does the next time. Run with each allocation failing in turn.
 #[test]
 fn no_room_ends_a_delivery_by_one_thread(rt: HostRuntime) {

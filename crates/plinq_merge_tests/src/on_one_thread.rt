@@ -30,7 +30,7 @@ fn two_partitions_take_in_turn(rt: HostRuntime) {
     assert!(rt; take_in_turn(&rt, rt.alloc()));
 }
 
-/// What is reported where the second of two partitions, which each took once, isn't given back. The two records come with it.
+/// What is reported if the second of two partitions, which each took once, isn't given back. The two records come with it.
 fn told_without_the_second<R: Wait>(rt: &R, alloc: Global) -> Option<TakeFault> {
     let (chunked, mut first) = range_of(alloc, 0, 4, Growth::DEFAULT)?;
     let mut second = chunked.dynamic(&mut first);

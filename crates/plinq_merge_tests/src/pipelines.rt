@@ -87,7 +87,7 @@ fn hears_the_end_of_a_block(alloc: Global) -> Option<bool> {
     Some(after_all == ending && block.as_slice() == [4, 4, 9, 9].as_slice())
 }
 
-/// The end alone, where a Take has items left to take.
+/// The end alone, if a Take has items left to take.
 fn hears_the_end(alloc: Global) -> Option<bool> {
     let ops = [Op::Select(Formula::Add(1)), Op::Take(5)];
     let mut out = Vec::new(alloc);

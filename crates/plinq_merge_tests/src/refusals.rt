@@ -1,4 +1,4 @@
-//! What is reported to a partition where it is given nothing.
+//! What is reported to a partition if it is given nothing.
 ghost use Rattle.std.specs.Prelude.{◌≡◌, ◌≤◌, ◌^◌, All, length, IfSome};
 ghost use Rattle.plinq_partition.specs.Partitions.{IsPartitionOf};
 
@@ -14,7 +14,7 @@ use std::sync::Wait;
 /// What stands for a call that isn't answered as it should be.
 const WRONG: u64 = 9;
 
-/// Makes a call, and once more where the first is refused for lack of memory. Answers how many were refused.
+/// Makes a call, and once more if the first is refused for lack of memory. Returns how many were refused.
 fn refusals<R: Wait>(
     rt: &R,
     chunked: &Chunked<RangeSource>,
@@ -37,7 +37,7 @@ fn refusals<R: Wait>(
     }
 }
 
-/// Two partitions, at the second attempt where the first is refused.
+/// Two partitions, at the second attempt if the first is refused.
 fn two_at_last(
     chunked: &Chunked<RangeSource>,
     partition: Partition<RangeSource>,
@@ -56,7 +56,7 @@ fn two_at_last(
     }
 }
 
-/// Three numbers, at the second attempt where the first is refused.
+/// Three numbers, at the second attempt if the first is refused.
 fn three_at_last(alloc: Global) -> Option<(Chunked<RangeSource>, Partition<RangeSource>)>
     ensures { IfSome result (λ made. IsPartitionOf made.0 made.1) }
 {
@@ -83,7 +83,7 @@ fn change_nothing<R: Wait>(rt: &R, alloc: Global) -> bool {
     refused <= 1 && are_all
 }
 
-/// Each call is refused once at most, changes nothing then but that a ticket is gone, and answers the next time. Run with
+/// Each call is refused once at most, changes nothing then but that a ticket is gone, and returns the next time. Run with
 /// each allocation failing in turn.
 #[test]
 fn a_refused_allocation_changes_nothing(rt: HostRuntime) {
@@ -109,7 +109,7 @@ fn a_refused_first_chunk_uses_up_a_ticket(rt: HostRuntime) {
     assert!(rt; uses_up_a_ticket(&rt, rt.alloc()));
 }
 
-/// Stops a source of which nothing was taken; where that is refused, nothing is closed, and the next call closes it.
+/// Stops a source of which nothing was taken; if that is refused, nothing is closed, and the next call closes it.
 fn stops<R: Wait>(
     rt: &R,
     chunked: &Chunked<RangeSource>,
@@ -128,7 +128,7 @@ fn stops<R: Wait>(
     }
 }
 
-/// Whether a stop closes the source, or nothing where it is refused, if there is room for the lock and an empty chunk.
+/// Whether a stop closes the source, or nothing if it is refused, if there is room for the lock and an empty chunk.
 fn closes<R: Wait>(rt: &R, alloc: Global) -> bool {
     let Some((chunked, mut partition)) = range_of(alloc, 5, 2, Growth::DEFAULT) else {
         return true;

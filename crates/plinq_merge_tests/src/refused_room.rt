@@ -17,8 +17,8 @@ const OPS: [Op<Formula>; 8] = [
     Op::AsUnordered,
 ];
 
-/// The query with the call of this operator, at the second attempt where the first is refused, which hands it back as it was.
-/// Answers how many were refused.
+/// The query with the call of this operator, at the second attempt if the first is refused, which hands it back as it was.
+/// Returns how many were refused.
 fn with_at_last(query: Query<Formula>, op: Op<Formula>) -> Option<(Query<Formula>, usize)> {
     let query = match with(query, op) {
         Ok(query) => return Some((query, 0)),
@@ -52,7 +52,7 @@ fn a_builder_call_that_is_refused_hands_the_query_back(rt: HostRuntime) {
     assert!(rt; matches!(refused_calls(rt.alloc()), Some(0 | 1)));
 }
 
-/// Asks one thread for the answer: 2 and 4, thirty times each. Answers whether that was refused.
+/// Asks one thread for the answer: 2 and 4, thirty times each. Returns whether that was refused.
 fn is_answer_refused(alloc: Global, query: &Query<Formula>) -> bool {
     let Ok(mut source) = RangeSource::new(1, 4) else {
         return true;

@@ -79,7 +79,7 @@ fn are_next_of(
     are_next(alloc, how, query_of(alloc, option, op), rows)
 }
 
-/// Whether a source is asked for nothing where nothing is taken.
+/// Whether a source is asked for nothing if nothing is taken.
 fn asks_nothing(alloc: Global, how: How) -> bool {
     let Ok(query) = query_of(alloc, MergeOption::NotBuffered, Op::Take(0)) else {
         return false;

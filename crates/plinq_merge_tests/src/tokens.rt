@@ -42,7 +42,7 @@ fn a_token_that_never_stops_anything(rt: HostRuntime) {
     assert!(rt; answers(&mut NeverCancel, u64::MAX, (false, false, false)));
 }
 
-/// How many batches of an offer of three are delivered, as its merger and its sink count them, where a token stops it after two.
+/// How many batches of an offer of three are delivered, as its merger and its sink count them, if a token stops it after two.
 fn delivered(alloc: Global) -> Option<(u64, u64)> {
     let query = ordered(alloc)?;
     let mut merger: Merger<'_, Formula> = merger_of(alloc, &query, MergeOption::NotBuffered)?;

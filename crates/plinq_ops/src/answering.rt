@@ -20,7 +20,7 @@ use std::alloc::Global;
 ///
 /// # Errors
 ///
-/// [`OutOfMemory`] where there is no room for what is left of the operators or for the answer. The source may have given
+/// [`OutOfMemory`] if there is no room for what is left of the operators or for the answer. The source may have given
 /// some of its elements then.
 ///
 /// ```text

@@ -32,7 +32,7 @@ struct Stop {
 ///
 /// # Errors
 ///
-/// [`OutOfMemory`] where there is no room for these.
+/// [`OutOfMemory`] if there is no room for these.
 ///
 /// ```text
 /// // as_ordered, select 10 / x: the chunk from key 7 on with the elements 5, 0 and 2
@@ -65,7 +65,7 @@ pub fn chunk_result<L: Lambda>(
     })
 }
 
-/// Sends the items of a chunk that the cut reaches through the worker part: as one block, and where the run ends in it
+/// Sends the items of a chunk that the cut reaches through the worker part: as one block, and if the run ends in it
 /// once more, item by item, to find the key.
 fn work<L: Lambda>(
     alloc: Global,

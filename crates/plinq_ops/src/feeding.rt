@@ -181,7 +181,7 @@ fn feed_rest<L: Lambda>(
     Ok(ending)
 }
 
-/// Appends a list's items. Where nothing was there and there is no room for them, the list itself takes its place, and no item
+/// Appends a list's items. If nothing was there and there is no room for them, the list itself takes its place, and no item
 /// is copied.
 fn append_or_take<T: Drop>(out: &mut Vec<T>, more: Vec<T>) -> Result<(), AllocError>
     ensures { OnOk result (out.new.items ≡ out.old.items ++ more.items) }

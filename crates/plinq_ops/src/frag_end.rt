@@ -17,7 +17,7 @@ pub enum FragEnd {
 }
 
 impl FragEnd {
-    /// How the run ended, as far as this says: nothing is said where the rest was dropped.
+    /// How the run ended, as far as this says: nothing is said if the rest was dropped.
     pub fn run_ending(self) -> Option<Ending>
         ensures { result ≡ run_ending self }
     {

@@ -19,7 +19,7 @@ use std::alloc::Global;
 ///
 /// # Errors
 ///
-/// [`OutOfMemory`] where there is no room for what is left of the operators, for the items or for a Take's last one.
+/// [`OutOfMemory`] if there is no room for what is left of the operators, for the items or for a Take's last one.
 ///
 /// ```text
 /// // as_ordered, skip 1, take 2

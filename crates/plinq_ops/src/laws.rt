@@ -30,7 +30,7 @@ ghost use Rattle.plinq_ops.specs.Chunk.{chunk_answer, IsChunkResult, result_trac
 ghost use Rattle.plinq_ops.specs.Cut.{stop_keys, most_items};
 ghost use Rattle.plinq_ops.specs.Row.{IsOffer, AreOffers, IsRow, row_trace, IsResultOf, AreResultsOf};
 
-/// What operators make of a trace that follows another: what they make of the first, and where that is open, after it
+/// What operators make of a trace that follows another: what they make of the first, and if that is open, after it
 /// what is left of them makes of the second.
 pub fn answer_goes_on<T>()
     ensures { (ss : List (Stage T)) (a b : Trace T) →
@@ -131,7 +131,7 @@ pub fn batches_go_on<T>()
         ≡ batches option (open_trace xs) ++ batches_from (batch_size option) (held_back (batch_size option) [] xs) t }
 {}
 
-/// Where a batch has a size, fewer items than that are held back.
+/// If a batch has a size, fewer items than that are held back.
 pub fn fewer_are_held_back<T>()
     ensures { (option : MergeOption) (xs : List T) →
         IfSome (batch_size option) (λ size. length (held_back (batch_size option) [] xs) < size) }

@@ -54,7 +54,7 @@ impl MergeOption {
         )
     }
 
-    /// How many elements fill a batch; `None` where none does, and an answer that ends well is one batch, if it has any element.
+    /// How many elements fill a batch; `None` if none does, and an answer that ends well is one batch, if it has any element.
     ///
     /// ```text
     /// MergeOption::AutoBuffered.batch_size()     // Some(16)

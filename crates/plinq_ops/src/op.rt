@@ -38,7 +38,7 @@ impl<L> Op<L> {
         }
     }
 
-    /// What a worker must know of the elements that reach the operator to apply it; `None` where no worker can.
+    /// What a worker must know of the elements that reach the operator to apply it; `None` if no worker can.
     pub(crate) fn needed(&self) -> Option<Known>
         ensures { result ≡ needed self.now }
     {

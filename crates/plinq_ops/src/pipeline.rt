@@ -17,7 +17,7 @@ use std::marker::Model;
 /// Operators at work: fed items, alone or by the block, they put out what the query makes of them.
 ///
 /// A pipeline stands for what is left of its operators. After the items that it was fed, a Take has fewer left to
-/// take, a Skip fewer to pass over, and a SkipWhile is over once one has failed. Where the run has ended, it is fed
+/// take, a Skip fewer to pass over, and a SkipWhile is over once one has failed. If the run has ended, it is fed
 /// nothing more.
 #[derive(Drop)]
 pub struct Pipeline<'a, L> {
@@ -38,7 +38,7 @@ impl<'a, L: Lambda> Pipeline<'a, L> {
     ///
     /// # Errors
     ///
-    /// [`OutOfMemory`] where there is no room for what is left of them.
+    /// [`OutOfMemory`] if there is no room for what is left of them.
     pub fn new(alloc: Global, ops: &'a [Op<L>]) -> Result<Pipeline<'a, L>, OutOfMemory>
         ensures { IfOk result (IsReached L.meaning ops.now 0) }
     {
@@ -50,7 +50,7 @@ impl<'a, L: Lambda> Pipeline<'a, L> {
     ///
     /// # Errors
     ///
-    /// [`OutOfMemory`] where there is no room for what is left of them.
+    /// [`OutOfMemory`] if there is no room for what is left of them.
     pub fn at_key(alloc: Global, ops: &'a [Op<L>], key: u64) -> Result<Pipeline<'a, L>, OutOfMemory>
         requires keyed { is_by_key ops.now ≡ true }
         ensures { IfOk result (IsReached L.meaning ops.now key) }
@@ -84,12 +84,12 @@ impl<'a, L: Lambda> Pipeline<'a, L> {
         false
     }
 
-    /// Feeds one item, and appends the results to `out`. Answers how the run ended, or `None` where more items may
+    /// Feeds one item, and appends the results to `out`. Returns how the run ended, or `None` if more items may
     /// follow.
     ///
     /// # Errors
     ///
-    /// [`OutOfMemory`] where there is no room for an expansion, for a Take's last item or in `out`; the pipeline is of no more
+    /// [`OutOfMemory`] if there is no room for an expansion, for a Take's last item or in `out`; the pipeline is of no more
     /// use then.
     pub fn feed(
         &mut self,
@@ -165,7 +165,7 @@ impl<'a, L: Lambda> Pipeline<'a, L> {
     ///
     /// # Errors
     ///
-    /// [`OutOfMemory`] where there is no room in `out`; the pipeline is of no more use then.
+    /// [`OutOfMemory`] if there is no room in `out`; the pipeline is of no more use then.
     pub fn feed_end(
         &mut self,
         alloc: Global,
@@ -184,12 +184,12 @@ impl<'a, L: Lambda> Pipeline<'a, L> {
         Ok(ended)
     }
 
-    /// Feeds a block of items, which the results replace, and the ending that comes after them, if one does. Answers how the
-    /// run ended, or `None` where more items may follow.
+    /// Feeds a block of items, which the results replace, and the ending that comes after them, if one does. Returns how the
+    /// run ended, or `None` if more items may follow.
     ///
     /// # Errors
     ///
-    /// [`OutOfMemory`] where there is no room for an expansion; the pipeline and the block are of no more use then.
+    /// [`OutOfMemory`] if there is no room for an expansion; the pipeline and the block are of no more use then.
     pub fn feed_block(
         &mut self,
         alloc: Global,
@@ -208,12 +208,12 @@ impl<'a, L: Lambda> Pipeline<'a, L> {
         Ok(ended)
     }
 
-    /// Asks a source for `most` elements at once and feeds them, and the ending where fewer are left. The results stand in
+    /// Asks a source for `most` elements at once and feeds them, and the ending if fewer are left. The results stand in
     /// `block`, which was empty.
     ///
     /// # Errors
     ///
-    /// [`OutOfMemory`] where there is no room for the elements, and the errors of [`feed_block`](Pipeline::feed_block); the
+    /// [`OutOfMemory`] if there is no room for the elements, and the errors of [`feed_block`](Pipeline::feed_block); the
     /// source may have given the elements then.
     pub fn feed_block_from<S: Source<Item = L::Item>>(
         &mut self,

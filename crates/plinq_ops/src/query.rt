@@ -55,7 +55,7 @@ impl<L: Drop> Query<L> {
     ///
     /// # Errors
     ///
-    /// [`BuildFault::NotAtSource`] where an operator or another `as_ordered` stands before; settings may.
+    /// [`BuildFault::NotAtSource`] if an operator or another `as_ordered` stands before; settings may.
     pub fn as_ordered(mut self) -> Built<L>
         ensures { result ≡ with_order self }
     {
@@ -70,7 +70,7 @@ impl<L: Drop> Query<L> {
     ///
     /// # Errors
     ///
-    /// [`BuildFault::Memory`] where there is no room for it; the query comes back unchanged.
+    /// [`BuildFault::Memory`] if there is no room for it; the query comes back unchanged.
     pub fn as_unordered(self) -> Built<L>
         ensures { AddsOp self Op.AsUnordered result }
     {
@@ -81,7 +81,7 @@ impl<L: Drop> Query<L> {
     ///
     /// # Errors
     ///
-    /// [`BuildFault::Memory`] where there is no room for it; the query comes back unchanged.
+    /// [`BuildFault::Memory`] if there is no room for it; the query comes back unchanged.
     pub fn select(self, f: L) -> Built<L>
         ensures { AddsOp self (Op.Select f) result }
     {
@@ -92,7 +92,7 @@ impl<L: Drop> Query<L> {
     ///
     /// # Errors
     ///
-    /// [`BuildFault::Memory`] where there is no room for it; the query comes back unchanged.
+    /// [`BuildFault::Memory`] if there is no room for it; the query comes back unchanged.
     pub fn filter(self, f: L) -> Built<L>
         ensures { AddsOp self (Op.Filter f) result }
     {
@@ -103,29 +103,29 @@ impl<L: Drop> Query<L> {
     ///
     /// # Errors
     ///
-    /// [`BuildFault::Memory`] where there is no room for it; the query comes back unchanged.
+    /// [`BuildFault::Memory`] if there is no room for it; the query comes back unchanged.
     pub fn select_many(self, f: L) -> Built<L>
         ensures { AddsOp self (Op.SelectMany f) result }
     {
         self.with_op(Op::SelectMany(f))
     }
 
-    /// Keeps the first `n` elements, none where `n` is negative (.NET's `Enumerable.Take`).
+    /// Keeps the first `n` elements, none if `n` is negative (.NET's `Enumerable.Take`).
     ///
     /// # Errors
     ///
-    /// [`BuildFault::Memory`] where there is no room for it; the query comes back unchanged.
+    /// [`BuildFault::Memory`] if there is no room for it; the query comes back unchanged.
     pub fn take(self, n: i64) -> Built<L>
         ensures { AddsOp self (Op.Take n) result }
     {
         self.with_op(Op::Take(n))
     }
 
-    /// Passes over the first `n` elements, none where `n` is negative (.NET's `Enumerable.Skip`).
+    /// Passes over the first `n` elements, none if `n` is negative (.NET's `Enumerable.Skip`).
     ///
     /// # Errors
     ///
-    /// [`BuildFault::Memory`] where there is no room for it; the query comes back unchanged.
+    /// [`BuildFault::Memory`] if there is no room for it; the query comes back unchanged.
     pub fn skip(self, n: i64) -> Built<L>
         ensures { AddsOp self (Op.Skip n) result }
     {
@@ -136,7 +136,7 @@ impl<L: Drop> Query<L> {
     ///
     /// # Errors
     ///
-    /// [`BuildFault::Memory`] where there is no room for it; the query comes back unchanged.
+    /// [`BuildFault::Memory`] if there is no room for it; the query comes back unchanged.
     pub fn take_while(self, f: L) -> Built<L>
         ensures { AddsOp self (Op.TakeWhile f) result }
     {
@@ -147,7 +147,7 @@ impl<L: Drop> Query<L> {
     ///
     /// # Errors
     ///
-    /// [`BuildFault::Memory`] where there is no room for it; the query comes back unchanged.
+    /// [`BuildFault::Memory`] if there is no room for it; the query comes back unchanged.
     pub fn skip_while(self, f: L) -> Built<L>
         ensures { AddsOp self (Op.SkipWhile f) result }
     {
@@ -158,7 +158,7 @@ impl<L: Drop> Query<L> {
     ///
     /// # Errors
     ///
-    /// [`BuildFault::MergeTwice`] where one was given before, [`MergeOption::Default`] too.
+    /// [`BuildFault::MergeTwice`] if one was given before, [`MergeOption::Default`] too.
     pub fn with_merge(mut self, option: MergeOption) -> Built<L>
         ensures { result ≡ with_option self option }
     {
@@ -174,7 +174,7 @@ impl<L: Drop> Query<L> {
     ///
     /// # Errors
     ///
-    /// [`BuildFault::DegreeTwice`] where one was given before, else [`BuildFault::DegreeOutOfRange`] where `n`
+    /// [`BuildFault::DegreeTwice`] if one was given before, else [`BuildFault::DegreeOutOfRange`] if `n`
     /// isn't from 1 to 64.
     pub fn with_degree(mut self, n: u64) -> Built<L>
         ensures { result ≡ with_degree_of self n }
@@ -193,7 +193,7 @@ impl<L: Drop> Query<L> {
     ///
     /// # Errors
     ///
-    /// [`BuildFault::Memory`] where there is no room for it; the query comes back unchanged.
+    /// [`BuildFault::Memory`] if there is no room for it; the query comes back unchanged.
     pub fn with_op(mut self, op: Op<L>) -> Built<L>
         ensures { AddsOp self op result }
     {
@@ -219,7 +219,7 @@ impl<L> Query<L> {
         self.ordered
     }
 
-    /// The merge option in force, which is [`MergeOption::AutoBuffered`] where none or the default was given.
+    /// The merge option in force, which is [`MergeOption::AutoBuffered`] if none or the default was given.
     pub fn merge_option(&self) -> MergeOption
         ensures { result ≡ merge_in_force self.now.merge }
     {
@@ -229,7 +229,7 @@ impl<L> Query<L> {
         }
     }
 
-    /// The degree of parallelism in force, which is 4 where none was given.
+    /// The degree of parallelism in force, which is 4 if none was given.
     pub fn degree(&self) -> u64
         ensures value { result ≡ degree_in_force self.now.degree }
         ensures within { (1 ≤ result) × (result ≤ 64) }

@@ -7,7 +7,7 @@ use plinq_keyed::Tail;
 pub struct ChunkResult<T> {
     /// The key of the chunk's first item.
     pub first: u64,
-    /// How many items the chunk had, also where some were dropped.
+    /// How many items the chunk had, also if some were dropped.
     pub count: u64,
     /// What the fragments gave, in order.
     pub items: Vec<T>,

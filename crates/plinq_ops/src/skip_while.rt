@@ -5,7 +5,7 @@ use crate::blocks::skip;
 use plinq_lambda::Lambda;
 use plinq_source::Ending;
 
-/// Skips the items of a block up to the first that fails. Answers whether all pass, so that the next block's are skipped as
+/// Skips the items of a block up to the first that fails. Returns whether all pass, so that the next block's are skipped as
 /// well, and how the run ended.
 pub(crate) fn skip_while<L: Lambda>(f: &L, block: &mut Vec<L::Item>) -> (bool, Option<Ending>)
     ensures skipped { record { items = block.new.items; ending = result.1 }

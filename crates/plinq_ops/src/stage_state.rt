@@ -120,7 +120,7 @@ pub(crate) fn pass<L: Lambda>(op: &mut StageState<'_, L>, item: &mut L::Item) ->
 }
 
 /// Sends a block of items, and how the run ends after them if it does, through one operator but SelectMany; the results take
-/// the block's place. Answers how the run ended. Takes no memory. An operator that waits for the end would hear of it here.
+/// the block's place. Returns how the run ended. Takes no memory. An operator that waits for the end would hear of it here.
 pub(crate) fn pass_block<L: Lambda>(
     op: &mut StageState<'_, L>,
     block: &mut Vec<L::Item>,

@@ -40,7 +40,7 @@ impl<T: Copy> PairParts<T> {
     ///
     /// # Errors
     ///
-    /// [`PartFault::KeysNotRising`] where a key isn't above the one before it.
+    /// [`PartFault::KeysNotRising`] if a key isn't above the one before it.
     pub fn new(alloc: Global, pairs: Vec<Keyed<T>>) -> Result<PairParts<T>, PartFault>
         ensures { result ≡ (if rises (keys pairs.items) then Ok pairs.items else Err KeysNotRising) }
     {
@@ -56,7 +56,7 @@ impl<T: Copy> PairParts<T> {
     ///
     /// # Errors
     ///
-    /// [`PartFault::NoPartitions`] where `n` is 0, else [`PartFault::Memory`].
+    /// [`PartFault::NoPartitions`] if `n` is 0, else [`PartFault::Memory`].
     pub fn partitions(&self, n: u64) -> Result<Vec<Vec<Keyed<T>>>, PartFault>
         ensures none { n ≡ 0 → result ≡ Err NoPartitions }
         ensures fault { IfErr result (λ fault. fault ≡ (if n == 0 then NoPartitions else Memory)) }

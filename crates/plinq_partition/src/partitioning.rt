@@ -20,7 +20,7 @@ impl<S: Source> Chunked<S> {
     ///
     /// # Errors
     ///
-    /// [`TakeFault::Memory`] where there is no room for the lock. The source is dropped then.
+    /// [`TakeFault::Memory`] if there is no room for the lock. The source is dropped then.
     pub fn new(
         alloc: Global,
         source: S,
@@ -35,11 +35,11 @@ impl<S: Source> Chunked<S> {
         Chunked::with_first_ticket(alloc, source, growth, 0)
     }
 
-    /// The same, where `first` is the first ticket.
+    /// The same, with `first` as the first ticket.
     ///
     /// # Errors
     ///
-    /// [`TakeFault::Memory`] where there is no room for the lock. The source is dropped then.
+    /// [`TakeFault::Memory`] if there is no room for the lock. The source is dropped then.
     pub fn with_first_ticket(
         alloc: Global,
         source: S,
@@ -89,7 +89,7 @@ impl<S: Source> Chunked<S> {
     ///
     /// # Errors
     ///
-    /// [`PartFault::NoPartitions`] where `n` is 0, else [`PartFault::Memory`] where there is no room for them. The
+    /// [`PartFault::NoPartitions`] if `n` is 0, else [`PartFault::Memory`] if there is no room for them. The
     /// partition comes back as it was.
     pub fn partitions(
         &self,
@@ -117,12 +117,12 @@ impl<S: Source> Chunked<S> {
         Ok(partitions)
     }
 
-    /// The enumerator, with the history of all that was taken, where all partitions are given back. Takes no memory.
+    /// The enumerator, with the history of all that was taken, if all partitions are given back. Takes no memory.
     ///
     /// # Errors
     ///
-    /// [`TakeFault::Incomplete`] where records are missing, since a partition that took some was dropped: the enumerator
-    /// comes with it. [`TakeFault::Away`] where a partition is inside the lock; no caller brings that about.
+    /// [`TakeFault::Incomplete`] if records are missing, since a partition that took some was dropped: the enumerator
+    /// comes with it. [`TakeFault::Away`] if a partition is inside the lock; no caller brings that about.
     pub fn give_back(
         self,
         partitions: Vec<Partition<S>>,

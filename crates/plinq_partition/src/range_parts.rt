@@ -43,7 +43,7 @@ impl<T: Copy> RangeParts<T> {
     ///
     /// # Errors
     ///
-    /// [`PartFault::NoPartitions`] where `n` is 0, else [`PartFault::Memory`].
+    /// [`PartFault::NoPartitions`] if `n` is 0, else [`PartFault::Memory`].
     pub fn partitions(&self, n: u64) -> Result<Vec<Vec<Keyed<T>>>, PartFault>
         ensures none { n ≡ 0 → result ≡ Err NoPartitions }
         ensures fault { IfErr result (λ fault. fault ≡ (if n == 0 then NoPartitions else Memory)) }

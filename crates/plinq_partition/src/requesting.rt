@@ -39,7 +39,7 @@ impl<S: Source> Partition<S> {
     ///
     /// # Errors
     ///
-    /// [`TakeFault::Spent`] where all tickets were drawn, else [`TakeFault::Memory`] where there is no room for the
+    /// [`TakeFault::Spent`] if all tickets were drawn, else [`TakeFault::Memory`] if there is no room for the
     /// chunk, or else for its record. The partition is as it was, and the source wasn't asked; but a refusal for lack of
     /// memory uses up a ticket, since it comes from inside the lock.
     pub fn take<R: Wait>(
@@ -88,11 +88,11 @@ impl<S: Source> Partition<S> {
         }
     }
 
-    /// The next chunk, as [`Partition::take`] gives it, but only where no other partition is before this one.
+    /// The next chunk, as [`Partition::take`] gives it, but only if no other partition is before this one.
     ///
     /// # Errors
     ///
-    /// [`TakeFault::Spent`] where all tickets were drawn; [`TakeFault::Busy`] where another partition waits or is
+    /// [`TakeFault::Spent`] if all tickets were drawn; [`TakeFault::Busy`] if another partition waits or is
     /// inside; else [`TakeFault::Memory`] as for `take`, which uses up a ticket. The partition is as it was, and the
     /// source wasn't asked.
     pub fn try_take(&mut self, chunked: &Chunked<S>) -> Result<Chunk<S::Item>, TakeFault>
@@ -105,7 +105,7 @@ impl<S: Source> Partition<S> {
         self.try_take_up_to(chunked, n)
     }
 
-    /// The next chunk of `n` items, but only where no other partition is before this one.
+    /// The next chunk of `n` items, but only if no other partition is before this one.
     fn try_take_up_to(&mut self, chunked: &Chunked<S>, n: u64) -> Result<Chunk<S::Item>, TakeFault>
         requires of { IsPartitionOf chunked.now self.old }
         requires some { 1 ≤ n }
@@ -126,7 +126,7 @@ impl<S: Source> Partition<S> {
     ///
     /// # Errors
     ///
-    /// [`TakeFault::Spent`] where all tickets were drawn, else [`TakeFault::Memory`] where there is no room for the
+    /// [`TakeFault::Spent`] if all tickets were drawn, else [`TakeFault::Memory`] if there is no room for the
     /// record, which uses up a ticket. The partition is as it was.
     pub fn stop<R: Wait>(&mut self, rt: &R, chunked: &Chunked<S>) -> Result<(), TakeFault>
         requires { IsPartitionOf chunked.now self.old }

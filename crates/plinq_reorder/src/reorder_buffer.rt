@@ -63,11 +63,11 @@ impl<P: Drop> ReorderBuffer<P> {
 
     /// Takes in an interval of keys none of which came before.
     ///
-    /// Where it begins with the next key, the payload is handed back and the row goes on after the interval.
+    /// If it begins with the next key, the payload is handed back and the row goes on after the interval.
     ///
     /// # Errors
     ///
-    /// [`OutOfMemory`] where there is no room to hold it; the buffer is as before.
+    /// [`OutOfMemory`] if there is no room to hold it; the buffer is as before.
     pub fn insert(&mut self, first: u64, end: u64, payload: P) -> Result<Option<P>, OutOfMemory>
         requires some { first < end }
         requires fresh { IsFresh self.old first end }
@@ -83,7 +83,7 @@ impl<P: Drop> ReorderBuffer<P> {
         Ok(None)
     }
 
-    /// Takes the interval that begins with the next key, or `None` where that key is missing.
+    /// Takes the interval that begins with the next key, or `None` if that key is missing.
     pub fn take_next(&mut self) -> Option<P>
         ensures { Takes self.old result self.new }
     {

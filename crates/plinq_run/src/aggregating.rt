@@ -22,18 +22,18 @@ use std::thread::Threads;
 
 /// The aggregate of a query's answer (.NET's `Aggregate` with a seed, an update, a combine and a result selector).
 ///
-/// At most as many workers as the query's degree take chunks that grow by `growth`. Where all operators are the workers' own,
-/// each of them folds its chunks' results from the seed; where operators stand after the merge, the caller's thread folds each
+/// At most as many workers as the query's degree take chunks that grow by `growth`. If all operators are the workers' own,
+/// each of them folds its chunks' results from the seed; if operators stand after the merge, the caller's thread folds each
 /// block that leaves these. It combines the accumulators: by key, or without `as_ordered` as they come. The query's merge
 /// option doesn't change the value. A decided query asks the source for nothing, and its value is that of no items.
 ///
 /// # Errors
 ///
-/// [`AggregateFault::Ended`] where the answer doesn't end well, [`AggregateFault::Run`] where there is none, as
+/// [`AggregateFault::Ended`] if the answer doesn't end well, [`AggregateFault::Run`] if there is none, as
 /// [`run`](crate::run) reports it; never since a sink refused.
 ///
 /// ```text
-/// let sum = aggregate(&rt, alloc, &query, source, Growth::DEFAULT, &OpenGate, &Sum)?;
+/// let sum = aggregate(&rt, alloc, &query, source, Growth::DEFAULT, &TimedGate::new(&rt), &Sum)?;
 /// ```
 pub fn aggregate<L, S, G, A, R>(
     rt: &R,

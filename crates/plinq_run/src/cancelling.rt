@@ -33,12 +33,12 @@ use std::thread::Threads;
 ///
 /// # Errors
 ///
-/// [`RunFault::Cancelled`] where the token answered `true`: the batches that were delivered are the first of the answer.
+/// [`RunFault::Cancelled`] if the token answered `true`: the batches that were delivered are the first of the answer.
 /// Others are those of [`run`]; after one of them the token isn't asked.
 ///
 /// ```text
 /// let flag = CancelFlag::new();    // another thread calls flag.cancel()
-/// let report = run_with(&rt, alloc, &query, source, Growth::DEFAULT, &OpenGate, &mut flag.token(), &mut sink)?;
+/// let report = run_with(&rt, alloc, &query, source, Growth::DEFAULT, &TimedGate::new(&rt), &mut flag.token(), &mut sink)?;
 /// ```
 pub fn run_with<L, S, G, C, K, R>(
     rt: &R,

@@ -43,7 +43,7 @@ pub(crate) fn piece_len(len: usize, left: usize) -> usize
     len.clamp(1, left)
 }
 
-/// How many items there are with so many more, where a list may have as many.
+/// How many items there are with so many more, if a list may have as many.
 pub(crate) fn counted(count: u64, more: usize) -> Result<u64, OutOfMemory>
     requires { count < 2 ^ 63 }
     ensures sum { IfOk result (λ both. both ≡ count + more) }

@@ -8,7 +8,7 @@ const BLOCK: usize = 2_097_152;
 ///
 /// A worker's results are given back by the caller's thread, and the worker takes room for the next ones meanwhile. glibc learns
 /// how much to keep from the largest block that was given back. So one is taken here, in which nothing is written, and given
-/// back. Where there is no room for it, or the allocator is another one, nothing changes.
+/// back. If there is no room for it, or the allocator is another one, nothing changes.
 pub(crate) fn keep_memory(alloc: Global) {
     let block: Result<Vec<u8>, _> = Vec::with_capacity(alloc, BLOCK);
     drop(block);

@@ -26,7 +26,7 @@ ghost use Rattle.plinq_run.specs.Stopping.{is_stopped, ReportsWith, RunsWith, St
 use plinq_lambda::Lambda;
 use plinq_merge::{Cancel, CancelAfter, NeverCancel, Sink};
 
-/// The sink has taken exactly the batches of the sequential answer, in order, where the run reports its ending, and the first
+/// The sink has taken exactly the batches of the sequential answer, in order, if the run reports its ending, and the first
 /// of them after a fault.
 pub fn ordered_run_is_sequential<L: Lambda, K: Sink<Item = L::Item>>()
     ensures { (option : MergeOption) (ops : List (Op L)) (t : Trace L.Item) (s s' : K) (result : Result Report RunFault) →
@@ -34,7 +34,7 @@ pub fn ordered_run_is_sequential<L: Lambda, K: Sink<Item = L::Item>>()
         Runs K.accepts K.refuses option (answer_of L.meaning ops t) s s' (reported_ending result) }
 {}
 
-/// The same of a run with a token. Where that stopped the run, the sink has taken the first batches of the sequential answer,
+/// The same of a run with a token. If that stopped the run, the sink has taken the first batches of the sequential answer,
 /// as many as were reported to the token.
 pub fn ordered_run_with_is_sequential<L: Lambda, C: Cancel, K: Sink<Item = L::Item>>()
     ensures { (option : MergeOption) (ops : List (Op L)) (t : Trace L.Item) (d d' : Delivery C K) (result : Result Report RunFault) →
@@ -42,8 +42,8 @@ pub fn ordered_run_with_is_sequential<L: Lambda, C: Cancel, K: Sink<Item = L::It
         RunsWith C.asks K.accepts K.refuses option (answer_of L.meaning ops t) d d' result }
 {}
 
-/// A run with a token that stops after so many batches is cancelled where the answer has as many, and then exactly so many were
-/// delivered. It reports an ending where the answer has fewer. Of a run that another fault breaks off nothing is said.
+/// A run with a token that stops after so many batches is cancelled if the answer has as many, and then exactly so many were
+/// delivered. It reports an ending if the answer has fewer. Of a run that another fault breaks off nothing is said.
 pub fn cancel_after_stops_at_its_number<L: Lambda, K: Sink<Item = L::Item>>()
     ensures { (option : MergeOption) (u : Trace L.Item) (d d' : Delivery CancelAfter K) (result : Result Report RunFault) →
         d.delivered ≡ 0 → most_of d.token ≤ 18446744073709551615 →

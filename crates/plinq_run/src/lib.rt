@@ -4,7 +4,7 @@
 //! - [`run`] delivers exactly the batches of an answer that the query may have and reports its ending, or after a fault the
 //!   first of these batches (`Reports`). That holds for every number of workers and every order in which results come.
 //! - For a query with `as_ordered` that is the sequential answer ([`laws`]).
-//! - [`run_with`] asks a token before each batch and at the end, and delivers the first batches where that stops it
+//! - [`run_with`] asks a token before each batch and at the end, and delivers the first batches if that stops it
 //!   (`ReportsWith`).
 //! - The records that it reports are a legal history of the source, which was closed unless the query is decided. What
 //!   they hand out has the answer that was delivered (`handed_trace`).

@@ -117,7 +117,7 @@ impl<Q: RunTypes> RunRequest<'_, Q> {
 /// Folds the parts of a query's answer, and gives the accumulators to a taker as their turn comes. [`aggregate`](crate::aggregate)
 /// stands on it, and so can a last step of one's own, as `run_mapped` of `plinq_mapped` does.
 ///
-/// Where all operators are the workers' own, each of them folds its chunks' results from the seed; where operators stand after
+/// If all operators are the workers' own, each of them folds its chunks' results from the seed; if operators stand after
 /// the merge, the caller's thread folds each block that leaves these. The taker gets the accumulators on the caller's thread, by
 /// key, or without `as_ordered` as they come. Of a decided query it gets none, and its ending.
 ///
@@ -126,7 +126,7 @@ impl<Q: RunTypes> RunRequest<'_, Q> {
 /// As [`run`](crate::run); [`RunFault::Sink`] with the code with which the taker broke off.
 ///
 /// ```text
-/// let ending = fold_into(&rt, alloc, &query, source, Growth::DEFAULT, &OpenGate, &aggregator, taker, &mut out)?;
+/// let ending = fold_into(&rt, alloc, &query, source, Growth::DEFAULT, &TimedGate::new(&rt), &aggregator, taker, &mut out)?;
 /// ```
 pub fn fold_into<L, S, G, A, W, O, R>(
     rt: &R,

@@ -22,7 +22,7 @@ fn item_bytes<T: Copy>() -> u64 {
     size_of_val(&none).saturating_sub(align_of_val(&none)) as u64
 }
 
-/// How many chunks a worker may be ahead, where the items of each take so many bytes.
+/// How many chunks a worker may be ahead, if the items of each take so many bytes.
 fn chunks_ahead(item_bytes: u64) -> u64
     ensures least { 4 ≤ result }
     ensures within { 4 < result → result * (item_bytes + 256) ≤ 1048576 }
@@ -37,7 +37,7 @@ const CHUNKS_AHEAD: u64 = 8;
 /// The most items of a chunk.
 const MOST_ITEMS: u64 = 65_536;
 
-/// How many items a chunk may have whose size a worker chooses, where an item takes so many bytes.
+/// How many items a chunk may have whose size a worker chooses, if an item takes so many bytes.
 fn most_chosen(item_bytes: u64) -> u64
     ensures least { 1 ≤ result }
     ensures most { result ≤ 65536 }
@@ -69,7 +69,7 @@ fn at_first<G: Gate, R: Threads>(rt: &R, gate: &G) -> u64 {
     }
 }
 
-/// How many workers are at work at first, and how far they may be ahead of what is merged, where a chunk has so many items at
+/// How many workers are at work at first, and how far they may be ahead of what is merged, if a chunk has so many items at
 /// most: how many keys above it, and how many items of this type may be sent that aren't merged yet. By arrival each result is
 /// merged at once, so there is no bound on keys.
 pub(crate) fn progress_of<T: Copy, G: Gate, R: Threads>(

@@ -1,6 +1,6 @@
 use thiserror::Error;
 
-/// Why a run gives no report. Where there are several causes, the first of sink, cancellation, memory, thread, tickets and
+/// Why a run gives no report. If there are several causes, the first of sink, cancellation, memory, thread, tickets and
 /// missing results is reported.
 #[derive(Clone, Copy, Debug, PartialEq, Eq, Error)]
 pub enum RunFault {

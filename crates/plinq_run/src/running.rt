@@ -33,12 +33,12 @@ use std::thread::Threads;
 ///
 /// # Errors
 ///
-/// [`RunFault::Sink`] where the sink refused a batch, else [`RunFault::Memory`], [`RunFault::Thread`],
+/// [`RunFault::Sink`] if the sink refused a batch, else [`RunFault::Memory`], [`RunFault::Thread`],
 /// [`RunFault::Tickets`] or [`RunFault::Incomplete`], in this order. The batches that were delivered are the first of the
 /// answer.
 ///
 /// ```text
-/// let report = run(&rt, alloc, &query, source, Growth::DEFAULT, &OpenGate, &mut sink)?;
+/// let report = run(&rt, alloc, &query, source, Growth::DEFAULT, &TimedGate::new(&rt), &mut sink)?;
 /// report.ending    // how the answer ended
 /// ```
 pub fn run<L, S, G, K, R>(

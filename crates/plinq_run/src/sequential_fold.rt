@@ -25,12 +25,12 @@ const PIECE_ITEMS: usize = 512;
 ///
 /// # Errors
 ///
-/// [`OutOfMemory`] where there is no room for what is left of the operators, for a piece or in the accumulator. The source may
+/// [`OutOfMemory`] if there is no room for what is left of the operators, for a piece or in the accumulator. The source may
 /// have given some of its elements then.
 ///
 /// ```text
 /// let folded = fold_sequentially(alloc, &query, &mut source, &Sum)?;
-/// Sum.result(folded.acc)    // the sum, where folded.ending is Ending::End
+/// Sum.result(folded.acc)    // the sum, if folded.ending is Ending::End
 /// ```
 pub fn fold_sequentially<L, S, A>(
     alloc: Global,

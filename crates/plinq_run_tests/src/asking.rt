@@ -27,7 +27,7 @@ impl Numbers {
     }
 }
 
-/// How a run of a query over numbers ends. It is Incomplete where there is no query, or no such numbers.
+/// How a run of a query over numbers ends. It is Incomplete if there is no query, or no such numbers.
 ///
 /// In one place, since a call of `run` and its report are dear to prove.
 pub(crate) fn ending_of<L, G, K, R>(

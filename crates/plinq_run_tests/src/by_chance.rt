@@ -1,4 +1,4 @@
-//! Queries that are picked by chance, and workers that are held back by chance: what they deliver, also where a token stops
+//! Queries that are picked by chance, and workers that are held back by chance: what they deliver, also if a token stops
 //! them, and what they aggregate. The queries are always the same ones; the order in which threads run isn't.
 ghost use Rattle.std.specs.Prelude.{◌≤◌, ◌<◌};
 
@@ -154,7 +154,7 @@ struct Asked<'a> {
     setting: Setting,
 }
 
-/// Whether the last item of its answer is told, where that comes to its end.
+/// Whether the last item of its answer is told, if that comes to its end.
 fn is_last<R: Threads + Wait + Sync>(
     rt: &R,
     alloc: Global,

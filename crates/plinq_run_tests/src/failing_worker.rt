@@ -76,7 +76,7 @@ impl Standing {
         self.inside.gave_up() || self.has_given_up.load(Ordering::SeqCst)
     }
 
-    /// A gate that holds all keys but the first back until the sink has a batch, if that is to be held. Where key 0 is to be held,
+    /// A gate that holds all keys but the first back until the sink has a batch, if that is to be held. If key 0 is to be held,
     /// it holds that alone until the worker has failed.
     fn gate(&self, late: Late) -> Counts<'_, KeepsBack<'_>> {
         let gate = if late.is_first_held {
@@ -90,7 +90,7 @@ impl Standing {
         }
     }
 
-    /// A sink that is held with its first batch until the worker has failed, where it is to be.
+    /// A sink that is held with its first batch until the worker has failed, if it is to be.
     fn sink(&self, alloc: Global, late: Late) -> Watched<'_, Held<'_, Taken<i64>>> {
         let number = if late.is_held { 0 } else { u64::MAX };
         Watched {

@@ -1,4 +1,4 @@
-//! How many items workers send ahead of what is merged, where each element is expanded to many.
+//! How many items workers send ahead of what is merged, if each element is expanded to many.
 ghost use Rattle.std.specs.Prelude.{⊤};
 
 use crate::asking::{Numbers, ending_of};
@@ -55,7 +55,7 @@ impl<'a> WaitsForTaking<'a> {
         sink.count == ITEMS && sink.sum == SUM && (sink.is_in_order || !by_key)
     }
 
-    /// Each worker takes once, and again where its own result is among the first whose items are 3,971 for each worker at most:
+    /// Each worker takes once, and again if its own result is among the first whose items are 3,971 for each worker at most:
     /// so many of 8 bytes with 256 more each fill 1,048,576 bytes.
     fn had_few(&self) -> bool {
         let again = self.workers.saturating_mul(3_971) / 10_000;

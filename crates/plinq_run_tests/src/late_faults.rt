@@ -51,7 +51,7 @@ impl<'a> Telling<'a> {
     }
 }
 
-/// Whether these are the items of 2, 9, 3, 0, of which the second ends the run, where it waits until another worker has faulted at
+/// Whether these are the items of 2, 9, 3, 0, of which the second ends the run, if it waits until another worker has faulted at
 /// the last. One worker alone waits for nobody.
 fn are_right<R: Threads + Wait + Sync>(
     rt: &R,

@@ -15,7 +15,7 @@ use std::sync::Wait;
 use std::test::*;
 use std::thread::Threads;
 
-/// A lambda that has no room to expand an element, as where an allocation is refused.
+/// A lambda that has no room to expand an element, as if an allocation is refused.
 #[derive(Clone, Copy)]
 struct NoRoom;
 

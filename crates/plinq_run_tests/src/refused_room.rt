@@ -42,8 +42,8 @@ fn numbers(alloc: Global, asked: Asked) -> Result<Query<Formula>, BuildFault> {
     built(query.select(Formula::Add(0)))
 }
 
-/// Runs the query. Answers whether it was refused, for lack of memory or of a thread alone, with a beginning delivered; nothing
-/// where it answered otherwise.
+/// Runs the query. Returns whether it was refused, for lack of memory or of a thread alone, with a beginning delivered; nothing
+/// if it answered otherwise.
 fn is_refused<R: Threads + Wait + Sync>(
     rt: &R,
     alloc: Global,
@@ -66,7 +66,7 @@ fn is_refused<R: Threads + Wait + Sync>(
     }
 }
 
-/// Sums the query's items. Answers whether that was refused, for lack of memory or of a thread alone.
+/// Sums the query's items. Returns whether that was refused, for lack of memory or of a thread alone.
 fn is_sum_refused<R: Threads + Wait + Sync>(
     rt: &R,
     alloc: Global,
@@ -80,7 +80,7 @@ fn is_sum_refused<R: Threads + Wait + Sync>(
     }
 }
 
-/// Asks twice. Answers whether all was as it should be: of the two at most one is refused.
+/// Asks twice. Returns whether all was as it should be: of the two at most one is refused.
 fn is_answered<R: Threads + Wait + Sync>(rt: &R, alloc: Global, asked: Asked) -> Option<bool> {
     let Ok(query) = numbers(alloc, asked) else {
         return Some(true);

@@ -27,7 +27,7 @@ fn are_three(sink: &Counted) -> bool {
     sink.batches == 3 && sink.count == 3 && sink.most == 1 && sink.is_in_order
 }
 
-/// Whether three batches come, where key 1 waits for the first.
+/// Whether three batches come, if key 1 waits for the first.
 fn come_while_key_1_waits<R: Threads + Wait + Sync>(rt: &R, alloc: Global, workers: u64) -> bool {
     let seen = Seen::new();
     let gate = KeepsBack::at(1, &seen.taken, 1);
@@ -48,7 +48,7 @@ fn batches_come_while_a_worker_is_held_back(rt: HostRuntime) {
     }
 }
 
-/// Whether three batches come, where key 2 waits until the sink that has two is told that nothing comes.
+/// Whether three batches come, if key 2 waits until the sink that has two is told that nothing comes.
 fn come_while_key_2_waits<R: Threads + Wait + Sync>(rt: &R, alloc: Global, workers: u64) -> bool {
     let seen = Seen::new();
     let gate = KeepsBack::at(2, &seen.taken_by_rest, 2);

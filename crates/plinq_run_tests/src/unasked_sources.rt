@@ -56,7 +56,7 @@ fn aggregate_asks<R: Threads + Wait + Sync>(
     Some(times.load(Ordering::SeqCst) > 0)
 }
 
-/// Whether both ask, where so many are taken.
+/// Whether both ask, if so many are taken.
 fn ask<R: Threads + Wait + Sync>(rt: &R, alloc: Global, count: u8) -> Option<(bool, bool)> {
     let take = [Op::Take(i64::from(count))];
     let query = query_of(alloc, &take, MergeOption::NotBuffered, 2).ok()?;

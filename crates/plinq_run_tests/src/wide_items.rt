@@ -1,4 +1,4 @@
-//! How far workers run ahead of what is merged where an item takes 128 bytes.
+//! How far workers run ahead of what is merged if an item takes 128 bytes.
 ghost use Rattle.std.specs.Prelude.{⊤, Ok, Err, true};
 
 use crate::items_ahead::taken_at_last;

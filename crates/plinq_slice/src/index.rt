@@ -26,7 +26,7 @@ impl<F: ItemAt> IndexSource<F> {
     ///
     /// # Errors
     ///
-    /// [`SourceFault::TooLarge`] where `count` is above 2^40.
+    /// [`SourceFault::TooLarge`] if `count` is above 2^40.
     pub fn new(by: F, count: u64) -> Result<IndexSource<F>, SourceFault>
         ensures made { is_ok result ≡ nat_le count (2 ^ 40) }
         ensures refused { IfErr result (λ e. e ≡ TooLarge) }

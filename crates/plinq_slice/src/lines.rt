@@ -12,7 +12,7 @@ use std::alloc::{AllocError, Global};
 ///
 /// # Errors
 ///
-/// [`OutOfMemory`] where there is no room for the list, as there is none for more than 2^40 lines.
+/// [`OutOfMemory`] if there is no room for the list, as there is none for more than 2^40 lines.
 ///
 /// ```text
 /// let log = std::io::read_to_string(rt.alloc(), rt.stdin())?;

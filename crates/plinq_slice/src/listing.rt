@@ -11,7 +11,7 @@ use std::alloc::Global;
 ///
 /// # Errors
 ///
-/// [`SourceFault::TooLarge`] where it has more than 2^40 items.
+/// [`SourceFault::TooLarge`] if it has more than 2^40 items.
 pub fn list_source<T: Copy + Send>(
     alloc: Global,
     items: Vec<T>,

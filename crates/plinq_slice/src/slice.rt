@@ -23,7 +23,7 @@ impl<'a, T: Copy + Send + Sync> SliceSource<'a, T> {
     ///
     /// # Errors
     ///
-    /// [`SourceFault::TooLarge`] where there are more than 2^40.
+    /// [`SourceFault::TooLarge`] if there are more than 2^40.
     pub fn new(items: &'a [T]) -> Result<SliceSource<'a, T>, SourceFault>
         ensures made { is_ok result ≡ nat_le (length items.now) (2 ^ 40) }
         ensures refused { IfErr result (λ e. e ≡ TooLarge) }

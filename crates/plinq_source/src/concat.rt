@@ -6,9 +6,9 @@ use crate::ending::Ending;
 use crate::source::Source;
 use crate::step::Step;
 
-/// One source, and where it ends another one (.NET's `Enumerable.Concat`). It holds no list.
+/// One source, and after its end another one (.NET's `Enumerable.Concat`). It holds no list.
 ///
-/// Where the first source refuses, so does the concatenation, again however often it is asked, and the second source is
+/// If the first source refuses, so does the concatenation, again however often it is asked, and the second source is
 /// never asked. Else it ends as the second source does.
 ///
 /// ```text
@@ -27,9 +27,9 @@ pub struct ConcatSource<T: Copy + Send, A: Source<Item = T>, B: Source<Item = T>
 }
 
 impl<T: Copy + Send, A: Source<Item = T>, B: Source<Item = T>> ConcatSource<T, A, B> {
-    /// The items of the first source, and where it ends those of the second.
+    /// The items of the first source, and after its end those of the second.
     ///
-    /// Neither has given anything yet, and both together have at most 2^40 items, also where the first refuses. Takes
+    /// Neither has given anything yet, and both together have at most 2^40 items, also if the first refuses. Takes
     /// no memory.
     pub fn new(first: A, second: B) -> ConcatSource<T, A, B>
         requires first_fresh { A.given first ≡ 0 }

@@ -6,13 +6,13 @@ ghost use Rattle.plinq_source.specs.Text.{token_ahead, number_of};
 /// Decimal digits that were read.
 #[derive(Clone, Copy)]
 pub(crate) struct Digits {
-    /// The number that they write, or `u64::MAX` where that is less.
+    /// The number that they write, or `u64::MAX` if that is less.
     pub(crate) value: u64,
     /// How many they are; there may be none.
     pub(crate) length: usize,
 }
 
-/// The digits up to the next separator; none where another byte stands among them.
+/// The digits up to the next separator; none if another byte stands among them.
 pub(crate) fn read_digits(text: &[u8]) -> Option<Digits>
     ensures digits { is_some result ≡ list_all is_ascii_digit (token_ahead text.now) }
     ensures value { IfSome result (λ d. d.value ≡ min (number_of (token_ahead text.now)) (2 ^ 64 - 1)) }

@@ -9,8 +9,8 @@ use std::mem::replace;
 
 /// A list as a source: its items from the first on, and then the end or a refusal.
 ///
-/// It serves where all items are in memory, and in tests, as a source whose every step is known. It ends with
-/// [`Step::End`] where it was made by `new`, and with [`Step::Refused`] where it was made by `refusing`.
+/// It serves if all items are in memory, and in tests, as a source whose every step is known. It ends with
+/// [`Step::End`] if it was made by `new`, and with [`Step::Refused`] if it was made by `refusing`.
 ///
 /// ```text
 /// let mut source = ListSource::refusing(alloc, vec![in alloc; 3, 1]?, 7);

@@ -30,7 +30,7 @@ impl RangeSource {
     ///
     /// # Errors
     ///
-    /// [`SourceFault::TooLarge`] where `count` is above 2^40, or where there is a last number and it is above
+    /// [`SourceFault::TooLarge`] if `count` is above 2^40, or if there is a last number and it is above
     /// `i64::MAX`. A range of no numbers may start anywhere.
     pub fn new(start: i64, count: u64) -> Result<RangeSource, SourceFault>
         ensures made { is_ok result ≡ is_range start count }

@@ -29,7 +29,7 @@ impl RepeatSource {
     ///
     /// # Errors
     ///
-    /// [`SourceFault::TooLarge`] where `count` is above 2^40.
+    /// [`SourceFault::TooLarge`] if `count` is above 2^40.
     pub fn new(value: i64, count: u64) -> Result<RepeatSource, SourceFault>
         ensures made { is_ok result ≡ is_repeat count }
         ensures refused { IfErr result (λ e. e ≡ SourceFault.TooLarge) }

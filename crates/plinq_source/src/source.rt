@@ -30,7 +30,7 @@ pub trait Source: Send + Drop {
         ensures step { result ≡ step_at (whole self.old) (given self.old) }
         ensures moved { given self.new ≡ given_after (whole self.old) (given self.old) };
 
-    /// Adds the next `n` elements to a list that has room for them, or all that are left, and then answers the ending.
+    /// Adds the next `n` elements to a list that has room for them, or all that are left, and then returns the ending.
     ///
     /// It is `next` again and again; a source that can give a chunk at once has its own. Takes no memory.
     fn fill(&mut self, items: &mut Vec<Self::Item>, n: u64) -> Option<Ending>

@@ -13,7 +13,7 @@ use std::alloc::Global;
 /// reads one token, and takes no memory.
 ///
 /// It ends with
-/// - [`Step::End`] where the text is at its end,
+/// - [`Step::End`] if the text is at its end,
 /// - [`Step::Refused`] with 1 at a token that is no number,
 /// - [`Step::Refused`] with 2 at a number that is no `i64`.
 ///

@@ -42,7 +42,7 @@ pub struct Stream<T, C: Admits<T>> {
 const ROOM_FOR_ALL: u64 = 128;
 
 impl<T, C: Admits<T>> Stream<T, C> {
-    /// After an attempt to receive. Those that wait for room are woken where it found nothing, and after each so many items: one by
+    /// After an attempt to receive. Those that wait for room are woken if it found nothing, and after each so many items: one by
     /// one, each would be woken for a single item.
     pub(crate) fn make_room(&self, found: bool) {
         if found {

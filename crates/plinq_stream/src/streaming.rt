@@ -19,7 +19,7 @@ impl<T: Drop, C: Admits<T>> Stream<T, C> {
     ///
     /// # Errors
     ///
-    /// [`AllocError`] where there is no room for the items.
+    /// [`AllocError`] if there is no room for the items.
     pub fn new(alloc: Global, room: usize) -> Result<(Stream<T, C>, StreamPass<T>), AllocError>
         requires { 0 < room }
         ensures pass { IfOk result (λ made. IsPassOf made.0 made.1) }

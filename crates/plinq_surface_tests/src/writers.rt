@@ -1,5 +1,5 @@
 //! Runs of the program that write to what fails in other ways than its streams: in the middle of a line, or at each flush, also
-//! where nothing was written.
+//! if nothing was written.
 use crate::narrow::Narrow;
 use plinq_cli::{WithCause, perform};
 use std::alloc::{AllocError, Global};
@@ -40,7 +40,7 @@ const NOT: [&str; 4] = ["plinq", "run", "--merge", "not"];
 
 const WRITE_FAILED: &str = "plinq: write failed\n";
 
-/// Whether so much is taken with room for some of the bytes, some at once, where each write is interrupted.
+/// Whether so much is taken with room for some of the bytes, some at once, if each write is interrupted.
 fn writes<R: AllocGlobal + Clock + Threads + Wait + Sync>(
     rt: &R,
     room: usize,

@@ -12,7 +12,7 @@ pub struct HoldsTheFirst<'a> {
 }
 
 impl<'a> HoldsTheFirst<'a> {
-    /// It holds key 0 back for so many turns at most. These spin: where other threads have work, a turn that yields takes long.
+    /// It holds key 0 back for so many turns at most. These spin: if other threads have work, a turn that yields takes long.
     pub fn until(word: &'a AtomicU64, least: u64, turns: u64) -> HoldsTheFirst<'a> {
         HoldsTheFirst {
             word,

@@ -3,7 +3,7 @@ ghost use Rattle.std.specs.Prelude.{⊤};
 use plinq_merge::Sink;
 use std::alloc::Global;
 
-/// A sink that keeps its batches, and refuses all from one on with 9. Where there is no room for a batch, it refuses that with 1,000.
+/// A sink that keeps its batches, and refuses all from one on with 9. If there is no room for a batch, it refuses that with 1,000.
 #[derive(Drop)]
 pub struct Taken<T: Copy> {
     alloc: Global,

@@ -1,4 +1,4 @@
-/// How many items a chunk has, where workers may be so far ahead as [`most_ahead`] says.
+/// How many items a chunk has, if workers may be so far ahead as [`most_ahead`] says.
 pub const CHUNK: u64 = 512;
 
 /// How many keys workers may be ahead of what is merged, for each of them, in chunks of 512: 240 such chunks, of which each takes

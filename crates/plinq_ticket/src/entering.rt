@@ -24,7 +24,7 @@ impl<V: Guarded> TicketLock<V> {
     ///
     /// # Errors
     ///
-    /// [`LockFault::Spent`] where all tickets were drawn. The pass comes back as it was.
+    /// [`LockFault::Spent`] if all tickets were drawn. The pass comes back as it was.
     pub fn enter<R: Wait>(&self, rt: &R, pass: Pass<V>) -> Result<Held<V>, (Pass<V>, LockFault)>
         requires { IsPassOf self.now pass }
         ensures ok { IfOk result (λ held. IsHeldOf self.now held × Enters V.origin V.history pass held) }
@@ -48,12 +48,12 @@ impl<V: Guarded> TicketLock<V> {
 
     /// Waits until no other pass waits or is inside, draws a ticket then, and takes the value.
     ///
-    /// A pass that waits so has no ticket, so that nobody waits for it: where its thread has no core, others go before it. In
+    /// A pass that waits so has no ticket, so that nobody waits for it: if its thread has no core, others go before it. In
     /// return it may wait for as long as others come. Passes that wait in [`TicketLock::enter`] go before it.
     ///
     /// # Errors
     ///
-    /// [`LockFault::Spent`] where all tickets were drawn. The pass comes back as it was.
+    /// [`LockFault::Spent`] if all tickets were drawn. The pass comes back as it was.
     pub fn enter_when_free<R: Wait>(
         &self,
         rt: &R,
@@ -95,11 +95,11 @@ impl<V: Guarded> TicketLock<V> {
         unreachable!()
     }
 
-    /// Takes the value where no other pass waits or is inside. Takes no time but its own.
+    /// Takes the value if no other pass waits or is inside. Takes no time but its own.
     ///
     /// # Errors
     ///
-    /// [`LockFault::Spent`] where all tickets were drawn; [`LockFault::Busy`] where another pass waits or is inside.
+    /// [`LockFault::Spent`] if all tickets were drawn; [`LockFault::Busy`] if another pass waits or is inside.
     /// The pass comes back as it was.
     #[inline(always)]
     pub fn try_enter(&self, pass: Pass<V>) -> Result<Held<V>, (Pass<V>, LockFault)>

@@ -9,11 +9,11 @@ use crate::ticket_lock::TicketLock;
 use plinq_keyed::Guarded;
 
 impl<V: Guarded> TicketLock<V> {
-    /// Takes the lock apart and gives the value back, where the pass has all its records.
+    /// Takes the lock apart and gives the value back, if the pass has all its records.
     ///
     /// # Errors
     ///
-    /// [`LockFault::Away`] where a pass waits or is inside, without the value; [`LockFault::Incomplete`] where records are
+    /// [`LockFault::Away`] if a pass waits or is inside, without the value; [`LockFault::Incomplete`] if records are
     /// missing, since a pass was dropped or isn't joined, with the value.
     pub fn finish(self, pass: Pass<V>) -> Result<V, (Option<V>, LockFault)>
         requires { IsPassOf self pass }

@@ -3,8 +3,8 @@
 //! - Whoever holds the value knows its history: `enter` and `try_enter` give it with exactly the records of all passes, in
 //!   the order of their tickets, and with the whole share of the pass that entered.
 //! - Between any two steps of any passes the tickets of those that wait or are inside are the numbers from `serving` up to
-//!   `next`, each once. One pass at most is inside, and the value is home exactly where none is.
-//! - `finish` gives the value back exactly where no record of it is missing from the pass.
+//!   `next`, each once. One pass at most is inside, and the value is home exactly if none is.
+//! - `finish` gives the value back exactly if no record of it is missing from the pass.
 //! - Whenever the lock is free, what was handed out is a prefix of the source: `free_lock_has_handed_out_a_prefix`.
 #![tactic(auto)]
 

@@ -17,7 +17,7 @@ impl<V: Guarded> TicketLock<V> {
     ///
     /// # Errors
     ///
-    /// [`LockFault::Memory`] where there is no room for the lock. The value is dropped then.
+    /// [`LockFault::Memory`] if there is no room for the lock. The value is dropped then.
     pub fn new(alloc: Global, value: V) -> Result<(TicketLock<V>, Pass<V>), LockFault>
         requires { V.history value ≡ [] }
         ensures ok { IfOk result (λ made. IsPassOf made.0 made.1 × (pass_origin made.1 ≡ V.origin value) × (pass_share made.1 ≡ [])) }
@@ -31,7 +31,7 @@ impl<V: Guarded> TicketLock<V> {
     ///
     /// # Errors
     ///
-    /// [`LockFault::Memory`] where there is no room for the lock. The value is dropped then.
+    /// [`LockFault::Memory`] if there is no room for the lock. The value is dropped then.
     pub fn with_first_ticket(
         alloc: Global,
         value: V,

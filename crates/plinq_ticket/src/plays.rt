@@ -19,7 +19,7 @@ impl<V, T> Play<Option<V>, View<T>> for Draw {
     ghost then = { λ s a n b. Draws s.first n a b };
 }
 
-/// A load of `serving`: where it is the pass's own ticket, the slot is its own.
+/// A load of `serving`: if it is the pass's own ticket, the slot is its own.
 pub struct SeeServing;
 
 impl<V: Guarded> Play<Option<V>, View<V::Item>> for SeeServing {

@@ -7,7 +7,7 @@ const LOOKS: u32 = 11;
 /// How often a thread that waits looks again before it sleeps.
 ///
 /// Between two looks it spins as [`Backoff`] does, for some microseconds in all, and never yields. On a busy machine a thread
-/// that yields may lose its core for milliseconds, where one that sleeps is back soon after it was woken.
+/// that yields may lose its core for milliseconds, while one that sleeps is back soon after it was woken.
 #[derive(Drop)]
 pub struct Patience {
     backoff: Backoff,

@@ -46,7 +46,7 @@ impl WaitQueue {
         Waiter::new(self, &self.exclusive)
     }
 
-    /// Something has changed: wakes all waiters, and one exclusive waiter. Where nobody sleeps it is one load.
+    /// Something has changed: wakes all waiters, and one exclusive waiter. If nobody sleeps it is one load.
     pub fn wake(&self) {
         if self.is_watched.load(Ordering::SeqCst) {
             self.is_watched.store(false, Ordering::SeqCst);
@@ -56,7 +56,7 @@ impl WaitQueue {
     }
 
     /// Something has changed that lets many go on: wakes all waiters, the exclusive ones as well, unless they were woken and none
-    /// has announced a sleep since. Where nobody sleeps it is one load.
+    /// has announced a sleep since. If nobody sleeps it is one load.
     pub fn wake_each(&self) {
         if self.is_watched.load(Ordering::SeqCst) {
             self.is_watched.store(false, Ordering::SeqCst);

@@ -9,7 +9,7 @@ pub struct Waiter<'a> {
     queue: &'a WaitQueue,
     sleepers: &'a EventCount,
     patience: Patience,
-    /// Whether it has announced a sleep, and may have been woken: where it goes on, it has the next one woken in its place.
+    /// Whether it has announced a sleep, and may have been woken: if it goes on, it has the next one woken in its place.
     has_announced: Cell<bool>,
 }
 
@@ -23,7 +23,7 @@ impl<'a> Waiter<'a> {
         }
     }
 
-    /// Before a look: where it has looked often enough, it announces its sleep.
+    /// Before a look: if it has looked often enough, it announces its sleep.
     pub fn prepare(&self) -> Option<Key<'a>> {
         if !self.patience.is_over() {
             return None;
@@ -32,7 +32,7 @@ impl<'a> Waiter<'a> {
         Some(self.queue.watch(self.sleepers))
     }
 
-    /// After a look in vain: spins for a moment, or sleeps where that was announced.
+    /// After a look in vain: spins for a moment, or sleeps if that was announced.
     pub fn pause<R: Wait>(&self, rt: &R, sleep: Option<Key<'_>>) {
         match sleep {
             Some(sleep) => {

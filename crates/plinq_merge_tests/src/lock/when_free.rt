@@ -39,7 +39,7 @@ fn drawn_now(lock: &TicketLock<Notes>, pass: Pass<Notes>) -> (Pass<Notes>, u64)
     }
 }
 
-/// Waits until so many tickets were drawn, but not for ever, and a while more. Answers how many there are then.
+/// Waits until so many tickets were drawn, but not for ever, and a while more. Returns how many there are then.
 fn watch(lock: &TicketLock<Notes>, pass: Pass<Notes>, least: u64) -> (Pass<Notes>, u64)
     requires { IsPassOf lock.now pass }
     ensures { IsPassOf lock.now result.0 }
@@ -57,7 +57,7 @@ fn watch(lock: &TicketLock<Notes>, pass: Pass<Notes>, least: u64) -> (Pass<Notes
     drawn_now(lock, pass)
 }
 
-/// Enters first, and stays until one of the others has drawn a ticket, and a while more. Answers how many were drawn by then.
+/// Enters first, and stays until one of the others has drawn a ticket, and a while more. Returns how many were drawn by then.
 fn stay_until_drawn<R: Wait>(
     rt: &R,
     lock: &TicketLock<Notes>,
@@ -117,7 +117,7 @@ fn come<R: Wait>(
     visit(rt, lock, pass, way)
 }
 
-/// Two others visit the lock, each in its own way. Answers the tickets.
+/// Two others visit the lock, each in its own way. Returns the tickets.
 fn two_come<R: Threads + Wait + Sync>(
     rt: &R,
     lock: &TicketLock<Notes>,
@@ -139,7 +139,7 @@ fn two_come<R: Threads + Wait + Sync>(
     (lock.join(first, second), [one, two])
 }
 
-/// One is inside until another one has drawn a ticket, while two come, of which one waits for the lock to be free. Answers whether
+/// One is inside until another one has drawn a ticket, while two come, of which one waits for the lock to be free. Returns whether
 /// their tickets are right.
 fn goes_first<R: Threads + Wait + Sync>(
     rt: &R,
@@ -178,7 +178,7 @@ fn a_pass_that_has_a_ticket_goes_first(rt: HostRuntime) {
     assert!(rt; are_right && are_all);
 }
 
-/// How many of two are the last ticket; too many where another ticket is among them.
+/// How many of two are the last ticket; too many if another ticket is among them.
 fn count_last(tickets: [Option<u64>; 2]) -> usize {
     let mut count = 0usize;
     for ticket in tickets {
@@ -189,7 +189,7 @@ fn count_last(tickets: [Option<u64>; 2]) -> usize {
     count
 }
 
-/// Four others wait for the lock to be free. Answers how many have drawn the last ticket.
+/// Four others wait for the lock to be free. Returns how many have drawn the last ticket.
 fn four_come<R: Threads + Wait + Sync>(
     rt: &R,
     lock: &TicketLock<Notes>,
@@ -218,7 +218,7 @@ fn four_come<R: Threads + Wait + Sync>(
     (lock.join(left, right), count)
 }
 
-/// One is inside until four others wait. Answers how many of them have drawn the last ticket.
+/// One is inside until four others wait. Returns how many of them have drawn the last ticket.
 fn four_wait<R: Threads + Wait + Sync>(
     rt: &R,
     lock: &TicketLock<Notes>,
