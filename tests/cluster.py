@@ -6,6 +6,7 @@
 It wants Dask (apt-get install python3-distributed), which the system's own python3 has, and without it tries no more than
 what is refused before a cluster is asked. As root and where `ip` is, one of its clusters has hosts in network namespaces.
 """
+import asyncio
 import concurrent.futures
 import contextlib
 import importlib
@@ -183,6 +184,22 @@ def portions(tests, local):
         cluster.MOST_BYTES = before
 
 
+async def by_coroutines(local):
+    """What the call says in a coroutine of an asynchronous client, and what it returns from another thread."""
+    import distributed
+    import plinq_shards
+    from plinq_shards import trouble
+
+    document = {"version": 1, "source": {"range": [1, 9]}, "query": [ORDERED, ["take", 2]]}
+    where = local.cluster.scheduler_address
+    async with distributed.Client(where, security=local.cluster.security, asynchronous=True, set_as_default=False) as client:
+        try:
+            said = plinq_shards.run(client, document, PROGRAM)
+        except trouble.Trouble as why:
+            said = why.line
+        return said, await asyncio.to_thread(plinq_shards.run, client, document, PROGRAM)
+
+
 def calls(tests, local):
     """The call for who has a Dask client, beside what the program prints."""
     import plinq_shards
@@ -214,6 +231,9 @@ def calls(tests, local):
     except trouble.Trouble as why:
         said = why.line, why.status
     tests.check("a call from Python: a client that is closed", said == ("plinq-cluster: the client is closed", 5), said)
+    seen = asyncio.run(by_coroutines(local))
+    waits = "plinq-cluster: the client's own loop would wait for itself: call run by asyncio.to_thread"
+    tests.check("a call from Python: an asynchronous client", seen == (waits, plinq_shards.Answer([1, 2], "end")), seen)
     with open(f"{ROOT}/docs/SCALING.md", encoding="utf-8") as file:
         (code,) = re.findall(r"^```python\n(.*?)^```", file.read(), re.M | re.S)
     with contextlib.redirect_stdout(io.StringIO()) as printed:

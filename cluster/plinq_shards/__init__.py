@@ -27,7 +27,7 @@ def run(client, document, program=PROGRAM, shards=None):
 
     The ending is 'end', 'refused N' or 'fault NAME', as `plinq run` prints it; the items before a fault are there. What has no
     answer raises `trouble.Trouble` with the line that plinq-cluster prints: a document that is refused, a worker with another
-    program, a cluster that is gone. Items are held in memory. The merge option has no effect but that a fully buffered answer
+    program, a cluster that is gone. A coroutine awaits it by `asyncio.to_thread`. Items are held in memory. The merge option has no effect but that a fully buffered answer
     that doesn't end well has none.
     """
     import cloudpickle
@@ -43,6 +43,8 @@ def run(client, document, program=PROGRAM, shards=None):
 
     if client.scheduler is None:
         raise own("the client is closed")
+    if client.asynchronous:
+        raise own("the client's own loop would wait for itself: call run by asyncio.to_thread")
     # (workers need no file of this folder)
     cloudpickle.register_pickle_by_value(by_worker)
     name, path = found(program)
