@@ -1,6 +1,6 @@
 #!/usr/bin/env python3
 """Measures closures beside a lambda type, `to_vec` beside a sink by hand, steps that change the type beside the engine's
-operators, and how much `first` and `any` ask for, and prints the tables of bench/README.md.
+operators, `order_by` beside a sort by one thread, and how much `first` and `any` ask for, and prints the tables of bench/README.md.
 
     python3 bench/library.py            # each row by 1 and by 4 workers, the best of seven runs of a process
     python3 bench/library.py ROUNDS     # the best of so many processes, which take turns
@@ -17,10 +17,11 @@ import tempfile
 
 ROOT = os.path.dirname(os.path.dirname(os.path.abspath(__file__)))
 NAME = "bench_library"
-USES = "plinq_prelude plinq_source plinq_lambda plinq_aggregate plinq_groups plinq_enumerator plinq_ops plinq_run plinq_collect plinq_mapped anyhow"
+USES = "plinq_prelude plinq_source plinq_lambda plinq_aggregate plinq_groups plinq_enumerator plinq_ops plinq_run plinq_collect plinq_mapped plinq_sorted anyhow"
 PLACES = {
     "src/main.rt": "src/main.rt.txt",
     "src/by_hand.rt": "src/by_hand.rt.txt",
+    "src/ordered.rt": "src/ordered.rt.txt",
     "src/counted.rt": "src/counted.rt.txt",
     "src/spinning.rt": "src/spinning.rt.txt",
     "src/step.rt": "src/step.rt.txt",
@@ -35,6 +36,7 @@ ROWS = [
     ("list", "sink", "to_vec", 10_000_000),
     ("steps_list", "operators", "typed", 10_000_000),
     ("steps_sum", "operators", "typed", 10_000_000),
+    ("order", "sort", "order_by", 4_000_000),
 ]
 
 
