@@ -15,6 +15,7 @@ from support.program import HANGS, PLINQ, ROOT, Outcome, Tests, build, run
 
 STACK = 2**20
 OUT_OF_MEMORY = Outcome(5, b"", b"plinq: out of memory\n")
+NO_THREAD = Outcome(5, b"", b"plinq: no thread\n")
 # Documents of few bytes that want more memory than any machine has.
 HUNGRY = {
     "one line of 2^40 numbers": ("run --merge full", '{"version":1,"source":{"range":[0,1099511627776]},"query":[["as_ordered"]]}'),
@@ -72,6 +73,11 @@ LEFT = {"none": None, "one of version 2": 400_000_000, "a parent that has less":
 LEFT |= {"the path of a host, in a container": 200_000_000, "one of version 1": 200_000_000, "one that is full": 2**20}
 
 
+# How many workers' stacks the words of a call have room for.
+WORDS = {"run --workers 64": 64, "run --workers=1 --merge not": 1, "run --merge not --workers 7": 7, "run --workers": 4, "run --workers 70": 4}
+WORDS |= {"run --workers x": 4, "run --workers auto": 64, "parts": 4, "seq": 0, "seq --workers 64": 0}
+
+
 def limits(tests, folder):
     """What the lines set, with a machine that has 1,000,000 kB available, and with no commands but the shell's own."""
     with open(f"{ROOT}/tools/start.sh", encoding="utf-8") as file:
@@ -95,8 +101,10 @@ def limits(tests, folder):
         env = {"PATH": ""} | ({} if value is None else {"PLINQ_MEMORY": value})
         return subprocess.run([f"/bin/{shell}", "-c", f"set -eu\n{before}\n{text}\n{shown}", "plinq", *words], env=env, capture_output=True, text=True, timeout=HANGS)
 
-    def bytes_of(number, workers=4):
-        return str((number // 1024 + workers * 1024) * 1024)
+    def bytes_of(number, workers=4, group=None):
+        most = number // 1024 * 1024 + workers * STACK
+        has_room = group is not None and group >= workers * STACK + 2**24
+        return str(min(most, group // 1024 * 1024) if has_room else most)
 
     default = bytes_of(available)
     for shell in ("sh", "bash"):
@@ -120,30 +128,43 @@ def limits(tests, folder):
         ):
             seen = ran(shell, before, meminfo, "none", value)
             tests.check(f"{shell}: {name}", (seen.returncode, seen.stderr) == (0, "") and limit_of(seen.stdout) == wanted, seen)
-        for before, value, wanted in (("", None, "1048576"), ("ulimit -S -s 512", None, "524288"), ("", "unlimited", None)):
+        for before, value, wanted in (("", None, str(STACK)), ("ulimit -S -s 512", None, "524288"), ("", "unlimited", None)):
             seen = ran(shell, before, "meminfo", "none", value)
-            is_so = limit_of(seen.stdout, "stack")[0] == wanted if wanted else limit_of(seen.stdout, "stack")[0] != "1048576"
+            is_so = limit_of(seen.stdout, "stack")[0] == wanted if wanted else limit_of(seen.stdout, "stack")[0] != str(STACK)
             tests.check(f"{shell}: a thread's stack {before} {value}", seen.returncode == 0 and is_so, seen)
         for name, left in LEFT.items():
             for meminfo, least in (("meminfo", min(left or available, available)), ("gone", left)):
-                wanted = bytes_of(least) if least else "unlimited"
+                wanted = bytes_of(least, group=left) if least else "unlimited"
                 seen = ran(shell, "", meminfo, name, None)
                 is_so = (seen.returncode, seen.stderr) == (0, "") and limit_of(seen.stdout)[0] == wanted
                 tests.check(f"{shell}: a control group: {name}, {meminfo}", is_so, (wanted, seen))
         seen = ran(shell, "", "meminfo", "one of version 1", "100M")
         tests.check(f"{shell}: less than a control group has", limit_of(seen.stdout)[0] == bytes_of(100 * 2**20), seen)
-        for words, workers in (("run --workers 64", 64), ("run --workers=1 --merge not", 1), ("run --merge not --workers 7", 7), ("run --workers", 4), ("run --workers 70", 4), ("run --workers x", 4)):
+        for words, workers in WORDS.items():
             seen = ran(shell, "", "meminfo", "none", None, *words.split())
             is_so = (seen.returncode, seen.stderr) == (0, "") and limit_of(seen.stdout)[0] == bytes_of(available, workers)
             tests.check(f"{shell}: the stacks of {words}", is_so, seen)
+        # (of 200 MB there is room for 64 stacks, and of 100,000,000 bytes for 64 less some)
+        for name, words, value in (("one of version 1", "run --workers 64", None), ("one of version 1", "run --workers 64", "190M"), ("one that is full", "run", None)):
+            seen = ran(shell, "", "meminfo", name, value, *words.split())
+            wanted = bytes_of(min(LEFT[name], 190 * 2**20), 64 if "64" in words else 4, LEFT[name])
+            tests.check(f"{shell}: no more than {name} has, by {words}, {value}", limit_of(seen.stdout)[0] == wanted, (wanted, seen))
+        # (long words and environment want more)
+        for length in (120_000, 300_000):
+            wanted = STACK + 8 * length
+            seen = ran(shell, "", "meminfo", "none", None, *["x" * 30_000] * (length // 30_000))
+            stack = int(limit_of(seen.stdout, "stack")[0])
+            is_so = (seen.returncode, seen.stderr) == (0, "") and wanted <= stack < wanted + 2**17
+            is_so = is_so and int(limit_of(seen.stdout)[0]) == available + 4 * stack
+            tests.check(f"{shell}: the stacks if the words take {length} bytes", is_so, (stack, seen.stderr))
 
 
-# A control group of 300 MB, of version 1 or 2, if this machine lets one be made.
-LIMITED = 300_000_000
+# Control groups of version 1 or 2, if this machine lets them be made: how many bytes each has, and by how many workers it is tried.
+LIMITED = {300_000_000: 64, 60_000_000: 32}
 
 
-def new_group():
-    """The folder of a new control group with that limit, or None."""
+def new_group(limit):
+    """The folder of a new control group with a limit in bytes, or None."""
     with open("/proc/self/cgroup", encoding="utf-8") as file:
         own = [line.rstrip("\n").split(":", 2) for line in file]
     for _, controllers, path in own:
@@ -155,7 +176,7 @@ def new_group():
         try:
             os.mkdir(made)
             with open(f"{made}/{name}", "w", encoding="utf-8") as file:
-                file.write(str(LIMITED))
+                file.write(str(limit))
             return made
         except OSError:
             with contextlib.suppress(OSError):
@@ -164,18 +185,21 @@ def new_group():
 
 
 def in_a_group(tests):
-    """What a run says in a control group that has less than it wants: never is it killed."""
-    group = new_group()
-    if group is None:
-        print("(this machine lets no control group be made)", flush=True)
-        return
-    try:
-        for name, (words, document) in HUNGRY.items():
-            script = f'echo $$ >"{group}/cgroup.procs" && exec "{PLINQ}" {words}'
-            seen = subprocess.run(["sh", "-c", script], input=document.encode(), capture_output=True, timeout=HANGS)
-            tests.check(f"{name}, in a group of 300 MB", Outcome(seen.returncode, seen.stdout, seen.stderr) == OUT_OF_MEMORY, seen)
-    finally:
-        os.rmdir(group)
+    """What a run says in a control group that has less than it wants: never is it killed, also if many workers start while it grows."""
+    for limit, workers in LIMITED.items():
+        group = new_group(limit)
+        if group is None:
+            print("(this machine lets no control group be made)", flush=True)
+            return
+        try:
+            for name, (words, document) in HUNGRY.items():
+                more = f" --workers {workers}" if words.startswith("run") else ""
+                script = f'echo $$ >"{group}/cgroup.procs" && exec "{PLINQ}" {words}{more}'
+                seen = subprocess.run(["sh", "-c", script], input=document.encode(), capture_output=True, timeout=HANGS)
+                is_so = Outcome(seen.returncode, seen.stdout, seen.stderr) == OUT_OF_MEMORY
+                tests.check(f"{name}, in a group of {limit} bytes{more}", is_so, seen)
+        finally:
+            os.rmdir(group)
 
 
 # The least limit in bytes from which on no right run of these fails, whatever its threads do, and how often each is tried.
@@ -187,14 +211,18 @@ def one_outcome(tests):
     """A small run under each limit from 1 MB up, by few and many workers: from ENOUGH on it is always right, and below it says that
     memory ran out, or that no thread could be had for its lack, and nothing else."""
     right = Outcome(0, b"4\n2\n5\nend\n", b"")
-    for megabytes in (1, 2, 3, 4, 6, 8, 12, 16, 32, 64):
-        for workers in ("1", "4", "16", "64"):
+    by_words = {f"--workers {it}": (["--workers", it], ADDED) for it in ("1", "4", "16", "64")}
+    by_document = {f"with_degree {it}": ([], ADDED.replace(b'["as_', b'["with_degree",%d],["as_' % it)) for it in (4, 16, 64)}
+    for megabytes in (1, 2, 3, 4, 6, 8, 12, 16, 32, 64, 80):
+        for name, (words, document) in (by_words | by_document).items():
             env = os.environ | {"PLINQ_MEMORY": f"{megabytes}M"}
-            seen = [run(["run", "--merge", "not", "--workers", workers], ADDED, env=env) for _ in range(TIMES)]
+            seen = [run(["run", "--merge", "not", *words], document, env=env) for _ in range(TIMES)]
             others = [it for it in seen if it != right]
-            is_enough = megabytes * 2**20 >= ENOUGH
-            is_so = not others if is_enough else all(it == OUT_OF_MEMORY for it in others)
-            tests.check(f"{megabytes} MB by {workers}", is_so, f"{len(others)} of {TIMES}: {others[:1]}")
+            # (the start script doesn't know how many workers a document asks for)
+            unknown = int(name.split()[1]) * STACK if name in by_document else 0
+            is_enough = megabytes * 2**20 >= ENOUGH + unknown
+            is_so = not others if is_enough else all(it == OUT_OF_MEMORY or unknown and it == NO_THREAD for it in others)
+            tests.check(f"{megabytes} MB, {name}", is_so, f"{len(others)} of {TIMES}: {others[:1]}")
 
 
 def started(tests):
@@ -219,6 +247,28 @@ def started(tests):
         tests.check(f"PLINQ_MEMORY={value} is refused", seen == wanted, seen)
     seen = run(["run", "--merge", "not"], ADDED, env=os.environ | {"PLINQ_MEMORY": "unlimited"})
     tests.check("PLINQ_MEMORY=unlimited", seen == Outcome(0, b"4\n2\n5\nend\n", b""), seen)
+    # (more than the kernel passes on to a program whose stack is 256 KB, though less than to most)
+    seen = run(["run", "--merge", "not"], ADDED, env=os.environ | {f"PLINQ_TESTS_{it}": "x" * 100_000 for it in range(4)})
+    tests.check("an environment of 400 KB", seen == Outcome(0, b"4\n2\n5\nend\n", b""), seen)
+
+
+def deep(tests):
+    """The deepest documents and the longest queries, by stacks of 768 KB, where the start script gives 1,024."""
+    nested = b'{"":' * 124 + b"0" + b"}" * 124
+
+    def query(step):
+        return b'{"version":1,"source":{"range":[1,3]},"query":[["as_ordered"],' + b",".join([step] * 999) + b"]}"
+
+    for name, document in {
+        "lists": b"[" * 127 + b"]" * 127,
+        "objects": b'{"version":1,"source":{"list":[' + nested + b']},"query":[]}',
+        "steps": query(b'["select","add",1]'),
+        "expansions": query(b'["select_many","repeat",1]'),
+    }.items():
+        wanted = run(["run", "--merge", "not"], document)
+        smaller = subprocess.run(["sh", "-c", 'ulimit -S -s 768 && exec "$0" run --merge not', PLINQ], input=document, capture_output=True, timeout=HANGS)
+        is_so = wanted.status in (0, 2) and run(["seq", "--merge", "not"], document) == wanted and Outcome(smaller.returncode, smaller.stdout, smaller.stderr) == wanted
+        tests.check(f"{name}: by a smaller stack", is_so, (wanted, smaller))
 
 
 def measured(words, document, env=None):
@@ -285,6 +335,7 @@ def main():
         limits(tests, folder)
     started(tests)
     one_outcome(tests)
+    deep(tests)
     hungry(tests)
     in_a_group(tests)
     sparing(tests)

@@ -88,20 +88,23 @@ quotas() {
 }
 
 # The limit of memory is the lowest of what the machine has available, what each control group around this process has left, and
-# PLINQ_MEMORY. The stacks of as many workers as the words ask for come on top, 1 MB each, so that the limit refuses no thread.
+# PLINQ_MEMORY. Of a run the stacks of as many workers as the words ask for come on top, so that the limit refuses no thread. A
+# control group's limit isn't exceeded for them, if it leaves 16 MB beside them: stacks are hardly touched, but threads start late,
+# and what a run takes of the room of stacks that aren't there yet would be more than its group has.
 # The kernel counts what is mapped to be written. A limit of addresses would have to leave room for what the C library reserves
 # for each thread, 64 MB, and that can then be used as well: several GB more than there are.
 limit_memory() {
     workers_of "$@"
     # (what isn't a number of workers is refused later)
-    case $workers in
-        [1-9] | [1-6][0-9]) ;;
-        auto) workers=64 ;;
+    case ${1-}:$workers in
+        seq:*) workers=0 ;;
+        *:[1-9] | *:[1-6][0-9]) ;;
+        *:auto) workers=64 ;;
         *) workers=4 ;;
     esac
     # (in kB; more than any machine has)
     most=999999999999
-    kilobytes=$most
+    kilobytes=$most group=$most
     case ${PLINQ_MEMORY-} in
         unlimited) return 0 ;;
         '') ;;
@@ -121,7 +124,10 @@ limit_memory() {
         done </proc/self/cgroup
     fi
     [ "$kilobytes" != "$most" ] || return 0
-    kilobytes=$((kilobytes + workers * 1024))
+    stack_of_thread
+    stacks=$((workers * stack))
+    kilobytes=$((kilobytes + stacks))
+    [ "$group" -lt $((stacks + 16384)) ] || [ "$kilobytes" -le "$group" ] || kilobytes=$group
     # (a limit that is lower already stays; a shell reads byte by byte, so no more is read than is wanted)
     data=unlimited
     while read -r first second third soft rest; do
@@ -131,8 +137,18 @@ limit_memory() {
         esac
     done </proc/self/limits
     [ "$data" != unlimited ] && [ "$data" -lt $((kilobytes * 1024)) ] || ulimit -S -d "$kilobytes"
-    # (a thread's stack is as large as this limit, and counted whole)
-    [ "${soft:-unlimited}" != unlimited ] && [ "$soft" -le 1048576 ] || ulimit -S -s 1024
+    [ "${soft:-unlimited}" != unlimited ] && [ "$soft" -le $((stack * 1024)) ] || ulimit -S -s "$stack"
+}
+
+# The limit of a stack in kB. A thread's stack is as large, and counted whole. A query of 999 expansions takes 640 KB of one. Words
+# and environment stand in the first one as well, and the kernel starts no program if they take more than a fourth of it. So if they
+# are long, eight times as much is added.
+stack_of_thread() {
+    stack=1024
+    { read -r numbers </proc/self/stat; } 2>/dev/null || return 0
+    # (what follows the name of the process; of that the 46th is where its words begin, the 49th where its environment ends)
+    set -- ${numbers##*) }
+    [ $# -lt 49 ] || [ $((${49} - ${46})) -le 65536 ] || stack=$((1024 + (${49} - ${46}) / 128))
 }
 
 at_most() {
@@ -195,5 +211,6 @@ group_has() {
     [ "$files" -le "$used" ] || files=$used
     left=$((($2 - used + files) / 1024))
     [ "$left" -ge 1024 ] || left=1024
+    [ "$group" -le "$left" ] || group=$left
     at_most "$left"
 }
