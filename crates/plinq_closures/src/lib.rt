@@ -1,8 +1,8 @@
 //! Closures as the steps of a query.
 //!
-//! - A [`Chain`] has any number of steps, each a closure or a count. What is asked of it is told of the answer of one
-//!   thread (`Tells`, `GathersSome`), by whatever functions the closures' clauses allow (`Steps::does`).
-//! - [`Chain::sequentially`] is asked on one thread, by the same calls.
+//! - A [`Chain`] has any number of steps, each a closure or a count. Its calls return what one thread's answer gives
+//!   (`Tells`, `GathersSome`), for some functions that the closures' clauses allow (`Steps::does`).
+//! - [`Chain::sequentially`] has the same calls on one thread.
 //! - A closure serves if its contract says that it may always be called, in one way, and that it has one answer to each
 //!   item. A clause `ensures { result ≡ .. }` says all of it.
 //! - [`Steps`] is what a chain's steps have in common; no query of a user's own needs it.

@@ -18,7 +18,7 @@ use std::time::Clock;
 /// The items of a query's answer in ascending order of their ranks (.NET's `OrderBy` and `ToList`). Those of equal ranks stand as
 /// in the answer. A pair as the rank is `ThenBy`, a [`Reverse`](std::cmp::Reverse) `OrderByDescending`.
 ///
-/// Once the answer is there, it is sorted by as many threads as there are cores, whatever the query's degree.
+/// Once the answer is there, it is sorted by one thread per core, whatever the query's degree.
 ///
 /// # Errors
 ///
