@@ -31,7 +31,7 @@ def exported():
     found = {}
     for crate, names in re.findall(r"pub use (plinq_\w+)::\{?([^;}]*)\}?;", text_of("crates", "plinq_prelude", "src", "lib.rt")):
         found[crate] = set(re.findall(r"\w+", names))
-    for crate in ("plinq_groups", "plinq_mapped", "plinq_sorted"):
+    for crate in ("plinq_groups", "plinq_mapped", "plinq_query", "plinq_sorted"):
         found[crate] = set(re.findall(r"(?m)^pub use \w+::(\w+);", text_of("crates", crate, "src", "lib.rt")))
         for names in re.findall(r"(?m)^pub use \w+::\{([^}]*)\};", text_of("crates", crate, "src", "lib.rt")):
             found[crate] |= set(re.findall(r"\w+", names))

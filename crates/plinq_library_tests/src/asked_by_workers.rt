@@ -1,11 +1,12 @@
-//! In which chunks a query's source is asked, and that a chain's workers are as many as it was asked for.
-ghost use Rattle.std.specs.Prelude.{◌≡◌, Ok, IfSome};
+//! In which chunks a query's source is asked, and that workers are as many as a chain or a typed query was asked for.
+ghost use Rattle.std.specs.Prelude.{◌≡◌, true, Ok, IfSome};
 ghost use Rattle.plinq_source.specs.Walked.{range_given};
 
 use crate::ordered_queries::ordered;
 use plinq_closures::Chain;
 use plinq_collect::{Collect, count, first, run_into};
 use plinq_lambda::Formula;
+use plinq_query::from;
 use plinq_source::{Ending, RangeSource, Source, Step};
 use plinq_testing::waits_for;
 use std::alloc::Global;
@@ -163,4 +164,75 @@ fn meet<R: Clock + Threads + Wait + Sync>(rt: &R, alloc: Global, workers: u64) -
 #[test]
 fn a_chain_has_the_workers_that_it_is_asked_for(rt: HostRuntime) {
     assert!(rt; meet(&rt, rt.alloc(), 2) == Some(2));
+}
+
+/// How many chunks a typed query over all numbers asks for, by one worker, of at most so many items, or by time.
+fn chunks_of<R: Clock + Threads + Wait + Sync>(
+    rt: &R,
+    alloc: Global,
+    most: Option<u64>,
+) -> Option<u64> {
+    let chunks = AtomicU64::new(0);
+    let query = from(numbers(&chunks)?)
+        .select(
+            |x: i64| -> (i64, bool)
+                ensures { result ≡ (x, true) }
+            { (x, true) },
+        )
+        .as_parallel()
+        .with_degree(1);
+    let made = match most {
+        Some(most) => query.with_growth(1, 1, most).count(rt, alloc),
+        None => query.count(rt, alloc),
+    };
+    if made != Ok(NUMBERS) {
+        return None;
+    }
+    Some(chunks.load(Ordering::SeqCst))
+}
+
+#[test]
+fn a_typed_query_asks_in_chunks_as_its_growth_says(rt: HostRuntime) {
+    let still = Still { rt: &rt };
+    let by_time = chunks_of(&still, rt.alloc(), None);
+    assert!(rt; by_time.is_some_and(|it| it <= CHUNKS));
+    let by_one = chunks_of(&still, rt.alloc(), Some(1));
+    assert!(rt; by_one.is_some_and(|it| it >= NUMBERS));
+}
+
+/// How many of two calls of a typed query's closure have met the other one.
+fn meet_in_a_typed_query<R: Clock + Threads + Wait + Sync>(
+    rt: &R,
+    alloc: Global,
+    workers: u64,
+) -> Option<u64> {
+    let inside = AtomicU64::new(0);
+    let met = AtomicU64::new(0);
+    let Ok(source) = RangeSource::new(0, 2) else {
+        return None;
+    };
+    let made = from(source)
+        .as_parallel()
+        .with_degree(workers)
+        .select(
+            |x: i64| -> (i64, i64)
+                ensures { result ≡ (x, x) }
+            {
+                inside.fetch_add(1, Ordering::SeqCst);
+                if waits_for(&inside, 2) {
+                    met.fetch_add(1, Ordering::SeqCst);
+                }
+                (x, x)
+            },
+        )
+        .count(rt, alloc);
+    match made {
+        Ok(2) => Some(met.load(Ordering::SeqCst)),
+        _ => None,
+    }
+}
+
+#[test]
+fn a_typed_query_has_the_workers_that_it_is_asked_for(rt: HostRuntime) {
+    assert!(rt; meet_in_a_typed_query(&rt, rt.alloc(), 2) == Some(2));
 }

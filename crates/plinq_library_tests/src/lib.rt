@@ -18,3 +18,5 @@ mod early_ends;
 mod ordered_queries;
 #[cfg(test)]
 mod refused_room;
+#[cfg(test)]
+mod typed_queries;

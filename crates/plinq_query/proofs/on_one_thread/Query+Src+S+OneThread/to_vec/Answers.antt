@@ -1,0 +1,8 @@
+-- What is collected is all that was made.
+use Rattle.std.proofs.Common.{◌∙◌}
+use Rattle.plinq_groups.specs.Collecting.{fold_of-collecting}
+use Rattle.plinq_query.proofs.on_one_thread.Query+Src+S+OneThread.to_vec.Goals as goal
+
+pub returns-in-Ok : goal.returns-in-Ok
+returns-in-Ok g c =
+    record { value = λ f makes. let told = c.in-Ok.ensures.value f makes in (c.into_vec.ensures ∙ (told.0 ∙ fold_of-collecting _), told.1) }

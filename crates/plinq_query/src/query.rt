@@ -1,0 +1,120 @@
+ghost use Rattle.std.specs.Prelude.{◌≡◌, None, Some};
+
+use crate::by_threads::ByThreads;
+use crate::filtered::Filtered;
+use crate::selected::Selected;
+use crate::start::Start;
+use crate::steps::Steps;
+use plinq_source::Source;
+
+/// A query on the thread that asks it.
+#[derive(Clone, Copy, Drop)]
+pub struct OneThread;
+
+/// A source, the steps on its items, and how the query is run.
+///
+/// ```text
+/// let slow = from(SliceSource::new(&lines)?)
+///     .as_parallel()
+///     .with_degree(4)
+///     .select(|l: Line| -> u64 ensures { result ≡ micros_of l } { l.micros })
+///     .filter(|micros: u64| -> bool ensures { result ≡ ltb 1000 micros } { micros > 1000 })
+///     .to_vec(&rt, alloc)?;
+/// ```
+#[derive(Drop)]
+pub struct Query<Src, S, B> {
+    pub source: Src,
+    pub steps: S,
+    pub by: B,
+}
+
+/// A query over a source (C#'s `from x in xs`).
+pub fn from<Src: Source>(source: Src) -> Query<Src, Start<Src::Item>, OneThread>
+    ensures { result.source ≡ source }
+{
+    Query {
+        source,
+        steps: Start::new(),
+        by: OneThread,
+    }
+}
+
+impl<Src, S: Steps, B> Query<Src, S, B> {
+    /// Makes something of each item, of any type (.NET's `Select`, rayon's `map`).
+    pub fn select<U: Copy, F: Fn(S::To) -> U>(self, by: F) -> Query<Src, Selected<S, F>, B>
+        ensures { (result.source ≡ self.source) × (result.steps.before ≡ self.steps) × (result.steps.by ≡ by) × (result.by ≡ self.by) }
+    {
+        Query {
+            source: self.source,
+            steps: Selected {
+                before: self.steps,
+                by,
+            },
+            by: self.by,
+        }
+    }
+
+    /// Keeps the items that pass (.NET's `Where`, rayon's `filter`).
+    pub fn filter<F: Fn(S::To) -> bool>(self, by: F) -> Query<Src, Filtered<S, F>, B>
+        ensures { (result.source ≡ self.source) × (result.steps.before ≡ self.steps) × (result.steps.by ≡ by) × (result.by ≡ self.by) }
+    {
+        Query {
+            source: self.source,
+            steps: Filtered {
+                before: self.steps,
+                by,
+            },
+            by: self.by,
+        }
+    }
+}
+
+impl<Src, S> Query<Src, S, OneThread> {
+    /// Has the query run by threads, as many as [`with_degree`](Query::with_degree) says, else 4 (.NET's `AsParallel`).
+    pub fn as_parallel(self) -> Query<Src, S, ByThreads>
+        ensures { (result.source ≡ self.source) × (result.steps ≡ self.steps) × (result.by.degree ≡ 4) × (result.by.growth ≡ None) }
+    {
+        Query {
+            source: self.source,
+            steps: self.steps,
+            by: ByThreads {
+                degree: 4,
+                growth: None,
+            },
+        }
+    }
+}
+
+impl<Src, S> Query<Src, S, ByThreads> {
+    /// How many workers the query has, from 1 to 64 (.NET's `WithDegreeOfParallelism`).
+    pub fn with_degree(self, degree: u64) -> Query<Src, S, ByThreads>
+        ensures { (result.source ≡ self.source) × (result.steps ≡ self.steps) × (result.by.degree ≡ degree) × (result.by.growth ≡ self.by.growth) }
+    {
+        Query {
+            source: self.source,
+            steps: self.steps,
+            by: ByThreads {
+                degree,
+                growth: self.by.growth,
+            },
+        }
+    }
+
+    /// How a worker's chunks grow: the first ones have `first` items, every `repeat` of them the size doubles, up to `max`.
+    /// Without this setting they grow by how long they take.
+    ///
+    /// Numbers that make no growth are refused when the query is run ([`Growth`](plinq_enumerator::Growth) says which).
+    pub fn with_growth(self, first: u64, repeat: u64, max: u64) -> Query<Src, S, ByThreads>
+        ensures { (result.source ≡ self.source) × (result.steps ≡ self.steps) × (result.by.degree ≡ self.by.degree)
+            × (result.by.growth ≡ Some (first, repeat, max)) }
+    {
+        Query {
+            source: self.source,
+            steps: self.steps,
+            by: ByThreads {
+                degree: self.by.degree,
+                growth: Some((first, repeat, max)),
+            },
+        }
+    }
+}
