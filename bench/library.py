@@ -1,5 +1,5 @@
 #!/usr/bin/env python3
-"""Measures closures beside a lambda type, `to_vec` beside a sink by hand, steps that change the type beside the engine's
+"""Measures closures beside a lambda type, `to_vec` beside a sink by hand, closures that change the type beside the engine's
 operators, `order_by` beside a sort by one thread, and how much `first` and `any` ask for, and prints the tables of bench/README.md.
 
     python3 bench/library.py            # each row by 1 and by 4 workers, the best of seven runs of a process
@@ -17,7 +17,7 @@ import tempfile
 
 ROOT = os.path.dirname(os.path.dirname(os.path.abspath(__file__)))
 NAME = "bench_library"
-USES = "plinq_prelude plinq_source plinq_lambda plinq_aggregate plinq_groups plinq_enumerator plinq_ops plinq_run plinq_collect plinq_mapped plinq_sorted anyhow"
+USES = "plinq_prelude plinq_source plinq_lambda plinq_aggregate plinq_groups plinq_enumerator plinq_ops plinq_run plinq_collect plinq_query plinq_sorted anyhow"
 PLACES = {
     "src/main.rt": "src/main.rt.txt",
     "src/by_hand.rt": "src/by_hand.rt.txt",
