@@ -63,7 +63,7 @@ WHY = [
     ("$0 run %s", b"{", 2, b"plinq: document: not JSON\n", b"plinq-check < DOCUMENT"),
     ("$0 seq %s", b"{}", 2, b"plinq: document: wrong shape\n", b"plinq-check < DOCUMENT"),
     ("$0 run %s", b'{"version":1,"source":{"list":[]},"query":[["sort"]]}', 2, b"plinq: document: step 0: unknown\n", b"plinq-check < DOCUMENT"),
-    ("$0 run %s", b"[" * 16_777_217, 2, b"plinq: document: too long\n", b"16777216 bytes"),
+    ("$0 run %s", b"[" * 16_777_217, 2, b"plinq: document: too long\n", b"16777216 bytes; plinq-cluster --text FILE"),
     ("PLINQ_MEMORY=8M $0 seq %s", ORDERED.encode() % (b'"text":"' + b"1 " * 4_000_000 + b'"', b"", b""), 5, b"plinq: out of memory\n", b"PLINQ_MEMORY"),
     ("$0 run %s --cancel-after 0 < add-one.json", b"", 5, b"plinq: cancelled\n", b"--cancel-after"),
 ]

@@ -68,7 +68,7 @@ fn has_left(failure: Failure, cause: Option<&io::Error>) -> bool {
 fn failure_advice(failure: Failure) -> &'static str {
     match failure {
         Failure::Document(DocFault::TooLong) =>
-            "a document has at most 16777216 bytes; plinq-cluster answers one in parts",
+            "a document has at most 16777216 bytes; plinq-cluster --text FILE reads the numbers of a file of any size",
         Failure::Document(_) => "plinq-check < DOCUMENT says where, and what can stand there",
         Failure::Memory =>
             "use fewer workers or smaller chunks (\"growth\":[1,3,64]), or allow more (PLINQ_MEMORY, the container); --merge full holds the whole answer",
