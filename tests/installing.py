@@ -74,6 +74,10 @@ def prefixes(tests, folder):
     for words, status in ((["--help"], 0), (["--some"], 2)):
         seen = calls(*words)
         tests.check(f"{words}", seen.returncode == status and "tools/install [PREFIX]" in seen.stdout, seen)
+    for words in ([prefix, "b"], ["--uninstall", prefix, "b"], ["--deb", prefix, "b"]):
+        seen = calls(*words)
+        is_refused = (seen.returncode, seen.stdout) == (2, "") and seen.stderr.startswith("tools/install: more than one folder: ")
+        tests.check(f"{words}", is_refused and files(prefix) == {"share/plinq/mine"}, seen)
     for words in ([""], ["--uninstall", ""], ["--deb", ""]):
         seen = calls(*words)
         tests.check(f"{words}", (seen.returncode, seen.stdout, seen.stderr) == (2, "", "tools/install: a folder without a name\n"), seen)
