@@ -14,11 +14,11 @@ pub struct OneThread;
 /// A source, the steps on its items, and how the query is run.
 ///
 /// ```text
-/// let slow = from(SliceSource::new(&lines)?)
+/// let big = from(SliceSource::new(&numbers)?)
 ///     .as_parallel()
 ///     .with_degree(4)
-///     .select(|l: Line| -> u64 ensures { result ≡ micros_of l } { l.micros })
-///     .filter(|micros: u64| -> bool ensures { result ≡ ltb 1000 micros } { micros > 1000 })
+///     .select(|x: i64| -> (i64, bool) ensures { result ≡ (x, int_lt (pos 2) x) } { (x, x > 2) })
+///     .filter(|p: (i64, bool)| -> bool ensures { result ≡ p.1 } { p.1 })
 ///     .to_vec(&rt, alloc)?;
 /// ```
 #[derive(Drop)]
