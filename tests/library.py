@@ -1,6 +1,6 @@
 #!/usr/bin/env python3
 """Takes the blocks of code out of docs/LIBRARY.md and tries them, in a repository of its own that has only the crates which the
-page names, and imports each name of the page's tables through the prelude. Nothing is proved.
+page names, and imports each name of the page's tables through the prelude. Typed queries come from `plinq_query`. Nothing is proved.
 
     python3 tests/library.py
 """
@@ -14,11 +14,12 @@ from support.program import HANGS, ROOT, Tests
 
 HEAD = """#![tactic(auto)]
 
-ghost use Rattle.std.specs.Prelude.{◌≡◌, nat_le, Ok};
+ghost use Rattle.std.specs.Prelude.{◌≡◌, int_lt, nat_le, pos, Ok};
 
 use anyhow::Result;
 use plinq_prelude::*;
 use plinq_prelude::{NAMES};
+use plinq_query::from;
 use std::alloc::Global;
 use std::sync::Wait;
 use std::thread::Threads;
@@ -33,7 +34,8 @@ struct Record<'a> {
 fn main(rt: HostRuntime) -> Result<()> {
     let numbers = numbers(&rt, rt.alloc())?;
     let records = records(&rt, rt.alloc())?;
-    println!(rt; "{numbers} {records}")?;
+    let pairs = pairs(&rt, rt.alloc())?;
+    println!(rt; "{numbers} {records} {pairs}")?;
     Ok(())
 }
 """
@@ -46,6 +48,13 @@ fn numbers<R: Clock + Threads + Wait + Sync>(rt: &R, alloc: Global) -> Result<us
     let errors = Formula::Even;
 BLOCK
     assert_end(ending, items.len())
+}
+""",
+    "let big": """
+fn pairs<R: Clock + Threads + Wait + Sync>(rt: &R, alloc: Global) -> Result<usize> {
+    let numbers = [1i64, 2, 4];
+BLOCK
+    Ok(big.len())
 }
 """,
     "let chain": """
@@ -116,6 +125,7 @@ def main():
         lines = [it.split(":", 1) for it in file.read().splitlines() if it and not it.startswith("#")]
     crates = {name: below.split() for name, below in lines}
     line = re.search(r"^    my_program: (.*)$", page, flags=re.M).group(1)
+    line += " plinq_query"
     below = needed(line.split(), crates)
     named = set(re.findall(r"plinq_\w+", page))
     tests.check("the page names each crate that its line needs", len(below) > 10 and below <= named, sorted(below - named))
@@ -138,7 +148,7 @@ def main():
             ["rt", "try"], cwd=os.path.join(top, "crates", "my_program"), stdin=subprocess.DEVNULL, capture_output=True, timeout=3 * HANGS
         )
         said = (tried.stdout + tried.stderr).decode(errors="replace")
-        tests.check("the page's blocks compile and answer", tried.returncode == 0 and tried.stdout.startswith(b"2 1\n"), said[-1500:])
+        tests.check("the page's blocks compile and answer", tried.returncode == 0 and tried.stdout.startswith(b"2 1 1\n"), said[-1500:])
     tests.end()
 
 
