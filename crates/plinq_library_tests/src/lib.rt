@@ -20,3 +20,5 @@ mod ordered_queries;
 mod refused_room;
 #[cfg(test)]
 mod typed_queries;
+#[cfg(test)]
+mod typed_searches;

@@ -17,7 +17,7 @@ use std::test::*;
 use std::thread::Threads;
 use std::time::Clock;
 
-const WORKERS: [u64; 4] = [1, 2, 8, 64];
+pub(crate) const WORKERS: [u64; 4] = [1, 2, 8, 64];
 
 /// A number, and whether 3 divides it.
 #[derive(Clone, Copy, PartialEq, Eq, Debug)]
@@ -27,7 +27,7 @@ struct Marked {
 }
 
 /// Some numbers that look like chance (xorshift).
-fn numbers(alloc: Global, seed: u64, count: u64) -> Result<Vec<i64>, AllocError> {
+pub(crate) fn numbers(alloc: Global, seed: u64, count: u64) -> Result<Vec<i64>, AllocError> {
     let mut number = seed;
     let mut items = Vec::new(alloc);
     for _item in 0..count {

@@ -1,2 +1,7 @@
 mod Counting
+mod Delivering
+mod OneByOne
+mod Searching
+mod Taking
 mod Telling
+mod Visited

@@ -1,2 +1,4 @@
-pub mod Steps
+pub mod Makes
+pub mod Ran
 pub mod Told
+pub mod inner

@@ -1,6 +1,6 @@
 ghost use Rattle.std.specs.Prelude.{◌≡◌, Bool, Option};
 ghost use Rattle.std.specs.Coded.{Π_prop, ×_prop};
-ghost use Rattle.plinq_query.specs.Steps.{GivesThen, Passes, some_then, one_then, some_passed, one_passed};
+ghost use Rattle.plinq_query.specs.Makes.{GivesThen, Passes, some_then, one_then, some_passed, one_passed};
 
 use crate::steps::Steps;
 

@@ -23,7 +23,7 @@ impl<'a, S: Steps<To: Send> + Sync> MakeOf for Made<'a, S> {
 
     #[inline(always)]
     fn make_of(&self, _: Global, x: S::From) -> Result<Option<S::To>, MapFault> {
-        Ok(self.steps.step(x))
+        Ok(self.step_of(x))
     }
 }
 
@@ -36,5 +36,13 @@ impl<'a, S: Steps> Made<'a, S> {
         ensures { result.steps.now ≡ steps.now }
     {
         Made { steps }
+    }
+
+    /// What they make of an item.
+    #[inline(always)]
+    pub(crate) fn step_of(&self, x: S::From) -> Option<S::To>
+        ensures { result ≡ answer_in (self.now.one x) }
+    {
+        self.steps.step(x)
     }
 }

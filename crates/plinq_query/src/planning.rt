@@ -1,5 +1,5 @@
 //! The plan of a query, which has no operator of the engine's, and what comes of it.
-ghost use Rattle.std.specs.Prelude.{◌≡◌, [], true, false, Err, IfErr, IfOk};
+ghost use Rattle.std.specs.Prelude.{◌≡◌, [], true, false, None, Err, IfErr, IfOk};
 ghost use Rattle.plinq_ops.specs.Query.{is_degree};
 ghost use Rattle.plinq_run.specs.Aggregates.{Aggregates};
 ghost use Rattle.plinq_collect.specs.Telling.{LacksRoom};
@@ -22,7 +22,7 @@ use std::time::Clock;
 pub(crate) fn plan_of<L: Drop>(alloc: Global, degree: u64) -> Result<Query<L>, QueryFault>
     ensures degree { is_degree degree ≡ false → result ≡ Err Degree }
     ensures refused { IfErr result (λ fault. (fault ≡ Degree) × (is_degree degree ≡ false)) }
-    ensures planned { IfOk result (λ plan. (plan.ops ≡ []) × (plan.ordered ≡ true)) }
+    ensures planned { IfOk result (λ plan. (plan.ops ≡ []) × (plan.ordered ≡ true) × (plan.merge ≡ None)) }
 {
     let Ok(plan) = Query::new(alloc).as_ordered() else {
         return Err(QueryFault::Degree);

@@ -1,10 +1,12 @@
 ghost use Rattle.std.specs.Prelude.{◌≡◌, None, Some};
+ghost use Rattle.plinq_ops.specs.declared.merge_option.MergeOption.TheVariants.{Default};
 
 use crate::by_threads::ByThreads;
 use crate::filtered::Filtered;
 use crate::selected::Selected;
 use crate::start::Start;
 use crate::steps::Steps;
+use plinq_ops::MergeOption;
 use plinq_source::Source;
 
 /// A query on the thread that asks it.
@@ -72,7 +74,8 @@ impl<Src, S: Steps, B> Query<Src, S, B> {
 impl<Src, S> Query<Src, S, OneThread> {
     /// Has the query run by threads, as many as [`with_degree`](Query::with_degree) says, else 4 (.NET's `AsParallel`).
     pub fn as_parallel(self) -> Query<Src, S, ByThreads>
-        ensures { (result.source ≡ self.source) × (result.steps ≡ self.steps) × (result.by.degree ≡ 4) × (result.by.growth ≡ None) }
+        ensures { (result.source ≡ self.source) × (result.steps ≡ self.steps) × (result.by.degree ≡ 4) × (result.by.growth ≡ None)
+            × (result.by.merge ≡ Default) }
     {
         Query {
             source: self.source,
@@ -80,6 +83,7 @@ impl<Src, S> Query<Src, S, OneThread> {
             by: ByThreads {
                 degree: 4,
                 growth: None,
+                merge: MergeOption::Default,
             },
         }
     }
@@ -88,7 +92,8 @@ impl<Src, S> Query<Src, S, OneThread> {
 impl<Src, S> Query<Src, S, ByThreads> {
     /// How many workers the query has, from 1 to 64 (.NET's `WithDegreeOfParallelism`).
     pub fn with_degree(self, degree: u64) -> Query<Src, S, ByThreads>
-        ensures { (result.source ≡ self.source) × (result.steps ≡ self.steps) × (result.by.degree ≡ degree) × (result.by.growth ≡ self.by.growth) }
+        ensures { (result.source ≡ self.source) × (result.steps ≡ self.steps) × (result.by.degree ≡ degree) × (result.by.growth ≡ self.by.growth)
+            × (result.by.merge ≡ self.by.merge) }
     {
         Query {
             source: self.source,
@@ -96,6 +101,7 @@ impl<Src, S> Query<Src, S, ByThreads> {
             by: ByThreads {
                 degree,
                 growth: self.by.growth,
+                merge: self.by.merge,
             },
         }
     }
@@ -106,7 +112,7 @@ impl<Src, S> Query<Src, S, ByThreads> {
     /// Numbers that make no growth are refused when the query is run ([`Growth`](plinq_enumerator::Growth) says which).
     pub fn with_growth(self, first: u64, repeat: u64, max: u64) -> Query<Src, S, ByThreads>
         ensures { (result.source ≡ self.source) × (result.steps ≡ self.steps) × (result.by.degree ≡ self.by.degree)
-            × (result.by.growth ≡ Some (first, repeat, max)) }
+            × (result.by.growth ≡ Some (first, repeat, max)) × (result.by.merge ≡ self.by.merge) }
     {
         Query {
             source: self.source,
@@ -114,6 +120,23 @@ impl<Src, S> Query<Src, S, ByThreads> {
             by: ByThreads {
                 degree: self.by.degree,
                 growth: Some((first, repeat, max)),
+                merge: self.by.merge,
+            },
+        }
+    }
+
+    /// In which batches a sink gets what is made (.NET's `WithMergeOptions`): in runs of 16 without this setting. FullyBuffered
+    /// delivers nothing of a query that doesn't end well.
+    pub fn with_merge(self, option: MergeOption) -> Query<Src, S, ByThreads>
+        ensures { (result.source ≡ self.source) × (result.steps ≡ self.steps) × (result.by.degree ≡ self.by.degree)
+            × (result.by.growth ≡ self.by.growth) × (result.by.merge ≡ option) }
+    {
+        Query {
+            source: self.source,
+            steps: self.steps,
+            by: ByThreads {
+                merge: option,
+                ..self.by
             },
         }
     }

@@ -1,6 +1,6 @@
 ghost use Rattle.std.specs.Prelude.{◌≡◌, Option};
 ghost use Rattle.std.specs.Coded.{Π_prop, ×_prop};
-ghost use Rattle.plinq_query.specs.Steps.{GivesThen, Selects, some_then, one_then, some_selected, one_selected};
+ghost use Rattle.plinq_query.specs.Makes.{GivesThen, Selects, some_then, one_then, some_selected, one_selected};
 
 use crate::steps::Steps;
 

@@ -1,5 +1,5 @@
 ghost use Rattle.std.specs.Prelude.{◌≡◌, ⊤, refl, Option, Some};
-ghost use Rattle.plinq_query.specs.Steps.{some_item, one_item};
+ghost use Rattle.plinq_query.specs.Makes.{some_item, one_item};
 
 use crate::steps::Steps;
 use std::marker::PhantomData;

@@ -72,25 +72,25 @@ module _ {Y : Type 0} (Gives : Y → Bool → Type 0) where
 
 -- ---- what closures make whose clauses say what they return: `f` before, and `g` or `p` of it
 
-module _ {Y B : Type 0} (Before : Option Y → Type 0) where
-  abbrev pub selected : (Y → B) → Option Y → Option B
-  selected g None = None
-  selected g (Some y) = Some (g y)
+abbrev pub selected : {Y B : Type 0} → (Y → B) → Option Y → Option B
+selected g None = None
+selected g (Some y) = Some (g y)
 
-  pub makes-selected : (Gives : Y → B → Type 0) (g : Y → B) → ((y : Y) → Gives y (g y)) → (o : Option Y) → Before o
-      → GivesThen Before (Selects Gives) (selected g o)
-  makes-selected Gives g gives None was = record { between = None; was = was; is = refl }
-  makes-selected Gives g gives (Some y) was = record { between = Some y; was = was; is = record { value = g y; given = gives y; is = refl } }
+abbrev pub passed : {Y : Type 0} → (Y → Bool) → Option Y → Option Y
+passed p None = None
+passed p (Some y) = cond (p y) (Some y) None
 
-module _ {Y : Type 0} (Before : Option Y → Type 0) where
-  abbrev pub passed : (Y → Bool) → Option Y → Option Y
-  passed p None = None
-  passed p (Some y) = cond (p y) (Some y) None
+pub makes-selected : {Y B : Type 0} (Before : Option Y → Type 0) (Gives : Y → B → Type 0) (g : Y → B) → ((y : Y) → Gives y (g y)) → (o : Option Y)
+    → Before o → GivesThen Before (Selects Gives) (selected g o)
+makes-selected Before Gives g gives None was = record { between = None; was = was; is = refl }
+makes-selected Before Gives g gives (Some y) was =
+    record { between = Some y; was = was; is = record { value = g y; given = gives y; is = refl } }
 
-  pub makes-passed : (Gives : Y → Bool → Type 0) (p : Y → Bool) → ((y : Y) → Gives y (p y)) → (o : Option Y) → Before o
-      → GivesThen Before (Passes Gives) (passed p o)
-  makes-passed Gives p gives None was = record { between = None; was = was; is = refl }
-  makes-passed Gives p gives (Some y) was = record { between = Some y; was = was; is = record { passes = p y; given = gives y; is = refl } }
+pub makes-passed : {Y : Type 0} (Before : Option Y → Type 0) (Gives : Y → Bool → Type 0) (p : Y → Bool) → ((y : Y) → Gives y (p y)) → (o : Option Y)
+    → Before o → GivesThen Before (Passes Gives) (passed p o)
+makes-passed Before Gives p gives None was = record { between = None; was = was; is = refl }
+makes-passed Before Gives p gives (Some y) was =
+    record { between = Some y; was = was; is = record { passes = p y; given = gives y; is = refl } }
 
 -- ---- worked rows
 
