@@ -12,6 +12,7 @@ import contextlib
 import importlib
 import io
 import json
+import logging
 import os
 import pty
 import random
@@ -239,6 +240,27 @@ def calls(tests, local):
     with contextlib.redirect_stdout(io.StringIO()) as printed:
         exec(code, {"sys": sys, "client": local.client})
     tests.check("the page's call from Python", printed.getvalue() == "[0, 2, 4, 6, 8] end\n", printed.getvalue())
+
+
+def unwanted(tests, local):
+    """Shards that nobody wants any more, since those before them had all that is taken: no worker reports that one has failed."""
+    import plinq_shards
+
+    document = {"version": 1, "source": {"range": [0, 4_000_000_000]}, "query": [ORDERED, ["filter", "below", 10], ["take", 5]]}
+    logger, said, before = logging.getLogger("distributed.worker"), io.StringIO(), logging.root.manager.disable
+    handler = logging.StreamHandler(said)
+    logger.addHandler(handler)
+    logging.disable(logging.NOTSET)
+    try:
+        for _ in range(5):
+            seen = plinq_shards.run(local.client, document, PROGRAM, shards=8)
+            tests.check("a call whose last shards aren't wanted", seen == plinq_shards.Answer([0, 1, 2, 3, 4], "end"), seen)
+            # (a worker looks now and then whether what it runs is wanted)
+            time.sleep(1)
+    finally:
+        logging.disable(before)
+        logger.removeHandler(handler)
+    tests.check("shards that aren't wanted haven't failed", "Failed" not in said.getvalue(), said.getvalue()[:1_000])
 
 
 def unknown(tests, folder):
@@ -614,6 +636,7 @@ def main():
             tests.end()
         with InProcess() as local:
             calls(tests, local)
+            unwanted(tests, local)
             random_documents(tests, local)
             most_steps(tests, local)
             portions(tests, local)

@@ -85,13 +85,17 @@ def started(path, words, document):
 
 
 def output_of(process, most, is_wanted):
-    """What a process prints, and whether that is all: it is stopped after the most bytes, or where nobody wants them any more."""
+    """What a process prints, and whether that is all: it is stopped after the most bytes, or once nobody wants them any more. Then
+    Dask forgets the task, or has it run again if it is wanted after all."""
+    import distributed
+
     blocks, length = [], 0
     while length <= most:
         ready = select.select([process.stdout], [], [], LOOK)[0]
         if not is_wanted():
             process.kill()
-            raise RuntimeError("cancelled")
+            # (a worker reports any other exception as a failure, though nothing has failed)
+            raise distributed.Reschedule
         if ready:
             block = os.read(process.stdout.fileno(), 1 << 20)
             if not block:
