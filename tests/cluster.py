@@ -263,6 +263,19 @@ def unwanted(tests, local):
     tests.check("shards that aren't wanted haven't failed", "Failed" not in said.getvalue(), said.getvalue()[:1_000])
 
 
+def mistaken(tests, local):
+    """What a call from Python can't be given."""
+    import plinq_shards
+
+    document = {"version": 1, "source": {"list": [1]}, "query": []}
+    for given, shards, error in ((None, None, TypeError), ([document], None, TypeError), (document, 0, ValueError), (document, "3", TypeError)):
+        try:
+            said = plinq_shards.run(local.client, given, PROGRAM, shards)
+        except (TypeError, ValueError) as why:
+            said = type(why)
+        tests.check(f"a call from Python: {given}, {shards!r}", said == error, said)
+
+
 def unknown(tests, folder):
     """Steps and sources of a later program, which this one doesn't refuse."""
     with open(f"{folder}/later", "w") as file:
@@ -637,6 +650,7 @@ def main():
         with InProcess() as local:
             calls(tests, local)
             unwanted(tests, local)
+            mistaken(tests, local)
             random_documents(tests, local)
             most_steps(tests, local)
             portions(tests, local)

@@ -4,10 +4,13 @@ Who has a Dask client calls `run`, as this folder's parent is on Python's path.
 """
 import dataclasses
 import json
+import operator
 import os
 
 # The program that `./plinq --build` makes.
 PROGRAM = os.path.join(os.path.dirname(os.path.dirname(os.path.dirname(os.path.realpath(__file__)))), "crates", "plinq", "out", "plinq")
+# Into how many shards a source may be cut, as many as a range may have elements.
+MOST_SHARDS = 2**40
 
 
 @dataclasses.dataclass(frozen=True)
@@ -25,10 +28,12 @@ def run(client, document, program=PROGRAM, shards=None):
         >>> run(client, {"version": 1, "source": {"range": [0, 10]}, "query": [["as_ordered"], ["filter", "even"]]})
         Answer(items=[0, 2, 4, 6, 8], ending='end')
 
-    The ending is 'end', 'refused N' or 'fault NAME', as `plinq run` prints it; the items before a fault are there. What has no
-    answer raises `trouble.Trouble` with the line that plinq-cluster prints: a document that is refused, a worker with another
-    program, a cluster that is gone. A coroutine awaits it by `asyncio.to_thread`. Items are held in memory. The merge option has no effect but that a fully buffered answer
-    that doesn't end well has none.
+    The ending is 'end', 'refused N' or 'fault NAME', as `plinq run` prints it; the items before a fault are there. Items are held
+    in memory. The merge option has no effect but that a fully buffered answer that doesn't end well has none. The source is cut
+    into so many shards, or into as many as suit the cluster.
+
+    What has no answer raises `trouble.Trouble` with the line that plinq-cluster prints: a document that is refused, a worker with
+    another program, a cluster that is gone. A coroutine awaits it by `asyncio.to_thread`.
     """
     import cloudpickle
 
@@ -41,6 +46,10 @@ def run(client, document, program=PROGRAM, shards=None):
     from .shard import shards as shards_of
     from .trouble import own
 
+    if not isinstance(document, (dict, str, bytes)):
+        raise TypeError(f"a document is a dict, or the text of one as str or bytes: {repr(document)[:80]}")
+    if shards is not None and not 1 <= operator.index(shards) <= MOST_SHARDS:
+        raise ValueError(f"shards is a whole number from 1 to {MOST_SHARDS}: {shards}")
     if client.scheduler is None:
         raise own("the client is closed")
     if client.asynchronous:
