@@ -547,6 +547,8 @@ def other_programs(tests, folder):
         tests.check(f"a worker's program: {name}", is_trouble(seen, ANSWER, why) and b"worker tcp://127.0.0.1:" in seen.errors, seen)
     seen = ended(begun(["--scheduler", "127.0.0.1:1"]))
     tests.check("a scheduler that isn't there", is_trouble(seen, ANSWER, "plinq-cluster: scheduler 127.0.0.1:1: "), seen)
+    seen = ended(begun(["--scheduler", "tls://127.0.0.1:1"]))
+    tests.check("TLS that isn't set up", is_trouble(seen, ANSWER, "plinq-cluster: scheduler tls://127.0.0.1:1: TLS expects "), seen)
 
 
 def installed_programs(tests, folder):

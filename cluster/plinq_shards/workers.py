@@ -85,7 +85,8 @@ def remote(address):
     try:
         with dask.config.set({"distributed.comm.timeouts.connect": f"{PATIENCE}s"}):
             client = distributed.Client(address, timeout=PATIENCE)
-    except (OSError, ValueError, distributed.TimeoutError) as error:
+    except (OSError, ValueError, TypeError, ImportError, distributed.TimeoutError) as error:
+        # (a TypeError says what TLS lacks, an ImportError what a scheme does)
         raise own(f"scheduler {address}: {str(error) or 'no answer'}") from None
     try:
         try:
