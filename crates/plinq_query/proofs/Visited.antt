@@ -4,7 +4,7 @@ use Rattle.std.proofs.Common.{refl, ap, ◌∙◌, sym, subst, append_assoc}
 use Rattle.plinq_source.specs.declared.ending.Ending.{Ending}
 use Rattle.plinq_merge.specs.declared.delivery_fault.DeliveryFault.{DeliveryFault}
 use Rattle.plinq_merge.specs.declared.delivery_fault.DeliveryFault.TheVariants.{Memory as NoMore, Sink as Refusal}
-use Rattle.plinq_merge.specs.Sending.{Leads, RefusesNext, IsCutOff, singles}
+use Rattle.plinq_merge.specs.Sending.{Leads, RefusesNext, IsCutOff}
 use Rattle.plinq_merge.specs.inner.Sent.{leads-append, cut-after, cut-before}
 use Rattle.plinq_run.specs.Runs.{Cause, SinkRefused, Stopped, Other, cause_of}
 use Rattle.plinq_collect.specs.Telling.{items_of}
@@ -15,10 +15,6 @@ use Rattle.plinq_query.specs.Ran.{Ran, BreaksOff}
 items_of-append : {T : Type 0} (bs cs : List (List T)) → items_of (bs ++ cs) ≡ items_of bs ++ items_of cs
 items_of-append [] cs = refl
 items_of-append (b ∷ bs) cs = ap (λ ys. b ++ ys) (items_of-append bs cs) ∙ sym (append_assoc b (items_of bs) (items_of cs))
-
-pub items_of-singles : {T : Type 0} (xs : List T) → items_of (singles xs) ≡ xs
-items_of-singles [] = refl
-items_of-singles (x ∷ xs) = ap (λ ys. x ∷ ys) (items_of-singles xs)
 
 module _ {K F T N : Type 0} (takes : F → T → F → Type 0) (refuses : F → T → ℕ → F → Type 0) (p : K → F) (name : K → N) where
   -- a sink that calls what it is lent with the items of a batch

@@ -67,8 +67,8 @@ told_alone (Ok (Refused code)) = Err (Ended (Refused code))
 told_alone (Ok (Fault code)) = Err (Ended (Fault code))
 told_alone (Err code) = Err (Run (Sink code))
 
--- why a search has no answer: it found nothing, and the source ended so, which isn't well; or there is none for want of workers, a
--- growth, memory, a thread or tickets
+-- why a search returns no answer: it found nothing before the source refused with this ending; or the number of workers or the growth
+-- was refused; or memory, a thread or tickets ran out
 abbrev pub SearchFails : {T : Type 0} → Type 0 → ℕ → Option (ℕ × ℕ × ℕ) → Trace T → QueryFault → Type 0
 SearchFails FoundNone workers growth t Degree = is_degree workers ≡ false
 SearchFails FoundNone workers growth t (Growth fault) = CantGrow growth fault
