@@ -45,6 +45,7 @@ CALLS = {
     "sequentially::for_each": ("library", "refused_room::calls_on_one_thread_that_are_refused_are_made_the_next_time"),
     "contains": ("library", "refused_room::a_line_that_was_refused_is_found_the_next_time"),
     "typed queries": ("library", "refused_room::typed_queries_that_are_refused_are_answered_the_next_time"),
+    "steps by position": ("library", "refused_room::steps_by_position_that_are_refused_are_answered_the_next_time"),
     "run and aggregate by one worker": ("run", "refused_room::one_worker_may_be_refused_room"),
     "run and aggregate by two workers": ("run", "refused_room::two_workers_may_be_refused_room"),
     "run and aggregate by eight workers": ("run", "refused_room::eight_workers_may_be_refused_room"),

@@ -19,6 +19,8 @@ mod ordered_queries;
 #[cfg(test)]
 mod refused_room;
 #[cfg(test)]
+mod typed_positions;
+#[cfg(test)]
 mod typed_queries;
 #[cfg(test)]
 mod typed_searches;

@@ -280,3 +280,54 @@ fn typed_queries_that_are_refused_are_answered_the_next_time(rt: HostRuntime) {
         assert!(rt; !is_typed_list_refused(&rt, rt.alloc()));
     }
 }
+
+/// Asks for a list of what steps by position leave, by threads. Returns whether that was refused.
+fn is_window_refused<R: Clock + Threads + Wait + Sync + Abort>(rt: &R, alloc: Global) -> bool {
+    let Ok(source) = SliceSource::new(&NUMBERS) else {
+        panic!(rt; "no source");
+    };
+    let window = from(source)
+        .as_parallel()
+        .with_degree(1)
+        .skip(1)
+        .take(2)
+        .to_vec(rt, alloc);
+    match window {
+        Ok(window) => {
+            assert!(rt; window.as_slice() == [5, 6].as_slice());
+            false
+        }
+        Err(fault) => {
+            assert!(rt; matches!(fault, QueryFault::Run(fault) if is_short(fault)));
+            true
+        }
+    }
+}
+
+/// The same on one thread, where nothing but memory can be short.
+fn is_window_alone_refused<R: Abort>(rt: &R, alloc: Global) -> bool {
+    let Ok(source) = SliceSource::new(&NUMBERS) else {
+        panic!(rt; "no source");
+    };
+    match from(source).skip(1).take(2).to_vec(alloc) {
+        Ok(window) => {
+            assert!(rt; window.as_slice() == [5, 6].as_slice());
+            false
+        }
+        Err(fault) => {
+            assert!(rt; fault == QueryFault::Run(RunFault::Memory));
+            true
+        }
+    }
+}
+
+#[test]
+fn steps_by_position_that_are_refused_are_answered_the_next_time(rt: HostRuntime) {
+    if is_window_refused(&rt, rt.alloc()) {
+        assert!(rt;
+            !is_window_refused(&rt, rt.alloc()) && !is_window_alone_refused(&rt, rt.alloc())
+        );
+    } else if is_window_alone_refused(&rt, rt.alloc()) {
+        assert!(rt; !is_window_alone_refused(&rt, rt.alloc()));
+    }
+}

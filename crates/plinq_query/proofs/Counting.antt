@@ -14,7 +14,7 @@ module _ {T B : Type 0} (f : T → Option B) where
       let same : filter_map f (x ∷ xs) ≡ y ∷ filter_map f xs = cc in
       omega (arith, rest, ap length same)
 
-  few-made : (xs : List T) → length (filter_map f xs) ≤ length xs
+  pub few-made : (xs : List T) → length (filter_map f xs) ≤ length xs
   few-made [] = omega arith
   few-made (x ∷ xs) = few-at x xs (f x) refl (few-made xs)
 

@@ -1,7 +1,8 @@
+mod Accumulating
+mod Carrying
 mod Counting
 mod Delivering
 mod OneByOne
 mod Searching
-mod Taking
 mod Telling
 mod Visited

@@ -17,7 +17,7 @@ use Rattle.plinq_query.specs.declared.keep_first.KeepFirst.{KeepFirst}
 use Rattle.plinq_query.specs.declared.query_fault.QueryFault.{QueryFault}
 use Rattle.plinq_query.specs.declared.query_fault.QueryFault.TheVariants.{Degree, Growth, Ended, Run}
 use Rattle.plinq_query.specs.Ran.{Ran, BreaksOff, SearchFails, told_first, told_found, told_not}
-use Rattle.plinq_query.specs.Makes.{selected, passed}
+use Rattle.plinq_steps.specs.Makes.{selected, passed}
 
 -- ---- the first item
 

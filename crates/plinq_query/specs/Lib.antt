@@ -1,4 +1,3 @@
-pub mod Makes
 pub mod Ran
 pub mod Told
 pub mod inner

@@ -1,5 +1,5 @@
 -- What a query's run gives its sink, and what a search of its answer finds.
-use Rattle.std.specs.Prelude.{◌≡◌, ◌≢◌, refl, ⊤, ℕ, List, [], ◌∷◌, Some, None, Bool, false, not, is_some, Option, Result, Ok, Err}
+use Rattle.std.specs.Prelude.{◌≡◌, ◌≢◌, refl, ⊤, ℕ, List, [], ◌∷◌, Some, None, Bool, true, false, not, is_some, Option, Result, Ok, Err}
 use Rattle.std.specs.List.{filter_map}
 use Rattle.std.proofs.Common.{◌∙◌}
 use Rattle.plinq_source.specs.declared.ending.Ending.{Ending}
@@ -75,6 +75,24 @@ SearchFails FoundNone workers growth t (Growth fault) = CantGrow growth fault
 SearchFails FoundNone workers growth t (Ended e) = (t.ending ≡ Some e) × (e ≢ End) × FoundNone
 SearchFails FoundNone workers growth t (Run fault) = cause_of fault ≡ Other
 
+-- what steps by position leave of what is made of a source's items, and whether these decide it, whatever comes after them
+abbrev pub left_of : {T B C : Type 0} → (T → Option B) → (List B → List C) → Trace T → List C
+left_of f g t = g (filter_map f t.items)
+
+abbrev pub decided_by : {T B : Type 0} → (T → Option B) → (List B → Bool) → Trace T → Bool
+decided_by f d t = d (filter_map f t.items)
+
+-- a source ended well, unless that was decided before
+abbrev pub EndsUnless : {T : Type 0} → Bool → Trace T → Type 0
+EndsUnless decided t = decided ≡ false → t.ending ≡ Some End
+
+-- why a search fails, but on one thread, where nothing but memory can be short
+abbrev pub FailsAlone : {T : Type 0} → Type 0 → Trace T → QueryFault → Type 0
+FailsAlone Undecided t Degree = ⊥
+FailsAlone Undecided t (Growth fault) = ⊥
+FailsAlone Undecided t (Ended e) = (t.ending ≡ Some e) × (e ≢ End) × Undecided
+FailsAlone Undecided t (Run fault) = fault ≡ Memory
+
 -- what came first to a sink that refuses once it has come
 abbrev pub told_first : {B : Type 0} → Option B → Result ⊤ QueryFault → Result (Option B) QueryFault
 told_first item (Ok all) = Ok None
@@ -98,6 +116,13 @@ told_not (Ok is) = Ok (not is)
 told_not (Err fault) = Err fault
 
 -- ---- worked rows
+
+-- of what was decided before a refusal nothing is said of it
+decided_before_it : EndsUnless true (ended_trace {T = ℕ} [] (Refused 7))
+decided_before_it still = absurd (cc)
+
+undecided_before_it : EndsUnless false (ended_trace {T = ℕ} [] (Refused 7)) → ⊥
+undecided_before_it ends = absurd (let bad : ◌≡◌ {A = Option Ending} (Some (Refused 7)) (Some End) = ends refl in cc)
 
 -- a sink that keeps what it is given
 abbrev keeps : List ℕ → ℕ → List ℕ → Type 0

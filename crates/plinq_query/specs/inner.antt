@@ -1,2 +1,2 @@
 -- Words that no public contract reaches: private contracts and proofs cite them.
-pub mod Taken
+pub mod Passing

@@ -7,10 +7,10 @@ ghost use Rattle.plinq_query.specs.Ran.{told_alone};
 
 use crate::made::Made;
 use crate::query_fault::QueryFault;
-use crate::steps::Steps;
 use crate::visits::Visits;
 use plinq_run::RunFault;
 use plinq_source::{Ending, Source, Step};
+use plinq_steps::Steps;
 
 /// Passes on what is made of an item, if anything is.
 #[inline(always)]

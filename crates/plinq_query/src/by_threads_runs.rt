@@ -1,5 +1,5 @@
 //! The calls that deliver what a query's steps make, or search it, by threads.
-ghost use Rattle.std.specs.Prelude.{◌≡◌, None, Some, Option, Bool, false, true, Err, MatchResult};
+ghost use Rattle.std.specs.Prelude.{◌≡◌, drop, None, Some, Option, Bool, false, true, Err, MatchResult};
 ghost use Rattle.std.specs.List.{filter_map, list_any, list_all};
 ghost use Rattle.plinq_source.specs.declared.ending.Ending.TheVariants.{End};
 ghost use Rattle.plinq_collect.specs.ItemFoldings.{first_of};
@@ -9,7 +9,6 @@ ghost use Rattle.plinq_query.specs.declared.query_fault.QueryFault.TheVariants.{
 ghost use Rattle.plinq_query.specs.Ran.{Ran, SearchFails, steps_made};
 
 use crate::by_threads::ByThreads;
-use crate::equal::Equal;
 use crate::keep_first::KeepFirst;
 use crate::made::Made;
 use crate::plain::Plain;
@@ -17,11 +16,11 @@ use crate::planning::growth_of;
 use crate::query::Query;
 use crate::query_fault::QueryFault;
 use crate::running::{delivering_plan_of, run_of, told_first, told_found, told_not, told_ran};
-use crate::steps::Steps;
 use plinq_groups::MapEach;
 use plinq_merge::Sink;
 use plinq_ops::MergeOption;
 use plinq_source::Source;
+use plinq_steps::{Equal, Steps};
 use std::alloc::Global;
 use std::sync::Wait;
 use std::thread::Threads;
@@ -85,6 +84,33 @@ where
             .with_merge(MergeOption::NotBuffered)
             .run_into(rt, alloc, &mut keeps);
         told_first(keeps.item, outcome)
+    }
+
+    /// The item that the steps make at a position, the first of them at 0, if there is one (.NET's `ElementAtOrDefault`, Rust's `nth`).
+    /// The source is left once it is known.
+    ///
+    /// # Errors
+    ///
+    /// As [`Query::first`].
+    pub fn element_at<R>(
+        self,
+        rt: &R,
+        alloc: Global,
+        position: u64,
+    ) -> Result<Option<S::To>, QueryFault>
+    where
+        R: Clock + Threads + Wait + Sync,
+        requires fresh { Src.given self.source ≡ 0 }
+        requires is_called { S.is_called self.steps }
+        requires in_one_way { S.in_one_way self.steps }
+        requires gives { S.gives self.steps }
+        requires gives_one { S.gives_one self.steps }
+        ensures degree { is_degree self.by.degree ≡ false → result ≡ Err Degree }
+        ensures value { (f : S.From → Option S.To) → ((x : S.From) → S.makes self.steps x (f x)) → MatchResult result
+            (λ o. (o ≡ first_of (drop position (filter_map f (Src.whole self.source).items))) × (o ≡ None → (Src.whole self.source).ending ≡ Some End))
+            (SearchFails (first_of (drop position (filter_map f (Src.whole self.source).items)) ≡ None) self.by.degree self.by.growth (Src.whole self.source)) }
+    {
+        self.skip(position).first(rt, alloc)
     }
 
     /// Whether the steps make this item (.NET's `Contains`). The source is left once it is found.

@@ -13,9 +13,9 @@ use crate::call_each::CallEach;
 use crate::made::Made;
 use crate::query::{OneThread, Query};
 use crate::query_fault::QueryFault;
-use crate::steps::Steps;
 use crate::visits::{Tells, Tries, Visits};
 use plinq_source::Source;
+use plinq_steps::Steps;
 use std::alloc::Global;
 use std::sync::Wait;
 use std::thread::Threads;
@@ -79,7 +79,7 @@ where
 }
 
 /// Calls with what a query makes, in any way of calling.
-fn call_each<Src, S, V, R>(
+pub(crate) fn call_each<Src, S, V, R>(
     query: Query<Src, S, ByThreads>,
     rt: &R,
     alloc: Global,

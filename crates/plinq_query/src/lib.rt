@@ -4,8 +4,10 @@
 //!   threads.
 //! - [`Query::to_vec`], [`Query::count`], [`Query::aggregate`] and [`Query::group_by`] run it. The workers apply the steps and fold
 //!   what is made, in the order of the source.
-//! - [`Query::first`], [`Query::any`], [`Query::all`], [`Query::contains`] and [`Query::take`] leave the source once their answer is
-//!   known.
+//! - [`Query::first`], [`Query::element_at`], [`Query::any`], [`Query::all`] and [`Query::contains`] leave the source once their
+//!   answer is known.
+//! - [`Query::take`], [`Query::skip`], [`Query::take_while`] and [`Query::skip_while`] go by an item's position, on the thread that
+//!   asks ([`Merged`]).
 //! - [`Query::for_each`], [`Query::try_for_each`] and [`Query::run_into`] pass on what is made as it comes, in the order of the
 //!   source.
 //! - A closure serves if its contract says that it may always be called, in one way, and that it has one answer to each item.
@@ -20,30 +22,29 @@ mod by_threads_runs;
 mod call_each;
 mod calling;
 mod count_of;
-mod equal;
-mod filtered;
+mod folds;
 mod keep_first;
-mod keep_some;
 mod made;
+mod merged;
+mod merged_alone;
+mod merged_by_threads;
 mod on_one_thread;
 mod on_one_thread_runs;
 mod pairs;
+mod passes;
+mod passing;
 mod plain;
 mod planning;
 mod query;
 mod query_fault;
 mod running;
-mod selected;
-mod start;
-mod steps;
-mod taken;
 mod visits;
 
 pub use by_threads::ByThreads;
-pub use filtered::Filtered;
+pub use merged::Merged;
+pub use plinq_steps::{
+    Filtered, Positional, Selected, Skipped, SkippedWhile, Start, Steps, Taken, TakenWhile, Then,
+    Whole,
+};
 pub use query::{OneThread, Query, from};
 pub use query_fault::QueryFault;
-pub use selected::Selected;
-pub use start::Start;
-pub use steps::Steps;
-pub use taken::Taken;

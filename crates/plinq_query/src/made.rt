@@ -2,8 +2,8 @@ ghost use Rattle.std.specs.Prelude.{◌≡◌, Option, Ok};
 ghost use Rattle.std.specs.Coded.{Π_prop};
 ghost use Rattle.plinq_closures.specs.inner.Only.{MayCall, MayCall-prop, HasOne, HasOne-prop, answer_in};
 
-use crate::steps::Steps;
 use plinq_groups::{MakeOf, MapFault};
+use plinq_steps::Steps;
 use std::alloc::Global;
 
 /// What lent steps make of each item, as the workers of a run ask for it.

@@ -1,18 +1,17 @@
 //! The calls that search what a query's steps make on the caller's thread. They take no memory.
-ghost use Rattle.std.specs.Prelude.{◌≡◌, None, Some, Option, Bool, false, true, IfErr, MatchResult};
+ghost use Rattle.std.specs.Prelude.{◌≡◌, drop, None, Some, Option, Bool, false, true, IfErr, MatchResult};
 ghost use Rattle.std.specs.List.{filter_map, list_any, list_all};
 ghost use Rattle.plinq_source.specs.declared.ending.Ending.TheVariants.{End};
 ghost use Rattle.plinq_collect.specs.ItemFoldings.{first_of};
 ghost use Rattle.plinq_query.specs.Ran.{SearchFails, HasEnded};
 
 use crate::calling::visit_each_alone;
-use crate::equal::Equal;
 use crate::keep_first::{First, KeepFirst};
 use crate::query::{OneThread, Query};
 use crate::query_fault::QueryFault;
 use crate::running::{told_first, told_found, told_not};
-use crate::steps::Steps;
 use plinq_source::Source;
+use plinq_steps::{Equal, Steps};
 
 impl<Src, S> Query<Src, S, OneThread>
 where
@@ -39,6 +38,26 @@ where
         let mut keeps = KeepFirst { item: None };
         let outcome = visit_each_alone::<Src, S, First<S::To>>(self, &mut keeps);
         told_first(keeps.item, outcome)
+    }
+
+    /// The item that the steps make at a position, the first of them at 0, if there is one (.NET's `ElementAtOrDefault`, Rust's `nth`).
+    /// The source is left once it is known.
+    ///
+    /// # Errors
+    ///
+    /// As [`Query::first`].
+    pub fn element_at(self, position: u64) -> Result<Option<S::To>, QueryFault>
+        requires fresh { Src.given self.source ≡ 0 }
+        requires is_called { S.is_called self.steps }
+        requires in_one_way { S.in_one_way self.steps }
+        requires gives { S.gives self.steps }
+        requires gives_one { S.gives_one self.steps }
+        ensures value { (f : S.From → Option S.To) → ((x : S.From) → S.makes self.steps x (f x)) → MatchResult result
+            (λ o. (o ≡ first_of (drop position (filter_map f (Src.whole self.source).items))) × (o ≡ None → (Src.whole self.source).ending ≡ Some End))
+            (SearchFails (first_of (drop position (filter_map f (Src.whole self.source).items)) ≡ None) 1 None (Src.whole self.source)) }
+        ensures alone { IfErr result HasEnded }
+    {
+        self.skip(position).first()
     }
 
     /// Whether the steps make this item (.NET's `Contains`). The source is left once it is found.

@@ -2,12 +2,9 @@ ghost use Rattle.std.specs.Prelude.{◌≡◌, None, Some};
 ghost use Rattle.plinq_ops.specs.declared.merge_option.MergeOption.TheVariants.{Default};
 
 use crate::by_threads::ByThreads;
-use crate::filtered::Filtered;
-use crate::selected::Selected;
-use crate::start::Start;
-use crate::steps::Steps;
 use plinq_ops::MergeOption;
 use plinq_source::Source;
+use plinq_steps::{Filtered, Selected, Start, Steps};
 
 /// A query on the thread that asks it.
 #[derive(Clone, Copy, Drop)]

@@ -1,5 +1,5 @@
 -- Some answer is true if some item passes.
-use Rattle.plinq_query.specs.Makes.{selected, makes-selected}
+use Rattle.plinq_steps.specs.Makes.{selected, makes-selected}
 use Rattle.plinq_query.proofs.Searching.{found-same, any-true}
 use Rattle.plinq_query.proofs.by_threads_runs.Query+Src+S+ByThreads.any.Goals as goal
 

@@ -1,0 +1,20 @@
+-- It is the first of those after as many.
+use Rattle.std.specs.Prelude.{drop, None}
+use Rattle.std.specs.List.{filter_map}
+use Rattle.plinq_collect.specs.ItemFoldings.{first_of}
+use Rattle.plinq_steps.specs.Means.{undecided}
+use Rattle.plinq_query.proofs.Accumulating.{first-past, past}
+use Rattle.plinq_query.proofs.on_one_thread_runs.Query+Src+S+OneThread.element_at.Goals as goal
+
+pub returns : goal.returns
+returns g c =
+    let q = c.args.self in
+    let n = c.args.position in
+    let t = g.Src.Source.whole q.source in
+    let w = c.skip.ensures in
+    record {
+      value = λ f makes.
+          first-past t (first_of (drop n (filter_map f t.items))) 1 None c.first.result
+          (rw w.0 at (c.first.ensures.value f (λ x. rw w.0 (makes x)) (drop n) undecided (rw w.1 (past n))));
+      alone = c.first.ensures.alone;
+    }
