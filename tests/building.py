@@ -739,6 +739,22 @@ def notes(place, tests):
     tests.check("and the next use builds", "built of: unnoted mid main" in output and calls[-1:] == ALL_CALLS[-1:], (output, calls))
 
 
+def cannot_be_written(place, tests):
+    """Another user of the machine in a clone that isn't theirs, of which a source has changed since."""
+    is_there = os.path.lexists(f"{place.bin}/rm")
+    if is_there:
+        os.remove(f"{place.bin}/rm")
+    refuses = f'#!/usr/bin/env bash\n[[ $* != *built_from* ]] && exec {shutil.which("rm")} "$@"\nexit 1\n'
+    os.chmod(place.write("../bin/rm", refuses), 0o755)
+    place.write("crates/low/src/lib.rt", "of another\n")
+    status, output, errors, _ = place.run()
+    os.remove(f"{place.bin}/rm")
+    os.symlink(shutil.which("rm"), f"{place.bin}/rm")
+    tests.check("where nothing can be written, it is said", status == 5 and "plinq: nothing can be built here: " in errors, (status, output, errors))
+    status, output, _, calls = place.run()
+    tests.check("and whoever can write builds", "built of: of another" in output, (status, output))
+
+
 def waits_for_the_gate(place, tests):
     place.write("crates/low/src/lib.rt", "low\n")
     place.write("orders/say-waiting")
@@ -779,6 +795,7 @@ def main():
         interruption(place, tests)
         two_at_once(place, tests)
         notes(place, tests)
+        cannot_be_written(place, tests)
         waits_for_the_gate(place, tests)
     tests.end()
 

@@ -103,6 +103,8 @@ def pages(tests):
 
 
 def package(tests, folder):
+    # (a folder that isn't there is made)
+    folder = f"{folder}/packages/new"
     seen = calls("--deb", folder)
     (made,) = (it for it in os.listdir(folder) if it.endswith(".deb"))
     tests.check("says which package it made", (seen.returncode, seen.stdout) == (0, f"{folder}/{made}\n"), seen)
