@@ -14,6 +14,7 @@ import io
 import json
 import logging
 import os
+import pathlib
 import pty
 import random
 import re
@@ -274,6 +275,18 @@ def mistaken(tests, local):
         except (TypeError, ValueError) as why:
             said = type(why)
         tests.check(f"a call from Python: {given}, {shards!r}", said == error, said)
+    try:
+        said = plinq_shards.run(local.cluster, document, PROGRAM)
+    except TypeError as why:
+        said = str(why)
+    tests.check("a cluster in the place of a client", str(said).startswith("a Dask client is wanted"), said)
+    try:
+        said = plinq_shards.run(local.client, {"version": 3}, PROGRAM)
+    except plinq_shards.Trouble as why:
+        said = (str(why), why.status)
+    tests.check("a document that is refused", said == ("plinq: document: unknown version", 2), said)
+    said = plinq_shards.run(local.client, document, pathlib.Path(PROGRAM))
+    tests.check("a program by a Path", said == plinq_shards.Answer([1], "end"), said)
 
 
 def unknown(tests, folder):
@@ -292,6 +305,8 @@ def refused(tests):
     for text in (b"[", b"{}", b'{"version":3}', text_of({"range": [2**63 - 1, 2]}), text_of({"list": []}, ["sort"])):
         seen, right = command(words, text), run(["run"], text, PROGRAM)
         tests.check(f"refused: {text.decode()}", seen == right and seen.status == 2, seen)
+    seen, right = command(words, b"[", env=os.environ | {"PYTHONSAFEPATH": "1"}), run(["run"], b"[", PROGRAM)
+    tests.check("refused: where Python leaves out a script's folder", seen == right and seen.status == 2, seen)
     twice = text_of({"list": [1]}, ["with_merge", "full"])
     seen, right = command([*words, "--merge", "not"], twice), run(["run", "--merge", "not"], twice, PROGRAM)
     tests.check("refused: a merge option twice", seen == right and seen.status == 2, seen)
@@ -303,6 +318,9 @@ def refused(tests):
     for empty in ("", " "):
         seen = command(["--scheduler", empty], text_of({"list": [1]}))
         tests.check(f"refused: the scheduler {empty!r}", seen.status == 2 and b"invalid HOST:PORT value" in seen.errors, seen)
+    seen = command([*words, "--program", "/tmp"], text_of({"list": [1]}))
+    is_said = seen.status == 5 and seen.errors.startswith(b"plinq-cluster: /tmp is no file that may be run: ")
+    tests.check("refused: a folder as the program", is_said, seen)
     seen = command([*words, "--program", "/nowhere"], text_of({"list": [1]}))
     tests.check("refused: a program that isn't there", seen.status == 5 and seen.errors.startswith(b"plinq-cluster: /nowhere isn't there: "), seen)
     for program, status in (("/bin/true", 0), ("/bin/false", 1), ("/bin/cat", 1)):

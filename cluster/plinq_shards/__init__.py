@@ -7,6 +7,10 @@ import json
 import operator
 import os
 
+from .trouble import Trouble
+
+__all__ = ["Answer", "Trouble", "run"]
+
 # The program that `./plinq --build` makes.
 PROGRAM = os.path.join(os.path.dirname(os.path.dirname(os.path.dirname(os.path.realpath(__file__)))), "crates", "plinq", "out", "plinq")
 # Into how many shards a source may be cut, as many as a range may have elements.
@@ -32,10 +36,11 @@ def run(client, document, program=PROGRAM, shards=None):
     in memory. The merge option has no effect but that a fully buffered answer that doesn't end well has none. The source is cut
     into so many shards, or into as many as suit the cluster.
 
-    What has no answer raises `trouble.Trouble` with the line that plinq-cluster prints: a document that is refused, a worker with
+    What has no answer raises `Trouble` with the line and the status of plinq-cluster: a document that is refused, a worker with
     another program, a cluster that is gone. A coroutine awaits it by `asyncio.to_thread`.
     """
     import cloudpickle
+    import distributed
 
     from . import program as by_worker
     from .answer import show
@@ -46,6 +51,8 @@ def run(client, document, program=PROGRAM, shards=None):
     from .shard import shards as shards_of
     from .trouble import own
 
+    if not isinstance(client, distributed.Client):
+        raise TypeError(f"a Dask client is wanted, as distributed.Client(cluster) gives: {repr(client)[:80]}")
     if not isinstance(document, (dict, str, bytes)):
         raise TypeError(f"a document is a dict, or the text of one as str or bytes: {repr(document)[:80]}")
     if shards is not None and not 1 <= operator.index(shards) <= MOST_SHARDS:

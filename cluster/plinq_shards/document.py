@@ -82,8 +82,11 @@ def understood(program, text, workers=None, merge=None):
 
 def found(program):
     """The program's name, by which each machine finds its own, and its path on this one."""
+    program = os.fspath(program)
     name = os.path.abspath(program) if "/" in program else program
     path = shutil.which(name)
+    if path is None and "/" in program and os.path.exists(name):
+        raise own(f"{program} is no file that may be run: --program (in Python, program=) names another")
     if path is None:
         raise own(f"{program} isn't there: ./plinq --build makes one, and --program (in Python, program=) names another")
     return name, path
