@@ -53,6 +53,17 @@ impl Gate for Delays {
     }
 }
 
+/// How many workers go. A run by many takes longest, and a test has a minute, also on two cores that prove other crates: so
+/// there is a test of each.
+#[derive(Clone, Copy)]
+enum Workers {
+    One,
+    Two,
+    AFew,
+    Many,
+    TheMost,
+}
+
 /// What picks queries, sources and settings.
 #[derive(Drop)]
 struct Dice {
@@ -115,14 +126,13 @@ impl Dice {
         }
     }
 
-    /// How many workers go: any number of them, and at every fourth run 1, 2, 8 and 64 in turn.
-    fn workers(&mut self, run: u64) -> u64 {
-        match run % 16 {
-            0 => 1,
-            4 => 2,
-            8 => 8,
-            12 => 64,
-            _ => 1 + self.below(64),
+    fn workers(&mut self, many: Workers) -> u64 {
+        match many {
+            Workers::One => 1,
+            Workers::Two => 2,
+            Workers::AFew => 3 + self.below(6),
+            Workers::Many => 9 + self.below(55),
+            Workers::TheMost => 64,
         }
     }
 
@@ -135,12 +145,12 @@ impl Dice {
         Some(self.below(most))
     }
 
-    fn setting(&mut self, run: u64) -> Option<Setting> {
+    fn setting(&mut self, many: Workers) -> Option<Setting> {
         Some(Setting {
             growth: Growth::new(1, 1 + self.below(3), 1 + self.below(8)).ok()?,
             option: OPTIONS[self.below(4) as usize],
             cancel_after: self.cancel_after(),
-            ..Setting::by(self.workers(run))
+            ..Setting::by(self.workers(many))
         })
     }
 }
@@ -213,10 +223,10 @@ fn ask_any<R: Threads + Wait + Sync>(
     rt: &R,
     alloc: Global,
     dice: &mut Dice,
-    run: u64,
+    many: Workers,
     gate: &Delays,
 ) -> Option<usize> {
-    let setting = dice.setting(run)?;
+    let setting = dice.setting(many)?;
     let items = dice.items();
     let ops = [dice.op(), dice.op(), dice.op(), dice.op()];
     let asked = Asked {
@@ -228,8 +238,13 @@ fn ask_any<R: Threads + Wait + Sync>(
     way_if_right(rt, alloc, &asked, gate)
 }
 
-#[test]
-fn any_query_has_the_answer_of_one_thread(rt: HostRuntime) {
+/// In how many of so many runs each way was met, or the first run with a wrong answer.
+fn ways_of<R: Threads + Wait + Sync>(
+    rt: &R,
+    alloc: Global,
+    many: Workers,
+    runs: u64,
+) -> Result<[u64; 4], u64> {
     let gate = Delays {
         number: AtomicU64::new(88_172_645_463_325_252),
     };
@@ -237,14 +252,51 @@ fn any_query_has_the_answer_of_one_thread(rt: HostRuntime) {
         number: 1_181_783_497_276_652_981,
     };
     let mut ways = [0u64; 4];
-    for run in 0..2_000 {
-        let way = ask_any(&rt, rt.alloc(), &mut dice, run, &gate);
-        assert!(rt; way.is_some(), "run {run}");
-        for (number, count) in ways.iter_mut().enumerate() {
-            if way == Some(number) {
+    for run in 0..runs {
+        let met = ask_any(rt, alloc, &mut dice, many, &gate).ok_or(run)?;
+        for (way, count) in ways.iter_mut().enumerate() {
+            if way == met {
                 *count = count.wrapping_add(1);
             }
         }
     }
-    assert!(rt; ways.iter().all(|count| *count >= 100), "{ways:?}");
+    Ok(ways)
+}
+
+/// Whether each way was met so often at least.
+fn has_each(ways: &Result<[u64; 4], u64>, least: u64) -> bool {
+    match ways {
+        Ok(ways) => ways.iter().all(|count| *count >= least),
+        Err(_) => false,
+    }
+}
+
+#[test]
+fn any_query_by_one_worker_has_the_answer_of_one_thread(rt: HostRuntime) {
+    let ways = ways_of(&rt, rt.alloc(), Workers::One, 400);
+    assert!(rt; has_each(&ways, 20), "{ways:?}");
+}
+
+#[test]
+fn any_query_by_two_workers_has_the_answer_of_one_thread(rt: HostRuntime) {
+    let ways = ways_of(&rt, rt.alloc(), Workers::Two, 400);
+    assert!(rt; has_each(&ways, 20), "{ways:?}");
+}
+
+#[test]
+fn any_query_by_a_few_workers_has_the_answer_of_one_thread(rt: HostRuntime) {
+    let ways = ways_of(&rt, rt.alloc(), Workers::AFew, 800);
+    assert!(rt; has_each(&ways, 40), "{ways:?}");
+}
+
+#[test]
+fn any_query_by_many_workers_has_the_answer_of_one_thread(rt: HostRuntime) {
+    let ways = ways_of(&rt, rt.alloc(), Workers::Many, 300);
+    assert!(rt; has_each(&ways, 15), "{ways:?}");
+}
+
+#[test]
+fn any_query_by_the_most_workers_has_the_answer_of_one_thread(rt: HostRuntime) {
+    let ways = ways_of(&rt, rt.alloc(), Workers::TheMost, 100);
+    assert!(rt; has_each(&ways, 5), "{ways:?}");
 }
