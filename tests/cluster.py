@@ -567,6 +567,13 @@ def other_programs(tests, folder):
     tests.check("a scheduler that isn't there", is_trouble(seen, ANSWER, "plinq-cluster: scheduler 127.0.0.1:1: "), seen)
     seen = ended(begun(["--scheduler", "tls://127.0.0.1:1"]))
     tests.check("TLS that isn't set up", is_trouble(seen, ANSWER, "plinq-cluster: scheduler tls://127.0.0.1:1: TLS expects "), seen)
+    keys = os.environ | {f"DASK_DISTRIBUTED__COMM__TLS__{it}": f"/nowhere/{it}" for it in ("CA_FILE", "CLIENT__CERT", "CLIENT__KEY")}
+    seen = ended(begun(["--scheduler", "tls://127.0.0.1:1"], env=keys))
+    why = "plinq-cluster: scheduler tls://127.0.0.1:1: /nowhere/CA_FILE: No such file or directory"
+    tests.check("TLS with a file that isn't there", is_trouble(seen, ANSWER, why), seen)
+    seen = ended(begun(["--local", "3"], prefix=["prlimit", "--nofile=40"]))
+    why = "plinq-cluster: 3 workers can't be started on this machine: Too many open files"
+    tests.check("too few files for a local cluster", is_trouble(seen, ANSWER, why), seen)
 
 
 def installed_programs(tests, folder):

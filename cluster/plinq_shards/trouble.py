@@ -12,3 +12,13 @@ class Trouble(Exception):
 def own(line):
     """Trouble of this command's own, in the place of a line that `plinq` printed."""
     return Trouble(f"plinq-cluster: {line}")
+
+
+def reason(error):
+    """Why there was an error: what the system said, if that is what it came from, else what the error says."""
+    at = error
+    while at is not None:
+        if isinstance(at, OSError) and at.strerror:
+            return at.strerror
+        at = at.__cause__ or at.__context__
+    return " ".join(str(error).split()) or type(error).__name__

@@ -2,6 +2,7 @@
 import contextlib
 import importlib.util
 import logging
+import os
 import signal
 import tempfile
 import warnings
@@ -11,7 +12,7 @@ import dask
 import distributed
 
 from . import program
-from .trouble import own
+from .trouble import own, reason
 
 # How many seconds a scheduler may take to answer, and then to have its first worker.
 PATIENCE = 10
@@ -55,13 +56,11 @@ def own_keys():
         raise own(f"{error}: --local wants Python's cryptography (apt-get install python3-cryptography)") from None
 
 
-@contextlib.contextmanager
-def local(count):
-    """A cluster of so many workers of one thread each on this machine, for as long as it is wanted."""
-    security = own_keys()
-    with tempfile.TemporaryDirectory(prefix="plinq-cluster-", ignore_cleanup_errors=True) as folder:
+def started(count, security, folder):
+    """A cluster of so many workers of one thread each on this machine."""
+    try:
         with without_interrupts():
-            cluster = distributed.LocalCluster(
+            return distributed.LocalCluster(
                 n_workers=count,
                 threads_per_worker=1,
                 processes=True,
@@ -71,6 +70,17 @@ def local(count):
                 silence_logs=logging.CRITICAL,
                 local_directory=folder,
             )
+    except Exception as error:
+        # (what Dask raises after a system call that failed is of any type)
+        raise own(f"{count} workers can't be started on this machine: {reason(error)}") from None
+
+
+@contextlib.contextmanager
+def local(count):
+    """Such a cluster, for as long as it is wanted."""
+    security = own_keys()
+    with tempfile.TemporaryDirectory(prefix="plinq-cluster-", ignore_cleanup_errors=True) as folder:
+        cluster = started(count, security, folder)
         try:
             with distributed.Client(cluster) as client:
                 yield client
@@ -79,12 +89,23 @@ def local(count):
                 cluster.close(timeout=10)
 
 
+def missing_key():
+    """A file of keys that Dask's settings name and that isn't there. Python's error doesn't name it."""
+    for name in ("ca-file", "client.cert", "client.key"):
+        path = dask.config.get(f"distributed.comm.tls.{name}", None)
+        if path and "\n" not in path and not os.path.exists(path):
+            return f"{path}: "
+    return ""
+
+
 @contextlib.contextmanager
 def remote(address):
     """The cluster of a scheduler that is there."""
     try:
         with dask.config.set({"distributed.comm.timeouts.connect": f"{PATIENCE}s"}):
             client = distributed.Client(address, timeout=PATIENCE)
+    except FileNotFoundError as error:
+        raise own(f"scheduler {address}: {missing_key()}{error.strerror}") from None
     except (OSError, ValueError, TypeError, ImportError, distributed.TimeoutError) as error:
         # (a TypeError says what TLS lacks, an ImportError what a scheme does)
         raise own(f"scheduler {address}: {str(error) or 'no answer'}") from None
