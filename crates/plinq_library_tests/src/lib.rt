@@ -18,9 +18,3 @@ mod early_ends;
 mod ordered_queries;
 #[cfg(test)]
 mod refused_room;
-#[cfg(test)]
-mod typed_positions;
-#[cfg(test)]
-mod typed_queries;
-#[cfg(test)]
-mod typed_searches;

@@ -3,8 +3,9 @@
 //! - Sinks: one keeps what it takes ([`Taken`]), one counts numbers without any memory ([`Counted`]). Two stand around another one:
 //!   [`Watched`] shows other threads what came to it ([`Seen`]), [`Held`] is held with one of its batches.
 //! - Gates: [`KeepsBack`] and [`HoldsTheFirst`] keep workers back, and [`Counts`] counts those that go on to another gate ([`Passed`]).
-//! - Sources around another one: [`Asked`] counts how often that is asked, [`KeepsInside`] keeps inside who asks for one of its
-//!   numbers ([`Inside`]).
+//! - Sources around another one: [`Asked`] counts how often that is asked, [`InChunks`] for how many chunks, and [`KeepsInside`] keeps
+//!   inside who asks for one of its numbers ([`Inside`]).
+//! - A runtime around another one, whose clock stands still ([`Still`]).
 //! - Queries ([`unchanged`], [`ordered`], [`query_of`]), ways to wait for other threads ([`waits_for`], [`lingers`]), how far
 //!   workers may run ahead ([`most_ahead`]), and the text of a fault ([`says`]).
 //!
@@ -16,9 +17,11 @@ mod counted;
 mod counts;
 mod held;
 mod holds_the_first;
+mod in_chunks;
 mod keeps_back;
 mod keeps_inside;
 mod queries;
+mod still;
 mod taken;
 mod texts;
 mod waiting;
@@ -30,9 +33,11 @@ pub use counted::Counted;
 pub use counts::{Counts, Passed};
 pub use held::Held;
 pub use holds_the_first::HoldsTheFirst;
+pub use in_chunks::InChunks;
 pub use keeps_back::KeepsBack;
 pub use keeps_inside::{Inside, KeepsInside};
 pub use queries::{OPTIONS, WORKERS, built, ordered, query_of, unchanged};
+pub use still::Still;
 pub use taken::Taken;
 pub use texts::says;
 pub use waiting::{lingers, waits_for};

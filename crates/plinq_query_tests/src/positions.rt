@@ -3,7 +3,7 @@ ghost use Rattle.std.specs.Prelude.{◌≡◌, int_lt, int_rem, pos, IfOk, IfSom
 ghost use Rattle.std.specs.Ordering.{int_eq};
 ghost use Rattle.plinq_source.specs.Walked.{list_given, range_given};
 
-use crate::typed_queries::{WORKERS, numbers};
+use crate::queries::{WORKERS, numbers};
 use plinq_aggregate::Sum;
 use plinq_groups::Groups;
 use plinq_query::{QueryFault, from};

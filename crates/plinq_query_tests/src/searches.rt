@@ -4,7 +4,7 @@ ghost use Rattle.std.specs.Int.{cast_unsigned, w64};
 ghost use Rattle.std.specs.Ordering.{int_eq};
 ghost use Rattle.plinq_source.specs.Walked.{list_given, range_given};
 
-use crate::typed_queries::{WORKERS, numbers};
+use crate::queries::{WORKERS, numbers};
 use plinq_collect::Collect;
 use plinq_enumerator::GrowthFault;
 use plinq_merge::Sink;
