@@ -6,19 +6,15 @@ ghost use Rattle.plinq_aggregate.specs.Folding.{aggregate_value, fold_of};
 ghost use Rattle.plinq_groups.specs.Groups.{grouping};
 ghost use Rattle.plinq_groups.specs.Others.{of_field};
 ghost use Rattle.plinq_ops.specs.Query.{is_degree};
-ghost use Rattle.plinq_query.specs.declared.query_fault.QueryFault.TheVariants.{Degree};
-ghost use Rattle.plinq_query.specs.Told.{HasNone};
+ghost use Rattle.plinq_passing.specs.declared.query_fault.QueryFault.TheVariants.{Degree};
+ghost use Rattle.plinq_passing.specs.Told.{HasNone};
 
-use crate::by_threads::ByThreads;
 use crate::count_of::{CountOf, has_few};
-use crate::made::Made;
 use crate::pairs::{FirstOf, SecondOf};
-use crate::plain::Plain;
-use crate::planning::{aggregate_of, growth_of, plan_of, told_of};
 use crate::query::Query;
-use crate::query_fault::QueryFault;
 use plinq_aggregate::GrowingAggregator;
-use plinq_groups::{By, Collect, FoldEach, GroupBy, Groups};
+use plinq_groups::{By, Collect, GroupBy, Groups};
+use plinq_passing::{ByThreads, QueryFault, aggregate_steps};
 use plinq_source::Source;
 use plinq_steps::Steps;
 use std::alloc::Global;
@@ -57,13 +53,7 @@ where
             (HasNone self.by.degree self.by.growth (Src.whole self.source)) }
     {
         let Query { source, steps, by } = self;
-        let plan = plan_of::<Plain<S::From>>(alloc, by.degree)?;
-        let growth = growth_of(by.growth)?;
-        let folds = FoldEach {
-            make: Made::of(&steps),
-            each: aggregator,
-        };
-        told_of(aggregate_of(rt, alloc, &plan, source, growth, &folds))
+        aggregate_steps(source, steps, by, rt, alloc, aggregator)
     }
 
     /// All that the steps make, in the order of the source (.NET's `ToList`, rayon's `collect`).

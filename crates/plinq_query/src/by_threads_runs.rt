@@ -5,20 +5,15 @@ ghost use Rattle.plinq_source.specs.declared.ending.Ending.TheVariants.{End};
 ghost use Rattle.plinq_collect.specs.ItemFoldings.{first_of};
 ghost use Rattle.plinq_ops.specs.Batches.{batches};
 ghost use Rattle.plinq_ops.specs.Query.{is_degree};
-ghost use Rattle.plinq_query.specs.declared.query_fault.QueryFault.TheVariants.{Degree};
-ghost use Rattle.plinq_query.specs.Ran.{Ran, SearchFails, steps_made};
+ghost use Rattle.plinq_passing.specs.declared.query_fault.QueryFault.TheVariants.{Degree};
+ghost use Rattle.plinq_passing.specs.Ran.{Ran, SearchFails, steps_made};
 
-use crate::by_threads::ByThreads;
-use crate::keep_first::KeepFirst;
-use crate::made::Made;
-use crate::plain::Plain;
-use crate::planning::growth_of;
 use crate::query::Query;
-use crate::query_fault::QueryFault;
-use crate::running::{delivering_plan_of, run_of, told_first, told_found, told_not, told_ran};
-use plinq_groups::MapEach;
 use plinq_merge::Sink;
 use plinq_ops::MergeOption;
+use plinq_passing::{
+    ByThreads, KeepFirst, QueryFault, run_steps_into, told_first, told_found, told_not,
+};
 use plinq_source::Source;
 use plinq_steps::{Equal, Steps};
 use std::alloc::Global;
@@ -52,12 +47,7 @@ where
             self.by.growth (batches self.by.merge (steps_made f (Src.whole self.source))) (Src.whole self.source).ending sink.old result sink.new }
     {
         let Query { source, steps, by } = self;
-        let plan = delivering_plan_of::<Plain<S::From>>(alloc, by.degree, by.merge)?;
-        let growth = growth_of(by.growth)?;
-        let mapping = MapEach {
-            make: Made::of(&steps),
-        };
-        told_ran(run_of(rt, alloc, &plan, source, growth, &mapping, sink))
+        run_steps_into(source, steps, by, rt, alloc, sink)
     }
 
     /// The first item that the steps make, if there is one (.NET's `FirstOrDefault`, rayon's `find_first`). The source is left once

@@ -4,16 +4,11 @@ ghost use Rattle.std.specs.List.{filter_map};
 ghost use Rattle.plinq_collect.specs.Telling.{items_of};
 ghost use Rattle.plinq_ops.specs.Batches.{batches};
 ghost use Rattle.plinq_ops.specs.Query.{is_degree};
-ghost use Rattle.plinq_query.specs.declared.query_fault.QueryFault.TheVariants.{Degree};
-ghost use Rattle.plinq_query.specs.Ran.{Ran, EndedOrRefused, steps_made};
+ghost use Rattle.plinq_passing.specs.declared.query_fault.QueryFault.TheVariants.{Degree};
+ghost use Rattle.plinq_passing.specs.Ran.{Ran, EndedOrRefused, steps_made};
 
-use crate::alone::{told_alone, visit_alone};
-use crate::by_threads::ByThreads;
-use crate::call_each::CallEach;
-use crate::made::Made;
 use crate::query::{OneThread, Query};
-use crate::query_fault::QueryFault;
-use crate::visits::{Tells, Tries, Visits};
+use plinq_passing::{ByThreads, QueryFault, Tells, Tries, call_alone, call_by_threads};
 use plinq_source::Source;
 use plinq_steps::Steps;
 use std::alloc::Global;
@@ -50,7 +45,12 @@ where
             self.by.degree self.by.growth (items_of (batches self.by.merge (steps_made f (Src.whole self.source))))
             (Src.whole self.source).ending by.old result by.new }
     {
-        call_each::<Src, S, Tells<S::To, F>, R>(self, rt, alloc, by)
+        let Query {
+            source,
+            steps,
+            by: settings,
+        } = self;
+        call_by_threads::<Src, S, Tells<S::To, F>, R>(source, steps, settings, rt, alloc, by)
     }
 
     /// As [`Query::for_each`], with a closure that may return a code (rayon's `try_for_each`). It is called no more then.
@@ -74,60 +74,13 @@ where
             (λ g y code h. F.step g y (Err code) h) self.by.degree self.by.growth (items_of (batches self.by.merge (steps_made f (Src.whole self.source))))
             (Src.whole self.source).ending by.old result by.new }
     {
-        call_each::<Src, S, Tries<S::To, F>, R>(self, rt, alloc, by)
+        let Query {
+            source,
+            steps,
+            by: settings,
+        } = self;
+        call_by_threads::<Src, S, Tries<S::To, F>, R>(source, steps, settings, rt, alloc, by)
     }
-}
-
-/// Calls with what a query makes, in any way of calling.
-pub(crate) fn call_each<Src, S, V, R>(
-    query: Query<Src, S, ByThreads>,
-    rt: &R,
-    alloc: Global,
-    by: &mut V::Called,
-) -> Result<(), QueryFault>
-where
-    S: Steps<From: Send + Sync, To: Send + Sync> + Sync + Drop,
-    Src: Source<Item = S::From>,
-    V: Visits<Item = S::To>,
-    R: Clock + Threads + Wait + Sync,
-    requires fresh { Src.given query.source ≡ 0 }
-    requires is_called { S.is_called query.steps }
-    requires in_one_way { S.in_one_way query.steps }
-    requires gives { S.gives query.steps }
-    requires gives_one { S.gives_one query.steps }
-    requires may_call { V.is_called }
-    requires may_call_in_one_way { (a b : V.is_called) → a ≡ b }
-    ensures degree { is_degree query.by.degree ≡ false → result ≡ Err Degree }
-    ensures calls { (f : S.From → Option S.To) → ((x : S.From) → S.makes query.steps x (f x)) → Ran V.takes V.refuses query.by.degree query.by.growth
-        (items_of (batches query.by.merge (steps_made f (Src.whole query.source)))) (Src.whole query.source).ending by.old result by.new }
-{
-    let mut sink = CallEach::<V> { by };
-    run_calls(query, rt, alloc, &mut sink)
-}
-
-/// Runs a query into a sink that calls.
-fn run_calls<Src, S, V, R>(
-    query: Query<Src, S, ByThreads>,
-    rt: &R,
-    alloc: Global,
-    sink: &mut CallEach<'_, V>,
-) -> Result<(), QueryFault>
-where
-    S: Steps<From: Send + Sync, To: Send + Sync> + Sync + Drop,
-    Src: Source<Item = S::From>,
-    V: Visits<Item = S::To>,
-    R: Clock + Threads + Wait + Sync,
-    requires fresh { Src.given query.source ≡ 0 }
-    requires is_called { S.is_called query.steps }
-    requires in_one_way { S.in_one_way query.steps }
-    requires gives { S.gives query.steps }
-    requires gives_one { S.gives_one query.steps }
-    ensures degree { is_degree query.by.degree ≡ false → result ≡ Err Degree }
-    ensures same { sink.new.by.ghost_name ≡ sink.old.by.ghost_name }
-    ensures calls { (f : S.From → Option S.To) → ((x : S.From) → S.makes query.steps x (f x)) → Ran V.takes V.refuses query.by.degree query.by.growth
-        (items_of (batches query.by.merge (steps_made f (Src.whole query.source)))) (Src.whole query.source).ending sink.old.by.now result sink.new.by.now }
-{
-    query.run_into(rt, alloc, sink)
 }
 
 impl<Src, S> Query<Src, S, OneThread>
@@ -154,7 +107,8 @@ where
             1 None (filter_map f (Src.whole self.source).items) (Src.whole self.source).ending by.old result by.new }
         ensures alone { IfErr result EndedOrRefused }
     {
-        visit_each_alone::<Src, S, Tells<S::To, F>>(self, by)
+        let Query { source, steps, .. } = self;
+        call_alone::<Src, S, Tells<S::To, F>>(source, steps, by)
     }
 
     /// As [`Query::for_each`], with a closure that may return a code (Rust's `try_for_each`). It is called no more then, and no
@@ -177,30 +131,7 @@ where
             by.old result by.new }
         ensures alone { IfErr result EndedOrRefused }
     {
-        visit_each_alone::<Src, S, Tries<S::To, F>>(self, by)
+        let Query { source, steps, .. } = self;
+        call_alone::<Src, S, Tries<S::To, F>>(source, steps, by)
     }
-}
-
-/// Passes on what a query makes on this thread, item by item.
-pub(crate) fn visit_each_alone<Src, S, V>(
-    query: Query<Src, S, OneThread>,
-    by: &mut V::Called,
-) -> Result<(), QueryFault>
-where
-    S: Steps + Drop,
-    Src: Source<Item = S::From>,
-    V: Visits<Item = S::To>,
-    requires fresh { Src.given query.source ≡ 0 }
-    requires is_called { S.is_called query.steps }
-    requires in_one_way { S.in_one_way query.steps }
-    requires gives { S.gives query.steps }
-    requires gives_one { S.gives_one query.steps }
-    requires may_call { V.is_called }
-    ensures calls { (f : S.From → Option S.To) → ((x : S.From) → S.makes query.steps x (f x)) → Ran V.takes V.refuses 1 None
-        (filter_map f (Src.whole query.source).items) (Src.whole query.source).ending by.old result by.new }
-    ensures alone { IfErr result EndedOrRefused }
-{
-    let Query { source, steps, .. } = query;
-    let made = Made::of(&steps);
-    told_alone(visit_alone::<Src, S, V>(source, &made, by))
 }

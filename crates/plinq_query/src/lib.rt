@@ -15,36 +15,22 @@
 //! - [`Steps`] is what a query's steps have in common; no query of a user's own needs it.
 #![tactic(auto)]
 
-mod alone;
-mod by_threads;
 mod by_threads_calls;
 mod by_threads_runs;
-mod call_each;
 mod calling;
 mod count_of;
-mod folds;
-mod keep_first;
-mod made;
 mod merged;
 mod merged_alone;
 mod merged_by_threads;
 mod on_one_thread;
 mod on_one_thread_runs;
 mod pairs;
-mod passes;
-mod passing;
-mod plain;
-mod planning;
 mod query;
-mod query_fault;
-mod running;
-mod visits;
 
-pub use by_threads::ByThreads;
 pub use merged::Merged;
+pub use plinq_passing::{ByThreads, QueryFault};
 pub use plinq_steps::{
     Filtered, Positional, Selected, Skipped, SkippedWhile, Start, Steps, Taken, TakenWhile, Then,
     Whole,
 };
 pub use query::{OneThread, Query, from};
-pub use query_fault::QueryFault;

@@ -4,20 +4,17 @@ ghost use Rattle.plinq_aggregate.specs.Folding.{aggregate_value, fold_of};
 ghost use Rattle.plinq_groups.specs.Groups.{grouping};
 ghost use Rattle.plinq_groups.specs.Others.{of_field};
 ghost use Rattle.plinq_collect.specs.ItemFoldings.{first_of};
-ghost use Rattle.plinq_query.specs.Ran.{SearchFails, HasEnded, FailsAlone, EndsUnless, decided_by, left_of};
+ghost use Rattle.plinq_passing.specs.Ran.{SearchFails, HasEnded, FailsAlone, EndsUnless, decided_by, left_of};
 
 use crate::count_of::{CountOf, has_few};
-use crate::folds::{Folded, Folds, told_folded};
-use crate::keep_first::{First, KeepFirst};
 use crate::merged::Merged;
 use crate::pairs::{FirstOf, SecondOf};
-use crate::passes::Passed;
-use crate::passing::pass_alone;
 use crate::query::OneThread;
-use crate::query_fault::QueryFault;
-use crate::running::told_first;
 use plinq_aggregate::GrowingAggregator;
 use plinq_groups::{By, Collect, GroupBy, Groups};
+use plinq_passing::{
+    First, Folded, Folds, KeepFirst, Passed, QueryFault, pass_alone, told_first, told_folded,
+};
 use plinq_source::Source;
 use plinq_steps::{Positional, Steps};
 use std::alloc::Global;
@@ -63,7 +60,7 @@ where
             },
             over: false,
         };
-        let outcome = pass_alone::<Src, S, L, Folds<A>>(query, &mut passed);
+        let outcome = pass_alone::<Src, S, L, Folds<A>>(query.source, query.steps, &mut passed);
         let Passed { to, .. } = passed;
         told_folded(to, outcome)
     }
@@ -147,7 +144,7 @@ where
             to: KeepFirst { item: None },
             over: false,
         };
-        let outcome = pass_alone::<Src, S, L, First<L::To>>(query, &mut passed);
+        let outcome = pass_alone::<Src, S, L, First<L::To>>(query.source, query.steps, &mut passed);
         told_first(passed.to.item, outcome)
     }
 }

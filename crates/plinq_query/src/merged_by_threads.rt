@@ -5,21 +5,18 @@ ghost use Rattle.plinq_groups.specs.Groups.{grouping};
 ghost use Rattle.plinq_groups.specs.Others.{of_field};
 ghost use Rattle.plinq_collect.specs.ItemFoldings.{first_of};
 ghost use Rattle.plinq_ops.specs.Query.{is_degree};
-ghost use Rattle.plinq_query.specs.declared.query_fault.QueryFault.TheVariants.{Degree};
-ghost use Rattle.plinq_query.specs.Ran.{SearchFails, EndsUnless, decided_by, left_of};
+ghost use Rattle.plinq_passing.specs.declared.query_fault.QueryFault.TheVariants.{Degree};
+ghost use Rattle.plinq_passing.specs.Ran.{SearchFails, EndsUnless, decided_by, left_of};
 
-use crate::by_threads::ByThreads;
 use crate::count_of::{CountOf, has_few};
-use crate::folds::{Folded, Folds, told_folded};
-use crate::keep_first::{First, KeepFirst};
 use crate::merged::Merged;
 use crate::pairs::{FirstOf, SecondOf};
-use crate::passes::Passed;
-use crate::passing::pass_by_threads;
-use crate::query_fault::QueryFault;
-use crate::running::told_first;
 use plinq_aggregate::GrowingAggregator;
 use plinq_groups::{By, Collect, GroupBy, Groups};
+use plinq_passing::{
+    ByThreads, First, Folded, Folds, KeepFirst, Passed, QueryFault, pass_by_threads, told_first,
+    told_folded,
+};
 use plinq_source::Source;
 use plinq_steps::{Positional, Steps};
 use std::alloc::Global;
@@ -72,7 +69,14 @@ where
             },
             over: false,
         };
-        let outcome = pass_by_threads::<Src, S, L, Folds<A>, R>(query, rt, alloc, &mut passed);
+        let outcome = pass_by_threads::<Src, S, L, Folds<A>, R>(
+            query.source,
+            query.steps,
+            query.by,
+            rt,
+            alloc,
+            &mut passed,
+        );
         let Passed { to, .. } = passed;
         told_folded(to, outcome)
     }
@@ -167,7 +171,14 @@ where
             to: KeepFirst { item: None },
             over: false,
         };
-        let outcome = pass_by_threads::<Src, S, L, First<L::To>, R>(query, rt, alloc, &mut passed);
+        let outcome = pass_by_threads::<Src, S, L, First<L::To>, R>(
+            query.source,
+            query.steps,
+            query.by,
+            rt,
+            alloc,
+            &mut passed,
+        );
         told_first(passed.to.item, outcome)
     }
 }

@@ -5,17 +5,14 @@ ghost use Rattle.plinq_source.specs.declared.ending.Ending.TheVariants.{End};
 ghost use Rattle.plinq_aggregate.specs.Folding.{aggregate_value, fold_of};
 ghost use Rattle.plinq_groups.specs.Groups.{grouping};
 ghost use Rattle.plinq_groups.specs.Others.{of_field};
-ghost use Rattle.plinq_query.specs.Told.{HasNoneAlone};
+ghost use Rattle.plinq_passing.specs.Told.{HasNoneAlone};
 
 use crate::count_of::{CountOf, has_few};
-use crate::made::Made;
 use crate::pairs::{FirstOf, SecondOf};
-use crate::plain::Plain;
-use crate::planning::{aggregate_alone, told_of};
 use crate::query::{OneThread, Query};
-use crate::query_fault::QueryFault;
 use plinq_aggregate::GrowingAggregator;
-use plinq_groups::{By, Collect, FoldEach, GroupBy, Groups};
+use plinq_groups::{By, Collect, GroupBy, Groups};
+use plinq_passing::{QueryFault, aggregate_steps_alone};
 use plinq_source::Source;
 use plinq_steps::Steps;
 use std::alloc::Global;
@@ -48,11 +45,7 @@ where
             (HasNoneAlone (Src.whole self.source)) }
     {
         let Query { source, steps, .. } = self;
-        let folds = FoldEach {
-            make: Made::of(&steps),
-            each: aggregator,
-        };
-        told_of(aggregate_alone::<Plain<S::From>, _, _>(alloc, source, &folds))
+        aggregate_steps_alone(source, steps, alloc, aggregator)
     }
 
     /// All that the steps make, in the order of the source (.NET's `ToList`, Rust's `collect`).

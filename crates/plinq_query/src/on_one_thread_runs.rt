@@ -3,13 +3,10 @@ ghost use Rattle.std.specs.Prelude.{◌≡◌, drop, None, Some, Option, Bool, f
 ghost use Rattle.std.specs.List.{filter_map, list_any, list_all};
 ghost use Rattle.plinq_source.specs.declared.ending.Ending.TheVariants.{End};
 ghost use Rattle.plinq_collect.specs.ItemFoldings.{first_of};
-ghost use Rattle.plinq_query.specs.Ran.{SearchFails, HasEnded};
+ghost use Rattle.plinq_passing.specs.Ran.{SearchFails, HasEnded};
 
-use crate::calling::visit_each_alone;
-use crate::keep_first::{First, KeepFirst};
 use crate::query::{OneThread, Query};
-use crate::query_fault::QueryFault;
-use crate::running::{told_first, told_found, told_not};
+use plinq_passing::{First, KeepFirst, QueryFault, call_alone, told_first, told_found, told_not};
 use plinq_source::Source;
 use plinq_steps::{Equal, Steps};
 
@@ -36,7 +33,7 @@ where
         ensures alone { IfErr result HasEnded }
     {
         let mut keeps = KeepFirst { item: None };
-        let outcome = visit_each_alone::<Src, S, First<S::To>>(self, &mut keeps);
+        let outcome = call_alone::<Src, S, First<S::To>>(self.source, self.steps, &mut keeps);
         told_first(keeps.item, outcome)
     }
 

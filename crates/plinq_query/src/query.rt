@@ -1,8 +1,8 @@
 ghost use Rattle.std.specs.Prelude.{◌≡◌, None, Some};
 ghost use Rattle.plinq_ops.specs.declared.merge_option.MergeOption.TheVariants.{Default};
 
-use crate::by_threads::ByThreads;
 use plinq_ops::MergeOption;
+use plinq_passing::ByThreads;
 use plinq_source::Source;
 use plinq_steps::{Filtered, Selected, Start, Steps};
 

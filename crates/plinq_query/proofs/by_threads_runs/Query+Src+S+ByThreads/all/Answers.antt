@@ -1,6 +1,6 @@
 -- Some answer is false unless every item passes.
 use Rattle.plinq_steps.specs.Makes.{selected, makes-selected}
-use Rattle.plinq_query.proofs.Searching.{not-told, any-false}
+use Rattle.plinq_passing.proofs.Searching.{not-told, any-false}
 use Rattle.plinq_query.proofs.by_threads_runs.Query+Src+S+ByThreads.all.Goals as goal
 
 pub returns-clause-value : goal.returns-clause-value

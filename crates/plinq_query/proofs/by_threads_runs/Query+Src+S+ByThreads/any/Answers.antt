@@ -1,6 +1,6 @@
 -- Some answer is true if some item passes.
 use Rattle.plinq_steps.specs.Makes.{selected, makes-selected}
-use Rattle.plinq_query.proofs.Searching.{found-same, any-true}
+use Rattle.plinq_passing.proofs.Searching.{found-same, any-true}
 use Rattle.plinq_query.proofs.by_threads_runs.Query+Src+S+ByThreads.any.Goals as goal
 
 pub returns-clause-value : goal.returns-clause-value

@@ -1,7 +1,7 @@
 -- An item is left if one is equal.
 use Rattle.std.proofs.Common.{refl}
 use Rattle.plinq_steps.specs.Makes.{passed, makes-passed}
-use Rattle.plinq_query.proofs.Searching.{found-told, any-passed}
+use Rattle.plinq_passing.proofs.Searching.{found-told, any-passed}
 use Rattle.plinq_query.proofs.by_threads_runs.Query+Src+S+ByThreads.contains.Goals as goal
 
 pub returns-clause-value : goal.returns-clause-value

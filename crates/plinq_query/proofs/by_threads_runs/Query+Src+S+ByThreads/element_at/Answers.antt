@@ -3,7 +3,7 @@ use Rattle.std.specs.Prelude.{drop}
 use Rattle.std.specs.List.{filter_map}
 use Rattle.plinq_collect.specs.ItemFoldings.{first_of}
 use Rattle.plinq_steps.specs.Means.{undecided}
-use Rattle.plinq_query.proofs.Accumulating.{first-past, past}
+use Rattle.plinq_passing.proofs.Accumulating.{first-past, past}
 use Rattle.plinq_query.proofs.by_threads_runs.Query+Src+S+ByThreads.element_at.Goals as goal
 
 pub returns-clause-value : goal.returns-clause-value

@@ -1,5 +1,5 @@
 -- The first batch that isn't empty has the first item alone.
-use Rattle.plinq_query.proofs.Searching.{first-told}
+use Rattle.plinq_passing.proofs.Searching.{first-told}
 use Rattle.plinq_query.proofs.by_threads_runs.Query+Src+S+ByThreads.first.Goals as goal
 
 pub returns-clause-value : goal.returns-clause-value

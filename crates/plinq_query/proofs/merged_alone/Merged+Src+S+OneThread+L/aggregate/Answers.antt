@@ -2,7 +2,7 @@
 use Rattle.std.specs.List.{filter_map}
 use Rattle.std.proofs.Common.{ap}
 use Rattle.std.specs.Prelude.{Some}
-use Rattle.plinq_query.proofs.Accumulating.{folded-alone}
+use Rattle.plinq_passing.proofs.Accumulating.{folded-alone}
 use Rattle.plinq_query.proofs.merged_alone.Merged+Src+S+OneThread+L.aggregate.Goals as goal
 
 pub returns : goal.returns

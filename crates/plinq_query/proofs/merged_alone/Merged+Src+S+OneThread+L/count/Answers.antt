@@ -1,7 +1,7 @@
 -- A source has few items, and no more are left, so the count isn't cut.
 use Rattle.std.specs.List.{filter_map}
 use Rattle.std.proofs.Common.{arith}
-use Rattle.plinq_query.proofs.Accumulating.{counted}
+use Rattle.plinq_passing.proofs.Accumulating.{counted}
 use Rattle.plinq_query.proofs.Counting.{few-made}
 use Rattle.plinq_query.proofs.merged_alone.Merged+Src+S+OneThread+L.count.Goals as goal
 

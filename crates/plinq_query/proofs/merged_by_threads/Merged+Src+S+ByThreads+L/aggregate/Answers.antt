@@ -2,7 +2,7 @@
 use Rattle.std.specs.List.{filter_map}
 use Rattle.std.proofs.Common.{ap}
 use Rattle.std.specs.Prelude.{Some}
-use Rattle.plinq_query.proofs.Accumulating.{folded-told}
+use Rattle.plinq_passing.proofs.Accumulating.{folded-told}
 use Rattle.plinq_query.proofs.merged_by_threads.Merged+Src+S+ByThreads+L.aggregate.Goals as goal
 
 pub returns-clause-value : goal.returns-clause-value

@@ -1,6 +1,6 @@
 -- The first that comes is kept, and no other is asked for.
 use Rattle.std.specs.List.{filter_map}
-use Rattle.plinq_query.proofs.Accumulating.{first-passed}
+use Rattle.plinq_passing.proofs.Accumulating.{first-passed}
 use Rattle.plinq_query.proofs.merged_by_threads.Merged+Src+S+ByThreads+L.first.Goals as goal
 
 pub returns-clause-value : goal.returns-clause-value

@@ -1,8 +1,8 @@
 -- Some answer is false unless every item passes.
 use Rattle.std.specs.Prelude.{None}
 use Rattle.plinq_steps.specs.Makes.{selected, makes-selected}
-use Rattle.plinq_query.proofs.OneByOne.{not-alone}
-use Rattle.plinq_query.proofs.Searching.{not-told, any-false}
+use Rattle.plinq_passing.proofs.OneByOne.{not-alone}
+use Rattle.plinq_passing.proofs.Searching.{not-told, any-false}
 use Rattle.plinq_query.proofs.on_one_thread_runs.Query+Src+S+OneThread.all.Goals as goal
 
 pub returns : goal.returns

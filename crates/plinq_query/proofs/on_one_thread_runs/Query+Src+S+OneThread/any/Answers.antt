@@ -1,7 +1,7 @@
 -- Some answer is true if some item passes.
 use Rattle.std.specs.Prelude.{None}
 use Rattle.plinq_steps.specs.Makes.{selected, makes-selected}
-use Rattle.plinq_query.proofs.Searching.{found-same, any-true}
+use Rattle.plinq_passing.proofs.Searching.{found-same, any-true}
 use Rattle.plinq_query.proofs.on_one_thread_runs.Query+Src+S+OneThread.any.Goals as goal
 
 pub returns : goal.returns

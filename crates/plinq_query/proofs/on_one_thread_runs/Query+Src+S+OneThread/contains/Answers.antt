@@ -2,8 +2,8 @@
 use Rattle.std.specs.Prelude.{None}
 use Rattle.std.proofs.Common.{refl}
 use Rattle.plinq_steps.specs.Makes.{passed, makes-passed}
-use Rattle.plinq_query.proofs.OneByOne.{found-alone}
-use Rattle.plinq_query.proofs.Searching.{found-told, any-passed}
+use Rattle.plinq_passing.proofs.OneByOne.{found-alone}
+use Rattle.plinq_passing.proofs.Searching.{found-told, any-passed}
 use Rattle.plinq_query.proofs.on_one_thread_runs.Query+Src+S+OneThread.contains.Goals as goal
 
 pub returns : goal.returns

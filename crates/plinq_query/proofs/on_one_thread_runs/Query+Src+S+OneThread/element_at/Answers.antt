@@ -3,7 +3,7 @@ use Rattle.std.specs.Prelude.{drop, None}
 use Rattle.std.specs.List.{filter_map}
 use Rattle.plinq_collect.specs.ItemFoldings.{first_of}
 use Rattle.plinq_steps.specs.Means.{undecided}
-use Rattle.plinq_query.proofs.Accumulating.{first-past, past}
+use Rattle.plinq_passing.proofs.Accumulating.{first-past, past}
 use Rattle.plinq_query.proofs.on_one_thread_runs.Query+Src+S+OneThread.element_at.Goals as goal
 
 pub returns : goal.returns

@@ -1,0 +1,36 @@
+-- What is passed on is what the steps by position make of the list.
+use Rattle.std.specs.Prelude.{Bool, true, false}
+use Rattle.std.specs.List.{filter_map}
+use Rattle.std.proofs.Common.{rules, ◌≡◌, refl, sym, subst, ◌∙◌}
+use Rattle.std.specs.Coded.{Π_prop, ×_prop}
+use Rattle.plinq_merge.specs.Sending.{Leads}
+use Rattle.plinq_passing.proofs.Carrying.{passed-batches}
+use Rattle.plinq_passing.proofs.passing.pass_by_threads.Goals as goal
+
+pub returns-then-has_ended-clause-passed : goal.returns-then-has_ended-clause-passed
+returns-then-has_ended-clause-passed g c f makes h d means =
+    let l = c.args.passed.now.later in
+    let t = g.Src.Source.whole c.args.source in
+    let laws = g.met.L.Positional in
+    let is : g.L.Positional.ended l ≡ true = search rules in
+    let end = laws.at_end l is h d means (filter_map f t.items) in (
+      subst (λ ys. Leads g.W.Visits.takes c.args.passed.now.to ys c.args.passed.now.to) (sym end.0) refl,
+      λ none. absurd (let bad : ◌≡◌ {A = Bool} true false = sym end.1 ∙ none in cc),
+    )
+
+pub call_by_threads-outcome-requires-clause-may_call_in_one_way : goal.call_by_threads-outcome-requires-clause-may_call_in_one_way
+call_by_threads-outcome-requires-clause-may_call_in_one_way g c κs within =
+    let laws = g.met.L.Positional in
+    ×_prop (Π_prop λ l. laws.one_call l (c.requires.then_in_one_way l)) c.requires.may_call_in_one_way
+
+pub returns-clause-passed : goal.returns-clause-passed
+returns-clause-passed g c f makes h d means =
+    let t = g.Src.Source.whole c.args.source in
+    let l = c.args.passed.now.later in
+    let laws = g.met.L.Positional in
+    let more : g.L.Positional.ended l ≡ false = search rules in
+    rw c.told_over.ensures
+    (passed-batches g.W.Visits.takes g.W.Visits.refuses g.L.Positional.turns g.L.Positional.ended g.L.Positional.means
+    (λ s. laws.goes_on s (c.requires.then_gives_one s)) laws.at_end laws.of_none c.args.settings.degree c.args.settings.growth (filter_map f t.items) t.ending
+    c.args.passed.now c.call_by_threads-outcome.new.by h d more means c.call_by_threads-outcome.result
+    (c.call_by_threads-outcome.ensures.calls f makes))

@@ -1,2 +1,0 @@
--- Words that no public contract reaches: private contracts and proofs cite them.
-pub mod Passing
