@@ -118,15 +118,37 @@ module _ {B : Type 0} where
 -- ---- whether there is one
 
 module _ {T : Type 0} (workers : ℕ) (growth : Option (ℕ × ℕ × ℕ)) (t : Trace T) (E : Type 0) where
+  module _ {None-found None-so : Type 0} (move : None-found → None-so) where
+    found-by : {B : Type 0} (o : Option B) (is : Bool) → is_some o ≡ is → (r : Result (Option B) QueryFault)
+        → MatchResult r (λ p. (p ≡ o) × (p ≡ None → E)) (SearchFails None-found workers growth t)
+        → MatchResult (told_found r) (λ b. (b ≡ is) × (b ≡ false → E)) (SearchFails None-so workers growth t)
+    found-by o is so (Ok None) told = (ap is_some told.0 ∙ so, λ none. told.1 refl)
+    found-by o is so (Ok (Some y)) told = (ap is_some told.0 ∙ so, λ none. absurd (let bad : ◌≡◌ {A = Bool} true false = none in cc))
+    found-by o is so (Err Degree) told = told
+    found-by o is so (Err (Growth fault)) told = told
+    found-by o is so (Err (Ended e)) told = (told.0, told.1, move told.2)
+    found-by o is so (Err (Run fault)) told = told
+
+    not-by : (is so : Bool) → is ≡ not so → (r : Result Bool QueryFault)
+        → MatchResult r (λ b. (b ≡ is) × (b ≡ false → E)) (SearchFails None-found workers growth t)
+        → MatchResult (told_not r) (λ b. (b ≡ so) × (b ≡ true → E)) (SearchFails None-so workers growth t)
+    not-by is true same (Ok false) told = (refl, λ all. told.1 refl)
+    not-by is false same (Ok false) told = absurd (let bad : ◌≡◌ {A = Bool} false true = told.0 ∙ same in cc)
+    not-by is true same (Ok true) told = absurd (let bad : ◌≡◌ {A = Bool} true false = told.0 ∙ same in cc)
+    not-by is false same (Ok true) told = (refl, λ all. absurd (let bad : ◌≡◌ {A = Bool} false true = all in cc))
+    not-by is so same (Err Degree) told = told
+    not-by is so same (Err (Growth fault)) told = told
+    not-by is so same (Err (Ended e)) told = (told.0, told.1, move told.2)
+    not-by is so same (Err (Run fault)) told = told
+
+  false-true : (is so : Bool) → is ≡ not so → is ≡ false → so ≡ true
+  false-true is true same none = refl
+  false-true is false same none = absurd (let bad : ◌≡◌ {A = Bool} true false = sym same ∙ none in cc)
+
   pub found-told : {B : Type 0} (o : Option B) (is : Bool) → is_some o ≡ is → (r : Result (Option B) QueryFault)
       → MatchResult r (λ p. (p ≡ o) × (p ≡ None → E)) (SearchFails (o ≡ None) workers growth t)
       → MatchResult (told_found r) (λ b. (b ≡ is) × (b ≡ false → E)) (SearchFails (is ≡ false) workers growth t)
-  found-told o is so (Ok None) told = (ap is_some told.0 ∙ so, λ none. told.1 refl)
-  found-told o is so (Ok (Some y)) told = (ap is_some told.0 ∙ so, λ none. absurd (let bad : ◌≡◌ {A = Bool} true false = none in cc))
-  found-told o is so (Err Degree) told = told
-  found-told o is so (Err (Growth fault)) told = told
-  found-told o is so (Err (Ended e)) told = (told.0, told.1, sym so ∙ ap is_some told.2)
-  found-told o is so (Err (Run fault)) told = told
+  found-told o is so r told = found-by (λ none. sym so ∙ ap is_some none) o is so r told
 
   -- the same of another truth value that is the same
   pub found-same : (is so : Bool) → is ≡ so → (r : Result Bool QueryFault)
@@ -137,15 +159,25 @@ module _ {T : Type 0} (workers : ℕ) (growth : Option (ℕ × ℕ × ℕ)) (t :
   pub not-told : (is so : Bool) → is ≡ not so → (r : Result Bool QueryFault)
       → MatchResult r (λ b. (b ≡ is) × (b ≡ false → E)) (SearchFails (is ≡ false) workers growth t)
       → MatchResult (told_not r) (λ b. (b ≡ so) × (b ≡ true → E)) (SearchFails (so ≡ true) workers growth t)
-  not-told is true same (Ok false) told = (refl, λ all. told.1 refl)
-  not-told is false same (Ok false) told = absurd (let bad : ◌≡◌ {A = Bool} false true = told.0 ∙ same in cc)
-  not-told is true same (Ok true) told = absurd (let bad : ◌≡◌ {A = Bool} true false = told.0 ∙ same in cc)
-  not-told is false same (Ok true) told = (refl, λ all. absurd (let bad : ◌≡◌ {A = Bool} false true = all in cc))
-  not-told is so same (Err Degree) told = told
-  not-told is so same (Err (Growth fault)) told = told
-  not-told is true same (Err (Ended e)) told = (told.0, told.1, refl)
-  not-told is false same (Err (Ended e)) told = absurd (let bad : ◌≡◌ {A = Bool} true false = sym same ∙ told.2 in cc)
-  not-told is so same (Err (Run fault)) told = told
+  not-told is so same r told = not-by (false-true is so same) is so same r told
+
+  -- the same where a source that refused is reported only if that was undecided
+  module _ (Undecided : Type 0) where
+    pub found-left : {B : Type 0} (o : Option B) (is : Bool) → is_some o ≡ is → (r : Result (Option B) QueryFault)
+        → MatchResult r (λ p. (p ≡ o) × (p ≡ None → E)) (SearchFails ((o ≡ None) × Undecided) workers growth t)
+        → MatchResult (told_found r) (λ b. (b ≡ is) × (b ≡ false → E)) (SearchFails ((is ≡ false) × Undecided) workers growth t)
+    found-left o is so r told = found-by (λ none. (sym so ∙ ap is_some none.0, none.1)) o is so r told
+
+    pub same-left : (is so : Bool) → is ≡ so → (r : Result Bool QueryFault)
+        → MatchResult r (λ b. (b ≡ is) × (b ≡ false → E)) (SearchFails ((is ≡ false) × Undecided) workers growth t)
+        → MatchResult r (λ b. (b ≡ so) × (b ≡ false → E)) (SearchFails ((so ≡ false) × Undecided) workers growth t)
+    same-left is so same r told =
+        subst (λ it. MatchResult r (λ b. (b ≡ it) × (b ≡ false → E)) (SearchFails ((it ≡ false) × Undecided) workers growth t)) same told
+
+    pub not-left : (is so : Bool) → is ≡ not so → (r : Result Bool QueryFault)
+        → MatchResult r (λ b. (b ≡ is) × (b ≡ false → E)) (SearchFails ((is ≡ false) × Undecided) workers growth t)
+        → MatchResult (told_not r) (λ b. (b ≡ so) × (b ≡ true → E)) (SearchFails ((so ≡ true) × Undecided) workers growth t)
+    not-left is so same r told = not-by (λ none. (false-true is so same none.0, none.1)) is so same r told
 
 -- ---- what is left of items, and what is made of them
 

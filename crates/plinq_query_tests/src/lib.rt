@@ -13,4 +13,6 @@ mod queries;
 #[cfg(test)]
 mod refused_room;
 #[cfg(test)]
+mod searched_positions;
+#[cfg(test)]
 mod searches;

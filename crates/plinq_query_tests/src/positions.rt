@@ -341,12 +341,12 @@ fn groups_are_of_what_is_left(rt: HostRuntime) {
 
 /// How many items leave at most: those up to the chunk with the one that decides, and those that so many workers may be ahead of
 /// it.
-fn most(workers: u64) -> u64 {
+pub(crate) fn most(workers: u64) -> u64 {
     CHUNK.saturating_add(most_ahead(workers))
 }
 
 /// A range of which none has left.
-fn from_zero(left: &AtomicU64) -> Result<Asked<'_, RangeSource>, SourceFault>
+pub(crate) fn from_zero(left: &AtomicU64) -> Result<Asked<'_, RangeSource>, SourceFault>
     ensures { IfOk result (λ s. range_given s.source ≡ 0) }
 {
     left.store(0, Ordering::SeqCst);
@@ -435,7 +435,7 @@ fn steps_by_position_leave_the_source_once_they_are_decided(rt: HostRuntime) {
 }
 
 /// A source that gives 4 and 5 and then refuses with 7.
-fn refusing(alloc: Global) -> Option<ListSource<i64>>
+pub(crate) fn refusing(alloc: Global) -> Option<ListSource<i64>>
     ensures { IfSome result (λ s. list_given s ≡ 0) }
 {
     let mut items = Vec::new(alloc);
