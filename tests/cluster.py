@@ -631,6 +631,12 @@ def other_users(tests, folder):
 
 def help_and_progress(tests, folder):
     """The example that help shows, on a terminal."""
+    seen = command(["--version"], b"")
+    tests.check("version", seen.status == 0 and re.fullmatch(rb"plinq-cluster [0-9.]+\n", seen.output) and seen.errors == b"", seen)
+    for word in ("--help", "--version"):
+        seen = subprocess.run(["sh", "-c", '"$0" "$1" >/dev/full', COMMAND, word], capture_output=True, timeout=HANGS)
+        is_said = (seen.returncode, seen.stderr) == (5, b"plinq-cluster: No space left on device\n")
+        tests.check(f"{word} on a full disk", is_said, seen)
     seen = command(["--help"], b"")
     tests.check("help", seen.status == 0 and b"--scheduler HOST:PORT" in seen.output and seen.errors == b"", seen)
     shown = seen.output.decode()

@@ -208,6 +208,13 @@ def as_a_program(tests):
         tests.check("what can't be read", (seen.status, seen.output) == (5, b"") and seen.errors.startswith(b"plinq-check: read failed: "), seen)
     seen = checked(["--help"])
     tests.check("help", (seen.status, seen.errors) == (0, b"") and b"plinq-check < DOCUMENT" in seen.output, seen)
+    for streams, words, status, errors in (
+        (">/dev/full", "--help", 5, b"plinq-check: write failed: [Errno 28] No space left on device\n"),
+        ("2>/dev/full", "", 2, b""),
+        ("2>&-", "", 2, b""),
+    ):
+        seen = subprocess.run(["sh", "-c", f'"$0" {words} {streams}', CHECK], input=b"{", capture_output=True, timeout=HANGS)
+        tests.check(f"the status where nothing can be written: {streams}", (seen.returncode, seen.stdout, seen.stderr) == (status, b"", errors), seen)
     seen = checked(["one", "two"])
     tests.check("too many words", (seen.status, seen.output) == (2, b"") and b"plinq-check < DOCUMENT" in seen.errors, seen)
     big = b'{"version":1,"source":{"list":[' + b"1234567," * 2_000_000 + b'1]},"query":[]}'
