@@ -2,8 +2,8 @@
 //!
 //! - [`from`] begins a query, [`Query::select`] and [`Query::filter`] put steps on it, and [`Query::as_parallel`] has it run by
 //!   threads.
-//! - [`Query::to_vec`], [`Query::count`], [`Query::aggregate`] and [`Query::group_by`] run it. The workers apply the steps and fold
-//!   what is made, in the order of the source.
+//! - [`Query::to_vec`], [`Query::count`], [`Query::aggregate`], [`Query::group_by`] and [`Query::top`] run it. The workers apply the
+//!   steps and fold what is made, in the order of the source.
 //! - [`Query::first`], [`Query::element_at`], [`Query::any`], [`Query::all`] and [`Query::contains`] leave the source once their
 //!   answer is known.
 //! - [`Query::take`], [`Query::skip`], [`Query::take_while`] and [`Query::skip_while`] go by an item's position, on the thread that
@@ -28,6 +28,7 @@ mod on_one_thread;
 mod on_one_thread_runs;
 mod pairs;
 mod query;
+mod tops;
 
 pub use merged::Merged;
 pub use plinq_passing::{ByThreads, QueryFault};

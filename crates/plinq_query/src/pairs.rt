@@ -1,11 +1,11 @@
-//! Pairs as what is grouped: the first of a pair is its key, the second what becomes of it.
+//! Pairs as what is grouped or ranked: the first of a pair is its key or its rank, the second what becomes of it.
 ghost use Rattle.std.specs.Prelude.{◌≡◌};
 
-use plinq_groups::{FieldOf, KeyOf};
+use plinq_groups::{FieldOf, KeyOf, RankOf};
 use std::hash::Hash;
 use std::marker::PhantomData;
 
-/// The first of each pair, as a key.
+/// The first of each pair, as a key or a rank.
 #[derive(Drop)]
 pub(crate) struct FirstOf<K, V> {
     pair: PhantomData<(K, V)>,
@@ -50,5 +50,17 @@ impl<K: Copy + Sync, V: Copy + Sync> FieldOf for SecondOf<K, V> {
 
     fn field_of(&self, x: (K, V)) -> V {
         x.1
+    }
+}
+
+impl<K: Ord + Copy + Send + Sync, V: Copy + Send + Sync> RankOf for FirstOf<K, V> {
+    type Item = (K, V);
+
+    type Rank = K;
+
+    ghost ranks = { λ _ p. p.0 };
+
+    fn rank_of(&self, x: (K, V)) -> K {
+        x.0
     }
 }

@@ -16,3 +16,5 @@ mod refused_room;
 mod searched_positions;
 #[cfg(test)]
 mod searches;
+#[cfg(test)]
+mod tops;
