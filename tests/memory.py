@@ -7,11 +7,12 @@ which wants more reports it, and one that doesn't never does. Then what some run
 import contextlib
 import os
 import re
+import shutil
 import subprocess
 import tempfile
 import threading
 
-from support.program import HANGS, PLINQ, ROOT, Outcome, Tests, build, run
+from support.program import HANGS, PLINQ, PROGRAM, ROOT, Outcome, Tests, build, run
 
 STACK = 2**20
 OUT_OF_MEMORY = Outcome(5, b"", b"plinq: out of memory\n")
@@ -252,6 +253,27 @@ def started(tests):
     tests.check("an environment of 400 KB", seen == Outcome(0, b"4\n2\n5\nend\n", b""), seen)
 
 
+def bare(tests, folder):
+    """In a root that has a shell, the program and their libraries alone: no /proc, /sys and /dev say what there is."""
+    if os.getuid() != 0:
+        print("(only root changes the root)", flush=True)
+        return
+    root = f"{folder}/bare"
+    for path, name in (("/bin/sh", "/bin/sh"), (PROGRAM, "/plinq")):
+        libraries = re.findall(r"(/\S+) \(", subprocess.run(["ldd", path], capture_output=True, text=True, timeout=HANGS).stdout)
+        for source, there in ((path, name), *((it, it) for it in libraries)):
+            os.makedirs(os.path.dirname(root + there), exist_ok=True)
+            shutil.copy(source, root + there)
+    with open(f"{ROOT}/tools/start.sh", encoding="utf-8") as file:
+        line = f'set -eu\n{file.read()}\nstart_program /plinq "$@"'
+    for value in ({}, {"PLINQ_MEMORY": "64M"}):
+        for words in ([], ["--workers", "auto"]):
+            program = ["chroot", root, "/bin/sh", "-c", line, "sh", "run", "--merge", "not", *words]
+            seen = subprocess.run(program, input=ADDED, env={"PATH": os.environ["PATH"]} | value, capture_output=True, timeout=HANGS)
+            is_so = (seen.returncode, seen.stdout, seen.stderr) == (0, b"4\n2\n5\nend\n", b"")
+            tests.check(f"in a bare root, {value}, {words}", is_so, seen)
+
+
 def deep(tests):
     """The deepest documents and the longest queries, by stacks of 768 KB, where the start script gives 1,024."""
     nested = b'{"":' * 124 + b"0" + b"}" * 124
@@ -333,6 +355,7 @@ def main():
     tests = Tests()
     with tempfile.TemporaryDirectory() as folder:
         limits(tests, folder)
+        bare(tests, folder)
     started(tests)
     one_outcome(tests)
     deep(tests)

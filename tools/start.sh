@@ -46,7 +46,10 @@ count_cores() {
     while read -r name value; do
         [ "$name" != Cpus_allowed_list: ] || { allowed=$value && break; }
     done </proc/self/status
-    { read -r online </sys/devices/system/cpu/online; } 2>/dev/null || online=$allowed
+    online=$allowed
+    if [ -r /sys/devices/system/cpu/online ]; then
+        { read -r online </sys/devices/system/cpu/online; } 2>/dev/null || online=$allowed
+    fi
     separators=$IFS IFS=,
     for ours in $allowed; do
         for theirs in $online; do
@@ -73,8 +76,12 @@ quotas() {
     path=$2
     while :; do
         quota= period=
-        { read -r quota period <"$1$path/$3"; } 2>/dev/null || quota=
-        [ -z "$4" ] || { read -r period <"$1$path/$4"; } 2>/dev/null || period=
+        if [ -r "$1$path/$3" ]; then
+            { read -r quota period <"$1$path/$3"; } 2>/dev/null || quota=
+        fi
+        if [ -n "$4" ] && [ -r "$1$path/$4" ]; then
+            { read -r period <"$1$path/$4"; } 2>/dev/null || period=
+        fi
         case $quota,$period in
             # (none, or more than any machine has)
             ,* | *, | *[!0-9,]* | ????????????????????*) ;;
@@ -129,13 +136,15 @@ limit_memory() {
     kilobytes=$((kilobytes + stacks))
     [ "$group" -lt $((stacks + 16384)) ] || [ "$kilobytes" -le "$group" ] || kilobytes=$group
     # (a limit that is lower already stays; a shell reads byte by byte, so no more is read than is wanted)
-    data=unlimited
-    while read -r first second third soft rest; do
-        case "$first $second $third" in
-            'Max data size') data=$soft ;;
-            'Max stack size') break ;;
-        esac
-    done </proc/self/limits
+    data=unlimited soft=unlimited
+    if [ -r /proc/self/limits ]; then
+        while read -r first second third soft rest; do
+            case "$first $second $third" in
+                'Max data size') data=$soft ;;
+                'Max stack size') break ;;
+            esac
+        done </proc/self/limits
+    fi
     [ "$data" != unlimited ] && [ "$data" -lt $((kilobytes * 1024)) ] || ulimit -S -d "$kilobytes"
     [ "${soft:-unlimited}" != unlimited ] && [ "$soft" -le $((stack * 1024)) ] || ulimit -S -s "$stack"
 }
@@ -145,6 +154,7 @@ limit_memory() {
 # are long, eight times as much is added.
 stack_of_thread() {
     stack=1024
+    [ -r /proc/self/stat ] || return 0
     { read -r numbers </proc/self/stat; } 2>/dev/null || return 0
     # (what follows the name of the process; of that the 46th is where its words begin, the 49th where its environment ends)
     set -- ${numbers##*) }
@@ -184,7 +194,7 @@ read_size() {
 groups() {
     path=$2
     while :; do
-        if { read -r limit <"$1$path/$3"; } 2>/dev/null; then
+        if [ -r "$1$path/$3" ] && { read -r limit <"$1$path/$3"; } 2>/dev/null; then
             case $limit in
                 # (none, or more than any machine has)
                 '' | *[!0-9]* | ???????????????*) ;;
@@ -200,7 +210,9 @@ groups() {
 
 group_has() {
     used=0 files=0
-    { read -r used <"$1/$3"; } 2>/dev/null || used=0
+    if [ -r "$1/$3" ]; then
+        { read -r used <"$1/$3"; } 2>/dev/null || used=0
+    fi
     if [ -r "$1/memory.stat" ]; then
         while read -r name number; do
             case $name in
