@@ -137,6 +137,20 @@ def package(tests, folder):
     tests.check("apt-get takes it", seen.returncode == 0 and re.search(r"^Inst plinq ", seen.stdout, re.M), seen)
     linted(tests, f"{folder}/{made}")
     fresh_root(tests, folder, made)
+    if os.getuid() == 0:
+        made_by_another(tests, made)
+
+
+def made_by_another(tests, made):
+    """A user to whom the clone doesn't belong makes the same package, if it can be read."""
+    nobody = ["setpriv", "--reuid", "65534", "--regid", "65534", "--clear-groups"]
+    if subprocess.run([*nobody, "test", "-r", INSTALL], stderr=subprocess.DEVNULL).returncode:
+        print("(another user can't read this clone)", flush=True)
+        return
+    with tempfile.TemporaryDirectory() as folder:
+        os.chown(folder, 65534, 65534)
+        seen = subprocess.run([*nobody, INSTALL, "--deb", folder], stdin=subprocess.DEVNULL, capture_output=True, text=True, timeout=HANGS)
+        tests.check("another user's package", (seen.returncode, seen.stdout) == (0, f"{folder}/{made}\n"), seen)
 
 
 def linted(tests, path):
